@@ -1,0 +1,26 @@
+//! The plain types of the display device, and the definitions that every contract cites.
+//!
+//! The types stand in this crate's modules; the definitions stand in `specs/`, one file a topic, and are
+//! listed with their sources in the repository's `docs/DEFINITIONS.md`.
+#![tactic(auto)]
+
+mod copying;
+mod layers;
+mod list;
+mod objects;
+mod pictures;
+pub mod properties;
+mod replies;
+mod scripts;
+mod states;
+mod worlds;
+
+pub use copying::{Duplicate, NoMemory};
+pub use layers::Layers;
+pub use list::Seq;
+pub use objects::{Format, Kind, Mode, ObjId, PlaneInfo, Ticket, Topology};
+pub use pictures::{FbInfo, Layer, Picture, Rect, Shown};
+pub use replies::{Answered, Denied, Event, Refusal, Reply, Step};
+pub use scripts::{Assign, Command, Pattern, PropRef, Request, Script, Value, Why};
+pub use states::{ConnState, CrtcState, ObjState, PlaneState};
+pub use worlds::{Content, Look, Setting, Thing, World};

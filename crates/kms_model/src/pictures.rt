@@ -1,0 +1,64 @@
+//! What a CRTC shows.
+use crate::layers::Layers;
+use crate::objects::{Format, Mode};
+
+/// A rectangle: its left and upper edge, its width and its height, in pixels or in 16.16 fixed point.
+#[derive(Clone, Copy, Debug, PartialEq, Eq)]
+pub struct Rect {
+    pub x: i64,
+    pub y: i64,
+    pub w: i64,
+    pub h: i64,
+}
+
+/// A framebuffer.
+#[derive(Clone, Copy, Debug, PartialEq, Eq)]
+pub struct FbInfo {
+    /// Its id, from 1000 on.
+    pub id: u32,
+    /// Its width in pixels.
+    pub width: u32,
+    /// Its height in pixels.
+    pub height: u32,
+    /// The format of its words.
+    pub format: Format,
+}
+
+/// A plane that a CRTC shows. (Kernel: "Plane Composition Properties".)
+#[derive(Clone, Copy, Debug, PartialEq, Eq)]
+pub struct Layer {
+    /// The plane's id.
+    pub plane: u32,
+    /// The framebuffer that it shows.
+    pub fb: FbInfo,
+    /// Where on the CRTC it is shown, in pixels.
+    pub dst: Rect,
+    /// Which part of the framebuffer is shown, in 16.16 fixed point.
+    pub src: Rect,
+    /// The destination clipped to the mode, in pixels; none where nothing of it is visible.
+    pub visible: Option<Rect>,
+    /// The plane's alpha, from 0 to 65535.
+    pub alpha: u32,
+    /// The blend mode: 0 Pre-multiplied, 1 Coverage, 2 None.
+    pub blend: u32,
+}
+
+/// What a CRTC that is on shows.
+#[derive(Clone, Copy, Debug, PartialEq, Eq)]
+pub struct Shown {
+    /// The mode.
+    pub mode: Mode,
+    /// The id of the connector that is routed to the CRTC, or 0.
+    pub conn: u32,
+    /// The layers from the lowest to the highest.
+    pub layers: Layers,
+}
+
+/// What a CRTC shows.
+#[derive(Clone, Copy, Debug, PartialEq, Eq)]
+pub enum Picture {
+    /// Nothing: the CRTC is off.
+    Off,
+    /// Layers over black, in the size of a mode.
+    On(Shown),
+}

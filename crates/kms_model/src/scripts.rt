@@ -1,0 +1,141 @@
+//! Scripts of clients' calls.
+use crate::list::Seq;
+use crate::objects::{Format, Kind, Mode, Topology};
+
+/// Which property an assignment names.
+#[derive(Clone, Copy, Debug, PartialEq, Eq)]
+pub enum PropRef {
+    /// A property of the device, by its id (see `properties`).
+    Known(u32),
+    /// A name that no property of the device has, as its index in the script's names.
+    Unknown(u32),
+}
+
+/// A value that an assignment gives. Labels are indices in the script's names.
+#[derive(Clone, Copy, Debug, PartialEq, Eq)]
+pub enum Value {
+    /// A number, from -9223372036854775808 to 18446744073709551615.
+    Num(i128),
+    /// `@LABEL`: the thing that the label names.
+    Named(u32),
+    /// `+LABEL`: the fence that an `OUT_FENCE_PTR` makes under this label.
+    New(u32),
+    /// `crtcN`: the CRTC with this index, from 0 to 255.
+    Crtc(u32),
+}
+
+/// One assignment of a request. (Kernel: "Atomic Mode Setting".)
+#[derive(Clone, Copy, Debug, PartialEq, Eq)]
+pub struct Assign {
+    /// The kind of the object that is set.
+    pub kind: Kind,
+    /// Its index, from 0 to 255; it need not be on the device.
+    pub index: u32,
+    /// The property that is set.
+    pub prop: PropRef,
+    /// What it is set to.
+    pub value: Value,
+}
+
+/// An atomic request. (Header: `drm_mode.h`, `struct drm_mode_atomic`.)
+#[derive(Debug, PartialEq, Eq, Drop)]
+pub struct Request {
+    /// `DRM_MODE_PAGE_FLIP_EVENT` 0x1, `DRM_MODE_PAGE_FLIP_ASYNC` 0x2, `DRM_MODE_ATOMIC_TEST_ONLY` 0x100,
+    /// `DRM_MODE_ATOMIC_NONBLOCK` 0x200, `DRM_MODE_ATOMIC_ALLOW_MODESET` 0x400.
+    pub flags: u32,
+    /// A number that an event of this request hands back.
+    pub user_data: u64,
+    /// The assignments, at most 256; later ones win.
+    pub assigns: Seq<Assign>,
+}
+
+/// What a buffer is filled with. A word is a pixel in the buffer's format.
+#[derive(Debug, PartialEq, Eq, Drop)]
+pub enum Pattern {
+    /// The same word everywhere.
+    Solid(u32),
+    /// Squares of `n` by `n` pixels (from 1 to 4096), `p` and `q` in turn, `p` at (0, 0).
+    Checker { p: u32, q: u32, n: u32 },
+    /// Colours that change with the place.
+    Ramp,
+    /// Each word, row by row, at most 256.
+    Pixels(Seq<u32>),
+}
+
+/// One call of a client. Labels are indices in the script's names.
+#[derive(Debug, PartialEq, Eq, Drop)]
+pub enum Command {
+    /// Makes a buffer of `width` by `height` pixels. (Kernel: "Dumb Buffer Objects".)
+    Buffer {
+        label: u32,
+        width: u32,
+        height: u32,
+        format: Format,
+        pattern: Pattern,
+    },
+    /// Makes a framebuffer of a buffer. (Kernel: "Frame Buffer Abstraction".)
+    AddFb {
+        label: u32,
+        buffer: u32,
+    },
+    /// Makes a blob that holds a mode.
+    Mode {
+        label: u32,
+        mode: Mode,
+    },
+    /// Makes a blob of 1 to 2048 bytes. (Header: `drm_mode.h`, `struct drm_mode_create_blob`.)
+    Blob {
+        label: u32,
+        bytes: Seq<u8>,
+    },
+    /// Destroys a blob: its label is refused from then on.
+    Destroy {
+        label: u32,
+    },
+    /// Closes a framebuffer: its label is refused from then on. (Header: `DRM_IOCTL_MODE_CLOSEFB`.)
+    CloseFb {
+        label: u32,
+    },
+    /// Makes a fence that `Signal` signals.
+    Fence {
+        label: u32,
+    },
+    /// Signals a fence.
+    Signal {
+        label: u32,
+    },
+    /// An atomic request.
+    Atomic(Request),
+    /// Waits for the client's next event.
+    Wait,
+}
+
+/// A script: the device and what each client calls.
+#[derive(Debug, PartialEq, Eq, Drop)]
+pub struct Script {
+    /// The version of its first line: 1.
+    pub version: u32,
+    /// The device.
+    pub topology: Topology,
+    /// Each label and each unknown property name once, in order of first occurrence.
+    pub names: Seq<Seq<u8>>,
+    /// The commands of each client, at most 16 clients of at most 4096 commands. Both are counted from 1.
+    pub clients: Seq<Seq<Command>>,
+}
+
+/// Why a line of an input may not stand where it stands.
+#[derive(Clone, Copy, Debug, PartialEq, Eq)]
+pub enum Why {
+    /// A byte outside 0x20 to 0x7e.
+    Bytes,
+    /// The last line has no line feed.
+    Cut,
+    /// The line is not one that may stand there.
+    Form,
+    /// The line makes a label that an earlier line or word makes.
+    Label,
+    /// A limit is passed with this line, or, at line 0, by the size of the whole input.
+    Limit,
+    /// The line is outside what is built so far.
+    Unbuilt,
+}
