@@ -19,7 +19,7 @@ pub use copying::{Duplicate, NoMemory};
 pub use layers::Layers;
 pub use list::Seq;
 pub use objects::{Format, Kind, Mode, ObjId, PlaneInfo, Ticket, Topology};
-pub use pictures::{FbInfo, Layer, Picture, Rect, Shown};
+pub use pictures::{Colour, FbInfo, Layer, Picture, Rect, Shown};
 pub use replies::{Answered, Denied, Event, Refusal, Reply, Step};
 pub use scripts::{Assign, Command, Pattern, PropRef, Request, Script, Value, Why};
 pub use states::{ConnState, CrtcState, ObjState, PlaneState};

@@ -62,3 +62,12 @@ pub enum Picture {
     /// Layers over black, in the size of a mode.
     On(Shown),
 }
+
+/// A pixel's colour, with its alpha. Each channel is from 0 to 255.
+#[derive(Clone, Copy, Debug, PartialEq, Eq)]
+pub struct Colour {
+    pub alpha: u8,
+    pub red: u8,
+    pub green: u8,
+    pub blue: u8,
+}

@@ -1,0 +1,121 @@
+-- Worked examples of the definitions, computed: what the scripts spell and what their reports are.
+use Rattle.std.proofs.Common.{◌≡◌, ℕ, List, [], ◌∷◌, ◌++◌, refl, codes, pos, Option, Some, None, replicate, Ok, Err, Result}
+use Rattle.kms_model.specs.declared.objects.Kind.TheVariants as kind
+use Rattle.kms_model.specs.declared.objects.Format.TheVariants.{Xr24}
+use Rattle.kms_model.specs.declared.objects.Mode.{Mode}
+use Rattle.kms_model.specs.declared.properties.TheConstants.{FB_ID, CRTC_ID, CRTC_W, CRTC_H, SRC_W, SRC_H, ACTIVE, MODE_ID}
+use Rattle.kms_model.specs.declared.scripts.Assign.{Assign}
+use Rattle.kms_model.specs.declared.scripts.Command.{Command}
+use Rattle.kms_model.specs.declared.scripts.Command.TheVariants as command
+use Rattle.kms_model.specs.declared.scripts.Pattern.TheVariants.{Solid}
+use Rattle.kms_model.specs.declared.scripts.PropRef.TheVariants.{Known}
+use Rattle.kms_model.specs.declared.scripts.Script.{Script}
+use Rattle.kms_model.specs.declared.scripts.Value.TheVariants as value
+use Rattle.kms_model.specs.declared.scripts.Why.TheVariants.{Limit, Unbuilt}
+use Rattle.kms_model.specs.Input.{Fault, device, input}
+use Rattle.kms_model.specs.Flat.{flat}
+use Rattle.kms_model.proofs.OnLiterals.{on_literals, on_texts}
+
+abbrev tiny : Mode
+tiny = record {
+  clock = 1;
+  hdisplay = 1;
+  hsync_start = 1;
+  hsync_end = 1;
+  htotal = 1;
+  hskew = 0;
+  vdisplay = 1;
+  vsync_start = 1;
+  vsync_end = 1;
+  vtotal = 1;
+  vscan = 0;
+  vrefresh = 60;
+  flags = 0;
+  kind = 0;
+  name = codes "tiny" ++ replicate 28 0;
+}
+
+abbrev sets : ℕ → List Assign
+sets plane =
+    record { kind = kind.Crtc; index = 0; prop = Known ACTIVE; value = value.Num (pos 1) }
+    ∷ record { kind = kind.Crtc; index = 0; prop = Known MODE_ID; value = value.Named 2 }
+    ∷ record { kind = kind.Conn; index = 0; prop = Known CRTC_ID; value = value.Crtc 0 }
+    ∷ record { kind = kind.Plane; index = plane; prop = Known FB_ID; value = value.Named 1 }
+    ∷ record { kind = kind.Plane; index = 0; prop = Known CRTC_ID; value = value.Crtc 0 }
+    ∷ record { kind = kind.Plane; index = 0; prop = Known CRTC_W; value = value.Num (pos 1) }
+    ∷ record { kind = kind.Plane; index = 0; prop = Known CRTC_H; value = value.Num (pos 1) }
+    ∷ record { kind = kind.Plane; index = 0; prop = Known SRC_W; value = value.Num (pos 65536) }
+    ∷ record { kind = kind.Plane; index = 0; prop = Known SRC_H; value = value.Num (pos 65536) }
+    ∷ []
+
+abbrev commands : ℕ → ℕ → List Command
+commands flags plane =
+    command.Buffer 0 1 1 Xr24 (Solid 0x00616263)
+    ∷ command.AddFb 1 0
+    ∷ command.Mode 2 tiny
+    ∷ command.Atomic (record { flags = flags; user_data = 0; assigns = sets plane })
+    ∷ []
+
+abbrev script : ℕ → ℕ → Script
+script flags plane = record { version = 1; topology = device; names = codes "b" ∷ codes "f" ∷ codes "m" ∷ []; clients = commands flags plane ∷ [] }
+
+abbrev head : List ℕ
+head = codes "kms 1\ncrtcs 1\nplane primary 0 XR24\nconn 0\n"
+
+abbrev made : List ℕ
+made = codes "client\nbuffer b 1 1 XR24 solid 00616263\naddfb f b\nmode m 1 1 1 1 1 0 1 1 1 1 0 60 0 0 tiny\n"
+
+-- a first commit lights the CRTC
+pub first_commit_lights_the_crtc : flat (script 0x400 0) ≡ codes "J 1 1\nJ 1 2\nJ 1 3\nJ 1 4\nR 1 1 0 made 1000\nR 1 2 1 made 1001\nR 1 3 2 made 1002\nR 1 4 3 commit 0\nL 0 0 1 ba7816bf8f01cfea414140de5dae2223b00361a396177a9cb410ff61f20015ad\nD drained\n"
+unfolding on_literals
+first_commit_lights_the_crtc = refl
+
+-- a modeset needs leave
+pub modeset_needs_leave : flat (script 0 0) ≡ codes "J 1 1\nJ 1 2\nJ 1 3\nR 1 1 0 made 1000\nR 1 2 1 made 1001\nR 1 3 2 made 1002\nR 1 4 3 EINVAL 24\nD drained\n"
+unfolding on_literals
+modeset_needs_leave = refl
+
+-- a plane that is not there
+pub missing_plane_is_refused : flat (script 0x400 1) ≡ codes "J 1 1\nJ 1 2\nJ 1 3\nR 1 1 0 made 1000\nR 1 2 1 made 1001\nR 1 3 2 made 1002\nR 1 4 3 ENOENT 4\nD drained\n"
+unfolding on_literals
+missing_plane_is_refused = refl
+
+-- no client
+pub empty_device_drains : flat (record { version = 1; topology = device; names = []; clients = [] }) ≡ codes "D drained\n"
+unfolding on_literals
+empty_device_drains = refl
+
+-- the text of the first script
+pub first_script_is_read : input (head ++ made ++ codes "atomic 0x400 0 crtc0.ACTIVE=1 crtc0.MODE_ID=@m conn0.CRTC_ID=crtc0 plane0.FB_ID=@f plane0.CRTC_ID=crtc0 plane0.CRTC_W=1 plane0.CRTC_H=1 plane0.SRC_W=65536 plane0.SRC_H=65536\n") ≡ Ok (script 0x400 0)
+unfolding on_texts
+first_script_is_read = refl
+
+-- another plane type is not built yet
+pub overlay_is_unbuilt : input (codes "kms 1\ncrtcs 1\nplane overlay 0 XR24\nconn 0\n") ≡ Err (record { line = 3; why = Unbuilt })
+unfolding on_texts
+overlay_is_unbuilt = refl
+
+-- an empty input lacks its first line
+pub empty_input_is_unbuilt : input [] ≡ Err (record { line = 1; why = Unbuilt })
+unfolding on_texts
+empty_input_is_unbuilt = refl
+
+-- a last line without its line feed
+pub cut_line_is_unbuilt : input (codes "kms 1\ncrtcs 1") ≡ Err (record { line = 2; why = Unbuilt })
+unfolding on_texts
+cut_line_is_unbuilt = refl
+
+-- a second line that makes a label
+pub second_label_is_unbuilt : input (head ++ made ++ codes "addfb f b\n") ≡ Err (record { line = 9; why = Unbuilt })
+unfolding on_texts
+second_label_is_unbuilt = refl
+
+-- another spelling of a number
+pub second_spelling_is_unbuilt : input (head ++ codes "client\nbuffer b 01 1 XR24 solid 00616263\n") ≡ Err (record { line = 6; why = Unbuilt })
+unfolding on_texts
+second_spelling_is_unbuilt = refl
+
+-- the head and an empty client
+pub empty_client_is_read : input (head ++ codes "client\n") ≡ Ok (record { version = 1; topology = device; names = []; clients = [] ∷ [] })
+unfolding on_texts
+empty_client_is_read = refl
