@@ -1,0 +1,9 @@
+//! The program: it reads a script, executes it on a private device of one thread, and writes the report.
+#![tactic(auto)]
+
+mod commands;
+mod device;
+mod frames;
+mod pictures;
+mod requests;
+mod values;
