@@ -25,7 +25,13 @@ pub struct MemSource {
 impl Model for MemSource {
     ghost Value = { SourceState };
 
-    ghost view = { λ s. record { left = drop s.place s.bytes.items; step = s.step; fails = s.fails.items; calls = s.calls; faults = s.faults } };
+    ghost view = { λ s. record {
+      left = drop s.place s.bytes.items;
+      step = s.step;
+      fails = s.fails.items;
+      calls = s.calls;
+      faults = s.faults;
+    } };
 
     ghost invariant = { λ s. (s.place ≤ length s.bytes.items) × (0 < s.step) };
 }
@@ -35,7 +41,13 @@ impl MemSource {
     /// calls whose numbers, counted from 1, are in `fails`.
     pub fn new(bytes: Vec<u8>, step: usize, fails: Vec<u32>) -> MemSource
         requires { 0 < step }
-        ensures { result ≡ record { left = bytes.items; step = step; fails = fails.items; calls = 0; faults = 0 } }
+        ensures { result ≡ record {
+          left = bytes.items;
+          step = step;
+          fails = fails.items;
+          calls = 0;
+          faults = 0;
+        } }
     {
         MemSource {
             bytes,
@@ -64,7 +76,8 @@ impl Source for MemSource {
         ensures cause { HasCause self.old.faults self.new.faults result }
 
         // What this source promises beyond that.
-        ensures count { IfOk result (λ n. n ≡ min self.old.step (min (length into.old) (length self.old.left))) }
+        ensures count { IfOk result (λ n.
+            n ≡ min self.old.step (min (length into.old) (length self.old.left))) }
         ensures behind { IfOk result (λ n. drop n into.new ≡ drop n into.old) }
         ensures fails { IsErr result ↔ Contains self.old.fails (next self.old.calls) }
         ensures untouched { OnErr result (into.new ≡ into.old) }
@@ -107,9 +120,17 @@ pub struct MemSink {
 impl Model for MemSink {
     ghost Value = { SinkState };
 
-    ghost view = { λ s. record { written = s.bytes.items; room = s.room; step = s.step; fails = s.fails.items; calls = s.calls; faults = s.faults } };
+    ghost view = { λ s. record {
+      written = s.bytes.items;
+      room = s.room;
+      step = s.step;
+      fails = s.fails.items;
+      calls = s.calls;
+      faults = s.faults;
+    } };
 
-    ghost invariant = { λ s. (length s.bytes.items ≤ s.room) × (s.room ≤ vec_capacity s.bytes) × (0 < s.step) };
+    ghost invariant = { λ s. (length s.bytes.items ≤ s.room) × (s.room ≤ vec_capacity s.bytes)
+        × (0 < s.step) };
 }
 
 impl MemSink {
@@ -123,7 +144,14 @@ impl MemSink {
         fails: Vec<u32>,
     ) -> Result<MemSink, NoMemory>
         requires { 0 < step }
-        ensures { IfOk result (λ s. s ≡ record { written = []; room = room; step = step; fails = fails.items; calls = 0; faults = 0 }) }
+        ensures { IfOk result (λ s. s ≡ record {
+          written = [];
+          room = room;
+          step = step;
+          fails = fails.items;
+          calls = 0;
+          faults = 0;
+        }) }
     {
         Ok(MemSink {
             bytes: Vec::with_capacity(alloc, room)?,
@@ -157,11 +185,14 @@ impl Sink for MemSink {
         ensures cause { HasCause self.old.faults self.new.faults result }
 
         // What this sink promises beyond that.
-        ensures count { IfOk result (λ n. n ≡ min self.old.step (min (length piece.now) (self.old.room - length self.old.written))) }
-        ensures fails { IsErr result ↔ (Contains self.old.fails (next self.old.calls) ⊎ (self.old.room ≤ length self.old.written)) }
+        ensures count { IfOk result (λ n.
+            n ≡ min self.old.step (min (length piece.now) (self.old.room - length self.old.written))) }
+        ensures fails { IsErr result ↔ (Contains self.old.fails (next self.old.calls)
+            ⊎ (self.old.room ≤ length self.old.written)) }
         ensures faults { CountsFault self.old.faults self.new.faults result }
         ensures calls { self.new.calls ≡ next self.old.calls }
-        ensures same { (self.new.room ≡ self.old.room) × (self.new.step ≡ self.old.step) × (self.new.fails ≡ self.old.fails) }
+        ensures same { (self.new.room ≡ self.old.room) × (self.new.step ≡ self.old.step)
+            × (self.new.fails ≡ self.old.fails) }
     {
         self.calls = self.calls.saturating_add(1);
         let left = self.room - self.bytes.len();
@@ -176,90 +207,4 @@ impl Sink for MemSink {
 }
 
 #[cfg(test)]
-mod tests {
-    use super::*;
-    use std::test::Fail;
-
-    fn digits(alloc: Global, fails: &[u32]) -> Result<MemSource, NoMemory> {
-        let bytes = Vec::from_slice(alloc, b"0123456789")?;
-        Ok(MemSource::new(bytes, 4, Vec::from_slice(alloc, fails)?))
-    }
-
-    #[test]
-    fn a_source_gives_as_many_bytes_as_the_buffer_holds(rt: HostRuntime) -> Result<(), Fail> {
-        let mut source = digits(rt.alloc(), &[])?;
-        let mut buffer = [0u8; 3];
-        let answers = [
-            (3, *b"012"),
-            (3, *b"345"),
-            (3, *b"678"),
-            (1, *b"978"),
-            (0, *b"978"),
-            (0, *b"978"),
-        ];
-        for (count, front) in answers {
-            assert_eq!(rt; source.read(&mut buffer), Ok(count));
-            assert_eq!(rt; buffer, front);
-        }
-        Ok(())
-    }
-
-    #[test]
-    fn a_source_gives_at_most_its_step(rt: HostRuntime) -> Result<(), Fail> {
-        let mut source = digits(rt.alloc(), &[])?;
-        let mut buffer = *b"--------";
-        let answers = [
-            (4, *b"0123----"),
-            (4, *b"4567----"),
-            (2, *b"8967----"),
-            (0, *b"8967----"),
-        ];
-        for (count, front) in answers {
-            assert_eq!(rt; source.read(&mut buffer), Ok(count));
-            assert_eq!(rt; buffer, front);
-        }
-        Ok(())
-    }
-
-    #[test]
-    fn a_source_goes_on_after_a_call_that_fails(rt: HostRuntime) -> Result<(), Fail> {
-        let mut source = digits(rt.alloc(), &[2])?;
-        let mut buffer = *b"----";
-        let answers = [
-            (Ok(4), *b"0123"),
-            (Err(Failed), *b"0123"),
-            (Ok(4), *b"4567"),
-            (Ok(2), *b"8967"),
-            (Ok(0), *b"8967"),
-        ];
-        for (answer, front) in answers {
-            assert_eq!(rt; source.read(&mut buffer), answer);
-            assert_eq!(rt; buffer, front);
-        }
-        assert_eq!(rt; source.faults, 1);
-        Ok(())
-    }
-
-    #[test]
-    fn a_sink_takes_its_step_then_its_room_and_then_fails(rt: HostRuntime) -> Result<(), Fail> {
-        let mut sink = MemSink::new(rt.alloc(), 6, 4, Vec::new(rt.alloc()))?;
-        assert_eq!(rt; sink.write(b"abcdef"), Ok(4));
-        assert_eq!(rt; sink.write(b"ef"), Ok(2));
-        assert_eq!(rt; sink.write(b"g"), Err(Failed));
-        assert_eq!(rt; sink.written(), b"abcdef".as_slice());
-        Ok(())
-    }
-
-    #[test]
-    fn a_sink_writes_nothing_in_a_call_that_fails(rt: HostRuntime) -> Result<(), Fail> {
-        let fails = Vec::from_slice(rt.alloc(), &[1, 3])?;
-        let mut sink = MemSink::new(rt.alloc(), 6, 4, fails)?;
-        let answers = [Err(Failed), Ok(3), Err(Failed), Ok(3), Err(Failed)];
-        for answer in answers {
-            assert_eq!(rt; sink.write(b"abc"), answer);
-        }
-        assert_eq!(rt; sink.written(), b"abcabc".as_slice());
-        assert_eq!(rt; sink.faults, 3);
-        Ok(())
-    }
-}
+mod tests;
