@@ -1,2 +1,3 @@
 pub mod Values
 pub mod Rects
+pub mod Solids

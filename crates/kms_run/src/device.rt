@@ -18,7 +18,7 @@ pub struct Device {
     ghost crtc_ids: { crtcs ≡ ids_of topology Crtc },
     ghost plane_ids: { planes ≡ ids_of topology Plane },
     ghost conn_ids: { conns ≡ ids_of topology Conn },
-    ghost few_planes: { length topology.planes ≤ 16 },
+    ghost few_planes: { length planes ≤ 16 },
 }
 
 /// How many objects of a kind a device has.
@@ -35,7 +35,8 @@ pub fn count_of(t: &Topology, kind: Kind) -> usize
 
 fn ids_of(alloc: Global, t: &Topology, kind: Kind) -> Result<Seq<u32>, AllocError>
     requires { count_of t.now kind < 256 }
-    ensures { IfOk result (λ ids. ids ≡ ids_of t.now kind) }
+    ensures ids { IfOk result (λ ids. ids ≡ ids_of t.now kind) }
+    ensures count { IfOk result (λ ids. length ids ≡ count_of t.now kind) }
 {
     let mut ids = Vec::new(alloc);
     for i in 0..count_of(t, kind) {
