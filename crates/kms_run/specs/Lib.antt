@@ -1,3 +1,5 @@
 pub mod Values
 pub mod Rects
 pub mod Solids
+pub mod Ready
+pub mod Buffers
