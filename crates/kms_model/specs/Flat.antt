@@ -135,7 +135,7 @@ shown_then (Some p) ps = p ∷ ps
 
 unfoldable pub latches_of : Topology → ℕ → List Done → List Pictured
 latches_of t crtc [] = []
-latches_of t crtc (d ∷ ds) = shown_then (shown_by t crtc d.before d.turn.command d.result) (latches_of t crtc ds)
+latches_of t crtc (d ∷ ds) = shown_then (shown_by t crtc d.before.values d.turn.command d.result) (latches_of t crtc ds)
 
 abbrev pub by_client : ℕ → List Done → List Done
 by_client client ds = filter (λ d. d.turn.client == client) ds

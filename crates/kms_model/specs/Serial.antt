@@ -93,15 +93,15 @@ pub record Pictured : Type 0 where
 abbrev pub pictured : Topology → World → ℕ → ℕ → Pictured
 pictured t w crtc k = let p = picture t w.things w.values crtc in record { commit = k; picture = p; frame = frame_bytes w.things p }
 
--- what a commit makes a CRTC show that it names
-abbrev pub shown_after : Topology → ℕ → World → Request → World → Reply → Option Pictured
-shown_after t crtc before r after (reply.Commit k) = if names before.values after.values r.assigns crtc then Some (pictured t after crtc k) else None
-shown_after t crtc before r after _ = None
+-- what a commit makes a CRTC show that it names: old are the values before it
+abbrev pub shown_after : Topology → ℕ → List Setting → Request → World → Reply → Option Pictured
+shown_after t crtc old r after (reply.Commit k) = if names old after.values r.assigns crtc then Some (pictured t after crtc k) else None
+shown_after t crtc old r after _ = None
 
 -- what a command makes a CRTC show: nothing new unless it is a commit that names the CRTC
-abbrev pub shown_by : Topology → ℕ → World → Command → Executed → Option Pictured
-shown_by t crtc before (command.Atomic r) e = shown_after t crtc before r e.world e.reply
-shown_by t crtc before _ e = None
+abbrev pub shown_by : Topology → ℕ → List Setting → Command → Executed → Option Pictured
+shown_by t crtc old (command.Atomic r) e = shown_after t crtc old r e.world e.reply
+shown_by t crtc old _ e = None
 
 -- an entry of a journal: a client and the number of its command, both counted from 1
 pub record Entry : Type 0 where
@@ -125,7 +125,7 @@ execute_in t w client (Some c) = (execute t w client c).world
 
 abbrev pub shown_in : Topology → ℕ → World → ℕ → Option Command → List Pictured
 shown_in t crtc w client None = []
-shown_in t crtc w client (Some c) = list_of (shown_by t crtc w c (execute t w client c)) where
+shown_in t crtc w client (Some c) = list_of (shown_by t crtc w.values c (execute t w client c)) where
   list_of : Option Pictured → List Pictured
   list_of None = []
   list_of (Some p) = p ∷ []

@@ -1,3 +1,4 @@
 pub mod Puts
 pub mod Bounds
 pub mod Rows
+pub mod Goes

@@ -4,6 +4,9 @@
 mod commands;
 mod device;
 mod frames;
+mod latches;
 mod pictures;
 mod requests;
+mod run;
+mod text;
 mod values;

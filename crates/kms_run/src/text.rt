@@ -1,0 +1,81 @@
+//! The lines of a report.
+ghost use Rattle.std.specs.Prelude.{◌≡◌, ◌++◌, ◌∷◌, [], codes, ℕ, List, IfOk, OnOk, string_bytes, length};
+ghost use Rattle.std.specs.Fmt.{decimal};
+ghost use Rattle.kms_model.specs.Flat.{errno_of, line, reply_words, digest_of};
+
+use kms_model::Reply;
+use sha2::{Digest, Sha256};
+use std::alloc::{AllocError, Global};
+
+/// `J CLIENT COMMAND`
+pub fn push_journal(text: &mut String, client: u32, number: u32) -> Result<(), AllocError>
+    ensures { OnOk result (string_bytes text.new ≡ string_bytes text.old ++ line (codes "J" ∷ decimal client ∷ decimal number ∷ [])) }
+{
+    writeln!(text, "J {client} {number}")
+}
+
+fn errno_of(number: u32) -> &'static str
+    ensures { result.now ≡ errno_of number }
+{
+    match number {
+        4 | 5 | 33 => "ENOENT",
+        13 | 22 => "ERANGE",
+        14 | 32 => "ENOSPC",
+        34 => "EPERM",
+        _ => "EINVAL",
+    }
+}
+
+fn push_refusal(text: &mut String, number: u32) -> Result<(), AllocError>
+    ensures { OnOk result (string_bytes text.new ≡ string_bytes text.old ++ line (errno_of number ∷ decimal number ∷ [])) }
+{
+    let errno = errno_of(number);
+    writeln!(text, "{errno} {number}")
+}
+
+fn push_reply_words(text: &mut String, reply: &Reply) -> Result<(), AllocError>
+    ensures { OnOk result (string_bytes text.new ≡ string_bytes text.old ++ line (reply_words reply.now)) }
+{
+    match reply {
+        Reply::Made { id } => writeln!(text, "made {}", *id),
+        Reply::Done => text.push_str("done\n"),
+        Reply::Commit { commit } => writeln!(text, "commit {}", *commit),
+        Reply::Refused(number) => push_refusal(text, number.0),
+        Reply::Denied(number) => push_refusal(text, *number),
+        _ => text.push_str("none\n"),
+    }
+}
+
+/// `R CLIENT COMMAND PLACE REPLY`
+pub fn push_reply(
+    text: &mut String,
+    client: u32,
+    number: u32,
+    place: u64,
+    reply: &Reply,
+) -> Result<(), AllocError>
+    ensures { OnOk result (string_bytes text.new ≡ string_bytes text.old ++ line (codes "R" ∷ decimal client ∷ decimal number ∷ decimal place ∷ reply_words reply.now)) }
+{
+    write!(text, "R {client} {number} {place} ")?;
+    push_reply_words(text, reply)
+}
+
+/// `L CRTC COMMIT COUNT DIGEST`
+pub fn push_latch(
+    text: &mut String,
+    index: u32,
+    commit: u32,
+    count: u64,
+    digest: &str,
+) -> Result<(), AllocError>
+    ensures { OnOk result (string_bytes text.new ≡ string_bytes text.old ++ line (codes "L" ∷ decimal index ∷ decimal commit ∷ decimal count ∷ digest.now ∷ [])) }
+{
+    writeln!(text, "L {index} {commit} {count} {digest}")
+}
+
+/// The SHA-256 of a frame's bytes, in lower-case hexadecimal.
+pub fn digest_of(alloc: Global, frame: &[u8]) -> Result<String, AllocError>
+    ensures { IfOk result (λ text. string_bytes text ≡ digest_of frame.now) }
+{
+    hex::encode(alloc, Sha256::digest(frame).as_slice())
+}
