@@ -6,3 +6,5 @@ pub mod Buffers
 pub mod Shown
 pub mod Run
 pub mod LatchText
+pub mod StatusText
+pub mod Words

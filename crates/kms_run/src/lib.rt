@@ -8,5 +8,11 @@ mod latches;
 mod pictures;
 mod requests;
 mod run;
+mod status;
+mod stream;
 mod text;
 mod values;
+mod words;
+
+pub use status::{Status, status_text};
+pub use words::legal_words;
