@@ -1,0 +1,1 @@
+//! What a reader answers at the edges of the narrow form.
