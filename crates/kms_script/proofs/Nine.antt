@@ -1,5 +1,5 @@
 -- A fact of each of nine.
-use Rattle.std.proofs.Common.{List, [], ◌∷◌}
+use Rattle.std.proofs.Common.{[], ◌∷◌}
 use Rattle.std.specs.Prelude.{All}
 use Rattle.std.proofs.lemmas.List.Elements.{All-from_recursion}
 use Rattle.kms_model.specs.declared.scripts.Assign.{Assign}

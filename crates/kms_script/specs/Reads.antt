@@ -1,5 +1,5 @@
 -- What the reader has read so far, as the definitions see it.
-use Rattle.std.specs.Prelude.{ℕ, ◌≤◌, length}
+use Rattle.std.specs.Prelude.{◌≡◌, ◌≤◌, Bool, true, false, Option, Some, None, length}
 use Rattle.kms_model.specs.Lines.{Reading}
 use Rattle.kms_model.specs.Fit.{AllFit}
 use Rattle.kms_script.specs.declared.reading.Reading.{Reading as Held}
@@ -13,3 +13,8 @@ pub record IsSound (r : Reading) : Type 0 where
   pub fit : AllFit r.commands
   pub few : length r.commands ≤ 4096
   pub labels : length r.names ≤ length r.commands
+
+-- The answer to a line: it may stand, and then this is read after it, or it may not.
+abbrev pub Answers : Bool → Option Reading → Reading → Type 0
+Answers true stated after = stated ≡ Some after
+Answers false stated after = stated ≡ None

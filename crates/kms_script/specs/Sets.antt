@@ -2,7 +2,6 @@
 use Rattle.std.specs.Prelude.{ℕ, List}
 use Rattle.kms_script.specs.declared.atomic.CrtcSets.{CrtcSets}
 use Rattle.kms_script.specs.declared.atomic.PlaneNames.{PlaneNames}
-use Rattle.kms_script.specs.declared.atomic.Numbered.{Numbered}
 use Rattle.kms_script.specs.declared.atomic.PlaneSizes.{PlaneSizes}
 
 abbrev pub crtc_in : CrtcSets → List ℕ → List ℕ → ℕ × ℕ × ℕ × List ℕ × List ℕ

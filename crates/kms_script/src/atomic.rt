@@ -1,15 +1,15 @@
 //! A line with an atomic request.
-ghost use Rattle.std.specs.Prelude.{◌≡◌, ◌<◌, ◌*◌, ◌&&◌, ◌==◌, ℕ, List, [], Some, None, IfSome, IfOk, OnOk, All, option_map, option_copied, length, codes, pos, MatchBool};
+ghost use Rattle.std.specs.Prelude.{◌≡◌, ◌<◌, ◌*◌, ◌&&◌, ◌==◌, ℕ, List, [], Some, None, IfSome, IfOk, OnOk, All, option_map, option_copied, length, codes, pos};
 ghost use Rattle.kms_model.specs.Fit.{IsSmallValue, IsSmall};
 ghost use Rattle.kms_model.specs.declared.objects.Kind.TheVariants as kind;
 ghost use Rattle.kms_model.specs.declared.scripts.Value.TheVariants as value;
 ghost use Rattle.kms_model.specs.Lines.{strip, set_at, given_at, named_at, numbered_at, crtc_sets, plane_names, plane_sizes, flags_at, set_of, assigns_of, has_size, request_at, atomic_line};
-ghost use Rattle.kms_script.specs.Reads.{reading_in, IsSound};
+ghost use Rattle.kms_script.specs.Reads.{reading_in, IsSound, Answers};
 ghost use Rattle.kms_script.specs.Sets.{crtc_in, names_in, sizes_in};
 
 use crate::made::{framebuffer_size, mode_with};
 use crate::reading::{Reading, place_of};
-use crate::words::{is_label, read_dec, split_at_byte, take_dec, take_end, take_field};
+use crate::words::{MOST, is_label, read_dec, split_at_byte, take_dec, take_end, take_field};
 use kms_model::properties::{ACTIVE, CRTC_H, CRTC_ID, CRTC_W, FB_ID, MODE_ID, SRC_H, SRC_W};
 use kms_model::{Assign, Command, Kind, NoMemory, PropRef, Request, Seq, Value};
 use std::alloc::Global;
@@ -110,7 +110,7 @@ fn take_numbered<'a>(kind: &[u8], prop: &[u8], bytes: &'a [u8]) -> Option<(Numbe
     ensures { option_map (λ x. (x.0.index, x.0.number, x.1.now)) result ≡ numbered_at kind.now prop.now bytes.now }
 {
     let (index, given, rest) = take_set(kind, prop, bytes)?;
-    let number = read_dec(given, 4294967295)? as u32;
+    let number = read_dec(given, MOST)? as u32;
     Some((Numbered { index, number }, rest))
 }
 
@@ -253,12 +253,12 @@ impl Reading {
         Some((flags, user_data, assigns))
     }
 
-    /// `FLAGS USERDATA` and the nine assignments: `false` where that may not stand.
+    /// `FLAGS USERDATA` and the nine assignments: whether that may stand there.
     #[tactic(auto, unfolding(kms_model::specs::Lines::atomic_line))]
     pub fn atomic_line(&mut self, alloc: Global, bytes: &[u8]) -> Result<bool, NoMemory>
         requires sound { IsSound (reading_in self.old) }
         requires room { length self.old.commands < 4096 }
-        ensures value { IfOk result (λ ok. MatchBool ok (atomic_line (reading_in self.old) bytes.now ≡ Some (reading_in self.new)) (atomic_line (reading_in self.old) bytes.now ≡ None)) }
+        ensures value { IfOk result (λ ok. Answers ok (atomic_line (reading_in self.old) bytes.now) (reading_in self.new)) }
         ensures sound { OnOk result (IsSound (reading_in self.new)) }
     {
         let Some(fields) = self.request_fields(bytes) else {

@@ -12,10 +12,9 @@ mod made;
 mod modes;
 mod reading;
 mod script;
-mod words;
-
 #[cfg(test)]
 mod tests;
+mod words;
 
 pub use faults::ParseError;
 pub use kms_model::Why;

@@ -1,7 +1,7 @@
 //! Lines of a script.
-ghost use Rattle.std.specs.Prelude.{◌≡◌, ◌<◌, ◌≤◌, ℕ, List, Some, None, IfOk, OnOk, option_map, length, MatchBool, codes};
+ghost use Rattle.std.specs.Prelude.{◌≡◌, ◌<◌, ◌≤◌, ℕ, List, Some, None, IfOk, OnOk, option_map, length, codes};
 ghost use Rattle.kms_model.specs.Lines.{side_at, buffer_fields, buffer_line, labels_fields, addfb_line, mode_line, command_line, head_line, any_line};
-ghost use Rattle.kms_script.specs.Reads.{reading_in, IsSound};
+ghost use Rattle.kms_script.specs.Reads.{reading_in, IsSound, Answers};
 
 use crate::made::buffer_size;
 use crate::modes::mode_fields;
@@ -49,11 +49,12 @@ fn labels_fields(bytes: &[u8]) -> Option<(&[u8], &[u8])>
 }
 
 impl Reading {
+    /// `LABEL W H XR24 solid PIX`: whether it may stand there.
     #[tactic(auto, unfolding(kms_model::specs::Lines::buffer_line))]
     pub fn buffer_line(&mut self, alloc: Global, bytes: &[u8]) -> Result<bool, NoMemory>
         requires sound { IsSound (reading_in self.old) }
         requires room { length self.old.commands < 4096 }
-        ensures value { IfOk result (λ ok. MatchBool ok (buffer_line (reading_in self.old) bytes.now ≡ Some (reading_in self.new)) (buffer_line (reading_in self.old) bytes.now ≡ None)) }
+        ensures value { IfOk result (λ ok. Answers ok (buffer_line (reading_in self.old) bytes.now) (reading_in self.new)) }
         ensures sound { OnOk result (IsSound (reading_in self.new)) }
     {
         let Some((label, width, height, colour)) = buffer_fields(bytes) else {
@@ -73,11 +74,12 @@ impl Reading {
         Ok(true)
     }
 
+    /// `LABEL BUFFER`, of an earlier buffer: whether it may stand there.
     #[tactic(auto, unfolding(kms_model::specs::Lines::addfb_line))]
     pub fn addfb_line(&mut self, alloc: Global, bytes: &[u8]) -> Result<bool, NoMemory>
         requires sound { IsSound (reading_in self.old) }
         requires room { length self.old.commands < 4096 }
-        ensures value { IfOk result (λ ok. MatchBool ok (addfb_line (reading_in self.old) bytes.now ≡ Some (reading_in self.new)) (addfb_line (reading_in self.old) bytes.now ≡ None)) }
+        ensures value { IfOk result (λ ok. Answers ok (addfb_line (reading_in self.old) bytes.now) (reading_in self.new)) }
         ensures sound { OnOk result (IsSound (reading_in self.new)) }
     {
         let Some((label, buffer_label)) = labels_fields(bytes) else {
@@ -101,11 +103,12 @@ impl Reading {
         Ok(true)
     }
 
+    /// `LABEL` and a mode: whether it may stand there.
     #[tactic(auto, unfolding(kms_model::specs::Lines::mode_line))]
     pub fn mode_line(&mut self, alloc: Global, bytes: &[u8]) -> Result<bool, NoMemory>
         requires sound { IsSound (reading_in self.old) }
         requires room { length self.old.commands < 4096 }
-        ensures value { IfOk result (λ ok. MatchBool ok (mode_line (reading_in self.old) bytes.now ≡ Some (reading_in self.new)) (mode_line (reading_in self.old) bytes.now ≡ None)) }
+        ensures value { IfOk result (λ ok. Answers ok (mode_line (reading_in self.old) bytes.now) (reading_in self.new)) }
         ensures sound { OnOk result (IsSound (reading_in self.new)) }
     {
         let Some((label, mode)) = mode_fields(bytes) else {
@@ -122,11 +125,12 @@ impl Reading {
         Ok(true)
     }
 
+    /// A command of the client: whether it may stand there.
     #[tactic(auto, unfolding(kms_model::specs::Lines::command_line))]
     pub fn command_line(&mut self, alloc: Global, bytes: &[u8]) -> Result<bool, NoMemory>
         requires sound { IsSound (reading_in self.old) }
         requires room { length self.old.commands < 4096 }
-        ensures value { IfOk result (λ ok. MatchBool ok (command_line (reading_in self.old) bytes.now ≡ Some (reading_in self.new)) (command_line (reading_in self.old) bytes.now ≡ None)) }
+        ensures value { IfOk result (λ ok. Answers ok (command_line (reading_in self.old) bytes.now) (reading_in self.new)) }
         ensures sound { OnOk result (IsSound (reading_in self.new)) }
     {
         let (keyword, fields) = split_at_byte(bytes, b' ');
@@ -143,10 +147,11 @@ impl Reading {
         }
     }
 
+    /// Any line of a script: whether it may stand there.
     #[tactic(auto, unfolding(kms_model::specs::Lines::any_line))]
     pub fn any_line(&mut self, alloc: Global, bytes: &[u8]) -> Result<bool, NoMemory>
         requires { IsSound (reading_in self.old) }
-        ensures value { IfOk result (λ ok. MatchBool ok (any_line (reading_in self.old) bytes.now ≡ Some (reading_in self.new)) (any_line (reading_in self.old) bytes.now ≡ None)) }
+        ensures value { IfOk result (λ ok. Answers ok (any_line (reading_in self.old) bytes.now) (reading_in self.new)) }
         ensures sound { OnOk result (IsSound (reading_in self.new)) }
     {
         if self.head < 4 {
@@ -180,4 +185,3 @@ fn head_line(place: u32) -> &'static [u8]
         _ => b"conn 0",
     }
 }
-

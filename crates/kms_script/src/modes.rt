@@ -5,7 +5,7 @@ ghost use Rattle.kms_model.specs.Words.{is_name_byte, name_at};
 ghost use Rattle.kms_model.specs.Modes.{is_axis, is_legal_mode};
 ghost use Rattle.kms_model.specs.Lines.{five_at, is_small_mode, mode_at, mode_fields};
 
-use crate::words::{take_dec, take_end, take_field, take_label};
+use crate::words::{MOST, take_dec, take_end, take_field, take_label};
 use kms_model::Mode;
 
 #[tactic(auto, unfolding(kms_model::specs::Lines::five_at))]
@@ -84,12 +84,12 @@ fn is_small_mode(mode: &Mode) -> bool
 fn take_mode(bytes: &[u8]) -> Option<(Mode, &[u8])>
     ensures { option_map (λ x. (x.0, x.1.now)) result ≡ mode_at bytes.now }
 {
-    let (clock, rest) = take_dec(bytes, 4294967295)?;
+    let (clock, rest) = take_dec(bytes, MOST)?;
     let (hdisplay, hsync_start, hsync_end, htotal, hskew, rest) = take_five(rest)?;
     let (vdisplay, vsync_start, vsync_end, vtotal, vscan, rest) = take_five(rest)?;
-    let (vrefresh, rest) = take_dec(rest, 4294967295)?;
-    let (flags, rest) = take_dec(rest, 4294967295)?;
-    let (kind, rest) = take_dec(rest, 4294967295)?;
+    let (vrefresh, rest) = take_dec(rest, MOST)?;
+    let (flags, rest) = take_dec(rest, MOST)?;
+    let (kind, rest) = take_dec(rest, MOST)?;
     let (name, rest) = take_name(rest)?;
     let mode = Mode {
         clock: clock as u32,

@@ -35,12 +35,7 @@ pub fn place_of(names: &[Seq<u8>], name: &[u8]) -> Option<usize>
 
 impl Reading {
     /// Adds a command that makes a label.
-    pub fn enter(
-        &mut self,
-        alloc: Global,
-        label: &[u8],
-        command: Command,
-    ) -> Result<(), NoMemory>
+    pub fn enter(&mut self, alloc: Global, label: &[u8], command: Command) -> Result<(), NoMemory>
         requires fit { IsFit command }
         requires sound { IsSound (reading_in self.old) }
         requires room { length self.old.commands < 4096 }

@@ -1,8 +1,11 @@
 //! Words of a line.
-ghost use Rattle.std.specs.Prelude.{◌≡◌, ◌<◌, ◌≤◌, ◌^◌, ◌↔◌, ◌+◌, ℕ, List, [], Some, IsTrue, option_map, option_copied, length, IfSome};
+ghost use Rattle.std.specs.Prelude.{◌≡◌, ◌<◌, ◌≤◌, ℕ, List, [], Some, IsTrue, option_map, option_copied, length, IfSome};
 ghost use Rattle.std.specs.Str.{bytes_eq};
 ghost use Rattle.std.specs.List.{list_all};
 ghost use Rattle.kms_model.specs.Words.{until, from, dec, is_digit, is_label, is_label_rest, is_hex, hex_value, hex_from, pix, field_at, dec_at, label_at, pix_at, word_at, end_at};
+
+/// The largest number of 32 bits.
+pub const MOST: u64 = 4_294_967_295;
 
 /// The bytes before the first separator, and those from it on.
 pub fn split_at_byte(bytes: &[u8], separator: u8) -> (&[u8], &[u8])

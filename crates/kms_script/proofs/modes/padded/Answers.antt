@@ -1,4 +1,4 @@
-use Rattle.std.proofs.Common.{◌++◌, ap, List, ℕ, length, replicate, drop}
+use Rattle.std.proofs.Common.{◌++◌, ap, List, ℕ, length}
 use Rattle.std.proofs.lemmas.List.{drop-replicate}
 use Rattle.kms_script.proofs.modes.padded.Goals as goal
 

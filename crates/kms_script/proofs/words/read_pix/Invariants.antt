@@ -1,4 +1,4 @@
-use Rattle.std.proofs.Common.{◌≡◌, ◌+◌, ◌<◌, ◌^◌, ◌*◌, ◌≤◌, length, take, drop}
+use Rattle.std.proofs.Common.{◌≡◌, ◌+◌, ◌^◌, ◌*◌, ◌≤◌, length}
 use Rattle.std.specs.List.{list_all}
 use Rattle.kms_model.specs.Words.{hex_from, is_hex}
 use Rattle.kms_script.proofs.words.read_pix.Given as goal
