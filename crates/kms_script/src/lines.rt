@@ -60,7 +60,7 @@ impl Reading {
         let Some((label, width, height, colour)) = buffer_fields(bytes) else {
             return Ok(false);
         };
-        if place_of(self.names.as_slice(), label).is_some() {
+        if !self.is_new(label) {
             return Ok(false);
         }
         let command = Command::Buffer {
@@ -92,7 +92,7 @@ impl Reading {
         if buffer_size(self.commands.as_slice(), buffer).is_none() {
             return Ok(false);
         }
-        if place_of(self.names.as_slice(), label).is_some() {
+        if !self.is_new(label) {
             return Ok(false);
         }
         let command = Command::AddFb {
@@ -114,7 +114,7 @@ impl Reading {
         let Some((label, mode)) = mode_fields(bytes) else {
             return Ok(false);
         };
-        if place_of(self.names.as_slice(), label).is_some() {
+        if !self.is_new(label) {
             return Ok(false);
         }
         let command = Command::Mode {

@@ -1,5 +1,5 @@
 //! What was read of a script.
-ghost use Rattle.std.specs.Prelude.{◌≡◌, ◌<◌, ℕ, List, IfOk, IfSome, OnOk, length};
+ghost use Rattle.std.specs.Prelude.{◌≡◌, ◌<◌, ℕ, List, IfOk, IfSome, OnOk, length, is_none};
 ghost use Rattle.kms_model.specs.Fit.{IsFit};
 ghost use Rattle.kms_model.specs.Lines.{place_from, enter};
 ghost use Rattle.kms_script.specs.Reads.{reading_in, IsSound};
@@ -34,6 +34,13 @@ pub fn place_of(names: &[Seq<u8>], name: &[u8]) -> Option<usize>
 }
 
 impl Reading {
+    /// Whether no line so far has a label.
+    pub fn is_new(&self, label: &[u8]) -> bool
+        ensures { result ≡ is_none (place_from 0 label.now self.now.names) }
+    {
+        place_of(self.names.as_slice(), label).is_none()
+    }
+
     /// Adds a command that makes a label.
     pub fn enter(&mut self, alloc: Global, label: &[u8], command: Command) -> Result<(), NoMemory>
         requires fit { IsFit command }
