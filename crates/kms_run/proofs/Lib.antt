@@ -2,3 +2,4 @@ pub mod Puts
 pub mod Bounds
 pub mod Rows
 pub mod Goes
+pub mod FlatOne

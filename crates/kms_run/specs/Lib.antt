@@ -8,3 +8,6 @@ pub mod Run
 pub mod LatchText
 pub mod StatusText
 pub mod Words
+pub mod Answers
+pub mod Outcome
+pub mod Stated

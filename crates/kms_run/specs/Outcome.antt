@@ -1,0 +1,50 @@
+-- What a call of the program reads and writes, by its status.
+use Rattle.std.specs.Prelude.{◌≡◌, ℕ, ◌<◌, ◌≤◌, List, [], length, Result, Ok, Err, Option}
+use Rattle.std.specs.Io.KnownBytes.{IsAtEnd}
+use Rattle.kms_io.specs.Bytes.{Begins}
+use Rattle.kms_model.specs.declared.scripts.Why.{Why}
+use Rattle.kms_run.specs.declared.status.Status.{Status}
+use Rattle.kms_run.specs.declared.status.Status.TheVariants as status
+use Rattle.kms_run.specs.Answers.{report_for}
+
+-- All that the source had left was read, or, of a longer input, one byte more than an input may have.
+pub record IsWhole (left : Option (List ℕ)) (input : List ℕ) : Type 0 where
+  pub most : length input ≤ 67108865
+  pub end : length input < 67108865 → IsAtEnd left
+
+-- The whole input was read, and what was written is its report.
+pub record WritesReport (left : Option (List ℕ)) (input output : List ℕ) : Type 0 where
+  pub whole : IsWhole left input
+  pub report : report_for input ≡ Ok output
+
+-- The whole input was read, and what was written is a front part of its report.
+pub record WritesFront (left : Option (List ℕ)) (input output : List ℕ) : Type 0 where
+  pub whole : IsWhole left input
+  pub text : List ℕ
+  pub report : report_for input ≡ Ok text
+  pub front : Begins text output
+
+-- The whole input was read, this is its first fault, and nothing was written.
+pub record TellsFault (left : Option (List ℕ)) (line : ℕ) (why : Why) (input output : List ℕ) : Type 0 where
+  pub whole : IsWhole left input
+  pub fault : report_for input ≡ Err (record { line = line; why = why })
+  pub nothing : output ≡ []
+
+-- nothing was read or written
+pub record MovesNothing (input output : List ℕ) : Type 0 where
+  pub read : input ≡ []
+  pub written : output ≡ []
+
+-- What was read and written where a call ended so; left is what the source has left afterwards. No other status
+-- comes.
+abbrev pub Meets : Status → Option (List ℕ) → List ℕ → List ℕ → Type 0
+Meets status.Ok left input output = WritesReport left input output
+Meets status.ReadFault left input output = output ≡ []
+Meets status.WriteFault left input output = WritesFront left input output
+Meets status.Usage left input output = MovesNothing input output
+Meets (status.Script line why) left input output = TellsFault left line why input output
+Meets status.NoMemory left input output = output ≡ []
+Meets status.Stalled left input output = ⊥
+Meets (status.Illegal at) left input output = ⊥
+Meets status.Open left input output = ⊥
+Meets (status.AuditNo line) left input output = ⊥

@@ -1,0 +1,79 @@
+//! The top calls.
+ghost use Rattle.std.specs.Prelude.{◌≡◌, ◌↔◌, ◌<◌, ◌≤◌, ℕ, List, map, length, IsTrue, string_bytes};
+ghost use Rattle.kms_io.specs.Causes.{Rose};
+ghost use Rattle.kms_io.specs.Bytes.{Moved};
+ghost use Rattle.kms_run.specs.Words.{IsLegal};
+ghost use Rattle.kms_run.specs.Outcome.{Meets};
+
+use crate::answers::answer;
+use crate::status::Status;
+use crate::stream::{ReadError, read_all, write_all};
+use crate::words::legal_words;
+use kms_io::{Gate, Sink, Source};
+use kms_script::ParseError;
+use std::alloc::Global;
+use std::sync::Wait;
+use std::thread::Threads;
+
+/// The most bytes that an input may have: 64 MiB.
+const LIMIT: usize = 67_108_864;
+
+/// All that the program does for words that are no legal words of `run` (so far, for all words). It waits for
+/// nobody. `rt` is for threads that only compute; there are none yet.
+///
+/// The words are tried first, then the input is read to its end (or to one byte more than it may have), then the
+/// script is read and executed, and only then is the report written.
+pub fn kms_plain<R: Threads, S: Source, K: Sink>(
+    _rt: &R,
+    alloc: Global,
+    words: &[String],
+    source: &mut S,
+    sink: &mut K,
+) -> Status
+    // What is read and written, by the status.
+    ensures moved { Moved (S.left source.old) (S.left source.new) (K.written sink.old) (K.written sink.new) (Meets result (S.left source.new)) }
+
+    // When the statuses come that the bytes do not determine.
+    ensures usage { (result ≡ Status.Usage) ↔ (IsLegal (map string_bytes words.now) → ⊥) }
+    ensures read_fault { result ≡ Status.ReadFault → Rose (S.faults source.old) (S.faults source.new) }
+    ensures write_fault { result ≡ Status.WriteFault → Rose (K.faults sink.old) (K.faults sink.new) }
+{
+    if !legal_words(words) {
+        return Status::Usage;
+    }
+    let input = match read_all(alloc, source, LIMIT + 1) {
+        Ok(input) => input,
+        Err(ReadError::Failed) => return Status::ReadFault,
+        Err(ReadError::Memory) => return Status::NoMemory,
+    };
+    let text = match answer(alloc, &input) {
+        Ok(text) => text,
+        Err(ParseError::Fault { line, why }) => return Status::Script { line, why },
+        Err(ParseError::NoMemory) => return Status::NoMemory,
+    };
+    match write_all(sink, text.as_bytes()) {
+        Ok(()) => Status::Ok,
+        Err(_) => Status::WriteFault,
+    }
+}
+
+/// All that the program does. For legal words of `run` it will make the run itself, with threads that wait for
+/// one another and with the gate; there are none yet.
+pub fn kms_main<R: Threads + Wait, S: Source, K: Sink, G: Gate + Sync>(
+    rt: &R,
+    alloc: Global,
+    words: &[String],
+    source: &mut S,
+    sink: &mut K,
+    _gate: &G,
+) -> Status
+    // What is read and written, by the status.
+    ensures moved { Moved (S.left source.old) (S.left source.new) (K.written sink.old) (K.written sink.new) (Meets result (S.left source.new)) }
+
+    // When the statuses come that the bytes do not determine.
+    ensures usage { (result ≡ Status.Usage) ↔ (IsLegal (map string_bytes words.now) → ⊥) }
+    ensures read_fault { result ≡ Status.ReadFault → Rose (S.faults source.old) (S.faults source.new) }
+    ensures write_fault { result ≡ Status.WriteFault → Rose (K.faults sink.old) (K.faults sink.new) }
+{
+    kms_plain(rt, alloc, words, source, sink)
+}
