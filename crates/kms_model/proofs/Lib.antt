@@ -1,3 +1,4 @@
 pub mod InPlace
 pub mod OnLiterals
 pub mod Rows
+pub mod RunIsSerial

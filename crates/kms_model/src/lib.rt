@@ -5,6 +5,7 @@
 #![tactic(auto)]
 
 mod copying;
+mod laws;
 mod layers;
 mod list;
 mod objects;
@@ -16,6 +17,7 @@ mod states;
 mod worlds;
 
 pub use copying::{Duplicate, NoMemory};
+pub use laws::rounds_are_the_journal;
 pub use layers::Layers;
 pub use list::Seq;
 pub use objects::{Format, Kind, Mode, ObjId, PlaneInfo, Ticket, Topology};

@@ -10,4 +10,3 @@ pub mod StatusText
 pub mod Words
 pub mod Answers
 pub mod Outcome
-pub mod Stated

@@ -5,7 +5,8 @@ use Rattle.kms_io.specs.Bytes.{Begins}
 use Rattle.kms_model.specs.declared.scripts.Why.{Why}
 use Rattle.kms_run.specs.declared.status.Status.{Status}
 use Rattle.kms_run.specs.declared.status.Status.TheVariants as status
-use Rattle.kms_run.specs.Answers.{report_for}
+use Rattle.kms_model.specs.Input.{input as script_in}
+use Rattle.kms_run.specs.Answers.{IsReport}
 
 -- All that the source had left was read, or, of a longer input, one byte more than an input may have.
 pub record IsWhole (left : Option (List ℕ)) (input : List ℕ) : Type 0 where
@@ -15,19 +16,19 @@ pub record IsWhole (left : Option (List ℕ)) (input : List ℕ) : Type 0 where
 -- The whole input was read, and what was written is its report.
 pub record WritesReport (left : Option (List ℕ)) (input output : List ℕ) : Type 0 where
   pub whole : IsWhole left input
-  pub report : report_for input ≡ Ok output
+  pub report : IsReport input output
 
 -- The whole input was read, and what was written is a front part of its report.
 pub record WritesFront (left : Option (List ℕ)) (input output : List ℕ) : Type 0 where
   pub whole : IsWhole left input
   pub text : List ℕ
-  pub report : report_for input ≡ Ok text
+  pub report : IsReport input text
   pub front : Begins text output
 
 -- The whole input was read, this is its first fault, and nothing was written.
 pub record TellsFault (left : Option (List ℕ)) (line : ℕ) (why : Why) (input output : List ℕ) : Type 0 where
   pub whole : IsWhole left input
-  pub fault : report_for input ≡ Err (record { line = line; why = why })
+  pub fault : script_in input ≡ Err (record { line = line; why = why })
   pub nothing : output ≡ []
 
 -- nothing was read or written

@@ -4,10 +4,9 @@ ghost use Rattle.kms_model.specs.Fit.{IsNarrow, AllFit};
 ghost use Rattle.kms_model.specs.Input.{device};
 ghost use Rattle.kms_model.specs.World.{setting, start};
 ghost use Rattle.kms_model.specs.Flat.{flat};
-ghost use Rattle.kms_run.specs.Answers.{report_for};
 ghost use Rattle.kms_run.specs.Ready.{IsPlain};
 ghost use Rattle.kms_run.specs.Run.{text_of};
-ghost use Rattle.kms_run.specs.Stated.{Answers};
+ghost use Rattle.kms_run.specs.Answers.{Answers};
 
 use crate::device::device_of;
 use crate::run::run_all;
@@ -90,9 +89,8 @@ fn report(alloc: Global, script: &Script) -> Result<String, NoMemory>
 }
 
 /// The report of the script that an input spells, or the input's first fault.
-#[tactic(auto, unfolding(crate::specs::Answers::report_for))]
 pub fn answer(alloc: Global, input: &[u8]) -> Result<String, ParseError>
-    ensures { Answers result (report_for input.now) }
+    ensures { Answers input.now result }
 {
     let script = parse(alloc, input)?;
     Ok(report(alloc, &script)?)
