@@ -19,3 +19,6 @@ mod words;
 pub use status::{Status, status_text};
 pub use top::{kms_main, kms_plain};
 pub use words::legal_words;
+
+#[cfg(test)]
+mod tests;
