@@ -200,8 +200,8 @@ flat_tells_the_journal s = record {
   accepted = refl;
   places = each_stands_at_its_place s;
   text = ap (λ (lines : List ℕ).
-    flat_map journal_line (journal_of (run s))
-    ++ flat_map (λ client. flat_map reply_line (by_client client (run s))) (range_with_len 1 (length s.clients))
-    ++ lines
-    ++ codes "D drained\n") (flat_map-same (latch_lines_of s.topology (run s)) (λ index. latch_lines index 0 (show s (journal_of (run s)) (object_id Crtc index))) (shown_lines s) (range_with_len 0 s.topology.crtcs));
+      flat_map journal_line (journal_of (run s))
+      ++ flat_map (λ client. flat_map reply_line (by_client client (run s))) (range_with_len 1 (length s.clients))
+      ++ lines
+      ++ codes "D drained\n") (flat_map-same (latch_lines_of s.topology (run s)) (λ index. latch_lines index 0 (show s (journal_of (run s)) (object_id Crtc index))) (shown_lines s) (range_with_len 0 s.topology.crtcs));
 }

@@ -13,5 +13,4 @@ pub fn rounds_are_the_journal()
     ensures latches { (s : Script) (crtc : ℕ) → latches_of s.topology crtc (run s) ≡ show s (journal_of (run s)) crtc }
     ensures report { (s : Script) → TellsJournal s (flat s) }
     ensures places { (s : Script) → EachStandsAtItsPlace s (journal_of (run s)) (run s) }
-{
-}
+{}

@@ -2,12 +2,16 @@
 use crate::layers::Layers;
 use crate::objects::{Format, Mode};
 
-/// A rectangle: its left and upper edge, its width and its height, in pixels or in 16.16 fixed point.
+/// A rectangle, in pixels (a destination) or in 16.16 fixed point (a source).
 #[derive(Clone, Copy, Debug, PartialEq, Eq)]
 pub struct Rect {
+    /// The left edge: from -2147483648 to 2147483647 pixels, or from 0 to 4294967295 in 16.16.
     pub x: i64,
+    /// The upper edge, in the range of `x`.
     pub y: i64,
+    /// The width: from 0 to 2147483647 pixels, or from 0 to 4294967295 in 16.16.
     pub w: i64,
+    /// The height, in the range of `w`.
     pub h: i64,
 }
 
@@ -66,8 +70,12 @@ pub enum Picture {
 /// A pixel's colour, with its alpha. Each channel is from 0 to 255.
 #[derive(Clone, Copy, Debug, PartialEq, Eq)]
 pub struct Colour {
+    /// From 0 (transparent) to 255 (opaque).
     pub alpha: u8,
+    /// From 0 to 255.
     pub red: u8,
+    /// From 0 to 255.
     pub green: u8,
+    /// From 0 to 255.
     pub blue: u8,
 }

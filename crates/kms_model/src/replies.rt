@@ -23,20 +23,34 @@ pub struct Denied(pub u32);
 /// What is answered to a command.
 #[derive(Clone, Copy, Debug, PartialEq, Eq)]
 pub enum Reply {
-    /// A thing was made, with this id, from 1000 on.
-    Made { id: u32 },
+    /// A thing was made.
+    Made {
+        /// Its id, from 1000 on.
+        id: u32,
+    },
     /// It is done.
     Done,
-    /// The request was committed: the number of commits before it.
-    Commit { commit: u32 },
+    /// The request was committed.
+    Commit {
+        /// The number of commits before it.
+        commit: u32,
+    },
     /// The request was tested only, and would be accepted.
     Tested,
     /// The request was refused.
     Refused(Refusal),
-    /// There is no space for the events: the bytes in use.
-    Space { used: u32 },
-    /// A commit that does not wait met one on the object that has not flipped.
-    Busy { object: ObjId, commit: u32 },
+    /// There is no space for the events.
+    Space {
+        /// The bytes that reserved and unread events take: 32 for each, at most 4096.
+        used: u32,
+    },
+    /// A commit that does not wait met one that has not flipped.
+    Busy {
+        /// The object on which it met the other.
+        object: ObjId,
+        /// The other commit.
+        commit: u32,
+    },
     /// Another command was refused, with a number from 31 to 35.
     Denied(u32),
     /// The oldest event that was not read.
@@ -58,39 +72,39 @@ pub struct Answered {
     pub reply: Reply,
 }
 
-/// One step of a run: an event of a client, a worker, a vblank or the end of a dead history.
-/// `kind` and `index` name a display object. Clients are counted from 1 and commits from 0.
+/// One step of a run: an event of a client, a worker, a vblank or the end of a dead history. Clients are counted
+/// from 1 and commits from 0; `kind` and `index` (from 0) name a display object.
 #[derive(Clone, Copy, Debug, PartialEq, Eq)]
 pub enum Step {
-    /// A client's acquire context begins.
+    /// A client's acquire context begins. (Kernel: "Modeset Locking", `drm_modeset_acquire_init`.)
     Begin { client: u32 },
-    /// A context asks for an object's lock.
+    /// A context asks for an object's lock. (`drm_modeset_lock`.)
     Lock { client: u32, kind: Kind, index: u32 },
-    /// A context drops all its locks.
+    /// A context that met an older one drops all its locks. (`drm_modeset_backoff`.)
     BackOff { client: u32 },
-    /// A context takes the contended lock.
+    /// A context that backed off takes the contended lock.
     Relock { client: u32 },
     /// A request is refused.
     Refuse { client: u32 },
-    /// A request is tested.
+    /// A request is tested only. (`DRM_MODE_ATOMIC_TEST_ONLY`.)
     Test { client: u32 },
-    /// A request is committed.
+    /// A request is committed. (`drm_atomic_helper_swap_state`.)
     Swap { client: u32 },
-    /// A command that makes or closes a thing.
+    /// A command makes or closes a thing.
     Make { client: u32 },
-    /// A command that signals a fence.
+    /// A command signals a fence.
     Signal { client: u32 },
-    /// A worker takes a commit.
+    /// A worker takes a commit. (`drm_atomic_helper_wait_for_dependencies`.)
     Claim { commit: u32 },
-    /// A worker writes an object's shadow registers.
+    /// A worker writes an object's shadow registers. (`drm_atomic_helper_commit_planes`.)
     Write { commit: u32, kind: Kind, index: u32 },
-    /// A worker flushes a CRTC.
+    /// A worker flushes a CRTC. (`atomic_flush` of `struct drm_crtc_helper_funcs`.)
     Flush { commit: u32, kind: Kind, index: u32 },
-    /// The hardware has taken a commit.
+    /// The hardware has taken a commit. (`drm_atomic_helper_commit_hw_done`.)
     HwDone { commit: u32 },
-    /// A vertical blanking of a CRTC.
+    /// A vertical blanking of a CRTC. (Kernel: "Vertical Blanking".)
     Vblank { kind: Kind, index: u32 },
-    /// A commit's states are given up.
+    /// A commit's states are given up. (`drm_atomic_helper_commit_cleanup_done`.)
     Cleanup { commit: u32 },
     /// A client reads an event, or is told that none will come.
     Read { client: u32 },

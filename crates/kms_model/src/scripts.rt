@@ -49,59 +49,82 @@ pub struct Request {
     pub assigns: Seq<Assign>,
 }
 
-/// What a buffer is filled with. A word is a pixel in the buffer's format.
+/// What a buffer is filled with. A word is a pixel in the buffer's format: 32 bits for XR24 and AR24, 16 for
+/// RG16.
 #[derive(Debug, PartialEq, Eq, Drop)]
 pub enum Pattern {
     /// The same word everywhere.
     Solid(u32),
-    /// Squares of `n` by `n` pixels (from 1 to 4096), `p` and `q` in turn, `p` at (0, 0).
-    Checker { p: u32, q: u32, n: u32 },
+    /// Squares of two words in turn.
+    Checker {
+        /// The word of the square at (0, 0).
+        p: u32,
+        /// The word of the squares beside it.
+        q: u32,
+        /// The side of a square, from 1 to 4096 pixels.
+        n: u32,
+    },
     /// Colours that change with the place.
     Ramp,
-    /// Each word, row by row, at most 256.
+    /// Each word, row by row, from 1 to 256 of them.
     Pixels(Seq<u32>),
 }
 
-/// One call of a client. Labels are indices in the script's names.
+/// One call of a client. Labels are indices in the script's names, below 2^32.
 #[derive(Debug, PartialEq, Eq, Drop)]
 pub enum Command {
-    /// Makes a buffer of `width` by `height` pixels. (Kernel: "Dumb Buffer Objects".)
+    /// Makes a buffer. (Kernel: "Dumb Buffer Objects".)
     Buffer {
+        /// The label that it makes.
         label: u32,
+        /// Its width in pixels, of any value; from 1 to 4096 where it is accepted.
         width: u32,
+        /// Its height in pixels, of any value; from 1 to 4096 where it is accepted.
         height: u32,
+        /// The format of its words.
         format: Format,
+        /// What it is filled with.
         pattern: Pattern,
     },
-    /// Makes a framebuffer of a buffer. (Kernel: "Frame Buffer Abstraction".)
+    /// Makes a framebuffer of a buffer, in its size and format. (Kernel: "Frame Buffer Abstraction".)
     AddFb {
+        /// The label that it makes.
         label: u32,
+        /// The label of the buffer.
         buffer: u32,
     },
     /// Makes a blob that holds a mode.
     Mode {
+        /// The label that it makes.
         label: u32,
+        /// The mode; it need not be legal.
         mode: Mode,
     },
-    /// Makes a blob of 1 to 2048 bytes. (Header: `drm_mode.h`, `struct drm_mode_create_blob`.)
+    /// Makes a blob. (Header: `drm_mode.h`, `struct drm_mode_create_blob`.)
     Blob {
+        /// The label that it makes.
         label: u32,
+        /// From 1 to 2048 bytes.
         bytes: Seq<u8>,
     },
     /// Destroys a blob: its label is refused from then on.
     Destroy {
+        /// The blob's label.
         label: u32,
     },
     /// Closes a framebuffer: its label is refused from then on. (Header: `DRM_IOCTL_MODE_CLOSEFB`.)
     CloseFb {
+        /// The framebuffer's label.
         label: u32,
     },
     /// Makes a fence that `Signal` signals.
     Fence {
+        /// The label that it makes.
         label: u32,
     },
     /// Signals a fence.
     Signal {
+        /// The fence's label.
         label: u32,
     },
     /// An atomic request.

@@ -44,7 +44,10 @@ pub struct ConnState {
 /// The state of an object with a lock.
 #[derive(Clone, Copy, Debug, PartialEq, Eq)]
 pub enum ObjState {
+    /// A plane's.
     Plane(PlaneState),
+    /// A CRTC's.
     Crtc(CrtcState),
+    /// A connector's.
     Conn(ConnState),
 }
