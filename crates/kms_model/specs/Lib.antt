@@ -16,3 +16,4 @@ pub mod Frames
 pub mod Serial
 pub mod Flat
 pub mod Fit
+pub mod Rectangles
