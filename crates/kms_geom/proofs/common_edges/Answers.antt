@@ -1,6 +1,6 @@
-use Rattle.std.proofs.Common.{◌≡◌, ◌+ℤ◌, ℤ, arith, rules, to_z, of_z, w64, SFits}
-use Rattle.std.specs.Int.{int_max, int_min}
-use Rattle.std.proofs.lemmas.Int.{ints, clamps, to_z-of_z}
+use Rattle.std.proofs.Common.{◌≡◌, arith, to_z, of_z, w64}
+use Rattle.std.specs.Int.{int_max}
+use Rattle.std.proofs.lemmas.Int.{ints, clamps}
 use Rattle.kms_geom.proofs.Pixels.{size_fits}
 use Rattle.kms_geom.proofs.common_edges.Goals as goal
 
