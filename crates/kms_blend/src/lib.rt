@@ -1,0 +1,71 @@
+//! Blending of a layer's channels with those below them.
+//!
+//! Nothing here takes memory, fails or uses floating point. All of it is done in 32 bits, with no wide
+//! multiplication and no division, and the blend mode is chosen once for a row: so a compiler can work on
+//! many places of a row at once.
+#![tactic(auto)]
+
+ghost use Rattle.std.specs.Prelude.{◌≡◌, ◌≤◌, length, slice_index, EachIndex};
+ghost use Rattle.kms_model.specs.Frames.{blended};
+
+mod modes;
+mod quotients;
+
+use modes::{BlendMode, Coverage, PlaneAlphaOnly, Premultiplied};
+
+/// The channel that shows where a layer lies over a lower one, from 0 to 255: the nearest number, and 255
+/// where that would be more. (Kernel: "Plane Composition Properties". The rounding and the upper bound are
+/// this device's own.)
+///
+/// `mode` is the blend mode: 0 Pre-multiplied, 1 Coverage, 2 None. `a` is the plane's alpha, from 0 to
+/// 65535; `q` is the pixel's alpha, `f` the layer's channel and `b` the lower one, each from 0 to 255.
+pub fn blend(mode: u32, a: u32, q: u32, f: u32, b: u32) -> u32
+    requires mode { mode ≤ 2 }
+    requires a { a ≤ 65535 }
+    requires q { q ≤ 255 }
+    requires f { f ≤ 255 }
+    requires b { b ≤ 255 }
+    ensures { result ≡ blended mode a q f b }
+{
+    match mode {
+        0 => Premultiplied::blend(a, q, f, b),
+        1 => Coverage::blend(a, q, f, b),
+        _ => PlaneAlphaOnly::blend(a, q, f, b),
+    }
+}
+
+/// Puts into each place of `b` the channel that shows there, as [`blend`] gives it of the mode, the
+/// plane's alpha and what `q`, `f` and `b` have at that place. All three have one length.
+pub fn blend_row(mode: u32, a: u32, q: &[u8], f: &[u8], b: &mut [u8])
+    requires mode { mode ≤ 2 }
+    requires a { a ≤ 65535 }
+    requires q { length q.now ≡ length b.old }
+    requires f { length f.now ≡ length b.old }
+    ensures places { EachIndex b.new (λ k. slice_index b.new k
+        ≡ blended mode a (slice_index q.now k) (slice_index f.now k) (slice_index b.old k)) }
+    ensures length { length b.new ≡ length b.old }
+{
+    match mode {
+        0 => row_in::<Premultiplied>(a, q, f, b),
+        1 => row_in::<Coverage>(a, q, f, b),
+        _ => row_in::<PlaneAlphaOnly>(a, q, f, b),
+    }
+}
+
+/// [`blend_row`] in one mode.
+fn row_in<M: BlendMode>(a: u32, q: &[u8], f: &[u8], b: &mut [u8])
+    requires a { a ≤ 65535 }
+    requires q { length q.now ≡ length b.old }
+    requires f { length f.now ≡ length b.old }
+    ensures places { EachIndex b.new (λ k. slice_index b.new k
+        ≡ blended M.number a (slice_index q.now k) (slice_index f.now k) (slice_index b.old k)) }
+    ensures length { length b.new ≡ length b.old }
+{
+    for (i, lower) in b.iter_mut().enumerate() {
+        let channel = M::blend(a, u32::from(q[i]), u32::from(f[i]), u32::from(*lower));
+        *lower = channel as u8;
+    }
+}
+
+#[cfg(test)]
+mod tests;

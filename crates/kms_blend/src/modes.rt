@@ -1,0 +1,76 @@
+//! The blend modes. (Kernel: "Plane Composition Properties", `pixel blend mode`.)
+ghost use Rattle.std.specs.Prelude.{◌≡◌, ◌+◌, ◌-◌, ◌*◌, ◌/◌, ◌≤◌, ℕ, min};
+ghost use Rattle.kms_model.specs.Frames.{blended, opaque};
+
+use crate::quotients::over_opaque;
+
+/// An opaque plane's alpha with an opaque pixel's: 65535 * 255.
+const OPAQUE: u32 = 16711425;
+
+/// Half of `OPAQUE`, rounded down.
+const HALF: u32 = 8355712;
+
+/// The numerator of the brightest channel, 255 * `OPAQUE`: more shows as this.
+const BRIGHTEST: u32 = 4261413375;
+
+/// A blend mode, whose number is the property's value.
+pub trait BlendMode {
+    ghost number: { ℕ };
+
+    /// The channel that shows, of the plane's alpha `a` (from 0 to 65535), the pixel's alpha `q`, the
+    /// layer's channel `f` and the lower one `b` (each from 0 to 255).
+    fn blend(a: u32, q: u32, f: u32, b: u32) -> u32
+        requires a { a ≤ 65535 }
+        requires q { q ≤ 255 }
+        requires f { f ≤ 255 }
+        requires b { b ≤ 255 }
+        ensures { result ≡ blended number a q f b };
+}
+
+/// Pre-multiplied: the layer's channels have its pixels' alpha in them already.
+pub struct Premultiplied;
+
+/// Coverage: the layer's channels are weighted by its pixels' alpha.
+pub struct Coverage;
+
+/// None: the pixels' alpha is ignored.
+pub struct PlaneAlphaOnly;
+
+impl BlendMode for Premultiplied {
+    ghost number = { 0 };
+
+    fn blend(a: u32, q: u32, f: u32, b: u32) -> u32 {
+        weighted(a * 255, a * q, f, b)
+    }
+}
+
+impl BlendMode for Coverage {
+    ghost number = { 1 };
+
+    fn blend(a: u32, q: u32, f: u32, b: u32) -> u32 {
+        weighted(a * q, a * q, f, b)
+    }
+}
+
+impl BlendMode for PlaneAlphaOnly {
+    ghost number = { 2 };
+
+    fn blend(a: u32, _q: u32, f: u32, b: u32) -> u32 {
+        weighted(a * 255, a * 255, f, b)
+    }
+}
+
+/// The channel that shows where a layer with the weight `shown` lies over a lower one of which it hides
+/// the weight `hidden`, both out of `OPAQUE`. The sum is bounded before it is divided, so it needs no more
+/// than 32 bits.
+fn weighted(shown: u32, hidden: u32, f: u32, b: u32) -> u32
+    requires shown { shown ≤ opaque }
+    requires hidden { hidden ≤ opaque }
+    requires f { f ≤ 255 }
+    requires b { b ≤ 255 }
+    ensures { result ≡ min 255 ((shown * f + (opaque - hidden) * b + 8355712) / opaque) }
+{
+    let layer = shown * f;
+    let lower = (OPAQUE - hidden) * b;
+    over_opaque(layer + lower.min(BRIGHTEST - layer) + HALF)
+}
