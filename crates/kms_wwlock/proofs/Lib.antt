@@ -1,0 +1,4 @@
+pub mod Lookups
+pub mod Lockable
+pub mod Sound
+pub mod Cycles

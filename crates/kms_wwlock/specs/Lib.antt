@@ -1,0 +1,4 @@
+pub mod Objects
+pub mod Table
+pub mod Calls
+pub mod Waits
