@@ -1,4 +1,5 @@
 pub mod Lookups
-pub mod Lockable
+pub mod Kept
+pub mod Meanings
 pub mod Sound
 pub mod Cycles

@@ -37,6 +37,27 @@ without t (Some holder) = if holder.0 == t.0 then None else Some holder
 abbrev pub freed : Table → Ticket → Table
 freed table t = record table { holders = map (without t) table.holders }
 
+-- what the changes mean for who holds what and for what contexts do
+
+-- an object is held by a ticket now, and who holds the others is as it was
+pub record IsTakenBy (old new : Table) (t : Ticket) (id : ObjId) : Type 0 where
+  pub taken : holder_of new id ≡ Some t
+  pub others : (other : ObjId) → IsLockable other → other.0 ≢ id.0 → holder_of new other ≡ holder_of old other
+
+-- a context does this now, or there is none with the ticket, and the others go on as they did
+pub record IsDoing (old new : Table) (t : Ticket) (doing : Option Doing) : Type 0 where
+  pub now : doing_of new t ≡ doing
+  pub others : (other : Ticket) → other.0 ≢ t.0 → doing_of new other ≡ doing_of old other
+
+-- a ticket holds no object now, and who else holds one is as it was
+abbrev pub AreFreed : Table → Table → Ticket → Type 0
+AreFreed old new t = (id : ObjId) → holder_of new id ≡ without t (holder_of old id)
+
+-- the context holds the object that it backed off for, and may take locks again
+abbrev pub IsRelocked : Table → Table → Ticket → Type 0
+IsRelocked old new t =
+    (id : ObjId) → doing_of old t ≡ Some (BackedOff id) → IsTakenBy old new t id × IsDoing old new t (Some Taking)
+
 -- begin
 
 -- the client has no context, and a number is left for the ticket

@@ -1,5 +1,5 @@
 -- What the lock table holds.
-use Rattle.std.specs.Prelude.{ℕ, ◌==◌, if◌then◌else◌, List, [], ◌∷◌, Option, Some, None, slice_index_or}
+use Rattle.std.specs.Prelude.{ℕ, ◌<◌, ◌==◌, if◌then◌else◌, List, [], ◌∷◌, All, Option, Some, None, slice_index_or}
 use Rattle.kms_model.specs.declared.objects.ObjId.{ObjId}
 use Rattle.kms_model.specs.declared.objects.Ticket.{Ticket}
 use Rattle.kms_wwlock.specs.declared.contexts.Context.{Context}
@@ -45,3 +45,11 @@ IsOfLockable (BackedOff id) = IsLockable id
 
 abbrev pub NamesLockable : Context → Type 0
 NamesLockable c = IsOfLockable c.doing
+
+abbrev pub IsBelow : ℕ → Context → Type 0
+IsBelow drawn c = c.ticket.0 < drawn
+
+-- what holds of the contexts of every table
+pub record AreKept (contexts : List Context) (drawn : ℕ) : Type 0 where
+  pub lockable : All NamesLockable contexts
+  pub below : All (IsBelow drawn) contexts

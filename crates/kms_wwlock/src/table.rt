@@ -1,5 +1,5 @@
 //! The table of modeset locks.
-ghost use Rattle.std.specs.Prelude.{◌≡◌, ◌<◌, [], map, replicate, Option, None, OnErr, IfOk};
+ghost use Rattle.std.specs.Prelude.{◌≡◌, ◌<◌, [], map, replicate, Option, Some, None, OnErr, IfOk};
 ghost use Rattle.kms_wwlock.specs.Objects.{IsLockable};
 
 use crate::contexts::{Context, Doing, doing_of, set_doing};
@@ -40,19 +40,18 @@ pub struct LockTable {
 }
 
 impl Model for LockTable {
-    ghost use Rattle.std.specs.Prelude.{All};
-    ghost use Rattle.kms_wwlock.specs.Table.{Table, NamesLockable};
+    ghost use Rattle.kms_wwlock.specs.Table.{Table, AreKept};
 
     ghost Value = { Table };
 
     ghost view = { λ s. record { holders = s.holders; contexts = s.contexts.items; drawn = s.drawn } };
 
-    ghost invariant = { λ s. All NamesLockable s.contexts.items };
+    ghost invariant = { λ s. AreKept s.contexts.items s.drawn };
 }
 
 impl LockTable {
     ghost use Rattle.kms_wwlock.specs.Table.{doing_of, holder_of};
-    ghost use Rattle.kms_wwlock.specs.Calls.{MayBegin, next_ticket, after_begin, MayLock, lock_answer, after_lock, MayBackOff, after_backoff, MayRelock, relock_answer, after_relock, MayDropAll, after_drop_all};
+    ghost use Rattle.kms_wwlock.specs.Calls.{IsTakenBy, IsRelocked, AreFreed, IsDoing, MayBegin, next_ticket, after_begin, MayLock, lock_answer, after_lock, MayBackOff, after_backoff, MayRelock, relock_answer, after_relock, MayDropAll, after_drop_all};
     ghost use Rattle.kms_wwlock.specs.Waits.{empty};
 
     /// The table in which every object is free and no context has begun. It takes no memory.
@@ -72,7 +71,8 @@ impl LockTable {
     pub fn begin(&mut self, _alloc: Global, client: u32) -> Result<Ticket, NoMemory>
         requires { MayBegin self.old client }
         ensures ticket { IfOk result (λ t. t ≡ next_ticket self.old) }
-        ensures ok { IfOk result (λ _. self.new ≡ after_begin self.old client) }
+        ensures after { IfOk result (λ _. self.new ≡ after_begin self.old client) }
+        ensures taking { IfOk result (λ t. IsDoing self.old self.new t (Some Doing.Taking)) }
         ensures err { OnErr result (self.new ≡ self.old) }
     {
         let ticket = Ticket(self.drawn);
@@ -95,6 +95,7 @@ impl LockTable {
         requires { MayLock self.old t id }
         ensures answer { result ≡ lock_answer t (holder_of self.old id) }
         ensures after { self.new ≡ after_lock self.old t id result }
+        ensures got { result ≡ Lock.Got → IsTakenBy self.old self.new t id }
     {
         match self.holder(id) {
             None => {
@@ -113,7 +114,8 @@ impl LockTable {
     /// Frees all locks of a context whose last `lock` answered `Older`. It keeps its ticket.
     pub fn backoff(&mut self, t: Ticket)
         requires { MayBackOff self.old t }
-        ensures { self.new ≡ after_backoff self.old t }
+        ensures after { self.new ≡ after_backoff self.old t }
+        ensures freed { AreFreed self.old self.new t }
     {
         let Some(Doing::MustBackOff(id)) = doing_of(&self.contexts, t) else {
             unreachable!();
@@ -129,6 +131,7 @@ impl LockTable {
         requires { MayRelock self.old t }
         ensures answer { result ≡ relock_answer self.old t }
         ensures after { self.new ≡ after_relock self.old t result }
+        ensures got { result ≡ Relock.Got → IsRelocked self.old self.new t }
     {
         let Some(Doing::BackedOff(id)) = doing_of(&self.contexts, t) else {
             unreachable!();
@@ -146,7 +149,9 @@ impl LockTable {
     /// Frees all locks of a context that has begun and is not over. It is over then.
     pub fn drop_all(&mut self, t: Ticket)
         requires { MayDropAll self.old t }
-        ensures { self.new ≡ after_drop_all self.old t }
+        ensures after { self.new ≡ after_drop_all self.old t }
+        ensures freed { AreFreed self.old self.new t }
+        ensures over { IsDoing self.old self.new t None }
     {
         free_all(&mut self.holders, t);
         self.contexts.retain(|context| context.ticket != t);
