@@ -63,12 +63,15 @@ set_is_doing table t d e found =
       others = λ other ne. doing_in-others t other d table.contexts ne;
     }
 
+pub next_is_fresh : (table : Table) → AreKept table.contexts table.drawn → doing_of table (next_ticket table) ≡ None
+next_is_fresh table kept = none_at (next_ticket table) table.contexts table.drawn kept.below (omega arith)
+
 pub begun_is_doing : (table : Table) (client : ℕ) → AreKept table.contexts table.drawn
     → IsDoing table (after_begin table client) (next_ticket table) (Some Taking)
 begun_is_doing table client kept =
     let new : Context = record { ticket = next_ticket table; client = client; doing = Taking } in
     record {
-      now = doing_in-beginner new table.contexts (none_at (next_ticket table) table.contexts table.drawn kept.below (omega arith));
+      now = doing_in-beginner new table.contexts (next_is_fresh table kept);
       others = λ other ne. doing_in-beside new other table.contexts ne;
     }
 
@@ -78,6 +81,16 @@ over_is_doing table t =
       now = doing_in-gone t table.contexts;
       others = λ other ne. doing_in-over t other table.contexts ne;
     }
+
+-- the context of a ticket goes on to something else, whatever happens to the holders
+pub set_at : (table : Table) (t : Ticket) (d e : Doing) (holders : List (Option Ticket)) (contexts : List Context)
+    → contexts ≡ map (with_doing t d) table.contexts → doing_of table t ≡ Some e
+    → IsDoing table (record table { holders = holders; contexts = contexts }) t (Some d)
+set_at table t d e holders contexts now found =
+    let goes = set_is_doing table t d e found in
+    let on : IsDoing table (record table { holders = holders; contexts = map (with_doing t d) table.contexts }) t (Some d) =
+        record { now = goes.now; others = goes.others } in
+    rw now on
 
 -- together
 
@@ -89,9 +102,6 @@ pub relocked_at : (table : Table) (t : Ticket) (id : ObjId) (place : ℕ) (conte
 relocked_at table t id place contexts long is at now off =
     let new : ℕ → List Context → Table = λ p cs. record table { holders = set table.holders p (Some t); contexts = cs } in
     let holds = taken_by table t id long is in
-    let goes = set_is_doing table t Taking (BackedOff id) off in
     let there : IsTakenBy table (new (place_of id) (map (with_doing t Taking) table.contexts)) t id =
         record { taken = holds.taken; others = holds.others } in
-    let on : IsDoing table (new (place_of id) (map (with_doing t Taking) table.contexts)) t (Some Taking) =
-        record { now = goes.now; others = goes.others } in
-    rw (at, now) (there, on)
+    rw (at, now) (there, set_at table t Taking (BackedOff id) (set table.holders (place_of id) (Some t)) (map (with_doing t Taking) table.contexts) refl off)

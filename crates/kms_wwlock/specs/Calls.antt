@@ -53,10 +53,22 @@ pub record IsDoing (old new : Table) (t : Ticket) (doing : Option Doing) : Type 
 abbrev pub AreFreed : Table → Table → Ticket → Type 0
 AreFreed old new t = (id : ObjId) → holder_of new id ≡ without t (holder_of old id)
 
+-- the context backs off for the object for which it had to
+abbrev pub IsBackedOff : Table → Table → Ticket → Type 0
+IsBackedOff old new t =
+    (id : ObjId) → doing_of old t ≡ Some (MustBackOff id) → IsDoing old new t (Some (BackedOff id))
+
 -- the context holds the object that it backed off for, and may take locks again
 abbrev pub IsRelocked : Table → Table → Ticket → Type 0
 IsRelocked old new t =
     (id : ObjId) → doing_of old t ≡ Some (BackedOff id) → IsTakenBy old new t id × IsDoing old new t (Some Taking)
+
+-- a fact that holds after `Older`
+abbrev pub IfOlder : Lock → Type 0 → Type 0
+IfOlder (Older holder) P = P
+IfOlder Got P = Unit {0}
+IfOlder Own P = Unit {0}
+IfOlder (Younger holder) P = Unit {0}
 
 -- begin
 

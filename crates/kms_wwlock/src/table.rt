@@ -51,7 +51,7 @@ impl Model for LockTable {
 
 impl LockTable {
     ghost use Rattle.kms_wwlock.specs.Table.{doing_of, holder_of};
-    ghost use Rattle.kms_wwlock.specs.Calls.{IsTakenBy, IsRelocked, AreFreed, IsDoing, MayBegin, next_ticket, after_begin, MayLock, lock_answer, after_lock, MayBackOff, after_backoff, MayRelock, relock_answer, after_relock, MayDropAll, after_drop_all};
+    ghost use Rattle.kms_wwlock.specs.Calls.{IsTakenBy, IsRelocked, AreFreed, IsDoing, IsBackedOff, IfOlder, MayBegin, next_ticket, after_begin, MayLock, lock_answer, after_lock, MayBackOff, after_backoff, MayRelock, relock_answer, after_relock, MayDropAll, after_drop_all};
     ghost use Rattle.kms_wwlock.specs.Waits.{empty};
 
     /// The table in which every object is free and no context has begun. It takes no memory.
@@ -72,6 +72,7 @@ impl LockTable {
         requires { MayBegin self.old client }
         ensures ticket { IfOk result (λ t. t ≡ next_ticket self.old) }
         ensures after { IfOk result (λ _. self.new ≡ after_begin self.old client) }
+        ensures fresh { IfOk result (λ t. doing_of self.old t ≡ None) }
         ensures taking { IfOk result (λ t. IsDoing self.old self.new t (Some Doing.Taking)) }
         ensures err { OnErr result (self.new ≡ self.old) }
     {
@@ -96,6 +97,7 @@ impl LockTable {
         ensures answer { result ≡ lock_answer t (holder_of self.old id) }
         ensures after { self.new ≡ after_lock self.old t id result }
         ensures got { result ≡ Lock.Got → IsTakenBy self.old self.new t id }
+        ensures older { IfOlder result (IsDoing self.old self.new t (Some (Doing.MustBackOff id))) }
     {
         match self.holder(id) {
             None => {
@@ -116,6 +118,7 @@ impl LockTable {
         requires { MayBackOff self.old t }
         ensures after { self.new ≡ after_backoff self.old t }
         ensures freed { AreFreed self.old self.new t }
+        ensures backed_off { IsBackedOff self.old self.new t }
     {
         let Some(Doing::MustBackOff(id)) = doing_of(&self.contexts, t) else {
             unreachable!();

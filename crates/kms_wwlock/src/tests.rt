@@ -1,1 +1,29 @@
 use super::*;
+use kms_model::{ObjId, Ticket};
+use std::test::Fail;
+
+const CRTC: ObjId = ObjId(100);
+const PLANE: ObjId = ObjId(200);
+
+#[test]
+fn an_older_context_waits_and_a_younger_one_backs_off(rt: HostRuntime) -> Result<(), Fail> {
+    let mut table = LockTable::new(rt.alloc());
+    let first = table.begin(rt.alloc(), 1)?;
+    let second = table.begin(rt.alloc(), 2)?;
+    assert_eq!(rt; first, Ticket(0));
+    assert_eq!(rt; second, Ticket(1));
+    assert_eq!(rt; table.lock(first, PLANE), Lock::Got);
+    assert_eq!(rt; table.lock(second, CRTC), Lock::Got);
+    assert_eq!(rt; table.lock(first, CRTC), Lock::Younger { holder: second });
+    assert_eq!(rt; table.lock(second, PLANE), Lock::Older { holder: first });
+    table.backoff(second);
+    assert_eq!(rt; table.holder(CRTC), None);
+    assert_eq!(rt; table.lock(first, CRTC), Lock::Got);
+    assert_eq!(rt; table.lock(first, CRTC), Lock::Own);
+    assert_eq!(rt; table.relock(second), Relock::Held { holder: first });
+    table.drop_all(first);
+    assert_eq!(rt; table.relock(second), Relock::Got);
+    assert_eq!(rt; table.holder(PLANE), Some(second));
+    assert_eq!(rt; table.holder(CRTC), None);
+    Ok(())
+}
