@@ -123,8 +123,8 @@ impl LockTable {
         let Some(Doing::MustBackOff(id)) = doing_of(&self.contexts, t) else {
             unreachable!();
         };
-        free_all(&mut self.holders, t);
         set_doing(&mut self.contexts, t, Doing::BackedOff(id));
+        free_all(&mut self.holders, t);
     }
 
     /// Asks, for a context that has backed off, for the object that it backed off for. `Got` comes exactly
@@ -156,8 +156,8 @@ impl LockTable {
         ensures freed { AreFreed self.old self.new t }
         ensures over { IsDoing self.old self.new t None }
     {
-        free_all(&mut self.holders, t);
         self.contexts.retain(|context| context.ticket != t);
+        free_all(&mut self.holders, t)
     }
 
     /// The context that holds an object, none exactly where it is free. The object is a CRTC, a plane or a

@@ -5,10 +5,10 @@ use Rattle.kms_wwlock.specs.Table.{Table, AreKept}
 use Rattle.kms_wwlock.proofs.Kept.{others_kept}
 use Rattle.kms_wwlock.proofs.Meanings.{over_is_doing}
 use Rattle.kms_wwlock.proofs.table.LockTable.drop_all.Goals as goal
-use Rattle.kms_wwlock.proofs.table.LockTable.drop_all.Goals.{After-retain}
+use Rattle.kms_wwlock.proofs.table.LockTable.drop_all.Goals.{After-free_all}
 
 -- the contexts of other tickets are left
-kept : (c : After-retain) → c.retain.new.self.items ≡ filter (λ x. not (x.ticket.0 == c.args.t.0)) c.self.inside.contexts.items
+kept : (c : After-free_all) → c.retain.new.self.items ≡ filter (λ x. not (x.ticket.0 == c.args.t.0)) c.self.inside.contexts.items
 kept c = filter_same _ (λ (x : Context). not (x.ticket.0 == c.args.t.0)) _ (λ x b f' k. search rules) _ _ c.retain.ensures.filtered
 
 pub invariant_of-self : goal.invariant_of-self
