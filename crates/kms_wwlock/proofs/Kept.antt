@@ -21,7 +21,7 @@ named t d (c ∷ cs) all is = step (c.ticket.0 == t.0) is (named t d cs (All-tai
     step false is rest = rest is
 
 -- a fact of each context lasts where one context does something else
-each_set : (P : Context → Type 0) (t : Ticket) (d : Doing) (cs : List Context)
+pub each_set : (P : Context → Type 0) (t : Ticket) (d : Doing) (cs : List Context)
     → ((c : Context) → P c → P (record c { doing = d })) → All P cs → All P (map (with_doing t d) cs)
 each_set P t d [] keeps all = All-nil P
 each_set P t d (c ∷ cs) keeps all =

@@ -2,3 +2,4 @@ pub mod Objects
 pub mod Table
 pub mod Calls
 pub mod Waits
+pub mod LongRun
