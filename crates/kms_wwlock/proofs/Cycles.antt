@@ -1,17 +1,17 @@
 -- No cycle of waits.
-use Rattle.std.proofs.Common.{◌≡◌, ◌≢◌, ℕ, ◌==◌, ◌<◌, ◌≤◌, Bool, true, false, List, [], ◌∷◌, Option, Some, None, refl, sym, ap, ◌∙◌, subst, ◌⊎◌, ⊎_elim, arith}
-use Rattle.std.proofs.lemmas.Bool.{cases_eq, ltb-true, ltb-false, eqb-true, eqb-false}
-use Rattle.std.specs.Prelude.{IsSome, if◌then◌else◌, nat_lt}
+use Rattle.std.proofs.Common.{◌≡◌, ◌≢◌, ◌==◌, ◌<◌, ◌≤◌, Bool, true, false, List, [], ◌∷◌, Option, Some, None, refl, ap, subst, arith}
+use Rattle.std.proofs.lemmas.Bool.{ltb-false, eqb-false}
+use Rattle.std.specs.Prelude.{IsSome, option_and_then, if◌then◌else◌, nat_lt}
 use Rattle.kms_model.specs.declared.objects.ObjId.{ObjId}
 use Rattle.kms_model.specs.declared.objects.Ticket.{Ticket}
 use Rattle.kms_wwlock.specs.declared.contexts.Doing.{Doing}
 use Rattle.kms_wwlock.specs.declared.contexts.Doing.TheVariants.{Taking, MustBackOff, BackedOff}
-use Rattle.kms_wwlock.specs.declared.table.Lock.TheVariants.{Got, Own, Older, Younger}
-use Rattle.kms_wwlock.specs.declared.table.Relock.TheVariants.{Got as Regot, Held}
+use Rattle.kms_wwlock.specs.declared.table.Lock.TheVariants.{Own, Older, Younger}
+use Rattle.kms_wwlock.specs.declared.table.Relock.TheVariants.{Held}
 use Rattle.kms_wwlock.specs.Objects.{place_of}
-use Rattle.kms_wwlock.specs.Table.{Table, holder_of, doing_of, doing_in, backed_off_for}
-use Rattle.kms_wwlock.specs.Calls.{MayLock, lock_answer, MayRelock, relock_from, holder_of_some, relock_answer}
-use Rattle.kms_wwlock.specs.Waits.{Call, AreAllowed, after_all, empty, Waits, ForYounger, ForObject, WaitsAlong, NoCycleOfWaits, BackedOffHoldsNothing, HoldersAreOpen}
+use Rattle.kms_wwlock.specs.Table.{Table, holder_of, doing_of, backed_off_for}
+use Rattle.kms_wwlock.specs.Calls.{lock_answer, relock_from}
+use Rattle.kms_wwlock.specs.Waits.{after_all, empty, Waits, ForYounger, ForObject, WaitsAlong, NoCycleOfWaits, BackedOffHoldsNothing, HoldersAreOpen}
 use Rattle.kms_wwlock.proofs.Sound.{MayHold, IsSound, always_sound}
 
 -- who is called younger holds the object, and is younger
@@ -39,7 +39,7 @@ waited_for : (table : Table) (x y : Ticket) → IsSound table → Waits table x 
 waited_for table x y s (ForYounger id may e) = s.held (place_of id) y (younger x y (holder_of table id) e).0
 waited_for table x y s (ForObject may e) = of_object (backed_off_for (doing_of table x)) e
   where
-    of_object : (o : Option ObjId) → relock_from (holder_of_some table o) ≡ Held y → MayHold (doing_of table y)
+    of_object : (o : Option ObjId) → relock_from (option_and_then (holder_of table) o) ≡ Held y → MayHold (doing_of table y)
     of_object None e = cc
     of_object (Some id) e = s.held (place_of id) y (held_by (holder_of table id) y e)
 

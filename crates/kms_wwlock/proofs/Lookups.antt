@@ -1,7 +1,7 @@
 -- What a change of the table does to its look-ups.
-use Rattle.std.proofs.Common.{◌≡◌, ◌≢◌, ℕ, zero, suc, ◌<◌, ◌==◌, Bool, true, false, not, List, [], ◌∷◌, ◌++◌, map, get_or, set, Option, Some, None, refl, sym, ap, ◌∙◌, ◌⊎◌, inl, inr, ⊎_elim}
+use Rattle.std.proofs.Common.{◌≡◌, ◌≢◌, ℕ, zero, suc, ◌==◌, Bool, true, false, not, List, [], ◌∷◌, ◌++◌, map, get_or, set, Option, Some, None, refl, sym, ap, ◌∙◌, ◌⊎◌, inl, inr}
 use Rattle.std.proofs.Math.ListN.{get_or-map}
-use Rattle.std.proofs.lemmas.Bool.{cases_eq, ne_eqb, eq-eqb, eqb-true, cond-true, cond-false}
+use Rattle.std.proofs.lemmas.Bool.{ne_eqb, eq-eqb, eqb-true, cond-true, cond-false}
 use Rattle.std.specs.Prelude.{filter, if◌then◌else◌}
 use Rattle.kms_model.specs.declared.objects.Ticket.{Ticket}
 use Rattle.kms_wwlock.specs.declared.contexts.Context.{Context}
@@ -23,6 +23,7 @@ held-freed t y hs i e = kept (get_or hs i None) (sym (get_or-map (without t) hs 
       where
         other : (h : Ticket) → (h.0 == t.0) ≡ false → Some h ≡ Some y → y.0 ≡ t.0 → ⊥
         other h is e same = let hy : h ≡ y = cc in let yes = eq-eqb h.0 t.0 (ap (λ (u : Ticket). u.0) hy ∙ same) in cc
+
     kept : (o : Option Ticket) → without t o ≡ Some y → (o ≡ Some y) × (y.0 ≢ t.0)
     kept None e = cc
     kept (Some h) e = chosen h (h.0 == t.0) refl e

@@ -1,18 +1,17 @@
 -- What the changes of the table mean for who holds what and for what contexts do.
-use Rattle.std.proofs.Common.{◌≡◌, ◌≢◌, ℕ, zero, suc, ◌+◌, ◌-◌, ◌<◌, ◌≤◌, ◌==◌, Bool, true, false, not, List, [], ◌∷◌, ◌++◌, length, map, get_or, set, Option, Some, None, refl, sym, ap, ◌∙◌, subst, ◌⊎◌, ⊎_elim, arith}
+use Rattle.std.proofs.Common.{◌≡◌, ◌≢◌, ℕ, ◌+◌, ◌-◌, ◌<◌, ◌≤◌, List, length, map, set, Option, Some, None, refl, ◌∙◌, arith}
 use Rattle.std.proofs.Math.ListN.{get_or-map}
 use Rattle.std.proofs.lemmas.List.{get_or-set_same, get_or-set_other}
-use Rattle.std.proofs.lemmas.Bool.{cases_eq, ne_eqb, eq-eqb, eqb-true, cond-true, cond-false, lt-ltb, le-ltb}
-use Rattle.std.specs.Prelude.{filter, if◌then◌else◌}
+use Rattle.std.proofs.lemmas.Bool.{cond-true, cond-false, lt-ltb, le-ltb}
 use Rattle.kms_model.specs.declared.objects.ObjId.{ObjId}
 use Rattle.kms_model.specs.declared.objects.Ticket.{Ticket}
 use Rattle.kms_wwlock.specs.declared.contexts.Context.{Context}
 use Rattle.kms_wwlock.specs.declared.contexts.Doing.{Doing}
-use Rattle.kms_wwlock.specs.declared.contexts.Doing.TheVariants.{Taking, MustBackOff, BackedOff}
+use Rattle.kms_wwlock.specs.declared.contexts.Doing.TheVariants.{Taking, BackedOff}
 use Rattle.kms_wwlock.specs.Objects.{IsLockable, place_of}
-use Rattle.kms_wwlock.specs.Table.{Table, holder_of, doing_of, doing_in, AreKept}
+use Rattle.kms_wwlock.specs.Table.{Table, doing_of, AreKept}
 use Rattle.kms_wwlock.specs.Calls.{with_doing, without, set_doing, taken, freed, IsTakenBy, IsDoing, AreFreed, after_begin, next_ticket, after_drop_all}
-use Rattle.kms_wwlock.proofs.Lookups.{same_ticket, doing_in-others, doing_in-set, doing_in-beginner, doing_in-beside, doing_in-over, doing_in-gone}
+use Rattle.kms_wwlock.proofs.Lookups.{doing_in-others, doing_in-set, doing_in-beginner, doing_in-beside, doing_in-over, doing_in-gone}
 use Rattle.kms_wwlock.proofs.Kept.{none_at}
 
 -- places
@@ -89,7 +88,7 @@ pub set_at : (table : Table) (t : Ticket) (d e : Doing) (holders : List (Option 
 set_at table t d e holders contexts now found =
     let goes = set_is_doing table t d e found in
     let on : IsDoing table (record table { holders = holders; contexts = map (with_doing t d) table.contexts }) t (Some d) =
-        record { now = goes.now; others = goes.others } in
+    record { now = goes.now; others = goes.others } in
     rw now on
 
 -- together
@@ -98,10 +97,10 @@ set_at table t d e holders contexts now found =
 pub relocked_at : (table : Table) (t : Ticket) (id : ObjId) (place : ℕ) (contexts : List Context) → length table.holders ≡ 28 → IsLockable id
     → place ≡ place_of id → contexts ≡ map (with_doing t Taking) table.contexts → doing_of table t ≡ Some (BackedOff id)
     → IsTakenBy table (record table { holders = set table.holders place (Some t); contexts = contexts }) t id
-        × IsDoing table (record table { holders = set table.holders place (Some t); contexts = contexts }) t (Some Taking)
+    × IsDoing table (record table { holders = set table.holders place (Some t); contexts = contexts }) t (Some Taking)
 relocked_at table t id place contexts long is at now off =
     let new : ℕ → List Context → Table = λ p cs. record table { holders = set table.holders p (Some t); contexts = cs } in
     let holds = taken_by table t id long is in
     let there : IsTakenBy table (new (place_of id) (map (with_doing t Taking) table.contexts)) t id =
-        record { taken = holds.taken; others = holds.others } in
+    record { taken = holds.taken; others = holds.others } in
     rw (at, now) (there, set_at table t Taking (BackedOff id) (set table.holders (place_of id) (Some t)) (map (with_doing t Taking) table.contexts) refl off)

@@ -1,8 +1,6 @@
 -- Who holds an object has begun, is not over, and has not backed off.
-use Rattle.std.proofs.Common.{◌≡◌, ◌≢◌, ℕ, zero, suc, ◌==◌, ◌<◌, Bool, true, false, List, [], ◌∷◌, ◌++◌, map, get_or, set, replicate, Option, Some, None, refl, sym, ap, ◌∙◌, subst, ◌⊎◌, ⊎_elim, arith}
+use Rattle.std.proofs.Common.{◌≡◌, ◌≢◌, ℕ, zero, suc, List, [], ◌∷◌, map, get_or, replicate, Option, Some, None, refl, sym, ap, subst, ⊎_elim}
 use Rattle.std.proofs.lemmas.Bool.{cases_eq}
-use Rattle.std.proofs.lemmas.List.{get_or-replicate, get_or_past}
-use Rattle.std.specs.Prelude.{IsSome, slice_index_or, if◌then◌else◌, nat_lt}
 use Rattle.kms_model.specs.declared.objects.ObjId.{ObjId}
 use Rattle.kms_model.specs.declared.objects.Ticket.{Ticket}
 use Rattle.kms_wwlock.specs.declared.contexts.Context.{Context}
@@ -11,10 +9,10 @@ use Rattle.kms_wwlock.specs.declared.contexts.Doing.TheVariants.{Taking, MustBac
 use Rattle.kms_wwlock.specs.declared.table.Lock.{Lock as Answer}
 use Rattle.kms_wwlock.specs.declared.table.Lock.TheVariants.{Got, Own, Older, Younger}
 use Rattle.kms_wwlock.specs.declared.table.Relock.{Relock as Again}
-use Rattle.kms_wwlock.specs.declared.table.Relock.TheVariants.{Got as Regot, Held}
+use Rattle.kms_wwlock.specs.declared.table.Relock.TheVariants.{Got as GotAgain, Held}
 use Rattle.kms_wwlock.specs.Objects.{place_of}
 use Rattle.kms_wwlock.specs.Table.{Table, holder_of, doing_of, doing_in, must_back_off_for, backed_off_for}
-use Rattle.kms_wwlock.specs.Calls.{with_doing, without, set_doing, taken, freed, MayBegin, after_begin, MayLock, lock_answer, after_lock, MayBackOff, backed_off, after_backoff, MayRelock, relock_from, holder_of_some, relock_answer, relocked, after_relock, MayDropAll, after_drop_all}
+use Rattle.kms_wwlock.specs.Calls.{with_doing, taken, after_begin, lock_answer, after_lock, backed_off, relock_answer, relocked, after_drop_all}
 use Rattle.kms_wwlock.specs.Waits.{Call, Begin, Lock, Backoff, Relock, DropAll, IsAllowed, after, AreAllowed, after_all, empty}
 use Rattle.kms_wwlock.proofs.Lookups.{same_ticket, held-freed, held-taken, doing_in-others, doing_in-set, doing_in-begun, doing_in-over}
 
@@ -33,11 +31,11 @@ set_sound : (cs : List Context) (t y : Ticket) (d e : Doing) → doing_in cs t �
     → (y.0 ≢ t.0 → MayHold (doing_in cs y)) → MayHold (doing_in (map (with_doing t d) cs) y)
 set_sound cs t y d e found may others =
     ⊎_elim
-      (λ (same : y.0 ≡ t.0).
-        subst (λ (u : Ticket). MayHold (doing_in (map (with_doing t d) cs) u)) (sym (same_ticket y t same))
-          (subst MayHold (sym (doing_in-set t d e cs found)) may))
-      (λ ne. subst MayHold (sym (doing_in-others t y d cs ne)) (others ne))
-      (cases_eq y.0 t.0)
+    (λ (same : y.0 ≡ t.0).
+    subst (λ (u : Ticket). MayHold (doing_in (map (with_doing t d) cs) u)) (sym (same_ticket y t same))
+    (subst MayHold (sym (doing_in-set t d e cs found)) may))
+    (λ ne. subst MayHold (sym (doing_in-others t y d cs ne)) (others ne))
+    (cases_eq y.0 t.0)
 
 begin_sound : (table : Table) (client : ℕ) → IsSound table → IsSound (after_begin table client)
 begin_sound table client s = record { held = λ place y e. kept y (doing_in table.contexts y) refl (s.held place y e) }
@@ -50,7 +48,7 @@ taken_sound : (table : Table) (t : Ticket) (id : ObjId) → doing_in table.conte
 taken_sound table t id taking s =
     record {
       held = λ place y e.
-        ⊎_elim
+          ⊎_elim
           (λ (same : t ≡ y). subst (λ (u : Ticket). MayHold (doing_in table.contexts u)) same (subst MayHold (sym taking) tt))
           (λ before. s.held place y before)
           (held-taken t y table.holders (place_of id) place e);
@@ -69,21 +67,21 @@ backoff_sound table t None s = s
 backoff_sound table t (Some id) s =
     record {
       held = λ place y e.
-        let before = held-freed t y table.holders place e in
-        subst MayHold (sym (doing_in-others t y (BackedOff id) table.contexts before.1)) (s.held place y before.0);
+          let before = held-freed t y table.holders place e in
+          subst MayHold (sym (doing_in-others t y (BackedOff id) table.contexts before.1)) (s.held place y before.0);
     }
 
 relock_sound : (table : Table) (t : Ticket) (o : Option Doing) (answer : Again) → doing_in table.contexts t ≡ o → IsSound table
     → IsSound (relocked table t (backed_off_for o) answer)
-relock_sound table t (Some (BackedOff id)) Regot is s =
+relock_sound table t (Some (BackedOff id)) GotAgain is s =
     record {
       held = λ place y e.
-        set_sound table.contexts t y Taking (BackedOff id) is tt
+          set_sound table.contexts t y Taking (BackedOff id) is tt
           (λ ne.
-            ⊎_elim
-              (λ (same : t ≡ y). absurd (ne (ap (λ (u : Ticket). u.0) (sym same))))
-              (λ before. s.held place y before)
-              (held-taken t y table.holders (place_of id) place e));
+          ⊎_elim
+          (λ (same : t ≡ y). absurd (ne (ap (λ (u : Ticket). u.0) (sym same))))
+          (λ before. s.held place y before)
+          (held-taken t y table.holders (place_of id) place e));
     }
 relock_sound table t (Some (BackedOff id)) (Held holder) is s = s
 relock_sound table t (Some (MustBackOff id)) answer is s = s
@@ -94,8 +92,8 @@ drop_all_sound : (table : Table) (t : Ticket) → IsSound table → IsSound (aft
 drop_all_sound table t s =
     record {
       held = λ place y e.
-        let before = held-freed t y table.holders place e in
-        subst MayHold (sym (doing_in-over t y table.contexts before.1)) (s.held place y before.0);
+          let before = held-freed t y table.holders place e in
+          subst MayHold (sym (doing_in-over t y table.contexts before.1)) (s.held place y before.0);
     }
 
 -- each call keeps the table sound

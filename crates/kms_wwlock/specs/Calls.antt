@@ -1,8 +1,8 @@
 -- What each call of the table may be asked, answers and changes.
--- From: Documentation/locking/ww-mutex-design.rst, "Wait-Die" and "Acquire contexts"; drm_modeset_lock.c,
--- `drm_modeset_lock` (-EALREADY is `Own`, -EDEADLK is `Older`), `drm_modeset_backoff` (which here is `backoff`
--- and then `relock`) and `drm_modeset_drop_locks`.
-use Rattle.std.specs.Prelude.{◌≡◌, ◌≢◌, ℕ, ◌+◌, ◌<◌, ◌==◌, if◌then◌else◌, nat_lt, not, List, [], ◌∷◌, ◌++◌, All, map, filter, slice_set, Option, Some, None, IsSome}
+-- From: Documentation/locking/ww-mutex-design.rst, "Wound/Wait Deadlock-Proof Mutex Design"; drm_modeset_lock.c,
+-- `drm_modeset_lock` (-EALREADY is `Own`, -EDEADLK is `Older`), `drm_modeset_backoff` (which here is `backoff` and
+-- then `relock`) and `drm_modeset_drop_locks`. Own choice of this device: of the two algorithms it is Wait-Die.
+use Rattle.std.specs.Prelude.{◌≡◌, ◌≢◌, ℕ, ◌+◌, ◌<◌, ◌==◌, if◌then◌else◌, nat_lt, not, [], ◌∷◌, ◌++◌, All, map, filter, slice_set, Option, Some, None, IsSome, option_and_then}
 use Rattle.kms_model.specs.declared.objects.ObjId.{ObjId}
 use Rattle.kms_model.specs.declared.objects.Ticket.{Ticket}
 use Rattle.kms_wwlock.specs.declared.contexts.Context.{Context}
@@ -11,7 +11,7 @@ use Rattle.kms_wwlock.specs.declared.contexts.Doing.TheVariants.{Taking, MustBac
 use Rattle.kms_wwlock.specs.declared.table.Lock.{Lock}
 use Rattle.kms_wwlock.specs.declared.table.Lock.TheVariants.{Got, Own, Older, Younger}
 use Rattle.kms_wwlock.specs.declared.table.Relock.{Relock}
-use Rattle.kms_wwlock.specs.declared.table.Relock.TheVariants.{Got as Regot, Held}
+use Rattle.kms_wwlock.specs.declared.table.Relock.TheVariants.{Got as GotAgain, Held}
 use Rattle.kms_wwlock.specs.Objects.{IsLockable, place_of}
 use Rattle.kms_wwlock.specs.Table.{Table, holder_of, doing_of, must_back_off_for, backed_off_for}
 
@@ -77,6 +77,7 @@ pub record MayBegin (table : Table) (client : ℕ) : Type 0 where
   pub no_context : All (λ c. c.client ≢ client) table.contexts
   pub ticket_left : table.drawn < 4294967295
 
+-- tickets are 0, 1, 2 and so on
 abbrev pub next_ticket : Table → Ticket
 next_ticket table = record { 0 = table.drawn }
 
@@ -108,9 +109,11 @@ after_lock table t id (Younger holder) = table
 
 -- backoff
 
+-- the last `lock` of the context answered `Older`
 abbrev pub MayBackOff : Table → Ticket → Type 0
 MayBackOff table t = IsSome (must_back_off_for (doing_of table t))
 
+-- the context holds nothing, and keeps its ticket
 abbrev pub backed_off : Table → Ticket → Option ObjId → Table
 backed_off table t None = table
 backed_off table t (Some id) = set_doing (freed table t) t (BackedOff id)
@@ -120,22 +123,20 @@ after_backoff table t = backed_off table t (must_back_off_for (doing_of table t)
 
 -- relock
 
+-- the context has backed off
 abbrev pub MayRelock : Table → Ticket → Type 0
 MayRelock table t = IsSome (backed_off_for (doing_of table t))
 
+-- what a context is told of the object that it backed off for, at this holder
 abbrev pub relock_from : Option Ticket → Relock
-relock_from None = Regot
+relock_from None = GotAgain
 relock_from (Some holder) = Held holder
 
-abbrev pub holder_of_some : Table → Option ObjId → Option Ticket
-holder_of_some table None = None
-holder_of_some table (Some id) = holder_of table id
-
 abbrev pub relock_answer : Table → Ticket → Relock
-relock_answer table t = relock_from (holder_of_some table (backed_off_for (doing_of table t)))
+relock_answer table t = relock_from (option_and_then (holder_of table) (backed_off_for (doing_of table t)))
 
 abbrev pub relocked : Table → Ticket → Option ObjId → Relock → Table
-relocked table t (Some id) Regot = set_doing (taken table t id) t Taking
+relocked table t (Some id) GotAgain = set_doing (taken table t id) t Taking
 relocked table t _ _ = table
 
 abbrev pub after_relock : Table → Ticket → Relock → Table
@@ -143,9 +144,11 @@ after_relock table t answer = relocked table t (backed_off_for (doing_of table t
 
 -- drop_all
 
+-- the context has begun and is not over
 abbrev pub MayDropAll : Table → Ticket → Type 0
 MayDropAll table t = IsSome (doing_of table t)
 
+-- its objects are free, and it is over
 abbrev pub after_drop_all : Table → Ticket → Table
 after_drop_all table t =
     record (freed table t) { contexts = filter (λ c. not (c.ticket.0 == t.0)) table.contexts }

@@ -1,5 +1,5 @@
 -- What the calls of one context leave alone: for the tests, whose contexts have their tickets as client numbers.
-use Rattle.std.specs.Prelude.{◌≡◌, ◌≢◌, ℕ, ◌<◌, All, Option, Some, IsSome}
+use Rattle.std.specs.Prelude.{◌≡◌, ◌≢◌, ℕ, ◌<◌, All, Some, IsSome}
 use Rattle.kms_model.specs.declared.objects.Ticket.{Ticket}
 use Rattle.kms_wwlock.specs.declared.contexts.Context.{Context}
 use Rattle.kms_wwlock.specs.declared.contexts.Doing.{Doing}

@@ -1,6 +1,6 @@
 -- The objects that have a modeset lock.
--- From: Documentation/gpu/drm-kms.rst, "KMS Locking": each CRTC and each plane has one, and connectors share
--- one. Own choice of this device: each connector has one too.
+-- From: drm_modeset_lock.c and the `mutex` of `struct drm_crtc` and `struct drm_plane`; the kernel's connectors
+-- share `connection_mutex`. Own choice of this device: each connector has a lock of its own.
 use Rattle.std.specs.Prelude.{ℕ, ◌+◌, ◌-◌, ◌<◌, ◌≤◌, ◌⊎◌, if◌then◌else◌, nat_lt}
 use Rattle.kms_model.specs.declared.objects.ObjId.{ObjId}
 

@@ -1,7 +1,7 @@
 -- Who waits for whom, and that no list of calls leads to a cycle of waits.
 -- From: Documentation/locking/ww-mutex-design.rst: with wait-die a context waits for younger ones only, and one
 -- that met an older holder dies, that is, holds nothing while it waits.
-use Rattle.std.specs.Prelude.{◌≡◌, ℕ, List, [], ◌∷◌, Option, Some, None, replicate}
+use Rattle.std.specs.Prelude.{◌≡◌, ℕ, List, [], ◌∷◌, Some, None, replicate}
 use Rattle.kms_model.specs.declared.objects.ObjId.{ObjId}
 use Rattle.kms_model.specs.declared.objects.Ticket.{Ticket}
 use Rattle.kms_wwlock.specs.declared.table.Lock.TheVariants.{Younger}
@@ -63,18 +63,18 @@ WaitsAlong table x (y ∷ ys) z = Waits table x y × WaitsAlong table y ys z
 abbrev pub NoCycleOfWaits : Type 0
 NoCycleOfWaits =
     (calls : List Call) (first : Ticket) (others : List Ticket)
-        → AreAllowed empty calls → ¬ WaitsAlong (after_all empty calls) first others first
+    → AreAllowed empty calls → ¬ WaitsAlong (after_all empty calls) first others first
 
 -- after every list of calls, a context that has backed off holds no object
 abbrev pub BackedOffHoldsNothing : Type 0
 BackedOffHoldsNothing =
     (calls : List Call) (t : Ticket) (id object : ObjId)
-        → AreAllowed empty calls → doing_of (after_all empty calls) t ≡ Some (BackedOff object)
-        → ¬ (holder_of (after_all empty calls) id ≡ Some t)
+    → AreAllowed empty calls → doing_of (after_all empty calls) t ≡ Some (BackedOff object)
+    → ¬ (holder_of (after_all empty calls) id ≡ Some t)
 
 -- after every list of calls, who holds an object has begun and is not over
 abbrev pub HoldersAreOpen : Type 0
 HoldersAreOpen =
     (calls : List Call) (t : Ticket) (id : ObjId)
-        → AreAllowed empty calls → holder_of (after_all empty calls) id ≡ Some t
-        → ¬ (doing_of (after_all empty calls) t ≡ None)
+    → AreAllowed empty calls → holder_of (after_all empty calls) id ≡ Some t
+    → ¬ (doing_of (after_all empty calls) t ≡ None)

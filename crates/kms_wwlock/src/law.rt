@@ -11,5 +11,4 @@ pub fn no_cycle_of_waits()
     ensures no_cycle { NoCycleOfWaits }
     ensures backed_off_holds_nothing { BackedOffHoldsNothing }
     ensures holders_are_open { HoldersAreOpen }
-{
-}
+{}

@@ -6,8 +6,9 @@
 //! younger holder it waits. So no contexts wait in a circle, which `no_cycle_of_waits` states.
 //!
 //! (Kernel: `Documentation/gpu/drm-kms.rst`, "KMS Locking", and `drivers/gpu/drm/drm_modeset_lock.c`;
-//! `Documentation/locking/ww-mutex-design.rst`, the algorithm "Wait-Die". Own choice of this device: it never
-//! waits inside a call. A call that would wait in the kernel answers who holds the object, and is made again.)
+//! `Documentation/locking/ww-mutex-design.rst`. Own choices of this device: of the two algorithms there it is
+//! Wait-Die, and it never waits inside a call. A call that would wait in the kernel answers who holds the
+//! object, and is made again.)
 #![tactic(auto)]
 
 mod contexts;

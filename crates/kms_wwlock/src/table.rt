@@ -76,6 +76,7 @@ impl LockTable {
         ensures taking { IfOk result (λ t. IsDoing self.old self.new t (Some Doing.Taking)) }
         ensures err { OnErr result (self.new ≡ self.old) }
     {
+        // The list of contexts keeps the allocator that it was made with.
         let ticket = Ticket(self.drawn);
         self.contexts.push(Context {
             ticket,

@@ -9,6 +9,7 @@ use std::alloc::Global;
 use std::test::Fail;
 
 const CRTC: ObjId = ObjId(100);
+
 const PLANE: ObjId = ObjId(200);
 
 #[test]
@@ -58,7 +59,13 @@ fn meets_the_oldest(table: &mut LockTable, t: Ticket, plane: ObjId, oldest: Opti
 
 /// Begins so many contexts, each before the one before is over, whose clients have the numbers of their
 /// tickets. Gives whether each was answered as it should be.
-fn begins_nested(table: &mut LockTable, alloc: Global, next: u32, depth: u32, oldest: Option<Ticket>) -> Result<bool, NoMemory>
+fn begins_nested(
+    table: &mut LockTable,
+    alloc: Global,
+    next: u32,
+    depth: u32,
+    oldest: Option<Ticket>,
+) -> Result<bool, NoMemory>
     requires next { table.old.drawn ≡ next }
     requires room { next + depth < 4294967295 }
     requires planes { depth ≤ 16 }

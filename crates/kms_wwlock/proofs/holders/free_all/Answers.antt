@@ -1,4 +1,4 @@
-use Rattle.std.proofs.Common.{arith, Option, None}
+use Rattle.std.proofs.Common.{arith}
 use Rattle.std.proofs.lemmas.Grind.{common_steps}
 use Rattle.std.proofs.lemmas.List.Edits.{map_over_more}
 use Rattle.kms_wwlock.specs.Calls.{without}

@@ -1,7 +1,5 @@
 use Rattle.std.proofs.Common.{sym, subst}
-use Rattle.kms_wwlock.specs.Table.{Table}
 use Rattle.kms_wwlock.specs.LongRun.{IsNumbered}
-use Rattle.kms_wwlock.specs.Calls.{after_drop_all}
 use Rattle.kms_wwlock.proofs.LongRun.{drop_all_numbered}
 use Rattle.kms_wwlock.proofs.tests.+begins_nested.Goals as goal
 

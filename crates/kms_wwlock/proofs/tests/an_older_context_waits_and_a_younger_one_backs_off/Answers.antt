@@ -1,12 +1,12 @@
 -- What each call of the worked example requires: the tables are computed one after another.
-use Rattle.std.proofs.Common.{◌≡◌, ℕ, List, [], ◌∷◌, ◌++◌, take, Option, Some, None, refl, sym, ap, ◌∙◌, subst, inl, inr, arith}
+use Rattle.std.proofs.Common.{◌≡◌, ℕ, List, [], ◌∷◌, ◌++◌, take, refl, ap, ◌∙◌, inl, arith}
 use Rattle.kms_model.specs.declared.objects.ObjId.{ObjId}
 use Rattle.kms_model.specs.declared.objects.Ticket.{Ticket}
 use Rattle.kms_wwlock.specs.declared.table.Lock.{Lock as Answer}
 use Rattle.kms_wwlock.specs.declared.table.Relock.{Relock as Again}
 use Rattle.kms_wwlock.specs.Objects.{place_of}
 use Rattle.kms_wwlock.specs.Table.{Table, holder_of}
-use Rattle.kms_wwlock.specs.Calls.{MayLock, MayRelock, MayDropAll, next_ticket, lock_answer, after_begin, after_lock, after_backoff, relock_answer, after_relock, after_drop_all}
+use Rattle.kms_wwlock.specs.Calls.{next_ticket, lock_answer, after_begin, after_lock, after_backoff, relock_answer, after_relock, after_drop_all}
 use Rattle.kms_wwlock.specs.Waits.{Call, Begin, Lock, Backoff, Relock, DropAll, after, after_all, empty}
 use Rattle.kms_wwlock.proofs.tests.an_older_context_waits_and_a_younger_one_backs_off.Goals as goal
 use Rattle.kms_wwlock.proofs.tests.an_older_context_waits_and_a_younger_one_backs_off.Goals.{After-holder, After-lock-6}
@@ -109,5 +109,5 @@ relock-requires-2 g c =
     let now = told g (goal.at.relock-requires-2 g c).After-holder in
     let e3 : c.relock.new.self ≡ so_far 3 = again _ _ (so_far 2) _ (at 1) _ (after-lock-6 g at_6 now.is now.older) now.younger c.relock.ensures.answer c.relock.ensures.after in
     let e4 : c.drop_all.new.self ≡ so_far 4 =
-        c.drop_all.ensures.after ∙ ap (λ (x : Table). after_drop_all x c.in_ok-first.first) e3 ∙ ap (λ (x : Ticket). after_drop_all (so_far 3) x) now.older in
+    c.drop_all.ensures.after ∙ ap (λ (x : Table). after_drop_all x c.in_ok-first.first) e3 ∙ ap (λ (x : Ticket). after_drop_all (so_far 3) x) now.older in
     rw (e4, now.younger) refl

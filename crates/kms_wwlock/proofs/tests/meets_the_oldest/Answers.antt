@@ -2,7 +2,6 @@ use Rattle.std.proofs.Common.{◌≡◌, rules, Some}
 use Rattle.kms_model.specs.declared.objects.ObjId.{ObjId}
 use Rattle.kms_wwlock.specs.declared.contexts.Doing.TheVariants.{Taking, MustBackOff}
 use Rattle.kms_wwlock.specs.Table.{doing_of}
-use Rattle.kms_wwlock.specs.LongRun.{Keeps}
 use Rattle.kms_wwlock.proofs.LongRun.{keeps_trans, lock_kept, backoff_kept, relock_kept}
 use Rattle.kms_wwlock.proofs.tests.meets_the_oldest.Goals as goal
 

@@ -1,7 +1,4 @@
-use Rattle.std.proofs.Common.{◌≡◌, rules, sym, subst, Some, refl}
-use Rattle.kms_wwlock.specs.declared.contexts.Doing.TheVariants.{Taking}
 use Rattle.kms_wwlock.specs.Table.{Table}
-use Rattle.kms_wwlock.specs.Calls.{IsDoing, next_ticket, after_begin}
 use Rattle.kms_wwlock.proofs.Meanings.{next_is_fresh, begun_is_doing}
 use Rattle.kms_wwlock.proofs.table.LockTable.begin.Goals as goal
 

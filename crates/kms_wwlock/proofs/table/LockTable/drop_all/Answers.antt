@@ -14,7 +14,7 @@ kept c = filter_same _ (λ (x : Context). not (x.ticket.0 == c.args.t.0)) _ (λ 
 pub invariant_of-self : goal.invariant_of-self
 invariant_of-self c =
     subst (λ (xs : List Context). AreKept xs c.self.inside.drawn) (sym (kept c))
-      (others_kept (λ (x : Context). not (x.ticket.0 == c.args.t.0)) c.self.inside.contexts.items c.self.inside.drawn c.self.invariant)
+    (others_kept (λ (x : Context). not (x.ticket.0 == c.args.t.0)) c.self.inside.contexts.items c.self.inside.drawn c.self.invariant)
 
 pub returns-clause-after : goal.returns-clause-after
 returns-clause-after c = rw (← c.self.view_is, c.free_all.ensures, kept c) refl

@@ -10,7 +10,7 @@ use Rattle.kms_wwlock.proofs.table.LockTable.lock.Goals as goal
 pub invariant_of-self-then-holder-t : goal.invariant_of-self-then-holder-t
 invariant_of-self-then-holder-t c =
     front_kept c.args.t (MustBackOff c.args.id) c.self.inside.contexts.items c.set_doing.new.contexts c.self.inside.contexts.len
-      c.self.inside.drawn c.requires.lockable c.self.invariant (search rules) (search rules)
+    c.self.inside.drawn c.requires.lockable c.self.invariant (search rules) (search rules)
 
 pub returns-in-None-clause-got : goal.returns-in-None-clause-got
 returns-in-None-clause-got c = λ _.
@@ -22,6 +22,6 @@ returns-in-Some-2-clause-older c =
     let old : Table = record { holders = c.self.inside.holders; contexts = c.self.inside.contexts.items; drawn = c.self.inside.drawn } in
     let written : c.set_doing.new.contexts ≡ map (with_doing c.args.t (MustBackOff c.args.id)) old.contexts = search rules in
     rw (← c.self.view_is)
-      (set_at old c.args.t (MustBackOff c.args.id) Taking old.holders (with_items c.self.inside.contexts c.set_doing.new.contexts).items
-        (front_is old.contexts c.set_doing.new.contexts c.self.inside.contexts.len (search rules) ∙ written)
-        (rw (← c.self.view_is) at c.requires.taking))
+    (set_at old c.args.t (MustBackOff c.args.id) Taking old.holders (with_items c.self.inside.contexts c.set_doing.new.contexts).items
+    (front_is old.contexts c.set_doing.new.contexts c.self.inside.contexts.len (search rules) ∙ written)
+    (rw (← c.self.view_is) at c.requires.taking))

@@ -22,7 +22,7 @@ place_of-requires c = lockable (goal.at.place_of-requires c).In-Some-BackedOff
 pub invariant_of-self : goal.invariant_of-self
 invariant_of-self c =
     front_kept c.args.t Taking c.self.inside.contexts.items c.set_doing.new.contexts c.self.inside.contexts.len
-      c.self.inside.drawn tt c.self.invariant (search rules) (search rules)
+    c.self.inside.drawn tt c.self.invariant (search rules) (search rules)
 
 pub returns-in-None-clause-got : goal.returns-in-None-clause-got
 returns-in-None-clause-got c = λ _. λ id is.
@@ -32,9 +32,9 @@ returns-in-None-clause-got c = λ _. λ id is.
     let same : id ≡ c.in-Some-BackedOff.id = cc in
     let written : c.set_doing.new.contexts ≡ map (with_doing c.args.t Taking) old.contexts = search rules in
     rw (← c.self.view_is)
-      (relocked_at old c.args.t id c.place_of.result (with_items c.self.inside.contexts c.set_doing.new.contexts).items
-        (search rules)
-        (subst IsLockable (sym same) (lockable (goal.at.returns-in-None-clause-got c).In-Some-BackedOff))
-        (c.place_of.ensures.place ∙ ap (λ (o : ObjId). place_of o) (sym same))
-        (front_is old.contexts c.set_doing.new.contexts c.self.inside.contexts.len (search rules) ∙ written)
-        asked)
+    (relocked_at old c.args.t id c.place_of.result (with_items c.self.inside.contexts c.set_doing.new.contexts).items
+    (search rules)
+    (subst IsLockable (sym same) (lockable (goal.at.returns-in-None-clause-got c).In-Some-BackedOff))
+    (c.place_of.ensures.place ∙ ap (λ (o : ObjId). place_of o) (sym same))
+    (front_is old.contexts c.set_doing.new.contexts c.self.inside.contexts.len (search rules) ∙ written)
+    asked)
