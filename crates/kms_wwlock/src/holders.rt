@@ -15,6 +15,7 @@ pub fn place_of(id: ObjId) -> usize
     ensures place { result ≡ place_of id }
     ensures within { result < LOCKABLE }
 {
+    // CRTC i has the id 100 + i, plane i 200 + i and connector i 300 + i.
     let place = if id.0 < 200 {
         id.0 - 100
     } else if id.0 < 300 {
