@@ -1,0 +1,6 @@
+pub mod Lookups
+pub mod Kept
+pub mod Meanings
+pub mod Sound
+pub mod Cycles
+pub mod LongRun

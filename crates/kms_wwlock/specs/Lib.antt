@@ -1,0 +1,5 @@
+pub mod Objects
+pub mod Table
+pub mod Calls
+pub mod Waits
+pub mod LongRun
