@@ -8,15 +8,19 @@ use Rattle.std.proofs.Math.Seq.{get_or-append_seam, take-append_seam}
 use Rattle.kms_model.specs.declared.objects.Topology.{Topology}
 use Rattle.kms_model.specs.declared.scripts.Command.{Command}
 use Rattle.kms_model.specs.declared.scripts.Command.TheVariants as command
+use Rattle.kms_model.specs.declared.objects.Format.{Format}
+use Rattle.kms_model.specs.declared.replies.Reply.TheVariants as reply
+use Rattle.kms_model.specs.declared.scripts.Pattern.{Pattern}
 use Rattle.kms_model.specs.declared.scripts.Request.{Request}
+use Rattle.kms_model.specs.declared.worlds.Content.TheVariants as content
 use Rattle.kms_model.specs.declared.scripts.Script.{Script}
 use Rattle.kms_model.specs.declared.worlds.Setting.{Setting}
 use Rattle.kms_model.specs.declared.worlds.World.{World}
 use Rattle.kms_model.specs.declared.objects.Kind.TheVariants.{Crtc}
 use Rattle.kms_model.specs.Objects.{object_id}
 use Rattle.kms_model.specs.World.{start}
-use Rattle.kms_model.specs.Verdict.{verdict}
-use Rattle.kms_model.specs.Serial.{Executed, BufferInfo, Pictured, Entry, is_accepted, commit, add_fb, buffer_of, execute, shown_by, from_one, command_of, execute_in, shown_in, serial_from, serial, show_from, show}
+use Rattle.kms_model.specs.Verdict.{is_test, verdict}
+use Rattle.kms_model.specs.Serial.{Executed, BufferInfo, Pictured, Entry, is_accepted, answer, make_unless, buffer_refusal, committed, commit, add_fb, buffer_of, execute, shown_by, from_one, command_of, execute_in, shown_in, serial_from, serial, show_from, show}
 use Rattle.kms_model.specs.Flat.{Turn, Done, done, turn_of, round, longest, turns_of, is_journaled, next_place, entry_of, journal_of, run_from, run, shown_then, latches_of, journal_line, reply_line, latch_lines, latch_lines_of, by_client, flat}
 use Rattle.kms_model.specs.Headline.{StandsAtItsPlace, EachStandsAtItsPlace, TellsJournal}
 
@@ -25,8 +29,19 @@ use Rattle.kms_model.specs.Headline.{StandsAtItsPlace, EachStandsAtItsPlace, Tel
 abbrev ChangesNothing : Topology → ℕ → World → Command → Executed → Type 0
 ChangesNothing t crtc w c e = (e.world ≡ w) × (shown_by t crtc w.values c e ≡ None)
 
+tested_request : (t : Topology) (crtc : ℕ) (w : World) (r : Request) (b : Bool)
+    → is_accepted (cond b (answer w reply.Tested) (committed w r)).reply ≡ false → ChangesNothing t crtc w (command.Atomic r) (cond b (answer w reply.Tested) (committed w r))
+tested_request t crtc w r true e = (refl, refl)
+tested_request t crtc w r false e = absurd cc
+
+denied_thing : (t : Topology) (crtc : ℕ) (w : World) (client label width height : ℕ) (format : Format) (pattern : Pattern) (o : Option ℕ)
+    → is_accepted (make_unless w client label (content.Buffer width height format pattern) o).reply ≡ false
+    → ChangesNothing t crtc w (command.Buffer label width height format pattern) (make_unless w client label (content.Buffer width height format pattern) o)
+denied_thing t crtc w client label width height format pattern None e = absurd cc
+denied_thing t crtc w client label width height format pattern (Some n) e = (refl, refl)
+
 refused_request : (t : Topology) (crtc : ℕ) (w : World) (r : Request) (o : Option ℕ) → is_accepted (commit w r o).reply ≡ false → ChangesNothing t crtc w (command.Atomic r) (commit w r o)
-refused_request t crtc w r None e = absurd cc
+refused_request t crtc w r None e = tested_request t crtc w r (is_test r.flags) e
 refused_request t crtc w r (Some n) e = (refl, refl)
 
 denied_framebuffer : (t : Topology) (crtc : ℕ) (w : World) (client label buffer : ℕ) (o : Option BufferInfo) → is_accepted (add_fb w client label o).reply ≡ false → ChangesNothing t crtc w (command.AddFb label buffer) (add_fb w client label o)
@@ -35,7 +50,7 @@ denied_framebuffer t crtc w client label buffer (Some b) e = absurd cc
 
 unaccepted : (t : Topology) (crtc : ℕ) (w : World) (client : ℕ) (c : Command) → is_accepted (execute t w client c).reply ≡ false → ChangesNothing t crtc w c (execute t w client c)
 unfolding execute
-unaccepted t crtc w client (command.Buffer label width height format pattern) e = absurd cc
+unaccepted t crtc w client (command.Buffer label width height format pattern) e = denied_thing t crtc w client label width height format pattern (buffer_refusal width height) e
 unaccepted t crtc w client (command.AddFb label buffer) e = denied_framebuffer t crtc w client label buffer (buffer_of w.things client buffer) e
 unaccepted t crtc w client (command.Mode label m) e = absurd cc
 unaccepted t crtc w client (command.Blob label bytes) e = (refl, refl)

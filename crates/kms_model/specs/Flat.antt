@@ -87,14 +87,26 @@ errno_of n =
     else (if (n == 14) || (n == 32) then codes "ENOSPC"
     else (if n == 34 then codes "EPERM" else codes "EINVAL")))
 
--- the words of a reply (those of the narrow form; the others get theirs as they are built)
+-- the name of a display object, as `crtc0` or `plane3`
+abbrev pub object_name : ℕ → List ℕ
+object_name id =
+    if nat_lt id 200 then codes "crtc" ++ decimal (id - 100)
+    else (if nat_lt id 300 then codes "plane" ++ decimal (id - 200)
+    else (if nat_lt id 400 then codes "conn" ++ decimal (id - 300)
+    else codes "enc" ++ decimal (id - 400)))
+
+-- the words of a reply
 abbrev pub reply_words : Reply → List (List ℕ)
 reply_words (reply.Made id) = codes "made" ∷ decimal id ∷ []
 reply_words reply.Done = codes "done" ∷ []
 reply_words (reply.Commit k) = codes "commit" ∷ decimal k ∷ []
+reply_words reply.Tested = codes "tested" ∷ []
 reply_words (reply.Refused n) = errno_of n.0 ∷ decimal n.0 ∷ []
+reply_words (reply.Space used) = codes "ENOMEM" ∷ codes "events" ∷ codes "25" ∷ decimal used ∷ []
+reply_words (reply.Busy object k) = codes "EBUSY" ∷ codes "26" ∷ object_name object.0 ∷ decimal k ∷ []
 reply_words (reply.Denied n) = errno_of n ∷ decimal n ∷ []
-reply_words _ = codes "none" ∷ []
+reply_words (reply.Event e) = codes "event" ∷ decimal e.user_data ∷ decimal e.sequence ∷ decimal e.crtc ∷ []
+reply_words reply.NoEvent = codes "none" ∷ []
 
 -- `J CLIENT COMMAND`
 abbrev pub journal_line : Entry → List ℕ

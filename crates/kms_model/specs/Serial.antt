@@ -1,5 +1,5 @@
 -- The device of one thread: what a command does, what a journal leaves and what it shows.
-use Rattle.std.specs.Prelude.{◌≡◌, ℕ, zero, suc, ◌+◌, Bool, true, false, ◌&&◌, ◌==◌, List, [], ◌∷◌, ◌++◌, Option, Some, None, if◌then◌else◌, slice_get, option_and_then}
+use Rattle.std.specs.Prelude.{◌≡◌, ℕ, zero, suc, ◌+◌, Bool, true, false, ◌&&◌, ◌==◌, not, nat_lt, nat_le, List, [], ◌∷◌, ◌++◌, Option, Some, None, if◌then◌else◌, slice_get, option_and_then}
 use Rattle.kms_model.specs.declared.objects.Format.{Format}
 use Rattle.kms_model.specs.declared.objects.Topology.{Topology}
 use Rattle.kms_model.specs.declared.pictures.Picture.{Picture}
@@ -20,7 +20,8 @@ use Rattle.kms_model.specs.Apply.{apply}
 use Rattle.kms_model.specs.Named.{names}
 use Rattle.kms_model.specs.Pictures.{picture}
 use Rattle.kms_model.specs.Frames.{frame_bytes}
-use Rattle.kms_model.specs.Verdict.{verdict}
+use Rattle.kms_model.specs.Firsts.{number_if}
+use Rattle.kms_model.specs.Verdict.{is_test, verdict}
 
 -- what a command leaves and what is answered to it
 pub record Executed : Type 0 where
@@ -38,10 +39,26 @@ make w owner label content = record {
 abbrev pub answer : World → Reply → Executed
 answer w r = record { world = w; reply = r }
 
--- A request that is refused changes nothing. Otherwise its values hold, and the number of commits before it is
--- answered.
+-- a thing is made, unless a number refuses it
+abbrev pub make_unless : World → ℕ → ℕ → Content → Option ℕ → Executed
+make_unless w owner label content None = make w owner label content
+make_unless w owner label content (Some n) = answer w (reply.Denied n)
+
+-- a side of a buffer, in pixels
+abbrev pub is_side : ℕ → Bool
+is_side n = nat_lt 0 n && nat_le n 4096
+
+-- what is wrong with a new buffer: 31, a side is 0 or above 4096
+abbrev pub buffer_refusal : ℕ → ℕ → Option ℕ
+buffer_refusal width height = number_if 31 (not (is_side width && is_side height))
+
+-- the values of an accepted request hold, and the number of commits before it is answered
+abbrev pub committed : World → Request → Executed
+committed w r = record { world = record w { values = apply w.things w.values r.assigns; commits = w.commits + 1 }; reply = reply.Commit w.commits }
+
+-- A request that is refused changes nothing, and neither does one that is only tested.
 abbrev pub commit : World → Request → Option ℕ → Executed
-commit w r None = record { world = record w { values = apply w.things w.values r.assigns; commits = w.commits + 1 }; reply = reply.Commit w.commits }
+commit w r None = if is_test r.flags then answer w reply.Tested else committed w r
 commit w r (Some n) = answer w (reply.Refused (record { 0 = n }))
 
 -- the id, the width, the height and the format of a buffer
@@ -71,7 +88,7 @@ add_fb w client label (Some b) = make w client label (content.Framebuffer (recor
 
 -- One command of a client. (A script of the narrow form has no other; they get their replies as they are built.)
 unfoldable pub execute : Topology → World → ℕ → Command → Executed
-execute t w client (command.Buffer label width height format pattern) = make w client label (content.Buffer width height format pattern)
+execute t w client (command.Buffer label width height format pattern) = make_unless w client label (content.Buffer width height format pattern) (buffer_refusal width height)
 execute t w client (command.AddFb label buffer) = add_fb w client label (buffer_of w.things client buffer)
 execute t w client (command.Mode label m) = make w client label (content.Mode m)
 execute t w client (command.Atomic r) = commit w r (verdict t w r)

@@ -19,6 +19,10 @@ use Rattle.kms_model.specs.Named.{needs_modeset}
 abbrev pub allows_modeset : ℕ → Bool
 allows_modeset flags = not (bit_and flags 0x400 == 0)
 
+-- DRM_MODE_ATOMIC_TEST_ONLY. From: `drm_mode.h`.
+abbrev pub is_test : ℕ → Bool
+is_test flags = not (bit_and flags 0x100 == 0)
+
 -- what is wrong with one assignment: 4, the object does not exist
 abbrev pub assign_refusal : Topology → Assign → Option ℕ
 assign_refusal t a = number_if 4 (not (exists t a.kind a.index))

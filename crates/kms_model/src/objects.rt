@@ -2,12 +2,12 @@
 use crate::list::Seq;
 
 /// The id of a display object: CRTC index i has 100 + i, plane 200 + i, connector 300 + i and encoder
-/// 400 + i. (Kernel: "Mode Object Abstraction", `struct drm_mode_object`; the numbers are this device's.)
+/// 400 + i. (Kernel: "Modeset Base Object Abstraction", `struct drm_mode_object`; the numbers are this device's.)
 #[derive(Clone, Copy, Debug, PartialEq, Eq)]
 pub struct ObjId(pub u32);
 
 /// The ticket of an acquire context, counted from 0 in the order in which contexts begin. The smaller
-/// ticket is the older one. (Kernel: "Modeset Locking", `struct drm_modeset_acquire_ctx`.)
+/// ticket is the older one. (Kernel: "KMS Locking", `struct drm_modeset_acquire_ctx`.)
 #[derive(Clone, Copy, Debug, PartialEq, Eq)]
 pub struct Ticket(pub u32);
 

@@ -76,7 +76,7 @@ pub struct Answered {
 /// from 1 and commits from 0; `kind` and `index` (from 0) name a display object.
 #[derive(Clone, Copy, Debug, PartialEq, Eq)]
 pub enum Step {
-    /// A client's acquire context begins. (Kernel: "Modeset Locking", `drm_modeset_acquire_init`.)
+    /// A client's acquire context begins. (Kernel: "KMS Locking", `drm_modeset_acquire_init`.)
     Begin { client: u32 },
     /// A context asks for an object's lock. (`drm_modeset_lock`.)
     Lock { client: u32, kind: Kind, index: u32 },

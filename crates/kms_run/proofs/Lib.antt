@@ -3,3 +3,4 @@ pub mod Bounds
 pub mod Rows
 pub mod Goes
 pub mod FlatOne
+pub mod Outcomes

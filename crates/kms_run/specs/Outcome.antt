@@ -1,17 +1,17 @@
 -- What a call of the program reads and writes, by its status.
-use Rattle.std.specs.Prelude.{◌≡◌, ℕ, ◌<◌, ◌≤◌, List, [], length, Result, Ok, Err, Option}
+use Rattle.std.specs.Prelude.{◌≡◌, ℕ, ◌<◌, ◌≤◌, ◌+◌, List, [], length, Result, Ok, Err, Option, ◌⊎◌, ⊤}
 use Rattle.std.specs.Io.KnownBytes.{IsAtEnd}
 use Rattle.kms_io.specs.Bytes.{Begins}
 use Rattle.kms_model.specs.declared.scripts.Why.{Why}
 use Rattle.kms_run.specs.declared.status.Status.{Status}
 use Rattle.kms_run.specs.declared.status.Status.TheVariants as status
-use Rattle.kms_model.specs.Input.{input as script_in}
+use Rattle.kms_model.specs.Input.{input_limit, input as script_in}
 use Rattle.kms_run.specs.Answers.{IsReport}
 
 -- All that the source had left was read, or, of a longer input, one byte more than an input may have.
 pub record IsWhole (left : Option (List ℕ)) (input : List ℕ) : Type 0 where
-  pub most : length input ≤ 67108865
-  pub end : length input < 67108865 → IsAtEnd left
+  pub most : length input ≤ input_limit + 1
+  pub end : length input < input_limit + 1 → IsAtEnd left
 
 -- The whole input was read, and what was written is its report.
 pub record WritesReport (left : Option (List ℕ)) (input output : List ℕ) : Type 0 where
@@ -36,15 +36,35 @@ pub record MovesNothing (input output : List ℕ) : Type 0 where
   pub read : input ≡ []
   pub written : output ≡ []
 
--- What was read and written where a call ended so; left is what the source has left afterwards. No other status
--- comes.
+-- nothing was written
+abbrev pub WritesNothing : List ℕ → List ℕ → Type 0
+WritesNothing input output = output ≡ []
+
+-- the statuses of a call that may have read and has written nothing
+abbrev pub IsSilent : Status → Type 0
+IsSilent s = (s ≡ status.ReadFault) ⊎ (s ≡ status.NoMemory)
+
+-- the statuses that come in what is built so far
+abbrev pub IsBuilt : Status → Type 0
+IsBuilt status.Ok = ⊤
+IsBuilt status.ReadFault = ⊤
+IsBuilt status.WriteFault = ⊤
+IsBuilt status.Usage = ⊤
+IsBuilt (status.Script line why) = ⊤
+IsBuilt status.NoMemory = ⊤
+IsBuilt status.Stalled = ⊥
+IsBuilt (status.Illegal at) = ⊥
+IsBuilt status.Open = ⊥
+IsBuilt (status.AuditNo line) = ⊥
+
+-- What was read and written where a call ended so; left is what the source has left afterwards.
 abbrev pub Meets : Status → Option (List ℕ) → List ℕ → List ℕ → Type 0
 Meets status.Ok left input output = WritesReport left input output
-Meets status.ReadFault left input output = output ≡ []
 Meets status.WriteFault left input output = WritesFront left input output
-Meets status.Usage left input output = MovesNothing input output
 Meets (status.Script line why) left input output = TellsFault left line why input output
-Meets status.NoMemory left input output = output ≡ []
+Meets status.Usage left input output = MovesNothing input output
+Meets status.ReadFault left input output = WritesNothing input output
+Meets status.NoMemory left input output = WritesNothing input output
 Meets status.Stalled left input output = ⊥
 Meets (status.Illegal at) left input output = ⊥
 Meets status.Open left input output = ⊥

@@ -2,8 +2,8 @@
 ghost use Rattle.std.specs.Prelude.{◌≡◌, ◌<◌, ◌≤◌, ◌+◌, ◌^◌, ◌++◌, ◌∷◌, ◌==◌, true, ℕ, List, [], length, Some, None, IfOk, OnOk, IfSome, All, ⊤, Option, option_copied, option_map};
 ghost use Rattle.kms_model.specs.Fit.{IsSmall, HasSmallSets, HasSolidPattern, IsFit};
 ghost use Rattle.kms_model.specs.World.{thing_labelled};
-ghost use Rattle.kms_model.specs.Serial.{buffer_info, buffer_of, make, answer, commit, add_fb, execute};
-ghost use Rattle.kms_model.specs.Verdict.{verdict};
+ghost use Rattle.kms_model.specs.Serial.{buffer_info, buffer_of, make, make_unless, is_side, buffer_refusal, answer, commit, add_fb, execute};
+ghost use Rattle.kms_model.specs.Verdict.{is_test, verdict};
 ghost use Rattle.kms_run.specs.Values.{AllWithin};
 ghost use Rattle.kms_run.specs.Solids.{IsSolidContent, AllSolid};
 ghost use Rattle.kms_run.specs.Ready.{HasRoom, Grows, IsPlain};
@@ -58,6 +58,7 @@ fn commit(
     ensures plain { OnOk result (IsPlain w.old → IsPlain w.new) }
 {
     match verdict(alloc, device, w, r)? {
+        Ok(_) if is_test(r.flags) => Ok(Reply::Tested),
         Ok(values) => {
             let commit = w.commits;
             w.values = values;
@@ -65,6 +66,48 @@ fn commit(
             Ok(Reply::Commit { commit })
         }
         Err(number) => Ok(Reply::Refused(Refusal(number))),
+    }
+}
+
+fn is_test(flags: u32) -> bool
+    ensures { result ≡ is_test flags }
+{
+    flags & 0x100 != 0
+}
+
+fn is_side(n: u32) -> bool
+    ensures { result ≡ is_side n }
+{
+    0 < n && n <= 4096
+}
+
+fn buffer_refusal(width: u32, height: u32) -> Option<u32>
+    ensures { result ≡ buffer_refusal width height }
+{
+    if is_side(width) && is_side(height) {
+        None
+    } else {
+        Some(31)
+    }
+}
+
+/// Makes a buffer, unless its size is refused.
+fn make_buffer(
+    w: &mut World,
+    client: u32,
+    label: u32,
+    content: Content,
+    refusal: Option<u32>,
+) -> Result<Reply, NoMemory>
+    requires room { HasRoom w.old }
+    requires solid { IsSolidContent content }
+    ensures value { IfOk result (λ r. make_unless w.old client label content refusal ≡ record { world = w.new; reply = r }) }
+    ensures grows { OnOk result (Grows w.old w.new) }
+    ensures plain { OnOk result (IsPlain w.old → IsPlain w.new) }
+{
+    match refusal {
+        None => make(w, client, label, content),
+        Some(number) => Ok(Reply::Denied(number)),
     }
 }
 
@@ -148,7 +191,7 @@ pub fn execute(
                 format: *format,
                 pattern: pattern.copy(alloc)?,
             };
-            make(w, client, *label, content)
+            make_buffer(w, client, *label, content, buffer_refusal(*width, *height))
         }
         Command::AddFb { label, buffer } => add_fb(w, client, *label, *buffer),
         Command::Mode { label, mode } => make(w, client, *label, Content::Mode(*mode)),

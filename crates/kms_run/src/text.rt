@@ -1,9 +1,9 @@
 //! The lines of a report.
 ghost use Rattle.std.specs.Prelude.{◌≡◌, ◌++◌, ◌∷◌, [], codes, ℕ, List, IfOk, OnOk, string_bytes, length};
 ghost use Rattle.std.specs.Fmt.{decimal};
-ghost use Rattle.kms_model.specs.Flat.{errno_of, line, reply_words, digest_of};
+ghost use Rattle.kms_model.specs.Flat.{errno_of, line, object_name, reply_words, digest_of};
 
-use kms_model::Reply;
+use kms_model::{Event, Reply};
 use sha2::{Digest, Sha256};
 use std::alloc::{AllocError, Global};
 
@@ -33,6 +33,37 @@ fn push_refusal(text: &mut String, number: u32) -> Result<(), AllocError>
     writeln!(text, "{errno} {number}")
 }
 
+fn push_object(text: &mut String, id: u32) -> Result<(), AllocError>
+    ensures { OnOk result (string_bytes text.new ≡ string_bytes text.old ++ object_name id) }
+{
+    if id < 200 {
+        write!(text, "crtc{}", id.saturating_sub(100))
+    } else if id < 300 {
+        write!(text, "plane{}", id - 200)
+    } else if id < 400 {
+        write!(text, "conn{}", id - 300)
+    } else {
+        write!(text, "enc{}", id - 400)
+    }
+}
+
+fn push_busy(text: &mut String, object: u32, commit: u32) -> Result<(), AllocError>
+    ensures { OnOk result (string_bytes text.new ≡ string_bytes text.old ++ line (codes "EBUSY" ∷ codes "26" ∷ object_name object ∷ decimal commit ∷ [])) }
+{
+    text.push_str("EBUSY 26 ")?;
+    push_object(text, object)?;
+    writeln!(text, " {commit}")
+}
+
+fn push_event(text: &mut String, event: &Event) -> Result<(), AllocError>
+    ensures { OnOk result (string_bytes text.new ≡ string_bytes text.old ++ line (codes "event" ∷ decimal event.now.user_data ∷ decimal event.now.sequence ∷ decimal event.now.crtc ∷ [])) }
+{
+    let user_data = event.user_data;
+    let sequence = event.sequence;
+    let crtc = event.crtc;
+    writeln!(text, "event {user_data} {sequence} {crtc}")
+}
+
 fn push_reply_words(text: &mut String, reply: &Reply) -> Result<(), AllocError>
     ensures { OnOk result (string_bytes text.new ≡ string_bytes text.old ++ line (reply_words reply.now)) }
 {
@@ -40,9 +71,13 @@ fn push_reply_words(text: &mut String, reply: &Reply) -> Result<(), AllocError>
         Reply::Made { id } => writeln!(text, "made {}", *id),
         Reply::Done => text.push_str("done\n"),
         Reply::Commit { commit } => writeln!(text, "commit {}", *commit),
+        Reply::Tested => text.push_str("tested\n"),
         Reply::Refused(number) => push_refusal(text, number.0),
+        Reply::Space { used } => writeln!(text, "ENOMEM events 25 {}", *used),
+        Reply::Busy { object, commit } => push_busy(text, object.0, *commit),
         Reply::Denied(number) => push_refusal(text, *number),
-        _ => text.push_str("none\n"),
+        Reply::Event(event) => push_event(text, event),
+        Reply::NoEvent => text.push_str("none\n"),
     }
 }
 

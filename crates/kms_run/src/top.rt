@@ -3,7 +3,8 @@ ghost use Rattle.std.specs.Prelude.{◌≡◌, ◌↔◌, ◌<◌, ◌≤◌, �
 ghost use Rattle.kms_io.specs.Causes.{Rose};
 ghost use Rattle.kms_io.specs.Bytes.{Moved};
 ghost use Rattle.kms_run.specs.Words.{IsLegal};
-ghost use Rattle.kms_run.specs.Outcome.{Meets};
+ghost use Rattle.kms_model.specs.declared.scripts.Why.{Why};
+ghost use Rattle.kms_run.specs.Outcome.{IsBuilt, IsSilent, Meets, MovesNothing, TellsFault, WritesFront, WritesNothing, WritesReport};
 
 use crate::answers::answer;
 use crate::status::Status;
@@ -18,22 +19,14 @@ use std::thread::Threads;
 /// The most bytes that an input may have: 64 MiB.
 const LIMIT: usize = 67_108_864;
 
-/// All that the program does for words that are no legal words of `run` (so far, for all words). It waits for
-/// nobody. `rt` is for threads that only compute; there are none yet.
-///
-/// The words are tried first, then the input is read to its end (or to one byte more than it may have), then the
-/// script is read and executed, and only then is the report written.
-pub fn kms_plain<R: Threads, S: Source, K: Sink>(
-    _rt: &R,
+/// What `kms_plain` does, with all that it promises of the bytes in one clause by the status.
+fn answered<S: Source, K: Sink>(
     alloc: Global,
     words: &[String],
     source: &mut S,
     sink: &mut K,
 ) -> Status
-    // What is read and written, by the status.
     ensures moved { Moved (S.left source.old) (S.left source.new) (K.written sink.old) (K.written sink.new) (Meets result (S.left source.new)) }
-
-    // When the statuses come that the bytes do not determine.
     ensures usage { (result ≡ Status.Usage) ↔ (IsLegal (map string_bytes words.now) → ⊥) }
     ensures read_fault { result ≡ Status.ReadFault → Rose (S.faults source.old) (S.faults source.new) }
     ensures write_fault { result ≡ Status.WriteFault → Rose (K.faults sink.old) (K.faults sink.new) }
@@ -57,6 +50,38 @@ pub fn kms_plain<R: Threads, S: Source, K: Sink>(
     }
 }
 
+/// All that the program does for words that are no legal words of `run` (so far, for all words). It waits for
+/// nobody. `rt` is for threads that only compute; there are none yet.
+///
+/// The words are tried first, then the input is read to its end (or to one byte more than it may have), then the
+/// script is read and executed, and only then is the report written.
+pub fn kms_plain<R: Threads, S: Source, K: Sink>(
+    _rt: &R,
+    alloc: Global,
+    words: &[String],
+    source: &mut S,
+    sink: &mut K,
+) -> Status
+    // The whole input was read, and what was written is the report of the script that it spells, or a front of it.
+    ensures ok { result ≡ Status.Ok → Moved (S.left source.old) (S.left source.new) (K.written sink.old) (K.written sink.new) (WritesReport (S.left source.new)) }
+    ensures cut { result ≡ Status.WriteFault → Moved (S.left source.old) (S.left source.new) (K.written sink.old) (K.written sink.new) (WritesFront (S.left source.new)) }
+
+    // A fault is the whole input's first, and then nothing was written.
+    ensures script { (line : ℕ) (why : Why) → result ≡ Status.Script line why → Moved (S.left source.old) (S.left source.new) (K.written sink.old) (K.written sink.new) (TellsFault (S.left source.new) line why) }
+
+    // Otherwise nothing was written, and without legal words nothing was read.
+    ensures read_only { IsSilent result → Moved (S.left source.old) (S.left source.new) (K.written sink.old) (K.written sink.new) WritesNothing }
+    ensures untouched { result ≡ Status.Usage → Moved (S.left source.old) (S.left source.new) (K.written sink.old) (K.written sink.new) MovesNothing }
+
+    // When the statuses come that the bytes do not determine. No other status comes, but want of memory.
+    ensures usage { (result ≡ Status.Usage) ↔ (IsLegal (map string_bytes words.now) → ⊥) }
+    ensures read_fault { result ≡ Status.ReadFault → Rose (S.faults source.old) (S.faults source.new) }
+    ensures write_fault { result ≡ Status.WriteFault → Rose (K.faults sink.old) (K.faults sink.new) }
+    ensures no_other { IsBuilt result }
+{
+    answered(alloc, words, source, sink)
+}
+
 /// All that the program does. For legal words of `run` it will make the run itself, with threads that wait for
 /// one another and with the gate; there are none yet.
 pub fn kms_main<R: Threads + Wait, S: Source, K: Sink, G: Gate + Sync>(
@@ -67,13 +92,22 @@ pub fn kms_main<R: Threads + Wait, S: Source, K: Sink, G: Gate + Sync>(
     sink: &mut K,
     _gate: &G,
 ) -> Status
-    // What is read and written, by the status.
-    ensures moved { Moved (S.left source.old) (S.left source.new) (K.written sink.old) (K.written sink.new) (Meets result (S.left source.new)) }
+    // The whole input was read, and what was written is the report of the script that it spells, or a front of it.
+    ensures ok { result ≡ Status.Ok → Moved (S.left source.old) (S.left source.new) (K.written sink.old) (K.written sink.new) (WritesReport (S.left source.new)) }
+    ensures cut { result ≡ Status.WriteFault → Moved (S.left source.old) (S.left source.new) (K.written sink.old) (K.written sink.new) (WritesFront (S.left source.new)) }
 
-    // When the statuses come that the bytes do not determine.
+    // A fault is the whole input's first, and then nothing was written.
+    ensures script { (line : ℕ) (why : Why) → result ≡ Status.Script line why → Moved (S.left source.old) (S.left source.new) (K.written sink.old) (K.written sink.new) (TellsFault (S.left source.new) line why) }
+
+    // Otherwise nothing was written, and without legal words nothing was read.
+    ensures read_only { IsSilent result → Moved (S.left source.old) (S.left source.new) (K.written sink.old) (K.written sink.new) WritesNothing }
+    ensures untouched { result ≡ Status.Usage → Moved (S.left source.old) (S.left source.new) (K.written sink.old) (K.written sink.new) MovesNothing }
+
+    // When the statuses come that the bytes do not determine. No other status comes, but want of memory.
     ensures usage { (result ≡ Status.Usage) ↔ (IsLegal (map string_bytes words.now) → ⊥) }
     ensures read_fault { result ≡ Status.ReadFault → Rose (S.faults source.old) (S.faults source.new) }
     ensures write_fault { result ≡ Status.WriteFault → Rose (K.faults sink.old) (K.faults sink.new) }
+    ensures no_other { IsBuilt result }
 {
     kms_plain(rt, alloc, words, source, sink)
 }
