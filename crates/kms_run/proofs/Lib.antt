@@ -4,3 +4,4 @@ pub mod Rows
 pub mod Goes
 pub mod FlatOne
 pub mod Outcomes
+pub mod Numbered

@@ -1,5 +1,5 @@
 -- A private device between two commands.
-use Rattle.std.specs.Prelude.{◌≡◌, ℕ, ◌+◌, ◌<◌, ◌≤◌, ◌^◌, List, ⊤}
+use Rattle.std.specs.Prelude.{◌≡◌, ℕ, ◌+◌, ◌<◌, ◌≤◌, ◌^◌, List, length, ⊤}
 use Rattle.kms_model.specs.declared.replies.Reply.{Reply}
 use Rattle.kms_model.specs.declared.replies.Reply.TheVariants.{Commit}
 use Rattle.kms_model.specs.declared.scripts.Command.{Command}
@@ -8,7 +8,7 @@ use Rattle.kms_model.specs.declared.worlds.Setting.{Setting}
 use Rattle.kms_model.specs.declared.worlds.World.{World}
 use Rattle.kms_model.specs.Apply.{apply}
 use Rattle.kms_run.specs.Values.{AllWithin}
-use Rattle.kms_run.specs.Solids.{AllSolid}
+use Rattle.kms_run.specs.Solids.{AreStored}
 
 -- there is room for one thing and one commit more
 pub record HasRoom (w : World) : Type 0 where
@@ -20,7 +20,8 @@ pub record Grows (old new : World) : Type 0 where
   pub ids : new.next_id ≤ old.next_id + 1
   pub commits : new.commits ≤ old.commits + 1
 
--- the numbers are those of properties, and buffers have one colour
+-- The numbers are those of properties, buffers have one colour, and the next thing gets the next id.
 pub record IsPlain (w : World) : Type 0 where
   pub within : AllWithin w.values
-  pub solid : AllSolid w.things
+  pub stored : AreStored w.things
+  pub next : w.next_id ≡ 1000 + length w.things

@@ -1,5 +1,5 @@
--- Buffers of one colour: those that a script of the narrow form makes.
-use Rattle.std.specs.Prelude.{List, All, ⊤}
+-- The things of a script of the narrow form: buffers of one colour, numbered in the order in which they were made.
+use Rattle.std.specs.Prelude.{◌≡◌, ℕ, ◌+◌, List, [], ◌∷◌, All, ⊤}
 use Rattle.kms_model.specs.declared.worlds.Content.{Content}
 use Rattle.kms_model.specs.declared.worlds.Content.TheVariants.{Buffer, Framebuffer, Mode, Blob, Fence}
 use Rattle.kms_model.specs.declared.worlds.Thing.{Thing}
@@ -13,5 +13,12 @@ IsSolidContent (Mode m) = ⊤
 IsSolidContent (Blob bytes) = ⊤
 IsSolidContent Fence = ⊤
 
-abbrev pub AllSolid : List Thing → Type 0
-AllSolid things = All (λ t. IsSolidContent t.content) things
+-- the ids go up by one, from n on
+abbrev pub AreNumbered : ℕ → List Thing → Type 0
+AreNumbered n [] = ⊤
+AreNumbered n (t ∷ ts) = (t.id ≡ n) × AreNumbered (n + 1) ts
+
+-- so a thing is found by its id at once, and a word of a buffer is the same at each place
+pub record AreStored (things : List Thing) : Type 0 where
+  pub solid : All (λ t. IsSolidContent t.content) things
+  pub numbered : AreNumbered 1000 things

@@ -5,7 +5,7 @@ ghost use Rattle.kms_model.specs.World.{thing_labelled};
 ghost use Rattle.kms_model.specs.Serial.{buffer_info, buffer_of, make, make_unless, is_side, buffer_refusal, answer, commit, add_fb, execute};
 ghost use Rattle.kms_model.specs.Verdict.{is_test, verdict};
 ghost use Rattle.kms_run.specs.Values.{AllWithin};
-ghost use Rattle.kms_run.specs.Solids.{IsSolidContent, AllSolid};
+ghost use Rattle.kms_run.specs.Solids.{IsSolidContent, AreStored};
 ghost use Rattle.kms_run.specs.Ready.{HasRoom, Grows, IsPlain};
 ghost use Rattle.kms_run.specs.Buffers.{in_model};
 

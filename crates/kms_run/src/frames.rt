@@ -3,7 +3,7 @@ ghost use Rattle.std.specs.Prelude.{◌≡◌, ◌<◌, ◌≤◌, ◌+◌, ◌^
 ghost use Rattle.std.specs.List.{flat_map, range_with_len};
 ghost use Rattle.kms_model.specs.declared.pictures.Picture.TheVariants.{On};
 ghost use Rattle.kms_model.specs.Frames.{five_bits, six_bits, colour_of, numerator, blended, covers, is_covered, buffer_in, pattern_word, word_of, layer_colour, mixed, composed, black, channels, pixel, row_bytes, frame_bytes};
-ghost use Rattle.kms_run.specs.Solids.{IsSolidContent, AllSolid};
+ghost use Rattle.kms_run.specs.Solids.{IsSolidContent, AreStored};
 
 use crate::values::thing_with_id;
 use kms_model::{Colour, Content, Format, Layer, Pattern, Picture, Rect, Shown, Thing};
@@ -125,7 +125,7 @@ fn solid_word(content: &Content) -> Option<u32>
 }
 
 fn word_of(things: &[Thing], fb: u32) -> Option<u32>
-    requires { AllSolid things.now }
+    requires { AreStored things.now }
     ensures { (x y : ℕ) → result ≡ word_of things.now fb x y }
 {
     let f = thing_with_id(things, fb)?;
@@ -135,7 +135,7 @@ fn word_of(things: &[Thing], fb: u32) -> Option<u32>
 }
 
 fn layer_colour(things: &[Thing], x: u32, y: u32, layer: &Layer) -> Option<Colour>
-    requires { AllSolid things.now }
+    requires { AreStored things.now }
     ensures { result ≡ layer_colour things.now x y layer.now }
 {
     if !is_covered(layer.visible, x, y) {
@@ -160,7 +160,7 @@ fn mixed(layer: &Layer, under: Colour, over: Option<Colour>) -> Colour
 }
 
 fn composed(things: &[Thing], x: u32, y: u32, layers: &[Layer]) -> Colour
-    requires { AllSolid things.now }
+    requires { AreStored things.now }
     ensures { result ≡ composed things.now x y black layers.now }
 {
     let mut under = BLACK;
@@ -176,7 +176,7 @@ fn push_row(
     shown: &Shown,
     y: u32,
 ) -> Result<(), AllocError>
-    requires { AllSolid things.now }
+    requires { AreStored things.now }
     ensures { OnOk result (out.new.items ≡ out.old.items ++ row_bytes things.now shown.now y) }
 {
     for x in 0..u32::from(shown.mode.hdisplay) {
@@ -187,7 +187,7 @@ fn push_row(
 }
 
 fn shown_bytes(alloc: Global, things: &[Thing], shown: &Shown) -> Result<Vec<u8>, AllocError>
-    requires { AllSolid things.now }
+    requires { AreStored things.now }
     ensures { IfOk result (λ v. v.items ≡ frame_bytes things.now (On shown.now)) }
 {
     let mut out = Vec::new(alloc);
@@ -203,7 +203,7 @@ pub fn frame_bytes(
     things: &[Thing],
     picture: &Picture,
 ) -> Result<Vec<u8>, AllocError>
-    requires { AllSolid things.now }
+    requires { AreStored things.now }
     ensures { IfOk result (λ v. v.items ≡ frame_bytes things.now picture.now) }
 {
     match picture {

@@ -4,6 +4,7 @@ ghost use Rattle.kms_model.specs.Fit.{IsWithin, IsSmallValue, IsSmall};
 ghost use Rattle.kms_model.specs.Objects.{first_id, object_id};
 ghost use Rattle.kms_model.specs.World.{is_of, value, setting, put, thing_labelled, thing_with_id, thing_numbered};
 ghost use Rattle.kms_model.specs.Apply.{id_in, number_of, prop_of, is_kept, object_of, assign, apply};
+ghost use Rattle.kms_run.specs.Solids.{IsSolidContent, AreStored};
 ghost use Rattle.kms_run.specs.Values.{AllWithin};
 
 use kms_model::properties::{IN_FENCE_FD, OUT_FENCE_PTR};
@@ -67,10 +68,14 @@ pub fn thing_labelled(things: &[Thing], label: u32) -> Option<&Thing>
 
 /// The thing with an id.
 pub fn thing_with_id(things: &[Thing], id: u32) -> Option<&Thing>
+    requires { AreStored things.now }
     ensures value { option_copied result ≡ thing_with_id things.now id }
-    ensures member { IfSome result (λ t. Contains things.now t.now) }
+    ensures solid { IfSome result (λ t. IsSolidContent t.now.content) }
 {
-    things.iter().find(|t| t.id == id)
+    if id < 1000 {
+        return None;
+    }
+    things.get((id - 1000) as usize)
 }
 
 /// The thing whose id is the value of a property.
