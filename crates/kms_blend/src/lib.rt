@@ -1,8 +1,8 @@
 //! Blending of a layer's channels with those below them.
 //!
 //! Nothing here takes memory, fails or uses floating point. All of it is done in 32 bits, with no wide
-//! multiplication and no division, and the blend mode is chosen once for a row: so a compiler can work on
-//! many places of a row at once.
+//! multiplication and no division, and the blend mode is chosen once for a row: this is meant to let a
+//! compiler work on many places of a row at once.
 #![tactic(auto)]
 
 ghost use Rattle.std.specs.Prelude.{◌≡◌, ◌≤◌, length, slice_index, EachIndex};
@@ -13,9 +13,10 @@ mod quotients;
 
 use modes::{BlendMode, Coverage, PlaneAlphaOnly, Premultiplied};
 
-/// The channel that shows where a layer lies over a lower one, from 0 to 255: the nearest number, and 255
-/// where that would be more. (Kernel: "Plane Composition Properties". The rounding and the upper bound are
-/// this device's own.)
+/// The channel that shows where a layer lies over a lower one, from 0 to 255: the nearest number to n /
+/// 16711425, and 255 where that would be more. n is a * 255 * f + (16711425 - a * q) * b in Pre-multiplied,
+/// a * q * f + (16711425 - a * q) * b in Coverage, and a * 255 * f + (16711425 - a * 255) * b in None.
+/// (Kernel: "Plane Composition Properties". The rounding and the upper bound are this device's own.)
 ///
 /// `mode` is the blend mode: 0 Pre-multiplied, 1 Coverage, 2 None. `a` is the plane's alpha, from 0 to
 /// 65535; `q` is the pixel's alpha, `f` the layer's channel and `b` the lower one, each from 0 to 255.

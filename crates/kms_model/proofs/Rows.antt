@@ -1,7 +1,7 @@
 -- Worked examples of the definitions, computed: what the scripts spell and what their reports are.
 use Rattle.std.proofs.Common.{◌≡◌, ℕ, List, [], ◌∷◌, ◌++◌, refl, codes, pos, Option, Some, None, replicate, Ok, Err, Result}
 use Rattle.kms_model.specs.declared.objects.Kind.TheVariants as kind
-use Rattle.kms_model.specs.declared.objects.Format.TheVariants.{Xr24}
+use Rattle.kms_model.specs.declared.objects.Format.TheVariants.{Xr24, Rg16}
 use Rattle.kms_model.specs.declared.objects.Mode.{Mode}
 use Rattle.kms_model.specs.declared.properties.TheConstants.{FB_ID, CRTC_ID, CRTC_W, CRTC_H, SRC_W, SRC_H, ACTIVE, MODE_ID}
 use Rattle.kms_model.specs.declared.scripts.Assign.{Assign}
@@ -14,6 +14,8 @@ use Rattle.kms_model.specs.declared.scripts.Value.TheVariants as value
 use Rattle.kms_model.specs.declared.scripts.Why.TheVariants.{Limit, Unbuilt}
 use Rattle.kms_model.specs.Input.{Fault, device, input}
 use Rattle.kms_model.specs.Flat.{flat}
+use Rattle.kms_model.specs.Frames.{colour_of}
+use Rattle.kms_model.specs.Serial.{buffer_refusal}
 use Rattle.kms_model.proofs.OnLiterals.{on_literals, on_texts}
 
 abbrev tiny : Mode
@@ -119,3 +121,23 @@ second_spelling_is_unbuilt = refl
 pub empty_client_is_read : input (head ++ codes "client\n") ≡ Ok (record { version = 1; topology = device; names = []; clients = [] ∷ [] })
 unfolding on_texts
 empty_client_is_read = refl
+
+-- five and six bits of a channel of RG16
+pub channels_of_rg16 : colour_of Rg16 0x0821 ≡ record { alpha = 255; red = 8; green = 4; blue = 8 }
+channels_of_rg16 = refl
+
+-- the brightest red of RG16
+pub red_of_rg16 : colour_of Rg16 0xf800 ≡ record { alpha = 255; red = 255; green = 0; blue = 0 }
+red_of_rg16 = refl
+
+-- a buffer without width
+pub no_width_is_refused : buffer_refusal 0 1 ≡ Some 31
+no_width_is_refused = refl
+
+-- the widest and highest buffer
+pub widest_buffer_is_made : buffer_refusal 4096 4096 ≡ None
+widest_buffer_is_made = refl
+
+-- a buffer that is too high
+pub too_high_is_refused : buffer_refusal 1 4097 ≡ Some 31
+too_high_is_refused = refl

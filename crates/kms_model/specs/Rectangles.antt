@@ -14,7 +14,7 @@ abbrev pub HasPixelIfAny : Option Rect → ℤ → ℤ → Type 0
 HasPixelIfAny None x y = ⊥
 HasPixelIfAny (Some r) x y = HasPixel r x y
 
--- a number between -4294967295 and 4294967295, as every edge and every size that a property can have
+-- a number between -4294967295 and 4294967295, as every place and every size that a property can have
 pub record IsNear (z : ℤ) : Type 0 where
   pub low : neg_ℤ (pos 4294967295) ≤ℤ z
   pub high : z ≤ℤ pos 4294967295

@@ -3,4 +3,3 @@ pub mod Kept
 pub mod Meanings
 pub mod Sound
 pub mod Cycles
-pub mod LongRun

@@ -2,4 +2,3 @@ pub mod Objects
 pub mod Table
 pub mod Calls
 pub mod Waits
-pub mod LongRun

@@ -16,9 +16,15 @@ pub enum Lock {
     /// The context holds it already.
     Own,
     /// An older context holds it, and this one has to back off.
-    Older { holder: Ticket },
+    Older {
+        /// The ticket of the context that holds it, a lower number than the asker's.
+        holder: Ticket,
+    },
     /// A younger context holds it, and this one may ask again later.
-    Younger { holder: Ticket },
+    Younger {
+        /// The ticket of the context that holds it, a higher number than the asker's.
+        holder: Ticket,
+    },
 }
 
 /// What `LockTable::relock` answers.
@@ -27,7 +33,10 @@ pub enum Relock {
     /// The object was free. The context holds it now and may take locks.
     Got,
     /// Another context holds it, and this one may ask again later.
-    Held { holder: Ticket },
+    Held {
+        /// The ticket of the context that holds it.
+        holder: Ticket,
+    },
 }
 
 /// Who holds the modeset lock of each object, and the contexts that have begun and are not over. The cost of
@@ -88,7 +97,8 @@ impl LockTable {
     }
 
     /// Asks for an object. The context has begun and is not over, and neither has to back off nor has backed
-    /// off without a `relock` that answered `Got` since. The object is a CRTC, a plane or a connector.
+    /// off without a `relock` that answered `Got` since. The object is a CRTC (100 to 103), a plane (200 to 215)
+    /// or a connector (300 to 307).
     ///
     /// `Got` comes exactly where the object is free; the context then holds it. `Own`, `Older` and `Younger`
     /// come exactly where this, an older or a younger context holds it. After `Older` the context has to back
@@ -161,8 +171,8 @@ impl LockTable {
         free_all(&mut self.holders, t)
     }
 
-    /// The context that holds an object, none exactly where it is free. The object is a CRTC, a plane or a
-    /// connector.
+    /// The context that holds an object, none exactly where it is free. The object is a CRTC (100 to 103), a
+    /// plane (200 to 215) or a connector (300 to 307).
     pub fn holder(&self, id: ObjId) -> Option<Ticket>
         requires { IsLockable id }
         ensures { result ≡ holder_of self.now id }
