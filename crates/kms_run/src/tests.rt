@@ -164,6 +164,8 @@ fn other_words_read_nothing(rt: HostRuntime) -> Result<(), Fail> {
     assert!(rt; refuses(&rt, alloc, &["one", "one"])?);
     assert!(rt; refuses(&rt, alloc, &["One"])?);
     assert!(rt; refuses(&rt, alloc, &["ones"])?);
+    assert!(rt; refuses(&rt, alloc, &["--help"])?);
+    assert!(rt; refuses(&rt, alloc, &["--version"])?);
     Ok(())
 }
 
