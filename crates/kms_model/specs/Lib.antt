@@ -17,3 +17,4 @@ pub mod Serial
 pub mod Flat
 pub mod Fit
 pub mod Headline
+pub mod Properties
