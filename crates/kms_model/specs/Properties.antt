@@ -1,6 +1,6 @@
 -- The tables of properties, formats and flags, and which devices there are. From: "KMS Properties", `drm_mode.h` and
 -- `drm_fourcc.h`; the ids of properties and the limits of a device are this project's own.
-use Rattle.std.specs.Prelude.{◌≡◌, ℕ, ◌^◌, Bool, true, false, ◌&&◌, ◌==◌, bit_and, bit_or, nat_lt, ℤ, pos, negsuc, List, [], ◌∷◌, length, find, fold, map, Option, Some, None, is_some, option_map, codes}
+use Rattle.std.specs.Prelude.{ℕ, ◌^◌, Bool, true, false, ◌&&◌, ◌==◌, bit_and, nat_lt, pos, negsuc, List, [], ◌∷◌, length, find, Option, is_some, option_map, codes}
 use Rattle.std.specs.List.{list_any, list_all}
 use Rattle.std.specs.Str.{bytes_eq}
 use Rattle.kms_model.specs.declared.objects.Format.{Format}

@@ -7,8 +7,8 @@ pub struct Table<R, const N: usize> {
     pub rows: [R; N],
 }
 
-/// Reads a table in the body of a look-up: matches its rows in order, and answers `Some` of the value at the first
-/// row that fits, or `None`. The row is a reference in the test and in the value.
+/// Reads a table as the body of a look-up: matches its rows in order, and returns `Some` of the value at the first
+/// row that fits, or else is `None`. In the test and in the value the row is a reference.
 macro_rules! first_row {
     ($table:expr, $row:ident if $fits:expr => $value:expr) => {{
         let table = $table;
