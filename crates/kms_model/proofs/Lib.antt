@@ -1,4 +1,5 @@
 pub mod InPlace
 pub mod OnLiterals
+pub mod PropertyTable
 pub mod Rows
 pub mod RunIsSerial

@@ -18,3 +18,4 @@ pub mod Flat
 pub mod Fit
 pub mod Headline
 pub mod Rectangles
+pub mod Properties

@@ -1,0 +1,8 @@
+use Rattle.std.proofs.Common.{◌≡◌, drop, map, find}
+use Rattle.kms_model.specs.Properties.{has_id, properties}
+use Rattle.kms_props.specs.Rows.{property_of}
+use Rattle.kms_props.proofs.properties.row_of.Given as goal
+
+-- the first row of those left is the first of all
+abbrev pub invariant-loop-row : goal.invariant-loop-row
+invariant-loop-row l = find (has_id l.prop) (map property_of (drop l.row-index l.row-items)) ≡ find (has_id l.prop) properties

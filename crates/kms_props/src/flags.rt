@@ -1,0 +1,56 @@
+//! The flags of an atomic request. (Header: `drm_mode.h`.)
+ghost use Rattle.std.specs.Prelude.{⊤, ◌≡◌, option_map};
+ghost use Rattle.kms_model.specs.Firsts.{number_if};
+ghost use Rattle.kms_model.specs.Properties.{are_flags};
+ghost use Rattle.kms_model.specs.Properties.{flags as flag_rows};
+ghost use Rattle.kms_props.specs.Flags.{bits_of};
+
+use bitflags::{Flag, Flags, bitflag_items};
+
+/// The flags of an atomic request. Contracts see their bits, `bits_of`.
+#[derive(Clone, Copy, Debug, PartialEq, Eq)]
+pub struct AtomicFlags(u32);
+
+bitflag_items! {
+    impl AtomicFlags: u32 {
+        /// `DRM_MODE_PAGE_FLIP_EVENT`: an event for each CRTC that the request names.
+        const PAGE_FLIP_EVENT = 0x1;
+        /// `DRM_MODE_PAGE_FLIP_ASYNC`: this device refuses it.
+        const PAGE_FLIP_ASYNC = 0x2;
+        /// `DRM_MODE_ATOMIC_TEST_ONLY`: check and change nothing.
+        const TEST_ONLY = 0x100;
+        /// `DRM_MODE_ATOMIC_NONBLOCK`: do not wait for the commit.
+        const NONBLOCK = 0x200;
+        /// `DRM_MODE_ATOMIC_ALLOW_MODESET`: the commit may be a modeset.
+        const ALLOW_MODESET = 0x400;
+    }
+}
+
+impl Flags for AtomicFlags {
+    type Bits = u32;
+
+    ghost exact = { ⊤ };
+
+    ghost table = { flag_rows };
+
+    ghost set_of = { bits_of };
+
+    fn flags<'a>() -> &'a [Flag<AtomicFlags>] {
+        AtomicFlags::FLAGS
+    }
+
+    fn bits(&self) -> u32 {
+        self.0
+    }
+
+    fn from_bits_retain(bits: u32) -> AtomicFlags {
+        AtomicFlags(bits)
+    }
+}
+
+/// The flags with these bits; `None` where a bit outside 0x703 is set.
+pub fn from_bits(flags: u32) -> Option<AtomicFlags>
+    ensures { option_map bits_of result ≡ number_if flags (are_flags flags) }
+{
+    AtomicFlags::from_bits(flags)
+}

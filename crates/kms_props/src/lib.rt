@@ -1,0 +1,20 @@
+//! The tables of properties, formats and flags, and the test of a device.
+//!
+//! Each table is a `Table` value, proved equal to its definition, and is read by `first_row!` in the bodies of the
+//! look-ups. Names, codes and bits are those of the kernel's headers `drm_mode.h` and `drm_fourcc.h`; the ids of
+//! properties are this device's own. No call takes memory.
+#![tactic(auto)]
+
+mod devices;
+mod flags;
+mod formats;
+mod properties;
+mod table;
+#[cfg(test)]
+mod tests;
+
+pub use devices::check_topology;
+pub use flags::{AtomicFlags, from_bits};
+pub use formats::{FormatRow, format_table, fourcc};
+pub use properties::{PropertyRow, is_immutable, lookup, name, property_table, range};
+pub use table::Table;
