@@ -18,3 +18,6 @@ pub mod Flat
 pub mod Fit
 pub mod Headline
 pub mod Rectangles
+pub mod Tables
+pub mod ModeBytes
+pub mod Stores

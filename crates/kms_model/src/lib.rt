@@ -14,6 +14,8 @@ pub mod properties;
 mod replies;
 mod scripts;
 mod states;
+mod stores;
+mod tables;
 mod worlds;
 
 pub use copying::{Duplicate, NoMemory};
@@ -25,4 +27,6 @@ pub use pictures::{Colour, FbInfo, Layer, Picture, Rect, Shown};
 pub use replies::{Answered, Denied, Event, Refusal, Reply, Step};
 pub use scripts::{Assign, Command, Pattern, PropRef, Request, Script, Value, Why};
 pub use states::{ConnState, CrtcState, ObjState, PlaneState};
+pub use stores::{BadMode, Blob, Buffer, Framebuffer, Image};
+pub use tables::{Slot, Table};
 pub use worlds::{Content, Look, Setting, Thing, World};
