@@ -173,3 +173,17 @@ is_last_of (Some fb) = is_last fb
 -- What is in the store has a reference, at least that of being open.
 abbrev pub AreCounted : List (Slot Framebuffer) → Type 0
 AreCounted fbs = AllByRecursion (λ s. 0 < s.value.references) fbs
+
+-- what others read of a buffer
+pub record Seen : Type 0 where
+  pub width : ℕ
+  pub height : ℕ
+  pub format : Format
+  pub words : List ℕ
+
+abbrev pub seen : Buffer → Seen
+seen b = record { width = b.width; height = b.height; format = b.format; words = b.words }
+
+-- what others read of the buffer with an id
+abbrev pub seen_with_id : List (Slot Buffer) → ℕ → Option Seen
+seen_with_id buffers id = option_map seen (value_with_id buffers id)
