@@ -3,3 +3,4 @@ pub mod OnLiterals
 pub mod PropertyTable
 pub mod Rows
 pub mod RunIsSerial
+pub mod TableLemmas

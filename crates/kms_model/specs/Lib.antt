@@ -19,3 +19,6 @@ pub mod Fit
 pub mod Headline
 pub mod Rectangles
 pub mod Properties
+pub mod Tables
+pub mod ModeBytes
+pub mod Stores

@@ -15,6 +15,8 @@ mod ranges;
 mod replies;
 mod scripts;
 mod states;
+mod stores;
+mod tables;
 mod worlds;
 
 pub use copying::{Duplicate, NoMemory};
@@ -27,4 +29,6 @@ pub use ranges::Range;
 pub use replies::{Answered, Denied, Event, Refusal, Reply, Step};
 pub use scripts::{Assign, Command, Pattern, PropRef, Request, Script, Value, Why};
 pub use states::{ConnState, CrtcState, ObjState, PlaneState};
+pub use stores::{BadMode, Blob, Buffer, Framebuffer, Image};
+pub use tables::{Slot, Table};
 pub use worlds::{Content, Look, Setting, Thing, World};

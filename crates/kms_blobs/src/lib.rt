@@ -1,0 +1,16 @@
+//! Blobs, and the modes that their bytes hold.
+//!
+//! A `BlobStore` keeps the bytes of each open blob under its id, for the client that made it. A mode travels as
+//! the 68 bytes of `struct drm_mode_modeinfo`: `decode_mode` reads a legal mode from them, and `encode_mode`
+//! writes a mode.
+#![tactic(auto)]
+
+mod modes;
+mod store;
+
+pub use kms_model::BadMode;
+pub use modes::{MODE_BYTES, decode_mode, encode_mode};
+pub use store::BlobStore;
+
+#[cfg(test)]
+mod tests;

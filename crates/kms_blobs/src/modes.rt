@@ -1,0 +1,176 @@
+//! The bytes of a mode.
+ghost use Rattle.std.specs.Prelude.{◌≡◌, ◌+◌, ◌≤◌, ◌++◌, length, IfOk, IsTrue, Ok, take, drop, slice_range};
+ghost use Rattle.kms_model.specs.Modes.{is_axis, is_legal_mode};
+ghost use Rattle.kms_model.specs.ModeBytes.{mode_bytes, mode_in, half_at, word_at, if_legal, decoded};
+ghost use Rattle.kms_blobs.specs.Ranges.{FitsTypes, FitsFront, FitsMiddle, FitsBack};
+
+use kms_model::{BadMode, Mode};
+
+/// How many bytes a mode has. (Header: `drm_mode.h`, `struct drm_mode_modeinfo`.)
+pub const MODE_BYTES: usize = 68;
+
+/// The largest side of a mode, in pixels.
+const LARGEST_SIDE: u16 = 4096;
+
+/// Reads a legal mode. Refused, with the first cause that holds: `Length` where the bytes are not 68,
+/// `Horizontal` or `Vertical` where that axis is not in order, `Clock` where the clock is 0, `Size` where a side
+/// is above 4096 pixels. (Header: `drm_mode.h`, `struct drm_mode_modeinfo`; kernel:
+/// `drm_mode_validate_basic`.)
+pub fn decode_mode(bytes: &[u8]) -> Result<Mode, BadMode>
+    ensures decoded { result ≡ decoded bytes.now }
+    ensures legal { IfOk result (λ m. IsTrue (is_legal_mode m)) }
+    ensures written_back { IfOk result (λ m. mode_bytes m ≡ bytes.now) }
+{
+    if bytes.len() != MODE_BYTES {
+        return Err(BadMode::Length);
+    }
+    legal(mode_of(bytes))
+}
+
+// The mode where it is legal, else the first cause that it is not.
+fn legal(mode: Mode) -> Result<Mode, BadMode>
+    ensures first { result ≡ if_legal mode }
+    ensures legal { IfOk result (λ m. IsTrue (is_legal_mode m)) }
+{
+    if !is_in_order(mode.hdisplay, mode.hsync_start, mode.hsync_end, mode.htotal) {
+        return Err(BadMode::Horizontal);
+    }
+    if !is_in_order(mode.vdisplay, mode.vsync_start, mode.vsync_end, mode.vtotal) {
+        return Err(BadMode::Vertical);
+    }
+    if mode.clock == 0 {
+        return Err(BadMode::Clock);
+    }
+    if mode.hdisplay > LARGEST_SIDE || mode.vdisplay > LARGEST_SIDE {
+        return Err(BadMode::Size);
+    }
+    Ok(mode)
+}
+
+// Whether an axis is in order.
+fn is_in_order(display: u16, start: u16, end: u16, total: u16) -> bool
+    ensures { result ≡ is_axis display start end total }
+{
+    0 < display && display <= start && start <= end && end <= total
+}
+
+// The mode, legal or not, that 68 bytes hold.
+fn mode_of(bytes: &[u8]) -> Mode
+    requires { length bytes.now ≡ 68 }
+    ensures { result ≡ mode_in bytes.now }
+{
+    let mut name = [0; 32];
+    name.copy_from_slice(&bytes[36..68]);
+    Mode {
+        clock: word(bytes, 0),
+        hdisplay: half(bytes, 4),
+        hsync_start: half(bytes, 6),
+        hsync_end: half(bytes, 8),
+        htotal: half(bytes, 10),
+        hskew: half(bytes, 12),
+        vdisplay: half(bytes, 14),
+        vsync_start: half(bytes, 16),
+        vsync_end: half(bytes, 18),
+        vtotal: half(bytes, 20),
+        vscan: half(bytes, 22),
+        vrefresh: word(bytes, 24),
+        flags: word(bytes, 28),
+        kind: word(bytes, 32),
+        name,
+    }
+}
+
+// The number of two bytes from a place on.
+fn half(bytes: &[u8], at: usize) -> u16
+    requires { at + 2 ≤ length bytes.now }
+    ensures { result ≡ half_at bytes.now at }
+{
+    u16::from_le_bytes([bytes[at], bytes[at + 1]])
+}
+
+// The number of four bytes from a place on.
+fn word(bytes: &[u8], at: usize) -> u32
+    requires { at + 4 ≤ length bytes.now }
+    ensures { result ≡ word_at bytes.now at }
+{
+    u32::from_le_bytes([bytes[at], bytes[at + 1], bytes[at + 2], bytes[at + 3]])
+}
+
+/// The bytes of a mode, legal or not. The bytes of a legal mode are read as that mode.
+pub fn encode_mode(mode: &Mode) -> [u8; 68]
+    ensures bytes { result ≡ mode_bytes mode.now }
+    ensures read_back { IsTrue (is_legal_mode mode.now) → decoded result ≡ Ok mode.now }
+{
+    learn_ranges(mode);
+    written(mode)
+}
+
+// These do nothing. Proofs learn here that the fields are within their types, as each one is read.
+fn learn_ranges(mode: &Mode)
+    ensures { FitsTypes mode.now }
+{
+    learn_front(mode);
+    learn_middle(mode);
+    learn_back(mode);
+}
+
+fn learn_front(mode: &Mode)
+    ensures { FitsFront mode.now }
+{
+    let _clock = mode.clock;
+    let _hdisplay = mode.hdisplay;
+    let _hsync_start = mode.hsync_start;
+    let _hsync_end = mode.hsync_end;
+    let _htotal = mode.htotal;
+    let _hskew = mode.hskew;
+}
+
+fn learn_middle(mode: &Mode)
+    ensures { FitsMiddle mode.now }
+{
+    let _vdisplay = mode.vdisplay;
+    let _vsync_start = mode.vsync_start;
+    let _vsync_end = mode.vsync_end;
+    let _vtotal = mode.vtotal;
+    let _vscan = mode.vscan;
+}
+
+fn learn_back(mode: &Mode)
+    ensures { FitsBack mode.now }
+{
+    let _vrefresh = mode.vrefresh;
+    let _flags = mode.flags;
+    let _kind = mode.kind;
+    let _name = mode.name;
+}
+
+// The bytes of a mode.
+fn written(mode: &Mode) -> [u8; 68]
+    ensures { result ≡ mode_bytes mode.now }
+{
+    let mut bytes = [0; 68];
+    put(&mut bytes, 0, &mode.clock.to_le_bytes());
+    put(&mut bytes, 4, &mode.hdisplay.to_le_bytes());
+    put(&mut bytes, 6, &mode.hsync_start.to_le_bytes());
+    put(&mut bytes, 8, &mode.hsync_end.to_le_bytes());
+    put(&mut bytes, 10, &mode.htotal.to_le_bytes());
+    put(&mut bytes, 12, &mode.hskew.to_le_bytes());
+    put(&mut bytes, 14, &mode.vdisplay.to_le_bytes());
+    put(&mut bytes, 16, &mode.vsync_start.to_le_bytes());
+    put(&mut bytes, 18, &mode.vsync_end.to_le_bytes());
+    put(&mut bytes, 20, &mode.vtotal.to_le_bytes());
+    put(&mut bytes, 22, &mode.vscan.to_le_bytes());
+    put(&mut bytes, 24, &mode.vrefresh.to_le_bytes());
+    put(&mut bytes, 28, &mode.flags.to_le_bytes());
+    put(&mut bytes, 32, &mode.kind.to_le_bytes());
+    put(&mut bytes, 36, &mode.name);
+    bytes
+}
+
+// Writes a part from a place on.
+fn put(bytes: &mut [u8; 68], at: usize, part: &[u8])
+    requires { at + length part.now ≤ 68 }
+    ensures { bytes.new ≡ take at bytes.old ++ part.now ++ drop (at + length part.now) bytes.old }
+{
+    bytes[at..at + part.len()].copy_from_slice(part);
+}

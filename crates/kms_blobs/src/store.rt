@@ -1,0 +1,89 @@
+//! The store of blobs.
+ghost use Rattle.std.specs.Prelude.{◌≡◌, [], ◌∷◌, ◌++◌, OnOk, OnErr, IfOk, option_copied};
+ghost use Rattle.kms_model.specs.Tables.{AreBelow, slot, value_with_id};
+ghost use Rattle.kms_model.specs.Stores.{blob, bytes_with_id, destroy_answer, blobs_destroyed};
+
+use kms_model::{Blob, Denied, NoMemory, Seq, Table};
+use std::alloc::Global;
+use std::marker::Model;
+
+/// The open blobs. Contracts see them as the list of the blobs with their ids, in the order in which they were
+/// made.
+#[derive(Debug, Drop)]
+pub struct BlobStore {
+    blobs: Table<Blob>,
+}
+
+impl Model for BlobStore {
+    ghost use Rattle.std.specs.Prelude.{List};
+    ghost use Rattle.kms_model.specs.declared.tables.Slot.{Slot};
+    ghost use Rattle.kms_model.specs.declared.stores.Blob.{Blob};
+
+    ghost Value = { List (Slot Blob) };
+
+    ghost view = { λ s. s.blobs };
+}
+
+impl BlobStore {
+    /// The store without blobs. It takes no memory until the first `create`.
+    pub fn new(alloc: Global) -> Self
+        ensures { result ≡ [] }
+    {
+        BlobStore {
+            blobs: Table::new(alloc),
+        }
+    }
+
+    /// Makes a client's blob of these bytes. Its id is greater than those of all blobs before. Want of memory
+    /// leaves the store as it was.
+    pub fn create(
+        &mut self,
+        alloc: Global,
+        owner: u32,
+        id: u32,
+        bytes: &[u8],
+    ) -> Result<(), NoMemory>
+        requires { AreBelow id self.old }
+        ensures made { OnOk result (self.new ≡ self.old ++ slot id (blob owner bytes.now) ∷ []) }
+        ensures unchanged { OnErr result (self.new ≡ self.old) }
+    {
+        let bytes = copied(alloc, bytes)?;
+        self.blobs.push(id, Blob { owner, bytes })
+    }
+
+    /// Destroys a client's blob. Refused with 33 where no open blob has the id, and with 34 where the blob is
+    /// another client's; the store then stays as it was. (Header: `drm_mode.h`,
+    /// `struct drm_mode_destroy_blob`.)
+    pub fn destroy(&mut self, owner: u32, id: u32) -> Result<(), Denied>
+        ensures answer { result ≡ destroy_answer owner (value_with_id self.old id) }
+        ensures blobs { self.new ≡ blobs_destroyed self.old owner id }
+    {
+        let Some(blob) = self.blobs.get(id) else {
+            return Err(Denied(33));
+        };
+        if blob.owner != owner {
+            return Err(Denied(34));
+        }
+        self.blobs.remove(id);
+        Ok(())
+    }
+
+    /// The bytes of the open blob with this id; none where there is no such blob.
+    pub fn get(&self, id: u32) -> Option<&[u8]>
+        ensures { option_copied result ≡ bytes_with_id self.now id }
+    {
+        match self.blobs.get(id) {
+            Some(blob) => Some(blob.bytes.as_slice()),
+            None => None,
+        }
+    }
+}
+
+// A list of these bytes.
+fn copied(alloc: Global, bytes: &[u8]) -> Result<Seq<u8>, NoMemory>
+    ensures { IfOk result (λ list. list ≡ bytes.now) }
+{
+    let mut list = Vec::with_capacity(alloc, bytes.len())?;
+    list.extend_from_slice(bytes)?;
+    Ok(Seq::from_vec(list))
+}

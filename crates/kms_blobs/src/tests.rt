@@ -1,0 +1,73 @@
+use crate::{BadMode, BlobStore, decode_mode, encode_mode};
+use kms_model::{Denied, Mode, NoMemory};
+
+const FULL_HD: [u8; 68] = [
+    0x14, 0x44, 0x02, 0x00, 0x80, 0x07, 0xd8, 0x07, 0x04, 0x08, 0x98, 0x08, 0x00, 0x00, 0x38, 0x04,
+    0x3c, 0x04, 0x41, 0x04, 0x65, 0x04, 0x00, 0x00, 0x3c, 0x00, 0x00, 0x00, 0x05, 0x00, 0x00, 0x00,
+    0x40, 0x00, 0x00, 0x00, b'1', b'9', b'2', b'0', b'x', b'1', b'0', b'8', b'0', 0, 0, 0, 0, 0, 0,
+    0, 0, 0, 0, 0, 0, 0, 0, 0, 0, 0, 0, 0, 0, 0, 0, 0,
+];
+
+fn full_hd() -> Mode {
+    Mode {
+        clock: 148500,
+        hdisplay: 1920,
+        hsync_start: 2008,
+        hsync_end: 2052,
+        htotal: 2200,
+        hskew: 0,
+        vdisplay: 1080,
+        vsync_start: 1084,
+        vsync_end: 1089,
+        vtotal: 1125,
+        vscan: 0,
+        vrefresh: 60,
+        flags: 5,
+        kind: 64,
+        name: [
+            b'1', b'9', b'2', b'0', b'x', b'1', b'0', b'8', b'0', 0, 0, 0, 0, 0, 0, 0, 0, 0, 0, 0,
+            0, 0, 0, 0, 0, 0, 0, 0, 0, 0, 0, 0,
+        ],
+    }
+}
+
+#[test]
+fn the_bytes_of_1920x1080_are_read_and_written(rt: HostRuntime) {
+    assert!(rt; decode_mode(&FULL_HD) == Ok(full_hd()));
+    assert!(rt; encode_mode(&full_hd()) == FULL_HD);
+}
+
+#[test]
+fn the_first_cause_is_answered(rt: HostRuntime) {
+    assert!(rt; decode_mode(&FULL_HD[..67]) == Err(BadMode::Length));
+    let mut early_sync = full_hd();
+    early_sync.hsync_start = 1919;
+    assert!(rt; decode_mode(&encode_mode(&early_sync)) == Err(BadMode::Horizontal));
+    let mut no_rows = full_hd();
+    no_rows.clock = 0;
+    no_rows.vdisplay = 0;
+    assert!(rt; decode_mode(&encode_mode(&no_rows)) == Err(BadMode::Vertical));
+    let mut no_clock = full_hd();
+    no_clock.clock = 0;
+    assert!(rt; decode_mode(&encode_mode(&no_clock)) == Err(BadMode::Clock));
+    let mut wide = full_hd();
+    wide.hdisplay = 4097;
+    wide.hsync_start = 4098;
+    wide.hsync_end = 4099;
+    wide.htotal = 4100;
+    assert!(rt; decode_mode(&encode_mode(&wide)) == Err(BadMode::Size));
+}
+
+#[test]
+fn a_blob_is_destroyed_by_its_client_alone(rt: HostRuntime) -> Result<(), NoMemory> {
+    let mut store = BlobStore::new(rt.alloc());
+    store.create(rt.alloc(), 1, 1000, &[7, 8])?;
+    store.create(rt.alloc(), 2, 1001, &[9])?;
+    assert!(rt; store.destroy(2, 1000) == Err(Denied(34)));
+    assert!(rt; store.get(1000) == Some(&[7, 8][..]));
+    assert!(rt; store.destroy(1, 1000) == Ok(()));
+    assert!(rt; store.get(1000) == None);
+    assert!(rt; store.destroy(2, 1000) == Err(Denied(33)));
+    assert!(rt; store.get(1001) == Some(&[9][..]));
+    Ok(())
+}
