@@ -1,0 +1,5 @@
+pub mod Lists
+pub mod Numbering
+pub mod Holding
+pub mod Keeps
+pub mod Carried

@@ -1,0 +1,4 @@
+pub mod Passes
+pub mod Rules
+pub mod Steps
+pub mod Seats
