@@ -54,30 +54,43 @@ module _ {T E : Type 0} (fits : T → Type 0) where
     home = inl (x, refl, fit);
   }
 
+-- while the value is out, it may be asked another thing of it at home
+pub held_refit : {T E : Type 0} (fits fits' : T → Type 0) (slot : maybe.Option (Option T)) (vs : List (View E)) (place : ℕ → ℕ) (me : ℕ) (v w : View E) → At vs me v → serving v.stage ≡ 1 → serving w.stage ≡ 1
+    → Held fits slot vs place → Held fits' slot (set vs me w) place
+held_refit fits fits' slot vs place me v w at was is r = record {
+  out = each_put (λ j u. serving u.stage ≡ 1 → (place j ≡ 0) × (slot ≡ none)) vs me w (λ _. r.out me v at was) (λ j d _ e. r.out j d e);
+  home = inr (me, w, set_at vs me v w at, is);
+}
+
+-- the seat that is served is one
+pub one_serves : {T E : Type 0} (fits : T → Type 0) (t s : ℕ) (slot : maybe.Option (Option T)) (vs : List (View E)) (place : ℕ → ℕ) (i j : ℕ) (v w : View E) → At vs i v → At vs j w → serving v.stage ≡ 1 → serving w.stage ≡ 1
+    → Numbers t s vs place → Held fits slot vs place → i ≡ j
+one_serves fits t s slot vs place i j v w e d h g n r = n.apart i j v w e d (serving_drawn v.stage h) (serving_drawn w.stage g) ((r.out i v e h).0 ∙ sym (r.out j w d g).0)
+
 module _ {E : Type 0} where
-  pub parts_put : (seats : ℕ) (vs : List (View E)) (me : ℕ) (v w : View E) → At vs me v → w.parts ≡ v.parts → (w.parts ≡ 0 → w.stage ≡ Idle) → Parts seats vs → Parts seats (set vs me w)
+  pub parts_put : (seats : ℕ) (vs : List (View E)) (me : ℕ) (v w : View E) → At vs me v → w.parts ≡ v.parts → (w.parts ≡ 0 → (w.stage ≡ Idle) × (w.made ≡ 0)) → Parts seats vs → Parts seats (set vs me w)
   parts_put seats vs me v w at same bare r = record {
     all = let p = sum_put (λ z. z.parts) vs me v w at in let a = r.all in omega arith;
-    spent = each_put (λ j u. u.parts ≡ 0 → u.stage ≡ Idle) vs me w bare (λ j d ne e. r.spent j d e);
+    spent = each_put (λ j u. u.parts ≡ 0 → (u.stage ≡ Idle) × (u.made ≡ 0)) vs me w bare (λ j d ne e. r.spent j d e);
   }
 
   -- a seat with a number is not spent
   pub not_spent : (seats : ℕ) (vs : List (View E)) (me : ℕ) (v : View E) → At vs me v → drawn v.stage ≡ 1 → Parts seats vs → v.parts ≢ 0
-  not_spent seats vs me v at one r z = let g = ap drawn (r.spent me v at z) in omega arith
+  not_spent seats vs me v at one r z = let g = ap drawn (r.spent me v at z).0 in omega arith
 
   pub parts_split : (seats : ℕ) (vs : List (View E)) (me : ℕ) (v : View E) → At vs me v → 1 < v.parts → Parts seats vs → Parts seats (set vs me (kept_back v) ++ split_off v ∷ [])
   parts_split seats vs me v at more r = record {
     all = let p = sum_put (λ z. z.parts) vs me v (kept_back v) at in let q = sum_snoc (λ z. z.parts) (set vs me (kept_back v)) (split_off v) in let a = r.all in omega arith;
-    spent = λ j u e h. ⊎_elim (λ old. each_put (λ j u. u.parts ≡ 0 → u.stage ≡ Idle) vs me (kept_back v) (λ z. absurd (omega arith)) (λ j d ne e. r.spent j d e) j u old h)
+    spent = λ j u e h. ⊎_elim (λ old. each_put (λ j u. u.parts ≡ 0 → (u.stage ≡ Idle) × (u.made ≡ 0)) vs me (kept_back v) (λ z. absurd (omega arith)) (λ j d ne e. r.spent j d e) j u old h)
         (λ is. let z = ap (λ z. z.parts) is in absurd (omega arith)) (at_snoc (set vs me (kept_back v)) (split_off v) u j e);
   }
 
-  pub parts_join : (seats : ℕ) (vs : List (View E)) (me other : ℕ) (v w : View E) → At vs me v → other ≢ me → At vs other w → v.stage ≡ Idle → Parts seats vs
+  pub parts_join : (seats : ℕ) (vs : List (View E)) (me other : ℕ) (v w : View E) → At vs me v → other ≢ me → At vs other w → 0 < v.parts → Parts seats vs
       → Parts seats (set (set vs me (merged v w)) other spent)
-  parts_join seats vs me other v w at apart there idle r = let here = set_else vs me other (merged v w) apart ∙ there in record {
+  parts_join seats vs me other v w at apart there live r = let here = set_else vs me other (merged v w) apart ∙ there in record {
     all = let p = sum_put (λ z. z.parts) vs me v (merged v w) at in let q = sum_put (λ z. z.parts) (set vs me (merged v w)) other w spent here in let a = r.all in omega arith;
-    spent = each_put (λ j u. u.parts ≡ 0 → u.stage ≡ Idle) (set vs me (merged v w)) other spent (λ _. refl)
-        (λ j d ne e. each_put (λ j u. u.parts ≡ 0 → u.stage ≡ Idle) vs me (merged v w) (λ _. idle) (λ j d ne e. r.spent j d e) j d e);
+    spent = each_put (λ j u. u.parts ≡ 0 → (u.stage ≡ Idle) × (u.made ≡ 0)) (set vs me (merged v w)) other spent (λ _. (refl, refl))
+        (λ j d ne e. each_put (λ j u. u.parts ≡ 0 → (u.stage ≡ Idle) × (u.made ≡ 0)) vs me (merged v w) (λ z. absurd (omega arith)) (λ j d ne e. r.spent j d e) j d e);
   }
 
   pub leads_put : (vs : List (View E)) (me : ℕ) (v w : View E) → At vs me v → w.top ≡ v.top → Leads vs → Leads (set vs me w)

@@ -10,6 +10,12 @@ pub(crate) const TICKETS: usize = 0;
 /// The served word: the number whose turn it is.
 pub(crate) const SERVED: usize = 1;
 
+/// The length's word: how long the history is that was stored last.
+pub(crate) const LENGTH: usize = 2;
+
+/// The first of the four words of counts.
+pub(crate) const COUNTS: usize = 3;
+
 /// The slot that has the value.
 pub(crate) const VALUE: usize = 0;
 
@@ -20,7 +26,7 @@ impl<T: Kept> TableRule<Option<T>, View<T::Entry>, u64> for Turns {
     ghost use Rattle.kms_histlock.specs.Rules.{Stands};
     ghost use Rattle.kms_histlock.specs.Steps.{opened};
 
-    ghost holds = { Stands };
+    ghost holds = { Stands T.owner T.entries T.counted };
 
     ghost first = { opened };
 }
@@ -43,10 +49,46 @@ impl<T, E> Play<Option<T>, View<E>> for Draw {
 /// Looks whether its number is served, and takes the value where it is.
 pub(crate) struct Look;
 
-impl<T, E> Play<Option<T>, View<E>> for Look {
+impl<T: Kept> Play<Option<T>, View<T::Entry>> for Look {
     ghost use Rattle.kms_histlock.specs.Steps.{looked};
 
-    ghost then = { looked };
+    ghost then = { looked T.owner T.entries T.counted };
+}
+
+/// Stores the length of a history.
+pub(crate) struct StoreLength;
+
+impl<T: Kept> Play<Option<T>, View<T::Entry>> for StoreLength {
+    ghost use Rattle.kms_histlock.specs.Steps.{stored_length};
+
+    ghost then = { stored_length T.entries };
+}
+
+/// Stores a count.
+pub(crate) struct StoreCount;
+
+impl<T, E> Play<Option<T>, View<E>> for StoreCount {
+    ghost use Rattle.kms_histlock.specs.Steps.{stored_count};
+
+    ghost then = { stored_count };
+}
+
+/// Reads the length.
+pub(crate) struct ReadLength;
+
+impl<T, E> Play<Option<T>, View<E>> for ReadLength {
+    ghost use Rattle.kms_histlock.specs.Steps.{read_length};
+
+    ghost then = { read_length };
+}
+
+/// Reads a count.
+pub(crate) struct ReadCount;
+
+impl<T: Kept> Play<Option<T>, View<T::Entry>> for ReadCount {
+    ghost use Rattle.kms_histlock.specs.Steps.{read_count};
+
+    ghost then = { read_count T.counted };
 }
 
 /// Passes the turn on, and gives the value back.

@@ -1,8 +1,9 @@
 //! The seats of a lock: how they are made and how they end.
-ghost use Rattle.std.specs.Prelude.{◌≡◌, ◌+◌, ◌≤◌, ◌<◌, [], ◌∷◌, length, All, IfOk};
+ghost use Rattle.std.specs.Prelude.{◌≡◌, ℕ, ◌≤◌, ◌<◌, List, [], ◌∷◌, length, All, IfOk};
+ghost use Rattle.std.specs.List.{sum_by};
 ghost use Rattle.kms_histlock.specs.declared.view.Stage.TheVariants.{Idle};
-ghost use Rattle.kms_histlock.specs.Passes.{pass_state, new_pass, new_passes};
-ghost use Rattle.kms_histlock.specs.Seats.{IsSized};
+ghost use Rattle.kms_histlock.specs.Passes.{pass_state, new_pass, new_passes, IsReached};
+ghost use Rattle.kms_histlock.specs.Seats.{IsSized, Covers};
 ghost use Rattle.kms_histlock.specs.Steps.{opened};
 
 use crate::kept::Kept;
@@ -17,6 +18,8 @@ pub(crate) fn lay<T: Kept>(
     value: T,
     seats: u64,
 ) -> Result<(Board<T>, Place<T>), NoMemory>
+    requires empty { T.entries value ≡ [] }
+    requires uncounted { (k : ℕ) → k < 4 → T.counted k [] ≡ 0 }
     ensures table { IfOk result (λ r. IsSized r.0.shared.table_id × (r.0.shared.key ≡ seats)) }
     ensures seat { IfOk result (λ r. (r.1.table_id ≡ r.0.shared.table_id) × (r.1.me ≡ (opened seats, []))) }
 {
@@ -58,6 +61,8 @@ pub(crate) fn take_in<T: Kept>(words: &Words<T>, mut passes: Vec<Pass<T>>) -> Pl
     ensures own { result.table_id ≡ words.now.table_id }
     ensures rests { (result.me.1 ≡ []) × (result.me.0.stage ≡ Idle) }
     ensures all { result.me.0.parts ≡ length passes.items }
+    ensures made { result.me.0.made ≡ sum_by (λ p. p.made) passes.items }
+    ensures covers { (xs : List T.Entry) → Covers T.counted result.me.0 xs → All (λ p. IsReached T.counted p xs) passes.items }
 {
     let Some(pass) = passes.pop() else {
         unreachable!()
@@ -73,7 +78,9 @@ pub(crate) fn take_in<T: Kept>(words: &Words<T>, mut passes: Vec<Pass<T>>) -> Pl
 pub(crate) fn take_out<T: Kept>(table: Board<T>, seat: Place<T>) -> T
     requires own { (seat.table_id ≡ table.shared.table_id) × IsSized table.shared.table_id }
     requires rests { (seat.me.1 ≡ []) × (seat.me.0.stage ≡ Idle) }
-    requires all { seat.me.0.parts ≡ table.shared.key }
+    requires all { (seat.me.0.parts ≡ table.shared.key) × (0 < table.shared.key) }
+    ensures made { length (T.entries result) ≡ seat.me.0.made }
+    ensures covers { Covers T.counted seat.me.0 (T.entries result) }
 {
     let mut closed = table.close_with(seat);
     let value = closed.take(VALUE).unwrap();

@@ -1,11 +1,14 @@
-//! Taking the turn with the value, and passing it on.
-ghost use Rattle.std.specs.Prelude.{◌≡◌, ℕ, ◌<◌, [], ◌∷◌, None, Some};
+//! Taking the turn with the value, and passing it on with what was made of it.
+ghost use Rattle.std.specs.Prelude.{◌≡◌, ◌<◌, [], length};
 ghost use Rattle.kms_histlock.specs.declared.view.Stage.TheVariants.{Idle, Waits};
-ghost use Rattle.kms_histlock.specs.Steps.{standing, Takes};
-ghost use Rattle.kms_histlock.specs.Seats.{IsSized, IsSameSeat, HasTurn, IsAway};
+ghost use Rattle.kms_histlock.specs.Steps.{Takes};
+ghost use Rattle.kms_histlock.specs.Seats.{IsSized, IsSameSeat, HasTurn, MayGive, Stores, HasStored, Recounts, IsSameButTurn, gave};
 
 use crate::kept::Kept;
-use crate::rules::{Draw, Look, PassOn, Place, SERVED, TICKETS, VALUE, Words};
+use crate::rules::{
+    COUNTS, Draw, LENGTH, Look, PassOn, Place, SERVED, StoreCount, StoreLength, TICKETS, VALUE,
+    Words,
+};
 use std::sync::Wait;
 use std::thread::yield_now;
 
@@ -14,7 +17,7 @@ fn wait<T: Kept, W: Wait>(rt: &W, words: &Words<T>, seat: &mut Place<T>, number:
     requires own { (seat.old.table_id ≡ words.now.table_id) × IsSized words.now.table_id }
     requires waits { seat.old.me.0.stage ≡ Waits number }
     ensures same { IsSameSeat seat.old seat.new }
-    ensures takes { Takes number seat.old.me seat.new.me }
+    ensures takes { Takes T.owner T.entries T.counted number seat.old.me seat.new.me }
 {
     for _ in rt.forever() {
         if words.load::<Look>(seat, SERVED) == number {
@@ -30,20 +33,63 @@ pub(crate) fn take<T: Kept, W: Wait>(rt: &W, words: &Words<T>, seat: &mut Place<
     requires own { (seat.old.table_id ≡ words.now.table_id) × IsSized words.now.table_id }
     requires rests { (seat.old.me.0.stage ≡ Idle) × (seat.old.me.1 ≡ []) × (0 < seat.old.me.0.parts) }
     ensures same { IsSameSeat seat.old seat.new }
-    ensures turn { HasTurn seat.old.me result seat.new.me }
+    ensures turn { HasTurn T.owner T.entries T.counted seat.old.me result seat.new.me }
 {
     let number = words.fetch_add::<Draw>(seat, TICKETS, 1);
     wait(rt, words, seat, number);
     words.exchange(seat, VALUE, None).unwrap()
 }
 
-/// Gives the value back, and passes the turn on.
-pub(crate) fn give<T: Kept>(words: &Words<T>, seat: &mut Place<T>, value: T)
+// Stores the length of the value's history, which was `found` when the turn came. The word is the seat's
+// to write, so it holds `found` still. It is exchanged, and not stored, so that the proof is told of `value`.
+fn store_length<T: Kept>(
+    words: &Words<T>,
+    seat: &mut Place<T>,
+    found: u64,
+    length: u64,
+    value: &Option<T>,
+)
     requires own { (seat.old.table_id ≡ words.now.table_id) × IsSized words.now.table_id }
-    requires turn { IsAway seat.old.me }
+    requires turn { Stores T.owner T.entries found length value.now seat.old.me }
     ensures same { IsSameSeat seat.old seat.new }
-    ensures rests { seat.new.me ≡ (standing seat.old.me.0 Idle, []) }
+    ensures stored { HasStored T.entries value.now seat.old.me seat.new.me }
 {
-    words.exchange(seat, VALUE, Some(value));
+    words.compare_exchange_with::<StoreLength>(seat, LENGTH, found, length, value);
+}
+
+// Stores the counts of the history whose length is stored.
+fn store_counts<T: Kept>(words: &Words<T>, seat: &mut Place<T>, counts: &[u64; 4])
+    requires own { (seat.old.table_id ≡ words.now.table_id) × IsSized words.now.table_id }
+    requires turn { Recounts T.counted counts.now 0 seat.old.me }
+    ensures same { IsSameSeat seat.old seat.new }
+    ensures stored { Recounts T.counted counts.now 4 seat.new.me }
+    ensures rest { IsSameButTurn seat.old.me seat.new.me }
+{
+    for k in 0..4usize {
+        words.store::<StoreCount>(seat, k + COUNTS, counts[k]);
+    }
+}
+
+/// Stores the length and the counts of the value's history, gives the value back, and passes the turn on.
+/// Answers the length. It was `found` when the turn came.
+pub(crate) fn give<T: Kept>(words: &Words<T>, seat: &mut Place<T>, found: u64, value: T) -> u64
+    requires own { (seat.old.table_id ≡ words.now.table_id) × IsSized words.now.table_id }
+    requires turn { MayGive T.owner T.entries T.counted found value seat.old.me }
+    ensures same { IsSameSeat seat.old seat.new }
+    ensures length { result ≡ length (T.entries value) }
+    ensures rests { seat.new.me ≡ (gave (T.entries value) found seat.old.me.0, []) }
+{
+    let length = value.length();
+    let counts = [
+        value.count(0),
+        value.count(1),
+        value.count(2),
+        value.count(3),
+    ];
+    let value = Some(value);
+    store_length(words, seat, found, length, &value);
+    store_counts(words, seat, &counts);
+    words.exchange(seat, VALUE, value);
     words.fetch_add::<PassOn>(seat, SERVED, 1);
+    length
 }
