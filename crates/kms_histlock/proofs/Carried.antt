@@ -1,7 +1,6 @@
 -- What a seat holds.
 use Rattle.std.proofs.Common.{◌≡◌, ℕ, zero, suc, ◌<◌, List, [], ◌∷◌, length, get_or, sym, ap, ◌∙◌, subst, refl, arith, Option, Some, None}
 use Rattle.atomic_table.specs.Table.{rest}
-use Rattle.kms_histlock.specs.declared.view.View.{View}
 use Rattle.kms_histlock.specs.declared.view.Turn.{Turn}
 use Rattle.kms_histlock.specs.declared.view.Stage.TheVariants.{Idle, Waits, Serves}
 use Rattle.kms_histlock.specs.Rules.{Fits}

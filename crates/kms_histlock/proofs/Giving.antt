@@ -1,13 +1,11 @@
 -- From the taking of the turn to its giving back, and from the passes to the seat that stands for all.
-use Rattle.std.proofs.Common.{◌≡◌, ℕ, zero, suc, ◌+◌, ◌-◌, ◌≤◌, ◌<◌, List, [], ◌∷◌, ◌++◌, length, get_or, set, sym, ap, ◌∙◌, subst, refl, arith, Option, Some, None, length-set, get_or-set_other, get_or-set_same, add-one}
-use Rattle.std.specs.List.{sum_by, All}
-use Rattle.std.proofs.lemmas.List.Elements.{All-head, All-tail, All-append, All-cons, All-nil}
+use Rattle.std.proofs.Common.{◌≡◌, ℕ, zero, suc, ◌+◌, ◌-◌, ◌≤◌, ◌<◌, List, [], ◌++◌, length, get_or, set, sym, ap, ◌∙◌, subst, refl, arith, Option, length-set, get_or-set_other, get_or-set_same}
+use Rattle.std.proofs.lemmas.List.Elements.{All-head, All-tail}
 use mathlib.Core.Logic.{dite}
 use native.Mathlib.Decide.{ℕ_discrete}
-use Rattle.atomic_table.specs.Table.{rest}
 use Rattle.kms_histlock.specs.declared.view.View.{View}
 use Rattle.kms_histlock.specs.declared.view.Turn.{Turn}
-use Rattle.kms_histlock.specs.declared.view.Stage.TheVariants.{Idle, Waits, Serves}
+use Rattle.kms_histlock.specs.declared.view.Stage.TheVariants.{Serves}
 use Rattle.kms_histlock.specs.Rules.{Fits, IsStart, Begins}
 use Rattle.kms_histlock.specs.Steps.{Sat, standing, lengthened, recounted, merged, Finds}
 use Rattle.kms_histlock.specs.Seats.{Lengthens, HasTurn, MayGive, Recounts, gave, Covers}

@@ -1,18 +1,16 @@
 -- How the value stays with the seat that is served, and what the seats stand for.
-use Rattle.std.proofs.Common.{◌≡◌, ◌≢◌, ℕ, zero, suc, ◌+◌, ◌-◌, ◌%◌, ◌^◌, ◌≤◌, ◌<◌, List, [], ◌∷◌, ◌++◌, length, set, sym, ap, ◌∙◌, subst, refl, ⊎_elim, inl, inr, arith, ◌⊎◌, Option, Some, None, length-set, length-append}
-use Rattle.std.specs.List.{sum_by}
+use Rattle.std.proofs.Common.{◌≡◌, ◌≢◌, ℕ, ◌+◌, ◌-◌, ◌<◌, List, [], ◌∷◌, ◌++◌, length, set, sym, ap, ◌∙◌, subst, refl, ⊎_elim, inl, inr, arith, Option, Some, length-set, length-append}
 use mathlib.Core.Logic.{dite}
 use native.Mathlib.Decide.{ℕ_discrete}
 use mathlib.Core.Option.{some, none, some-ne-none}
 use mathlib.Core.Option as maybe
-use lib.ListN.{get_elem?}
-use Rattle.atomic_table.proofs.Lists.{at_snoc, at_longer, at_last, set_else}
+use Rattle.atomic_table.proofs.Lists.{at_snoc, at_longer, set_else}
 use Rattle.kms_histlock.specs.declared.view.View.{View}
 use Rattle.kms_histlock.specs.declared.view.Stage.{Stage}
 use Rattle.kms_histlock.specs.declared.view.Stage.TheVariants.{Idle, Waits, Serves}
-use Rattle.kms_histlock.specs.Rules.{drawn, number, serving, having, At, Numbers, Held, Parts, Leads}
+use Rattle.kms_histlock.specs.Rules.{drawn, serving, At, Numbers, Held, Parts, Leads}
 use Rattle.kms_histlock.specs.Steps.{kept_back, split_off, merged, spent}
-use Rattle.kms_histlock.proofs.Lists.{put, put_here, put_else, sum_put, sum_snoc, sum_few, each_put, set_at, one_at}
+use Rattle.kms_histlock.proofs.Lists.{sum_put, sum_snoc, each_put, set_at, one_at}
 use Rattle.kms_histlock.proofs.Numbering.{Mirrors}
 
 pub serving_drawn : {E : Type 0} (st : Stage E) → serving st ≡ 1 → drawn st ≡ 1

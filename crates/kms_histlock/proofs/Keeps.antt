@@ -1,5 +1,5 @@
 -- Each step keeps the rule of the table.
-use Rattle.std.proofs.Common.{◌≡◌, ◌≢◌, ℕ, zero, suc, ◌+◌, ◌-◌, ◌%◌, ◌^◌, ◌≤◌, ◌<◌, eqb, eq-eqb, List, [], ◌∷◌, ◌++◌, length, get_or, set, sym, ap, ◌∙◌, subst, refl, ⊎_elim, inl, inr, arith, ◌⊎◌, Option, Some, None, length-set, length-append, append-nil, get_or-set_other, get_or-set_same}
+use Rattle.std.proofs.Common.{◌≡◌, ◌≢◌, ℕ, zero, suc, ◌+◌, ◌-◌, ◌%◌, ◌^◌, ◌≤◌, ◌<◌, eqb, eq-eqb, List, [], ◌∷◌, ◌++◌, length, get_or, set, sym, ap, ◌∙◌, subst, refl, ⊎_elim, inl, arith, Option, Some, None, length-set, length-append}
 use Rattle.std.specs.List.{sum_by, All}
 use Rattle.std.proofs.lemmas.List.Elements.{All-nil}
 use mathlib.Core.Logic.{dite}
@@ -9,19 +9,19 @@ use mathlib.Core.Option as maybe
 use lib.ListN.{get_elem?}
 use lib.Seq.{set-get_or}
 use prog.Atomic.{either}
-use Rattle.atomic_table.specs.Table.{State, Me, Step, step, Act, keeps, takes, gives, Valid, homes_after, carried_after, Allows, Splits, Joins, opening, Final, Seen}
-use Rattle.atomic_table.proofs.Lists.{at_snoc, at_longer, set_else, set_again}
+use Rattle.atomic_table.specs.Table.{State, step, Act, keeps, takes, gives, Valid, homes_after, carried_after, Allows, Splits, Joins, opening, Final, Seen}
+use Rattle.atomic_table.proofs.Lists.{at_snoc, set_else}
 use Rattle.kms_histlock.specs.declared.view.View.{View}
 use Rattle.kms_histlock.specs.declared.view.Turn.{Turn}
 use Rattle.kms_histlock.specs.declared.view.Stage.{Stage}
 use Rattle.kms_histlock.specs.declared.view.Stage.TheVariants.{Idle, Waits, Serves}
-use Rattle.kms_histlock.specs.Rules.{drawn, number, serving, due, having, At, AtMost, Fits, Numbers, Held, Parts, Leads, Words, Ranks, Begins, IsStart, Sights, Stands}
-use Rattle.kms_histlock.specs.Steps.{Sat, opened, standing, kept_back, split_off, merged, spent, lengthened, recounted, Finds, drew, Takes, looked, passed, stored_length, stored_count, read_length, read_count}
+use Rattle.kms_histlock.specs.Rules.{drawn, number, serving, due, having, At, AtMost, Fits, Ranks, Begins, IsStart, Sights, Stands}
+use Rattle.kms_histlock.specs.Steps.{Sat, opened, standing, kept_back, split_off, merged, spent, lengthened, recounted, drew, looked, passed, stored_length, stored_count, read_length, read_count}
 use Rattle.kms_histlock.specs.Seats.{Lengthens, Covers}
-use Rattle.kms_histlock.proofs.Lists.{put, put_here, put_else, sum_put, sum_snoc, sum_only, sum_two, each_put, set_at, one_at}
-use Rattle.kms_histlock.proofs.Numbering.{Mirrors, mirrors_put, mirrors_snoc, mirrors_more, numbers_stay, numbers_drawn, numbers_passed, is_first}
+use Rattle.kms_histlock.proofs.Lists.{put, put_else, sum_put, sum_snoc, sum_only, sum_two, each_put, one_at}
+use Rattle.kms_histlock.proofs.Numbering.{mirrors_put, mirrors_snoc, mirrors_more, numbers_stay, numbers_drawn, numbers_passed, is_first}
 use Rattle.kms_histlock.proofs.Holding.{untagged, serving_drawn, held_stays, at_home, held_taken, held_given, held_refit, one_serves, parts_put, not_spent, parts_split, parts_join, leads_put, is_lead, leads_split, leads_join}
-use Rattle.kms_histlock.proofs.Seeing.{at_most_set, at_most_raised, words_put, words_same, words_join, ranks_put, ranks_longer, ranks_split, ranks_join, sights_put, sights_same, sights_longer, sights_recounted, sights_split, sights_join}
+use Rattle.kms_histlock.proofs.Seeing.{at_most_set, at_most_raised, words_put, words_join, ranks_put, ranks_longer, ranks_split, ranks_join, sights_same, sights_longer, sights_recounted, sights_split, sights_join}
 
 module _ {E : Type 0} where
   same_stage : (vs : List (View E)) (me : ℕ) (v w : View E) → At vs me v → drawn w.stage ≡ drawn v.stage → having (set vs me w) ≡ having vs

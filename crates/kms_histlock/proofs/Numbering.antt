@@ -1,15 +1,12 @@
 -- How the numbers stay in order.
-use Rattle.std.proofs.Common.{◌≡◌, ◌≢◌, ℕ, zero, suc, ◌+◌, ◌-◌, ◌%◌, ◌^◌, ◌≤◌, ◌<◌, List, [], ◌∷◌, ◌++◌, length, set, sym, ap, ◌∙◌, subst, refl, ⊎_elim, inl, inr, arith, ◌⊎◌}
-use Rattle.std.specs.List.{sum_by}
+use Rattle.std.proofs.Common.{◌≡◌, ◌≢◌, ℕ, ◌+◌, ◌-◌, ◌%◌, ◌^◌, ◌≤◌, ◌<◌, List, [], ◌∷◌, ◌++◌, length, set, sym, ap, ◌∙◌, subst, refl, ⊎_elim, arith}
 use mathlib.Core.Logic.{dite}
 use native.Mathlib.Decide.{ℕ_discrete}
-use mathlib.Core.Option.{some, none}
-use lib.ListN.{get_elem?}
 use Rattle.atomic_table.proofs.Lists.{at_snoc, at_longer, set_else}
 use Rattle.kms_histlock.specs.declared.view.View.{View}
 use Rattle.kms_histlock.specs.declared.view.Stage.{Stage}
 use Rattle.kms_histlock.specs.declared.view.Stage.TheVariants.{Idle, Waits, Serves}
-use Rattle.kms_histlock.specs.Rules.{drawn, number, serving, having, At, Numbers}
+use Rattle.kms_histlock.specs.Rules.{drawn, number, having, At, Numbers}
 use Rattle.kms_histlock.proofs.Lists.{put, put_here, put_else, sum_put, sum_few, each_put, set_at, one_at}
 
 more : (s n : ℕ) → ((s + n) % 2 ^ 64 + 1) % 2 ^ 64 ≡ (s + (n + 1)) % 2 ^ 64

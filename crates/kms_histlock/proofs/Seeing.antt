@@ -1,20 +1,18 @@
 -- How the words, the ranks and what the seats have seen go on together.
-use Rattle.std.proofs.Common.{◌≡◌, ◌≢◌, ℕ, zero, suc, ◌+◌, ◌-◌, ◌≤◌, ◌<◌, max, List, [], ◌∷◌, ◌++◌, length, get_or, set, sym, ap, ◌∙◌, subst, refl, ⊎_elim, inl, inr, arith, ◌⊎◌, length-set, length-append, append_assoc, get_or-set_other, get_or-set_same, append-nil}
-use Rattle.std.specs.List.{sum_by, All}
+use Rattle.std.proofs.Common.{◌≡◌, ◌≢◌, ℕ, zero, suc, ◌+◌, ◌-◌, ◌≤◌, ◌<◌, List, [], ◌∷◌, ◌++◌, length, get_or, set, sym, ap, ◌∙◌, subst, refl, ⊎_elim, arith, ◌⊎◌, length-set, length-append, append_assoc, get_or-set_other, get_or-set_same, append-nil}
+use Rattle.std.specs.List.{All}
 use Rattle.std.proofs.lemmas.List.Elements.{All-append, All-weaker, All-nil, All-cons, All-tail}
 use mathlib.Core.Logic.{dite}
 use native.Mathlib.Decide.{ℕ_discrete, dec_le}
-use mathlib.Core.Option.{some, none, some-ne-none}
-use lib.ListN.{get_elem?}
-use Rattle.atomic_table.proofs.Lists.{at_snoc, set_else}
+use mathlib.Core.Option.{some-ne-none}
+use Rattle.atomic_table.proofs.Lists.{at_snoc}
 use Rattle.kms_histlock.specs.declared.view.View.{View}
 use Rattle.kms_histlock.specs.declared.view.Turn.{Turn}
 use Rattle.kms_histlock.specs.declared.view.Stage.{Stage}
 use Rattle.kms_histlock.specs.declared.view.Stage.TheVariants.{Idle, Waits, Serves}
 use Rattle.kms_histlock.specs.Rules.{due, At, AtMost, Words, Ranks, Begins, IsStart, Sights}
-use Rattle.kms_histlock.specs.Steps.{standing, kept_back, split_off, tops, merged, spent, lengthened, recounted}
-use Rattle.kms_histlock.specs.Seats.{Lengthens}
-use Rattle.kms_histlock.proofs.Lists.{sum_put, sum_snoc, each_put, set_at, one_at}
+use Rattle.kms_histlock.specs.Steps.{kept_back, split_off, tops, merged, spent}
+use Rattle.kms_histlock.proofs.Lists.{each_put}
 
 All-behind : {X : Type 0} (P : X → Type 0) (xs ys : List X) → All P (xs ++ ys) → All P ys
 All-behind P [] ys h = h

@@ -6,6 +6,8 @@ mod lock;
 mod pass;
 mod rules;
 mod seats;
+#[cfg(test)]
+mod tests;
 mod turn;
 mod view;
 

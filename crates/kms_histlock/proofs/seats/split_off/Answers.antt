@@ -1,4 +1,4 @@
-use Rattle.std.proofs.Common.{rules, ◌≡◌, ◌∷◌, [], Some, sym, ap, ◌∙◌, subst, refl, arith}
+use Rattle.std.proofs.Common.{rules, arith}
 use Rattle.kms_histlock.proofs.Keeps.{splits}
 use Rattle.kms_histlock.proofs.seats.split_off.Goals as goal
 

@@ -1,4 +1,4 @@
-use Rattle.std.proofs.Common.{◌≡◌, ◌+◌, ◌<◌, [], ◌∷◌, length}
+use Rattle.std.proofs.Common.{◌≡◌, ◌+◌, [], ◌∷◌}
 use Rattle.kms_histlock.specs.declared.view.Stage.TheVariants.{Idle}
 use Rattle.kms_histlock.specs.Passes.{pass_state, new_pass, new_passes}
 use Rattle.kms_histlock.proofs.seats.split_off.Given as goal

@@ -1,4 +1,4 @@
-use Rattle.std.proofs.Common.{rules, arith, ◌≡◌, [], ◌∷◌, ◌++◌, length, Some, sym, ap, refl, ◌∙◌}
+use Rattle.std.proofs.Common.{rules, arith, ◌≡◌, [], Some, ap}
 use Rattle.std.specs.List.{sum_by}
 use Rattle.std.proofs.lemmas.List.Elements.{All-same, All-push, All-pop, All-nil}
 use Rattle.std.proofs.lemmas.Grind.{common_steps}

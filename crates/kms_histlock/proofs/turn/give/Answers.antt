@@ -1,6 +1,6 @@
-use Rattle.std.proofs.Common.{rules, ◌≡◌, ◌+◌, ◌%◌, ◌^◌, [], ◌∷◌, None, Some, sym, ap, ◌∙◌, subst, refl}
+use Rattle.std.proofs.Common.{rules, ◌+◌, ◌%◌, ◌^◌, None, sym, ap, ◌∙◌, subst, refl}
 use mathlib.Core.Option.{none}
-use Rattle.atomic_table.specs.Table.{Allows, step, rest}
+use Rattle.atomic_table.specs.Table.{Allows, step}
 use Rattle.kms_histlock.specs.Rules.{Stands}
 use Rattle.kms_histlock.specs.Steps.{Sat, passed}
 use Rattle.kms_histlock.proofs.Keeps.{passes}

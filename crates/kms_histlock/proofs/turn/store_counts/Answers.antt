@@ -1,4 +1,4 @@
-use Rattle.std.proofs.Common.{rules, ◌≡◌, ◌≤◌, get_or, refl, arith, ◌∙◌}
+use Rattle.std.proofs.Common.{rules, refl, arith, ◌∙◌}
 use Rattle.kms_histlock.proofs.Keeps.{stores_count}
 use Rattle.kms_histlock.proofs.Carried.{same_but_more}
 use Rattle.kms_histlock.proofs.Giving.{recounts_next}

@@ -1,4 +1,4 @@
-use Rattle.std.proofs.Common.{rules, ◌≡◌, eqb, Option, Some, sym, ap, subst}
+use Rattle.std.proofs.Common.{rules, eqb, Option, sym, ap, subst}
 use mathlib.Core.Option.{some}
 use prog.Atomic.{either}
 use Rattle.atomic_table.specs.Table.{Allows, step}

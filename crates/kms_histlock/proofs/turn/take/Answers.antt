@@ -1,4 +1,4 @@
-use Rattle.std.proofs.Common.{rules, ◌≡◌, ℕ, List, [], ◌∷◌, Option, Some, sym, refl, ap, ◌∙◌, subst}
+use Rattle.std.proofs.Common.{rules, Some, sym, refl, ◌∙◌, subst}
 use Rattle.kms_histlock.proofs.Keeps.{draws}
 use Rattle.std.specs.Prelude.{IsSome}
 use Rattle.kms_histlock.proofs.Carried.{one_in_hand, in_hand, carried_by, taken_by, one_value, found_by}

@@ -1,4 +1,4 @@
-use Rattle.std.proofs.Common.{rules, ◌≡◌, [], ◌∷◌, Some, sym, ap, ◌∙◌, subst}
+use Rattle.std.proofs.Common.{rules, ap, ◌∙◌}
 use Rattle.kms_histlock.proofs.Keeps.{looks}
 use Rattle.kms_histlock.proofs.turn.wait.Goals as goal
 

@@ -1,4 +1,4 @@
-use Rattle.std.proofs.Common.{rules, arith, length, sym, ap, refl, ◌∙◌}
+use Rattle.std.proofs.Common.{arith, length, sym, ap, refl, ◌∙◌}
 use Rattle.kms_histlock.proofs.Keeps.{reads_count}
 use Rattle.kms_histlock.proofs.lock.HistLock.count.Goals as goal
 

@@ -1,4 +1,4 @@
-use Rattle.std.proofs.Common.{rules, arith, sym, ap, ◌∙◌}
+use Rattle.std.proofs.Common.{arith, sym, ap, ◌∙◌}
 use Rattle.kms_histlock.proofs.Keeps.{reads_length}
 use Rattle.kms_histlock.proofs.lock.HistLock.length.Goals as goal
 

@@ -1,5 +1,4 @@
-use Rattle.std.proofs.Common.{rules, ◌≡◌, ◌∷◌, [], ℕ, List, length, sym, ap, refl, subst, ◌∙◌}
-use Rattle.kms_histlock.specs.Rules.{Begins}
+use Rattle.std.proofs.Common.{sym, ap, refl, subst, ◌∙◌}
 use Rattle.kms_histlock.specs.Seats.{Lengthens}
 use Rattle.kms_histlock.proofs.Giving.{may_give, begins_at, turned_now}
 use Rattle.kms_histlock.proofs.lock.HistLock.with.Goals as goal
