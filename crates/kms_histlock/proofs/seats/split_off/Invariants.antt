@@ -1,0 +1,15 @@
+use Rattle.std.proofs.Common.{◌≡◌, ◌+◌, [], ◌∷◌}
+use Rattle.kms_histlock.specs.declared.view.Stage.TheVariants.{Idle}
+use Rattle.kms_histlock.specs.Passes.{pass_state, new_pass, new_passes}
+use Rattle.kms_histlock.proofs.seats.split_off.Given as goal
+
+abbrev pub invariant-loop-made : goal.invariant-loop-made
+invariant-loop-made g l = record {
+  own : l.first.table_id ≡ l.words.table_id;
+  bare : l.first.me.1 ≡ [];
+  idle : l.first.me.0.stage ≡ Idle;
+  top : l.first.me.0.top ≡ l.made;
+  parts : l.first.me.0.parts + l.made ≡ l.seats + 1;
+  fresh : pass_state l.first ≡ new_pass l.words.table_id 1;
+  passes : new_pass l.words.table_id 1 ∷ l.passes.items ≡ new_passes l.words.table_id l.made;
+}

@@ -1,0 +1,104 @@
+//! The lock.
+ghost use Rattle.std.specs.Prelude.{◌≡◌, ℕ, ◌≤◌, ◌<◌, [], length, slice_index, slice_set, All, IfOk};
+ghost use Rattle.std.specs.List.{sum_by};
+ghost use Rattle.std.specs.Fn.{FnOnceTakesAtMut, FnOnceReturnsAtMut};
+ghost use Rattle.kms_histlock.specs.Passes.{new_passes, IsReached, Turned};
+ghost use Rattle.kms_histlock.specs.Rules.{Begins};
+ghost use Rattle.kms_histlock.specs.Seats.{Lengthens};
+
+use crate::kept::Kept;
+use crate::pass::Pass;
+use crate::rules::{Board, COUNTS, LENGTH, ReadCount, ReadLength};
+use crate::seats::{lay, split_off, take_in, take_out};
+use crate::turn::{give, take};
+use kms_model::{NoMemory, Seq};
+use std::alloc::Global;
+use std::marker::Model;
+use std::sync::Wait;
+
+/// A value behind a turn that passes take, one after another.
+#[derive(Drop)]
+pub struct HistLock<T: Kept> {
+    table: Board<T>,
+}
+
+impl<T: Kept> Model for HistLock<T> {
+    ghost use Rattle.std.specs.Prelude.{◌≡◌, ◌<◌};
+    ghost use Rattle.kms_histlock.specs.Passes.{LockState};
+    ghost use Rattle.kms_histlock.specs.Seats.{IsSized};
+
+    ghost Value = { LockState };
+
+    ghost view = { λ l. record { lock = l.table.shared.table_id; seats = l.table.shared.key } };
+
+    ghost invariant = { λ l. IsSized l.table.shared.table_id × (0 < l.table.shared.key) };
+}
+
+impl<T: Kept> HistLock<T> {
+    /// A lock around a value with an empty history, and its `seats` passes, whose ranks go from 1 on.
+    pub fn new(alloc: Global, value: T, seats: u32) -> Result<(HistLock<T>, Seq<Pass<T>>), NoMemory>
+        requires seats { (0 < seats) × (seats ≤ 64) }
+        requires empty { T.entries value ≡ [] }
+        requires uncounted { (k : ℕ) → k < 4 → T.counted k [] ≡ 0 }
+        ensures seats { IfOk result (λ r. r.0.seats ≡ seats) }
+        ensures passes { IfOk result (λ r. r.1 ≡ new_passes r.0.lock seats) }
+    {
+        let (table, mut first) = lay(alloc, value, u64::from(seats))?;
+        let mut passes = split_off(alloc, &table.shared, &mut first, seats)?;
+        passes.insert(0, Pass::of(first, 1))?;
+        Ok((HistLock { table }, Seq::from_vec(passes)))
+    }
+
+    /// Takes the turn, calls `f` with the value, and passes the turn on. It waits until the turn comes.
+    /// `f` may only lengthen the value's history, by entries of nobody's and of the pass's own.
+    pub fn with<R, W: Wait, F: FnOnce(&mut T) -> R>(&self, rt: &W, pass: &mut Pass<T>, f: F) -> R
+        requires own { pass.old.lock ≡ self.now.lock }
+        requires callable { (x : T) → Begins T.owner pass.old.rank pass.old.seen (T.entries x) → FnOnceTakesAtMut F.FnOnce f x }
+        requires lengthens { (x y : T) (r : R) → Begins T.owner pass.old.rank pass.old.seen (T.entries x) → FnOnceReturnsAtMut F.FnOnce f x r y → Lengthens T.owner pass.old.rank (T.entries x) (T.entries y) }
+        ensures turn { Turned T.owner T.entries F.FnOnce f result pass.old pass.new }
+    {
+        let words = &self.table.shared;
+        let mut value = take(rt, words, &mut pass.seat);
+        let found = value.length();
+        let result = f(&mut value);
+        pass.seen_len = give(words, &mut pass.seat, found, value);
+        result
+    }
+
+    /// How long the history is, as far as one load tells: at least as long as what the pass has seen, and
+    /// as what it has read before. It waits for nobody.
+    pub fn length(&self, pass: &mut Pass<T>) -> u64
+        requires own { pass.old.lock ≡ self.now.lock }
+        ensures seen { length pass.old.seen ≤ result }
+        ensures before { pass.old.length_read ≤ result }
+        ensures read { pass.new ≡ record pass.old { length_read = result } }
+    {
+        self.table.shared.load::<ReadLength>(&mut pass.seat, LENGTH)
+    }
+
+    /// The `k`-th number that is counted of the history, `k` from 0 to 3, as far as one load tells: at
+    /// least that of what the pass has seen, and what it has read before. It waits for nobody.
+    pub fn count(&self, pass: &mut Pass<T>, k: u32) -> u64
+        requires own { pass.old.lock ≡ self.now.lock }
+        requires few { k < 4 }
+        ensures seen { T.counted k pass.old.seen ≤ result }
+        ensures before { slice_index pass.old.counts_read k ≤ result }
+        ensures read { pass.new ≡ record pass.old { counts_read = slice_set pass.old.counts_read k result } }
+    {
+        self.table
+            .shared
+            .load::<ReadCount>(&mut pass.seat, k as usize + COUNTS)
+    }
+
+    /// Ends the lock, with all its passes, and gives the value back.
+    pub fn close(self, passes: Seq<Pass<T>>) -> T
+        requires own { All (λ p. p.lock ≡ self.lock) passes }
+        requires all { length passes ≡ self.seats }
+        ensures made { length (T.entries result) ≡ sum_by (λ p. p.made) passes }
+        ensures reached { All (λ p. IsReached T.counted p (T.entries result)) passes }
+    {
+        let HistLock { table } = self;
+        let seat = take_in(&table.shared, passes.into_vec());
+        take_out(table, seat)
+    }
+}

@@ -1,0 +1,89 @@
+//! The seats of a lock: how they are made and how they end.
+ghost use Rattle.std.specs.Prelude.{◌≡◌, ℕ, ◌≤◌, ◌<◌, List, [], ◌∷◌, length, All, IfOk};
+ghost use Rattle.std.specs.List.{sum_by};
+ghost use Rattle.kms_histlock.specs.declared.view.Stage.TheVariants.{Idle};
+ghost use Rattle.kms_histlock.specs.Passes.{pass_state, new_pass, new_passes, IsReached};
+ghost use Rattle.kms_histlock.specs.Seats.{IsSized, Covers};
+ghost use Rattle.kms_histlock.specs.Steps.{opened};
+
+use crate::kept::Kept;
+use crate::pass::Pass;
+use crate::rules::{Board, OneMore, Place, TakeIn, VALUE, Words};
+use kms_model::NoMemory;
+use std::alloc::Global;
+
+/// The table with the value at home, and its first seat, which stands for all.
+pub(crate) fn lay<T: Kept>(
+    alloc: Global,
+    value: T,
+    seats: u64,
+) -> Result<(Board<T>, Place<T>), NoMemory>
+    requires empty { T.entries value ≡ [] }
+    requires uncounted { (k : ℕ) → k < 4 → T.counted k [] ≡ 0 }
+    ensures table { IfOk result (λ r. IsSized r.0.shared.table_id × (r.0.shared.key ≡ seats)) }
+    ensures seat { IfOk result (λ r. (r.1.table_id ≡ r.0.shared.table_id) × (r.1.me ≡ (opened seats, []))) }
+{
+    let mut slots = Vec::new(alloc);
+    slots.push(Some(value))?;
+    match Board::new(alloc, &[0; 7], slots, &seats) {
+        Ok(laid) => Ok(laid),
+        Err(_) => Err(NoMemory),
+    }
+}
+
+/// Splits the other seats off the first, and makes their passes.
+pub(crate) fn split_off<T: Kept>(
+    alloc: Global,
+    words: &Words<T>,
+    first: &mut Place<T>,
+    seats: u32,
+) -> Result<Vec<Pass<T>>, NoMemory>
+    requires own { (first.old.table_id ≡ words.now.table_id) × IsSized words.now.table_id }
+    requires seats { (0 < seats) × (seats ≤ 64) }
+    requires whole { first.old.me ≡ (opened seats, []) }
+    ensures passes { IfOk result (λ v. new_pass words.now.table_id 1 ∷ v.items ≡ new_passes words.now.table_id seats) }
+    ensures first { IfOk result (λ _. pass_state first.new ≡ new_pass words.now.table_id 1) }
+    ensures rests { IfOk result (λ _. (first.new.me.1 ≡ []) × (first.new.me.0.stage ≡ Idle) × (first.new.me.0.parts ≡ 1)) }
+{
+    let mut passes = Vec::with_capacity(alloc, seats as usize)?;
+    for made in 1..seats {
+        let seat = words.split_seat::<OneMore>(first);
+        passes.push(Pass::of(seat, made + 1))?;
+    }
+    Ok(passes)
+}
+
+/// The seat that stands for all passes.
+pub(crate) fn take_in<T: Kept>(words: &Words<T>, mut passes: Vec<Pass<T>>) -> Place<T>
+    requires sized { IsSized words.now.table_id }
+    requires some { 0 < length passes.items }
+    requires own { All (λ p. p.lock ≡ words.now.table_id) passes.items }
+    ensures own { result.table_id ≡ words.now.table_id }
+    ensures rests { (result.me.1 ≡ []) × (result.me.0.stage ≡ Idle) }
+    ensures all { result.me.0.parts ≡ length passes.items }
+    ensures made { result.me.0.made ≡ sum_by (λ p. p.made) passes.items }
+    ensures covers { (xs : List T.Entry) → Covers T.counted result.me.0 xs → All (λ p. IsReached T.counted p xs) passes.items }
+{
+    let Some(pass) = passes.pop() else {
+        unreachable!()
+    };
+    let mut seat = pass.into_seat();
+    while let Some(pass) = passes.pop() {
+        words.join_seat::<TakeIn>(&mut seat, pass.into_seat());
+    }
+    seat
+}
+
+/// The value of a table whose only seat this is.
+pub(crate) fn take_out<T: Kept>(table: Board<T>, seat: Place<T>) -> T
+    requires own { (seat.table_id ≡ table.shared.table_id) × IsSized table.shared.table_id }
+    requires rests { (seat.me.1 ≡ []) × (seat.me.0.stage ≡ Idle) }
+    requires all { (seat.me.0.parts ≡ table.shared.key) × (0 < table.shared.key) }
+    ensures made { length (T.entries result) ≡ seat.me.0.made }
+    ensures covers { Covers T.counted seat.me.0 (T.entries result) }
+{
+    let mut closed = table.close_with(seat);
+    let value = closed.take(VALUE).unwrap();
+    closed.free();
+    value
+}

@@ -1,0 +1,95 @@
+//! Taking the turn with the value, and passing it on with what was made of it.
+ghost use Rattle.std.specs.Prelude.{◌≡◌, ◌<◌, [], length};
+ghost use Rattle.kms_histlock.specs.declared.view.Stage.TheVariants.{Idle, Waits};
+ghost use Rattle.kms_histlock.specs.Steps.{Takes};
+ghost use Rattle.kms_histlock.specs.Seats.{IsSized, IsSameSeat, HasTurn, MayGive, Stores, HasStored, Recounts, IsSameButTurn, gave};
+
+use crate::kept::Kept;
+use crate::rules::{
+    COUNTS, Draw, LENGTH, Look, PassOn, Place, SERVED, StoreCount, StoreLength, TICKETS, VALUE,
+    Words,
+};
+use std::sync::Wait;
+use std::thread::yield_now;
+
+// Looks at the served word again and again, until it is the seat's number.
+fn wait<T: Kept, W: Wait>(rt: &W, words: &Words<T>, seat: &mut Place<T>, number: u64)
+    requires own { (seat.old.table_id ≡ words.now.table_id) × IsSized words.now.table_id }
+    requires waits { seat.old.me.0.stage ≡ Waits number }
+    ensures same { IsSameSeat seat.old seat.new }
+    ensures takes { Takes T.owner T.entries T.counted number seat.old.me seat.new.me }
+{
+    for _ in rt.forever() {
+        if words.load::<Look>(seat, SERVED) == number {
+            return;
+        }
+        yield_now();
+    }
+    unreachable!()
+}
+
+/// Waits for the turn, and takes the value.
+pub(crate) fn take<T: Kept, W: Wait>(rt: &W, words: &Words<T>, seat: &mut Place<T>) -> T
+    requires own { (seat.old.table_id ≡ words.now.table_id) × IsSized words.now.table_id }
+    requires rests { (seat.old.me.0.stage ≡ Idle) × (seat.old.me.1 ≡ []) × (0 < seat.old.me.0.parts) }
+    ensures same { IsSameSeat seat.old seat.new }
+    ensures turn { HasTurn T.owner T.entries T.counted seat.old.me result seat.new.me }
+{
+    let number = words.fetch_add::<Draw>(seat, TICKETS, 1);
+    wait(rt, words, seat, number);
+    words.exchange(seat, VALUE, None).unwrap()
+}
+
+// Stores the length of the value's history, which was `found` when the turn came. The word is the seat's
+// to write, so it holds `found` still. It is exchanged, and not stored, so that the proof is told of `value`.
+fn store_length<T: Kept>(
+    words: &Words<T>,
+    seat: &mut Place<T>,
+    found: u64,
+    length: u64,
+    value: &Option<T>,
+)
+    requires own { (seat.old.table_id ≡ words.now.table_id) × IsSized words.now.table_id }
+    requires turn { Stores T.owner T.entries found length value.now seat.old.me }
+    ensures same { IsSameSeat seat.old seat.new }
+    ensures stored { HasStored T.entries value.now seat.old.me seat.new.me }
+{
+    words.compare_exchange_with::<StoreLength>(seat, LENGTH, found, length, value);
+}
+
+// Stores the counts of the history whose length is stored.
+fn store_counts<T: Kept>(words: &Words<T>, seat: &mut Place<T>, counts: &[u64; 4])
+    requires own { (seat.old.table_id ≡ words.now.table_id) × IsSized words.now.table_id }
+    requires turn { Recounts T.counted counts.now 0 seat.old.me }
+    ensures same { IsSameSeat seat.old seat.new }
+    ensures stored { Recounts T.counted counts.now 4 seat.new.me }
+    ensures rest { IsSameButTurn seat.old.me seat.new.me }
+{
+    for k in 0..4usize {
+        words.store::<StoreCount>(seat, k + COUNTS, counts[k]);
+    }
+}
+
+/// Stores the length and the counts of the value's history, gives the value back, and passes the turn on.
+/// Answers the length. It was `found` when the turn came.
+pub(crate) fn give<T: Kept>(words: &Words<T>, seat: &mut Place<T>, found: u64, value: T) -> u64
+    requires own { (seat.old.table_id ≡ words.now.table_id) × IsSized words.now.table_id }
+    requires turn { MayGive T.owner T.entries T.counted found value seat.old.me }
+    ensures same { IsSameSeat seat.old seat.new }
+    ensures length { result ≡ length (T.entries value) }
+    ensures rests { seat.new.me ≡ (gave (T.entries value) found seat.old.me.0, []) }
+{
+    let length = value.length();
+    let counts = [
+        value.count(0),
+        value.count(1),
+        value.count(2),
+        value.count(3),
+    ];
+    let value = Some(value);
+    store_length(words, seat, found, length, &value);
+    store_counts(words, seat, &counts);
+    words.exchange(seat, VALUE, value);
+    words.fetch_add::<PassOn>(seat, SERVED, 1);
+    length
+}
