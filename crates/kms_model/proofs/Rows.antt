@@ -1,5 +1,5 @@
 -- Worked examples of the definitions, computed: what the scripts spell and what their reports are.
-use Rattle.std.proofs.Common.{◌≡◌, ℕ, List, [], ◌∷◌, ◌++◌, refl, codes, pos, Option, Some, None, replicate, Ok, Err, Result}
+use Rattle.std.proofs.Common.{◌≡◌, ℕ, List, [], ◌∷◌, ◌++◌, refl, codes, pos, Some, None, replicate, Ok, Err}
 use Rattle.kms_model.specs.declared.objects.Kind.TheVariants as kind
 use Rattle.kms_model.specs.declared.objects.Format.TheVariants.{Xr24, Rg16}
 use Rattle.kms_model.specs.declared.objects.Mode.{Mode}
@@ -11,8 +11,8 @@ use Rattle.kms_model.specs.declared.scripts.Pattern.TheVariants.{Solid}
 use Rattle.kms_model.specs.declared.scripts.PropRef.TheVariants.{Known}
 use Rattle.kms_model.specs.declared.scripts.Script.{Script}
 use Rattle.kms_model.specs.declared.scripts.Value.TheVariants as value
-use Rattle.kms_model.specs.declared.scripts.Why.TheVariants.{Limit, Unbuilt}
-use Rattle.kms_model.specs.Input.{Fault, device, input}
+use Rattle.kms_model.specs.declared.scripts.Why.TheVariants.{Unbuilt}
+use Rattle.kms_model.specs.Input.{device, input}
 use Rattle.kms_model.specs.Flat.{flat}
 use Rattle.kms_model.specs.Frames.{colour_of}
 use Rattle.kms_model.specs.Serial.{buffer_refusal}

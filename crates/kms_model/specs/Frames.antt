@@ -1,5 +1,5 @@
 -- The bytes of a frame, pixel by pixel. From: "Plane Composition Properties"; `drm_fourcc.h`.
-use Rattle.std.specs.Prelude.{◌≡◌, ℕ, ◌+◌, ◌-◌, ◌*◌, ◌/◌, ◌%◌, Bool, true, false, ◌&&◌, ◌==◌, min, ℤ, pos, ◌+ℤ◌, ◌-ℤ◌, int_lt, int_le, int_div, List, [], ◌∷◌, ◌++◌, Option, Some, None, if◌then◌else◌, slice_index}
+use Rattle.std.specs.Prelude.{ℕ, ◌+◌, ◌-◌, ◌*◌, ◌/◌, ◌%◌, Bool, false, ◌&&◌, ◌==◌, min, ℤ, pos, ◌+ℤ◌, ◌-ℤ◌, int_lt, int_le, int_div, List, [], ◌∷◌, Option, Some, None, if◌then◌else◌, slice_index}
 use Rattle.std.specs.List.{flat_map, range_with_len}
 use Rattle.kms_model.specs.declared.objects.Format.{Format}
 use Rattle.kms_model.specs.declared.objects.Format.TheVariants.{Xr24, Ar24, Rg16}

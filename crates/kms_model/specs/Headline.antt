@@ -6,7 +6,7 @@ use Rattle.kms_model.specs.declared.objects.Kind.TheVariants.{Crtc}
 use Rattle.kms_model.specs.declared.scripts.Script.{Script}
 use Rattle.kms_model.specs.Objects.{object_id}
 use Rattle.kms_model.specs.Serial.{Entry, command_of, execute, serial, show}
-use Rattle.kms_model.specs.Flat.{Done, entry_of, journal_of, run, journal_line, reply_line, latch_lines, latches_of, by_client}
+use Rattle.kms_model.specs.Flat.{Done, entry_of, journal_of, journal_line, reply_line, latch_lines, by_client}
 
 -- A command that was executed is the script's, and its result is that of the device of one thread at its place in
 -- the journal: after as many entries as had been accepted before it.

@@ -1,6 +1,6 @@
 -- How a list of at most 16 layers is kept in place.
-use Rattle.std.specs.Prelude.{◌≡◌, ℕ, ◌+◌, ◌-◌, ◌≤◌, List, [], ◌∷◌, ◌++◌, length, take, drop, replicate, ℤ, pos, Option, None, refl}
-use Rattle.std.proofs.Common.{arith, length-take, sym, ◌∙◌, ap}
+use Rattle.std.specs.Prelude.{◌≡◌, ℕ, ◌-◌, ◌≤◌, List, ◌++◌, length, take, drop, replicate, pos, None}
+use Rattle.std.proofs.Common.{arith, length-take}
 use Rattle.std.proofs.lemmas.List.{take-append-drop}
 use Rattle.kms_model.specs.declared.objects.Format.TheVariants.{Xr24}
 use Rattle.kms_model.specs.declared.pictures.Layer.{Layer}

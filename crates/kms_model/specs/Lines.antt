@@ -1,7 +1,7 @@
 -- One line of a script, after the lines before it, in the narrow form that is built so far: a device of one
 -- CRTC, one primary plane and one connector, and at most one client, whose commands are `buffer`, `addfb`,
 -- `mode` and an `atomic` that lights the CRTC with one framebuffer.
-use Rattle.std.specs.Prelude.{◌≡◌, ℕ, ◌+◌, ◌-◌, ◌*◌, Bool, true, false, ◌&&◌, ◌||◌, ◌==◌, nat_lt, nat_le, List, [], ◌∷◌, ◌++◌, length, Option, Some, None, is_none, is_some, if◌then◌else◌, codes, ℤ, pos}
+use Rattle.std.specs.Prelude.{ℕ, ◌+◌, ◌*◌, Bool, true, ◌&&◌, ◌==◌, nat_lt, nat_le, List, [], ◌∷◌, ◌++◌, length, Option, Some, None, is_none, if◌then◌else◌, codes, pos}
 use Rattle.std.specs.Str.{bytes_eq}
 use Rattle.kms_model.specs.declared.properties.TheConstants.{ACTIVE, MODE_ID, CRTC_ID, FB_ID, CRTC_W, CRTC_H, SRC_W, SRC_H}
 use Rattle.kms_model.specs.declared.scripts.Command.{Command}

@@ -1,6 +1,6 @@
 -- The CRTCs that a request is about. From: "Atomic Mode Setting"; drm_atomic_get_crtc_state,
 -- drm_atomic_crtc_needs_modeset.
-use Rattle.std.specs.Prelude.{◌≡◌, ℕ, Bool, true, false, not, ◌&&◌, ◌||◌, ◌==◌, List, [], ◌∷◌, filter}
+use Rattle.std.specs.Prelude.{ℕ, Bool, true, false, not, ◌&&◌, ◌||◌, ◌==◌, List, filter}
 use Rattle.std.specs.List.{list_any}
 use Rattle.std.specs.Ordering.{int_eq}
 use Rattle.kms_model.specs.declared.objects.Kind.{Kind}

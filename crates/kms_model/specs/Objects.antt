@@ -1,5 +1,5 @@
 -- The ids of display objects. From: "Modeset Base Object Abstraction"; the numbers are this device's own.
-use Rattle.std.specs.Prelude.{ℕ, ◌+◌, Bool, true, false, nat_lt, List, length, map}
+use Rattle.std.specs.Prelude.{ℕ, ◌+◌, Bool, nat_lt, List, length, map}
 use Rattle.std.specs.List.{range_with_len}
 use Rattle.kms_model.specs.declared.objects.Kind.{Kind}
 use Rattle.kms_model.specs.declared.objects.Kind.TheVariants.{Crtc, Plane, Conn, Enc}

@@ -1,7 +1,7 @@
 -- Whether a request is accepted, and else the first refusal. The order and the numbers of the refusals are this
 -- device's own; the rules are those of drm_atomic_check_only and drm_atomic_helper_check. Of its cases these
 -- two are built so far: a request of the narrow form meets no other.
-use Rattle.std.specs.Prelude.{◌≡◌, ℕ, Bool, true, false, not, ◌&&◌, ◌==◌, bit_and, List, Option, Some, None}
+use Rattle.std.specs.Prelude.{ℕ, Bool, not, ◌&&◌, ◌==◌, bit_and, List, Option}
 use Rattle.std.specs.List.{list_any}
 use Rattle.kms_model.specs.declared.objects.Kind.TheVariants.{Crtc}
 use Rattle.kms_model.specs.declared.objects.Topology.{Topology}

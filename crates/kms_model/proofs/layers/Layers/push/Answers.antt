@@ -1,4 +1,3 @@
-use Rattle.std.proofs.Common.{length, sym, ap}
 use Rattle.kms_model.proofs.InPlace.{pushed}
 use Rattle.kms_model.proofs.layers.Layers.push.Goals as goal
 
