@@ -1,6 +1,6 @@
 -- A mode's bytes, written and read.
-use Rattle.std.proofs.Common.{◌≡◌, ◌≢◌, ℕ, ◌+◌, ◌-◌, ◌*◌, ◌^◌, ◌<◌, ◌≤◌, List, [], ◌∷◌, ◌++◌, length, get_or, take, drop, Bool, true, false, Result, Ok, Err, IsTrue, inl, inr, refl, sym, ap, ◌∙◌, subst, zero, suc, zero-add, arith, rules}
-use Rattle.std.specs.Prelude.{not, ◌&&◌, ◌==◌, nat_lt, nat_le, slice_range, IfOk, if◌then◌else◌}
+use Rattle.std.proofs.Common.{◌≡◌, ℕ, ◌+◌, ◌<◌, ◌≤◌, List, [], ◌∷◌, ◌++◌, length, get_or, take, drop, Bool, true, false, Ok, Err, IsTrue, inl, inr, refl, sym, ap, ◌∙◌, subst, zero, suc, zero-add, arith, rules}
+use Rattle.std.specs.Prelude.{not, ◌&&◌, ◌==◌, nat_lt, nat_le, IfOk, if◌then◌else◌}
 use Rattle.std.specs.Int.{w16, w32, to_le_bytes, from_le_bytes}
 use Rattle.std.proofs.lemmas.Bool.{cases_lt, eq-eqb}
 use Rattle.std.proofs.lemmas.Bool.Decides.{eqb_tells}
@@ -8,11 +8,10 @@ use Rattle.std.proofs.lemmas.List.{take-append-drop, get_or-take, get_or-drop, l
 use Rattle.std.proofs.Math.Seq.{drop-nil}
 use Rattle.std.proofs.lemmas.Nat.{le_bytes_2, le_bytes_4, from_le_bytes-to_le_bytes_2, from_le_bytes-to_le_bytes_4}
 use Rattle.kms_model.specs.declared.objects.Mode.{Mode}
-use Rattle.kms_model.specs.declared.stores.BadMode.{BadMode}
 use Rattle.kms_model.specs.declared.stores.BadMode.TheVariants.{Horizontal, Vertical, Clock, Size}
 use Rattle.kms_model.specs.Modes.{is_axis, is_legal_mode}
 use Rattle.kms_blobs.specs.Ranges.{FitsTypes}
-use Rattle.kms_model.specs.ModeBytes.{mode_bytes, mode_in, half_at, word_at, if_legal, decoded}
+use Rattle.kms_model.specs.ModeBytes.{mode_bytes, mode_in, if_legal, decoded}
 
 -- bytes are below 256
 pub record AreBytes (bytes : List ℕ) : Type 0 where
@@ -20,8 +19,9 @@ pub record AreBytes (bytes : List ℕ) : Type 0 where
 
 part_small : (bytes : List ℕ) (at n : ℕ) → AreBytes bytes → (i : ℕ) → get_or (take n (drop at bytes)) i 0 < 256
 part_small bytes at n small i = elim (cases_lt i n) [
-    inl within ↦ rw (get_or-take n (drop at bytes) i 0 within, get_or-drop at bytes i 0) (small.small (at + i))
-  | inr past ↦ rw (get_or_past (take n (drop at bytes)) i 0 (simp length-take (omega arith))) (omega arith) ]
+  | inl within ↦ rw (get_or-take n (drop at bytes) i 0 within, get_or-drop at bytes i 0) (small.small (at + i))
+  | inr past ↦ rw (get_or_past (take n (drop at bytes)) i 0 (simp length-take (omega arith))) (omega arith)
+]
 
 half_back : (bytes : List ℕ) (at : ℕ) → AreBytes bytes → at + 2 ≤ length bytes → to_le_bytes w16 (from_le_bytes w16 (take 2 (drop at bytes))) ≡ take 2 (drop at bytes)
 half_back bytes at small within = le_bytes_2 (take 2 (drop at bytes)) _ (simp (length-take, length-drop) (omega arith)) (part_small bytes at 2 small) refl
@@ -34,7 +34,6 @@ drops n zero xs = ap (λ (k : ℕ). drop k xs) (sym (zero-add n))
 drops n (suc at) [] = let e : suc at + n ≡ suc (at + n) = omega arith in rw e (drop-nil n)
 drops n (suc at) (x ∷ xs) = let e : suc at + n ≡ suc (at + n) = omega arith in rw e (drops n at xs)
 
-
 abbrev pub made : (a0 a1 a2 a3 a4 a5 a6 a7 a8 a9 a10 a11 a12 a13 : ℕ) → List ℕ → Mode
 made a0 a1 a2 a3 a4 a5 a6 a7 a8 a9 a10 a11 a12 a13 name = record { clock = a0; hdisplay = a1; hsync_start = a2; hsync_end = a3; htotal = a4; hskew = a5; vdisplay = a6; vsync_start = a7; vsync_end = a8; vtotal = a9; vscan = a10; vrefresh = a11; flags = a12; kind = a13; name = name }
 
@@ -45,21 +44,21 @@ same_made a0 a1 a2 a3 a4 a5 a6 a7 a8 a9 a10 a11 a12 a13 b0 b1 b2 b3 b4 b5 b6 b7 
 pub mode_in-mode_bytes : (m : Mode) → FitsTypes m → mode_in (mode_bytes m) ≡ m
 mode_in-mode_bytes m fits =
     same_made _ _ _ _ _ _ _ _ _ _ _ _ _ _ _ _ _ _ _ _ _ _ _ _ _ _ _ _ _ _
-        (from_le_bytes-to_le_bytes_4 m.clock fits.front.clock)
-        (from_le_bytes-to_le_bytes_2 m.hdisplay fits.front.hdisplay)
-        (from_le_bytes-to_le_bytes_2 m.hsync_start fits.front.hsync_start)
-        (from_le_bytes-to_le_bytes_2 m.hsync_end fits.front.hsync_end)
-        (from_le_bytes-to_le_bytes_2 m.htotal fits.front.htotal)
-        (from_le_bytes-to_le_bytes_2 m.hskew fits.front.hskew)
-        (from_le_bytes-to_le_bytes_2 m.vdisplay fits.middle.vdisplay)
-        (from_le_bytes-to_le_bytes_2 m.vsync_start fits.middle.vsync_start)
-        (from_le_bytes-to_le_bytes_2 m.vsync_end fits.middle.vsync_end)
-        (from_le_bytes-to_le_bytes_2 m.vtotal fits.middle.vtotal)
-        (from_le_bytes-to_le_bytes_2 m.vscan fits.middle.vscan)
-        (from_le_bytes-to_le_bytes_4 m.vrefresh fits.back.vrefresh)
-        (from_le_bytes-to_le_bytes_4 m.flags fits.back.flags)
-        (from_le_bytes-to_le_bytes_4 m.kind fits.back.kind)
-        (take_all 32 m.name (omega (arith, fits.back.name)))
+    (from_le_bytes-to_le_bytes_4 m.clock fits.front.clock)
+    (from_le_bytes-to_le_bytes_2 m.hdisplay fits.front.hdisplay)
+    (from_le_bytes-to_le_bytes_2 m.hsync_start fits.front.hsync_start)
+    (from_le_bytes-to_le_bytes_2 m.hsync_end fits.front.hsync_end)
+    (from_le_bytes-to_le_bytes_2 m.htotal fits.front.htotal)
+    (from_le_bytes-to_le_bytes_2 m.hskew fits.front.hskew)
+    (from_le_bytes-to_le_bytes_2 m.vdisplay fits.middle.vdisplay)
+    (from_le_bytes-to_le_bytes_2 m.vsync_start fits.middle.vsync_start)
+    (from_le_bytes-to_le_bytes_2 m.vsync_end fits.middle.vsync_end)
+    (from_le_bytes-to_le_bytes_2 m.vtotal fits.middle.vtotal)
+    (from_le_bytes-to_le_bytes_2 m.vscan fits.middle.vscan)
+    (from_le_bytes-to_le_bytes_4 m.vrefresh fits.back.vrefresh)
+    (from_le_bytes-to_le_bytes_4 m.flags fits.back.flags)
+    (from_le_bytes-to_le_bytes_4 m.kind fits.back.kind)
+    (take_all 32 m.name (omega (arith, fits.back.name)))
 
 -- a part and what stands behind it
 joined : (bytes part rest : List ℕ) (at n : ℕ) → part ≡ take n (drop at bytes) → rest ≡ drop n (drop at bytes) → part ++ rest ≡ drop at bytes
@@ -69,20 +68,20 @@ joined bytes part rest at n first second = rw (first, second) (take-append-drop 
 pub mode_bytes-mode_in : (bytes : List ℕ) → AreBytes bytes → length bytes ≡ 68 → mode_bytes (mode_in bytes) ≡ bytes
 mode_bytes-mode_in bytes small long =
     (joined bytes _ _ 0 4 (word_back bytes 0 small (omega arith))
-        ((joined bytes _ _ 4 2 (half_back bytes 4 small (omega arith))
-        ((joined bytes _ _ 6 2 (half_back bytes 6 small (omega arith))
-        ((joined bytes _ _ 8 2 (half_back bytes 8 small (omega arith))
-        ((joined bytes _ _ 10 2 (half_back bytes 10 small (omega arith))
-        ((joined bytes _ _ 12 2 (half_back bytes 12 small (omega arith))
-        ((joined bytes _ _ 14 2 (half_back bytes 14 small (omega arith))
-        ((joined bytes _ _ 16 2 (half_back bytes 16 small (omega arith))
-        ((joined bytes _ _ 18 2 (half_back bytes 18 small (omega arith))
-        ((joined bytes _ _ 20 2 (half_back bytes 20 small (omega arith))
-        ((joined bytes _ _ 22 2 (half_back bytes 22 small (omega arith))
-        ((joined bytes _ _ 24 4 (word_back bytes 24 small (omega arith))
-        ((joined bytes _ _ 28 4 (word_back bytes 28 small (omega arith))
-        ((joined bytes _ _ 32 4 (word_back bytes 32 small (omega arith))
-        ((take_all 32 (drop 36 bytes) (simp length-drop (omega arith))) ∙ sym (drops 4 32 bytes))) ∙ sym (drops 4 28 bytes))) ∙ sym (drops 4 24 bytes))) ∙ sym (drops 2 22 bytes))) ∙ sym (drops 2 20 bytes))) ∙ sym (drops 2 18 bytes))) ∙ sym (drops 2 16 bytes))) ∙ sym (drops 2 14 bytes))) ∙ sym (drops 2 12 bytes))) ∙ sym (drops 2 10 bytes))) ∙ sym (drops 2 8 bytes))) ∙ sym (drops 2 6 bytes))) ∙ sym (drops 2 4 bytes))) ∙ sym (drops 4 0 bytes)))
+    ((joined bytes _ _ 4 2 (half_back bytes 4 small (omega arith))
+    ((joined bytes _ _ 6 2 (half_back bytes 6 small (omega arith))
+    ((joined bytes _ _ 8 2 (half_back bytes 8 small (omega arith))
+    ((joined bytes _ _ 10 2 (half_back bytes 10 small (omega arith))
+    ((joined bytes _ _ 12 2 (half_back bytes 12 small (omega arith))
+    ((joined bytes _ _ 14 2 (half_back bytes 14 small (omega arith))
+    ((joined bytes _ _ 16 2 (half_back bytes 16 small (omega arith))
+    ((joined bytes _ _ 18 2 (half_back bytes 18 small (omega arith))
+    ((joined bytes _ _ 20 2 (half_back bytes 20 small (omega arith))
+    ((joined bytes _ _ 22 2 (half_back bytes 22 small (omega arith))
+    ((joined bytes _ _ 24 4 (word_back bytes 24 small (omega arith))
+    ((joined bytes _ _ 28 4 (word_back bytes 28 small (omega arith))
+    ((joined bytes _ _ 32 4 (word_back bytes 32 small (omega arith))
+    ((take_all 32 (drop 36 bytes) (simp length-drop (omega arith))) ∙ sym (drops 4 32 bytes))) ∙ sym (drops 4 28 bytes))) ∙ sym (drops 4 24 bytes))) ∙ sym (drops 2 22 bytes))) ∙ sym (drops 2 20 bytes))) ∙ sym (drops 2 18 bytes))) ∙ sym (drops 2 16 bytes))) ∙ sym (drops 2 14 bytes))) ∙ sym (drops 2 12 bytes))) ∙ sym (drops 2 10 bytes))) ∙ sym (drops 2 8 bytes))) ∙ sym (drops 2 6 bytes))) ∙ sym (drops 2 4 bytes))) ∙ sym (drops 4 0 bytes)))
 
 above_zero : (n : ℕ) → n ≡ 0 → IsTrue (nat_lt 0 n) → ⊥
 above_zero n same above = let h : IsTrue (nat_lt 0 0) = subst (λ (k : ℕ). IsTrue (nat_lt 0 k)) same above in search (rules, h)

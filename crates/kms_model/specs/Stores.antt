@@ -91,7 +91,10 @@ words_of pattern format width height = flat_map (row_words pattern format width)
 -- a client's buffer of a pattern
 abbrev pub buffer : ℕ → ℕ → ℕ → Format → Pattern → Buffer
 buffer owner width height format pattern = record {
-  owner = owner; width = width; height = height; format = format;
+  owner = owner;
+  width = width;
+  height = height;
+  format = format;
   words = words_of pattern format width height;
 }
 

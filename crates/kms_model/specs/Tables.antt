@@ -1,5 +1,5 @@
 -- Tables: values by their ids, in rising order of the ids.
-use Rattle.std.specs.Prelude.{ℕ, ◌<◌, Bool, not, ◌==◌, List, [], ◌∷◌, map, filter, Option, Some, None, if◌then◌else◌, ⊤}
+use Rattle.std.specs.Prelude.{ℕ, ◌<◌, not, ◌==◌, List, [], ◌∷◌, map, filter, Option, Some, None, if◌then◌else◌, ⊤}
 use Rattle.std.specs.List.{AllByRecursion}
 use Rattle.kms_model.specs.declared.tables.Slot.{Slot}
 

@@ -66,7 +66,6 @@ impl<T: Drop> Table<T> {
         Ok(())
     }
 
-
     /// Puts another value under an id, where it has one.
     pub fn set(&mut self, id: u32, value: T)
         ensures { self.new ≡ with_value self.old id value }
@@ -95,9 +94,7 @@ fn place_in<T>(slots: &[Slot<T>], id: u32) -> Option<usize>
     requires { IsRising slots.now }
     ensures in_range { IfSome result (λ i. i < length slots.now) }
     ensures at { IfSome result (λ i. slice_index (slot_ids slots.now) i ≡ id) }
-    ensures absent {
-        IfNone result ((k : ℕ) → k < length slots.now → slice_index (slot_ids slots.now) k ≢ id)
-    }
+    ensures absent { IfNone result ((k : ℕ) → k < length slots.now → slice_index (slot_ids slots.now) k ≢ id) }
 {
     let mut low: usize = 0;
     let mut high = slots.len();

@@ -1,6 +1,4 @@
-use Rattle.std.proofs.Common.{rules, ◌≡◌}
-use Rattle.std.specs.Prelude.{IfOk}
-use Rattle.kms_model.specs.ModeBytes.{mode_bytes}
+use Rattle.std.proofs.Common.{rules}
 use Rattle.kms_blobs.proofs.RoundTrip.{AreBytes, mode_bytes-if_legal}
 use Rattle.kms_blobs.proofs.modes.decode_mode.Goals as goal
 

@@ -1,5 +1,4 @@
-use Rattle.std.proofs.Common.{◌-◌, ◌≡◌, ◌≢◌, ℕ, length, slice_index, ◌<◌, ◌≤◌}
-use Rattle.kms_model.specs.Tables.{slot_ids}
+use Rattle.std.proofs.Common.{◌-◌}
 use Rattle.kms_model.proofs.TableLemmas.{Narrowed}
 use Rattle.kms_model.proofs.tables.place_in.Given as goal
 

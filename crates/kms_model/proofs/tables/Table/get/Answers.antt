@@ -1,7 +1,5 @@
-use Rattle.std.proofs.Common.{◌≡◌, ◌<◌, ◌∙◌, sym, refl, rules, arith, subst, List, ℕ}
-use Rattle.kms_model.specs.declared.tables.Slot.{Slot}
-use Rattle.kms_model.specs.Tables.{slot, IsRising, AreBelow, with_value, without_id, value_with_id}
-use Rattle.kms_model.proofs.TableLemmas.{AreOther, FoundAt, found, absent, value-absent, value-present, with_value-absent, with_value-present, without_id-absent, without_id-present, IsRising-push, IsRising-with_value, IsRising-without_id}
+use Rattle.std.proofs.Common.{sym}
+use Rattle.kms_model.proofs.TableLemmas.{FoundAt, found, absent, value-absent, value-present}
 use Rattle.kms_model.proofs.tables.Table.get.Goals as goal
 
 pub returns-in-Some : goal.returns-in-Some

@@ -1,14 +1,12 @@
-use Rattle.std.proofs.Common.{◌≡◌, ◌<◌, ◌∙◌, sym, refl, rules, arith, subst, List, ℕ}
-use Rattle.kms_model.specs.declared.tables.Slot.{Slot}
-use Rattle.kms_model.specs.Tables.{slot, IsRising, AreBelow, with_value, without_id, value_with_id}
-use Rattle.kms_model.proofs.TableLemmas.{AreOther, FoundAt, found, absent, value-absent, value-present, with_value-absent, with_value-present, without_id-absent, without_id-present, IsRising-push, IsRising-with_value, IsRising-without_id}
+use Rattle.std.proofs.Common.{◌∙◌}
+use Rattle.kms_model.proofs.TableLemmas.{FoundAt, found, absent, without_id-absent, without_id-present, IsRising-without_id}
 use Rattle.kms_model.proofs.tables.Table.remove.Goals as goal
 
 pub invariant_of-self : goal.invariant_of-self
 invariant_of-self g c =
     let at : FoundAt c.self.inside.slots.items c.in-Some.i c.args.id = found c.as_slice.result.now c.self.inside.slots.items c.in-Some.i c.args.id c.as_slice.ensures.value c.self.invariant c.in-Some.ensures.in_range c.in-Some.ensures.at in
     rw (c.remove.ensures.items, without_id-present c.self.inside.slots.items c.in-Some.i c.args.id at.rising at.within at.same)
-        (IsRising-without_id c.self.inside.slots.items c.args.id c.self.invariant)
+    (IsRising-without_id c.self.inside.slots.items c.args.id c.self.invariant)
 
 pub returns-in-Some : goal.returns-in-Some
 returns-in-Some g c =

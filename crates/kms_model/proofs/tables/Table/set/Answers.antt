@@ -1,14 +1,11 @@
-use Rattle.std.proofs.Common.{◌≡◌, ◌<◌, ◌∙◌, sym, refl, rules, arith, subst, List, ℕ}
-use Rattle.kms_model.specs.declared.tables.Slot.{Slot}
-use Rattle.kms_model.specs.Tables.{slot, IsRising, AreBelow, with_value, without_id, value_with_id}
-use Rattle.kms_model.proofs.TableLemmas.{AreOther, FoundAt, found, absent, value-absent, value-present, with_value-absent, with_value-present, without_id-absent, without_id-present, IsRising-push, IsRising-with_value, IsRising-without_id}
+use Rattle.kms_model.proofs.TableLemmas.{FoundAt, found, absent, with_value-absent, with_value-present, IsRising-with_value}
 use Rattle.kms_model.proofs.tables.Table.set.Goals as goal
 
 pub invariant_of-self : goal.invariant_of-self
 invariant_of-self g c =
     let at : FoundAt c.self.inside.slots.items c.in-Some.i c.args.id = found c.as_slice.result.now c.self.inside.slots.items c.in-Some.i c.args.id c.as_slice.ensures.value c.self.invariant c.in-Some.ensures.in_range c.in-Some.ensures.at in
     rw (with_value-present c.self.inside.slots.items c.in-Some.i c.args.id c.args.value at.rising at.within at.same)
-        (IsRising-with_value c.self.inside.slots.items c.args.id c.args.value c.self.invariant)
+    (IsRising-with_value c.self.inside.slots.items c.args.id c.args.value c.self.invariant)
 
 pub returns-in-Some : goal.returns-in-Some
 returns-in-Some g c =
