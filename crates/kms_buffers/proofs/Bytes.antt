@@ -1,0 +1,19 @@
+-- The bytes of all buffers, with one more.
+use Rattle.std.proofs.Common.{◌≡◌, ◌+◌, ◌≤◌, ℕ, List, [], ◌∷◌, ◌++◌, ap, ◌∙◌, sym, add_assoc, arith}
+use Rattle.kms_model.specs.declared.stores.Buffer.{Buffer}
+use Rattle.kms_model.specs.declared.tables.Slot.{Slot}
+use Rattle.kms_model.specs.Stores.{bytes_of, area_bytes, largest_bytes}
+use Rattle.kms_buffers.specs.Within.{IsCounted}
+
+abbrev pub area_of : Slot Buffer → ℕ
+area_of s = area_bytes s.value.width s.value.height s.value.format
+
+bytes_of-push : (buffers : List (Slot Buffer)) (s : Slot Buffer) → bytes_of (buffers ++ s ∷ []) ≡ bytes_of buffers + area_of s
+bytes_of-push [] s = omega arith
+bytes_of-push (b ∷ buffers) s = ap (λ (n : ℕ). area_of b + n) (bytes_of-push buffers s) ∙ sym (add_assoc (area_of b) (bytes_of buffers) (area_of s))
+
+pub counted-push : (bytes area : ℕ) (buffers : List (Slot Buffer)) (s : Slot Buffer) → IsCounted bytes buffers → area ≡ area_of s → bytes + area ≤ largest_bytes → IsCounted (bytes + area) (buffers ++ s ∷ [])
+counted-push bytes area buffers s counted is fits = record {
+  counted = ap (λ (n : ℕ). n + area) counted.counted ∙ ap (λ (n : ℕ). bytes_of buffers + n) is ∙ sym (bytes_of-push buffers s);
+  within = fits;
+}

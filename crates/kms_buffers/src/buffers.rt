@@ -1,0 +1,165 @@
+//! The store of buffers.
+ghost use Rattle.std.specs.Prelude.{◌≡◌, ◌<◌, ◌≤◌, [], ◌∷◌, ◌++◌, IsOkUnless, OnOk, OnErr, IfSome, IfNone, false, true};
+ghost use Rattle.kms_model.specs.Tables.{AreBelow, slot};
+ghost use Rattle.kms_model.specs.Stores.{buffer, Fills, is_bad_side, is_bad_size, bytes_with, area_bytes, largest_bytes, seen_with_id};
+
+use crate::patterns;
+use kms_model::{Buffer, Format, Image, NoMemory, Pattern, Table};
+use std::alloc::Global;
+use std::marker::Model;
+
+/// The largest side of a buffer, in pixels.
+const LARGEST_SIDE: u32 = 4096;
+
+/// How many bytes all buffers may have together.
+const LARGEST_BYTES: u64 = 268435456;
+
+/// Why a buffer is not made.
+#[derive(Clone, Copy, Debug, PartialEq, Eq)]
+pub enum MakeError {
+    /// 31: a side is 0 or above 4096 pixels.
+    BadSize,
+    /// 32: all buffers would have more than 268435456 bytes together, 4 for each pixel of XR24 and AR24 and 2
+    /// for each of RG16.
+    Space {
+        /// The bytes of all buffers with the new one.
+        total: u64,
+    },
+    /// Memory ran out.
+    NoMemory,
+}
+
+impl From<NoMemory> for MakeError {
+    ghost use Rattle.std.specs.Prelude.{◌≡◌};
+    ghost use Rattle.kms_buffers.specs.declared.buffers.MakeError.TheVariants as error;
+
+    ghost from_gives = { λ _ e. e ≡ error.NoMemory };
+
+    fn from(_e: NoMemory) -> MakeError {
+        MakeError::NoMemory
+    }
+}
+
+/// All buffers. Contracts see them as their list with their ids, in the order in which they were made.
+/// (Kernel: "Dumb Buffer Objects".)
+#[derive(Debug, Drop)]
+pub struct Buffers {
+    buffers: Table<Buffer>,
+    // The bytes of all buffers.
+    bytes: u64,
+}
+
+impl Model for Buffers {
+    ghost use Rattle.std.specs.Prelude.{List, ◌≡◌, ◌≤◌};
+    ghost use Rattle.kms_model.specs.declared.tables.Slot.{Slot};
+    ghost use Rattle.kms_model.specs.declared.stores.Buffer.{Buffer};
+    ghost use Rattle.kms_model.specs.Stores.{bytes_of};
+    ghost use Rattle.kms_buffers.specs.Within.{IsCounted};
+
+    ghost Value = { List (Slot Buffer) };
+
+    ghost view = { λ s. s.buffers };
+
+    ghost invariant = { λ s. IsCounted s.bytes s.buffers };
+}
+
+impl Buffers {
+    /// The store without buffers. It takes no memory until the first `create`.
+    pub fn new(alloc: Global) -> Self
+        ensures { result ≡ [] }
+    {
+        Buffers {
+            buffers: Table::new(alloc),
+            bytes: 0,
+        }
+    }
+
+    /// Makes a client's buffer and fills it with a pattern. Its id is greater than those of all buffers before.
+    /// Refused, in this order, with `BadSize` and `Space`, and with `NoMemory` last; the store then stays as
+    /// it was. (Kernel: "Dumb Buffer Objects", `drm_mode_create_dumb`.)
+    pub fn create(
+        &mut self,
+        alloc: Global,
+        owner: u32,
+        id: u32,
+        width: u32,
+        height: u32,
+        format: Format,
+        pattern: &Pattern,
+    ) -> Result<(), MakeError>
+        requires fresh { AreBelow id self.old }
+        requires fills { Fills pattern.now width height }
+        ensures bad_size { is_bad_size width height ≡ true → result ≡ Err MakeError.BadSize }
+        ensures space { is_bad_size width height ≡ false
+            → largest_bytes < bytes_with self.old width height format
+            → result ≡ Err (MakeError.Space (bytes_with self.old width height format)) }
+        ensures else_made { is_bad_size width height ≡ false
+            → bytes_with self.old width height format ≤ largest_bytes
+            → IsOkUnless result MakeError.NoMemory }
+        ensures made { OnOk result (self.new ≡ self.old ++ slot id (buffer owner width height format pattern.now) ∷ []) }
+        ensures unchanged { OnErr result (self.new ≡ self.old) }
+    {
+        if is_bad(width) || is_bad(height) {
+            return Err(MakeError::BadSize);
+        }
+        let total = self.bytes + area(width, height, format);
+        if total > LARGEST_BYTES {
+            return Err(MakeError::Space { total });
+        }
+        let words = patterns::words(alloc, pattern, format, width, height)?;
+        self.buffers.push(
+            id,
+            Buffer {
+                owner,
+                width,
+                height,
+                format,
+                words,
+            },
+        )?;
+        self.bytes = total;
+        Ok(())
+    }
+
+    /// The buffer with this id; none where there is no such buffer.
+    pub fn image(&self, id: u32) -> Option<Image<'_>>
+        ensures none { IfNone result (seen_with_id self.now id ≡ None) }
+        ensures some { IfSome result (λ image. seen_with_id self.now id ≡ Some (record {
+          width = image.width;
+          height = image.height;
+          format = image.format;
+          words = image.words.now;
+        })) }
+    {
+        match self.buffers.get(id) {
+            Some(buffer) => Some(Image {
+                width: buffer.width,
+                height: buffer.height,
+                format: buffer.format,
+                words: buffer.words.as_slice(),
+            }),
+            None => None,
+        }
+    }
+}
+
+// Whether a side is 0 or too large.
+fn is_bad(side: u32) -> bool
+    ensures { result ≡ is_bad_side side }
+{
+    side == 0 || side > LARGEST_SIDE
+}
+
+// The bytes of a buffer whose sides are not too large.
+fn area(width: u32, height: u32, format: Format) -> u64
+    requires wide { width ≤ 4096 }
+    requires high { height ≤ 4096 }
+    ensures exact { result ≡ area_bytes width height format }
+    ensures bounded { result ≤ 67108864 }
+{
+    let bytes = match format {
+        Format::Xr24 | Format::Ar24 => 4,
+        Format::Rg16 => 2,
+    };
+    u64::from(width * height) * bytes
+}

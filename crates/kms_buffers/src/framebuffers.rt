@@ -1,0 +1,153 @@
+//! The store of framebuffers.
+ghost use Rattle.std.specs.Prelude.{◌≡◌, [], ◌∷◌, ◌++◌, IsTrue, OnOk, OnErr, option_copied};
+ghost use Rattle.kms_model.specs.Tables.{AreBelow, slot, value_with_id, without_id, with_value};
+ghost use Rattle.kms_model.specs.Stores.{framebuffer, MayTake, MayGive, AreCounted, close_answer, fbs_closed, fbs_taken, fbs_given, is_last_of, with_fewer, taken, given, closed, may_close};
+
+use kms_model::{Denied, FbInfo, Framebuffer, NoMemory, Table};
+use std::alloc::Global;
+use std::marker::Model;
+
+/// The framebuffers that something refers to. Contracts see them as their list with their ids, in the order in
+/// which they were added. (Kernel: "Frame Buffer Abstraction"; `drm_framebuffer_get`, `drm_framebuffer_put`.)
+#[derive(Debug, Drop)]
+pub struct FbStore {
+    fbs: Table<Framebuffer>,
+}
+
+impl Model for FbStore {
+    ghost use Rattle.std.specs.Prelude.{List};
+    ghost use Rattle.kms_model.specs.declared.tables.Slot.{Slot};
+    ghost use Rattle.kms_model.specs.declared.stores.Framebuffer.{Framebuffer};
+    ghost use Rattle.kms_model.specs.Stores.{AreCounted};
+
+    ghost Value = { List (Slot Framebuffer) };
+
+    ghost view = { λ s. s.fbs };
+
+    ghost invariant = { λ s. AreCounted s.fbs };
+}
+
+impl FbStore {
+    /// The store without framebuffers. It takes no memory until the first `add`.
+    pub fn new(alloc: Global) -> Self
+        ensures { result ≡ [] }
+    {
+        FbStore {
+            fbs: Table::new(alloc),
+        }
+    }
+
+    /// Adds a client's framebuffer of a buffer: it is open, and has the reference of being open. Its id is
+    /// greater than those of all framebuffers before. Want of memory leaves the store as it was.
+    pub fn add(
+        &mut self,
+        _alloc: Global,
+        owner: u32,
+        id: u32,
+        buffer: u32,
+        info: FbInfo,
+    ) -> Result<(), NoMemory>
+        requires { AreBelow id self.old }
+        ensures added { OnOk result (self.new ≡ self.old ++ slot id (framebuffer owner buffer info) ∷ []) }
+        ensures unchanged { OnErr result (self.new ≡ self.old) }
+        ensures counted { AreCounted self.new }
+    {
+        self.fbs.push(
+            id,
+            Framebuffer {
+                owner,
+                buffer,
+                info,
+                is_open: true,
+                references: 1,
+            },
+        )?;
+        Ok(())
+    }
+
+    /// Closes a client's framebuffer, which gives the reference of being open back. Refused with 33 where it is
+    /// no open framebuffer of this client; the store then stays as it was. True exactly where that was the
+    /// last reference; the framebuffer is then out of the store. (Header: `drm_mode.h`,
+    /// `DRM_IOCTL_MODE_CLOSEFB`.)
+    pub fn close(&mut self, owner: u32, id: u32) -> Result<bool, Denied>
+        ensures answer { result ≡ close_answer owner (value_with_id self.old id) }
+        ensures store { self.new ≡ fbs_closed self.old owner id }
+        ensures counted { AreCounted self.new }
+    {
+        let Some(fb) = found(&self.fbs, id) else {
+            return Err(Denied(33));
+        };
+        if !fb.is_open || fb.owner != owner {
+            return Err(Denied(33));
+        }
+        let left = fb.references - 1;
+        put_back(
+            &mut self.fbs,
+            id,
+            Framebuffer {
+                is_open: false,
+                references: left,
+                ..fb
+            },
+        );
+        Ok(fb.references == 1)
+    }
+
+    /// Takes a reference more of a framebuffer that is in the store and has fewer than 4294967295.
+    pub fn take(&mut self, id: u32)
+        requires { MayTake (value_with_id self.old id) }
+        ensures store { self.new ≡ fbs_taken self.old id }
+        ensures counted { AreCounted self.new }
+    {
+        if let Some(fb) = found(&self.fbs, id) {
+            self.fbs.set(
+                id,
+                Framebuffer {
+                    references: fb.references + 1,
+                    ..fb
+                },
+            );
+        }
+    }
+
+    /// Gives a reference back of a framebuffer that is in the store and has one beside that of being open.
+    /// True exactly where that was the last; the framebuffer is then out of the store.
+    pub fn give(&mut self, id: u32) -> bool
+        requires { MayGive (value_with_id self.old id) }
+        ensures last { result ≡ is_last_of (value_with_id self.old id) }
+        ensures store { self.new ≡ fbs_given self.old id }
+        ensures counted { AreCounted self.new }
+    {
+        let Some(fb) = found(&self.fbs, id) else {
+            return false;
+        };
+        let rest = fb.references - 1;
+        put_back(
+            &mut self.fbs,
+            id,
+            Framebuffer {
+                references: rest,
+                ..fb
+            },
+        );
+        fb.references == 1
+    }
+}
+
+// The framebuffer with an id.
+fn found(fbs: &Table<Framebuffer>, id: u32) -> Option<Framebuffer>
+    ensures { result ≡ value_with_id fbs.now id }
+{
+    fbs.get(id).copied()
+}
+
+// Puts a framebuffer with one reference less back, and takes it out where it has none.
+fn put_back(fbs: &mut Table<Framebuffer>, id: u32, fb: Framebuffer)
+    ensures { fbs.new ≡ with_fewer fbs.old id fb }
+{
+    if fb.references == 0 {
+        fbs.remove(id);
+    } else {
+        fbs.set(id, fb);
+    }
+}
