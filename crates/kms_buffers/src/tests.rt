@@ -74,8 +74,8 @@ fn a_checker_has_squares_of_its_side(rt: HostRuntime) -> Result<(), MakeError> {
 
 #[test]
 fn sides_of_0_and_4097_are_refused(rt: HostRuntime) {
-    let mut buffers = Buffers::new(rt.alloc());
     for (width, height) in [(0, 1), (1, 0), (4097, 1), (1, 4097)] {
+        let mut buffers = Buffers::new(rt.alloc());
         let made = buffers.create(
             rt.alloc(),
             1,
