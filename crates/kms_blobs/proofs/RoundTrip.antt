@@ -11,7 +11,7 @@ use Rattle.kms_model.specs.declared.objects.Mode.{Mode}
 use Rattle.kms_model.specs.declared.stores.BadMode.TheVariants.{Horizontal, Vertical, Clock, Size}
 use Rattle.kms_model.specs.Modes.{is_axis, is_legal_mode}
 use Rattle.kms_blobs.specs.Ranges.{FitsTypes}
-use Rattle.kms_model.specs.ModeBytes.{mode_bytes, mode_in, if_legal, decoded}
+use Rattle.kms_model.specs.ModeBytes.{mode_bytes, mode_held, if_legal, decoded}
 
 -- bytes are below 256
 pub record AreBytes (bytes : List ℕ) : Type 0 where
@@ -41,8 +41,8 @@ same_made : (a0 a1 a2 a3 a4 a5 a6 a7 a8 a9 a10 a11 a12 a13 b0 b1 b2 b3 b4 b5 b6 
 same_made a0 a1 a2 a3 a4 a5 a6 a7 a8 a9 a10 a11 a12 a13 b0 b1 b2 b3 b4 b5 b6 b7 b8 b9 b10 b11 b12 b13 n p e0 e1 e2 e3 e4 e5 e6 e7 e8 e9 e10 e11 e12 e13 e = rw (e0, e1, e2, e3, e4, e5, e6, e7, e8, e9, e10, e11, e12, e13, e) refl
 
 -- the mode that a mode's bytes hold is that mode
-pub mode_in-mode_bytes : (m : Mode) → FitsTypes m → mode_in (mode_bytes m) ≡ m
-mode_in-mode_bytes m fits =
+pub mode_held-mode_bytes : (m : Mode) → FitsTypes m → mode_held (mode_bytes m) ≡ m
+mode_held-mode_bytes m fits =
     same_made _ _ _ _ _ _ _ _ _ _ _ _ _ _ _ _ _ _ _ _ _ _ _ _ _ _ _ _ _ _
     (from_le_bytes-to_le_bytes_4 m.clock fits.front.clock)
     (from_le_bytes-to_le_bytes_2 m.hdisplay fits.front.hdisplay)
@@ -65,8 +65,8 @@ joined : (bytes part rest : List ℕ) (at n : ℕ) → part ≡ take n (drop at 
 joined bytes part rest at n first second = rw (first, second) (take-append-drop n (drop at bytes))
 
 -- the bytes of the mode that 68 bytes hold are those bytes
-pub mode_bytes-mode_in : (bytes : List ℕ) → AreBytes bytes → length bytes ≡ 68 → mode_bytes (mode_in bytes) ≡ bytes
-mode_bytes-mode_in bytes small long =
+pub mode_bytes-mode_held : (bytes : List ℕ) → AreBytes bytes → length bytes ≡ 68 → mode_bytes (mode_held bytes) ≡ bytes
+mode_bytes-mode_held bytes small long =
     (joined bytes _ _ 0 4 (word_back bytes 0 small (omega arith))
     ((joined bytes _ _ 4 2 (half_back bytes 4 small (omega arith))
     ((joined bytes _ _ 6 2 (half_back bytes 6 small (omega arith))
@@ -107,7 +107,7 @@ if_legal-legal m legal =
 -- a legal mode's bytes are read as that mode
 pub decoded-mode_bytes : (m : Mode) (bytes : List ℕ) → FitsTypes m → bytes ≡ mode_bytes m → length bytes ≡ 68 → IsTrue (is_legal_mode m) → decoded bytes ≡ Ok m
 decoded-mode_bytes m bytes fits is long legal =
-    let here : mode_in bytes ≡ m = ap mode_in is ∙ mode_in-mode_bytes m fits in
+    let here : mode_held bytes ≡ m = ap mode_held is ∙ mode_held-mode_bytes m fits in
     rw (eq-eqb (length bytes) 68 long) (ap if_legal here ∙ if_legal-legal m legal)
 
 any_of : (h v none size : Bool) (m : Mode) (P : Mode → Type 0) → P m
@@ -122,5 +122,5 @@ if_ok : (m : Mode) (P : Mode → Type 0) → P m → IfOk (if_legal m) P
 if_ok m P holds = any_of (is_axis m.hdisplay m.hsync_start m.hsync_end m.htotal) (is_axis m.vdisplay m.vsync_start m.vsync_end m.vtotal) (m.clock == 0) (nat_le m.hdisplay 4096 && nat_le m.vdisplay 4096) m P holds
 
 -- what is read was legal bytes of that mode
-pub mode_bytes-if_legal : (bytes : List ℕ) (m : Mode) → AreBytes bytes → length bytes ≡ 68 → m ≡ mode_in bytes → IfOk (if_legal m) (λ k. mode_bytes k ≡ bytes)
-mode_bytes-if_legal bytes m small long is = if_ok m (λ k. mode_bytes k ≡ bytes) (ap mode_bytes is ∙ mode_bytes-mode_in bytes small long)
+pub mode_bytes-if_legal : (bytes : List ℕ) (m : Mode) → AreBytes bytes → length bytes ≡ 68 → m ≡ mode_held bytes → IfOk (if_legal m) (λ k. mode_bytes k ≡ bytes)
+mode_bytes-if_legal bytes m small long is = if_ok m (λ k. mode_bytes k ≡ bytes) (ap mode_bytes is ∙ mode_bytes-mode_held bytes small long)

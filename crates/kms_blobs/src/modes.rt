@@ -1,7 +1,7 @@
 //! The bytes of a mode.
 ghost use Rattle.std.specs.Prelude.{◌≡◌, ◌+◌, ◌≤◌, ◌++◌, length, IfOk, IsTrue, Ok, take, drop, slice_range};
 ghost use Rattle.kms_model.specs.Modes.{is_axis, is_legal_mode};
-ghost use Rattle.kms_model.specs.ModeBytes.{mode_bytes, mode_in, half_at, word_at, if_legal, decoded};
+ghost use Rattle.kms_model.specs.ModeBytes.{mode_bytes, mode_held, two_at, four_at, if_legal, decoded};
 ghost use Rattle.kms_blobs.specs.Ranges.{FitsTypes, FitsFront, FitsMiddle, FitsBack};
 
 use kms_model::{BadMode, Mode};
@@ -15,7 +15,8 @@ const LARGEST_SIDE: u16 = 4096;
 /// Reads a legal mode. Refused, with the first cause that holds: `Length` where the bytes are not 68,
 /// `Horizontal` or `Vertical` where that axis is not in order, `Clock` where the clock is 0, `Size` where a side
 /// is above 4096 pixels. (Header: `drm_mode.h`, `struct drm_mode_modeinfo`; kernel:
-/// `drm_mode_validate_basic`.)
+/// `drm_mode_validate_basic`. The order of the causes and the bound are this device's own, and the
+/// refresh rate, the flags and the type may be anything.)
 pub fn decode_mode(bytes: &[u8]) -> Result<Mode, BadMode>
     ensures decoded { result ≡ decoded bytes.now }
     ensures legal { IfOk result (λ m. IsTrue (is_legal_mode m)) }
@@ -57,7 +58,7 @@ fn is_in_order(display: u16, start: u16, end: u16, total: u16) -> bool
 // The mode, legal or not, that 68 bytes hold.
 fn mode_of(bytes: &[u8]) -> Mode
     requires { length bytes.now ≡ 68 }
-    ensures { result ≡ mode_in bytes.now }
+    ensures { result ≡ mode_held bytes.now }
 {
     let mut name = [0; 32];
     name.copy_from_slice(&bytes[36..68]);
@@ -83,7 +84,7 @@ fn mode_of(bytes: &[u8]) -> Mode
 // The number of two bytes from a place on.
 fn half(bytes: &[u8], at: usize) -> u16
     requires { at + 2 ≤ length bytes.now }
-    ensures { result ≡ half_at bytes.now at }
+    ensures { result ≡ two_at bytes.now at }
 {
     u16::from_le_bytes([bytes[at], bytes[at + 1]])
 }
@@ -91,7 +92,7 @@ fn half(bytes: &[u8], at: usize) -> u16
 // The number of four bytes from a place on.
 fn word(bytes: &[u8], at: usize) -> u32
     requires { at + 4 ≤ length bytes.now }
-    ensures { result ≡ word_at bytes.now at }
+    ensures { result ≡ four_at bytes.now at }
 {
     u32::from_le_bytes([bytes[at], bytes[at + 1], bytes[at + 2], bytes[at + 3]])
 }

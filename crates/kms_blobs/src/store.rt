@@ -34,7 +34,7 @@ impl BlobStore {
         }
     }
 
-    /// Makes a client's blob of these bytes. Its id is greater than those of all blobs before. Want of memory
+    /// Makes a client's blob of these bytes, of which a script gives 1 to 2048. Its id is greater than those of all blobs before. Want of memory
     /// leaves the store as it was.
     pub fn create(
         &mut self,

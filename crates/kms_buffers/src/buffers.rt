@@ -74,7 +74,8 @@ impl Buffers {
         }
     }
 
-    /// Makes a client's buffer and fills it with a pattern. Its id is greater than those of all buffers before.
+    /// Makes a client's buffer of 1 to 4096 by 1 to 4096 pixels and fills it with a pattern: of pixels, exactly as
+    /// many as the buffer has; of a checker, of a side above 0. Its id is greater than those of all buffers before.
     /// Refused, in this order, with `BadSize` and `Space`, and with `NoMemory` last; the store then stays as
     /// it was. (Kernel: "Dumb Buffer Objects", `drm_mode_create_dumb`.)
     pub fn create(

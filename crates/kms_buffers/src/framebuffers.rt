@@ -68,7 +68,7 @@ impl FbStore {
     /// Closes a client's framebuffer, which gives the reference of being open back. Refused with 33 where it is
     /// no open framebuffer of this client; the store then stays as it was. True exactly where that was the
     /// last reference; the framebuffer is then out of the store. (Header: `drm_mode.h`,
-    /// `DRM_IOCTL_MODE_CLOSEFB`.)
+    /// `struct drm_mode_closefb`.)
     pub fn close(&mut self, owner: u32, id: u32) -> Result<bool, Denied>
         ensures answer { result ≡ close_answer owner (value_with_id self.old id) }
         ensures store { self.new ≡ fbs_closed self.old owner id }

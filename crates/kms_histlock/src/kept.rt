@@ -20,7 +20,7 @@ pub trait Kept: Drop {
     fn length(&self) -> u64
         ensures { result ≡ length (entries self.now) };
 
-    /// The `k`-th number that is counted of the value's history.
+    /// The `k`-th number that is counted of the value's history, `k` from 0 to 3.
     fn count(&self, k: u32) -> u64
         ensures { result ≡ counted k (entries self.now) };
 

@@ -35,7 +35,8 @@ impl<T: Kept> Model for HistLock<T> {
 }
 
 impl<T: Kept> HistLock<T> {
-    /// A lock around a value with an empty history, and its `seats` passes, whose ranks go from 1 on.
+    /// A lock around a value with an empty history, of which every count is 0, and its 1 to 64 passes, whose ranks
+    /// go from 1 on. Want of memory is `NoMemory`.
     pub fn new(alloc: Global, value: T, seats: u32) -> Result<(HistLock<T>, Seq<Pass<T>>), NoMemory>
         requires seats { (0 < seats) × (seats ≤ 64) }
         requires empty { T.entries value ≡ [] }
@@ -49,7 +50,8 @@ impl<T: Kept> HistLock<T> {
         Ok((HistLock { table }, Seq::from_vec(passes)))
     }
 
-    /// Takes the turn, calls `f` with the value, and passes the turn on. It waits until the turn comes.
+    /// Takes the turn with a pass of this lock, calls `f` with the value, and passes the turn on. It waits until the
+    /// turn comes. The history that `f` finds begins with what the pass has seen, and has all entries of its own there.
     /// `f` may only lengthen the value's history, by entries of nobody's and of the pass's own.
     pub fn with<R, W: Wait, F: FnOnce(&mut T) -> R>(&self, rt: &W, pass: &mut Pass<T>, f: F) -> R
         requires own { pass.old.lock ≡ self.now.lock }
@@ -66,7 +68,7 @@ impl<T: Kept> HistLock<T> {
     }
 
     /// How long the history is, as far as one load tells: at least as long as what the pass has seen, and
-    /// as what it has read before. It waits for nobody.
+    /// as what it has read before. The pass, which is one of this lock, keeps the number. It waits for nobody.
     pub fn length(&self, pass: &mut Pass<T>) -> u64
         requires own { pass.old.lock ≡ self.now.lock }
         ensures seen { length pass.old.seen ≤ result }
@@ -77,7 +79,8 @@ impl<T: Kept> HistLock<T> {
     }
 
     /// The `k`-th number that is counted of the history, `k` from 0 to 3, as far as one load tells: at
-    /// least that of what the pass has seen, and what it has read before. It waits for nobody.
+    /// least that of what the pass has seen, and what it has read before. The pass, which is one of this lock, keeps
+    /// the number. It waits for nobody.
     pub fn count(&self, pass: &mut Pass<T>, k: u32) -> u64
         requires own { pass.old.lock ≡ self.now.lock }
         requires few { k < 4 }
@@ -90,7 +93,8 @@ impl<T: Kept> HistLock<T> {
             .load::<ReadCount>(&mut pass.seat, k as usize + COUNTS)
     }
 
-    /// Ends the lock, with all its passes, and gives the value back.
+    /// Ends the lock, with all its passes in any order, and gives the value back. Its history has as many entries as
+    /// all passes have made together, begins with what each has seen, and reaches each number that one has read.
     pub fn close(self, passes: Seq<Pass<T>>) -> T
         requires own { All (λ p. p.lock ≡ self.lock) passes }
         requires all { length passes ≡ self.seats }

@@ -104,7 +104,8 @@ fn turn<W: Wait>(
     )
 }
 
-// Takes `turns` turns, and reads the length and a count after each. Answers how many turns went well.
+// Takes `turns` turns, and reads the length and a count after each. Answers how many turns went well before the
+// first that did not.
 fn work<W: Wait>(
     rt: &W,
     lock: &HistLock<Notebook>,
@@ -122,9 +123,10 @@ fn work<W: Wait>(
         };
         place = left;
         let seen = pass.seen_len();
-        if lock.length(&mut pass) >= seen && lock.count(&mut pass, 1).saturating_add(1) >= seen {
-            well = number + 1;
+        if lock.length(&mut pass) < seen || lock.count(&mut pass, 1).saturating_add(1) < seen {
+            break;
         }
+        well = number + 1;
     }
     (pass, well)
 }

@@ -3,7 +3,7 @@ use std::collections::LinkedList;
 
 /// What a seat knows.
 pub struct View<E> {
-    /// Who it is, from 1 on.
+    /// Who it is, from 1 on; 0 once it is spent.
     pub rank: u64,
     /// How many of the seats that the lock was made for it stands for; 0 once it is spent.
     pub parts: u64,

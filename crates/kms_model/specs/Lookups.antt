@@ -13,7 +13,8 @@ use Rattle.kms_model.specs.declared.worlds.World.{World}
 use Rattle.kms_model.specs.Modes.{is_legal_mode}
 use Rattle.kms_model.specs.World.{thing_labelled}
 
--- An open thing by its kind. A blob that holds no legal mode is a blob like any other.
+-- An open thing by its kind. (A blob of bytes is a blob, whatever they hold: no request takes a mode from bytes in what
+-- is built so far.)
 abbrev pub look_of_content : ℕ → Content → Look
 look_of_content id (content.Buffer width height format pattern) = look.Buffer id
 look_of_content id (content.Framebuffer info buffer) = look.Fb info

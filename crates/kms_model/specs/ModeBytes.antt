@@ -17,29 +17,29 @@ mode_bytes m =
     ++ m.name)))))))))))))
 
 -- the number of two bytes, and of four, from a place on
-abbrev pub half_at : List ℕ → ℕ → ℕ
-half_at bytes at = from_le_bytes w16 (slice_range bytes at (at + 2))
+abbrev pub two_at : List ℕ → ℕ → ℕ
+two_at bytes at = from_le_bytes w16 (slice_range bytes at (at + 2))
 
-abbrev pub word_at : List ℕ → ℕ → ℕ
-word_at bytes at = from_le_bytes w32 (slice_range bytes at (at + 4))
+abbrev pub four_at : List ℕ → ℕ → ℕ
+four_at bytes at = from_le_bytes w32 (slice_range bytes at (at + 4))
 
 -- the mode, legal or not, that 68 bytes hold
-abbrev pub mode_in : List ℕ → Mode
-mode_in bytes = record {
-  clock = word_at bytes 0;
-  hdisplay = half_at bytes 4;
-  hsync_start = half_at bytes 6;
-  hsync_end = half_at bytes 8;
-  htotal = half_at bytes 10;
-  hskew = half_at bytes 12;
-  vdisplay = half_at bytes 14;
-  vsync_start = half_at bytes 16;
-  vsync_end = half_at bytes 18;
-  vtotal = half_at bytes 20;
-  vscan = half_at bytes 22;
-  vrefresh = word_at bytes 24;
-  flags = word_at bytes 28;
-  kind = word_at bytes 32;
+abbrev pub mode_held : List ℕ → Mode
+mode_held bytes = record {
+  clock = four_at bytes 0;
+  hdisplay = two_at bytes 4;
+  hsync_start = two_at bytes 6;
+  hsync_end = two_at bytes 8;
+  htotal = two_at bytes 10;
+  hskew = two_at bytes 12;
+  vdisplay = two_at bytes 14;
+  vsync_start = two_at bytes 16;
+  vsync_end = two_at bytes 18;
+  vtotal = two_at bytes 20;
+  vscan = two_at bytes 22;
+  vrefresh = four_at bytes 24;
+  flags = four_at bytes 28;
+  kind = four_at bytes 32;
   name = slice_range bytes 36 68;
 }
 
@@ -54,4 +54,4 @@ if_legal m =
 
 -- the legal mode that bytes hold, else the first cause that they hold none
 abbrev pub decoded : List ℕ → Result Mode BadMode
-decoded bytes = if length bytes == 68 then if_legal (mode_in bytes) else Err Length
+decoded bytes = if length bytes == 68 then if_legal (mode_held bytes) else Err Length

@@ -21,6 +21,7 @@ use Rattle.kms_model.specs.Named.{names}
 use Rattle.kms_model.specs.Pictures.{picture}
 use Rattle.kms_model.specs.Frames.{frame_bytes}
 use Rattle.kms_model.specs.Firsts.{number_if}
+use Rattle.kms_model.specs.Stores.{is_bad_size}
 use Rattle.kms_model.specs.Verdict.{is_test, verdict}
 
 -- what a command leaves and what is answered to it
@@ -44,13 +45,9 @@ abbrev pub make_unless : World → ℕ → ℕ → Content → Option ℕ → Ex
 make_unless w owner label content None = make w owner label content
 make_unless w owner label content (Some n) = answer w (reply.Denied n)
 
--- a side of a buffer, in pixels
-abbrev pub is_side : ℕ → Bool
-is_side n = nat_lt 0 n && nat_le n 4096
-
 -- what is wrong with a new buffer: 31, a side is 0 or above 4096
 abbrev pub buffer_refusal : ℕ → ℕ → Option ℕ
-buffer_refusal width height = number_if 31 (not (is_side width && is_side height))
+buffer_refusal width height = number_if 31 (is_bad_size width height)
 
 -- the values of an accepted request hold, and the number of commits before it is answered
 abbrev pub committed : World → Request → Executed

@@ -126,7 +126,7 @@ abbrev pub may_close : ℕ → Framebuffer → Bool
 may_close owner fb = fb.is_open && (fb.owner == owner)
 
 -- What a client is answered that closes a framebuffer: 33 (ENOENT) where it is no open one of this client, else whether
--- the last reference fell. From: `drm_mode.h`, DRM_IOCTL_MODE_CLOSEFB.
+-- the last reference fell. From: `drm_mode.h`, struct drm_mode_closefb.
 abbrev pub close_answer : ℕ → Option Framebuffer → Result Bool Denied
 close_answer owner None = Err (denied 33)
 close_answer owner (Some fb) = if may_close owner fb then Ok (is_last fb) else Err (denied 33)

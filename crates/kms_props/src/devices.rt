@@ -62,7 +62,8 @@ fn has_counts(t: &Topology) -> bool
 /// outside the device, that is, of a CRTC that it lacks or of a fourth format.
 ///
 /// An empty mask has no such bit, and a plane's kind is neither a limit nor a mask; no script makes an empty mask or
-/// a fourth kind.
+/// a fourth kind. (The limits are this device's own; masks of possible CRTCs: `struct drm_plane`,
+/// `struct drm_encoder`.)
 pub fn check_topology(t: &Topology) -> bool
     ensures { result ≡ is_legal_device t.now }
 {

@@ -4,7 +4,8 @@ ghost use Rattle.kms_model.specs.Properties.{format_of};
 ghost use Rattle.kms_model.specs.Properties.{formats as format_rows};
 ghost use Rattle.kms_props.specs.Rows.{format_row_of};
 
-use crate::table::{Table, first_row};
+use crate::first_row;
+use crate::table::Table;
 use kms_model::Format;
 
 /// A row of the table of formats.

@@ -1,7 +1,7 @@
 //! The tables of properties, formats and flags, and the test of a device.
 //!
-//! Each table is a `Table` value, proved equal to its definition, and is read by `first_row!` in the bodies of the
-//! look-ups. Names, codes and bits are those of the kernel's headers `drm_mode.h` and `drm_fourcc.h`; the ids of
+//! The tables of properties and of formats are `Table` values, proved equal to their definitions, and are read by
+//! `first_row!` in the bodies of the look-ups; the flags are a type of `bitflags`. Names, codes and bits are those of the kernel's headers `drm_mode.h` and `drm_fourcc.h`; the ids of
 //! properties are this device's own. No call takes memory.
 #![tactic(auto)]
 

@@ -5,7 +5,8 @@ ghost use Rattle.kms_model.specs.Properties.{name_of, property, property_id, pro
 ghost use Rattle.kms_model.specs.Properties.{properties as property_rows};
 ghost use Rattle.kms_props.specs.Rows.{property_of};
 
-use crate::table::{Table, first_row};
+use crate::first_row;
+use crate::table::Table;
 use kms_model::properties::{
     ACTIVE, ALPHA, BLEND, CRTC_H, CRTC_ID, CRTC_W, CRTC_X, CRTC_Y, FB_ID, IN_FENCE_FD, MODE_ID,
     OUT_FENCE_PTR, SRC_H, SRC_W, SRC_X, SRC_Y, TYPE, ZPOS,
@@ -122,7 +123,7 @@ pub fn lookup(kind: Kind, name: &[u8]) -> Option<u32>
     Some(row_named(kind, name)?.id)
 }
 
-/// What the property of an id may be set to.
+/// What the property of an id, from 1 to 18, may be set to.
 pub fn range(prop: u32) -> Range
     requires { IsTrue (is_property prop) }
     ensures { Some result ≡ range_of prop }
@@ -133,7 +134,7 @@ pub fn range(prop: u32) -> Range
     }
 }
 
-/// Whether no request may set the property of an id.
+/// Whether no request may set the property of an id, from 1 to 18.
 pub fn is_immutable(prop: u32) -> bool
     requires { IsTrue (is_property prop) }
     ensures { Some result ≡ immutable_of prop }
@@ -144,7 +145,7 @@ pub fn is_immutable(prop: u32) -> bool
     }
 }
 
-/// The name of the property of an id, as `lookup` takes it.
+/// The name of the property of an id, from 1 to 18, as `lookup` takes it.
 pub fn name(prop: u32) -> &'static [u8]
     requires { IsTrue (is_property prop) }
     ensures { Some result.now ≡ name_of prop }

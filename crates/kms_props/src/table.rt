@@ -9,6 +9,7 @@ pub struct Table<R, const N: usize> {
 
 /// Reads a table as the body of a look-up: matches its rows in order, and returns `Some` of the value at the first
 /// row that fits, or else is `None`. In the test and in the value the row is a reference.
+#[macro_export]
 macro_rules! first_row {
     ($table:expr, $row:ident if $fits:expr => $value:expr) => {{
         let table = $table;
@@ -21,5 +22,3 @@ macro_rules! first_row {
         None
     }};
 }
-
-pub(crate) use first_row;

@@ -48,8 +48,8 @@ IsSolidThing t = IsSolidContent t.content
 
 pub stored_more : (ts : List Thing) (t : Thing) → AreStored ts → IsSolidContent t.content → t.id ≡ 1000 + length ts → AreStored (ts ++ t ∷ [])
 stored_more ts t h s e = record {
-    solid = All-append IsSolidThing ts (t ∷ []) h.solid (All-cons IsSolidThing t [] s (All-nil IsSolidThing));
-    numbered = numbered_more 1000 ts t h.numbered e
+  solid = All-append IsSolidThing ts (t ∷ []) h.solid (All-cons IsSolidThing t [] s (All-nil IsSolidThing));
+  numbered = numbered_more 1000 ts t h.numbered e;
 }
 
 pub length_more : (n : ℕ) (ts : List Thing) (t : Thing) → n ≡ 1000 + length ts → n + 1 ≡ 1000 + length (ts ++ t ∷ [])

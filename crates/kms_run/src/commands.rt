@@ -2,7 +2,8 @@
 ghost use Rattle.std.specs.Prelude.{◌≡◌, ◌<◌, ◌≤◌, ◌+◌, ◌^◌, ◌++◌, ◌∷◌, ◌==◌, true, ℕ, List, [], length, Some, None, IfOk, OnOk, IfSome, All, ⊤, Option, option_copied, option_map};
 ghost use Rattle.kms_model.specs.Fit.{IsSmall, HasSmallSets, HasSolidPattern, IsFit};
 ghost use Rattle.kms_model.specs.World.{thing_labelled};
-ghost use Rattle.kms_model.specs.Serial.{buffer_info, buffer_of, make, make_unless, is_side, buffer_refusal, answer, commit, add_fb, execute};
+ghost use Rattle.kms_model.specs.Serial.{buffer_info, buffer_of, make, make_unless, buffer_refusal, answer, commit, add_fb, execute};
+ghost use Rattle.kms_model.specs.Stores.{is_bad_side};
 ghost use Rattle.kms_model.specs.Verdict.{is_test, verdict};
 ghost use Rattle.kms_run.specs.Values.{AllWithin};
 ghost use Rattle.kms_run.specs.Solids.{IsSolidContent, AreStored};
@@ -45,12 +46,7 @@ fn make(w: &mut World, owner: u32, label: u32, content: Content) -> Result<Reply
     Ok(Reply::Made { id })
 }
 
-fn commit(
-    alloc: Global,
-    device: &Device,
-    w: &mut World,
-    r: &Request,
-) -> Result<Reply, NoMemory>
+fn commit(alloc: Global, device: &Device, w: &mut World, r: &Request) -> Result<Reply, NoMemory>
     requires room { HasRoom w.old }
     requires assigns { All IsSmall r.now.assigns }
     ensures value { IfOk result (λ x. commit w.old r.now (verdict device.now.topology w.old r.now) ≡ record { world = w.new; reply = x }) }
@@ -75,19 +71,19 @@ fn is_test(flags: u32) -> bool
     flags & 0x100 != 0
 }
 
-fn is_side(n: u32) -> bool
-    ensures { result ≡ is_side n }
+fn is_bad_side(n: u32) -> bool
+    ensures { result ≡ is_bad_side n }
 {
-    0 < n && n <= 4096
+    n == 0 || n > 4096
 }
 
 fn buffer_refusal(width: u32, height: u32) -> Option<u32>
     ensures { result ≡ buffer_refusal width height }
 {
-    if is_side(width) && is_side(height) {
-        None
-    } else {
+    if is_bad_side(width) || is_bad_side(height) {
         Some(31)
+    } else {
+        None
     }
 }
 
@@ -156,7 +152,12 @@ fn add_fb(w: &mut World, client: u32, label: u32, buffer: u32) -> Result<Reply, 
                 height: b.height,
                 format: b.format,
             };
-            make(w, client, label, Content::Framebuffer { info, buffer: b.id })
+            make(
+                w,
+                client,
+                label,
+                Content::Framebuffer { info, buffer: b.id },
+            )
         }
         None => Ok(Reply::Denied(33)),
     }

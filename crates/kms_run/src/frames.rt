@@ -170,12 +170,7 @@ fn composed(things: &[Thing], x: u32, y: u32, layers: &[Layer]) -> Colour
     under
 }
 
-fn push_row(
-    out: &mut Vec<u8>,
-    things: &[Thing],
-    shown: &Shown,
-    y: u32,
-) -> Result<(), AllocError>
+fn push_row(out: &mut Vec<u8>, things: &[Thing], shown: &Shown, y: u32) -> Result<(), AllocError>
     requires { AreStored things.now }
     ensures { OnOk result (out.new.items ≡ out.old.items ++ row_bytes things.now shown.now y) }
 {

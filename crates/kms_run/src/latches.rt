@@ -101,13 +101,7 @@ pub fn count_after(count: u64, shown: &Option<Pictured>) -> u64
     ensures { result ≡ count_with count (option_map pictured_in shown.now) }
 {
     match shown {
-        Some(p) => {
-            if is_on(&p.picture) {
-                count + 1
-            } else {
-                count
-            }
-        }
+        Some(p) => { if is_on(&p.picture) { count + 1 } else { count } }
         None => count,
     }
 }

@@ -16,8 +16,7 @@ use crate::device::{Device, count_of};
 use crate::values::{apply, object_of, thing_numbered, value};
 use kms_model::properties::{ACTIVE, CRTC_ID, MODE_ID};
 use kms_model::{
-    Assign, Content, Duplicate, Kind, Mode, NoMemory, Request, Seq, Setting, Thing, Topology,
-    World,
+    Assign, Content, Duplicate, Kind, Mode, NoMemory, Request, Seq, Setting, Thing, Topology, World,
 };
 use std::alloc::Global;
 

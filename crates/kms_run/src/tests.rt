@@ -54,7 +54,14 @@ fn sink(alloc: Global, step: usize, fails: &[u32]) -> Result<MemSink, Fail>
 fn one<R: Threads + Wait>(rt: &R, alloc: Global, text: &str) -> Result<(Status, MemSink), Fail> {
     let mut source = source(alloc, text, 4096, &[])?;
     let mut sink = sink(alloc, 4096, &[])?;
-    let status = kms_main(rt, alloc, &words(alloc, &["one"])?, &mut source, &mut sink, &NoGate);
+    let status = kms_main(
+        rt,
+        alloc,
+        &words(alloc, &["one"])?,
+        &mut source,
+        &mut sink,
+        &NoGate,
+    );
     Ok((status, sink))
 }
 
@@ -62,7 +69,10 @@ fn one<R: Threads + Wait>(rt: &R, alloc: Global, text: &str) -> Result<(Status, 
 fn first_commit_lights_the_crtc(rt: HostRuntime) -> Result<(), Fail> {
     let (status, sink) = one(&rt, rt.alloc(), first_light(rt.alloc())?.as_str())?;
     assert_eq!(rt; status, Status::Ok);
-    assert_eq!(rt; sink.written(), b"J 1 1\nJ 1 2\nJ 1 3\nJ 1 4\nR 1 1 0 made 1000\nR 1 2 1 made 1001\nR 1 3 2 made 1002\nR 1 4 3 commit 0\nL 0 0 1 ba7816bf8f01cfea414140de5dae2223b00361a396177a9cb410ff61f20015ad\nD drained\n".as_slice());
+    assert_eq!(rt;
+        sink.written(),
+        b"J 1 1\nJ 1 2\nJ 1 3\nJ 1 4\nR 1 1 0 made 1000\nR 1 2 1 made 1001\nR 1 3 2 made 1002\nR 1 4 3 commit 0\nL 0 0 1 ba7816bf8f01cfea414140de5dae2223b00361a396177a9cb410ff61f20015ad\nD drained\n".as_slice()
+    );
     Ok(())
 }
 
@@ -103,7 +113,10 @@ fn second_commit_is_no_modeset(rt: HostRuntime) -> Result<(), Fail> {
     let text = format!(in rt.alloc(); "{HEAD}{MADE}atomic 0x400{LIGHT}atomic 0x0{LIGHT}")?;
     let (status, sink) = one(&rt, rt.alloc(), text.as_str())?;
     assert_eq!(rt; status, Status::Ok);
-    assert_eq!(rt; sink.written(), b"J 1 1\nJ 1 2\nJ 1 3\nJ 1 4\nJ 1 5\nR 1 1 0 made 1000\nR 1 2 1 made 1001\nR 1 3 2 made 1002\nR 1 4 3 commit 0\nR 1 5 4 commit 1\nL 0 0 1 ba7816bf8f01cfea414140de5dae2223b00361a396177a9cb410ff61f20015ad\nL 0 1 2 ba7816bf8f01cfea414140de5dae2223b00361a396177a9cb410ff61f20015ad\nD drained\n".as_slice());
+    assert_eq!(rt;
+        sink.written(),
+        b"J 1 1\nJ 1 2\nJ 1 3\nJ 1 4\nJ 1 5\nR 1 1 0 made 1000\nR 1 2 1 made 1001\nR 1 3 2 made 1002\nR 1 4 3 commit 0\nR 1 5 4 commit 1\nL 0 0 1 ba7816bf8f01cfea414140de5dae2223b00361a396177a9cb410ff61f20015ad\nL 0 1 2 ba7816bf8f01cfea414140de5dae2223b00361a396177a9cb410ff61f20015ad\nD drained\n".as_slice()
+    );
     Ok(())
 }
 
@@ -114,7 +127,13 @@ fn overlay_plane_is_unbuilt(rt: HostRuntime) -> Result<(), Fail> {
         rt.alloc(),
         "kms 1\ncrtcs 1\nplane overlay 0 XR24\nconn 0\n",
     )?;
-    assert_eq!(rt; status, Status::Script { line: 3, why: Why::Unbuilt });
+    assert_eq!(rt;
+        status,
+        Status::Script {
+            line: 3,
+            why: Why::Unbuilt
+        }
+    );
     assert_eq!(rt; sink.written().len(), 0);
     Ok(())
 }
@@ -147,7 +166,14 @@ fn failing_write_leaves_a_front(rt: HostRuntime) -> Result<(), Fail> {
 fn refuses<R: Threads + Wait>(rt: &R, alloc: Global, all: &[&str]) -> Result<bool, Fail> {
     let mut source = source(alloc, HEAD, 4096, &[1])?;
     let mut sink = sink(alloc, 4096, &[])?;
-    let status = kms_main(rt, alloc, &words(alloc, all)?, &mut source, &mut sink, &NoGate);
+    let status = kms_main(
+        rt,
+        alloc,
+        &words(alloc, all)?,
+        &mut source,
+        &mut sink,
+        &NoGate,
+    );
     Ok(status == Status::Usage && sink.written().is_empty())
 }
 
@@ -175,7 +201,10 @@ fn statuses_have_their_texts(rt: HostRuntime) -> Result<(), Fail> {
         line: 3,
         why: Why::Unbuilt,
     };
-    assert_eq!(rt; status_text(rt.alloc(), &fault)?.as_str(), "kms: line 3: unbuilt");
+    assert_eq!(rt;
+        status_text(rt.alloc(), &fault)?.as_str(),
+        "kms: line 3: unbuilt"
+    );
     assert_eq!(rt; fault.number(), 4);
     assert_eq!(rt; Status::Ok.number(), 0);
     Ok(())
