@@ -1,5 +1,5 @@
 -- The report of one client is the report of its script.
-use Rattle.std.proofs.Common.{◌≡◌, ℕ, zero, suc, ◌+◌, ◌≤◌, max, Bool, true, false, List, [], ◌∷◌, ◌++◌, length, map, take, drop, filter, Option, Some, None, refl, sym, ap, ◌∙◌, append_assoc, arith, add-one, cond, eqb, get_or}
+use Rattle.std.proofs.Common.{◌≡◌, ℕ, ◌+◌, ◌≤◌, max, List, [], ◌∷◌, ◌++◌, length, Option, Some, refl, sym, ap, ◌∙◌, append_assoc, arith, get_or}
 use Rattle.std.specs.Prelude.{codes, slice_get}
 use Rattle.std.specs.List.{flat_map, range_with_len}
 use Rattle.std.proofs.lemmas.List.{append-nil, length-append}
@@ -11,7 +11,7 @@ use Rattle.kms_model.specs.declared.scripts.Script.{Script}
 use Rattle.kms_model.specs.declared.worlds.World.{World}
 use Rattle.kms_model.specs.Input.{device}
 use Rattle.kms_model.specs.World.{start}
-use Rattle.kms_model.specs.Flat.{Turn, Done, done, next_place, run_from, turn_of, turns_of, round, flat, report_of, journal_of, journal_line, reply_line, latch_lines, latches_of, latch_lines_of, by_client}
+use Rattle.kms_model.specs.Flat.{Turn, Done, done, next_place, run_from, turn_of, turns_of, round, flat, journal_of, journal_line, reply_line, latch_lines, latches_of, latch_lines_of, by_client}
 use Rattle.kms_run.specs.Run.{turn, turns, dones, text_of}
 
 at_seam : (pre cs : List Command) (c : Command) → slice_get (pre ++ c ∷ cs) (length pre) ≡ Some c

@@ -12,7 +12,7 @@ use Rattle.kms_model.specs.Flat as flat
 use Rattle.kms_model.specs.Flat.{Turn, Done, done, is_journaled, next_place, entry_of, journal_of, run_from, journal_line, reply_line, latch_lines, latches_of}
 use Rattle.kms_run.specs.declared.run.Run.{Run}
 use Rattle.kms_run.specs.LatchText.{latch_text, count_with}
-use Rattle.kms_run.specs.Run.{turn, turns, the_done, dones, journal_text, shown_then, Steps}
+use Rattle.kms_run.specs.Run.{turn, the_done, dones, journal_text, shown_then, Steps}
 
 first_done : (t : Topology) (w : World) (place n : ℕ) (c : Command) (cs : List Command) → let d = done t w place (turn n c) in dones t w place n (c ∷ cs) ≡ d ∷ dones t d.result.world (next_place d) (n + 1) cs
 unfolding run_from

@@ -1,5 +1,5 @@
 -- What a call of the program reads and writes, by its status.
-use Rattle.std.specs.Prelude.{◌≡◌, ℕ, ◌<◌, ◌≤◌, ◌+◌, List, [], length, Result, Ok, Err, Option, ◌⊎◌, ⊤}
+use Rattle.std.specs.Prelude.{◌≡◌, ℕ, ◌<◌, ◌≤◌, ◌+◌, List, [], length, Err, Option, ◌⊎◌, ⊤}
 use Rattle.std.specs.Io.KnownBytes.{IsAtEnd}
 use Rattle.kms_io.specs.Bytes.{Begins}
 use Rattle.kms_model.specs.declared.scripts.Why.{Why}

@@ -1,12 +1,6 @@
 -- A private device between two commands.
-use Rattle.std.specs.Prelude.{◌≡◌, ℕ, ◌+◌, ◌<◌, ◌≤◌, ◌^◌, List, length, ⊤}
-use Rattle.kms_model.specs.declared.replies.Reply.{Reply}
-use Rattle.kms_model.specs.declared.replies.Reply.TheVariants.{Commit}
-use Rattle.kms_model.specs.declared.scripts.Command.{Command}
-use Rattle.kms_model.specs.declared.scripts.Command.TheVariants.{Atomic}
-use Rattle.kms_model.specs.declared.worlds.Setting.{Setting}
+use Rattle.std.specs.Prelude.{◌≡◌, ◌+◌, ◌<◌, ◌≤◌, ◌^◌, length}
 use Rattle.kms_model.specs.declared.worlds.World.{World}
-use Rattle.kms_model.specs.Apply.{apply}
 use Rattle.kms_run.specs.Values.{AllWithin}
 use Rattle.kms_run.specs.Solids.{AreStored}
 

@@ -1,11 +1,11 @@
 -- A run of one client on one CRTC, command by command.
-use Rattle.std.specs.Prelude.{◌≡◌, ℕ, ◌+◌, ◌<◌, ◌≤◌, ◌^◌, List, [], ◌∷◌, ◌++◌, length, string_bytes, Option, Some, None, codes, if◌then◌else◌}
+use Rattle.std.specs.Prelude.{◌≡◌, ℕ, ◌+◌, ◌<◌, List, [], ◌∷◌, ◌++◌, string_bytes, Option, codes, if◌then◌else◌}
 use Rattle.std.specs.List.{flat_map}
 use Rattle.kms_model.specs.declared.objects.Topology.{Topology}
 use Rattle.kms_model.specs.declared.scripts.Command.{Command}
 use Rattle.kms_model.specs.declared.worlds.World.{World}
 use Rattle.kms_model.specs.Serial.{Pictured, shown_by}
-use Rattle.kms_model.specs.Flat.{Turn, Done, done, is_journaled, next_place, entry_of, journal_of, journal_line, reply_line, count_after, latch_line, latch_lines, latches_of, run_from}
+use Rattle.kms_model.specs.Flat.{Turn, Done, done, is_journaled, next_place, entry_of, journal_of, journal_line, reply_line, latch_lines, latches_of, run_from}
 use Rattle.kms_run.specs.Ready.{IsPlain}
 use Rattle.kms_run.specs.LatchText.{latch_text, count_with}
 use Rattle.kms_run.specs.declared.run.Run.{Run}

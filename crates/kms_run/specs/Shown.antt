@@ -1,5 +1,4 @@
 -- What a commit shows, as the model sees it.
-use Rattle.std.specs.Prelude.{Option, Some, None}
 use Rattle.kms_model.specs.Serial as model
 use Rattle.kms_run.specs.declared.latches.Pictured.{Pictured}
 

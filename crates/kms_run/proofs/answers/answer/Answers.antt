@@ -1,5 +1,4 @@
-use Rattle.std.proofs.Common.{◌≡◌, ℕ, List, string_bytes, subst, sym}
-use Rattle.kms_model.specs.Flat.{flat}
+use Rattle.std.proofs.Common.{ℕ, List, subst, sym}
 use Rattle.kms_model.specs.Headline.{TellsJournal}
 use Rattle.kms_model.proofs.RunIsSerial.{flat_tells_the_journal}
 use Rattle.kms_run.proofs.answers.answer.Goals as goal

@@ -1,4 +1,4 @@
-use Rattle.std.proofs.Common.{◌≡◌, [], sym, ◌∙◌, ap, arith, length, rules}
+use Rattle.std.proofs.Common.{◌≡◌, [], sym, ◌∙◌, ap, arith, length}
 use Rattle.std.proofs.lemmas.List.{nil_from_length}
 use Rattle.kms_run.proofs.FlatOne.{flat-one, flat-none, one_item}
 use Rattle.kms_run.proofs.answers.commands_of.Goals as goal

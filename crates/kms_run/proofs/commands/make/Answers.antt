@@ -1,4 +1,3 @@
-use Rattle.std.proofs.Common.{ap, ◌∙◌}
 use Rattle.kms_run.proofs.Numbered.{stored_more, length_more}
 use Rattle.kms_run.proofs.commands.make.Goals as goal
 

@@ -1,5 +1,4 @@
 use Rattle.std.proofs.Common.{◌≡◌, ◌++◌, ℕ, List, ap, sym, ◌∙◌, arith, rules}
-use Rattle.std.specs.List.{flat_map, range_with_len}
 use Rattle.kms_model.specs.Frames.{row_bytes}
 use Rattle.kms_run.proofs.Rows.{flat_map-range_more}
 use Rattle.kms_run.proofs.frames.shown_bytes.Goals as goal

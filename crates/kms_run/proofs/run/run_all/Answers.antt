@@ -1,8 +1,7 @@
-use Rattle.std.proofs.Common.{◌≡◌, ◌+◌, ◌++◌, ◌∷◌, [], ℕ, List, drop, length, sym, ap, ◌∙◌, arith, refl, add-one}
+use Rattle.std.proofs.Common.{◌≡◌, ◌+◌, ◌∷◌, [], drop, ◌∙◌, arith, refl, add-one}
 use Rattle.std.proofs.Math.Seq.{drop-cons}
 use Rattle.std.proofs.Math.ListN.{drop_of_length-le}
 use Rattle.std.specs.Prelude.{string_bytes}
-use Rattle.kms_model.specs.declared.scripts.Command.{Command}
 use Rattle.kms_run.proofs.Goes.{journal_goes, replies_goes, latches_goes, ends_journal, ends_replies, ends_latches}
 use Rattle.kms_run.proofs.run.run_all.Goals as goal
 

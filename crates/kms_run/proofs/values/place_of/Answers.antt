@@ -1,4 +1,4 @@
-use Rattle.std.proofs.Common.{◌∙◌, arith}
+use Rattle.std.proofs.Common.{◌∙◌}
 use Rattle.kms_run.proofs.Puts.{put_found}
 use Rattle.kms_run.proofs.values.place_of.Goals as goal
 
