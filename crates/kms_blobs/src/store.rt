@@ -1,7 +1,14 @@
 //! The store of blobs.
-ghost use Rattle.std.specs.Prelude.{◌≡◌, [], ◌∷◌, ◌++◌, OnOk, OnErr, IfOk, option_copied};
+ghost use Rattle.std.specs.Prelude.{◌≡◌, ℕ, List, [], ◌∷◌, ◌++◌, OnOk, OnErr, IfOk, option_copied};
 ghost use Rattle.kms_model.specs.Tables.{AreBelow, slot, value_with_id};
 ghost use Rattle.kms_model.specs.Stores.{blob, bytes_with_id, destroy_answer, blobs_destroyed};
+ghost use Rattle.kms_model.specs.declared.objects.Mode.{Mode};
+ghost use Rattle.kms_model.specs.declared.worlds.Content.TheVariants as content;
+ghost use Rattle.kms_model.specs.declared.worlds.Thing.{Thing};
+ghost use Rattle.kms_model.specs.declared.worlds.World.{World};
+ghost use Rattle.kms_model.specs.ModeBytes.{mode_bytes};
+ghost use Rattle.kms_model.specs.Serial.{make};
+ghost use Rattle.kms_blobs.specs.Things.{blobs_of, things_after};
 
 use kms_model::{Blob, Denied, NoMemory, Seq, Table};
 use std::alloc::Global;
@@ -46,6 +53,10 @@ impl BlobStore {
         requires { AreBelow id self.old }
         ensures made { OnOk result (self.new ≡ self.old ++ slot id (blob owner bytes.now) ∷ []) }
         ensures unchanged { OnErr result (self.new ≡ self.old) }
+        ensures blob { OnOk result ((w : World) (label : ℕ) → blobs_of w.things ≡ self.old → w.next_id ≡ id
+            → blobs_of (make w owner label (content.Blob bytes.now)).world.things ≡ self.new) }
+        ensures mode { OnOk result ((w : World) (label : ℕ) (m : Mode) → blobs_of w.things ≡ self.old → w.next_id ≡ id
+            → bytes.now ≡ mode_bytes m → blobs_of (make w owner label (content.Mode m)).world.things ≡ self.new) }
     {
         let bytes = copied(alloc, bytes)?;
         self.blobs.push(id, Blob { owner, bytes })
@@ -57,6 +68,7 @@ impl BlobStore {
     pub fn destroy(&mut self, owner: u32, id: u32) -> Result<(), Denied>
         ensures answer { result ≡ destroy_answer owner (value_with_id self.old id) }
         ensures blobs { self.new ≡ blobs_destroyed self.old owner id }
+        ensures things { (things : List Thing) → blobs_of things ≡ self.old → blobs_of (things_after result things id) ≡ self.new }
     {
         let Some(blob) = self.blobs.get(id) else {
             return Err(Denied(33));

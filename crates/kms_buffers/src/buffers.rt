@@ -1,6 +1,10 @@
 //! The store of buffers.
-ghost use Rattle.std.specs.Prelude.{◌≡◌, ◌<◌, ◌≤◌, [], ◌∷◌, ◌++◌, IsOkUnless, OnOk, OnErr, IfSome, IfNone, false, true};
+ghost use Rattle.std.specs.Prelude.{ℕ, ◌≡◌, ◌<◌, ◌≤◌, [], ◌∷◌, ◌++◌, IsOkUnless, OnOk, OnErr, IfSome, IfNone, false, true};
 ghost use Rattle.kms_model.specs.Tables.{AreBelow, slot};
+ghost use Rattle.kms_model.specs.declared.worlds.Content.TheVariants as content;
+ghost use Rattle.kms_model.specs.declared.worlds.World.{World};
+ghost use Rattle.kms_model.specs.Serial.{make};
+ghost use Rattle.kms_buffers.specs.Things.{buffers_of};
 ghost use Rattle.kms_model.specs.Stores.{buffer, Fills, is_bad_side, is_bad_size, bytes_with, area_bytes, largest_bytes, seen_with_id};
 
 use crate::patterns;
@@ -99,6 +103,8 @@ impl Buffers {
             → IsOkUnless result MakeError.NoMemory }
         ensures made { OnOk result (self.new ≡ self.old ++ slot id (buffer owner width height format pattern.now) ∷ []) }
         ensures unchanged { OnErr result (self.new ≡ self.old) }
+        ensures thing { OnOk result ((w : World) (label : ℕ) → buffers_of w.things ≡ self.old → w.next_id ≡ id
+            → buffers_of (make w owner label (content.Buffer width height format pattern.now)).world.things ≡ self.new) }
     {
         if is_bad(width) || is_bad(height) {
             return Err(MakeError::BadSize);

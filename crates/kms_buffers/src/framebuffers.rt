@@ -1,5 +1,10 @@
 //! The store of framebuffers.
-ghost use Rattle.std.specs.Prelude.{◌≡◌, [], ◌∷◌, ◌++◌, IsTrue, OnOk, OnErr, option_copied};
+ghost use Rattle.std.specs.Prelude.{◌≡◌, ℕ, List, [], ◌∷◌, ◌++◌, IsTrue, OnOk, OnErr, option_copied};
+ghost use Rattle.kms_model.specs.declared.worlds.Content.TheVariants as content;
+ghost use Rattle.kms_model.specs.declared.worlds.Thing.{Thing};
+ghost use Rattle.kms_model.specs.declared.worlds.World.{World};
+ghost use Rattle.kms_model.specs.Serial.{make};
+ghost use Rattle.kms_buffers.specs.Things.{open_fbs, open_fbs_of, things_after};
 ghost use Rattle.kms_model.specs.Tables.{AreBelow, slot, value_with_id, without_id, with_value};
 ghost use Rattle.kms_model.specs.Stores.{framebuffer, MayTake, MayGive, AreCounted, close_answer, fbs_closed, fbs_taken, fbs_given, is_last_of, with_fewer, taken, given, closed, may_close};
 
@@ -51,6 +56,8 @@ impl FbStore {
         ensures added { OnOk result (self.new ≡ self.old ++ slot id (framebuffer owner buffer info) ∷ []) }
         ensures unchanged { OnErr result (self.new ≡ self.old) }
         ensures counted { AreCounted self.new }
+        ensures thing { OnOk result ((w : World) (label : ℕ) → open_fbs_of w.things ≡ open_fbs self.old → w.next_id ≡ id
+            → open_fbs_of (make w owner label (content.Framebuffer info buffer)).world.things ≡ open_fbs self.new) }
     {
         self.fbs.push(
             id,
@@ -73,6 +80,7 @@ impl FbStore {
         ensures answer { result ≡ close_answer owner (value_with_id self.old id) }
         ensures store { self.new ≡ fbs_closed self.old owner id }
         ensures counted { AreCounted self.new }
+        ensures things { (things : List Thing) → open_fbs_of things ≡ open_fbs self.old → open_fbs_of (things_after result things id) ≡ open_fbs self.new }
     {
         let Some(fb) = found(&self.fbs, id) else {
             return Err(Denied(33));

@@ -1,4 +1,7 @@
-use Rattle.std.proofs.Common.{sym, ◌∙◌}
+use Rattle.std.proofs.Common.{rules, ◌≡◌, refl, ap, sym, ◌∙◌}
+use Rattle.kms_model.specs.Tables.{without_id}
+use Rattle.kms_buffers.specs.Things.{open_fbs}
+use Rattle.kms_buffers.proofs.Things.{closed_things, fewer_closed}
 use Rattle.kms_buffers.proofs.Counted.{counted_at, AreCounted-with_fewer}
 use Rattle.kms_buffers.proofs.framebuffers.FbStore.close.Goals as goal
 
@@ -10,3 +13,10 @@ invariant_of-self c = rw c.put_back.ensures (AreCounted-with_fewer c.self.inside
 
 pub returns-clause-counted : goal.returns-clause-counted
 returns-clause-counted c = rw c.put_back.ensures (AreCounted-with_fewer c.self.inside.fbs c.args.id _ c.self.invariant)
+
+pub returns-clause-things : goal.returns-clause-things
+returns-clause-things c =
+    let old : c.args.self.now ≡ c.self.inside.fbs = search rules in
+    let put : open_fbs c.put_back.new.fbs ≡ without_id (open_fbs c.self.inside.fbs) c.args.id =
+    ap open_fbs c.put_back.ensures ∙ fewer_closed c.self.inside.fbs c.args.id _ refl in
+    λ things same. closed_things c.args.id things ∙ (ap (λ fbs. without_id fbs c.args.id) (same ∙ ap open_fbs old) ∙ sym put)
