@@ -1,10 +1,12 @@
 -- What is in a store of framebuffers has a reference.
-use Rattle.std.proofs.Common.{◌≡◌, ◌≢◌, ℕ, ◌<◌, List, [], ◌∷◌, Some, Bool, true, false, cond, inl, inr, subst, arith}
+use Rattle.std.proofs.Common.{◌≡◌, ◌≢◌, ℕ, ◌<◌, List, [], ◌∷◌, ◌++◌, Some, Bool, true, false, cond, inl, inr, subst, arith}
 use Rattle.std.specs.Prelude.{not, ◌==◌}
 use Rattle.std.proofs.lemmas.Bool.Decides.{eqb_tells}
 use Rattle.kms_model.specs.declared.stores.Framebuffer.{Framebuffer}
 use Rattle.kms_model.specs.declared.tables.Slot.{Slot}
-use Rattle.kms_model.specs.Tables.{put_in, value_with_id, with_value, without_id}
+use Rattle.kms_model.specs.Tables.{put_in, value_with_id, with_value, without_id, IsRising, AreBelow}
+use Rattle.kms_model.proofs.TableLemmas.{IsRising-with_value, IsRising-without_id, IsRising-push}
+use Rattle.kms_buffers.specs.Within.{AreKept}
 use Rattle.kms_model.specs.Stores.{AreCounted, with_fewer}
 
 pub counted_at : (fbs : List (Slot Framebuffer)) (id : ℕ) (fb : Framebuffer) → AreCounted fbs → value_with_id fbs id ≡ Some fb → 0 < fb.references
@@ -41,3 +43,20 @@ AreCounted-with_fewer fbs id fb counted =
       | inl none ↦ rw none.0 (AreCounted-without_id fbs id counted)
       | inr some ↦ (let left : 0 < fb.references = positive fb.references some.1 in rw some.0 (AreCounted-with_value fbs id fb counted left))
     ]
+
+IsRising-with_fewer : (fbs : List (Slot Framebuffer)) (id : ℕ) (fb : Framebuffer) → IsRising fbs → IsRising (with_fewer fbs id fb)
+IsRising-with_fewer fbs id fb rising =
+    elim (eqb_tells fb.references 0) [ inl none ↦ rw none.0 (IsRising-without_id fbs id rising) | inr some ↦ rw some.0 (IsRising-with_value fbs id fb rising) ]
+
+pub kept-with_fewer : (fbs : List (Slot Framebuffer)) (id : ℕ) (fb : Framebuffer) → AreKept fbs → AreKept (with_fewer fbs id fb)
+kept-with_fewer fbs id fb kept = record { counted = AreCounted-with_fewer fbs id fb kept.counted; rising = IsRising-with_fewer fbs id fb kept.rising }
+
+pub kept-with_value : (fbs : List (Slot Framebuffer)) (id : ℕ) (fb : Framebuffer) → AreKept fbs → 0 < fb.references → AreKept (with_value fbs id fb)
+kept-with_value fbs id fb kept new = record { counted = AreCounted-with_value fbs id fb kept.counted new; rising = IsRising-with_value fbs id fb kept.rising }
+
+AreCounted-push : (fbs : List (Slot Framebuffer)) (s : Slot Framebuffer) → AreCounted fbs → 0 < s.value.references → AreCounted (fbs ++ s ∷ [])
+AreCounted-push [] s counted new = (new, tt)
+AreCounted-push (t ∷ fbs) s counted new = (counted.0, AreCounted-push fbs s counted.1 new)
+
+pub kept-push : (fbs : List (Slot Framebuffer)) (s : Slot Framebuffer) → AreKept fbs → AreBelow s.id fbs → 0 < s.value.references → AreKept (fbs ++ s ∷ [])
+kept-push fbs s kept below new = record { counted = AreCounted-push fbs s kept.counted new; rising = IsRising-push fbs s kept.rising below }

@@ -23,13 +23,13 @@ impl Model for FbStore {
     ghost use Rattle.std.specs.Prelude.{List};
     ghost use Rattle.kms_model.specs.declared.tables.Slot.{Slot};
     ghost use Rattle.kms_model.specs.declared.stores.Framebuffer.{Framebuffer};
-    ghost use Rattle.kms_model.specs.Stores.{AreCounted};
+    ghost use Rattle.kms_buffers.specs.Within.{AreKept};
 
     ghost Value = { List (Slot Framebuffer) };
 
     ghost view = { λ s. s.fbs };
 
-    ghost invariant = { λ s. AreCounted s.fbs };
+    ghost invariant = { λ s. AreKept s.fbs };
 }
 
 impl FbStore {
@@ -106,6 +106,7 @@ impl FbStore {
         requires { MayTake (value_with_id self.old id) }
         ensures store { self.new ≡ fbs_taken self.old id }
         ensures counted { AreCounted self.new }
+        ensures things { open_fbs self.new ≡ open_fbs self.old }
     {
         if let Some(fb) = found(&self.fbs, id) {
             self.fbs.set(
@@ -125,6 +126,7 @@ impl FbStore {
         ensures last { result ≡ is_last_of (value_with_id self.old id) }
         ensures store { self.new ≡ fbs_given self.old id }
         ensures counted { AreCounted self.new }
+        ensures things { open_fbs self.new ≡ open_fbs self.old }
     {
         let Some(fb) = found(&self.fbs, id) else {
             return false;
