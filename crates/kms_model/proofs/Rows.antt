@@ -1,5 +1,5 @@
 -- Worked examples of the definitions, computed: what the scripts spell and what their reports are.
-use Rattle.std.proofs.Common.{◌≡◌, ℕ, List, [], ◌∷◌, ◌++◌, refl, codes, pos, Some, None, replicate, Ok, Err}
+use Rattle.std.proofs.Common.{◌≡◌, ℕ, List, [], ◌∷◌, ◌++◌, refl, codes, pos, Some, None, replicate, Ok, Err, false}
 use Rattle.kms_model.specs.declared.objects.Kind.TheVariants as kind
 use Rattle.kms_model.specs.declared.objects.Format.TheVariants.{Xr24, Rg16}
 use Rattle.kms_model.specs.declared.objects.Mode.{Mode}
@@ -12,13 +12,14 @@ use Rattle.kms_model.specs.declared.scripts.PropRef.TheVariants.{Known}
 use Rattle.kms_model.specs.declared.scripts.Script.{Script}
 use Rattle.kms_model.specs.declared.scripts.Value.TheVariants as value
 use Rattle.kms_model.specs.declared.scripts.Why.TheVariants.{Unbuilt}
-use Rattle.kms_model.specs.Input.{device, input}
+use Rattle.kms_model.specs.Input.{device, narrow_input}
 use Rattle.kms_model.specs.Flat.{flat}
 use Rattle.kms_model.specs.Frames.{colour_of}
-use Rattle.kms_model.specs.Serial.{buffer_refusal}
+use Rattle.kms_model.specs.Execution.{new_buffer_refusal}
+use Rattle.kms_model.specs.Ppm.{ppm}
 use Rattle.kms_model.proofs.OnLiterals.{on_literals, on_texts}
 
-abbrev tiny : Mode
+abbrev pub tiny : Mode
 tiny = record {
   clock = 1;
   hdisplay = 1;
@@ -68,57 +69,57 @@ abbrev made : List ℕ
 made = codes "client\nbuffer b 1 1 XR24 solid 00616263\naddfb f b\nmode m 1 1 1 1 1 0 1 1 1 1 0 60 0 0 tiny\n"
 
 -- a first commit lights the CRTC
-pub first_commit_lights_the_crtc : flat (script 0x400 0) ≡ codes "J 1 1\nJ 1 2\nJ 1 3\nJ 1 4\nR 1 1 0 made 1000\nR 1 2 1 made 1001\nR 1 3 2 made 1002\nR 1 4 3 commit 0\nL 0 0 1 ba7816bf8f01cfea414140de5dae2223b00361a396177a9cb410ff61f20015ad\nD drained\n"
+pub first_commit_lights_the_crtc : flat false (script 0x400 0) ≡ codes "J 1 1\nJ 1 2\nJ 1 3\nJ 1 4\nR 1 1 0 made 1000\nR 1 2 1 made 1001\nR 1 3 2 made 1002\nR 1 4 3 commit 0\nL 0 0 1 ba7816bf8f01cfea414140de5dae2223b00361a396177a9cb410ff61f20015ad\nD drained\n"
 unfolding on_literals
 first_commit_lights_the_crtc = refl
 
 -- a modeset needs leave
-pub modeset_needs_leave : flat (script 0 0) ≡ codes "J 1 1\nJ 1 2\nJ 1 3\nR 1 1 0 made 1000\nR 1 2 1 made 1001\nR 1 3 2 made 1002\nR 1 4 3 EINVAL 24\nD drained\n"
+pub modeset_needs_leave : flat false (script 0 0) ≡ codes "J 1 1\nJ 1 2\nJ 1 3\nR 1 1 0 made 1000\nR 1 2 1 made 1001\nR 1 3 2 made 1002\nR 1 4 3 EINVAL 24\nD drained\n"
 unfolding on_literals
 modeset_needs_leave = refl
 
 -- a plane that is not there
-pub missing_plane_is_refused : flat (script 0x400 1) ≡ codes "J 1 1\nJ 1 2\nJ 1 3\nR 1 1 0 made 1000\nR 1 2 1 made 1001\nR 1 3 2 made 1002\nR 1 4 3 ENOENT 4\nD drained\n"
+pub missing_plane_is_refused : flat false (script 0x400 1) ≡ codes "J 1 1\nJ 1 2\nJ 1 3\nR 1 1 0 made 1000\nR 1 2 1 made 1001\nR 1 3 2 made 1002\nR 1 4 3 ENOENT 4\nD drained\n"
 unfolding on_literals
 missing_plane_is_refused = refl
 
 -- no client
-pub empty_device_drains : flat (record { version = 1; topology = device; names = []; clients = [] }) ≡ codes "D drained\n"
+pub empty_device_drains : flat false (record { version = 1; topology = device; names = []; clients = [] }) ≡ codes "D drained\n"
 unfolding on_literals
 empty_device_drains = refl
 
 -- the text of the first script
-pub first_script_is_read : input (head ++ made ++ codes "atomic 0x400 0 crtc0.ACTIVE=1 crtc0.MODE_ID=@m conn0.CRTC_ID=crtc0 plane0.FB_ID=@f plane0.CRTC_ID=crtc0 plane0.CRTC_W=1 plane0.CRTC_H=1 plane0.SRC_W=65536 plane0.SRC_H=65536\n") ≡ Ok (script 0x400 0)
+pub first_script_is_read : narrow_input (head ++ made ++ codes "atomic 0x400 0 crtc0.ACTIVE=1 crtc0.MODE_ID=@m conn0.CRTC_ID=crtc0 plane0.FB_ID=@f plane0.CRTC_ID=crtc0 plane0.CRTC_W=1 plane0.CRTC_H=1 plane0.SRC_W=65536 plane0.SRC_H=65536\n") ≡ Ok (script 0x400 0)
 unfolding on_texts
 first_script_is_read = refl
 
 -- another plane type is not built yet
-pub overlay_is_unbuilt : input (codes "kms 1\ncrtcs 1\nplane overlay 0 XR24\nconn 0\n") ≡ Err (record { line = 3; why = Unbuilt })
+pub overlay_is_unbuilt : narrow_input (codes "kms 1\ncrtcs 1\nplane overlay 0 XR24\nconn 0\n") ≡ Err (record { line = 3; why = Unbuilt })
 unfolding on_texts
 overlay_is_unbuilt = refl
 
 -- an empty input lacks its first line
-pub empty_input_is_unbuilt : input [] ≡ Err (record { line = 1; why = Unbuilt })
+pub empty_input_is_unbuilt : narrow_input [] ≡ Err (record { line = 1; why = Unbuilt })
 unfolding on_texts
 empty_input_is_unbuilt = refl
 
 -- a last line without its line feed
-pub cut_line_is_unbuilt : input (codes "kms 1\ncrtcs 1") ≡ Err (record { line = 2; why = Unbuilt })
+pub cut_line_is_unbuilt : narrow_input (codes "kms 1\ncrtcs 1") ≡ Err (record { line = 2; why = Unbuilt })
 unfolding on_texts
 cut_line_is_unbuilt = refl
 
 -- a second line that makes a label
-pub second_label_is_unbuilt : input (head ++ made ++ codes "addfb f b\n") ≡ Err (record { line = 9; why = Unbuilt })
+pub second_label_is_unbuilt : narrow_input (head ++ made ++ codes "addfb f b\n") ≡ Err (record { line = 9; why = Unbuilt })
 unfolding on_texts
 second_label_is_unbuilt = refl
 
 -- another spelling of a number
-pub second_spelling_is_unbuilt : input (head ++ codes "client\nbuffer b 01 1 XR24 solid 00616263\n") ≡ Err (record { line = 6; why = Unbuilt })
+pub second_spelling_is_unbuilt : narrow_input (head ++ codes "client\nbuffer b 01 1 XR24 solid 00616263\n") ≡ Err (record { line = 6; why = Unbuilt })
 unfolding on_texts
 second_spelling_is_unbuilt = refl
 
 -- the head and an empty client
-pub empty_client_is_read : input (head ++ codes "client\n") ≡ Ok (record { version = 1; topology = device; names = []; clients = [] ∷ [] })
+pub empty_client_is_read : narrow_input (head ++ codes "client\n") ≡ Ok (record { version = 1; topology = device; names = []; clients = [] ∷ [] })
 unfolding on_texts
 empty_client_is_read = refl
 
@@ -131,13 +132,22 @@ pub red_of_rg16 : colour_of Rg16 0xf800 ≡ record { alpha = 255; red = 255; gre
 red_of_rg16 = refl
 
 -- a buffer without width
-pub no_width_is_refused : buffer_refusal 0 1 ≡ Some 31
+pub no_width_is_refused : new_buffer_refusal [] 0 1 Xr24 ≡ Some 31
 no_width_is_refused = refl
 
 -- the widest and highest buffer
-pub widest_buffer_is_made : buffer_refusal 4096 4096 ≡ None
+pub widest_buffer_is_made : new_buffer_refusal [] 4096 4096 Xr24 ≡ None
 widest_buffer_is_made = refl
 
 -- a buffer that is too high
-pub too_high_is_refused : buffer_refusal 1 4097 ≡ Some 31
+pub too_high_is_refused : new_buffer_refusal [] 1 4097 Xr24 ≡ Some 31
 too_high_is_refused = refl
+
+-- a frame of two rows, and one without pixels
+pub two_rows_are_written : ppm (0 ∷ 97 ∷ 255 ∷ 10 ∷ 100 ∷ 9 ∷ []) 1 2 ≡ codes "P3\n1 2\n255\n0 97 255\n10 100 9\n"
+unfolding on_literals
+two_rows_are_written = refl
+
+pub one_row_of_two_pixels_is_written : ppm (1 ∷ 2 ∷ 3 ∷ 4 ∷ 5 ∷ 6 ∷ []) 2 1 ≡ codes "P3\n2 1\n255\n1 2 3 4 5 6\n"
+unfolding on_literals
+one_row_of_two_pixels_is_written = refl

@@ -14,13 +14,16 @@ use Rattle.kms_model.specs.declared.scripts.Pattern.{Pattern}
 use Rattle.kms_model.specs.declared.scripts.Request.{Request}
 use Rattle.kms_model.specs.declared.worlds.Content.TheVariants as content
 use Rattle.kms_model.specs.declared.scripts.Script.{Script}
+use Rattle.kms_model.specs.declared.worlds.Thing.{Thing}
 use Rattle.kms_model.specs.declared.worlds.World.{World}
 use Rattle.kms_model.specs.declared.objects.Kind.TheVariants.{Crtc}
 use Rattle.kms_model.specs.Objects.{object_id}
-use Rattle.kms_model.specs.World.{start}
-use Rattle.kms_model.specs.Verdict.{is_test, verdict}
-use Rattle.kms_model.specs.Serial.{Executed, BufferInfo, Pictured, Entry, is_accepted, answer, make_unless, buffer_refusal, committed, commit, add_fb, buffer_of, execute, shown_by, from_one, command_of, execute_in, shown_in, serial_from, serial, show_from, show}
-use Rattle.kms_model.specs.Flat.{Turn, Done, done, turn_of, round, longest, turns_of, is_journaled, next_place, entry_of, journal_of, run_from, run, shown_then, latches_of, journal_line, reply_line, latch_lines, latch_lines_of, by_client, flat}
+use Rattle.kms_model.specs.World.{start, thing_labelled}
+use Rattle.kms_model.specs.Flags.{is_test}
+use Rattle.kms_model.specs.Verdict.{verdict}
+use Rattle.kms_model.specs.Execution.{Executed, BufferInfo, answer, make_unless, new_buffer_refusal, committed, commit, add_fb, buffer_of, close_unless, destroy_refusal, close_refusal, signal_unless, signal_refusal, execute}
+use Rattle.kms_model.specs.Serial.{Pictured, Entry, is_accepted, shown_by, from_one, command_of, execute_in, shown_in, serial_from, serial, show_from, show}
+use Rattle.kms_model.specs.Flat.{Turn, Done, done, turn_of, round, longest, turns_of, is_journaled, next_place, entry_of, journal_of, run_from, run, shown_then, latches_of, journal_line, reply_line, latch_lines, latch_lines_of, by_client, freed_by, freed_line, flat}
 use Rattle.kms_model.specs.Headline.{StandsAtItsPlace, EachStandsAtItsPlace, TellsJournal}
 
 -- What is not accepted changes nothing and shows nothing.
@@ -28,10 +31,10 @@ use Rattle.kms_model.specs.Headline.{StandsAtItsPlace, EachStandsAtItsPlace, Tel
 abbrev ChangesNothing : Topology → ℕ → World → Command → Executed → Type 0
 ChangesNothing t crtc w c e = (e.world ≡ w) × (shown_by t crtc w.values c e ≡ None)
 
-tested_request : (t : Topology) (crtc : ℕ) (w : World) (r : Request) (b : Bool)
-    → is_accepted (cond b (answer w reply.Tested) (committed w r)).reply ≡ false → ChangesNothing t crtc w (command.Atomic r) (cond b (answer w reply.Tested) (committed w r))
-tested_request t crtc w r true e = (refl, refl)
-tested_request t crtc w r false e = absurd cc
+tested_request : (t : Topology) (crtc : ℕ) (w : World) (client : ℕ) (r : Request) (b : Bool)
+    → is_accepted (cond b (answer w reply.Tested) (committed t w client r)).reply ≡ false → ChangesNothing t crtc w (command.Atomic r) (cond b (answer w reply.Tested) (committed t w client r))
+tested_request t crtc w client r true e = (refl, refl)
+tested_request t crtc w client r false e = absurd cc
 
 denied_thing : (t : Topology) (crtc : ℕ) (w : World) (client label width height : ℕ) (format : Format) (pattern : Pattern) (o : Option ℕ)
     → is_accepted (make_unless w client label (content.Buffer width height format pattern) o).reply ≡ false
@@ -39,25 +42,37 @@ denied_thing : (t : Topology) (crtc : ℕ) (w : World) (client label width heigh
 denied_thing t crtc w client label width height format pattern None e = absurd cc
 denied_thing t crtc w client label width height format pattern (Some n) e = (refl, refl)
 
-refused_request : (t : Topology) (crtc : ℕ) (w : World) (r : Request) (o : Option ℕ) → is_accepted (commit w r o).reply ≡ false → ChangesNothing t crtc w (command.Atomic r) (commit w r o)
-refused_request t crtc w r None e = tested_request t crtc w r (is_test r.flags) e
-refused_request t crtc w r (Some n) e = (refl, refl)
+refused_request : (t : Topology) (crtc : ℕ) (w : World) (client : ℕ) (r : Request) (o : Option ℕ) → is_accepted (commit t w client r o).reply ≡ false → ChangesNothing t crtc w (command.Atomic r) (commit t w client r o)
+refused_request t crtc w client r None e = tested_request t crtc w client r (is_test r.flags) e
+refused_request t crtc w client r (Some n) e = (refl, refl)
 
 denied_framebuffer : (t : Topology) (crtc : ℕ) (w : World) (client label buffer : ℕ) (o : Option BufferInfo) → is_accepted (add_fb w client label o).reply ≡ false → ChangesNothing t crtc w (command.AddFb label buffer) (add_fb w client label o)
 denied_framebuffer t crtc w client label buffer None e = (refl, refl)
 denied_framebuffer t crtc w client label buffer (Some b) e = absurd cc
 
+denied_destroy : (t : Topology) (crtc : ℕ) (w : World) (label : ℕ) (thing : Option Thing) (o : Option ℕ) → is_accepted (close_unless w thing o).reply ≡ false → ChangesNothing t crtc w (command.Destroy label) (close_unless w thing o)
+denied_destroy t crtc w label thing None e = absurd cc
+denied_destroy t crtc w label thing (Some n) e = (refl, refl)
+
+denied_close : (t : Topology) (crtc : ℕ) (w : World) (label : ℕ) (thing : Option Thing) (o : Option ℕ) → is_accepted (close_unless w thing o).reply ≡ false → ChangesNothing t crtc w (command.CloseFb label) (close_unless w thing o)
+denied_close t crtc w label thing None e = absurd cc
+denied_close t crtc w label thing (Some n) e = (refl, refl)
+
+signalled : (t : Topology) (crtc : ℕ) (w : World) (label : ℕ) (o : Option ℕ) → ChangesNothing t crtc w (command.Signal label) (signal_unless w o)
+signalled t crtc w label None = (refl, refl)
+signalled t crtc w label (Some n) = (refl, refl)
+
 unaccepted : (t : Topology) (crtc : ℕ) (w : World) (client : ℕ) (c : Command) → is_accepted (execute t w client c).reply ≡ false → ChangesNothing t crtc w c (execute t w client c)
 unfolding execute
-unaccepted t crtc w client (command.Buffer label width height format pattern) e = denied_thing t crtc w client label width height format pattern (buffer_refusal width height) e
+unaccepted t crtc w client (command.Buffer label width height format pattern) e = denied_thing t crtc w client label width height format pattern (new_buffer_refusal w.things width height format) e
 unaccepted t crtc w client (command.AddFb label buffer) e = denied_framebuffer t crtc w client label buffer (buffer_of w.things client buffer) e
 unaccepted t crtc w client (command.Mode label m) e = absurd cc
-unaccepted t crtc w client (command.Blob label bytes) e = (refl, refl)
-unaccepted t crtc w client (command.Destroy label) e = (refl, refl)
-unaccepted t crtc w client (command.CloseFb label) e = (refl, refl)
-unaccepted t crtc w client (command.Fence label) e = (refl, refl)
-unaccepted t crtc w client (command.Signal label) e = (refl, refl)
-unaccepted t crtc w client (command.Atomic r) e = refused_request t crtc w r (verdict t w r) e
+unaccepted t crtc w client (command.Blob label bytes) e = absurd cc
+unaccepted t crtc w client (command.Destroy label) e = denied_destroy t crtc w label (thing_labelled w.things label) (destroy_refusal client (thing_labelled w.things label)) e
+unaccepted t crtc w client (command.CloseFb label) e = denied_close t crtc w label (thing_labelled w.things label) (close_refusal client (thing_labelled w.things label)) e
+unaccepted t crtc w client (command.Fence label) e = absurd cc
+unaccepted t crtc w client (command.Signal label) e = signalled t crtc w label (signal_refusal (thing_labelled w.things label))
+unaccepted t crtc w client (command.Atomic r) e = refused_request t crtc w client r (verdict t w r) e
 unaccepted t crtc w client command.Wait e = (refl, refl)
 
 -- A turn is a command of the script.
@@ -157,6 +172,7 @@ stands_here : (s : Script) (before after : List Entry) (w : World) (place : ℕ)
     → StandsAtItsPlace s (before ++ after) (done s.topology w place turn)
 stands_here s before after w place turn is e long = record {
   command = is;
+  before = e ∙ sym (ap (serial s) (rw long (take-append_seam before after)));
   result = ap (λ (v : World). execute s.topology v turn.client turn.command) (e ∙ sym (ap (serial s) (rw long (take-append_seam before after))));
 }
 
@@ -204,11 +220,11 @@ flat_map-same : (f g : ℕ → List ℕ) → ((n : ℕ) → f n ≡ g n) → (ns
 flat_map-same f g e [] = refl
 flat_map-same f g e (n ∷ ns) = rw (e n, flat_map-same f g e ns) refl
 
-shown_lines : (s : Script) (index : ℕ) → latch_lines_of s.topology (run s) index ≡ latch_lines index 0 (show s (journal_of (run s)) (object_id Crtc index))
-shown_lines s index = ap (latch_lines index 0) (latches_are_shown s (object_id Crtc index))
+shown_lines : (frames : Bool) (s : Script) (index : ℕ) → latch_lines_of frames s.topology (run s) index ≡ latch_lines frames index 0 (show s (journal_of (run s)) (object_id Crtc index))
+shown_lines frames s index = ap (latch_lines frames index 0) (latches_are_shown s (object_id Crtc index))
 
-pub flat_tells_the_journal : (s : Script) → TellsJournal s (flat s)
-flat_tells_the_journal s = record {
+pub flat_tells_the_journal : (frames : Bool) (s : Script) → TellsJournal frames s (flat frames s)
+flat_tells_the_journal frames s = record {
   journal = journal_of (run s);
   answered = run s;
   accepted = refl;
@@ -217,5 +233,6 @@ flat_tells_the_journal s = record {
       flat_map journal_line (journal_of (run s))
       ++ flat_map (λ client. flat_map reply_line (by_client client (run s))) (range_with_len 1 (length s.clients))
       ++ lines
-      ++ codes "D drained\n") (flat_map-same (latch_lines_of s.topology (run s)) (λ index. latch_lines index 0 (show s (journal_of (run s)) (object_id Crtc index))) (shown_lines s) (range_with_len 0 s.topology.crtcs));
+      ++ flat_map (freed_line s.names) (flat_map (freed_by s.topology) (run s))
+      ++ codes "D drained\n") (flat_map-same (latch_lines_of frames s.topology (run s)) (λ index. latch_lines frames index 0 (show s (journal_of (run s)) (object_id Crtc index))) (shown_lines frames s) (range_with_len 0 s.topology.crtcs));
 }

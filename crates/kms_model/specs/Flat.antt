@@ -1,10 +1,11 @@
 -- The report of a script whose clients execute in rounds on the device of one thread.
-use Rattle.std.specs.Prelude.{ℕ, ◌+◌, ◌-◌, Bool, true, false, ◌||◌, ◌==◌, nat_lt, List, [], ◌∷◌, ◌++◌, length, map, filter, Option, Some, None, if◌then◌else◌, codes, max, slice_get}
-use Rattle.std.specs.List.{flat_map, range_with_len}
+use Rattle.std.specs.Prelude.{ℕ, ◌+◌, ◌-◌, Bool, true, false, not, ◌&&◌, ◌||◌, ◌==◌, nat_lt, pos, List, [], ◌∷◌, ◌++◌, length, map, filter, Option, Some, None, if◌then◌else◌, codes, max, slice_get, slice_index_or}
+use Rattle.std.specs.List.{flat_map, range_with_len, list_any}
+use Rattle.std.specs.Ordering.{int_eq}
 use Rattle.std.specs.Fmt.{decimal}
 use Rattle.sha2.specs.Sha256.{sha256}
 use Rattle.hex.specs.Hex.{encode_lower}
-use Rattle.kms_model.specs.declared.objects.Kind.TheVariants.{Crtc}
+use Rattle.kms_model.specs.declared.objects.Kind.TheVariants.{Crtc, Plane}
 use Rattle.kms_model.specs.declared.objects.Topology.{Topology}
 use Rattle.kms_model.specs.declared.pictures.Picture.{Picture}
 use Rattle.kms_model.specs.declared.pictures.Picture.TheVariants.{Off, On}
@@ -12,10 +13,16 @@ use Rattle.kms_model.specs.declared.replies.Reply.{Reply}
 use Rattle.kms_model.specs.declared.replies.Reply.TheVariants as reply
 use Rattle.kms_model.specs.declared.scripts.Command.{Command}
 use Rattle.kms_model.specs.declared.scripts.Script.{Script}
+use Rattle.kms_model.specs.declared.worlds.Setting.{Setting}
+use Rattle.kms_model.specs.declared.worlds.Thing.{Thing}
 use Rattle.kms_model.specs.declared.worlds.World.{World}
-use Rattle.kms_model.specs.Objects.{object_id}
-use Rattle.kms_model.specs.World.{start}
-use Rattle.kms_model.specs.Serial.{Executed, Pictured, Entry, execute, is_accepted, shown_by}
+use Rattle.kms_model.specs.declared.properties.TheConstants.{FB_ID}
+use Rattle.kms_model.specs.Objects.{object_id, ids_of}
+use Rattle.kms_model.specs.World.{start, value}
+use Rattle.kms_model.specs.Execution.{Executed, execute, is_framebuffer}
+use Rattle.kms_model.specs.Serial.{Pictured, Entry, is_accepted, shown_by}
+use Rattle.kms_model.specs.Ppm.{ppm}
+pub use Rattle.kms_model.specs.TextLines.{line}
 
 -- a command, with its client and its number
 pub record Turn : Type 0 where
@@ -73,12 +80,6 @@ entry_of d = record { client = d.turn.client; command = d.turn.number }
 abbrev pub journal_of : List Done → List Entry
 journal_of ds = map entry_of (filter is_journaled ds)
 
--- words parted by one blank, and a line feed
-abbrev pub line : List (List ℕ) → List ℕ
-line [] = 10 ∷ []
-line (w ∷ []) = w ++ 10 ∷ []
-line (w ∷ v ∷ ws) = w ++ 32 ∷ line (v ∷ ws)
-
 -- the name of a refusal's error number (From: errno.h)
 abbrev pub errno_of : ℕ → List ℕ
 errno_of n =
@@ -131,14 +132,22 @@ count_after count p = if is_on p then count + 1 else count
 abbrev pub picture_word : Pictured → List ℕ
 picture_word p = if is_on p.picture then digest_of p.frame else codes "off"
 
--- `L CRTC COMMIT COUNT DIGEST`, with `off` for a CRTC that is off: the CRTC by its index
-abbrev pub latch_line : ℕ → ℕ → Pictured → List ℕ
-latch_line index count p = line (codes "L" ∷ decimal index ∷ decimal p.commit ∷ decimal (count_after count p.picture) ∷ picture_word p ∷ [])
+-- the frame of a picture as text, where there is one
+abbrev pub frame_text : Picture → List ℕ → List ℕ
+frame_text Off frame = []
+frame_text (On p) frame = ppm frame p.mode.hdisplay p.mode.vdisplay
+
+-- `L CRTC COMMIT COUNT DIGEST`, with `off` for a CRTC that is off: the CRTC by its index. Where frames are asked for, the
+-- frame follows as text.
+abbrev pub latch_line : Bool → ℕ → ℕ → Pictured → List ℕ
+latch_line frames index count p =
+    line (codes "L" ∷ decimal index ∷ decimal p.commit ∷ decimal (count_after count p.picture) ∷ picture_word p ∷ [])
+    ++ (if frames then frame_text p.picture p.frame else [])
 
 -- a line for each latch, in order of time
-unfoldable pub latch_lines : ℕ → ℕ → List Pictured → List ℕ
-latch_lines index count [] = []
-latch_lines index count (p ∷ ps) = latch_line index count p ++ latch_lines index (count_after count p.picture) ps
+unfoldable pub latch_lines : Bool → ℕ → ℕ → List Pictured → List ℕ
+latch_lines frames index count [] = []
+latch_lines frames index count (p ∷ ps) = latch_line frames index count p ++ latch_lines frames index (count_after count p.picture) ps
 
 -- what the executed commands make a CRTC show
 abbrev pub shown_then : Option Pictured → List Pictured → List Pictured
@@ -152,16 +161,46 @@ latches_of t crtc (d ∷ ds) = shown_then (shown_by t crtc d.before.values d.tur
 abbrev pub by_client : ℕ → List Done → List Done
 by_client client ds = filter (λ d. d.turn.client == client) ds
 
-abbrev pub latch_lines_of : Topology → List Done → ℕ → List ℕ
-latch_lines_of t ds index = latch_lines index 0 (latches_of t (object_id Crtc index) ds)
+abbrev pub latch_lines_of : Bool → Topology → List Done → ℕ → List ℕ
+latch_lines_of frames t ds index = latch_lines frames index 0 (latches_of t (object_id Crtc index) ds)
 
--- The report: the journal in order, the replies by client and command, the latches by CRTC and time, and the end.
-abbrev pub report_of : Script → List Done → List ℕ
-report_of s ds =
+-- a plane is set to a framebuffer
+abbrev pub is_used : Topology → List Setting → ℕ → Bool
+is_used t values fb = list_any (λ plane. int_eq (value values plane FB_ID) (pos fb)) (ids_of t Plane)
+
+-- a framebuffer that is open, or that a plane is set to
+abbrev pub is_needed : Topology → List Setting → Thing → Bool
+is_needed t values thing = is_framebuffer thing.content && (thing.is_open || is_used t values thing.id)
+
+-- the framebuffers of a world that are needed, in the order in which they were made
+abbrev pub needed : Topology → World → List Thing
+needed t w = filter (is_needed t w.values) w.things
+
+abbrev pub is_among : List Thing → Thing → Bool
+is_among things thing = list_any (λ other. other.id == thing.id) things
+
+-- the framebuffers that were needed before and are not needed after. From: `drm_framebuffer.c`, drm_framebuffer_free.
+abbrev pub freed_between : Topology → World → World → List Thing
+freed_between t before after = filter (λ thing. not (is_among (needed t after) thing)) (needed t before)
+
+-- the framebuffers that an accepted command frees
+unfoldable pub freed_by : Topology → Done → List Thing
+freed_by t d = if is_journaled d then freed_between t d.before d.result.world else []
+
+-- `X LABEL ID`
+abbrev pub freed_line : List (List ℕ) → Thing → List ℕ
+freed_line names thing = line (codes "X" ∷ slice_index_or names thing.label [] ∷ decimal thing.id ∷ [])
+
+-- The report: the journal in order, the replies by client and command, the latches by CRTC and time, the framebuffers
+-- freed by time, and the end.
+abbrev pub report_of : Bool → Script → List Done → List ℕ
+report_of frames s ds =
     flat_map journal_line (journal_of ds)
     ++ flat_map (λ client. flat_map reply_line (by_client client ds)) (range_with_len 1 (length s.clients))
-    ++ flat_map (latch_lines_of s.topology ds) (range_with_len 0 s.topology.crtcs)
+    ++ flat_map (latch_lines_of frames s.topology ds) (range_with_len 0 s.topology.crtcs)
+    ++ flat_map (freed_line s.names) (flat_map (freed_by s.topology) ds)
     ++ codes "D drained\n"
 
-abbrev pub flat : Script → List ℕ
-flat s = report_of s (run s)
+-- the report of a script, with the frames as text where they are asked for
+abbrev pub flat : Bool → Script → List ℕ
+flat frames s = report_of frames s (run s)

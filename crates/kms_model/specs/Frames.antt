@@ -74,6 +74,7 @@ buffer_in (content.Buffer width height format pattern) = None
 buffer_in (content.Mode m) = None
 buffer_in (content.Blob bytes) = None
 buffer_in content.Fence = None
+buffer_in content.OutFence = None
 
 abbrev pub pattern_word : ℕ → ℕ → Content → Option ℕ
 pattern_word x y (content.Buffer width height format pattern) = Some (word_in pattern format width x y)
@@ -81,6 +82,7 @@ pattern_word x y (content.Framebuffer info buffer) = None
 pattern_word x y (content.Mode m) = None
 pattern_word x y (content.Blob bytes) = None
 pattern_word x y content.Fence = None
+pattern_word x y content.OutFence = None
 
 -- the word of a framebuffer at (x, y): its buffer's
 abbrev pub word_of : List Thing → ℕ → ℕ → ℕ → Option ℕ
@@ -90,11 +92,12 @@ word_of things fb x y = do
   b ← thing_with_id things id
   pattern_word x y b.content
 
--- the colour of a layer at a pixel that it covers
-abbrev pub layer_colour : List Thing → ℕ → ℕ → Layer → Option Colour
-layer_colour things x y l =
+-- The colour of a layer at a pixel that it covers. Here and below, the words of framebuffers are a function of the
+-- framebuffer's id and the place (x, y) in it.
+abbrev pub layer_colour : (ℕ → ℕ → ℕ → Option ℕ) → ℕ → ℕ → Layer → Option Colour
+layer_colour words x y l =
     if is_covered l.visible x y then (do
-      word ← word_of things l.fb.id (source_at l.src.x l.dst.x x) (source_at l.src.y l.dst.y y)
+      word ← words l.fb.id (source_at l.src.x l.dst.x x) (source_at l.src.y l.dst.y y)
       Some (colour_of l.fb.format word))
     else None
 
@@ -109,9 +112,9 @@ mixed l under (Some c) = record {
 }
 
 -- the layers over a colour, from the lowest
-abbrev pub composed : List Thing → ℕ → ℕ → Colour → List Layer → Colour
-composed things x y under [] = under
-composed things x y under (l ∷ ls) = composed things x y (mixed l under (layer_colour things x y l)) ls
+abbrev pub composed : (ℕ → ℕ → ℕ → Option ℕ) → ℕ → ℕ → Colour → List Layer → Colour
+composed words x y under [] = under
+composed words x y under (l ∷ ls) = composed words x y (mixed l under (layer_colour words x y l)) ls
 
 abbrev pub black : Colour
 black = record { alpha = 255; red = 0; green = 0; blue = 0 }
@@ -120,14 +123,18 @@ black = record { alpha = 255; red = 0; green = 0; blue = 0 }
 abbrev pub channels : Colour → List ℕ
 channels c = c.red ∷ c.green ∷ c.blue ∷ []
 
-abbrev pub pixel : List Thing → List Layer → ℕ → ℕ → List ℕ
-pixel things layers x y = channels (composed things x y black layers)
+abbrev pub pixel : (ℕ → ℕ → ℕ → Option ℕ) → List Layer → ℕ → ℕ → List ℕ
+pixel words layers x y = channels (composed words x y black layers)
 
 -- one row of a frame
-abbrev pub row_bytes : List Thing → Shown → ℕ → List ℕ
-row_bytes things p y = flat_map (λ x. pixel things p.layers x y) (range_with_len 0 p.mode.hdisplay)
+abbrev pub row_bytes : (ℕ → ℕ → ℕ → Option ℕ) → Shown → ℕ → List ℕ
+row_bytes words p y = flat_map (λ x. pixel words p.layers x y) (range_with_len 0 p.mode.hdisplay)
 
 -- three bytes for each pixel, row by row; none where the CRTC is off
+abbrev pub frame_of : (ℕ → ℕ → ℕ → Option ℕ) → Picture → List ℕ
+frame_of words Off = []
+frame_of words (On p) = flat_map (row_bytes words p) (range_with_len 0 p.mode.vdisplay)
+
+-- the frame of framebuffers whose words are those of their buffers' patterns
 abbrev pub frame_bytes : List Thing → Picture → List ℕ
-frame_bytes things Off = []
-frame_bytes things (On p) = flat_map (row_bytes things p) (range_with_len 0 p.mode.vdisplay)
+frame_bytes things p = frame_of (word_of things) p

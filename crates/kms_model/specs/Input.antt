@@ -1,4 +1,4 @@
--- The script that an input is, or its first fault.
+-- The script that an input is, in the narrow form that kms_run executes, or its first fault.
 use Rattle.std.specs.Prelude.{ℕ, ◌+◌, Bool, true, false, ◌==◌, nat_lt, List, [], ◌∷◌, length, Option, Some, None, Result, Ok, Err, if◌then◌else◌}
 use Rattle.kms_model.specs.declared.scripts.Command.{Command}
 use Rattle.kms_model.specs.declared.scripts.Script.{Script}
@@ -67,6 +67,6 @@ input_limit = 67108864
 unfoldable pub reading_of : List ℕ → Result Reading Fault
 reading_of bytes = if nat_lt input_limit (length bytes) then Err (record { line = 0; why = Limit }) else read_rows nothing 1 (rows_of bytes)
 
--- the script that the bytes spell, or their first fault
-abbrev pub input : List ℕ → Result Script Fault
-input bytes = script_in (reading_of bytes)
+-- the script of the narrow form that the bytes spell, or their first fault
+abbrev pub narrow_input : List ℕ → Result Script Fault
+narrow_input bytes = script_in (reading_of bytes)

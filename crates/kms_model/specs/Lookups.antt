@@ -1,6 +1,7 @@
 -- What the labels of a request name.
 use Rattle.std.specs.Prelude.{ℕ, List, Option, Some, None, if◌then◌else◌, map}
 use Rattle.std.specs.List.{filter_map}
+use Rattle.kms_model.specs.declared.objects.Mode.{Mode}
 use Rattle.kms_model.specs.declared.scripts.Request.{Request}
 use Rattle.kms_model.specs.declared.scripts.Value.{Value}
 use Rattle.kms_model.specs.declared.scripts.Value.TheVariants.{Num, Named, New, Crtc}
@@ -10,17 +11,24 @@ use Rattle.kms_model.specs.declared.worlds.Look.{Look}
 use Rattle.kms_model.specs.declared.worlds.Look.TheVariants as look
 use Rattle.kms_model.specs.declared.worlds.Thing.{Thing}
 use Rattle.kms_model.specs.declared.worlds.World.{World}
+use Rattle.std.specs.Result.{result_ok}
+use Rattle.kms_model.specs.ModeBytes.{decoded}
 use Rattle.kms_model.specs.Modes.{is_legal_mode}
 use Rattle.kms_model.specs.World.{thing_labelled}
 
--- An open thing by its kind. (A blob of bytes is a blob, whatever they hold: no request takes a mode from bytes in what
--- is built so far.)
+-- a blob that holds a legal mode is looked up as that mode
+abbrev pub look_of_mode : ℕ → Option Mode → Look
+look_of_mode id (Some m) = look.Mode m id
+look_of_mode id None = look.Blob id
+
+-- an open thing by its kind
 abbrev pub look_of_content : ℕ → Content → Look
 look_of_content id (content.Buffer width height format pattern) = look.Buffer id
 look_of_content id (content.Framebuffer info buffer) = look.Fb info
 look_of_content id (content.Mode m) = if is_legal_mode m then look.Mode m id else look.Blob id
-look_of_content id (content.Blob bytes) = look.Blob id
+look_of_content id (content.Blob bytes) = look_of_mode id (result_ok (decoded bytes))
 look_of_content id content.Fence = look.Fence id
+look_of_content id content.OutFence = look.Fence id
 
 abbrev pub look_of : Option Thing → Look
 look_of None = look.Missing

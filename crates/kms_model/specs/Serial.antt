@@ -1,6 +1,5 @@
--- The device of one thread: what a command does, what a journal leaves and what it shows.
+-- The device of one thread: what a journal leaves and what it shows.
 use Rattle.std.specs.Prelude.{ℕ, zero, suc, ◌+◌, Bool, true, false, ◌==◌, List, [], ◌∷◌, ◌++◌, Option, Some, None, if◌then◌else◌, slice_get}
-use Rattle.kms_model.specs.declared.objects.Format.{Format}
 use Rattle.kms_model.specs.declared.objects.Topology.{Topology}
 use Rattle.kms_model.specs.declared.pictures.Picture.{Picture}
 use Rattle.kms_model.specs.declared.replies.Reply.{Reply}
@@ -9,89 +8,17 @@ use Rattle.kms_model.specs.declared.scripts.Command.{Command}
 use Rattle.kms_model.specs.declared.scripts.Command.TheVariants as command
 use Rattle.kms_model.specs.declared.scripts.Request.{Request}
 use Rattle.kms_model.specs.declared.scripts.Script.{Script}
-use Rattle.kms_model.specs.declared.worlds.Content.{Content}
-use Rattle.kms_model.specs.declared.worlds.Content.TheVariants as content
 use Rattle.kms_model.specs.declared.worlds.Setting.{Setting}
-use Rattle.kms_model.specs.declared.worlds.Thing.{Thing}
 use Rattle.kms_model.specs.declared.worlds.World.{World}
 use Rattle.kms_model.specs.Words.{◌>>=◌}
-use Rattle.kms_model.specs.World.{start, thing_labelled}
-use Rattle.kms_model.specs.Apply.{apply}
+use Rattle.kms_model.specs.World.{start}
 use Rattle.kms_model.specs.Named.{names}
 use Rattle.kms_model.specs.Pictures.{picture}
 use Rattle.kms_model.specs.Frames.{frame_bytes}
-use Rattle.kms_model.specs.Firsts.{number_if}
-use Rattle.kms_model.specs.Stores.{is_bad_size}
-use Rattle.kms_model.specs.Verdict.{is_test, verdict}
+use Rattle.kms_model.specs.Execution.{Executed, execute}
 
--- what a command leaves and what is answered to it
-pub record Executed : Type 0 where
-  pub world : World
-  pub reply : Reply
-
--- one thing more, with the next id
-abbrev pub make : World → ℕ → ℕ → Content → Executed
-make w owner label content = record {
-  world = record w { things = w.things ++ record { label = label; id = w.next_id; owner = owner; content = content; is_open = true } ∷ []; next_id = w.next_id + 1 };
-  reply = reply.Made w.next_id;
-}
-
--- nothing changes
-abbrev pub answer : World → Reply → Executed
-answer w r = record { world = w; reply = r }
-
--- a thing is made, unless a number refuses it
-abbrev pub make_unless : World → ℕ → ℕ → Content → Option ℕ → Executed
-make_unless w owner label content None = make w owner label content
-make_unless w owner label content (Some n) = answer w (reply.Denied n)
-
--- what is wrong with a new buffer: 31, a side is 0 or above 4096
-abbrev pub buffer_refusal : ℕ → ℕ → Option ℕ
-buffer_refusal width height = number_if 31 (is_bad_size width height)
-
--- the values of an accepted request hold, and the number of commits before it is answered
-abbrev pub committed : World → Request → Executed
-committed w r = record { world = record w { values = apply w.things w.values r.assigns; commits = w.commits + 1 }; reply = reply.Commit w.commits }
-
--- A request that is refused changes nothing, and neither does one that is only tested.
-abbrev pub commit : World → Request → Option ℕ → Executed
-commit w r None = if is_test r.flags then answer w reply.Tested else committed w r
-commit w r (Some n) = answer w (reply.Refused (record { 0 = n }))
-
--- the id, the width, the height and the format of a buffer
-pub record BufferInfo : Type 0 where
-  pub id : ℕ
-  pub width : ℕ
-  pub height : ℕ
-  pub format : Format
-
-abbrev pub buffer_info : ℕ → Content → Option BufferInfo
-buffer_info id (content.Buffer width height format pattern) = Some (record { id = id; width = width; height = height; format = format })
-buffer_info id (content.Framebuffer info buffer) = None
-buffer_info id (content.Mode m) = None
-buffer_info id (content.Blob bytes) = None
-buffer_info id content.Fence = None
-
--- the buffer of a client with a label
-abbrev pub buffer_of : List Thing → ℕ → ℕ → Option BufferInfo
-buffer_of things client label = do
-  t ← thing_labelled things label
-  if t.owner == client then buffer_info t.id t.content else None
-
--- A framebuffer of a buffer, in its size and format. 33: the label is no buffer of this client.
-abbrev pub add_fb : World → ℕ → ℕ → Option BufferInfo → Executed
-add_fb w client label None = answer w (reply.Denied 33)
-add_fb w client label (Some b) = make w client label (content.Framebuffer (record { id = w.next_id; width = b.width; height = b.height; format = b.format }) b.id)
-
--- One command of a client. (A script of the narrow form has no other; they get their replies as they are built.)
-unfoldable pub execute : Topology → World → ℕ → Command → Executed
-execute t w client (command.Buffer label width height format pattern) = make_unless w client label (content.Buffer width height format pattern) (buffer_refusal width height)
-execute t w client (command.AddFb label buffer) = add_fb w client label (buffer_of w.things client buffer)
-execute t w client (command.Mode label m) = make w client label (content.Mode m)
-execute t w client (command.Atomic r) = commit w r (verdict t w r)
-execute t w client _ = answer w reply.NoEvent
-
--- A command is accepted where it makes a thing, is done or is committed.
+-- A command is accepted where it makes a thing, is done or is committed. (On the device of one thread a fence that is
+-- signalled is done too; no script with `signal` is executed so far.)
 abbrev pub is_accepted : Reply → Bool
 is_accepted (reply.Made id) = true
 is_accepted reply.Done = true

@@ -8,6 +8,8 @@ use Rattle.kms_model.specs.declared.worlds.Content.{Content}
 use Rattle.kms_model.specs.declared.worlds.Content.TheVariants as content
 use Rattle.kms_model.specs.declared.worlds.Setting.{Setting}
 use Rattle.kms_model.specs.declared.worlds.Thing.{Thing}
+use Rattle.std.specs.Result.{result_ok}
+use Rattle.kms_model.specs.ModeBytes.{decoded}
 use Rattle.kms_model.specs.World.{value, thing_numbered}
 
 -- a number that is not negative
@@ -21,18 +23,20 @@ framebuffer_in (content.Buffer width height format pattern) = None
 framebuffer_in (content.Mode m) = None
 framebuffer_in (content.Blob bytes) = None
 framebuffer_in content.Fence = None
+framebuffer_in content.OutFence = None
 
 abbrev pub framebuffer_of : Option Thing → Option FbInfo
 framebuffer_of (Some t) = framebuffer_in t.content
 framebuffer_of None = None
 
--- (A blob of bytes is no mode in what is built so far.)
+-- the mode that a blob holds, if any
 abbrev pub mode_in : Content → Option Mode
 mode_in (content.Mode m) = Some m
 mode_in (content.Framebuffer info buffer) = None
 mode_in (content.Buffer width height format pattern) = None
-mode_in (content.Blob bytes) = None
+mode_in (content.Blob bytes) = result_ok (decoded bytes)
 mode_in content.Fence = None
+mode_in content.OutFence = None
 
 abbrev pub mode_of : Option Thing → Option Mode
 mode_of (Some t) = mode_in t.content

@@ -158,6 +158,7 @@ impl Duplicate for Content {
             Content::Mode(mode) => Ok(Content::Mode(*mode)),
             Content::Blob(bytes) => Ok(Content::Blob(bytes.copy(alloc)?)),
             Content::Fence => Ok(Content::Fence),
+            Content::OutFence => Ok(Content::OutFence),
         }
     }
 }

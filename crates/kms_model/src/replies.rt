@@ -12,7 +12,8 @@ pub struct Event {
     pub crtc: u32,
 }
 
-/// The number of a refused request, from 1 to 24, in the order in which refusals are tried.
+/// The number of a refused request, from 1 to 24. The flags are tried first, then each assignment, then what is wrong
+/// with the state after the request, kind of object by kind of object.
 #[derive(Clone, Copy, Debug, PartialEq, Eq)]
 pub struct Refusal(pub u32);
 

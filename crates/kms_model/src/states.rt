@@ -51,3 +51,46 @@ pub enum ObjState {
     /// A connector's.
     Conn(ConnState),
 }
+
+/// The state of an object before and after a request. (Kernel: `struct __drm_planes_state` and its like.)
+#[derive(Clone, Copy, Debug)]
+pub struct Both<T> {
+    /// The state before the request.
+    pub old: T,
+    /// The state after what the request has set so far.
+    pub new: T,
+}
+
+/// The duplicated states of objects, in place: the place in each array is the object's index, and an object that
+/// was not duplicated is absent. (Kernel: `struct drm_atomic_state`.) It takes a few kilobytes.
+#[derive(Clone, Copy, Debug)]
+pub struct Duplicates {
+    /// The CRTCs, by index.
+    pub crtcs: [Option<Both<CrtcState>>; 4],
+    /// The planes, by index.
+    pub planes: [Option<Both<PlaneState>>; 16],
+    /// The connectors, by index.
+    pub conns: [Option<Both<ConnState>>; 8],
+}
+
+/// A set of objects: bit i of a field stands for the object of that kind with index i.
+#[derive(Clone, Copy, Debug, PartialEq, Eq)]
+pub struct Mask {
+    /// The CRTCs.
+    pub crtcs: u32,
+    /// The planes.
+    pub planes: u32,
+    /// The connectors.
+    pub conns: u32,
+}
+
+/// What a check accepted. (Kernel: `drm_atomic_check_only`.)
+#[derive(Clone, Copy, Debug)]
+pub struct Checked {
+    /// The states before and after the request.
+    pub states: Duplicates,
+    /// The CRTCs that the request names: bit i stands for CRTC index i.
+    pub named: u32,
+    /// The objects that the request touches.
+    pub touched: Mask,
+}

@@ -17,11 +17,11 @@ pub struct Slot<T> {
 
 /// Values by their ids, in rising order of the ids. A look-up halves what is left at each step.
 #[derive(Debug, Drop)]
-pub struct Table<T> {
+pub struct IdTable<T> {
     slots: Vec<Slot<T>>,
 }
 
-impl<T> Model for Table<T> {
+impl<T> Model for IdTable<T> {
     ghost use Rattle.std.specs.Prelude.{List};
     ghost use Rattle.kms_model.specs.declared.tables.Slot.{Slot};
     ghost use Rattle.kms_model.specs.Tables.{IsRising};
@@ -33,12 +33,12 @@ impl<T> Model for Table<T> {
     ghost invariant = { λ t. IsRising t.slots.items };
 }
 
-impl<T> Table<T> {
+impl<T> IdTable<T> {
     /// The empty table. It takes no memory until the first `push`.
     pub fn new(alloc: Global) -> Self
         ensures { result ≡ [] }
     {
-        Table {
+        IdTable {
             slots: Vec::new(alloc),
         }
     }
@@ -54,7 +54,7 @@ impl<T> Table<T> {
     }
 }
 
-impl<T: Drop> Table<T> {
+impl<T: Drop> IdTable<T> {
     /// Puts a value under an id that is greater than all others. An error, for want of memory, leaves the
     /// table as it was.
     pub fn push(&mut self, id: u32, value: T) -> Result<(), NoMemory>

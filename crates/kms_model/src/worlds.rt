@@ -34,8 +34,10 @@ pub enum Content {
     Mode(Mode),
     /// A blob of bytes.
     Blob(Seq<u8>),
-    /// A fence.
+    /// A fence that a `fence` command made; a `signal` command signals it.
     Fence,
+    /// A fence that a commit made for a CRTC (`OUT_FENCE_PTR`); the commit's latch signals it.
+    OutFence,
 }
 
 /// A thing that a command made. It stays in the world after it was closed.

@@ -1,6 +1,6 @@
 use Rattle.kms_model.specs.Tables.{slot, AreBelow}
 use Rattle.kms_model.proofs.TableLemmas.{IsRising-push}
-use Rattle.kms_model.proofs.tables.Table.push.Goals as goal
+use Rattle.kms_model.proofs.tables.IdTable.push.Goals as goal
 
 pub invariant_of-self-2 : goal.invariant_of-self-2
 invariant_of-self-2 g c =

@@ -1,6 +1,6 @@
 use Rattle.std.proofs.Common.{sym}
 use Rattle.kms_model.proofs.TableLemmas.{FoundAt, found, absent, value-absent, value-present}
-use Rattle.kms_model.proofs.tables.Table.get.Goals as goal
+use Rattle.kms_model.proofs.tables.IdTable.get.Goals as goal
 
 pub returns-in-Some : goal.returns-in-Some
 returns-in-Some g c =

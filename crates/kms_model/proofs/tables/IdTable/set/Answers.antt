@@ -1,5 +1,5 @@
 use Rattle.kms_model.proofs.TableLemmas.{FoundAt, found, absent, with_value-absent, with_value-present, IsRising-with_value}
-use Rattle.kms_model.proofs.tables.Table.set.Goals as goal
+use Rattle.kms_model.proofs.tables.IdTable.set.Goals as goal
 
 pub invariant_of-self : goal.invariant_of-self
 invariant_of-self g c =
