@@ -2,10 +2,10 @@
 use Rattle.std.proofs.Common.{◌≡◌, ℕ, zero, suc, ◌<◌, List, [], ◌∷◌, length, get_or, sym, ap, ◌∙◌, subst, refl, arith, Option, Some, None}
 use Rattle.atomic_table.specs.Table.{rest}
 use Rattle.kms_histlock.specs.declared.view.Turn.{Turn}
-use Rattle.kms_histlock.specs.declared.view.Stage.TheVariants.{Idle, Waits, Serves}
+use Rattle.kms_histlock.specs.declared.view.Stage.TheVariants.{Idle, Serves}
 use Rattle.kms_histlock.specs.Rules.{Fits}
-use Rattle.kms_histlock.specs.Steps.{Sat, standing, lengthened, recounted, Finds}
-use Rattle.kms_histlock.specs.Seats.{IsSameButTurn, gave}
+use Rattle.kms_histlock.specs.Steps.{Sat, standing, waiting, lengthened, recounted, Finds}
+use Rattle.kms_histlock.specs.Seats.{IsSameButTurn, served, gave}
 
 module _ {S : Type 0} where
   abbrev pub first_or : S → List (ℕ × S) → S
@@ -21,16 +21,16 @@ module _ {S : Type 0} where
 
 module _ {T E : Type 0} where
   -- what the seat that has the turn holds
-  pub carried_by : (m d w : Sat T E) (n : ℕ) (q : Turn E) (x : T) → d ≡ (standing m.0 (Waits n), m.1) → m.1 ≡ [] → w ≡ (standing d.0 (Serves q), (0, Some x) ∷ d.1) → w.1 ≡ (0, Some x) ∷ []
+  pub carried_by : (m d w : Sat T E) (n : ℕ) (q : Turn E) (x : T) → d ≡ (waiting m.0 n, m.1) → m.1 ≡ [] → w ≡ (standing d.0 (Serves q), (0, Some x) ∷ d.1) → w.1 ≡ (0, Some x) ∷ []
   carried_by m d w n q x drew bare now = ap (λ z. z.1) now ∙ ap (λ (cs : List (ℕ × Option T)). (0, Some x) ∷ cs) (ap (λ z. z.1) drew ∙ bare)
 
   -- what it knows and holds once the value is out of the slot
-  pub taken_by : (m d w m' : Sat T E) (n : ℕ) (q : Turn E) (x : T) → d ≡ (standing m.0 (Waits n), m.1) → m.1 ≡ [] → w ≡ (standing d.0 (Serves q), (0, Some x) ∷ d.1)
-      → m' ≡ (w.0, (0, None) ∷ rest w.1) → m' ≡ (standing m.0 (Serves q), (0, None) ∷ [])
+  pub taken_by : (m d w m' : Sat T E) (n : ℕ) (q : Turn E) (x : T) → d ≡ (waiting m.0 n, m.1) → m.1 ≡ [] → w ≡ (standing d.0 (Serves q), (0, Some x) ∷ d.1)
+      → m' ≡ (w.0, (0, None) ∷ rest w.1) → m' ≡ (served m.0 q, (0, None) ∷ [])
   taken_by m d w m' n q x drew bare now out =
       out ∙ (ap (λ (z : Sat T E). let r : Sat T E = (z.0, (0, None) ∷ rest z.1) in r) now
       ∙ (ap (λ (z : Sat T E). let r : Sat T E = (standing z.0 (Serves q), (0, None) ∷ z.1) in r) drew
-      ∙ ap (λ (cs : List (ℕ × Option T)). let r : Sat T E = (standing m.0 (Serves q), (0, None) ∷ cs) in r) bare))
+      ∙ ap (λ (cs : List (ℕ × Option T)). let r : Sat T E = (served m.0 q, (0, None) ∷ cs) in r) bare))
 
   -- what comes back once the turn is passed on
   pub carried_back : (m m1 m2 : Sat T E) (xs : List E) (q : Turn E) → m1 ≡ (lengthened xs m.0 q, m.1) → IsSameButTurn m1 m2 → m.1 ≡ (0, None) ∷ [] → m2.1 ≡ (0, None) ∷ []
@@ -48,13 +48,15 @@ module _ {T E : Type 0} where
   pub same_but_more : (i m m' : Sat T E) (k n : ℕ) (q : Turn E) → IsSameButTurn i m → m' ≡ (recounted k n m.0 q, m.1) → IsSameButTurn i m'
   same_but_more i m m' k n q same is = subst (IsSameButTurn i) (sym is) (subst (λ (z : Sat T E). IsSameButTurn i (recounted k n z.0 q, z.1)) (sym same) refl)
 
-  pub found_by : (owner : E → ℕ) (entries : T → List E) (counted : ℕ → List E → ℕ) (m d : Sat T E) (n : ℕ) (q : Turn E) (x y : T) → Finds owner entries counted d q x → d ≡ (standing m.0 (Waits n), m.1) → x ≡ y
+  pub found_by : (owner : E → ℕ) (entries : T → List E) (counted : ℕ → List E → ℕ) (m d : Sat T E) (n : ℕ) (q : Turn E) (x y : T) → Finds owner entries counted d q x → d ≡ (waiting m.0 n, m.1) → x ≡ y
       → Finds owner entries counted m q y
   found_by owner entries counted m d n q x y found drew same = let f = subst (λ (z : Sat T E). Finds owner entries counted z q x) drew found in record {
     fits = subst (Fits entries counted q.log q.counts) same f.fits;
     four = f.four;
     stored = f.stored;
     begins = f.begins;
+    length_read = f.length_read;
+    counts_read = f.counts_read;
   }
 
 pub one_value : {T : Type 0} (r : Option T) (x y : T) → r ≡ Some x → r ≡ Some y → x ≡ y

@@ -5,11 +5,10 @@ use mathlib.Core.Logic.{dite}
 use native.Mathlib.Decide.{ℕ_discrete}
 use Rattle.kms_histlock.specs.declared.view.View.{View}
 use Rattle.kms_histlock.specs.declared.view.Turn.{Turn}
-use Rattle.kms_histlock.specs.declared.view.Stage.TheVariants.{Serves}
-use Rattle.kms_histlock.specs.Rules.{Fits, IsStart, Begins}
-use Rattle.kms_histlock.specs.Steps.{Sat, standing, lengthened, recounted, merged, Finds}
-use Rattle.kms_histlock.specs.Seats.{Lengthens, HasTurn, MayGive, Recounts, gave, Covers}
-use Rattle.kms_histlock.specs.Passes.{PassState, pass_state, IsReached}
+use Rattle.kms_histlock.specs.Rules.{Fits, IsStart}
+use Rattle.kms_histlock.specs.Steps.{Sat, lengthened, recounted, merged, Finds}
+use Rattle.kms_histlock.specs.Seats.{Lengthens, served, HasTurn, MayGive, Recounts, gave, Covers}
+use Rattle.kms_histlock.specs.Passes.{PassState, pass_state, IsReached, IsFound}
 use Rattle.atomic_table.specs.Seated.{TableId}
 use Rattle.atomic_table.specs.declared.shared.Seat.{Seat}
 
@@ -80,10 +79,17 @@ module _ {E : Type 0} (counted : ℕ → List E → ℕ) where
       each (suc (suc (suc zero))) l = let a = c.counts_read 3 l in (omega arith, omega arith)
       each (suc (suc (suc (suc k)))) l = absurd (omega arith)
 
--- what the pass had seen begins the history of the value that it found
-pub begins_at : {T E : Type 0} (owner : E → ℕ) (entries : T → List E) (counted : ℕ → List E → ℕ) (m : Sat T E) (q : Turn E) (t : T) (rank : ℕ) (seen : List E) → Finds owner entries counted m q t → m.0.rank ≡ rank → m.0.seen ≡ seen
-    → Begins owner rank seen (entries t)
-begins_at owner entries counted m q t rank seen found same is = subst (λ (z : ℕ × List _ × List _). Begins owner z.0 z.1 z.2) (λ i. (same i, is i, sym found.fits.0 i)) found.begins
+-- the value that a seat finds has a history that its pass may find
+pub found_at : {T E : Type 0} (owner : E → ℕ) (entries : T → List E) (counted : ℕ → List E → ℕ) (s : Seat (Option T) (View E)) (q : Turn E) (t : T) (p : PassState E) → Finds owner entries counted s.me q t → pass_state s ≡ p
+    → IsFound owner counted p (entries t)
+found_at owner entries counted s q t p f is = subst (λ (z : PassState _ × List _). IsFound owner counted z.0 z.1) (λ i. (is i, sym f.fits.0 i)) record {
+  begins = f.begins;
+  reached = record {
+    seen = (f.begins.0, f.begins.1);
+    length_read = f.length_read;
+    counts_read = λ k l. let a = f.counts_read k l in let b = f.fits.1 k l in let c = ap (counted k) f.fits.0 in omega arith;
+  };
+}
 
 -- what covers the seat of a pass reaches the pass
 pub reached_by : {T E : Type 0} (counted : ℕ → List E → ℕ) (seat : Seat (Option T) (View E)) (p : PassState E) (xs : List E) → pass_state seat ≡ p → Covers counted seat.me.0 xs → IsReached counted p xs
@@ -97,12 +103,13 @@ reached_both counted m m' seat p xs is now c =
     (both.0, subst (λ q. IsReached counted q xs) is record { seen = both.1; length_read = both.2; counts_read = both.3 })
 
 -- what contracts see of a pass, after a taking of the turn
-pub turned_now : {T E : Type 0} (s s1 s2 : Seat (Option T) (View E)) (p : PassState E) (xs : List E) (q : Turn E) (cs : List (ℕ × Option T)) (found size : ℕ) → pass_state s ≡ p → s1.table_id ≡ s.table_id → s1.me ≡ (standing s.me.0 (Serves q), cs)
-    → s2.table_id ≡ s1.table_id → s2.me ≡ (gave xs found s1.me.0, []) → found ≡ size → pass_state s2 ≡ record p { seen = xs; made = p.made + (length xs - size) }
+pub turned_now : {T E : Type 0} (s s1 s2 : Seat (Option T) (View E)) (p : PassState E) (xs : List E) (q : Turn E) (cs : List (ℕ × Option T)) (found size : ℕ) → pass_state s ≡ p → s1.table_id ≡ s.table_id → s1.me ≡ (served s.me.0 q, cs)
+    → s2.table_id ≡ s1.table_id → s2.me ≡ (gave xs found s1.me.0, []) → found ≡ size → pass_state s2 ≡ record p { seen = xs; made = p.made + (length xs - size); turns = p.turns + 1 }
 turned_now {T} {E} s s1 s2 p xs q cs found size is same turn same' rests long =
-    let f : TableId → View E → PassState E = λ t v. record { lock = t; rank = v.rank; seen = v.seen; made = v.made; length_read = v.length; counts_read = v.counts } in
+    let f : TableId → View E → PassState E = λ t v. record { lock = t; rank = v.rank; seen = v.seen; made = v.made; turns = v.turns; length_read = v.length; counts_read = v.counts } in
     let lock : s2.table_id ≡ s.table_id = same' ∙ same in
-    let knows : s2.me.0 ≡ gave xs found (standing s.me.0 (Serves q)) = ap (λ m. m.0) rests ∙ ap (λ (m : Sat T E). gave xs found m.0) turn in
-    let one : f s2.table_id s2.me.0 ≡ f s.table_id (gave xs found (standing s.me.0 (Serves q))) = λ i. f (lock i) (knows i) in
-    let two : record (pass_state s) { seen = xs; made = s.me.0.made + (length xs - found) } ≡ record p { seen = xs; made = p.made + (length xs - size) } = λ i. record (is i) { seen = xs; made = (is i).made + (length xs - long i) } in
+    let knows : s2.me.0 ≡ gave xs found (served s.me.0 q) = ap (λ m. m.0) rests ∙ ap (λ (m : Sat T E). gave xs found m.0) turn in
+    let one : f s2.table_id s2.me.0 ≡ f s.table_id (gave xs found (served s.me.0 q)) = λ i. f (lock i) (knows i) in
+    let two : record (pass_state s) { seen = xs; made = s.me.0.made + (length xs - found); turns = s.me.0.turns + 1 } ≡ record p { seen = xs; made = p.made + (length xs - size); turns = p.turns + 1 }
+    = λ i. record (is i) { seen = xs; made = (is i).made + (length xs - long i); turns = (is i).turns + 1 } in
     one ∙ two

@@ -122,29 +122,13 @@ module _ {E : Type 0} where
         (λ same. let z = ap (λ z. z.top) same in absurd (omega arith)) (at_snoc (set vs me (kept_back v)) (split_off v) u j e);
   }
 
-  -- where the first seat takes one in, or is taken in, the one that is left is the first
-  leads_joined : (vs : List (View E)) (me other : ℕ) (v w : View E) (first : ℕ) (its : View E) → At (set (set vs me (merged v w)) other spent) first its → its.top ≡ length vs
-      → (0 < v.top + w.top → me ≡ first) → ((j : ℕ) (u : View E) → j ≢ me → j ≢ other → At vs j u → 0 < u.top → j ≡ first) → Leads (set (set vs me (merged v w)) other spent)
-  leads_joined vs me other v w first its there top mine others = record {
-    first = first;
-    its = its;
-    there = there;
-    top_is = top ∙ sym (length-set (set vs me (merged v w)) other spent ∙ length-set vs me (merged v w));
-    alone = each_put (λ j u. 0 < u.top → j ≡ first) (set vs me (merged v w)) other spent (λ h. absurd (omega arith))
-        (λ j d no e. each_put (λ j u. j ≢ other → 0 < u.top → j ≡ first) vs me (merged v w) (λ _ h. mine h) (λ j d ne e no h. others j d ne no e h) j d e no);
+  -- the first seat takes another in, and stays the first
+  pub leads_join : (vs : List (View E)) (me other : ℕ) (v w : View E) → At vs me v → 0 < v.top → other ≢ me → Leads vs → Leads (set (set vs me (merged v w)) other spent)
+  leads_join vs me other v w at h apart r = let us : List (View E) = set vs me (merged v w) in let is = r.alone me v at h in record {
+    first = me;
+    its = merged v w;
+    there = set_else us other me spent (λ e. apart (sym e)) ∙ set_at vs me v (merged v w) at;
+    top_is = (is_lead vs me v at h r).1 ∙ sym (length-set us other spent ∙ length-set vs me (merged v w));
+    alone = each_put (λ j u. 0 < u.top → j ≡ me) us other spent (λ g. absurd (omega arith))
+        (λ j d _ e. each_put (λ j u. 0 < u.top → j ≡ me) vs me (merged v w) (λ _. refl) (λ j d _ e g. r.alone j d e g ∙ sym is) j d e);
   }
-
-  pub leads_join : (vs : List (View E)) (me other : ℕ) (v w : View E) → At vs me v → other ≢ me → At vs other w → Leads vs → Leads (set (set vs me (merged v w)) other spent)
-  leads_join vs me other v w at apart there r =
-      let us : List (View E) = set vs me (merged v w) in
-      let here : At (set us other spent) me (merged v w) = set_else us other me spent (λ e. apart (sym e)) ∙ set_at vs me v (merged v w) at in
-      let bare : (j : ℕ) (u : View E) → At vs j u → j ≢ r.first → u.top ≡ 0 = λ j u e ne. dite (ℕ_discrete u.top 0) (λ z. z) (λ z. absurd (ne (r.alone j u e (omega arith)))) in
-      let all : (j : ℕ) (u : View E) → At vs j u → j ≡ r.first → u.top ≡ length vs = λ j u e is. ap (λ z. z.top) (one_at vs j u r.its e (subst (λ i. At vs i r.its) (sym is) r.there)) ∙ r.top_is in
-      dite (ℕ_discrete r.first me)
-      (λ is. let z = bare other w there (λ g. apart (g ∙ is)) in let y = all me v at (sym is) in
-      leads_joined vs me other v w me (merged v w) here (omega arith) (λ _. refl) (λ j u ne no e h. r.alone j u e h ∙ is))
-      (λ ne. let y = bare me v at (λ g. ne (sym g)) in dite (ℕ_discrete r.first other)
-      (λ is. let z = all other w there (sym is) in
-      leads_joined vs me other v w me (merged v w) here (omega arith) (λ _. refl) (λ j u ne' no e h. absurd (no (r.alone j u e h ∙ is))))
-      (λ no. let z = bare other w there (λ g. no (sym g)) in
-      leads_joined vs me other v w r.first r.its (set_else us other r.first spent no ∙ (set_else vs me r.first (merged v w) ne ∙ r.there)) r.top_is (λ h. absurd (omega arith)) (λ j u _ _ e h. r.alone j u e h)))

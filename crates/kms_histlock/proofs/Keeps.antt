@@ -16,7 +16,7 @@ use Rattle.kms_histlock.specs.declared.view.Turn.{Turn}
 use Rattle.kms_histlock.specs.declared.view.Stage.{Stage}
 use Rattle.kms_histlock.specs.declared.view.Stage.TheVariants.{Idle, Waits, Serves}
 use Rattle.kms_histlock.specs.Rules.{drawn, number, serving, due, having, At, AtMost, Fits, Ranks, Begins, IsStart, Sights, Stands}
-use Rattle.kms_histlock.specs.Steps.{Sat, opened, standing, kept_back, split_off, merged, spent, lengthened, recounted, drew, looked, passed, stored_length, stored_count, read_length, read_count}
+use Rattle.kms_histlock.specs.Steps.{Sat, opened, standing, waiting, kept_back, split_off, merged, spent, lengthened, recounted, drew, looked, passed, stored_length, stored_count, read_length, read_count}
 use Rattle.kms_histlock.specs.Seats.{Lengthens, Covers}
 use Rattle.kms_histlock.proofs.Lists.{put, put_else, sum_put, sum_snoc, sum_only, sum_two, each_put, one_at}
 use Rattle.kms_histlock.proofs.Numbering.{mirrors_put, mirrors_snoc, mirrors_more, numbers_stay, numbers_drawn, numbers_passed, is_first}
@@ -62,7 +62,7 @@ module _ {T E : Type 0} (owner : E → ℕ) (entries : T → List E) (counted : 
 
   pub draws : (slots id : ℕ) (me : Sat T E) → me.0.stage ≡ Idle → 0 < me.0.parts → Allows Rule slots id me 0 (λ n. (n + 1) % 2 ^ 64) (drew (step slots 0 1 0 none) me)
   draws slots id me idle live s r deep at fits =
-      let w : View E = standing me.0 (Waits r.tickets) in
+      let w : View E = waiting me.0 r.tickets in
       let bare : serving me.0.stage ≡ 0 = ap serving idle in
       let dues : due me.0.stage ≡ 4 = ap due idle in
       owed s.views id me 0 (λ n. (n + 1) % 2 ^ 64) (drew (step slots 0 1 0 none) me) s.words _ s.homes _ r.words_are r.homes_are (
@@ -158,7 +158,7 @@ module _ {T E : Type 0} (owner : E → ℕ) (entries : T → List E) (counted : 
             turn = q;
             same_number = same;
             now = refl;
-            found = record { fits = found.2; four = r.words.four; stored = refl; begins = r.sights.begins id me.0 at (omega arith) };
+            found = record { fits = found.2; four = r.words.four; stored = refl; begins = r.sights.begins id me.0 at (omega arith); length_read = (r.words.read id me.0 at).0; counts_read = (r.words.read id me.0 at).1 };
           }),
           λ ne. absurd (ne (is ∙ same)),
         )),
@@ -311,24 +311,22 @@ module _ {T E : Type 0} (owner : E → ℕ) (entries : T → List E) (counted : 
         refl,
       )
 
-  pub reads_length : (slots id : ℕ) (me : Sat T E) → 0 < me.0.parts → Allows Rule slots id me 2 (λ n. n) (read_length (step slots 2 0 0 none) me)
-  reads_length slots id me live s r deep at fits =
+  pub reads_length : (slots id : ℕ) (me : Sat T E) → Allows Rule slots id me 2 (λ n. n) (read_length (step slots 2 0 0 none) me)
+  reads_length slots id me s r deep at fits =
       let w : View E = record me.0 { length = length r.log } in
-      let b = r.sights.begins id me.0 at live in
       owed s.views id me 2 (λ n. n) (read_length (step slots 2 0 0 none) me) s.words _ s.homes _ r.words_are r.homes_are (
         w,
         keeps,
         tt,
         stays s r id me.0 w at refl refl refl refl refl refl refl (omega arith, (r.words.read id me.0 at).1),
-        (refl, (let a = ap length b.1 in let c = length-append me.0.seen b.0 in omega arith), (r.words.read id me.0 at).0),
+        (refl, (λ live. let b = r.sights.begins id me.0 at live in let a = ap length b.1 in let c = length-append me.0.seen b.0 in omega arith), (r.words.read id me.0 at).0),
       )
 
-  pub reads_count : (slots id : ℕ) (me : Sat T E) (k i : ℕ) → me.0.stage ≡ Idle → 0 < me.0.parts → k < 4 → i ≡ k + 3 → Allows Rule slots id me i (λ n. n) (read_count counted (step slots i 0 0 none) me)
-  reads_count slots id me k i idle live small word s r deep at fits =
+  pub reads_count : (slots id : ℕ) (me : Sat T E) (k i : ℕ) → k < 4 → i ≡ k + 3 → Allows Rule slots id me i (λ n. n) (read_count counted (step slots i 0 0 none) me)
+  reads_count slots id me k i small word s r deep at fits =
       let n : ℕ = get_or r.counts k 0 in
       let w : View E = record me.0 { counts = set me.0.counts k n } in
       let us : List ℕ = r.tickets ∷ r.served ∷ length r.log ∷ r.counts in
-      let dues : due me.0.stage ≡ 4 = ap due idle in
       let e : i ≡ suc (suc (suc k)) = omega arith in
       let found : get_or us i 0 ≡ n = ap (λ j. get_or us j 0) e in
       let same : set us i (get_or us i 0) ≡ us = ap (λ j. set us j (get_or us j 0)) e ∙ ap (λ c. r.tickets ∷ r.served ∷ length r.log ∷ c) (set-get_or r.counts k 0) in
@@ -339,8 +337,8 @@ module _ {T E : Type 0} (owner : E → ℕ) (entries : T → List E) (counted : 
         tt,
         subst (λ ws. Rule record { words = ws; homes = r.slot ∷ []; views = set s.views id w }) (sym same)
             (stays s r id me.0 w at refl refl refl refl refl refl refl (small_read.0, at_most_set me.0.counts r.counts k n small_read.1 (omega arith))),
-        (λ j there. let place : k ≡ j = omega arith in let after : Sat T E = (w, me.1) in subst (λ (z : ℕ × ℕ). (after ≡ (record me.0 { counts = set me.0.counts z.0 z.1 }, me.1)) × (counted z.0 me.0.seen ≤ z.1) × (get_or me.0.counts z.0 0 ≤ z.1)) (λ h. (place h, sym found h))
-            (refl, r.sights.counted_in id me.0 at live k small (omega arith), small_read.1 k small)),
+        (λ j there. let place : k ≡ j = omega arith in let after : Sat T E = (w, me.1) in subst (λ (z : ℕ × ℕ). (after ≡ (record me.0 { counts = set me.0.counts z.0 z.1 }, me.1)) × (0 < me.0.parts → z.0 < due me.0.stage → counted z.0 me.0.seen ≤ z.1) × (get_or me.0.counts z.0 0 ≤ z.1)) (λ h. (place h, sym found h))
+            (refl, (λ live owing. r.sights.counted_in id me.0 at live k small owing), small_read.1 k small)),
       )
 
   pub splits : (id : ℕ) (v : View E) → v.stage ≡ Idle → 1 < v.parts → 0 < v.top → v.top < 64 → Splits Rule id v (kept_back v) (split_off v)
@@ -376,8 +374,8 @@ module _ {T E : Type 0} (owner : E → ℕ) (entries : T → List E) (counted : 
         made = let p = sum_snoc (λ z. z.made) us (split_off v) in let q = made_put s.views id v (kept_back v) (length r.log) at refl r.made in omega arith;
       }
 
-  pub joins : (id : ℕ) (v : View E) (other : ℕ) (w : View E) → v.stage ≡ Idle → w.stage ≡ Idle → 0 < v.parts → 0 < w.parts → Joins Rule id v other w (merged v w) spent
-  joins id v other w idle rests live there_too s r at apart there' =
+  pub joins : (id : ℕ) (v : View E) (other : ℕ) (w : View E) → 0 < v.top → w.stage ≡ Idle → 0 < v.parts → 0 < w.parts → Joins Rule id v other w (merged v w) spent
+  joins id v other w first rests live there_too s r at apart there' =
       let us : List (View E) = set s.views id (merged v w) in
       let there : At s.views other w = sym (set_else s.views id other (merged v w) apart) ∙ there' in
       let zs : List (View E) = set us other spent in
@@ -396,7 +394,7 @@ module _ {T E : Type 0} (owner : E → ℕ) (entries : T → List E) (counted : 
         value = held_stays (Fits entries counted r.log r.counts) r.slot s.views zs r.place r.place (mirrors_more serving untagged s.views us zs (mirrors_put serving untagged s.views id v (merged v w) at refl refl) (mirrors_put serving untagged us other w spent there' (sym (ap serving rests)) refl))
             (λ _ _ _ _. refl) r.value;
         parts = parts_join seats s.views id other v w at apart there live r.parts;
-        leads = leads_join s.views id other v w at apart there r.leads;
+        leads = leads_join s.views id other v w at first apart r.leads;
         words = words_join r.log r.counts s.views id other v w at there r.words;
         ranks = ranks_join owner r.log s.views id other v w at live r.ranks;
         sights = sights_join owner counted r.log r.counts s.views id other v w at live there there_too r.sights;

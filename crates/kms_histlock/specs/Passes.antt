@@ -13,14 +13,19 @@ pub record PassState (E : Type 0) : Type 0 where
   pub rank : ℕ
   pub seen : List E
   pub made : ℕ
+  pub turns : ℕ
   pub length_read : ℕ
   pub counts_read : List ℕ
 
 abbrev pub pass_state : {T E : Type 0} → Seat (Option T) (View E) → PassState E
-pass_state s = record { lock = s.table_id; rank = s.me.0.rank; seen = s.me.0.seen; made = s.me.0.made; length_read = s.me.0.length; counts_read = s.me.0.counts }
+pass_state s = record { lock = s.table_id; rank = s.me.0.rank; seen = s.me.0.seen; made = s.me.0.made; turns = s.me.0.turns; length_read = s.me.0.length; counts_read = s.me.0.counts }
+
+-- the seat of rank 1 is the first
+abbrev pub LeadsAtOne : {T E : Type 0} → Seat (Option T) (View E) → Type 0
+LeadsAtOne s = s.me.0.rank ≡ 1 → 0 < s.me.0.top
 
 abbrev pub IsResting : {T E : Type 0} → Seat (Option T) (View E) → ℕ → ℕ → Type 0
-IsResting s rank seen_len = (s.me.1 ≡ []) × (s.me.0.stage ≡ Idle) × (s.me.0.parts ≡ 1) × (rank ≡ s.me.0.rank) × (seen_len ≡ length s.me.0.seen)
+IsResting s rank seen_len = (s.me.1 ≡ []) × (s.me.0.stage ≡ Idle) × (s.me.0.parts ≡ 1) × (rank ≡ s.me.0.rank) × (seen_len ≡ length s.me.0.seen) × LeadsAtOne s
 
 -- what contracts see of a lock: its name, and how many passes it was made with
 pub record LockState : Type 0 where
@@ -29,7 +34,11 @@ pub record LockState : Type 0 where
 
 -- a pass that has done nothing yet
 abbrev pub new_pass : {E : Type 0} → TableId → ℕ → PassState E
-new_pass lock rank = record { lock = lock; rank = rank; seen = []; made = 0; length_read = 0; counts_read = 0 ∷ 0 ∷ 0 ∷ 0 ∷ [] }
+new_pass lock rank = record { lock = lock; rank = rank; seen = []; made = 0; turns = 0; length_read = 0; counts_read = 0 ∷ 0 ∷ 0 ∷ 0 ∷ [] }
+
+-- a pass that may have seen and made more: it is of the same lock, and has the same rank
+abbrev pub IsSamePass : {E : Type 0} → PassState E → PassState E → Type 0
+IsSamePass p q = (q.lock ≡ p.lock) × (q.rank ≡ p.rank)
 
 -- the first n passes of a lock, in the order of their ranks, which go from 1 on
 abbrev pub new_passes : {E : Type 0} → TableId → ℕ → List (PassState E)
@@ -42,11 +51,16 @@ pub record IsReached {E : Type 0} (counted : ℕ → List E → ℕ) (p : PassSt
   pub length_read : p.length_read ≤ length xs
   pub counts_read : (k : ℕ) → k < 4 → slice_index p.counts_read k ≤ counted k xs
 
--- In one taking of the turn f was called at the value that was found, and gave r. The history found begins with what the
--- pass had seen, and has all entries there of its rank. The pass has then seen the history that f left, and made what came to it.
-pub record Turned {F T R E : Type 0} (owner : E → ℕ) (entries : T → List E) (g : Once F (MutBor T × Unit {0}) (R × (MutBor T × Unit {0}))) (f : F) (r : R) (before after : PassState E) : Type 0 where
+-- a history that the pass may find at its turn: it has all entries of the pass's rank in what the pass has seen, and reaches the numbers that it has read
+pub record IsFound {E : Type 0} (owner : E → ℕ) (counted : ℕ → List E → ℕ) (p : PassState E) (xs : List E) : Type 0 where
+  pub begins : Begins owner p.rank p.seen xs
+  pub reached : IsReached counted p xs
+
+-- The pass took the turn once, and f was called at the value that was found, and gave r. The pass has then seen the history
+-- that f left, and made what came to it.
+pub record Turned {F T R E : Type 0} (owner : E → ℕ) (entries : T → List E) (counted : ℕ → List E → ℕ) (g : Once F (MutBor T × Unit {0}) (R × (MutBor T × Unit {0}))) (f : F) (r : R) (before after : PassState E) : Type 0 where
   pub found : T
   pub left : T
-  pub begins : Begins owner before.rank before.seen (entries found)
+  pub history : IsFound owner counted before (entries found)
   pub called : FnOnceReturnsAtMut g f found r left
-  pub now : after ≡ record before { seen = entries left; made = before.made + (length (entries left) - length (entries found)) }
+  pub now : after ≡ record before { seen = entries left; made = before.made + (length (entries left) - length (entries found)); turns = before.turns + 1 }

@@ -19,10 +19,14 @@ IsSameSeat s t = (t.table_id ≡ s.table_id) × (t.id ≡ s.id)
 abbrev pub Lengthens : {E : Type 0} → (E → ℕ) → ℕ → List E → List E → Type 0
 Lengthens {E} owner rank before after = (new : List E) × (after ≡ before ++ new) × All (λ e. (owner e ≡ 0) ⊎ (owner e ≡ rank)) new
 
+-- a seat has the turn as q, for which it has drawn one number
+abbrev pub served : {E : Type 0} → View E → Turn E → View E
+served v q = record v { stage = Serves q; turns = v.turns + 1 }
+
 module _ {T E : Type 0} (owner : E → ℕ) (entries : T → List E) (counted : ℕ → List E → ℕ) where
   -- the seat m has taken the turn, and the value t with it
   abbrev pub HasTurn : Sat T E → T → Sat T E → Type 0
-  HasTurn m t m' = (q : Turn E) × (m' ≡ (standing m.0 (Serves q), (0, None) ∷ [])) × Finds owner entries counted m q t
+  HasTurn m t m' = (q : Turn E) × (m' ≡ (served m.0 q, (0, None) ∷ [])) × Finds owner entries counted m q t
 
   -- the served seat holds nothing in its slot and may give the value t back, whose history goes on from one of `found` entries
   pub record MayGive (found : ℕ) (t : T) (m : Sat T E) : Type 0 where

@@ -1,9 +1,8 @@
 //! The lock.
-ghost use Rattle.std.specs.Prelude.{◌≡◌, ℕ, ◌≤◌, ◌<◌, [], length, slice_index, slice_set, All, IfOk};
+ghost use Rattle.std.specs.Prelude.{◌≡◌, ℕ, ◌≤◌, ◌<◌, [], length, slice_index, slice_set, All, Any, IfOk};
 ghost use Rattle.std.specs.List.{sum_by};
 ghost use Rattle.std.specs.Fn.{FnOnceTakesAtMut, FnOnceReturnsAtMut};
-ghost use Rattle.kms_histlock.specs.Passes.{new_passes, IsReached, Turned};
-ghost use Rattle.kms_histlock.specs.Rules.{Begins};
+ghost use Rattle.kms_histlock.specs.Passes.{new_passes, IsReached, IsFound, Turned};
 ghost use Rattle.kms_histlock.specs.Seats.{Lengthens};
 
 use crate::kept::Kept;
@@ -50,14 +49,15 @@ impl<T: Kept> HistLock<T> {
         Ok((HistLock { table }, Seq::from_vec(passes)))
     }
 
-    /// Takes the turn with a pass of this lock, calls `f` with the value, and passes the turn on. It waits until the
-    /// turn comes. The history that `f` finds begins with what the pass has seen, and has all entries of its own there.
+    /// Takes the turn once with a pass of this lock, calls `f` with the value, and passes the turn on. It waits until
+    /// the turn comes. The history that `f` finds begins with what the pass has seen, has all entries of its own there,
+    /// and reaches the numbers that it has read.
     /// `f` may only lengthen the value's history, by entries of nobody's and of the pass's own.
     pub fn with<R, W: Wait, F: FnOnce(&mut T) -> R>(&self, rt: &W, pass: &mut Pass<T>, f: F) -> R
         requires own { pass.old.lock ≡ self.now.lock }
-        requires callable { (x : T) → Begins T.owner pass.old.rank pass.old.seen (T.entries x) → FnOnceTakesAtMut F.FnOnce f x }
-        requires lengthens { (x y : T) (r : R) → Begins T.owner pass.old.rank pass.old.seen (T.entries x) → FnOnceReturnsAtMut F.FnOnce f x r y → Lengthens T.owner pass.old.rank (T.entries x) (T.entries y) }
-        ensures turn { Turned T.owner T.entries F.FnOnce f result pass.old pass.new }
+        requires callable { (x : T) → IsFound T.owner T.counted pass.old (T.entries x) → FnOnceTakesAtMut F.FnOnce f x }
+        requires lengthens { (x y : T) (r : R) → IsFound T.owner T.counted pass.old (T.entries x) → FnOnceReturnsAtMut F.FnOnce f x r y → Lengthens T.owner pass.old.rank (T.entries x) (T.entries y) }
+        ensures turn { Turned T.owner T.entries T.counted F.FnOnce f result pass.old pass.new }
     {
         let words = &self.table.shared;
         let mut value = take(rt, words, &mut pass.seat);
@@ -95,9 +95,11 @@ impl<T: Kept> HistLock<T> {
 
     /// Ends the lock, with all its passes in any order, and gives the value back. Its history has as many entries as
     /// all passes have made together, begins with what each has seen, and reaches each number that one has read.
+    /// The seat of the pass of rank 1 takes in those of the others.
     pub fn close(self, passes: Seq<Pass<T>>) -> T
         requires own { All (λ p. p.lock ≡ self.lock) passes }
         requires all { length passes ≡ self.seats }
+        requires first { Any (λ p. p.rank ≡ 1) passes }
         ensures made { length (T.entries result) ≡ sum_by (λ p. p.made) passes }
         ensures reached { All (λ p. IsReached T.counted p (T.entries result)) passes }
     {

@@ -1,6 +1,6 @@
 //! What a thread holds to take part in the lock.
 ghost use Rattle.std.specs.Prelude.{◌≡◌, ℕ, ◌+◌, List, [], length};
-ghost use Rattle.kms_histlock.specs.Passes.{pass_state};
+ghost use Rattle.kms_histlock.specs.Passes.{pass_state, LeadsAtOne};
 ghost use Rattle.kms_histlock.specs.declared.view.Stage.TheVariants.{Idle};
 
 use crate::kept::Kept;
@@ -30,6 +30,7 @@ impl<T: Kept> Pass<T> {
     pub(crate) fn of(seat: Place<T>, rank: u32) -> Pass<T>
         requires rests { (seat.me.1 ≡ []) × (seat.me.0.stage ≡ Idle) × (seat.me.0.parts ≡ 1) }
         requires knows { (rank ≡ seat.me.0.rank) × (seat.me.0.seen ≡ []) }
+        requires first { LeadsAtOne seat }
         ensures { result ≡ pass_state seat }
     {
         Pass {
@@ -57,6 +58,7 @@ impl<T: Kept> Pass<T> {
     pub(crate) fn into_seat(self) -> Place<T>
         ensures state { pass_state result ≡ self }
         ensures rests { (result.me.1 ≡ []) × (result.me.0.stage ≡ Idle) × (result.me.0.parts ≡ 1) }
+        ensures first { LeadsAtOne result }
     {
         self.seat
     }

@@ -1,5 +1,5 @@
 //! The seats of a lock: how they are made and how they end.
-ghost use Rattle.std.specs.Prelude.{◌≡◌, ℕ, ◌≤◌, ◌<◌, List, [], ◌∷◌, length, All, IfOk};
+ghost use Rattle.std.specs.Prelude.{◌≡◌, ℕ, ◌≤◌, ◌<◌, List, [], ◌∷◌, length, All, Any, IfOk, IsPermutation};
 ghost use Rattle.std.specs.List.{sum_by};
 ghost use Rattle.kms_histlock.specs.declared.view.Stage.TheVariants.{Idle};
 ghost use Rattle.kms_histlock.specs.Passes.{pass_state, new_pass, new_passes, IsReached};
@@ -44,6 +44,7 @@ pub(crate) fn split_off<T: Kept>(
     ensures passes { IfOk result (λ v. new_pass words.now.table_id 1 ∷ v.items ≡ new_passes words.now.table_id seats) }
     ensures first { IfOk result (λ _. pass_state first.new ≡ new_pass words.now.table_id 1) }
     ensures rests { IfOk result (λ _. (first.new.me.1 ≡ []) × (first.new.me.0.stage ≡ Idle) × (first.new.me.0.parts ≡ 1)) }
+    ensures leads { IfOk result (λ _. 0 < first.new.me.0.top) }
 {
     let mut passes = Vec::with_capacity(alloc, seats as usize)?;
     for made in 1..seats {
@@ -53,10 +54,24 @@ pub(crate) fn split_off<T: Kept>(
     Ok(passes)
 }
 
-/// The seat that stands for all passes.
+// Takes the pass of rank 1 out of the passes. The others may change places.
+fn take_first<T: Kept>(passes: &mut Vec<Pass<T>>) -> Pass<T>
+    requires first { Any (λ p. p.rank ≡ 1) passes.old.items }
+    ensures first { result.rank ≡ 1 }
+    ensures others { IsPermutation passes.old.items (result ∷ passes.new.items) }
+{
+    for place in 0..passes.len() {
+        if passes[place].rank() == 1 {
+            return passes.swap_remove(place);
+        }
+    }
+    unreachable!()
+}
+
+/// The first seat, once it has taken in those of all other passes: it then stands for all.
 pub(crate) fn take_in<T: Kept>(words: &Words<T>, mut passes: Vec<Pass<T>>) -> Place<T>
     requires sized { IsSized words.now.table_id }
-    requires some { 0 < length passes.items }
+    requires first { Any (λ p. p.rank ≡ 1) passes.items }
     requires own { All (λ p. p.lock ≡ words.now.table_id) passes.items }
     ensures own { result.table_id ≡ words.now.table_id }
     ensures rests { (result.me.1 ≡ []) × (result.me.0.stage ≡ Idle) }
@@ -64,10 +79,7 @@ pub(crate) fn take_in<T: Kept>(words: &Words<T>, mut passes: Vec<Pass<T>>) -> Pl
     ensures made { result.me.0.made ≡ sum_by (λ p. p.made) passes.items }
     ensures covers { (xs : List T.Entry) → Covers T.counted result.me.0 xs → All (λ p. IsReached T.counted p xs) passes.items }
 {
-    let Some(pass) = passes.pop() else {
-        unreachable!()
-    };
-    let mut seat = pass.into_seat();
+    let mut seat = take_first(&mut passes).into_seat();
     while let Some(pass) = passes.pop() {
         words.join_seat::<TakeIn>(&mut seat, pass.into_seat());
     }

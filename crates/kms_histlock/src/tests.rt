@@ -1,5 +1,6 @@
 //! The lock at work: a notebook behind it, and threads that take turns to write in it.
 ghost use Rattle.std.specs.Prelude.{◌≡◌, length};
+ghost use Rattle.kms_histlock.specs.Passes.{IsSamePass};
 ghost use Rattle.kms_histlock.specs.Seats.{Lengthens};
 
 use crate::{HistLock, Kept, Pass};
@@ -8,6 +9,7 @@ use std::alloc::Global;
 use std::sync::Wait;
 use std::test::Fail;
 use std::thread::{Threads, join};
+use std::time::{Duration, Instant};
 
 /// A note: whose it is, and its number among that owner's.
 #[derive(Clone, Copy, PartialEq, Eq, Debug)]
@@ -65,6 +67,20 @@ impl Notebook {
         self.notes.get(place) == Some(&before)
     }
 
+    // Whether the owner's notes with the numbers from 0 on lie at these places, one behind the other.
+    fn lie(&self, owner: u32, places: &[usize]) -> bool {
+        let mut number = 0u32;
+        let mut behind = 0;
+        for &place in places {
+            if place < behind || self.notes.get(place) != Some(&Note { owner, number }) {
+                return false;
+            }
+            number = number.saturating_add(1);
+            behind = place.saturating_add(1);
+        }
+        true
+    }
+
     // Writes a note, and answers its place. None where there is no memory.
     fn write(&mut self, owner: u32, number: u32) -> Option<usize>
         ensures { Lengthens (λ e. e.owner) owner self.old.notes self.new.notes }
@@ -86,7 +102,7 @@ fn turn<W: Wait>(
     left: usize,
 ) -> Option<usize>
     requires own { pass.old.lock ≡ lock.now.lock }
-    ensures own { pass.new.lock ≡ pass.old.lock }
+    ensures same { IsSamePass pass.old pass.new }
 {
     let owner = pass.rank();
     lock.with(
@@ -104,80 +120,87 @@ fn turn<W: Wait>(
     )
 }
 
-// Takes `turns` turns, and reads the length and a count after each. Answers how many turns went well before the
-// first that did not.
+// What a thread hands back: its pass, and the places of its notes in the order in which it wrote them.
+#[derive(Drop)]
+struct Worked {
+    pass: Pass<Notebook>,
+    places: Vec<usize>,
+}
+
+// Takes `turns` turns, and reads the length and a count after each. It stops at the first that does not go well.
 fn work<W: Wait>(
     rt: &W,
+    alloc: Global,
     lock: &HistLock<Notebook>,
     mut pass: Pass<Notebook>,
     turns: u32,
-) -> (Pass<Notebook>, u32)
+) -> Worked
     requires own { pass.lock ≡ lock.now.lock }
-    ensures own { result.0.lock ≡ pass.lock }
+    ensures same { IsSamePass pass result.pass }
 {
-    let mut place = 0;
-    let mut well = 0u32;
+    let mut places = Vec::new(alloc);
+    let mut left = 0;
     for number in 0..turns {
-        let Some(left) = turn(rt, lock, &mut pass, number, place) else {
+        let Some(place) = turn(rt, lock, &mut pass, number, left) else {
             break;
         };
-        place = left;
+        left = place;
         let seen = pass.seen_len();
-        if lock.length(&mut pass) < seen || lock.count(&mut pass, 1).saturating_add(1) < seen {
+        if lock.length(&mut pass) < seen
+            || lock.count(&mut pass, 1).saturating_add(1) < seen
+            || places.push(place).is_err()
+        {
             break;
         }
-        well = number + 1;
     }
-    (pass, well)
+    Worked { pass, places }
 }
 
 // Two passes at work, each in a thread of its own.
 fn two<R: Threads + Wait + Sync>(
     rt: &R,
+    alloc: Global,
     lock: &HistLock<Notebook>,
     one: Pass<Notebook>,
     other: Pass<Notebook>,
     turns: u32,
-) -> (Pass<Notebook>, Pass<Notebook>, u32)
+) -> (Worked, Worked)
     requires own { (one.lock ≡ lock.now.lock) × (other.lock ≡ lock.now.lock) }
-    ensures own { (result.0.lock ≡ lock.now.lock) × (result.1.lock ≡ lock.now.lock) }
+    ensures same { IsSamePass one result.0.pass × IsSamePass other result.1.pass }
 {
-    let ((one, a), (other, b)) = join(
+    join(
         rt,
-        || work(rt, lock, one, turns),
-        || work(rt, lock, other, turns),
-    );
-    (one, other, a.saturating_add(b))
+        || work(rt, alloc, lock, one, turns),
+        || work(rt, alloc, lock, other, turns),
+    )
 }
-
-// What two threads hand back: their passes, and how many of their turns went well.
-type Pair = (Pass<Notebook>, Pass<Notebook>, u32);
 
 // Four passes at work, each in a thread of its own.
 fn four<R: Threads + Wait + Sync>(
     rt: &R,
+    alloc: Global,
     lock: &HistLock<Notebook>,
     a: Pass<Notebook>,
     b: Pass<Notebook>,
     c: Pass<Notebook>,
     d: Pass<Notebook>,
     turns: u32,
-) -> (Pair, Pair)
+) -> ((Worked, Worked), (Worked, Worked))
     requires first { (a.lock ≡ lock.now.lock) × (b.lock ≡ lock.now.lock) }
     requires last { (c.lock ≡ lock.now.lock) × (d.lock ≡ lock.now.lock) }
-    ensures first { (result.0.0.lock ≡ lock.now.lock) × (result.0.1.lock ≡ lock.now.lock) }
-    ensures last { (result.1.0.lock ≡ lock.now.lock) × (result.1.1.lock ≡ lock.now.lock) }
+    ensures first { IsSamePass a result.0.0.pass × IsSamePass b result.0.1.pass }
+    ensures last { IsSamePass c result.1.0.pass × IsSamePass d result.1.1.pass }
 {
     join(
         rt,
-        || -> Pair
+        || -> (Worked, Worked)
             requires { (a.lock ≡ lock.now.lock) × (b.lock ≡ lock.now.lock) }
-            ensures { (result.0.lock ≡ lock.entry.now.lock) × (result.1.lock ≡ lock.entry.now.lock) }
-        { two(rt, lock, a, b, turns) },
-        || -> Pair
+            ensures { IsSamePass a result.0.pass × IsSamePass b result.1.pass }
+        { two(rt, alloc, lock, a, b, turns) },
+        || -> (Worked, Worked)
             requires { (c.lock ≡ lock.now.lock) × (d.lock ≡ lock.now.lock) }
-            ensures { (result.0.lock ≡ lock.entry.now.lock) × (result.1.lock ≡ lock.entry.now.lock) }
-        { two(rt, lock, c, d, turns) },
+            ensures { IsSamePass c result.0.pass × IsSamePass d result.1.pass }
+        { two(rt, alloc, lock, c, d, turns) },
     )
 }
 
@@ -188,11 +211,11 @@ fn one_pass_finds_what_it_left(rt: HostRuntime) -> Result<(), Fail> {
     let Some(pass) = passes.pop() else {
         panic!(rt; "no pass")
     };
-    let (pass, well) = work(&rt, &lock, pass, 10);
-    assert!(rt; well == 10 && pass.rank() == 1 && pass.seen_len() == 10);
+    let Worked { pass, places } = work(&rt, rt.alloc(), &lock, pass, 10);
+    assert!(rt; places.len() == 10 && pass.rank() == 1 && pass.seen_len() == 10);
     passes.push(pass)?;
     let book = lock.close(Seq::from_vec(passes));
-    assert!(rt; book.length() == 10 && book.count(3) == 7);
+    assert!(rt; book.length() == 10 && book.count(3) == 7 && book.lie(1, &places));
     Ok(())
 }
 
@@ -204,12 +227,14 @@ fn two_threads_take_turns(rt: HostRuntime) -> Result<(), Fail> {
         panic!(rt; "no passes")
     };
     assert!(rt; one.rank() == 1 && other.rank() == 2);
-    let (one, other, well) = two(&rt, &lock, one, other, 500);
-    assert!(rt; well == 1000 && one.seen_len() >= 500 && other.seen_len() >= 500);
-    passes.push(one)?;
-    passes.push(other)?;
+    let (one, other) = two(&rt, rt.alloc(), &lock, one, other, 500);
+    assert!(rt; one.places.len() == 500 && other.places.len() == 500);
+    assert!(rt; one.pass.seen_len() >= 500 && other.pass.seen_len() >= 500);
+    passes.push(other.pass)?;
+    passes.push(one.pass)?;
     let book = lock.close(Seq::from_vec(passes));
     assert!(rt; book.length() == 1000 && book.count(2) == 998);
+    assert!(rt; book.lie(1, &one.places) && book.lie(2, &other.places));
     Ok(())
 }
 
@@ -220,18 +245,21 @@ fn an_unused_pass_reads_what_another_made(rt: HostRuntime) -> Result<(), Fail> {
     let (Some(mut unused), Some(pass)) = (passes.pop(), passes.pop()) else {
         panic!(rt; "no passes")
     };
-    let (pass, well) = work(&rt, &lock, pass, 16);
-    assert!(rt; well == 16 && unused.seen_len() == 0);
+    let Worked { pass, places } = work(&rt, rt.alloc(), &lock, pass, 16);
+    assert!(rt; places.len() == 16 && unused.seen_len() == 0);
     assert!(rt; lock.length(&mut unused) == 16 && unused.seen_len() == 0);
     assert!(rt; lock.count(&mut unused, 0) == 16 && lock.count(&mut unused, 3) == 13);
     passes.push(unused)?;
     passes.push(pass)?;
-    assert!(rt; lock.close(Seq::from_vec(passes)).length() == 16);
+    let book = lock.close(Seq::from_vec(passes));
+    assert!(rt; book.length() == 16 && book.lie(1, &places));
     Ok(())
 }
 
+// It takes a second or two where four processors are busy, and must take less than 20.
 #[test]
 fn four_threads_take_a_hundred_thousand_turns(rt: HostRuntime) -> Result<(), Fail> {
+    let start = Instant::now(&rt)?;
     let (lock, passes) = HistLock::new(rt.alloc(), Notebook::new(rt.alloc()), 4)?;
     let mut passes = passes.into_vec();
     let (Some(d), Some(c)) = (passes.pop(), passes.pop()) else {
@@ -240,13 +268,14 @@ fn four_threads_take_a_hundred_thousand_turns(rt: HostRuntime) -> Result<(), Fai
     let (Some(b), Some(a)) = (passes.pop(), passes.pop()) else {
         panic!(rt; "no passes")
     };
-    let ((a, b, m), (c, d, n)) = four(&rt, &lock, a, b, c, d, 25_000);
-    assert!(rt; m == 50_000 && n == 50_000);
-    passes.push(a)?;
-    passes.push(c)?;
-    passes.push(b)?;
-    passes.push(d)?;
+    let ((a, b), (c, d)) = four(&rt, rt.alloc(), &lock, a, b, c, d, 25_000);
+    assert!(rt; a.places.len() == 25_000 && b.places.len() == 25_000);
+    assert!(rt; c.places.len() == 25_000 && d.places.len() == 25_000);
+    let passes = Vec::from_array(rt.alloc(), [c.pass, a.pass, d.pass, b.pass])?;
     let book = lock.close(Seq::from_vec(passes));
     assert!(rt; book.length() == 100_000 && book.count(1) == 99_999);
+    assert!(rt; book.lie(1, &a.places) && book.lie(2, &b.places));
+    assert!(rt; book.lie(3, &c.places) && book.lie(4, &d.places));
+    assert!(rt; start.elapsed(&rt)? < Duration::from_secs(20));
     Ok(())
 }

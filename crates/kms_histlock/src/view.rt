@@ -10,6 +10,8 @@ pub struct View<E> {
     /// The greatest rank that was given out, at the first seat; 0 at another.
     pub top: u64,
     pub stage: Stage<E>,
+    /// How many numbers it has drawn.
+    pub turns: u64,
     /// The history that it has seen.
     pub seen: LinkedList<E>,
     /// How many entries it has made.

@@ -11,6 +11,7 @@ invariant-loop-pass g l = record {
   own : l.seat.table_id ≡ l.words.table_id;
   bare : l.seat.me.1 ≡ [];
   idle : l.seat.me.0.stage ≡ Idle;
+  leads : 0 < l.seat.me.0.top;
   some : 0 < l.seat.me.0.parts;
   parts : l.seat.me.0.parts + length l.passes.items ≡ length l.fn.passes.items;
   made : l.seat.me.0.made + sum_by (λ p. p.made) l.passes.items ≡ sum_by (λ p. p.made) l.fn.passes.items;
