@@ -48,6 +48,17 @@ fn legal(mode: Mode) -> Result<Mode, BadMode>
     Ok(mode)
 }
 
+/// Whether a mode is legal: as `decode_mode` would read it. (Kernel: `drm_mode_validate_basic`.)
+pub fn is_legal_mode(mode: &Mode) -> bool
+    ensures { result ≡ is_legal_mode mode.now }
+{
+    is_in_order(mode.hdisplay, mode.hsync_start, mode.hsync_end, mode.htotal)
+        && is_in_order(mode.vdisplay, mode.vsync_start, mode.vsync_end, mode.vtotal)
+        && 0 < mode.clock
+        && mode.hdisplay <= LARGEST_SIDE
+        && mode.vdisplay <= LARGEST_SIDE
+}
+
 // Whether an axis is in order.
 fn is_in_order(display: u16, start: u16, end: u16, total: u16) -> bool
     ensures { result ≡ is_axis display start end total }

@@ -7,10 +7,11 @@ ghost use Rattle.kms_model.specs.declared.worlds.Content.TheVariants as content;
 ghost use Rattle.kms_model.specs.declared.worlds.Thing.{Thing};
 ghost use Rattle.kms_model.specs.declared.worlds.World.{World};
 ghost use Rattle.kms_model.specs.ModeBytes.{mode_bytes};
-ghost use Rattle.kms_model.specs.Serial.{make};
-ghost use Rattle.kms_blobs.specs.Things.{blobs_of, things_after};
+ghost use Rattle.kms_model.specs.Execution.{make};
+ghost use Rattle.kms_model.specs.OpenThings.{things_after};
+ghost use Rattle.kms_blobs.specs.Things.{blobs_of};
 
-use kms_model::{Blob, Denied, NoMemory, Seq, Table};
+use kms_model::{Blob, Denied, IdTable, NoMemory, Seq};
 use std::alloc::Global;
 use std::marker::Model;
 
@@ -18,7 +19,7 @@ use std::marker::Model;
 /// made.
 #[derive(Debug, Drop)]
 pub struct BlobStore {
-    blobs: Table<Blob>,
+    blobs: IdTable<Blob>,
 }
 
 impl Model for BlobStore {
@@ -37,7 +38,7 @@ impl BlobStore {
         ensures { result ≡ [] }
     {
         BlobStore {
-            blobs: Table::new(alloc),
+            blobs: IdTable::new(alloc),
         }
     }
 

@@ -12,8 +12,8 @@ bytes_of-push : (buffers : List (Slot Buffer)) (s : Slot Buffer) → bytes_of (b
 bytes_of-push [] s = omega arith
 bytes_of-push (b ∷ buffers) s = ap (λ (n : ℕ). area_of b + n) (bytes_of-push buffers s) ∙ sym (add_assoc (area_of b) (bytes_of buffers) (area_of s))
 
-pub counted-push : (bytes area : ℕ) (buffers : List (Slot Buffer)) (s : Slot Buffer) → IsCounted bytes buffers → area ≡ area_of s → bytes + area ≤ largest_bytes → IsCounted (bytes + area) (buffers ++ s ∷ [])
-counted-push bytes area buffers s counted is fits = record {
-  counted = ap (λ (n : ℕ). n + area) counted.counted ∙ ap (λ (n : ℕ). bytes_of buffers + n) is ∙ sym (bytes_of-push buffers s);
+pub counted-push : (total : ℕ) (buffers : List (Slot Buffer)) (s : Slot Buffer) → total ≡ bytes_of buffers + area_of s → total ≤ largest_bytes → IsCounted total (buffers ++ s ∷ [])
+counted-push total buffers s is fits = record {
+  counted = is ∙ sym (bytes_of-push buffers s);
   within = fits;
 }

@@ -1,4 +1,3 @@
 pub mod Counted
-pub mod Ranges
 pub mod Bytes
 pub mod Things

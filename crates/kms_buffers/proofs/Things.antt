@@ -1,6 +1,6 @@
--- What happens to the open framebuffers as things are made and closed.
+-- What happens to the open framebuffers as things are made, and as one is put back or taken out.
 use Rattle.std.proofs.Common.{◌≡◌, ℕ, List, [], ◌∷◌, ◌++◌, Bool, true, false, eqb, refl, sym, ap, ◌∙◌, inl, inr, subst, ◌<◌, ◌-◌, arith}
-use Rattle.std.specs.Prelude.{map, Option, Some, None, if◌then◌else◌}
+use Rattle.std.specs.Prelude.{Some, if◌then◌else◌}
 use Rattle.std.specs.List.{cons_option, AllByRecursion}
 use Rattle.std.proofs.lemmas.Bool.Decides.{eqb_tells, nat_tests}
 use Rattle.std.proofs.lemmas.List.Elements.{filter_map-append}
@@ -9,21 +9,21 @@ use Rattle.kms_model.specs.declared.pictures.FbInfo.{FbInfo}
 use Rattle.kms_model.specs.declared.scripts.Pattern.{Pattern}
 use Rattle.kms_model.specs.declared.stores.Framebuffer.{Framebuffer}
 use Rattle.kms_model.specs.declared.tables.Slot.{Slot}
-use Rattle.kms_model.specs.declared.worlds.Content.{Content}
 use Rattle.kms_model.specs.declared.worlds.Content.TheVariants as content
-use Rattle.kms_model.specs.declared.worlds.Thing.{Thing}
 use Rattle.kms_model.specs.declared.worlds.World.{World}
-use Rattle.kms_model.specs.Serial.{make}
+use Rattle.kms_model.specs.OpenThings.{open_value}
+use Rattle.kms_model.specs.Execution.{make}
 use Rattle.kms_model.specs.Stores.{buffer, framebuffer, with_fewer, MayGive}
 use Rattle.kms_model.specs.Tables.{slot, put_in, with_value, without_id, value_with_id, IsRising}
-use Rattle.kms_buffers.specs.Things.{buffer_in, buffers_of, fb_in, open_fb_of, open_fbs_of, open_slot, open_fbs, closed_if}
+use Rattle.kms_model.proofs.OpenLemmas.{without_id-same, without_id-other}
+use Rattle.kms_buffers.specs.Things.{buffer_in, buffers_of, fb_in, open_fbs_of, open_slot, open_fbs}
 
 pub made_buffer : (w : World) (owner label width height : ℕ) (format : Format) (pattern : Pattern)
     → buffers_of (make w owner label (content.Buffer width height format pattern)).world.things ≡ buffers_of w.things ++ slot w.next_id (buffer owner width height format pattern) ∷ []
 made_buffer w owner label width height format pattern = filter_map-append (λ t. buffer_in t.id t.owner t.content) w.things _
 
 pub made_fb : (w : World) (owner label of : ℕ) (info : FbInfo) → open_fbs_of (make w owner label (content.Framebuffer info of)).world.things ≡ open_fbs_of w.things ++ slot w.next_id (framebuffer owner of info) ∷ []
-made_fb w owner label of info = filter_map-append open_fb_of w.things _
+made_fb w owner label of info = filter_map-append (open_value fb_in) w.things _
 
 pub added_fb : (fbs : List (Slot Framebuffer)) (id owner of : ℕ) (info : FbInfo) → open_fbs (fbs ++ slot id (framebuffer owner of info) ∷ []) ≡ open_fbs fbs ++ slot id (framebuffer owner of info) ∷ []
 added_fb fbs id owner of info = filter_map-append open_slot fbs _
@@ -31,49 +31,13 @@ added_fb fbs id owner of info = filter_map-append open_slot fbs _
 other : (a b : ℕ) → b < a → eqb a b ≡ false
 other a b less = grind (arith, nat_tests)
 
-abbrev if_open : Bool → ℕ → ℕ → Content → Option (Slot Framebuffer)
-if_open is id owner c = if is then fb_in id owner c else None
-
-gone : (is : Bool) (id at owner : ℕ) (c : Content) (rest : List (Slot Framebuffer)) → eqb at id ≡ true → without_id rest id ≡ without_id (cons_option (if_open is at owner c) rest) id
-gone false id at owner c rest e = refl
-gone true id at owner (content.Framebuffer info of) rest e = rw e refl
-gone true id at owner (content.Mode m) rest e = refl
-gone true id at owner (content.Buffer width height format pattern) rest e = refl
-gone true id at owner (content.Blob bytes) rest e = refl
-gone true id at owner content.Fence rest e = refl
-
-stays : (is : Bool) (id at owner : ℕ) (c : Content) (rest : List (Slot Framebuffer)) → eqb at id ≡ false → cons_option (if_open is at owner c) (without_id rest id) ≡ without_id (cons_option (if_open is at owner c) rest) id
-stays false id at owner c rest e = refl
-stays true id at owner (content.Framebuffer info of) rest e = rw e refl
-stays true id at owner (content.Mode m) rest e = refl
-stays true id at owner (content.Buffer width height format pattern) rest e = refl
-stays true id at owner (content.Blob bytes) rest e = refl
-stays true id at owner content.Fence rest e = refl
-
-one_closed : (b : Bool) (id : ℕ) (t : Thing) (rest : List (Slot Framebuffer)) → eqb t.id id ≡ b → cons_option (open_fb_of (closed_if id t)) (without_id rest id) ≡ without_id (cons_option (open_fb_of t) rest) id
-one_closed true id t rest e = rw e (gone t.is_open id t.id t.owner t.content rest e)
-one_closed false id t rest e = rw e (stays t.is_open id t.id t.owner t.content rest e)
-
--- the open framebuffers after things with an id were closed
-pub closed_things : (id : ℕ) (things : List Thing) → open_fbs_of (map (closed_if id) things) ≡ without_id (open_fbs_of things) id
-closed_things id [] = refl
-closed_things id (t ∷ things) =
-    ap (cons_option (open_fb_of (closed_if id t))) (closed_things id things) ∙ one_closed (eqb t.id id) id t (open_fbs_of things) refl
-
-abbrev slot_if : Bool → ℕ → Framebuffer → Option (Slot Framebuffer)
-slot_if is id fb = if is then Some (slot id (framebuffer fb.owner fb.buffer fb.info)) else None
-
-slot_gone : (is : Bool) (id at : ℕ) (fb : Framebuffer) (rest : List (Slot Framebuffer)) → eqb at id ≡ true → without_id rest id ≡ without_id (cons_option (slot_if is at fb) rest) id
-slot_gone false id at fb rest e = refl
-slot_gone true id at fb rest e = rw e refl
-
-slot_stays : (is : Bool) (id at : ℕ) (fb : Framebuffer) (rest : List (Slot Framebuffer)) → eqb at id ≡ false → cons_option (slot_if is at fb) (without_id rest id) ≡ without_id (cons_option (slot_if is at fb) rest) id
-slot_stays false id at fb rest e = refl
-slot_stays true id at fb rest e = rw e refl
+-- a framebuffer as it was added
+abbrev added : Framebuffer → Framebuffer
+added fb = framebuffer fb.owner fb.buffer fb.info
 
 one_put : (b : Bool) (id : ℕ) (fb : Framebuffer) (s : Slot Framebuffer) (rest : List (Slot Framebuffer)) → fb.is_open ≡ false → eqb s.id id ≡ b → cons_option (open_slot (put_in id fb s)) (without_id rest id) ≡ without_id (cons_option (open_slot s) rest) id
-one_put true id fb s rest shut e = rw (e, shut) (slot_gone s.value.is_open id s.id s.value rest e)
-one_put false id fb s rest shut e = rw e (slot_stays s.value.is_open id s.id s.value rest e)
+one_put true id fb s rest shut e = rw (e, shut) (without_id-same s.value.is_open id s.id (Some (added s.value)) rest e)
+one_put false id fb s rest shut e = rw e (without_id-other s.value.is_open id s.id (Some (added s.value)) rest e)
 
 put_closed : (fbs : List (Slot Framebuffer)) (id : ℕ) (fb : Framebuffer) → fb.is_open ≡ false → open_fbs (with_value fbs id fb) ≡ without_id (open_fbs fbs) id
 put_closed [] id fb shut = refl
@@ -81,8 +45,8 @@ put_closed (s ∷ fbs) id fb shut =
     ap (cons_option (open_slot (put_in id fb s))) (put_closed fbs id fb shut) ∙ one_put (eqb s.id id) id fb s (open_fbs fbs) shut refl
 
 one_out : (b : Bool) (id : ℕ) (s : Slot Framebuffer) (fbs : List (Slot Framebuffer)) → eqb s.id id ≡ b → open_fbs (without_id fbs id) ≡ without_id (open_fbs fbs) id → open_fbs (without_id (s ∷ fbs) id) ≡ without_id (cons_option (open_slot s) (open_fbs fbs)) id
-one_out true id s fbs e h = rw e (h ∙ slot_gone s.value.is_open id s.id s.value (open_fbs fbs) e)
-one_out false id s fbs e h = rw e (ap (cons_option (open_slot s)) h ∙ slot_stays s.value.is_open id s.id s.value (open_fbs fbs) e)
+one_out true id s fbs e h = rw e (h ∙ without_id-same s.value.is_open id s.id (Some (added s.value)) (open_fbs fbs) e)
+one_out false id s fbs e h = rw e (ap (cons_option (open_slot s)) h ∙ without_id-other s.value.is_open id s.id (Some (added s.value)) (open_fbs fbs) e)
 
 put_out : (fbs : List (Slot Framebuffer)) (id : ℕ) → open_fbs (without_id fbs id) ≡ without_id (open_fbs fbs) id
 put_out [] id = refl

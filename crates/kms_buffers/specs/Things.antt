@@ -1,14 +1,14 @@
 -- The stores and the things of the one-thread device: the store of buffers has its buffers, and the open framebuffers
 -- of the other store are its open framebuffers.
-use Rattle.std.specs.Prelude.{ℕ, false, ◌==◌, List, map, Option, Some, None, Result, Ok, Err, Bool, if◌then◌else◌}
+use Rattle.std.specs.Prelude.{ℕ, List, Option, Some, None, if◌then◌else◌}
 use Rattle.std.specs.List.{filter_map}
-use Rattle.kms_model.specs.declared.replies.Denied.{Denied}
 use Rattle.kms_model.specs.declared.stores.Buffer.{Buffer}
 use Rattle.kms_model.specs.declared.stores.Framebuffer.{Framebuffer}
 use Rattle.kms_model.specs.declared.tables.Slot.{Slot}
 use Rattle.kms_model.specs.declared.worlds.Content.{Content}
 use Rattle.kms_model.specs.declared.worlds.Content.TheVariants as content
 use Rattle.kms_model.specs.declared.worlds.Thing.{Thing}
+use Rattle.kms_model.specs.OpenThings.{open_values}
 use Rattle.kms_model.specs.Stores.{buffer, framebuffer}
 use Rattle.kms_model.specs.Tables.{slot}
 
@@ -19,26 +19,24 @@ buffer_in id owner (content.Framebuffer info of) = None
 buffer_in id owner (content.Mode m) = None
 buffer_in id owner (content.Blob bytes) = None
 buffer_in id owner content.Fence = None
+buffer_in id owner content.OutFence = None
 
 -- the buffers among things (no buffer is closed)
 abbrev pub buffers_of : List Thing → List (Slot Buffer)
 buffers_of things = filter_map (λ t. buffer_in t.id t.owner t.content) things
 
 -- the framebuffer that a content is, as it was added
-abbrev pub fb_in : ℕ → ℕ → Content → Option (Slot Framebuffer)
-fb_in id owner (content.Framebuffer info of) = Some (slot id (framebuffer owner of info))
-fb_in id owner (content.Buffer width height format pattern) = None
-fb_in id owner (content.Mode m) = None
-fb_in id owner (content.Blob bytes) = None
-fb_in id owner content.Fence = None
-
--- the open framebuffer that a thing is
-abbrev pub open_fb_of : Thing → Option (Slot Framebuffer)
-open_fb_of t = if t.is_open then fb_in t.id t.owner t.content else None
+abbrev pub fb_in : ℕ → Content → Option Framebuffer
+fb_in owner (content.Framebuffer info of) = Some (framebuffer owner of info)
+fb_in owner (content.Buffer width height format pattern) = None
+fb_in owner (content.Mode m) = None
+fb_in owner (content.Blob bytes) = None
+fb_in owner content.Fence = None
+fb_in owner content.OutFence = None
 
 -- the open framebuffers among things
 abbrev pub open_fbs_of : List Thing → List (Slot Framebuffer)
-open_fbs_of things = filter_map open_fb_of things
+open_fbs_of things = open_values fb_in things
 
 -- an open framebuffer of a store, as it was added
 abbrev pub open_slot : Slot Framebuffer → Option (Slot Framebuffer)
@@ -47,12 +45,3 @@ open_slot s = if s.value.is_open then Some (slot s.id (framebuffer s.value.owner
 -- the open framebuffers of a store
 abbrev pub open_fbs : List (Slot Framebuffer) → List (Slot Framebuffer)
 open_fbs fbs = filter_map open_slot fbs
-
--- a thing with this id is closed
-abbrev pub closed_if : ℕ → Thing → Thing
-closed_if id t = if t.id == id then record t { is_open = false } else t
-
--- the things after a framebuffer was closed, or not
-abbrev pub things_after : Result Bool Denied → List Thing → ℕ → List Thing
-things_after (Ok last) things id = map (closed_if id) things
-things_after (Err why) things id = things

@@ -1,14 +1,14 @@
 //! The store of buffers.
-ghost use Rattle.std.specs.Prelude.{ℕ, ◌≡◌, ◌<◌, ◌≤◌, [], ◌∷◌, ◌++◌, IsOkUnless, OnOk, OnErr, IfSome, IfNone, false, true};
+ghost use Rattle.std.specs.Prelude.{ℕ, ◌≡◌, ◌<◌, ◌≤◌, [], ◌∷◌, ◌++◌, IsOkUnless, IfOk, Ok, OnOk, OnErr, IfSome, IfNone, false, true};
 ghost use Rattle.kms_model.specs.Tables.{AreBelow, slot};
 ghost use Rattle.kms_model.specs.declared.worlds.Content.TheVariants as content;
 ghost use Rattle.kms_model.specs.declared.worlds.World.{World};
-ghost use Rattle.kms_model.specs.Serial.{make};
+ghost use Rattle.kms_model.specs.Execution.{make};
 ghost use Rattle.kms_buffers.specs.Things.{buffers_of};
 ghost use Rattle.kms_model.specs.Stores.{buffer, Fills, is_bad_side, is_bad_size, bytes_with, area_bytes, largest_bytes, seen_with_id};
 
 use crate::patterns;
-use kms_model::{Buffer, Format, Image, NoMemory, Pattern, Table};
+use kms_model::{Buffer, Format, IdTable, Image, NoMemory, Pattern};
 use std::alloc::Global;
 use std::marker::Model;
 
@@ -48,7 +48,7 @@ impl From<NoMemory> for MakeError {
 /// (Kernel: "Dumb Buffer Objects".)
 #[derive(Debug, Drop)]
 pub struct Buffers {
-    buffers: Table<Buffer>,
+    buffers: IdTable<Buffer>,
     // The bytes of all buffers.
     bytes: u64,
 }
@@ -73,7 +73,7 @@ impl Buffers {
         ensures { result ≡ [] }
     {
         Buffers {
-            buffers: Table::new(alloc),
+            buffers: IdTable::new(alloc),
             bytes: 0,
         }
     }
@@ -106,13 +106,7 @@ impl Buffers {
         ensures thing { OnOk result ((w : World) (label : ℕ) → buffers_of w.things ≡ self.old → w.next_id ≡ id
             → buffers_of (make w owner label (content.Buffer width height format pattern.now)).world.things ≡ self.new) }
     {
-        if is_bad(width) || is_bad(height) {
-            return Err(MakeError::BadSize);
-        }
-        let total = self.bytes + area(width, height, format);
-        if total > LARGEST_BYTES {
-            return Err(MakeError::Space { total });
-        }
+        let total = self.total_with(width, height, format)?;
         let words = patterns::words(alloc, pattern, format, width, height)?;
         self.buffers.push(
             id,
@@ -126,6 +120,29 @@ impl Buffers {
         )?;
         self.bytes = total;
         Ok(())
+    }
+
+    /// The bytes that all buffers would have with one more. Refused with `BadSize` and `Space`, as `create` is, and never
+    /// with `NoMemory`.
+    pub fn total_with(&self, width: u32, height: u32, format: Format) -> Result<u64, MakeError>
+        ensures bad_size { is_bad_size width height ≡ true → result ≡ Err MakeError.BadSize }
+        ensures space { is_bad_size width height ≡ false
+            → largest_bytes < bytes_with self.now width height format
+            → result ≡ Err (MakeError.Space (bytes_with self.now width height format)) }
+        ensures fits { is_bad_size width height ≡ false
+            → bytes_with self.now width height format ≤ largest_bytes
+            → result ≡ Ok (bytes_with self.now width height format) }
+        ensures total { IfOk result (λ total. total ≡ bytes_with self.now width height format) }
+        ensures within { IfOk result (λ total. total ≤ largest_bytes) }
+    {
+        if is_bad(width) || is_bad(height) {
+            return Err(MakeError::BadSize);
+        }
+        let total = self.bytes + area(width, height, format);
+        if total > LARGEST_BYTES {
+            return Err(MakeError::Space { total });
+        }
+        Ok(total)
     }
 
     /// The buffer with this id; none where there is no such buffer.

@@ -3,12 +3,13 @@ ghost use Rattle.std.specs.Prelude.{◌≡◌, ℕ, List, [], ◌∷◌, ◌++�
 ghost use Rattle.kms_model.specs.declared.worlds.Content.TheVariants as content;
 ghost use Rattle.kms_model.specs.declared.worlds.Thing.{Thing};
 ghost use Rattle.kms_model.specs.declared.worlds.World.{World};
-ghost use Rattle.kms_model.specs.Serial.{make};
-ghost use Rattle.kms_buffers.specs.Things.{open_fbs, open_fbs_of, things_after};
+ghost use Rattle.kms_model.specs.Execution.{make};
+ghost use Rattle.kms_model.specs.OpenThings.{things_after};
+ghost use Rattle.kms_buffers.specs.Things.{open_fbs, open_fbs_of};
 ghost use Rattle.kms_model.specs.Tables.{AreBelow, slot, value_with_id, without_id, with_value};
 ghost use Rattle.kms_model.specs.Stores.{framebuffer, MayTake, MayGive, AreCounted, close_answer, fbs_closed, fbs_taken, fbs_given, is_last_of, with_fewer, taken, given, closed, may_close};
 
-use kms_model::{Denied, FbInfo, Framebuffer, NoMemory, Table};
+use kms_model::{Denied, FbInfo, Framebuffer, IdTable, NoMemory};
 use std::alloc::Global;
 use std::marker::Model;
 
@@ -16,7 +17,7 @@ use std::marker::Model;
 /// which they were added. (Kernel: "Frame Buffer Abstraction"; `drm_framebuffer_get`, `drm_framebuffer_put`.)
 #[derive(Debug, Drop)]
 pub struct FbStore {
-    fbs: Table<Framebuffer>,
+    fbs: IdTable<Framebuffer>,
 }
 
 impl Model for FbStore {
@@ -38,7 +39,7 @@ impl FbStore {
         ensures { result ≡ [] }
     {
         FbStore {
-            fbs: Table::new(alloc),
+            fbs: IdTable::new(alloc),
         }
     }
 
@@ -145,14 +146,14 @@ impl FbStore {
 }
 
 // The framebuffer with an id.
-fn found(fbs: &Table<Framebuffer>, id: u32) -> Option<Framebuffer>
+fn found(fbs: &IdTable<Framebuffer>, id: u32) -> Option<Framebuffer>
     ensures { result ≡ value_with_id fbs.now id }
 {
     fbs.get(id).copied()
 }
 
 // Puts a framebuffer with one reference less back, and takes it out where it has none.
-fn put_back(fbs: &mut Table<Framebuffer>, id: u32, fb: Framebuffer)
+fn put_back(fbs: &mut IdTable<Framebuffer>, id: u32, fb: Framebuffer)
     ensures { fbs.new ≡ with_fewer fbs.old id fb }
 {
     if fb.references == 0 {

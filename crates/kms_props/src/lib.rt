@@ -16,5 +16,5 @@ mod tests;
 pub use devices::check_topology;
 pub use flags::{AtomicFlags, from_bits};
 pub use formats::{FormatRow, format_table, fourcc};
-pub use properties::{PropertyRow, is_immutable, lookup, name, property_table, range};
+pub use properties::{PropertyRow, is_immutable, lookup, name, property_table, range, row_of};
 pub use table::Table;

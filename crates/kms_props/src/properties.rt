@@ -107,8 +107,8 @@ fn row_named(kind: Kind, name: &[u8]) -> Option<PropertyRow>
     first_row!(property_table(), row if is_row_named(row, kind, name) => *row)
 }
 
-/// The row of an id.
-fn row_of(prop: u32) -> Option<PropertyRow>
+/// The row of the property of an id; `None` where the table has no such row.
+pub fn row_of(prop: u32) -> Option<PropertyRow>
     ensures { option_map property_of result ≡ property prop }
 {
     first_row!(property_table(), row if row.id == prop => *row)

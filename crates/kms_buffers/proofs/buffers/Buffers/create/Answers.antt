@@ -1,4 +1,4 @@
-use Rattle.std.proofs.Common.{rules, ◌≡◌, [], ◌∷◌, ◌++◌, sym, ◌∙◌, arith}
+use Rattle.std.proofs.Common.{refl, rules, ◌≡◌, [], ◌∷◌, ◌++◌, sym, ◌∙◌}
 use Rattle.kms_model.specs.Tables.{slot}
 use Rattle.kms_model.specs.Stores.{buffer}
 use Rattle.kms_buffers.proofs.Things.{made_buffer}
@@ -7,7 +7,7 @@ use Rattle.kms_buffers.proofs.buffers.Buffers.create.Goals as goal
 
 pub invariant_of-self-2 : goal.invariant_of-self-2
 invariant_of-self-2 c =
-    rw c.in_ok-push.ensures.ok (counted-push c.self.inside.bytes c.area.result c.self.inside.buffers _ c.self.invariant c.area.ensures.exact (omega arith))
+    rw c.in_ok-push.ensures.ok (counted-push c.in_ok-total.total c.self.inside.buffers _ (c.in_ok-total.ensures.total ∙ rw c.self.view_is refl) c.in_ok-total.ensures.within)
 
 pub returns-clause-thing : goal.returns-clause-thing
 returns-clause-thing c =

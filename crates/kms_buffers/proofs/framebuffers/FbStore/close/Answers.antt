@@ -1,7 +1,8 @@
 use Rattle.std.proofs.Common.{rules, ◌≡◌, refl, ap, sym, ◌∙◌}
 use Rattle.kms_model.specs.Tables.{without_id}
-use Rattle.kms_buffers.specs.Things.{open_fbs}
-use Rattle.kms_buffers.proofs.Things.{closed_things, fewer_closed}
+use Rattle.kms_model.proofs.OpenLemmas.{closed_values}
+use Rattle.kms_buffers.specs.Things.{fb_in, open_fbs}
+use Rattle.kms_buffers.proofs.Things.{fewer_closed}
 use Rattle.kms_buffers.proofs.Counted.{counted_at, AreCounted-with_fewer, kept-with_fewer}
 use Rattle.kms_buffers.proofs.framebuffers.FbStore.close.Goals as goal
 
@@ -19,4 +20,4 @@ returns-clause-things c =
     let old : c.args.self.now ≡ c.self.inside.fbs = search rules in
     let put : open_fbs c.put_back.new.fbs ≡ without_id (open_fbs c.self.inside.fbs) c.args.id =
     ap open_fbs c.put_back.ensures ∙ fewer_closed c.self.inside.fbs c.args.id _ refl in
-    λ things same. closed_things c.args.id things ∙ (ap (λ fbs. without_id fbs c.args.id) (same ∙ ap open_fbs old) ∙ sym put)
+    λ things same. closed_values fb_in c.args.id things ∙ (ap (λ fbs. without_id fbs c.args.id) (same ∙ ap open_fbs old) ∙ sym put)
