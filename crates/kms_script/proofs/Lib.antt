@@ -1,3 +1,10 @@
-pub mod Numbers
-pub mod Rows
+pub mod DeviceLines
+pub mod Digits
+pub mod Drafts
+pub mod Fields
+pub mod Loops
+pub mod Naming
+pub mod Parts
+pub mod Formed
+pub mod Lined
 pub mod Nine

@@ -1,8 +1,16 @@
 -- What a reader may answer.
-use Rattle.std.specs.Prelude.{◌≡◌, Result, Ok, Err}
+use Rattle.std.specs.Prelude.{◌≡◌, ℕ, List, Result, Ok, Err}
+use Rattle.kms_model.specs.declared.scripts.Command.{Command}
+use Rattle.kms_model.specs.declared.scripts.Why.{Why}
+use Rattle.kms_model.specs.declared.scripts.Why.TheVariants.{Form, Label, Limit}
+use Rattle.kms_script.specs.declared.one_line.LineError.{LineError}
+use Rattle.kms_script.specs.declared.one_line.LineError.TheVariants as refusals
+use Rattle.kms_model.specs.declared.objects.Topology.{Topology}
 use Rattle.kms_model.specs.declared.scripts.Script.{Script}
 use Rattle.kms_model.specs.Input.{Fault}
 use Rattle.kms_model.specs.Lines.{Reading}
+use Rattle.kms_model.specs.WholeInput.{Draft, topology_in}
+use Rattle.kms_script.specs.declared.devices.TopologyRead.{TopologyRead}
 use Rattle.kms_script.specs.declared.reading.Reading.{Reading as Held}
 use Rattle.kms_script.specs.Reads.{reading_in}
 use Rattle.kms_script.specs.declared.faults.ParseError.{ParseError}
@@ -20,3 +28,21 @@ abbrev pub GivesReading : Result Held ParseError → Result Reading Fault → Ty
 GivesReading (Ok r) stated = stated ≡ Ok (reading_in r)
 GivesReading (Err (errors.Fault line why)) stated = stated ≡ Err (record { line = line; why = why })
 GivesReading (Err errors.NoMemory) stated = Unit {0}
+
+-- the device that lines spell, and the place behind them
+abbrev pub device_in : Draft → TopologyRead
+device_in d = record { version = 1; topology = topology_in d; rest = d.size }
+
+-- The same of a device at the front of an input.
+abbrev pub GivesDevice : Result TopologyRead ParseError → Result (Topology × ℕ) Fault → Type 0
+GivesDevice (Ok r) stated = (r.version ≡ 1) × (stated ≡ Ok (r.topology, r.rest))
+GivesDevice (Err (errors.Fault line why)) stated = stated ≡ Err (record { line = line; why = why })
+GivesDevice (Err errors.NoMemory) stated = Unit {0}
+
+-- The same of a line's command, with the names after it.
+abbrev pub GivesCommand : Result Command LineError → Result (Command × List (List ℕ)) Why → List (List ℕ) → Type 0
+GivesCommand (Ok c) stated after = stated ≡ Ok (c, after)
+GivesCommand (Err refusals.Form) stated after = stated ≡ Err Form
+GivesCommand (Err refusals.Label) stated after = stated ≡ Err Label
+GivesCommand (Err refusals.Limit) stated after = stated ≡ Err Limit
+GivesCommand (Err refusals.NoMemory) stated after = Unit {0}

@@ -1,15 +1,17 @@
 //! A line with an atomic request.
-ghost use Rattle.std.specs.Prelude.{◌≡◌, ◌<◌, ◌*◌, ◌&&◌, ◌==◌, ℕ, List, [], Some, None, IfSome, IfOk, OnOk, All, option_map, option_copied, length, codes, pos};
+ghost use Rattle.std.specs.Prelude.{◌≡◌, ◌<◌, ◌*◌, ◌&&◌, ◌==◌, ℕ, List, [], Some, None, IfSome, IfOk, OnOk, All, option_map, length, codes, pos};
 ghost use Rattle.kms_model.specs.Fit.{IsSmallValue, IsSmall};
 ghost use Rattle.kms_model.specs.declared.objects.Kind.TheVariants as kind;
 ghost use Rattle.kms_model.specs.declared.scripts.Value.TheVariants as value;
-ghost use Rattle.kms_model.specs.Lines.{strip, set_at, given_at, named_at, numbered_at, crtc_sets, plane_names, plane_sizes, flags_at, set_of, assigns_of, has_size, request_at, atomic_line};
+ghost use Rattle.kms_model.specs.Lines.{set_at, given_at, named_at, numbered_at, crtc_sets, plane_names, plane_sizes, flags_at, set_of, assigns_of, has_size, request_at, atomic_line};
 ghost use Rattle.kms_script.specs.Reads.{reading_in, IsSound, Answers};
 ghost use Rattle.kms_script.specs.Sets.{crtc_in, names_in, sizes_in};
 
 use crate::made::{framebuffer_size, mode_with};
 use crate::reading::{Reading, place_of};
-use crate::words::{MOST, is_label, read_dec, split_at_byte, take_dec, take_end, take_field};
+use crate::words::{
+    MOST, is_label, read_dec, split_at_byte, strip, take_dec, take_end, take_field,
+};
 use kms_model::properties::{ACTIVE, CRTC_H, CRTC_ID, CRTC_W, FB_ID, MODE_ID, SRC_H, SRC_W};
 use kms_model::{Assign, Command, Kind, NoMemory, PropRef, Request, Seq, Value};
 use std::alloc::Global;
@@ -43,24 +45,6 @@ struct PlaneSizes {
     crtc_h: Numbered,
     src_w: Numbered,
     src_h: Numbered,
-}
-
-fn strip<'a>(front: &[u8], bytes: &'a [u8]) -> Option<&'a [u8]>
-    ensures { option_copied result ≡ strip front.now bytes.now }
-{
-    let mut left = front;
-    let mut rest = bytes;
-    'matching: while let [wanted, more @ ..] = left {
-        let [found, after @ ..] = rest else {
-            return None;
-        };
-        if wanted != found {
-            return None;
-        }
-        left = more;
-        rest = after;
-    }
-    Some(rest)
 }
 
 #[tactic(auto, unfolding(kms_model::specs::Lines::set_at))]

@@ -80,8 +80,9 @@ fn is_small_mode(mode: &Mode) -> bool
     is_legal_mode(mode) && mode.hdisplay <= 64 && mode.vdisplay <= 64
 }
 
+/// The 15 words of a mode, and the bytes behind them.
 #[tactic(auto, unfolding(kms_model::specs::Lines::mode_at))]
-fn take_mode(bytes: &[u8]) -> Option<(Mode, &[u8])>
+pub fn take_mode(bytes: &[u8]) -> Option<(Mode, &[u8])>
     ensures { option_map (λ x. (x.0, x.1.now)) result ≡ mode_at bytes.now }
 {
     let (clock, rest) = take_dec(bytes, MOST)?;

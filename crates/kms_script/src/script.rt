@@ -1,7 +1,7 @@
 //! A whole script.
 ghost use Rattle.std.specs.Prelude.{◌≡◌, ◌<◌, ◌≤◌, ◌+◌, ◌^◌, ℕ, List, [], ◌∷◌, true, false, length, Result, Ok, Err, IfOk, IfSome, IfNone};
 ghost use Rattle.kms_model.specs.Fit.{IsNarrow};
-ghost use Rattle.kms_model.specs.Input.{rows_of, nothing, input, read_rows, device, clients_of, script_of};
+ghost use Rattle.kms_model.specs.Input.{rows_of, nothing, narrow_input, read_rows, device, clients_of, script_of};
 ghost use Rattle.kms_model.specs.declared.scripts.Why.TheVariants.{Unbuilt};
 ghost use Rattle.kms_script.specs.declared.faults.ParseError.TheVariants as errors;
 ghost use Rattle.kms_script.specs.Reads.{reading_in, IsSound};
@@ -124,8 +124,8 @@ fn read_rows(alloc: Global, bytes: &[u8]) -> Result<Reading, ParseError>
 /// The script that the bytes spell, in the narrow form, or their first fault: `Limit` in line 0 for more than
 /// 67,108,864 bytes, else `Unbuilt` in the first line that may not stand after those before it.
 #[tactic(auto, unfolding(kms_model::specs::Input::reading_of))]
-pub fn parse(alloc: Global, bytes: &[u8]) -> Result<Script, ParseError>
-    ensures value { Gives result (input bytes.now) }
+pub fn parse_narrow(alloc: Global, bytes: &[u8]) -> Result<Script, ParseError>
+    ensures value { Gives result (narrow_input bytes.now) }
     ensures narrow { IfOk result IsNarrow }
 {
     if bytes.len() > LIMIT {

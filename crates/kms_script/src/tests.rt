@@ -1,59 +1,55 @@
-//! What a reader answers at the edges of the narrow form.
-use crate::{ParseError, Why, is_label, parse, read_dec};
-use kms_model::Script;
+//! What a reader answers: worked scripts, each fault, each limit at its edge, and numbers at theirs.
+ghost use Rattle.std.specs.Prelude.{◌<◌, length};
+
+use crate::{
+    LineError, ParseError, Why, is_label, parse, read_command, read_dec, read_int, read_topology,
+};
+use kms_model::{Script, Seq, Topology};
 use std::alloc::{AllocError, Global};
 use std::test::Fail;
 
-const LINES: [&str; 9] = [
-    "kms 1",
-    "crtcs 1",
-    "plane primary 0 XR24",
-    "conn 0",
-    "client",
-    "buffer b 1 1 XR24 solid 00616263",
-    "addfb f b",
-    "mode m 1 1 1 1 1 0 1 1 1 1 0 60 0 0 tiny",
-    "atomic 0x400 0 crtc0.ACTIVE=1 crtc0.MODE_ID=@m conn0.CRTC_ID=crtc0 plane0.FB_ID=@f plane0.CRTC_ID=crtc0 plane0.CRTC_W=1 plane0.CRTC_H=1 plane0.SRC_W=65536 plane0.SRC_H=65536",
-];
+const HEAD: &[u8] = b"kms 1\ncrtcs 1\nplane primary 0 XR24\nconn 0\n";
 
-const LAST_INDEX: &str =
-    "atomic 0x0 18446744073709551615 crtc255.ACTIVE=1 crtc0.MODE_ID=@m conn0.CRTC_ID=crtc0 plane0.FB_ID=@f plane0.CRTC_ID=crtc0 plane0.CRTC_W=1 plane0.CRTC_H=1 plane0.SRC_W=65536 plane0.SRC_H=65536";
+const LIGHT: &[u8] =
+    b"client\nbuffer b 1 1 XR24 solid 00616263\naddfb f b\nmode m 1 1 1 1 1 0 1 1 1 1 0 60 0 0 tiny\natomic 0x400 0 crtc0.ACTIVE=1 crtc0.MODE_ID=@m conn0.CRTC_ID=crtc0 plane0.FB_ID=@f plane0.CRTC_ID=crtc0 plane0.CRTC_W=1 plane0.CRTC_H=1 plane0.SRC_W=65536 plane0.SRC_H=65536\n";
 
-const OTHER_FLAGS: &str =
-    "atomic 0x600 0 crtc0.ACTIVE=1 crtc0.MODE_ID=@m conn0.CRTC_ID=crtc0 plane0.FB_ID=@f plane0.CRTC_ID=crtc0 plane0.CRTC_W=1 plane0.CRTC_H=1 plane0.SRC_W=65536 plane0.SRC_H=65536";
-
-const WIDE_SOURCE: &str =
-    "atomic 0x400 0 crtc0.ACTIVE=1 crtc0.MODE_ID=@m conn0.CRTC_ID=crtc0 plane0.FB_ID=@f plane0.CRTC_ID=crtc0 plane0.CRTC_W=1 plane0.CRTC_H=1 plane0.SRC_W=65537 plane0.SRC_H=65536";
-
-const FAR_OBJECT: &str =
-    "atomic 0x400 0 crtc256.ACTIVE=1 crtc0.MODE_ID=@m conn0.CRTC_ID=crtc0 plane0.FB_ID=@f plane0.CRTC_ID=crtc0 plane0.CRTC_W=1 plane0.CRTC_H=1 plane0.SRC_W=65536 plane0.SRC_H=65536";
-
-fn push_line(text: &mut Vec<u8>, line: &str) -> Result<(), AllocError> {
-    text.extend_from_slice(line.as_bytes())?;
-    text.push(b'\n')?;
-    Ok(())
+/// The script that lights one CRTC, and a further line.
+fn light_and(alloc: Global, line: &[u8]) -> Result<Vec<u8>, AllocError> {
+    let mut text = Vec::new(alloc);
+    text.extend_from_slice(HEAD)?;
+    text.extend_from_slice(LIGHT)?;
+    text.extend_from_slice(line)?;
+    Ok(text)
 }
 
-/// The first lines of the example.
-fn front(alloc: Global, count: usize) -> Result<Vec<u8>, AllocError> {
+/// A text with a piece so many times behind it.
+fn repeated(
+    alloc: Global,
+    front: &[u8],
+    piece: &[u8],
+    count: usize,
+) -> Result<Vec<u8>, AllocError> {
     let mut text = Vec::new(alloc);
-    for line in LINES.iter().take(count) {
-        push_line(&mut text, line)?;
+    text.extend_from_slice(front)?;
+    for _ in 0..count {
+        text.extend_from_slice(piece)?;
     }
     Ok(text)
 }
 
-/// The line of a fault: none for a script.
-fn fault(alloc: Global, text: &[u8]) -> Result<Option<u32>, AllocError> {
+/// A text with a line behind it.
+fn with_line(alloc: Global, front: &[u8], line: &str) -> Result<Vec<u8>, AllocError> {
+    let mut text = repeated(alloc, front, line.as_bytes(), 1)?;
+    text.push(b'\n')?;
+    Ok(text)
+}
+
+/// The line and the cause of a fault: none for a script.
+fn fault(alloc: Global, text: &[u8]) -> Result<Option<(u32, Why)>, AllocError> {
     match parse(alloc, text) {
         Ok(_) => Ok(None),
-        Err(
-            ParseError::Fault {
-                line,
-                why: Why::Unbuilt,
-            },
-        ) => Ok(Some(line)),
-        Err(_) => Err(AllocError),
+        Err(ParseError::Fault { line, why }) => Ok(Some((line, why))),
+        Err(ParseError::NoMemory) => Err(AllocError),
     }
 }
 
@@ -62,10 +58,11 @@ fn script(alloc: Global, text: &[u8]) -> Result<Script, AllocError> {
 }
 
 #[test]
-fn the_example_is_a_script_of_four_commands(rt: HostRuntime) -> Result<(), Fail> {
+fn the_example_is_a_script(rt: HostRuntime) -> Result<(), Fail> {
     let alloc = rt.alloc();
-    let script = script(alloc, front(alloc, 9)?.as_slice())?;
-    assert_eq!(rt; script.names.len(), 3);
+    let script = script(alloc, light_and(alloc, b"client\nwait\n")?.as_slice())?;
+    assert_eq!(rt; script.version, 1);
+    assert_eq!(rt; script.topology.crtcs, 1);
     for (i, want) in [b"b".as_slice(), b"f".as_slice(), b"m".as_slice()]
         .iter()
         .enumerate()
@@ -76,79 +73,327 @@ fn the_example_is_a_script_of_four_commands(rt: HostRuntime) -> Result<(), Fail>
             .is_some_and(|name| name.as_slice() == *want);
         assert!(rt; is_there, "name {i}");
     }
-    assert_eq!(rt; script.clients.len(), 1);
-    let Some(commands) = script.clients.get(0) else {
-        return Ok(());
-    };
-    assert_eq!(rt; commands.len(), 4);
+    assert_eq!(rt; script.names.len(), 3);
+    for (i, want) in [4, 1].iter().enumerate() {
+        let count = script.clients.get(i).map(|commands| commands.len());
+        assert_eq!(rt; count, Some(*want));
+    }
+    assert_eq!(rt; script.clients.len(), 2);
+    Ok(())
+}
+
+/// Third lines that have no form.
+const NO_PLANES: &str = "
+plane primary  0 XR24
+plane primary 1 XR24
+plane primary 0,0 XR24
+plane primary  XR24
+plane other 0 XR24
+plane primary 0 RG16,XR24
+plane primary 0 XR24,XR24
+plane primary 0 XR24,
+plane primary 00 XR24
+conn 0
+client
+wait";
+
+#[test]
+fn each_fault_of_a_device_is_told_at_its_line(rt: HostRuntime) -> Result<(), Fail> {
+    let alloc = rt.alloc();
+    let front = b"kms 1\ncrtcs 1\n";
+    assert_eq!(rt; fault(alloc, b"")?, Some((1, Why::Form)));
+    assert_eq!(rt; fault(alloc, b"kms 2\n")?, Some((1, Why::Form)));
+    assert_eq!(rt; fault(alloc, b"kms 1\ncrtcs 01\n")?, Some((2, Why::Form)));
+    assert_eq!(rt; fault(alloc, b"kms 1\ncrtcs 5\n")?, Some((2, Why::Form)));
+    for line in NO_PLANES.lines() {
+        let text = with_line(alloc, front, line)?;
+        assert_eq!(rt;
+            fault(alloc, text.as_slice())?,
+            Some((3, Why::Form)),
+            "{line}"
+        );
+    }
+    for byte in [b"\r".as_slice(), b"\t", b"\x1f", b"\x7f", b"\x80"] {
+        let text = repeated(alloc, front, byte, 1)?;
+        assert_eq!(rt; fault(alloc, text.as_slice())?, Some((3, Why::Bytes)));
+    }
+    assert_eq!(rt; fault(alloc, HEAD)?, None);
+    Ok(())
+}
+
+/// Lines that may stand behind the example.
+const TAKEN: &str = "addfb g later
+fence abcdefghijklmno1
+atomic 0xffffffff 18446744073709551615
+atomic 0x0 0 crtc0.ACTIVE=18446744073709551615
+atomic 0x0 0 crtc255.ACTIVE=1
+atomic 0x0 0 plane0.pixel_blend_mode=2 enc0.GAMMA_LUT=-1
+atomic 0x0 0 plane0.a2345678901234567890123456789012=1
+buffer c 4294967295 0 RG16 solid abcd
+buffer c 1 1 XR24 checker 00000000 ffffffff 4096
+buffer c 1 1 XR24 ramp
+buffer c 2 1 RG16 pixels 0001 0002
+blob c 00ff
+mode c 0 0 0 0 0 0 0 0 0 0 0 0 0 0 a
+mode c 0 0 0 0 0 0 0 0 0 0 0 0 0 0 a123456789012345678901234567890
+destroy m
+closefb never
+wait";
+
+/// Lines that have no form.
+const NO_FORM: &str = "schedule
+report
+conn 0
+addfb f b 
+fence abcdefghijklmnopq
+atomic 0x00 0
+atomic 0x0F 0
+atomic 0x100000000 0
+atomic 0x0 0 crtc0.ACTIVE=18446744073709551616
+atomic 0x0 0 crtc256.ACTIVE=1
+atomic 0x0 0 crtc0.OUT_FENCE_PTR=+b crtc0.ACTIVE=+1
+atomic 0x0 0 plane0.=1
+atomic 0x0 0 plane0.a23456789012345678901234567890123=1
+atomic 0x0 0 plane.zpos=1
+atomic 0x0 0 plane0.zpos=@1
+atomic 0x0 0 plane0.CRTC_ID=crtc256
+buffer c 4294967296 0 RG16 solid abcd
+buffer c 1 1 RG16 solid 0000abcd
+buffer c 1 1 AR24 solid 0000abcD
+buffer c 1 1 XR24 checker 00000000 ffffffff 4097
+buffer c 1 1 XR24 checker 00000000 ffffffff 0
+buffer c 1 1 XR24 ramp 1
+buffer c 2 1 RG16 pixels 0001
+buffer c 2 1 RG16 pixels 0001 0002 0003
+buffer c 0 1 RG16 pixels
+blob c 00f
+blob c 00FF
+mode c 0 65536 0 0 0 0 0 0 0 0 0 0 0 0 a
+mode c 0 0 0 0 0 0 0 0 0 0 0 0 0 0 a1234567890123456789012345678901
+signal f f
+wait ";
+
+/// Lines that make a label again.
+const NO_LABEL: &str = "addfb f b
+atomic 0x0 0 crtc0.OUT_FENCE_PTR=+b
+atomic 0x0 0 crtc0.OUT_FENCE_PTR=+o crtc0.OUT_FENCE_PTR=+o";
+
+#[test]
+fn a_line_behind_the_example(rt: HostRuntime) -> Result<(), Fail> {
+    let alloc = rt.alloc();
+    let front = light_and(alloc, b"")?;
+    for line in TAKEN.lines() {
+        let text = with_line(alloc, front.as_slice(), line)?;
+        assert_eq!(rt; fault(alloc, text.as_slice())?, None, "{line}");
+    }
+    for line in NO_FORM.lines() {
+        let text = with_line(alloc, front.as_slice(), line)?;
+        assert_eq!(rt;
+            fault(alloc, text.as_slice())?,
+            Some((10, Why::Form)),
+            "{line}"
+        );
+    }
+    for line in NO_LABEL.lines() {
+        let text = with_line(alloc, front.as_slice(), line)?;
+        assert_eq!(rt;
+            fault(alloc, text.as_slice())?,
+            Some((10, Why::Label)),
+            "{line}"
+        );
+    }
+    let cut = light_and(alloc, b"wait")?;
+    assert_eq!(rt; fault(alloc, cut.as_slice())?, Some((10, Why::Cut)));
     Ok(())
 }
 
 #[test]
-fn a_device_alone_has_no_client_and_a_client_may_be_empty(rt: HostRuntime) -> Result<(), Fail> {
+fn a_device_has_16_planes_and_8_connectors(rt: HostRuntime) -> Result<(), Fail> {
     let alloc = rt.alloc();
-    let device = script(alloc, front(alloc, 4)?.as_slice())?;
-    assert_eq!(rt; device.clients.len(), 0);
-    let idle = script(alloc, front(alloc, 5)?.as_slice())?;
-    assert_eq!(rt; idle.clients.len(), 1);
-    assert!(rt;
-        idle.clients
-            .get(0)
-            .is_some_and(|commands| commands.is_empty())
+    let first = b"kms 1\ncrtcs 1\n";
+    for (planes, conns, want) in [
+        (16, 1, None),
+        (17, 1, Some((19, Why::Limit))),
+        (1, 8, None),
+        (1, 9, Some((12, Why::Limit))),
+    ] {
+        let planes = repeated(alloc, first, b"plane overlay 0 XR24\n", planes)?;
+        let text = repeated(alloc, planes.as_slice(), b"conn 0\n", conns)?;
+        assert_eq!(rt; fault(alloc, text.as_slice())?, want);
+    }
+    Ok(())
+}
+
+#[test]
+fn a_script_has_16_clients_of_4096_commands(rt: HostRuntime) -> Result<(), Fail> {
+    let alloc = rt.alloc();
+    let clients = repeated(alloc, HEAD, b"client\n", 16)?;
+    assert_eq!(rt; fault(alloc, clients.as_slice())?, None);
+    let more = repeated(alloc, clients.as_slice(), b"client\n", 1)?;
+    assert_eq!(rt; fault(alloc, more.as_slice())?, Some((21, Why::Limit)));
+    let commands = repeated(alloc, clients.as_slice(), b"wait\n", 4096)?;
+    assert_eq!(rt; fault(alloc, commands.as_slice())?, None);
+    let more = repeated(alloc, commands.as_slice(), b"wait\n", 1)?;
+    assert_eq!(rt; fault(alloc, more.as_slice())?, Some((4117, Why::Limit)));
+    let wrong = repeated(alloc, commands.as_slice(), b"wait 1\n", 1)?;
+    assert_eq!(rt; fault(alloc, wrong.as_slice())?, Some((4117, Why::Form)));
+    Ok(())
+}
+
+#[test]
+fn a_request_has_256_assignments(rt: HostRuntime) -> Result<(), Fail> {
+    let alloc = rt.alloc();
+    let front = light_and(alloc, b"atomic 0x0 0")?;
+    for (count, last, want) in [
+        (256, b"\n".as_slice(), None),
+        (257, b"\n", Some((10, Why::Limit))),
+        (257, b" crtc0.OUT_FENCE_PTR=+m\n", Some((10, Why::Label))),
+        (257, b" crtc0.OUT_FENCE_PTR=+m+\n", Some((10, Why::Form))),
+    ] {
+        let line = repeated(alloc, front.as_slice(), b" crtc0.ACTIVE=1", count)?;
+        let text = repeated(alloc, line.as_slice(), last, 1)?;
+        assert_eq!(rt; fault(alloc, text.as_slice())?, want);
+    }
+    Ok(())
+}
+
+/// A client that makes so many fences, `a` and their number.
+fn fences(alloc: Global, count: u32) -> Result<Vec<u8>, AllocError> {
+    let mut text = repeated(alloc, HEAD, b"client\n", 1)?;
+    for i in 0..count {
+        let line = format!(in alloc; "fence a{i}\n")?;
+        text.extend_from_slice(line.as_bytes())?;
+        if i == 2047 {
+            text.extend_from_slice(b"client\n")?;
+        }
+    }
+    Ok(text)
+}
+
+#[test]
+fn a_script_makes_4096_labels(rt: HostRuntime) -> Result<(), Fail> {
+    let alloc = rt.alloc();
+    let most = fences(alloc, 4096)?;
+    assert_eq!(rt; fault(alloc, most.as_slice())?, None);
+    let more = fences(alloc, 4097)?;
+    assert_eq!(rt; fault(alloc, more.as_slice())?, Some((4103, Why::Limit)));
+    let twice = repeated(alloc, most.as_slice(), b"fence a4095\n", 1)?;
+    assert_eq!(rt; fault(alloc, twice.as_slice())?, Some((4103, Why::Label)));
+    Ok(())
+}
+
+/// A script of 1,048,565 bytes and a line behind it, its 378th.
+fn long_and(alloc: Global, last: &[u8]) -> Result<Vec<u8>, AllocError> {
+    let line = repeated(alloc, b"atomic 0x0 0", b" crtc0.ACTIVE=1", 256)?;
+    let line = repeated(alloc, line.as_slice(), b"\n", 1)?;
+    let text = repeated(alloc, HEAD, b"client\n", 1)?;
+    let text = repeated(alloc, text.as_slice(), line.as_slice(), 272)?;
+    let text = repeated(alloc, text.as_slice(), b"wait\n", 100)?;
+    repeated(alloc, text.as_slice(), last, 1)
+}
+
+#[test]
+fn a_script_has_1_048_576_bytes(rt: HostRuntime) -> Result<(), Fail> {
+    let alloc = rt.alloc();
+    let most = long_and(alloc, b"fence aaaa\n")?;
+    assert_eq!(rt; most.len(), 1_048_576);
+    assert_eq!(rt; fault(alloc, most.as_slice())?, None);
+    let more = long_and(alloc, b"fence aaaaa\n")?;
+    assert_eq!(rt; fault(alloc, more.as_slice())?, Some((378, Why::Limit)));
+    let wrong = long_and(alloc, b"fence aaaa a\n")?;
+    assert_eq!(rt; fault(alloc, wrong.as_slice())?, Some((378, Why::Form)));
+    Ok(())
+}
+
+#[test]
+fn an_input_has_67_108_864_bytes(rt: HostRuntime) -> Result<(), Fail> {
+    let alloc = rt.alloc();
+    let piece = repeated(alloc, b"", b"aaaaaaaaaaaaaaaa", 256)?;
+    let most = repeated(alloc, b"", piece.as_slice(), 16_384)?;
+    assert_eq!(rt; most.len(), 67_108_864);
+    assert_eq!(rt; fault(alloc, most.as_slice())?, Some((1, Why::Cut)));
+    let more = repeated(alloc, most.as_slice(), b"a", 1)?;
+    assert_eq!(rt; fault(alloc, more.as_slice())?, Some((0, Why::Limit)));
+    Ok(())
+}
+
+/// The place behind a device; none for a fault.
+fn place_behind(alloc: Global, text: &[u8]) -> Option<usize> {
+    match read_topology(alloc, text) {
+        Ok(read) => Some(read.rest),
+        Err(_) => None,
+    }
+}
+
+#[test]
+fn a_device_is_read_up_to_its_last_connector(rt: HostRuntime) -> Result<(), Fail> {
+    let alloc = rt.alloc();
+    assert_eq!(rt; place_behind(alloc, HEAD), Some(42));
+    for behind in ["conn 1", "conn 0 ", "client", ""] {
+        let text = with_line(alloc, HEAD, behind)?;
+        assert_eq!(rt; place_behind(alloc, text.as_slice()), Some(42), "{behind}");
+    }
+    let cut = repeated(alloc, HEAD, b"conn 0", 1)?;
+    assert_eq!(rt; place_behind(alloc, cut.as_slice()), Some(42));
+    let eight = repeated(alloc, HEAD, b"conn 0\n", 7)?;
+    assert_eq!(rt; place_behind(alloc, eight.as_slice()), Some(91));
+    let nine = repeated(alloc, HEAD, b"conn 0\n", 8)?;
+    assert_eq!(rt; place_behind(alloc, nine.as_slice()), None);
+    assert_eq!(rt;
+        place_behind(alloc, b"kms 1\ncrtcs 1\nplane cursor 0 AR24\n"),
+        None
+    );
+    Ok(())
+}
+
+/// What a line alone answers, behind no names: how many names there are then, or why it is refused.
+fn line_alone(alloc: Global, device: &Topology, line: &[u8]) -> Result<usize, LineError>
+    requires { length line.now < 1024 }
+{
+    let mut names = Seq::new(alloc);
+    read_command(alloc, device, &mut names, line)?;
+    Ok(names.len())
+}
+
+#[test]
+fn a_line_alone_puts_its_names_behind_the_others(rt: HostRuntime) -> Result<(), Fail> {
+    let alloc = rt.alloc();
+    let device = script(alloc, HEAD)?.topology;
+    assert_eq!(rt; line_alone(alloc, &device, b"fence a"), Ok(1));
+    assert_eq!(rt;
+        line_alone(alloc, &device, b"atomic 0x0 0 crtc0.x=@y crtc0.x=+y"),
+        Ok(2)
+    );
+    assert_eq!(rt;
+        line_alone(alloc, &device, b"atomic 0x0 0 crtc0.x=+y crtc0.x=+y"),
+        Err(LineError::Label)
+    );
+    assert_eq!(rt;
+        line_alone(alloc, &device, b"fence b\n"),
+        Err(LineError::Form)
     );
     Ok(())
 }
 
 #[test]
-fn a_line_may_stand_behind_the_lines_before_it(rt: HostRuntime) -> Result<(), Fail> {
-    let alloc = rt.alloc();
-    for (number, line, may_stand) in [
-        (3, "plane overlay 0 XR24", false),
-        (6, "buffer b 64 64 XR24 solid 00616263", true),
-        (6, "buffer b 65 1 XR24 solid 00616263", false),
-        (6, "buffer b 0 1 XR24 solid 00616263", false),
-        (6, "buffer b 01 1 XR24 solid 00616263", false),
-        (8, "addfb f b", false),
-        (8, "mode m 1 64 64 64 64 0 64 64 64 64 0 60 0 0 wide", true),
-        (8, "mode m 1 65 65 65 65 0 1 1 1 1 0 60 0 0 wide", false),
-        (8, "mode m 1 2 1 2 2 0 1 1 1 1 0 60 0 0 late", false),
-        (9, "addfb g m", false),
-        (9, "addfb g b", true),
-        (9, LAST_INDEX, true),
-        (9, OTHER_FLAGS, false),
-        (9, WIDE_SOURCE, false),
-        (9, FAR_OBJECT, false),
+fn integers_at_their_edges(rt: HostRuntime) {
+    for (word, want) in [
+        ("0", Some(0)),
+        ("-0", None),
+        ("+1", None),
+        ("01", None),
+        ("-01", None),
+        ("-1", Some(-1)),
+        ("-9223372036854775808", Some(-9_223_372_036_854_775_808)),
+        ("-9223372036854775809", None),
+        ("18446744073709551615", Some(18_446_744_073_709_551_615)),
+        ("18446744073709551616", None),
+        ("", None),
+        ("-", None),
+        ("--1", None),
     ] {
-        let mut text = front(alloc, number - 1)?;
-        push_line(&mut text, line)?;
-        let want = if may_stand { None } else { Some(number as u32) };
-        assert_eq!(rt; fault(alloc, text.as_slice())?, want, "{line}");
+        assert_eq!(rt; read_int(word.as_bytes()), want, "{word}");
     }
-    Ok(())
-}
-
-#[test]
-fn an_input_that_ends_early_is_a_fault_behind_its_last_line(rt: HostRuntime) -> Result<(), Fail> {
-    let alloc = rt.alloc();
-    assert_eq!(rt; fault(alloc, b"")?, Some(1));
-    assert_eq!(rt; fault(alloc, b"kms 1\n")?, Some(2));
-    let mut cut = front(alloc, 9)?;
-    cut.pop();
-    assert_eq!(rt; fault(alloc, cut.as_slice())?, Some(9));
-    Ok(())
-}
-
-#[test]
-fn a_client_has_4096_commands_and_no_more(rt: HostRuntime) -> Result<(), Fail> {
-    let alloc = rt.alloc();
-    let mut text = front(alloc, 9)?;
-    for _ in 4..4096 {
-        push_line(&mut text, LAST_INDEX)?;
-    }
-    assert_eq!(rt; fault(alloc, text.as_slice())?, None);
-    push_line(&mut text, LAST_INDEX)?;
-    assert_eq!(rt; fault(alloc, text.as_slice())?, Some(4102));
-    Ok(())
 }
 
 #[test]

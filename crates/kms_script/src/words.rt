@@ -1,7 +1,9 @@
 //! Words of a line.
-ghost use Rattle.std.specs.Prelude.{◌≡◌, ◌<◌, ◌≤◌, ℕ, List, [], Some, IsTrue, option_map, option_copied, length, IfSome};
+ghost use Rattle.std.specs.Prelude.{◌≡◌, ◌<◌, ◌≤◌, ◌+◌, ℕ, List, [], Some, IsTrue, option_map, option_copied, length, IfSome};
 ghost use Rattle.std.specs.Str.{bytes_eq};
 ghost use Rattle.std.specs.List.{list_all};
+ghost use Rattle.kms_model.specs.Firsts.{number_if};
+ghost use Rattle.kms_model.specs.Lines.{strip};
 ghost use Rattle.kms_model.specs.Words.{until, from, dec, is_digit, is_label, is_label_rest, is_hex, hex_value, hex_from, pix, field_at, dec_at, label_at, pix_at, word_at, end_at};
 
 /// The largest number of 32 bits.
@@ -11,6 +13,7 @@ pub const MOST: u64 = 4_294_967_295;
 pub fn split_at_byte(bytes: &[u8], separator: u8) -> (&[u8], &[u8])
     ensures front { result.0.now ≡ until separator bytes.now }
     ensures back { result.1.now ≡ from separator bytes.now }
+    ensures whole { length result.0.now + length result.1.now ≡ length bytes.now }
 {
     let mut count = 0;
     let mut rest = bytes;
@@ -22,6 +25,25 @@ pub fn split_at_byte(bytes: &[u8], separator: u8) -> (&[u8], &[u8])
         rest = after;
     }
     (bytes, rest)
+}
+
+/// The bytes behind a given front.
+pub fn strip<'a>(front: &[u8], bytes: &'a [u8]) -> Option<&'a [u8]>
+    ensures { option_copied result ≡ strip front.now bytes.now }
+{
+    let mut left = front;
+    let mut rest = bytes;
+    'matching: while let [wanted, more @ ..] = left {
+        let [found, after @ ..] = rest else {
+            return None;
+        };
+        if wanted != found {
+            return None;
+        }
+        left = more;
+        rest = after;
+    }
+    Some(rest)
 }
 
 /// The number that a word spells in decimal digits, where it is at most `most`. Each number has one spelling:
@@ -82,13 +104,15 @@ fn is_label_rest(b: u8) -> bool
     b.is_ascii_lowercase() || b.is_ascii_digit() || b == b'_'
 }
 
-fn is_hex(b: u8) -> bool
+/// Whether a byte is a hexadecimal digit, `0` to `9` or `a` to `f`.
+pub fn is_hex(b: u8) -> bool
     ensures { result ≡ is_hex b }
 {
     b.is_ascii_digit() || (b >= b'a' && b <= b'f')
 }
 
-fn hex_value(b: u8) -> u32
+/// The number of a hexadecimal digit.
+pub fn hex_value(b: u8) -> u32
     requires { IsTrue (is_hex b) }
     ensures value { result ≡ hex_value b }
     ensures small { result < 16 }
@@ -100,14 +124,11 @@ fn hex_value(b: u8) -> u32
     }
 }
 
-/// The number of a word of eight hexadecimal digits, `0` to `9` and `a` to `f`.
-#[tactic(auto, unfolding(kms_model::specs::Words::pix))]
-pub fn read_pix(word: &[u8]) -> Option<u32>
-    ensures { result ≡ pix word.now }
+/// The number of at most eight hexadecimal digits, `0` to `9` and `a` to `f`.
+pub fn read_digits(word: &[u8]) -> Option<u32>
+    requires { length word.now ≤ 8 }
+    ensures { result ≡ number_if (hex_from 0 word.now) (list_all is_hex word.now) }
 {
-    if word.len() != 8 {
-        return None;
-    }
     let mut number = 0u32;
     let mut rest = word;
     'reading: while let [b, after @ ..] = rest {
@@ -121,11 +142,24 @@ pub fn read_pix(word: &[u8]) -> Option<u32>
     Some(number)
 }
 
+/// The number of a word of eight hexadecimal digits.
+#[tactic(auto, unfolding(kms_model::specs::Words::pix))]
+pub fn read_pix(word: &[u8]) -> Option<u32>
+    ensures { result ≡ pix word.now }
+{
+    if word.len() == 8 {
+        read_digits(word)
+    } else {
+        None
+    }
+}
+
 /// A field is a blank and the word behind it: the word at the front of a line's bytes, and the bytes from the
 /// next blank on.
 #[tactic(auto, unfolding(kms_model::specs::Words::field_at))]
 pub fn take_field(bytes: &[u8]) -> Option<(&[u8], &[u8])>
-    ensures { option_map (λ x. (x.0.now, x.1.now)) result ≡ field_at bytes.now }
+    ensures shorter { IfSome result (λ x. length x.0.now + length x.1.now + 1 ≡ length bytes.now) }
+    ensures value { option_map (λ x. (x.0.now, x.1.now)) result ≡ field_at bytes.now }
 {
     match bytes {
         [b, rest @ ..] => {
@@ -144,6 +178,7 @@ pub fn take_field(bytes: &[u8]) -> Option<(&[u8], &[u8])>
 pub fn take_dec(bytes: &[u8], most: u64) -> Option<(u64, &[u8])>
     ensures value { option_map (λ x. (x.0, x.1.now)) result ≡ dec_at most bytes.now }
     ensures most { IfSome result (λ x. x.0 ≤ most) }
+    ensures shorter { IfSome result (λ x. length x.1.now ≤ length bytes.now) }
 {
     let (word, rest) = take_field(bytes)?;
     let number = read_dec(word, most)?;

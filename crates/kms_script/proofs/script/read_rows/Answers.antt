@@ -1,7 +1,7 @@
 use Rattle.std.proofs.Common.{◌≡◌, length, sym, ◌∙◌, ap, arith, rules, Some, None, []}
 use Rattle.kms_model.specs.Input.{read_rows}
 use Rattle.kms_script.specs.Reads.{reading_in}
-use Rattle.kms_script.proofs.Rows.{bad_row, good_row, cut_row, ended_row, ended_early, ended_well}
+use Rattle.kms_script.proofs.Lined.{bad_row, good_row, cut_row, ended_row, ended_early, ended_well}
 use Rattle.kms_script.proofs.script.read_rows.Goals as goal
 
 pub returns-in_default-clause-value : goal.returns-in_default-clause-value

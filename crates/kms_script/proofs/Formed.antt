@@ -1,0 +1,71 @@
+-- What was read within the limits is a well-formed script.
+use Rattle.std.proofs.Common.{◌≡◌, ℕ, zero, suc, ◌+◌, ◌<◌, ◌≤◌, ◌^◌, ◌⊎◌, inl, inr, Bool, true, List, [], ◌∷◌, length, refl, arith}
+use Rattle.std.specs.Prelude.{All, IsTrue, ⊤, ◌&&◌}
+use Rattle.std.specs.List.{AllByRecursion, list_all}
+use Rattle.std.proofs.lemmas.Bool.{le-leb, lt-ltb}
+use Rattle.kms_model.specs.declared.objects.PlaneInfo.{PlaneInfo}
+use Rattle.kms_model.specs.declared.objects.Topology.{Topology}
+use Rattle.kms_model.specs.declared.scripts.Command.{Command}
+use Rattle.kms_model.specs.Properties.{has_legal_masks, is_legal_device, is_mask_below, keeps_limits}
+use Rattle.kms_model.specs.Sound.{HasPlaneKind, IsDevice}
+use Rattle.kms_model.specs.WellFormed.{IsFitClient, IsWellFormed}
+use Rattle.kms_model.specs.WholeInput.{Draft, topology_in}
+use Rattle.kms_model.specs.Words.{between}
+use Rattle.kms_script.specs.Drafted.{ended}
+use Rattle.kms_script.specs.Fitting.{IsFitCount, IsFitDevice, IsFitMask, IsFitPlane}
+
+pub by_recursion : {A : Type 0} (P : A → Type 0) (xs : List A) → All P xs → AllByRecursion P xs
+by_recursion P [] all = tt
+by_recursion P (x ∷ xs) all = (all zero x (omega arith), by_recursion P xs (λ k d lt. all (suc k) d (omega arith)))
+
+each_passes : {A : Type 0} (P : A → Type 0) (p : A → Bool) → ((x : A) → P x → p x ≡ true) → (xs : List A) → AllByRecursion P xs → list_all p xs ≡ true
+each_passes P p passes [] all = refl
+each_passes P p passes (x ∷ xs) all = rw (passes x all.0, each_passes P p passes xs all.1) refl
+
+is_between : (low high n : ℕ) → low ≤ n → n ≤ high → between low high n ≡ true
+is_between low high n le ge = rw (le-leb low n le, le-leb n high ge) refl
+
+legal_plane : (crtcs : ℕ) (p : PlaneInfo) → IsFitPlane crtcs p → has_legal_masks crtcs p ≡ true
+legal_plane crtcs p fit = rw (lt-ltb p.crtcs (2 ^ crtcs) fit.crtcs, lt-ltb p.formats 8 fit.formats) refl
+
+legal_mask : (crtcs mask : ℕ) → IsFitMask crtcs mask → is_mask_below crtcs mask ≡ true
+legal_mask crtcs mask lt = rw (lt-ltb mask (2 ^ crtcs) lt) refl
+
+early_or_late : (n : ℕ) → (n < 2) ⊎ (2 ≤ n)
+early_or_late zero = inl (omega arith)
+early_or_late (suc zero) = inl (omega arith)
+early_or_late (suc (suc n)) = inr (omega arith)
+
+late_head : (d : Draft) → IsFitDevice d → 0 < length d.conns → (d.head < 2) ⊎ (2 ≤ d.head) → 2 ≤ d.head
+late_head d fit some (inl early) = absurd (omega (arith, fit.no_conns early))
+late_head d fit some (inr late) = late
+
+legal_device : (d : Draft) → IsFitDevice d → 0 < length d.conns → is_legal_device (topology_in d) ≡ true
+legal_device d fit some =
+    let count : IsFitCount d.crtcs = fit.crtcs (late_head d fit some (early_or_late d.head)) in
+    let crtcs : between 1 4 d.crtcs ≡ true = is_between 1 4 d.crtcs count.some count.few in
+    let planes : between 1 16 (length d.planes) ≡ true = is_between 1 16 (length d.planes) (omega (arith, fit.some_planes some)) fit.few_planes in
+    let conns : between 1 8 (length d.conns) ≡ true = is_between 1 8 (length d.conns) (omega arith) fit.few_conns in
+    let masks : list_all (has_legal_masks d.crtcs) d.planes ≡ true = each_passes (IsFitPlane d.crtcs) (has_legal_masks d.crtcs) (legal_plane d.crtcs) d.planes (by_recursion (IsFitPlane d.crtcs) d.planes fit.planes) in
+    let routes : list_all (is_mask_below d.crtcs) d.conns ≡ true = each_passes (IsFitMask d.crtcs) (is_mask_below d.crtcs) (legal_mask d.crtcs) d.conns (by_recursion (IsFitMask d.crtcs) d.conns fit.conns) in
+    rw (crtcs, planes, conns, masks, routes) refl
+
+pub ended_device : (d : Draft) → IsFitDevice d → IsFitDevice (ended d)
+ended_device d fit = record {
+  crtcs = fit.crtcs;
+  no_planes = fit.no_planes;
+  no_conns = fit.no_conns;
+  some_planes = fit.some_planes;
+  few_planes = fit.few_planes;
+  few_conns = fit.few_conns;
+  planes = fit.planes;
+  conns = fit.conns;
+}
+
+pub well_formed : (d : Draft) (names : List (List ℕ)) (clients : List (List Command)) → IsFitDevice d → 0 < length d.conns → All IsFitClient clients → length clients ≤ 16
+    → IsWellFormed (record { version = 1; topology = topology_in d; names = names; clients = clients })
+well_formed d names clients fit some each few = record {
+  device = record { legal = legal_device d fit some; kinds = λ k p lt. (fit.planes k p lt).kind };
+  few = few;
+  clients = by_recursion IsFitClient clients each;
+}

@@ -1,0 +1,16 @@
+use Rattle.std.proofs.Common.{◌≡◌, ◌+◌, ◌≤◌, length}
+use Rattle.kms_model.specs.Input.{rows_of}
+use Rattle.kms_model.specs.WholeInput.{blank, lines_after}
+use Rattle.kms_script.specs.Drafted.{draft_in, IsSound}
+use Rattle.kms_script.proofs.inputs.read_lines.Given as goal
+
+abbrev pub invariant-lines : goal.invariant-lines
+invariant-lines l = record {
+  read : lines_after (draft_in l.draft) l.number (rows_of l.rest) ≡ lines_after blank 1 (rows_of l.bytes);
+  sound : IsSound (draft_in l.draft);
+  number : l.number ≤ l.draft.size + 1;
+  rest : length l.rest ≤ length l.bytes;
+}
+
+abbrev pub decreases-lines : goal.decreases-lines
+decreases-lines l = length l.rest
