@@ -1,0 +1,6 @@
+pub mod FenceLemmas
+pub mod LastSets
+pub mod IndexLemmas
+pub mod NamedLemmas
+pub mod NamingLemmas
+pub mod WholeLemmas

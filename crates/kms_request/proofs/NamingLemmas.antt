@@ -1,0 +1,46 @@
+-- Sets of CRTCs, in place.
+use Rattle.std.proofs.Common.{◌≡◌, ◌∙◌, ◌⊎◌, ℕ, ◌+◌, ◌-◌, ◌*◌, ◌^◌, ◌%◌, ◌<◌, ◌≤◌, List, length, take, get_or, Bool, false, arith, sym, ap, lit<}
+use Rattle.std.specs.Prelude.{◌||◌, ◌==◌, bit_or}
+use Rattle.std.proofs.lemmas.Bool.Decides.{nat_tests}
+use Rattle.std.specs.List.{list_any}
+use Rattle.std.proofs.lemmas.List.{take_all}
+use Rattle.std.proofs.lemmas.List.Folds.{list_any_more}
+use Rattle.std.proofs.lemmas.Nat.{one_shl, or_lt, pow_below}
+use Rattle.kms_model.specs.Masks.{has_bit}
+use Rattle.kms_model.proofs.UnionLemmas.{has_bit-one, has_bit-or, has_bit-zero}
+use Rattle.kms_request.specs.Naming.{AreCrtcs}
+
+same_crtc : (id index : ℕ) → 100 ≤ id → (id - 100 == index) ≡ (id == 100 + index)
+same_crtc id index low = grind (arith, nat_tests)
+
+pub one_crtc : (id : ℕ) → 100 ≤ id → id < 104 → AreCrtcs (λ crtc. id == crtc) (1 * 2 ^ (id - 100) % 2 ^ 32)
+one_crtc id low high = record {
+  below = rw (one_shl (id - 100) 32 (omega arith)) (pow_below (id - 100) 4 (omega arith));
+  bits = λ index less. has_bit-one (id - 100) index (omega arith) ∙ same_crtc id index low;
+}
+
+no_crtc_at : (id index : ℕ) → index < 4 → (id < 100) ⊎ (104 ≤ id) → (id == 100 + index) ≡ false
+no_crtc_at id index less apart = grind (arith, nat_tests)
+
+pub no_crtc : (id : ℕ) → (id < 100) ⊎ (104 ≤ id) → AreCrtcs (λ crtc. id == crtc) 0
+no_crtc id apart = record { below = lit< tt; bits = λ index less. has_bit-zero index ∙ sym (no_crtc_at id index less apart) }
+
+pub both_crtcs : (f g : ℕ → Bool) (a b : ℕ) → AreCrtcs f a → AreCrtcs g b → AreCrtcs (λ crtc. f crtc || g crtc) (bit_or a b)
+both_crtcs f g a b first second = record {
+  below = or_lt 4 a b first.below second.below;
+  bits = λ index less. has_bit-or a b index ∙ ap (λ x. x || has_bit b index) (first.bits index less) ∙ ap (λ x. f (100 + index) || x) (second.bits index less);
+}
+
+-- the set of a CRTC that is known under another name
+pub crtc_as : (id result mask : ℕ) → result ≡ id → AreCrtcs (λ crtc. result == crtc) mask → AreCrtcs (λ crtc. id == crtc) mask
+crtc_as id result mask same are = record { below = are.below; bits = λ index less. are.bits index less ∙ ap (λ i. i == (100 + index)) same }
+
+-- the CRTCs that one item more names
+pub more_crtcs : {A : Type 0} (names : A → ℕ → Bool) (items : List A) (i : ℕ) (x : A) (a b : ℕ) → i < length items → AreCrtcs (λ crtc. list_any (λ y. names y crtc) (take i items)) a → AreCrtcs (names (get_or items i x)) b
+    → AreCrtcs (λ crtc. list_any (λ y. names y crtc) (take (i + 1) items)) (bit_or a b)
+more_crtcs names items i x a b less before here =
+    let both = both_crtcs (λ crtc. list_any (λ y. names y crtc) (take i items)) (names (get_or items i x)) a b before here in
+    record { below = both.below; bits = λ index low. both.bits index low ∙ sym (list_any_more (λ y. names y (100 + index)) items i x less) }
+
+pub all_crtcs : {A : Type 0} (names : A → ℕ → Bool) (items : List A) (i a : ℕ) → length items ≤ i → AreCrtcs (λ crtc. list_any (λ y. names y crtc) (take i items)) a → AreCrtcs (λ crtc. list_any (λ y. names y crtc) items) a
+all_crtcs names items i a end are = record { below = are.below; bits = λ index low. are.bits index low ∙ ap (λ xs. list_any (λ y. names y (100 + index)) xs) (take_all i items end) }

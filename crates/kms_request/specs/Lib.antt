@@ -1,0 +1,6 @@
+pub mod Answers
+pub mod Fences
+pub mod Naming
+pub mod Targets
+pub mod Whole
+pub mod Order

@@ -1,0 +1,42 @@
+-- The order in which refusals 10 to 23 are tried.
+use Rattle.std.specs.Prelude.{ℕ, Option, IfSome, ⊤}
+use Rattle.std.specs.Option.{option_and_then}
+use Rattle.kms_model.specs.declared.objects.Kind.TheVariants.{Crtc, Plane, Conn}
+use Rattle.kms_model.specs.declared.objects.Topology.{Topology}
+use Rattle.kms_model.specs.declared.states.Both.{Both}
+use Rattle.kms_model.specs.declared.states.Duplicates.{Duplicates}
+use Rattle.kms_model.specs.declared.states.Mask.{Mask}
+use Rattle.kms_model.specs.declared.states.PlaneState.{PlaneState}
+use Rattle.kms_model.specs.Objects.{count_of}
+use Rattle.kms_model.specs.Sound.{IsPlaneInRange}
+use Rattle.kms_model.specs.Late.{duplicate_in, plane_refusal_of, crtc_refusal_of, conn_refusal_of, clone_refusal_of, route_refusal_of, shown_refusal_of}
+use Rattle.kms_request.specs.declared.late.Asked.{Asked}
+use Rattle.kms_request.specs.declared.late.Step.{Step}
+use Rattle.kms_request.specs.declared.late.Step.TheVariants.{Planes, Crtcs, Conns, Clones, Routes, Shown}
+
+-- how many objects a step looks at
+abbrev pub count_at : Topology → Step → ℕ
+count_at t Planes = count_of t Plane
+count_at t Crtcs = count_of t Crtc
+count_at t Conns = count_of t Conn
+count_at t Clones = count_of t Crtc
+count_at t Routes = count_of t Crtc
+count_at t Shown = count_of t Plane
+
+-- what a step finds wrong with an object of a set, by its index
+abbrev pub refusal_at : Topology → Duplicates → Mask → Asked → Step → ℕ → Option ℕ
+refusal_at t d objects asked Planes index = option_and_then (plane_refusal_of t index) (duplicate_in objects.planes d.planes index)
+refusal_at t d objects asked Crtcs index = option_and_then (crtc_refusal_of asked.flags asked.named asked.fenced index) (duplicate_in objects.crtcs d.crtcs index)
+refusal_at t d objects asked Conns index = option_and_then (conn_refusal_of t index) (duplicate_in objects.conns d.conns index)
+refusal_at t d objects asked Clones index = option_and_then (λ both. clone_refusal_of t both) (duplicate_in objects.crtcs d.crtcs index)
+refusal_at t d objects asked Routes index = option_and_then (λ both. route_refusal_of both) (duplicate_in objects.crtcs d.crtcs index)
+refusal_at t d objects asked Shown index = option_and_then (λ both. shown_refusal_of d.crtcs both) (duplicate_in objects.planes d.planes index)
+
+-- the numbers of a plane that a step looks at are in range
+abbrev pub IsLookedAtInRange : Step → Option (Both PlaneState) → Type 0
+IsLookedAtInRange Planes plane = IfSome plane (λ both. IsPlaneInRange both.new)
+IsLookedAtInRange Shown plane = IfSome plane (λ both. IsPlaneInRange both.new)
+IsLookedAtInRange Crtcs plane = ⊤
+IsLookedAtInRange Conns plane = ⊤
+IsLookedAtInRange Clones plane = ⊤
+IsLookedAtInRange Routes plane = ⊤

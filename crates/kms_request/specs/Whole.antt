@@ -1,0 +1,41 @@
+-- Requests against duplicates of the whole device.
+use Rattle.std.specs.Prelude.{◌≡◌, ℕ, ◌<◌, Bool, true, ◌||◌, ◌==◌, None, is_some}
+use Rattle.kms_model.specs.declared.objects.Kind.TheVariants.{Crtc, Plane, Conn}
+use Rattle.kms_model.specs.declared.objects.Topology.{Topology}
+use Rattle.kms_model.specs.declared.scripts.Assign.{Assign}
+use Rattle.kms_model.specs.declared.scripts.Request.{Request}
+use Rattle.kms_model.specs.declared.states.Duplicates.{Duplicates}
+use Rattle.kms_model.specs.declared.worlds.World.{World}
+use Rattle.kms_model.specs.Agreement.{AgreesNew, AgreesOld}
+use Rattle.kms_model.specs.Apply.{apply, object_of}
+use Rattle.kms_model.specs.Late.{duplicate_at}
+use Rattle.kms_model.specs.Lookups.{look_up}
+use Rattle.kms_model.specs.Objects.{count_of}
+use Rattle.kms_model.specs.Refusals.{early_refusal}
+use Rattle.kms_model.specs.Sound.{IsDevice, IsSound}
+use Rattle.kms_request.specs.Naming.{next_crtc, old_crtc}
+
+-- An assignment names a CRTC: it sets it, or a plane or a connector that is on it in its old or its new state.
+abbrev pub is_named_between : Duplicates → Assign → ℕ → Bool
+is_named_between d a crtc = ((object_of a == crtc) || (old_crtc d (object_of a) == crtc)) || (next_crtc d (object_of a) == crtc)
+
+-- every object of a device is duplicated
+pub record AreAllDuplicated (t : Topology) (d : Duplicates) : Type 0 where
+  pub crtcs : (index : ℕ) → index < count_of t Crtc → is_some (duplicate_at d.crtcs index) ≡ true
+  pub planes : (index : ℕ) → index < count_of t Plane → is_some (duplicate_at d.planes index) ≡ true
+  pub conns : (index : ℕ) → index < count_of t Conn → is_some (duplicate_at d.conns index) ≡ true
+
+-- Duplicates of the whole device before and after a request in a sound world: none of refusals 1 to 8 is due there, the
+-- old states are those of the world's values, and the new ones those of the values after the request.
+pub record StandBetween (t : Topology) (w : World) (r : Request) (d : Duplicates) : Type 0 where
+  pub device : IsDevice t
+  pub sound : IsSound t w
+  pub early : early_refusal t (look_up w) r ≡ None
+  pub old : AgreesOld t w.things w.values d
+  pub new : AgreesNew t w.things (apply w.things w.values r.assigns) d
+  pub all : AreAllDuplicated t d
+
+-- some sound world
+pub record StandSomewhere (t : Topology) (r : Request) (d : Duplicates) : Type 0 where
+  pub world : World
+  pub between : StandBetween t world r d

@@ -1,0 +1,262 @@
+//! Refusals 9 to 24 of duplicated states. (Kernel: `drm_atomic_check_only`, `drm_atomic_helper_check_modeset`,
+//! `drm_atomic_helper_check_planes`.)
+ghost use Rattle.std.specs.Prelude.{◌≡◌, ◌<◌, ◌&&◌, ◌==◌, ℕ, Bool, not, IfSome, slice_get};
+ghost use Rattle.std.specs.List.{list_any, range_with_len};
+ghost use Rattle.std.specs.Option.{option_and_then};
+ghost use Rattle.kms_model.specs.declared.objects.Kind.TheVariants.{Crtc, Plane};
+ghost use Rattle.kms_model.specs.Firsts.{first_some, number_if};
+ghost use Rattle.kms_model.specs.Flags.{allows_modeset, wants_event};
+ghost use Rattle.kms_model.specs.Late.{ArePlanesInRange, clone_refusal_of, conn_refusal_of, crtc_refusal_of, duplicate_in, late_of_states, members, needs_modeset_if, new_mode, plane_refusal_of, route_refusal_of, shown_refusal_of};
+ghost use Rattle.kms_model.specs.Objects.{count_of};
+ghost use Rattle.kms_model.specs.Sound.{IsPlaneInRange};
+ghost use Rattle.kms_request.specs.Answers.{number_of};
+ghost use Rattle.kms_request.specs.Order.{IsLookedAtInRange, count_at, refusal_at};
+
+use crate::flags::{ALLOW_MODESET, PAGE_FLIP_EVENT};
+use crate::states::{
+    FIRST_CRTC, conn_refusal, crtc_refusal, has_bit, needs_modeset, plane_refusal, shown_refusal,
+};
+use kms_model::{
+    Both, ConnState, CrtcState, Duplicates, Mask, Mode, PlaneState, Refusal, Topology,
+};
+
+/// What a request asks for, besides what it sets.
+#[derive(Clone, Copy, Debug)]
+pub struct Asked {
+    /// Its flags.
+    pub flags: u32,
+    /// The CRTCs that it names: bit i stands for CRTC index i.
+    pub named: u32,
+    /// The CRTCs for which it asks for an out-fence.
+    pub fenced: u32,
+}
+
+/// A step of the order in which refusals are tried; within a step, objects are looked at in order of their indices.
+#[derive(Clone, Copy)]
+enum Step {
+    /// 10 to 15, of each plane.
+    Planes,
+    /// 16 and 17, of each CRTC.
+    Crtcs,
+    /// 18, of each connector.
+    Conns,
+    /// 19, of each CRTC.
+    Clones,
+    /// 20, of each CRTC.
+    Routes,
+    /// 21 to 23, of each plane.
+    Shown,
+}
+
+/// The states of a plane of a set, where they are duplicated.
+fn plane_in(states: &Duplicates, objects: &Mask, index: usize) -> Option<Both<PlaneState>>
+    ensures { result ≡ duplicate_in objects.now.planes states.now.planes index }
+{
+    if has_bit(objects.planes, index) {
+        states.planes.get(index).copied().flatten()
+    } else {
+        None
+    }
+}
+
+/// The states of a CRTC of a set, where they are duplicated.
+fn crtc_in(states: &Duplicates, objects: &Mask, index: usize) -> Option<Both<CrtcState>>
+    ensures { result ≡ duplicate_in objects.now.crtcs states.now.crtcs index }
+{
+    if has_bit(objects.crtcs, index) {
+        states.crtcs.get(index).copied().flatten()
+    } else {
+        None
+    }
+}
+
+/// The states of a connector of a set, where they are duplicated.
+fn conn_in(states: &Duplicates, objects: &Mask, index: usize) -> Option<Both<ConnState>>
+    ensures { result ≡ duplicate_in objects.now.conns states.now.conns index }
+{
+    if has_bit(objects.conns, index) {
+        states.conns.get(index).copied().flatten()
+    } else {
+        None
+    }
+}
+
+/// The new mode of the CRTC with an id, if it is duplicated and has one.
+fn new_mode(states: &Duplicates, crtc: u32) -> Option<Mode>
+    ensures { result ≡ new_mode states.now.crtcs crtc }
+{
+    let index = crtc.saturating_sub(FIRST_CRTC) as usize;
+    states.crtcs.get(index).copied().flatten()?.new.mode
+}
+
+/// How many of the first objects are in a set.
+fn members(mask: u32, count: usize) -> usize
+    ensures { result ≡ members mask count }
+{
+    (0..count).filter(|&index| has_bit(mask, index)).count()
+}
+
+/// What is wrong with a plane of a set, from 10 to 15.
+fn plane_at(topology: &Topology, states: &Duplicates, objects: &Mask, index: usize) -> Option<u32>
+    requires { IfSome (duplicate_in objects.now.planes states.now.planes index) (λ both. IsPlaneInRange both.new) }
+    ensures { result ≡ option_and_then (plane_refusal_of topology.now index) (duplicate_in objects.now.planes states.now.planes index) }
+{
+    let both = plane_in(states, objects, index)?;
+    let info = topology.planes.as_slice().get(index)?;
+    plane_refusal(info, &both.old, &both.new)
+}
+
+/// What is wrong with a CRTC of a set, 16 or 17.
+fn crtc_at(states: &Duplicates, objects: &Mask, asked: Asked, index: usize) -> Option<u32>
+    ensures { result ≡ option_and_then (crtc_refusal_of asked.flags asked.named asked.fenced index) (duplicate_in objects.now.crtcs states.now.crtcs index) }
+{
+    let both = crtc_in(states, objects, index)?;
+    let signals = asked.flags & PAGE_FLIP_EVENT != 0 || has_bit(asked.fenced, index);
+    let asks = has_bit(asked.named, index) && signals;
+    crtc_refusal(asks, both.old.active, both.new.active, both.new.mode)
+}
+
+/// What is wrong with a connector of a set, 18.
+fn conn_at(topology: &Topology, states: &Duplicates, objects: &Mask, index: usize) -> Option<u32>
+    ensures { result ≡ option_and_then (conn_refusal_of topology.now index) (duplicate_in objects.now.conns states.now.conns index) }
+{
+    let both = conn_in(states, objects, index)?;
+    let possible = topology.conns.as_slice().get(index)?;
+    conn_refusal(*possible, both.new.crtc)
+}
+
+/// 19, where two or more connectors are on a CRTC of a set.
+fn clones_at(topology: &Topology, states: &Duplicates, objects: &Mask, index: usize) -> Option<u32>
+    ensures { result ≡ option_and_then (λ both. clone_refusal_of topology.now both) (duplicate_in objects.now.crtcs states.now.crtcs index) }
+{
+    let both = crtc_in(states, objects, index)?;
+    if members(both.new.conns, topology.conns.len()) > 1 {
+        Some(19)
+    } else {
+        None
+    }
+}
+
+/// 20, where a CRTC of a set has a mode and no connector, or a connector and no mode.
+fn route_at(states: &Duplicates, objects: &Mask, index: usize) -> Option<u32>
+    ensures { result ≡ option_and_then (λ both. route_refusal_of both) (duplicate_in objects.now.crtcs states.now.crtcs index) }
+{
+    let both = crtc_in(states, objects, index)?;
+    if both.new.mode.is_some() != (both.new.conns != 0) {
+        Some(20)
+    } else {
+        None
+    }
+}
+
+/// What is wrong with a plane of a set on its CRTC, from 21 to 23.
+fn shown_at(states: &Duplicates, objects: &Mask, index: usize) -> Option<u32>
+    requires { IfSome (duplicate_in objects.now.planes states.now.planes index) (λ both. IsPlaneInRange both.new) }
+    ensures { result ≡ option_and_then (λ both. shown_refusal_of states.now.crtcs both) (duplicate_in objects.now.planes states.now.planes index) }
+{
+    let both = plane_in(states, objects, index)?;
+    shown_refusal(new_mode(states, both.new.crtc), &both.new)
+}
+
+/// What a step finds wrong with an object of a set.
+fn refusal_at(
+    topology: &Topology,
+    states: &Duplicates,
+    objects: &Mask,
+    asked: Asked,
+    step: Step,
+    index: usize,
+) -> Option<u32>
+    requires { IsLookedAtInRange step (duplicate_in objects.now.planes states.now.planes index) }
+    ensures { result ≡ refusal_at topology.now states.now objects.now asked step index }
+{
+    match step {
+        Step::Planes => plane_at(topology, states, objects, index),
+        Step::Crtcs => crtc_at(states, objects, asked, index),
+        Step::Conns => conn_at(topology, states, objects, index),
+        Step::Clones => clones_at(topology, states, objects, index),
+        Step::Routes => route_at(states, objects, index),
+        Step::Shown => shown_at(states, objects, index),
+    }
+}
+
+/// How many objects a step looks at.
+fn count_at(topology: &Topology, step: Step) -> usize
+    ensures { result ≡ count_at topology.now step }
+{
+    match step {
+        Step::Planes | Step::Shown => topology.planes.len(),
+        Step::Crtcs | Step::Clones | Step::Routes => topology.crtcs as usize,
+        Step::Conns => topology.conns.len(),
+    }
+}
+
+/// The first that a step finds wrong with the objects of a set.
+fn first_of(
+    topology: &Topology,
+    states: &Duplicates,
+    objects: &Mask,
+    asked: Asked,
+    step: Step,
+) -> Option<u32>
+    requires { ArePlanesInRange topology.now states.now objects.now.planes }
+    ensures { result ≡ first_some (refusal_at topology.now states.now objects.now asked step) (range_with_len 0 (count_at topology.now step)) }
+{
+    for index in 0..count_at(topology, step) {
+        if let Some(number) = refusal_at(topology, states, objects, asked, step, index) {
+            return Some(number);
+        }
+    }
+    None
+}
+
+/// Whether a CRTC of a set needs a modeset.
+fn some_needs_modeset(topology: &Topology, states: &Duplicates, objects: &Mask) -> bool
+    ensures { result ≡ list_any (λ index. needs_modeset_if (duplicate_in objects.now.crtcs states.now.crtcs index)) (range_with_len 0 (count_of topology.now Crtc)) }
+{
+    (0..topology.crtcs as usize).any(|index| crtc_in(states, objects, index).is_some_and(
+        |both| needs_modeset(&both),
+    ))
+}
+
+/// The first refusal from 9 to 24 of a set of duplicated objects.
+///
+/// The numbers of the planes of the set are in the ranges of their properties.
+#[tactic(auto, unfolding(kms_model::specs::Late::late_of_states))]
+pub fn late_refusal(
+    topology: &Topology,
+    states: &Duplicates,
+    objects: &Mask,
+    asked: Asked,
+) -> Option<Refusal>
+    requires { ArePlanesInRange topology.now states.now objects.now.planes }
+    ensures { number_of result ≡ late_of_states topology.now states.now objects.now asked.flags asked.named asked.fenced }
+{
+    if asked.flags & PAGE_FLIP_EVENT != 0 && asked.named == 0 {
+        return Some(Refusal(9));
+    }
+    first_of(topology, states, objects, asked, Step::Planes)
+        .or_else(|| first_of(topology, states, objects, asked, Step::Crtcs))
+        .or_else(|| first_of(topology, states, objects, asked, Step::Conns))
+        .or_else(|| first_of(topology, states, objects, asked, Step::Clones))
+        .or_else(|| first_of(topology, states, objects, asked, Step::Routes))
+        .or_else(|| first_of(topology, states, objects, asked, Step::Shown))
+        .or_else(|| modeset_refusal(topology, states, objects, asked.flags))
+        .map(Refusal)
+}
+
+/// 24, where a CRTC of a set needs a modeset and ALLOW_MODESET is not set.
+fn modeset_refusal(
+    topology: &Topology,
+    states: &Duplicates,
+    objects: &Mask,
+    flags: u32,
+) -> Option<u32>
+    ensures { result ≡ number_if 24 (not (allows_modeset flags) && list_any (λ index. needs_modeset_if (duplicate_in objects.now.crtcs states.now.crtcs index)) (range_with_len 0 (count_of topology.now Crtc))) }
+{
+    if flags & ALLOW_MODESET == 0 && some_needs_modeset(topology, states, objects) {
+        Some(24)
+    } else {
+        None
+    }
+}

@@ -1,0 +1,34 @@
+//! Refusals of a request, and what an accepted one asks for.
+//!
+//! `early` gives the first of refusals 1 to 8: those that a request's flags, its assignments and what its labels name
+//! decide. `resolve` makes of a request that passes them what it asks for, with its labels looked up, `set_of` what one
+//! assignment sets, and `named` gives the CRTCs that the request names. `late_refusal` gives the first of refusals 9 to
+//! 24 of a set of duplicated objects, and `full_check` that of the whole device.
+#![tactic(auto)]
+
+mod errors;
+mod fences;
+mod flags;
+mod late;
+mod lookups;
+mod naming;
+mod refusals;
+mod resolving;
+mod sets;
+mod states;
+mod targets;
+mod whole;
+
+pub use errors::RequestError;
+pub use fences::out_fence_numbers;
+pub use late::{Asked, late_refusal};
+pub use lookups::Looker;
+pub use naming::named;
+pub use refusals::early;
+pub use resolving::resolve;
+pub use sets::{object_id, prop_of, set_of};
+pub use states::{has_bit, needs_modeset};
+pub use whole::{full_check, named_in};
+
+#[cfg(test)]
+mod tests;

@@ -1,0 +1,83 @@
+//! The CRTCs that a request names. (Kernel: "Atomic Mode Setting", `drm_atomic_get_crtc_state` and its callers.)
+ghost use Rattle.std.specs.Prelude.{◌≡◌, ◌<◌, ◌^◌, ◌==◌, ◌||◌, ℕ, false, IsTrue};
+ghost use Rattle.std.specs.List.{list_any};
+ghost use Rattle.kms_model.specs.declared.objects.Topology.{Topology};
+ghost use Rattle.kms_model.specs.declared.scripts.Request.{Request};
+ghost use Rattle.kms_model.specs.declared.worlds.Look.{Look};
+ghost use Rattle.kms_model.specs.declared.worlds.World.{World};
+ghost use Rattle.kms_model.specs.Apply.{apply};
+ghost use Rattle.kms_model.specs.Touched.{named_set};
+ghost use Rattle.kms_request.specs.Naming.{AreCrtcs, Covers, is_named_by, new_crtc, next_crtc, old_crtc};
+
+use kms_model::{Duplicates, Resolved, Set, SetValue};
+
+/// The set of the CRTC with an id; it is empty for every other number.
+pub fn only_crtc(id: u32) -> u32
+    ensures { AreCrtcs (λ crtc. id == crtc) result }
+{
+    if 100 <= id && id < 104 {
+        1 << (id - 100)
+    } else {
+        0
+    }
+}
+
+/// The CRTCs of a plane or a connector in its old and in its new state, each 0 without one.
+pub fn crtcs_of(states: &Duplicates, object: u32) -> (u32, u32)
+    ensures old { result.0 ≡ old_crtc states.now object }
+    ensures new { result.1 ≡ next_crtc states.now object }
+{
+    if 200 <= object && object <= 215 {
+        match states.planes[(object - 200) as usize] {
+            Some(both) => (both.old.crtc, both.new.crtc),
+            None => (0, 0),
+        }
+    } else if 300 <= object && object <= 307 {
+        match states.conns[(object - 300) as usize] {
+            Some(both) => (both.old.crtc, both.new.crtc),
+            None => (0, 0),
+        }
+    } else {
+        (0, 0)
+    }
+}
+
+/// The CRTC that a plane or a connector is put on, or 0.
+fn new_crtc(value: SetValue) -> u32
+    ensures { result ≡ new_crtc value }
+{
+    match value {
+        SetValue::Crtc(id) => id,
+        _ => 0,
+    }
+}
+
+/// The CRTCs that one set names.
+fn named_by(states: &Duplicates, set: &Set) -> u32
+    ensures { AreCrtcs (is_named_by states.now set.now) result }
+{
+    let object = set.object.0;
+    let (old, _) = crtcs_of(states, object);
+    only_crtc(object) | only_crtc(old) | only_crtc(new_crtc(set.value))
+}
+
+/// The CRTCs that some sets name.
+fn all_named_by(states: &Duplicates, sets: &[Set]) -> u32
+    ensures { AreCrtcs (λ crtc. list_any (λ s. is_named_by states.now s crtc) sets.now) result }
+{
+    let mut named = 0;
+    for set in sets {
+        named |= named_by(states, set);
+    }
+    named
+}
+
+/// The set of CRTCs that a request names: bit i stands for CRTC index i. A CRTC is named where the request sets it, or a
+/// plane or a connector that is on it before or after the request. The old states tell which are on it before; what the
+/// request sets tells which are on it after.
+pub fn named(resolved: &Resolved, states: &Duplicates) -> u32
+    ensures { (t : Topology) (w : World) (f : ℕ → Look) (r : Request) → Covers t w f r resolved.now states.now
+        → result ≡ named_set t w.values (apply w.things w.values r.assigns) r.assigns }
+{
+    all_named_by(states, resolved.sets.as_slice())
+}

@@ -1,0 +1,179 @@
+//! Refusals 1 to 8. (Kernel: `drm_atomic_uapi.c`, `drm_mode_atomic_ioctl`, `drm_atomic_set_property`.)
+ghost use Rattle.std.specs.Prelude.{◌≡◌, ◌<◌, ◌≤◌, ℕ, ◌&&◌, ◌==◌, List, [], ◌∷◌, All, IsNone, IsTrue, Option, Some, None, option_map, slice_index_or, slice_set, false, if◌then◌else◌};
+ghost use Rattle.std.specs.List.{list_any};
+ghost use Rattle.kms_model.specs.Apply.{prop_of};
+ghost use Rattle.kms_model.specs.Firsts.{number_if, or_else};
+ghost use Rattle.kms_model.specs.Objects.{count_of, exists};
+ghost use Rattle.kms_model.specs.Properties.{are_flags, keeps_limits, property};
+ghost use Rattle.kms_model.specs.Refusals.{assign_refusal, assigns_refusal, early_refusal, flags_refusal, is_in_range, is_label, is_second_fence, takes};
+ghost use Rattle.kms_model.specs.Resolves.{IsAllowed, IsSettable};
+ghost use Rattle.kms_props.specs.Rows.{property_of};
+ghost use Rattle.kms_request.specs.Answers.{number_of};
+ghost use Rattle.kms_request.specs.Fences.{SetsFenceOfPlane, TellFences};
+
+use crate::flags::{PAGE_FLIP_ASYNC, PAGE_FLIP_EVENT, TEST_ONLY};
+use crate::lookups::Looker;
+use kms_model::properties::{FB_ID, IN_FENCE_FD, MODE_ID, OUT_FENCE_PTR};
+use kms_model::{Assign, Kind, Look, PropRef, Range, Refusal, Request, Topology, Value};
+use kms_props::{PropertyRow, from_bits, row_of};
+
+/// What is wrong with flags: 1, there is another bit; 2, PAGE_FLIP_ASYNC is set; 3, TEST_ONLY and PAGE_FLIP_EVENT are set.
+fn flags_refusal(flags: u32) -> Option<u32>
+    ensures { result ≡ flags_refusal flags }
+{
+    if from_bits(flags).is_none() {
+        return Some(1);
+    }
+    if flags & PAGE_FLIP_ASYNC != 0 {
+        return Some(2);
+    }
+    if flags & TEST_ONLY != 0 && flags & PAGE_FLIP_EVENT != 0 {
+        return Some(3);
+    }
+    None
+}
+
+/// How many objects of a kind a device has.
+fn count_of(topology: &Topology, kind: Kind) -> usize
+    ensures { result ≡ count_of topology.now kind }
+{
+    match kind {
+        Kind::Crtc => topology.crtcs as usize,
+        Kind::Plane => topology.planes.len(),
+        Kind::Conn | Kind::Enc => topology.conns.len(),
+    }
+}
+
+/// Whether an object is on a device.
+fn exists(topology: &Topology, kind: Kind, index: u32) -> bool
+    ensures { result ≡ exists topology.now kind index }
+{
+    (index as usize) < count_of(topology, kind)
+}
+
+/// The row of a property that an assignment names.
+fn row_named(prop: PropRef) -> Option<PropertyRow>
+    ensures { option_map property_of result ≡ property (prop_of prop) }
+{
+    match prop {
+        PropRef::Known(id) => row_of(id),
+        PropRef::Unknown(_) => None,
+    }
+}
+
+/// Whether what a label names is what a property takes.
+fn takes(prop: u32, look: Look) -> bool
+    ensures { result ≡ takes prop look }
+{
+    match look {
+        Look::Fb(_) => prop == FB_ID,
+        Look::Mode(..) => prop == MODE_ID,
+        Look::Fence(_) => prop == IN_FENCE_FD,
+        Look::Blob(_) | Look::Buffer(_) | Look::Missing | Look::Closed => false,
+    }
+}
+
+/// Whether a value is among those of a property's range.
+fn is_in_range<L: Looker>(
+    topology: &Topology,
+    found: &L,
+    prop: u32,
+    range: Range,
+    given: Value,
+) -> bool
+    ensures { result ≡ is_in_range topology.now (L.meaning found.now) prop range given }
+{
+    match (range, given) {
+        (Range::Numbers { low, high }, Value::Num(n)) => low <= n && n <= high,
+        (Range::CrtcName, Value::Num(n)) => n == 0,
+        (Range::CrtcName, Value::Crtc(index)) => exists(topology, Kind::Crtc, index),
+        (Range::Thing { none }, Value::Num(n)) => n == none,
+        (Range::Thing { .. }, Value::Named(label)) => takes(prop, found.look(label)),
+        (Range::Thing { .. }, Value::New(_)) => prop == OUT_FENCE_PTR,
+        _ => false,
+    }
+}
+
+/// What is wrong with an assignment by itself, whatever comes before it: 4, its object does not exist; 5, the object
+/// does not have the property; 6, the property is immutable; 7, the value is not among the property's.
+#[tactic(auto, unfolding(kms_model::specs::Refusals::assign_refusal))]
+fn own_refusal<L: Looker>(topology: &Topology, found: &L, a: &Assign) -> Option<u32>
+    ensures first { (earlier : List Assign) → assign_refusal topology.now (L.meaning found.now) earlier a.now
+        ≡ or_else result (number_if 8 (is_second_fence earlier a.now)) }
+    ensures allowed { IsNone result → IsAllowed topology.now (L.meaning found.now) a.now }
+{
+    if !exists(topology, a.kind, a.index) {
+        return Some(4);
+    }
+    let Some(row) = row_named(a.prop) else {
+        return Some(5);
+    };
+    if !row.kinds.contains(&a.kind) {
+        return Some(5);
+    }
+    if row.immutable {
+        return Some(6);
+    }
+    if !is_in_range(topology, found, row.id, row.range, a.value) {
+        return Some(7);
+    }
+    None
+}
+
+/// Whether an assignment sets the fence of a plane for which an earlier one named a fence.
+fn is_second_fence(fenced: &[bool; 16], a: &Assign) -> bool
+    requires { SetsFenceOfPlane a.now }
+    ensures { (earlier : List Assign) → TellFences earlier fenced.now → result ≡ is_second_fence earlier a.now }
+{
+    a.prop == PropRef::Known(IN_FENCE_FD) && fenced[a.index as usize]
+}
+
+/// Notes the fence that an assignment names.
+fn note_fence(fenced: &mut [bool; 16], a: &Assign)
+    requires { SetsFenceOfPlane a.now }
+    ensures { (earlier : List Assign) → TellFences earlier fenced.old → TellFences (a.now ∷ earlier) fenced.new }
+{
+    if a.prop == PropRef::Known(IN_FENCE_FD) && matches!(a.value, Value::Named(_)) {
+        fenced[a.index as usize] = true;
+    }
+}
+
+/// The first that is wrong with assignments, from 4 to 8.
+#[tactic(auto, unfolding(kms_model::specs::Refusals::assigns_refusal))]
+fn first_refusal<L: Looker>(topology: &Topology, found: &L, assigns: &[Assign]) -> Option<u32>
+    requires { IsTrue (keeps_limits topology.now) }
+    ensures { result ≡ assigns_refusal topology.now (L.meaning found.now) [] assigns.now }
+{
+    // For each plane, whether an assignment named a fence for it.
+    let mut fenced = [false; 16];
+    for a in assigns {
+        if let Some(number) = own_refusal(topology, found, a) {
+            return Some(number);
+        }
+        if is_second_fence(&fenced, a) {
+            return Some(8);
+        }
+        note_fence(&mut fenced, a);
+    }
+    None
+}
+
+/// The first refusal from 1 to 8 that is due to a request, over what its labels name; `None` where none of them is.
+///
+/// Of the device's 1 to 4 CRTCs, 1 to 16 planes and 1 to 8 connectors its assignments may name others. It takes no
+/// memory.
+#[tactic(auto, unfolding(kms_model::specs::Refusals::early_refusal))]
+pub fn early<L: Looker>(topology: &Topology, request: &Request, found: &L) -> Option<Refusal>
+    requires { IsTrue (keeps_limits topology.now) }
+    ensures first { number_of result ≡ early_refusal topology.now (L.meaning found.now) request.now }
+    ensures allowed { IsNone result → All (IsAllowed topology.now (L.meaning found.now)) request.now.assigns }
+    ensures settable { IsNone result → All IsSettable request.now.assigns }
+{
+    if let Some(number) = flags_refusal(request.flags) {
+        return Some(Refusal(number));
+    }
+    match first_refusal(topology, found, request.assigns.as_slice()) {
+        Some(number) => Some(Refusal(number)),
+        None => None,
+    }
+}

@@ -1,0 +1,39 @@
+//! What an accepted request asks for.
+ghost use Rattle.std.specs.Prelude.{◌≡◌, ℕ, IfErr, IfOk, IsTrue};
+ghost use Rattle.kms_model.specs.Properties.{keeps_limits};
+ghost use Rattle.kms_model.specs.Refusals.{early_refusal};
+ghost use Rattle.kms_model.specs.Resolves.{IsResolved};
+ghost use Rattle.kms_model.specs.Sets.{look_in};
+ghost use Rattle.kms_request.specs.Answers.{ComesFrom};
+
+use crate::errors::RequestError;
+use crate::fences::{in_fences, out_fences};
+use crate::refusals::early;
+use crate::sets::last_sets;
+use kms_model::{Lookups, Request, Resolved, Topology};
+use std::alloc::Global;
+
+/// What a request asks for, with its labels looked up. It is refused exactly where one of refusals 1 to 8 is due, with
+/// the first of them; want of memory comes only where none is. `found` tells what the request's labels name.
+pub fn resolve(
+    alloc: Global,
+    topology: &Topology,
+    request: &Request,
+    found: &Lookups,
+) -> Result<Resolved, RequestError>
+    requires { IsTrue (keeps_limits topology.now) }
+    ensures resolved { IfOk result (IsResolved topology.now (look_in found.now) request.now) }
+    ensures refused { IfErr result (ComesFrom (early_refusal topology.now (look_in found.now) request.now)) }
+{
+    if let Some(refusal) = early(topology, request, found) {
+        return Err(RequestError::Of(refusal));
+    }
+    let assigns = request.assigns.as_slice();
+    Ok(Resolved {
+        flags: request.flags,
+        user_data: request.user_data,
+        sets: last_sets(alloc, found, assigns)?,
+        in_fences: in_fences(alloc, topology, found, assigns)?,
+        out_fences: out_fences(alloc, topology, assigns)?,
+    })
+}

@@ -1,0 +1,204 @@
+//! Refusals of the states of one object. (Kernel: `drm_atomic_plane_check`, `drm_atomic_crtc_check`,
+//! `drm_atomic_helper_check_modeset`, `drm_atomic_helper_check_plane_state`.)
+ghost use Rattle.std.specs.Prelude.{◌≡◌, ◌*◌, ◌+ℤ◌, ◌==◌, int_lt, pos, negsuc, Some};
+ghost use Rattle.kms_model.specs.Checks.{conn_refusal, crtc_refusal, has_crtc, hops, is_beyond, is_unscaled, is_whole, placed_refusal, plane_refusal, shown_refusal};
+ghost use Rattle.kms_model.specs.Grammar.{format_bit};
+ghost use Rattle.kms_model.specs.Masks.{has_bit};
+ghost use Rattle.kms_model.specs.Modes.{same_mode};
+ghost use Rattle.kms_model.specs.States.{natural};
+ghost use Rattle.kms_model.specs.Sound.{IsBetween, IsPlaneInRange};
+ghost use Rattle.kms_model.specs.Late.{needs_modeset_between};
+
+use kms_geom::fits_source;
+use kms_model::{Both, CrtcState, FbInfo, Format, Mode, PlaneInfo, PlaneState, Rect};
+
+/// The id of the first CRTC.
+pub(crate) const FIRST_CRTC: u32 = 100;
+
+/// The greatest edge of a destination, in pixels.
+const GREATEST_EDGE: i64 = 2147483647;
+
+/// One pixel in 16.16 fixed point.
+const PIXEL: i64 = 65536;
+
+/// Whether a set has the object with an index: bit i stands for index i. No set has an index of 32 or more.
+pub fn has_bit(mask: u32, index: usize) -> bool
+    ensures { result ≡ has_bit mask index }
+{
+    index < 32 && mask & (1 << index) != 0
+}
+
+/// Whether a set of CRTCs has the CRTC with an id.
+fn has_crtc(mask: u32, crtc: u32) -> bool
+    ensures { result ≡ has_crtc mask crtc }
+{
+    has_bit(mask, crtc.saturating_sub(FIRST_CRTC) as usize)
+}
+
+/// The bit of a format in a plane's formats.
+fn format_bit(format: Format) -> usize
+    ensures { result ≡ format_bit format }
+{
+    match format {
+        Format::Xr24 => 0,
+        Format::Ar24 => 1,
+        Format::Rg16 => 2,
+    }
+}
+
+/// Whether an edge of a destination is above 2147483647.
+fn is_beyond(dst: Rect) -> bool
+    requires x { IsBetween (negsuc 2147483647) (pos 2147483647) dst.x }
+    requires y { IsBetween (negsuc 2147483647) (pos 2147483647) dst.y }
+    requires w { IsBetween (pos 0) (pos 2147483647) dst.w }
+    requires h { IsBetween (pos 0) (pos 2147483647) dst.h }
+    ensures { result ≡ is_beyond dst }
+{
+    ends_beyond(dst.x, dst.w) || ends_beyond(dst.y, dst.h)
+}
+
+/// Whether `start + size` is above 2147483647.
+fn ends_beyond(start: i64, size: i64) -> bool
+    requires start { IsBetween (negsuc 2147483647) (pos 2147483647) start }
+    requires size { IsBetween (pos 0) (pos 2147483647) size }
+    ensures { result ≡ int_lt (pos 2147483647) (start +ℤ size) }
+{
+    start + size > GREATEST_EDGE
+}
+
+/// Whether a plane goes from one CRTC straight to another.
+fn hops(old: u32, new: u32) -> bool
+    ensures { result ≡ hops old new }
+{
+    old != 0 && new != 0 && old != new
+}
+
+/// What is wrong with a plane that has a framebuffer and a CRTC, from 11 to 15.
+fn placed_refusal(info: &PlaneInfo, fb: FbInfo, old: &PlaneState, new: &PlaneState) -> Option<u32>
+    requires { IsPlaneInRange new.now }
+    ensures { result ≡ placed_refusal info.now fb old.now new.now }
+{
+    if !has_crtc(info.crtcs, new.crtc) {
+        return Some(11);
+    }
+    if !has_bit(info.formats, format_bit(fb.format)) {
+        return Some(12);
+    }
+    if is_beyond(new.dst) {
+        return Some(13);
+    }
+    if !fits_source(new.src, fb.width, fb.height) {
+        return Some(14);
+    }
+    if hops(old.crtc, new.crtc) {
+        return Some(15);
+    }
+    None
+}
+
+/// What is wrong with a plane that goes from one state to another: 10, it has a framebuffer without a CRTC, or a CRTC
+/// without a framebuffer; 11, the CRTC is not among its possible ones; 12, the format is not among its formats; 13, the
+/// destination ends beyond 2147483647; 14, the source ends outside the framebuffer; 15, it goes from one CRTC straight
+/// to another. The numbers of the new state are in the ranges of their properties.
+#[tactic(auto, unfolding(kms_model::specs::Checks::plane_refusal))]
+pub(crate) fn plane_refusal(info: &PlaneInfo, old: &PlaneState, new: &PlaneState) -> Option<u32>
+    requires { IsPlaneInRange new.now }
+    ensures { result ≡ plane_refusal info.now old.now new.now }
+{
+    match (new.fb, new.crtc == 0) {
+        (None, true) => None,
+        (Some(fb), false) => placed_refusal(info, fb, old, new),
+        _ => Some(10),
+    }
+}
+
+/// What is wrong with a CRTC: 16, it is on without a mode; 17, an event or an out-fence is asked for it, and it was off
+/// and stays off.
+pub(crate) fn crtc_refusal(asks: bool, was_on: bool, is_on: bool, mode: Option<Mode>) -> Option<u32>
+    ensures { result ≡ crtc_refusal asks was_on is_on mode }
+{
+    if is_on && mode.is_none() {
+        return Some(16);
+    }
+    if asks && !was_on && !is_on {
+        return Some(17);
+    }
+    None
+}
+
+/// What is wrong with a connector of possible CRTCs: 18, its CRTC is not among them.
+pub(crate) fn conn_refusal(possible: u32, crtc: u32) -> Option<u32>
+    ensures { result ≡ conn_refusal possible crtc }
+{
+    if crtc != 0 && !has_crtc(possible, crtc) {
+        return Some(18);
+    }
+    None
+}
+
+/// Whether the sizes of source and destination are the same; the source is in 16.16 fixed point.
+fn is_unscaled(src: Rect, dst: Rect) -> bool
+    requires src_w { IsBetween (pos 0) (pos 4294967295) src.w }
+    requires src_h { IsBetween (pos 0) (pos 4294967295) src.h }
+    requires w { IsBetween (pos 0) (pos 2147483647) dst.w }
+    requires h { IsBetween (pos 0) (pos 2147483647) dst.h }
+    ensures { result ≡ is_unscaled src dst }
+{
+    is_same_size(src.w, dst.w) && is_same_size(src.h, dst.h)
+}
+
+/// Whether a size in 16.16 fixed point is one in pixels.
+fn is_same_size(fixed: i64, pixels: i64) -> bool
+    requires fixed { IsBetween (pos 0) (pos 4294967295) fixed }
+    requires pixels { IsBetween (pos 0) (pos 2147483647) pixels }
+    ensures { result ≡ (natural fixed == 65536 * natural pixels) }
+{
+    fixed == PIXEL * pixels
+}
+
+/// Whether a place in 16.16 fixed point is between no two pixels.
+fn is_whole(place: i64) -> bool
+    requires { IsBetween (pos 0) (pos 4294967295) place }
+    ensures { result ≡ is_whole place }
+{
+    place % PIXEL == 0
+}
+
+/// What is wrong with a plane on a CRTC of a mode: 21, the CRTC is not enabled; 22, the sizes of source and destination
+/// differ; 23, the source begins between pixels. The numbers of the state are in the ranges of their properties.
+#[tactic(auto, unfolding(kms_model::specs::Checks::shown_refusal))]
+pub(crate) fn shown_refusal(mode: Option<Mode>, state: &PlaneState) -> Option<u32>
+    requires { IsPlaneInRange state.now }
+    ensures { result ≡ shown_refusal mode state.now }
+{
+    if state.crtc == 0 {
+        return None;
+    }
+    if mode.is_none() {
+        return Some(21);
+    }
+    if !is_unscaled(state.src, state.dst) {
+        return Some(22);
+    }
+    if !(is_whole(state.src.x) && is_whole(state.src.y)) {
+        return Some(23);
+    }
+    None
+}
+
+/// Whether two modes, or none, are the same: all their contents are.
+fn same_mode(a: Option<Mode>, b: Option<Mode>) -> bool
+    ensures { result ≡ same_mode a b }
+{
+    a == b
+}
+
+/// Whether a CRTC that goes from one state to another needs a modeset: where its mode's contents, whether it is on, or
+/// its set of connectors differs. (Kernel: `drm_atomic_crtc_needs_modeset`.)
+pub fn needs_modeset(both: &Both<CrtcState>) -> bool
+    ensures { result ≡ needs_modeset_between both.now }
+{
+    let old = both.old;
+    let new = both.new;
+    !same_mode(old.mode, new.mode) || old.active != new.active || old.conns != new.conns
+}

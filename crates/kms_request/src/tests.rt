@@ -1,0 +1,436 @@
+//! What no clause says: requests worked out by hand.
+ghost use Rattle.std.specs.Prelude.{IfOk, IsTrue};
+ghost use Rattle.kms_model.specs.Properties.{keeps_limits};
+
+use crate::{RequestError, early, named, resolve};
+use kms_model::properties::{
+    ACTIVE, ALPHA, BLEND, CRTC_H, CRTC_ID, CRTC_W, CRTC_X, CRTC_Y, FB_ID, IN_FENCE_FD, MODE_ID,
+    OUT_FENCE_PTR, SRC_H, SRC_W, SRC_X, SRC_Y, TYPE, ZPOS,
+};
+use kms_model::{
+    Assign, Both, ConnState, Duplicates, FbInfo, Format, Kind, Look, Lookups, Mode, NoMemory,
+    ObjId, PlaneInfo, PlaneState, PropRef, Rect, Refusal, Request, Resolved, Seq, SetValue,
+    Topology, Value,
+};
+use std::alloc::Global;
+use std::process::Abort;
+use std::test::Fail;
+
+/// The labels of the tests: what [`looks`] has under them. Nothing is made under 6.
+const FB: u32 = 0;
+
+const MODE: u32 = 1;
+
+const BLOB: u32 = 2;
+
+const FENCE: u32 = 3;
+
+const BUFFER: u32 = 4;
+
+const CLOSED: u32 = 5;
+
+const MISSING: u32 = 6;
+
+const INFO: FbInfo = FbInfo {
+    id: 1001,
+    width: 1,
+    height: 1,
+    format: Format::Xr24,
+};
+
+const TINY: Mode = Mode {
+    clock: 1,
+    hdisplay: 1,
+    hsync_start: 1,
+    hsync_end: 1,
+    htotal: 1,
+    hskew: 0,
+    vdisplay: 1,
+    vsync_start: 1,
+    vsync_end: 1,
+    vtotal: 1,
+    vscan: 0,
+    vrefresh: 60,
+    flags: 0,
+    kind: 0,
+    name: [0; 32],
+};
+
+fn looks(alloc: Global) -> Result<Lookups, NoMemory> {
+    let entries = [
+        (FB, Look::Fb(INFO)),
+        (MODE, Look::Mode(TINY, 1002)),
+        (BLOB, Look::Blob(1003)),
+        (FENCE, Look::Fence(1004)),
+        (BUFFER, Look::Buffer(1005)),
+        (CLOSED, Look::Closed),
+    ];
+    Ok(Seq::from_vec(entries.to_vec(alloc)?))
+}
+
+/// A device of two CRTCs, two planes and one connector.
+fn device(alloc: Global) -> Result<Topology, NoMemory>
+    ensures { IfOk result (λ t. IsTrue (keeps_limits t)) }
+{
+    let info = PlaneInfo {
+        kind: 1,
+        crtcs: 3,
+        formats: 7,
+    };
+    let mut planes = Seq::new(alloc);
+    planes.push(info)?;
+    planes.push(info)?;
+    let mut conns = Seq::new(alloc);
+    conns.push(3)?;
+    Ok(Topology {
+        crtcs: 2,
+        planes,
+        conns,
+    })
+}
+
+fn request(alloc: Global, flags: u32, assigns: &[Assign]) -> Result<Request, NoMemory> {
+    Ok(Request {
+        flags,
+        user_data: 7,
+        assigns: Seq::from_vec(assigns.to_vec(alloc)?),
+    })
+}
+
+fn set(kind: Kind, index: u32, prop: u32, value: Value) -> Assign {
+    Assign {
+        kind,
+        index,
+        prop: PropRef::Known(prop),
+        value,
+    }
+}
+
+fn on_plane(prop: u32, value: Value) -> Assign {
+    set(Kind::Plane, 0, prop, value)
+}
+
+fn on_crtc(prop: u32, value: Value) -> Assign {
+    set(Kind::Crtc, 0, prop, value)
+}
+
+/// Asserts which refusal flags and assignments meet.
+fn assert_early<R: Abort>(
+    rt: &R,
+    alloc: Global,
+    flags: u32,
+    assigns: &[Assign],
+    want: Option<u32>,
+) -> Result<(), NoMemory> {
+    let topology = device(alloc)?;
+    let request = request(alloc, flags, assigns)?;
+    let found = looks(alloc)?;
+    assert_eq!(rt; early(&topology, &request, &found), want.map(Refusal));
+    Ok(())
+}
+
+#[test]
+fn flags_are_refused_in_order(rt: HostRuntime) -> Result<(), NoMemory> {
+    let a = rt.alloc();
+    for (flags, want) in [
+        (0, None),
+        (0x701, Some(3)),
+        (0x601, None),
+        (0x4, Some(1)),
+        (0x800, Some(1)),
+        (0x8000_0000, Some(1)),
+        (0x2, Some(2)),
+        (0x101, Some(3)),
+        (0x100, None),
+        (0x1, None),
+        (0x806, Some(1)),
+        (0x103, Some(2)),
+        (0x105, Some(1)),
+    ] {
+        assert_early(&rt, a, flags, &[], want)?;
+    }
+    assert_early(
+        &rt,
+        a,
+        0x101,
+        &[set(Kind::Crtc, 9, ACTIVE, Value::Num(5))],
+        Some(3),
+    )
+}
+
+#[test]
+fn an_assignment_is_refused_by_the_first_that_is_wrong(rt: HostRuntime) -> Result<(), NoMemory> {
+    let a = rt.alloc();
+    let unknown = Assign {
+        kind: Kind::Plane,
+        index: 1,
+        prop: PropRef::Unknown(0),
+        value: Value::Num(0),
+    };
+    for (assign, want) in [
+        (set(Kind::Crtc, 1, ACTIVE, Value::Num(1)), None),
+        (set(Kind::Crtc, 2, ACTIVE, Value::Num(1)), Some(4)),
+        (set(Kind::Plane, 2, ZPOS, Value::Num(1)), Some(4)),
+        (set(Kind::Conn, 1, CRTC_ID, Value::Num(0)), Some(4)),
+        (set(Kind::Enc, 1, CRTC_ID, Value::Num(0)), Some(4)),
+        (set(Kind::Enc, 0, CRTC_ID, Value::Num(0)), Some(5)),
+        (set(Kind::Crtc, 255, ZPOS, Value::Num(999)), Some(4)),
+        (set(Kind::Crtc, 0, CRTC_ID, Value::Num(0)), Some(5)),
+        (set(Kind::Conn, 0, ACTIVE, Value::Num(0)), Some(5)),
+        (set(Kind::Plane, 0, ACTIVE, Value::Num(9)), Some(5)),
+        (set(Kind::Plane, 0, 19, Value::Num(0)), Some(5)),
+        (unknown, Some(5)),
+        (on_plane(TYPE, Value::Num(1)), Some(6)),
+        (on_plane(TYPE, Value::Num(99)), Some(6)),
+        (set(Kind::Conn, 0, TYPE, Value::Num(1)), Some(5)),
+        (set(Kind::Conn, 0, CRTC_ID, Value::Crtc(1)), None),
+        (set(Kind::Conn, 0, CRTC_ID, Value::Crtc(2)), Some(7)),
+        (set(Kind::Conn, 0, CRTC_ID, Value::Num(100)), Some(7)),
+    ] {
+        assert_early(&rt, a, 0, &[assign], want)?;
+    }
+    let late = [
+        on_plane(ZPOS, Value::Num(256)),
+        set(Kind::Crtc, 9, ACTIVE, Value::Num(1)),
+    ];
+    assert_early(&rt, a, 0, &late, Some(7))
+}
+
+#[test]
+fn numbers_are_taken_up_to_their_bounds(rt: HostRuntime) -> Result<(), NoMemory> {
+    let a = rt.alloc();
+    for (prop, low, high) in [
+        (CRTC_X, -2147483648, 2147483647),
+        (CRTC_Y, -2147483648, 2147483647),
+        (CRTC_W, 0, 2147483647),
+        (CRTC_H, 0, 2147483647),
+        (SRC_X, 0, 4294967295),
+        (SRC_Y, 0, 4294967295),
+        (SRC_W, 0, 4294967295),
+        (SRC_H, 0, 4294967295),
+        (ALPHA, 0, 65535),
+        (BLEND, 0, 2),
+        (ZPOS, 0, 255),
+    ] {
+        assert_numbers(&rt, a, Kind::Plane, prop, low, high)?;
+    }
+    assert_numbers(&rt, a, Kind::Crtc, ACTIVE, 0, 1)?;
+    assert_numbers(&rt, a, Kind::Crtc, MODE_ID, 0, 0)?;
+    assert_numbers(&rt, a, Kind::Crtc, OUT_FENCE_PTR, 0, 0)?;
+    assert_numbers(&rt, a, Kind::Plane, FB_ID, 0, 0)?;
+    assert_numbers(&rt, a, Kind::Plane, CRTC_ID, 0, 0)?;
+    assert_numbers(&rt, a, Kind::Plane, IN_FENCE_FD, -1, -1)
+}
+
+/// Asserts that a property takes the numbers between two bounds, and not those beside them.
+fn assert_numbers<R: Abort>(
+    rt: &R,
+    alloc: Global,
+    kind: Kind,
+    prop: u32,
+    low: i64,
+    high: i64,
+) -> Result<(), NoMemory> {
+    let (low, high) = (i128::from(low), i128::from(high));
+    for (number, want) in [
+        (low - 1, Some(7)),
+        (low, None),
+        (high, None),
+        (high + 1, Some(7)),
+    ] {
+        assert_early(
+            rt,
+            alloc,
+            0,
+            &[set(kind, 0, prop, Value::Num(number))],
+            want,
+        )?;
+    }
+    Ok(())
+}
+
+#[test]
+fn labels_name_what_their_property_takes(rt: HostRuntime) -> Result<(), NoMemory> {
+    let a = rt.alloc();
+    for label in [FB, MODE, BLOB, FENCE, BUFFER, CLOSED, MISSING] {
+        let named = Value::Named(label);
+        let fb = if label == FB { None } else { Some(7) };
+        let mode = if label == MODE { None } else { Some(7) };
+        let fence = if label == FENCE { None } else { Some(7) };
+        assert_early(&rt, a, 0, &[on_plane(FB_ID, named)], fb)?;
+        assert_early(&rt, a, 0, &[on_crtc(MODE_ID, named)], mode)?;
+        assert_early(&rt, a, 0, &[on_plane(IN_FENCE_FD, named)], fence)?;
+        assert_early(&rt, a, 0, &[on_crtc(OUT_FENCE_PTR, named)], Some(7))?;
+        assert_early(&rt, a, 0, &[on_plane(ZPOS, named)], Some(7))?;
+        assert_early(&rt, a, 0, &[on_plane(CRTC_ID, named)], Some(7))?;
+    }
+    assert_early(&rt, a, 0, &[on_crtc(OUT_FENCE_PTR, Value::New(9))], None)?;
+    assert_early(&rt, a, 0, &[on_plane(IN_FENCE_FD, Value::New(9))], Some(7))?;
+    assert_early(&rt, a, 0, &[on_plane(FB_ID, Value::Crtc(0))], Some(7))?;
+    assert_early(&rt, a, 0, &[on_plane(ZPOS, Value::Crtc(0))], Some(7))
+}
+
+#[test]
+fn a_fence_is_second_where_one_was_named(rt: HostRuntime) -> Result<(), NoMemory> {
+    let a = rt.alloc();
+    let fence = on_plane(IN_FENCE_FD, Value::Named(FENCE));
+    let none = on_plane(IN_FENCE_FD, Value::Num(-1));
+    let wrong = on_plane(IN_FENCE_FD, Value::Named(MISSING));
+    let other = set(Kind::Plane, 1, IN_FENCE_FD, Value::Named(FENCE));
+    assert_early(&rt, a, 0, &[fence, fence], Some(8))?;
+    assert_early(&rt, a, 0, &[fence, none], Some(8))?;
+    assert_early(&rt, a, 0, &[none, none, fence], None)?;
+    assert_early(
+        &rt,
+        a,
+        0,
+        &[none, fence, on_plane(ZPOS, Value::Num(1)), none],
+        Some(8),
+    )?;
+    assert_early(&rt, a, 0, &[fence, wrong], Some(7))?;
+    assert_early(&rt, a, 0, &[fence, other], None)?;
+    assert_early(
+        &rt,
+        a,
+        0,
+        &[fence, other, fence, on_plane(ZPOS, Value::Num(999))],
+        Some(8),
+    )
+}
+
+/// What a request without flags asks for.
+fn resolved(alloc: Global, assigns: &[Assign]) -> Result<Resolved, RequestError> {
+    let topology = device(alloc)?;
+    let request = request(alloc, 0, assigns)?;
+    let found = looks(alloc)?;
+    resolve(alloc, &topology, &request, &found)
+}
+
+#[test]
+fn the_last_of_several_sets_counts(rt: HostRuntime) -> Result<(), Fail> {
+    let asks = resolved(
+        rt.alloc(),
+        &[
+            on_plane(ZPOS, Value::Num(5)),
+            on_plane(FB_ID, Value::Named(FB)),
+            set(Kind::Plane, 1, ZPOS, Value::Num(6)),
+            on_plane(ZPOS, Value::Num(9)),
+            on_crtc(MODE_ID, Value::Named(MODE)),
+            on_plane(CRTC_ID, Value::Crtc(1)),
+        ],
+    )?;
+    let mut lines = Vec::new(rt.alloc());
+    for set in asks.sets.as_slice() {
+        let number = match set.value {
+            SetValue::Num(n) => n,
+            SetValue::Fb(Some(info)) => i64::from(info.id),
+            SetValue::Crtc(id) => i64::from(id),
+            SetValue::Mode(Some(mode)) => i64::from(mode.vrefresh),
+            SetValue::Fb(None) | SetValue::Mode(None) | SetValue::Fence => -1,
+        };
+        lines.push((set.object.0, set.prop, number))?;
+    }
+    let want = [
+        (200, FB_ID, 1001),
+        (201, ZPOS, 6),
+        (200, ZPOS, 9),
+        (100, MODE_ID, 60),
+        (200, CRTC_ID, 101),
+    ];
+    assert_eq!(rt; lines.as_slice(), want.as_slice());
+    assert_eq!(rt; asks.user_data, 7);
+    Ok(())
+}
+
+#[test]
+fn fences_are_listed_by_their_objects(rt: HostRuntime) -> Result<(), Fail> {
+    let asks = resolved(
+        rt.alloc(),
+        &[
+            set(Kind::Plane, 1, IN_FENCE_FD, Value::Named(FENCE)),
+            on_plane(IN_FENCE_FD, Value::Num(-1)),
+            set(Kind::Crtc, 1, OUT_FENCE_PTR, Value::New(8)),
+            on_crtc(OUT_FENCE_PTR, Value::New(9)),
+            on_plane(IN_FENCE_FD, Value::Named(FENCE)),
+            set(Kind::Crtc, 1, OUT_FENCE_PTR, Value::Num(0)),
+        ],
+    )?;
+    assert_eq!(rt;
+        asks.in_fences.as_slice(),
+        [(ObjId(200), 1004), (ObjId(201), 1004)].as_slice()
+    );
+    assert_eq!(rt; asks.out_fences.as_slice(), [(ObjId(100), 9)].as_slice());
+    assert_eq!(rt; asks.sets.len(), 4);
+    Ok(())
+}
+
+#[test]
+fn a_refused_request_is_not_resolved(rt: HostRuntime) {
+    let two = [
+        on_plane(ZPOS, Value::Num(1)),
+        on_plane(ZPOS, Value::Num(256)),
+    ];
+    let refused = match resolved(rt.alloc(), &two) {
+        Ok(_) => None,
+        Err(error) => Some(error),
+    };
+    assert_eq!(rt; refused, Some(RequestError::Of(Refusal(7))));
+}
+
+const NOWHERE: Rect = Rect {
+    x: 0,
+    y: 0,
+    w: 0,
+    h: 0,
+};
+
+/// Two planes and a connector on these CRTCs.
+fn states(first: u32, second: u32, conn: u32) -> Duplicates {
+    let mut states = Duplicates {
+        crtcs: [None; 4],
+        planes: [None; 16],
+        conns: [None; 8],
+    };
+    states.planes[0] = Some(plane_on(first));
+    states.planes[1] = Some(plane_on(second));
+    let conn = ConnState { crtc: conn };
+    states.conns[0] = Some(Both {
+        old: conn,
+        new: conn,
+    });
+    states
+}
+
+fn plane_on(crtc: u32) -> Both<PlaneState> {
+    let plane = PlaneState {
+        fb: None,
+        crtc,
+        dst: NOWHERE,
+        src: NOWHERE,
+        alpha: 65535,
+        blend: 0,
+        zpos: 0,
+    };
+    Both {
+        old: plane,
+        new: plane,
+    }
+}
+
+#[test]
+fn a_request_names_the_crtcs_of_what_it_sets(rt: HostRuntime) -> Result<(), Fail> {
+    let (apart, off) = (states(100, 101, 101), states(0, 0, 0));
+    let from = resolved(rt.alloc(), &[on_plane(CRTC_ID, Value::Num(0))])?;
+    assert_eq!(rt; named(&from, &apart), 1, "it leaves a CRTC");
+    assert_eq!(rt; named(&from, &off), 0, "it was on none");
+    let moved = resolved(rt.alloc(), &[on_plane(CRTC_ID, Value::Crtc(1))])?;
+    assert_eq!(rt; named(&moved, &apart), 3, "it goes from one to another");
+    assert_eq!(rt; named(&moved, &off), 2);
+    let raised = resolved(rt.alloc(), &[set(Kind::Plane, 1, ZPOS, Value::Num(3))])?;
+    assert_eq!(rt; named(&raised, &apart), 2, "it stays on its CRTC");
+    let asked = resolved(rt.alloc(), &[on_crtc(OUT_FENCE_PTR, Value::Num(0))])?;
+    assert_eq!(rt; named(&asked, &off), 1, "a CRTC is set");
+    let unplugged = resolved(rt.alloc(), &[set(Kind::Conn, 0, CRTC_ID, Value::Num(0))])?;
+    assert_eq!(rt; named(&unplugged, &apart), 2, "a connector leaves it");
+    Ok(())
+}
