@@ -1,0 +1,211 @@
+use crate::{may_picture, picture};
+use kms_model::{
+    Both, CrtcState, Duplicates, FbInfo, Format, Mode, Picture, PlaneState, Rect, Shown,
+};
+use kms_state::empty;
+use std::process::Abort;
+
+const MODE: Mode = Mode {
+    clock: 1,
+    hdisplay: 10,
+    hsync_start: 10,
+    hsync_end: 10,
+    htotal: 10,
+    hskew: 0,
+    vdisplay: 8,
+    vsync_start: 8,
+    vsync_end: 8,
+    vtotal: 8,
+    vscan: 0,
+    vrefresh: 60,
+    flags: 0,
+    kind: 0,
+    name: [0; 32],
+};
+
+const SOURCE: Rect = Rect {
+    x: 0,
+    y: 65536,
+    w: 262144,
+    h: 262144,
+};
+
+fn a_framebuffer(id: u32) -> FbInfo {
+    FbInfo {
+        id,
+        width: 4,
+        height: 5,
+        format: Format::Ar24,
+    }
+}
+
+fn a_plane(id: u32, x: i64, zpos: u32) -> PlaneState {
+    PlaneState {
+        fb: Some(a_framebuffer(id)),
+        crtc: 101,
+        dst: Rect {
+            x,
+            y: 6,
+            w: 4,
+            h: 4,
+        },
+        src: SOURCE,
+        alpha: 32768,
+        blend: 1,
+        zpos,
+    }
+}
+
+// Planes 0, 3, 4 and 15 are on CRTC 1, and so is connector 6; plane 1 is on another CRTC.
+fn device() -> Duplicates {
+    let mut states = empty();
+    let off = CrtcState {
+        active: false,
+        mode: None,
+        planes: 0x8019,
+        conns: 0x40,
+    };
+    let on = CrtcState {
+        active: true,
+        mode: Some(MODE),
+        ..off
+    };
+    states.crtcs[1] = Some(Both { old: off, new: on });
+    states.planes[0] = both(a_plane(1000, -2, 7));
+    states.planes[1] = both(PlaneState {
+        crtc: 100,
+        ..a_plane(1001, 0, 0)
+    });
+    states.planes[3] = both(a_plane(1003, 7, 5));
+    states.planes[4] = both(a_plane(1004, 12, 7));
+    states.planes[15] = both(a_plane(1015, 1, 5));
+    states
+}
+
+fn both(new: PlaneState) -> Option<Both<PlaneState>> {
+    let old = PlaneState {
+        fb: None,
+        crtc: 0,
+        ..new
+    };
+    Some(Both { old, new })
+}
+
+fn shown(rt: &impl Abort, states: &Duplicates, crtc: u32) -> Option<Shown> {
+    assert!(rt; may_picture(states, crtc));
+    match picture(states, crtc) {
+        Picture::On(shown) => Some(shown),
+        Picture::Off => None,
+    }
+}
+
+#[test]
+fn layers_stand_by_zpos_and_then_by_plane(rt: HostRuntime) {
+    let Some(shown) = shown(&rt, &device(), 1) else {
+        assert!(rt; false);
+        return;
+    };
+    assert_eq!(rt; shown.mode, MODE);
+    assert_eq!(rt; shown.conn, 306);
+    let layers = shown.layers.as_slice();
+    assert_eq!(rt; layers.len(), 4);
+    for (layer, want) in layers.iter().zip([203, 215, 200, 204]) {
+        assert_eq!(rt; layer.plane, want);
+        assert_eq!(rt; layer.fb, a_framebuffer(800 + want));
+        assert_eq!(rt; layer.src, SOURCE);
+        assert_eq!(rt; layer.alpha, 32768);
+        assert_eq!(rt; layer.blend, 1);
+    }
+}
+
+#[test]
+fn a_destination_is_clipped_to_the_mode(rt: HostRuntime) {
+    let Some(shown) = shown(&rt, &device(), 1) else {
+        assert!(rt; false);
+        return;
+    };
+    let wants = [
+        Some(Rect {
+            x: 7,
+            y: 6,
+            w: 3,
+            h: 2,
+        }),
+        Some(Rect {
+            x: 1,
+            y: 6,
+            w: 4,
+            h: 2,
+        }),
+        Some(Rect {
+            x: 0,
+            y: 6,
+            w: 2,
+            h: 2,
+        }),
+        None,
+    ];
+    for (layer, want) in shown.layers.as_slice().iter().zip(wants) {
+        assert_eq!(rt; layer.visible, want, "{}", layer.plane);
+    }
+}
+
+#[test]
+fn a_crtc_that_is_off_or_has_no_mode_shows_nothing(rt: HostRuntime) {
+    let mut states = device();
+    let state = CrtcState {
+        active: true,
+        mode: None,
+        planes: 0x19,
+        conns: 0,
+    };
+    states.crtcs[0] = Some(Both {
+        old: state,
+        new: state,
+    });
+    assert_eq!(rt; shown(&rt, &states, 0), None);
+    let state = CrtcState {
+        active: false,
+        mode: Some(MODE),
+        ..state
+    };
+    states.crtcs[0] = Some(Both {
+        old: state,
+        new: state,
+    });
+    assert_eq!(rt; shown(&rt, &states, 0), None);
+}
+
+#[test]
+fn all_planes_of_a_crtc_are_to_be_there(rt: HostRuntime) {
+    let mut states = device();
+    assert!(rt; may_picture(&states, 1));
+    assert!(rt; !may_picture(&states, 0));
+    assert!(rt; !may_picture(&states, 4));
+    states.planes[1] = None;
+    assert!(rt; may_picture(&states, 1));
+    states.planes[15] = both(a_plane(1015, 2147483648, 5));
+    assert!(rt; !may_picture(&states, 1));
+    states.planes[15] = None;
+    assert!(rt; !may_picture(&states, 1));
+}
+
+#[test]
+fn a_crtc_without_planes_and_connectors_is_black(rt: HostRuntime) {
+    let mut states = empty();
+    let state = CrtcState {
+        active: true,
+        mode: Some(MODE),
+        planes: 0,
+        conns: 0,
+    };
+    states.crtcs[3] = Some(Both {
+        old: state,
+        new: state,
+    });
+    let seen = shown(&rt, &states, 3);
+    assert_eq!(rt;
+        seen.map(|s| (s.mode, s.conn, s.layers.len())),
+        Some((MODE, 0, 0))
+    );
+}

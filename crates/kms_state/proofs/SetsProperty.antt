@@ -1,0 +1,340 @@
+-- What a set of one property makes of the new states.
+use Rattle.std.proofs.Common.{◌≡◌, ◌≢◌, ℕ, ◌-◌, ◌<◌, ◌≤◌, length, set, List, Option, Some, None, ℤ, pos, negsuc, Bool, true, false, IsTrue, is_some, slice_get, inl, inr, refl, sym, ap, ap₂, subst, subst₂, ◌∙◌, arith, if◌then◌else◌, w64, SFits, of_z}
+use mathlib.Core.Path.{fun_ext}
+use Rattle.std.specs.Prelude.{◌==◌, not}
+use Rattle.std.specs.Ordering.{int_eq}
+use Rattle.std.proofs.lemmas.Bool.{cases_eq, cases_lt, eq-eqb, ne_eqb, eqb-true, lt-leb, false≢true, ltb-true, not-true}
+use Rattle.std.proofs.lemmas.Bool.Decides.{same_from_decides, Decides-eqb, Decides-int_eq, Decides-like}
+use Rattle.std.proofs.lemmas.Option.{slice_get_within}
+use Rattle.kms_model.specs.declared.objects.Kind.{Kind}
+use Rattle.kms_model.specs.declared.objects.Kind.TheVariants.{Crtc, Plane, Conn, Enc}
+use Rattle.kms_model.specs.declared.objects.Mode.{Mode}
+use Rattle.kms_model.specs.declared.objects.Topology.{Topology}
+use Rattle.kms_model.specs.declared.pictures.FbInfo.{FbInfo}
+use Rattle.kms_model.specs.declared.properties.TheConstants.{FB_ID, CRTC_ID, ALPHA, BLEND, ZPOS, ACTIVE, MODE_ID}
+use Rattle.kms_model.specs.declared.sets.Set.{Set}
+use Rattle.kms_model.specs.declared.sets.SetValue.{SetValue}
+use Rattle.kms_model.specs.declared.sets.SetValue.TheVariants as to
+use Rattle.kms_model.specs.declared.states.Both.{Both}
+use Rattle.kms_model.specs.declared.states.ConnState.{ConnState}
+use Rattle.kms_model.specs.declared.states.CrtcState.{CrtcState}
+use Rattle.kms_model.specs.declared.states.Duplicates.{Duplicates}
+use Rattle.kms_model.specs.declared.states.PlaneState.{PlaneState}
+use Rattle.kms_model.specs.declared.worlds.Setting.{Setting}
+use Rattle.kms_model.specs.declared.worlds.Thing.{Thing}
+use Rattle.kms_model.specs.Objects.{first_id, object_id, count_of, exists}
+use Rattle.kms_model.specs.World.{put, thing_numbered, value}
+use Rattle.kms_model.specs.States.{crtc_at, framebuffer_of, mode_of, natural, plane_at, plane_from}
+use Rattle.kms_model.specs.Apply.{is_kept}
+use Rattle.kms_model.specs.SetRanges.{may_set}
+use Rattle.kms_model.specs.Agreement.{AgreesNew, AreNew, StandsFor, conn_state_at, crtc_state_at}
+use Rattle.kms_model.proofs.SetLemmas.{may_set-takes, takes}
+use Rattle.kms_model.proofs.ValueLemmas.{Puts, Puts-put}
+use Rattle.kms_state.specs.Places.{is_duplicated, is_duplicated_of, kind_of, state_at, state_of, old_states}
+use Rattle.kms_state.specs.Changes.{HasObject, IsSet, Sets, plane_with, rerouted, set_to}
+use Rattle.kms_state.proofs.Frames.{conn_state_at-other, crtc_at-kept, crtc_state_at-other, on_crtc-same, plane_at-other, same_crtc_state}
+use Rattle.kms_state.proofs.KindsOfIds.{has_kind, kind-conn, kind-crtc, kind-plane}
+use Rattle.kms_state.proofs.Routes.{AreNew-rerouted, IsRouted}
+use Rattle.kms_state.proofs.Slots.{AreNew-same, AreNew-set, olds-rerouted, olds-set, slot_at}
+
+-- An object of a kind is duplicated at the place of its id.
+pub record IsAt {S : Type 0} (kind : Kind) (states : List (Option (Both S))) (id : ℕ) (both : Both S) : Type 0 where
+  pub from : first_id kind ≤ id
+  pub at : slice_get states (id - first_id kind) ≡ Some (Some both)
+
+-- what a search by id finds is there
+pub is_at : {S : Type 0} (kind : Kind) (states : List (Option (Both S))) (id : ℕ) (both : Both S) → IsTrue (is_some (state_of kind states id)) → Some both ≡ state_at states (id - first_id kind) → IsAt kind states id both
+is_at {S} kind states id both there is = record {
+  from = elim (cases_lt id (first_id kind)) [
+    | inl below ↦ (let none : is_some (state_of kind states id) ≡ false = ap (λ b. is_some (if b then state_at states (id - first_id kind) else None)) (lt-leb (first_id kind) id below) in
+        absurd (false≢true (sym none ∙ there)))
+    | inr from ↦ from
+  ];
+  at = slot_at states (id - first_id kind) both (sym is);
+}
+
+-- a set of a property that is kept
+pub set_is : (d after : Duplicates) (id prop : ℕ) (value : SetValue) → is_kept prop ≡ true → old_states after ≡ old_states d
+    → ((t : Topology) (things : List Thing) (values : List Setting) (number : ℤ) → HasObject t id → AgreesNew t things values d → StandsFor things value number → AgreesNew t things (put values id prop number) after)
+    → IsSet d (set_to id prop value) after
+set_is d after id prop value kept old new = record {
+  new = λ t things values number room agrees stands. rw kept (new t things values number room agrees stands);
+  old = old;
+}
+
+-- a number of a plane, or its framebuffer
+pub sets_plane : (d : Duplicates) (id prop : ℕ) (value : SetValue) (both other : Both PlaneState) → IsAt Plane d.planes id both → other.old ≡ both.old → length d.crtcs ≡ 4
+    → is_kept prop ≡ true → prop ≢ CRTC_ID
+    → ((things : List Thing) (before after : List Setting) (number : ℤ) → StandsFor things value number → Puts before after id prop number → both.new ≡ plane_at things before id → other.new ≡ plane_at things after id)
+    → IsSet d (set_to id prop value) (record d { planes = set d.planes (id - first_id Plane) (Some other) })
+sets_plane d id prop value both other there old few kept apart changes =
+    let is : id ≡ object_id Plane (id - first_id Plane) = omega (arith, there.from) in
+    set_is d (record d { planes = set d.planes (id - first_id Plane) (Some other) }) id prop value kept
+    (ap (λ xs. record { crtcs = (old_states d).crtcs; planes = xs; conns = (old_states d).conns }) (olds-set d.planes (id - first_id Plane) both other there.at old))
+    (λ t things values number room agrees stands.
+    let after : List Setting = put values id prop number in
+    let puts : Puts values after id prop number = Puts-put values id prop number in
+    record {
+      crtcs = AreNew-same (λ c. crtc_state_at t things values (object_id Crtc c)) (λ c. crtc_state_at t things after (object_id Crtc c)) d.crtcs agrees.crtcs
+          (λ c h. crtc_state_at-other t things values after id prop (object_id Crtc c) number puts (λ e. omega (arith, e, few, h, there.from)) apart);
+      planes = AreNew-set (λ i. plane_at things values (object_id Plane i)) (λ i. plane_at things after (object_id Plane i)) d.planes (id - first_id Plane) other agrees.planes
+          (λ k h ne. plane_at-other things values after id prop (object_id Plane k) number puts (λ e. ne (omega (arith, e))))
+          (changes things values after number stands puts (agrees.planes (id - first_id Plane) both there.at ∙ ap (plane_at things values) (sym is)) ∙ ap (plane_at things after) is);
+      conns = AreNew-same (λ i. conn_state_at values (object_id Conn i)) (λ i. conn_state_at after (object_id Conn i)) d.conns agrees.conns
+          (λ i h. ap (λ crtc. record { crtc = crtc }) (crtc_at-kept values after id prop (object_id Conn i) number puts apart));
+    })
+
+-- ACTIVE or MODE_ID of a CRTC
+pub sets_crtc : (d : Duplicates) (id prop : ℕ) (value : SetValue) (both other : Both CrtcState) → IsAt Crtc d.crtcs id both → other.old ≡ both.old → length d.crtcs ≡ 4
+    → is_kept prop ≡ true → prop ≢ CRTC_ID
+    → ((t : Topology) (things : List Thing) (before after : List Setting) (number : ℤ) → StandsFor things value number → Puts before after id prop number → both.new ≡ crtc_state_at t things before id → other.new ≡ crtc_state_at t things after id)
+    → IsSet d (set_to id prop value) (record d { crtcs = set d.crtcs (id - first_id Crtc) (Some other) })
+sets_crtc d id prop value both other there old few kept apart changes =
+    let is : id ≡ object_id Crtc (id - first_id Crtc) = omega (arith, there.from) in
+    let within : id - first_id Crtc < length d.crtcs = slice_get_within d.crtcs (id - first_id Crtc) (Some both) there.at in
+    set_is d (record d { crtcs = set d.crtcs (id - first_id Crtc) (Some other) }) id prop value kept
+    (ap (λ xs. record { crtcs = xs; planes = (old_states d).planes; conns = (old_states d).conns }) (olds-set d.crtcs (id - first_id Crtc) both other there.at old))
+    (λ t things values number room agrees stands.
+    let after : List Setting = put values id prop number in
+    let puts : Puts values after id prop number = Puts-put values id prop number in
+    record {
+      crtcs = AreNew-set (λ c. crtc_state_at t things values (object_id Crtc c)) (λ c. crtc_state_at t things after (object_id Crtc c)) d.crtcs (id - first_id Crtc) other agrees.crtcs
+          (λ c h ne. crtc_state_at-other t things values after id prop (object_id Crtc c) number puts (λ e. ne (omega (arith, e))) apart)
+          (changes t things values after number stands puts (agrees.crtcs (id - first_id Crtc) both there.at ∙ ap (crtc_state_at t things values) (sym is)) ∙ ap (crtc_state_at t things after) is);
+      planes = AreNew-same (λ i. plane_at things values (object_id Plane i)) (λ i. plane_at things after (object_id Plane i)) d.planes agrees.planes
+          (λ k h. plane_at-other things values after id prop (object_id Plane k) number puts (λ e. omega (arith, e, within, few)));
+      conns = AreNew-same (λ i. conn_state_at values (object_id Conn i)) (λ i. conn_state_at after (object_id Conn i)) d.conns agrees.conns
+          (λ i h. ap (λ crtc. record { crtc = crtc }) (crtc_at-kept values after id prop (object_id Conn i) number puts apart));
+    })
+
+-- Each property's value after a set.
+pub value_after : (before after : List Setting) (object prop q : ℕ) (number : ℤ) → Puts before after object prop number → value after object q ≡ (if prop == q then number else value before object q)
+value_after before after object prop q number puts =
+    elim (cases_eq prop q) [
+      | inl same ↦ ap (value after object) (sym same) ∙ puts.at ∙ sym (ap (λ b. if b then number else value before object q) (eq-eqb prop q same))
+      | inr other ↦ puts.other_prop q (λ e. other (sym e)) ∙ sym (ap (λ b. if b then number else value before object q) (ne_eqb prop q other))
+    ]
+
+pub plane_after : (things : List Thing) (before after : List Setting) (object prop : ℕ) (number : ℤ) → Puts before after object prop number
+    → plane_at things after object ≡ plane_from (λ q. if prop == q then number else value before object q) things
+plane_after things before after object prop number puts = ap (λ v. plane_from v things) (fun_ext (λ q. value_after before after object prop q number puts))
+
+natural_if : (b : Bool) (x y : ℤ) → natural (if b then x else y) ≡ (if b then natural x else natural y)
+natural_if true x y = refl
+natural_if false x y = refl
+
+-- a plane's state after one of its numbers is set
+pub number_plane : (things : List Thing) (before after : List Setting) (object prop : ℕ) (n : ℤ) → Puts before after object prop n → prop ≢ FB_ID → prop ≢ CRTC_ID
+    → plane_with prop n (plane_at things before object) ≡ plane_at things after object
+number_plane things before after object prop n puts other_fb other_crtc =
+    let v : ℕ → ℤ = value before object in
+    sym (plane_after things before after object prop n puts
+    ∙ rw (ne_eqb prop FB_ID other_fb, ne_eqb prop CRTC_ID other_crtc, natural_if (prop == ALPHA) n (v ALPHA), natural_if (prop == BLEND) n (v BLEND), natural_if (prop == ZPOS) n (v ZPOS)) refl)
+
+pub fb_plane : (things : List Thing) (before after : List Setting) (object : ℕ) (fb : Option FbInfo) (number : ℤ) → Puts before after object FB_ID number → framebuffer_of (thing_numbered things number) ≡ fb
+    → record (plane_at things before object) { fb = fb } ≡ plane_at things after object
+fb_plane things before after object fb number puts stands =
+    sym (plane_after things before after object FB_ID number puts ∙ ap (λ x. record (plane_at things before object) { fb = x }) stands)
+
+pub crtc_plane : (things : List Thing) (before after : List Setting) (object crtc : ℕ) (number : ℤ) → Puts before after object CRTC_ID number → number ≡ pos crtc
+    → record (plane_at things before object) { crtc = crtc } ≡ plane_at things after object
+crtc_plane things before after object crtc number puts stands =
+    sym (plane_after things before after object CRTC_ID number puts ∙ ap (λ x. record (plane_at things before object) { crtc = natural x }) stands)
+
+-- an object that a device has, by its kind
+there_by_kind : (t : Topology) (id : ℕ) (kind : Kind) → kind_of id ≡ kind → HasObject t id → id - first_id kind < count_of t kind
+there_by_kind t id kind is room = ltb-true (id - first_id kind) (count_of t kind) (subst (λ k. exists t k (id - first_id k) ≡ true) is room.there)
+
+-- the CRTCs after CRTC_ID of a plane or a connector is set
+moves_crtcs : (t : Topology) (things : List Thing) (before after : List Setting) (kind : Kind) (index from target : ℕ) (number : ℤ) (crtcs : List (Option (Both CrtcState)))
+    → IsRouted kind → length t.planes ≤ 16 → index < count_of t kind → count_of t kind ≤ 16 → length crtcs ≡ 4
+    → Puts before after (object_id kind index) CRTC_ID number → number ≡ pos target → from ≡ crtc_at before (object_id kind index)
+    → AreNew (λ c. crtc_state_at t things before (object_id Crtc c)) crtcs
+    → AreNew (λ c. crtc_state_at t things after (object_id Crtc c)) (rerouted crtcs kind index from target)
+moves_crtcs t things before after kind index from target number crtcs routed planes low room few puts stands was agrees =
+    let goes : crtc_at after (object_id kind index) ≡ target = ap natural (puts.at ∙ stands) in
+    subst₂ (λ f g. AreNew (λ c. crtc_state_at t things after (object_id Crtc c)) (rerouted crtcs kind index f g)) (sym was) goes
+    (AreNew-rerouted t things before after kind index CRTC_ID number crtcs routed planes low room (omega arith) puts agrees)
+
+-- CRTC_ID of a plane
+pub moves_plane : (d : Duplicates) (id target : ℕ) (both : Both PlaneState) → IsAt Plane d.planes id both → length d.crtcs ≡ 4 → length d.planes ≡ 16
+    → IsSet d (set_to id CRTC_ID (to.Crtc target)) (record d {
+      planes = set d.planes (id - first_id Plane) (Some (record both { new = record both.new { crtc = target } }));
+      crtcs = rerouted d.crtcs Plane (id - first_id Plane) both.new.crtc target;
+    })
+moves_plane d id target both there few many =
+    let index : ℕ = id - first_id Plane in
+    let is : id ≡ object_id Plane index = omega (arith, there.from) in
+    let within : index < length d.planes = slice_get_within d.planes index (Some both) there.at in
+    let kind : kind_of id ≡ Plane = kind-plane id there.from (omega arith) in
+    let other : Both PlaneState = record both { new = record both.new { crtc = target } } in
+    set_is d (record d { planes = set d.planes index (Some other); crtcs = rerouted d.crtcs Plane index both.new.crtc target }) id CRTC_ID (to.Crtc target) refl
+    (ap₂ (λ xs ys. record { crtcs = xs; planes = ys; conns = (old_states d).conns }) (olds-rerouted d.crtcs Plane index both.new.crtc target) (olds-set d.planes index both other there.at refl))
+    (λ t things values number room agrees stands.
+    let after : List Setting = put values id CRTC_ID number in
+    let puts : Puts values after id CRTC_ID number = Puts-put values id CRTC_ID number in
+    let puts_at : Puts values after (object_id Plane index) CRTC_ID number = subst (λ o. Puts values after o CRTC_ID number) is puts in
+    let was : both.new ≡ plane_at things values (object_id Plane index) = agrees.planes index both there.at in
+    let new : record both.new { crtc = target } ≡ plane_at things after (object_id Plane index) = ap (λ (s : PlaneState). record s { crtc = target }) was ∙ crtc_plane things values after (object_id Plane index) target number puts_at stands in
+    record {
+      crtcs = moves_crtcs t things values after Plane index both.new.crtc target number d.crtcs tt room.planes (there_by_kind t id Plane kind room) room.planes few puts_at stands (ap (λ s. s.crtc) was) agrees.crtcs;
+      planes = AreNew-set (λ i. plane_at things values (object_id Plane i)) (λ i. plane_at things after (object_id Plane i)) d.planes index other agrees.planes
+          (λ k h ne. plane_at-other things values after id CRTC_ID (object_id Plane k) number puts (λ e. ne (omega (arith, e)))) new;
+      conns = AreNew-same (λ i. conn_state_at values (object_id Conn i)) (λ i. conn_state_at after (object_id Conn i)) d.conns agrees.conns
+          (λ i h. conn_state_at-other values after id CRTC_ID (object_id Conn i) number puts (λ e. omega (arith, e, within, many)));
+    })
+
+-- CRTC_ID of a connector
+pub moves_conn : (d : Duplicates) (id target : ℕ) (both : Both ConnState) → IsAt Conn d.conns id both → length d.crtcs ≡ 4 → length d.planes ≡ 16 → length d.conns ≡ 8
+    → IsSet d (set_to id CRTC_ID (to.Crtc target)) (record d {
+      conns = set d.conns (id - first_id Conn) (Some (record both { new = record both.new { crtc = target } }));
+      crtcs = rerouted d.crtcs Conn (id - first_id Conn) both.new.crtc target;
+    })
+moves_conn d id target both there few most many =
+    let index : ℕ = id - first_id Conn in
+    let is : id ≡ object_id Conn index = omega (arith, there.from) in
+    let within : index < length d.conns = slice_get_within d.conns index (Some both) there.at in
+    let kind : kind_of id ≡ Conn = kind-conn id there.from (omega arith) in
+    let other : Both ConnState = record both { new = record both.new { crtc = target } } in
+    set_is d (record d { conns = set d.conns index (Some other); crtcs = rerouted d.crtcs Conn index both.new.crtc target }) id CRTC_ID (to.Crtc target) refl
+    (ap₂ (λ xs ys. record { crtcs = xs; planes = (old_states d).planes; conns = ys }) (olds-rerouted d.crtcs Conn index both.new.crtc target) (olds-set d.conns index both other there.at refl))
+    (λ t things values number room agrees stands.
+    let after : List Setting = put values id CRTC_ID number in
+    let puts : Puts values after id CRTC_ID number = Puts-put values id CRTC_ID number in
+    let puts_at : Puts values after (object_id Conn index) CRTC_ID number = subst (λ o. Puts values after o CRTC_ID number) is puts in
+    let was : both.new ≡ conn_state_at values (object_id Conn index) = agrees.conns index both there.at in
+    record {
+      crtcs = moves_crtcs t things values after Conn index both.new.crtc target number d.crtcs tt room.planes (there_by_kind t id Conn kind room) (omega (arith, room.conns)) few puts_at stands (ap (λ s. s.crtc) was) agrees.crtcs;
+      planes = AreNew-same (λ i. plane_at things values (object_id Plane i)) (λ i. plane_at things after (object_id Plane i)) d.planes agrees.planes
+          (λ k h. plane_at-other things values after id CRTC_ID (object_id Plane k) number puts (λ e. omega (arith, e, h, most, there.from)));
+      conns = AreNew-set (λ i. conn_state_at values (object_id Conn i)) (λ i. conn_state_at after (object_id Conn i)) d.conns index other agrees.conns
+          (λ k h ne. conn_state_at-other values after id CRTC_ID (object_id Conn k) number puts (λ e. ne (omega (arith, e))))
+          (ap (λ c. record { crtc = c }) (sym (ap natural (puts_at.at ∙ stands))));
+    })
+
+-- the bits of a number are 0 where it is 0
+pub is_zero : (z : ℤ) → SFits w64 z → (of_z w64 z == 0) ≡ int_eq z (pos 0)
+is_zero z fits = same_from_decides (of_z w64 z == 0) (int_eq z (pos 0)) (Decides-like (of_z w64 z == 0) (zero_of z fits) (λ e. ap (of_z w64) e) (Decides-eqb (of_z w64 z) 0)) (Decides-int_eq z (pos 0)) where
+  zero_of : (z : ℤ) → SFits w64 z → of_z w64 z ≡ 0 → z ≡ pos 0
+  zero_of (pos n) fits e = ap pos e
+  zero_of (negsuc n) fits e = absurd (omega (arith, fits.sfits, e))
+
+-- ACTIVE of a CRTC
+pub active_crtc : (t : Topology) (things : List Thing) (before after : List Setting) (object : ℕ) (n number : ℤ) → SFits w64 n → Puts before after object ACTIVE number → number ≡ n
+    → record (crtc_state_at t things before object) { active = not (of_z w64 n == 0) } ≡ crtc_state_at t things after object
+active_crtc t things before after object n number fits puts stands =
+    let apart : ACTIVE ≢ CRTC_ID = λ e. omega (arith, e) in
+    sym (same_crtc_state (crtc_state_at t things after object) (record (crtc_state_at t things before object) { active = not (of_z w64 n == 0) })
+    (ap (λ z. not (int_eq z (pos 0))) (puts.at ∙ stands) ∙ ap not (sym (is_zero n fits)))
+    (ap (λ z. mode_of (thing_numbered things z)) (puts.other_prop MODE_ID (λ e. omega (arith, e))))
+    (on_crtc-same t before after object Plane (λ k within. crtc_at-kept before after object ACTIVE (object_id Plane k) number puts apart))
+    (on_crtc-same t before after object Conn (λ k within. crtc_at-kept before after object ACTIVE (object_id Conn k) number puts apart)))
+
+-- MODE_ID of a CRTC
+pub mode_crtc : (t : Topology) (things : List Thing) (before after : List Setting) (object : ℕ) (mode : Option Mode) (number : ℤ) → Puts before after object MODE_ID number → mode_of (thing_numbered things number) ≡ mode
+    → record (crtc_state_at t things before object) { mode = mode } ≡ crtc_state_at t things after object
+mode_crtc t things before after object mode number puts stands =
+    let apart : MODE_ID ≢ CRTC_ID = λ e. omega (arith, e) in
+    sym (same_crtc_state (crtc_state_at t things after object) (record (crtc_state_at t things before object) { mode = mode })
+    (ap (λ z. not (int_eq z (pos 0))) (puts.other_prop ACTIVE (λ e. omega (arith, e))))
+    (ap (λ z. mode_of (thing_numbered things z)) puts.at ∙ stands)
+    (on_crtc-same t before after object Plane (λ k within. crtc_at-kept before after object MODE_ID (object_id Plane k) number puts apart))
+    (on_crtc-same t before after object Conn (λ k within. crtc_at-kept before after object MODE_ID (object_id Conn k) number puts apart)))
+
+-- a set of one property, as a set
+pub as_set : (d after : Duplicates) (s : Set) (prop : ℕ) (value : SetValue) → s.prop ≡ prop → s.value ≡ value → IsSet d (set_to s.object.0 prop value) after → Sets d s after
+as_set d after s prop value same_prop same_value is = subst₂ (λ p v. Sets d (record { object = s.object; prop = p; value = v }) after) (sym same_prop) (sym same_value) is.new
+
+-- a set of a fence
+pub sets_nothing : (d : Duplicates) (s : Set) → is_kept s.prop ≡ false → Sets d s d
+sets_nothing d s kept t things values number room agrees stands = rw kept agrees
+
+-- what is duplicated, by its kind
+there : (d : Duplicates) (id : ℕ) (kind : Kind) → kind_of id ≡ kind → is_duplicated d id ≡ true → is_duplicated_of kind d id ≡ true
+there d id kind is h = subst (λ k. is_duplicated_of k d id ≡ true) is h
+
+-- A set that may be made, with what it is set to.
+pub record MaySet (d : Duplicates) (s : Set) (value : SetValue) : Type 0 where
+  pub there : is_duplicated d s.object.0 ≡ true
+  pub takes : takes (kind_of s.object.0) s.prop value ≡ true
+
+pub made : (d : Duplicates) (s : Set) (value : SetValue) → is_duplicated d s.object.0 ≡ true → may_set (kind_of s.object.0) s.prop s.value ≡ true → s.value ≡ value → MaySet d s value
+made d s value there may is = record {
+  there = there;
+  takes = may_set-takes (kind_of s.object.0) s.prop value (subst (λ v. may_set (kind_of s.object.0) s.prop v ≡ true) is may);
+}
+
+fb_kind : (kind : Kind) (prop : ℕ) (fb : Option FbInfo) → takes kind prop (to.Fb fb) ≡ true → (kind ≡ Plane) × (prop ≡ FB_ID)
+fb_kind Crtc prop fb h = absurd (false≢true h)
+fb_kind Plane prop fb h = (refl, eqb-true prop FB_ID h)
+fb_kind Conn prop fb h = absurd (false≢true h)
+fb_kind Enc prop fb h = absurd (false≢true h)
+
+mode_kind : (kind : Kind) (prop : ℕ) (mode : Option Mode) → takes kind prop (to.Mode mode) ≡ true → (kind ≡ Crtc) × (prop ≡ MODE_ID)
+mode_kind Crtc prop mode h = (refl, eqb-true prop MODE_ID h)
+mode_kind Plane prop mode h = absurd (false≢true h)
+mode_kind Conn prop mode h = absurd (false≢true h)
+mode_kind Enc prop mode h = absurd (false≢true h)
+
+-- a set of FB_ID is one of a plane
+pub fb_set : (d : Duplicates) (s : Set) (fb : Option FbInfo) → MaySet d s (to.Fb fb) → (is_some (state_of Plane d.planes s.object.0) ≡ true) × (s.prop ≡ FB_ID)
+fb_set d s fb may =
+    let kind : (kind_of s.object.0 ≡ Plane) × (s.prop ≡ FB_ID) = fb_kind (kind_of s.object.0) s.prop fb may.takes in
+    (there d s.object.0 Plane kind.0 may.there, kind.1)
+
+-- a set of MODE_ID is one of a CRTC
+pub mode_set : (d : Duplicates) (s : Set) (mode : Option Mode) → MaySet d s (to.Mode mode) → (is_some (state_of Crtc d.crtcs s.object.0) ≡ true) × (s.prop ≡ MODE_ID)
+mode_set d s mode may =
+    let kind : (kind_of s.object.0 ≡ Crtc) × (s.prop ≡ MODE_ID) = mode_kind (kind_of s.object.0) s.prop mode may.takes in
+    (there d s.object.0 Crtc kind.0 may.there, kind.1)
+
+-- a set of a number of a CRTC is one of ACTIVE
+pub active_set : (d : Duplicates) (s : Set) (n : ℤ) → s.object.0 < 200 → MaySet d s (to.Num n) → (is_some (state_of Crtc d.crtcs s.object.0) ≡ true) × (s.prop ≡ ACTIVE)
+active_set d s n below may =
+    let kind : kind_of s.object.0 ≡ Crtc = kind-crtc s.object.0 below in
+    (there d s.object.0 Crtc kind may.there, eqb-true s.prop ACTIVE (subst (λ k. takes k s.prop (to.Num n) ≡ true) kind may.takes))
+
+number_kind : (kind : Kind) (id prop : ℕ) (n : ℤ) → kind_of id ≡ kind → 200 ≤ id → takes kind prop (to.Num n) ≡ true → kind ≡ Plane
+number_kind Crtc id prop n is from h = absurd (let below : id < 200 = has_kind Crtc id is in omega arith)
+number_kind Plane id prop n is from h = refl
+number_kind Conn id prop n is from h = absurd (false≢true h)
+number_kind Enc id prop n is from h = absurd (false≢true h)
+
+-- any other set of a number is one of a plane
+pub number_set : (d : Duplicates) (s : Set) (n : ℤ) → 200 ≤ s.object.0 → MaySet d s (to.Num n) → (kind_of s.object.0 ≡ Plane) × (is_some (state_of Plane d.planes s.object.0) ≡ true)
+number_set d s n from may =
+    let kind : kind_of s.object.0 ≡ Plane = number_kind (kind_of s.object.0) s.object.0 s.prop n refl from may.takes in
+    (kind, there d s.object.0 Plane kind may.there)
+
+plane_kind : (kind : Kind) (id prop crtc : ℕ) → kind_of id ≡ kind → id < 300 → takes kind prop (to.Crtc crtc) ≡ true → (kind ≡ Plane) × (prop ≡ CRTC_ID)
+plane_kind Crtc id prop crtc is below h = absurd (false≢true h)
+plane_kind Plane id prop crtc is below h = (refl, eqb-true prop CRTC_ID h)
+plane_kind Conn id prop crtc is below h = absurd (let range : (300 ≤ id) × (id < 400) = has_kind Conn id is in omega (arith, range.0))
+plane_kind Enc id prop crtc is below h = absurd (false≢true h)
+
+conn_kind : (kind : Kind) (id prop crtc : ℕ) → kind_of id ≡ kind → 300 ≤ id → takes kind prop (to.Crtc crtc) ≡ true → (kind ≡ Conn) × (prop ≡ CRTC_ID)
+conn_kind Crtc id prop crtc is from h = absurd (false≢true h)
+conn_kind Plane id prop crtc is from h = absurd (let range : (200 ≤ id) × (id < 300) = has_kind Plane id is in omega (arith, range.1))
+conn_kind Conn id prop crtc is from h = (refl, eqb-true prop CRTC_ID h)
+conn_kind Enc id prop crtc is from h = absurd (false≢true h)
+
+-- a set of CRTC_ID is one of a plane or of a connector
+pub plane_move : (d : Duplicates) (s : Set) (crtc : ℕ) → s.object.0 < 300 → MaySet d s (to.Crtc crtc) → (is_some (state_of Plane d.planes s.object.0) ≡ true) × (s.prop ≡ CRTC_ID)
+plane_move d s crtc below may =
+    let kind : (kind_of s.object.0 ≡ Plane) × (s.prop ≡ CRTC_ID) = plane_kind (kind_of s.object.0) s.object.0 s.prop crtc refl below may.takes in
+    (there d s.object.0 Plane kind.0 may.there, kind.1)
+
+pub conn_move : (d : Duplicates) (s : Set) (crtc : ℕ) → 300 ≤ s.object.0 → MaySet d s (to.Crtc crtc) → (is_some (state_of Conn d.conns s.object.0) ≡ true) × (s.prop ≡ CRTC_ID)
+conn_move d s crtc from may =
+    let kind : (kind_of s.object.0 ≡ Conn) × (s.prop ≡ CRTC_ID) = conn_kind (kind_of s.object.0) s.object.0 s.prop crtc refl from may.takes in
+    (there d s.object.0 Conn kind.0 may.there, kind.1)
+
+fence_kind : (kind : Kind) (prop : ℕ) → takes kind prop to.Fence ≡ true → is_kept prop ≡ false
+fence_kind Crtc prop h = not-true (is_kept prop) h
+fence_kind Plane prop h = not-true (is_kept prop) h
+fence_kind Conn prop h = not-true (is_kept prop) h
+fence_kind Enc prop h = not-true (is_kept prop) h
+
+-- a set of a fence is of no property that is kept
+pub fence_set : (d : Duplicates) (s : Set) → MaySet d s to.Fence → Sets d s d
+fence_set d s may = sets_nothing d s (fence_kind (kind_of s.object.0) s.prop may.takes)

@@ -1,0 +1,93 @@
+-- What a set changes. From: "Atomic Mode Setting"; `drm_atomic_uapi.c`, drm_atomic_plane_set_property,
+-- drm_atomic_crtc_set_property, drm_atomic_set_crtc_for_plane, drm_atomic_set_crtc_for_connector.
+use Rattle.std.specs.Prelude.{◌≡◌, ℕ, ◌-◌, ◌^◌, ◌≤◌, set, option_map, Bool, true, false, ◌==◌, bit_and, bit_or, ℤ, List, length, Option, Some, None, IsTrue, if◌then◌else◌}
+use Rattle.kms_model.specs.declared.objects.Kind.{Kind}
+use Rattle.kms_model.specs.declared.objects.Kind.TheVariants.{Crtc, Plane, Conn, Enc}
+use Rattle.kms_model.specs.declared.objects.Topology.{Topology}
+use Rattle.kms_model.specs.declared.properties.TheConstants.{CRTC_X, CRTC_Y, CRTC_W, CRTC_H, SRC_X, SRC_Y, SRC_W, SRC_H, ALPHA, BLEND, ZPOS}
+use Rattle.kms_model.specs.declared.sets.Set.{Set}
+use Rattle.kms_model.specs.declared.sets.SetValue.{SetValue}
+use Rattle.kms_model.specs.declared.states.Both.{Both}
+use Rattle.kms_model.specs.declared.states.CrtcState.{CrtcState}
+use Rattle.kms_model.specs.declared.states.Duplicates.{Duplicates}
+use Rattle.kms_model.specs.declared.states.PlaneState.{PlaneState}
+use Rattle.kms_model.specs.declared.worlds.Setting.{Setting}
+use Rattle.kms_model.specs.declared.worlds.Thing as worlds
+use Rattle.kms_model.specs.Objects.{first_id, exists}
+use Rattle.kms_model.specs.States.{natural}
+use Rattle.kms_model.specs.Sets.{obj_id, set_in}
+use Rattle.kms_model.specs.Agreement.{AgreesNew, StandsFor}
+use Rattle.kms_state.specs.Places.{kind_of, state_of, old_states}
+
+-- A set of objects with the object with an index, or without it. From: drm_plane_mask, drm_connector_mask.
+abbrev pub with_member : ℕ → ℕ → Bool → ℕ
+with_member mask index true = bit_or mask (2 ^ index)
+with_member mask index false = bit_and mask (2 ^ 32 - 1 - 2 ^ index)
+
+-- a CRTC's state with a plane or a connector of it, or without
+abbrev pub with_routed : Kind → ℕ → Bool → CrtcState → CrtcState
+with_routed Plane index is_there s = record s { planes = with_member s.planes index is_there }
+with_routed Conn index is_there s = record s { conns = with_member s.conns index is_there }
+with_routed Crtc index is_there s = s
+with_routed Enc index is_there s = s
+
+-- what is duplicated, with its new state changed
+abbrev pub with_new : {S : Type 0} → (S → S) → Both S → Both S
+with_new f both = record both { new = f both.new }
+
+-- states of which the one at an index is another, where it is duplicated
+abbrev pub put_at : {S : Type 0} → List (Option S) → ℕ → Option S → List (Option S)
+put_at states index None = states
+put_at states index (Some s) = set states index (Some s)
+
+-- the new state of an object of a kind changed, by its id, where it is duplicated
+abbrev pub changed : {S : Type 0} → Kind → List (Option (Both S)) → ℕ → (S → S) → List (Option (Both S))
+changed kind states id f = put_at states (id - first_id kind) (option_map (with_new f) (state_of kind states id))
+
+-- the CRTCs after a plane or a connector goes from one to another
+abbrev pub rerouted : List (Option (Both CrtcState)) → Kind → ℕ → ℕ → ℕ → List (Option (Both CrtcState))
+rerouted crtcs kind index from to = changed Crtc (changed Crtc crtcs from (with_routed kind index false)) to (with_routed kind index true)
+
+-- an object that duplicates have room for is on a device
+abbrev pub is_on_device : Topology → ℕ → Bool
+is_on_device t id = exists t (kind_of id) (id - first_id (kind_of id))
+
+-- a device has no more planes and connectors than duplicates have room for, and has an object
+pub record HasObject (t : Topology) (id : ℕ) : Type 0 where
+  pub planes : length t.planes ≤ 16
+  pub conns : length t.conns ≤ 8
+  pub there : IsTrue (is_on_device t id)
+
+-- New states that agree with values before a set agree after it with the values after it.
+abbrev pub Sets : Duplicates → Set → Duplicates → Type 0
+Sets before s after = (t : Topology) (things : List worlds.Thing) (values : List Setting) (number : ℤ)
+    → HasObject t s.object.0 → AgreesNew t things values before → StandsFor things s.value number → AgreesNew t things (set_in values s number) after
+
+-- a plane's state after one of its numbers is set
+abbrev pub plane_with : ℕ → ℤ → PlaneState → PlaneState
+plane_with prop n s = record s {
+  dst = record {
+    x = if prop == CRTC_X then n else s.dst.x;
+    y = if prop == CRTC_Y then n else s.dst.y;
+    w = if prop == CRTC_W then n else s.dst.w;
+    h = if prop == CRTC_H then n else s.dst.h;
+  };
+  src = record {
+    x = if prop == SRC_X then n else s.src.x;
+    y = if prop == SRC_Y then n else s.src.y;
+    w = if prop == SRC_W then n else s.src.w;
+    h = if prop == SRC_H then n else s.src.h;
+  };
+  alpha = if prop == ALPHA then natural n else s.alpha;
+  blend = if prop == BLEND then natural n else s.blend;
+  zpos = if prop == ZPOS then natural n else s.zpos;
+}
+
+-- A set as its parts.
+abbrev pub set_to : ℕ → ℕ → SetValue → Set
+set_to object prop value = record { object = obj_id object; prop = prop; value = value }
+
+-- What a set does: the new states follow, and no old state changes.
+pub record IsSet (before : Duplicates) (s : Set) (after : Duplicates) : Type 0 where
+  pub new : Sets before s after
+  pub old : old_states after ≡ old_states before

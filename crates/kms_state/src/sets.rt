@@ -1,0 +1,176 @@
+//! Setting properties of duplicated states.
+ghost use Rattle.std.specs.Prelude.{◌≡◌, ◌<◌, ℕ, IsTrue, is_some};
+ghost use Rattle.kms_model.specs.declared.objects.Kind.TheVariants.{Crtc, Plane, Conn};
+ghost use Rattle.kms_model.specs.declared.properties.TheConstants.{ACTIVE, CRTC_ID, FB_ID, MODE_ID};
+ghost use Rattle.kms_model.specs.declared.sets.SetValue.TheVariants as to;
+ghost use Rattle.kms_model.specs.SetRanges.{may_set};
+ghost use Rattle.kms_state.specs.Places.{is_duplicated, kind_of, old_states, state_of};
+ghost use Rattle.kms_state.specs.Changes.{IsSet, Sets, changed, plane_with, rerouted, set_to, with_member, with_routed};
+
+use crate::places::{FIRST_CONN, FIRST_CRTC, FIRST_PLANE, conn, crtc, plane};
+use kms_model::properties::{
+    ALPHA, BLEND, CRTC_H, CRTC_W, CRTC_X, CRTC_Y, SRC_H, SRC_W, SRC_X, SRC_Y, ZPOS,
+};
+use kms_model::{CrtcState, Duplicates, FbInfo, Kind, Mode, PlaneState, Set, SetValue};
+
+/// Sets a property of an object that is duplicated: its new state then has the value, and where that is a CRTC, the
+/// sets of planes and connectors of the CRTCs before and after are kept in step, as far as they are duplicated. The
+/// property is one of the object's kind that a request may set, and the value is among its values. `IN_FENCE_FD` and
+/// `OUT_FENCE_PTR` change nothing. (Kernel: `drm_atomic_set_property`, `drm_atomic_set_crtc_for_plane`,
+/// `drm_atomic_set_crtc_for_connector`.)
+pub fn set(states: &mut Duplicates, set: &Set)
+    requires object { IsTrue (is_duplicated states.old set.now.object.0) }
+    requires value { IsTrue (may_set (kind_of set.now.object.0) set.now.prop set.now.value) }
+    ensures new { Sets states.old set.now states.new }
+    ensures old { old_states states.new ≡ old_states states.old }
+    ensures same { (o : ℕ) → is_duplicated states.new o ≡ is_duplicated states.old o }
+    ensures fence { set.now.value ≡ to.Fence → states.new ≡ states.old }
+{
+    let id = set.object.0;
+    match set.value {
+        SetValue::Num(number) if id < FIRST_PLANE => set_active(states, id, number),
+        SetValue::Num(number) => set_number(states, id, set.prop, number),
+        SetValue::Fb(fb) => set_fb(states, id, fb),
+        SetValue::Mode(mode) => set_mode(states, id, mode),
+        SetValue::Crtc(crtc) if id < FIRST_CONN => move_plane(states, id, crtc),
+        SetValue::Crtc(crtc) => move_conn(states, id, crtc),
+        SetValue::Fence => {}
+    }
+}
+
+/// `ACTIVE` of a CRTC.
+fn set_active(states: &mut Duplicates, id: u32, number: i64)
+    requires { IsTrue (is_some (state_of Crtc states.old.crtcs id)) }
+    ensures { IsSet states.old (set_to id ACTIVE (to.Num number)) states.new }
+{
+    let index = id - FIRST_CRTC;
+    if let Some(mut both) = crtc(states, index) {
+        both.new.active = number != 0;
+        states.crtcs[index as usize] = Some(both);
+    }
+}
+
+/// `MODE_ID` of a CRTC.
+fn set_mode(states: &mut Duplicates, id: u32, mode: Option<Mode>)
+    requires { IsTrue (is_some (state_of Crtc states.old.crtcs id)) }
+    ensures { IsSet states.old (set_to id MODE_ID (to.Mode mode)) states.new }
+{
+    let index = id - FIRST_CRTC;
+    if let Some(mut both) = crtc(states, index) {
+        both.new.mode = mode;
+        states.crtcs[index as usize] = Some(both);
+    }
+}
+
+/// A number of a plane.
+fn set_number(states: &mut Duplicates, id: u32, prop: u32, number: i64)
+    requires there { IsTrue (is_some (state_of Plane states.old.planes id)) }
+    requires value { IsTrue (may_set Plane prop (to.Num number)) }
+    ensures { IsSet states.old (set_to id prop (to.Num number)) states.new }
+{
+    let index = id - FIRST_PLANE;
+    if let Some(mut both) = plane(states, index) {
+        set_plane_number(&mut both.new, prop, number);
+        states.planes[index as usize] = Some(both);
+    }
+}
+
+/// `FB_ID` of a plane.
+fn set_fb(states: &mut Duplicates, id: u32, fb: Option<FbInfo>)
+    requires { IsTrue (is_some (state_of Plane states.old.planes id)) }
+    ensures { IsSet states.old (set_to id FB_ID (to.Fb fb)) states.new }
+{
+    let index = id - FIRST_PLANE;
+    if let Some(mut both) = plane(states, index) {
+        both.new.fb = fb;
+        states.planes[index as usize] = Some(both);
+    }
+}
+
+/// `CRTC_ID` of a plane.
+fn move_plane(states: &mut Duplicates, id: u32, crtc: u32)
+    requires { IsTrue (is_some (state_of Plane states.old.planes id)) }
+    ensures { IsSet states.old (set_to id CRTC_ID (to.Crtc crtc)) states.new }
+{
+    let index = id - FIRST_PLANE;
+    if let Some(mut both) = plane(states, index) {
+        let from = both.new.crtc;
+        both.new.crtc = crtc;
+        states.planes[index as usize] = Some(both);
+        put_routed(states, from, Kind::Plane, index, false);
+        put_routed(states, crtc, Kind::Plane, index, true);
+    }
+}
+
+/// `CRTC_ID` of a connector.
+fn move_conn(states: &mut Duplicates, id: u32, crtc: u32)
+    requires { IsTrue (is_some (state_of Conn states.old.conns id)) }
+    ensures { IsSet states.old (set_to id CRTC_ID (to.Crtc crtc)) states.new }
+{
+    let index = id - FIRST_CONN;
+    if let Some(mut both) = conn(states, index) {
+        let from = both.new.crtc;
+        both.new.crtc = crtc;
+        states.conns[index as usize] = Some(both);
+        put_routed(states, from, Kind::Conn, index, false);
+        put_routed(states, crtc, Kind::Conn, index, true);
+    }
+}
+
+/// Puts a plane or a connector on a CRTC, or takes it off, where the CRTC is duplicated.
+fn put_routed(states: &mut Duplicates, id: u32, kind: Kind, index: u32, is_there: bool)
+    requires { index < 32 }
+    ensures { states.new ≡ record states.old { crtcs = changed Crtc states.old.crtcs id (with_routed kind index is_there) } }
+{
+    if id < FIRST_CRTC {
+        return;
+    }
+    let place = id - FIRST_CRTC;
+    if let Some(mut both) = crtc(states, place) {
+        change_routed(&mut both.new, kind, index, is_there);
+        states.crtcs[place as usize] = Some(both);
+    }
+}
+
+fn change_routed(state: &mut CrtcState, kind: Kind, index: u32, is_there: bool)
+    requires { index < 32 }
+    ensures { state.new ≡ with_routed kind index is_there state.old }
+{
+    match kind {
+        Kind::Plane => state.planes = with_member(state.planes, index, is_there),
+        Kind::Conn => state.conns = with_member(state.conns, index, is_there),
+        _ => {}
+    }
+}
+
+fn with_member(mask: u32, index: u32, is_there: bool) -> u32
+    requires { index < 32 }
+    ensures { result ≡ with_member mask index is_there }
+{
+    if is_there {
+        mask | (1 << index)
+    } else {
+        mask & !(1 << index)
+    }
+}
+
+/// Sets a number of a plane's state.
+fn set_plane_number(plane: &mut PlaneState, prop: u32, number: i64)
+    requires { IsTrue (may_set Plane prop (to.Num number)) }
+    ensures { plane.new ≡ plane_with prop number plane.old }
+{
+    match prop {
+        CRTC_X => plane.dst.x = number,
+        CRTC_Y => plane.dst.y = number,
+        CRTC_W => plane.dst.w = number,
+        CRTC_H => plane.dst.h = number,
+        SRC_X => plane.src.x = number,
+        SRC_Y => plane.src.y = number,
+        SRC_W => plane.src.w = number,
+        SRC_H => plane.src.h = number,
+        ALPHA => plane.alpha = number as u32,
+        BLEND => plane.blend = number as u32,
+        ZPOS => plane.zpos = number as u32,
+        _ => {}
+    }
+}

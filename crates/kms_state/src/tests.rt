@@ -1,0 +1,253 @@
+ghost use Rattle.std.specs.Prelude.{IsTrue};
+ghost use Rattle.kms_model.specs.SetRanges.{may_set};
+ghost use Rattle.kms_state.specs.Places.{kind_of};
+
+use crate::{
+    conn, crtc, duplicate, empty, is_duplicated, kind_of, may_duplicate, new_conn, new_crtc,
+    new_plane, plane, set,
+};
+use kms_model::properties::{
+    ACTIVE, ALPHA, BLEND, CRTC_H, CRTC_ID, CRTC_W, CRTC_X, CRTC_Y, FB_ID, IN_FENCE_FD, MODE_ID,
+    OUT_FENCE_PTR, SRC_H, SRC_W, SRC_X, SRC_Y, ZPOS,
+};
+use kms_model::{
+    ConnState, CrtcState, Duplicates, FbInfo, Format, Kind, Mode, ObjId, ObjState, PlaneState,
+    Rect, Set, SetValue,
+};
+use std::process::Abort;
+
+const NOWHERE: Rect = Rect {
+    x: 0,
+    y: 0,
+    w: 0,
+    h: 0,
+};
+
+const FB: FbInfo = FbInfo {
+    id: 1001,
+    width: 3,
+    height: 2,
+    format: Format::Rg16,
+};
+
+fn a_plane(crtc: u32) -> ObjState {
+    ObjState::Plane(PlaneState {
+        fb: None,
+        crtc,
+        dst: NOWHERE,
+        src: NOWHERE,
+        alpha: 65535,
+        blend: 0,
+        zpos: 1,
+    })
+}
+
+fn a_crtc(planes: u32, conns: u32) -> ObjState {
+    ObjState::Crtc(CrtcState {
+        active: false,
+        mode: None,
+        planes,
+        conns,
+    })
+}
+
+fn a_conn(crtc: u32) -> ObjState {
+    ObjState::Conn(ConnState { crtc })
+}
+
+fn a_mode() -> Mode {
+    Mode {
+        clock: 1,
+        hdisplay: 2,
+        hsync_start: 3,
+        hsync_end: 4,
+        htotal: 5,
+        hskew: 6,
+        vdisplay: 7,
+        vsync_start: 8,
+        vsync_end: 9,
+        vtotal: 10,
+        vscan: 11,
+        vrefresh: 12,
+        flags: 13,
+        kind: 14,
+        name: [0; 32],
+    }
+}
+
+// Duplicates a state that may be duplicated.
+fn add(rt: &impl Abort, states: &mut Duplicates, id: u32, state: ObjState) {
+    assert!(rt; may_duplicate(states, ObjId(id), &state));
+    duplicate(states, ObjId(id), state);
+}
+
+// Sets a property of an object that is duplicated.
+fn put(rt: &impl Abort, states: &mut Duplicates, object: u32, prop: u32, value: SetValue)
+    requires { IsTrue (may_set (kind_of object) prop value) }
+{
+    let object = ObjId(object);
+    assert!(rt; is_duplicated(states, object));
+    set(
+        states,
+        &Set {
+            object,
+            prop,
+            value,
+        },
+    );
+}
+
+// The planes and the connectors of a CRTC, old and new.
+fn masks(states: &Duplicates, index: u32) -> Option<[u32; 4]> {
+    let both = crtc(states, index)?;
+    Some([
+        both.old.planes,
+        both.old.conns,
+        both.new.planes,
+        both.new.conns,
+    ])
+}
+
+// Plane 0 and connector 0 are on CRTC 0, plane 15 and connector 7 are on the last CRTC.
+fn device(rt: &impl Abort) -> Duplicates {
+    let mut states = empty();
+    add(rt, &mut states, 100, a_crtc(0x1, 0x1));
+    add(rt, &mut states, 103, a_crtc(0x8000, 0x80));
+    add(rt, &mut states, 200, a_plane(100));
+    add(rt, &mut states, 215, a_plane(103));
+    add(rt, &mut states, 300, a_conn(100));
+    add(rt, &mut states, 307, a_conn(103));
+    states
+}
+
+#[test]
+fn a_plane_that_moves_is_on_its_new_crtc_alone(rt: HostRuntime) {
+    let mut states = device(&rt);
+    put(&rt, &mut states, 200, CRTC_ID, SetValue::Crtc(103));
+    assert_eq!(rt; masks(&states, 0), Some([0x1, 0x1, 0, 0x1]));
+    assert_eq!(rt; masks(&states, 3), Some([0x8000, 0x80, 0x8001, 0x80]));
+    assert_eq!(rt;
+        plane(&states, 0).map(|b| [b.old.crtc, b.new.crtc]),
+        Some([100, 103])
+    );
+    put(&rt, &mut states, 215, CRTC_ID, SetValue::Crtc(0));
+    assert_eq!(rt; masks(&states, 3), Some([0x8000, 0x80, 0x1, 0x80]));
+    put(&rt, &mut states, 200, CRTC_ID, SetValue::Crtc(100));
+    assert_eq!(rt; masks(&states, 0), Some([0x1, 0x1, 0x1, 0x1]));
+    assert_eq!(rt; masks(&states, 3), Some([0x8000, 0x80, 0, 0x80]));
+    put(&rt, &mut states, 200, CRTC_ID, SetValue::Crtc(100));
+    assert_eq!(rt; masks(&states, 0), Some([0x1, 0x1, 0x1, 0x1]));
+}
+
+#[test]
+fn a_connector_that_moves_is_on_its_new_crtc_alone(rt: HostRuntime) {
+    let mut states = device(&rt);
+    put(&rt, &mut states, 307, CRTC_ID, SetValue::Crtc(100));
+    assert_eq!(rt; masks(&states, 0), Some([0x1, 0x1, 0x1, 0x81]));
+    assert_eq!(rt; masks(&states, 3), Some([0x8000, 0x80, 0x8000, 0]));
+    assert_eq!(rt;
+        conn(&states, 7).map(|b| [b.old.crtc, b.new.crtc]),
+        Some([103, 100])
+    );
+    put(&rt, &mut states, 300, CRTC_ID, SetValue::Crtc(0));
+    assert_eq!(rt; masks(&states, 0), Some([0x1, 0x1, 0x1, 0x80]));
+    assert_eq!(rt; new_conn(&states, 0), Some(ConnState { crtc: 0 }));
+}
+
+#[test]
+fn each_property_of_a_plane_is_set_by_itself(rt: HostRuntime) {
+    let mut states = device(&rt);
+    put(&rt, &mut states, 200, FB_ID, SetValue::Fb(Some(FB)));
+    put(&rt, &mut states, 200, CRTC_X, SetValue::Num(-2147483648));
+    put(&rt, &mut states, 200, CRTC_Y, SetValue::Num(2147483647));
+    put(&rt, &mut states, 200, CRTC_W, SetValue::Num(4));
+    put(&rt, &mut states, 200, CRTC_H, SetValue::Num(5));
+    put(&rt, &mut states, 200, SRC_X, SetValue::Num(4294967295));
+    put(&rt, &mut states, 200, SRC_Y, SetValue::Num(7));
+    put(&rt, &mut states, 200, SRC_W, SetValue::Num(8));
+    put(&rt, &mut states, 200, SRC_H, SetValue::Num(9));
+    put(&rt, &mut states, 200, ALPHA, SetValue::Num(10));
+    put(&rt, &mut states, 200, BLEND, SetValue::Num(2));
+    put(&rt, &mut states, 200, ZPOS, SetValue::Num(255));
+    let want = PlaneState {
+        fb: Some(FB),
+        crtc: 100,
+        dst: Rect {
+            x: -2147483648,
+            y: 2147483647,
+            w: 4,
+            h: 5,
+        },
+        src: Rect {
+            x: 4294967295,
+            y: 7,
+            w: 8,
+            h: 9,
+        },
+        alpha: 10,
+        blend: 2,
+        zpos: 255,
+    };
+    assert_eq!(rt; new_plane(&states, 0), Some(want));
+    assert_eq!(rt; plane(&states, 0).map(|b| b.old.zpos), Some(1));
+    assert_eq!(rt; new_plane(&states, 15).map(|p| p.zpos), Some(1));
+    assert_eq!(rt; masks(&states, 0), Some([0x1, 0x1, 0x1, 0x1]));
+}
+
+#[test]
+fn a_crtc_is_lit_and_gets_a_mode(rt: HostRuntime) {
+    let mut states = device(&rt);
+    put(&rt, &mut states, 103, ACTIVE, SetValue::Num(1));
+    put(
+        &rt,
+        &mut states,
+        103,
+        MODE_ID,
+        SetValue::Mode(Some(a_mode())),
+    );
+    let want = CrtcState {
+        active: true,
+        mode: Some(a_mode()),
+        planes: 0x8000,
+        conns: 0x80,
+    };
+    assert_eq!(rt; new_crtc(&states, 3), Some(want));
+    assert_eq!(rt; crtc(&states, 3).map(|b| b.old.active), Some(false));
+    put(&rt, &mut states, 103, ACTIVE, SetValue::Num(0));
+    assert_eq!(rt; new_crtc(&states, 3).map(|c| c.active), Some(false));
+    assert_eq!(rt; new_crtc(&states, 0).map(|c| c.active), Some(false));
+}
+
+#[test]
+fn a_fence_changes_nothing(rt: HostRuntime) {
+    let mut states = device(&rt);
+    let before = (new_plane(&states, 0), new_crtc(&states, 0));
+    put(&rt, &mut states, 200, IN_FENCE_FD, SetValue::Fence);
+    put(&rt, &mut states, 100, OUT_FENCE_PTR, SetValue::Fence);
+    assert_eq!(rt; (new_plane(&states, 0), new_crtc(&states, 0)), before);
+}
+
+#[test]
+fn ids_that_are_no_objects_have_no_place(rt: HostRuntime) {
+    let states = device(&rt);
+    for id in [0, 99, 101, 104, 199, 201, 216, 299, 301, 308, 400] {
+        assert!(rt; !is_duplicated(&states, ObjId(id)), "{id}");
+    }
+    for id in [100, 103, 200, 215, 300, 307] {
+        assert!(rt; is_duplicated(&states, ObjId(id)), "{id}");
+        assert!(rt; !may_duplicate(&states, ObjId(id), &a_plane(0)), "{id}");
+    }
+    for (id, kind) in [
+        (199, Kind::Crtc),
+        (299, Kind::Plane),
+        (399, Kind::Conn),
+        (400, Kind::Enc),
+    ] {
+        assert_eq!(rt; kind_of(ObjId(id)), kind);
+        assert!(rt; !may_duplicate(&states, ObjId(id), &a_crtc(0, 0)));
+        assert!(rt; !may_duplicate(&states, ObjId(id), &a_conn(0)));
+    }
+    assert!(rt; !may_duplicate(&states, ObjId(101), &a_plane(0)));
+    assert!(rt; may_duplicate(&states, ObjId(101), &a_crtc(0, 0)));
+    assert!(rt; may_duplicate(&states, ObjId(214), &a_plane(0)));
+}
