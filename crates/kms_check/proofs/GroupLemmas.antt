@@ -1,0 +1,68 @@
+-- Groups of objects as masks, as loops make them.
+use Rattle.std.proofs.Common.{◌≡◌, ◌≢◌, ◌∙◌, ℕ, zero, suc, ◌+◌, ◌-◌, ◌*◌, ◌^◌, ◌%◌, ◌<◌, ◌≤◌, cond, Bool, true, false, List, [], ◌∷◌, length, get_or, take, inl, inr, refl, sym, ap, subst, arith, add-one}
+use Rattle.std.specs.Prelude.{◌||◌, ◌&&◌, ◌==◌, bit_or}
+use Rattle.std.specs.Int.Bits.{or_zero_r}
+use Rattle.std.specs.List.{list_any}
+use Rattle.std.proofs.lemmas.Bool.{ne_eqb, cases_lt}
+use Rattle.std.proofs.lemmas.Bool.Decides.{nat_tests}
+use Rattle.std.proofs.lemmas.List.Folds.{list_any_more}
+use Rattle.std.proofs.lemmas.Nat.{pow_pos, pow_below, one_shl, or_lt}
+use Rattle.kms_model.specs.declared.objects.ObjId.{ObjId}
+use Rattle.kms_model.specs.declared.sets.Set.{Set}
+use Rattle.kms_model.specs.declared.states.Both.{Both}
+use Rattle.kms_model.specs.declared.states.CrtcState.{CrtcState}
+use Rattle.kms_model.specs.declared.states.Mask.{Mask}
+use Rattle.kms_model.specs.Late.{duplicate_in}
+use Rattle.kms_model.specs.Masks.{has_bit, mask_below}
+use Rattle.kms_model.proofs.MaskLemmas.{has_bit-below, mask_below-lt, mask_from, mask_more, mask_no_more, same_masks}
+use Rattle.kms_model.proofs.UnionLemmas.{has_bit-one, has_bit-zero, has_bit-or}
+use Rattle.kms_check.specs.Groups.{crtcs_fenced, remade_below, remade_with, set_from, union}
+
+-- the tests of two sets, of which one object passes one
+pub or_masks : (f g : ℕ → Bool) (n : ℕ) → bit_or (mask_below f n) (mask_below g n) ≡ mask_below (λ i. f i || g i) n
+or_masks f g n =
+    mask_from (bit_or (mask_below f n) (mask_below g n)) (λ i. f i || g i) n (or_lt n (mask_below f n) (mask_below g n) (mask_below-lt f n) (mask_below-lt g n))
+    (λ i within. has_bit-or (mask_below f n) (mask_below g n) i ∙ ap (λ b. b || has_bit (mask_below g n) i) (has_bit-below f n i within) ∙ ap (λ b. f i || b) (has_bit-below g n i within))
+
+shifted_test : (id first i : ℕ) → first ≤ id → (id - first == i) ≡ (id == first + i)
+shifted_test id first i low = grind (arith, nat_tests)
+
+-- the set of one object
+pub only-there : (id first n : ℕ) → n ≤ 16 → first ≤ id → id - first < n → 1 * 2 ^ (id - first) % 2 ^ 32 ≡ mask_below (λ i. id == first + i) n
+only-there id first n few low within =
+    let bit : 1 * 2 ^ (id - first) % 2 ^ 32 ≡ 2 ^ (id - first) = one_shl (id - first) 32 (omega arith) in
+    mask_from (1 * 2 ^ (id - first) % 2 ^ 32) (λ i. id == first + i) n (subst (λ m. m < 2 ^ n) (sym bit) (pow_below (id - first) n within))
+    (λ i h. has_bit-one (id - first) i (omega arith) ∙ shifted_test id first i low)
+
+-- or of none of them
+pub only-absent : (id first n : ℕ) → ((i : ℕ) → i < n → id ≢ first + i) → 0 ≡ mask_below (λ i. id == first + i) n
+only-absent id first n apart = mask_from 0 (λ i. id == first + i) n (pow_pos n) (λ i h. has_bit-zero i ∙ sym (ne_eqb id (first + i) (apart i h)))
+
+-- one set more
+pub set_from-more : (all : List Set) (k first n : ℕ) (d : Set) → k < length all → bit_or (set_from (take k all) first n) (mask_below (λ i. (get_or all k d).object.0 == first + i) n) ≡ set_from (take (k + 1) all) first n
+set_from-more all k first n d within =
+    or_masks (λ i. list_any (λ x. x.object.0 == first + i) (take k all)) (λ i. (get_or all k d).object.0 == first + i) n
+    ∙ same_masks _ _ n (λ i h. sym (list_any_more (λ x. x.object.0 == first + i) all k d within))
+
+-- one out-fence more
+pub fenced-more : (all : List (ObjId × ℕ)) (k : ℕ) (d : ObjId × ℕ) → k < length all → bit_or (crtcs_fenced (take k all)) (mask_below (λ i. (get_or all k d).0.0 == 100 + i) 4) ≡ crtcs_fenced (take (k + 1) all)
+fenced-more all k d within =
+    or_masks (λ i. list_any (λ x. x.0.0 == 100 + i) (take k all)) (λ i. (get_or all k d).0.0 == 100 + i) 4
+    ∙ same_masks _ _ 4 (λ i h. sym (list_any_more (λ x. x.0.0 == 100 + i) all k d within))
+
+-- one bit more of a mask
+pub bit-more : (test : ℕ → Bool) (n : ℕ) → n < 32 → bit_or (mask_below test n) (cond (test n) (2 ^ n) 0) ≡ mask_below test (n + 1)
+bit-more test n wide = go (test n) refl
+  where
+    go : (b : Bool) → test n ≡ b → bit_or (mask_below test n) (cond b (2 ^ n) 0) ≡ mask_below test (n + 1)
+    go true is = ap (bit_or (mask_below test n)) (sym (one_shl n 32 wide)) ∙ mask_more test n wide is
+    go false is = or_zero_r (mask_below test n) ∙ mask_no_more test n is
+
+-- one CRTC more
+pub remade-more : (crtcs : _) (named n : ℕ) → union (remade_below crtcs named n) (remade_with (duplicate_in named crtcs n)) ≡ remade_below crtcs named (n + 1)
+unfolding remade_below
+remade-more crtcs named n = rw (add-one n) refl
+
+-- no object yet
+pub none_yet : (n : ℕ) → 0 ≡ mask_below (λ i. false) n
+none_yet n = mask_from 0 (λ i. false) n (pow_pos n) (λ i h. has_bit-zero i)

@@ -1,0 +1,150 @@
+-- What is known of duplicates that are those of a request in a sound world.
+use Rattle.std.proofs.Common.{◌≡◌, ◌≢◌, ◌∙◌, ℕ, zero, suc, ◌+◌, ◌-◌, ◌<◌, ◌≤◌, ◌⊎◌, Bool, true, false, List, [], ◌∷◌, length, get_or, Option, Some, None, ℤ, inl, inr, refl, sym, ap, subst, arith}
+use Rattle.std.specs.Prelude.{◌&&◌, ◌||◌, ◌==◌, nat_lt, nat_le, All, IsTrue, slice_get, is_some, if◌then◌else◌}
+use Rattle.std.specs.List.{list_any}
+use Rattle.std.proofs.lemmas.Bool.{eqb-true, eq-eqb, ne_eqb, and_parts, or_left, or_right, or_cases, cases_Bool, both_ways, false_from_ne_true, ltb-true, lt-ltb, le-ltb, le-leb, leb-true, cond-true, cond-false, cases_lt}
+use Rattle.std.proofs.lemmas.Bool.Decides.{nat_tests}
+use Rattle.kms_model.specs.declared.objects.Kind.{Kind}
+use Rattle.kms_model.specs.declared.objects.Kind.TheVariants as kind
+use Rattle.kms_model.specs.declared.objects.Topology.{Topology}
+use Rattle.kms_model.specs.declared.scripts.Assign.{Assign}
+use Rattle.kms_model.specs.declared.scripts.Request.{Request}
+use Rattle.kms_model.specs.declared.sets.Resolved.{Resolved}
+use Rattle.kms_model.specs.declared.sets.Set.{Set}
+use Rattle.kms_model.specs.declared.states.Both.{Both}
+use Rattle.kms_model.specs.declared.states.Duplicates.{Duplicates}
+use Rattle.kms_model.specs.declared.worlds.Look.{Look}
+use Rattle.kms_model.specs.declared.worlds.World.{World}
+use Rattle.kms_model.specs.Agreement.{AreOld, AreNew, AgreesOld, AgreesNew}
+use Rattle.kms_model.specs.Apply.{object_of, prop_of}
+use Rattle.kms_model.specs.Late.{duplicate_at}
+use Rattle.kms_model.specs.Lookups.{look_up}
+use Rattle.kms_model.specs.Masks.{has_bit, mask_below}
+use Rattle.kms_model.specs.Objects.{first_id, object_id, count_of, ids_of, exists}
+use Rattle.kms_model.specs.Resolves.{IsAllowed}
+use Rattle.kms_model.specs.SetRanges.{may_set}
+use Rattle.kms_model.specs.Sets.{has_target_of, last_sets, set_of}
+use Rattle.kms_model.specs.Sound.{IsDevice}
+use Rattle.kms_model.specs.Touched.{sets, set_where}
+use Rattle.kms_model.proofs.HeldValues.{IsAccepted}
+use Rattle.kms_model.proofs.Items as items
+use Rattle.kms_model.proofs.LastLemmas.{IsIn, FromLast, from_last, IsLast}
+use Rattle.kms_model.proofs.MaskLemmas.{same_masks}
+use Rattle.kms_model.proofs.SettingLemmas.{may_set-allowed}
+use Rattle.kms_model.proofs.TouchedLemmas.{IsRequestAt, HasFewObjects, few_objects, few_of, first_id-apart, accepted-each, kind_of_object}
+use Rattle.kms_state.specs.Places.{kind_of}
+use Rattle.kms_check.specs.Answers.{IsOfRequest, AreFreshIn, AreFresh}
+use Rattle.kms_check.specs.Groups.{set_from, objects_set, set_group}
+
+-- the request, in the world
+pub request_at : (t : Topology) (w : World) (r : Request) (resolved : Resolved) (d : Duplicates) → IsOfRequest t w r resolved d → IsRequestAt t w r
+request_at t w r resolved d is = record { device = is.device; sound = is.sound; early = is.asks.accepted }
+
+-- fresh states agree with the values before
+pub fresh_new : {S : Type 0} (f : ℕ → S) (states : List (Option (Both S))) → AreFreshIn states → AreOld f states → AreNew f states
+fresh_new f states fresh old = λ index both at. fresh index both at ∙ old index both at
+
+pub fresh-agrees : (t : Topology) (w : World) (r : Request) (resolved : Resolved) (d : Duplicates) → IsOfRequest t w r resolved d → AreFresh d → AgreesNew t w.things w.values d
+fresh-agrees t w r resolved d is fresh = record {
+  crtcs = fresh_new _ d.crtcs fresh.crtcs is.old.crtcs;
+  planes = fresh_new _ d.planes fresh.planes is.old.planes;
+  conns = fresh_new _ d.conns fresh.conns is.old.conns;
+}
+
+-- Items
+
+pub turned : {A : Type 0} (x : A) (xs : List A) → IsIn x xs → items.IsIn x xs
+turned x [] is = absurd is
+turned x (y ∷ ys) (inl same) = inl (sym same)
+turned x (y ∷ ys) (inr rest) = inr (turned x ys rest)
+
+get_or-in : {A : Type 0} (xs : List A) (k : ℕ) (d : A) → k < length xs → IsIn (get_or xs k d) xs
+get_or-in [] k d within = absurd (omega arith)
+get_or-in (x ∷ xs) zero d within = inl refl
+get_or-in (x ∷ xs) (suc k) d within = inr (get_or-in xs k d (omega arith))
+
+-- what each item has, all have
+pub all-from : {A : Type 0} (P : A → Type 0) (xs : List A) → ((x : A) → IsIn x xs → P x) → All P xs
+all-from P xs each = λ k d within. each (get_or xs k d) (get_or-in xs k d within)
+
+-- What a request sets
+
+-- a set comes from an accepted assignment
+pub record IsFromAssign (t : Topology) (w : World) (r : Request) (s : Set) : Type 0 where
+  pub assign : Assign
+  pub is_in : items.IsIn assign r.assigns
+  pub set : s ≡ set_of (look_up w) assign
+  pub last : IsLast (look_up w) r.assigns assign
+  pub accepted : IsAccepted t w assign
+
+pub from_assign : (t : Topology) (w : World) (r : Request) (s : Set) → IsRequestAt t w r → IsIn s (last_sets (look_up w) r.assigns) → IsFromAssign t w r s
+from_assign t w r s at is =
+    let from : FromLast (look_up w) r.assigns s = from_last (look_up w) r.assigns s is in
+    let in_assigns : items.IsIn from.item r.assigns = turned from.item r.assigns from.is.member in
+    record { assign = from.item; is_in = in_assigns; set = from.set; last = from.is; accepted = accepted-each t w r from.item at in_assigns }
+
+pub allowed-accepted : (t : Topology) (w : World) (a : Assign) → IsAccepted t w a → IsAllowed t (look_up w) a
+allowed-accepted t w a ok = record { exists = ok.object_exists; has = ok.has; mutable = ok.mutable; value = ok.is_value }
+
+-- objects that are set are those of the last sets
+same_object : (a b : Assign) (object : ℕ) → has_target_of a b ≡ true → (object_of a == object) ≡ true → (object_of b == object) ≡ true
+same_object a b object target is =
+    let same : object_of a ≡ object_of b = eqb-true (object_of a) (object_of b) (and_parts (object_of a == object_of b) _ target).0 in
+    subst (λ o. (o == object) ≡ true) same is
+
+set_later : (a : Assign) (assigns : List Assign) (object : ℕ) → list_any (has_target_of a) assigns ≡ true → (object_of a == object) ≡ true → sets assigns object ≡ true
+set_later a [] object again is = absurd (both_ways _ refl again)
+set_later a (b ∷ assigns) object again is =
+    elim (or_cases (has_target_of a b) (list_any (has_target_of a) assigns) again) [
+      | inl here ↦ or_left (object_of b == object) (sets assigns object) (same_object a b object here is)
+      | inr later ↦ or_right (object_of b == object) (sets assigns object) (set_later a assigns object later is)
+    ]
+
+pub sets-last : (f : ℕ → Look) (assigns : List Assign) (object : ℕ) → list_any (λ s. s.object.0 == object) (last_sets f assigns) ≡ sets assigns object
+unfolding last_sets
+sets-last f [] object = refl
+sets-last f (a ∷ assigns) object =
+    elim (cases_Bool (list_any (has_target_of a) assigns)) [
+      | inl again ↦ rw again (sets-last f assigns object ∙ absorbed (object_of a == object) (sets assigns object) (set_later a assigns object again))
+      | inr not_again ↦ rw not_again (ap (λ b. (object_of a == object) || b) (sets-last f assigns object))
+    ]
+  where
+    absorbed : (a b : Bool) → (a ≡ true → b ≡ true) → b ≡ (a || b)
+    absorbed true b implies = implies refl
+    absorbed false b implies = refl
+
+-- objects beyond a device are not set
+pub unset-beyond : (t : Topology) (w : World) (r : Request) (k : Kind) (i : ℕ) → IsRequestAt t w r → count_of t k ≤ i → i < 16 → sets r.assigns (object_id k i) ≡ false
+unset-beyond t w r k i at beyond few =
+    items.list_any-none (λ a. object_of a == object_id k i) r.assigns (λ a is. false_from_ne_true _ (λ same. not_there a (accepted-each t w r a at is) (eqb-true (object_of a) (object_id k i) same)))
+  where
+    not_there : (a : Assign) → IsAccepted t w a → object_of a ≡ object_id k i → ⊥
+    not_there a ok same =
+        let below : a.index < count_of t a.kind = ltb-true a.index (count_of t a.kind) ok.object_exists in
+        let few_a : count_of t a.kind ≤ 16 = few_of t a.kind (few_objects t at.device) in
+        let of_kind : a.kind ≡ k = first_id-apart a.kind k a.index i (omega arith) few same in
+        let index : object_id k a.index ≡ object_id k i = ap (λ j. object_id j a.index) (sym of_kind) ∙ same in
+        let below_k : a.index < count_of t k = subst (λ j. a.index < count_of t j) of_kind below in
+        omega arith
+
+-- a set of n objects of which those from m on are out
+pub shrunk : (test : ℕ → Bool) (m n : ℕ) → m ≤ n → ((i : ℕ) → m ≤ i → i < n → test i ≡ false) → mask_below test n ≡ mask_below test m
+unfolding mask_below
+shrunk test m zero order out = let e : m ≡ 0 = omega arith in rw e refl
+shrunk test m (suc n) order out =
+    elim (cases_lt n m) [
+      | inl last ↦ (let e : m ≡ suc n = omega arith in rw e refl)
+      | inr further ↦ rw (out n further (omega arith)) (let none : mask_below test n + 0 ≡ mask_below test n = omega arith in none ∙ shrunk test m n further (λ i low high. out i low (omega arith)))
+    ]
+
+-- the objects of a kind that are set
+set_from-is : (t : Topology) (w : World) (r : Request) (k : Kind) (n : ℕ) → IsRequestAt t w r → count_of t k ≤ n → n ≤ 16 → set_from (last_sets (look_up w) r.assigns) (first_id k) n ≡ set_where t k (sets r.assigns)
+set_from-is t w r k n at few wide =
+    same_masks _ _ n (λ i h. sets-last (look_up w) r.assigns (object_id k i))
+    ∙ shrunk (λ i. sets r.assigns (object_id k i)) (count_of t k) n few (λ i low high. unset-beyond t w r k i at low (omega arith))
+
+pub objects_set-is : (t : Topology) (w : World) (r : Request) (resolved : Resolved) (d : Duplicates) → IsOfRequest t w r resolved d → objects_set resolved.sets ≡ set_group t r
+objects_set-is t w r resolved d is =
+    let at = request_at t w r resolved d is in
+    let few = few_objects t is.device in
+    rw (is.asks.sets, set_from-is t w r kind.Crtc 4 at few.crtcs (omega arith), set_from-is t w r kind.Plane 16 at few.planes (omega arith), set_from-is t w r kind.Conn 8 at few.conns (omega arith)) refl

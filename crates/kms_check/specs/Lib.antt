@@ -1,0 +1,3 @@
+pub mod Groups
+pub mod Applying
+pub mod Answers

@@ -1,0 +1,93 @@
+//! The check of a request over duplicated states. (Kernel: `drm_atomic_check_only`.)
+ghost use Rattle.std.specs.Prelude.{◌≡◌, None, IfOk};
+ghost use Rattle.kms_model.specs.declared.scripts.Request.{Request};
+ghost use Rattle.kms_model.specs.declared.worlds.World.{World};
+ghost use Rattle.kms_model.specs.Apply.{apply as values_after};
+ghost use Rattle.kms_model.specs.Checks.{late_refusal};
+ghost use Rattle.kms_check.specs.Answers.{AreFresh, IsChecked, IsOfRequest, IsOfSomeRequest, locks_of, refusal_of};
+ghost use Rattle.kms_check.specs.Groups.{first_lacking};
+
+use crate::applying::apply;
+use crate::groups::{crtcs_fenced, lacking, objects_set, remade, union};
+use kms_model::{Checked, Duplicates, Mask, Refusal, Resolved, Topology};
+use kms_request::{Asked, late_refusal, named};
+
+/// Why a request is not accepted.
+#[derive(Clone, Copy, Debug)]
+pub enum Refused {
+    /// One of refusals 9 to 24.
+    Of(Refusal),
+    /// More objects have to be locked, and their states duplicated.
+    MoreLocks {
+        /// The objects.
+        locks: Mask,
+    },
+}
+
+/// Checks what an accepted request makes of duplicated states.
+///
+/// Where the duplicates do not cover what the request touches, it asks for more: there are three groups, first the
+/// objects that the request sets, then the CRTCs that it names, then the planes and connectors of CRTCs that need a
+/// modeset, and `MoreLocks` has the objects that are not duplicated of the first group of which one is not. Otherwise
+/// it applies what the request sets, and gives the first of refusals 9 to 24 over the whole device, or the states before
+/// and after with the CRTCs that are named and the objects that are touched. It looks at touched objects alone.
+///
+/// `resolved` is what the request asks for over this device. The old states are those of a device that holds what is
+/// accepted, and each new state is the old one. It takes no memory.
+pub fn check(
+    topology: &Topology,
+    states: Duplicates,
+    resolved: &Resolved,
+) -> Result<Checked, Refused>
+    requires known { IsOfSomeRequest topology.now resolved.now states }
+    requires fresh { AreFresh states }
+
+    // Which objects are still to be duplicated; none of them is asked for twice.
+    ensures locks { (w : World) (r : Request) → IsOfRequest topology.now w r resolved.now states → locks_of result ≡ first_lacking topology.now w r states }
+
+    // The second part of the verdict, over the whole device.
+    ensures refusal { (w : World) (r : Request) → IsOfRequest topology.now w r resolved.now states → first_lacking topology.now w r states ≡ None
+        → refusal_of result ≡ late_refusal topology.now w.things w.values (values_after w.things w.values r.assigns) r }
+    ensures checked { (w : World) (r : Request) → IsOfRequest topology.now w r resolved.now states → IfOk result (IsChecked topology.now w r) }
+{
+    let sets = resolved.sets.as_slice();
+    let set = objects_set(sets);
+    if let Some(locks) = lacking(&states, &set) {
+        return Err(Refused::MoreLocks { locks });
+    }
+    let named = named(resolved, &states);
+    if let Some(locks) = lacking(&states, &only_crtcs(named)) {
+        return Err(Refused::MoreLocks { locks });
+    }
+    let mut states = states;
+    apply(&mut states, sets);
+    let remade = remade(&states, named);
+    if let Some(locks) = lacking(&states, &remade) {
+        return Err(Refused::MoreLocks { locks });
+    }
+    let touched = union(&union(&set, &only_crtcs(named)), &remade);
+    let asked = Asked {
+        flags: resolved.flags,
+        named,
+        fenced: crtcs_fenced(resolved.out_fences.as_slice()),
+    };
+    match late_refusal(topology, &states, &touched, asked) {
+        Some(refusal) => Err(Refused::Of(refusal)),
+        None => Ok(Checked {
+            states,
+            named,
+            touched,
+        }),
+    }
+}
+
+/// CRTCs as a set of objects.
+fn only_crtcs(crtcs: u32) -> Mask
+    ensures { result ≡ record { crtcs = crtcs; planes = 0; conns = 0 } }
+{
+    Mask {
+        crtcs,
+        planes: 0,
+        conns: 0,
+    }
+}
