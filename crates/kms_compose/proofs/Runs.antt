@@ -1,0 +1,79 @@
+-- A run of words put over a row, and opaque layers.
+use Rattle.std.proofs.Common.{◌≡◌, ◌<◌, ◌≤◌, ℕ, ◌+◌, ◌-◌, Bool, true, false, not, ◌||◌, ◌==◌, cond, List, length, take, drop, slice_index, Some, ◌⊎◌, inl, inr, ⊎_elim, arith, rules, refl, ap, ◌∙◌}
+use Rattle.std.proofs.lemmas.Bool.{and_parts, cases_lt, eqb-true, not-true}
+use Rattle.std.proofs.lemmas.Bool.Decides.{nat_tests}
+use Rattle.std.proofs.lemmas.List.{places}
+use borrow.Rule.Slice.PartMut.{put_mid}
+use Rattle.kms_model.specs.declared.objects.Format.{Format}
+use Rattle.kms_model.specs.declared.objects.Format.TheVariants.{Xr24, Ar24, Rg16}
+use Rattle.kms_model.specs.declared.pictures.Colour.{Colour}
+use Rattle.kms_model.specs.declared.pictures.Layer.{Layer}
+use Rattle.kms_model.specs.Frames.{blended, colour_of}
+use Rattle.kms_compose.specs.Parts.{channel_over, has_alpha, is_opaque, is_within, run_colour}
+
+module _ (old run : List ℕ) (left n x : ℕ) (long : length run ≡ n) (fits : left + n ≤ length old) where
+  before : x < left → slice_index (put_mid left n old run) x ≡ slice_index old x
+  before h = search (rules, places)
+
+  pub inside : left ≤ x → x < left + n → slice_index (put_mid left n old run) x ≡ slice_index run (x - left)
+  inside h k = search (rules, places)
+
+  behind : left + n ≤ x → slice_index (put_mid left n old run) x ≡ slice_index old x
+  behind h = search (rules, places)
+
+within-before : (start size at : ℕ) → at < start → is_within start size at ≡ false
+within-before start size at h = grind (arith, nat_tests)
+
+within-inside : (start size at : ℕ) → start ≤ at → at < start + size → is_within start size at ≡ true
+within-inside start size at h k = grind (arith, nat_tests)
+
+within-behind : (start size at : ℕ) → start + size ≤ at → is_within start size at ≡ false
+within-behind start size at h = grind (arith, nat_tests)
+
+-- what a row has after a run of words was put over a part of it, of which n is the length
+pub run_over : (l : Layer) (channel : Colour → ℕ) (words old run : List ℕ) (left n : ℕ) → n ≡ length words → length run ≡ length words → left + length words ≤ length old →
+    ((k : ℕ) → k < length words → slice_index run k ≡ channel_over l channel (Some (colour_of l.fb.format (slice_index words k))) (slice_index old (left + k))) →
+    (x : ℕ) → slice_index (put_mid left n old run) x ≡ channel_over l channel (run_colour l.fb.format words left x) (slice_index old x)
+run_over l channel words old run left n e long fits each x =
+    ⊎_elim
+    (λ h. let none = within-before left (length words) x h in rw none (before old run left n x (omega arith) (omega arith) h))
+    (λ h. ⊎_elim
+    (λ k. let some = within-inside left (length words) x h k in
+    rw some (inside old run left n x (omega arith) (omega arith) h (omega arith) ∙ each (x - left) (omega arith) ∙ ap (λ (i : ℕ). channel_over l channel (Some (colour_of l.fb.format (slice_index words (x - left)))) (slice_index old i)) (omega arith)))
+    (λ k. let none = within-behind left (length words) x k in rw none (behind old run left n x (omega arith) (omega arith) (omega arith)))
+    (cases_lt x (left + length words)))
+    (cases_lt x left)
+
+cond_same : {A : Type 0} (b : Bool) (x : A) → cond b x x ≡ x
+cond_same true x = refl
+cond_same false x = refl
+
+-- an opaque layer shows its own channel
+opaque_pixel : (mode a q f b : ℕ) → a ≡ 65535 → (mode ≡ 2) ⊎ (q ≡ 255) → f ≤ 255 → blended mode a q f b ≡ f
+opaque_pixel mode a q f b e (inl h) small = rw (e, h) (omega arith)
+opaque_pixel mode a q f b e (inr h) small = rw (e, h, cond_same, cond_same) (omega arith)
+
+opaque_alpha : (format : Format) (word : ℕ) → has_alpha format ≡ false → (colour_of format word).alpha ≡ 255
+opaque_alpha Xr24 word h = refl
+opaque_alpha Ar24 word h = cc
+opaque_alpha Rg16 word h = refl
+
+-- its blend mode does not look at its pixels' alpha, or that is 255
+alpha_hidden : (mode : ℕ) (format : Format) (word : ℕ) (b : Bool) → (mode == 2) ≡ b → (b || not (has_alpha format)) ≡ true →
+    (mode ≡ 2) ⊎ ((colour_of format word).alpha ≡ 255)
+alpha_hidden mode format word true e h = inl (eqb-true mode 2 e)
+alpha_hidden mode format word false e h = inr (opaque_alpha format word (not-true (has_alpha format) h))
+
+pub opaque_over : (l : Layer) (channel : Colour → ℕ) (word under : ℕ) → is_opaque l ≡ true → channel (colour_of l.fb.format word) ≤ 255 →
+    channel_over l channel (Some (colour_of l.fb.format word)) under ≡ channel (colour_of l.fb.format word)
+opaque_over l channel word under h small =
+    let parts = and_parts (l.alpha == 65535) ((l.blend == 2) || not (has_alpha l.fb.format)) h in
+    opaque_pixel l.blend l.alpha (colour_of l.fb.format word).alpha (channel (colour_of l.fb.format word)) under
+    (eqb-true l.alpha 65535 parts.0) (alpha_hidden l.blend l.fb.format word (l.blend == 2) refl parts.1) small
+
+pub blended_same : (mode a q q' f f' b b' : ℕ) → q ≡ q' → f ≡ f' → b ≡ b' → blended mode a q f b ≡ blended mode a q' f' b'
+blended_same mode a q q' f f' b b' e e' e'' = rw (e, e', e'') refl
+
+-- a place of a part of a row
+pub part_place : (old : List ℕ) (left n k : ℕ) → k < n → slice_index (take n (drop left old)) k ≡ slice_index old (left + k)
+part_place old left n k h = search (rules, places)

@@ -1,0 +1,104 @@
+//! Frames.
+ghost use Rattle.std.specs.Prelude.{◌≡◌, ◌<◌, ◌≤◌, ◌*◌, ◌++◌, ℕ, List, length, All, IfOk, OnOk, Option};
+ghost use Rattle.std.specs.List.{flat_map, range_with_len};
+ghost use Rattle.kms_model.specs.declared.pictures.Picture.TheVariants.{On};
+ghost use Rattle.kms_model.specs.declared.worlds.Thing.{Thing};
+ghost use Rattle.kms_model.specs.Frames.{black, composed, frame_bytes, frame_of, row_bytes};
+ghost use Rattle.kms_compose.specs.Images.{AreImagesIn, CanShow, IsShowable, word_under};
+ghost use Rattle.kms_compose.specs.Parts.{IsPart, listed, part_pixel, parts_over};
+
+use crate::images::{FbImage, Images};
+use crate::parts::{Part, part_of};
+use crate::rows::{interleave, make_row};
+use kms_model::{NoMemory, Picture, Seq, Shown};
+use std::alloc::Global;
+
+/// The bytes of a frame: red, green and blue of each pixel, row by row; none where the CRTC is off.
+pub type Frame = Seq<u8>;
+
+/// Makes the frame of a picture over the images of its framebuffers. (Kernel: "Plane Composition Properties".)
+///
+/// Each layer is as a check of the state lets it through: its alpha is from 0 to 65535 and its blend mode from 0 to 2,
+/// its source begins and ends in its framebuffer and is as large as its destination, and what is visible of it is the
+/// destination clipped to the mode. Each layer's framebuffer has an image in its size, with a word for each pixel.
+///
+/// The only error is want of memory. The frame's memory is taken at once, and besides it a few rows.
+pub fn frame(alloc: Global, picture: &Picture, images: &Images) -> Result<Frame, NoMemory>
+    requires { CanShow images.now picture.now }
+    ensures exact { IfOk result (λ bytes. bytes ≡ frame_of (word_under images.now) picture.now) }
+
+    // Where each image is that of a framebuffer among some things, the frame is theirs.
+    ensures things { IfOk result (λ bytes. (things : List Thing) → AreImagesIn things images.now → bytes ≡ frame_bytes things picture.now) }
+{
+    match picture {
+        Picture::Off => Ok(Seq::new(alloc)),
+        Picture::On(shown) => shown_bytes(alloc, shown, images.as_slice()),
+    }
+}
+
+/// The frame of a CRTC that is on.
+fn shown_bytes(alloc: Global, shown: &Shown, images: &[FbImage]) -> Result<Frame, NoMemory>
+    requires { All (IsShowable shown.now.mode images.now) shown.now.layers }
+    ensures { IfOk result (λ bytes. bytes ≡ frame_of (word_under images.now) (On shown.now)) }
+{
+    let parts = parts_of(alloc, shown, images)?;
+    let width = usize::from(shown.mode.hdisplay);
+    let height = usize::from(shown.mode.vdisplay);
+    let bytes = parts_bytes(alloc, &parts, width, height)?;
+    Ok(Seq::from_vec(bytes))
+}
+
+/// The visible parts of all layers, from the lowest.
+fn parts_of<'a>(
+    alloc: Global,
+    shown: &Shown,
+    images: &[FbImage<'a>],
+) -> Result<Vec<Part<'a>>, NoMemory>
+    requires { All (IsShowable shown.now.mode images.now) shown.now.layers }
+    ensures parts { IfOk result (λ parts. All (IsPart shown.now.mode.hdisplay) parts.items) }
+    ensures colours { IfOk result (λ parts. (x y : ℕ) → parts_over x y black parts.items ≡ composed (word_under images.now) x y black shown.now.layers) }
+{
+    let mut parts = Vec::new(alloc);
+    for layer in shown.layers.as_slice() {
+        push_part(&mut parts, part_of(layer, images))?;
+    }
+    Ok(parts)
+}
+
+/// Adds a part, where there is one.
+fn push_part<'a>(parts: &mut Vec<Part<'a>>, part: Option<Part<'a>>) -> Result<(), NoMemory>
+    ensures { OnOk result (parts.new.items ≡ parts.old.items ++ listed part.entry) }
+{
+    if let Some(part) = part {
+        parts.push(part)?;
+    }
+    Ok(())
+}
+
+/// The bytes of parts over black, in a mode of this size.
+fn parts_bytes(
+    alloc: Global,
+    parts: &[Part],
+    width: usize,
+    height: usize,
+) -> Result<Vec<u8>, NoMemory>
+    requires parts { All (IsPart width) parts.now }
+    requires narrow { width < 65536 }
+    requires low { height < 65536 }
+    ensures { IfOk result (λ bytes. bytes.items ≡ flat_map (λ y. flat_map (part_pixel parts.now y) (range_with_len 0 width)) (range_with_len 0 height)) }
+{
+    let mut bytes = Vec::with_capacity(alloc, 3 * width * height)?;
+    let mut channels = vec![in alloc; 0u8; 5 * width]?;
+    let mut pixels = vec![in alloc; 0u8; 3 * width]?;
+    let (alpha, rest) = channels.split_at_mut(width);
+    let (own, rest) = rest.split_at_mut(width);
+    let (red, rest) = rest.split_at_mut(width);
+    let (green, blue) = rest.split_at_mut(width);
+    let pixels = pixels.as_mut_slice();
+    for y in 0..height {
+        make_row(parts, y, alpha, own, red, green, blue);
+        interleave(red, green, blue, pixels);
+        bytes.extend_from_slice(pixels)?;
+    }
+    Ok(bytes)
+}

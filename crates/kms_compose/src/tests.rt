@@ -1,0 +1,325 @@
+ghost use Rattle.std.specs.Prelude.{◌≡◌, ◌≤◌, ◌+◌, ◌*◌, length};
+ghost use Rattle.kms_model.specs.Images.{IsPlaced};
+ghost use Rattle.kms_model.specs.Rectangles.{IsNear};
+
+use super::*;
+use kms_geom::clip;
+use kms_model::{FbInfo, Format, Image, Layer, Layers, Mode, NoMemory, Picture, Rect, Seq, Shown};
+use std::alloc::Global;
+use std::test::Fail;
+
+/// A plane with its framebuffer's words.
+#[derive(Clone, Copy)]
+struct Plane<'a> {
+    format: Format,
+    fb_width: u32,
+    fb_height: u32,
+    words: &'a [u32],
+    /// The first pixel shown of the framebuffer.
+    column: u32,
+    line: u32,
+    /// Where it is shown, and in which size.
+    x: i64,
+    y: i64,
+    w: u32,
+    h: u32,
+    alpha: u32,
+    blend: u32,
+    ghost filled: { length words.now ≡ fb_width * fb_height },
+    ghost across: { column + w ≤ fb_width },
+    ghost down: { line + h ≤ fb_height },
+    ghost near_x: { IsNear x },
+    ghost near_y: { IsNear y },
+    ghost is_alpha: { alpha ≤ 65535 },
+    ghost is_blend: { blend ≤ 2 },
+}
+
+/// A mode of this size.
+fn mode(w: u16, h: u16) -> Mode
+    ensures width { result.hdisplay ≡ w }
+    ensures height { result.vdisplay ≡ h }
+{
+    Mode {
+        clock: 1,
+        hdisplay: w,
+        hsync_start: w,
+        hsync_end: w,
+        htotal: w,
+        hskew: 0,
+        vdisplay: h,
+        vsync_start: h,
+        vsync_end: h,
+        vtotal: h,
+        vscan: 0,
+        vrefresh: 60,
+        flags: 0,
+        kind: 0,
+        name: [0; 32],
+    }
+}
+
+/// The layer of a plane.
+fn layer(mode: &Mode, id: u32, plane: &Plane) -> Layer
+    ensures placed { IsPlaced mode.now result }
+    ensures fb { result.fb ≡ record { id = id; width = plane.now.fb_width; height = plane.now.fb_height; format = plane.now.format } }
+{
+    let dst = Rect {
+        x: plane.x,
+        y: plane.y,
+        w: i64::from(plane.w),
+        h: i64::from(plane.h),
+    };
+    let area = Rect {
+        x: 0,
+        y: 0,
+        w: i64::from(mode.hdisplay),
+        h: i64::from(mode.vdisplay),
+    };
+    Layer {
+        plane: 200,
+        fb: FbInfo {
+            id,
+            width: plane.fb_width,
+            height: plane.fb_height,
+            format: plane.format,
+        },
+        dst,
+        src: Rect {
+            x: 65536 * i64::from(plane.column),
+            y: 65536 * i64::from(plane.line),
+            w: 65536 * dst.w,
+            h: 65536 * dst.h,
+        },
+        visible: clip(dst, area),
+        alpha: plane.alpha,
+        blend: plane.blend,
+    }
+}
+
+/// The image of a plane's framebuffer.
+fn image<'a>(id: u32, plane: &Plane<'a>) -> FbImage<'a>
+    ensures { result ≡ record { fb = id; image = record { width = plane.now.fb_width; height = plane.now.fb_height; format = plane.now.format; words = plane.now.words } } }
+{
+    FbImage {
+        fb: id,
+        image: Image {
+            width: plane.fb_width,
+            height: plane.fb_height,
+            format: plane.format,
+            words: plane.words,
+        },
+    }
+}
+
+/// The frame of two planes in a mode of this size.
+fn two_planes(
+    alloc: Global,
+    w: u16,
+    h: u16,
+    lower: &Plane,
+    upper: &Plane,
+) -> Result<Vec<u8>, NoMemory> {
+    let mode = mode(w, h);
+    let mut layers = Layers::new();
+    layers.push(layer(&mode, 1000, lower));
+    layers.push(layer(&mode, 1001, upper));
+    let mut images = Seq::new(alloc);
+    images.push(image(1000, lower))?;
+    images.push(image(1001, upper))?;
+    let picture = Picture::On(Shown {
+        mode,
+        conn: 300,
+        layers,
+    });
+    let frame = frame(alloc, &picture, &images)?;
+    Ok(frame.into_vec())
+}
+
+#[test]
+fn no_plane_shows_black(rt: HostRuntime) -> Result<(), Fail> {
+    let picture = Picture::On(Shown {
+        mode: mode(2, 1),
+        conn: 300,
+        layers: Layers::new(),
+    });
+    let frame = frame(rt.alloc(), &picture, &Seq::new(rt.alloc()))?;
+    assert_eq!(rt; frame.as_slice(), [0, 0, 0, 0, 0, 0].as_slice());
+    Ok(())
+}
+
+#[test]
+fn off_shows_nothing(rt: HostRuntime) -> Result<(), Fail> {
+    let frame = frame(rt.alloc(), &Picture::Off, &Seq::new(rt.alloc()))?;
+    assert_eq!(rt; frame.len(), 0);
+    Ok(())
+}
+
+/// A plane of one pixel in the upper left corner.
+fn dot<'a>(format: Format, words: &'a [u32], alpha: u32, blend: u32) -> Plane<'a>
+    requires one { length words.now ≡ 1 }
+    requires alpha { alpha ≤ 65535 }
+    requires blend { blend ≤ 2 }
+{
+    Plane {
+        format,
+        fb_width: 1,
+        fb_height: 1,
+        words,
+        column: 0,
+        line: 0,
+        x: 0,
+        y: 0,
+        w: 1,
+        h: 1,
+        alpha,
+        blend,
+    }
+}
+
+// 32767 * 65025 = 2130674175, plus 8355712, over 16711425, is 127; 32768 * 65025 is likewise 128.
+#[test]
+fn the_later_layer_lies_above(rt: HostRuntime) -> Result<(), Fail> {
+    let red = dot(Format::Xr24, &[0x00ff0000], 65535, 0);
+    let blue = dot(Format::Xr24, &[0x000000ff], 32768, 0);
+    let frame = two_planes(rt.alloc(), 1, 1, &red, &blue)?;
+    assert_eq!(rt; frame.as_slice(), [0x7f, 0x00, 0x80].as_slice());
+    let frame = two_planes(rt.alloc(), 1, 1, &blue, &red)?;
+    assert_eq!(rt; frame.as_slice(), [0xff, 0x00, 0x00].as_slice());
+    Ok(())
+}
+
+// 80402010 over 00c8b4a0, which is 200, 180, 160.
+#[test]
+fn each_blend_mode_shows_at_each_alpha(rt: HostRuntime) -> Result<(), Fail> {
+    let lower = dot(Format::Xr24, &[0x00c8b4a0], 65535, 0);
+    let shown = [
+        (0, 0, [200, 180, 160]),
+        (0, 1, [200, 180, 160]),
+        (0, 2, [200, 180, 160]),
+        (1, 0, [200, 180, 160]),
+        (1, 1, [200, 180, 160]),
+        (1, 2, [200, 180, 160]),
+        (32768, 0, [182, 151, 128]),
+        (32768, 1, [166, 143, 124]),
+        (32768, 2, [132, 106, 88]),
+        (65534, 0, [164, 122, 96]),
+        (65534, 1, [132, 106, 88]),
+        (65534, 2, [64, 32, 16]),
+        (65535, 0, [164, 122, 96]),
+        (65535, 1, [132, 106, 88]),
+        (65535, 2, [64, 32, 16]),
+    ];
+    for (alpha, blend, pixel) in shown {
+        assert!(rt; alpha <= 65535 && blend <= 2);
+        let upper = dot(Format::Ar24, &[0x80402010], alpha, blend);
+        let frame = two_planes(rt.alloc(), 1, 1, &lower, &upper)?;
+        assert_eq!(rt;
+            frame.as_slice(),
+            pixel.as_slice(),
+            "alpha {alpha}, blend {blend}"
+        );
+    }
+    Ok(())
+}
+
+// 0821 is 8, 4, 8 and f800 is 255, 0, 0; the first byte of 12345678 is no alpha in XR24.
+#[test]
+fn formats_without_alpha_are_opaque(rt: HostRuntime) -> Result<(), Fail> {
+    let lower = dot(Format::Xr24, &[0x12345678], 65535, 1);
+    let dark = dot(Format::Rg16, &[0x0821], 65535, 1);
+    let red = dot(Format::Rg16, &[0xf800], 32768, 1);
+    let frame = two_planes(rt.alloc(), 1, 1, &dark, &lower)?;
+    assert_eq!(rt; frame.as_slice(), [0x34, 0x56, 0x78].as_slice());
+    let frame = two_planes(rt.alloc(), 1, 1, &lower, &dark)?;
+    assert_eq!(rt; frame.as_slice(), [8, 4, 8].as_slice());
+    let frame = two_planes(rt.alloc(), 1, 1, &dark, &red)?;
+    assert_eq!(rt; frame.as_slice(), [132, 2, 4].as_slice());
+    Ok(())
+}
+
+// The four words of a framebuffer of 2x2, moved up and left by a pixel, and two of another from its second row on.
+#[test]
+fn a_plane_is_cut_at_the_edges_of_the_mode(rt: HostRuntime) -> Result<(), Fail> {
+    let moved = Plane {
+        format: Format::Xr24,
+        fb_width: 2,
+        fb_height: 2,
+        words: &[0x00010203, 0x00040506, 0x00070809, 0x000a0b0c],
+        column: 0,
+        line: 0,
+        x: -1,
+        y: -1,
+        w: 2,
+        h: 2,
+        alpha: 65535,
+        blend: 0,
+    };
+    let part = Plane {
+        format: Format::Xr24,
+        fb_width: 3,
+        fb_height: 2,
+        words: &[0, 0, 0, 0, 0x00111213, 0x00212223],
+        column: 1,
+        line: 1,
+        x: 1,
+        y: 1,
+        w: 2,
+        h: 1,
+        alpha: 65535,
+        blend: 0,
+    };
+    let frame = two_planes(rt.alloc(), 2, 2, &moved, &part)?;
+    assert_eq!(rt;
+        frame.as_slice(),
+        [10, 11, 12, 0, 0, 0, 0, 0, 0, 17, 18, 19].as_slice()
+    );
+    Ok(())
+}
+
+#[test]
+fn a_plane_outside_of_the_mode_shows_nothing(rt: HostRuntime) -> Result<(), Fail> {
+    let right = Plane {
+        format: Format::Xr24,
+        fb_width: 1,
+        fb_height: 1,
+        words: &[0x00ffffff],
+        column: 0,
+        line: 0,
+        x: 2,
+        y: 0,
+        w: 1,
+        h: 1,
+        alpha: 65535,
+        blend: 0,
+    };
+    let above = Plane {
+        format: Format::Xr24,
+        fb_width: 1,
+        fb_height: 1,
+        words: &[0x00ffffff],
+        column: 0,
+        line: 0,
+        x: 0,
+        y: -1,
+        w: 1,
+        h: 1,
+        alpha: 65535,
+        blend: 0,
+    };
+    let frame = two_planes(rt.alloc(), 2, 1, &right, &above)?;
+    assert_eq!(rt; frame.as_slice(), [0, 0, 0, 0, 0, 0].as_slice());
+    Ok(())
+}
+
+#[test]
+fn the_largest_mode_has_50331648_bytes(rt: HostRuntime) -> Result<(), Fail> {
+    let picture = Picture::On(Shown {
+        mode: mode(4096, 4096),
+        conn: 300,
+        layers: Layers::new(),
+    });
+    let frame = frame(rt.alloc(), &picture, &Seq::new(rt.alloc()))?;
+    assert_eq!(rt; frame.len(), 50331648);
+    assert_eq!(rt; frame.get(50331647), Some(&0));
+    Ok(())
+}

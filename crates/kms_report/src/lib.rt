@@ -1,0 +1,36 @@
+//! The text of a frame in a report: its digest, and the frame itself as a portable pixmap.
+#![tactic(auto)]
+
+ghost use Rattle.std.specs.Prelude.{◌≡◌, ◌*◌, length, IfOk};
+ghost use Rattle.kms_model.specs.Flat.{digest_of};
+ghost use Rattle.kms_model.specs.Ppm.{ppm};
+
+mod pixmaps;
+
+use kms_compose::Frame;
+use kms_model::{NoMemory, Seq};
+use sha2::{Digest, Sha256};
+use std::alloc::Global;
+
+/// The SHA-256 of a frame's bytes (FIPS 180-4), as 64 lower-case hexadecimal digits. The only error is want of memory.
+pub fn digest(alloc: Global, frame: &Frame) -> Result<Seq<u8>, NoMemory>
+    ensures exact { IfOk result (λ text. text ≡ digest_of frame.now) }
+    ensures digits { IfOk result (λ text. length text ≡ 64) }
+{
+    let text = hex::encode(alloc, Sha256::digest(frame.as_slice()).as_slice())?;
+    Ok(Seq::from_vec(text.into_bytes()))
+}
+
+/// A frame of this size in pixels as a portable pixmap in its plain form: the lines `P3`, the width and the height,
+/// `255`, and one for each row of pixels, with red, green and blue of each pixel as decimal numbers. Numbers are parted
+/// by one blank. (Netpbm: "ppm".) The frame has three bytes for each pixel. The only error is want of memory.
+pub fn ppm(alloc: Global, frame: &Frame, width: u32, height: u32) -> Result<Seq<u8>, NoMemory>
+    requires { length frame.now ≡ 3 * (width * height) }
+    ensures { IfOk result (λ text. text ≡ ppm frame.now width height) }
+{
+    let text = pixmaps::text_of(alloc, frame.as_slice(), width, height)?;
+    Ok(Seq::from_vec(text))
+}
+
+#[cfg(test)]
+mod tests;
