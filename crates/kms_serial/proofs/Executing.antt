@@ -1,0 +1,157 @@
+-- What commands leave of a device's present states.
+use Rattle.std.proofs.Common.{◌≡◌, ℕ, ◌+◌, ◌<◌, ◌≤◌, Bool, true, false, List, [], ◌∷◌, ◌++◌, Option, Some, None, Result, Ok, Err, refl, sym, ap, ◌∙◌, subst, arith}
+use Rattle.std.specs.Prelude.{IfOk, OnOk, OnErr, is_some, slice_get}
+use Rattle.std.specs.Option.{option_flatten}
+use Rattle.kms_model.specs.declared.copying.NoMemory.{NoMemory}
+use Rattle.kms_model.specs.declared.objects.Kind.TheVariants as kind
+use Rattle.kms_model.specs.declared.objects.Topology.{Topology}
+use Rattle.kms_model.specs.declared.replies.Reply.{Reply}
+use Rattle.kms_model.specs.declared.replies.Reply.TheVariants as reply
+use Rattle.kms_model.specs.declared.scripts.Command.{Command}
+use Rattle.kms_model.specs.declared.scripts.Command.TheVariants as command
+use Rattle.kms_model.specs.declared.states.Both.{Both}
+use Rattle.kms_model.specs.declared.states.Duplicates.{Duplicates}
+use Rattle.kms_model.specs.declared.worlds.Content.{Content}
+use Rattle.kms_model.specs.declared.worlds.Content.TheVariants as content
+use Rattle.kms_model.specs.declared.worlds.Setting.{Setting}
+use Rattle.kms_model.specs.declared.worlds.Thing.{Thing}
+use Rattle.kms_model.specs.declared.worlds.World.{World}
+use Rattle.kms_model.specs.Agreement.{AgreesNew, AgreesOld, AreNew, AreOld, conn_state_at, crtc_state_at}
+use Rattle.kms_model.specs.Closing.{closed_in}
+use Rattle.kms_model.specs.Execution.{close, close_refusal, close_unless, destroy_refusal, execute, new_buffer_refusal, signal_refusal, signal_unless}
+use Rattle.kms_model.specs.Late.{duplicate_at}
+use Rattle.kms_model.specs.Objects.{count_of, ids_of, object_id}
+use Rattle.kms_model.specs.Execution.{BufferInfo, Executed, add_fb, answer, buffer_of, make, make_unless}
+use Rattle.kms_model.specs.Sound.{IsSound}
+use Rattle.kms_model.specs.States.{mode_at, plane_at}
+use Rattle.kms_model.specs.World.{thing_labelled, value}
+use Rattle.kms_model.proofs.Items.{ids-has}
+use Rattle.kms_model.proofs.SeenLemmas.{AreSeenAlike, alike-closed, alike-push, mode-seen, plane-seen}
+use Rattle.kms_model.proofs.SoundKept.{execution_keeps_sound}
+use Rattle.kms_model.proofs.ThingLemmas.{seen-same}
+use Rattle.kms_serial.specs.Commands.{Grows, IsNoRequest}
+use Rattle.kms_serial.specs.Device.{AreWhole, IsPresent, IsWhole, Stands}
+
+-- What is seen of a world's things
+
+-- the values stay, and the things that they name are seen alike
+pub record IsSeenAfter (t : Topology) (w after : World) : Type 0 where
+  pub values : after.values ≡ w.values
+  pub alike : AreSeenAlike t w.things after.things w.values
+  pub grows : Grows w after
+
+alike_same : (t : Topology) (things : List Thing) (values : List Setting) → AreSeenAlike t things things values
+alike_same t things values = record {
+  planes = λ plane is. seen-same things things (value values plane _) refl;
+  crtcs = λ crtc is. seen-same things things (value values crtc _) refl;
+}
+
+pub seen_same : (t : Topology) (w : World) → IsSeenAfter t w w
+seen_same t w = record { values = refl; alike = alike_same t w.things w.values; grows = record { ids = omega arith; commits = omega arith } }
+
+pub seen_made : (t : Topology) (w : World) (owner label : ℕ) (c : Content) → IsSound t w → IsSeenAfter t w (make w owner label c).world
+seen_made t w owner label c sound = record {
+  values = refl;
+  alike = alike-push t w.things (record { label = label; id = w.next_id; owner = owner; content = c; is_open = true }) w.values sound.numbered sound.next sound.held;
+  grows = record { ids = omega arith; commits = omega arith };
+}
+
+seen_made_unless : (t : Topology) (w : World) (owner label : ℕ) (c : Content) (o : Option ℕ) → IsSound t w → IsSeenAfter t w (make_unless w owner label c o).world
+seen_made_unless t w owner label c None sound = seen_made t w owner label c sound
+seen_made_unless t w owner label c (Some n) sound = seen_same t w
+
+seen_added : (t : Topology) (w : World) (owner label : ℕ) (b : Option BufferInfo) → IsSound t w → IsSeenAfter t w (add_fb w owner label b).world
+seen_added t w owner label None sound = seen_same t w
+seen_added t w owner label (Some b) sound = seen_made t w owner label _ sound
+
+seen_closed : (t : Topology) (w : World) (o : Option Thing) → IsSeenAfter t w (close w o)
+seen_closed t w None = seen_same t w
+seen_closed t w (Some u) = record { values = refl; alike = alike-closed t w.things u.id w.values; grows = record { ids = omega arith; commits = omega arith } }
+
+seen_closed_unless : (t : Topology) (w : World) (u : Option Thing) (o : Option ℕ) → IsSeenAfter t w (close_unless w u o).world
+seen_closed_unless t w u None = seen_closed t w u
+seen_closed_unless t w u (Some n) = seen_same t w
+
+seen_signalled : (t : Topology) (w : World) (o : Option ℕ) → IsSeenAfter t w (signal_unless w o).world
+seen_signalled t w None = seen_same t w
+seen_signalled t w (Some n) = seen_same t w
+
+-- a command that is no request leaves what is seen
+pub seen_executed : (t : Topology) (w : World) (client : ℕ) (c : Command) → IsSound t w → IsNoRequest c → IsSeenAfter t w (execute t w client c).world
+unfolding execute
+seen_executed t w client (command.Buffer label width height format pattern) sound other = seen_made_unless t w client label (content.Buffer width height format pattern) (new_buffer_refusal w.things width height format) sound
+seen_executed t w client (command.AddFb label buffer) sound other = seen_added t w client label (buffer_of w.things client buffer) sound
+seen_executed t w client (command.Mode label m) sound other = seen_made t w client label (content.Mode m) sound
+seen_executed t w client (command.Blob label bytes) sound other = seen_made t w client label (content.Blob bytes) sound
+seen_executed t w client (command.Destroy label) sound other = seen_closed_unless t w (thing_labelled w.things label) (destroy_refusal client (thing_labelled w.things label))
+seen_executed t w client (command.CloseFb label) sound other = seen_closed_unless t w (thing_labelled w.things label) (close_refusal client (thing_labelled w.things label))
+seen_executed t w client (command.Fence label) sound other = seen_made t w client label content.Fence sound
+seen_executed t w client (command.Signal label) sound other = seen_signalled t w (signal_refusal (thing_labelled w.things label))
+seen_executed t w client (command.Atomic r) sound other = absurd other
+seen_executed t w client command.Wait sound other = seen_same t w
+
+-- Present states
+
+there : {S : Type 0} (states : List (Option (Both S))) (index : ℕ) (both : Both S) → slice_get states index ≡ Some (Some both) → is_some (duplicate_at states index) ≡ true
+there states index both at = rw at refl
+
+old_same : {S : Type 0} (count : ℕ) (f g : ℕ → S) (states : List (Option (Both S))) → AreWhole count states → ((index : ℕ) → index < count → f index ≡ g index) → AreOld f states → AreOld g states
+old_same count f g states whole same old index both at = old index both at ∙ same index (whole.only index (there states index both at))
+
+new_same : {S : Type 0} (count : ℕ) (f g : ℕ → S) (states : List (Option (Both S))) → AreWhole count states → ((index : ℕ) → index < count → f index ≡ g index) → AreNew f states → AreNew g states
+new_same count f g states whole same new index both at = new index both at ∙ same index (whole.only index (there states index both at))
+
+crtc_same : (t : Topology) (xs ys : List Thing) (values : List Setting) (index : ℕ) → AreSeenAlike t xs ys values → index < t.crtcs → crtc_state_at t xs values (object_id kind.Crtc index) ≡ crtc_state_at t ys values (object_id kind.Crtc index)
+crtc_same t xs ys values index alike lt = rw (mode-seen t xs ys values (object_id kind.Crtc index) alike (ids-has t kind.Crtc index lt)) refl
+
+plane_same : (t : Topology) (xs ys : List Thing) (values : List Setting) (index : ℕ) → AreSeenAlike t xs ys values → index < count_of t kind.Plane → plane_at xs values (object_id kind.Plane index) ≡ plane_at ys values (object_id kind.Plane index)
+plane_same t xs ys values index alike lt = plane-seen t xs ys values (object_id kind.Plane index) alike (ids-has t kind.Plane index lt)
+
+abbrev PresentAt : Topology → List Thing → List Setting → Duplicates → Type 0
+PresentAt t things values d = IsWhole t d × (AgreesOld t things values d × AgreesNew t things values d)
+
+old_seen : (t : Topology) (xs ys : List Thing) (values : List Setting) (d : Duplicates) → AreSeenAlike t xs ys values → IsWhole t d → AgreesOld t xs values d → AgreesOld t ys values d
+old_seen t xs ys values d alike whole old = record {
+  crtcs = old_same t.crtcs (λ index. crtc_state_at t xs values (object_id kind.Crtc index)) (λ index. crtc_state_at t ys values (object_id kind.Crtc index)) d.crtcs whole.crtcs (λ index lt. crtc_same t xs ys values index alike lt) old.crtcs;
+  planes = old_same (count_of t kind.Plane) (λ index. plane_at xs values (object_id kind.Plane index)) (λ index. plane_at ys values (object_id kind.Plane index)) d.planes whole.planes (λ index lt. plane_same t xs ys values index alike lt) old.planes;
+  conns = old.conns;
+}
+
+pub new_seen : (t : Topology) (xs ys : List Thing) (values : List Setting) (d : Duplicates) → AreSeenAlike t xs ys values → IsWhole t d → AgreesNew t xs values d → AgreesNew t ys values d
+new_seen t xs ys values d alike whole new = record {
+  crtcs = new_same t.crtcs (λ index. crtc_state_at t xs values (object_id kind.Crtc index)) (λ index. crtc_state_at t ys values (object_id kind.Crtc index)) d.crtcs whole.crtcs (λ index lt. crtc_same t xs ys values index alike lt) new.crtcs;
+  planes = new_same (count_of t kind.Plane) (λ index. plane_at xs values (object_id kind.Plane index)) (λ index. plane_at ys values (object_id kind.Plane index)) d.planes whole.planes (λ index lt. plane_same t xs ys values index alike lt) new.planes;
+  conns = new.conns;
+}
+
+-- states that are present stay so where the things that the values name are seen alike
+pub present_seen : (t : Topology) (w after : World) (d : Duplicates) → after.values ≡ w.values → AreSeenAlike t w.things after.things w.values → IsPresent t w d → IsPresent t after d
+present_seen t w after d values alike present = record {
+  whole = present.whole;
+  old = subst (λ vs. AgreesOld t after.things vs d) (sym values) (old_seen t w.things after.things w.values d alike present.whole present.old);
+  new = subst (λ vs. AgreesNew t after.things vs d) (sym values) (new_seen t w.things after.things w.values d alike present.whole present.new);
+}
+
+-- a device stands after a command that is no request
+stands_executed : (t : Topology) (w after : World) (d : Duplicates) (client : ℕ) (c : Command) → IsNoRequest c → (execute t w client c).world ≡ after → Stands t w d → Stands t after d
+stands_executed t w after d client c other is stands =
+    let seen = seen_executed t w client c stands.sound other in
+    subst (λ (v : World). Stands t v d) is (record {
+      device = stands.device;
+      sound = execution_keeps_sound t w client c stands.sound;
+      present = present_seen t w (execute t w client c).world d seen.values seen.alike stands.present;
+    })
+
+abbrev Answers : Topology → World → World → ℕ → Command → Result Reply NoMemory → Type 0
+Answers t w after client c R = IfOk R (λ r. execute t w client c ≡ record { world = after; reply = r })
+
+-- the same by what is answered
+pub stands_after : (t : Topology) (w after : World) (d : Duplicates) (client : ℕ) (c : Command) (R : Result Reply NoMemory) → IsNoRequest c
+    → IfOk R (λ r. (u : Topology) → execute u w client c ≡ record { world = after; reply = r }) → OnErr R (after ≡ w) → Stands t w d → Stands t after d
+stands_after t w after d client c (Ok r) other is same stands = stands_executed t w after d client c other (ap (λ (e : Executed). e.world) (is t)) stands
+stands_after t w after d client c (Err e) other is same stands = subst (λ (v : World). Stands t v d) (sym same) stands
+
+pub grows_after : (t : Topology) (w after : World) (client : ℕ) (c : Command) (R : Result Reply NoMemory) → IsNoRequest c → IsSound t w
+    → IfOk R (λ r. (u : Topology) → execute u w client c ≡ record { world = after; reply = r }) → OnOk R (Grows w after)
+grows_after t w after client c (Ok r) other sound is = subst (λ (v : World). Grows w v) (ap (λ (e : Executed). e.world) (is t)) (seen_executed t w client c sound other).grows
+grows_after t w after client c (Err e) other sound is = tt

@@ -1,0 +1,10 @@
+use Rattle.std.proofs.Common.{◌≡◌, None, subst}
+use Rattle.std.specs.Prelude.{IfNone}
+use Rattle.kms_model.specs.Images.{image_of}
+use Rattle.kms_serial.specs.Device.{Device}
+use Rattle.kms_serial.proofs.Images.{if_none}
+use Rattle.kms_serial.proofs.Naming.{no_image}
+use Rattle.kms_serial.proofs.serial.Serial.image.Goals as goal
+
+pub returns-clause-unseen : goal.returns-clause-unseen
+returns-clause-unseen c = subst (λ (d : Device). IfNone c.image.result (image_of d.world.things c.args.fb ≡ None)) c.self.view_is (if_none c.image.result _ _ (no_image c.self.inside.store.things c.args.fb) c.image.ensures.none)

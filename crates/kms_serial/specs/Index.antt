@@ -1,0 +1,73 @@
+-- How the device keeps its things: in order of making, with an index of labels and the words of buffers.
+use Rattle.std.specs.Prelude.{◌≡◌, ℕ, ◌+◌, List, length, nat_eq, Option, Some, None, Result, Ok, Err, ⊤}
+use Rattle.std.specs.Option.{option_map}
+use Rattle.std.specs.List.{AllByRecursion}
+use Rattle.std.specs.HashMap.{HashMap, get}
+use Rattle.std.specs.declared.hash.BuildHasherDefault.{BuildHasherDefault}
+use Rattle.std.specs.declared.hash.FoldHasher.{FoldHasher}
+use Rattle.kms_model.specs.declared.pictures.FbInfo.{FbInfo}
+use Rattle.kms_model.specs.declared.stores.Buffer.{Buffer}
+use Rattle.kms_model.specs.declared.tables.Slot.{Slot}
+use Rattle.kms_model.specs.declared.worlds.Content.{Content}
+use Rattle.kms_model.specs.declared.worlds.Content.TheVariants as content
+use Rattle.kms_model.specs.declared.worlds.Thing.{Thing}
+use Rattle.kms_model.specs.World.{thing_labelled, thing_with_id}
+use Rattle.kms_model.specs.Execution.{BufferInfo, buffer_info}
+use Rattle.kms_model.specs.Sound.{AreNumbered}
+use Rattle.kms_buffers.specs.declared.buffers.MakeError.{MakeError}
+use Rattle.kms_buffers.specs.declared.buffers.MakeError.TheVariants as error
+use Rattle.kms_buffers.specs.Things.{buffer_in, buffers_of}
+
+-- ids by labels
+abbrev pub Ids : Type 0
+Ids = HashMap ℕ ℕ (BuildHasherDefault FoldHasher)
+
+-- the id under a label
+abbrev pub id_under : Ids → ℕ → Option ℕ
+id_under ids label = get nat_eq ids label
+
+-- the id of the thing that was made under a label, if any
+abbrev pub id_labelled : List Thing → ℕ → Option ℕ
+id_labelled things label = option_map (λ t. t.id) (thing_labelled things label)
+
+-- each label is kept with the id of the thing that was made under it
+abbrev pub IsIndex : Ids → List Thing → Type 0
+IsIndex ids things = (label : ℕ) → id_under ids label ≡ id_labelled things label
+
+-- the id, the size and the format of the buffer that a framebuffer says it is of
+abbrev pub shown_buffer : FbInfo → ℕ → BufferInfo
+shown_buffer info buffer = record { id = buffer; width = info.width; height = info.height; format = info.format }
+
+-- what is known of a framebuffer: its id is the thing's, and its buffer is one of its size and format
+pub record IsFramed (things : List Thing) (id : ℕ) (info : FbInfo) (buffer : ℕ) : Type 0 where
+  pub own_id : info.id ≡ id
+  pub own_buffer : (b : Thing) × ((thing_with_id things buffer ≡ Some b) × (buffer_info b.id b.content ≡ Some (shown_buffer info buffer)))
+
+-- each framebuffer has its own id, and a buffer of its size and format
+abbrev pub FramesIn : List Thing → ℕ → Content → Type 0
+FramesIn things id (content.Framebuffer info buffer) = IsFramed things id info buffer
+FramesIn things id (content.Buffer width height format pattern) = ⊤
+FramesIn things id (content.Mode m) = ⊤
+FramesIn things id (content.Blob bytes) = ⊤
+FramesIn things id content.Fence = ⊤
+FramesIn things id content.OutFence = ⊤
+
+-- What is kept beside the things: they are numbered, the next one gets the next id, labels are indexed, buffers have
+-- their words, and framebuffers their buffers.
+pub record AreKept (things : List Thing) (next_id : ℕ) (ids : Ids) (buffers : List (Slot Buffer)) : Type 0 where
+  pub numbered : AreNumbered 1000 things
+  pub next : next_id ≡ 1000 + length things
+  pub indexed : IsIndex ids things
+  pub words : buffers ≡ buffers_of things
+  pub framed : AllByRecursion (λ t. FramesIn things t.id t.content) things
+
+-- a thing without words
+abbrev pub HasNoWords : Content → Type 0
+HasNoWords c = (id owner : ℕ) → buffer_in id owner c ≡ None
+
+-- the number with which an answer of the store of buffers refuses a buffer
+abbrev pub number_told : Result ℕ MakeError → Option ℕ
+number_told (Ok total) = None
+number_told (Err error.BadSize) = Some 31
+number_told (Err (error.Space total)) = Some 32
+number_told (Err error.NoMemory) = None

@@ -1,0 +1,8 @@
+pub mod Index
+pub mod Framebuffers
+pub mod Starting
+pub mod Device
+pub mod Commands
+pub mod OutFences
+pub mod Settling
+pub mod Shown

@@ -1,0 +1,239 @@
+//! The device of one thread.
+ghost use Rattle.std.specs.Prelude.{◌≡◌, ◌<◌, ◌≤◌, ◌+◌, ℕ, IfNone, IfOk, IfSome, None, Some, OnOk, OnErr, option_map, length, pos};
+ghost use Rattle.kms_model.specs.declared.scripts.Command.TheVariants as command;
+ghost use Rattle.kms_model.specs.Execution.{execute};
+ghost use Rattle.kms_model.specs.Images.{image_of};
+ghost use Rattle.kms_model.specs.Lookups.{look_up};
+ghost use Rattle.kms_model.specs.declared.objects.Kind.TheVariants as kind;
+ghost use Rattle.kms_model.specs.Objects.{object_id};
+ghost use Rattle.kms_model.specs.Pictures.{picture};
+ghost use Rattle.kms_model.specs.Sound.{IsDevice};
+ghost use Rattle.kms_model.specs.States.{framebuffer_of};
+ghost use Rattle.kms_model.specs.WellFormed.{IsFitCommand};
+ghost use Rattle.kms_model.specs.World.{start, thing_labelled, thing_with_id, value};
+ghost use Rattle.kms_serial.specs.Shown.{EachCanBeShown};
+ghost use Rattle.kms_serial.specs.Framebuffers.{framebuffer_id};
+ghost use Rattle.kms_model.specs.declared.properties.TheConstants.{FB_ID};
+ghost use Rattle.kms_serial.specs.Commands.{Grows, HasRoom, IsNoRequest, NamesWhereCommitted};
+ghost use Rattle.kms_serial.specs.Device.{IsPresent};
+ghost use Rattle.kms_serial.specs.Framebuffers.{framebuffer_entry};
+
+use crate::commands;
+use crate::requests::{check, is_test, settled};
+use crate::start::{start_states, start_values};
+use crate::store::WorldStore;
+use kms_model::{
+    Command, Duplicates, Image, Look, NoMemory, Picture, PlaneState, Reply, Request, Topology,
+};
+use kms_picture::picture;
+use kms_request::named_in;
+use kms_state::new_plane;
+use std::alloc::Global;
+use std::marker::Model;
+
+/// The device of one thread. Contracts see its topology and its world: the values, the things in order of making, the
+/// next id and the number of commits.
+///
+/// It keeps the world's values and things with an index of labels, the words of buffers, and the present states of all
+/// objects, typed. A call costs no more after many things were made than after few, but for the memory that they take.
+#[derive(Drop)]
+pub struct Serial {
+    topology: Topology,
+    store: WorldStore,
+    // The present states of all objects, old and new alike.
+    states: Duplicates,
+}
+
+/// The id of the framebuffer of a plane's state; 0 where it has none.
+fn framebuffer_id(state: Option<PlaneState>) -> u32
+    ensures { result ≡ framebuffer_id state }
+{
+    match state {
+        Some(state) => state.fb.map_or(0, |fb| fb.id),
+        None => 0,
+    }
+}
+
+impl Model for Serial {
+    ghost use Rattle.kms_serial.specs.Device.{Device, Stands};
+
+    ghost Value = { Device };
+
+    ghost view = { λ s. record { topology = s.topology; world = s.store } };
+
+    ghost invariant = { λ s. Stands s.topology s.store s.states };
+}
+
+impl Serial {
+    /// A device of this topology before the first command. The only error is want of memory.
+    pub fn new(alloc: Global, topology: Topology) -> Result<Serial, NoMemory>
+        requires { IsDevice topology }
+        ensures { IfOk result (λ s. s ≡ record { topology = topology; world = start topology }) }
+    {
+        let values = start_values(alloc, &topology)?;
+        let states = start_states(&topology);
+        Ok(Serial {
+            topology,
+            store: WorldStore::with_values(alloc, values),
+            states,
+        })
+    }
+
+    /// Executes a command of a client that makes or closes a thing, signals a fence or waits.
+    fn execute_other(
+        &mut self,
+        alloc: Global,
+        client: u32,
+        command: &Command,
+    ) -> Result<Reply, NoMemory>
+        requires fit { IsFitCommand command.now }
+        requires room { HasRoom self.old.world }
+        requires other { IsNoRequest command.now }
+        ensures executed { IfOk result (λ r. execute self.old.topology self.old.world client command.now ≡ record { world = self.new.world; reply = r }) }
+        ensures topology { self.new.topology ≡ self.old.topology }
+        ensures grows { OnOk result (Grows self.old.world self.new.world) }
+        ensures unchanged { OnErr result (self.new ≡ self.old) }
+    {
+        commands::execute(alloc, &mut self.store, client, command)
+    }
+
+    /// Executes a client's atomic request. Where it is committed, the set of CRTCs that it names comes with the answer:
+    /// bit i stands for CRTC index i; else that set is empty. Want of memory leaves the device as it was.
+    pub fn commit(
+        &mut self,
+        alloc: Global,
+        client: u32,
+        request: &Request,
+    ) -> Result<(Reply, u32), NoMemory>
+        requires { HasRoom self.old.world }
+        ensures executed { IfOk result (λ x. execute self.old.topology self.old.world client (command.Atomic request.now) ≡ record { world = self.new.world; reply = x.0 }) }
+        ensures named { IfOk result (λ x. NamesWhereCommitted self.old.topology self.old.world.values self.new.world.values request.now x.0 x.1) }
+        ensures topology { self.new.topology ≡ self.old.topology }
+        ensures grows { OnOk result (Grows self.old.world self.new.world) }
+        ensures unchanged { OnErr result (self.new ≡ self.old) }
+    {
+        let after = match check(&self.topology, &self.store, &self.states, request) {
+            Ok(after) => after,
+            Err(refusal) => return Ok((Reply::Refused(refusal), 0)),
+        };
+        if is_test(request.flags) {
+            return Ok((Reply::Tested, 0));
+        }
+        let commit = self
+            .store
+            .commit_request(alloc, client, request, self.topology.crtcs)?;
+        self.states = settled(&after);
+        Ok((Reply::Commit { commit }, named_in(&after, request)))
+    }
+
+    /// Executes a client's command: it makes, closes, signals or commits, or is refused by 1 to 24 or by 31 to 35, and
+    /// then nothing changes. `Wait` changes nothing, and what is answered to it is not this device's. Want of memory
+    /// leaves the device as it was.
+    pub fn execute(
+        &mut self,
+        alloc: Global,
+        client: u32,
+        command: &Command,
+    ) -> Result<Reply, NoMemory>
+        requires fit { IsFitCommand command.now }
+        requires room { HasRoom self.old.world }
+        ensures executed { IfOk result (λ r. execute self.old.topology self.old.world client command.now ≡ record { world = self.new.world; reply = r }) }
+        ensures topology { self.new.topology ≡ self.old.topology }
+        ensures grows { OnOk result (Grows self.old.world self.new.world) }
+        ensures unchanged { OnErr result (self.new ≡ self.old) }
+    {
+        match command {
+            Command::Atomic(request) => {
+                let (reply, _) = self.commit(alloc, client, request)?;
+                Ok(reply)
+            }
+            _ => self.execute_other(alloc, client, command),
+        }
+    }
+
+    /// What `execute` would answer now. Nothing changes.
+    #[tactic(auto, unfolding(kms_model::specs::Execution::execute))]
+    pub fn preview(&self, client: u32, command: &Command) -> Reply
+        ensures { (execute self.now.topology self.now.world client command.now).reply ≡ result }
+    {
+        match command {
+            Command::Atomic(request) => self.preview_request(request),
+            _ => commands::preview(&self.store, client, command),
+        }
+    }
+
+    /// What `commit` would answer to a client's request.
+    #[tactic(auto, unfolding(kms_model::specs::Execution::execute))]
+    fn preview_request(&self, request: &Request) -> Reply
+        ensures { (client : ℕ) → (execute self.now.topology self.now.world client (command.Atomic request.now)).reply ≡ result }
+    {
+        match check(&self.topology, &self.store, &self.states, request) {
+            Err(refusal) => Reply::Refused(refusal),
+            Ok(_) if is_test(request.flags) => Reply::Tested,
+            Ok(_) => Reply::Commit {
+                commit: self.store.commits(),
+            },
+        }
+    }
+
+    /// What a CRTC of the device, by its index, shows.
+    pub fn picture(&self, crtc: u32) -> Picture
+        requires { crtc < self.now.topology.crtcs }
+        ensures picture { result ≡ picture self.now.topology self.now.world.things self.now.world.values (object_id kind.Crtc crtc) }
+        ensures shown { EachCanBeShown self.now.world.things result }
+    {
+        self.store.are_framed();
+        picture(&self.states, crtc)
+    }
+
+    /// The present states of all objects, old and new alike.
+    pub fn states(&self) -> Duplicates
+        ensures { IsPresent self.now.topology self.now.world result }
+    {
+        self.states
+    }
+
+    /// The words of a framebuffer's buffer; none exactly where no framebuffer, open or closed, has the id.
+    pub fn image(&self, fb: u32) -> Option<Image<'_>>
+        ensures some { IfSome result (λ image. image_of self.now.world.things fb ≡ Some (record {
+          width = image.width;
+          height = image.height;
+          format = image.format;
+          words = image.words.now;
+        })) }
+        ensures none { IfNone result (framebuffer_of (thing_with_id self.now.world.things fb) ≡ None) }
+        ensures unseen { IfNone result (image_of self.now.world.things fb ≡ None) }
+    {
+        self.store.image(fb)
+    }
+
+    /// The label of the framebuffer with an id, and whether it is open; none where no framebuffer has it.
+    pub fn framebuffer(&self, id: u32) -> Option<(u32, bool)>
+        ensures { result ≡ framebuffer_entry (thing_with_id self.now.world.things id) }
+    {
+        commands::framebuffer(&self.store, id)
+    }
+
+    /// The id of the framebuffer that a plane of the device, by its index, is set to; 0 where it has none.
+    pub fn framebuffer_on(&self, plane: u32) -> u32
+        requires { plane < length self.now.topology.planes }
+        ensures { pos result ≡ value self.now.world.values (object_id kind.Plane plane) FB_ID }
+    {
+        self.store.are_framed();
+        framebuffer_id(new_plane(&self.states, plane))
+    }
+
+    /// The id of the thing that was made under a label, open or closed; none where there is no such thing.
+    pub fn id_of(&self, label: u32) -> Option<u32>
+        ensures { result ≡ option_map (λ t. t.id) (thing_labelled self.now.world.things label) }
+    {
+        Some(self.store.labelled(label)?.id)
+    }
+
+    /// What a label names.
+    pub fn look(&self, label: u32) -> Look
+        ensures { result ≡ look_up self.now.world label }
+    {
+        commands::look(&self.store, label)
+    }
+}
