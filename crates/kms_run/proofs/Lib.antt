@@ -1,7 +1,11 @@
-pub mod Puts
-pub mod Bounds
-pub mod Rows
-pub mod Goes
-pub mod FlatOne
+pub mod Continuing
+pub mod FreedLaw
+pub mod ImageLemmas
+pub mod LatchLemmas
 pub mod Outcomes
-pub mod Numbered
+pub mod Pieces
+pub mod Ranges
+pub mod ReportLaw
+pub mod Rising
+pub mod Survival
+pub mod Turning

@@ -1,13 +1,13 @@
 -- What the one clause by the status says of each status.
-use Rattle.std.proofs.Common.{◌≡◌, ℕ, List, Option, inl, inr, subst}
+use Rattle.std.proofs.Common.{◌≡◌, ℕ, Bool, List, Option, inl, inr, subst}
 use Rattle.kms_io.specs.Bytes.{Moved}
 use Rattle.kms_run.specs.declared.status.Status.{Status}
 use Rattle.kms_run.specs.declared.status.Status.TheVariants as status
 use Rattle.kms_run.specs.Outcome.{IsBuilt, IsSilent, Meets, WritesNothing}
 
-module _ (left left' written written' : Option (List ℕ)) where
+module _ (frames : Bool) (left left' written written' : Option (List ℕ)) where
   abbrev Met : Status → Type 0
-  Met s = Moved left left' written written' (Meets s left')
+  Met s = Moved left left' written written' (Meets frames s left')
 
   -- the clause at a status that is known
   pub met_at : (s t : Status) → s ≡ t → Met s → Met t

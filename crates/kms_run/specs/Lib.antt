@@ -1,11 +1,7 @@
-pub mod Values
-pub mod Rects
-pub mod Solids
-pub mod Ready
-pub mod Buffers
-pub mod Shown
+pub mod Freed
+pub mod Latches
 pub mod Run
-pub mod LatchText
+pub mod Report
 pub mod StatusText
 pub mod Words
 pub mod Answers

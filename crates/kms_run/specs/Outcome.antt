@@ -1,11 +1,12 @@
 -- What a call of the program reads and writes, by its status.
-use Rattle.std.specs.Prelude.{◌≡◌, ℕ, ◌<◌, ◌≤◌, ◌+◌, List, [], length, Err, Option, ◌⊎◌, ⊤}
+use Rattle.std.specs.Prelude.{◌≡◌, ℕ, Bool, ◌<◌, ◌≤◌, ◌+◌, List, [], length, Err, Option, ◌⊎◌, ⊤}
 use Rattle.std.specs.Io.KnownBytes.{IsAtEnd}
 use Rattle.kms_io.specs.Bytes.{Begins}
 use Rattle.kms_model.specs.declared.scripts.Why.{Why}
 use Rattle.kms_run.specs.declared.status.Status.{Status}
 use Rattle.kms_run.specs.declared.status.Status.TheVariants as status
-use Rattle.kms_model.specs.Input.{input_limit, input as script_in}
+use Rattle.kms_model.specs.Built.{built_input}
+use Rattle.kms_model.specs.Input.{input_limit}
 use Rattle.kms_run.specs.Answers.{IsReport}
 
 -- All that the source had left was read, or, of a longer input, one byte more than an input may have.
@@ -14,21 +15,21 @@ pub record IsWhole (left : Option (List ℕ)) (input : List ℕ) : Type 0 where
   pub end : length input < input_limit + 1 → IsAtEnd left
 
 -- The whole input was read, and what was written is its report.
-pub record WritesReport (left : Option (List ℕ)) (input output : List ℕ) : Type 0 where
+pub record WritesReport (frames : Bool) (left : Option (List ℕ)) (input output : List ℕ) : Type 0 where
   pub whole : IsWhole left input
-  pub report : IsReport input output
+  pub report : IsReport frames input output
 
 -- The whole input was read, and what was written is a front part of its report.
-pub record WritesFront (left : Option (List ℕ)) (input output : List ℕ) : Type 0 where
+pub record WritesFront (frames : Bool) (left : Option (List ℕ)) (input output : List ℕ) : Type 0 where
   pub whole : IsWhole left input
   pub text : List ℕ
-  pub report : IsReport input text
+  pub report : IsReport frames input text
   pub front : Begins text output
 
 -- The whole input was read, this is its first fault, and nothing was written.
 pub record TellsFault (left : Option (List ℕ)) (line : ℕ) (why : Why) (input output : List ℕ) : Type 0 where
   pub whole : IsWhole left input
-  pub fault : script_in input ≡ Err (record { line = line; why = why })
+  pub fault : built_input input ≡ Err (record { line = line; why = why })
   pub nothing : output ≡ []
 
 -- nothing was read or written
@@ -58,14 +59,14 @@ IsBuilt status.Open = ⊥
 IsBuilt (status.AuditNo line) = ⊥
 
 -- What was read and written where a call ended so; left is what the source has left afterwards.
-abbrev pub Meets : Status → Option (List ℕ) → List ℕ → List ℕ → Type 0
-Meets status.Ok left input output = WritesReport left input output
-Meets status.WriteFault left input output = WritesFront left input output
-Meets (status.Script line why) left input output = TellsFault left line why input output
-Meets status.Usage left input output = MovesNothing input output
-Meets status.ReadFault left input output = WritesNothing input output
-Meets status.NoMemory left input output = WritesNothing input output
-Meets status.Stalled left input output = ⊥
-Meets (status.Illegal at) left input output = ⊥
-Meets status.Open left input output = ⊥
-Meets (status.AuditNo line) left input output = ⊥
+abbrev pub Meets : Bool → Status → Option (List ℕ) → List ℕ → List ℕ → Type 0
+Meets frames status.Ok left input output = WritesReport frames left input output
+Meets frames status.WriteFault left input output = WritesFront frames left input output
+Meets frames (status.Script line why) left input output = TellsFault left line why input output
+Meets frames status.Usage left input output = MovesNothing input output
+Meets frames status.ReadFault left input output = WritesNothing input output
+Meets frames status.NoMemory left input output = WritesNothing input output
+Meets frames status.Stalled left input output = ⊥
+Meets frames (status.Illegal at) left input output = ⊥
+Meets frames status.Open left input output = ⊥
+Meets frames (status.AuditNo line) left input output = ⊥

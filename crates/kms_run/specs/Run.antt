@@ -1,55 +1,78 @@
--- A run of one client on one CRTC, command by command.
-use Rattle.std.specs.Prelude.{◌≡◌, ℕ, ◌+◌, ◌<◌, List, [], ◌∷◌, ◌++◌, string_bytes, Option, codes, if◌then◌else◌}
+-- A run of a script's commands in rounds, as the code keeps it.
+use Rattle.std.specs.Prelude.{◌≡◌, ◌≤◌, ◌<◌, ℕ, ◌+◌, ◌*◌, Bool, List, [], ◌∷◌, ◌++◌, length, map}
 use Rattle.std.specs.List.{flat_map}
 use Rattle.kms_model.specs.declared.objects.Topology.{Topology}
+use Rattle.kms_model.specs.declared.replies.Answered.{Answered}
+use Rattle.kms_model.specs.declared.scripts.Script.{Script}
 use Rattle.kms_model.specs.declared.scripts.Command.{Command}
-use Rattle.kms_model.specs.declared.worlds.World.{World}
-use Rattle.kms_model.specs.Serial.{Pictured, shown_by}
-use Rattle.kms_model.specs.Flat.{Turn, Done, done, is_journaled, next_place, entry_of, journal_of, journal_line, reply_line, latch_lines, latches_of, run_from}
-use Rattle.kms_run.specs.Ready.{IsPlain}
-use Rattle.kms_run.specs.LatchText.{latch_text, count_with}
+use Rattle.kms_model.specs.declared.scripts.Command.TheVariants as command
+use Rattle.kms_model.specs.declared.worlds.Setting.{Setting}
+use Rattle.kms_model.specs.Touched.{named_set}
+use Rattle.kms_model.specs.World.{start}
+use Rattle.kms_model.specs.Flat as flat
+use Rattle.kms_model.specs.Flat.{Turn, Done, done, next_place, run_from, freed_by}
+use Rattle.kms_model.specs.Sound.{IsSound}
+use Rattle.kms_serial.specs.Commands.{Grows, HasRoom}
+use Rattle.kms_run.specs.Freed.{freed_of}
+use Rattle.kms_run.specs.Latches.{latched_by}
 use Rattle.kms_run.specs.declared.run.Run.{Run}
 
-abbrev pub turn : ℕ → Command → Turn
-turn n c = record { client = 1; number = n; command = c }
+abbrev pub answered_of : Done → Answered
+answered_of d = record { client = d.turn.client; command = d.turn.number; place = d.place; reply = d.result.reply }
 
--- the turns of one client, from a number on
-abbrev pub turns : ℕ → List Command → List Turn
-turns n [] = []
-turns n (c ∷ cs) = turn n c ∷ turns (n + 1) cs
+-- a run has these answers, latches and framebuffers freed
+pub record HasDone (frames : Bool) (t : Topology) (ds : List Done) (run : Run) : Type 0 where
+  pub answers : run.answers ≡ map answered_of ds
+  pub latches : run.latches ≡ flat_map (latched_by frames t) ds
+  pub freed : run.freed ≡ map freed_of (flat_map (freed_by t) ds)
 
-abbrev pub the_done : Topology → Run → ℕ → Command → Done
-the_done t r n c = done t r.world r.place (turn n c)
+-- all of a script was executed
+abbrev pub HasRun : Bool → Script → Run → Type 0
+HasRun frames s run = HasDone frames s.topology (flat.run s) run
 
--- what a command that was executed adds to each part of the report
-abbrev pub journal_text : Done → List ℕ
-journal_text d = if is_journaled d then journal_line (entry_of d) else []
+-- the CRTCs that a commit names, as a set: none of any other command
+abbrev pub named_by : Topology → List Setting → List Setting → Command → ℕ
+named_by t old new (command.Atomic r) = named_set t old new r.assigns
+named_by t old new _ = 0
 
-abbrev pub shown_then : Topology → Done → Option Pictured
-shown_then t d = shown_by t 100 d.before.values d.turn.command d.result
+-- nothing was executed yet
+pub record IsNew (t : Topology) (run : Run) : Type 0 where
+  pub topology : run.serial.topology ≡ t
+  pub world : run.serial.world ≡ start t
+  pub place : run.place ≡ 0
+  pub answers : run.answers ≡ []
+  pub latches : run.latches ≡ []
+  pub freed : run.freed ≡ []
+
+-- What holds before a command: the device is a sound one, and there is room for what the command makes.
+pub record IsReady (t : Topology) (run : Run) : Type 0 where
+  pub topology : run.serial.topology ≡ t
+  pub sound : IsSound t run.serial.world
+  pub room : HasRoom run.serial.world
+  pub place : run.place < 65536
+
+-- what a command executed next does
+abbrev pub next_done : Topology → Run → Turn → Done
+next_done t run turn = done t run.serial.world run.place turn
 
 -- one command more
-pub record Steps (t : Topology) (old new : Run) (n : ℕ) (c : Command) : Type 0 where
-  pub world : new.world ≡ (the_done t old n c).result.world
-  pub place : new.place ≡ next_place (the_done t old n c)
-  pub count : new.count ≡ count_with old.count (shown_then t (the_done t old n c))
-  pub journal : string_bytes new.journal ≡ string_bytes old.journal ++ journal_text (the_done t old n c)
-  pub replies : string_bytes new.replies ≡ string_bytes old.replies ++ reply_line (the_done t old n c)
-  pub latches : string_bytes new.latches ≡ string_bytes old.latches ++ latch_text old.count (shown_then t (the_done t old n c))
+pub record Steps (frames : Bool) (t : Topology) (old new : Run) (turn : Turn) : Type 0 where
+  pub topology : new.serial.topology ≡ old.serial.topology
+  pub world : new.serial.world ≡ (next_done t old turn).result.world
+  pub place : new.place ≡ next_place (next_done t old turn)
+  pub answers : new.answers ≡ old.answers ++ answered_of (next_done t old turn) ∷ []
+  pub latches : new.latches ≡ old.latches ++ latched_by frames t (next_done t old turn)
+  pub freed : new.freed ≡ old.freed ++ map freed_of (freed_by t (next_done t old turn))
+  pub grows : Grows old.serial.world new.serial.world
 
--- what holds before the command with a number
-pub record Holds (r : Run) (n : ℕ) : Type 0 where
-  pub ids : r.world.next_id < 1000 + n
-  pub commits : r.world.commits < n
-  pub place : r.place < n
-  pub count : r.count < n
-  pub plain : IsPlain r.world
-
--- what a run of one client does from a world on
-abbrev pub dones : Topology → World → ℕ → ℕ → List Command → List Done
-dones t w place n cs = run_from t w place (turns n cs)
-
--- the report of one client on one CRTC
-abbrev pub text_of : Topology → World → List Command → List ℕ
-text_of t w cs = let ds = dones t w 0 1 cs in
-    flat_map journal_line (journal_of ds) ++ flat_map reply_line ds ++ latch_lines 0 0 (latches_of t 100 ds) ++ codes "D drained\n"
+-- What holds before commands that are left: what was done, followed by what they do, is all that the script does, and
+-- there is room for them.
+pub record Continues (frames : Bool) (s : Script) (run : Run) (left : List Turn) : Type 0 where
+  pub topology : run.serial.topology ≡ s.topology
+  pub sound : IsSound s.topology run.serial.world
+  pub answers : run.answers ++ map answered_of (run_from s.topology run.serial.world run.place left) ≡ map answered_of (flat.run s)
+  pub latches : run.latches ++ flat_map (latched_by frames s.topology) (run_from s.topology run.serial.world run.place left) ≡ flat_map (latched_by frames s.topology) (flat.run s)
+  pub freed : run.freed ++ map freed_of (flat_map (freed_by s.topology) (run_from s.topology run.serial.world run.place left)) ≡ map freed_of (flat_map (freed_by s.topology) (flat.run s))
+  pub places : run.place + length left ≤ 65536
+  pub ids : run.serial.world.next_id + 4 * length left ≤ 1000 + 4 * 65536
+  pub commits : run.serial.world.commits + length left ≤ 65536

@@ -1,137 +1,186 @@
-//! What a commit makes a CRTC show.
-ghost use Rattle.std.specs.Prelude.{◌≡◌, ◌<◌, ◌+◌, ◌^◌, ◌++◌, ◌∷◌, [], codes, ℕ, List, Option, Some, None, IfOk, OnOk, string_bytes, option_map, All};
-ghost use Rattle.kms_model.specs.Fit.{IsSmall, HasSmallSets};
-ghost use Rattle.kms_model.specs.Serial.{pictured, shown_after, shown_by};
-ghost use Rattle.kms_model.specs.Flat.{is_on, count_after, latch_line, picture_word};
-ghost use Rattle.kms_run.specs.Ready.{IsPlain};
-ghost use Rattle.kms_run.specs.LatchText.{latch_text, count_with};
-ghost use Rattle.kms_run.specs.Shown.{pictured_in};
+//! What a commit makes the CRTCs show.
+ghost use Rattle.std.specs.Prelude.{◌≡◌, ◌<◌, ◌≤◌, ◌*◌, ◌++◌, ◌∷◌, [], ℕ, All, length, IfOk, OnOk};
+ghost use Rattle.kms_compose.specs.Images.{AreImagesIn, CanShow};
+ghost use Rattle.kms_model.specs.Frames.{frame_bytes};
+ghost use Rattle.kms_model.specs.Objects.{object_id};
+ghost use Rattle.kms_model.specs.Serial.{pictured};
+ghost use Rattle.kms_model.specs.declared.objects.Kind.TheVariants as kind;
+ghost use Rattle.kms_serial.specs.Shown.{EachCanBeShown, HasWords};
+ghost use Rattle.kms_run.specs.Latches.{AreSeen, IsPushed, latched_of, latched_text, latches_now, marked_latch, on_text};
 
-use crate::device::Device;
-use crate::frames::frame_bytes;
-use crate::pictures::picture;
-use crate::requests::names;
-use crate::text::{digest_of, push_latch};
-use kms_model::{Command, Picture, Reply, Request, Setting, World};
-use std::alloc::{AllocError, Global};
+use kms_compose::{FbImage, Frame, Images, frame};
+use kms_model::{Layer, Mode, NoMemory, Picture, Reply, Seq};
+use kms_report::{digest, ppm};
+use kms_serial::Serial;
+use std::alloc::Global;
 
-/// A commit, what a CRTC shows after it, and the bytes of that frame.
-#[derive(Drop)]
-pub struct Pictured {
+/// What a CRTC latched: its index, the commit's number, whether the CRTC is on, and the end of the latch's line: the
+/// frame's digest or `off`, a line feed, and the frame as text where it is asked for.
+#[derive(Drop, Debug)]
+pub struct Latched {
+    pub index: u32,
     pub commit: u32,
-    pub picture: Picture,
-    pub frame: Vec<u8>,
+    pub is_on: bool,
+    pub text: Seq<u8>,
 }
 
-fn picture_after(
-    alloc: Global,
-    device: &Device,
-    w: &World,
-    crtc: u32,
-    commit: u32,
-) -> Result<Pictured, AllocError>
-    requires { IsPlain w.now }
-    ensures { IfOk result (λ p. pictured_in p ≡ pictured device.now.topology w.now crtc commit) }
+/// Adds the image of a layer's framebuffer.
+fn push_image<'a>(
+    images: &mut Images<'a>,
+    serial: &'a Serial,
+    layer: &Layer,
+) -> Result<(), NoMemory>
+    requires { HasWords serial.now.world.things layer.now.fb }
+    ensures { OnOk result (IsPushed serial.now.world.things layer.now.fb.id images.old images.new) }
 {
-    let things = w.things.as_slice();
-    let picture = picture(alloc, device, things, w.values.as_slice(), crtc)?;
-    let frame = frame_bytes(alloc, things, &picture)?;
-    Ok(Pictured {
-        commit,
-        picture,
+    let fb = layer.fb.id;
+    let image = serial.image(fb);
+    match image {
+        Some(image) => Ok(images.push(FbImage { fb, image })?),
+        None => unreachable!(),
+    }
+}
+
+/// The images of the framebuffers of layers.
+fn layer_images<'a>(
+    alloc: Global,
+    serial: &'a Serial,
+    layers: &[Layer],
+) -> Result<Images<'a>, NoMemory>
+    requires { All (λ l. HasWords serial.now.world.things l.fb) layers.now }
+    ensures images { IfOk result (λ images. AreImagesIn serial.now.world.things images) }
+    ensures seen { IfOk result (λ images. AreSeen serial.now.world.things images layers.now) }
+{
+    let mut images = Seq::new(alloc);
+    for layer in layers {
+        push_image(&mut images, serial, layer)?;
+    }
+    Ok(images)
+}
+
+/// The images of a picture's framebuffers.
+fn images_of<'a>(
+    alloc: Global,
+    serial: &'a Serial,
+    picture: &Picture,
+) -> Result<Images<'a>, NoMemory>
+    requires { EachCanBeShown serial.now.world.things picture.now }
+    ensures images { IfOk result (λ images. AreImagesIn serial.now.world.things images) }
+    ensures shown { IfOk result (λ images. CanShow images picture.now) }
+{
+    match picture {
+        Picture::On(shown) => layer_images(alloc, serial, shown.layers.as_slice()),
+        Picture::Off => Ok(Seq::new(alloc)),
+    }
+}
+
+/// The frame of a picture.
+fn frame_of(alloc: Global, serial: &Serial, picture: &Picture) -> Result<Frame, NoMemory>
+    requires { EachCanBeShown serial.now.world.things picture.now }
+    ensures { IfOk result (λ f. f ≡ frame_bytes serial.now.world.things picture.now) }
+{
+    let images = images_of(alloc, serial, picture)?;
+    frame(alloc, picture, &images)
+}
+
+/// The end of the line of a latch that is on: the frame's digest, a line feed, and the frame as text where it is asked
+/// for.
+fn on_text(alloc: Global, frame: &Frame, mode: &Mode, frames: bool) -> Result<Seq<u8>, NoMemory>
+    requires { length frame.now ≡ 3 * (mode.now.hdisplay * mode.now.vdisplay) }
+    ensures { IfOk result (λ text. text ≡ on_text frames mode.now frame.now) }
+{
+    let mut text = digest(alloc, frame)?.into_vec();
+    text.push(b'\n')?;
+    if !frames {
+        return Ok(Seq::from_vec(text));
+    }
+    let picture = ppm(
+        alloc,
         frame,
+        u32::from(mode.hdisplay),
+        u32::from(mode.vdisplay),
+    )?;
+    text.extend_from_slice(picture.as_slice())?;
+    Ok(Seq::from_vec(text))
+}
+
+/// The end of the line of a latch.
+fn text_of(
+    alloc: Global,
+    serial: &Serial,
+    picture: &Picture,
+    frames: bool,
+) -> Result<Seq<u8>, NoMemory>
+    requires { EachCanBeShown serial.now.world.things picture.now }
+    ensures { IfOk result (λ text. text ≡ latched_text frames picture.now (frame_bytes serial.now.world.things picture.now)) }
+{
+    let frame = frame_of(alloc, serial, picture)?;
+    match picture {
+        Picture::On(shown) => on_text(alloc, &frame, &shown.mode, frames),
+        Picture::Off => Ok(Seq::from_vec(Vec::from_slice(alloc, b"off\n")?)),
+    }
+}
+
+/// What a CRTC latches of a commit.
+fn latch_of(
+    alloc: Global,
+    serial: &Serial,
+    index: u32,
+    commit: u32,
+    frames: bool,
+) -> Result<Latched, NoMemory>
+    requires { index < serial.now.topology.crtcs }
+    ensures { IfOk result (λ l. l ≡ latched_of frames index (pictured serial.now.topology serial.now.world (object_id kind.Crtc index) commit)) }
+{
+    let picture = serial.picture(index);
+    let text = text_of(alloc, serial, &picture, frames)?;
+    Ok(Latched {
+        index,
+        commit,
+        is_on: matches!(picture, Picture::On(_)),
+        text,
     })
 }
 
-fn shown_after(
+/// Adds what a CRTC latches of a commit, where the commit names it: `named` has its bit.
+fn push_latch(
     alloc: Global,
-    device: &Device,
-    old: &[Setting],
-    r: &Request,
-    after: &World,
+    latches: &mut Seq<Latched>,
+    serial: &Serial,
+    index: u32,
+    commit: u32,
+    named: u32,
+    frames: bool,
+) -> Result<(), NoMemory>
+    requires few { index < 32 }
+    requires crtc { index < serial.now.topology.crtcs }
+    ensures { OnOk result (latches.new ≡ latches.old ++ marked_latch frames serial.now.topology serial.now.world commit named index) }
+{
+    if named & (1 << index) == 0 {
+        return Ok(());
+    }
+    Ok(latches.push(latch_of(alloc, serial, index, commit, frames)?)?)
+}
+
+/// Adds what each CRTC that a commit names latches: `named` has a bit for each.
+pub fn push_latches(
+    alloc: Global,
+    latches: &mut Seq<Latched>,
+    serial: &Serial,
+    crtcs: u32,
     reply: &Reply,
-    crtc: u32,
-) -> Result<Option<Pictured>, AllocError>
-    requires assigns { All IsSmall r.now.assigns }
-    requires plain { IsPlain after.now }
-    ensures { IfOk result (λ o. option_map pictured_in o ≡ shown_after device.now.topology crtc old.now r.now after.now reply.now) }
+    named: u32,
+    frames: bool,
+) -> Result<(), NoMemory>
+    requires few { crtcs ≤ 4 }
+    requires crtcs { crtcs ≡ serial.now.topology.crtcs }
+    ensures { OnOk result (latches.new ≡ latches.old ++ latches_now frames serial.now.topology serial.now.world named reply.now) }
 {
     let Reply::Commit { commit } = reply else {
-        return Ok(None);
+        return Ok(());
     };
-    if names(old, after.values.as_slice(), r.assigns.as_slice(), crtc) {
-        Ok(Some(picture_after(alloc, device, after, crtc, *commit)?))
-    } else {
-        Ok(None)
+    for index in 0..crtcs {
+        push_latch(alloc, latches, serial, index, *commit, named, frames)?;
     }
-}
-
-/// What a command makes a CRTC show: `old` are the values before it, `after` is the world that it left.
-pub fn shown_by(
-    alloc: Global,
-    device: &Device,
-    old: &[Setting],
-    command: &Command,
-    after: &World,
-    reply: &Reply,
-    crtc: u32,
-) -> Result<Option<Pictured>, AllocError>
-    requires sets { HasSmallSets command.now }
-    requires plain { IsPlain after.now }
-    ensures { IfOk result (λ o. option_map pictured_in o ≡ shown_by device.now.topology crtc old.now command.now (record { world = after.now; reply = reply.now })) }
-{
-    match command {
-        Command::Atomic(r) => shown_after(alloc, device, old, r, after, reply, crtc),
-        _ => Ok(None),
-    }
-}
-
-fn is_on(picture: &Picture) -> bool
-    ensures { result ≡ is_on picture.now }
-{
-    match picture {
-        Picture::Off => false,
-        Picture::On(_) => true,
-    }
-}
-
-/// The count after a latch.
-pub fn count_after(count: u64, shown: &Option<Pictured>) -> u64
-    requires { count < 2 ^ 62 }
-    ensures { result ≡ count_with count (option_map pictured_in shown.now) }
-{
-    match shown {
-        Some(p) => { if is_on(&p.picture) { count + 1 } else { count } }
-        None => count,
-    }
-}
-
-fn picture_word(alloc: Global, p: &Pictured) -> Result<String, AllocError>
-    ensures { IfOk result (λ text. string_bytes text ≡ picture_word (pictured_in p.now)) }
-{
-    if is_on(&p.picture) {
-        digest_of(alloc, &p.frame)
-    } else {
-        String::from_str(alloc, "off")
-    }
-}
-
-/// Adds the line of a latch of the CRTC with index 0.
-pub fn push_shown(
-    alloc: Global,
-    latches: &mut String,
-    count: u64,
-    shown: &Option<Pictured>,
-) -> Result<(), AllocError>
-    requires { count < 2 ^ 62 }
-    ensures { OnOk result (string_bytes latches.new ≡ string_bytes latches.old ++ latch_text count (option_map pictured_in shown.now)) }
-{
-    let after = count_after(count, shown);
-    match shown {
-        Some(p) => {
-            let word = picture_word(alloc, p)?;
-            push_latch(latches, 0, p.commit, after, word.as_str())
-        }
-        None => Ok(()),
-    }
+    Ok(())
 }

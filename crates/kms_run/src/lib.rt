@@ -1,19 +1,17 @@
-//! The program: it reads a script, executes it on a private device of one thread, and writes the report.
+//! The program: it reads a script, executes it on the device of one thread, and writes the report.
 #![tactic(auto)]
 
 mod answers;
-mod commands;
-mod device;
-mod frames;
+mod built;
+mod freed;
 mod latches;
-mod pictures;
-mod requests;
+mod replies;
+mod report;
 mod run;
 mod status;
 mod stream;
 mod text;
 mod top;
-mod values;
 mod words;
 
 pub use status::{Status, status_text};

@@ -1,164 +1,186 @@
-//! A script's commands executed one after the other, and the report.
-ghost use Rattle.std.specs.Prelude.{◌≡◌, ◌<◌, ◌≤◌, ◌+◌, ◌^◌, ◌++◌, ◌∷◌, ℕ, List, [], length, Option, Some, None, IfOk, OnOk, All, string_bytes, codes, if◌then◌else◌, option_map};
-ghost use Rattle.kms_model.specs.Fit.{IsFit, HasSmallSets, AllFit};
-ghost use Rattle.kms_model.specs.Serial.{execute, shown_by, is_accepted};
-ghost use Rattle.kms_model.specs.Flat.{journal_line, line, reply_words};
-ghost use Rattle.std.specs.Fmt.{decimal};
-ghost use Rattle.kms_run.specs.Ready.{HasRoom, Grows, IsPlain};
-ghost use Rattle.kms_run.specs.LatchText.{latch_text, count_with};
-ghost use Rattle.kms_run.specs.Run.{Steps, Holds, text_of};
-ghost use Rattle.kms_run.specs.Shown.{pictured_in};
+//! A script's commands executed in rounds on the device of one thread.
+ghost use Rattle.std.specs.Prelude.{◌≡◌, ◌<◌, ◌≤◌, ◌+◌, ◌++◌, ℕ, List, length, slice_get, IfOk, OnOk};
+ghost use Rattle.std.specs.List.{AllByRecursion};
+ghost use Rattle.kms_model.specs.declared.replies.Reply.TheVariants as reply;
+ghost use Rattle.kms_model.specs.Execution.{execute};
+ghost use Rattle.kms_model.specs.Flat as flat;
+ghost use Rattle.kms_model.specs.Flat.{Turn, longest, turn_of};
+ghost use Rattle.kms_model.specs.Sound.{IsDevice};
+ghost use Rattle.kms_model.specs.WellFormed.{IsFitClient, IsFitCommand, IsWellFormed};
+ghost use Rattle.kms_model.specs.World.{start};
+ghost use Rattle.kms_serial.specs.Commands.{Grows, HasRoom};
+ghost use Rattle.kms_run.specs.Run.{Continues, HasRun, IsNew, IsReady, Steps, named_by};
 
-use crate::commands::execute;
-use crate::device::Device;
-use crate::latches::{Pictured, count_after, push_shown, shown_by};
-use crate::text::{push_journal, push_reply};
-use kms_model::{Command, Duplicate, NoMemory, Reply, World};
-use std::alloc::{AllocError, Global};
+use crate::freed::{Freed, may_free, push_freed};
+use crate::latches::{Latched, push_latches};
+use crate::replies::place_after;
+use kms_model::{Answered, Command, Duplicate, NoMemory, Reply, Script, Seq};
+use kms_serial::Serial;
+use std::alloc::Global;
 
-/// The number of the one client.
-const CLIENT: u32 = 1;
-
-/// The id of the one CRTC.
-const CRTC: u32 = 100;
-
-/// What a run has come to: the world, how many commands were accepted and how many frames were latched, and the
-/// parts of the report so far.
+/// What a run has come to: the device, how many commands were accepted, every reply, every latch and every
+/// framebuffer freed, in order of time.
 #[derive(Drop)]
 pub struct Run {
-    pub world: World,
+    pub serial: Serial,
     pub place: u64,
-    pub count: u64,
-    pub journal: String,
-    pub replies: String,
-    pub latches: String,
+    pub answers: Seq<Answered>,
+    pub latches: Seq<Latched>,
+    pub freed: Seq<Freed>,
 }
 
-fn is_accepted(reply: &Reply) -> bool
-    ensures { result ≡ is_accepted reply.now }
+/// Executes a command, and gives its reply and the CRTCs that it names where it is a commit.
+fn executed(
+    alloc: Global,
+    serial: &mut Serial,
+    client: u32,
+    command: &Command,
+) -> Result<(Reply, u32), NoMemory>
+    requires room { HasRoom serial.old.world }
+    requires fit { IsFitCommand command.now }
+    ensures executed { IfOk result (λ x. execute serial.old.topology serial.old.world client command.now ≡ record { world = serial.new.world; reply = x.0 }) }
+    ensures named { IfOk result (λ x. (k : ℕ) → x.0 ≡ reply.Commit k → x.1 ≡ named_by serial.old.topology serial.old.world.values serial.new.world.values command.now) }
+    ensures topology { serial.new.topology ≡ serial.old.topology }
+    ensures grows { Grows serial.old.world serial.new.world }
 {
-    matches!(
-        reply,
-        Reply::Made { .. } | Reply::Done | Reply::Commit { .. }
-    )
-}
-
-/// Adds the lines of a reply, and gives the place of the next.
-fn push_answer(
-    journal: &mut String,
-    replies: &mut String,
-    number: u32,
-    place: u64,
-    reply: &Reply,
-) -> Result<u64, AllocError>
-    requires { place < 2 ^ 62 }
-    ensures journal { OnOk result (string_bytes journal.new ≡ string_bytes journal.old ++ (if is_accepted reply.now then line (codes "J" ∷ decimal 1 ∷ decimal number ∷ []) else [])) }
-    ensures replies { OnOk result (string_bytes replies.new ≡ string_bytes replies.old ++ line (codes "R" ∷ decimal 1 ∷ decimal number ∷ decimal place ∷ reply_words reply.now)) }
-    ensures place { IfOk result (λ next. next ≡ (if is_accepted reply.now then place + 1 else place)) }
-{
-    push_reply(replies, CLIENT, number, place, reply)?;
-    if is_accepted(reply) {
-        push_journal(journal, CLIENT, number)?;
-        Ok(place + 1)
-    } else {
-        Ok(place)
+    match command {
+        Command::Atomic(request) => serial.commit(alloc, client, request),
+        _ => Ok((serial.execute(alloc, client, command)?, 0)),
     }
 }
 
-/// Executes a command, and gives its reply and what it makes the CRTC show.
-fn executed(
+/// One command of a client.
+fn turn(
     alloc: Global,
-    device: &Device,
-    w: &mut World,
-    command: &Command,
-) -> Result<(Reply, Option<Pictured>), NoMemory>
-    requires room { HasRoom w.old }
-    requires plain { IsPlain w.old }
-    requires fit { IsFit command.now }
-    ensures value { IfOk result (λ x. execute device.now.topology w.old 1 command.now ≡ record { world = w.new; reply = x.0 }) }
-    ensures shown { IfOk result (λ x. option_map pictured_in x.1 ≡ shown_by device.now.topology 100 w.old.values command.now (record { world = w.new; reply = x.0 })) }
-    ensures grows { OnOk result (Grows w.old w.new) }
-    ensures plain { OnOk result (IsPlain w.new) }
-{
-    let old = w.values.copy(alloc)?;
-    let reply = execute(alloc, device, w, CLIENT, command)?;
-    let shown = shown_by(alloc, device, old.as_slice(), command, w, &reply, CRTC)?;
-    Ok((reply, shown))
-}
-
-fn step(
-    alloc: Global,
-    device: &Device,
+    script: &Script,
+    frames: bool,
     run: &mut Run,
+    client: u32,
     number: u32,
     command: &Command,
 ) -> Result<(), NoMemory>
-    requires fit { IsFit command.now }
-    requires number { number < 2 ^ 16 }
-    requires holds { Holds run.old number }
-    ensures steps { OnOk result (Steps device.now.topology run.old run.new number command.now) }
-    ensures holds { OnOk result (Holds run.new (number + 1)) }
+    requires device { IsDevice script.now.topology }
+    requires ready { IsReady script.now.topology run.old }
+    requires fit { IsFitCommand command.now }
+    ensures { OnOk result (Steps frames script.now.topology run.old run.new (record { client = client; number = number; command = command.now })) }
 {
-    let (reply, shown) = executed(alloc, device, &mut run.world, command)?;
-    run.place = push_answer(
-        &mut run.journal,
-        &mut run.replies,
-        number,
-        run.place,
+    let planes = script.topology.planes.len();
+    let candidates = may_free(&run.serial, planes, command);
+    let (reply, named) = executed(alloc, &mut run.serial, client, command)?;
+    let place = run.place;
+    run.answers.push(Answered {
+        client,
+        command: number,
+        place,
+        reply,
+    })?;
+    push_latches(
+        alloc,
+        &mut run.latches,
+        &run.serial,
+        script.topology.crtcs,
         &reply,
+        named,
+        frames,
     )?;
-    push_shown(alloc, &mut run.latches, run.count, &shown)?;
-    run.count = count_after(run.count, &shown);
+    push_freed(&mut run.freed, &candidates, &run.serial, planes, &reply)?;
+    run.place = place_after(place, &reply);
     Ok(())
 }
 
-fn begin(alloc: Global, world: World) -> Run
-    ensures world { result.world ≡ world }
-    ensures place { result.place ≡ 0 }
-    ensures count { result.count ≡ 0 }
-    ensures journal { string_bytes result.journal ≡ [] }
-    ensures replies { string_bytes result.replies ≡ [] }
-    ensures latches { string_bytes result.latches ≡ [] }
-{
-    Run {
-        world,
-        place: 0,
-        count: 0,
-        journal: String::new(alloc),
-        replies: String::new(alloc),
-        latches: String::new(alloc),
-    }
-}
-
-fn joined(run: Run) -> Result<String, AllocError>
-    ensures { IfOk result (λ text. string_bytes text ≡ string_bytes run.journal ++ string_bytes run.replies ++ string_bytes run.latches ++ codes "D drained\n") }
-{
-    let mut text = run.journal;
-    text.push_str(run.replies.as_str())?;
-    text.push_str(run.latches.as_str())?;
-    text.push_str("D drained\n")?;
-    Ok(text)
-}
-
-/// The report of one client's commands, from a world on.
-pub fn run_all(
+/// A client's turn in a round: it executes its command at `place`, counted from 0, unless it is at its end.
+fn client_turn(
     alloc: Global,
-    device: &Device,
-    world: World,
+    script: &Script,
+    frames: bool,
+    run: &mut Run,
+    client: u32,
+    place: usize,
     commands: &[Command],
-) -> Result<String, NoMemory>
-    requires few { length commands.now ≤ 4096 }
-    requires fit { AllFit commands.now }
-    requires ids { world.next_id ≡ 1000 }
-    requires commits { world.commits ≡ 0 }
-    requires plain { IsPlain world }
-    ensures { IfOk result (λ text. string_bytes text ≡ text_of device.now.topology world commands.now) }
+) -> Result<(), NoMemory>
+    ghost left: { List Turn }
+    requires device { IsDevice script.now.topology }
+    requires fit { AllByRecursion IsFitCommand commands.now }
+    requires place { place < 65536 }
+    requires continues { Continues frames script.now run.old (turn_of client (place + 1) (slice_get commands.now place) ++ left) }
+    ensures { OnOk result (Continues frames script.now run.new left) }
 {
-    let mut run = begin(alloc, world);
-    let mut number = 1;
-    for command in commands {
-        step(alloc, device, &mut run, number, command)?;
-        number += 1;
+    match commands.get(place) {
+        Some(command) => turn(
+            alloc,
+            script,
+            frames,
+            run,
+            client,
+            place as u32 + 1,
+            command,
+        ),
+        None => Ok(()),
     }
-    Ok(joined(run)?)
+}
+
+/// One round: each client that is not at its end executes its command at `place`, counted from 0.
+fn round(
+    alloc: Global,
+    script: &Script,
+    frames: bool,
+    run: &mut Run,
+    place: usize,
+) -> Result<(), NoMemory>
+    ghost left: { List Turn }
+    requires formed { IsWellFormed script.now }
+    requires place { place < 65536 }
+    requires continues { Continues frames script.now run.old (flat.round place 1 script.now.clients ++ left) }
+    ensures { OnOk result (Continues frames script.now run.new left) }
+{
+    let mut client = 1;
+    for commands in script.clients.as_slice() {
+        client_turn(
+            alloc,
+            script,
+            frames,
+            run,
+            client,
+            place,
+            commands.as_slice(),
+        )?;
+        client += 1;
+    }
+    Ok(())
+}
+
+/// The most commands that a client has.
+fn longest(clients: &[Seq<Command>]) -> usize
+    ensures { result ≡ longest clients.now }
+{
+    let mut most = 0;
+    for commands in clients {
+        most = most.max(commands.len());
+    }
+    most
+}
+
+fn begin(alloc: Global, script: &Script) -> Result<Run, NoMemory>
+    requires { IsDevice script.now.topology }
+    ensures { IfOk result (IsNew script.now.topology) }
+{
+    Ok(Run {
+        serial: Serial::new(alloc, script.topology.copy(alloc)?)?,
+        place: 0,
+        answers: Seq::new(alloc),
+        latches: Seq::new(alloc),
+        freed: Seq::new(alloc),
+    })
+}
+
+/// Executes all commands of a script in rounds, until each client is at its end.
+pub fn run_all(alloc: Global, script: &Script, frames: bool) -> Result<Run, NoMemory>
+    requires { IsWellFormed script.now }
+    ensures { IfOk result (λ run. HasRun frames script.now run) }
+{
+    let mut run = begin(alloc, script)?;
+    for place in 0..longest(script.clients.as_slice()) {
+        round(alloc, script, frames, &mut run, place)?;
+    }
+    Ok(run)
 }

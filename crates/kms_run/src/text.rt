@@ -1,17 +1,23 @@
 //! The lines of a report.
 ghost use Rattle.std.specs.Prelude.{◌≡◌, ◌++◌, ◌∷◌, [], codes, ℕ, List, IfOk, OnOk, string_bytes, length};
 ghost use Rattle.std.specs.Fmt.{decimal};
-ghost use Rattle.kms_model.specs.Flat.{errno_of, line, object_name, reply_words, digest_of};
+ghost use Rattle.kms_model.specs.Flat.{errno_of, line, object_name, reply_words};
+ghost use Rattle.kms_run.specs.Report.{latch_front, reply_text};
 
-use kms_model::{Event, Reply};
-use sha2::{Digest, Sha256};
+use crate::latches::Latched;
+use kms_model::{Answered, Event, Reply};
 use std::alloc::{AllocError, Global};
 
 /// `J CLIENT COMMAND`
-pub fn push_journal(text: &mut String, client: u32, number: u32) -> Result<(), AllocError>
-    ensures { OnOk result (string_bytes text.new ≡ string_bytes text.old ++ line (codes "J" ∷ decimal client ∷ decimal number ∷ [])) }
+pub fn journal_line(alloc: Global, answer: &Answered) -> Result<String, AllocError>
+    ensures { IfOk result (λ text. string_bytes text ≡ line (codes "J" ∷ decimal answer.now.client ∷ decimal answer.now.command ∷ [])) }
 {
-    writeln!(text, "J {client} {number}")
+    let Answered {
+        client,
+        command,
+        ..
+    } = *answer;
+    format!(in alloc; "J {client} {command}\n")
 }
 
 fn errno_of(number: u32) -> &'static str
@@ -82,35 +88,32 @@ fn push_reply_words(text: &mut String, reply: &Reply) -> Result<(), AllocError>
 }
 
 /// `R CLIENT COMMAND PLACE REPLY`
-pub fn push_reply(
-    text: &mut String,
-    client: u32,
-    number: u32,
-    place: u64,
-    reply: &Reply,
-) -> Result<(), AllocError>
-    ensures { OnOk result (string_bytes text.new ≡ string_bytes text.old ++ line (codes "R" ∷ decimal client ∷ decimal number ∷ decimal place ∷ reply_words reply.now)) }
+pub fn reply_line(alloc: Global, answer: &Answered) -> Result<String, AllocError>
+    ensures { IfOk result (λ text. string_bytes text ≡ reply_text answer.now) }
 {
-    write!(text, "R {client} {number} {place} ")?;
-    push_reply_words(text, reply)
+    let Answered {
+        client,
+        command,
+        place,
+        ..
+    } = *answer;
+    let mut text = format!(in alloc; "R {client} {command} {place} ")?;
+    push_reply_words(&mut text, &answer.reply)?;
+    Ok(text)
 }
 
-/// `L CRTC COMMIT COUNT DIGEST`
-pub fn push_latch(
-    text: &mut String,
-    index: u32,
-    commit: u32,
-    count: u64,
-    digest: &str,
-) -> Result<(), AllocError>
-    ensures { OnOk result (string_bytes text.new ≡ string_bytes text.old ++ line (codes "L" ∷ decimal index ∷ decimal commit ∷ decimal count ∷ digest.now ∷ [])) }
+/// `L CRTC COMMIT COUNT ` of a latch, after which the count is this.
+pub fn latch_front(alloc: Global, latch: &Latched, count: u64) -> Result<String, AllocError>
+    ensures { IfOk result (λ text. string_bytes text ≡ latch_front count latch.now) }
 {
-    writeln!(text, "L {index} {commit} {count} {digest}")
+    let index = latch.index;
+    let commit = latch.commit;
+    format!(in alloc; "L {index} {commit} {count} ")
 }
 
-/// The SHA-256 of a frame's bytes, in lower-case hexadecimal.
-pub fn digest_of(alloc: Global, frame: &[u8]) -> Result<String, AllocError>
-    ensures { IfOk result (λ text. string_bytes text ≡ digest_of frame.now) }
+/// ` ID`, the end of the line of a framebuffer that was freed.
+pub fn id_end(alloc: Global, id: u32) -> Result<String, AllocError>
+    ensures { IfOk result (λ text. string_bytes text ≡ 32 ∷ line (decimal id ∷ [])) }
 {
-    hex::encode(alloc, Sha256::digest(frame).as_slice())
+    format!(in alloc; " {id}\n")
 }

@@ -2,14 +2,14 @@
 ghost use Rattle.std.specs.Prelude.{◌≡◌, ◌↔◌, ◌<◌, ◌≤◌, ℕ, List, map, length, IsTrue, string_bytes};
 ghost use Rattle.kms_io.specs.Causes.{Rose};
 ghost use Rattle.kms_io.specs.Bytes.{Moved};
-ghost use Rattle.kms_run.specs.Words.{IsLegal};
+ghost use Rattle.kms_run.specs.Words.{IsLegal, wants_frames};
 ghost use Rattle.kms_model.specs.declared.scripts.Why.{Why};
 ghost use Rattle.kms_run.specs.Outcome.{IsBuilt, IsSilent, Meets, MovesNothing, TellsFault, WritesFront, WritesNothing, WritesReport};
 
 use crate::answers::answer;
 use crate::status::Status;
 use crate::stream::{ReadError, read_all, write_all};
-use crate::words::legal_words;
+use crate::words::{legal_words, wants_frames};
 use kms_io::{Gate, Sink, Source};
 use kms_script::ParseError;
 use std::alloc::Global;
@@ -26,7 +26,7 @@ fn answered<S: Source, K: Sink>(
     source: &mut S,
     sink: &mut K,
 ) -> Status
-    ensures moved { Moved (S.left source.old) (S.left source.new) (K.written sink.old) (K.written sink.new) (Meets result (S.left source.new)) }
+    ensures moved { Moved (S.left source.old) (S.left source.new) (K.written sink.old) (K.written sink.new) (Meets (wants_frames (map string_bytes words.now)) result (S.left source.new)) }
     ensures usage { (result ≡ Status.Usage) ↔ (IsLegal (map string_bytes words.now) → ⊥) }
     ensures read_fault { result ≡ Status.ReadFault → Rose (S.faults source.old) (S.faults source.new) }
     ensures write_fault { result ≡ Status.WriteFault → Rose (K.faults sink.old) (K.faults sink.new) }
@@ -39,12 +39,12 @@ fn answered<S: Source, K: Sink>(
         Err(ReadError::Failed) => return Status::ReadFault,
         Err(ReadError::Memory) => return Status::NoMemory,
     };
-    let text = match answer(alloc, &input) {
+    let text = match answer(alloc, &input, wants_frames(words)) {
         Ok(text) => text,
         Err(ParseError::Fault { line, why }) => return Status::Script { line, why },
         Err(ParseError::NoMemory) => return Status::NoMemory,
     };
-    match write_all(sink, text.as_bytes()) {
+    match write_all(sink, &text) {
         Ok(()) => Status::Ok,
         Err(_) => Status::WriteFault,
     }
@@ -63,8 +63,8 @@ pub fn kms_plain<R: Threads, S: Source, K: Sink>(
     sink: &mut K,
 ) -> Status
     // The whole input was read, and what was written is the report of the script that it spells, or a front of it.
-    ensures ok { result ≡ Status.Ok → Moved (S.left source.old) (S.left source.new) (K.written sink.old) (K.written sink.new) (WritesReport (S.left source.new)) }
-    ensures cut { result ≡ Status.WriteFault → Moved (S.left source.old) (S.left source.new) (K.written sink.old) (K.written sink.new) (WritesFront (S.left source.new)) }
+    ensures ok { result ≡ Status.Ok → Moved (S.left source.old) (S.left source.new) (K.written sink.old) (K.written sink.new) (WritesReport (wants_frames (map string_bytes words.now)) (S.left source.new)) }
+    ensures cut { result ≡ Status.WriteFault → Moved (S.left source.old) (S.left source.new) (K.written sink.old) (K.written sink.new) (WritesFront (wants_frames (map string_bytes words.now)) (S.left source.new)) }
 
     // A fault is the whole input's first, and then nothing was written.
     ensures script { (line : ℕ) (why : Why) → result ≡ Status.Script line why → Moved (S.left source.old) (S.left source.new) (K.written sink.old) (K.written sink.new) (TellsFault (S.left source.new) line why) }
@@ -93,8 +93,8 @@ pub fn kms_main<R: Threads + Wait, S: Source, K: Sink, G: Gate + Sync>(
     _gate: &G,
 ) -> Status
     // The whole input was read, and what was written is the report of the script that it spells, or a front of it.
-    ensures ok { result ≡ Status.Ok → Moved (S.left source.old) (S.left source.new) (K.written sink.old) (K.written sink.new) (WritesReport (S.left source.new)) }
-    ensures cut { result ≡ Status.WriteFault → Moved (S.left source.old) (S.left source.new) (K.written sink.old) (K.written sink.new) (WritesFront (S.left source.new)) }
+    ensures ok { result ≡ Status.Ok → Moved (S.left source.old) (S.left source.new) (K.written sink.old) (K.written sink.new) (WritesReport (wants_frames (map string_bytes words.now)) (S.left source.new)) }
+    ensures cut { result ≡ Status.WriteFault → Moved (S.left source.old) (S.left source.new) (K.written sink.old) (K.written sink.new) (WritesFront (wants_frames (map string_bytes words.now)) (S.left source.new)) }
 
     // A fault is the whole input's first, and then nothing was written.
     ensures script { (line : ℕ) (why : Why) → result ≡ Status.Script line why → Moved (S.left source.old) (S.left source.new) (K.written sink.old) (K.written sink.new) (TellsFault (S.left source.new) line why) }

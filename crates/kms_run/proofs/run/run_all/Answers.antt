@@ -1,37 +1,27 @@
-use Rattle.std.proofs.Common.{◌≡◌, ◌+◌, ◌∷◌, [], drop, ◌∙◌, arith, refl, add-one}
-use Rattle.std.proofs.Math.Seq.{drop-cons}
-use Rattle.std.proofs.Math.ListN.{drop_of_length-le}
-use Rattle.std.specs.Prelude.{string_bytes}
-use Rattle.kms_run.proofs.Goes.{journal_goes, replies_goes, latches_goes, ends_journal, ends_replies, ends_latches}
+use Rattle.std.proofs.Common.{◌<◌, ◌≤◌, List, ap, ◌∙◌, subst, arith}
+use Rattle.kms_model.specs.Flat.{Turn, longest}
+use Rattle.kms_run.specs.Run.{Continues}
+use Rattle.kms_run.proofs.Continuing.{ended, later-end, later-step, longest-few, started}
 use Rattle.kms_run.proofs.run.run_all.Goals as goal
 
-pub loop-command-preserved : goal.loop-command-preserved
-loop-command-preserved c =
-    let t = c.args.device.now.topology in
-    let old = c.loop-command.run in
-    let new = c.step.new.run in
-    let n = c.loop-command.number in
-    let i = c.loop-command.command-index in
-    let x = c.command-item.result in
-    let rest = drop (i + 1) c.args.commands.now in
-    let s = c.in_ok-step.ensures.steps in
-    let here : drop i c.args.commands.now ≡ x ∷ rest = rw (add-one, c.command-item.is) (drop-cons c.args.commands.now i x c.loop-command-test.true) in
-    record {
-      number = omega arith;
-      holds = c.in_ok-step.ensures.holds;
-      journal = journal_goes t old new n x rest s ∙ (rw here at c.loop-command.invariant.journal);
-      replies = replies_goes t old new n x rest s ∙ (rw here at c.loop-command.invariant.replies);
-      latches = latches_goes t old new n x rest s ∙ (rw here at c.loop-command.invariant.latches);
-    }
+pub loop-place-init : goal.loop-place-init
+loop-place-init c = started c.args.frames c.args.script.now c.in_ok-run.run' c.requires c.in_ok-run.ensures
+
+pub round-requires : goal.round-requires
+round-requires c =
+    let s = c.args.script.now in
+    let few = longest-few s.clients c.requires.clients in
+    let end = c.longest-place-end.ensures ∙ ap longest c.as_slice.ensures.value in
+    let less = c.loop-place-test.true in
+    let within : c.loop-place.place < longest s.clients = omega arith in
+    let Left : List Turn → Type 0 = λ left. Continues c.args.frames s c.loop-place.run left in
+    (c.requires, (omega arith, subst Left (later-step s.clients c.loop-place.place within) c.loop-place.invariant))
 
 pub returns : goal.returns
 returns c =
-    let t = c.args.device.now.topology in
-    let r = c.loop-command.run in
-    let n = c.loop-command.number in
-    let cs = drop c.loop-command.command-index c.args.commands.now in
-    let none : cs ≡ [] = drop_of_length-le c.args.commands.now c.loop-command-test.false in
-    let j = ends_journal t r.world r.place n cs (string_bytes r.journal) _ none c.loop-command.invariant.journal in
-    let k = ends_replies t r.world r.place n cs (string_bytes r.replies) _ none c.loop-command.invariant.replies in
-    let l = ends_latches t r.world r.place n r.count cs (string_bytes r.latches) _ none c.loop-command.invariant.latches in
-    c.in_ok-joined.ensures ∙ rw (j, k, l) refl
+    let s = c.args.script.now in
+    let end = c.longest-place-end.ensures ∙ ap longest c.as_slice.ensures.value in
+    let past = c.loop-place-test.false in
+    let behind : longest s.clients ≤ c.loop-place.place = omega arith in
+    let Left : List Turn → Type 0 = λ left. Continues c.args.frames s c.loop-place.run left in
+    ended c.args.frames s c.loop-place.run (subst Left (later-end s.clients c.loop-place.place behind) c.loop-place.invariant)
