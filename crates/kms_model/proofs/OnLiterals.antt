@@ -3,9 +3,6 @@ use Rattle.std.specs.Prelude.{⊤}
 use Rattle.std.specs.Fmt.{digits}
 use Rattle.sha2.specs.Sha256.{sha256, digest_bytes, hash_after, compress, rounds, schedule, first_words}
 use Rattle.hex.proofs.OnLiterals.{hex_on_literals}
-use Rattle.kms_model.specs.Words.{dec, is_label, pix, field_at, dec_at, label_at, pix_at, word_at, name_at}
-use Rattle.kms_model.specs.Lines.{buffer_size, framebuffer_size, side_at, buffer_fields, buffer_line, labels_fields, addfb_line, five_at, mode_at, mode_fields, mode_line, set_at, given_at, named_at, numbered_at, crtc_sets, plane_names, plane_sizes, flags_at, request_at, atomic_line, command_line, any_line}
-use Rattle.kms_model.specs.Input.{rows_of, row_after, read_rows, reading_of}
 use Rattle.kms_model.specs.Refusals.{assign_refusal, assigns_refusal, early_refusal}
 use Rattle.kms_model.specs.Checks.{plane_refusal, shown_refusal, late_refusal}
 use Rattle.kms_model.specs.Built.{unbuilt_command, unbuilt_client}
@@ -19,8 +16,3 @@ use Rattle.kms_model.specs.Flat.{run_from, latch_lines, latches_of, freed_by}
 unfoldable pub on_literals : ⊤
 unfolding run_from latch_lines latches_of freed_by execute serial_from show_from verdict early_refusal assigns_refusal assign_refusal late_refusal plane_refusal shown_refusal unbuilt_command unbuilt_client picture digits hex_on_literals sha256 digest_bytes hash_after compress rounds schedule first_words
 on_literals = tt
-
--- the words of a script
-unfoldable pub on_texts : ⊤
-unfolding dec is_label pix field_at dec_at label_at pix_at word_at name_at buffer_size framebuffer_size side_at buffer_fields buffer_line labels_fields addfb_line five_at mode_at mode_fields mode_line set_at given_at named_at numbered_at crtc_sets plane_names plane_sizes flags_at request_at atomic_line command_line any_line rows_of row_after read_rows reading_of
-on_texts = tt

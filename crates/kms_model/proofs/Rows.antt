@@ -3,6 +3,7 @@ use Rattle.std.proofs.Common.{◌≡◌, ℕ, List, [], ◌∷◌, ◌++◌, ref
 use Rattle.kms_model.specs.declared.objects.Kind.TheVariants as kind
 use Rattle.kms_model.specs.declared.objects.Format.TheVariants.{Xr24, Rg16}
 use Rattle.kms_model.specs.declared.objects.Mode.{Mode}
+use Rattle.kms_model.specs.declared.objects.Topology.{Topology}
 use Rattle.kms_model.specs.declared.properties.TheConstants.{FB_ID, CRTC_ID, CRTC_W, CRTC_H, SRC_W, SRC_H, ACTIVE, MODE_ID}
 use Rattle.kms_model.specs.declared.scripts.Assign.{Assign}
 use Rattle.kms_model.specs.declared.scripts.Command.{Command}
@@ -11,13 +12,17 @@ use Rattle.kms_model.specs.declared.scripts.Pattern.TheVariants.{Solid}
 use Rattle.kms_model.specs.declared.scripts.PropRef.TheVariants.{Known}
 use Rattle.kms_model.specs.declared.scripts.Script.{Script}
 use Rattle.kms_model.specs.declared.scripts.Value.TheVariants as value
-use Rattle.kms_model.specs.declared.scripts.Why.TheVariants.{Unbuilt}
-use Rattle.kms_model.specs.Input.{device, narrow_input}
+use Rattle.kms_model.specs.WholeInput.{input}
 use Rattle.kms_model.specs.Flat.{flat}
 use Rattle.kms_model.specs.Frames.{colour_of}
 use Rattle.kms_model.specs.Execution.{new_buffer_refusal}
 use Rattle.kms_model.specs.Ppm.{ppm}
-use Rattle.kms_model.proofs.OnLiterals.{on_literals, on_texts}
+use Rattle.kms_model.proofs.OnLiterals.{on_literals}
+use Rattle.kms_model.proofs.OnScripts.{on_scripts}
+
+-- one CRTC, one primary plane and one connector
+abbrev pub device : Topology
+device = record { crtcs = 1; planes = record { kind = 1; crtcs = 1; formats = 1 } ∷ []; conns = 1 ∷ [] }
 
 abbrev pub tiny : Mode
 tiny = record {
@@ -89,38 +94,13 @@ unfolding on_literals
 empty_device_drains = refl
 
 -- the text of the first script
-pub first_script_is_read : narrow_input (head ++ made ++ codes "atomic 0x400 0 crtc0.ACTIVE=1 crtc0.MODE_ID=@m conn0.CRTC_ID=crtc0 plane0.FB_ID=@f plane0.CRTC_ID=crtc0 plane0.CRTC_W=1 plane0.CRTC_H=1 plane0.SRC_W=65536 plane0.SRC_H=65536\n") ≡ Ok (script 0x400 0)
-unfolding on_texts
+pub first_script_is_read : input (head ++ made ++ codes "atomic 0x400 0 crtc0.ACTIVE=1 crtc0.MODE_ID=@m conn0.CRTC_ID=crtc0 plane0.FB_ID=@f plane0.CRTC_ID=crtc0 plane0.CRTC_W=1 plane0.CRTC_H=1 plane0.SRC_W=65536 plane0.SRC_H=65536\n") ≡ Ok (script 0x400 0)
+unfolding on_scripts
 first_script_is_read = refl
 
--- another plane type is not built yet
-pub overlay_is_unbuilt : narrow_input (codes "kms 1\ncrtcs 1\nplane overlay 0 XR24\nconn 0\n") ≡ Err (record { line = 3; why = Unbuilt })
-unfolding on_texts
-overlay_is_unbuilt = refl
-
--- an empty input lacks its first line
-pub empty_input_is_unbuilt : narrow_input [] ≡ Err (record { line = 1; why = Unbuilt })
-unfolding on_texts
-empty_input_is_unbuilt = refl
-
--- a last line without its line feed
-pub cut_line_is_unbuilt : narrow_input (codes "kms 1\ncrtcs 1") ≡ Err (record { line = 2; why = Unbuilt })
-unfolding on_texts
-cut_line_is_unbuilt = refl
-
--- a second line that makes a label
-pub second_label_is_unbuilt : narrow_input (head ++ made ++ codes "addfb f b\n") ≡ Err (record { line = 9; why = Unbuilt })
-unfolding on_texts
-second_label_is_unbuilt = refl
-
--- another spelling of a number
-pub second_spelling_is_unbuilt : narrow_input (head ++ codes "client\nbuffer b 01 1 XR24 solid 00616263\n") ≡ Err (record { line = 6; why = Unbuilt })
-unfolding on_texts
-second_spelling_is_unbuilt = refl
-
 -- the head and an empty client
-pub empty_client_is_read : narrow_input (head ++ codes "client\n") ≡ Ok (record { version = 1; topology = device; names = []; clients = [] ∷ [] })
-unfolding on_texts
+pub empty_client_is_read : input (head ++ codes "client\n") ≡ Ok (record { version = 1; topology = device; names = []; clients = [] ∷ [] })
+unfolding on_scripts
 empty_client_is_read = refl
 
 -- five and six bits of a channel of RG16

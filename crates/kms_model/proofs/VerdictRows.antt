@@ -18,12 +18,11 @@ use Rattle.kms_model.specs.declared.scripts.PropRef.TheVariants.{Known}
 use Rattle.kms_model.specs.declared.scripts.Script.{Script}
 use Rattle.kms_model.specs.declared.scripts.Value.{Value}
 use Rattle.kms_model.specs.declared.scripts.Value.TheVariants as value
-use Rattle.kms_model.specs.Input.{device}
 use Rattle.kms_model.specs.Built.{is_built, unbuilt_line}
 use Rattle.kms_model.specs.Flat.{run, flat}
 use Rattle.kms_model.specs.ModeBytes.{mode_bytes}
 use Rattle.kms_model.proofs.OnLiterals.{on_literals}
-use Rattle.kms_model.proofs.Rows.{tiny}
+use Rattle.kms_model.proofs.Rows.{device, tiny}
 
 -- the replies to all commands, in the order in which they are executed
 abbrev replies : Topology → List (List Command) → List Reply

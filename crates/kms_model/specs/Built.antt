@@ -12,7 +12,7 @@ use Rattle.kms_model.specs.declared.scripts.Why.TheVariants.{Unbuilt}
 use Rattle.kms_model.specs.Firsts.{or_else}
 use Rattle.kms_model.specs.Flags.{wants_event}
 use Rattle.kms_model.specs.Apply.{prop_of}
-use Rattle.kms_model.specs.Input.{Fault}
+use Rattle.kms_model.specs.InputLines.{Fault}
 use Rattle.kms_model.specs.WholeInput.{input}
 
 -- neither `+LABEL`, nor IN_FENCE_FD with a label, whatever the object

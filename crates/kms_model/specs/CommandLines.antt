@@ -5,6 +5,7 @@ use Rattle.std.specs.Option.{option_map_or}
 use Rattle.std.specs.Str.{bytes_eq}
 use Rattle.kms_model.specs.declared.objects.Format.{Format}
 use Rattle.kms_model.specs.declared.objects.Kind.{Kind}
+use Rattle.kms_model.specs.declared.objects.Mode.{Mode}
 use Rattle.kms_model.specs.declared.scripts.Assign.{Assign}
 use Rattle.kms_model.specs.declared.scripts.Command.{Command}
 use Rattle.kms_model.specs.declared.scripts.Command.TheVariants as command
@@ -17,8 +18,7 @@ use Rattle.kms_model.specs.declared.scripts.Value.TheVariants as value
 use Rattle.kms_model.specs.declared.scripts.Why.{Why}
 use Rattle.kms_model.specs.declared.scripts.Why.TheVariants.{Form, Label, Limit}
 use Rattle.kms_model.specs.Grammar.{words_of, int, hex_at, pixel_at, blob_bytes, format_at, object, is_property_word, known_property}
-use Rattle.kms_model.specs.Lines.{mode_at, strip}
-use Rattle.kms_model.specs.Words.{◌>>=◌, until, from, between, dec, is_label, field_at, dec_at, label_at, end_at}
+use Rattle.kms_model.specs.Words.{◌>>=◌, until, from, between, strip, dec, is_label, field_at, dec_at, label_at, name_at, end_at}
 
 -- Names
 
@@ -138,6 +138,28 @@ addfb_read names bytes = do
   label ← label_at bytes
   buffer ← label_alone label.1
   Some (command.AddFb (place label.0 names) (place buffer (making label.0 names)), saying buffer (making label.0 names))
+
+-- five numbers of 16 bits
+unfoldable pub five_at : List ℕ → Option (ℕ × ℕ × ℕ × ℕ × ℕ × List ℕ)
+five_at bytes = do
+  a ← dec_at 65535 bytes
+  b ← dec_at 65535 a.1
+  c ← dec_at 65535 b.1
+  d ← dec_at 65535 c.1
+  e ← dec_at 65535 d.1
+  Some (a.0, b.0, c.0, d.0, e.0, e.1)
+
+-- clock, the horizontal numbers, the vertical numbers, the refresh rate, the flags, the type and the name
+unfoldable pub mode_at : List ℕ → Option (Mode × List ℕ)
+mode_at bytes = do
+  clock ← dec_at 4294967295 bytes
+  h ← five_at clock.1
+  v ← five_at h.5
+  r ← dec_at 4294967295 v.5
+  f ← dec_at 4294967295 r.1
+  k ← dec_at 4294967295 f.1
+  n ← name_at k.1
+  Some (record { clock = clock.0; hdisplay = h.0; hsync_start = h.1; hsync_end = h.2; htotal = h.3; hskew = h.4; vdisplay = v.0; vsync_start = v.1; vsync_end = v.2; vtotal = v.3; vscan = v.4; vrefresh = r.0; flags = f.0; kind = k.0; name = n.0 }, n.1)
 
 -- `LABEL` and 15 words
 unfoldable pub mode_read : Names → List ℕ → Read

@@ -9,9 +9,8 @@ use Rattle.kms_model.specs.declared.objects.Kind.TheVariants.{Crtc, Plane, Conn,
 use Rattle.kms_model.specs.declared.objects.Format.{Format}
 use Rattle.kms_model.specs.declared.objects.Format.TheVariants.{Xr24, Ar24, Rg16}
 use Rattle.kms_model.specs.Firsts.{or_else}
-use Rattle.kms_model.specs.Lines.{strip}
 use Rattle.kms_model.specs.Properties.{property_id}
-use Rattle.kms_model.specs.Words.{◌>>=◌, between, dec, is_hex, hex_value, hex_from, is_digit, is_letter, field_at}
+use Rattle.kms_model.specs.Words.{◌>>=◌, between, dec, is_hex, hex_value, hex_from, is_digit, is_letter, field_at, strip}
 
 -- the parts of a word or a line that a byte parts
 abbrev pub parted : ℕ → List ℕ → List (List ℕ)

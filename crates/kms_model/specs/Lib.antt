@@ -2,8 +2,6 @@ pub mod LayersInPlace
 pub mod Firsts
 pub mod Words
 pub mod Modes
-pub mod Lines
-pub mod Input
 pub mod Objects
 pub mod World
 pub mod Lookups
@@ -16,7 +14,6 @@ pub mod Serial
 pub mod TextLines
 pub mod Ppm
 pub mod Flat
-pub mod Fit
 pub mod Built
 pub mod Headline
 pub mod Rectangles
@@ -42,5 +39,6 @@ pub mod ModeBytes
 pub mod Stores
 pub mod Grammar
 pub mod CommandLines
+pub mod InputLines
 pub mod WholeInput
 pub mod Images

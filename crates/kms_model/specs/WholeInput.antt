@@ -10,7 +10,7 @@ use Rattle.kms_model.specs.declared.scripts.Why.{Why}
 use Rattle.kms_model.specs.declared.scripts.Why.TheVariants.{Bytes, Cut, Form, Label, Limit}
 use Rattle.kms_model.specs.CommandLines.{Names, command_read, is_over, or_form, unless, unmade, words_in}
 use Rattle.kms_model.specs.Grammar.{crtc_list, format_list, is_printable}
-use Rattle.kms_model.specs.Input.{Row, Fault, rows_of, input_limit, clients_of}
+use Rattle.kms_model.specs.InputLines.{Row, Fault, rows_of, input_limit}
 use Rattle.kms_model.specs.Words.{◌>>=◌, until, from, field_at, dec_at, end_at}
 
 -- what the lines so far spell
@@ -97,6 +97,11 @@ conn_line d fields =
     unless (is_nil d.planes || d.has_client) Form
     (unless (nat_le 8 (length d.conns)) Limit
     (Ok (record d { conns = d.conns ++ mask ∷ [] }))))
+
+-- the commands of the present client, if there is one
+abbrev pub clients_of : Bool → List Command → List (List Command)
+clients_of true commands = commands ∷ []
+clients_of false commands = []
 
 -- the commands of each client so far
 abbrev pub clients_in : Draft → List (List Command)

@@ -1,4 +1,4 @@
--- The words of a line: numbers, labels, colours and names.
+-- The words of a line: numbers, labels and names.
 use Rattle.std.specs.Prelude.{ℕ, ◌+◌, ◌-◌, ◌*◌, Bool, false, ◌&&◌, ◌||◌, ◌==◌, nat_lt, nat_le, List, [], ◌∷◌, ◌++◌, length, replicate, Option, Some, None, if◌then◌else◌, option_and_then}
 use Rattle.std.specs.List.{list_all}
 use Rattle.std.specs.Str.{bytes_eq}
@@ -17,6 +17,12 @@ until separator (b ∷ bs) = if b == separator then [] else b ∷ until separato
 abbrev pub from : ℕ → List ℕ → List ℕ
 from separator [] = []
 from separator (b ∷ bs) = if b == separator then b ∷ bs else from separator bs
+
+-- the bytes behind a given front
+abbrev pub strip : List ℕ → List ℕ → Option (List ℕ)
+strip [] bytes = Some bytes
+strip (p ∷ ps) [] = None
+strip (p ∷ ps) (b ∷ bs) = if p == b then strip ps bs else None
 
 -- a byte between two
 abbrev pub between : ℕ → ℕ → ℕ → Bool
@@ -65,10 +71,6 @@ abbrev pub hex_from : ℕ → List ℕ → ℕ
 hex_from number [] = number
 hex_from number (b ∷ bs) = hex_from (number * 16 + hex_value b) bs
 
--- the colour of a word of eight hexadecimal digits
-unfoldable pub pix : List ℕ → Option ℕ
-pix word = if (length word == 8) && list_all is_hex word then Some (hex_from 0 word) else None
-
 -- a letter of either case, a digit, `_`, `.` or `-`
 abbrev pub is_name_byte : ℕ → Bool
 is_name_byte b = between 97 122 b || (between 65 90 b || (is_digit b || ((b == 95) || ((b == 46) || (b == 45)))))
@@ -91,19 +93,6 @@ unfoldable pub label_at : List ℕ → Option (List ℕ × List ℕ)
 label_at bytes = do
   f ← field_at bytes
   if is_label f.0 then Some f else None
-
--- a colour
-unfoldable pub pix_at : List ℕ → Option (ℕ × List ℕ)
-pix_at bytes = do
-  f ← field_at bytes
-  n ← pix f.0
-  Some (n, f.1)
-
--- a given word
-unfoldable pub word_at : List ℕ → List ℕ → Option (List ℕ)
-word_at word bytes = do
-  f ← field_at bytes
-  if bytes_eq f.0 word then Some f.1 else None
 
 -- a mode's name of 1 to 31 bytes, filled with zeros up to 32
 unfoldable pub name_at : List ℕ → Option (List ℕ × List ℕ)

@@ -6,7 +6,7 @@ use Rattle.kms_model.specs.declared.scripts.Why.{Why}
 use Rattle.kms_run.specs.declared.status.Status.{Status}
 use Rattle.kms_run.specs.declared.status.Status.TheVariants as status
 use Rattle.kms_model.specs.Built.{built_input}
-use Rattle.kms_model.specs.Input.{input_limit}
+use Rattle.kms_model.specs.InputLines.{input_limit}
 use Rattle.kms_run.specs.Answers.{IsReport}
 
 -- All that the source had left was read, or, of a longer input, one byte more than an input may have.

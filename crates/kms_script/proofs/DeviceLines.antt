@@ -9,7 +9,7 @@ use Rattle.kms_model.specs.declared.scripts.Why.{Why}
 use Rattle.kms_model.specs.declared.scripts.Why.TheVariants.{Bytes, Cut, Form, Label, Limit}
 use Rattle.kms_model.specs.CommandLines.{Names, command_read, is_over, or_form, unless}
 use Rattle.kms_model.specs.Grammar.{is_printable}
-use Rattle.kms_model.specs.Input.{Row, rows_of}
+use Rattle.kms_model.specs.InputLines.{Row, rows_of}
 use Rattle.kms_model.specs.Words.{until, from, end_at}
 use Rattle.kms_model.specs.WholeInput.{Draft, Lined, is_nil, crtcs_at, plane_at, conn_at, clients_in, script_limit, is_done, is_conn_of, first_line, crtcs_line, plane_line, conn_line, client_line, command_line, later_line, script_line, sized, line_after, device_after, topology_in, missing}
 use Rattle.kms_script.specs.declared.stop.Stop.{Stop}

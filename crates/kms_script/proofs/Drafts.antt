@@ -1,6 +1,6 @@
 -- Lines of a script, one after the other.
 use Rattle.std.proofs.Common.{◌≡◌, ℕ, ◌+◌, ◌≤◌, List, [], ◌∷◌, length, Ok, Err, true, false, refl, arith}
-use Rattle.kms_model.specs.Input.{Row, rows_of}
+use Rattle.kms_model.specs.InputLines.{Row, rows_of}
 use Rattle.kms_model.specs.WholeInput.{Draft, is_nil, line_after, lines_after, missing}
 use Rattle.kms_script.specs.declared.stop.Stop.{Stop}
 use Rattle.kms_script.specs.declared.stop.Stop.TheVariants as stops

@@ -7,4 +7,3 @@ pub mod Naming
 pub mod Parts
 pub mod Formed
 pub mod Lined
-pub mod Nine

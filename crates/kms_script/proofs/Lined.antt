@@ -4,14 +4,8 @@ use Rattle.std.specs.Prelude.{◌==◌}
 use Rattle.std.proofs.lemmas.Bool.{lt-ltb, le-ltb}
 use Rattle.std.proofs.lemmas.List.{length-take, length-drop, nil_from_length}
 use Rattle.std.proofs.Math.Seq.{take-length}
-use Rattle.kms_model.specs.declared.scripts.Why.TheVariants.{Unbuilt}
 use Rattle.kms_model.specs.Words.{until, from}
-use Rattle.kms_model.specs.Lines.{Reading, any_line}
-use Rattle.kms_model.specs.Input.{Row, Fault, before_rows, rows_of, row_after, read_rows}
-
--- the fault of a line
-abbrev unbuilt : ℕ → Fault
-unbuilt n = record { line = n; why = Unbuilt }
+use Rattle.kms_model.specs.InputLines.{Row, before_rows, rows_of}
 
 abbrev row : List ℕ → Bool → Row
 row text ended = record { text = text; is_ended = ended }
@@ -46,22 +40,6 @@ unfolding rows_of
 rows-cut b [] e = let n = not_ten (b == 10) b [] e in rw n.0 refl
 rows-cut b (c ∷ cs) e = let n = not_ten (b == 10) b (c ∷ cs) e in rw (n.0, rows-cut c cs n.1) refl
 
-pub bad_row : (st : Reading) (n : ℕ) (r : Row) (rs : List Row) → row_after st r ≡ None → read_rows st n (r ∷ rs) ≡ Err (unbuilt n)
-unfolding read_rows
-bad_row st n r rs e = rw e refl
-
-pub good_row : (st next : Reading) (n : ℕ) (r : Row) (rs : List Row) → row_after st r ≡ Some next → read_rows st n (r ∷ rs) ≡ read_rows next (n + 1) rs
-unfolding read_rows
-good_row st next n r rs e = rw e refl
-
-pub cut_row : (st : Reading) (n : ℕ) (text : List ℕ) → row_after st (row text false) ≡ None
-unfolding row_after
-cut_row st n text = refl
-
-pub ended_row : (st : Reading) (text : List ℕ) (o : Option Reading) → any_line st text ≡ o → row_after st (row text true) ≡ o
-unfolding row_after
-ended_row st text o e = e
-
 split_at : (bs xs : List ℕ) → from 10 bs ≡ xs → 1 ≤ length xs → rows_of bs ≡ row (until 10 bs) true ∷ rows_of (take (length xs - 1) (drop 1 xs))
 split_at bs [] e long = absurd (omega arith)
 split_at bs (c ∷ cs) e long =
@@ -94,14 +72,3 @@ from-shorter (b ∷ bs) = shorter_step (b == 10) b bs (from-shorter bs)
 
 pub after_shorter : (bs after : List ℕ) → after ≡ from 10 bs → 1 ≤ length after → length (take (length after - 1) (drop 1 after)) < length bs
 after_shorter bs after e long = omega (arith, from-shorter bs, ap length e, length-take (length after - 1) (drop 1 after), length-drop 1 after)
-
--- how reading ends
-pub ended_early : (st : Reading) (n : ℕ) (rest : List ℕ) → length rest ≡ 0 → st.head < 4 → read_rows st n (rows_of rest) ≡ Err (unbuilt n)
-unfolding read_rows rows_of
-ended_early st n [] e lt = rw (lt-ltb st.head 4 lt) refl
-ended_early st n (b ∷ bs) e lt = absurd (omega arith)
-
-pub ended_well : (st : Reading) (n : ℕ) (rest : List ℕ) → length rest ≡ 0 → 4 ≤ st.head → read_rows st n (rows_of rest) ≡ Ok st
-unfolding read_rows rows_of
-ended_well st n [] e le = rw (le-ltb st.head 4 le) refl
-ended_well st n (b ∷ bs) e le = absurd (omega arith)

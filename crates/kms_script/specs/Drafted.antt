@@ -2,7 +2,7 @@
 use Rattle.std.specs.Prelude.{◌≡◌, ◌≤◌, ◌+◌, ◌*◌, ℕ, List, [], length, Result, Ok, Err, ⊤, false, Bool, ◌||◌, nat_le, nat_lt, true}
 use Rattle.kms_model.specs.declared.scripts.Command.{Command}
 use Rattle.kms_model.specs.CommandLines.{is_over}
-use Rattle.kms_model.specs.Input.{Fault, Row}
+use Rattle.kms_model.specs.InputLines.{Fault, Row}
 use Rattle.kms_model.specs.WholeInput.{Draft, Lined, clients_in}
 use Rattle.kms_script.specs.Fitting.{IsFitDevice, HasFitClients}
 use Rattle.kms_script.specs.Named.{names_in, HasRoom, Grows}

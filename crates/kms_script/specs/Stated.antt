@@ -7,12 +7,9 @@ use Rattle.kms_script.specs.declared.one_line.LineError.{LineError}
 use Rattle.kms_script.specs.declared.one_line.LineError.TheVariants as refusals
 use Rattle.kms_model.specs.declared.objects.Topology.{Topology}
 use Rattle.kms_model.specs.declared.scripts.Script.{Script}
-use Rattle.kms_model.specs.Input.{Fault}
-use Rattle.kms_model.specs.Lines.{Reading}
+use Rattle.kms_model.specs.InputLines.{Fault}
 use Rattle.kms_model.specs.WholeInput.{Draft, topology_in}
 use Rattle.kms_script.specs.declared.devices.TopologyRead.{TopologyRead}
-use Rattle.kms_script.specs.declared.reading.Reading.{Reading as Held}
-use Rattle.kms_script.specs.Reads.{reading_in}
 use Rattle.kms_script.specs.declared.faults.ParseError.{ParseError}
 use Rattle.kms_script.specs.declared.faults.ParseError.TheVariants as errors
 
@@ -22,12 +19,6 @@ abbrev pub Gives : Result Script ParseError → Result Script Fault → Type 0
 Gives (Ok s) stated = stated ≡ Ok s
 Gives (Err (errors.Fault line why)) stated = stated ≡ Err (record { line = line; why = why })
 Gives (Err errors.NoMemory) stated = Unit {0}
-
--- The same of what was read of lines.
-abbrev pub GivesReading : Result Held ParseError → Result Reading Fault → Type 0
-GivesReading (Ok r) stated = stated ≡ Ok (reading_in r)
-GivesReading (Err (errors.Fault line why)) stated = stated ≡ Err (record { line = line; why = why })
-GivesReading (Err errors.NoMemory) stated = Unit {0}
 
 -- the device that lines spell, and the place behind them
 abbrev pub device_in : Draft → TopologyRead

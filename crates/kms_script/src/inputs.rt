@@ -1,6 +1,6 @@
 //! Whole inputs.
 ghost use Rattle.std.specs.Prelude.{◌≡◌, ◌≤◌, ◌<◌, ℕ, IfOk, length};
-ghost use Rattle.kms_model.specs.Input.{rows_of};
+ghost use Rattle.kms_model.specs.InputLines.{rows_of};
 ghost use Rattle.kms_model.specs.WholeInput.{blank, input, lines_after};
 ghost use Rattle.kms_model.specs.WellFormed.{IsWellFormed};
 ghost use Rattle.kms_script.specs.Stated.{Gives};

@@ -2,13 +2,12 @@
 ghost use Rattle.std.specs.Prelude.{◌≡◌, ◌<◌, ◌≤◌, ◌^◌, ◌+◌, ◌++◌, ◌-◌, ℕ, List, option_map, length, replicate};
 ghost use Rattle.std.specs.List.{list_all};
 ghost use Rattle.kms_model.specs.Words.{is_name_byte, name_at};
-ghost use Rattle.kms_model.specs.Modes.{is_axis, is_legal_mode};
-ghost use Rattle.kms_model.specs.Lines.{five_at, is_small_mode, mode_at, mode_fields};
+ghost use Rattle.kms_model.specs.CommandLines.{five_at, mode_at};
 
-use crate::words::{MOST, take_dec, take_end, take_field, take_label};
+use crate::words::{MOST, take_dec, take_field};
 use kms_model::Mode;
 
-#[tactic(auto, unfolding(kms_model::specs::Lines::five_at))]
+#[tactic(auto, unfolding(kms_model::specs::CommandLines::five_at))]
 fn take_five(bytes: &[u8]) -> Option<(u16, u16, u16, u16, u16, &[u8])>
     ensures { option_map (λ x. (x.0, x.1, x.2, x.3, x.4, x.5.now)) result ≡ five_at bytes.now }
 {
@@ -58,30 +57,8 @@ fn take_name(bytes: &[u8]) -> Option<([u8; 32], &[u8])>
     }
 }
 
-fn is_axis(display: u16, start: u16, end: u16, total: u16) -> bool
-    ensures { result ≡ is_axis display start end total }
-{
-    0 < display && display <= start && start <= end && end <= total
-}
-
-fn is_legal_mode(mode: &Mode) -> bool
-    ensures { result ≡ is_legal_mode mode.now }
-{
-    is_axis(mode.hdisplay, mode.hsync_start, mode.hsync_end, mode.htotal)
-        && is_axis(mode.vdisplay, mode.vsync_start, mode.vsync_end, mode.vtotal)
-        && 0 < mode.clock
-        && mode.hdisplay <= 4096
-        && mode.vdisplay <= 4096
-}
-
-fn is_small_mode(mode: &Mode) -> bool
-    ensures { result ≡ is_small_mode mode.now }
-{
-    is_legal_mode(mode) && mode.hdisplay <= 64 && mode.vdisplay <= 64
-}
-
 /// The 15 words of a mode, and the bytes behind them.
-#[tactic(auto, unfolding(kms_model::specs::Lines::mode_at))]
+#[tactic(auto, unfolding(kms_model::specs::CommandLines::mode_at))]
 pub fn take_mode(bytes: &[u8]) -> Option<(Mode, &[u8])>
     ensures { option_map (λ x. (x.0, x.1.now)) result ≡ mode_at bytes.now }
 {
@@ -110,19 +87,4 @@ pub fn take_mode(bytes: &[u8]) -> Option<(Mode, &[u8])>
         name,
     };
     Some((mode, rest))
-}
-
-/// `LABEL` and the 15 words of a legal mode of at most 64 by 64 pixels.
-#[tactic(auto, unfolding(kms_model::specs::Lines::mode_fields))]
-pub fn mode_fields(bytes: &[u8]) -> Option<(&[u8], Mode)>
-    ensures { option_map (λ x. (x.0.now, x.1)) result ≡ mode_fields bytes.now }
-{
-    let (label, rest) = take_label(bytes)?;
-    let (mode, rest) = take_mode(rest)?;
-    take_end(rest)?;
-    if is_small_mode(&mode) {
-        Some((label, mode))
-    } else {
-        None
-    }
 }

@@ -3,8 +3,8 @@ ghost use Rattle.std.specs.Prelude.{◌≡◌, ◌<◌, ◌≤◌, ◌+◌, ℕ,
 ghost use Rattle.std.specs.Str.{bytes_eq};
 ghost use Rattle.std.specs.List.{list_all};
 ghost use Rattle.kms_model.specs.Firsts.{number_if};
-ghost use Rattle.kms_model.specs.Lines.{strip};
-ghost use Rattle.kms_model.specs.Words.{until, from, dec, is_digit, is_label, is_label_rest, is_hex, hex_value, hex_from, pix, field_at, dec_at, label_at, pix_at, word_at, end_at};
+ghost use Rattle.kms_model.specs.Words.{strip};
+ghost use Rattle.kms_model.specs.Words.{until, from, dec, is_digit, is_label, is_label_rest, is_hex, hex_value, hex_from, strip, field_at, dec_at, label_at, end_at};
 
 /// The largest number of 32 bits.
 pub const MOST: u64 = 4_294_967_295;
@@ -142,18 +142,6 @@ pub fn read_digits(word: &[u8]) -> Option<u32>
     Some(number)
 }
 
-/// The number of a word of eight hexadecimal digits.
-#[tactic(auto, unfolding(kms_model::specs::Words::pix))]
-pub fn read_pix(word: &[u8]) -> Option<u32>
-    ensures { result ≡ pix word.now }
-{
-    if word.len() == 8 {
-        read_digits(word)
-    } else {
-        None
-    }
-}
-
 /// A field is a blank and the word behind it: the word at the front of a line's bytes, and the bytes from the
 /// next blank on.
 #[tactic(auto, unfolding(kms_model::specs::Words::field_at))]
@@ -196,25 +184,6 @@ pub fn take_label(bytes: &[u8]) -> Option<(&[u8], &[u8])>
     } else {
         None
     }
-}
-
-/// A pixel's word, and the bytes behind it.
-#[tactic(auto, unfolding(kms_model::specs::Words::pix_at))]
-pub fn take_pix(bytes: &[u8]) -> Option<(u32, &[u8])>
-    ensures { option_map (λ x. (x.0, x.1.now)) result ≡ pix_at bytes.now }
-{
-    let (word, rest) = take_field(bytes)?;
-    let number = read_pix(word)?;
-    Some((number, rest))
-}
-
-/// The bytes behind a given word.
-#[tactic(auto, unfolding(kms_model::specs::Words::word_at))]
-pub fn take_word<'a>(bytes: &'a [u8], wanted: &[u8]) -> Option<&'a [u8]>
-    ensures { option_copied result ≡ word_at wanted.now bytes.now }
-{
-    let (word, rest) = take_field(bytes)?;
-    if word == wanted { Some(rest) } else { None }
 }
 
 /// The end of the line.

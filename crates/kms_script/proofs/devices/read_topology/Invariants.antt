@@ -1,5 +1,5 @@
 use Rattle.std.proofs.Common.{◌≡◌, ◌+◌, ◌≤◌, length, false}
-use Rattle.kms_model.specs.Input.{rows_of}
+use Rattle.kms_model.specs.InputLines.{rows_of}
 use Rattle.kms_model.specs.WholeInput.{blank, device_after}
 use Rattle.kms_script.specs.Drafted.{draft_in, IsSound}
 use Rattle.kms_script.proofs.devices.read_topology.Given as goal

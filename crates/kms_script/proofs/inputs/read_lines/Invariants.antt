@@ -1,5 +1,5 @@
 use Rattle.std.proofs.Common.{◌≡◌, ◌+◌, ◌≤◌, length}
-use Rattle.kms_model.specs.Input.{rows_of}
+use Rattle.kms_model.specs.InputLines.{rows_of}
 use Rattle.kms_model.specs.WholeInput.{blank, lines_after}
 use Rattle.kms_script.specs.Drafted.{draft_in, IsSound}
 use Rattle.kms_script.proofs.inputs.read_lines.Given as goal
