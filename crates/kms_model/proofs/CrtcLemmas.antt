@@ -3,6 +3,7 @@ use Rattle.std.proofs.Common.{◌≡◌, ◌≢◌, ◌∙◌, ◌⊎◌, ℕ, �
 use Rattle.std.specs.Prelude.{◌==◌, All, length}
 use Rattle.std.specs.List.{list_any, AllByRecursion}
 use Rattle.std.specs.Ordering.{int_eq}
+use Rattle.std.proofs.lemmas.Bool.{ltb-true}
 use Rattle.std.proofs.lemmas.Bool.Decides.{Decides-int_eq}
 use Rattle.std.proofs.lemmas.List.Elements.{recursion_from_All}
 use Rattle.kms_model.specs.declared.objects.Kind.{Kind}
@@ -27,10 +28,14 @@ use Rattle.kms_model.specs.Named.{is_routed}
 use Rattle.kms_model.specs.Refusals.{has_property, is_in_range, is_in_range_of, is_of_kind, is_value}
 use Rattle.kms_model.specs.Resolves.{IsAllowed}
 use Rattle.kms_model.specs.Sets.{crtc_value}
+use Rattle.kms_model.specs.Sound.{IsCrtcOrNone}
+use Rattle.kms_model.specs.Sound.IsCrtcOrNone.{IsNone, IsCrtc}
 use Rattle.kms_model.specs.Touched.{last_value}
 use Rattle.kms_model.proofs.ApplyLemmas.{number_or, value-apply}
-use Rattle.kms_model.proofs.HeldLemmas.{HoldsAll, IsCrtcOf, conn_crtc, plane_crtc}
+use Rattle.kms_model.proofs.HeldValues.{AreAllHeld}
+use Rattle.kms_model.proofs.Items.{ids-has}
 use Rattle.kms_model.proofs.LastLemmas.{IsIn, set_by}
+use Rattle.kms_model.proofs.SeenLemmas.{conn_crtc-held, plane_crtc-held}
 
 -- what holds of all items holds of one
 pub all_in : {A : Type 0} (P : A → Type 0) (xs : List A) (x : A) → All P xs → IsIn x xs → P x
@@ -48,11 +53,11 @@ number_is t f things (value.Named label) within = absurd (cc)
 number_is t f things (value.New label) within = absurd (cc)
 number_is t f things (value.Crtc index) within = refl
 
-crtc_of : (t : Topology) (f : ℕ → Look) (v : Value) → is_in_range t f CRTC_ID CrtcName v ≡ true → IsCrtcOf t (crtc_value v)
-crtc_of t f (value.Num n) within = record { none_or = inl refl }
+crtc_of : (t : Topology) (f : ℕ → Look) (v : Value) → is_in_range t f CRTC_ID CrtcName v ≡ true → IsCrtcOrNone t (crtc_value v)
+crtc_of t f (value.Num n) within = IsNone refl
 crtc_of t f (value.Named label) within = absurd (cc)
 crtc_of t f (value.New label) within = absurd (cc)
-crtc_of t f (value.Crtc index) within = record { none_or = inr (index, within, refl) }
+crtc_of t f (value.Crtc index) within = IsCrtc index (ltb-true index t.crtcs within) refl
 
 -- the value of an allowed assignment of CRTC_ID
 pub crtc_in_range : (t : Topology) (f : ℕ → Look) (a : Assign) → IsAllowed t f a → prop_of a.prop ≡ CRTC_ID → is_in_range t f CRTC_ID CrtcName a.value ≡ true
@@ -71,7 +76,7 @@ routed Conn (Known id) has is = refl
 -- The CRTC after a request: that of the last CRTC_ID, or else the one before.
 pub record CrtcAfter (t : Topology) (f : ℕ → Look) (old new : List Setting) (assigns : List Assign) (object : ℕ) : Type 0 where
   pub by : ((last_value assigns object CRTC_ID ≡ None) × (crtc_at new object ≡ crtc_at old object))
-      ⊎ ((v : Value) × (last_value assigns object CRTC_ID ≡ Some v) × (crtc_at new object ≡ crtc_value v) × IsCrtcOf t (crtc_value v))
+      ⊎ ((v : Value) × (last_value assigns object CRTC_ID ≡ Some v) × (crtc_at new object ≡ crtc_value v) × IsCrtcOrNone t (crtc_value v))
 
 crtc_after_of : (t : Topology) (f : ℕ → Look) (things : List worlds.Thing) (old new : List Setting) (assigns : List Assign) (object : ℕ) (last : Option Value) → All (IsAllowed t f) assigns
     → last_value assigns object CRTC_ID ≡ last → value_of new object CRTC_ID ≡ number_or things last (value_of old object CRTC_ID) → CrtcAfter t f old new assigns object
@@ -87,15 +92,15 @@ crtc_after t f things old assigns object allowed =
     crtc_after_of t f things old (apply things old assigns) assigns object (last_value assigns object CRTC_ID) allowed refl (value-apply things old assigns object CRTC_ID refl)
 
 -- the CRTC of a plane or a connector before a request, and after it, is one of the device's or none
-pub crtc_before_held : (t : Topology) (things : List worlds.Thing) (values : List Setting) (k : Kind) (index : ℕ) → HoldsAll t things values → is_routed k ≡ true → exists t k index ≡ true → IsCrtcOf t (crtc_at values (object_id k index))
+pub crtc_before_held : (t : Topology) (things : List worlds.Thing) (values : List Setting) (k : Kind) (index : ℕ) → AreAllHeld t things values → is_routed k ≡ true → exists t k index ≡ true → IsCrtcOrNone t (crtc_at values (object_id k index))
 crtc_before_held t things values Crtc index held routes there = absurd (cc)
-crtc_before_held t things values Plane index held routes there = plane_crtc t things values index held there
-crtc_before_held t things values Conn index held routes there = conn_crtc t things values index held there
+crtc_before_held t things values Plane index held routes there = plane_crtc-held t things values (object_id Plane index) held (ids-has t Plane index (ltb-true index (length t.planes) there))
+crtc_before_held t things values Conn index held routes there = conn_crtc-held t things values (object_id Conn index) held (ids-has t Conn index (ltb-true index (length t.conns) there))
 crtc_before_held t things values Enc index held routes there = absurd (cc)
 
-pub crtc_after_held : (t : Topology) (f : ℕ → Look) (things : List worlds.Thing) (old : List Setting) (assigns : List Assign) (k : Kind) (index : ℕ) → HoldsAll t things old → All (IsAllowed t f) assigns → is_routed k ≡ true → exists t k index ≡ true
-    → IsCrtcOf t (crtc_at (apply things old assigns) (object_id k index))
+pub crtc_after_held : (t : Topology) (f : ℕ → Look) (things : List worlds.Thing) (old : List Setting) (assigns : List Assign) (k : Kind) (index : ℕ) → AreAllHeld t things old → All (IsAllowed t f) assigns → is_routed k ≡ true → exists t k index ≡ true
+    → IsCrtcOrNone t (crtc_at (apply things old assigns) (object_id k index))
 crtc_after_held t f things old assigns k index held allowed routes there = elim ((crtc_after t f things old assigns (object_id k index) allowed).by) [
-  | inl kept ↦ subst (IsCrtcOf t) (sym kept.1) (crtc_before_held t things old k index held routes there)
-  | inr set ↦ subst (IsCrtcOf t) (sym set.2) set.3
+  | inl kept ↦ subst (IsCrtcOrNone t) (sym kept.1) (crtc_before_held t things old k index held routes there)
+  | inr set ↦ subst (IsCrtcOrNone t) (sym set.2) set.3
 ]

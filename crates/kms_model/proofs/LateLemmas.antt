@@ -42,7 +42,7 @@ use Rattle.kms_model.proofs.Items.{IsIn, ids-has, list_any-at, with_ids-has}
 use Rattle.kms_model.proofs.MaskLemmas.{has_bit-mask_below, has_bit-below, same_masks, same_tests, mask_from}
 use Rattle.kms_model.proofs.UnionLemmas.{has_bit-zero}
 use Rattle.kms_model.proofs.HeldValues.{AreAllHeld, all_held-from}
-use Rattle.kms_model.proofs.SeenLemmas.{row-at, plane_crtc-held}
+use Rattle.kms_model.proofs.SeenLemmas.{row-at, plane_crtc-held, shown-off}
 use Rattle.kms_model.proofs.StateLemmas.{natural-held}
 use Rattle.kms_model.proofs.SoundKept.{differs-self, apply-held}
 use Rattle.kms_model.proofs.TouchedLemmas.{IsRequestAt, after, touches_object, touches, untouched-plane, untouched-crtc, untouched-conn, untouched-clone, untouched-route, untouched-shown, untouched-modeset}
@@ -224,10 +224,6 @@ routes-same t w r d objects stand covers =
     let test : ℕ → Bool = λ conn. crtc_at (after w r) conn == object_id kind.Crtc i in
     let some : not (set_where t kind.Conn test == 0) ≡ nat_lt 0 (length (filter test (ids_of t kind.Conn))) = ap not (empty-ids t kind.Conn test) ∙ not-not (list_any test (ids_of t kind.Conn)) ∙ sym (some-length test (ids_of t kind.Conn)) in
     rw new (ap (λ b. number_if 20 (differs (is_some (mode_at w.things (after w r) (object_id kind.Crtc i))) b)) some))
-
-shown-off : (a b : Option Mode) (s : PlaneState) → s.crtc ≡ 0 → shown_refusal a s ≡ shown_refusal b s
-unfolding shown_refusal
-shown-off a b s off = rw off refl
 
 -- the mode of a plane's CRTC that is duplicated
 new_mode-at : (t : Topology) (w : World) (r : Request) (d : Duplicates) (j crtc : ℕ) → StandAt t w r d → crtc ≡ object_id kind.Crtc j → is_some (duplicate_at d.crtcs j) ≡ true → new_mode d.crtcs crtc ≡ mode_at w.things (after w r) crtc

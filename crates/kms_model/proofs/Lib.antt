@@ -1,7 +1,6 @@
 pub mod AppliedValues
 pub mod ApplyLemmas
 pub mod CrtcLemmas
-pub mod HeldLemmas
 pub mod HeldValues
 pub mod ImageWords
 pub mod InPlace

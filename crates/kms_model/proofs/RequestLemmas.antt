@@ -23,6 +23,7 @@ use Rattle.kms_model.specs.Firsts.{or_else, number_if}
 use Rattle.kms_model.specs.Objects.{exists, count_of}
 use Rattle.kms_model.specs.Properties.{Property, properties, property, has_id, keeps_limits, same_kind}
 use Rattle.kms_model.specs.Words.{between}
+use Rattle.kms_model.proofs.Items.{number_if-none}
 use Rattle.kms_model.proofs.PropertyTable.{find-list_all}
 use Rattle.kms_model.specs.Refusals.{flags_refusal, assign_refusal, assigns_refusal, early_refusal, has_property, is_immutable, is_value, is_in_range, is_in_range_of, is_second_fence, names_fence, is_of_kind}
 use Rattle.kms_model.specs.Apply.{prop_of, object_of}
@@ -32,10 +33,6 @@ use Rattle.kms_model.specs.Resolves.{IsAllowed, IsSettable, IsSettableNumber, Is
 pub none_of_both : {A : Type 0} (first second : Option A) → or_else first second ≡ None → (first ≡ None) × (second ≡ None)
 none_of_both None second none = (refl, none)
 none_of_both (Some x) second none = absurd (cc)
-
-pub no_number : (n : ℕ) (b : Bool) → number_if n b ≡ None → b ≡ false
-no_number n true none = absurd (cc)
-no_number n false none = refl
 
 not_not : (b : Bool) → not b ≡ false → b ≡ true
 not_not true h = refl
@@ -50,10 +47,10 @@ allowed t f earlier a none =
     let six = none_of_both (number_if 6 (is_immutable a.prop)) _ five.1 in
     let seven = none_of_both (number_if 7 (not (is_value t f a.prop a.value))) _ six.1 in
     record {
-      exists = not_not (exists t a.kind a.index) (no_number 4 _ four.0);
-      has = not_not (has_property a.kind a.prop) (no_number 5 _ five.0);
-      mutable = no_number 6 (is_immutable a.prop) six.0;
-      value = not_not (is_value t f a.prop a.value) (no_number 7 _ seven.0);
+      exists = not_not (exists t a.kind a.index) (number_if-none 4 _ four.0);
+      has = not_not (has_property a.kind a.prop) (number_if-none 5 _ five.0);
+      mutable = number_if-none 6 (is_immutable a.prop) six.0;
+      value = not_not (is_value t f a.prop a.value) (number_if-none 7 _ seven.0);
     }
 
 pub all_allowed : (t : Topology) (f : ℕ → Look) (earlier assigns : List Assign) → assigns_refusal t f earlier assigns ≡ None → All (IsAllowed t f) assigns

@@ -114,7 +114,7 @@ conns-in t c is =
     subst (λ id. IsIn id (ids_of t kind.Conn)) (sym at.same) (ids-has t kind.Conn at.index at.within)
 
 -- a plane on no CRTC is not shown, whatever mode there is
-shown-off : (a b : Option Mode) (s : PlaneState) → s.crtc ≡ 0 → shown_refusal a s ≡ shown_refusal b s
+pub shown-off : (a b : Option Mode) (s : PlaneState) → s.crtc ≡ 0 → shown_refusal a s ≡ shown_refusal b s
 unfolding shown_refusal
 shown-off a b s off = rw off refl
 

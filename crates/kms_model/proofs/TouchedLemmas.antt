@@ -35,7 +35,7 @@ use Rattle.kms_model.specs.Sound.{IsDevice, IsCrtcOrNone, IsSound, empty_request
 use Rattle.kms_model.proofs.Items.{IsIn, IsObject, ids-in, ids-has, AreNone, or_else-none, or_else-nones, number_if-none, none-number_if, first_some-at, list_any-at, list_any-none, list_any-some, list_any-has, Passes, filter-same}
 use Rattle.kms_model.proofs.AppliedValues.{value-apply_unset}
 use Rattle.kms_model.proofs.HeldValues.{IsAccepted, accepted-assign, all_held-from}
-use Rattle.kms_model.proofs.SeenLemmas.{planes-in, conns-in, plane_crtc-held}
+use Rattle.kms_model.proofs.SeenLemmas.{planes-in, conns-in, plane_crtc-held, shown-off}
 use Rattle.kms_model.proofs.SoundKept.{same_mode-self, differs-self, crtc-again, early-parts}
 
 -- a request that refusals 1 to 8 let through, in a sound world of a device
@@ -231,10 +231,6 @@ same_mode-none (Some a) None same = absurd cc
 shown-modes : (a b : Option Mode) (s : PlaneState) → is_none a ≡ is_none b → shown_refusal a s ≡ shown_refusal b s
 unfolding shown_refusal
 shown-modes a b s same = rw same refl
-
-shown-off : (a b : Option Mode) (s : PlaneState) → s.crtc ≡ 0 → shown_refusal a s ≡ shown_refusal b s
-unfolding shown_refusal
-shown-off a b s off = rw off refl
 
 -- a plane that is not set and whose CRTC needs no modeset
 pub untouched-shown : (t : Topology) (w : World) (r : Request) (plane : ℕ) → IsRequestAt t w r → IsIn plane (ids_of t kind.Plane) → touches_object t w r plane ≡ false → shown_refusal_at w.things (after w r) plane ≡ None
