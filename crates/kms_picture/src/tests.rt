@@ -2,7 +2,7 @@ use crate::{may_picture, picture};
 use kms_model::{
     Both, CrtcState, Duplicates, FbInfo, Format, Mode, Picture, PlaneState, Rect, Shown,
 };
-use kms_state::empty;
+use kms_state::Duplicating;
 use std::process::Abort;
 
 const MODE: Mode = Mode {
@@ -58,7 +58,7 @@ fn a_plane(id: u32, x: i64, zpos: u32) -> PlaneState {
 
 // Planes 0, 3, 4 and 15 are on CRTC 1, and so is connector 6; plane 1 is on another CRTC.
 fn device() -> Duplicates {
-    let mut states = empty();
+    let mut states = Duplicates::empty();
     let off = CrtcState {
         active: false,
         mode: None,
@@ -192,7 +192,7 @@ fn all_planes_of_a_crtc_are_to_be_there(rt: HostRuntime) {
 
 #[test]
 fn a_crtc_without_planes_and_connectors_is_black(rt: HostRuntime) {
-    let mut states = empty();
+    let mut states = Duplicates::empty();
     let state = CrtcState {
         active: true,
         mode: Some(MODE),

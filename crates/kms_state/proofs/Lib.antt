@@ -3,4 +3,4 @@ pub mod KindsOfIds
 pub mod Frames
 pub mod Routes
 pub mod SetsProperty
-pub mod Duplicating
+pub mod OnceDuplicated

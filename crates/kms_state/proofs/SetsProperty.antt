@@ -31,11 +31,11 @@ use Rattle.kms_model.specs.Agreement.{AgreesNew, AreNew, StandsFor, conn_state_a
 use Rattle.kms_model.proofs.SetLemmas.{may_set-takes, takes}
 use Rattle.kms_model.proofs.ValueLemmas.{Puts, Puts-put}
 use Rattle.kms_state.specs.Places.{is_duplicated, is_duplicated_of, kind_of, state_at, state_of, old_states}
-use Rattle.kms_state.specs.Changes.{HasObject, IsSet, Sets, plane_with, rerouted, set_to}
+use Rattle.kms_state.specs.Changes.{HasObject, IsSet, Sets, after_crtc, after_number, after_value, new_number, plane_with, rerouted, set_to, with_new}
 use Rattle.kms_state.proofs.Frames.{conn_state_at-other, crtc_at-kept, crtc_state_at-other, on_crtc-same, plane_at-other, same_crtc_state}
 use Rattle.kms_state.proofs.KindsOfIds.{has_kind, kind-conn, kind-crtc, kind-plane}
 use Rattle.kms_state.proofs.Routes.{AreNew-rerouted, IsRouted}
-use Rattle.kms_state.proofs.Slots.{AreNew-same, AreNew-set, olds-rerouted, olds-set, slot_at}
+use Rattle.kms_state.proofs.Slots.{AreNew-same, AreNew-set, changed-at, olds-rerouted, olds-set, slot_at, state_of-at}
 
 -- An object of a kind is duplicated at the place of its id.
 pub record IsAt {S : Type 0} (kind : Kind) (states : List (Option (Both S))) (id : ℕ) (both : Both S) : Type 0 where
@@ -54,22 +54,24 @@ is_at {S} kind states id both there is = record {
 }
 
 -- a set of a property that is kept
-pub set_is : (d after : Duplicates) (id prop : ℕ) (value : SetValue) → is_kept prop ≡ true → old_states after ≡ old_states d
+pub set_is : (d after : Duplicates) (id prop : ℕ) (value : SetValue) → is_kept prop ≡ true → after ≡ after_value d id prop value → old_states after ≡ old_states d
     → ((t : Topology) (things : List Thing) (values : List Setting) (number : ℤ) → HasObject t id → AgreesNew t things values d → StandsFor things value number → AgreesNew t things (put values id prop number) after)
     → IsSet d (set_to id prop value) after
-set_is d after id prop value kept old new = record {
+set_is d after id prop value kept states old new = record {
+  states = states;
   new = λ t things values number room agrees stands. rw kept (new t things values number room agrees stands);
   old = old;
 }
 
 -- a number of a plane, or its framebuffer
 pub sets_plane : (d : Duplicates) (id prop : ℕ) (value : SetValue) (both other : Both PlaneState) → IsAt Plane d.planes id both → other.old ≡ both.old → length d.crtcs ≡ 4
+    → record d { planes = set d.planes (id - first_id Plane) (Some other) } ≡ after_value d id prop value
     → is_kept prop ≡ true → prop ≢ CRTC_ID
     → ((things : List Thing) (before after : List Setting) (number : ℤ) → StandsFor things value number → Puts before after id prop number → both.new ≡ plane_at things before id → other.new ≡ plane_at things after id)
     → IsSet d (set_to id prop value) (record d { planes = set d.planes (id - first_id Plane) (Some other) })
-sets_plane d id prop value both other there old few kept apart changes =
+sets_plane d id prop value both other there old few states kept apart changes =
     let is : id ≡ object_id Plane (id - first_id Plane) = omega (arith, there.from) in
-    set_is d (record d { planes = set d.planes (id - first_id Plane) (Some other) }) id prop value kept
+    set_is d (record d { planes = set d.planes (id - first_id Plane) (Some other) }) id prop value kept states
     (ap (λ xs. record { crtcs = (old_states d).crtcs; planes = xs; conns = (old_states d).conns }) (olds-set d.planes (id - first_id Plane) both other there.at old))
     (λ t things values number room agrees stands.
     let after : List Setting = put values id prop number in
@@ -86,13 +88,14 @@ sets_plane d id prop value both other there old few kept apart changes =
 
 -- ACTIVE or MODE_ID of a CRTC
 pub sets_crtc : (d : Duplicates) (id prop : ℕ) (value : SetValue) (both other : Both CrtcState) → IsAt Crtc d.crtcs id both → other.old ≡ both.old → length d.crtcs ≡ 4
+    → record d { crtcs = set d.crtcs (id - first_id Crtc) (Some other) } ≡ after_value d id prop value
     → is_kept prop ≡ true → prop ≢ CRTC_ID
     → ((t : Topology) (things : List Thing) (before after : List Setting) (number : ℤ) → StandsFor things value number → Puts before after id prop number → both.new ≡ crtc_state_at t things before id → other.new ≡ crtc_state_at t things after id)
     → IsSet d (set_to id prop value) (record d { crtcs = set d.crtcs (id - first_id Crtc) (Some other) })
-sets_crtc d id prop value both other there old few kept apart changes =
+sets_crtc d id prop value both other there old few states kept apart changes =
     let is : id ≡ object_id Crtc (id - first_id Crtc) = omega (arith, there.from) in
     let within : id - first_id Crtc < length d.crtcs = slice_get_within d.crtcs (id - first_id Crtc) (Some both) there.at in
-    set_is d (record d { crtcs = set d.crtcs (id - first_id Crtc) (Some other) }) id prop value kept
+    set_is d (record d { crtcs = set d.crtcs (id - first_id Crtc) (Some other) }) id prop value kept states
     (ap (λ xs. record { crtcs = xs; planes = (old_states d).planes; conns = (old_states d).conns }) (olds-set d.crtcs (id - first_id Crtc) both other there.at old))
     (λ t things values number room agrees stands.
     let after : List Setting = put values id prop number in
@@ -156,6 +159,30 @@ moves_crtcs t things before after kind index from target number crtcs routed pla
     subst₂ (λ f g. AreNew (λ c. crtc_state_at t things after (object_id Crtc c)) (rerouted crtcs kind index f g)) (sym was) goes
     (AreNew-rerouted t things before after kind index CRTC_ID number crtcs routed planes low room (omega arith) puts agrees)
 
+-- the states after a plane goes to a CRTC, where it is duplicated at its place
+plane_moved : (d : Duplicates) (id target : ℕ) (both : Both PlaneState) → IsAt Plane d.planes id both → kind_of id ≡ Plane
+    → after_value d id CRTC_ID (to.Crtc target) ≡ record d {
+      planes = set d.planes (id - first_id Plane) (Some (record both { new = record both.new { crtc = target } }));
+      crtcs = rerouted d.crtcs Plane (id - first_id Plane) both.new.crtc target;
+    }
+plane_moved d id target both there kind =
+    ap (λ k. after_crtc k d id target) kind
+    ∙ ap₂ (λ xs from. record d { planes = xs; crtcs = rerouted d.crtcs Plane (id - first_id Plane) from target })
+    (changed-at Plane d.planes id both (λ s. record s { crtc = target }) there.from there.at)
+    (ap (new_number (λ (s : PlaneState). s.crtc)) (state_of-at Plane d.planes id both there.from there.at))
+
+-- the same of a connector
+conn_moved : (d : Duplicates) (id target : ℕ) (both : Both ConnState) → IsAt Conn d.conns id both → kind_of id ≡ Conn
+    → after_value d id CRTC_ID (to.Crtc target) ≡ record d {
+      conns = set d.conns (id - first_id Conn) (Some (record both { new = record both.new { crtc = target } }));
+      crtcs = rerouted d.crtcs Conn (id - first_id Conn) both.new.crtc target;
+    }
+conn_moved d id target both there kind =
+    ap (λ k. after_crtc k d id target) kind
+    ∙ ap₂ (λ xs from. record d { conns = xs; crtcs = rerouted d.crtcs Conn (id - first_id Conn) from target })
+    (changed-at Conn d.conns id both (λ s. record s { crtc = target }) there.from there.at)
+    (ap (new_number (λ (s : ConnState). s.crtc)) (state_of-at Conn d.conns id both there.from there.at))
+
 -- CRTC_ID of a plane
 pub moves_plane : (d : Duplicates) (id target : ℕ) (both : Both PlaneState) → IsAt Plane d.planes id both → length d.crtcs ≡ 4 → length d.planes ≡ 16
     → IsSet d (set_to id CRTC_ID (to.Crtc target)) (record d {
@@ -169,6 +196,7 @@ moves_plane d id target both there few many =
     let kind : kind_of id ≡ Plane = kind-plane id there.from (omega arith) in
     let other : Both PlaneState = record both { new = record both.new { crtc = target } } in
     set_is d (record d { planes = set d.planes index (Some other); crtcs = rerouted d.crtcs Plane index both.new.crtc target }) id CRTC_ID (to.Crtc target) refl
+    (sym (plane_moved d id target both there kind))
     (ap₂ (λ xs ys. record { crtcs = xs; planes = ys; conns = (old_states d).conns }) (olds-rerouted d.crtcs Plane index both.new.crtc target) (olds-set d.planes index both other there.at refl))
     (λ t things values number room agrees stands.
     let after : List Setting = put values id CRTC_ID number in
@@ -197,6 +225,7 @@ moves_conn d id target both there few most many =
     let kind : kind_of id ≡ Conn = kind-conn id there.from (omega arith) in
     let other : Both ConnState = record both { new = record both.new { crtc = target } } in
     set_is d (record d { conns = set d.conns index (Some other); crtcs = rerouted d.crtcs Conn index both.new.crtc target }) id CRTC_ID (to.Crtc target) refl
+    (sym (conn_moved d id target both there kind))
     (ap₂ (λ xs ys. record { crtcs = xs; planes = (old_states d).planes; conns = ys }) (olds-rerouted d.crtcs Conn index both.new.crtc target) (olds-set d.conns index both other there.at refl))
     (λ t things values number room agrees stands.
     let after : List Setting = put values id CRTC_ID number in
@@ -242,8 +271,38 @@ mode_crtc t things before after object mode number puts stands =
     (on_crtc-same t before after object Conn (λ k within. crtc_at-kept before after object MODE_ID (object_id Conn k) number puts apart)))
 
 -- a set of one property, as a set
-pub as_set : (d after : Duplicates) (s : Set) (prop : ℕ) (value : SetValue) → s.prop ≡ prop → s.value ≡ value → IsSet d (set_to s.object.0 prop value) after → Sets d s after
-as_set d after s prop value same_prop same_value is = subst₂ (λ p v. Sets d (record { object = s.object; prop = p; value = v }) after) (sym same_prop) (sym same_value) is.new
+pub as_set : (d after : Duplicates) (s : Set) (prop : ℕ) (value : SetValue) → s.prop ≡ prop → s.value ≡ value → IsSet d (set_to s.object.0 prop value) after → IsSet d s after
+as_set d after s prop value same_prop same_value is = subst₂ (λ p v. IsSet d (record { object = s.object; prop = p; value = v }) after) (sym same_prop) (sym same_value) is
+
+-- ACTIVE of a CRTC that is duplicated at its place
+pub active_after : (d : Duplicates) (id : ℕ) (n : ℤ) (both : Both CrtcState) → IsAt Crtc d.crtcs id both → length d.crtcs ≡ 4 → SFits w64 n
+    → record d { crtcs = set d.crtcs (id - first_id Crtc) (Some (with_new (λ s. record s { active = not (of_z w64 n == 0) }) both)) } ≡ after_value d id ACTIVE (to.Num n)
+active_after d id n both there few fits =
+    let within : id - first_id Crtc < length d.crtcs = slice_get_within d.crtcs (id - first_id Crtc) (Some both) there.at in
+    let kind : kind_of id ≡ Crtc = kind-crtc id (omega (arith, within, few)) in
+    sym (ap (λ k. after_number k d id ACTIVE n) kind
+    ∙ ap (λ xs. record d { crtcs = xs }) (changed-at Crtc d.crtcs id both (λ s. record s { active = not (int_eq n (pos 0)) }) there.from there.at)
+    ∙ ap (λ b. record d { crtcs = set d.crtcs (id - first_id Crtc) (Some (with_new (λ s. record s { active = not b }) both)) }) (sym (is_zero n fits)))
+
+-- MODE_ID of a CRTC that is duplicated at its place
+pub mode_after : (d : Duplicates) (id : ℕ) (mode : Option Mode) (both : Both CrtcState) → IsAt Crtc d.crtcs id both
+    → record d { crtcs = set d.crtcs (id - first_id Crtc) (Some (with_new (λ s. record s { mode = mode }) both)) } ≡ after_value d id MODE_ID (to.Mode mode)
+mode_after d id mode both there = ap (λ xs. record d { crtcs = xs }) (sym (changed-at Crtc d.crtcs id both (λ s. record s { mode = mode }) there.from there.at))
+
+-- FB_ID of a plane that is duplicated at its place
+pub fb_after : (d : Duplicates) (id : ℕ) (fb : Option FbInfo) (both : Both PlaneState) → IsAt Plane d.planes id both
+    → record d { planes = set d.planes (id - first_id Plane) (Some (with_new (λ s. record s { fb = fb }) both)) } ≡ after_value d id FB_ID (to.Fb fb)
+fb_after d id fb both there = ap (λ xs. record d { planes = xs }) (sym (changed-at Plane d.planes id both (λ s. record s { fb = fb }) there.from there.at))
+
+-- a number of a plane that is duplicated at its place
+pub number_after : (d : Duplicates) (id prop : ℕ) (n : ℤ) (both : Both PlaneState) (new : PlaneState) → IsAt Plane d.planes id both → length d.planes ≡ 16 → new ≡ plane_with prop n both.new
+    → record d { planes = set d.planes (id - first_id Plane) (Some (record both { new = new })) } ≡ after_value d id prop (to.Num n)
+number_after d id prop n both new there many is =
+    let within : id - first_id Plane < length d.planes = slice_get_within d.planes (id - first_id Plane) (Some both) there.at in
+    let kind : kind_of id ≡ Plane = kind-plane id there.from (omega (arith, within, many)) in
+    sym (ap (λ k. after_number k d id prop n) kind
+    ∙ ap (λ xs. record d { planes = xs }) (changed-at Plane d.planes id both (plane_with prop n) there.from there.at)
+    ∙ ap (λ s. record d { planes = set d.planes (id - first_id Plane) (Some (record both { new = s })) }) (sym is))
 
 -- a set of a fence
 pub sets_nothing : (d : Duplicates) (s : Set) → is_kept s.prop ≡ false → Sets d s d
@@ -336,5 +395,9 @@ fence_kind Conn prop h = not-true (is_kept prop) h
 fence_kind Enc prop h = not-true (is_kept prop) h
 
 -- a set of a fence is of no property that is kept
-pub fence_set : (d : Duplicates) (s : Set) → MaySet d s to.Fence → Sets d s d
-fence_set d s may = sets_nothing d s (fence_kind (kind_of s.object.0) s.prop may.takes)
+pub fence_set : (d : Duplicates) (s : Set) → MaySet d s to.Fence → s.value ≡ to.Fence → IsSet d s d
+fence_set d s may is = record {
+  states = ap (after_value d s.object.0 s.prop) (sym is);
+  new = sets_nothing d s (fence_kind (kind_of s.object.0) s.prop may.takes);
+  old = refl;
+}

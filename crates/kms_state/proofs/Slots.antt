@@ -1,5 +1,5 @@
 -- Lists of duplicated states of which one changes.
-use Rattle.std.proofs.Common.{◌≡◌, ◌≢◌, ℕ, zero, suc, ◌-◌, ◌<◌, length, List, [], ◌∷◌, set, Option, Some, None, slice_get, is_some, option_map, true, false, inl, inr, arith, refl, sym, ap, subst, ◌∙◌, if◌then◌else◌}
+use Rattle.std.proofs.Common.{◌≡◌, ◌≢◌, ℕ, zero, suc, ◌-◌, ◌<◌, ◌≤◌, length, List, [], ◌∷◌, set, Option, Some, None, slice_get, is_some, option_map, true, false, inl, inr, arith, refl, sym, ap, subst, ◌∙◌, if◌then◌else◌}
 use Rattle.std.specs.Prelude.{◌==◌, nat_le}
 use Rattle.std.specs.Option.{option_flatten}
 use Rattle.std.proofs.Math.ListN.{length-set}
@@ -100,6 +100,10 @@ AreNew-changed {S} f g kind states id h agrees each =
           each (id - first_id kind) within ∙ ap (λ b. if b then h (f (id - first_id kind)) else f (id - first_id kind)) (eq-eqb id (object_id kind (id - first_id kind)) e))))
     ]
 
+-- what a search by id finds of an object that is duplicated at its place
+pub state_of-at : {S : Type 0} (kind : Kind) (states : List (Option S)) (id : ℕ) (s : S) → first_id kind ≤ id → slice_get states (id - first_id kind) ≡ Some (Some s) → state_of kind states id ≡ Some s
+state_of-at kind states id s from at = ap (λ b. if b then state_at states (id - first_id kind) else None) (le-leb (first_id kind) id from) ∙ ap option_flatten at
+
 length-put_at : {S : Type 0} (states : List (Option S)) (index : ℕ) (slot : Option S) → length (put_at states index slot) ≡ length states
 length-put_at states index None = refl
 length-put_at states index (Some s) = length-set states index (Some s)
@@ -180,3 +184,8 @@ AreOld-set {S} f states index both agrees here = λ k b at.
       | inl same ↦ ap (λ (x : Both S). x.old) (sym (put_there states index k both b same at)) ∙ here ∙ ap f (sym same)
       | inr other ↦ agrees k b (sym (slice_get-set_other states index k (Some both) other) ∙ at)
     ]
+
+-- the new state of an object that is duplicated at its place, changed
+pub changed-at : {S : Type 0} (kind : Kind) (states : List (Option (Both S))) (id : ℕ) (both : Both S) (h : S → S) → first_id kind ≤ id → slice_get states (id - first_id kind) ≡ Some (Some both)
+    → changed kind states id h ≡ set states (id - first_id kind) (Some (with_new h both))
+changed-at kind states id both h from at = ap (λ slot. put_at states (id - first_id kind) (option_map (with_new h) slot)) (state_of-at kind states id both from at)

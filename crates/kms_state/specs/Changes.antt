@@ -1,12 +1,14 @@
 -- What a set changes. From: "Atomic Mode Setting"; `drm_atomic_uapi.c`, drm_atomic_plane_set_property,
 -- drm_atomic_crtc_set_property, drm_atomic_set_crtc_for_plane, drm_atomic_set_crtc_for_connector.
-use Rattle.std.specs.Prelude.{◌≡◌, ℕ, ◌-◌, ◌^◌, ◌≤◌, set, option_map, Bool, true, false, ◌==◌, bit_and, bit_or, ℤ, List, length, Option, Some, None, IsTrue, if◌then◌else◌}
+use Rattle.std.specs.Prelude.{◌≡◌, ℕ, ◌-◌, ◌^◌, ◌≤◌, set, option_map, Bool, true, false, not, ◌==◌, bit_and, bit_or, ℤ, pos, List, length, Option, Some, None, IsTrue, if◌then◌else◌}
+use Rattle.std.specs.Ordering.{int_eq}
 use Rattle.kms_model.specs.declared.objects.Kind.{Kind}
 use Rattle.kms_model.specs.declared.objects.Kind.TheVariants.{Crtc, Plane, Conn, Enc}
 use Rattle.kms_model.specs.declared.objects.Topology.{Topology}
 use Rattle.kms_model.specs.declared.properties.TheConstants.{CRTC_X, CRTC_Y, CRTC_W, CRTC_H, SRC_X, SRC_Y, SRC_W, SRC_H, ALPHA, BLEND, ZPOS}
 use Rattle.kms_model.specs.declared.sets.Set.{Set}
 use Rattle.kms_model.specs.declared.sets.SetValue.{SetValue}
+use Rattle.kms_model.specs.declared.sets.SetValue.TheVariants as to
 use Rattle.kms_model.specs.declared.states.Both.{Both}
 use Rattle.kms_model.specs.declared.states.CrtcState.{CrtcState}
 use Rattle.kms_model.specs.declared.states.Duplicates.{Duplicates}
@@ -87,7 +89,46 @@ plane_with prop n s = record s {
 abbrev pub set_to : ℕ → ℕ → SetValue → Set
 set_to object prop value = record { object = obj_id object; prop = prop; value = value }
 
--- What a set does: the new states follow, and no old state changes.
+-- a number set: `ACTIVE` of a CRTC, or a number of a plane
+abbrev pub after_number : Kind → Duplicates → ℕ → ℕ → ℤ → Duplicates
+after_number Crtc d id prop n = record d { crtcs = changed Crtc d.crtcs id (λ s. record s { active = not (int_eq n (pos 0)) }) }
+after_number Plane d id prop n = record d { planes = changed Plane d.planes id (plane_with prop n) }
+after_number Conn d id prop n = d
+after_number Enc d id prop n = d
+
+-- the CRTC of a new state, 0 where nothing is duplicated
+abbrev pub new_number : {S : Type 0} → (S → ℕ) → Option (Both S) → ℕ
+new_number crtc_of (Some both) = crtc_of both.new
+new_number crtc_of None = 0
+
+-- `CRTC_ID` set: the plane or the connector leaves the set of the CRTC that it was on, and comes into that of the other
+abbrev pub after_crtc : Kind → Duplicates → ℕ → ℕ → Duplicates
+after_crtc Plane d id crtc = record d {
+  planes = changed Plane d.planes id (λ s. record s { crtc = crtc });
+  crtcs = rerouted d.crtcs Plane (id - first_id Plane) (new_number (λ s. s.crtc) (state_of Plane d.planes id)) crtc;
+}
+after_crtc Conn d id crtc = record d {
+  conns = changed Conn d.conns id (λ s. record s { crtc = crtc });
+  crtcs = rerouted d.crtcs Conn (id - first_id Conn) (new_number (λ s. s.crtc) (state_of Conn d.conns id)) crtc;
+}
+after_crtc Crtc d id crtc = d
+after_crtc Enc d id crtc = d
+
+-- The states after a property of an object is set to a value.
+abbrev pub after_value : Duplicates → ℕ → ℕ → SetValue → Duplicates
+after_value d id prop (to.Num n) = after_number (kind_of id) d id prop n
+after_value d id prop (to.Fb fb) = record d { planes = changed Plane d.planes id (λ s. record s { fb = fb }) }
+after_value d id prop (to.Mode mode) = record d { crtcs = changed Crtc d.crtcs id (λ s. record s { mode = mode }) }
+after_value d id prop (to.Crtc crtc) = after_crtc (kind_of id) d id crtc
+after_value d id prop to.Fence = d
+
+-- The states after a set: the new state of its object has the value, the sets of the CRTCs are in step, and all else
+-- stays. From: drm_atomic_set_property.
+abbrev pub after_set : Duplicates → Set → Duplicates
+after_set d s = after_value d s.object.0 s.prop s.value
+
+-- What a set does: the states are those after it, the new ones follow values, and no old state changes.
 pub record IsSet (before : Duplicates) (s : Set) (after : Duplicates) : Type 0 where
+  pub states : after ≡ after_set before s
   pub new : Sets before s after
   pub old : old_states after ≡ old_states before

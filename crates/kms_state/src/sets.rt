@@ -1,99 +1,74 @@
 //! Setting properties of duplicated states.
-ghost use Rattle.std.specs.Prelude.{◌≡◌, ◌<◌, ℕ, IsTrue, is_some};
+ghost use Rattle.std.specs.Prelude.{◌≡◌, ◌<◌, IsTrue, is_some};
 ghost use Rattle.kms_model.specs.declared.objects.Kind.TheVariants.{Crtc, Plane, Conn};
 ghost use Rattle.kms_model.specs.declared.properties.TheConstants.{ACTIVE, CRTC_ID, FB_ID, MODE_ID};
 ghost use Rattle.kms_model.specs.declared.sets.SetValue.TheVariants as to;
 ghost use Rattle.kms_model.specs.SetRanges.{may_set};
-ghost use Rattle.kms_state.specs.Places.{is_duplicated, kind_of, old_states, state_of};
-ghost use Rattle.kms_state.specs.Changes.{IsSet, Sets, changed, plane_with, rerouted, set_to, with_member, with_routed};
+ghost use Rattle.kms_state.specs.Places.{state_of};
+ghost use Rattle.kms_state.specs.Changes.{IsSet, changed, plane_with, rerouted, set_to, with_member, with_routed};
 
-use crate::places::{FIRST_CONN, FIRST_CRTC, FIRST_PLANE, conn, crtc, plane};
+use crate::places::{Duplicating, FIRST_CONN, FIRST_CRTC, FIRST_PLANE};
 use kms_model::properties::{
     ALPHA, BLEND, CRTC_H, CRTC_W, CRTC_X, CRTC_Y, SRC_H, SRC_W, SRC_X, SRC_Y, ZPOS,
 };
-use kms_model::{CrtcState, Duplicates, FbInfo, Kind, Mode, PlaneState, Set, SetValue};
-
-/// Sets a property of an object that is duplicated: its new state then has the value, and where that is a CRTC, the
-/// sets of planes and connectors of the CRTCs before and after are kept in step, as far as they are duplicated. The
-/// property is one of the object's kind that a request may set, and the value is among its values. `IN_FENCE_FD` and
-/// `OUT_FENCE_PTR` change nothing. (Kernel: `drm_atomic_set_property`, `drm_atomic_set_crtc_for_plane`,
-/// `drm_atomic_set_crtc_for_connector`.)
-pub fn set(states: &mut Duplicates, set: &Set)
-    requires object { IsTrue (is_duplicated states.old set.now.object.0) }
-    requires value { IsTrue (may_set (kind_of set.now.object.0) set.now.prop set.now.value) }
-    ensures new { Sets states.old set.now states.new }
-    ensures old { old_states states.new ≡ old_states states.old }
-    ensures same { (o : ℕ) → is_duplicated states.new o ≡ is_duplicated states.old o }
-    ensures fence { set.now.value ≡ to.Fence → states.new ≡ states.old }
-{
-    let id = set.object.0;
-    match set.value {
-        SetValue::Num(number) if id < FIRST_PLANE => set_active(states, id, number),
-        SetValue::Num(number) => set_number(states, id, set.prop, number),
-        SetValue::Fb(fb) => set_fb(states, id, fb),
-        SetValue::Mode(mode) => set_mode(states, id, mode),
-        SetValue::Crtc(crtc) if id < FIRST_CONN => move_plane(states, id, crtc),
-        SetValue::Crtc(crtc) => move_conn(states, id, crtc),
-        SetValue::Fence => {}
-    }
-}
+use kms_model::{CrtcState, Duplicates, FbInfo, Kind, Mode, PlaneState};
 
 /// `ACTIVE` of a CRTC.
-fn set_active(states: &mut Duplicates, id: u32, number: i64)
+pub(crate) fn set_active(states: &mut Duplicates, id: u32, number: i64)
     requires { IsTrue (is_some (state_of Crtc states.old.crtcs id)) }
     ensures { IsSet states.old (set_to id ACTIVE (to.Num number)) states.new }
 {
     let index = id - FIRST_CRTC;
-    if let Some(mut both) = crtc(states, index) {
+    if let Some(mut both) = states.crtc(index) {
         both.new.active = number != 0;
         states.crtcs[index as usize] = Some(both);
     }
 }
 
 /// `MODE_ID` of a CRTC.
-fn set_mode(states: &mut Duplicates, id: u32, mode: Option<Mode>)
+pub(crate) fn set_mode(states: &mut Duplicates, id: u32, mode: Option<Mode>)
     requires { IsTrue (is_some (state_of Crtc states.old.crtcs id)) }
     ensures { IsSet states.old (set_to id MODE_ID (to.Mode mode)) states.new }
 {
     let index = id - FIRST_CRTC;
-    if let Some(mut both) = crtc(states, index) {
+    if let Some(mut both) = states.crtc(index) {
         both.new.mode = mode;
         states.crtcs[index as usize] = Some(both);
     }
 }
 
 /// A number of a plane.
-fn set_number(states: &mut Duplicates, id: u32, prop: u32, number: i64)
+pub(crate) fn set_number(states: &mut Duplicates, id: u32, prop: u32, number: i64)
     requires there { IsTrue (is_some (state_of Plane states.old.planes id)) }
     requires value { IsTrue (may_set Plane prop (to.Num number)) }
     ensures { IsSet states.old (set_to id prop (to.Num number)) states.new }
 {
     let index = id - FIRST_PLANE;
-    if let Some(mut both) = plane(states, index) {
+    if let Some(mut both) = states.plane(index) {
         set_plane_number(&mut both.new, prop, number);
         states.planes[index as usize] = Some(both);
     }
 }
 
 /// `FB_ID` of a plane.
-fn set_fb(states: &mut Duplicates, id: u32, fb: Option<FbInfo>)
+pub(crate) fn set_fb(states: &mut Duplicates, id: u32, fb: Option<FbInfo>)
     requires { IsTrue (is_some (state_of Plane states.old.planes id)) }
     ensures { IsSet states.old (set_to id FB_ID (to.Fb fb)) states.new }
 {
     let index = id - FIRST_PLANE;
-    if let Some(mut both) = plane(states, index) {
+    if let Some(mut both) = states.plane(index) {
         both.new.fb = fb;
         states.planes[index as usize] = Some(both);
     }
 }
 
 /// `CRTC_ID` of a plane.
-fn move_plane(states: &mut Duplicates, id: u32, crtc: u32)
+pub(crate) fn move_plane(states: &mut Duplicates, id: u32, crtc: u32)
     requires { IsTrue (is_some (state_of Plane states.old.planes id)) }
     ensures { IsSet states.old (set_to id CRTC_ID (to.Crtc crtc)) states.new }
 {
     let index = id - FIRST_PLANE;
-    if let Some(mut both) = plane(states, index) {
+    if let Some(mut both) = states.plane(index) {
         let from = both.new.crtc;
         both.new.crtc = crtc;
         states.planes[index as usize] = Some(both);
@@ -103,12 +78,12 @@ fn move_plane(states: &mut Duplicates, id: u32, crtc: u32)
 }
 
 /// `CRTC_ID` of a connector.
-fn move_conn(states: &mut Duplicates, id: u32, crtc: u32)
+pub(crate) fn move_conn(states: &mut Duplicates, id: u32, crtc: u32)
     requires { IsTrue (is_some (state_of Conn states.old.conns id)) }
     ensures { IsSet states.old (set_to id CRTC_ID (to.Crtc crtc)) states.new }
 {
     let index = id - FIRST_CONN;
-    if let Some(mut both) = conn(states, index) {
+    if let Some(mut both) = states.conn(index) {
         let from = both.new.crtc;
         both.new.crtc = crtc;
         states.conns[index as usize] = Some(both);
@@ -126,7 +101,7 @@ fn put_routed(states: &mut Duplicates, id: u32, kind: Kind, index: u32, is_there
         return;
     }
     let place = id - FIRST_CRTC;
-    if let Some(mut both) = crtc(states, place) {
+    if let Some(mut both) = states.crtc(place) {
         change_routed(&mut both.new, kind, index, is_there);
         states.crtcs[place as usize] = Some(both);
     }

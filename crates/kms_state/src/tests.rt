@@ -2,10 +2,7 @@ ghost use Rattle.std.specs.Prelude.{IsTrue};
 ghost use Rattle.kms_model.specs.SetRanges.{may_set};
 ghost use Rattle.kms_state.specs.Places.{kind_of};
 
-use crate::{
-    conn, crtc, duplicate, empty, is_duplicated, kind_of, may_duplicate, new_conn, new_crtc,
-    new_plane, plane, set,
-};
+use crate::{Duplicating, kind_of};
 use kms_model::properties::{
     ACTIVE, ALPHA, BLEND, CRTC_H, CRTC_ID, CRTC_W, CRTC_X, CRTC_Y, FB_ID, IN_FENCE_FD, MODE_ID,
     OUT_FENCE_PTR, SRC_H, SRC_W, SRC_X, SRC_Y, ZPOS,
@@ -77,8 +74,8 @@ fn a_mode() -> Mode {
 
 // Duplicates a state that may be duplicated.
 fn add(rt: &impl Abort, states: &mut Duplicates, id: u32, state: ObjState) {
-    assert!(rt; may_duplicate(states, ObjId(id), &state));
-    duplicate(states, ObjId(id), state);
+    assert!(rt; states.may_duplicate(ObjId(id), &state));
+    states.duplicate(ObjId(id), state);
 }
 
 // Sets a property of an object that is duplicated.
@@ -86,20 +83,17 @@ fn put(rt: &impl Abort, states: &mut Duplicates, object: u32, prop: u32, value: 
     requires { IsTrue (may_set (kind_of object) prop value) }
 {
     let object = ObjId(object);
-    assert!(rt; is_duplicated(states, object));
-    set(
-        states,
-        &Set {
-            object,
-            prop,
-            value,
-        },
-    );
+    assert!(rt; states.is_duplicated(object));
+    states.set(&Set {
+        object,
+        prop,
+        value,
+    });
 }
 
 // The planes and the connectors of a CRTC, old and new.
 fn masks(states: &Duplicates, index: u32) -> Option<[u32; 4]> {
-    let both = crtc(states, index)?;
+    let both = states.crtc(index)?;
     Some([
         both.old.planes,
         both.old.conns,
@@ -110,7 +104,7 @@ fn masks(states: &Duplicates, index: u32) -> Option<[u32; 4]> {
 
 // Plane 0 and connector 0 are on CRTC 0, plane 15 and connector 7 are on the last CRTC.
 fn device(rt: &impl Abort) -> Duplicates {
-    let mut states = empty();
+    let mut states = Duplicates::empty();
     add(rt, &mut states, 100, a_crtc(0x1, 0x1));
     add(rt, &mut states, 103, a_crtc(0x8000, 0x80));
     add(rt, &mut states, 200, a_plane(100));
@@ -127,7 +121,7 @@ fn a_plane_that_moves_is_on_its_new_crtc_alone(rt: HostRuntime) {
     assert_eq!(rt; masks(&states, 0), Some([0x1, 0x1, 0, 0x1]));
     assert_eq!(rt; masks(&states, 3), Some([0x8000, 0x80, 0x8001, 0x80]));
     assert_eq!(rt;
-        plane(&states, 0).map(|b| [b.old.crtc, b.new.crtc]),
+        states.plane(0).map(|b| [b.old.crtc, b.new.crtc]),
         Some([100, 103])
     );
     put(&rt, &mut states, 215, CRTC_ID, SetValue::Crtc(0));
@@ -140,18 +134,42 @@ fn a_plane_that_moves_is_on_its_new_crtc_alone(rt: HostRuntime) {
 }
 
 #[test]
+fn other_crtcs_keep_what_no_device_has(rt: HostRuntime) {
+    let mut states = Duplicates::empty();
+    add(&rt, &mut states, 100, a_crtc(0xFFFF_0000, 0));
+    add(&rt, &mut states, 103, a_crtc(0x1, 0));
+    add(&rt, &mut states, 200, a_plane(100));
+    put(&rt, &mut states, 200, CRTC_ID, SetValue::Crtc(100));
+    assert_eq!(rt; masks(&states, 0), Some([0xFFFF_0000, 0, 0xFFFF_0001, 0]));
+    assert_eq!(rt; masks(&states, 3), Some([0x1, 0, 0x1, 0]));
+}
+
+#[test]
+fn a_plane_moves_between_crtcs_that_are_not_duplicated(rt: HostRuntime) {
+    let mut states = Duplicates::empty();
+    add(&rt, &mut states, 100, a_crtc(0x2, 0x2));
+    add(&rt, &mut states, 200, a_plane(101));
+    put(&rt, &mut states, 200, CRTC_ID, SetValue::Crtc(102));
+    assert_eq!(rt; states.new_plane(0).map(|p| p.crtc), Some(102));
+    assert_eq!(rt; masks(&states, 0), Some([0x2, 0x2, 0x2, 0x2]));
+    assert_eq!(rt; (masks(&states, 1), masks(&states, 2)), (None, None));
+    put(&rt, &mut states, 200, CRTC_ID, SetValue::Crtc(100));
+    assert_eq!(rt; masks(&states, 0), Some([0x2, 0x2, 0x3, 0x2]));
+}
+
+#[test]
 fn a_connector_that_moves_is_on_its_new_crtc_alone(rt: HostRuntime) {
     let mut states = device(&rt);
     put(&rt, &mut states, 307, CRTC_ID, SetValue::Crtc(100));
     assert_eq!(rt; masks(&states, 0), Some([0x1, 0x1, 0x1, 0x81]));
     assert_eq!(rt; masks(&states, 3), Some([0x8000, 0x80, 0x8000, 0]));
     assert_eq!(rt;
-        conn(&states, 7).map(|b| [b.old.crtc, b.new.crtc]),
+        states.conn(7).map(|b| [b.old.crtc, b.new.crtc]),
         Some([103, 100])
     );
     put(&rt, &mut states, 300, CRTC_ID, SetValue::Crtc(0));
     assert_eq!(rt; masks(&states, 0), Some([0x1, 0x1, 0x1, 0x80]));
-    assert_eq!(rt; new_conn(&states, 0), Some(ConnState { crtc: 0 }));
+    assert_eq!(rt; states.new_conn(0), Some(ConnState { crtc: 0 }));
 }
 
 #[test]
@@ -188,9 +206,9 @@ fn each_property_of_a_plane_is_set_by_itself(rt: HostRuntime) {
         blend: 2,
         zpos: 255,
     };
-    assert_eq!(rt; new_plane(&states, 0), Some(want));
-    assert_eq!(rt; plane(&states, 0).map(|b| b.old.zpos), Some(1));
-    assert_eq!(rt; new_plane(&states, 15).map(|p| p.zpos), Some(1));
+    assert_eq!(rt; states.new_plane(0), Some(want));
+    assert_eq!(rt; states.plane(0).map(|b| b.old.zpos), Some(1));
+    assert_eq!(rt; states.new_plane(15).map(|p| p.zpos), Some(1));
     assert_eq!(rt; masks(&states, 0), Some([0x1, 0x1, 0x1, 0x1]));
 }
 
@@ -211,31 +229,31 @@ fn a_crtc_is_lit_and_gets_a_mode(rt: HostRuntime) {
         planes: 0x8000,
         conns: 0x80,
     };
-    assert_eq!(rt; new_crtc(&states, 3), Some(want));
-    assert_eq!(rt; crtc(&states, 3).map(|b| b.old.active), Some(false));
+    assert_eq!(rt; states.new_crtc(3), Some(want));
+    assert_eq!(rt; states.crtc(3).map(|b| b.old.active), Some(false));
     put(&rt, &mut states, 103, ACTIVE, SetValue::Num(0));
-    assert_eq!(rt; new_crtc(&states, 3).map(|c| c.active), Some(false));
-    assert_eq!(rt; new_crtc(&states, 0).map(|c| c.active), Some(false));
+    assert_eq!(rt; states.new_crtc(3).map(|c| c.active), Some(false));
+    assert_eq!(rt; states.new_crtc(0).map(|c| c.active), Some(false));
 }
 
 #[test]
 fn a_fence_changes_nothing(rt: HostRuntime) {
     let mut states = device(&rt);
-    let before = (new_plane(&states, 0), new_crtc(&states, 0));
+    let before = (states.new_plane(0), states.new_crtc(0));
     put(&rt, &mut states, 200, IN_FENCE_FD, SetValue::Fence);
     put(&rt, &mut states, 100, OUT_FENCE_PTR, SetValue::Fence);
-    assert_eq!(rt; (new_plane(&states, 0), new_crtc(&states, 0)), before);
+    assert_eq!(rt; (states.new_plane(0), states.new_crtc(0)), before);
 }
 
 #[test]
 fn ids_that_are_no_objects_have_no_place(rt: HostRuntime) {
     let states = device(&rt);
     for id in [0, 99, 101, 104, 199, 201, 216, 299, 301, 308, 400] {
-        assert!(rt; !is_duplicated(&states, ObjId(id)), "{id}");
+        assert!(rt; !states.is_duplicated(ObjId(id)), "{id}");
     }
     for id in [100, 103, 200, 215, 300, 307] {
-        assert!(rt; is_duplicated(&states, ObjId(id)), "{id}");
-        assert!(rt; !may_duplicate(&states, ObjId(id), &a_plane(0)), "{id}");
+        assert!(rt; states.is_duplicated(ObjId(id)), "{id}");
+        assert!(rt; !states.may_duplicate(ObjId(id), &a_plane(0)), "{id}");
     }
     for (id, kind) in [
         (199, Kind::Crtc),
@@ -244,10 +262,10 @@ fn ids_that_are_no_objects_have_no_place(rt: HostRuntime) {
         (400, Kind::Enc),
     ] {
         assert_eq!(rt; kind_of(ObjId(id)), kind);
-        assert!(rt; !may_duplicate(&states, ObjId(id), &a_crtc(0, 0)));
-        assert!(rt; !may_duplicate(&states, ObjId(id), &a_conn(0)));
+        assert!(rt; !states.may_duplicate(ObjId(id), &a_crtc(0, 0)));
+        assert!(rt; !states.may_duplicate(ObjId(id), &a_conn(0)));
     }
-    assert!(rt; !may_duplicate(&states, ObjId(101), &a_plane(0)));
-    assert!(rt; may_duplicate(&states, ObjId(101), &a_crtc(0, 0)));
-    assert!(rt; may_duplicate(&states, ObjId(214), &a_plane(0)));
+    assert!(rt; !states.may_duplicate(ObjId(101), &a_plane(0)));
+    assert!(rt; states.may_duplicate(ObjId(101), &a_crtc(0, 0)));
+    assert!(rt; states.may_duplicate(ObjId(214), &a_plane(0)));
 }

@@ -10,7 +10,7 @@ use Rattle.kms_model.specs.Apply.{is_kept}
 use Rattle.kms_model.proofs.ValueLemmas.{Puts}
 use Rattle.kms_model.proofs.SetLemmas.{may_set-takes}
 use Rattle.kms_state.specs.Changes.{plane_with}
-use Rattle.kms_state.proofs.SetsProperty.{is_at, number_plane, sets_plane}
+use Rattle.kms_state.proofs.SetsProperty.{is_at, number_after, number_plane, sets_plane}
 use Rattle.kms_state.proofs.sets.set_number.Goals as goal
 
 pub returns-in-Some : goal.returns-in-Some
@@ -24,6 +24,7 @@ returns-in-Some c =
     let no_fb = eqb-false c.args.prop FB_ID (not-true (c.args.prop == FB_ID) others.0) in
     let no_crtc = eqb-false c.args.prop CRTC_ID (not-true (c.args.prop == CRTC_ID) others.1) in
     sets_plane c.args.states.now c.args.id c.args.prop (to.Num c.args.number) both (record both { new = c.set_plane_number.new.plane })
-    (is_at Plane c.args.states.now.planes c.args.id both c.requires.there c.in-Some.ensures) refl (omega arith) parts.0 no_crtc
+    (is_at Plane c.args.states.now.planes c.args.id both c.requires.there c.in-Some.ensures) refl (omega arith)
+    (number_after c.args.states.now c.args.id c.args.prop c.args.number both c.set_plane_number.new.plane (is_at Plane c.args.states.now.planes c.args.id both c.requires.there c.in-Some.ensures) (omega arith) changed) parts.0 no_crtc
     (λ things before after number stands puts was.
     changed ∙ ap with_number was ∙ number_plane things before after c.args.id c.args.prop c.args.number (subst (λ z. Puts before after c.args.id c.args.prop z) stands puts) no_fb no_crtc)

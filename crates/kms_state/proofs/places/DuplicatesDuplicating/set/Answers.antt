@@ -1,0 +1,132 @@
+-- A set by what it sets.
+use Rattle.std.proofs.Common.{◌≡◌, true, arith, refl, rules, subst, subst₂, sym, SFits, w64, to_z-of_z}
+use Rattle.kms_model.specs.declared.objects.Kind.TheVariants.{Plane}
+use Rattle.kms_model.specs.declared.properties.TheConstants.{ACTIVE, CRTC_ID, FB_ID, MODE_ID}
+use Rattle.kms_model.specs.declared.sets.SetValue.TheVariants as to
+use Rattle.kms_model.specs.SetRanges.{may_set}
+use Rattle.kms_state.specs.Changes.{IsSet, set_to}
+use Rattle.kms_state.proofs.Slots.{same_duplicated}
+use Rattle.kms_state.proofs.SetsProperty.{active_set, as_set, conn_move, fb_set, fence_set, made, mode_set, number_set, plane_move}
+use Rattle.kms_state.proofs.places.DuplicatesDuplicating.set.Goals as goal
+
+pub set_active-requires : goal.set_active-requires
+set_active-requires c = (active_set c.args.self.now c.args.set.now c.in-Num.number (omega arith) (made c.args.self.now c.args.set.now (to.Num c.in-Num.number) c.requires.object c.requires.value c.in-Num.is)).0
+
+pub set_number-requires-clause-there : goal.set_number-requires-clause-there
+set_number-requires-clause-there c = (number_set c.args.self.now c.args.set.now c.in-Num-2.number (omega arith) (made c.args.self.now c.args.set.now (to.Num c.in-Num-2.number) c.requires.object c.requires.value c.in-Num-2.is)).1
+
+pub set_fb-requires : goal.set_fb-requires
+set_fb-requires c = (fb_set c.args.self.now c.args.set.now c.in-Fb.fb (made c.args.self.now c.args.set.now (to.Fb c.in-Fb.fb) c.requires.object c.requires.value c.in-Fb.is)).0
+
+pub set_mode-requires : goal.set_mode-requires
+set_mode-requires c = (mode_set c.args.self.now c.args.set.now c.in-Mode.mode (made c.args.self.now c.args.set.now (to.Mode c.in-Mode.mode) c.requires.object c.requires.value c.in-Mode.is)).0
+
+pub move_plane-requires : goal.move_plane-requires
+move_plane-requires c = (plane_move c.args.self.now c.args.set.now c.in-Crtc.crtc (omega arith) (made c.args.self.now c.args.set.now (to.Crtc c.in-Crtc.crtc) c.requires.object c.requires.value c.in-Crtc.is)).0
+
+pub move_conn-requires : goal.move_conn-requires
+move_conn-requires c = (conn_move c.args.self.now c.args.set.now c.in-Crtc-2.crtc (omega arith) (made c.args.self.now c.args.set.now (to.Crtc c.in-Crtc-2.crtc) c.requires.object c.requires.value c.in-Crtc-2.is)).0
+
+pub set_number-requires-clause-value : goal.set_number-requires-clause-value
+set_number-requires-clause-value c =
+    let kind = (number_set c.args.self.now c.args.set.now c.in-Num-2.number (omega arith) (made c.args.self.now c.args.set.now (to.Num c.in-Num-2.number) c.requires.object c.requires.value c.in-Num-2.is)).0 in
+    let fits : SFits w64 c.in-Num-2.number = search rules in
+    subst (λ n. may_set Plane c.args.set.now.prop (to.Num n) ≡ true) (sym (to_z-of_z fits)) (subst₂ (λ k v. may_set k c.args.set.now.prop v ≡ true) kind c.in-Num-2.is c.requires.value)
+
+pub returns-in-Num-clause-states : goal.returns-in-Num-clause-states
+returns-in-Num-clause-states c =
+    let fits : SFits w64 c.in-Num.number = search rules in
+    (as_set c.args.self.now c.set_active.new.states c.args.set.now ACTIVE (to.Num c.in-Num.number)
+    (active_set c.args.self.now c.args.set.now c.in-Num.number (omega arith) (made c.args.self.now c.args.set.now (to.Num c.in-Num.number) c.requires.object c.requires.value c.in-Num.is)).1
+    c.in-Num.is (subst (λ n. IsSet c.args.self.now (set_to c.args.set.now.object.0 ACTIVE (to.Num n)) c.set_active.new.states) (to_z-of_z fits) c.set_active.ensures)).states
+
+pub returns-in-Num-clause-new : goal.returns-in-Num-clause-new
+returns-in-Num-clause-new c =
+    let fits : SFits w64 c.in-Num.number = search rules in
+    (as_set c.args.self.now c.set_active.new.states c.args.set.now ACTIVE (to.Num c.in-Num.number)
+    (active_set c.args.self.now c.args.set.now c.in-Num.number (omega arith) (made c.args.self.now c.args.set.now (to.Num c.in-Num.number) c.requires.object c.requires.value c.in-Num.is)).1
+    c.in-Num.is (subst (λ n. IsSet c.args.self.now (set_to c.args.set.now.object.0 ACTIVE (to.Num n)) c.set_active.new.states) (to_z-of_z fits) c.set_active.ensures)).new
+
+pub returns-in-Num-2-clause-states : goal.returns-in-Num-2-clause-states
+returns-in-Num-2-clause-states c =
+    let fits : SFits w64 c.in-Num-2.number = search rules in
+    (as_set c.args.self.now c.set_number.new.states c.args.set.now c.args.set.now.prop (to.Num c.in-Num-2.number) refl
+    c.in-Num-2.is (subst (λ n. IsSet c.args.self.now (set_to c.args.set.now.object.0 c.args.set.now.prop (to.Num n)) c.set_number.new.states) (to_z-of_z fits) c.set_number.ensures)).states
+
+pub returns-in-Num-2-clause-new : goal.returns-in-Num-2-clause-new
+returns-in-Num-2-clause-new c =
+    let fits : SFits w64 c.in-Num-2.number = search rules in
+    (as_set c.args.self.now c.set_number.new.states c.args.set.now c.args.set.now.prop (to.Num c.in-Num-2.number) refl
+    c.in-Num-2.is (subst (λ n. IsSet c.args.self.now (set_to c.args.set.now.object.0 c.args.set.now.prop (to.Num n)) c.set_number.new.states) (to_z-of_z fits) c.set_number.ensures)).new
+
+pub returns-in-Fb-clause-states : goal.returns-in-Fb-clause-states
+returns-in-Fb-clause-states c =
+    (as_set c.args.self.now c.set_fb.new.states c.args.set.now FB_ID (to.Fb c.in-Fb.fb)
+    (fb_set c.args.self.now c.args.set.now c.in-Fb.fb (made c.args.self.now c.args.set.now (to.Fb c.in-Fb.fb) c.requires.object c.requires.value c.in-Fb.is)).1
+    c.in-Fb.is c.set_fb.ensures).states
+
+pub returns-in-Fb-clause-new : goal.returns-in-Fb-clause-new
+returns-in-Fb-clause-new c =
+    (as_set c.args.self.now c.set_fb.new.states c.args.set.now FB_ID (to.Fb c.in-Fb.fb)
+    (fb_set c.args.self.now c.args.set.now c.in-Fb.fb (made c.args.self.now c.args.set.now (to.Fb c.in-Fb.fb) c.requires.object c.requires.value c.in-Fb.is)).1
+    c.in-Fb.is c.set_fb.ensures).new
+
+pub returns-in-Mode-clause-states : goal.returns-in-Mode-clause-states
+returns-in-Mode-clause-states c =
+    (as_set c.args.self.now c.set_mode.new.states c.args.set.now MODE_ID (to.Mode c.in-Mode.mode)
+    (mode_set c.args.self.now c.args.set.now c.in-Mode.mode (made c.args.self.now c.args.set.now (to.Mode c.in-Mode.mode) c.requires.object c.requires.value c.in-Mode.is)).1
+    c.in-Mode.is c.set_mode.ensures).states
+
+pub returns-in-Mode-clause-new : goal.returns-in-Mode-clause-new
+returns-in-Mode-clause-new c =
+    (as_set c.args.self.now c.set_mode.new.states c.args.set.now MODE_ID (to.Mode c.in-Mode.mode)
+    (mode_set c.args.self.now c.args.set.now c.in-Mode.mode (made c.args.self.now c.args.set.now (to.Mode c.in-Mode.mode) c.requires.object c.requires.value c.in-Mode.is)).1
+    c.in-Mode.is c.set_mode.ensures).new
+
+pub returns-in-Crtc-clause-states : goal.returns-in-Crtc-clause-states
+returns-in-Crtc-clause-states c =
+    (as_set c.args.self.now c.move_plane.new.states c.args.set.now CRTC_ID (to.Crtc c.in-Crtc.crtc)
+    (plane_move c.args.self.now c.args.set.now c.in-Crtc.crtc (omega arith) (made c.args.self.now c.args.set.now (to.Crtc c.in-Crtc.crtc) c.requires.object c.requires.value c.in-Crtc.is)).1
+    c.in-Crtc.is c.move_plane.ensures).states
+
+pub returns-in-Crtc-clause-new : goal.returns-in-Crtc-clause-new
+returns-in-Crtc-clause-new c =
+    (as_set c.args.self.now c.move_plane.new.states c.args.set.now CRTC_ID (to.Crtc c.in-Crtc.crtc)
+    (plane_move c.args.self.now c.args.set.now c.in-Crtc.crtc (omega arith) (made c.args.self.now c.args.set.now (to.Crtc c.in-Crtc.crtc) c.requires.object c.requires.value c.in-Crtc.is)).1
+    c.in-Crtc.is c.move_plane.ensures).new
+
+pub returns-in-Crtc-2-clause-states : goal.returns-in-Crtc-2-clause-states
+returns-in-Crtc-2-clause-states c =
+    (as_set c.args.self.now c.move_conn.new.states c.args.set.now CRTC_ID (to.Crtc c.in-Crtc-2.crtc)
+    (conn_move c.args.self.now c.args.set.now c.in-Crtc-2.crtc (omega arith) (made c.args.self.now c.args.set.now (to.Crtc c.in-Crtc-2.crtc) c.requires.object c.requires.value c.in-Crtc-2.is)).1
+    c.in-Crtc-2.is c.move_conn.ensures).states
+
+pub returns-in-Crtc-2-clause-new : goal.returns-in-Crtc-2-clause-new
+returns-in-Crtc-2-clause-new c =
+    (as_set c.args.self.now c.move_conn.new.states c.args.set.now CRTC_ID (to.Crtc c.in-Crtc-2.crtc)
+    (conn_move c.args.self.now c.args.set.now c.in-Crtc-2.crtc (omega arith) (made c.args.self.now c.args.set.now (to.Crtc c.in-Crtc-2.crtc) c.requires.object c.requires.value c.in-Crtc-2.is)).1
+    c.in-Crtc-2.is c.move_conn.ensures).new
+
+pub returns-in-Fence-clause-states : goal.returns-in-Fence-clause-states
+returns-in-Fence-clause-states c = (fence_set c.args.self.now c.args.set.now (made c.args.self.now c.args.set.now to.Fence c.requires.object c.requires.value c.in-Fence.is) c.in-Fence.is).states
+
+pub returns-in-Fence-clause-new : goal.returns-in-Fence-clause-new
+returns-in-Fence-clause-new c = (fence_set c.args.self.now c.args.set.now (made c.args.self.now c.args.set.now to.Fence c.requires.object c.requires.value c.in-Fence.is) c.in-Fence.is).new
+
+pub returns-in-Num-clause-same : goal.returns-in-Num-clause-same
+returns-in-Num-clause-same c = λ o. same_duplicated c.args.self.now c.set_active.new.states o c.set_active.ensures.old
+
+pub returns-in-Num-2-clause-same : goal.returns-in-Num-2-clause-same
+returns-in-Num-2-clause-same c = λ o. same_duplicated c.args.self.now c.set_number.new.states o c.set_number.ensures.old
+
+pub returns-in-Fb-clause-same : goal.returns-in-Fb-clause-same
+returns-in-Fb-clause-same c = λ o. same_duplicated c.args.self.now c.set_fb.new.states o c.set_fb.ensures.old
+
+pub returns-in-Mode-clause-same : goal.returns-in-Mode-clause-same
+returns-in-Mode-clause-same c = λ o. same_duplicated c.args.self.now c.set_mode.new.states o c.set_mode.ensures.old
+
+pub returns-in-Crtc-clause-same : goal.returns-in-Crtc-clause-same
+returns-in-Crtc-clause-same c = λ o. same_duplicated c.args.self.now c.move_plane.new.states o c.move_plane.ensures.old
+
+pub returns-in-Crtc-2-clause-same : goal.returns-in-Crtc-2-clause-same
+returns-in-Crtc-2-clause-same c = λ o. same_duplicated c.args.self.now c.move_conn.new.states o c.move_conn.ensures.old
