@@ -4,3 +4,4 @@ pub mod IndexLemmas
 pub mod NamedLemmas
 pub mod NamingLemmas
 pub mod WholeLemmas
+pub mod SameLooks

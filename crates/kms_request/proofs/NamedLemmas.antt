@@ -34,7 +34,9 @@ use Rattle.kms_model.specs.Resolves.{IsAllowed, IsPlaced, IsSettable}
 use Rattle.kms_model.specs.Sets.{crtc_value, last_sets, set_of, set_value}
 use Rattle.kms_model.specs.Touched.{last_value, named_set}
 use Rattle.kms_model.proofs.RequestLemmas.{HasFew, accepted_allowed, all_settable, has_few}
-use Rattle.kms_model.proofs.HeldLemmas.{HoldsAll, IsCrtcOf, holds_all}
+use Rattle.kms_model.specs.Sound.{IsCrtcOrNone}
+use Rattle.kms_model.specs.Sound.IsCrtcOrNone.{IsNone, IsCrtc}
+use Rattle.kms_model.proofs.HeldValues.{AreAllHeld, all_held-from}
 use Rattle.kms_model.proofs.CrtcLemmas.{all_in, crtc_after, crtc_after_held, crtc_before_held, routed}
 use Rattle.kms_model.proofs.LastLemmas.{IsIn, from_last, has_last, in_passes, set_by, some_in}
 use Rattle.kms_model.proofs.MaskLemmas.{mask_from}
@@ -233,11 +235,9 @@ module _ (t : Topology) (things : List worlds.Thing) (old : List Setting) (f : �
 -- No request names a CRTC that the device does not have
 
 -- a CRTC of the device is none that it does not have
-not_outside : (t : Topology) (id index : ℕ) → t.crtcs ≤ index → IsCrtcOf t id → (id == 100 + index) ≡ false
-not_outside t id index out of = elim of.none_or [
-  | inl none ↦ ne_eqb id (100 + index) (λ e. omega (arith, none, e))
-  | inr some ↦ (let less : some.0 < t.crtcs = ltb-true some.0 t.crtcs some.1 in ne_eqb id (100 + index) (λ e. omega (arith, less, some.2, e)))
-]
+not_outside : (t : Topology) (id index : ℕ) → t.crtcs ≤ index → IsCrtcOrNone t id → (id == 100 + index) ≡ false
+not_outside t id index out (IsNone none) = ne_eqb id (100 + index) (λ e. omega (arith, none, e))
+not_outside t id index out (IsCrtc i less is) = ne_eqb id (100 + index) (λ e. omega (arith, less, is, e))
 
 not_itself : (t : Topology) (k : Kind) (i index : ℕ) → t.crtcs ≤ index → index < 4 → exists t k i ≡ true → IsPlaced k i → (object_id k i == 100 + index) ≡ false
 not_itself t Crtc i index out less there placed = (let h : i < t.crtcs = ltb-true i t.crtcs there in ne_eqb (100 + i) (100 + index) (λ e. omega (arith, h, e)))
@@ -245,7 +245,7 @@ not_itself t Plane i index out less there placed = ne_eqb (200 + i) (100 + index
 not_itself t Conn i index out less there placed = ne_eqb (300 + i) (100 + index) (λ e. omega (arith, e))
 not_itself t Enc i index out less there placed = absurd placed
 
-none_outside : (t : Topology) (things : List worlds.Thing) (old : List Setting) (f : ℕ → Look) (assigns : List Assign) (index : ℕ) → HoldsAll t things old → All (IsAllowed t f) assigns → All IsSettable assigns → t.crtcs ≤ index → index < 4
+none_outside : (t : Topology) (things : List worlds.Thing) (old : List Setting) (f : ℕ → Look) (assigns : List Assign) (index : ℕ) → AreAllHeld t things old → All (IsAllowed t f) assigns → All IsSettable assigns → t.crtcs ≤ index → index < 4
     → names old (apply things old assigns) assigns (100 + index) ≡ false
 none_outside t things old f assigns index held allowed settable out less = false_from_ne_true _ (λ any.
     let found = some_in (is_named_by_assign old (apply things old assigns) (100 + index)) assigns any in
@@ -272,7 +272,7 @@ shorter test n (suc m) low none = elim (cases_eq n (suc m)) [
 ]
 
 -- a set of CRTCs that are those that a request names
-pub crtcs_named : (t : Topology) (things : List worlds.Thing) (old : List Setting) (f : ℕ → Look) (assigns : List Assign) (test : ℕ → Bool) (mask : ℕ) → HasFew t → HoldsAll t things old → All (IsAllowed t f) assigns → All IsSettable assigns
+pub crtcs_named : (t : Topology) (things : List worlds.Thing) (old : List Setting) (f : ℕ → Look) (assigns : List Assign) (test : ℕ → Bool) (mask : ℕ) → HasFew t → AreAllHeld t things old → All (IsAllowed t f) assigns → All IsSettable assigns
     → AreCrtcs test mask → ((crtc : ℕ) → 0 < crtc → test crtc ≡ names old (apply things old assigns) assigns crtc) → mask ≡ named_set t old (apply things old assigns) assigns
 crtcs_named t things old f assigns test mask few held allowed settable are same =
     let named : ℕ → Bool = λ index. names old (apply things old assigns) assigns (100 + index) in
@@ -288,5 +288,5 @@ named_is t w f r resolved d mask covers are =
     let Duplicated : List Set → Type 0 = λ sets. All (λ s. is_duplicated d s.object.0 ≡ true) sets in
     let duplicated = subst Duplicated covers.asks.sets covers.duplicated in
     let NamedBy : List Set → ℕ → Bool = λ sets crtc. list_any (λ s. is_named_by d s crtc) sets in
-    crtcs_named t w.things w.values f r.assigns (NamedBy resolved.sets) mask (has_few t covers.limits) (holds_all t w.things w.values covers.sound.held) allowed settable are
+    crtcs_named t w.things w.values f r.assigns (NamedBy resolved.sets) mask (has_few t covers.limits) (all_held-from t w.things w.values covers.sound.held) allowed settable are
     (λ crtc some. ap (λ (sets : List Set). NamedBy sets crtc) covers.asks.sets ∙ same_names t w.things w.values f r.assigns d allowed settable covers.old duplicated crtc some)

@@ -31,7 +31,7 @@ use Rattle.kms_model.specs.States.{crtc_at}
 use Rattle.kms_model.specs.Touched.{is_asked, named_set, out_fence_label}
 use Rattle.kms_model.proofs.CrtcLemmas.{all_in}
 use Rattle.kms_model.proofs.LastLemmas.{IsIn}
-use Rattle.kms_model.proofs.HeldLemmas.{holds_all}
+use Rattle.kms_model.proofs.HeldValues.{all_held-from}
 use Rattle.kms_model.proofs.HeldValues.{all_held-from}
 use Rattle.kms_model.proofs.Items.{ids-has}
 use Rattle.kms_model.proofs.LateLemmas.{Covers, fenced_set, late_of_states-is}
@@ -116,7 +116,7 @@ named_between-is t w r d mask stand are =
     let new : List Setting = apply w.things w.values r.assigns in
     let allowed = accepted_allowed t (look_up w) r stand.early in
     let settable = settable_between t w r d stand in
-    crtcs_named t w.things w.values (look_up w) r.assigns (λ crtc. list_any (λ a. is_named_between d a crtc) r.assigns) mask (has_few t (limits_of t stand.device)) (holds_all t w.things w.values stand.sound.held) allowed settable are
+    crtcs_named t w.things w.values (look_up w) r.assigns (λ crtc. list_any (λ a. is_named_between d a crtc) r.assigns) mask (has_few t (limits_of t stand.device)) (all_held-from t w.things w.values stand.sound.held) allowed settable are
     (λ crtc some. any_agree (λ a. is_named_between d a crtc) (is_named_by w.values new crtc) r.assigns (λ a member.
     let fits = all_in IsSettable r.assigns a settable member in
     let may = all_in (IsAllowed t (look_up w)) r.assigns a allowed member in

@@ -1,10 +1,12 @@
 //! What an accepted request asks for.
 ghost use Rattle.std.specs.Prelude.{◌≡◌, ℕ, IfErr, IfOk, IsTrue};
+ghost use Rattle.kms_model.specs.declared.worlds.Look.{Look};
 ghost use Rattle.kms_model.specs.Properties.{keeps_limits};
 ghost use Rattle.kms_model.specs.Refusals.{early_refusal};
 ghost use Rattle.kms_model.specs.Resolves.{IsResolved};
 ghost use Rattle.kms_model.specs.Sets.{look_in};
 ghost use Rattle.kms_request.specs.Answers.{ComesFrom};
+ghost use Rattle.kms_request.specs.SameLooks.{TellsLabels};
 
 use crate::errors::RequestError;
 use crate::fences::{in_fences, out_fences};
@@ -24,6 +26,11 @@ pub fn resolve(
     requires { IsTrue (keeps_limits topology.now) }
     ensures resolved { IfOk result (IsResolved topology.now (look_in found.now) request.now) }
     ensures refused { IfErr result (ComesFrom (early_refusal topology.now (look_in found.now) request.now)) }
+
+    // The same of every other way to look labels up, as in a world, that tells of the labels of the request what `found`
+    // tells.
+    ensures resolved_by { (f : ℕ → Look) → TellsLabels (look_in found.now) f request.now.assigns → IfOk result (IsResolved topology.now f request.now) }
+    ensures refused_by { (f : ℕ → Look) → TellsLabels (look_in found.now) f request.now.assigns → IfErr result (ComesFrom (early_refusal topology.now f request.now)) }
 {
     if let Some(refusal) = early(topology, request, found) {
         return Err(RequestError::Of(refusal));

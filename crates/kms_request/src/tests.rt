@@ -89,6 +89,25 @@ fn device(alloc: Global) -> Result<Topology, NoMemory>
     })
 }
 
+/// The smallest device: one CRTC, one plane and one connector.
+fn small_device(alloc: Global) -> Result<Topology, NoMemory>
+    ensures { IfOk result (λ t. IsTrue (keeps_limits t)) }
+{
+    let mut planes = Seq::new(alloc);
+    planes.push(PlaneInfo {
+        kind: 1,
+        crtcs: 1,
+        formats: 1,
+    })?;
+    let mut conns = Seq::new(alloc);
+    conns.push(1)?;
+    Ok(Topology {
+        crtcs: 1,
+        planes,
+        conns,
+    })
+}
+
 fn request(alloc: Global, flags: u32, assigns: &[Assign]) -> Result<Request, NoMemory> {
     Ok(Request {
         flags,
@@ -114,7 +133,42 @@ fn on_crtc(prop: u32, value: Value) -> Assign {
     set(Kind::Crtc, 0, prop, value)
 }
 
-/// Asserts which refusal flags and assignments meet.
+/// The refusal that a request meets where it is resolved.
+fn refused(
+    alloc: Global,
+    topology: &Topology,
+    request: &Request,
+    found: &Lookups,
+) -> Result<Option<Refusal>, NoMemory>
+    requires { IsTrue (keeps_limits topology.now) }
+{
+    match resolve(alloc, topology, request, found) {
+        Ok(_) => Ok(None),
+        Err(RequestError::Of(refusal)) => Ok(Some(refusal)),
+        Err(RequestError::NoMemory) => Err(NoMemory),
+    }
+}
+
+/// Asserts which refusal flags and assignments meet on a device.
+fn assert_early_on<R: Abort>(
+    rt: &R,
+    alloc: Global,
+    topology: &Topology,
+    flags: u32,
+    assigns: &[Assign],
+    want: Option<u32>,
+) -> Result<(), NoMemory>
+    requires { IsTrue (keeps_limits topology.now) }
+{
+    let request = request(alloc, flags, assigns)?;
+    let found = looks(alloc)?;
+    let want = want.map(Refusal);
+    assert_eq!(rt; early(topology, &request, &found), want);
+    assert_eq!(rt; refused(alloc, topology, &request, &found)?, want);
+    Ok(())
+}
+
+/// Asserts which refusal flags and assignments meet on the device of two CRTCs.
 fn assert_early<R: Abort>(
     rt: &R,
     alloc: Global,
@@ -123,9 +177,81 @@ fn assert_early<R: Abort>(
     want: Option<u32>,
 ) -> Result<(), NoMemory> {
     let topology = device(alloc)?;
-    let request = request(alloc, flags, assigns)?;
-    let found = looks(alloc)?;
-    assert_eq!(rt; early(&topology, &request, &found), want.map(Refusal));
+    assert_early_on(rt, alloc, &topology, flags, assigns, want)
+}
+
+#[test]
+fn small_requests_are_refused_on_the_smallest_device(rt: HostRuntime) -> Result<(), NoMemory> {
+    let a = rt.alloc();
+    let small = small_device(a)?;
+    for (flags, want) in [(0x1, None), (0x101, Some(3))] {
+        let off = [on_crtc(ACTIVE, Value::Num(0))];
+        assert_early_on(&rt, a, &small, flags, &off, want)?;
+    }
+    for (flags, want) in [(0x2, Some(2)), (0x4, Some(1)), (0x1, None), (0, None)] {
+        assert_early_on(&rt, a, &small, flags, &[], want)?;
+    }
+    for (assign, want) in [
+        (set(Kind::Crtc, 1, ACTIVE, Value::Num(0)), Some(4)),
+        (on_crtc(ALPHA, Value::Num(1)), Some(5)),
+        (on_plane(TYPE, Value::Num(1)), Some(6)),
+        (on_plane(ALPHA, Value::Num(65536)), Some(7)),
+    ] {
+        assert_early_on(&rt, a, &small, 0, &[assign], want)?;
+    }
+    Ok(())
+}
+
+/// An assignment for each of 4 to 8; 8 is due where a fence was named before.
+fn wrong_assignments() -> [(Assign, u32); 5] {
+    [
+        (set(Kind::Plane, 2, ALPHA, Value::Num(0)), 4),
+        (on_crtc(ALPHA, Value::Num(1)), 5),
+        (on_plane(TYPE, Value::Num(1)), 6),
+        (on_plane(ALPHA, Value::Num(65536)), 7),
+        (on_plane(IN_FENCE_FD, Value::Named(FENCE)), 8),
+    ]
+}
+
+#[test]
+fn wrong_flags_are_told_before_wrong_assignments(rt: HostRuntime) -> Result<(), NoMemory> {
+    let a = rt.alloc();
+    let fence = on_plane(IN_FENCE_FD, Value::Named(FENCE));
+    for (flags, want) in [(0x4, 1), (0x2, 2), (0x101, 3)] {
+        for (wrong, _) in wrong_assignments() {
+            assert_early(&rt, a, flags, &[fence, wrong], Some(want))?;
+        }
+    }
+    Ok(())
+}
+
+#[test]
+fn the_first_of_two_wrong_assignments_is_told(rt: HostRuntime) -> Result<(), NoMemory> {
+    let a = rt.alloc();
+    let fence = on_plane(IN_FENCE_FD, Value::Named(FENCE));
+    for (first, want) in wrong_assignments() {
+        for (second, _) in wrong_assignments() {
+            assert_early(&rt, a, 0, &[fence, first, second], Some(want))?;
+        }
+    }
+    Ok(())
+}
+
+#[test]
+fn an_assignment_that_is_wrong_twice_has_the_lower_number(rt: HostRuntime) -> Result<(), NoMemory> {
+    let a = rt.alloc();
+    for (assign, want) in [
+        (set(Kind::Crtc, 2, ALPHA, Value::Num(1)), 4),
+        (set(Kind::Plane, 2, TYPE, Value::Num(1)), 4),
+        (set(Kind::Plane, 2, ALPHA, Value::Num(65536)), 4),
+        (set(Kind::Conn, 0, TYPE, Value::Num(1)), 5),
+        (on_crtc(ALPHA, Value::Num(65536)), 5),
+        (on_plane(TYPE, Value::Num(3)), 6),
+        (on_plane(IN_FENCE_FD, Value::Named(CLOSED)), 7),
+    ] {
+        let fence = on_plane(IN_FENCE_FD, Value::Named(FENCE));
+        assert_early(&rt, a, 0, &[fence, assign], Some(want))?;
+    }
     Ok(())
 }
 
@@ -219,7 +345,56 @@ fn numbers_are_taken_up_to_their_bounds(rt: HostRuntime) -> Result<(), NoMemory>
     assert_numbers(&rt, a, Kind::Crtc, OUT_FENCE_PTR, 0, 0)?;
     assert_numbers(&rt, a, Kind::Plane, FB_ID, 0, 0)?;
     assert_numbers(&rt, a, Kind::Plane, CRTC_ID, 0, 0)?;
+    assert_numbers(&rt, a, Kind::Conn, CRTC_ID, 0, 0)?;
     assert_numbers(&rt, a, Kind::Plane, IN_FENCE_FD, -1, -1)
+}
+
+#[test]
+fn numbers_are_not_cut_to_fewer_bits(rt: HostRuntime) -> Result<(), NoMemory> {
+    let a = rt.alloc();
+    // Each is 0 or 1 in its lower 32 or 64 bits.
+    for number in [
+        4294967296,
+        18446744073709551616,
+        18446744073709551617,
+        -18446744073709551616,
+    ] {
+        let value = Value::Num(number);
+        for prop in [
+            FB_ID, CRTC_ID, CRTC_X, CRTC_W, SRC_X, SRC_W, ALPHA, BLEND, ZPOS,
+        ] {
+            assert_early(&rt, a, 0, &[on_plane(prop, value)], Some(7))?;
+        }
+        for prop in [ACTIVE, MODE_ID, OUT_FENCE_PTR] {
+            assert_early(&rt, a, 0, &[on_crtc(prop, value)], Some(7))?;
+        }
+    }
+    // -1 in its lower 64 bits, and in its lower 32.
+    for number in [18446744073709551615, 4294967295] {
+        let fence = on_plane(IN_FENCE_FD, Value::Num(number));
+        assert_early(&rt, a, 0, &[fence], Some(7))?;
+    }
+    Ok(())
+}
+
+#[test]
+fn the_type_takes_no_number_at_all(rt: HostRuntime) -> Result<(), NoMemory> {
+    let a = rt.alloc();
+    for number in [-1, 0, 1, 2, 3] {
+        assert_early(&rt, a, 0, &[on_plane(TYPE, Value::Num(number))], Some(6))?;
+    }
+    Ok(())
+}
+
+#[test]
+fn crtcs_are_taken_up_to_the_last_of_the_device(rt: HostRuntime) -> Result<(), NoMemory> {
+    let a = rt.alloc();
+    for (crtc, want) in [(0, None), (1, None), (2, Some(7)), (u32::MAX, Some(7))] {
+        let value = Value::Crtc(crtc);
+        assert_early(&rt, a, 0, &[on_plane(CRTC_ID, value)], want)?;
+        assert_early(&rt, a, 0, &[set(Kind::Conn, 0, CRTC_ID, value)], want)?;
+    }
+    Ok(())
 }
 
 /// Asserts that a property takes the numbers between two bounds, and not those beside them.
@@ -263,8 +438,12 @@ fn labels_name_what_their_property_takes(rt: HostRuntime) -> Result<(), NoMemory
         assert_early(&rt, a, 0, &[on_crtc(OUT_FENCE_PTR, named)], Some(7))?;
         assert_early(&rt, a, 0, &[on_plane(ZPOS, named)], Some(7))?;
         assert_early(&rt, a, 0, &[on_plane(CRTC_ID, named)], Some(7))?;
+        assert_early(&rt, a, 0, &[on_crtc(ACTIVE, named)], Some(7))?;
     }
     assert_early(&rt, a, 0, &[on_crtc(OUT_FENCE_PTR, Value::New(9))], None)?;
+    assert_early(&rt, a, 0, &[on_crtc(MODE_ID, Value::New(9))], Some(7))?;
+    assert_early(&rt, a, 0, &[on_crtc(ACTIVE, Value::New(9))], Some(7))?;
+    assert_early(&rt, a, 0, &[on_plane(FB_ID, Value::New(9))], Some(7))?;
     assert_early(&rt, a, 0, &[on_plane(IN_FENCE_FD, Value::New(9))], Some(7))?;
     assert_early(&rt, a, 0, &[on_plane(FB_ID, Value::Crtc(0))], Some(7))?;
     assert_early(&rt, a, 0, &[on_plane(ZPOS, Value::Crtc(0))], Some(7))
