@@ -1,9 +1,9 @@
 -- What a check finds at each of its steps, in the words of the request's world.
-use Rattle.std.proofs.Common.{◌≡◌, ◌≢◌, ◌∙◌, ℕ, zero, suc, ◌+◌, ◌-◌, ◌<◌, ◌≤◌, Bool, true, false, List, [], ◌∷◌, map, length, Option, Some, None, inl, inr, refl, sym, ap, subst, arith}
-use Rattle.std.specs.Prelude.{◌&&◌, ◌||◌, ◌==◌, not, nat_lt, IsTrue, IfSome, slice_get, is_some, is_none, if◌then◌else◌}
-use Rattle.std.specs.List.{list_any, filter_map, range_with_len}
+use Rattle.std.proofs.Common.{◌≡◌, ◌∙◌, ℕ, ◌<◌, ◌≤◌, Bool, true, false, List, [], ◌∷◌, length, Option, Some, None, inl, inr, refl, sym, ap, subst, arith}
+use Rattle.std.specs.Prelude.{◌&&◌, ◌||◌, ◌==◌, not, is_some, is_none, if◌then◌else◌}
+use Rattle.std.specs.List.{list_any, filter_map}
 use Rattle.std.specs.Option.{option_map}
-use Rattle.std.proofs.lemmas.Bool.{and_parts, eqb-true, eq-eqb, ne_eqb, or_left, or_right, or_cases, or_parts, both_ways, cases_Bool, cases_lt, lt-ltb, ltb-true, false_from_ne_true, true_from_ne_false}
+use Rattle.std.proofs.lemmas.Bool.{and_parts, eqb-true, eq-eqb, or_right, or_cases, both_ways, cases_Bool, false_from_ne_true, true_from_ne_false}
 use Rattle.std.proofs.lemmas.List.{length-map}
 use Rattle.kms_model.specs.declared.objects.Kind.{Kind}
 use Rattle.kms_model.specs.declared.objects.Kind.TheVariants as kind
@@ -16,34 +16,30 @@ use Rattle.kms_model.specs.declared.sets.Set.{Set}
 use Rattle.kms_model.specs.declared.states.Both.{Both}
 use Rattle.kms_model.specs.declared.states.Duplicates.{Duplicates}
 use Rattle.kms_model.specs.declared.states.Mask.{Mask}
-use Rattle.kms_model.specs.declared.states.PlaneState.{PlaneState}
 use Rattle.kms_model.specs.declared.worlds.Look.{Look}
 use Rattle.kms_model.specs.declared.worlds.World.{World}
-use Rattle.kms_model.specs.Agreement.{AgreesOld, AgreesNew}
 use Rattle.kms_model.specs.Apply.{apply, object_of}
 use Rattle.kms_model.specs.Checks.{late_refusal}
 use Rattle.kms_model.specs.Firsts.{or_else}
-use Rattle.kms_model.specs.Late.{ArePlanesInRange, duplicate_at, duplicate_in, late_of_states}
+use Rattle.kms_model.specs.Late.{duplicate_at, late_of_states}
 use Rattle.kms_model.specs.Lookups.{look_up}
-use Rattle.kms_model.specs.Masks.{has_bit, mask_below}
+use Rattle.kms_model.specs.Masks.{has_bit}
 use Rattle.kms_model.specs.Named.{is_routed, is_named_by, names, moves_on, needs_modeset}
-use Rattle.kms_model.specs.Objects.{first_id, object_id, count_of, ids_of}
-use Rattle.kms_model.specs.Sets.{last_sets, obj_id, out_fences}
-use Rattle.kms_model.specs.Sound.{IsPlaneInRange}
-use Rattle.kms_model.specs.States.{crtc_at, plane_at}
-use Rattle.kms_model.specs.Touched.{sets, is_remade, touches_crtc, touches_routed, named_set, set_where, touched_set, is_asked, out_fence_label}
+use Rattle.kms_model.specs.Objects.{object_id, count_of, ids_of}
+use Rattle.kms_model.specs.Resolves.{IsResolved}
+use Rattle.kms_model.specs.Sets.{obj_id, out_fences}
+use Rattle.kms_model.specs.Sound.{IsDevice}
+use Rattle.kms_model.specs.States.{crtc_at}
+use Rattle.kms_model.specs.Touched.{sets, is_remade, named_set, set_where, touched_set, is_asked, out_fence_label}
 use Rattle.kms_model.specs.World.{value}
-use Rattle.kms_model.proofs.HeldValues.{all_held-from}
 use Rattle.kms_model.proofs.Items as items
-use Rattle.kms_model.proofs.LateLemmas.{StandAt, Covers, flatten-some, fenced_set, late_of_states-is}
+use Rattle.kms_model.proofs.LateLemmas.{StandAt, Covers, fenced_set, late_of_states-is}
 use Rattle.kms_model.proofs.MaskLemmas.{has_bit-below, same_masks}
-use Rattle.kms_model.proofs.SoundKept.{apply-held}
-use Rattle.kms_model.proofs.StateLemmas.{plane_in_range}
 use Rattle.kms_model.proofs.TouchedLemmas.{IsRequestAt, after, accepted-each, kind_of_object, few_objects, touches, touches_object, crtc_at-unset, untouched-modeset}
 use Rattle.kms_request.specs.Naming as naming
 use Rattle.kms_state.specs.Places.{old_states, olds, state_at}
 use Rattle.kms_state.proofs.Slots.{AgreesOld-same, there_old}
-use Rattle.kms_check.specs.Answers.{IsOfRequest, AreFresh}
+use Rattle.kms_check.specs.Answers.{IsOfRequest, AreFresh, IsAskedFor}
 use Rattle.kms_check.specs.Applying.{set_all, SetsAll}
 use Rattle.kms_check.specs.Groups.{crtcs_fenced, lacking, missing, missing_in, is_empty, objects_set, set_group, named_group, remade_group, remade_below, union, first_lacking}
 use Rattle.kms_check.proofs.Readiness.{HasRoom, IsCovered, covered, named-covers}
@@ -91,17 +87,6 @@ lacking-same d d' m room room' same =
     let conns : missing_in m.conns d'.conns (length d'.conns) ≡ missing_in m.conns d.conns (length d.conns) = missing_in-same m.conns d'.conns d.conns (length d'.conns) (ap (λ s. s.conns) same) ∙ ap (missing_in m.conns d.conns) (room'.conns ∙ sym room.conns) in
     let all : missing d' m ≡ missing d m = λ i. record { crtcs = crtcs i; planes = planes i; conns = conns i } in
     ap (λ x. if is_empty x then None else Some x) all
-
--- the numbers of planes are in range, since the values after are held
-pub planes-fit : (t : Topology) (w : World) (r : Request) (d : Duplicates) (mask : ℕ) → StandAt t w r d → ArePlanesInRange t d mask
-planes-fit t w r d mask stand = λ i within. go i within (has_bit mask i) (duplicate_at d.planes i) refl
-  where
-    go : (i : ℕ) → i < count_of t kind.Plane → (b : Bool) (o : Option (Both PlaneState)) → duplicate_at d.planes i ≡ o → IfSome (if b then o else None) (λ both. IsPlaneInRange both.new)
-    go i within false o at = tt
-    go i within true None at = tt
-    go i within true (Some both) at =
-        subst IsPlaneInRange (sym (stand.new.planes i both (flatten-some (slice_get d.planes i) both at)))
-        (plane_in_range t w.things (after w r) (object_id kind.Plane i) (all_held-from t w.things (after w r) (apply-held t w r stand.at.sound stand.at.early)) (items.ids-has t kind.Plane i within))
 
 -- The CRTC of a touched plane is touched
 
@@ -222,9 +207,18 @@ fenced-is t w r resolved d is =
 
 -- What the groups lack, as the steps find it
 
+set-lacking-asked : (t : Topology) (f : ℕ → Look) (r : Request) (resolved : Resolved) (d : Duplicates) (sets_read : List Set) (set : Mask) (found : Option Mask) → IsDevice t → IsResolved t f r resolved → sets_read ≡ resolved.sets → set ≡ objects_set sets_read → found ≡ lacking d set
+    → lacking d (set_group t r) ≡ found
+set-lacking-asked t f r resolved d sets_read set found device asks read made lacks = ap (lacking d) (sym (objects_set-is t f r resolved device asks) ∙ ap objects_set (sym read) ∙ sym made) ∙ sym lacks
+
 pub set-lacking : (t : Topology) (w : World) (r : Request) (resolved : Resolved) (d : Duplicates) (sets_read : List Set) (set : Mask) (found : Option Mask) → IsOfRequest t w r resolved d → sets_read ≡ resolved.sets → set ≡ objects_set sets_read → found ≡ lacking d set
     → lacking d (set_group t r) ≡ found
-set-lacking t w r resolved d sets_read set found is read made lacks = ap (lacking d) (sym (objects_set-is t w r resolved d is) ∙ ap objects_set (sym read) ∙ sym made) ∙ sym lacks
+set-lacking t w r resolved d sets_read set found is = set-lacking-asked t (look_up w) r resolved d sets_read set found is.device is.asks
+
+-- the same of what is asked for somewhere
+pub asked-lacking : (t : Topology) (resolved : Resolved) (d : Duplicates) (sets_read : List Set) (set : Mask) (found : Option Mask) → IsDevice t → (asked : IsAskedFor t resolved) → sets_read ≡ resolved.sets → set ≡ objects_set sets_read → found ≡ lacking d set
+    → lacking d (set_group t asked.request) ≡ found
+asked-lacking t resolved d sets_read set found device asked = set-lacking-asked t asked.names asked.request resolved d sets_read set found device asked.asks
 
 pub first-set : (t : Topology) (w : World) (r : Request) (d : Duplicates) (locks : Mask) → lacking d (set_group t r) ≡ Some locks → Some locks ≡ first_lacking t w r d
 first-set t w r d locks lacks = sym (ap (λ o. or_else o (or_else (lacking d (named_group t w r)) (lacking d (remade_group t w r)))) lacks)

@@ -1,22 +1,17 @@
 -- Groups of objects as masks, as loops make them.
-use Rattle.std.proofs.Common.{◌≡◌, ◌≢◌, ◌∙◌, ℕ, zero, suc, ◌+◌, ◌-◌, ◌*◌, ◌^◌, ◌%◌, ◌<◌, ◌≤◌, cond, Bool, true, false, List, [], ◌∷◌, length, get_or, take, inl, inr, refl, sym, ap, subst, arith, add-one}
-use Rattle.std.specs.Prelude.{◌||◌, ◌&&◌, ◌==◌, bit_or}
+use Rattle.std.proofs.Common.{◌≡◌, ◌≢◌, ◌∙◌, ℕ, ◌+◌, ◌-◌, ◌*◌, ◌^◌, ◌%◌, ◌<◌, ◌≤◌, cond, Bool, true, false, List, length, get_or, take, refl, sym, ap, subst, arith, add-one}
+use Rattle.std.specs.Prelude.{◌||◌, ◌==◌, bit_or}
 use Rattle.std.specs.Int.Bits.{or_zero_r}
 use Rattle.std.specs.List.{list_any}
-use Rattle.std.proofs.lemmas.Bool.{ne_eqb, cases_lt}
+use Rattle.std.proofs.lemmas.Bool.{ne_eqb}
 use Rattle.std.proofs.lemmas.Bool.Decides.{nat_tests}
 use Rattle.std.proofs.lemmas.List.Folds.{list_any_more}
 use Rattle.std.proofs.lemmas.Nat.{pow_pos, pow_below, one_shl, or_lt}
-use Rattle.kms_model.specs.declared.objects.ObjId.{ObjId}
-use Rattle.kms_model.specs.declared.sets.Set.{Set}
-use Rattle.kms_model.specs.declared.states.Both.{Both}
-use Rattle.kms_model.specs.declared.states.CrtcState.{CrtcState}
-use Rattle.kms_model.specs.declared.states.Mask.{Mask}
 use Rattle.kms_model.specs.Late.{duplicate_in}
 use Rattle.kms_model.specs.Masks.{has_bit, mask_below}
 use Rattle.kms_model.proofs.MaskLemmas.{has_bit-below, mask_below-lt, mask_from, mask_more, mask_no_more, same_masks}
 use Rattle.kms_model.proofs.UnionLemmas.{has_bit-one, has_bit-zero, has_bit-or}
-use Rattle.kms_check.specs.Groups.{crtcs_fenced, remade_below, remade_with, set_from, union}
+use Rattle.kms_check.specs.Groups.{remade_below, remade_with, union}
 
 -- the tests of two sets, of which one object passes one
 pub or_masks : (f g : ℕ → Bool) (n : ℕ) → bit_or (mask_below f n) (mask_below g n) ≡ mask_below (λ i. f i || g i) n
@@ -38,17 +33,12 @@ only-there id first n few low within =
 pub only-absent : (id first n : ℕ) → ((i : ℕ) → i < n → id ≢ first + i) → 0 ≡ mask_below (λ i. id == first + i) n
 only-absent id first n apart = mask_from 0 (λ i. id == first + i) n (pow_pos n) (λ i h. has_bit-zero i ∙ sym (ne_eqb id (first + i) (apart i h)))
 
--- one set more
-pub set_from-more : (all : List Set) (k first n : ℕ) (d : Set) → k < length all → bit_or (set_from (take k all) first n) (mask_below (λ i. (get_or all k d).object.0 == first + i) n) ≡ set_from (take (k + 1) all) first n
-set_from-more all k first n d within =
-    or_masks (λ i. list_any (λ x. x.object.0 == first + i) (take k all)) (λ i. (get_or all k d).object.0 == first + i) n
-    ∙ same_masks _ _ n (λ i h. sym (list_any_more (λ x. x.object.0 == first + i) all k d within))
-
--- one out-fence more
-pub fenced-more : (all : List (ObjId × ℕ)) (k : ℕ) (d : ObjId × ℕ) → k < length all → bit_or (crtcs_fenced (take k all)) (mask_below (λ i. (get_or all k d).0.0 == 100 + i) 4) ≡ crtcs_fenced (take (k + 1) all)
-fenced-more all k d within =
-    or_masks (λ i. list_any (λ x. x.0.0 == 100 + i) (take k all)) (λ i. (get_or all k d).0.0 == 100 + i) 4
-    ∙ same_masks _ _ 4 (λ i h. sym (list_any_more (λ x. x.0.0 == 100 + i) all k d within))
+-- a set of those objects that pass a test with one of some items, and one item more
+pub items-more : {A : Type 0} (test : ℕ → A → Bool) (all : List A) (k n : ℕ) (d : A) → k < length all
+    → bit_or (mask_below (λ i. list_any (test i) (take k all)) n) (mask_below (λ i. test i (get_or all k d)) n) ≡ mask_below (λ i. list_any (test i) (take (k + 1) all)) n
+items-more test all k n d within =
+    or_masks (λ i. list_any (test i) (take k all)) (λ i. test i (get_or all k d)) n
+    ∙ same_masks _ _ n (λ i h. sym (list_any_more (test i) all k d within))
 
 -- one bit more of a mask
 pub bit-more : (test : ℕ → Bool) (n : ℕ) → n < 32 → bit_or (mask_below test n) (cond (test n) (2 ^ n) 0) ≡ mask_below test (n + 1)

@@ -1,7 +1,9 @@
-pub mod GroupLemmas
 pub mod ApplyingLemmas
-pub mod RequestFacts
-pub mod Readiness
-pub mod ValuesAfter
-pub mod Remade
 pub mod Conclusions
+pub mod ExampleLemmas
+pub mod GroupLemmas
+pub mod PlaneRanges
+pub mod Readiness
+pub mod Remade
+pub mod RequestFacts
+pub mod ValuesAfter

@@ -1,11 +1,8 @@
 -- What is duplicated of the groups of a request, and what that allows.
-use Rattle.std.proofs.Common.{◌≡◌, ◌≢◌, ◌∙◌, ℕ, zero, suc, ◌+◌, ◌-◌, ◌<◌, ◌≤◌, ◌⊎◌, Bool, true, false, List, [], ◌∷◌, length, Option, Some, None, ℤ, inl, inr, refl, sym, ap, subst, arith}
-use Rattle.std.specs.Prelude.{◌&&◌, ◌||◌, ◌==◌, nat_lt, nat_le, All, IsTrue, slice_get, is_some, is_none, if◌then◌else◌}
-use Rattle.std.specs.List.{list_any}
+use Rattle.std.proofs.Common.{◌≡◌, ◌≢◌, ◌∙◌, ℕ, ◌+◌, ◌-◌, ◌<◌, ◌≤◌, Bool, true, false, List, length, Option, Some, None, refl, sym, ap, subst, arith}
+use Rattle.std.specs.Prelude.{◌&&◌, ◌==◌, All, IsTrue, slice_get, is_some, is_none, if◌then◌else◌}
 use Rattle.std.specs.Option.{option_flatten}
-use Rattle.std.proofs.lemmas.Bool.{eqb-true, eq-eqb, and_parts, or_left, both_ways, lt-ltb, le-ltb, le-leb, lt-leb, ltb-true, cases_Bool, cases_lt, and_from, not-true}
-use Rattle.std.proofs.lemmas.Bool.Decides.{nat_tests}
-use Rattle.std.proofs.lemmas.Option.{slice_get_past}
+use Rattle.std.proofs.lemmas.Bool.{eqb-true, eq-eqb, and_parts, lt-ltb, le-ltb, le-leb, lt-leb, ltb-true}
 use Rattle.kms_model.specs.declared.objects.Kind.{Kind}
 use Rattle.kms_model.specs.declared.objects.Kind.TheVariants as kind
 use Rattle.kms_model.specs.declared.objects.Topology.{Topology}
@@ -15,33 +12,32 @@ use Rattle.kms_model.specs.declared.sets.Set.{Set}
 use Rattle.kms_model.specs.declared.states.Both.{Both}
 use Rattle.kms_model.specs.declared.states.Duplicates.{Duplicates}
 use Rattle.kms_model.specs.declared.states.Mask.{Mask}
+use Rattle.kms_model.specs.declared.worlds.Look.{Look}
 use Rattle.kms_model.specs.declared.worlds.World.{World}
 use Rattle.kms_model.specs.Apply.{object_of, prop_of}
 use Rattle.kms_model.specs.Late.{duplicate_at}
 use Rattle.kms_model.specs.Lookups.{look_up}
-use Rattle.kms_model.specs.Masks.{has_bit, mask_below}
+use Rattle.kms_model.specs.Masks.{has_bit}
 use Rattle.kms_model.specs.Objects.{first_id, object_id, count_of}
-use Rattle.kms_model.specs.Properties.{keeps_limits, is_legal_device}
-use Rattle.kms_model.specs.Resolves.{IsPlaced}
+use Rattle.kms_model.specs.Properties.{keeps_limits}
+use Rattle.kms_model.specs.Resolves.{IsPlaced, IsResolved}
 use Rattle.kms_model.specs.SetRanges.{may_set}
-use Rattle.kms_model.specs.Sets.{last_sets, set_of, set_value}
+use Rattle.kms_model.specs.Sets.{set_value}
 use Rattle.kms_model.specs.Sound.{IsDevice}
 use Rattle.kms_model.specs.Touched.{sets, set_where}
-use Rattle.kms_model.specs.Words.{between}
-use Rattle.kms_model.proofs.HeldValues.{IsAccepted}
 use Rattle.kms_model.proofs.Items as items
 use Rattle.kms_model.proofs.LastLemmas.{IsIn}
 use Rattle.kms_model.proofs.MaskLemmas.{has_bit-below}
 use Rattle.kms_model.proofs.RequestLemmas.{has_few, allowed_settable}
 use Rattle.kms_model.proofs.SettingLemmas.{may_set-allowed}
-use Rattle.kms_model.proofs.TouchedLemmas.{IsRequestAt, few_objects, few_of}
+use Rattle.kms_model.proofs.TouchedLemmas.{few_objects, few_of}
 use Rattle.kms_model.proofs.UnionLemmas.{has_bit-zero}
 use Rattle.kms_request.specs.Naming as naming
 use Rattle.kms_state.specs.Places.{is_duplicated, is_duplicated_of, kind_of, state_of}
-use Rattle.kms_check.specs.Answers.{IsOfRequest, AreFresh}
+use Rattle.kms_check.specs.Answers.{IsOfRequest}
 use Rattle.kms_check.specs.Applying.{IsReady}
 use Rattle.kms_check.specs.Groups.{is_empty, lacking, missing, missing_in, set_group}
-use Rattle.kms_check.proofs.RequestFacts.{request_at, all-from, IsFromAssign, from_assign, allowed-accepted}
+use Rattle.kms_check.proofs.RequestFacts.{all-from, IsFromAssign, from_assign}
 
 -- Nothing is missing
 
@@ -152,14 +148,13 @@ pub record IsSetObject (t : Topology) (d : Duplicates) (s : Set) : Type 0 where
   pub routed : of_kind ≢ kind.Enc
   pub duplicated : is_kind_duplicated of_kind d index ≡ true
 
-pub set_object : (t : Topology) (w : World) (r : Request) (resolved : Resolved) (d : Duplicates) (s : Set) → IsOfRequest t w r resolved d → HasRoom d → IsCovered d (set_group t r) → IsIn s resolved.sets → IsSetObject t d s
-set_object t w r resolved d s is room covers member =
-    let at = request_at t w r resolved d is in
-    let from : IsFromAssign t w r s = from_assign t w r s at (subst (IsIn s) is.asks.sets member) in
+pub set_object : (t : Topology) (f : ℕ → Look) (r : Request) (resolved : Resolved) (d : Duplicates) (s : Set) → IsDevice t → IsResolved t f r resolved → HasRoom d → IsCovered d (set_group t r) → IsIn s resolved.sets → IsSetObject t d s
+set_object t f r resolved d s device asks room covers member =
+    let from : IsFromAssign t f r s = from_assign t f r s asks.accepted (subst (IsIn s) asks.sets member) in
     let a = from.assign in
-    let within : a.index < count_of t a.kind = ltb-true a.index (count_of t a.kind) from.accepted.object_exists in
-    let small : count_of t a.kind ≤ 16 = few_of t a.kind (few_objects t is.device) in
-    let placed = allowed_settable t (look_up w) a (limits_of t is.device) (allowed-accepted t w a from.accepted) in
+    let within : a.index < count_of t a.kind = ltb-true a.index (count_of t a.kind) from.allowed.exists in
+    let small : count_of t a.kind ≤ 16 = few_of t a.kind (few_objects t device) in
+    let placed = allowed_settable t f a (limits_of t device) from.allowed in
     let routed = not_encoder a.kind a.index placed.place in
     let set : sets r.assigns (object_id a.kind a.index) ≡ true = items.list_any-has (λ b. object_of b == object_id a.kind a.index) r.assigns a from.is_in (eq-eqb (object_of a) (object_id a.kind a.index) refl) in
     record {
@@ -169,22 +164,21 @@ set_object t w r resolved d s is room covers member =
       within = within;
       few = omega arith;
       routed = routed;
-      duplicated = set_duplicated t r d a.kind a.index covers room (limits_of t is.device) within routed set;
+      duplicated = set_duplicated t r d a.kind a.index covers room (limits_of t device) within routed set;
     }
 
-pub ready : (t : Topology) (w : World) (r : Request) (resolved : Resolved) (d : Duplicates) → IsOfRequest t w r resolved d → HasRoom d → IsCovered d (set_group t r) → All (IsReady d) resolved.sets
-ready t w r resolved d is room covers = all-from (IsReady d) resolved.sets (λ s member.
-    let o : IsSetObject t d s = set_object t w r resolved d s is room covers member in
-    let at = request_at t w r resolved d is in
-    let from : IsFromAssign t w r s = from_assign t w r s at (subst (IsIn s) is.asks.sets member) in
+pub ready : (t : Topology) (f : ℕ → Look) (r : Request) (resolved : Resolved) (d : Duplicates) → IsDevice t → IsResolved t f r resolved → HasRoom d → IsCovered d (set_group t r) → All (IsReady d) resolved.sets
+ready t f r resolved d device asks room covers = all-from (IsReady d) resolved.sets (λ s member.
+    let o : IsSetObject t d s = set_object t f r resolved d s device asks room covers member in
+    let from : IsFromAssign t f r s = from_assign t f r s asks.accepted (subst (IsIn s) asks.sets member) in
     let a = from.assign in
-    let within : a.index < count_of t a.kind = ltb-true a.index (count_of t a.kind) from.accepted.object_exists in
-    let small : count_of t a.kind ≤ 16 = few_of t a.kind (few_objects t is.device) in
+    let within : a.index < count_of t a.kind = ltb-true a.index (count_of t a.kind) from.allowed.exists in
+    let small : count_of t a.kind ≤ 16 = few_of t a.kind (few_objects t device) in
     let few : a.index < 16 = omega arith in
-    let may : may_set a.kind (prop_of a.prop) (set_value (look_up w) (prop_of a.prop) a.value) ≡ true = may_set-allowed t (look_up w) a (allowed-accepted t w a from.accepted) in
+    let may : may_set a.kind (prop_of a.prop) (set_value f (prop_of a.prop) a.value) ≡ true = may_set-allowed t f a from.allowed in
     record {
       object = ap (is_duplicated d) o.same ∙ is_duplicated-object o.of_kind d o.index o.few ∙ o.duplicated;
-      value = subst (λ x. may_set (kind_of x.object.0) x.prop x.value ≡ true) (sym from.set) (ap (λ k. may_set k (prop_of a.prop) (set_value (look_up w) (prop_of a.prop) a.value)) (kind_of-object a.kind a.index few) ∙ may);
+      value = subst (λ x. may_set (kind_of x.object.0) x.prop x.value ≡ true) (sym from.set) (ap (λ k. may_set k (prop_of a.prop) (set_value f (prop_of a.prop) a.value)) (kind_of-object a.kind a.index few) ∙ may);
     })
 
 -- What the CRTCs that a request names are read from
@@ -213,6 +207,6 @@ named-covers t w r resolved d is room covers = record {
   asks = is.asks;
   old = is.old;
   duplicated = all-from (λ s. IsTrue (naming.is_duplicated d s.object.0)) resolved.sets (λ s member.
-      let o : IsSetObject t d s = set_object t w r resolved d s is room covers member in
+      let o : IsSetObject t d s = set_object t (look_up w) r resolved d s is.device is.asks room covers member in
       ap (naming.is_duplicated d) o.same ∙ naming-object d o.of_kind o.index o.few (few_conns t o.of_kind o.index is.device o.within) o.duplicated);
 }

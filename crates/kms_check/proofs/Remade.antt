@@ -1,5 +1,5 @@
 -- The planes and connectors that a request remakes, as masks of states tell them.
-use Rattle.std.proofs.Common.{◌≡◌, ◌≢◌, ◌∙◌, ℕ, zero, suc, ◌+◌, ◌-◌, ◌<◌, ◌≤◌, Bool, true, false, List, [], ◌∷◌, ◌++◌, map, length, Option, Some, None, inl, inr, refl, sym, ap, subst, arith, add-one}
+use Rattle.std.proofs.Common.{◌≡◌, ◌∙◌, ℕ, zero, suc, ◌+◌, ◌<◌, ◌≤◌, Bool, true, false, List, [], ◌∷◌, ◌++◌, map, Option, Some, None, inl, inr, refl, sym, ap, arith, add-one}
 use Rattle.std.specs.Prelude.{◌&&◌, ◌||◌, ◌==◌, nat_lt, bit_or, slice_get, is_some, if◌then◌else◌}
 use Rattle.std.specs.Int.Bits.{or_zero_r}
 use Rattle.std.specs.List.{list_any, range_with_len}
@@ -15,7 +15,7 @@ use Rattle.kms_model.specs.declared.states.CrtcState.{CrtcState}
 use Rattle.kms_model.specs.declared.states.Duplicates.{Duplicates}
 use Rattle.kms_model.specs.declared.states.Mask.{Mask}
 use Rattle.kms_model.specs.declared.worlds.World.{World}
-use Rattle.kms_model.specs.Agreement.{on_crtc, crtc_state_at, AgreesOld, AgreesNew}
+use Rattle.kms_model.specs.Agreement.{on_crtc, crtc_state_at}
 use Rattle.kms_model.specs.Apply.{object_of}
 use Rattle.kms_model.specs.Late.{duplicate_at, duplicate_in, needs_modeset_between}
 use Rattle.kms_model.specs.Masks.{has_bit, mask_below}
@@ -25,8 +25,8 @@ use Rattle.kms_model.specs.States.{crtc_at}
 use Rattle.kms_model.specs.Touched.{sets, is_remade, touches_crtc, touches_routed, named_set, set_where, touched_set}
 use Rattle.kms_model.proofs.Items as items
 use Rattle.kms_model.proofs.LateLemmas.{StandAt, flatten-some, needs_modeset-states}
-use Rattle.kms_model.proofs.MaskLemmas.{has_bit-mask_below, has_bit-below, same_masks}
-use Rattle.kms_model.proofs.TouchedLemmas.{IsRequestAt, after, few_objects, touches, untouched-modeset}
+use Rattle.kms_model.proofs.MaskLemmas.{has_bit-mask_below, same_masks}
+use Rattle.kms_model.proofs.TouchedLemmas.{IsRequestAt, after, few_objects, untouched-modeset}
 use Rattle.kms_check.specs.Groups.{nothing, union, set_group, named_group, remade_group, remade_with, remade_below}
 use Rattle.kms_check.proofs.GroupLemmas.{or_masks, none_yet}
 

@@ -1,9 +1,8 @@
 -- What is known of duplicates that are those of a request in a sound world.
-use Rattle.std.proofs.Common.{◌≡◌, ◌≢◌, ◌∙◌, ℕ, zero, suc, ◌+◌, ◌-◌, ◌<◌, ◌≤◌, ◌⊎◌, Bool, true, false, List, [], ◌∷◌, length, get_or, Option, Some, None, ℤ, inl, inr, refl, sym, ap, subst, arith}
-use Rattle.std.specs.Prelude.{◌&&◌, ◌||◌, ◌==◌, nat_lt, nat_le, All, IsTrue, slice_get, is_some, if◌then◌else◌}
+use Rattle.std.proofs.Common.{◌≡◌, ◌∙◌, ℕ, zero, suc, ◌+◌, ◌<◌, ◌≤◌, Bool, true, false, List, [], ◌∷◌, length, get_or, Option, None, inl, inr, refl, sym, ap, subst, arith}
+use Rattle.std.specs.Prelude.{◌||◌, ◌==◌, All}
 use Rattle.std.specs.List.{list_any}
-use Rattle.std.proofs.lemmas.Bool.{eqb-true, eq-eqb, ne_eqb, and_parts, or_left, or_right, or_cases, cases_Bool, both_ways, false_from_ne_true, ltb-true, lt-ltb, le-ltb, le-leb, leb-true, cond-true, cond-false, cases_lt}
-use Rattle.std.proofs.lemmas.Bool.Decides.{nat_tests}
+use Rattle.std.proofs.lemmas.Bool.{eqb-true, and_parts, or_left, or_right, or_cases, cases_Bool, both_ways, false_from_ne_true, ltb-true, cases_lt}
 use Rattle.kms_model.specs.declared.objects.Kind.{Kind}
 use Rattle.kms_model.specs.declared.objects.Kind.TheVariants as kind
 use Rattle.kms_model.specs.declared.objects.Topology.{Topology}
@@ -15,26 +14,23 @@ use Rattle.kms_model.specs.declared.states.Both.{Both}
 use Rattle.kms_model.specs.declared.states.Duplicates.{Duplicates}
 use Rattle.kms_model.specs.declared.worlds.Look.{Look}
 use Rattle.kms_model.specs.declared.worlds.World.{World}
-use Rattle.kms_model.specs.Agreement.{AreOld, AreNew, AgreesOld, AgreesNew}
-use Rattle.kms_model.specs.Apply.{object_of, prop_of}
-use Rattle.kms_model.specs.Late.{duplicate_at}
-use Rattle.kms_model.specs.Lookups.{look_up}
-use Rattle.kms_model.specs.Masks.{has_bit, mask_below}
-use Rattle.kms_model.specs.Objects.{first_id, object_id, count_of, ids_of, exists}
-use Rattle.kms_model.specs.Resolves.{IsAllowed}
-use Rattle.kms_model.specs.SetRanges.{may_set}
+use Rattle.kms_model.specs.Agreement.{AreOld, AreNew, AgreesNew}
+use Rattle.kms_model.specs.Apply.{object_of}
+use Rattle.kms_model.specs.Masks.{mask_below}
+use Rattle.kms_model.specs.Objects.{first_id, object_id, count_of}
+use Rattle.kms_model.specs.Refusals.{early_refusal}
+use Rattle.kms_model.specs.Resolves.{IsAllowed, IsResolved}
 use Rattle.kms_model.specs.Sets.{has_target_of, last_sets, set_of}
 use Rattle.kms_model.specs.Sound.{IsDevice}
 use Rattle.kms_model.specs.Touched.{sets, set_where}
-use Rattle.kms_model.proofs.HeldValues.{IsAccepted}
+use Rattle.kms_model.proofs.CrtcLemmas.{all_in}
 use Rattle.kms_model.proofs.Items as items
 use Rattle.kms_model.proofs.LastLemmas.{IsIn, FromLast, from_last, IsLast}
 use Rattle.kms_model.proofs.MaskLemmas.{same_masks}
-use Rattle.kms_model.proofs.SettingLemmas.{may_set-allowed}
-use Rattle.kms_model.proofs.TouchedLemmas.{IsRequestAt, HasFewObjects, few_objects, few_of, first_id-apart, accepted-each, kind_of_object}
-use Rattle.kms_state.specs.Places.{kind_of}
+use Rattle.kms_model.proofs.RequestLemmas.{accepted_allowed}
+use Rattle.kms_model.proofs.TouchedLemmas.{IsRequestAt, few_objects, few_of, first_id-apart}
 use Rattle.kms_check.specs.Answers.{IsOfRequest, AreFreshIn, AreFresh}
-use Rattle.kms_check.specs.Groups.{set_from, objects_set, set_group}
+use Rattle.kms_check.specs.Groups.{assigned_from, set_from, objects_assigned, objects_set, set_group}
 
 -- the request, in the world
 pub request_at : (t : Topology) (w : World) (r : Request) (resolved : Resolved) (d : Duplicates) → IsOfRequest t w r resolved d → IsRequestAt t w r
@@ -58,6 +54,11 @@ turned x [] is = absurd is
 turned x (y ∷ ys) (inl same) = inl (sym same)
 turned x (y ∷ ys) (inr rest) = inr (turned x ys rest)
 
+turned_back : {A : Type 0} (x : A) (xs : List A) → items.IsIn x xs → IsIn x xs
+turned_back x [] is = absurd is
+turned_back x (y ∷ ys) (inl same) = inl (sym same)
+turned_back x (y ∷ ys) (inr rest) = inr (turned_back x ys rest)
+
 get_or-in : {A : Type 0} (xs : List A) (k : ℕ) (d : A) → k < length xs → IsIn (get_or xs k d) xs
 get_or-in [] k d within = absurd (omega arith)
 get_or-in (x ∷ xs) zero d within = inl refl
@@ -69,22 +70,22 @@ all-from P xs each = λ k d within. each (get_or xs k d) (get_or-in xs k d withi
 
 -- What a request sets
 
--- a set comes from an accepted assignment
-pub record IsFromAssign (t : Topology) (w : World) (r : Request) (s : Set) : Type 0 where
+-- an assignment of a request for which none of refusals 1 to 8 is due is allowed
+allowed-each : (t : Topology) (f : ℕ → Look) (r : Request) (a : Assign) → early_refusal t f r ≡ None → IsIn a r.assigns → IsAllowed t f a
+allowed-each t f r a accepted is = all_in (IsAllowed t f) r.assigns a (accepted_allowed t f r accepted) is
+
+-- a set comes from an allowed assignment
+pub record IsFromAssign (t : Topology) (f : ℕ → Look) (r : Request) (s : Set) : Type 0 where
   pub assign : Assign
   pub is_in : items.IsIn assign r.assigns
-  pub set : s ≡ set_of (look_up w) assign
-  pub last : IsLast (look_up w) r.assigns assign
-  pub accepted : IsAccepted t w assign
+  pub set : s ≡ set_of f assign
+  pub last : IsLast f r.assigns assign
+  pub allowed : IsAllowed t f assign
 
-pub from_assign : (t : Topology) (w : World) (r : Request) (s : Set) → IsRequestAt t w r → IsIn s (last_sets (look_up w) r.assigns) → IsFromAssign t w r s
-from_assign t w r s at is =
-    let from : FromLast (look_up w) r.assigns s = from_last (look_up w) r.assigns s is in
-    let in_assigns : items.IsIn from.item r.assigns = turned from.item r.assigns from.is.member in
-    record { assign = from.item; is_in = in_assigns; set = from.set; last = from.is; accepted = accepted-each t w r from.item at in_assigns }
-
-pub allowed-accepted : (t : Topology) (w : World) (a : Assign) → IsAccepted t w a → IsAllowed t (look_up w) a
-allowed-accepted t w a ok = record { exists = ok.object_exists; has = ok.has; mutable = ok.mutable; value = ok.is_value }
+pub from_assign : (t : Topology) (f : ℕ → Look) (r : Request) (s : Set) → early_refusal t f r ≡ None → IsIn s (last_sets f r.assigns) → IsFromAssign t f r s
+from_assign t f r s accepted is =
+    let from : FromLast f r.assigns s = from_last f r.assigns s is in
+    record { assign = from.item; is_in = turned from.item r.assigns from.is.member; set = from.set; last = from.is; allowed = allowed-each t f r from.item accepted from.is.member }
 
 -- objects that are set are those of the last sets
 same_object : (a b : Assign) (object : ℕ) → has_target_of a b ≡ true → (object_of a == object) ≡ true → (object_of b == object) ≡ true
@@ -114,14 +115,14 @@ sets-last f (a ∷ assigns) object =
     absorbed false b implies = refl
 
 -- objects beyond a device are not set
-pub unset-beyond : (t : Topology) (w : World) (r : Request) (k : Kind) (i : ℕ) → IsRequestAt t w r → count_of t k ≤ i → i < 16 → sets r.assigns (object_id k i) ≡ false
-unset-beyond t w r k i at beyond few =
-    items.list_any-none (λ a. object_of a == object_id k i) r.assigns (λ a is. false_from_ne_true _ (λ same. not_there a (accepted-each t w r a at is) (eqb-true (object_of a) (object_id k i) same)))
+unset-beyond : (t : Topology) (f : ℕ → Look) (r : Request) (k : Kind) (i : ℕ) → IsDevice t → early_refusal t f r ≡ None → count_of t k ≤ i → i < 16 → sets r.assigns (object_id k i) ≡ false
+unset-beyond t f r k i device accepted beyond few =
+    items.list_any-none (λ a. object_of a == object_id k i) r.assigns (λ a is. false_from_ne_true _ (λ same. not_there a (allowed-each t f r a accepted (turned_back a r.assigns is)) (eqb-true (object_of a) (object_id k i) same)))
   where
-    not_there : (a : Assign) → IsAccepted t w a → object_of a ≡ object_id k i → ⊥
-    not_there a ok same =
-        let below : a.index < count_of t a.kind = ltb-true a.index (count_of t a.kind) ok.object_exists in
-        let few_a : count_of t a.kind ≤ 16 = few_of t a.kind (few_objects t at.device) in
+    not_there : (a : Assign) → IsAllowed t f a → object_of a ≡ object_id k i → ⊥
+    not_there a allowed same =
+        let below : a.index < count_of t a.kind = ltb-true a.index (count_of t a.kind) allowed.exists in
+        let few_a : count_of t a.kind ≤ 16 = few_of t a.kind (few_objects t device) in
         let of_kind : a.kind ≡ k = first_id-apart a.kind k a.index i (omega arith) few same in
         let index : object_id k a.index ≡ object_id k i = ap (λ j. object_id j a.index) (sym of_kind) ∙ same in
         let below_k : a.index < count_of t k = subst (λ j. a.index < count_of t j) of_kind below in
@@ -137,14 +138,20 @@ shrunk test m (suc n) order out =
       | inr further ↦ rw (out n further (omega arith)) (let none : mask_below test n + 0 ≡ mask_below test n = omega arith in none ∙ shrunk test m n further (λ i low high. out i low (omega arith)))
     ]
 
--- the objects of a kind that are set
-set_from-is : (t : Topology) (w : World) (r : Request) (k : Kind) (n : ℕ) → IsRequestAt t w r → count_of t k ≤ n → n ≤ 16 → set_from (last_sets (look_up w) r.assigns) (first_id k) n ≡ set_where t k (sets r.assigns)
-set_from-is t w r k n at few wide =
-    same_masks _ _ n (λ i h. sets-last (look_up w) r.assigns (object_id k i))
-    ∙ shrunk (λ i. sets r.assigns (object_id k i)) (count_of t k) n few (λ i low high. unset-beyond t w r k i at low (omega arith))
+-- the objects of a kind that assignments set, and that sets do
+assigned_from-is : (t : Topology) (f : ℕ → Look) (r : Request) (k : Kind) (n : ℕ) → IsDevice t → early_refusal t f r ≡ None → count_of t k ≤ n → n ≤ 16 → assigned_from r.assigns (first_id k) n ≡ set_where t k (sets r.assigns)
+assigned_from-is t f r k n device accepted few wide = shrunk (λ i. sets r.assigns (object_id k i)) (count_of t k) n few (λ i low high. unset-beyond t f r k i device accepted low (omega arith))
 
-pub objects_set-is : (t : Topology) (w : World) (r : Request) (resolved : Resolved) (d : Duplicates) → IsOfRequest t w r resolved d → objects_set resolved.sets ≡ set_group t r
-objects_set-is t w r resolved d is =
-    let at = request_at t w r resolved d is in
-    let few = few_objects t is.device in
-    rw (is.asks.sets, set_from-is t w r kind.Crtc 4 at few.crtcs (omega arith), set_from-is t w r kind.Plane 16 at few.planes (omega arith), set_from-is t w r kind.Conn 8 at few.conns (omega arith)) refl
+set_from-is : (t : Topology) (f : ℕ → Look) (r : Request) (k : Kind) (n : ℕ) → IsDevice t → early_refusal t f r ≡ None → count_of t k ≤ n → n ≤ 16 → set_from (last_sets f r.assigns) (first_id k) n ≡ set_where t k (sets r.assigns)
+set_from-is t f r k n device accepted few wide =
+    same_masks _ _ n (λ i h. sets-last f r.assigns (object_id k i)) ∙ assigned_from-is t f r k n device accepted few wide
+
+pub objects_assigned-is : (t : Topology) (f : ℕ → Look) (r : Request) → IsDevice t → early_refusal t f r ≡ None → objects_assigned r.assigns ≡ set_group t r
+objects_assigned-is t f r device accepted =
+    let few = few_objects t device in
+    rw (assigned_from-is t f r kind.Crtc 4 device accepted few.crtcs (omega arith), assigned_from-is t f r kind.Plane 16 device accepted few.planes (omega arith), assigned_from-is t f r kind.Conn 8 device accepted few.conns (omega arith)) refl
+
+pub objects_set-is : (t : Topology) (f : ℕ → Look) (r : Request) (resolved : Resolved) → IsDevice t → IsResolved t f r resolved → objects_set resolved.sets ≡ set_group t r
+objects_set-is t f r resolved device asks =
+    let few = few_objects t device in
+    rw (asks.sets, set_from-is t f r kind.Crtc 4 device asks.accepted few.crtcs (omega arith), set_from-is t f r kind.Plane 16 device asks.accepted few.planes (omega arith), set_from-is t f r kind.Conn 8 device asks.accepted few.conns (omega arith)) refl

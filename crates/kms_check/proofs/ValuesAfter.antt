@@ -1,6 +1,6 @@
 -- The last sets of a request, one after the other, leave the values after the request.
-use Rattle.std.proofs.Common.{◌≡◌, ◌≢◌, ◌∙◌, ℕ, ◌+◌, ◌-◌, ◌<◌, ◌≤◌, Bool, true, false, List, [], ◌∷◌, length, Option, Some, None, ℤ, inl, inr, refl, sym, ap, subst, arith}
-use Rattle.std.specs.Prelude.{◌&&◌, ◌||◌, ◌==◌, not, pos, All, IsTrue, if◌then◌else◌}
+use Rattle.std.proofs.Common.{◌≡◌, ◌∙◌, ℕ, ◌-◌, ◌<◌, ◌≤◌, Bool, true, false, List, [], ◌∷◌, None, ℤ, inl, inr, refl, sym, ap, subst, arith}
+use Rattle.std.specs.Prelude.{◌&&◌, ◌||◌, ◌==◌, not, pos, All, if◌then◌else◌}
 use Rattle.std.specs.List.{list_any}
 use Rattle.std.proofs.lemmas.Bool.{eqb-true, eq-eqb, and_parts, and_from, and_left, and_right, or_cases, or_parts, or_left, or_right, both_ways, cases_Bool, cond-true, cond-false, lt-ltb, not-false}
 use Rattle.kms_model.specs.declared.objects.Kind.{Kind}
@@ -16,22 +16,20 @@ use Rattle.kms_model.specs.declared.worlds.Look.{Look}
 use Rattle.kms_model.specs.declared.worlds.Setting.{Setting}
 use Rattle.kms_model.specs.declared.worlds.Thing.{Thing}
 use Rattle.kms_model.specs.declared.worlds.World.{World}
-use Rattle.kms_model.specs.Agreement.{AgreesNew, StandsFor, crtc_state_at, conn_state_at}
+use Rattle.kms_model.specs.Agreement.{AgreesNew, StandsFor}
 use Rattle.kms_model.specs.Apply.{apply, assign, number_of, object_of, prop_of, is_kept}
-use Rattle.kms_model.specs.Firsts.{or_else}
 use Rattle.kms_model.specs.Lookups.{look_up}
 use Rattle.kms_model.specs.Objects.{first_id, object_id, count_of, exists}
-use Rattle.kms_model.specs.Sets.{has_target_of, last_sets, set_of, set_in, set_value}
-use Rattle.kms_model.specs.States.{natural, plane_at, plane_from, mode_of}
-use Rattle.kms_model.specs.Touched.{last_value, value_if, set_where}
+use Rattle.kms_model.specs.Sets.{has_target_of, last_sets, set_in, set_value}
+use Rattle.kms_model.specs.States.{natural, plane_from, mode_of}
+use Rattle.kms_model.specs.Touched.{last_value, set_where}
 use Rattle.kms_model.specs.World.{value, put, thing_numbered}
 use Rattle.kms_model.proofs.AppliedValues.{value-put}
 use Rattle.kms_model.proofs.ApplyLemmas.{number_or, value-apply}
 use Rattle.kms_model.proofs.LastLemmas.{IsIn}
 use Rattle.kms_model.proofs.StandsLemmas.{stands-accepted}
-use Rattle.kms_model.proofs.TouchedLemmas.{after, few_objects, few_of}
+use Rattle.kms_model.proofs.TouchedLemmas.{after, few_objects, few_of, accepted-each}
 use Rattle.kms_state.specs.Changes.{HasObject, is_on_device}
-use Rattle.kms_state.specs.Places.{kind_of}
 use Rattle.kms_check.specs.Answers.{IsOfRequest}
 use Rattle.kms_check.specs.Applying.{set_all, IsNumberedBy}
 use Rattle.kms_check.proofs.RequestFacts.{request_at, all-from, IsFromAssign, from_assign}
@@ -187,12 +185,12 @@ has_object t k i id device same within few = record {
 pub numbered : (t : Topology) (w : World) (r : Request) (resolved : Resolved) (d : Duplicates) → IsOfRequest t w r resolved d → All (IsNumberedBy t w.things (number_in (after w r))) resolved.sets
 numbered t w r resolved d is = all-from (IsNumberedBy t w.things (number_in (after w r))) resolved.sets (λ s member.
     let at = request_at t w r resolved d is in
-    let from : IsFromAssign t w r s = from_assign t w r s at (subst (IsIn s) is.asks.sets member) in
+    let from : IsFromAssign t (look_up w) r s = from_assign t (look_up w) r s is.asks.accepted (subst (IsIn s) is.asks.sets member) in
     let a = from.assign in
-    let within : a.index < count_of t a.kind = Rattle.std.proofs.lemmas.Bool.ltb-true a.index (count_of t a.kind) from.accepted.object_exists in
+    let within : a.index < count_of t a.kind = Rattle.std.proofs.lemmas.Bool.ltb-true a.index (count_of t a.kind) from.allowed.exists in
     let small : count_of t a.kind ≤ 16 = few_of t a.kind (few_objects t is.device) in
     let stands : StandsFor w.things (set_value (look_up w) (prop_of a.prop) a.value) (value (after w r) (object_of a) (prop_of a.prop)) = elim (cases_Bool (is_kept (prop_of a.prop))) [
-      | inl kept ↦ subst (StandsFor w.things (set_value (look_up w) (prop_of a.prop) a.value)) (sym (value-apply w.things w.values r.assigns (object_of a) (prop_of a.prop) kept ∙ ap (λ v. number_or w.things v (value w.values (object_of a) (prop_of a.prop))) from.last.last)) (stands-accepted t w a is.sound.numbered from.accepted)
+      | inl kept ↦ subst (StandsFor w.things (set_value (look_up w) (prop_of a.prop) a.value)) (sym (value-apply w.things w.values r.assigns (object_of a) (prop_of a.prop) kept ∙ ap (λ v. number_or w.things v (value w.values (object_of a) (prop_of a.prop))) from.last.last)) (stands-accepted t w a is.sound.numbered (accepted-each t w r a at from.is_in))
       | inr loses ↦ stands-unkept w.things (look_up w) (prop_of a.prop) a.value (value (after w r) (object_of a) (prop_of a.prop)) loses
     ] in
     record {

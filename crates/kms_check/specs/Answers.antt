@@ -7,10 +7,10 @@ use Rattle.kms_model.specs.declared.states.Both.{Both}
 use Rattle.kms_model.specs.declared.states.Checked.{Checked}
 use Rattle.kms_model.specs.declared.states.Duplicates.{Duplicates}
 use Rattle.kms_model.specs.declared.states.Mask.{Mask}
+use Rattle.kms_model.specs.declared.worlds.Look.{Look}
 use Rattle.kms_model.specs.declared.worlds.World.{World}
 use Rattle.kms_model.specs.Agreement.{AgreesOld, AgreesNew}
 use Rattle.kms_model.specs.Apply.{apply}
-use Rattle.kms_model.specs.Checks.{late_refusal}
 use Rattle.kms_model.specs.Lookups.{look_up}
 use Rattle.kms_model.specs.Resolves.{IsResolved}
 use Rattle.kms_model.specs.Sound.{IsDevice, IsSound}
@@ -26,11 +26,17 @@ pub record IsOfRequest (t : Topology) (w : World) (r : Request) (resolved : Reso
   pub asks : IsResolved t (look_up w) r resolved
   pub old : AgreesOld t w.things w.values d
 
--- some request in some sound world
-pub record IsOfSomeRequest (t : Topology) (resolved : Resolved) (d : Duplicates) : Type 0 where
-  pub world : World
+-- what some request asks for over a device, with what its labels name somewhere
+pub record IsAskedFor (t : Topology) (resolved : Resolved) : Type 0 where
+  pub names : ℕ → Look
   pub request : Request
-  pub is : IsOfRequest t world request resolved d
+  pub asks : IsResolved t names request resolved
+
+-- the old states are those of some sound world
+pub record AreOfSoundWorld (t : Topology) (d : Duplicates) : Type 0 where
+  pub world : World
+  pub sound : IsSound t world
+  pub old : AgreesOld t world.things world.values d
 
 abbrev pub AreFreshIn : {S : Type 0} → List (Option (Both S)) → Type 0
 AreFreshIn {S = S} states = (index : ℕ) (both : Both S) → slice_get states index ≡ Some (Some both) → both.new ≡ both.old

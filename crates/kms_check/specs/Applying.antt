@@ -1,13 +1,16 @@
 -- Several sets, one after the other.
-use Rattle.std.specs.Prelude.{ℤ, List, [], ◌∷◌, All, IsTrue}
+use Rattle.std.specs.Prelude.{◌≡◌, ◌<◌, ℕ, ℤ, List, [], ◌∷◌, All, IsTrue, Some, slice_get}
 use Rattle.kms_model.specs.declared.objects.Topology.{Topology}
 use Rattle.kms_model.specs.declared.sets.Set.{Set}
+use Rattle.kms_model.specs.declared.states.Both.{Both}
 use Rattle.kms_model.specs.declared.states.Duplicates.{Duplicates}
+use Rattle.kms_model.specs.declared.states.PlaneState.{PlaneState}
 use Rattle.kms_model.specs.declared.worlds.Setting.{Setting}
 use Rattle.kms_model.specs.declared.worlds.Thing.{Thing}
 use Rattle.kms_model.specs.Agreement.{AgreesNew, StandsFor}
 use Rattle.kms_model.specs.SetRanges.{may_set}
 use Rattle.kms_model.specs.Sets.{set_in}
+use Rattle.kms_model.specs.Sound.{IsPlaneInRange}
 use Rattle.kms_state.specs.Changes.{HasObject}
 use Rattle.kms_state.specs.Places.{is_duplicated, kind_of}
 
@@ -30,3 +33,7 @@ pub record IsNumberedBy (t : Topology) (things : List Thing) (number : Set → �
 abbrev pub SetsAll : Duplicates → List Set → Duplicates → Type 0
 SetsAll before sets after = (t : Topology) (things : List Thing) (values : List Setting) (number : Set → ℤ)
     → All (IsNumberedBy t things number) sets → AgreesNew t things values before → AgreesNew t things (set_all values number sets) after
+
+-- the numbers of the new states of those of the first n planes that are duplicated are among those of their properties
+abbrev pub HasPlanesInRange : ℕ → Duplicates → Type 0
+HasPlanesInRange n d = (index : ℕ) (both : Both PlaneState) → index < n → slice_get d.planes index ≡ Some (Some both) → IsPlaneInRange both.new

@@ -5,6 +5,7 @@ use Rattle.std.specs.List.{list_any}
 use Rattle.kms_model.specs.declared.objects.Kind.TheVariants.{Crtc, Plane, Conn}
 use Rattle.kms_model.specs.declared.objects.ObjId.{ObjId}
 use Rattle.kms_model.specs.declared.objects.Topology.{Topology}
+use Rattle.kms_model.specs.declared.scripts.Assign.{Assign}
 use Rattle.kms_model.specs.declared.scripts.Request.{Request}
 use Rattle.kms_model.specs.declared.sets.Set.{Set}
 use Rattle.kms_model.specs.declared.states.Both.{Both}
@@ -69,6 +70,13 @@ set_from all first n = mask_below (λ index. list_any (λ s. s.object.0 == first
 
 abbrev pub objects_set : List Set → Mask
 objects_set all = record { crtcs = set_from all (first_id Crtc) 4; planes = set_from all (first_id Plane) 16; conns = set_from all (first_id Conn) 8 }
+
+-- the objects of a kind that assignments set, among n from an id on
+abbrev pub assigned_from : List Assign → ℕ → ℕ → ℕ
+assigned_from all first n = mask_below (λ index. sets all (first + index)) n
+
+abbrev pub objects_assigned : List Assign → Mask
+objects_assigned all = record { crtcs = assigned_from all (first_id Crtc) 4; planes = assigned_from all (first_id Plane) 16; conns = assigned_from all (first_id Conn) 8 }
 
 -- the planes and connectors that a CRTC has before or after, where it needs a modeset
 abbrev pub remade_with : Option (Both CrtcState) → Mask

@@ -1,3 +1,4 @@
 pub mod Groups
 pub mod Applying
 pub mod Answers
+pub mod Example

@@ -4,11 +4,13 @@ ghost use Rattle.kms_model.specs.declared.scripts.Request.{Request};
 ghost use Rattle.kms_model.specs.declared.worlds.World.{World};
 ghost use Rattle.kms_model.specs.Apply.{apply as values_after};
 ghost use Rattle.kms_model.specs.Checks.{late_refusal};
-ghost use Rattle.kms_check.specs.Answers.{AreFresh, IsChecked, IsOfRequest, IsOfSomeRequest, locks_of, refusal_of};
+ghost use Rattle.kms_model.specs.Sound.{IsDevice};
+ghost use Rattle.kms_check.specs.Answers.{AreFresh, AreOfSoundWorld, IsAskedFor, IsChecked, IsOfRequest, locks_of, refusal_of};
 ghost use Rattle.kms_check.specs.Groups.{first_lacking};
+ghost use Rattle.kms_state.specs.Places.{old_states};
 
 use crate::applying::apply;
-use crate::groups::{crtcs_fenced, lacking, objects_set, remade, union};
+use crate::groups::{crtcs_fenced, lacking, objects_set, only_crtcs, remade, union};
 use kms_model::{Checked, Duplicates, Mask, Refusal, Resolved, Topology};
 use kms_request::{Asked, late_refusal, named};
 
@@ -32,14 +34,18 @@ pub enum Refused {
 /// it applies what the request sets, and gives the first of refusals 9 to 24 over the whole device, or the states before
 /// and after with the CRTCs that are named and the objects that are touched. It looks at touched objects alone.
 ///
-/// `resolved` is what the request asks for over this device. The old states are those of a device that holds what is
-/// accepted, and each new state is the old one. It takes no memory.
+/// `resolved` is what a request asks for over this device, with what its labels named when they were looked up. The old
+/// states are those of a device that holds what is accepted, which may have made and closed things since then, and each
+/// new state is the old one. The answers are those of each such device where the request's labels name what they named.
+/// It takes no memory.
 pub fn check(
     topology: &Topology,
     states: Duplicates,
     resolved: &Resolved,
 ) -> Result<Checked, Refused>
-    requires known { IsOfSomeRequest topology.now resolved.now states }
+    requires device { IsDevice topology.now }
+    requires asked { IsAskedFor topology.now resolved.now }
+    requires held { AreOfSoundWorld topology.now states }
     requires fresh { AreFresh states }
 
     // Which objects are still to be duplicated; none of them is asked for twice.
@@ -49,6 +55,9 @@ pub fn check(
     ensures refusal { (w : World) (r : Request) → IsOfRequest topology.now w r resolved.now states → first_lacking topology.now w r states ≡ None
         → refusal_of result ≡ late_refusal topology.now w.things w.values (values_after w.things w.values r.assigns) r }
     ensures checked { (w : World) (r : Request) → IsOfRequest topology.now w r resolved.now states → IfOk result (IsChecked topology.now w r) }
+
+    // No state is lost: the same objects are duplicated, with the same old states.
+    ensures kept { IfOk result (λ c. old_states c.states ≡ old_states states) }
 {
     let sets = resolved.sets.as_slice();
     let set = objects_set(sets);
@@ -78,16 +87,5 @@ pub fn check(
             named,
             touched,
         }),
-    }
-}
-
-/// CRTCs as a set of objects.
-fn only_crtcs(crtcs: u32) -> Mask
-    ensures { result ≡ record { crtcs = crtcs; planes = 0; conns = 0 } }
-{
-    Mask {
-        crtcs,
-        planes: 0,
-        conns: 0,
     }
 }

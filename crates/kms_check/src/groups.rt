@@ -1,12 +1,13 @@
 //! The groups of objects that a check needs duplicated. (Kernel: `drm_atomic_helper_check_modeset`,
 //! `drm_atomic_add_affected_planes`, `drm_atomic_add_affected_connectors`.)
-ghost use Rattle.std.specs.Prelude.{◌≡◌, ◌+◌, ◌^◌, ◌≤◌, ◌<◌, ◌==◌, ◌&&◌, cond, is_none, length};
-ghost use Rattle.kms_check.specs.Groups.{crtcs_fenced, is_empty, lacking, missing, missing_in, nothing, objects_set, remade_below, remade_with, set_from, union};
+ghost use Rattle.std.specs.Prelude.{◌≡◌, ◌+◌, ◌^◌, ◌≤◌, ◌<◌, ◌==◌, ◌&&◌, All, cond, is_none, length};
+ghost use Rattle.kms_check.specs.Groups.{assigned_from, crtcs_fenced, is_empty, lacking, missing, missing_in, nothing, objects_assigned, objects_set, remade_below, remade_with, set_from, union};
 ghost use Rattle.kms_model.specs.Late.{duplicate_at, duplicate_in};
 ghost use Rattle.kms_model.specs.Masks.{has_bit, mask_below};
+ghost use Rattle.kms_model.specs.Resolves.{IsSettable};
 
-use kms_model::{Both, CrtcState, Duplicates, Mask, ObjId, Set};
-use kms_request::{has_bit, needs_modeset};
+use kms_model::{Assign, Both, CrtcState, Duplicates, Mask, ObjId, Set};
+use kms_request::{has_bit, needs_modeset, object_of};
 
 const FIRST_CRTC: u32 = 100;
 
@@ -33,6 +34,17 @@ pub(crate) fn union(a: &Mask, b: &Mask) -> Mask
         crtcs: a.crtcs | b.crtcs,
         planes: a.planes | b.planes,
         conns: a.conns | b.conns,
+    }
+}
+
+/// CRTCs as a set of objects.
+pub(crate) fn only_crtcs(crtcs: u32) -> Mask
+    ensures { result ≡ record { crtcs = crtcs; planes = 0; conns = 0 } }
+{
+    Mask {
+        crtcs,
+        planes: 0,
+        conns: 0,
     }
 }
 
@@ -77,6 +89,32 @@ pub(crate) fn objects_set(sets: &[Set]) -> Mask
         crtcs: set_from(sets, FIRST_CRTC, 4),
         planes: set_from(sets, FIRST_PLANE, 16),
         conns: set_from(sets, FIRST_CONN, 8),
+    }
+}
+
+/// The objects that assignments set, of `count` from the id `first` on.
+fn assigned_from(assigns: &[Assign], first: u32, count: u32) -> u32
+    requires few { count ≤ 16 }
+    requires low { first < 2 ^ 16 }
+    requires settable { All IsSettable assigns.now }
+    ensures { result ≡ assigned_from assigns.now first count }
+{
+    let mut assigned = 0;
+    for a in assigns {
+        assigned |= only(object_of(a), first, count);
+    }
+    assigned
+}
+
+/// The objects that assignments set.
+pub(crate) fn objects_assigned(assigns: &[Assign]) -> Mask
+    requires { All IsSettable assigns.now }
+    ensures { result ≡ objects_assigned assigns.now }
+{
+    Mask {
+        crtcs: assigned_from(assigns, FIRST_CRTC, 4),
+        planes: assigned_from(assigns, FIRST_PLANE, 16),
+        conns: assigned_from(assigns, FIRST_CONN, 8),
     }
 }
 

@@ -1,4 +1,4 @@
-use Rattle.std.proofs.Common.{◌≡◌, ◌<◌, arith, refl}
+use Rattle.std.proofs.Common.{◌<◌, arith, refl}
 use Rattle.std.specs.Prelude.{◌&&◌, is_none}
 use Rattle.kms_model.specs.Late.{duplicate_at}
 use Rattle.kms_model.specs.Masks.{has_bit, mask_below}

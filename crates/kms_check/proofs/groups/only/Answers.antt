@@ -1,4 +1,4 @@
-use Rattle.std.proofs.Common.{◌≡◌, ◌≢◌, ℕ, ◌+◌, ◌<◌, arith}
+use Rattle.std.proofs.Common.{◌≢◌, ℕ, ◌+◌, ◌<◌, arith}
 use Rattle.kms_check.proofs.GroupLemmas.{only-there, only-absent}
 use Rattle.kms_check.proofs.groups.only.Goals as goal
 use Rattle.kms_check.proofs.groups.only.Goals.{else-first-id-via-then-first-id+else-id-first, else-first-id-via-else-first-id}

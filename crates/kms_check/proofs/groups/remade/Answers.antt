@@ -1,4 +1,4 @@
-use Rattle.std.proofs.Common.{◌≡◌, ◌∙◌, ap, take, arith, refl}
+use Rattle.std.proofs.Common.{◌∙◌}
 use Rattle.kms_check.proofs.GroupLemmas.{remade-more}
 use Rattle.kms_check.proofs.groups.remade.Goals as goal
 

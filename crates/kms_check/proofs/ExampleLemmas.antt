@@ -1,0 +1,80 @@
+-- The worlds of the examples are sound, and their states agree with them.
+use Rattle.std.proofs.Common.{◌≡◌, ℕ, zero, suc, Bool, true, false, List, [], ◌∷◌, Option, Some, None, inl, inr, refl, ap, replicate, rules, ◌+◌}
+use Rattle.std.specs.Prelude.{◌==◌, find, map, not, pos, slice_get}
+use Rattle.std.proofs.lemmas.Bool.{cases_Bool}
+use Rattle.kms_model.specs.declared.states.Both.{Both}
+use Rattle.kms_model.specs.declared.worlds.Look.{Look}
+use Rattle.kms_model.specs.declared.worlds.Thing.{Thing}
+use Rattle.kms_model.specs.Agreement.{AgreesOld, AreOld}
+use Rattle.kms_model.specs.Checks.{late_refusal, plane_refusal, shown_refusal}
+use Rattle.kms_model.specs.Lookups.{look_of, look_up}
+use Rattle.kms_model.specs.declared.pictures.Rect.{Rect}
+use Rattle.kms_model.specs.Masks.{mask_below}
+use Rattle.kms_model.specs.Sets.{look_in}
+use Rattle.kms_model.specs.Sound.{IsDevice, IsSound}
+use Rattle.kms_check.specs.Answers.{AreFresh, AreFreshIn}
+use Rattle.kms_check.specs.Example.{alike, conn, crtc, device, if_given, plane, states, things, world_of}
+
+-- what the labels of some things name, as a list
+abbrev pub seen : Thing → ℕ × Look
+seen t = (t.label, look_of (Some t))
+
+looks : (ts : List Thing) (label : ℕ) → look_in (map seen ts) label ≡ look_of (find (λ t. t.label == label) ts)
+unfolding look_in
+looks [] label = refl
+looks (t ∷ ts) label = elim (cases_Bool (t.label == label)) [
+  | inl is ↦ rw is refl
+  | inr other ↦ rw other (looks ts label)
+]
+
+pub found_in : (lit : Bool) (label : ℕ) → look_in (map seen things) label ≡ look_up (world_of lit) label
+found_in true label = looks things label
+found_in false label = looks things label
+
+pub is_device : IsDevice device
+is_device = record { legal = refl; kinds = search rules }
+
+pub is_sound : (lit : Bool) → IsSound device (world_of lit)
+unfolding late_refusal plane_refusal shown_refusal
+is_sound true = record { numbered = search rules; next = refl; held = refl; accepted = refl }
+is_sound false = record { numbered = search rules; next = refl; held = refl; accepted = refl }
+
+abbrev nowhere : Rect
+nowhere = record { x = pos 0; y = pos 0; w = pos 0; h = pos 0 }
+
+-- no object is given
+no_state : {S : Type 0} (n index : ℕ) (both : Both S) → slice_get (replicate n None) index ≡ Some (Some both) → ⊥
+no_state zero index both at = absurd cc
+no_state (suc n) zero both at = absurd cc
+no_state (suc n) (suc index) both at = no_state n index both at
+
+given_old : {S : Type 0} (given : Bool) (n : ℕ) (state : ℕ → S) → AreOld state (if_given given n state)
+given_old true n state zero both at = let same : both ≡ record { old = state 0; new = state 0 } = cc in ap (λ (b : Both _). b.old) same
+given_old true n state (suc zero) both at = let same : both ≡ record { old = state 1; new = state 1 } = cc in ap (λ (b : Both _). b.old) same
+given_old true n state (suc (suc index)) both at = absurd (no_state n index both at)
+given_old false n state index both at = absurd (no_state (2 + n) index both at)
+
+given_fresh : {S : Type 0} (given : Bool) (n : ℕ) (state : ℕ → S) → AreFreshIn (if_given given n state)
+given_fresh true n state zero both at = let same : both ≡ record { old = state 0; new = state 0 } = cc in rw same refl
+given_fresh true n state (suc zero) both at = let same : both ≡ record { old = state 1; new = state 1 } = cc in rw same refl
+given_fresh true n state (suc (suc index)) both at = absurd (no_state n index both at)
+given_fresh false n state index both at = absurd (no_state (2 + n) index both at)
+
+pub given_is : {S : Type 0} (given : Bool) (n : ℕ) (state : ℕ → S) (first second : Option (Both S)) → not given ≡ false → first ≡ alike (state 0) → second ≡ alike (state 1) → (first ∷ second ∷ replicate n None) ≡ if_given given n state
+given_is true n state first second there one other = rw (one, other) refl
+given_is false n state first second there one other = absurd cc
+
+pub off_crtc : (lit : Bool) → record { active = false; mode = None; planes = 0; conns = 0 } ≡ crtc lit 1
+unfolding mask_below
+off_crtc true = refl
+off_crtc false = refl
+
+pub off_plane : (lit : Bool) → record { fb = None; crtc = 0; dst = nowhere; src = nowhere; alpha = 65535; blend = 0; zpos = 1 } ≡ plane lit 1
+off_plane true = refl
+off_plane false = refl
+
+pub states_old : (lit a b c : Bool) → AgreesOld device (world_of lit).things (world_of lit).values (states lit a b c)
+states_old lit a b c = record { crtcs = given_old a 2 (crtc lit); planes = given_old b 14 (plane lit); conns = given_old c 6 (conn lit) }
+
+pub states_fresh : (lit a b c : Bool) → AreFresh (states lit a b c)
+states_fresh lit a b c = record { crtcs = given_fresh a 2 (crtc lit); planes = given_fresh b 14 (plane lit); conns = given_fresh c 6 (conn lit) }

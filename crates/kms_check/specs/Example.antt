@@ -1,0 +1,129 @@
+-- A device for examples, in two sound worlds: one in which nothing is shown, and one in which its first CRTC is lit.
+use Rattle.std.specs.Prelude.{ℕ, ◌+◌, Bool, true, false, pos, List, [], ◌∷◌, replicate, Option, Some, None, if◌then◌else◌}
+use Rattle.kms_model.specs.declared.objects.Format.{Format}
+use Rattle.kms_model.specs.declared.objects.Format.TheVariants.{Xr24, Rg16}
+use Rattle.kms_model.specs.declared.objects.Kind.{Kind}
+use Rattle.kms_model.specs.declared.objects.Kind.TheVariants.{Crtc, Plane, Conn}
+use Rattle.kms_model.specs.declared.objects.Mode.{Mode}
+use Rattle.kms_model.specs.declared.objects.PlaneInfo.{PlaneInfo}
+use Rattle.kms_model.specs.declared.objects.Topology.{Topology}
+use Rattle.kms_model.specs.declared.properties.TheConstants.{ACTIVE, CRTC_H, CRTC_ID, CRTC_W, FB_ID, MODE_ID, SRC_H, SRC_W}
+use Rattle.kms_model.specs.declared.scripts.Assign.{Assign}
+use Rattle.kms_model.specs.declared.scripts.PropRef.TheVariants.{Known}
+use Rattle.kms_model.specs.declared.scripts.Value.{Value}
+use Rattle.kms_model.specs.declared.scripts.Value.TheVariants as value
+use Rattle.kms_model.specs.declared.worlds.Content.{Content}
+use Rattle.kms_model.specs.declared.worlds.Content.TheVariants as content
+use Rattle.kms_model.specs.declared.worlds.Thing.{Thing}
+use Rattle.kms_model.specs.declared.worlds.World.{World}
+use Rattle.kms_model.specs.declared.states.Both.{Both}
+use Rattle.kms_model.specs.declared.states.ConnState.{ConnState}
+use Rattle.kms_model.specs.declared.states.CrtcState.{CrtcState}
+use Rattle.kms_model.specs.declared.states.Duplicates.{Duplicates}
+use Rattle.kms_model.specs.declared.states.PlaneState.{PlaneState}
+use Rattle.kms_model.specs.Agreement.{conn_state_at, crtc_state_at}
+use Rattle.kms_model.specs.Apply.{apply}
+use Rattle.kms_model.specs.Objects.{object_id}
+use Rattle.kms_model.specs.States.{plane_at}
+use Rattle.kms_model.specs.World.{start}
+
+abbrev pub plane_of : ℕ → PlaneInfo
+plane_of crtcs = record { kind = 1; crtcs = crtcs; formats = 1 }
+
+-- two CRTCs, a plane of both and one of the first alone, and two connectors of the first alone
+abbrev pub device : Topology
+device = record { crtcs = 2; planes = plane_of 3 ∷ plane_of 1 ∷ []; conns = 1 ∷ 1 ∷ [] }
+
+-- one pixel
+abbrev pub tiny : Mode
+tiny = record {
+  clock = 1;
+  hdisplay = 1;
+  hsync_start = 1;
+  hsync_end = 1;
+  htotal = 1;
+  hskew = 0;
+  vdisplay = 1;
+  vsync_start = 1;
+  vsync_end = 1;
+  vtotal = 1;
+  vscan = 0;
+  vrefresh = 60;
+  flags = 0;
+  kind = 0;
+  name = replicate 32 0;
+}
+
+abbrev pub thing : ℕ → ℕ → Content → Thing
+thing label id content = record { label = label; id = id; owner = 1; content = content; is_open = true }
+
+-- a framebuffer of one row
+abbrev pub row : ℕ → ℕ → Format → Content
+row id width format = content.Framebuffer (record { id = id; width = width; height = 1; format = format }) 0
+
+-- framebuffers under 0, 2 and 3, and one mode under 1 and 4
+abbrev pub things : List Thing
+things =
+    thing 0 1000 (row 1000 1 Xr24)
+    ∷ thing 1 1001 (content.Mode tiny)
+    ∷ thing 2 1002 (row 1002 1 Rg16)
+    ∷ thing 3 1003 (row 1003 2 Xr24)
+    ∷ thing 4 1004 (content.Mode tiny)
+    ∷ []
+
+abbrev pub sets_to : Kind → ℕ → Value → Assign
+sets_to kind prop given = record { kind = kind; index = 0; prop = Known prop; value = given }
+
+-- what lights the first CRTC
+abbrev pub light : List Assign
+light =
+    sets_to Crtc ACTIVE (value.Num (pos 1))
+    ∷ sets_to Crtc MODE_ID (value.Named 1)
+    ∷ sets_to Conn CRTC_ID (value.Crtc 0)
+    ∷ sets_to Plane FB_ID (value.Named 0)
+    ∷ sets_to Plane CRTC_ID (value.Crtc 0)
+    ∷ sets_to Plane CRTC_W (value.Num (pos 1))
+    ∷ sets_to Plane CRTC_H (value.Num (pos 1))
+    ∷ sets_to Plane SRC_W (value.Num (pos 65536))
+    ∷ sets_to Plane SRC_H (value.Num (pos 65536))
+    ∷ []
+
+abbrev pub dark_world : World
+dark_world = record { values = (start device).values; things = things; next_id = 1005; commits = 0 }
+
+abbrev pub lit_world : World
+lit_world = record { values = apply things (start device).values light; things = things; next_id = 1005; commits = 0 }
+
+-- the world in which the first CRTC is lit, or not
+abbrev pub world_of : Bool → World
+world_of true = lit_world
+world_of false = dark_world
+
+-- The states of all objects of a kind, old and new alike, and of none
+
+abbrev pub alike : {S : Type 0} → S → Option (Both S)
+alike state = Some (record { old = state; new = state })
+
+-- two objects, in room for n more
+abbrev pub two : {S : Type 0} → ℕ → (ℕ → S) → List (Option (Both S))
+two n state = alike (state 0) ∷ alike (state 1) ∷ replicate n None
+
+abbrev pub if_given : {S : Type 0} → Bool → ℕ → (ℕ → S) → List (Option (Both S))
+if_given given n state = if given then two n state else replicate (2 + n) None
+
+abbrev pub crtc : Bool → ℕ → CrtcState
+crtc lit index = crtc_state_at device (world_of lit).things (world_of lit).values (object_id Crtc index)
+
+abbrev pub plane : Bool → ℕ → PlaneState
+plane lit index = plane_at (world_of lit).things (world_of lit).values (object_id Plane index)
+
+abbrev pub conn : Bool → ℕ → ConnState
+conn lit index = conn_state_at (world_of lit).values (object_id Conn index)
+
+-- the states of the objects of some kinds
+abbrev pub states : Bool → Bool → Bool → Bool → Duplicates
+states lit has_crtcs has_planes has_conns = record {
+  crtcs = if_given has_crtcs 2 (crtc lit);
+  planes = if_given has_planes 14 (plane lit);
+  conns = if_given has_conns 6 (conn lit);
+}
