@@ -26,13 +26,18 @@ use Rattle.kms_model.specs.Lookups.{look_up}
 use Rattle.kms_model.specs.SetRanges.{may_set}
 use Rattle.kms_model.specs.Sets.{set_of}
 use Rattle.kms_model.specs.Sound.{AreNumbered, IsDevice, IsSound}
+use Rattle.kms_model.proofs.RequestLemmas.{accepted_allowed, all_settable}
 use Rattle.kms_model.proofs.SoundStart.{few_planes}
 use Rattle.kms_model.proofs.StandsLemmas.{stands-accepted}
+use Rattle.std.proofs.Math.ListN.{get_or}
 use Rattle.std.proofs.lemmas.List.{take_all}
+use Rattle.kms_request.proofs.WholeLemmas.{limits_of}
 use Rattle.kms_model.specs.declared.scripts.Request.{Request}
 use Rattle.kms_model.specs.Refusals.{early_refusal}
 use Rattle.kms_request.specs.Whole.{StandBetween}
-use Rattle.kms_serial.specs.Device.{AreWhole, IsAfter, IsPresent, IsWhole}
+use Rattle.kms_model.specs.Verdict.{verdict}
+use Rattle.kms_model.proofs.Items.{or_else-none}
+use Rattle.kms_serial.specs.Device.{AreWhole, IsAfter, IsLetThrough, IsPresent, IsWhole, Stands}
 use Rattle.kms_serial.proofs.StartStates.{few_conns}
 
 -- an object's state stands at its index
@@ -89,22 +94,31 @@ abbrev pub nothing : Assign
 nothing = record { kind = kind.Crtc; index = 0; prop = Known 0; value = Num (pos 0) }
 
 -- an assignment that is let through, and that some device can have
-pub record IsLetThrough (t : Topology) (w : World) (a : Assign) : Type 0 where
+pub record IsAllowedSet (t : Topology) (w : World) (a : Assign) : Type 0 where
   pub allowed : IsAllowed t (look_up w) a
   pub settable : IsSettable a
 
+-- so is each of a request for which none of refusals 1 to 8 is due
+pub allowed_set : (t : Topology) (w : World) (r : Request) (i : ℕ) → IsDevice t → early_refusal t (look_up w) r ≡ None → i < length r.assigns → IsAllowedSet t w (get_or r.assigns i nothing)
+allowed_set t w r i device early lt =
+    let allowed = accepted_allowed t (look_up w) r early in
+    record {
+      allowed = allowed i nothing lt;
+      settable = all_settable t (look_up w) r.assigns (limits_of t device) allowed i nothing lt;
+    }
+
 -- its object is duplicated
-pub set_duplicated : (t : Topology) (w : World) (before d : Duplicates) (a : Assign) (s : Set) → s ≡ set_of (look_up w) a → IsLetThrough t w a → IsWhole t before → old_states d ≡ old_states before → is_duplicated d s.object.0 ≡ true
+pub set_duplicated : (t : Topology) (w : World) (before d : Duplicates) (a : Assign) (s : Set) → s ≡ set_of (look_up w) a → IsAllowedSet t w a → IsWhole t before → old_states d ≡ old_states before → is_duplicated d s.object.0 ≡ true
 set_duplicated t w before d a s is through whole olds =
     ap (λ (x : Set). is_duplicated d x.object.0) is ∙ duplicated t d a.kind a.index (whole_after t before d olds whole) through.settable.place through.allowed.exists
 
 -- its value may be set
-pub set_may : (t : Topology) (w : World) (a : Assign) (s : Set) → s ≡ set_of (look_up w) a → IsLetThrough t w a → may_set a.kind s.prop s.value ≡ true → may_set (kind_of s.object.0) s.prop s.value ≡ true
+pub set_may : (t : Topology) (w : World) (a : Assign) (s : Set) → s ≡ set_of (look_up w) a → IsAllowedSet t w a → may_set a.kind s.prop s.value ≡ true → may_set (kind_of s.object.0) s.prop s.value ≡ true
 set_may t w a s is through may =
     ap (λ k. may_set k s.prop s.value) (ap (λ (x : Set). kind_of x.object.0) is ∙ kind_is a.kind a.index through.settable.place) ∙ may
 
 -- the new states agree with the values after it
-pub set_agrees : (t : Topology) (w : World) (values : List Setting) (before after : Duplicates) (a : Assign) (s : Set) → s ≡ set_of (look_up w) a → IsDevice t → AreNumbered 1000 w.things → IsLetThrough t w a
+pub set_agrees : (t : Topology) (w : World) (values : List Setting) (before after : Duplicates) (a : Assign) (s : Set) → s ≡ set_of (look_up w) a → IsDevice t → AreNumbered 1000 w.things → IsAllowedSet t w a
     → Sets before s after → AgreesNew t w.things values before → AgreesNew t w.things (assign w.things values a) after
 set_agrees t w values before after a s is device numbered through sets new =
     let P : Set → Type 0 = λ x. Sets before x after in
@@ -134,3 +148,12 @@ stands_between t w r before after i device sound present early all same new =
       new = changed.new;
       all = record { crtcs = changed.whole.crtcs.there; planes = changed.whole.planes.there; conns = changed.whole.conns.there };
     }
+
+-- The request of a check that was not refused by 1 to 8 is let through
+pub through : (t : Topology) (w : World) (d : Duplicates) (r : Request) → IsDevice t → IsSound t w → IsPresent t w d → early_refusal t (look_up w) r ≡ None → IsLetThrough t w d r
+through t w d r device sound present early = record { stands = record { device = device; sound = sound; present = present }; early = early }
+
+-- so is an accepted one
+pub through-accepted : (t : Topology) (w : World) (d : Duplicates) (r : Request) → Stands t w d → verdict t w r ≡ None → IsLetThrough t w d r
+unfolding verdict
+through-accepted t w d r stands none = record { stands = stands; early = (or_else-none (early_refusal t (look_up w) r) _ none).first_none }

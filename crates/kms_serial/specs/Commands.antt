@@ -1,5 +1,5 @@
 -- Commands, and how many things and commits they make.
-use Rattle.std.specs.Prelude.{◌≡◌, ℕ, ◌+◌, ◌<◌, ◌≤◌, List, Option, Some, None, ⊤}
+use Rattle.std.specs.Prelude.{◌≡◌, ℕ, ◌+◌, ◌<◌, ◌≤◌, Bool, ◌&&◌, nat_lt, List, Option, Some, None, ⊤}
 use Rattle.kms_model.specs.declared.objects.Topology.{Topology}
 use Rattle.kms_model.specs.declared.replies.Reply.{Reply}
 use Rattle.kms_model.specs.declared.replies.Reply.TheVariants as reply
@@ -15,6 +15,10 @@ use Rattle.kms_model.specs.declared.worlds.World.{World}
 pub record HasRoom (w : World) : Type 0 where
   pub ids : w.next_id < 4294967000
   pub commits : w.commits < 4294967000
+
+-- the same, as a test
+abbrev pub has_room : World → Bool
+has_room w = nat_lt w.next_id 4294967000 && nat_lt w.commits 4294967000
 
 -- a command makes at most four things, out-fences of a request, and one commit
 pub record Grows (old new : World) : Type 0 where
@@ -38,6 +42,11 @@ IsNoRequest command.Wait = ⊤
 abbrev pub NamesWhereCommitted : Topology → List Setting → List Setting → Request → Reply → ℕ → Type 0
 NamesWhereCommitted t old new r (reply.Commit k) named = named ≡ named_set t old new r.assigns
 NamesWhereCommitted t old new r _ named = ⊤
+
+-- where nothing is committed, the set of named CRTCs is empty
+abbrev pub IsEmptyUnlessCommitted : Reply → ℕ → Type 0
+IsEmptyUnlessCommitted (reply.Commit k) named = ⊤
+IsEmptyUnlessCommitted _ named = named ≡ 0
 
 -- what is answered where a thing with an id is made, or something is done, unless a number refuses it
 abbrev pub made_unless : ℕ → Option ℕ → Reply

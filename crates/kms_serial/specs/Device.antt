@@ -1,5 +1,5 @@
 -- The device of one thread as contracts see it, and what stands beside it.
-use Rattle.std.specs.Prelude.{◌≡◌, ℕ, ◌<◌, true, List, length, Option, is_some}
+use Rattle.std.specs.Prelude.{◌≡◌, ℕ, ◌<◌, true, List, length, Option, None, is_some}
 use Rattle.kms_model.specs.declared.objects.Topology.{Topology}
 use Rattle.kms_model.specs.declared.states.Both.{Both}
 use Rattle.kms_model.specs.declared.states.Duplicates.{Duplicates}
@@ -8,6 +8,8 @@ use Rattle.kms_model.specs.declared.scripts.Request.{Request}
 use Rattle.kms_model.specs.Apply.{apply}
 use Rattle.kms_model.specs.Agreement.{AgreesNew, AgreesOld}
 use Rattle.kms_model.specs.Late.{duplicate_at}
+use Rattle.kms_model.specs.Lookups.{look_up}
+use Rattle.kms_model.specs.Refusals.{early_refusal}
 use Rattle.kms_model.specs.Sound.{IsDevice, IsSound}
 
 -- a device and its world
@@ -43,3 +45,13 @@ pub record IsAfter (t : Topology) (w : World) (r : Request) (d : Duplicates) : T
   pub whole : IsWhole t d
   pub old : AgreesOld t w.things w.values d
   pub new : AgreesNew t w.things (apply w.things w.values r.assigns) d
+
+-- a request for which none of refusals 1 to 8 is due, on a device with its present states
+pub record IsLetThrough (t : Topology) (w : World) (d : Duplicates) (r : Request) : Type 0 where
+  pub stands : Stands t w d
+  pub early : early_refusal t (look_up w) r ≡ None
+
+-- the same, on some device
+pub record IsLetThroughSomewhere (w : World) (d : Duplicates) (r : Request) : Type 0 where
+  pub topology : Topology
+  pub is : IsLetThrough topology w d r

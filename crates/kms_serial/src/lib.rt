@@ -10,3 +10,6 @@ mod start;
 mod store;
 
 pub use serial::Serial;
+
+#[cfg(test)]
+mod tests;

@@ -1,5 +1,6 @@
 //! Whether a request is accepted, and what it leaves.
 ghost use Rattle.std.specs.Prelude.{◌≡◌, All, IfErr, IfOk, OnOk, None, Some};
+ghost use Rattle.kms_model.specs.declared.objects.Topology.{Topology};
 ghost use Rattle.kms_model.specs.Flags.{is_test};
 ghost use Rattle.kms_model.specs.Lookups.{look_up};
 ghost use Rattle.kms_model.specs.Sound.{IsDevice, IsSound};
@@ -7,13 +8,13 @@ ghost use Rattle.kms_model.specs.Verdict.{verdict};
 ghost use Rattle.kms_model.specs.Resolves.{IsSettable};
 ghost use Rattle.kms_request.specs.Whole.{StandBetween};
 ghost use Rattle.kms_serial.specs.Settling.{alike_new, settled, settled_states};
-ghost use Rattle.kms_serial.specs.Device.{IsAfter, IsPresent};
+ghost use Rattle.kms_serial.specs.Device.{IsAfter, IsLetThrough, IsLetThroughSomewhere, IsPresent};
 
 use crate::commands;
 use crate::store::WorldStore;
 use kms_model::{Both, Duplicates, Look, Refusal, Request, Topology};
 use kms_request::{Looker, early, full_check, set_of};
-use kms_state::set;
+use kms_state::Duplicating;
 
 /// `DRM_MODE_ATOMIC_TEST_ONLY`. (Header: `drm_mode.h`.)
 const TEST_ONLY: u32 = 0x100;
@@ -31,6 +32,20 @@ pub fn is_test(flags: u32) -> bool
     ensures { result ≡ is_test flags }
 {
     flags & TEST_ONLY != 0
+}
+
+/// The states of all objects after a request for which none of refusals 1 to 8 is due. They are the device's present
+/// states before.
+pub fn changed(store: &WorldStore, states: &Duplicates, request: &Request) -> Duplicates
+    requires { IsLetThroughSomewhere store.now states.now request.now }
+    ensures between { (t : Topology) → IsLetThrough t store.now states.now request.now → StandBetween t store.now request.now result }
+    ensures after { (t : Topology) → IsLetThrough t store.now states.now request.now → IsAfter t store.now request.now result }
+{
+    let mut after = *states;
+    for a in request.assigns.as_slice() {
+        after.set(&set_of(store, a));
+    }
+    after
 }
 
 /// The states of all objects after a request, or its first refusal. They are the device's present states before.
@@ -53,10 +68,7 @@ pub fn check(
     if let Some(refusal) = early(topology, request, store) {
         return Err(refusal);
     }
-    let mut after = *states;
-    for a in request.assigns.as_slice() {
-        set(&mut after, &set_of(store, a));
-    }
+    let after = changed(store, states, request);
     match full_check(topology, &after, request) {
         Some(refusal) => Err(refusal),
         None => Ok(after),

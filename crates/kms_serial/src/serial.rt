@@ -1,5 +1,5 @@
 //! The device of one thread.
-ghost use Rattle.std.specs.Prelude.{◌≡◌, ◌<◌, ◌≤◌, ◌+◌, ℕ, IfNone, IfOk, IfSome, None, Some, OnOk, OnErr, option_map, length, pos};
+ghost use Rattle.std.specs.Prelude.{◌≡◌, ◌<◌, ◌≤◌, ◌+◌, ℕ, IfNone, IfOk, IfSome, IsTrue, None, Some, OnOk, OnErr, is_none, option_map, length, pos};
 ghost use Rattle.kms_model.specs.declared.scripts.Command.TheVariants as command;
 ghost use Rattle.kms_model.specs.Execution.{execute};
 ghost use Rattle.kms_model.specs.Images.{image_of};
@@ -9,25 +9,29 @@ ghost use Rattle.kms_model.specs.Objects.{object_id};
 ghost use Rattle.kms_model.specs.Pictures.{picture};
 ghost use Rattle.kms_model.specs.Sound.{IsDevice};
 ghost use Rattle.kms_model.specs.States.{framebuffer_of};
+ghost use Rattle.kms_model.specs.Apply.{apply};
+ghost use Rattle.kms_model.specs.Touched.{named_set, touched_set};
+ghost use Rattle.kms_model.specs.Verdict.{verdict};
 ghost use Rattle.kms_model.specs.WellFormed.{IsFitCommand};
 ghost use Rattle.kms_model.specs.World.{start, thing_labelled, thing_with_id, value};
 ghost use Rattle.kms_serial.specs.Shown.{EachCanBeShown};
 ghost use Rattle.kms_serial.specs.Framebuffers.{framebuffer_id};
 ghost use Rattle.kms_model.specs.declared.properties.TheConstants.{FB_ID};
-ghost use Rattle.kms_serial.specs.Commands.{Grows, HasRoom, IsNoRequest, NamesWhereCommitted};
+ghost use Rattle.kms_serial.specs.Commands.{Grows, HasRoom, has_room, IsEmptyUnlessCommitted, IsNoRequest, NamesWhereCommitted};
 ghost use Rattle.kms_serial.specs.Device.{IsPresent};
 ghost use Rattle.kms_serial.specs.Framebuffers.{framebuffer_entry};
 
 use crate::commands;
-use crate::requests::{check, is_test, settled};
+use crate::requests::{changed, check, is_test, settled};
 use crate::start::{start_states, start_values};
 use crate::store::WorldStore;
+use kms_check::spans;
 use kms_model::{
-    Command, Duplicates, Image, Look, NoMemory, Picture, PlaneState, Reply, Request, Topology,
+    Command, Duplicates, Image, Look, Mask, NoMemory, Picture, PlaneState, Reply, Request, Topology,
 };
 use kms_picture::picture;
 use kms_request::named_in;
-use kms_state::new_plane;
+use kms_state::Duplicating;
 use std::alloc::Global;
 use std::marker::Model;
 
@@ -108,6 +112,7 @@ impl Serial {
         requires { HasRoom self.old.world }
         ensures executed { IfOk result (λ x. execute self.old.topology self.old.world client (command.Atomic request.now) ≡ record { world = self.new.world; reply = x.0 }) }
         ensures named { IfOk result (λ x. NamesWhereCommitted self.old.topology self.old.world.values self.new.world.values request.now x.0 x.1) }
+        ensures empty { IfOk result (λ x. IsEmptyUnlessCommitted x.0 x.1) }
         ensures topology { self.new.topology ≡ self.old.topology }
         ensures grows { OnOk result (Grows self.old.world self.new.world) }
         ensures unchanged { OnErr result (self.new ≡ self.old) }
@@ -176,6 +181,28 @@ impl Serial {
         }
     }
 
+    /// Whether a request is accepted now. Nothing changes, and no memory is taken.
+    pub fn accepts(&self, request: &Request) -> bool
+        ensures is { result ≡ is_none (verdict self.now.topology self.now.world request.now) }
+        ensures accepted { IsTrue result → verdict self.now.topology self.now.world request.now ≡ None }
+    {
+        matches!(
+            check(&self.topology, &self.store, &self.states, request),
+            Ok(_)
+        )
+    }
+
+    /// The CRTCs that an accepted request names, bit i for CRTC index i, and the objects that it touches: those that it
+    /// sets, the CRTCs that it names, and the planes and connectors that a CRTC which needs a modeset has before or
+    /// after. Nothing changes, and no memory is taken.
+    pub fn spans(&self, request: &Request) -> (u32, Mask)
+        requires { verdict self.now.topology self.now.world request.now ≡ None }
+        ensures named { result.0 ≡ named_set self.now.topology self.now.world.values (apply self.now.world.things self.now.world.values request.now.assigns) request.now.assigns }
+        ensures touched { result.1 ≡ touched_set self.now.topology self.now.world.things self.now.world.values (apply self.now.world.things self.now.world.values request.now.assigns) request.now.assigns }
+    {
+        spans(&changed(&self.store, &self.states, request), request)
+    }
+
     /// What a CRTC of the device, by its index, shows.
     pub fn picture(&self, crtc: u32) -> Picture
         requires { crtc < self.now.topology.crtcs }
@@ -184,6 +211,15 @@ impl Serial {
     {
         self.store.are_framed();
         picture(&self.states, crtc)
+    }
+
+    /// Whether there is room for the things and the commit of one command more. It is so for the first 1,000,000,000
+    /// commands.
+    pub fn has_room(&self) -> bool
+        ensures is { result ≡ has_room self.now.world }
+        ensures room { IsTrue result → HasRoom self.now.world }
+    {
+        self.store.has_room()
     }
 
     /// The present states of all objects, old and new alike.
@@ -220,7 +256,7 @@ impl Serial {
         ensures { pos result ≡ value self.now.world.values (object_id kind.Plane plane) FB_ID }
     {
         self.store.are_framed();
-        framebuffer_id(new_plane(&self.states, plane))
+        framebuffer_id(self.states.new_plane(plane))
     }
 
     /// The id of the thing that was made under a label, open or closed; none where there is no such thing.

@@ -1,5 +1,5 @@
 //! The world of the device, with an index of its labels and the words of its buffers.
-ghost use Rattle.std.specs.Prelude.{All, ◌≡◌, ◌<◌, ◌+◌, ℕ, [], IfNone, IfOk, IfSome, None, OnErr, OnOk, Some, length, option_copied, ◌≤◌};
+ghost use Rattle.std.specs.Prelude.{All, ◌≡◌, ◌<◌, ◌+◌, ℕ, [], IfNone, IfOk, IfSome, IsTrue, None, OnErr, OnOk, Some, length, option_copied, ◌≤◌};
 ghost use Rattle.kms_model.specs.declared.worlds.Content.TheVariants as content;
 ghost use Rattle.kms_model.specs.Closing.{closed_in};
 ghost use Rattle.kms_model.specs.Execution.{new_buffer_refusal};
@@ -10,7 +10,7 @@ ghost use Rattle.kms_model.specs.Resolves.{IsSettable};
 ghost use Rattle.kms_model.specs.Stores.{Fills};
 ghost use Rattle.kms_model.specs.World.{thing_labelled, thing_with_id};
 ghost use Rattle.std.specs.List.{AllByRecursion};
-ghost use Rattle.kms_serial.specs.Commands.{HasRoom};
+ghost use Rattle.kms_serial.specs.Commands.{HasRoom, has_room};
 ghost use Rattle.kms_serial.specs.OutFences.{fences_made, world_after};
 ghost use Rattle.kms_serial.specs.Index.{FramesIn, HasNoWords, number_told};
 
@@ -24,6 +24,9 @@ use kms_request::out_fence_numbers;
 use std::alloc::Global;
 use std::collections::HashMap;
 use std::marker::Model;
+
+/// Below this a next id, and a number of commits, leave room for one command more.
+const MOST: u32 = 4294967000;
 
 /// The world of the device, whose things are found by their labels and their ids without a walk, with the words
 /// of its buffers. Contracts see the world.
@@ -84,6 +87,14 @@ impl WorldStore {
         ensures { result ≡ self.now.commits }
     {
         self.commits
+    }
+
+    /// Whether there is room for the things and the commit of one command more.
+    pub fn has_room(&self) -> bool
+        ensures is { result ≡ has_room self.now }
+        ensures room { IsTrue result → HasRoom self.now }
+    {
+        self.next_id < MOST && self.commits < MOST
     }
 
     /// The thing that was made under a label, open or closed.
