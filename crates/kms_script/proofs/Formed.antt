@@ -1,13 +1,11 @@
 -- What was read within the limits is a well-formed script.
-use Rattle.std.proofs.Common.{◌≡◌, ℕ, zero, suc, ◌+◌, ◌<◌, ◌≤◌, ◌^◌, ◌⊎◌, inl, inr, Bool, true, List, [], ◌∷◌, length, refl, arith}
-use Rattle.std.specs.Prelude.{All, IsTrue, ⊤, ◌&&◌}
+use Rattle.std.proofs.Common.{◌≡◌, ℕ, zero, suc, ◌<◌, ◌≤◌, ◌^◌, ◌⊎◌, inl, inr, Bool, true, List, [], ◌∷◌, length, refl, arith}
+use Rattle.std.specs.Prelude.{All}
 use Rattle.std.specs.List.{AllByRecursion, list_all}
 use Rattle.std.proofs.lemmas.Bool.{le-leb, lt-ltb}
 use Rattle.kms_model.specs.declared.objects.PlaneInfo.{PlaneInfo}
-use Rattle.kms_model.specs.declared.objects.Topology.{Topology}
 use Rattle.kms_model.specs.declared.scripts.Command.{Command}
-use Rattle.kms_model.specs.Properties.{has_legal_masks, is_legal_device, is_mask_below, keeps_limits}
-use Rattle.kms_model.specs.Sound.{HasPlaneKind, IsDevice}
+use Rattle.kms_model.specs.Properties.{has_legal_masks, is_legal_device, is_mask_below}
 use Rattle.kms_model.specs.WellFormed.{IsFitClient, IsWellFormed}
 use Rattle.kms_model.specs.WholeInput.{Draft, topology_in}
 use Rattle.kms_model.specs.Words.{between}

@@ -76,6 +76,16 @@ module _ {K : Type 0} (text : K → List ℕ) where
   made_before w [] = refl
   made_before w (x ∷ es) = before_step (is_word w x.0) x.1 (lookup (is_word w) es) (was_made w (called es)) (made_before w es)
 
+  apart_texts : (k : K) (ks : List K) → AllByRecursion (λ y. is_same k y ≡ false) ks → AllByRecursion (λ v. bytes_eq (text k) v ≡ false) (map text ks)
+  apart_texts k [] h = tt
+  apart_texts k (x ∷ ks) h = (h.0, apart_texts k ks h.1)
+
+  -- keys that differ have words that differ
+  pub texts_differ : (ks : List K) → IsDistinct is_same ks → IsDistinct bytes_eq (map text ks)
+  unfolding IsDistinct
+  texts_differ [] h = tt
+  texts_differ (k ∷ ks) h = (apart_texts k ks h.0, texts_differ ks h.1)
+
 -- the bytes of a name that the map keeps
 abbrev pub text : Vec ℕ Global → List ℕ
 text v = v.items

@@ -1,5 +1,5 @@
 -- What is kept of a script while it is read: it is one within the limits.
-use Rattle.std.specs.Prelude.{◌≡◌, ◌<◌, ◌≤◌, ◌^◌, ℕ, List, length, All, ⊤}
+use Rattle.std.specs.Prelude.{◌≡◌, ◌<◌, ◌≤◌, ◌^◌, ℕ, length, All, ⊤}
 use Rattle.kms_model.specs.declared.objects.PlaneInfo.{PlaneInfo}
 use Rattle.kms_model.specs.declared.scripts.Command.{Command}
 use Rattle.kms_model.specs.declared.scripts.Command.TheVariants as command

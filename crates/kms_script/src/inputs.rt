@@ -3,6 +3,7 @@ ghost use Rattle.std.specs.Prelude.{◌≡◌, ◌≤◌, ◌<◌, ℕ, IfOk, le
 ghost use Rattle.kms_model.specs.InputLines.{rows_of};
 ghost use Rattle.kms_model.specs.WholeInput.{blank, input, lines_after};
 ghost use Rattle.kms_model.specs.WellFormed.{IsWellFormed};
+ghost use Rattle.kms_script.specs.Spelling.{Spells};
 ghost use Rattle.kms_script.specs.Stated.{Gives};
 ghost use Rattle.kms_script.specs.Drafted.{draft_in, GivesDraft, IsSound};
 
@@ -54,6 +55,7 @@ fn read_lines(alloc: Global, bytes: &[u8]) -> Result<Draft, ParseError>
 pub fn parse(alloc: Global, bytes: &[u8]) -> Result<Script, ParseError>
     ensures value { Gives result (input bytes.now) }
     ensures formed { IfOk result IsWellFormed }
+    ensures spells { IfOk result (Spells bytes.now) }
 {
     if bytes.len() > LIMIT {
         return Err(ParseError::Fault {

@@ -1,7 +1,7 @@
 //! The grammar of scripts: the script that a text spells, or the first line of it that may not stand.
 //!
-//! `parse` reads every script; `read_topology` reads the device at its front alone, and `read_command` one line of a
-//! client.
+//! `parse` reads every script, and `print` writes its text; `read_topology` reads the device at the front of a script
+//! alone, and `read_command` one line of a client.
 #![tactic(auto)]
 
 mod commands;
@@ -16,6 +16,11 @@ mod numbers;
 mod objects;
 mod one_line;
 mod patterns;
+mod printing;
+mod printing_commands;
+#[cfg(test)]
+mod printing_tests;
+mod printing_words;
 mod requests;
 mod rows;
 mod stop;
@@ -29,4 +34,5 @@ pub use inputs::parse;
 pub use kms_model::Why;
 pub use numbers::read_int;
 pub use one_line::{LineError, read_command};
+pub use printing::print;
 pub use words::{is_label, read_dec};

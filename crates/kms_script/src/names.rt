@@ -79,7 +79,8 @@ impl Names {
 
     /// The words of all names, in order.
     pub fn into_words(self, alloc: Global) -> Result<Seq<Seq<u8>>, NoMemory>
-        ensures { IfOk result (λ words. words ≡ words_in (names_in self)) }
+        ensures words { IfOk result (λ words. words ≡ words_in (names_in self)) }
+        ensures differ { IfOk result (IsDistinct bytes_eq) }
     {
         let words = self
             .places

@@ -1,5 +1,5 @@
 //! One line of a script alone.
-ghost use Rattle.std.specs.Prelude.{◌≡◌, ◌<◌, ◌+◌, OnErr, length};
+ghost use Rattle.std.specs.Prelude.{◌≡◌, ◌≤◌, ◌<◌, ◌+◌, OnErr, length};
 ghost use Rattle.std.specs.List.{IsDistinct};
 ghost use Rattle.std.specs.Str.{bytes_eq};
 ghost use Rattle.kms_model.specs.CommandLines.{line_read};
@@ -38,6 +38,9 @@ impl From<NoMemory> for LineError {
 /// behind the names. The refusals come in the order Form, Label, Limit, and leave the names as they were; that
 /// earlier lines make the line's labels is no matter of this call. Each object may have any index to 255, whatever
 /// the device has.
+///
+/// The names must differ, as they do after this call, and with the line's bytes be fewer than 4,294,967,295. A call
+/// goes over all of them.
 #[tactic(auto, unfolding(kms_model::specs::CommandLines::line_read))]
 pub fn read_command(
     alloc: Global,
@@ -48,6 +51,8 @@ pub fn read_command(
     requires differ { IsDistinct bytes_eq names.old }
     requires few { length names.old + length line.now < 4294967295 }
     ensures value { GivesCommand result (line_read names.old line.now) names.new }
+    ensures differ { IsDistinct bytes_eq names.new }
+    ensures few { length names.new ≤ length names.old + length line.now + 2 }
     ensures unchanged { OnErr result (names.new ≡ names.old) }
 {
     let mut said = Names::from_words(alloc, names.as_slice())?;

@@ -126,6 +126,7 @@ const TAKEN: &str = "addfb g later
 fence abcdefghijklmno1
 atomic 0xffffffff 18446744073709551615
 atomic 0x0 0 crtc0.ACTIVE=18446744073709551615
+atomic 0x0 0 crtc0.ACTIVE=-9223372036854775808
 atomic 0x0 0 crtc255.ACTIVE=1
 atomic 0x0 0 plane0.pixel_blend_mode=2 enc0.GAMMA_LUT=-1
 atomic 0x0 0 plane0.a2345678901234567890123456789012=1
@@ -147,9 +148,20 @@ conn 0
 addfb f b 
 fence abcdefghijklmnopq
 atomic 0x00 0
+atomic 0x01 0
 atomic 0x0F 0
+atomic 0x 0
 atomic 0x100000000 0
+atomic 0x0 01
+atomic 0x0 18446744073709551616
+atomic 0x0 0 
+atomic 0x0 0 crtc0.ACTIVE=01
+atomic 0x0 0 crtc0.ACTIVE=-0
+atomic 0x0 0 crtc0.ACTIVE=-01
+atomic 0x0 0 crtc0.ACTIVE=+1
 atomic 0x0 0 crtc0.ACTIVE=18446744073709551616
+atomic 0x0 0 crtc0.ACTIVE=-9223372036854775809
+atomic 0x0 0 crtc00.ACTIVE=1
 atomic 0x0 0 crtc256.ACTIVE=1
 atomic 0x0 0 crtc0.OUT_FENCE_PTR=+b crtc0.ACTIVE=+1
 atomic 0x0 0 plane0.=1
@@ -157,11 +169,14 @@ atomic 0x0 0 plane0.a23456789012345678901234567890123=1
 atomic 0x0 0 plane.zpos=1
 atomic 0x0 0 plane0.zpos=@1
 atomic 0x0 0 plane0.CRTC_ID=crtc256
+atomic 0x0 0 plane0.CRTC_ID=crtc00
+buffer c 01 1 XR24 ramp
 buffer c 4294967296 0 RG16 solid abcd
 buffer c 1 1 RG16 solid 0000abcd
 buffer c 1 1 AR24 solid 0000abcD
 buffer c 1 1 XR24 checker 00000000 ffffffff 4097
 buffer c 1 1 XR24 checker 00000000 ffffffff 0
+buffer c 1 1 XR24 checker 00000000 ffffffff 01
 buffer c 1 1 XR24 ramp 1
 buffer c 2 1 RG16 pixels 0001
 buffer c 2 1 RG16 pixels 0001 0002 0003
@@ -169,6 +184,7 @@ buffer c 0 1 RG16 pixels
 blob c 00f
 blob c 00FF
 mode c 0 65536 0 0 0 0 0 0 0 0 0 0 0 0 a
+mode c 00 0 0 0 0 0 0 0 0 0 0 0 0 0 a
 mode c 0 0 0 0 0 0 0 0 0 0 0 0 0 0 a1234567890123456789012345678901
 signal f f
 wait ";
@@ -204,6 +220,9 @@ fn a_line_behind_the_example(rt: HostRuntime) -> Result<(), Fail> {
     }
     let cut = light_and(alloc, b"wait")?;
     assert_eq!(rt; fault(alloc, cut.as_slice())?, Some((10, Why::Cut)));
+    let mut cut = light_and(alloc, b"")?;
+    cut.pop();
+    assert_eq!(rt; fault(alloc, cut.as_slice())?, Some((9, Why::Cut)));
     Ok(())
 }
 
@@ -252,6 +271,28 @@ fn a_request_has_256_assignments(rt: HostRuntime) -> Result<(), Fail> {
     ] {
         let line = repeated(alloc, front.as_slice(), b" crtc0.ACTIVE=1", count)?;
         let text = repeated(alloc, line.as_slice(), last, 1)?;
+        assert_eq!(rt; fault(alloc, text.as_slice())?, want);
+    }
+    Ok(())
+}
+
+#[test]
+fn a_blob_has_2048_bytes_and_a_pattern_256_words(rt: HostRuntime) -> Result<(), Fail> {
+    let alloc = rt.alloc();
+    for (front, piece, count, want) in [
+        (b"blob c ".as_slice(), b"0f".as_slice(), 2048, None),
+        (b"blob c ", b"0f", 2049, Some((10, Why::Form))),
+        (b"buffer c 16 16 RG16 pixels", b" 00ff", 256, None),
+        (
+            b"buffer c 257 1 RG16 pixels",
+            b" 00ff",
+            257,
+            Some((10, Why::Form)),
+        ),
+    ] {
+        let front = light_and(alloc, front)?;
+        let line = repeated(alloc, front.as_slice(), piece, count)?;
+        let text = repeated(alloc, line.as_slice(), b"\n", 1)?;
         assert_eq!(rt; fault(alloc, text.as_slice())?, want);
     }
     Ok(())
@@ -370,6 +411,43 @@ fn a_line_alone_puts_its_names_behind_the_others(rt: HostRuntime) -> Result<(), 
     );
     assert_eq!(rt;
         line_alone(alloc, &device, b"fence b\n"),
+        Err(LineError::Form)
+    );
+    Ok(())
+}
+
+/// How many names there are behind two lines alone, one after the other.
+fn two_lines(
+    alloc: Global,
+    device: &Topology,
+    first: &[u8],
+    second: &[u8],
+) -> Result<usize, LineError>
+    requires first { length first.now < 1024 }
+    requires second { length second.now < 1024 }
+{
+    let mut names = Seq::new(alloc);
+    read_command(alloc, device, &mut names, first)?;
+    read_command(alloc, device, &mut names, second)?;
+    Ok(names.len())
+}
+
+#[test]
+fn a_line_alone_does_not_look_at_the_labels_of_earlier_lines(rt: HostRuntime) -> Result<(), Fail> {
+    let alloc = rt.alloc();
+    let device = script(alloc, HEAD)?.topology;
+    assert_eq!(rt; two_lines(alloc, &device, b"fence a", b"fence a"), Ok(1));
+    assert_eq!(rt;
+        two_lines(
+            alloc,
+            &device,
+            b"addfb a b",
+            b"atomic 0x0 0 crtc0.x=@b crtc0.x=+y"
+        ),
+        Ok(4)
+    );
+    assert_eq!(rt;
+        two_lines(alloc, &device, b"fence a", b"wait 1"),
         Err(LineError::Form)
     );
     Ok(())

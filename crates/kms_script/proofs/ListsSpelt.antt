@@ -1,0 +1,99 @@
+-- A list of indices or of formats that was read is written as it stood.
+use Rattle.std.proofs.Common.{◌≡◌, ℕ, ◌-◌, ◌<◌, ◌≤◌, Bool, true, false, List, [], ◌∷◌, length, map, Some, refl, ap, ◌∙◌, arith}
+use Rattle.std.specs.Prelude.{option_map}
+use Rattle.std.specs.Fmt.{decimal}
+use Rattle.std.specs.List.{join_with_byte}
+use Rattle.std.proofs.lemmas.List.Splits.{join_with_byte-slice_split}
+use Rattle.kms_model.specs.declared.objects.Format.{Format}
+use Rattle.kms_model.specs.declared.objects.Format.TheVariants.{Xr24, Ar24, Rg16}
+use Rattle.kms_model.specs.Grammar.{crtc_list, format_list, format_bit, format_named, parted}
+use Rattle.kms_model.specs.Masks.{has_bit}
+use Rattle.kms_model.specs.Words.{dec}
+use Rattle.kms_script.specs.Spelling.{list_word, crtcs_word, formats_word, format_word, format_at_bit}
+use Rattle.kms_script.proofs.Decimals.{dec_spelt, dec_at_most}
+use Rattle.kms_script.proofs.Inverted.{map_some}
+use Rattle.kms_script.proofs.SpeltWords.{format_spelt}
+use Rattle.kms_script.proofs.ListedBits.{mask_of, set_bits, AreBits, Spelt, turned}
+
+-- four bits, the lowest first
+abbrev four : Bool → Bool → Bool → Bool → List Bool
+four a b c d = a ∷ b ∷ c ∷ d ∷ []
+
+-- which of four bits a mask has
+record HasBits (mask : ℕ) (a b c d : Bool) : Type 0 where
+  first : has_bit mask 0 ≡ a
+  second : has_bit mask 1 ≡ b
+  third : has_bit mask 2 ≡ c
+  fourth : has_bit mask 3 ≡ d
+
+-- a mask of four bits has those that are set
+has_bits : (a b c d : Bool) → HasBits (mask_of 1 (four a b c d)) a b c d
+has_bits true true true true = record { first = refl; second = refl; third = refl; fourth = refl }
+has_bits true true true false = record { first = refl; second = refl; third = refl; fourth = refl }
+has_bits true true false true = record { first = refl; second = refl; third = refl; fourth = refl }
+has_bits true true false false = record { first = refl; second = refl; third = refl; fourth = refl }
+has_bits true false true true = record { first = refl; second = refl; third = refl; fourth = refl }
+has_bits true false true false = record { first = refl; second = refl; third = refl; fourth = refl }
+has_bits true false false true = record { first = refl; second = refl; third = refl; fourth = refl }
+has_bits true false false false = record { first = refl; second = refl; third = refl; fourth = refl }
+has_bits false true true true = record { first = refl; second = refl; third = refl; fourth = refl }
+has_bits false true true false = record { first = refl; second = refl; third = refl; fourth = refl }
+has_bits false true false true = record { first = refl; second = refl; third = refl; fourth = refl }
+has_bits false true false false = record { first = refl; second = refl; third = refl; fourth = refl }
+has_bits false false true true = record { first = refl; second = refl; third = refl; fourth = refl }
+has_bits false false true false = record { first = refl; second = refl; third = refl; fourth = refl }
+has_bits false false false true = record { first = refl; second = refl; third = refl; fourth = refl }
+has_bits false false false false = record { first = refl; second = refl; third = refl; fourth = refl }
+
+-- the list of a mask is that of the bits which make it up
+four_listed : (word_of : ℕ → List ℕ) (a b c d : Bool) (mask : ℕ) → mask_of 1 (four a b c d) ≡ mask → list_word word_of 4 mask ≡ join_with_byte 44 (map word_of (set_bits 0 (four a b c d)))
+four_listed word_of a b c d mask e = let h : HasBits mask a b c d = rw (← e) (has_bits a b c d) in rw (h.first, h.second, h.third, h.fourth) refl
+
+-- the same of three bits
+three_listed : (word_of : ℕ → List ℕ) (a b c : Bool) (mask : ℕ) → mask_of 1 (a ∷ b ∷ c ∷ []) ≡ mask → list_word word_of 3 mask ≡ join_with_byte 44 (map word_of (set_bits 0 (a ∷ b ∷ c ∷ [])))
+three_listed word_of a b c mask e = let h : HasBits mask a b c false = rw (← e) (has_bits a b c false) in rw (h.first, h.second, h.third) refl
+
+-- the same of any four bits
+four_bits : (word_of : ℕ → List ℕ) (bits : List Bool) (mask : ℕ) → length bits ≡ 4 → mask_of 1 bits ≡ mask → list_word word_of 4 mask ≡ join_with_byte 44 (map word_of (set_bits 0 bits))
+four_bits word_of (a ∷ b ∷ c ∷ d ∷ []) mask many e = four_listed word_of a b c d mask e
+four_bits word_of bits mask many e = absurd (omega arith)
+
+-- the same of any three bits
+three_bits : (word_of : ℕ → List ℕ) (bits : List Bool) (mask : ℕ) → length bits ≡ 3 → mask_of 1 bits ≡ mask → list_word word_of 3 mask ≡ join_with_byte 44 (map word_of (set_bits 0 bits))
+three_bits word_of (a ∷ b ∷ c ∷ []) mask many e = three_listed word_of a b c mask e
+three_bits word_of bits mask many e = absurd (omega arith)
+
+-- an index of at most four CRTCs
+index_spelt : (crtcs : ℕ) → crtcs ≤ 4 → Spelt (dec (crtcs - 1)) decimal 4
+index_spelt crtcs few w bit e = let le : bit ≤ crtcs - 1 = dec_at_most (crtcs - 1) bit w e in (omega arith, dec_spelt (crtcs - 1) bit w (omega arith) e)
+
+-- a list of CRTC indices that was read is written as it stood
+pub crtcs_spelt : (crtcs mask : ℕ) (word : List ℕ) → crtcs ≤ 4 → crtc_list crtcs word ≡ Some mask → crtcs_word mask ≡ word
+unfolding crtc_list
+crtcs_spelt crtcs mask word few e =
+    let b : AreBits decimal 0 4 mask (parted 44 word) = turned (dec (crtcs - 1)) decimal 4 (index_spelt crtcs few) 4 0 mask (parted 44 word) (omega arith) e in
+    four_bits decimal b.bits mask b.many b.makes ∙ ap (join_with_byte 44) b.spells ∙ join_with_byte-slice_split 44 word
+
+-- the word of the format of a bit
+abbrev format_bit_word : ℕ → List ℕ
+format_bit_word bit = format_word (format_at_bit bit)
+
+-- a format's bit is one of three, and is that format's
+bit_of_format : (format : Format) → (format_bit format < 3) × (format_at_bit (format_bit format) ≡ format)
+bit_of_format Xr24 = (omega arith, refl)
+bit_of_format Ar24 = (omega arith, refl)
+bit_of_format Rg16 = (omega arith, refl)
+
+-- the word of a format that was read as a bit
+format_bit_spelt : Spelt (λ w. option_map format_bit (format_named w)) format_bit_word 3
+format_bit_spelt w bit e =
+    let m = map_some format_bit (format_named w) bit e in
+    let b = bit_of_format m.value in
+    (rw (← m.makes) b.0, rw (← m.makes, b.1) (format_spelt m.value w m.given))
+
+-- a list of formats that was read is written as it stood
+pub formats_spelt : (mask : ℕ) (word : List ℕ) → format_list word ≡ Some mask → formats_word mask ≡ word
+unfolding format_list
+formats_spelt mask word e =
+    let b : AreBits format_bit_word 0 3 mask (parted 44 word) = turned (λ w. option_map format_bit (format_named w)) format_bit_word 3 format_bit_spelt 3 0 mask (parted 44 word) (omega arith) e in
+    three_bits format_bit_word b.bits mask b.many b.makes ∙ ap (join_with_byte 44) b.spells ∙ join_with_byte-slice_split 44 word
