@@ -222,6 +222,19 @@ fn each_blend_mode_shows_at_each_alpha(rt: HostRuntime) -> Result<(), Fail> {
     Ok(())
 }
 
+// Over black, 253 * 191 / 255 is just above 189.5, and 65534 of 65535 parts of it are just below.
+#[test]
+fn the_last_step_of_alpha_shows(rt: HostRuntime) -> Result<(), Fail> {
+    let black = dot(Format::Xr24, &[0], 65535, 0);
+    let opaque = dot(Format::Ar24, &[0xfdbfbfbf], 65535, 1);
+    let frame = two_planes(rt.alloc(), 1, 1, &black, &opaque)?;
+    assert_eq!(rt; frame.as_slice(), [190, 190, 190].as_slice());
+    let below = dot(Format::Ar24, &[0xfdbfbfbf], 65534, 1);
+    let frame = two_planes(rt.alloc(), 1, 1, &black, &below)?;
+    assert_eq!(rt; frame.as_slice(), [189, 189, 189].as_slice());
+    Ok(())
+}
+
 // 0821 is 8, 4, 8 and f800 is 255, 0, 0; the first byte of 12345678 is no alpha in XR24.
 #[test]
 fn formats_without_alpha_are_opaque(rt: HostRuntime) -> Result<(), Fail> {
@@ -234,6 +247,9 @@ fn formats_without_alpha_are_opaque(rt: HostRuntime) -> Result<(), Fail> {
     assert_eq!(rt; frame.as_slice(), [8, 4, 8].as_slice());
     let frame = two_planes(rt.alloc(), 1, 1, &dark, &red)?;
     assert_eq!(rt; frame.as_slice(), [132, 2, 4].as_slice());
+    let bright = dot(Format::Rg16, &[0xf800], 65535, 1);
+    let frame = two_planes(rt.alloc(), 1, 1, &lower, &bright)?;
+    assert_eq!(rt; frame.as_slice(), [255, 0, 0].as_slice());
     Ok(())
 }
 

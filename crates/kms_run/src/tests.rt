@@ -254,6 +254,21 @@ fn things_belong_to_their_client(rt: HostRuntime) -> Result<(), Fail> {
     Ok(())
 }
 
+/// Four buffers of the greatest size take all the space that buffers have, so the smallest one more is refused.
+#[test]
+fn buffers_fill_their_space(rt: HostRuntime) -> Result<(), Fail> {
+    let alloc = rt.alloc();
+    let size = "4096 4096 XR24 solid 00000000";
+    let text = format!(in alloc;
+        "{HEAD}client\nbuffer a {size}\nbuffer b {size}\nbuffer c {size}\nbuffer d {size}\nbuffer e 1 1 XR24 solid 00000000\n"
+    )?;
+    let report = format!(in alloc;
+        "{LIT}R 1 1 0 made 1000\nR 1 2 1 made 1001\nR 1 3 2 made 1002\nR 1 4 3 made 1003\nR 1 5 4 ENOSPC 32\nD drained\n"
+    )?;
+    assert!(rt; writes(&rt, alloc, text.as_str(), report.as_str())?);
+    Ok(())
+}
+
 /// Two clients light a CRTC each: the journal goes by rounds, the replies by client and the latches by CRTC.
 #[test]
 fn clients_execute_in_rounds(rt: HostRuntime) -> Result<(), Fail> {
