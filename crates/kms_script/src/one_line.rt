@@ -2,7 +2,7 @@
 ghost use Rattle.std.specs.Prelude.{◌≡◌, ◌≤◌, ◌<◌, ◌+◌, OnErr, length};
 ghost use Rattle.std.specs.List.{IsDistinct};
 ghost use Rattle.std.specs.Str.{bytes_eq};
-ghost use Rattle.kms_model.specs.CommandLines.{line_read};
+ghost use Rattle.kms_model.specs.Script.CommandLines.{line_read};
 ghost use Rattle.kms_script.specs.Stated.{GivesCommand};
 
 use crate::commands::is_over;
