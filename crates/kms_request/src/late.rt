@@ -222,7 +222,7 @@ fn some_needs_modeset(topology: &Topology, states: &Duplicates, objects: &Mask) 
 /// The first refusal from 9 to 24 of a set of duplicated objects.
 ///
 /// The numbers of the planes of the set are in the ranges of their properties.
-#[tactic(auto, unfolding(kms_model::specs::Late::late_of_states))]
+#[tactic(auto, unfolding(kms_model::specs::Request::Late::late_of_states))]
 pub fn late_refusal(
     topology: &Topology,
     states: &Duplicates,

@@ -96,7 +96,7 @@ fn is_in_range<L: Looker>(
 
 /// What is wrong with an assignment by itself, whatever comes before it: 4, its object does not exist; 5, the object
 /// does not have the property; 6, the property is immutable; 7, the value is not among the property's.
-#[tactic(auto, unfolding(kms_model::specs::Refusals::assign_refusal))]
+#[tactic(auto, unfolding(kms_model::specs::Request::Refusals::assign_refusal))]
 fn own_refusal<L: Looker>(topology: &Topology, found: &L, a: &Assign) -> Option<u32>
     ensures first { (earlier : List Assign) → assign_refusal topology.now (L.meaning found.now) earlier a.now
         ≡ or_else result (number_if 8 (is_second_fence earlier a.now)) }
@@ -139,7 +139,7 @@ fn note_fence(fenced: &mut [bool; 16], a: &Assign)
 }
 
 /// The first that is wrong with assignments, from 4 to 8.
-#[tactic(auto, unfolding(kms_model::specs::Refusals::assigns_refusal))]
+#[tactic(auto, unfolding(kms_model::specs::Request::Refusals::assigns_refusal))]
 fn first_refusal<L: Looker>(topology: &Topology, found: &L, assigns: &[Assign]) -> Option<u32>
     requires { IsTrue (keeps_limits topology.now) }
     ensures { result ≡ assigns_refusal topology.now (L.meaning found.now) [] assigns.now }
@@ -162,7 +162,7 @@ fn first_refusal<L: Looker>(topology: &Topology, found: &L, assigns: &[Assign]) 
 ///
 /// Of the device's 1 to 4 CRTCs, 1 to 16 planes and 1 to 8 connectors its assignments may name others. It takes no
 /// memory.
-#[tactic(auto, unfolding(kms_model::specs::Refusals::early_refusal))]
+#[tactic(auto, unfolding(kms_model::specs::Request::Refusals::early_refusal))]
 pub fn early<L: Looker>(topology: &Topology, request: &Request, found: &L) -> Option<Refusal>
     requires { IsTrue (keeps_limits topology.now) }
     ensures first { refusal_number result ≡ early_refusal topology.now (L.meaning found.now) request.now }

@@ -147,7 +147,7 @@ fn signal(store: &WorldStore, label: u32) -> Reply
 }
 
 /// Executes a command of a client that is no atomic request. Want of memory leaves the world as it was.
-#[tactic(auto, unfolding(kms_model::specs::Execution::execute))]
+#[tactic(auto, unfolding(kms_model::specs::Device::Execution::execute))]
 pub fn execute(
     alloc: Global,
     store: &mut WorldStore,
@@ -216,7 +216,7 @@ fn framebuffer_refusal(store: &WorldStore, client: u32, buffer: u32) -> Option<u
 }
 
 /// What `execute` would answer to a command of a client that is no atomic request.
-#[tactic(auto, unfolding(kms_model::specs::Execution::execute))]
+#[tactic(auto, unfolding(kms_model::specs::Device::Execution::execute))]
 pub fn preview(store: &WorldStore, client: u32, command: &Command) -> Reply
     requires { IsNoRequest command.now }
     ensures { (t : Topology) → (execute t store.now client command.now).reply ≡ result }

@@ -49,7 +49,7 @@ pub fn changed(store: &WorldStore, states: &Duplicates, request: &Request) -> Du
 }
 
 /// The states of all objects after a request, or its first refusal. They are the device's present states before.
-#[tactic(auto, unfolding(kms_model::specs::Verdict::verdict))]
+#[tactic(auto, unfolding(kms_model::specs::Request::Verdict::verdict))]
 pub fn check(
     topology: &Topology,
     store: &WorldStore,
