@@ -11,3 +11,4 @@ pub mod Sets
 pub mod SetRanges
 pub mod Resolves
 pub mod Agreement
+pub mod Reach
