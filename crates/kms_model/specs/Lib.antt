@@ -1,3 +1,4 @@
+pub mod Machine
 pub mod Device
 pub mod Request
 pub mod Script

@@ -16,3 +16,7 @@ is_test flags = not (bit_and flags 0x100 == 0)
 -- DRM_MODE_ATOMIC_ALLOW_MODESET
 abbrev pub allows_modeset : ℕ → Bool
 allows_modeset flags = not (bit_and flags 0x400 == 0)
+
+-- DRM_MODE_ATOMIC_NONBLOCK
+abbrev pub is_nonblock : ℕ → Bool
+is_nonblock flags = not (bit_and flags 0x200 == 0)

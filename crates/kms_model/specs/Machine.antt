@@ -1,0 +1,5 @@
+pub mod Registers
+pub mod State
+pub mod Commits
+pub mod Steps
+pub mod Effects
