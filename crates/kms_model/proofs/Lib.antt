@@ -7,9 +7,11 @@ pub mod InPlace
 pub mod Items
 pub mod LastLemmas
 pub mod LateLemmas
+pub mod MachineRows
 pub mod MaskLemmas
 pub mod ObjectLemmas
 pub mod OnLiterals
+pub mod OnMachines
 pub mod OnScripts
 pub mod OpenLemmas
 pub mod PropertyTable

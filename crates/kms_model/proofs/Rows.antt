@@ -43,7 +43,7 @@ tiny = record {
   name = codes "tiny" ++ replicate 28 0;
 }
 
-abbrev sets : ℕ → List Assign
+abbrev pub sets : ℕ → List Assign
 sets plane =
     record { kind = kind.Crtc; index = 0; prop = Known ACTIVE; value = value.Num (pos 1) }
     ∷ record { kind = kind.Crtc; index = 0; prop = Known MODE_ID; value = value.Named 2 }
@@ -56,7 +56,7 @@ sets plane =
     ∷ record { kind = kind.Plane; index = 0; prop = Known SRC_H; value = value.Num (pos 65536) }
     ∷ []
 
-abbrev commands : ℕ → ℕ → List Command
+abbrev pub commands : ℕ → ℕ → List Command
 commands flags plane =
     command.Buffer 0 1 1 Xr24 (Solid 0x00616263)
     ∷ command.AddFb 1 0
@@ -64,7 +64,7 @@ commands flags plane =
     ∷ command.Atomic (record { flags = flags; user_data = 0; assigns = sets plane })
     ∷ []
 
-abbrev script : ℕ → ℕ → Script
+abbrev pub script : ℕ → ℕ → Script
 script flags plane = record { version = 1; topology = device; names = codes "b" ∷ codes "f" ∷ codes "m" ∷ []; clients = commands flags plane ∷ [] }
 
 abbrev head : List ℕ

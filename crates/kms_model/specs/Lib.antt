@@ -1,4 +1,5 @@
 pub mod Machine
+pub mod Order
 pub mod Device
 pub mod Request
 pub mod Script

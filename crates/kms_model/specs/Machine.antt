@@ -3,3 +3,5 @@ pub mod State
 pub mod Commits
 pub mod Steps
 pub mod Effects
+pub mod Histories
+pub mod Framebuffers
