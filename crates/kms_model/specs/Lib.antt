@@ -1,3 +1,5 @@
+pub mod Headline
+pub mod Promises
 pub mod Machine
 pub mod Order
 pub mod Device

@@ -5,3 +5,4 @@ pub mod Steps
 pub mod Effects
 pub mod Histories
 pub mod Framebuffers
+pub mod Waits

@@ -38,7 +38,7 @@ pub use ranges::Range;
 pub use refusals::{Rule, rule_of};
 pub use replies::{Answered, Denied, Event, Refusal, Reply, Step};
 pub use runs::{Doing, Latch, Place};
-pub use scripts::{Assign, Command, Pattern, PropRef, Request, Script, Value, Why};
+pub use scripts::{Assign, Command, Part, Pattern, PropRef, Request, Script, Value, Why};
 pub use sets::{Lookups, Resolved, Set, SetValue};
 pub use states::{Both, Checked, ConnState, CrtcState, Duplicates, Mask, ObjState, PlaneState};
 pub use stores::{BadMode, Blob, Buffer, Framebuffer, Image};

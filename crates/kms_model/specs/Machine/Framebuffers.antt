@@ -15,7 +15,7 @@ use Rattle.kms_model.specs.Device.Objects.{ids_of}
 use Rattle.kms_model.specs.Device.States.{plane_at}
 use Rattle.kms_model.specs.Machine.Commits.{commit_touches, old_plane, new_plane, is_cleaned}
 use Rattle.kms_model.specs.Machine.Effects.{next}
-use Rattle.kms_model.specs.Machine.Histories.{commits_of}
+use Rattle.kms_model.specs.Machine.Histories.{commit_numbers}
 use Rattle.kms_model.specs.Machine.Registers.{decoded_picture}
 use Rattle.kms_model.specs.Machine.State.{Machine, DeviceState, first_machine}
 
@@ -42,7 +42,7 @@ commit_keeps t d id k =
     list_any (λ plane. commit_touches t d.commits k plane && (is_fb id (old_plane t d.commits k plane).fb || is_fb id (new_plane t d.commits k plane).fb)) (ids_of t Plane)
 
 abbrev pub commits_keep : Topology → Machine → ℕ → Bool
-commits_keep t m id = list_any (λ k. not (is_cleaned m.device k) && commit_keeps t m.device id k) (commits_of m)
+commits_keep t m id = list_any (λ k. not (is_cleaned m.device k) && commit_keeps t m.device id k) (commit_numbers m)
 
 -- A framebuffer is needed where it is open, or where the values, a live picture or a commit that is not cleaned names it.
 unfoldable pub is_needed : Topology → Machine → Thing → Bool

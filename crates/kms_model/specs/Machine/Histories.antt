@@ -32,16 +32,16 @@ abbrev pub is_at_end : Script → Machine → ℕ → Bool
 is_at_end s m client = is_idle (doing_at m client) && is_none (command_at s m client)
 
 -- the clients of a script, counted from 1
-abbrev pub clients_of : Script → List ℕ
-clients_of s = range_with_len 1 (length s.clients)
+abbrev pub client_numbers : Script → List ℕ
+client_numbers s = range_with_len 1 (length s.clients)
 
 -- the numbers of the commits so far
-abbrev pub commits_of : Machine → List ℕ
-commits_of m = range_with_len 0 (length m.device.commits)
+abbrev pub commit_numbers : Machine → List ℕ
+commit_numbers m = range_with_len 0 (length m.device.commits)
 
 -- every client is at its end, and every commit is cleaned
 unfoldable pub is_drained : Script → Machine → Bool
-is_drained s m = list_all (is_at_end s m) (clients_of s) && list_all (is_cleaned m.device) (commits_of m)
+is_drained s m = list_all (is_at_end s m) (client_numbers s) && list_all (is_cleaned m.device) (commit_numbers m)
 
 -- The steps that may be legal, but for `stall` and vertical blankings without GO
 
@@ -65,8 +65,8 @@ steps_with_go t m = map (λ index. Vblank Crtc index) (filter (λ index. is_some
 
 abbrev pub steps_that_move : Script → Machine → List Step
 steps_that_move s m =
-    flat_map (steps_of_client s.topology) (clients_of s)
-    ++ (flat_map (steps_of_commit s.topology) (commits_of m) ++ steps_with_go s.topology m)
+    flat_map (steps_of_client s.topology) (client_numbers s)
+    ++ (flat_map (steps_of_commit s.topology) (commit_numbers m) ++ steps_with_go s.topology m)
 
 -- a step other than `stall` and a vertical blanking without GO is legal
 unfoldable pub is_enabled : Script → Machine → Bool
@@ -149,7 +149,7 @@ awaited_by t m k = if is_claimed m.device k then None else find (is_awaited m) (
 
 -- the label of the first such fence of the least commit that has one
 unfoldable pub awaited_label : Topology → Machine → Option ℕ
-awaited_label t m = label_with (first_some (awaited_by t m) (commits_of m)) where
+awaited_label t m = label_with (first_some (awaited_by t m) (commit_numbers m)) where
   label_with : Option ℕ → Option ℕ
   label_with None = None
   label_with (Some fence) = label_of_thing (thing_with_id m.device.world.things fence)

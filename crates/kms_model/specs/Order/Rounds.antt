@@ -4,27 +4,27 @@ use Rattle.std.specs.List.{fold}
 use Rattle.kms_model.specs.declared.replies.Step.{Step}
 use Rattle.kms_model.specs.declared.replies.Step.TheVariants.{Stall}
 use Rattle.kms_model.specs.declared.scripts.Script.{Script}
-use Rattle.kms_model.specs.Machine.Histories.{at, clients_of, legal}
-use Rattle.kms_model.specs.Order.Turns.{Run, does, settles, turn}
+use Rattle.kms_model.specs.Machine.Histories.{at, client_numbers, legal}
+use Rattle.kms_model.specs.Order.Turns.{Progress, does, settles, turn}
 
 -- A round: each client has its turn, in order of number, and then the tails settle once more.
-unfoldable pub round : Script → Run → Run
-round s run = settles s (fold (turn s) run (clients_of s))
+unfoldable pub round : Script → Progress → Progress
+round s run = settles s (fold (turn s) run (client_numbers s))
 
 -- a round has no step
-abbrev pub is_still : Script → Run → Bool
+abbrev pub is_still : Script → Progress → Bool
 is_still s run = length (round s run).steps == length run.steps
 
 -- rounds until one has no step, at most so many
-unfoldable pub rounds : Script → ℕ → Run → Run
+unfoldable pub rounds : Script → ℕ → Progress → Progress
 rounds s zero run = run
 rounds s (suc most) run = if is_still s run then run else rounds s most (round s run)
 
 -- a dead history is ended
-abbrev pub ends : Script → Run → Run
+abbrev pub ends : Script → Progress → Progress
 ends s run = if legal s run.machine Stall then does s run Stall else run
 
-abbrev pub run_of : Script → List Step → Run
+abbrev pub run_of : Script → List Step → Progress
 run_of s h = record { steps = reverse h; machine = at s h }
 
 -- a history that is continued by at most so many rounds, and ended where it is dead

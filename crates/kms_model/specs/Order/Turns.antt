@@ -17,16 +17,16 @@ use Rattle.kms_model.specs.Request.Named.{names, is_routed}
 use Rattle.kms_model.specs.Request.Touched.{sets, is_affected}
 use Rattle.kms_model.specs.Machine.Commits.{lockable}
 use Rattle.kms_model.specs.Machine.Effects.{next}
-use Rattle.kms_model.specs.Machine.Histories.{legal, is_at_end, commits_of, steps_of_commit, steps_with_go}
+use Rattle.kms_model.specs.Machine.Histories.{legal, is_at_end, commit_numbers, steps_of_commit, steps_with_go}
 use Rattle.kms_model.specs.Machine.State.{Machine, request_at, holds}
 use Rattle.kms_model.specs.Machine.Steps.{may_lock}
 
 -- a history, its newest step first, and the machine after it
-pub record Run : Type 0 where
+pub record Progress : Type 0 where
   pub steps : List Step
   pub machine : Machine
 
-abbrev pub does : Script → Run → Step → Run
+abbrev pub does : Script → Progress → Step → Progress
 does s run step = record { steps = step ∷ run.steps; machine = next s run.machine step }
 
 -- Locks, by three groups. From: "Atomic Mode Setting", drm_atomic_get_crtc_state, drm_atomic_add_affected_planes,
@@ -85,12 +85,12 @@ is_answering (Read client) = true
 is_answering _ = false
 
 -- a step is done, where there is one, and a function tells what follows it
-abbrev pub does_then : Script → (Step → Run → Run) → Run → Option Step → Run
+abbrev pub does_then : Script → (Step → Progress → Progress) → Progress → Option Step → Progress
 does_then s further run None = run
 does_then s further run (Some step) = further step (does s run step)
 
 -- a client does its steps until its command is answered or it can do none, at most so many
-unfoldable pub client_goes : Script → ℕ → ℕ → Run → Run
+unfoldable pub client_goes : Script → ℕ → ℕ → Progress → Progress
 client_goes s zero client run = run
 client_goes s (suc most) client run =
     does_then s (λ step done. if is_answering step then done else client_goes s most client done) run (client_step s run.machine client)
@@ -103,23 +103,23 @@ most_of_turn t = length (lockable t) + 4
 -- first CRTC that has GO.
 unfoldable pub tail_step : Script → Machine → Option Step
 tail_step s m =
-    or_else (first_some (λ k. find (legal s m) (steps_of_commit s.topology k)) (commits_of m)) (find (legal s m) (steps_with_go s.topology m))
+    or_else (first_some (λ k. find (legal s m) (steps_of_commit s.topology k)) (commit_numbers m)) (find (legal s m) (steps_with_go s.topology m))
 
 -- the tails settle: steps of tails are done as long as there is one, at most so many
-unfoldable pub tails_go : Script → ℕ → Run → Run
+unfoldable pub tails_go : Script → ℕ → Progress → Progress
 tails_go s zero run = run
 tails_go s (suc most) run = does_then s (λ step done. tails_go s most done) run (tail_step s run.machine)
 
 -- the tail of a commit has at most 31 steps
-abbrev pub settles : Script → Run → Run
+abbrev pub settles : Script → Progress → Progress
 settles s run = tails_go s (31 * length run.machine.device.commits) run
 
 -- a client goes on after its blocking commit, where that is cleaned
-abbrev pub returns : Script → ℕ → Run → Run
+abbrev pub returns : Script → ℕ → Progress → Progress
 returns s client run = if legal s run.machine (Return client) then does s run (Return client) else run
 
 -- The turn of a client that is not at its end.
-unfoldable pub turn : Script → Run → ℕ → Run
+unfoldable pub turn : Script → Progress → ℕ → Progress
 turn s run client =
     if is_at_end s run.machine client then run
     else returns s client (settles s (client_goes s (most_of_turn s.topology) client run))

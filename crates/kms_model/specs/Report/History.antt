@@ -18,7 +18,7 @@ use Rattle.kms_model.specs.Device.Serial.{Entry}
 use Rattle.kms_model.specs.Frames.FrameBytes.{frame_bytes}
 use Rattle.kms_model.specs.Frames.Ppm.{ppm}
 use Rattle.kms_model.specs.Machine.Framebuffers.{freed}
-use Rattle.kms_model.specs.Machine.Histories.{at, clients_of, is_dead, is_drained, journal, latched, read_by, replies, stalled_on}
+use Rattle.kms_model.specs.Machine.Histories.{at, client_numbers, is_dead, is_drained, journal, latched, read_by, replies, stalled_on}
 use Rattle.kms_model.specs.Machine.State.{Machine}
 use Rattle.kms_model.specs.Report.Replies.{kind_name, reply_words}
 use Rattle.kms_model.specs.Report.TextLines.{line}
@@ -109,9 +109,9 @@ step_line step = line (codes "T" ∷ step_words step)
 unfoldable pub report_of : Script → List Step → Machine → Options → List ℕ
 report_of s h m options =
     flat_map entry_line (journal m)
-    ++ (flat_map (λ client. flat_map answer_line (answers_to m client)) (clients_of s)
+    ++ (flat_map (λ client. flat_map answer_line (answers_to m client)) (client_numbers s)
     ++ (flat_map (λ crtc. flat_map (latch_line m options.ppm) (latched m crtc)) (range_with_len 0 s.topology.crtcs)
-    ++ (flat_map (event_lines m) (clients_of s)
+    ++ (flat_map (event_lines m) (client_numbers s)
     ++ (flat_map (freed_thing_line s.names) (freed s h)
     ++ (line (codes "D" ∷ end_words s m (length h))
     ++ if_wanted options.trace (flat_map step_line h))))))
