@@ -7,6 +7,7 @@ pub mod InPlace
 pub mod Items
 pub mod LastLemmas
 pub mod LateLemmas
+pub mod MachineInputs
 pub mod MachineRows
 pub mod MaskLemmas
 pub mod ObjectLemmas
