@@ -43,7 +43,7 @@ tiny = record {
   name = codes "tiny" ++ replicate 28 0;
 }
 
-abbrev pub sets : ℕ → List Assign
+abbrev sets : ℕ → List Assign
 sets plane =
     record { kind = kind.Crtc; index = 0; prop = Known ACTIVE; value = value.Num (pos 1) }
     ∷ record { kind = kind.Crtc; index = 0; prop = Known MODE_ID; value = value.Named 2 }
@@ -56,7 +56,7 @@ sets plane =
     ∷ record { kind = kind.Plane; index = 0; prop = Known SRC_H; value = value.Num (pos 65536) }
     ∷ []
 
-abbrev pub commands : ℕ → ℕ → List Command
+abbrev commands : ℕ → ℕ → List Command
 commands flags plane =
     command.Buffer 0 1 1 Xr24 (Solid 0x00616263)
     ∷ command.AddFb 1 0
@@ -64,13 +64,13 @@ commands flags plane =
     ∷ command.Atomic (record { flags = flags; user_data = 0; assigns = sets plane })
     ∷ []
 
-abbrev pub script : ℕ → ℕ → Script
+abbrev script : ℕ → ℕ → Script
 script flags plane = record { version = 1; topology = device; names = codes "b" ∷ codes "f" ∷ codes "m" ∷ []; clients = commands flags plane ∷ [] }
 
-abbrev head : List ℕ
+abbrev pub head : List ℕ
 head = codes "kms 1\ncrtcs 1\nplane primary 0 XR24\nconn 0\n"
 
-abbrev made : List ℕ
+abbrev pub made : List ℕ
 made = codes "client\nbuffer b 1 1 XR24 solid 00616263\naddfb f b\nmode m 1 1 1 1 1 0 1 1 1 1 0 60 0 0 tiny\n"
 
 -- a first commit lights the CRTC

@@ -142,9 +142,9 @@ pub record IsBusyFor (t : Topology) (m : Machine) (client : ℕ) (r : Request) (
 abbrev pub CauseOfBusy : Type 0
 CauseOfBusy = InEachHistory (λ s h. (client : ℕ) (r : Request) (object k : ℕ) → request_at s (at s h) client ≡ Some r → is_taking (doing_at (at s h) client) ≡ true
     → ((legal s (at s h) (Refuse client) ≡ true)
-      × (refusal_reply s.topology (at s h) client r (verdict s.topology (at s h).device.world r) ≡ reply.Busy (obj_id object) k))
+    × (refusal_reply s.topology (at s h) client r (verdict s.topology (at s h).device.world r) ≡ reply.Busy (obj_id object) k))
     ↔ (IsBusyFor s.topology (at s h) client r object
-      × (previous s.topology (at s h).device.commits (length (at s h).device.commits) object ≡ Some k)))
+    × (previous s.topology (at s h).device.commits (length (at s h).device.commits) object ≡ Some k)))
 
 -- Waits
 

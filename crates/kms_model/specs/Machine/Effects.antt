@@ -57,9 +57,11 @@ drops_locks m client = record m { contexts = record m.contexts { locks = dropped
 
 -- a reply to the command at which a client stands, at the place of so many accepted commands
 abbrev pub answers : Machine → ℕ → Reply → Machine
-answers m client r = record m { records = record m.records {
-  replies = record { client = client; command = (place_at m client).command; place = length m.records.journal; reply = r } ∷ m.records.replies;
-} }
+answers m client r = record m {
+  records = record m.records {
+    replies = record { client = client; command = (place_at m client).command; place = length m.records.journal; reply = r } ∷ m.records.replies;
+  };
+}
 
 -- the command at which a client stands joins the journal
 abbrev pub joins_journal : Machine → ℕ → Machine
@@ -120,10 +122,12 @@ reserves t m client r =
 
 -- a commit is set up, and its request holds
 abbrev pub sets_up : Topology → Machine → ℕ → Request → Machine
-sets_up t m client r = record m { device = record m.device {
-  world = (committed t m.device.world client r).world;
-  commits = record { client = client; command = (place_at m client).command; request = r; world = m.device.world } ∷ m.device.commits;
-} }
+sets_up t m client r = record m {
+  device = record m.device {
+    world = (committed t m.device.world client r).world;
+    commits = record { client = client; command = (place_at m client).command; request = r; world = m.device.world } ∷ m.device.commits;
+  };
+}
 
 -- the client of a commit that blocks waits for it
 abbrev pub goes_on_or_waits : Machine → ℕ → Request → ℕ → Machine
@@ -171,10 +175,12 @@ abbrev pub reads : Machine → ℕ → List Event → Machine
 reads m client [] = goes_on (answers m client reply.NoEvent) client
 reads m client (event ∷ events) =
     let answered = answers m client (reply.Event event) in
-    goes_on (record answered { events = record answered.events {
-      unread = (client, events) ∷ answered.events.unread;
-      events_read = (client, event) ∷ answered.events.events_read;
-    } }) client
+    goes_on (record answered {
+      events = record answered.events {
+        unread = (client, events) ∷ answered.events.unread;
+        events_read = (client, event) ∷ answered.events.events_read;
+      };
+    }) client
 
 -- The tail of a commit
 
@@ -188,10 +194,12 @@ written_registers t d k object =
     else write_plane d.shadow object (plane_words (new_plane t d.commits k object))
 
 abbrev pub writes : Topology → Machine → ℕ → ℕ → Machine
-writes t m k object = record m { device = record m.device {
-  shadow = written_registers t m.device k object;
-  marks = record m.device.marks { written = (k, object) ∷ m.device.marks.written };
-} }
+writes t m k object = record m {
+  device = record m.device {
+    shadow = written_registers t m.device k object;
+    marks = record m.device.marks { written = (k, object) ∷ m.device.marks.written };
+  };
+}
 
 -- the event of a commit for a CRTC
 abbrev pub event_of : Topology → Machine → ℕ → ℕ → ℕ → Event
@@ -201,10 +209,12 @@ event_of t m k crtc count = record { user_data = (commit_at t m.device.commits k
 abbrev pub delivers : Topology → Machine → ℕ → ℕ → ℕ → Machine
 delivers t m k crtc count =
     let client = (commit_at t m.device.commits k).client in
-    record m { events = record m.events {
-      reserved = (client, reserved_at m.events client - 1) ∷ m.events.reserved;
-      unread = (client, unread_at m.events client ++ event_of t m k crtc count ∷ []) ∷ m.events.unread;
-    } }
+    record m {
+      events = record m.events {
+        reserved = (client, reserved_at m.events client - 1) ∷ m.events.reserved;
+        unread = (client, unread_at m.events client ++ event_of t m k crtc count ∷ []) ∷ m.events.unread;
+      };
+    }
 
 abbrev pub delivers_if : Topology → Machine → ℕ → ℕ → ℕ → Machine
 delivers_if t m k crtc count = if asks_event t m.device.commits k then delivers t m k crtc count else m
@@ -235,10 +245,12 @@ flushes t m k crtc =
 
 -- the count of a CRTC rises by one, and its GO is cleared
 abbrev pub counts_vblank : Machine → ℕ → Machine
-counts_vblank m crtc = record m { device = record m.device {
-  counts = (crtc, count_at m.device crtc + 1) ∷ m.device.counts;
-  go = (crtc, None) ∷ m.device.go;
-} }
+counts_vblank m crtc = record m {
+  device = record m.device {
+    counts = (crtc, count_at m.device crtc + 1) ∷ m.device.counts;
+    go = (crtc, None) ∷ m.device.go;
+  };
+}
 
 abbrev pub blanks : Topology → Machine → ℕ → Option ℕ → Machine
 blanks t m crtc None = counts_vblank m crtc

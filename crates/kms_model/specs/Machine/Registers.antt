@@ -144,9 +144,22 @@ pub record Registers : Type 0 where
 -- at the start all words are 0, but a plane's alpha, 65535, and its zpos, which is its index
 abbrev pub first_plane_words : ℕ → PlaneWords
 first_plane_words plane = record {
-  crtc = 0; fb = 0; fb_width = 0; fb_height = 0; fb_format = 0;
-  x = 0; y = 0; w = 0; h = 0; src_x = 0; src_y = 0; src_w = 0; src_h = 0;
-  alpha = 65535; blend = 0; zpos = index_of plane;
+  crtc = 0;
+  fb = 0;
+  fb_width = 0;
+  fb_height = 0;
+  fb_format = 0;
+  x = 0;
+  y = 0;
+  w = 0;
+  h = 0;
+  src_x = 0;
+  src_y = 0;
+  src_w = 0;
+  src_h = 0;
+  alpha = 65535;
+  blend = 0;
+  zpos = index_of plane;
 }
 
 abbrev pub first_crtc_words : CrtcWords

@@ -84,8 +84,14 @@ no_marks = record { claimed = []; written = []; flushed = []; done = []; cleaned
 abbrev pub first_machine : Topology → Machine
 first_machine t = record {
   device = record {
-    world = start t; commits = []; marks = no_marks;
-    shadow = first_registers; live = first_registers; go = []; counts = []; signalled = [];
+    world = start t;
+    commits = [];
+    marks = no_marks;
+    shadow = first_registers;
+    live = first_registers;
+    go = [];
+    counts = [];
+    signalled = [];
   };
   contexts = record { places = []; locks = []; tickets = 0 };
   records = record { journal = []; replies = []; latches = [] };

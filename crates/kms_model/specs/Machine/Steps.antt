@@ -138,8 +138,8 @@ is_busy t m r = is_nonblock r.flags && is_some (first_pending t m r)
 unfoldable pub is_ready : Topology → Machine → Request → Bool
 is_ready t m r =
     list_all (λ crtc.
-      if_there (is_hw_done m.device) (previous t m.device.commits (length m.device.commits) crtc)
-      && if_there (is_cleaned m.device) (second_previous t m.device.commits (length m.device.commits) crtc)) (named t m.device.world r)
+    if_there (is_hw_done m.device) (previous t m.device.commits (length m.device.commits) crtc)
+    && if_there (is_cleaned m.device) (second_previous t m.device.commits (length m.device.commits) crtc)) (named t m.device.world r)
 
 -- Decisions on a request, of the client whose context takes locks for it
 

@@ -57,8 +57,20 @@ names_of_client digit = map (λ letter. letter ++ digit) (codes "b" ∷ codes "f
 -- 64 by 64 pixels
 abbrev pub generated_mode : Mode
 generated_mode = record {
-  clock = 1000; hdisplay = 64; hsync_start = 64; hsync_end = 64; htotal = 64; hskew = 0;
-  vdisplay = 64; vsync_start = 64; vsync_end = 64; vtotal = 64; vscan = 0; vrefresh = 60; flags = 0; kind = 0;
+  clock = 1000;
+  hdisplay = 64;
+  hsync_start = 64;
+  hsync_end = 64;
+  htotal = 64;
+  hskew = 0;
+  vdisplay = 64;
+  vsync_start = 64;
+  vsync_end = 64;
+  vtotal = 64;
+  vscan = 0;
+  vrefresh = 60;
+  flags = 0;
+  kind = 0;
   name = codes "gen" ++ replicate 29 0;
 }
 
@@ -93,10 +105,10 @@ flip crtc d =
       flags = 0x1;
       user_data = d.index;
       assigns =
-        on_plane crtc FB_ID (value.Named (drawn_framebuffer crtc d.number))
-        ∷ on_plane crtc ALPHA (value.Num (pos (d.number / 2 % 65536)))
-        ∷ on_plane crtc CRTC_X (value.Num (pos (d.number / 131072 % 64)))
-        ∷ [];
+          on_plane crtc FB_ID (value.Named (drawn_framebuffer crtc d.number))
+          ∷ on_plane crtc ALPHA (value.Num (pos (d.number / 2 % 65536)))
+          ∷ on_plane crtc CRTC_X (value.Num (pos (d.number / 131072 % 64)))
+          ∷ [];
     })
     ∷ command.Wait ∷ []
 
