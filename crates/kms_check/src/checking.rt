@@ -12,6 +12,7 @@ ghost use Rattle.kms_state.specs.Places.{old_states};
 use crate::applying::apply;
 use crate::groups::{crtcs_fenced, lacking, objects_set, only_crtcs, remade, union};
 use kms_model::{Checked, Duplicates, Mask, Refusal, Resolved, Topology};
+use kms_props::AtomicFlags;
 use kms_request::{Asked, late_refusal, named};
 
 /// Why a request is not accepted.
@@ -76,7 +77,7 @@ pub fn check(
     }
     let touched = union(&union(&set, &only_crtcs(named)), &remade);
     let asked = Asked {
-        flags: resolved.flags,
+        flags: AtomicFlags::of_request(resolved.flags),
         named,
         fenced: crtcs_fenced(resolved.out_fences.as_slice()),
     };

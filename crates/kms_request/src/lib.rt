@@ -6,9 +6,9 @@
 //! 24 of a set of duplicated objects, and `full_check` that of the whole device.
 #![tactic(auto)]
 
+mod duplicated;
 mod errors;
 mod fences;
-mod flags;
 mod late;
 mod lookups;
 mod naming;
