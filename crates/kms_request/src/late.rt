@@ -78,7 +78,8 @@ fn crtc_at(states: &Duplicates, objects: &Mask, asked: Asked, index: usize) -> O
     ensures { result ≡ option_and_then (crtc_refusal_of (bits_of asked.flags) asked.named asked.fenced index) (duplicate_in objects.now.crtcs states.now.crtcs index) }
 {
     let both = duplicate_in(objects.crtcs, &states.crtcs, index)?;
-    let signals = asked.flags.contains(AtomicFlags::PAGE_FLIP_EVENT) || has_bit(asked.fenced, index);
+    let signals = asked.flags.contains(AtomicFlags::PAGE_FLIP_EVENT)
+        || has_bit(asked.fenced, index);
     let asks = has_bit(asked.named, index) && signals;
     crtc_refusal(asks, both.old.active, both.new.active, both.new.mode)
 }
@@ -181,9 +182,11 @@ fn first_of(
 fn some_needs_modeset(topology: &Topology, states: &Duplicates, objects: &Mask) -> bool
     ensures { result ≡ list_any (λ index. needs_modeset_if (duplicate_in objects.now.crtcs states.now.crtcs index)) (range_with_len 0 (count_of topology.now Crtc)) }
 {
-    (0..topology.crtcs as usize).any(|index| duplicate_in(objects.crtcs, &states.crtcs, index).is_some_and(
-        |both| needs_modeset(&both),
-    ))
+    (0..topology.crtcs as usize).any(|index| duplicate_in(
+        objects.crtcs,
+        &states.crtcs,
+        index,
+    ).is_some_and(|both| needs_modeset(&both)))
 }
 
 /// The first refusal from 9 to 24 of a set of duplicated objects.
@@ -221,7 +224,9 @@ fn modeset_refusal(
 ) -> Option<u32>
     ensures { result ≡ number_if 24 (not (allows_modeset (bits_of flags)) && list_any (λ index. needs_modeset_if (duplicate_in objects.now.crtcs states.now.crtcs index)) (range_with_len 0 (count_of topology.now Crtc))) }
 {
-    if !flags.contains(AtomicFlags::ALLOW_MODESET) && some_needs_modeset(topology, states, objects) {
+    if !flags.contains(AtomicFlags::ALLOW_MODESET)
+        && some_needs_modeset(topology, states, objects)
+    {
         Some(24)
     } else {
         None
