@@ -10,7 +10,7 @@ use Rattle.kms_histlock.specs.declared.view.View.{View}
 use Rattle.kms_histlock.specs.declared.view.Turn.{Turn}
 use Rattle.kms_histlock.specs.declared.view.Stage.{Stage}
 use Rattle.kms_histlock.specs.declared.view.Stage.TheVariants.{Idle, Waits, Serves}
-use Rattle.kms_histlock.specs.Rules.{due, At, AtMost, Words, Ranks, Begins, IsStart, Sights}
+use Rattle.kms_histlock.specs.Rules.{due, At, AtMost, Words, Ranks, GoesOnFrom, IsStart, Sights}
 use Rattle.kms_histlock.specs.Steps.{kept_back, split_off, tops, merged, spent}
 use Rattle.kms_histlock.proofs.Lists.{each_put}
 
@@ -72,10 +72,10 @@ module _ {E : Type 0} where
 
   module _ (owner : E → ℕ) (counted : ℕ → List E → ℕ) where
     pub sights_put : (log : List E) (counts : List ℕ) (vs : List (View E)) (me : ℕ) (w : View E)
-        → (0 < w.parts → Begins owner w.rank w.seen log) → (0 < w.parts → (k : ℕ) → k < 4 → k < due w.stage → counted k w.seen ≤ get_or counts k 0) → All (λ xs. IsStart xs log) w.joined
+        → (0 < w.parts → GoesOnFrom owner w.rank w.seen log) → (0 < w.parts → (k : ℕ) → k < 4 → k < due w.stage → counted k w.seen ≤ get_or counts k 0) → All (λ xs. IsStart xs log) w.joined
         → Sights owner counted log counts vs → Sights owner counted log counts (set vs me w)
     sights_put log counts vs me w begins most joined r = record {
-      begins = each_put (λ j u. 0 < u.parts → Begins owner u.rank u.seen log) vs me w begins (λ j d _ e. r.begins j d e);
+      begins = each_put (λ j u. 0 < u.parts → GoesOnFrom owner u.rank u.seen log) vs me w begins (λ j d _ e. r.begins j d e);
       counted_in = each_put (λ j u. 0 < u.parts → (k : ℕ) → k < 4 → k < due u.stage → counted k u.seen ≤ get_or counts k 0) vs me w most (λ j d _ e. r.counted_in j d e);
       joined = each_put (λ j u. All (λ xs. IsStart xs log) u.joined) vs me w joined (λ j d _ e. r.joined j d e);
     }
@@ -85,7 +85,7 @@ module _ {E : Type 0} where
         → w.parts ≡ v.parts → w.rank ≡ v.rank → w.seen ≡ v.seen → w.joined ≡ v.joined → due w.stage ≤ due v.stage
         → Sights owner counted log counts vs → Sights owner counted log counts (set vs me w)
     sights_same log counts vs me v w at parts rank seen joined less r = sights_put log counts vs me w
-        (λ h. subst (λ (z : ℕ × List E). Begins owner z.0 z.1 log) (λ i. (sym rank i, sym seen i)) (r.begins me v at (omega arith)))
+        (λ h. subst (λ (z : ℕ × List E). GoesOnFrom owner z.0 z.1 log) (λ i. (sym rank i, sym seen i)) (r.begins me v at (omega arith)))
         (λ h k l g. subst (λ xs. counted k xs ≤ get_or counts k 0) (sym seen) (r.counted_in me v at (omega arith) k l (omega arith)))
         (subst (λ xs. All (λ xs. IsStart xs log) xs) (sym joined) (r.joined me v at)) r
 
@@ -106,7 +106,7 @@ module _ {E : Type 0} where
         → w.seen ≡ log ++ new → w.joined ≡ v.joined → due w.stage ≡ 0 → Ranks owner log vs
         → Sights owner counted log counts vs → Sights owner counted (log ++ new) counts (set vs me w)
     sights_longer log new counts vs me v w at live by seen joined owing ranks r = record {
-      begins = each_put (λ j u. 0 < u.parts → Begins owner u.rank u.seen (log ++ new)) vs me w
+      begins = each_put (λ j u. 0 < u.parts → GoesOnFrom owner u.rank u.seen (log ++ new)) vs me w
           (λ _. ([], seen_all, All-nil (λ e. owner e ≢ w.rank)))
           (λ j d ne e h. let b = r.begins j d e h in let at_least = (ranks.within j d e h).0 in (
             b.0 ++ new,
@@ -133,8 +133,8 @@ module _ {E : Type 0} where
         (λ is. let e : get_or (set counts k n) j 0 ≡ n = ap (λ i. get_or (set counts k n) i 0) is ∙ get_or-set_same counts k n 0 inside in let f = ap (λ i. get_or counts i 0) is in omega arith)
         (λ ne. let e = get_or-set_other counts k j n 0 ne in omega arith) in
         record {
-          begins = each_put (λ j u. 0 < u.parts → Begins owner u.rank u.seen log) vs me w
-              (λ h. subst (λ (z : ℕ × List E). Begins owner z.0 z.1 log) (λ i. (sym rank i, sym seen i)) (r.begins me v at (omega arith))) (λ j d _ e. r.begins j d e);
+          begins = each_put (λ j u. 0 < u.parts → GoesOnFrom owner u.rank u.seen log) vs me w
+              (λ h. subst (λ (z : ℕ × List E). GoesOnFrom owner z.0 z.1 log) (λ i. (sym rank i, sym seen i)) (r.begins me v at (omega arith))) (λ j d _ e. r.begins j d e);
           counted_in = each_put (λ j u. 0 < u.parts → (i : ℕ) → i < 4 → i < due u.stage → counted i u.seen ≤ get_or (set counts k n) i 0) vs me w
               (λ h i l g. subst (λ xs. counted i xs ≤ get_or (set counts k n) i 0) (sym seen) (dite (ℕ_discrete i k)
               (λ same. let e : get_or (set counts k n) i 0 ≡ n = ap (λ z. get_or (set counts k n) z 0) same ∙ get_or-set_same counts k n 0 inside in let f = ap (λ z. counted z v.seen) same in omega arith)
@@ -154,7 +154,7 @@ module _ {E : Type 0} where
         let strangers : All (λ e. owner e ≢ v.top + 1) b.0 =
         All-weaker (λ e. owner e ≤ length vs) (λ e. owner e ≢ v.top + 1) (λ e h z. omega arith) b.0 (All-behind (λ e. owner e ≤ length vs) v.seen b.0 (subst (λ xs. All (λ e. owner e ≤ length vs) xs) b.1 ranks.owners)) in
         record {
-          begins = λ j u e h. ⊎_elim (λ old. s.begins j u old h) (λ is. subst (λ z. Begins owner z.rank z.seen log) is (b.0, b.1, strangers)) (at_snoc us (split_off v) u j e);
+          begins = λ j u e h. ⊎_elim (λ old. s.begins j u old h) (λ is. subst (λ z. GoesOnFrom owner z.rank z.seen log) is (b.0, b.1, strangers)) (at_snoc us (split_off v) u j e);
           counted_in = λ j u e h. ⊎_elim (λ old. s.counted_in j u old h) (λ is. subst (λ z. (k : ℕ) → k < 4 → k < due z.stage → counted k z.seen ≤ get_or counts k 0) is most) (at_snoc us (split_off v) u j e);
           joined = λ j u e. ⊎_elim (λ old. s.joined j u old) (λ is. subst (λ z. All (λ xs. IsStart xs log) z.joined) is (r.joined me v at)) (at_snoc us (split_off v) u j e);
         }

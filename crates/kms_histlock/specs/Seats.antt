@@ -70,7 +70,7 @@ abbrev pub gave : {E : Type 0} → List E → ℕ → View E → View E
 gave log found v = record v { stage = Idle; seen = log; made = v.made + (length log - found) }
 
 -- the history xs begins with all that the seat and those joined to it have seen, and reaches all that they have read
-pub record Covers {E : Type 0} (counted : ℕ → List E → ℕ) (v : View E) (xs : List E) : Type 0 where
+pub record HoldsAll {E : Type 0} (counted : ℕ → List E → ℕ) (v : View E) (xs : List E) : Type 0 where
   pub seen : IsStart v.seen xs
   pub joined : All (λ ys. IsStart ys xs) v.joined
   pub length_read : v.length ≤ length xs

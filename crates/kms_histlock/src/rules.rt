@@ -23,10 +23,10 @@ pub(crate) const VALUE: usize = 0;
 pub struct Turns;
 
 impl<T: Kept> TableRule<Option<T>, View<T::Entry>, u64> for Turns {
-    ghost use Rattle.kms_histlock.specs.Rules.{Stands};
+    ghost use Rattle.kms_histlock.specs.Rules.{IsUpheld};
     ghost use Rattle.kms_histlock.specs.Steps.{opened};
 
-    ghost holds = { Stands T.owner T.entries T.counted };
+    ghost holds = { IsUpheld T.owner T.entries T.counted };
 
     ghost first = { opened };
 }

@@ -1,6 +1,6 @@
 //! Duplicated states, by the index of their object.
 ghost use Rattle.std.specs.Prelude.{◌≡◌};
-ghost use Rattle.kms_model.specs.Late.{duplicate_at, duplicate_in};
+ghost use Rattle.kms_model.specs.Request.Late.{duplicate_at, duplicate_in};
 
 use crate::states::has_bit;
 use kms_model::Both;

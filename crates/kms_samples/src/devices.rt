@@ -1,6 +1,6 @@
 //! Devices.
 ghost use Rattle.std.specs.Prelude.{◌≡◌, IfOk};
-ghost use Rattle.kms_model.specs.Sound.{IsDevice};
+ghost use Rattle.kms_model.specs.Device.Sound.{IsDevice};
 ghost use Rattle.kms_samples.specs.Samples.{cloned, device_of, double, pair, plane_of, single, split};
 
 use kms_model::{NoMemory, PlaneInfo, Seq, Topology};

@@ -7,18 +7,18 @@ use Rattle.kms_model.specs.declared.sets.Resolved.{Resolved}
 use Rattle.kms_model.specs.declared.states.Duplicates.{Duplicates}
 use Rattle.kms_model.specs.declared.states.Mask.{Mask}
 use Rattle.kms_model.specs.declared.worlds.World.{World}
-use Rattle.kms_model.specs.Lookups.{look_up}
-use Rattle.kms_model.specs.Objects.{count_of}
-use Rattle.kms_model.specs.Touched.{named_set, touched_set}
+use Rattle.kms_model.specs.Request.Lookups.{look_up}
+use Rattle.kms_model.specs.Device.Objects.{count_of}
+use Rattle.kms_model.specs.Request.Touched.{named_set, touched_set}
 use Rattle.kms_model.proofs.LateLemmas.{StandAt}
 use Rattle.kms_model.proofs.TouchedLemmas.{after}
 use Rattle.kms_props.specs.Flags.{bits_of}
-use Rattle.kms_request.specs.Answers.{number_of}
+use Rattle.kms_request.specs.Answers.{refusal_number}
 use Rattle.kms_check.specs.Answers.{AreOfSoundWorld, IsAskedFor, IsOfRequest}
-use Rattle.kms_check.specs.Applying.{IsReady, SetsAll}
-use Rattle.kms_check.specs.Groups.{lacking, objects_set, set_group, named_group, remade_group}
+use Rattle.kms_check.specs.Applying.{IsApplicable, SetsAll}
+use Rattle.kms_check.specs.Groups.{lacking, objects_set, set_group, named_group, affected_group}
 use Rattle.kms_check.proofs.Readiness.{HasRoom, covered, ready}
-use Rattle.kms_check.proofs.Conclusions.{applied, asked-lacking, room-same, set-lacking, first-set, first-named, first-remade, asked-first, HasSets, named-known, named-lacking, HasApplied, remade-lacking, remade-known, touched-known, refusal-known}
+use Rattle.kms_check.proofs.Conclusions.{applied, asked-lacking, room-same, set-lacking, first-set, first-named, first-affected, asked-first, HasSets, named-known, named-lacking, HasApplied, affected-lacking, affected-known, touched-known, refusal-known}
 use Rattle.kms_check.proofs.PlaneRanges.{fresh-in_range, looked_at-in_range}
 use Rattle.kms_check.proofs.RequestFacts.{objects_set-is}
 use Rattle.kms_check.proofs.checking.check.Goals.{After-lacking, After-lacking-2, After-lacking-3, After-union-touched}
@@ -50,7 +50,7 @@ named_known c w r is =
 
 record AllKnown (t : Topology) (w : World) (r : Request) (resolved : Resolved) (d d' : Duplicates) (named : ℕ) (found : Option Mask) : Type 0 where
   applied_to : HasApplied t w r resolved d d' named
-  remade_found : lacking d (remade_group t w r) ≡ found
+  affected_found : lacking d (affected_group t w r) ≡ found
 
 all_known : (c : After-lacking-3) (w : World) (r : Request) → IsOfRequest c.args.topology.now w r c.args.resolved.now c.args.states
     → NamedKnown c.args.topology.now w r c.args.resolved.now c.args.states c.named-named.result c.lacking-2.result
@@ -68,7 +68,7 @@ all_known c w r is known =
       stand = applied t w r c.args.resolved.now d d' is c.requires.fresh set_all c.apply.ensures.old;
       same = c.apply.ensures.old;
     } in
-    record { applied_to = applied_to; remade_found = remade-lacking t w r c.args.resolved.now d d' _ _ _ applied_to c.remade-remade.ensures c.lacking-3.ensures }
+    record { applied_to = applied_to; affected_found = affected-lacking t w r c.args.resolved.now d d' _ _ _ applied_to c.affected-affected.ensures c.lacking-3.ensures }
 
 pub returns-in-Some-clause-locks : goal.returns-in-Some-clause-locks
 returns-in-Some-clause-locks c = λ w r is.
@@ -92,13 +92,13 @@ apply-requires c =
     let asked : IsAskedFor t c.args.resolved.now = c.requires.asked in
     let room : HasRoom c.args.states = record { crtcs = omega arith; planes = omega arith; conns = omega arith } in
     let set_none : lacking c.args.states (set_group t asked.request) ≡ None = asked-lacking t c.args.resolved.now c.args.states c.as_slice-sets.result.now c.objects_set-set.result None c.requires.device asked c.as_slice-sets.ensures.value c.objects_set-set.ensures (sym c.in_default.is ∙ c.lacking.ensures) in
-    subst (All (IsReady c.args.states)) (sym c.as_slice-sets.ensures.value) (ready t asked.names asked.request c.args.resolved.now c.args.states c.requires.device asked.asks room (covered c.args.states (set_group t asked.request) set_none))
+    subst (All (IsApplicable c.args.states)) (sym c.as_slice-sets.ensures.value) (ready t asked.names asked.request c.args.resolved.now c.args.states c.requires.device asked.asks room (covered c.args.states (set_group t asked.request) set_none))
 
 pub returns-in-Some-lacking-2-clause-locks : goal.returns-in-Some-lacking-2-clause-locks
 returns-in-Some-lacking-2-clause-locks c = λ w r is.
     let at = goal.at.returns-in-Some-lacking-2-clause-locks c in
     let all = all_known at.After-lacking-3 w r is (named_known at.After-lacking-2 w r is) in
-    first-remade _ w r _ _ all.applied_to.has.none all.applied_to.none (all.remade_found ∙ c.in-Some-lacking-2.is)
+    first-affected _ w r _ _ all.applied_to.has.none all.applied_to.none (all.affected_found ∙ c.in-Some-lacking-2.is)
 
 pub returns-in-Some-lacking-2-clause-refusal : goal.returns-in-Some-lacking-2-clause-refusal
 returns-in-Some-lacking-2-clause-refusal c = λ w r is none. asked-first _ _ _ _ (returns-in-Some-lacking-2-clause-locks c w r is) none
@@ -113,7 +113,7 @@ late_refusal-requires c =
 
 record Known (t : Topology) (w : World) (r : Request) (resolved : Resolved) (d d' : Duplicates) (named : ℕ) (touched : Mask) : Type 0 where
   applied_to : HasApplied t w r resolved d d' named
-  none : lacking d (remade_group t w r) ≡ None
+  none : lacking d (affected_group t w r) ≡ None
   touched_is : touched ≡ touched_set t w.things w.values (after w r) r.assigns
 
 known : (c : After-union-touched) (w : World) (r : Request) → IsOfRequest c.args.topology.now w r c.args.resolved.now c.args.states
@@ -122,38 +122,38 @@ known : (c : After-union-touched) (w : World) (r : Request) → IsOfRequest c.ar
 known c w r is all =
     let t = c.args.topology.now in
     let set_is : c.objects_set-set.result ≡ set_group t r = c.objects_set-set.ensures ∙ ap objects_set c.as_slice-sets.ensures.value ∙ objects_set-is t (look_up w) r c.args.resolved.now is.device is.asks in
-    let remade_is : c.remade-remade.result ≡ remade_group t w r = remade-known t w r c.args.resolved.now c.args.states c.apply.new.states c.named-named.result _ all.applied_to c.remade-remade.ensures in
+    let affected_is : c.affected-affected.result ≡ affected_group t w r = affected-known t w r c.args.resolved.now c.args.states c.apply.new.states c.named-named.result _ all.applied_to c.affected-affected.ensures in
     record {
       applied_to = all.applied_to;
-      none = all.remade_found ∙ c.in_default-lacking-2.is;
-      touched_is = touched-known t w r _ _ _ _ _ _ set_is all.applied_to.named_is c.only_crtcs-2.ensures remade_is c.union.ensures c.union-touched.ensures;
+      none = all.affected_found ∙ c.in_default-lacking-2.is;
+      touched_is = touched-known t w r _ _ _ _ _ _ set_is all.applied_to.named_is c.only_crtcs-2.ensures affected_is c.union.ensures c.union-touched.ensures;
     }
 
 pub returns-in-Some-late_refusal-clause-locks : goal.returns-in-Some-late_refusal-clause-locks
 returns-in-Some-late_refusal-clause-locks c = λ w r is.
     let at = goal.at.returns-in-Some-late_refusal-clause-locks c in
     let known = known at.After-union-touched w r is (all_known at.After-lacking-3 w r is (named_known at.After-lacking-2 w r is)) in
-    first-remade _ w r _ _ known.applied_to.has.none known.applied_to.none known.none
+    first-affected _ w r _ _ known.applied_to.has.none known.applied_to.none known.none
 
 pub returns-in-None-clause-locks : goal.returns-in-None-clause-locks
 returns-in-None-clause-locks c = λ w r is.
     let at = goal.at.returns-in-None-clause-locks c in
     let known = known at.After-union-touched w r is (all_known at.After-lacking-3 w r is (named_known at.After-lacking-2 w r is)) in
-    first-remade _ w r _ _ known.applied_to.has.none known.applied_to.none known.none
+    first-affected _ w r _ _ known.applied_to.has.none known.applied_to.none known.none
 
 pub returns-in-Some-late_refusal-clause-refusal : goal.returns-in-Some-late_refusal-clause-refusal
 returns-in-Some-late_refusal-clause-refusal c = λ w r is none.
     let at = goal.at.returns-in-Some-late_refusal-clause-refusal c in
     let known = known at.After-union-touched w r is (all_known at.After-lacking-3 w r is (named_known at.After-lacking-2 w r is)) in
     let found = rw c.of_request.ensures at c.late_refusal.ensures in
-    refusal-known _ w r _ _ _ _ _ _ _ _ known.applied_to known.none known.touched_is c.as_slice.ensures.value c.crtcs_fenced.ensures (ap number_of (sym c.in-Some-late_refusal.is) ∙ found)
+    refusal-known _ w r _ _ _ _ _ _ _ _ known.applied_to known.none known.touched_is c.as_slice.ensures.value c.crtcs_fenced.ensures (ap refusal_number (sym c.in-Some-late_refusal.is) ∙ found)
 
 pub returns-in-None-clause-refusal : goal.returns-in-None-clause-refusal
 returns-in-None-clause-refusal c = λ w r is none.
     let at = goal.at.returns-in-None-clause-refusal c in
     let known = known at.After-union-touched w r is (all_known at.After-lacking-3 w r is (named_known at.After-lacking-2 w r is)) in
     let found = rw c.of_request.ensures at c.late_refusal.ensures in
-    refusal-known _ w r _ _ _ _ _ _ _ _ known.applied_to known.none known.touched_is c.as_slice.ensures.value c.crtcs_fenced.ensures (ap number_of (sym c.in-None.is) ∙ found)
+    refusal-known _ w r _ _ _ _ _ _ _ _ known.applied_to known.none known.touched_is c.as_slice.ensures.value c.crtcs_fenced.ensures (ap refusal_number (sym c.in-None.is) ∙ found)
 
 pub returns-in-None-clause-checked : goal.returns-in-None-clause-checked
 returns-in-None-clause-checked c = λ w r is.

@@ -3,7 +3,7 @@ use Rattle.std.specs.Prelude.{All}
 use Rattle.std.specs.List.{sum_by}
 use Rattle.kms_histlock.specs.declared.view.Stage.TheVariants.{Idle}
 use Rattle.kms_histlock.specs.Passes.{IsReached}
-use Rattle.kms_histlock.specs.Seats.{Covers}
+use Rattle.kms_histlock.specs.Seats.{HoldsAll}
 use Rattle.kms_histlock.proofs.seats.take_in.Given as goal
 
 abbrev pub invariant-loop-pass : goal.invariant-loop-pass
@@ -16,7 +16,7 @@ invariant-loop-pass g l = record {
   parts : l.seat.me.0.parts + length l.passes.items ≡ length l.fn.passes.items;
   made : l.seat.me.0.made + sum_by (λ p. p.made) l.passes.items ≡ sum_by (λ p. p.made) l.fn.passes.items;
   others : All (λ p. p.lock ≡ l.words.table_id) l.passes.items;
-  covers : (xs : List g.row.T-Entry.Denot) → Covers g.T.Kept.counted l.seat.me.0 xs → All (λ p. IsReached g.T.Kept.counted p xs) l.passes.items → All (λ p. IsReached g.T.Kept.counted p xs) l.fn.passes.items;
+  covers : (xs : List g.row.T-Entry.Denot) → HoldsAll g.T.Kept.counted l.seat.me.0 xs → All (λ p. IsReached g.T.Kept.counted p xs) l.passes.items → All (λ p. IsReached g.T.Kept.counted p xs) l.fn.passes.items;
 }
 
 abbrev pub decreases-loop-pass : goal.decreases-loop-pass

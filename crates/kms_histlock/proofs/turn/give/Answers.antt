@@ -1,7 +1,7 @@
 use Rattle.std.proofs.Common.{rules, ◌+◌, ◌%◌, ◌^◌, None, sym, ap, ◌∙◌, subst, refl}
 use mathlib.Core.Option.{none}
 use Rattle.atomic_table.specs.Table.{Allows, step}
-use Rattle.kms_histlock.specs.Rules.{Stands}
+use Rattle.kms_histlock.specs.Rules.{IsUpheld}
 use Rattle.kms_histlock.specs.Steps.{Sat, passed}
 use Rattle.kms_histlock.proofs.Keeps.{passes}
 use Rattle.kms_histlock.proofs.Carried.{in_hand, carried_back, handed, gave_by, four_counts}
@@ -37,7 +37,7 @@ fetch_add-requires g c =
     let seen = ap (λ z. z.0.seen) c.store_counts.ensures.rest ∙ ap (λ z. z.0.seen) is in (
       search rules,
       search rules,
-      subst (λ (m : Sat g.row.T.Denot g.row.T-Entry.Denot). Allows (Stands g.T.Kept.owner g.T.Kept.entries g.T.Kept.counted c.args.words.now.key) c.args.words.now.table_id.slots c.exchange.new.seat.id m 1 (λ n. (n + 1) % 2 ^ 64) (passed (step c.args.words.now.table_id.slots 1 1 0 none) m))
+      subst (λ (m : Sat g.row.T.Denot g.row.T-Entry.Denot). Allows (IsUpheld g.T.Kept.owner g.T.Kept.entries g.T.Kept.counted c.args.words.now.key) c.args.words.now.table_id.slots c.exchange.new.seat.id m 1 (λ n. (n + 1) % 2 ^ 64) (passed (step c.args.words.now.table_id.slots 1 1 0 none) m))
           (sym back) (passes g.T.Kept.owner g.T.Kept.entries g.T.Kept.counted g.met.T.Kept.grows _ _ _ c.store_counts.new.seat.me.0 r.turn c.args.value r.serves r.stored (recounts_fits g.T.Kept.entries g.T.Kept.counted _ c.store_counts.new.seat.me c.args.value r seen)),
     )
 
