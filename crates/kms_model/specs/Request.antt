@@ -11,3 +11,5 @@ pub mod Sets
 pub mod SetRanges
 pub mod Resolves
 pub mod Agreement
+pub mod Groups
+pub mod Deciding

@@ -80,7 +80,7 @@ fn with_number(numbers: &Numbers, count: usize) -> u32
 pub fn full_check(topology: &Topology, states: &Duplicates, request: &Request) -> Option<Refusal>
     requires { StandSomewhere topology.now request.now states.now }
     ensures { (w : World) → StandBetween topology.now w request.now states.now
-        → number_of result ≡ late_refusal topology.now w.things w.values (apply w.things w.values request.now.assigns) request.now }
+        → refusal_number result ≡ late_refusal topology.now w.things w.values (apply w.things w.values request.now.assigns) request.now }
 {
     let assigns = request.assigns.as_slice();
     let fences = out_fence_numbers(assigns);

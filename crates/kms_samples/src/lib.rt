@@ -8,4 +8,4 @@ mod requests;
 
 pub use devices::{cloned, double, pair, plane_of, single, split};
 pub use modes::{mode_of, tiny};
-pub use requests::{light, on_crtc, on_plane, request, set};
+pub use requests::{ALLOW_MODESET, light, on_crtc, on_plane, request, set};

@@ -7,6 +7,9 @@ use kms_model::properties::{ACTIVE, CRTC_H, CRTC_ID, CRTC_W, FB_ID, MODE_ID, SRC
 use kms_model::{Assign, Kind, NoMemory, PropRef, Request, Seq, Value};
 use std::alloc::Global;
 
+/// `DRM_MODE_ATOMIC_ALLOW_MODESET`, without which a request may not be a modeset. (Header: `drm_mode.h`.)
+pub const ALLOW_MODESET: u32 = 0x400;
+
 /// Sets a property, by its id, of the object of a kind with an index.
 pub fn set(kind: Kind, index: u32, prop: u32, value: Value) -> Assign
     ensures { result ≡ set kind index prop value }

@@ -25,7 +25,7 @@ use crate::commands;
 use crate::requests::{changed, check, is_test, swapped};
 use crate::start::{start_states, start_values};
 use crate::store::WorldStore;
-use kms_check::spans;
+use kms_request::spans;
 use kms_model::{
     Command, Duplicates, Image, Look, Mask, NoMemory, Picture, PlaneState, Reply, Request, Topology,
 };

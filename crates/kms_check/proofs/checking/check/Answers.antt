@@ -14,13 +14,16 @@ use Rattle.kms_model.proofs.LateLemmas.{StandAt}
 use Rattle.kms_model.proofs.TouchedLemmas.{after}
 use Rattle.kms_props.specs.Flags.{bits_of}
 use Rattle.kms_request.specs.Answers.{refusal_number}
-use Rattle.kms_check.specs.Answers.{AreOfSoundWorld, IsAskedFor, IsOfRequest}
+use Rattle.kms_model.specs.Request.Deciding.{AreOfSoundWorld, IsAskedFor, IsOfRequest}
 use Rattle.kms_check.specs.Applying.{IsApplicable, SetsAll}
-use Rattle.kms_check.specs.Groups.{lacking, objects_set, set_group, named_group, affected_group}
+use Rattle.kms_model.specs.Request.Groups.{affected_group, named_group, set_group}
+use Rattle.kms_request.specs.Groups.{objects_set}
+use Rattle.kms_check.specs.Lacking.{lacking}
 use Rattle.kms_check.proofs.Readiness.{HasRoom, covered, ready}
-use Rattle.kms_check.proofs.Conclusions.{applied, asked-lacking, room-same, set-lacking, first-set, first-named, first-affected, asked-first, HasSets, named-known, named-lacking, HasApplied, affected-lacking, affected-known, touched-known, refusal-known}
+use Rattle.kms_check.proofs.Conclusions.{applied, asked-lacking, room-same, set-lacking, first-set, first-named, first-affected, asked-first, HasSets, named-known, named-lacking, HasApplied, affected-lacking, affected-known, refusal-known}
 use Rattle.kms_check.proofs.PlaneRanges.{fresh-in_range, looked_at-in_range}
-use Rattle.kms_check.proofs.RequestFacts.{objects_set-is}
+use Rattle.kms_request.proofs.AffectedLemmas.{touched-known}
+use Rattle.kms_request.proofs.SetGroups.{objects_set-is}
 use Rattle.kms_check.proofs.checking.check.Goals.{After-lacking, After-lacking-2, After-lacking-3, After-union-touched}
 use Rattle.kms_check.proofs.checking.check.Goals as goal
 

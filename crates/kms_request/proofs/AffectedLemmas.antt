@@ -27,8 +27,9 @@ use Rattle.kms_model.proofs.Items as items
 use Rattle.kms_model.proofs.LateLemmas.{StandAt, flatten-some, needs_modeset-states}
 use Rattle.kms_model.proofs.MaskLemmas.{has_bit-mask_below, same_masks}
 use Rattle.kms_model.proofs.TouchedLemmas.{IsRequestAt, after, few_objects, untouched-modeset}
-use Rattle.kms_check.specs.Groups.{no_objects, union, set_group, named_group, affected_group, affected_with, affected_below}
-use Rattle.kms_check.proofs.GroupLemmas.{or_masks, none_yet}
+use Rattle.kms_model.specs.Request.Groups.{no_objects, union, set_group, named_group, affected_group}
+use Rattle.kms_request.specs.Groups.{affected_with, affected_below}
+use Rattle.kms_request.proofs.GroupLemmas.{or_masks, none_yet}
 
 -- one of the first n passes
 abbrev any_below : (ℕ → Bool) → ℕ → Bool
@@ -186,3 +187,10 @@ touched-is t w r =
     ap (λ x. bit_or x (set_where t k (is_affected t w.things w.values (after w r)))) (or_zero_r (set_where t k (sets r.assigns)))
     ∙ or_masks (λ i. sets r.assigns (object_id k i)) (λ i. is_affected t w.things w.values (after w r) (object_id k i)) (count_of t k) in
     rw (crtcs, routed kind.Plane, routed kind.Conn) refl
+
+-- what is looked at is what the request touches
+pub touched-known : (t : Topology) (w : World) (r : Request) (set crtcs both affected touched : Mask) (named : ℕ) → set ≡ set_group t r → named ≡ named_set t w.values (after w r) r.assigns → crtcs ≡ record { crtcs = named; planes = 0; conns = 0 } → affected ≡ affected_group t w r
+    → both ≡ union set crtcs → touched ≡ union both affected → touched ≡ touched_set t w.things w.values (after w r) r.assigns
+touched-known t w r set crtcs both affected touched named set_is named_is crtcs_is affected_is both_is touched_is =
+    touched_is ∙ ap (λ m. union m affected) both_is ∙ ap (λ m. union (union m crtcs) affected) set_is ∙ ap (λ m. union (union (set_group t r) m) affected) crtcs_is
+    ∙ ap (λ n. union (union (set_group t r) (record { crtcs = n; planes = 0; conns = 0 })) affected) named_is ∙ ap (union (union (set_group t r) (named_group t w r))) affected_is ∙ touched-is t w r

@@ -11,7 +11,8 @@ use Rattle.kms_model.specs.Request.Late.{duplicate_in}
 use Rattle.kms_model.specs.Device.Masks.{has_bit, mask_below}
 use Rattle.kms_model.proofs.MaskLemmas.{has_bit-below, mask_below-lt, mask_from, mask_more, mask_no_more, same_masks}
 use Rattle.kms_model.proofs.UnionLemmas.{has_bit-one, has_bit-zero, has_bit-or}
-use Rattle.kms_check.specs.Groups.{affected_below, affected_with, union}
+use Rattle.kms_model.specs.Request.Groups.{union}
+use Rattle.kms_request.specs.Groups.{affected_below, affected_with}
 
 -- the tests of two sets, of which one object passes one
 pub or_masks : (f g : ℕ → Bool) (n : ℕ) → bit_or (mask_below f n) (mask_below g n) ≡ mask_below (λ i. f i || g i) n
@@ -39,14 +40,6 @@ pub items-more : {A : Type 0} (test : ℕ → A → Bool) (all : List A) (k n : 
 items-more test all k n d within =
     or_masks (λ i. list_any (test i) (take k all)) (λ i. test i (get_or all k d)) n
     ∙ same_masks _ _ n (λ i h. sym (list_any_more (test i) all k d within))
-
--- one bit more of a mask
-pub bit-more : (test : ℕ → Bool) (n : ℕ) → n < 32 → bit_or (mask_below test n) (cond (test n) (2 ^ n) 0) ≡ mask_below test (n + 1)
-bit-more test n wide = go (test n) refl
-  where
-    go : (b : Bool) → test n ≡ b → bit_or (mask_below test n) (cond b (2 ^ n) 0) ≡ mask_below test (n + 1)
-    go true is = ap (bit_or (mask_below test n)) (sym (one_shl n 32 wide)) ∙ mask_more test n wide is
-    go false is = or_zero_r (mask_below test n) ∙ mask_no_more test n is
 
 -- one CRTC more
 pub affected-more : (crtcs : _) (named n : ℕ) → union (affected_below crtcs named n) (affected_with (duplicate_in named crtcs n)) ≡ affected_below crtcs named (n + 1)

@@ -2,8 +2,8 @@ use Rattle.std.proofs.Common.{◌<◌, arith, refl}
 use Rattle.std.specs.Prelude.{◌&&◌, is_none}
 use Rattle.kms_model.specs.Request.Late.{duplicate_at}
 use Rattle.kms_model.specs.Device.Masks.{has_bit, mask_below}
-use Rattle.kms_check.proofs.GroupLemmas.{bit-more}
-use Rattle.kms_check.proofs.groups.missing_in.Goals as goal
+use Rattle.kms_check.proofs.LackingLemmas.{bit-more}
+use Rattle.kms_check.proofs.lacking.missing_in.Goals as goal
 
 pub loop-index-init : goal.loop-index-init
 unfolding mask_below

@@ -5,11 +5,11 @@ use Rattle.kms_model.specs.Request.Lookups.{look_up}
 use Rattle.kms_model.specs.Request.Resolves.{IsSettable}
 use Rattle.kms_model.proofs.LateLemmas.{StandAt}
 use Rattle.kms_model.proofs.TouchedLemmas.{IsRequestAt}
-use Rattle.kms_check.specs.Groups.{objects_assigned, set_group, affected_below, affected_group}
-use Rattle.kms_check.proofs.Conclusions.{touched-known}
-use Rattle.kms_check.proofs.Affected.{affected-is}
-use Rattle.kms_check.proofs.RequestFacts.{objects_assigned-is}
-use Rattle.kms_check.proofs.spanning.spans.Goals as goal
+use Rattle.kms_model.specs.Request.Groups.{affected_group, set_group}
+use Rattle.kms_request.specs.Groups.{affected_below, objects_assigned}
+use Rattle.kms_request.proofs.AffectedLemmas.{affected-is, touched-known}
+use Rattle.kms_request.proofs.SetGroups.{objects_assigned-is}
+use Rattle.kms_request.proofs.spanning.spans.Goals as goal
 
 pub objects_assigned-assigned-requires : goal.objects_assigned-assigned-requires
 objects_assigned-assigned-requires c = let Settable : List Assign → Type 0 = λ xs. All IsSettable xs in subst Settable (sym c.as_slice.ensures.value) c.requires
