@@ -13,3 +13,4 @@ pub mod Resolves
 pub mod Agreement
 pub mod Groups
 pub mod Deciding
+pub mod Reach

@@ -22,8 +22,6 @@ pub fn spans(states: &Duplicates, request: &Request) -> (u32, Mask)
     let named = named_in(states, request);
     let assigned = objects_assigned(request.assigns.as_slice());
     let affected = affected(states, named);
-    (
-        named,
-        union(&union(&assigned, &only_crtcs(named)), &affected),
-    )
+    let touched = union(&union(&assigned, &only_crtcs(named)), &affected);
+    (named, touched)
 }
