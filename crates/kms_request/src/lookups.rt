@@ -18,7 +18,7 @@ pub trait Looker {
 impl Looker for Lookups {
     ghost meaning = { look_in };
 
-    #[tactic(auto, unfolding(kms_model::specs::Sets::look_in))]
+    #[tactic(auto, unfolding(kms_model::specs::Request::Sets::look_in))]
     fn look(&self, label: u32) -> Look {
         for (known, look) in self.as_slice() {
             if *known == label {

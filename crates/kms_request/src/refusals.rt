@@ -11,23 +11,22 @@ ghost use Rattle.kms_props.specs.Rows.{property_of};
 ghost use Rattle.kms_request.specs.Answers.{refusal_number};
 ghost use Rattle.kms_request.specs.Fences.{SetsFenceOfPlane, TellFences};
 
-use crate::flags::{PAGE_FLIP_ASYNC, PAGE_FLIP_EVENT, TEST_ONLY};
 use crate::lookups::Looker;
 use kms_model::properties::{FB_ID, IN_FENCE_FD, MODE_ID, OUT_FENCE_PTR};
 use kms_model::{Assign, Kind, Look, PropRef, Range, Refusal, Request, Topology, Value};
-use kms_props::{PropertyRow, from_bits, row_of};
+use kms_props::{AtomicFlags, PropertyRow, from_bits, row_of};
 
 /// What is wrong with flags: 1, there is another bit; 2, PAGE_FLIP_ASYNC is set; 3, TEST_ONLY and PAGE_FLIP_EVENT are set.
 fn flags_refusal(flags: u32) -> Option<u32>
     ensures { result ≡ flags_refusal flags }
 {
-    if from_bits(flags).is_none() {
+    let Some(flags) = from_bits(flags) else {
         return Some(1);
-    }
-    if flags & PAGE_FLIP_ASYNC != 0 {
+    };
+    if flags.contains(AtomicFlags::PAGE_FLIP_ASYNC) {
         return Some(2);
     }
-    if flags & TEST_ONLY != 0 && flags & PAGE_FLIP_EVENT != 0 {
+    if flags.contains(AtomicFlags::TEST_ONLY) && flags.contains(AtomicFlags::PAGE_FLIP_EVENT) {
         return Some(3);
     }
     None
@@ -96,7 +95,7 @@ fn is_in_range<L: Looker>(
 
 /// What is wrong with an assignment by itself, whatever comes before it: 4, its object does not exist; 5, the object
 /// does not have the property; 6, the property is immutable; 7, the value is not among the property's.
-#[tactic(auto, unfolding(kms_model::specs::Refusals::assign_refusal))]
+#[tactic(auto, unfolding(kms_model::specs::Request::Refusals::assign_refusal))]
 fn own_refusal<L: Looker>(topology: &Topology, found: &L, a: &Assign) -> Option<u32>
     ensures first { (earlier : List Assign) → assign_refusal topology.now (L.meaning found.now) earlier a.now
         ≡ or_else result (number_if 8 (is_second_fence earlier a.now)) }
@@ -139,7 +138,7 @@ fn note_fence(fenced: &mut [bool; 16], a: &Assign)
 }
 
 /// The first that is wrong with assignments, from 4 to 8.
-#[tactic(auto, unfolding(kms_model::specs::Refusals::assigns_refusal))]
+#[tactic(auto, unfolding(kms_model::specs::Request::Refusals::assigns_refusal))]
 fn first_refusal<L: Looker>(topology: &Topology, found: &L, assigns: &[Assign]) -> Option<u32>
     requires { IsTrue (keeps_limits topology.now) }
     ensures { result ≡ assigns_refusal topology.now (L.meaning found.now) [] assigns.now }
@@ -162,7 +161,7 @@ fn first_refusal<L: Looker>(topology: &Topology, found: &L, assigns: &[Assign]) 
 ///
 /// Of the device's 1 to 4 CRTCs, 1 to 16 planes and 1 to 8 connectors its assignments may name others. It takes no
 /// memory.
-#[tactic(auto, unfolding(kms_model::specs::Refusals::early_refusal))]
+#[tactic(auto, unfolding(kms_model::specs::Request::Refusals::early_refusal))]
 pub fn early<L: Looker>(topology: &Topology, request: &Request, found: &L) -> Option<Refusal>
     requires { IsTrue (keeps_limits topology.now) }
     ensures first { refusal_number result ≡ early_refusal topology.now (L.meaning found.now) request.now }

@@ -100,7 +100,7 @@ fn placed_refusal(info: &PlaneInfo, fb: FbInfo, old: &PlaneState, new: &PlaneSta
 /// without a framebuffer; 11, the CRTC is not among its possible ones; 12, the format is not among its formats; 13, the
 /// destination ends beyond 2147483647; 14, the source ends outside the framebuffer; 15, it goes from one CRTC straight
 /// to another. The numbers of the new state are in the ranges of their properties.
-#[tactic(auto, unfolding(kms_model::specs::Checks::plane_refusal))]
+#[tactic(auto, unfolding(kms_model::specs::Request::Checks::plane_refusal))]
 pub(crate) fn plane_refusal(info: &PlaneInfo, old: &PlaneState, new: &PlaneState) -> Option<u32>
     requires { IsPlaneInRange new.now }
     ensures { result ≡ plane_refusal info.now old.now new.now }
@@ -166,7 +166,7 @@ fn is_whole(place: i64) -> bool
 
 /// What is wrong with a plane on a CRTC of a mode: 21, the CRTC is not enabled; 22, the sizes of source and destination
 /// differ; 23, the source begins between pixels. The numbers of the state are in the ranges of their properties.
-#[tactic(auto, unfolding(kms_model::specs::Checks::shown_refusal))]
+#[tactic(auto, unfolding(kms_model::specs::Request::Checks::shown_refusal))]
 pub(crate) fn shown_refusal(mode: Option<Mode>, state: &PlaneState) -> Option<u32>
     requires { IsPlaneInRange state.now }
     ensures { result ≡ shown_refusal mode state.now }

@@ -9,14 +9,12 @@ ghost use Rattle.kms_model.specs.Script.WellFormed.{IsFitClient, IsWellFormed};
 
 use kms_model::properties::IN_FENCE_FD;
 use kms_model::{Assign, Command, PropRef, Request, Script, Seq, Value};
-
-/// DRM_MODE_PAGE_FLIP_EVENT.
-const EVENT: u32 = 0x1;
+use kms_props::AtomicFlags;
 
 fn wants_event(flags: u32) -> bool
     ensures { result ≡ wants_event flags }
 {
-    flags & EVENT != 0
+    AtomicFlags::of_request(flags).contains(AtomicFlags::PAGE_FLIP_EVENT)
 }
 
 fn prop_of(prop: PropRef) -> u32
@@ -67,7 +65,7 @@ fn is_built(command: &Command) -> bool
 }
 
 /// The line of the first command that is not executed so far; the first command stands in `line`.
-#[tactic(auto, unfolding(kms_model::specs::Built::unbuilt_command))]
+#[tactic(auto, unfolding(kms_model::specs::Script::Built::unbuilt_command))]
 fn unbuilt_command(line: u32, commands: &[Command]) -> Option<u32>
     requires { line + length commands.now < 2 ^ 31 }
     ensures { result ≡ unbuilt_command line commands.now }
@@ -83,7 +81,7 @@ fn unbuilt_command(line: u32, commands: &[Command]) -> Option<u32>
 }
 
 /// The same of clients, of which the first stands in `line`.
-#[tactic(auto, unfolding(kms_model::specs::Built::unbuilt_client))]
+#[tactic(auto, unfolding(kms_model::specs::Script::Built::unbuilt_client))]
 fn unbuilt_client(line: u32, clients: &[Seq<Command>]) -> Option<u32>
     requires few { length clients.now ≤ 16 }
     requires line { line < 1024 }

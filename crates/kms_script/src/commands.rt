@@ -24,7 +24,7 @@ pub fn is_over(command: &Command) -> bool
 }
 
 /// One label.
-#[tactic(auto, unfolding(kms_model::specs::CommandLines::label_alone))]
+#[tactic(auto, unfolding(kms_model::specs::Script::CommandLines::label_alone))]
 fn label_alone(bytes: &[u8]) -> Option<&[u8]>
     ensures { option_map (λ x. x.now) result ≡ label_alone bytes.now }
 {
@@ -35,7 +35,7 @@ fn label_alone(bytes: &[u8]) -> Option<&[u8]>
 
 impl Names {
     /// `LABEL W H FMT PATTERN`.
-    #[tactic(auto, unfolding(kms_model::specs::CommandLines::buffer_read))]
+    #[tactic(auto, unfolding(kms_model::specs::Script::CommandLines::buffer_read))]
     fn buffer(&mut self, alloc: Global, bytes: &[u8]) -> Result<Option<Command>, NoMemory>
         requires { HasRoomForNames (names_in self.old) 1 }
         ensures value { IfOk result (λ o. option_map (λ c. (c, names_in self.new)) o ≡ buffer_read (names_in self.old) bytes.now) }
@@ -68,7 +68,7 @@ impl Names {
     }
 
     /// `LABEL BUFFERLABEL`.
-    #[tactic(auto, unfolding(kms_model::specs::CommandLines::addfb_read))]
+    #[tactic(auto, unfolding(kms_model::specs::Script::CommandLines::addfb_read))]
     fn addfb(&mut self, alloc: Global, bytes: &[u8]) -> Result<Option<Command>, NoMemory>
         requires { HasRoomForNames (names_in self.old) 2 }
         ensures value { IfOk result (λ o. option_map (λ c. (c, names_in self.new)) o ≡ addfb_read (names_in self.old) bytes.now) }
@@ -87,7 +87,7 @@ impl Names {
     }
 
     /// `LABEL` and the 15 words of a mode.
-    #[tactic(auto, unfolding(kms_model::specs::CommandLines::mode_read))]
+    #[tactic(auto, unfolding(kms_model::specs::Script::CommandLines::mode_read))]
     fn mode(&mut self, alloc: Global, bytes: &[u8]) -> Result<Option<Command>, NoMemory>
         requires { HasRoomForNames (names_in self.old) 1 }
         ensures value { IfOk result (λ o. option_map (λ c. (c, names_in self.new)) o ≡ mode_read (names_in self.old) bytes.now) }
@@ -108,7 +108,7 @@ impl Names {
     }
 
     /// `LABEL BYTES`.
-    #[tactic(auto, unfolding(kms_model::specs::CommandLines::blob_read))]
+    #[tactic(auto, unfolding(kms_model::specs::Script::CommandLines::blob_read))]
     fn blob(&mut self, alloc: Global, bytes: &[u8]) -> Result<Option<Command>, NoMemory>
         requires { HasRoomForNames (names_in self.old) 1 }
         ensures value { IfOk result (λ o. option_map (λ c. (c, names_in self.new)) o ≡ blob_read (names_in self.old) bytes.now) }
@@ -156,7 +156,7 @@ impl Names {
     }
 
     /// A command that makes a thing, but no fence.
-    #[tactic(auto, unfolding(kms_model::specs::CommandLines::thing_read))]
+    #[tactic(auto, unfolding(kms_model::specs::Script::CommandLines::thing_read))]
     fn thing(
         &mut self,
         alloc: Global,
@@ -182,7 +182,7 @@ impl Names {
     }
 
     /// A command with one label alone, or one that makes a thing.
-    #[tactic(auto, unfolding(kms_model::specs::CommandLines::label_read, kms_model::specs::CommandLines::making_read, kms_model::specs::CommandLines::naming_read))]
+    #[tactic(auto, unfolding(kms_model::specs::Script::CommandLines::label_read, kms_model::specs::Script::CommandLines::making_read, kms_model::specs::Script::CommandLines::naming_read))]
     fn labelled(
         &mut self,
         alloc: Global,
@@ -214,7 +214,7 @@ impl Names {
     }
 
     /// The command that a line spells: its first word says which.
-    #[tactic(auto, unfolding(kms_model::specs::CommandLines::command_read))]
+    #[tactic(auto, unfolding(kms_model::specs::Script::CommandLines::command_read))]
     pub fn command(&mut self, alloc: Global, line: &[u8]) -> Result<Option<Command>, NoMemory>
         requires { HasRoomForNames (names_in self.old) (length line.now + 2) }
         ensures value { IfOk result (λ o. option_map (λ c. (c, names_in self.new)) o ≡ command_read (names_in self.old) line.now) }

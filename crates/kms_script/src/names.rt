@@ -47,7 +47,7 @@ impl Names {
     }
 
     /// The number of a name that is said.
-    #[tactic(auto, unfolding(kms_model::specs::CommandLines::saying))]
+    #[tactic(auto, unfolding(kms_model::specs::Script::CommandLines::saying))]
     pub fn say(&mut self, alloc: Global, word: &[u8]) -> Result<u32, NoMemory>
         requires { HasRoomForNames (names_in self.old) 1 }
         ensures number { IfOk result (λ n. n ≡ place word.now (names_in self.old)) }
@@ -63,7 +63,7 @@ impl Names {
     }
 
     /// The number of a label that a line makes.
-    #[tactic(auto, unfolding(kms_model::specs::CommandLines::making))]
+    #[tactic(auto, unfolding(kms_model::specs::Script::CommandLines::making))]
     pub fn make(&mut self, alloc: Global, word: &[u8]) -> Result<u32, NoMemory>
         requires { HasRoomForNames (names_in self.old) 1 }
         ensures number { IfOk result (λ n. n ≡ place word.now (names_in self.old)) }

@@ -41,7 +41,7 @@ impl From<NoMemory> for LineError {
 ///
 /// The names must differ, as they do after this call, and with the line's bytes be fewer than 4,294,967,295. A call
 /// goes over all of them.
-#[tactic(auto, unfolding(kms_model::specs::CommandLines::line_read))]
+#[tactic(auto, unfolding(kms_model::specs::Script::CommandLines::line_read))]
 pub fn read_command(
     alloc: Global,
     _topology: &Topology,

@@ -13,7 +13,7 @@ use std::alloc::Global;
 
 impl Names {
     /// The property of a name.
-    #[tactic(auto, unfolding(kms_model::specs::CommandLines::property_read))]
+    #[tactic(auto, unfolding(kms_model::specs::Script::CommandLines::property_read))]
     fn property(&mut self, alloc: Global, word: &[u8]) -> Result<PropRef, NoMemory>
         requires { HasRoomForNames (names_in self.old) 1 }
         ensures value { IfOk result (λ p. (p, names_in self.new) ≡ property_read (names_in self.old) word.now) }
@@ -26,7 +26,7 @@ impl Names {
     }
 
     /// The value of a word: `@LABEL`, `+LABEL`, `crtc` with an index to 255, or a number.
-    #[tactic(auto, unfolding(kms_model::specs::CommandLines::value_read))]
+    #[tactic(auto, unfolding(kms_model::specs::Script::CommandLines::value_read))]
     fn value(&mut self, alloc: Global, word: &[u8]) -> Result<Option<Value>, NoMemory>
         requires { HasRoomForNames (names_in self.old) 1 }
         ensures value { IfOk result (λ o. option_map (λ v. (v, names_in self.new)) o ≡ value_read (names_in self.old) word.now) }
@@ -57,7 +57,7 @@ impl Names {
     }
 
     /// The assignment of a word.
-    #[tactic(auto, unfolding(kms_model::specs::CommandLines::assign_read))]
+    #[tactic(auto, unfolding(kms_model::specs::Script::CommandLines::assign_read))]
     fn assign(&mut self, alloc: Global, word: &[u8]) -> Result<Option<Assign>, NoMemory>
         requires { HasRoomForNames (names_in self.old) 2 }
         ensures value { IfOk result (λ o. option_map (λ a. (a, names_in self.new)) o ≡ assign_read (names_in self.old) word.now) }
@@ -101,7 +101,7 @@ impl Names {
     }
 
     /// `FLAGS USERDATA` and 0 or more assignments.
-    #[tactic(auto, unfolding(kms_model::specs::CommandLines::atomic_read))]
+    #[tactic(auto, unfolding(kms_model::specs::Script::CommandLines::atomic_read))]
     pub fn atomic(&mut self, alloc: Global, bytes: &[u8]) -> Result<Option<Command>, NoMemory>
         requires { HasRoomForNames (names_in self.old) (length bytes.now + 2) }
         ensures value { IfOk result (λ o. option_map (λ c. (c, names_in self.new)) o ≡ atomic_read (names_in self.old) bytes.now) }

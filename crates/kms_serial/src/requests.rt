@@ -11,17 +11,15 @@ ghost use Rattle.kms_things.specs.Present.{IsAfter, IsPresent};
 
 use crate::store::WorldStore;
 use kms_model::{Duplicates, Refusal, Request, Topology};
+use kms_props::AtomicFlags;
 use kms_request::{early, full_check, set_of};
 use kms_state::Duplicating;
-
-/// `DRM_MODE_ATOMIC_TEST_ONLY`. (Header: `drm_mode.h`.)
-const TEST_ONLY: u32 = 0x100;
 
 /// Whether a request is only tested.
 pub fn is_test(flags: u32) -> bool
     ensures { result ≡ is_test flags }
 {
-    flags & TEST_ONLY != 0
+    AtomicFlags::of_request(flags).contains(AtomicFlags::TEST_ONLY)
 }
 
 /// The states of all objects after a request for which none of refusals 1 to 8 is due. They are the device's present

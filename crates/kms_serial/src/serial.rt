@@ -23,7 +23,7 @@ ghost use Rattle.kms_things.specs.Present.{IsPresent};
 
 use crate::requests::{changed, check, is_test};
 use crate::store::WorldStore;
-use kms_check::spans;
+use kms_request::spans;
 use kms_model::{
     Command, Duplicates, Image, Look, Mask, NoMemory, Picture, PlaneState, Reply, Request, Topology,
 };
@@ -153,7 +153,7 @@ impl Serial {
     }
 
     /// What `execute` would answer now. Nothing changes.
-    #[tactic(auto, unfolding(kms_model::specs::Execution::execute))]
+    #[tactic(auto, unfolding(kms_model::specs::Device::Execution::execute))]
     pub fn preview(&self, client: u32, command: &Command) -> Reply
         ensures { (execute self.now.topology self.now.world client command.now).reply ≡ result }
     {
@@ -164,7 +164,7 @@ impl Serial {
     }
 
     /// What `commit` would answer to a client's request.
-    #[tactic(auto, unfolding(kms_model::specs::Execution::execute))]
+    #[tactic(auto, unfolding(kms_model::specs::Device::Execution::execute))]
     fn preview_request(&self, request: &Request) -> Reply
         ensures { (client : ℕ) → (execute self.now.topology self.now.world client (command.Atomic request.now)).reply ≡ result }
     {
