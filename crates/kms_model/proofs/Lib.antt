@@ -1,6 +1,7 @@
 pub mod AppliedValues
 pub mod ApplyLemmas
 pub mod CrtcLemmas
+pub mod FramedLemmas
 pub mod HeldValues
 pub mod ImageWords
 pub mod InPlace
@@ -23,6 +24,7 @@ pub mod ScriptRows
 pub mod SeenLemmas
 pub mod SetLemmas
 pub mod SettingLemmas
+pub mod ShownLemmas
 pub mod SoundKept
 pub mod SoundStart
 pub mod Spans
