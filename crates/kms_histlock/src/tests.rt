@@ -18,9 +18,10 @@ struct Note {
     number: u32,
 }
 
-/// Notes in the order in which they were written. Its `k`-th number is how many come behind the first `k`.
+/// Notes in the order in which they were written, under a title. Its `k`-th number is how many come behind the first `k`.
 #[derive(Drop)]
 struct Notebook {
+    title: u32,
     notes: Seq<Note>,
 }
 
@@ -29,11 +30,19 @@ impl Kept for Notebook {
 
     type Entry = Note;
 
+    type Fixed = u32;
+
     ghost entries = { λ n. n.notes };
 
     ghost owner = { λ e. e.owner };
 
     ghost counted = { beyond };
+
+    ghost fixed = { λ n. n.title };
+
+    ghost sound = { λ _. Unit {0} };
+
+    fn shows(&self) {}
 
     fn length(&self) -> u64 {
         self.notes.len() as u64
@@ -48,9 +57,11 @@ impl Kept for Notebook {
 
 impl Notebook {
     fn new(alloc: Global) -> Notebook
-        ensures { length result.notes ≡ 0 }
+        ensures notes { length result.notes ≡ 0 }
+        ensures title { result.title ≡ 7 }
     {
         Notebook {
+            title: 7,
             notes: Seq::new(alloc),
         }
     }
@@ -83,7 +94,8 @@ impl Notebook {
 
     // Writes a note, and answers its place. None where there is no memory.
     fn write(&mut self, owner: u32, number: u32) -> Option<usize>
-        ensures { Lengthens (λ e. e.owner) owner self.old.notes self.new.notes }
+        ensures notes { Lengthens (λ e. e.owner) owner self.old.notes self.new.notes }
+        ensures title { self.new.title ≡ self.old.title }
     {
         let place = self.notes.len();
         match self.notes.push(Note { owner, number }) {
@@ -109,7 +121,10 @@ fn turn<W: Wait>(
         rt,
         pass,
         |book: &mut Notebook| -> Option<usize>
-            ensures { Lengthens (λ e. e.owner) owner book.entry.now.notes book.exit.now.notes }
+            ensures notes {
+                Lengthens (λ e. e.owner) owner book.entry.now.notes book.exit.now.notes
+            }
+            ensures title { book.exit.now.title ≡ book.entry.now.title }
         {
             if book.has(owner, number, left) {
                 book.write(owner, number)
@@ -216,6 +231,7 @@ fn one_pass_finds_what_it_left(rt: HostRuntime) -> Result<(), Fail> {
     passes.push(pass)?;
     let book = lock.close(Seq::from_vec(passes));
     assert!(rt; book.length() == 10 && book.count(3) == 7 && book.lie(1, &places));
+    assert!(rt; book.title == 7);
     Ok(())
 }
 
