@@ -27,10 +27,8 @@ impl<T: Kept> Model for HistLock<T> {
 
     ghost Value = { LockState T.Fixed };
 
-    ghost view = {
-        λ l. lock_state l.table.shared.table_id l.table.shared.key.0
-            (T.fixed l.table.shared.key.1.value)
-    };
+    ghost view = { λ l. lock_state l.table.shared.table_id l.table.shared.key.0
+        (T.fixed l.table.shared.key.1.value) };
 
     ghost invariant = { λ l. IsSized l.table.shared.table_id × (0 < l.table.shared.key.0) };
 }
@@ -60,21 +58,15 @@ impl<T: Kept> HistLock<T> {
     /// never changes as it is.
     pub fn with<R, W: Wait, F: FnOnce(&mut T) -> R>(&self, rt: &W, pass: &mut Pass<T>, f: F) -> R
         requires own { pass.old.lock ≡ self.now.lock }
-        requires callable {
-            (x : T)
+        requires callable { (x : T)
             → MayFind T.owner T.entries T.counted T.fixed T.sound self.now.fixed pass.old x
-            → FnOnceTakesAtMut F.FnOnce f x
-        }
-        requires goes_on {
-            (x y : T) (r : R)
+            → FnOnceTakesAtMut F.FnOnce f x }
+        requires goes_on { (x y : T) (r : R)
             → MayFind T.owner T.entries T.counted T.fixed T.sound self.now.fixed pass.old x
             → FnOnceReturnsAtMut F.FnOnce f x r y
-            → GoesOn T.owner T.entries T.fixed pass.old.rank x y
-        }
-        ensures turn {
-            Turned T.owner T.entries T.counted T.fixed T.sound self.now.fixed
-                F.FnOnce f result pass.old pass.new
-        }
+            → GoesOn T.owner T.entries T.fixed pass.old.rank x y }
+        ensures turn { Turned T.owner T.entries T.counted T.fixed T.sound self.now.fixed
+            F.FnOnce f result pass.old pass.new }
     {
         let words = &self.table.shared;
         let mut value = take(rt, words, &mut pass.seat);
@@ -105,9 +97,8 @@ impl<T: Kept> HistLock<T> {
         requires few { k < 4 }
         ensures seen { T.counted k pass.old.seen ≤ result }
         ensures before { slice_index pass.old.counts_read k ≤ result }
-        ensures read {
-            pass.new ≡ record pass.old { counts_read = slice_set pass.old.counts_read k result }
-        }
+        ensures read { pass.new
+            ≡ record pass.old { counts_read = slice_set pass.old.counts_read k result } }
     {
         self.table
             .shared

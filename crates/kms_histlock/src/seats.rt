@@ -22,9 +22,8 @@ pub(crate) fn lay<T: Kept>(
     requires empty { T.entries value ≡ [] }
     requires uncounted { (k : ℕ) → k < 4 → T.counted k [] ≡ 0 }
     ensures sized { IfOk result (λ r. IsSized r.0.shared.table_id) }
-    ensures about {
-        IfOk result (λ r. (r.0.shared.key.0 ≡ seats) × (r.0.shared.key.1.value ≡ value))
-    }
+    ensures told { IfOk result (λ r. (r.0.shared.key.0 ≡ seats)
+        × (r.0.shared.key.1.value ≡ value)) }
     ensures own { IfOk result (λ r. r.1.table_id ≡ r.0.shared.table_id) }
     ensures seat { IfOk result (λ r. r.1.me ≡ (opened seats (T.fixed value), [])) }
 {
@@ -47,19 +46,13 @@ pub(crate) fn split_off<T: Kept>(
     requires own { (first.old.table_id ≡ words.now.table_id) × IsSized words.now.table_id }
     requires seats { (0 < seats) × (seats ≤ 64) }
     requires whole { first.old.me ≡ (opened seats (T.fixed words.now.key.1.value), []) }
-    ensures passes {
-        IfOk result (λ v.
-            new_pass (lock_name words.now.table_id (T.fixed words.now.key.1.value)) 1 ∷ v.items
-            ≡ new_passes (lock_name words.now.table_id (T.fixed words.now.key.1.value)) seats)
-    }
-    ensures first {
-        IfOk result (λ _. pass_state first.new
-            ≡ new_pass (lock_name words.now.table_id (T.fixed words.now.key.1.value)) 1)
-    }
-    ensures rests {
-        IfOk result (λ _.
-            (first.new.me.1 ≡ []) × (first.new.me.0.stage ≡ Idle) × (first.new.me.0.parts ≡ 1))
-    }
+    ensures passes { IfOk result (λ v.
+        new_pass (lock_name words.now.table_id (T.fixed words.now.key.1.value)) 1 ∷ v.items
+        ≡ new_passes (lock_name words.now.table_id (T.fixed words.now.key.1.value)) seats) }
+    ensures first { IfOk result (λ _. pass_state first.new
+        ≡ new_pass (lock_name words.now.table_id (T.fixed words.now.key.1.value)) 1) }
+    ensures rests { IfOk result (λ _.
+        (first.new.me.1 ≡ []) × (first.new.me.0.stage ≡ Idle) × (first.new.me.0.parts ≡ 1)) }
     ensures leads { IfOk result (λ _. 0 < first.new.me.0.top) }
 {
     let mut passes = Vec::with_capacity(alloc, seats as usize)?;
@@ -93,10 +86,8 @@ pub(crate) fn take_in<T: Kept>(words: &Words<T>, mut passes: Vec<Pass<T>>) -> Pl
     ensures rests { (result.me.1 ≡ []) × (result.me.0.stage ≡ Idle) }
     ensures all { result.me.0.parts ≡ length passes.items }
     ensures made { result.me.0.made ≡ sum_by (λ p. p.made) passes.items }
-    ensures covers {
-        (xs : List T.Entry) → Covers T.counted result.me.0 xs
-        → All (λ p. IsReached T.counted p xs) passes.items
-    }
+    ensures covers { (xs : List T.Entry) → Covers T.counted result.me.0 xs
+        → All (λ p. IsReached T.counted p xs) passes.items }
 {
     let mut seat = take_first(&mut passes).into_seat();
     while let Some(pass) = passes.pop() {

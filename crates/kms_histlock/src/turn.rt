@@ -31,9 +31,8 @@ fn wait<T: Kept, W: Wait>(rt: &W, words: &Words<T>, seat: &mut Place<T>, number:
 /// Waits for the turn, and takes the value.
 pub(crate) fn take<T: Kept, W: Wait>(rt: &W, words: &Words<T>, seat: &mut Place<T>) -> T
     requires own { (seat.old.table_id ≡ words.now.table_id) × IsSized words.now.table_id }
-    requires rests {
-        (seat.old.me.0.stage ≡ Idle) × (seat.old.me.1 ≡ []) × (0 < seat.old.me.0.parts)
-    }
+    requires rests { (seat.old.me.0.stage ≡ Idle) × (seat.old.me.1 ≡ [])
+        × (0 < seat.old.me.0.parts) }
     ensures same { IsSameSeat seat.old seat.new }
     ensures turn { HasTurn T.owner T.entries T.counted T.fixed seat.old.me result seat.new.me }
 {
