@@ -1,7 +1,7 @@
 //! What labels name.
 ghost use Rattle.std.specs.Prelude.{◌≡◌, ℕ};
 ghost use Rattle.kms_model.specs.declared.worlds.Look.{Look};
-ghost use Rattle.kms_model.specs.Sets.{look_in};
+ghost use Rattle.kms_model.specs.Request.Sets.{look_in};
 
 use kms_model::{Look, Lookups};
 
@@ -18,7 +18,7 @@ pub trait Looker {
 impl Looker for Lookups {
     ghost meaning = { look_in };
 
-    #[tactic(auto, unfolding(kms_model::specs::Sets::look_in))]
+    #[tactic(auto, unfolding(kms_model::specs::Request::Sets::look_in))]
     fn look(&self, label: u32) -> Look {
         for (known, look) in self.as_slice() {
             if *known == label {

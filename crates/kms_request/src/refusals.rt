@@ -1,14 +1,14 @@
 //! Refusals 1 to 8. (Kernel: `drm_atomic_uapi.c`, `drm_mode_atomic_ioctl`, `drm_atomic_set_property`.)
 ghost use Rattle.std.specs.Prelude.{◌≡◌, ◌<◌, ◌≤◌, ℕ, ◌&&◌, ◌==◌, List, [], ◌∷◌, All, IsNone, IsTrue, Option, Some, None, option_map, slice_index_or, slice_set, false, if◌then◌else◌};
 ghost use Rattle.std.specs.List.{list_any};
-ghost use Rattle.kms_model.specs.Apply.{prop_of};
+ghost use Rattle.kms_model.specs.Request.Apply.{prop_of};
 ghost use Rattle.kms_model.specs.Firsts.{number_if, or_else};
-ghost use Rattle.kms_model.specs.Objects.{count_of, exists};
-ghost use Rattle.kms_model.specs.Properties.{are_flags, keeps_limits, property};
-ghost use Rattle.kms_model.specs.Refusals.{assign_refusal, assigns_refusal, early_refusal, flags_refusal, is_in_range, is_label, is_second_fence, takes};
-ghost use Rattle.kms_model.specs.Resolves.{IsAllowed, IsSettable};
+ghost use Rattle.kms_model.specs.Device.Objects.{count_of, exists};
+ghost use Rattle.kms_model.specs.Device.Properties.{are_flags, keeps_limits, property};
+ghost use Rattle.kms_model.specs.Request.Refusals.{assign_refusal, assigns_refusal, early_refusal, flags_refusal, is_in_range, names_label, is_second_fence, takes};
+ghost use Rattle.kms_model.specs.Request.Resolves.{IsAllowed, IsSettable};
 ghost use Rattle.kms_props.specs.Rows.{property_of};
-ghost use Rattle.kms_request.specs.Answers.{number_of};
+ghost use Rattle.kms_request.specs.Answers.{refusal_number};
 ghost use Rattle.kms_request.specs.Fences.{SetsFenceOfPlane, TellFences};
 
 use crate::flags::{PAGE_FLIP_ASYNC, PAGE_FLIP_EVENT, TEST_ONLY};
@@ -96,7 +96,7 @@ fn is_in_range<L: Looker>(
 
 /// What is wrong with an assignment by itself, whatever comes before it: 4, its object does not exist; 5, the object
 /// does not have the property; 6, the property is immutable; 7, the value is not among the property's.
-#[tactic(auto, unfolding(kms_model::specs::Refusals::assign_refusal))]
+#[tactic(auto, unfolding(kms_model::specs::Request::Refusals::assign_refusal))]
 fn own_refusal<L: Looker>(topology: &Topology, found: &L, a: &Assign) -> Option<u32>
     ensures first { (earlier : List Assign) → assign_refusal topology.now (L.meaning found.now) earlier a.now
         ≡ or_else result (number_if 8 (is_second_fence earlier a.now)) }
@@ -139,7 +139,7 @@ fn note_fence(fenced: &mut [bool; 16], a: &Assign)
 }
 
 /// The first that is wrong with assignments, from 4 to 8.
-#[tactic(auto, unfolding(kms_model::specs::Refusals::assigns_refusal))]
+#[tactic(auto, unfolding(kms_model::specs::Request::Refusals::assigns_refusal))]
 fn first_refusal<L: Looker>(topology: &Topology, found: &L, assigns: &[Assign]) -> Option<u32>
     requires { IsTrue (keeps_limits topology.now) }
     ensures { result ≡ assigns_refusal topology.now (L.meaning found.now) [] assigns.now }
@@ -162,10 +162,10 @@ fn first_refusal<L: Looker>(topology: &Topology, found: &L, assigns: &[Assign]) 
 ///
 /// Of the device's 1 to 4 CRTCs, 1 to 16 planes and 1 to 8 connectors its assignments may name others. It takes no
 /// memory.
-#[tactic(auto, unfolding(kms_model::specs::Refusals::early_refusal))]
+#[tactic(auto, unfolding(kms_model::specs::Request::Refusals::early_refusal))]
 pub fn early<L: Looker>(topology: &Topology, request: &Request, found: &L) -> Option<Refusal>
     requires { IsTrue (keeps_limits topology.now) }
-    ensures first { number_of result ≡ early_refusal topology.now (L.meaning found.now) request.now }
+    ensures first { refusal_number result ≡ early_refusal topology.now (L.meaning found.now) request.now }
     ensures allowed { IsNone result → All (IsAllowed topology.now (L.meaning found.now)) request.now.assigns }
     ensures settable { IsNone result → All IsSettable request.now.assigns }
 {

@@ -1,11 +1,11 @@
 //! Which scripts are executed so far.
 ghost use Rattle.std.specs.Prelude.{◌≡◌, ◌≤◌, ◌<◌, ◌+◌, ◌^◌, ℕ, length};
 ghost use Rattle.std.specs.List.{AllByRecursion, list_all};
-ghost use Rattle.kms_model.specs.Apply.{prop_of};
-ghost use Rattle.kms_model.specs.Built.{is_built, is_built_assign, is_built_value, unbuilt_client, unbuilt_command, unbuilt_line};
+ghost use Rattle.kms_model.specs.Request.Apply.{prop_of};
+ghost use Rattle.kms_model.specs.Script.Built.{is_built, is_built_assign, is_built_value, unbuilt_client, unbuilt_command, unbuilt_line};
 ghost use Rattle.kms_model.specs.declared.scripts.Command.TheVariants as command;
-ghost use Rattle.kms_model.specs.Flags.{wants_event};
-ghost use Rattle.kms_model.specs.WellFormed.{IsFitClient, IsWellFormed};
+ghost use Rattle.kms_model.specs.Request.Flags.{wants_event};
+ghost use Rattle.kms_model.specs.Script.WellFormed.{IsFitClient, IsWellFormed};
 
 use kms_model::properties::IN_FENCE_FD;
 use kms_model::{Assign, Command, PropRef, Request, Script, Seq, Value};
@@ -67,7 +67,7 @@ fn is_built(command: &Command) -> bool
 }
 
 /// The line of the first command that is not executed so far; the first command stands in `line`.
-#[tactic(auto, unfolding(kms_model::specs::Built::unbuilt_command))]
+#[tactic(auto, unfolding(kms_model::specs::Script::Built::unbuilt_command))]
 fn unbuilt_command(line: u32, commands: &[Command]) -> Option<u32>
     requires { line + length commands.now < 2 ^ 31 }
     ensures { result ≡ unbuilt_command line commands.now }
@@ -83,7 +83,7 @@ fn unbuilt_command(line: u32, commands: &[Command]) -> Option<u32>
 }
 
 /// The same of clients, of which the first stands in `line`.
-#[tactic(auto, unfolding(kms_model::specs::Built::unbuilt_client))]
+#[tactic(auto, unfolding(kms_model::specs::Script::Built::unbuilt_client))]
 fn unbuilt_client(line: u32, clients: &[Seq<Command>]) -> Option<u32>
     requires few { length clients.now ≤ 16 }
     requires line { line < 1024 }

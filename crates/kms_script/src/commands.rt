@@ -1,8 +1,8 @@
 //! Commands of one line.
 ghost use Rattle.std.specs.Prelude.{◌≡◌, ◌≤◌, ◌+◌, ℕ, Some, IfOk, OnOk, IfSome, length, option_map};
-ghost use Rattle.kms_model.specs.CommandLines.{buffer_read, label_alone, addfb_read, mode_read, blob_read, thing_read, label_read, command_read, is_over};
+ghost use Rattle.kms_model.specs.Script.CommandLines.{buffer_read, label_alone, addfb_read, mode_read, blob_read, thing_read, label_read, command_read, is_over};
 ghost use Rattle.kms_script.specs.Fitting.{HasFilled};
-ghost use Rattle.kms_script.specs.Named.{names_in, HasRoom, Grows, made_alone, said_alone};
+ghost use Rattle.kms_script.specs.Named.{names_in, HasRoomForNames, NamesGrow, made_alone, said_alone};
 
 use crate::lists::take_format;
 use crate::modes::take_mode;
@@ -24,7 +24,7 @@ pub fn is_over(command: &Command) -> bool
 }
 
 /// One label.
-#[tactic(auto, unfolding(kms_model::specs::CommandLines::label_alone))]
+#[tactic(auto, unfolding(kms_model::specs::Script::CommandLines::label_alone))]
 fn label_alone(bytes: &[u8]) -> Option<&[u8]>
     ensures { option_map (λ x. x.now) result ≡ label_alone bytes.now }
 {
@@ -35,11 +35,11 @@ fn label_alone(bytes: &[u8]) -> Option<&[u8]>
 
 impl Names {
     /// `LABEL W H FMT PATTERN`.
-    #[tactic(auto, unfolding(kms_model::specs::CommandLines::buffer_read))]
+    #[tactic(auto, unfolding(kms_model::specs::Script::CommandLines::buffer_read))]
     fn buffer(&mut self, alloc: Global, bytes: &[u8]) -> Result<Option<Command>, NoMemory>
-        requires { HasRoom (names_in self.old) 1 }
+        requires { HasRoomForNames (names_in self.old) 1 }
         ensures value { IfOk result (λ o. option_map (λ c. (c, names_in self.new)) o ≡ buffer_read (names_in self.old) bytes.now) }
-        ensures grows { OnOk result (Grows (names_in self.old) (names_in self.new) 1) }
+        ensures grows { OnOk result (NamesGrow (names_in self.old) (names_in self.new) 1) }
         ensures filled { IfOk result (λ o. IfSome o HasFilled) }
     {
         let Some((label, rest)) = take_label(bytes) else {
@@ -68,11 +68,11 @@ impl Names {
     }
 
     /// `LABEL BUFFERLABEL`.
-    #[tactic(auto, unfolding(kms_model::specs::CommandLines::addfb_read))]
+    #[tactic(auto, unfolding(kms_model::specs::Script::CommandLines::addfb_read))]
     fn addfb(&mut self, alloc: Global, bytes: &[u8]) -> Result<Option<Command>, NoMemory>
-        requires { HasRoom (names_in self.old) 2 }
+        requires { HasRoomForNames (names_in self.old) 2 }
         ensures value { IfOk result (λ o. option_map (λ c. (c, names_in self.new)) o ≡ addfb_read (names_in self.old) bytes.now) }
-        ensures grows { OnOk result (Grows (names_in self.old) (names_in self.new) 2) }
+        ensures grows { OnOk result (NamesGrow (names_in self.old) (names_in self.new) 2) }
         ensures filled { IfOk result (λ o. IfSome o HasFilled) }
     {
         let Some((label, rest)) = take_label(bytes) else {
@@ -87,11 +87,11 @@ impl Names {
     }
 
     /// `LABEL` and the 15 words of a mode.
-    #[tactic(auto, unfolding(kms_model::specs::CommandLines::mode_read))]
+    #[tactic(auto, unfolding(kms_model::specs::Script::CommandLines::mode_read))]
     fn mode(&mut self, alloc: Global, bytes: &[u8]) -> Result<Option<Command>, NoMemory>
-        requires { HasRoom (names_in self.old) 1 }
+        requires { HasRoomForNames (names_in self.old) 1 }
         ensures value { IfOk result (λ o. option_map (λ c. (c, names_in self.new)) o ≡ mode_read (names_in self.old) bytes.now) }
-        ensures grows { OnOk result (Grows (names_in self.old) (names_in self.new) 1) }
+        ensures grows { OnOk result (NamesGrow (names_in self.old) (names_in self.new) 1) }
         ensures filled { IfOk result (λ o. IfSome o HasFilled) }
     {
         let Some((label, rest)) = take_label(bytes) else {
@@ -108,11 +108,11 @@ impl Names {
     }
 
     /// `LABEL BYTES`.
-    #[tactic(auto, unfolding(kms_model::specs::CommandLines::blob_read))]
+    #[tactic(auto, unfolding(kms_model::specs::Script::CommandLines::blob_read))]
     fn blob(&mut self, alloc: Global, bytes: &[u8]) -> Result<Option<Command>, NoMemory>
-        requires { HasRoom (names_in self.old) 1 }
+        requires { HasRoomForNames (names_in self.old) 1 }
         ensures value { IfOk result (λ o. option_map (λ c. (c, names_in self.new)) o ≡ blob_read (names_in self.old) bytes.now) }
-        ensures grows { OnOk result (Grows (names_in self.old) (names_in self.new) 1) }
+        ensures grows { OnOk result (NamesGrow (names_in self.old) (names_in self.new) 1) }
         ensures filled { IfOk result (λ o. IfSome o HasFilled) }
     {
         let Some((label, rest)) = take_label(bytes) else {
@@ -133,9 +133,9 @@ impl Names {
 
     /// `LABEL` of a thing that the command makes.
     fn make_alone(&mut self, alloc: Global, bytes: &[u8]) -> Result<Option<u32>, NoMemory>
-        requires { HasRoom (names_in self.old) 1 }
+        requires { HasRoomForNames (names_in self.old) 1 }
         ensures value { IfOk result (λ o. option_map (λ n. (n, names_in self.new)) o ≡ made_alone (names_in self.old) bytes.now) }
-        ensures grows { OnOk result (Grows (names_in self.old) (names_in self.new) 1) }
+        ensures grows { OnOk result (NamesGrow (names_in self.old) (names_in self.new) 1) }
     {
         match label_alone(bytes) {
             Some(label) => Ok(Some(self.make(alloc, label)?)),
@@ -145,9 +145,9 @@ impl Names {
 
     /// `LABEL` of a thing that the command names.
     fn say_alone(&mut self, alloc: Global, bytes: &[u8]) -> Result<Option<u32>, NoMemory>
-        requires { HasRoom (names_in self.old) 1 }
+        requires { HasRoomForNames (names_in self.old) 1 }
         ensures value { IfOk result (λ o. option_map (λ n. (n, names_in self.new)) o ≡ said_alone (names_in self.old) bytes.now) }
-        ensures grows { OnOk result (Grows (names_in self.old) (names_in self.new) 1) }
+        ensures grows { OnOk result (NamesGrow (names_in self.old) (names_in self.new) 1) }
     {
         match label_alone(bytes) {
             Some(label) => Ok(Some(self.say(alloc, label)?)),
@@ -156,16 +156,16 @@ impl Names {
     }
 
     /// A command that makes a thing, but no fence.
-    #[tactic(auto, unfolding(kms_model::specs::CommandLines::thing_read))]
+    #[tactic(auto, unfolding(kms_model::specs::Script::CommandLines::thing_read))]
     fn thing(
         &mut self,
         alloc: Global,
         keyword: &[u8],
         fields: &[u8],
     ) -> Result<Option<Command>, NoMemory>
-        requires { HasRoom (names_in self.old) 2 }
+        requires { HasRoomForNames (names_in self.old) 2 }
         ensures value { IfOk result (λ o. option_map (λ c. (c, names_in self.new)) o ≡ thing_read (names_in self.old) keyword.now fields.now) }
-        ensures grows { OnOk result (Grows (names_in self.old) (names_in self.new) 2) }
+        ensures grows { OnOk result (NamesGrow (names_in self.old) (names_in self.new) 2) }
         ensures filled { IfOk result (λ o. IfSome o HasFilled) }
     {
         if keyword == b"buffer".as_slice() {
@@ -182,16 +182,16 @@ impl Names {
     }
 
     /// A command with one label alone, or one that makes a thing.
-    #[tactic(auto, unfolding(kms_model::specs::CommandLines::label_read, kms_model::specs::CommandLines::making_read, kms_model::specs::CommandLines::naming_read))]
+    #[tactic(auto, unfolding(kms_model::specs::Script::CommandLines::label_read, kms_model::specs::Script::CommandLines::making_read, kms_model::specs::Script::CommandLines::naming_read))]
     fn labelled(
         &mut self,
         alloc: Global,
         keyword: &[u8],
         fields: &[u8],
     ) -> Result<Option<Command>, NoMemory>
-        requires { HasRoom (names_in self.old) 2 }
+        requires { HasRoomForNames (names_in self.old) 2 }
         ensures value { IfOk result (λ o. option_map (λ c. (c, names_in self.new)) o ≡ label_read (names_in self.old) keyword.now fields.now) }
-        ensures grows { OnOk result (Grows (names_in self.old) (names_in self.new) 2) }
+        ensures grows { OnOk result (NamesGrow (names_in self.old) (names_in self.new) 2) }
         ensures filled { IfOk result (λ o. IfSome o HasFilled) }
     {
         if keyword == b"destroy".as_slice() {
@@ -214,11 +214,11 @@ impl Names {
     }
 
     /// The command that a line spells: its first word says which.
-    #[tactic(auto, unfolding(kms_model::specs::CommandLines::command_read))]
+    #[tactic(auto, unfolding(kms_model::specs::Script::CommandLines::command_read))]
     pub fn command(&mut self, alloc: Global, line: &[u8]) -> Result<Option<Command>, NoMemory>
-        requires { HasRoom (names_in self.old) (length line.now + 2) }
+        requires { HasRoomForNames (names_in self.old) (length line.now + 2) }
         ensures value { IfOk result (λ o. option_map (λ c. (c, names_in self.new)) o ≡ command_read (names_in self.old) line.now) }
-        ensures grows { OnOk result (Grows (names_in self.old) (names_in self.new) (length line.now + 2)) }
+        ensures grows { OnOk result (NamesGrow (names_in self.old) (names_in self.new) (length line.now + 2)) }
         ensures filled { IfOk result (λ o. IfSome o HasFilled) }
     {
         let (keyword, fields) = split_at_byte(line, b' ');

@@ -2,8 +2,8 @@
 ghost use Rattle.std.specs.Prelude.{◌≡◌, ◌≤◌, ◌<◌, ◌+◌, ◌^◌, ℕ, [], Some, IfOk, OnOk, length, map};
 ghost use Rattle.std.specs.List.{IsDistinct};
 ghost use Rattle.std.specs.Str.{bytes_eq};
-ghost use Rattle.kms_model.specs.CommandLines.{place, saying, making, unmade, words_in};
-ghost use Rattle.kms_script.specs.Named.{names_in, HasRoom, Grows};
+ghost use Rattle.kms_model.specs.Script.CommandLines.{place, saying, making, unmade, words_in};
+ghost use Rattle.kms_script.specs.Named.{names_in, HasRoomForNames, NamesGrow};
 
 use indexmap::IndexMap;
 use kms_model::{NoMemory, Seq};
@@ -47,12 +47,12 @@ impl Names {
     }
 
     /// The number of a name that is said.
-    #[tactic(auto, unfolding(kms_model::specs::CommandLines::saying))]
+    #[tactic(auto, unfolding(kms_model::specs::Script::CommandLines::saying))]
     pub fn say(&mut self, alloc: Global, word: &[u8]) -> Result<u32, NoMemory>
-        requires { HasRoom (names_in self.old) 1 }
+        requires { HasRoomForNames (names_in self.old) 1 }
         ensures number { IfOk result (λ n. n ≡ place word.now (names_in self.old)) }
         ensures names { OnOk result (names_in self.new ≡ saying word.now (names_in self.old)) }
-        ensures grows { OnOk result (Grows (names_in self.old) (names_in self.new) 1) }
+        ensures grows { OnOk result (NamesGrow (names_in self.old) (names_in self.new) 1) }
     {
         if let Some(place) = self.places.get_index_of(word) {
             return Ok(place as u32);
@@ -63,12 +63,12 @@ impl Names {
     }
 
     /// The number of a label that a line makes.
-    #[tactic(auto, unfolding(kms_model::specs::CommandLines::making))]
+    #[tactic(auto, unfolding(kms_model::specs::Script::CommandLines::making))]
     pub fn make(&mut self, alloc: Global, word: &[u8]) -> Result<u32, NoMemory>
-        requires { HasRoom (names_in self.old) 1 }
+        requires { HasRoomForNames (names_in self.old) 1 }
         ensures number { IfOk result (λ n. n ≡ place word.now (names_in self.old)) }
         ensures names { OnOk result (names_in self.new ≡ making word.now (names_in self.old)) }
-        ensures grows { OnOk result (Grows (names_in self.old) (names_in self.new) 1) }
+        ensures grows { OnOk result (NamesGrow (names_in self.old) (names_in self.new) 1) }
     {
         let key = Vec::from_slice(alloc, word)?;
         let (place, before) = self.places.insert_full(key, true)?;

@@ -2,7 +2,7 @@
 ghost use Rattle.std.specs.Prelude.{◌≡◌, ◌≤◌, ◌<◌, ◌+◌, OnErr, length};
 ghost use Rattle.std.specs.List.{IsDistinct};
 ghost use Rattle.std.specs.Str.{bytes_eq};
-ghost use Rattle.kms_model.specs.CommandLines.{line_read};
+ghost use Rattle.kms_model.specs.Script.CommandLines.{line_read};
 ghost use Rattle.kms_script.specs.Stated.{GivesCommand};
 
 use crate::commands::is_over;
@@ -41,7 +41,7 @@ impl From<NoMemory> for LineError {
 ///
 /// The names must differ, as they do after this call, and with the line's bytes be fewer than 4,294,967,295. A call
 /// goes over all of them.
-#[tactic(auto, unfolding(kms_model::specs::CommandLines::line_read))]
+#[tactic(auto, unfolding(kms_model::specs::Script::CommandLines::line_read))]
 pub fn read_command(
     alloc: Global,
     _topology: &Topology,

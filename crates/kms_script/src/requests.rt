@@ -1,8 +1,8 @@
 //! Atomic requests.
 ghost use Rattle.std.specs.Prelude.{◌≡◌, ◌≤◌, ◌+◌, ℕ, Some, IfOk, IfSome, OnOk, length, option_map};
-ghost use Rattle.kms_model.specs.CommandLines.{property_read, value_read, assign_read, atomic_read};
+ghost use Rattle.kms_model.specs.Script.CommandLines.{property_read, value_read, assign_read, atomic_read};
 ghost use Rattle.kms_script.specs.Fitting.{HasFilled};
-ghost use Rattle.kms_script.specs.Named.{names_in, HasRoom, Grows, assigns_at};
+ghost use Rattle.kms_script.specs.Named.{names_in, HasRoomForNames, NamesGrow, assigns_at};
 
 use crate::names::Names;
 use crate::numbers::{read_int, take_hex};
@@ -13,11 +13,11 @@ use std::alloc::Global;
 
 impl Names {
     /// The property of a name.
-    #[tactic(auto, unfolding(kms_model::specs::CommandLines::property_read))]
+    #[tactic(auto, unfolding(kms_model::specs::Script::CommandLines::property_read))]
     fn property(&mut self, alloc: Global, word: &[u8]) -> Result<PropRef, NoMemory>
-        requires { HasRoom (names_in self.old) 1 }
+        requires { HasRoomForNames (names_in self.old) 1 }
         ensures value { IfOk result (λ p. (p, names_in self.new) ≡ property_read (names_in self.old) word.now) }
-        ensures grows { OnOk result (Grows (names_in self.old) (names_in self.new) 1) }
+        ensures grows { OnOk result (NamesGrow (names_in self.old) (names_in self.new) 1) }
     {
         match known_property(word) {
             Some(id) => Ok(PropRef::Known(id)),
@@ -26,11 +26,11 @@ impl Names {
     }
 
     /// The value of a word: `@LABEL`, `+LABEL`, `crtc` with an index to 255, or a number.
-    #[tactic(auto, unfolding(kms_model::specs::CommandLines::value_read))]
+    #[tactic(auto, unfolding(kms_model::specs::Script::CommandLines::value_read))]
     fn value(&mut self, alloc: Global, word: &[u8]) -> Result<Option<Value>, NoMemory>
-        requires { HasRoom (names_in self.old) 1 }
+        requires { HasRoomForNames (names_in self.old) 1 }
         ensures value { IfOk result (λ o. option_map (λ v. (v, names_in self.new)) o ≡ value_read (names_in self.old) word.now) }
-        ensures grows { OnOk result (Grows (names_in self.old) (names_in self.new) 1) }
+        ensures grows { OnOk result (NamesGrow (names_in self.old) (names_in self.new) 1) }
     {
         if let Some(label) = strip(b"@", word) {
             if !is_label(label) {
@@ -57,11 +57,11 @@ impl Names {
     }
 
     /// The assignment of a word.
-    #[tactic(auto, unfolding(kms_model::specs::CommandLines::assign_read))]
+    #[tactic(auto, unfolding(kms_model::specs::Script::CommandLines::assign_read))]
     fn assign(&mut self, alloc: Global, word: &[u8]) -> Result<Option<Assign>, NoMemory>
-        requires { HasRoom (names_in self.old) 2 }
+        requires { HasRoomForNames (names_in self.old) 2 }
         ensures value { IfOk result (λ o. option_map (λ a. (a, names_in self.new)) o ≡ assign_read (names_in self.old) word.now) }
-        ensures grows { OnOk result (Grows (names_in self.old) (names_in self.new) 2) }
+        ensures grows { OnOk result (NamesGrow (names_in self.old) (names_in self.new) 2) }
         ensures some { IfOk result (λ o. IfSome o (λ _. 1 ≤ length word.now)) }
     {
         let Some(words) = read_assign_words(word) else {
@@ -81,9 +81,9 @@ impl Names {
 
     /// The assignments of all fields of a line's bytes.
     fn assigns(&mut self, alloc: Global, fields: &[u8]) -> Result<Option<Seq<Assign>>, NoMemory>
-        requires { HasRoom (names_in self.old) (length fields.now + 2) }
+        requires { HasRoomForNames (names_in self.old) (length fields.now + 2) }
         ensures value { IfOk result (λ o. option_map (λ a. (a, names_in self.new)) o ≡ assigns_at (names_in self.old) fields.now) }
-        ensures grows { OnOk result (Grows (names_in self.old) (names_in self.new) (length fields.now + 2)) }
+        ensures grows { OnOk result (NamesGrow (names_in self.old) (names_in self.new) (length fields.now + 2)) }
     {
         let mut assigns = Seq::new(alloc);
         let mut rest = fields;
@@ -101,11 +101,11 @@ impl Names {
     }
 
     /// `FLAGS USERDATA` and 0 or more assignments.
-    #[tactic(auto, unfolding(kms_model::specs::CommandLines::atomic_read))]
+    #[tactic(auto, unfolding(kms_model::specs::Script::CommandLines::atomic_read))]
     pub fn atomic(&mut self, alloc: Global, bytes: &[u8]) -> Result<Option<Command>, NoMemory>
-        requires { HasRoom (names_in self.old) (length bytes.now + 2) }
+        requires { HasRoomForNames (names_in self.old) (length bytes.now + 2) }
         ensures value { IfOk result (λ o. option_map (λ c. (c, names_in self.new)) o ≡ atomic_read (names_in self.old) bytes.now) }
-        ensures grows { OnOk result (Grows (names_in self.old) (names_in self.new) (length bytes.now + 2)) }
+        ensures grows { OnOk result (NamesGrow (names_in self.old) (names_in self.new) (length bytes.now + 2)) }
         ensures filled { IfOk result (λ o. IfSome o HasFilled) }
     {
         let Some((flags, rest)) = take_hex(bytes) else {
