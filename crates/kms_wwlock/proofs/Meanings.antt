@@ -102,5 +102,5 @@ relocked_at table t id place contexts long is at now off =
     let new : ℕ → List Context → Table = λ p cs. record table { holders = set table.holders p (Some t); contexts = cs } in
     let holds = taken_by table t id long is in
     let there : IsTakenBy table (new (lock_place id) (map (with_doing t Taking) table.contexts)) t id =
-    record { locked_by = holds.taken; others = holds.others } in
+    record { locked_by = holds.locked_by; others = holds.others } in
     rw (at, now) (there, set_at table t Taking (BackedOff id) (set table.holders (lock_place id) (Some t)) (map (with_doing t Taking) table.contexts) refl off)
