@@ -122,7 +122,8 @@ fn turn<W: Wait>(
         rt,
         pass,
         |book: &mut Notebook| -> Option<usize>
-            ensures notes { Lengthens (λ e. e.owner) owner book.entry.now.notes book.exit.now.notes }
+            ensures notes { Lengthens (λ e. e.owner) owner
+                book.entry.now.notes book.exit.now.notes }
             ensures title { book.exit.now.title ≡ book.entry.now.title }
         {
             if book.has(owner, number, left) {

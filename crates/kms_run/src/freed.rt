@@ -100,7 +100,8 @@ fn push_next(
 ) -> Result<(), NoMemory>
     requires few { planes ≤ 16 }
     requires planes { planes ≡ length serial.now.topology.planes }
-    ensures { OnOk result (all.new ≡ all.old ++ freed_next serial.now.topology serial.now.world last id) }
+    ensures { OnOk result (all.new
+        ≡ all.old ++ freed_next serial.now.topology serial.now.world last id) }
 {
     if id == last {
         return Ok(());
@@ -121,7 +122,8 @@ fn push_each(
 ) -> Result<(), NoMemory>
     requires few { planes ≤ 16 }
     requires planes { planes ≡ length serial.now.topology.planes }
-    ensures { OnOk result (all.new ≡ all.old ++ freed_from serial.now.topology serial.now.world 0 ids.now) }
+    ensures { OnOk result (all.new
+        ≡ all.old ++ freed_from serial.now.topology serial.now.world 0 ids.now) }
 {
     let mut last = 0;
     for id in ids {

@@ -112,7 +112,8 @@ fn text_of(
     frames: bool,
 ) -> Result<Seq<u8>, NoMemory>
     requires { EachCanBeShown serial.now.world.things picture.now }
-    ensures { IfOk result (λ text. text ≡ latched_text frames picture.now (frame_bytes serial.now.world.things picture.now)) }
+    ensures { IfOk result (λ text. text
+        ≡ latched_text frames picture.now (frame_bytes serial.now.world.things picture.now)) }
 {
     let frame = frame_of(alloc, serial, picture)?;
     match picture {
@@ -130,7 +131,8 @@ fn latch_of(
     frames: bool,
 ) -> Result<Latched, NoMemory>
     requires { index < serial.now.topology.crtcs }
-    ensures { IfOk result (λ l. l ≡ latched_of frames index (pictured serial.now.topology serial.now.world (object_id kind.Crtc index) commit)) }
+    ensures { IfOk result (λ l. l ≡ latched_of frames index
+        (pictured serial.now.topology serial.now.world (object_id kind.Crtc index) commit)) }
 {
     let picture = serial.picture(index);
     let text = text_of(alloc, serial, &picture, frames)?;
@@ -154,7 +156,8 @@ fn push_latch(
 ) -> Result<(), NoMemory>
     requires few { index < 32 }
     requires crtc { index < serial.now.topology.crtcs }
-    ensures { OnOk result (latches.new ≡ latches.old ++ marked_latch frames serial.now.topology serial.now.world commit named index) }
+    ensures { OnOk result (latches.new ≡ latches.old
+        ++ marked_latch frames serial.now.topology serial.now.world commit named index) }
 {
     if named & (1 << index) == 0 {
         return Ok(());
@@ -174,7 +177,8 @@ pub fn push_latches(
 ) -> Result<(), NoMemory>
     requires few { crtcs ≤ 4 }
     requires crtcs { crtcs ≡ serial.now.topology.crtcs }
-    ensures { OnOk result (latches.new ≡ latches.old ++ latches_now frames serial.now.topology serial.now.world named reply.now) }
+    ensures { OnOk result (latches.new ≡ latches.old
+        ++ latches_now frames serial.now.topology serial.now.world named reply.now) }
 {
     let Reply::Commit { commit } = reply else {
         return Ok(());
