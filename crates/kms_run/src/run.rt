@@ -43,7 +43,7 @@ fn executed(
         ≡ record { world = serial.new.world; reply = x.0 }) }
     ensures named { IfOk result (λ x. (k : ℕ) → x.0 ≡ reply.Commit k
         → x.1 ≡ named_by serial.old.topology
-            serial.old.world.values serial.new.world.values command.now) }
+        serial.old.world.values serial.new.world.values command.now) }
     ensures topology { serial.new.topology ≡ serial.old.topology }
     ensures grows { Grows serial.old.world serial.new.world }
 {
