@@ -6,8 +6,8 @@ ghost use Rattle.kms_model.specs.Device.World.{is_of, put, setting, thing_labell
 
 use crate::store::WorldStore;
 use kms_model::properties::{IN_FENCE_FD, OUT_FENCE_PTR};
-use kms_model::{Assign, Kind, NoMemory, Seq, Setting, Thing, Value};
-use kms_request::{object_id, prop_of};
+use kms_model::{Assign, Kind, NoMemory, ObjId, Seq, Setting, Thing, Value};
+use kms_request::prop_of;
 
 /// The place of a setting.
 fn place_of(values: &[Setting], object: u32, prop: u32) -> Option<usize>
@@ -57,7 +57,7 @@ fn number_of(store: &WorldStore, given: Value) -> i64
         Value::Num(n) => n as i64,
         Value::Named(label) => id_in(store.labelled(label)),
         Value::New(_) => 0,
-        Value::Crtc(index) => i64::from(object_id(Kind::Crtc, index)),
+        Value::Crtc(index) => i64::from(ObjId::of(Kind::Crtc, index).0),
     }
 }
 
@@ -79,7 +79,7 @@ fn assign(store: &WorldStore, values: &mut Seq<Setting>, a: &Assign) -> Result<(
     }
     put(
         values,
-        object_id(a.kind, a.index),
+        ObjId::of(a.kind, a.index).0,
         prop,
         number_of(store, a.value),
     )
