@@ -1,6 +1,7 @@
 pub mod AppliedValues
 pub mod ApplyLemmas
 pub mod CrtcLemmas
+pub mod FramedLemmas
 pub mod HeldValues
 pub mod ImageWords
 pub mod InPlace
@@ -8,9 +9,12 @@ pub mod Items
 pub mod KindsOfIds
 pub mod LastLemmas
 pub mod LateLemmas
+pub mod MachineInputs
+pub mod MachineRows
 pub mod MaskLemmas
 pub mod ObjectLemmas
 pub mod OnLiterals
+pub mod OnMachines
 pub mod OnScripts
 pub mod OpenLemmas
 pub mod PropertyTable
@@ -21,6 +25,7 @@ pub mod ScriptRows
 pub mod SeenLemmas
 pub mod SetLemmas
 pub mod SettingLemmas
+pub mod ShownLemmas
 pub mod SoundKept
 pub mod SoundStart
 pub mod Spans
