@@ -5,7 +5,7 @@ use Rattle.kms_model.specs.CommandLines.{is_over}
 use Rattle.kms_model.specs.InputLines.{Fault, Row}
 use Rattle.kms_model.specs.WholeInput.{Draft, Lined, clients_in}
 use Rattle.kms_script.specs.Fitting.{IsFitDevice, HasFitClients}
-use Rattle.kms_script.specs.Named.{names_in, HasRoom, Grows}
+use Rattle.kms_script.specs.Named.{HasRoom, Grows}
 use Rattle.kms_script.specs.declared.draft.Draft.{Draft as Held}
 use Rattle.kms_script.specs.declared.faults.ParseError.{ParseError}
 use Rattle.kms_script.specs.declared.faults.ParseError.TheVariants as errors
@@ -14,7 +14,7 @@ use Rattle.kms_script.specs.declared.stop.Stop.{Stop}
 use Rattle.kms_script.specs.declared.stop.Stop.TheVariants as stops
 
 abbrev pub draft_in : Held → Draft
-draft_in h = record { head = h.head; crtcs = h.crtcs; planes = h.planes; conns = h.conns; names = names_in h.names; clients = h.clients; has_client = h.has_client; commands = h.commands; size = h.size }
+draft_in h = record { head = h.head; crtcs = h.crtcs; planes = h.planes; conns = h.conns; names = h.names.names; clients = h.clients; has_client = h.has_client; commands = h.commands; size = h.size }
 
 abbrev pub row_in : Seen → Row
 row_in r = record { text = r.text.now; is_ended = r.is_ended }
@@ -53,9 +53,9 @@ error_at line stops.NoMemory = errors.NoMemory
 abbrev pub ended : Draft → Draft
 ended d = record d { clients = clients_in d; has_client = false; commands = [] }
 
--- a command more passes a limit
-abbrev pub is_full : Draft → Command → Bool
-is_full d c = is_over c || (nat_le 4096 (length d.commands) || nat_lt 4096 d.names.made)
+-- with a command more a client has too many, or the script makes too many labels
+abbrev pub is_full : Draft → Bool
+is_full d = nat_le 4096 (length d.commands) || nat_lt 4096 d.names.made
 
 -- What was read of lines exactly where that is stated, and a fault exactly where that fault is; want of memory may
 -- come anywhere.

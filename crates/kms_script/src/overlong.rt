@@ -1,0 +1,165 @@
+//! Atomic lines with more assignments than a request may have. Of such a line no name is kept: its fault depends on
+//! its form and on the labels that it makes alone.
+ghost use Rattle.std.specs.Prelude.{◌≡◌, ◌≤◌, ◌<◌, ◌+◌, ◌^◌, ◌++◌, [], ℕ, Bool, false, true, Err, IfOk, OnOk, IsTrue, length, option_map};
+ghost use Rattle.std.specs.Bool.{Decides, nat_eq};
+ghost use Rattle.std.specs.List.{IsDistinct};
+ghost use Rattle.std.specs.Option.{option_map_or};
+ghost use Rattle.kms_model.specs.CommandLines.{atomic_read};
+ghost use Rattle.kms_script.specs.Lines.{checked};
+ghost use Rattle.kms_script.specs.Named.{HasRoom};
+ghost use Rattle.kms_script.specs.Overlong.{AddsLabels, assign_label, atomic_labels, blanks, has_many, labels_at, made_words, packed, packed_all, packed_alone, value_label};
+
+use crate::names::Names;
+use crate::numbers::{read_int, take_hex};
+use crate::objects::read_assign_words;
+use crate::words::{is_label, read_dec, strip, take_dec, take_field};
+use kms_model::{NoMemory, Why};
+use std::alloc::Global;
+
+/// The fewest bytes of an assignment that makes a label, as `enc0.p=+l`, with the blank before it.
+const SHORTEST: usize = 10;
+
+/// Whether a line has more fields than an atomic line with 256 assignments.
+pub fn has_many(fields: &[u8]) -> bool
+    ensures { result ≡ has_many fields.now }
+{
+    let mut count = 0usize;
+    for b in fields {
+        count += usize::from(*b == b' ');
+    }
+    count > 258
+}
+
+/// The label that a value makes, if it makes one; none for a word that is no value.
+#[tactic(auto, unfolding(kms_script::specs::Overlong::value_label))]
+fn value_label(word: &[u8]) -> Option<Option<&[u8]>>
+    ensures { option_map (λ o. option_map (λ x. x.now) o) result ≡ value_label word.now }
+{
+    if let Some(label) = strip(b"@", word) {
+        return if is_label(label) { Some(None) } else { None };
+    }
+    if let Some(label) = strip(b"+", word) {
+        return if is_label(label) {
+            Some(Some(label))
+        } else {
+            None
+        };
+    }
+    if let Some(digits) = strip(b"crtc", word) {
+        return match read_dec(digits, 255) {
+            Some(_) => Some(None),
+            None => None,
+        };
+    }
+    match read_int(word) {
+        Some(_) => Some(None),
+        None => None,
+    }
+}
+
+/// The label that an assignment makes, if it makes one; none for a word that is no assignment.
+#[tactic(auto, unfolding(kms_script::specs::Overlong::assign_label))]
+fn assign_label(word: &[u8]) -> Option<Option<&[u8]>>
+    ensures { option_map (λ o. option_map (λ x. x.now) o) result ≡ assign_label word.now }
+{
+    let words = read_assign_words(word)?;
+    value_label(words.value)
+}
+
+/// A word of at most 16 bytes as a number, whose digits to the base 256 are its bytes, the lowest first.
+fn packed(word: &[u8]) -> u128
+    requires { length word.now ≤ 16 }
+    ensures value { result ≡ packed word.now }
+    ensures small { result < 256 ^ length word.now }
+{
+    match word {
+        [first, rest @ ..] => u128::from(*first) + 256 * packed(rest),
+        [] => 0,
+    }
+}
+
+/// Adds the number of a word of at most 16 bytes, as each label is one.
+pub fn push_packed(numbers: &mut Vec<u128>, word: &[u8]) -> Result<(), NoMemory>
+    ensures { OnOk result (numbers.new.items ≡ numbers.old.items ++ packed_alone word.now) }
+{
+    if word.len() <= 16 {
+        numbers.push(packed(word))?;
+    }
+    Ok(())
+}
+
+/// Adds the number of a label, where there is one.
+fn push_label(numbers: &mut Vec<u128>, label: Option<&[u8]>) -> Result<(), NoMemory>
+    ensures { OnOk result (numbers.new.items ≡ numbers.old.items ++ option_map_or (λ x. packed_alone x.now) label []) }
+{
+    match label {
+        Some(label) => push_packed(numbers, label),
+        None => Ok(()),
+    }
+}
+
+/// Adds the numbers of the labels that the assignments of all fields make: false where a field is no assignment.
+fn push_labels(numbers: &mut Vec<u128>, fields: &[u8]) -> Result<bool, NoMemory>
+    ensures { IfOk result (λ formed. AddsLabels formed (labels_at fields.now) numbers.old.items numbers.new.items) }
+{
+    let mut rest = fields;
+    'reading: while !rest.is_empty() {
+        let Some((word, after)) = take_field(rest) else {
+            return Ok(false);
+        };
+        let Some(label) = assign_label(word) else {
+            return Ok(false);
+        };
+        push_label(numbers, label)?;
+        rest = after;
+    }
+    Ok(true)
+}
+
+/// Whether numbers in order differ.
+fn rise(sorted: &[u128]) -> bool {
+    let mut rest = sorted;
+    'comparing: while let [first, others @ ..] = rest {
+        if let [second, ..] = others
+            && second == first
+        {
+            return false;
+        }
+        rest = others;
+    }
+    true
+}
+
+/// Whether numbers differ.
+fn are_distinct(mut numbers: Vec<u128>) -> bool
+    ensures { Decides result (IsDistinct nat_eq numbers.items) }
+{
+    numbers.sort_unstable();
+    rise(numbers.as_slice())
+}
+
+/// The fault of an atomic line with more than 256 assignments, by the bytes behind its first word.
+pub fn fault_of_many(names: &Names, alloc: Global, fields: &[u8]) -> Result<Why, NoMemory>
+    requires once { names.now.names.is_twice ≡ false }
+    requires many { IsTrue (has_many fields.now) }
+    requires room { HasRoom names.now.names (length fields.now) }
+    ensures { IfOk result (λ why. checked (atomic_read names.now.names fields.now) ≡ Err why) }
+{
+    let Some((_, rest)) = take_hex(fields) else {
+        return Ok(Why::Form);
+    };
+    let Some((_, rest)) = take_dec(rest, u64::MAX) else {
+        return Ok(Why::Form);
+    };
+    let most = names.made() as usize + rest.len() / SHORTEST;
+    let mut numbers = Vec::with_capacity(alloc, most)?;
+    names.push_made(&mut numbers)?;
+    if !push_labels(&mut numbers, rest)? {
+        return Ok(Why::Form);
+    }
+    if are_distinct(numbers) {
+        Ok(Why::Limit)
+    } else {
+        Ok(Why::Label)
+    }
+}
