@@ -6,7 +6,7 @@
 #![tactic(auto)]
 
 ghost use Rattle.std.specs.Prelude.{◌≡◌, ◌≤◌, length, slice_index, EachIndex};
-ghost use Rattle.kms_model.specs.Frames.{blended};
+ghost use Rattle.kms_model.specs.Frames.FrameBytes.{blended};
 
 mod modes;
 mod quotients;

@@ -1,6 +1,6 @@
 //! The blend modes. (Kernel: "Plane Composition Properties", `pixel blend mode`.)
 ghost use Rattle.std.specs.Prelude.{◌≡◌, ◌+◌, ◌-◌, ◌*◌, ◌/◌, ◌≤◌, ℕ, min};
-ghost use Rattle.kms_model.specs.Frames.{blended, opaque};
+ghost use Rattle.kms_model.specs.Frames.FrameBytes.{blended, opaque};
 
 use crate::quotients::over_opaque;
 

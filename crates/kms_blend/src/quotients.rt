@@ -1,6 +1,6 @@
 //! Quotients by numbers next below a power of two, by shifts and sums.
 ghost use Rattle.std.specs.Prelude.{◌≡◌, ◌*◌, ◌/◌, ◌<◌};
-ghost use Rattle.kms_model.specs.Frames.{opaque};
+ghost use Rattle.kms_model.specs.Frames.FrameBytes.{opaque};
 
 /// `n / (65535 * 255)`.
 pub fn over_opaque(n: u32) -> u32

@@ -9,9 +9,9 @@ use Rattle.std.proofs.Math.Seq.{drop-nil}
 use Rattle.std.proofs.lemmas.Nat.{le_bytes_2, le_bytes_4, from_le_bytes-to_le_bytes_2, from_le_bytes-to_le_bytes_4}
 use Rattle.kms_model.specs.declared.objects.Mode.{Mode}
 use Rattle.kms_model.specs.declared.stores.BadMode.TheVariants.{Horizontal, Vertical, Clock, Size}
-use Rattle.kms_model.specs.Modes.{is_axis, is_legal_mode}
+use Rattle.kms_model.specs.Device.Modes.{is_axis, is_legal_mode}
 use Rattle.kms_blobs.specs.Ranges.{FitsTypes}
-use Rattle.kms_model.specs.ModeBytes.{mode_bytes, mode_held, if_legal, decoded}
+use Rattle.kms_model.specs.Device.ModeBytes.{mode_bytes, mode_held, if_legal, decoded}
 
 -- bytes are below 256
 pub record AreBytes (bytes : List ℕ) : Type 0 where

@@ -5,9 +5,9 @@ use Rattle.kms_model.specs.declared.tables.Slot.{Slot}
 use Rattle.kms_model.specs.declared.worlds.Content.{Content}
 use Rattle.kms_model.specs.declared.worlds.Content.TheVariants as content
 use Rattle.kms_model.specs.declared.worlds.Thing.{Thing}
-use Rattle.kms_model.specs.ModeBytes.{mode_bytes}
-use Rattle.kms_model.specs.OpenThings.{open_values}
-use Rattle.kms_model.specs.Stores.{blob}
+use Rattle.kms_model.specs.Device.ModeBytes.{mode_bytes}
+use Rattle.kms_model.specs.Stores.OpenThings.{open_values}
+use Rattle.kms_model.specs.Stores.Kept.{blob}
 
 -- a blob of bytes, or a mode, whose blob has the mode's bytes
 abbrev pub blob_in : ℕ → Content → Option Blob

@@ -1,7 +1,7 @@
 //! The bytes of a mode.
 ghost use Rattle.std.specs.Prelude.{◌≡◌, ◌+◌, ◌≤◌, ◌++◌, length, IfOk, IsTrue, Ok, take, drop, slice_range};
-ghost use Rattle.kms_model.specs.Modes.{is_axis, is_legal_mode};
-ghost use Rattle.kms_model.specs.ModeBytes.{mode_bytes, mode_held, two_at, four_at, if_legal, decoded};
+ghost use Rattle.kms_model.specs.Device.Modes.{is_axis, is_legal_mode};
+ghost use Rattle.kms_model.specs.Device.ModeBytes.{mode_bytes, mode_held, two_at, four_at, if_legal, decoded};
 ghost use Rattle.kms_blobs.specs.Ranges.{FitsTypes, FitsFront, FitsMiddle, FitsBack};
 
 use kms_model::{BadMode, Mode};

@@ -1,14 +1,14 @@
 //! The store of blobs.
 ghost use Rattle.std.specs.Prelude.{◌≡◌, ℕ, List, [], ◌∷◌, ◌++◌, OnOk, OnErr, IfOk, option_copied};
-ghost use Rattle.kms_model.specs.Tables.{AreBelow, slot, value_with_id};
-ghost use Rattle.kms_model.specs.Stores.{blob, bytes_with_id, destroy_answer, blobs_destroyed};
+ghost use Rattle.kms_model.specs.Stores.Tables.{AreBelow, slot, value_with_id};
+ghost use Rattle.kms_model.specs.Stores.Kept.{blob, bytes_with_id, destroy_answer, blobs_destroyed};
 ghost use Rattle.kms_model.specs.declared.objects.Mode.{Mode};
 ghost use Rattle.kms_model.specs.declared.worlds.Content.TheVariants as content;
 ghost use Rattle.kms_model.specs.declared.worlds.Thing.{Thing};
 ghost use Rattle.kms_model.specs.declared.worlds.World.{World};
-ghost use Rattle.kms_model.specs.ModeBytes.{mode_bytes};
-ghost use Rattle.kms_model.specs.Execution.{make};
-ghost use Rattle.kms_model.specs.OpenThings.{things_after};
+ghost use Rattle.kms_model.specs.Device.ModeBytes.{mode_bytes};
+ghost use Rattle.kms_model.specs.Device.Execution.{make};
+ghost use Rattle.kms_model.specs.Stores.OpenThings.{things_after};
 ghost use Rattle.kms_blobs.specs.Things.{blobs_of};
 
 use kms_model::{Blob, Denied, IdTable, NoMemory, Seq};

@@ -4,10 +4,10 @@ use Rattle.std.specs.Prelude.{not, ◌==◌}
 use Rattle.std.proofs.lemmas.Bool.Decides.{eqb_tells}
 use Rattle.kms_model.specs.declared.stores.Framebuffer.{Framebuffer}
 use Rattle.kms_model.specs.declared.tables.Slot.{Slot}
-use Rattle.kms_model.specs.Tables.{put_in, value_with_id, with_value, without_id, IsRising, AreBelow}
+use Rattle.kms_model.specs.Stores.Tables.{put_in, value_with_id, with_value, without_id, IsRising, AreBelow}
 use Rattle.kms_model.proofs.TableLemmas.{IsRising-with_value, IsRising-without_id, IsRising-push}
-use Rattle.kms_buffers.specs.Within.{AreKept}
-use Rattle.kms_model.specs.Stores.{AreCounted, with_fewer}
+use Rattle.kms_buffers.specs.Within.{AreStored}
+use Rattle.kms_model.specs.Stores.Kept.{AreCounted, with_fewer}
 
 pub counted_at : (fbs : List (Slot Framebuffer)) (id : ℕ) (fb : Framebuffer) → AreCounted fbs → value_with_id fbs id ≡ Some fb → 0 < fb.references
 counted_at [] id fb counted at = absurd (cc at)
@@ -48,15 +48,15 @@ IsRising-with_fewer : (fbs : List (Slot Framebuffer)) (id : ℕ) (fb : Framebuff
 IsRising-with_fewer fbs id fb rising =
     elim (eqb_tells fb.references 0) [ inl none ↦ rw none.0 (IsRising-without_id fbs id rising) | inr some ↦ rw some.0 (IsRising-with_value fbs id fb rising) ]
 
-pub kept-with_fewer : (fbs : List (Slot Framebuffer)) (id : ℕ) (fb : Framebuffer) → AreKept fbs → AreKept (with_fewer fbs id fb)
+pub kept-with_fewer : (fbs : List (Slot Framebuffer)) (id : ℕ) (fb : Framebuffer) → AreStored fbs → AreStored (with_fewer fbs id fb)
 kept-with_fewer fbs id fb kept = record { counted = AreCounted-with_fewer fbs id fb kept.counted; rising = IsRising-with_fewer fbs id fb kept.rising }
 
-pub kept-with_value : (fbs : List (Slot Framebuffer)) (id : ℕ) (fb : Framebuffer) → AreKept fbs → 0 < fb.references → AreKept (with_value fbs id fb)
+pub kept-with_value : (fbs : List (Slot Framebuffer)) (id : ℕ) (fb : Framebuffer) → AreStored fbs → 0 < fb.references → AreStored (with_value fbs id fb)
 kept-with_value fbs id fb kept new = record { counted = AreCounted-with_value fbs id fb kept.counted new; rising = IsRising-with_value fbs id fb kept.rising }
 
 AreCounted-push : (fbs : List (Slot Framebuffer)) (s : Slot Framebuffer) → AreCounted fbs → 0 < s.value.references → AreCounted (fbs ++ s ∷ [])
 AreCounted-push [] s counted new = (new, tt)
 AreCounted-push (t ∷ fbs) s counted new = (counted.0, AreCounted-push fbs s counted.1 new)
 
-pub kept-push : (fbs : List (Slot Framebuffer)) (s : Slot Framebuffer) → AreKept fbs → AreBelow s.id fbs → 0 < s.value.references → AreKept (fbs ++ s ∷ [])
+pub kept-push : (fbs : List (Slot Framebuffer)) (s : Slot Framebuffer) → AreStored fbs → AreBelow s.id fbs → 0 < s.value.references → AreStored (fbs ++ s ∷ [])
 kept-push fbs s kept below new = record { counted = AreCounted-push fbs s kept.counted new; rising = IsRising-push fbs s kept.rising below }

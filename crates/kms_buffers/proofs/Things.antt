@@ -11,10 +11,10 @@ use Rattle.kms_model.specs.declared.stores.Framebuffer.{Framebuffer}
 use Rattle.kms_model.specs.declared.tables.Slot.{Slot}
 use Rattle.kms_model.specs.declared.worlds.Content.TheVariants as content
 use Rattle.kms_model.specs.declared.worlds.World.{World}
-use Rattle.kms_model.specs.OpenThings.{open_value}
-use Rattle.kms_model.specs.Execution.{make}
-use Rattle.kms_model.specs.Stores.{buffer, framebuffer, with_fewer, MayGive}
-use Rattle.kms_model.specs.Tables.{slot, put_in, with_value, without_id, value_with_id, IsRising}
+use Rattle.kms_model.specs.Stores.OpenThings.{open_value}
+use Rattle.kms_model.specs.Device.Execution.{make}
+use Rattle.kms_model.specs.Stores.Kept.{buffer, framebuffer, with_fewer, MayGive}
+use Rattle.kms_model.specs.Stores.Tables.{slot, put_in, with_value, without_id, value_with_id, IsRising}
 use Rattle.kms_model.proofs.OpenLemmas.{without_id-same, without_id-other}
 use Rattle.kms_buffers.specs.Things.{buffer_in, buffers_of, fb_in, open_fbs_of, open_slot, open_fbs}
 

@@ -8,9 +8,9 @@ use Rattle.kms_model.specs.declared.tables.Slot.{Slot}
 use Rattle.kms_model.specs.declared.worlds.Content.{Content}
 use Rattle.kms_model.specs.declared.worlds.Content.TheVariants as content
 use Rattle.kms_model.specs.declared.worlds.Thing.{Thing}
-use Rattle.kms_model.specs.OpenThings.{open_values}
-use Rattle.kms_model.specs.Stores.{buffer, framebuffer}
-use Rattle.kms_model.specs.Tables.{slot}
+use Rattle.kms_model.specs.Stores.OpenThings.{open_values}
+use Rattle.kms_model.specs.Stores.Kept.{buffer, framebuffer}
+use Rattle.kms_model.specs.Stores.Tables.{slot}
 
 -- the buffer that a content is
 abbrev pub buffer_in : ℕ → ℕ → Content → Option (Slot Buffer)

@@ -3,8 +3,8 @@ use Rattle.std.specs.Prelude.{◌≡◌, ℕ, ◌≤◌, List}
 use Rattle.kms_model.specs.declared.stores.Buffer.{Buffer}
 use Rattle.kms_model.specs.declared.tables.Slot.{Slot}
 use Rattle.kms_model.specs.declared.stores.Framebuffer.{Framebuffer}
-use Rattle.kms_model.specs.Stores.{bytes_of, largest_bytes, AreCounted}
-use Rattle.kms_model.specs.Tables.{IsRising}
+use Rattle.kms_model.specs.Stores.Kept.{bytes_of, largest_bytes, AreCounted}
+use Rattle.kms_model.specs.Stores.Tables.{IsRising}
 
 -- this is how many bytes all buffers have, and it is not too many
 pub record IsCounted (bytes : ℕ) (buffers : List (Slot Buffer)) : Type 0 where
@@ -12,6 +12,6 @@ pub record IsCounted (bytes : ℕ) (buffers : List (Slot Buffer)) : Type 0 where
   pub within : bytes ≤ largest_bytes
 
 -- each framebuffer has a reference, and their ids rise
-pub record AreKept (fbs : List (Slot Framebuffer)) : Type 0 where
+pub record AreStored (fbs : List (Slot Framebuffer)) : Type 0 where
   pub counted : AreCounted fbs
   pub rising : IsRising fbs

@@ -3,11 +3,11 @@ ghost use Rattle.std.specs.Prelude.{◌≡◌, ℕ, List, [], ◌∷◌, ◌++�
 ghost use Rattle.kms_model.specs.declared.worlds.Content.TheVariants as content;
 ghost use Rattle.kms_model.specs.declared.worlds.Thing.{Thing};
 ghost use Rattle.kms_model.specs.declared.worlds.World.{World};
-ghost use Rattle.kms_model.specs.Execution.{make};
-ghost use Rattle.kms_model.specs.OpenThings.{things_after};
+ghost use Rattle.kms_model.specs.Device.Execution.{make};
+ghost use Rattle.kms_model.specs.Stores.OpenThings.{things_after};
 ghost use Rattle.kms_buffers.specs.Things.{open_fbs, open_fbs_of};
-ghost use Rattle.kms_model.specs.Tables.{AreBelow, slot, value_with_id, without_id, with_value};
-ghost use Rattle.kms_model.specs.Stores.{framebuffer, MayTake, MayGive, AreCounted, close_answer, fbs_closed, fbs_taken, fbs_given, is_last_of, with_fewer, taken, given, closed, may_close};
+ghost use Rattle.kms_model.specs.Stores.Tables.{AreBelow, slot, value_with_id, without_id, with_value};
+ghost use Rattle.kms_model.specs.Stores.Kept.{framebuffer, MayTake, MayGive, AreCounted, close_answer, fbs_closed, fbs_taken, fbs_given, is_last_of, with_fewer, taken, given, closed, may_close};
 
 use kms_model::{Denied, FbInfo, Framebuffer, IdTable, NoMemory};
 use std::alloc::Global;
@@ -24,13 +24,13 @@ impl Model for FbStore {
     ghost use Rattle.std.specs.Prelude.{List};
     ghost use Rattle.kms_model.specs.declared.tables.Slot.{Slot};
     ghost use Rattle.kms_model.specs.declared.stores.Framebuffer.{Framebuffer};
-    ghost use Rattle.kms_buffers.specs.Within.{AreKept};
+    ghost use Rattle.kms_buffers.specs.Within.{AreStored};
 
     ghost Value = { List (Slot Framebuffer) };
 
     ghost view = { λ s. s.fbs };
 
-    ghost invariant = { λ s. AreKept s.fbs };
+    ghost invariant = { λ s. AreStored s.fbs };
 }
 
 impl FbStore {

@@ -1,7 +1,7 @@
 //! The words of a pattern.
 ghost use Rattle.std.specs.Prelude.{◌≡◌, ◌<◌, ◌≤◌, ◌*◌, ◌+◌, ◌/◌, ◌%◌, ◌==◌, ◌++◌, if◌then◌else◌, IfOk};
-ghost use Rattle.kms_model.specs.Frames.{word_in};
-ghost use Rattle.kms_model.specs.Stores.{Fills, words_of, row_words};
+ghost use Rattle.kms_model.specs.Frames.FrameBytes.{word_in};
+ghost use Rattle.kms_model.specs.Stores.Kept.{Fills, buffer_words, row_words};
 ghost use Rattle.kms_buffers.specs.Places.{HasWord, HasRow};
 
 use kms_model::{Format, NoMemory, Pattern, Seq};
@@ -18,7 +18,7 @@ pub fn words(
     requires wide { width ≤ 4096 }
     requires high { height ≤ 4096 }
     requires fills { Fills pattern.now width height }
-    ensures { IfOk result (λ all. all ≡ words_of pattern.now format width height) }
+    ensures { IfOk result (λ all. all ≡ buffer_words pattern.now format width height) }
 {
     let mut all = Vec::with_capacity(alloc, (width * height) as usize)?;
     for y in 0..height {

@@ -7,12 +7,12 @@ use Rattle.kms_model.specs.declared.sets.Set.{Set}
 use Rattle.kms_model.specs.declared.states.Duplicates.{Duplicates}
 use Rattle.kms_model.specs.declared.worlds.Setting.{Setting}
 use Rattle.kms_model.specs.declared.worlds.Thing.{Thing}
-use Rattle.kms_model.specs.Agreement.{AgreesNew}
-use Rattle.kms_model.specs.Sets.{set_in}
+use Rattle.kms_model.specs.Request.Agreement.{AgreesNew}
+use Rattle.kms_model.specs.Request.Sets.{set_in}
 use Rattle.kms_state.specs.Changes.{Sets}
 use Rattle.kms_state.specs.Places.{is_duplicated, old_states}
 use Rattle.kms_state.proofs.Slots.{same_duplicated}
-use Rattle.kms_check.specs.Applying.{set_all, IsReady, IsNumberedBy, SetsAll}
+use Rattle.kms_check.specs.Applying.{set_all, IsApplicable, IsNumberedBy, SetsAll}
 
 -- New states that agree with values before sets agree, after the first of them, with the values after those.
 abbrev pub SetsFirst : Duplicates → List Set → ℕ → Duplicates → Type 0
@@ -38,7 +38,7 @@ sets-all before after sets k all first = λ t things values number numbered agre
     subst (λ xs. AgreesNew t things (set_all values number xs) after) (take_all k sets (omega arith)) (first t things values number numbered agrees)
 
 -- a set is ready while old states stay
-pub ready-later : (before now : Duplicates) (sets : List Set) (k : ℕ) (d : Set) → k < length sets → All (IsReady before) sets → old_states now ≡ old_states before → IsTrue (is_duplicated now (get_or sets k d).object.0)
+pub ready-later : (before now : Duplicates) (sets : List Set) (k : ℕ) (d : Set) → k < length sets → All (IsApplicable before) sets → old_states now ≡ old_states before → IsTrue (is_duplicated now (get_or sets k d).object.0)
 ready-later before now sets k d within ready same =
-    let here : IsReady before (get_or sets k d) = ready k d within in
+    let here : IsApplicable before (get_or sets k d) = ready k d within in
     same_duplicated before now (get_or sets k d).object.0 same ∙ here.object

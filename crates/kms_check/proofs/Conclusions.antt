@@ -18,20 +18,20 @@ use Rattle.kms_model.specs.declared.states.Duplicates.{Duplicates}
 use Rattle.kms_model.specs.declared.states.Mask.{Mask}
 use Rattle.kms_model.specs.declared.worlds.Look.{Look}
 use Rattle.kms_model.specs.declared.worlds.World.{World}
-use Rattle.kms_model.specs.Apply.{apply, object_of}
-use Rattle.kms_model.specs.Checks.{late_refusal}
+use Rattle.kms_model.specs.Request.Apply.{apply, object_of}
+use Rattle.kms_model.specs.Request.Checks.{late_refusal}
 use Rattle.kms_model.specs.Firsts.{or_else}
-use Rattle.kms_model.specs.Late.{duplicate_at, late_of_states}
-use Rattle.kms_model.specs.Lookups.{look_up}
-use Rattle.kms_model.specs.Masks.{has_bit}
-use Rattle.kms_model.specs.Named.{is_routed, is_named_by, names, moves_on, needs_modeset}
-use Rattle.kms_model.specs.Objects.{object_id, count_of, ids_of}
-use Rattle.kms_model.specs.Resolves.{IsResolved}
-use Rattle.kms_model.specs.Sets.{obj_id, out_fences}
-use Rattle.kms_model.specs.Sound.{IsDevice}
-use Rattle.kms_model.specs.States.{crtc_at}
-use Rattle.kms_model.specs.Touched.{sets, is_remade, named_set, set_where, touched_set, is_asked, out_fence_label}
-use Rattle.kms_model.specs.World.{value}
+use Rattle.kms_model.specs.Request.Late.{duplicate_at, late_of_states}
+use Rattle.kms_model.specs.Request.Lookups.{look_up}
+use Rattle.kms_model.specs.Device.Masks.{has_bit}
+use Rattle.kms_model.specs.Request.Named.{is_routed, is_named_by, names, moves_on, needs_modeset}
+use Rattle.kms_model.specs.Device.Objects.{object_id, count_of, ids_of}
+use Rattle.kms_model.specs.Request.Resolves.{IsResolved}
+use Rattle.kms_model.specs.Request.Sets.{obj_id, out_fences}
+use Rattle.kms_model.specs.Device.Sound.{IsDevice}
+use Rattle.kms_model.specs.Device.States.{crtc_at}
+use Rattle.kms_model.specs.Request.Touched.{sets, is_affected, named_set, set_where, touched_set, is_asked, out_fence_label}
+use Rattle.kms_model.specs.Device.World.{value}
 use Rattle.kms_model.proofs.Items as items
 use Rattle.kms_model.proofs.LateLemmas.{StandAt, Covers, fenced_set, late_of_states-is}
 use Rattle.kms_model.proofs.MaskLemmas.{has_bit-below, same_masks}
@@ -41,9 +41,9 @@ use Rattle.kms_state.specs.Places.{old_states, olds, state_at}
 use Rattle.kms_state.proofs.Slots.{AgreesOld-same, there_old}
 use Rattle.kms_check.specs.Answers.{IsOfRequest, AreFresh, IsAskedFor}
 use Rattle.kms_check.specs.Applying.{set_all, SetsAll}
-use Rattle.kms_check.specs.Groups.{crtcs_fenced, lacking, missing, missing_in, is_empty, objects_set, set_group, named_group, remade_group, remade_below, union, first_lacking}
+use Rattle.kms_check.specs.Groups.{crtcs_fenced, lacking, not_duplicated, missing_in, is_empty, objects_set, set_group, named_group, affected_group, affected_below, union, first_lacking}
 use Rattle.kms_check.proofs.Readiness.{HasRoom, IsCovered, covered, named-covers}
-use Rattle.kms_check.proofs.Remade.{remade-is, touched-is}
+use Rattle.kms_check.proofs.Affected.{affected-is, touched-is}
 use Rattle.kms_check.proofs.RequestFacts.{objects_set-is, request_at, fresh-agrees, shrunk}
 use Rattle.kms_check.proofs.ValuesAfter.{number_in, numbered, value-last_sets, agrees-same}
 
@@ -79,13 +79,13 @@ none-some (Some x) = refl
 missing_in-same : {S : Type 0} (mask : ℕ) (xs ys : List (Option (Both S))) (n : ℕ) → olds xs ≡ olds ys → missing_in mask xs n ≡ missing_in mask ys n
 missing_in-same mask xs ys n same = same_masks _ _ n (λ i h. ap (λ b. has_bit mask i && b) (none-some (duplicate_at xs i) ∙ ap not (there-same xs ys i same) ∙ sym (none-some (duplicate_at ys i))))
 
--- what is missing of a set does not change as sets are applied
+-- what is not_duplicated of a set does not change as sets are applied
 pub lacking-same : (d d' : Duplicates) (m : Mask) → HasRoom d → HasRoom d' → old_states d' ≡ old_states d → lacking d' m ≡ lacking d m
 lacking-same d d' m room room' same =
     let crtcs : missing_in m.crtcs d'.crtcs (length d'.crtcs) ≡ missing_in m.crtcs d.crtcs (length d.crtcs) = missing_in-same m.crtcs d'.crtcs d.crtcs (length d'.crtcs) (ap (λ s. s.crtcs) same) ∙ ap (missing_in m.crtcs d.crtcs) (room'.crtcs ∙ sym room.crtcs) in
     let planes : missing_in m.planes d'.planes (length d'.planes) ≡ missing_in m.planes d.planes (length d.planes) = missing_in-same m.planes d'.planes d.planes (length d'.planes) (ap (λ s. s.planes) same) ∙ ap (missing_in m.planes d.planes) (room'.planes ∙ sym room.planes) in
     let conns : missing_in m.conns d'.conns (length d'.conns) ≡ missing_in m.conns d.conns (length d.conns) = missing_in-same m.conns d'.conns d.conns (length d'.conns) (ap (λ s. s.conns) same) ∙ ap (missing_in m.conns d.conns) (room'.conns ∙ sym room.conns) in
-    let all : missing d' m ≡ missing d m = λ i. record { crtcs = crtcs i; planes = planes i; conns = conns i } in
+    let all : not_duplicated d' m ≡ not_duplicated d m = λ i. record { crtcs = crtcs i; planes = planes i; conns = conns i } in
     ap (λ x. if is_empty x then None else Some x) all
 
 -- The CRTC of a touched plane is touched
@@ -108,11 +108,11 @@ set_plane-names t w r plane crtc at is set on = by_assign (items.list_any-some (
 touched-crtc_of : (t : Topology) (w : World) (r : Request) (plane crtc : ℕ) → IsRequestAt t w r → items.IsIn plane (ids_of t kind.Plane) → crtc_at (after w r) plane ≡ crtc → touches_object t w r plane ≡ true → touches w r crtc ≡ true
 touched-crtc_of t w r plane crtc at is on touched = elim (cases_Bool (sets r.assigns plane)) [
   | inl set ↦ or_right (sets r.assigns crtc) _ (set_plane-names t w r plane crtc at is set on)
-  | inr unset ↦ by_crtc unset (items.list_any-some (λ c. needs_modeset t w.things w.values (after w r) c && moves_on w.values (after w r) c plane) (ids_of t kind.Crtc) (remade_of unset))
+  | inr unset ↦ by_crtc unset (items.list_any-some (λ c. needs_modeset t w.things w.values (after w r) c && moves_on w.values (after w r) c plane) (ids_of t kind.Crtc) (affected_of unset))
 ]
   where
-    remade_of : sets r.assigns plane ≡ false → is_remade t w.things w.values (after w r) plane ≡ true
-    remade_of unset = ap (λ b. b || is_remade t w.things w.values (after w r) plane) (sym unset) ∙ touched
+    affected_of : sets r.assigns plane ≡ false → is_affected t w.things w.values (after w r) plane ≡ true
+    affected_of unset = ap (λ b. b || is_affected t w.things w.values (after w r) plane) (sym unset) ∙ touched
 
     by_crtc : sets r.assigns plane ≡ false → items.Passes (λ c. needs_modeset t w.things w.values (after w r) c && moves_on w.values (after w r) c plane) (ids_of t kind.Crtc) → touches w r crtc ≡ true
     by_crtc unset found =
@@ -132,9 +132,9 @@ group-bit t k test i within holds = has_bit-below (λ j. test (object_id k j)) (
 group-test : (t : Topology) (k : Kind) (test : ℕ → Bool) (i : ℕ) → i < count_of t k → has_bit (set_where t k test) i ≡ true → test (object_id k i) ≡ true
 group-test t k test i within member = sym (has_bit-below (λ j. test (object_id k j)) (count_of t k) i within) ∙ member
 
-pub covers-touched : (t : Topology) (w : World) (r : Request) (d : Duplicates) → IsRequestAt t w r → HasRoom d → IsCovered d (set_group t r) → IsCovered d (named_group t w r) → IsCovered d (remade_group t w r)
+pub covers-touched : (t : Topology) (w : World) (r : Request) (d : Duplicates) → IsRequestAt t w r → HasRoom d → IsCovered d (set_group t r) → IsCovered d (named_group t w r) → IsCovered d (affected_group t w r)
     → Covers t w r d (touched_set t w.things w.values (after w r) r.assigns)
-covers-touched t w r d at room set named remade =
+covers-touched t w r d at room set named affected =
     let few = few_objects t at.device in
     let crtc_there : (i : ℕ) → i < count_of t kind.Crtc → touches w r (object_id kind.Crtc i) ≡ true → is_some (duplicate_at d.crtcs i) ≡ true = λ i within touched. elim (or_cases (sets r.assigns (object_id kind.Crtc i)) (names w.values (after w r) r.assigns (object_id kind.Crtc i)) touched) [
       | inl is_set ↦ set.crtcs i (omega (arith, room.crtcs, few.crtcs)) (group-bit t kind.Crtc (sets r.assigns) i within is_set)
@@ -144,14 +144,14 @@ covers-touched t w r d at room set named remade =
       planes = λ i within touched. group-bit t kind.Plane (touches_object t w r) i within touched;
       crtcs = λ i within touched. group-bit t kind.Crtc (touches w r) i within touched;
       conns = λ i within touched. group-bit t kind.Conn (touches_object t w r) i within touched;
-      has_planes = λ i within member. elim (or_cases (sets r.assigns (object_id kind.Plane i)) (is_remade t w.things w.values (after w r) (object_id kind.Plane i)) (group-test t kind.Plane (touches_object t w r) i within member)) [
+      has_planes = λ i within member. elim (or_cases (sets r.assigns (object_id kind.Plane i)) (is_affected t w.things w.values (after w r) (object_id kind.Plane i)) (group-test t kind.Plane (touches_object t w r) i within member)) [
         | inl is_set ↦ set.planes i (omega (arith, room.planes, few.planes)) (group-bit t kind.Plane (sets r.assigns) i within is_set)
-        | inr is_remade_one ↦ remade.planes i (omega (arith, room.planes, few.planes)) (group-bit t kind.Plane (is_remade t w.things w.values (after w r)) i within is_remade_one)
+        | inr is_affected_one ↦ affected.planes i (omega (arith, room.planes, few.planes)) (group-bit t kind.Plane (is_affected t w.things w.values (after w r)) i within is_affected_one)
       ];
       has_crtcs = λ i within member. crtc_there i within (group-test t kind.Crtc (touches w r) i within member);
-      has_conns = λ i within member. elim (or_cases (sets r.assigns (object_id kind.Conn i)) (is_remade t w.things w.values (after w r) (object_id kind.Conn i)) (group-test t kind.Conn (touches_object t w r) i within member)) [
+      has_conns = λ i within member. elim (or_cases (sets r.assigns (object_id kind.Conn i)) (is_affected t w.things w.values (after w r) (object_id kind.Conn i)) (group-test t kind.Conn (touches_object t w r) i within member)) [
         | inl is_set ↦ set.conns i (omega (arith, room.conns, few.conns)) (group-bit t kind.Conn (sets r.assigns) i within is_set)
-        | inr is_remade_one ↦ remade.conns i (omega (arith, room.conns, few.conns)) (group-bit t kind.Conn (is_remade t w.things w.values (after w r)) i within is_remade_one)
+        | inr is_affected_one ↦ affected.conns i (omega (arith, room.conns, few.conns)) (group-bit t kind.Conn (is_affected t w.things w.values (after w r)) i within is_affected_one)
       ];
       has_crtc_of = λ i j within member below on. crtc_there j below (touched-crtc_of t w r (object_id kind.Plane i) (object_id kind.Crtc j) at (items.ids-has t kind.Plane i within) on (group-test t kind.Plane (touches_object t w r) i within member));
     }
@@ -221,13 +221,13 @@ pub asked-lacking : (t : Topology) (resolved : Resolved) (d : Duplicates) (sets_
 asked-lacking t resolved d sets_read set found device asked = set-lacking-asked t asked.names asked.request resolved d sets_read set found device asked.asks
 
 pub first-set : (t : Topology) (w : World) (r : Request) (d : Duplicates) (locks : Mask) → lacking d (set_group t r) ≡ Some locks → Some locks ≡ first_lacking t w r d
-first-set t w r d locks lacks = sym (ap (λ o. or_else o (or_else (lacking d (named_group t w r)) (lacking d (remade_group t w r)))) lacks)
+first-set t w r d locks lacks = sym (ap (λ o. or_else o (or_else (lacking d (named_group t w r)) (lacking d (affected_group t w r)))) lacks)
 
 pub first-named : (t : Topology) (w : World) (r : Request) (d : Duplicates) (locks : Mask) → lacking d (set_group t r) ≡ None → lacking d (named_group t w r) ≡ Some locks → Some locks ≡ first_lacking t w r d
-first-named t w r d locks none lacks = sym (ap (λ o. or_else o (or_else (lacking d (named_group t w r)) (lacking d (remade_group t w r)))) none ∙ ap (λ o. or_else o (lacking d (remade_group t w r))) lacks)
+first-named t w r d locks none lacks = sym (ap (λ o. or_else o (or_else (lacking d (named_group t w r)) (lacking d (affected_group t w r)))) none ∙ ap (λ o. or_else o (lacking d (affected_group t w r))) lacks)
 
-pub first-remade : (t : Topology) (w : World) (r : Request) (d : Duplicates) (found : Option Mask) → lacking d (set_group t r) ≡ None → lacking d (named_group t w r) ≡ None → lacking d (remade_group t w r) ≡ found → found ≡ first_lacking t w r d
-first-remade t w r d found none none_named lacks = sym (ap (λ o. or_else o (or_else (lacking d (named_group t w r)) (lacking d (remade_group t w r)))) none ∙ ap (λ o. or_else o (lacking d (remade_group t w r))) none_named ∙ lacks)
+pub first-affected : (t : Topology) (w : World) (r : Request) (d : Duplicates) (found : Option Mask) → lacking d (set_group t r) ≡ None → lacking d (named_group t w r) ≡ None → lacking d (affected_group t w r) ≡ found → found ≡ first_lacking t w r d
+first-affected t w r d found none none_named lacks = sym (ap (λ o. or_else o (or_else (lacking d (named_group t w r)) (lacking d (affected_group t w r)))) none ∙ ap (λ o. or_else o (lacking d (affected_group t w r))) none_named ∙ lacks)
 
 -- what is asked for and what is refused exclude one another
 pub asked-first : {A : Type 0} (locks : Mask) (first : Option Mask) (a b : Option A) → Some locks ≡ first → first ≡ None → a ≡ b
@@ -261,35 +261,35 @@ pub record HasApplied (t : Topology) (w : World) (r : Request) (resolved : Resol
   pub stand : StandAt t w r d'
   pub same : old_states d' ≡ old_states d
 
-pub remade-lacking : (t : Topology) (w : World) (r : Request) (resolved : Resolved) (d d' : Duplicates) (named : ℕ) (remade : Mask) (found : Option Mask) → HasApplied t w r resolved d d' named → remade ≡ remade_below d'.crtcs named 4 → found ≡ lacking d' remade
-    → lacking d (remade_group t w r) ≡ found
-remade-lacking t w r resolved d d' named remade found has made lacks =
+pub affected-lacking : (t : Topology) (w : World) (r : Request) (resolved : Resolved) (d d' : Duplicates) (named : ℕ) (affected : Mask) (found : Option Mask) → HasApplied t w r resolved d d' named → affected ≡ affected_below d'.crtcs named 4 → found ≡ lacking d' affected
+    → lacking d (affected_group t w r) ≡ found
+affected-lacking t w r resolved d d' named affected found has made lacks =
     let covers_named : IsCovered d' (named_group t w r) = covered d' (named_group t w r) (lacking-same d d' (named_group t w r) has.has.room has.room has.same ∙ has.none) in
-    let known : remade ≡ remade_group t w r = made ∙ ap (λ n. remade_below d'.crtcs n 4) has.named_is ∙ remade-is t w r d' has.stand (named-there t w r d' has.stand.at has.room covers_named) in
-    sym (lacking-same d d' (remade_group t w r) has.has.room has.room has.same) ∙ ap (lacking d') (sym known) ∙ sym lacks
+    let known : affected ≡ affected_group t w r = made ∙ ap (λ n. affected_below d'.crtcs n 4) has.named_is ∙ affected-is t w r d' has.stand (named-there t w r d' has.stand.at has.room covers_named) in
+    sym (lacking-same d d' (affected_group t w r) has.has.room has.room has.same) ∙ ap (lacking d') (sym known) ∙ sym lacks
 
-pub remade-known : (t : Topology) (w : World) (r : Request) (resolved : Resolved) (d d' : Duplicates) (named : ℕ) (remade : Mask) → HasApplied t w r resolved d d' named → remade ≡ remade_below d'.crtcs named 4 → remade ≡ remade_group t w r
-remade-known t w r resolved d d' named remade has made =
+pub affected-known : (t : Topology) (w : World) (r : Request) (resolved : Resolved) (d d' : Duplicates) (named : ℕ) (affected : Mask) → HasApplied t w r resolved d d' named → affected ≡ affected_below d'.crtcs named 4 → affected ≡ affected_group t w r
+affected-known t w r resolved d d' named affected has made =
     let covers_named : IsCovered d' (named_group t w r) = covered d' (named_group t w r) (lacking-same d d' (named_group t w r) has.has.room has.room has.same ∙ has.none) in
-    made ∙ ap (λ n. remade_below d'.crtcs n 4) has.named_is ∙ remade-is t w r d' has.stand (named-there t w r d' has.stand.at has.room covers_named)
+    made ∙ ap (λ n. affected_below d'.crtcs n 4) has.named_is ∙ affected-is t w r d' has.stand (named-there t w r d' has.stand.at has.room covers_named)
 
 -- The states that are looked at cover what the request touches.
-pub all-covered : (t : Topology) (w : World) (r : Request) (resolved : Resolved) (d d' : Duplicates) (named : ℕ) → HasApplied t w r resolved d d' named → lacking d (remade_group t w r) ≡ None → Covers t w r d' (touched_set t w.things w.values (after w r) r.assigns)
+pub all-covered : (t : Topology) (w : World) (r : Request) (resolved : Resolved) (d d' : Duplicates) (named : ℕ) → HasApplied t w r resolved d d' named → lacking d (affected_group t w r) ≡ None → Covers t w r d' (touched_set t w.things w.values (after w r) r.assigns)
 all-covered t w r resolved d d' named has none =
     covers-touched t w r d' has.stand.at has.room
     (covered d' (set_group t r) (lacking-same d d' (set_group t r) has.has.room has.room has.same ∙ has.has.none))
     (covered d' (named_group t w r) (lacking-same d d' (named_group t w r) has.has.room has.room has.same ∙ has.none))
-    (covered d' (remade_group t w r) (lacking-same d d' (remade_group t w r) has.has.room has.room has.same ∙ none))
+    (covered d' (affected_group t w r) (lacking-same d d' (affected_group t w r) has.has.room has.room has.same ∙ none))
 
 -- what is looked at is what the request touches
-pub touched-known : (t : Topology) (w : World) (r : Request) (set crtcs both remade touched : Mask) (named : ℕ) → set ≡ set_group t r → named ≡ named_set t w.values (after w r) r.assigns → crtcs ≡ record { crtcs = named; planes = 0; conns = 0 } → remade ≡ remade_group t w r
-    → both ≡ union set crtcs → touched ≡ union both remade → touched ≡ touched_set t w.things w.values (after w r) r.assigns
-touched-known t w r set crtcs both remade touched named set_is named_is crtcs_is remade_is both_is touched_is =
-    touched_is ∙ ap (λ m. union m remade) both_is ∙ ap (λ m. union (union m crtcs) remade) set_is ∙ ap (λ m. union (union (set_group t r) m) remade) crtcs_is
-    ∙ ap (λ n. union (union (set_group t r) (record { crtcs = n; planes = 0; conns = 0 })) remade) named_is ∙ ap (union (union (set_group t r) (named_group t w r))) remade_is ∙ touched-is t w r
+pub touched-known : (t : Topology) (w : World) (r : Request) (set crtcs both affected touched : Mask) (named : ℕ) → set ≡ set_group t r → named ≡ named_set t w.values (after w r) r.assigns → crtcs ≡ record { crtcs = named; planes = 0; conns = 0 } → affected ≡ affected_group t w r
+    → both ≡ union set crtcs → touched ≡ union both affected → touched ≡ touched_set t w.things w.values (after w r) r.assigns
+touched-known t w r set crtcs both affected touched named set_is named_is crtcs_is affected_is both_is touched_is =
+    touched_is ∙ ap (λ m. union m affected) both_is ∙ ap (λ m. union (union m crtcs) affected) set_is ∙ ap (λ m. union (union (set_group t r) m) affected) crtcs_is
+    ∙ ap (λ n. union (union (set_group t r) (record { crtcs = n; planes = 0; conns = 0 })) affected) named_is ∙ ap (union (union (set_group t r) (named_group t w r))) affected_is ∙ touched-is t w r
 
 -- The first refusal that is found is that of the whole device.
-pub refusal-known : (t : Topology) (w : World) (r : Request) (resolved : Resolved) (d d' : Duplicates) (named fenced : ℕ) (touched : Mask) (fences : List (ObjId × ℕ)) (found : Option ℕ) → HasApplied t w r resolved d d' named → lacking d (remade_group t w r) ≡ None
+pub refusal-known : (t : Topology) (w : World) (r : Request) (resolved : Resolved) (d d' : Duplicates) (named fenced : ℕ) (touched : Mask) (fences : List (ObjId × ℕ)) (found : Option ℕ) → HasApplied t w r resolved d d' named → lacking d (affected_group t w r) ≡ None
     → touched ≡ touched_set t w.things w.values (after w r) r.assigns → fences ≡ resolved.out_fences → fenced ≡ crtcs_fenced fences → found ≡ late_of_states t d' touched resolved.flags named fenced
     → found ≡ late_refusal t w.things w.values (after w r) r
 refusal-known t w r resolved d d' named fenced touched fences found has none touched_is read fenced_made found_is =

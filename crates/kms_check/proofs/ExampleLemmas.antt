@@ -5,13 +5,13 @@ use Rattle.std.proofs.lemmas.Bool.{cases_Bool}
 use Rattle.kms_model.specs.declared.states.Both.{Both}
 use Rattle.kms_model.specs.declared.worlds.Look.{Look}
 use Rattle.kms_model.specs.declared.worlds.Thing.{Thing}
-use Rattle.kms_model.specs.Agreement.{AgreesOld, AreOld}
-use Rattle.kms_model.specs.Checks.{late_refusal, plane_refusal, shown_refusal}
-use Rattle.kms_model.specs.Lookups.{look_of, look_up}
+use Rattle.kms_model.specs.Request.Agreement.{AgreesOld, AreOld}
+use Rattle.kms_model.specs.Request.Checks.{late_refusal, plane_refusal, shown_refusal}
+use Rattle.kms_model.specs.Request.Lookups.{look_of, look_up}
 use Rattle.kms_model.specs.declared.pictures.Rect.{Rect}
-use Rattle.kms_model.specs.Masks.{mask_below}
-use Rattle.kms_model.specs.Sets.{look_in}
-use Rattle.kms_model.specs.Sound.{IsDevice, IsSound}
+use Rattle.kms_model.specs.Device.Masks.{mask_below}
+use Rattle.kms_model.specs.Request.Sets.{look_in}
+use Rattle.kms_model.specs.Device.Sound.{IsDevice, IsSound}
 use Rattle.kms_check.specs.Answers.{AreFresh, AreFreshIn}
 use Rattle.kms_check.specs.Example.{alike, conn, crtc, device, if_given, plane, states, things, world_of}
 

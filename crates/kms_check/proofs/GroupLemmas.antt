@@ -7,11 +7,11 @@ use Rattle.std.proofs.lemmas.Bool.{ne_eqb}
 use Rattle.std.proofs.lemmas.Bool.Decides.{nat_tests}
 use Rattle.std.proofs.lemmas.List.Folds.{list_any_more}
 use Rattle.std.proofs.lemmas.Nat.{pow_pos, pow_below, one_shl, or_lt}
-use Rattle.kms_model.specs.Late.{duplicate_in}
-use Rattle.kms_model.specs.Masks.{has_bit, mask_below}
+use Rattle.kms_model.specs.Request.Late.{duplicate_in}
+use Rattle.kms_model.specs.Device.Masks.{has_bit, mask_below}
 use Rattle.kms_model.proofs.MaskLemmas.{has_bit-below, mask_below-lt, mask_from, mask_more, mask_no_more, same_masks}
 use Rattle.kms_model.proofs.UnionLemmas.{has_bit-one, has_bit-zero, has_bit-or}
-use Rattle.kms_check.specs.Groups.{remade_below, remade_with, union}
+use Rattle.kms_check.specs.Groups.{affected_below, affected_with, union}
 
 -- the tests of two sets, of which one object passes one
 pub or_masks : (f g : ℕ → Bool) (n : ℕ) → bit_or (mask_below f n) (mask_below g n) ≡ mask_below (λ i. f i || g i) n
@@ -49,9 +49,9 @@ bit-more test n wide = go (test n) refl
     go false is = or_zero_r (mask_below test n) ∙ mask_no_more test n is
 
 -- one CRTC more
-pub remade-more : (crtcs : _) (named n : ℕ) → union (remade_below crtcs named n) (remade_with (duplicate_in named crtcs n)) ≡ remade_below crtcs named (n + 1)
-unfolding remade_below
-remade-more crtcs named n = rw (add-one n) refl
+pub affected-more : (crtcs : _) (named n : ℕ) → union (affected_below crtcs named n) (affected_with (duplicate_in named crtcs n)) ≡ affected_below crtcs named (n + 1)
+unfolding affected_below
+affected-more crtcs named n = rw (add-one n) refl
 
 -- no object yet
 pub none_yet : (n : ℕ) → 0 ≡ mask_below (λ i. false) n

@@ -4,6 +4,6 @@ pub mod ExampleLemmas
 pub mod GroupLemmas
 pub mod PlaneRanges
 pub mod Readiness
-pub mod Remade
+pub mod Affected
 pub mod RequestFacts
 pub mod ValuesAfter

@@ -16,20 +16,20 @@ use Rattle.kms_model.specs.declared.states.Both.{Both}
 use Rattle.kms_model.specs.declared.states.Duplicates.{Duplicates}
 use Rattle.kms_model.specs.declared.states.PlaneState.{PlaneState}
 use Rattle.kms_model.specs.declared.worlds.World.{World}
-use Rattle.kms_model.specs.Agreement.{AgreesOld}
-use Rattle.kms_model.specs.Late.{ArePlanesInRange, duplicate_at}
-use Rattle.kms_model.specs.Masks.{has_bit}
-use Rattle.kms_model.specs.Objects.{count_of, object_id}
-use Rattle.kms_model.specs.SetRanges.{may_set}
-use Rattle.kms_model.specs.Sound.{IsBetween, IsPlaneInRange, IsSound}
-use Rattle.kms_model.specs.States.{natural}
+use Rattle.kms_model.specs.Request.Agreement.{AgreesOld}
+use Rattle.kms_model.specs.Request.Late.{ArePlanesInRange, duplicate_at}
+use Rattle.kms_model.specs.Device.Masks.{has_bit}
+use Rattle.kms_model.specs.Device.Objects.{count_of, object_id}
+use Rattle.kms_model.specs.Request.SetRanges.{may_set}
+use Rattle.kms_model.specs.Device.Sound.{IsBetween, IsPlaneInRange, IsSound}
+use Rattle.kms_model.specs.Device.States.{natural}
 use Rattle.kms_model.proofs.LateLemmas.{flatten-some}
 use Rattle.kms_model.proofs.StateLemmas.{natural-held, sound-plane_in_range}
 use Rattle.kms_state.specs.Changes.{Sets, after_crtc, after_number, after_set, after_value, changed, plane_with}
 use Rattle.kms_state.specs.Places.{kind_of}
 use Rattle.kms_state.proofs.Slots.{AreNew-changed}
 use Rattle.kms_check.specs.Answers.{AreFresh}
-use Rattle.kms_check.specs.Applying.{HasPlanesInRange, IsReady}
+use Rattle.kms_check.specs.Applying.{HasPlanesInRange, IsApplicable}
 
 -- Numbers
 
@@ -157,7 +157,7 @@ set-in_range : (m : ℕ) (d after : Duplicates) (s : Set) → after ≡ after_se
 set-in_range m d after s is may before = subst (HasPlanesInRange m) (sym is) (value-after m d s.object.0 s.prop s.value may before)
 
 -- the same of one of several sets that are ready (which one it is, its law tells)
-pub ready-in_range : (m : ℕ) (before now after : Duplicates) (sets : List Set) (k : ℕ) (d : Set) → Sets now (get_or sets k d) after → k < length sets → All (IsReady before) sets → after ≡ after_set now (get_or sets k d) → HasPlanesInRange m now → HasPlanesInRange m after
+pub ready-in_range : (m : ℕ) (before now after : Duplicates) (sets : List Set) (k : ℕ) (d : Set) → Sets now (get_or sets k d) after → k < length sets → All (IsApplicable before) sets → after ≡ after_set now (get_or sets k d) → HasPlanesInRange m now → HasPlanesInRange m after
 ready-in_range m before now after sets k d law within ready is held = set-in_range m now after (get_or sets k d) is (ready k d within).value held
 
 -- What a check looks at

@@ -14,17 +14,17 @@ use Rattle.kms_model.specs.declared.states.Duplicates.{Duplicates}
 use Rattle.kms_model.specs.declared.states.Mask.{Mask}
 use Rattle.kms_model.specs.declared.worlds.Look.{Look}
 use Rattle.kms_model.specs.declared.worlds.World.{World}
-use Rattle.kms_model.specs.Apply.{object_of, prop_of}
-use Rattle.kms_model.specs.Late.{duplicate_at}
-use Rattle.kms_model.specs.Lookups.{look_up}
-use Rattle.kms_model.specs.Masks.{has_bit}
-use Rattle.kms_model.specs.Objects.{first_id, object_id, count_of}
-use Rattle.kms_model.specs.Properties.{keeps_limits}
-use Rattle.kms_model.specs.Resolves.{IsPlaced, IsResolved}
-use Rattle.kms_model.specs.SetRanges.{may_set}
-use Rattle.kms_model.specs.Sets.{set_value}
-use Rattle.kms_model.specs.Sound.{IsDevice}
-use Rattle.kms_model.specs.Touched.{sets, set_where}
+use Rattle.kms_model.specs.Request.Apply.{object_of, prop_of}
+use Rattle.kms_model.specs.Request.Late.{duplicate_at}
+use Rattle.kms_model.specs.Request.Lookups.{look_up}
+use Rattle.kms_model.specs.Device.Masks.{has_bit}
+use Rattle.kms_model.specs.Device.Objects.{first_id, object_id, count_of}
+use Rattle.kms_model.specs.Device.Properties.{keeps_limits}
+use Rattle.kms_model.specs.Request.Resolves.{HasPlace, IsResolved}
+use Rattle.kms_model.specs.Request.SetRanges.{may_set}
+use Rattle.kms_model.specs.Request.Sets.{set_value}
+use Rattle.kms_model.specs.Device.Sound.{IsDevice}
+use Rattle.kms_model.specs.Request.Touched.{sets, set_where}
 use Rattle.kms_model.proofs.Items as items
 use Rattle.kms_model.proofs.LastLemmas.{IsIn}
 use Rattle.kms_model.proofs.MaskLemmas.{has_bit-below}
@@ -35,11 +35,11 @@ use Rattle.kms_model.proofs.UnionLemmas.{has_bit-zero}
 use Rattle.kms_request.specs.Naming as naming
 use Rattle.kms_state.specs.Places.{is_duplicated, is_duplicated_of, kind_of, state_of}
 use Rattle.kms_check.specs.Answers.{IsOfRequest}
-use Rattle.kms_check.specs.Applying.{IsReady}
-use Rattle.kms_check.specs.Groups.{is_empty, lacking, missing, missing_in, set_group}
+use Rattle.kms_check.specs.Applying.{IsApplicable}
+use Rattle.kms_check.specs.Groups.{is_empty, lacking, not_duplicated, missing_in, set_group}
 use Rattle.kms_check.proofs.RequestFacts.{all-from, IsFromAssign, from_assign}
 
--- Nothing is missing
+-- Nothing is not_duplicated
 
 some_or_none : {A : Type 0} (o : Option A) → is_none o ≡ false → is_some o ≡ true
 some_or_none None none = absurd cc
@@ -57,17 +57,17 @@ pub record IsCovered (d : Duplicates) (m : Mask) : Type 0 where
   pub conns : (i : ℕ) → i < length d.conns → has_bit m.conns i ≡ true → is_some (duplicate_at d.conns i) ≡ true
 
 pub covered : (d : Duplicates) (m : Mask) → lacking d m ≡ None → IsCovered d m
-covered d m none = go (is_empty (missing d m)) refl none
+covered d m none = go (is_empty (not_duplicated d m)) refl none
   where
-    go : (b : Bool) → is_empty (missing d m) ≡ b → (if b then None else Some (missing d m)) ≡ None → IsCovered d m
+    go : (b : Bool) → is_empty (not_duplicated d m) ≡ b → (if b then None else Some (not_duplicated d m)) ≡ None → IsCovered d m
     go false empty is = absurd cc
     go true empty is =
-        let crtcs = and_parts ((missing d m).crtcs == 0) _ empty in
-        let rest = and_parts ((missing d m).planes == 0) ((missing d m).conns == 0) crtcs.1 in
+        let crtcs = and_parts ((not_duplicated d m).crtcs == 0) _ empty in
+        let rest = and_parts ((not_duplicated d m).planes == 0) ((not_duplicated d m).conns == 0) crtcs.1 in
         record {
-          crtcs = λ i within member. missing-none m.crtcs d.crtcs (length d.crtcs) i (eqb-true (missing d m).crtcs 0 crtcs.0) within member;
-          planes = λ i within member. missing-none m.planes d.planes (length d.planes) i (eqb-true (missing d m).planes 0 rest.0) within member;
-          conns = λ i within member. missing-none m.conns d.conns (length d.conns) i (eqb-true (missing d m).conns 0 rest.1) within member;
+          crtcs = λ i within member. missing-none m.crtcs d.crtcs (length d.crtcs) i (eqb-true (not_duplicated d m).crtcs 0 crtcs.0) within member;
+          planes = λ i within member. missing-none m.planes d.planes (length d.planes) i (eqb-true (not_duplicated d m).planes 0 rest.0) within member;
+          conns = λ i within member. missing-none m.conns d.conns (length d.conns) i (eqb-true (not_duplicated d m).conns 0 rest.1) within member;
         }
 
 -- duplicates have room for every object of a device
@@ -132,7 +132,7 @@ set_duplicated t r d kind.Enc i covers room limits within routed set = absurd (r
 limits_of : (t : Topology) → IsDevice t → IsTrue (keeps_limits t)
 limits_of t device = (and_parts (keeps_limits t) _ device.legal).0
 
-not_encoder : (k : Kind) (i : ℕ) → IsPlaced k i → k ≢ kind.Enc
+not_encoder : (k : Kind) (i : ℕ) → HasPlace k i → k ≢ kind.Enc
 not_encoder kind.Crtc i placed = λ e. cc
 not_encoder kind.Plane i placed = λ e. cc
 not_encoder kind.Conn i placed = λ e. cc
@@ -167,8 +167,8 @@ set_object t f r resolved d s device asks room covers member =
       duplicated = set_duplicated t r d a.kind a.index covers room (limits_of t device) within routed set;
     }
 
-pub ready : (t : Topology) (f : ℕ → Look) (r : Request) (resolved : Resolved) (d : Duplicates) → IsDevice t → IsResolved t f r resolved → HasRoom d → IsCovered d (set_group t r) → All (IsReady d) resolved.sets
-ready t f r resolved d device asks room covers = all-from (IsReady d) resolved.sets (λ s member.
+pub ready : (t : Topology) (f : ℕ → Look) (r : Request) (resolved : Resolved) (d : Duplicates) → IsDevice t → IsResolved t f r resolved → HasRoom d → IsCovered d (set_group t r) → All (IsApplicable d) resolved.sets
+ready t f r resolved d device asks room covers = all-from (IsApplicable d) resolved.sets (λ s member.
     let o : IsSetObject t d s = set_object t f r resolved d s device asks room covers member in
     let from : IsFromAssign t f r s = from_assign t f r s asks.accepted (subst (IsIn s) asks.sets member) in
     let a = from.assign in

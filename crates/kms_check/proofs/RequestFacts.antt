@@ -14,15 +14,15 @@ use Rattle.kms_model.specs.declared.states.Both.{Both}
 use Rattle.kms_model.specs.declared.states.Duplicates.{Duplicates}
 use Rattle.kms_model.specs.declared.worlds.Look.{Look}
 use Rattle.kms_model.specs.declared.worlds.World.{World}
-use Rattle.kms_model.specs.Agreement.{AreOld, AreNew, AgreesNew}
-use Rattle.kms_model.specs.Apply.{object_of}
-use Rattle.kms_model.specs.Masks.{mask_below}
-use Rattle.kms_model.specs.Objects.{first_id, object_id, count_of}
-use Rattle.kms_model.specs.Refusals.{early_refusal}
-use Rattle.kms_model.specs.Resolves.{IsAllowed, IsResolved}
-use Rattle.kms_model.specs.Sets.{has_target_of, last_sets, set_of}
-use Rattle.kms_model.specs.Sound.{IsDevice}
-use Rattle.kms_model.specs.Touched.{sets, set_where}
+use Rattle.kms_model.specs.Request.Agreement.{AreOld, AreNew, AgreesNew}
+use Rattle.kms_model.specs.Request.Apply.{object_of}
+use Rattle.kms_model.specs.Device.Masks.{mask_below}
+use Rattle.kms_model.specs.Device.Objects.{first_id, object_id, count_of}
+use Rattle.kms_model.specs.Request.Refusals.{early_refusal}
+use Rattle.kms_model.specs.Request.Resolves.{IsAllowed, IsResolved}
+use Rattle.kms_model.specs.Request.Sets.{has_target_of, last_sets, set_of}
+use Rattle.kms_model.specs.Device.Sound.{IsDevice}
+use Rattle.kms_model.specs.Request.Touched.{sets, set_where}
 use Rattle.kms_model.proofs.CrtcLemmas.{all_in}
 use Rattle.kms_model.proofs.Items as items
 use Rattle.kms_model.proofs.LastLemmas.{IsIn, FromLast, from_last, IsLast}

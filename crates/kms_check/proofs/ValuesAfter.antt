@@ -16,14 +16,14 @@ use Rattle.kms_model.specs.declared.worlds.Look.{Look}
 use Rattle.kms_model.specs.declared.worlds.Setting.{Setting}
 use Rattle.kms_model.specs.declared.worlds.Thing.{Thing}
 use Rattle.kms_model.specs.declared.worlds.World.{World}
-use Rattle.kms_model.specs.Agreement.{AgreesNew, StandsFor}
-use Rattle.kms_model.specs.Apply.{apply, assign, number_of, object_of, prop_of, is_kept}
-use Rattle.kms_model.specs.Lookups.{look_up}
-use Rattle.kms_model.specs.Objects.{first_id, object_id, count_of, exists}
-use Rattle.kms_model.specs.Sets.{has_target_of, last_sets, set_in, set_value}
-use Rattle.kms_model.specs.States.{natural, plane_from, mode_of}
-use Rattle.kms_model.specs.Touched.{last_value, set_where}
-use Rattle.kms_model.specs.World.{value, put, thing_numbered}
+use Rattle.kms_model.specs.Request.Agreement.{AgreesNew, StandsFor}
+use Rattle.kms_model.specs.Request.Apply.{apply, assign, number_of, object_of, prop_of, is_kept}
+use Rattle.kms_model.specs.Request.Lookups.{look_up}
+use Rattle.kms_model.specs.Device.Objects.{first_id, object_id, count_of, exists}
+use Rattle.kms_model.specs.Request.Sets.{has_target_of, last_sets, set_in, set_value}
+use Rattle.kms_model.specs.Device.States.{natural, plane_from, mode_of}
+use Rattle.kms_model.specs.Request.Touched.{last_value, set_where}
+use Rattle.kms_model.specs.Device.World.{value, put, thing_numbered}
 use Rattle.kms_model.proofs.AppliedValues.{value-put}
 use Rattle.kms_model.proofs.ApplyLemmas.{number_or, value-apply}
 use Rattle.kms_model.proofs.LastLemmas.{IsIn}
@@ -170,7 +170,7 @@ stands-unkept things f q v z loses = elim (or_cases (q == IN_FENCE_FD) (q == OUT
   | inr out_fence ↦ subst (λ p. StandsFor things (set_value f p v) z) (sym (eqb-true q OUT_FENCE_PTR out_fence)) tt
 ]
 
-has_object : (t : Topology) (k : Kind) (i id : ℕ) → Rattle.kms_model.specs.Sound.IsDevice t → id ≡ object_id k i → i < count_of t k → i < 16 → HasObject t id
+has_object : (t : Topology) (k : Kind) (i id : ℕ) → Rattle.kms_model.specs.Device.Sound.IsDevice t → id ≡ object_id k i → i < count_of t k → i < 16 → HasObject t id
 has_object t k i id device same within few = record {
   planes = (few_objects t device).planes;
   conns = (few_objects t device).conns;

@@ -9,12 +9,12 @@ use Rattle.kms_model.specs.declared.states.Duplicates.{Duplicates}
 use Rattle.kms_model.specs.declared.states.Mask.{Mask}
 use Rattle.kms_model.specs.declared.worlds.Look.{Look}
 use Rattle.kms_model.specs.declared.worlds.World.{World}
-use Rattle.kms_model.specs.Agreement.{AgreesOld, AgreesNew}
-use Rattle.kms_model.specs.Apply.{apply}
-use Rattle.kms_model.specs.Lookups.{look_up}
-use Rattle.kms_model.specs.Resolves.{IsResolved}
-use Rattle.kms_model.specs.Sound.{IsDevice, IsSound}
-use Rattle.kms_model.specs.Touched.{named_set, touched_set}
+use Rattle.kms_model.specs.Request.Agreement.{AgreesOld, AgreesNew}
+use Rattle.kms_model.specs.Request.Apply.{apply}
+use Rattle.kms_model.specs.Request.Lookups.{look_up}
+use Rattle.kms_model.specs.Request.Resolves.{IsResolved}
+use Rattle.kms_model.specs.Device.Sound.{IsDevice, IsSound}
+use Rattle.kms_model.specs.Request.Touched.{named_set, touched_set}
 use Rattle.kms_check.specs.declared.checking.Refused.{Refused}
 use Rattle.kms_check.specs.declared.checking.Refused.TheVariants.{Of, MoreLocks}
 

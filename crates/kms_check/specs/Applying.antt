@@ -7,10 +7,10 @@ use Rattle.kms_model.specs.declared.states.Duplicates.{Duplicates}
 use Rattle.kms_model.specs.declared.states.PlaneState.{PlaneState}
 use Rattle.kms_model.specs.declared.worlds.Setting.{Setting}
 use Rattle.kms_model.specs.declared.worlds.Thing.{Thing}
-use Rattle.kms_model.specs.Agreement.{AgreesNew, StandsFor}
-use Rattle.kms_model.specs.SetRanges.{may_set}
-use Rattle.kms_model.specs.Sets.{set_in}
-use Rattle.kms_model.specs.Sound.{IsPlaneInRange}
+use Rattle.kms_model.specs.Request.Agreement.{AgreesNew, StandsFor}
+use Rattle.kms_model.specs.Request.SetRanges.{may_set}
+use Rattle.kms_model.specs.Request.Sets.{set_in}
+use Rattle.kms_model.specs.Device.Sound.{IsPlaneInRange}
 use Rattle.kms_state.specs.Changes.{HasObject}
 use Rattle.kms_state.specs.Places.{is_duplicated, kind_of}
 
@@ -20,7 +20,7 @@ set_all values number [] = values
 set_all values number (s ∷ sets) = set_all (set_in values s (number s)) number sets
 
 -- a set can be applied to duplicates: its object is duplicated, and the property may be set to the value
-pub record IsReady (d : Duplicates) (s : Set) : Type 0 where
+pub record IsApplicable (d : Duplicates) (s : Set) : Type 0 where
   pub object : IsTrue (is_duplicated d s.object.0)
   pub value : IsTrue (may_set (kind_of s.object.0) s.prop s.value)
 

@@ -21,11 +21,11 @@ use Rattle.kms_model.specs.declared.states.ConnState.{ConnState}
 use Rattle.kms_model.specs.declared.states.CrtcState.{CrtcState}
 use Rattle.kms_model.specs.declared.states.Duplicates.{Duplicates}
 use Rattle.kms_model.specs.declared.states.PlaneState.{PlaneState}
-use Rattle.kms_model.specs.Agreement.{conn_state_at, crtc_state_at}
-use Rattle.kms_model.specs.Apply.{apply}
-use Rattle.kms_model.specs.Objects.{object_id}
-use Rattle.kms_model.specs.States.{plane_at}
-use Rattle.kms_model.specs.World.{start}
+use Rattle.kms_model.specs.Request.Agreement.{conn_state_at, crtc_state_at}
+use Rattle.kms_model.specs.Request.Apply.{apply}
+use Rattle.kms_model.specs.Device.Objects.{object_id}
+use Rattle.kms_model.specs.Device.States.{plane_at}
+use Rattle.kms_model.specs.Device.World.{start}
 
 abbrev pub plane_of : ℕ → PlaneInfo
 plane_of crtcs = record { kind = 1; crtcs = crtcs; formats = 1 }

@@ -2,15 +2,15 @@
 ghost use Rattle.std.specs.Prelude.{◌≡◌, None, IfOk};
 ghost use Rattle.kms_model.specs.declared.scripts.Request.{Request};
 ghost use Rattle.kms_model.specs.declared.worlds.World.{World};
-ghost use Rattle.kms_model.specs.Apply.{apply as values_after};
-ghost use Rattle.kms_model.specs.Checks.{late_refusal};
-ghost use Rattle.kms_model.specs.Sound.{IsDevice};
+ghost use Rattle.kms_model.specs.Request.Apply.{apply as values_after};
+ghost use Rattle.kms_model.specs.Request.Checks.{late_refusal};
+ghost use Rattle.kms_model.specs.Device.Sound.{IsDevice};
 ghost use Rattle.kms_check.specs.Answers.{AreFresh, AreOfSoundWorld, IsAskedFor, IsChecked, IsOfRequest, locks_of, refusal_of};
 ghost use Rattle.kms_check.specs.Groups.{first_lacking};
 ghost use Rattle.kms_state.specs.Places.{old_states};
 
 use crate::applying::apply;
-use crate::groups::{crtcs_fenced, lacking, objects_set, only_crtcs, remade, union};
+use crate::groups::{crtcs_fenced, lacking, objects_set, only_crtcs, affected, union};
 use kms_model::{Checked, Duplicates, Mask, Refusal, Resolved, Topology};
 use kms_request::{Asked, late_refusal, named};
 
@@ -70,11 +70,11 @@ pub fn check(
     }
     let mut states = states;
     apply(&mut states, sets);
-    let remade = remade(&states, named);
-    if let Some(locks) = lacking(&states, &remade) {
+    let affected = affected(&states, named);
+    if let Some(locks) = lacking(&states, &affected) {
         return Err(Refused::MoreLocks { locks });
     }
-    let touched = union(&union(&set, &only_crtcs(named)), &remade);
+    let touched = union(&union(&set, &only_crtcs(named)), &affected);
     let asked = Asked {
         flags: resolved.flags,
         named,

@@ -1,10 +1,10 @@
 //! The groups of objects that a check needs duplicated. (Kernel: `drm_atomic_helper_check_modeset`,
 //! `drm_atomic_add_affected_planes`, `drm_atomic_add_affected_connectors`.)
 ghost use Rattle.std.specs.Prelude.{◌≡◌, ◌+◌, ◌^◌, ◌≤◌, ◌<◌, ◌==◌, ◌&&◌, All, cond, is_none, length};
-ghost use Rattle.kms_check.specs.Groups.{assigned_from, crtcs_fenced, is_empty, lacking, missing, missing_in, nothing, objects_assigned, objects_set, remade_below, remade_with, set_from, union};
-ghost use Rattle.kms_model.specs.Late.{duplicate_at, duplicate_in};
-ghost use Rattle.kms_model.specs.Masks.{has_bit, mask_below};
-ghost use Rattle.kms_model.specs.Resolves.{IsSettable};
+ghost use Rattle.kms_check.specs.Groups.{assigned_from, crtcs_fenced, is_empty, lacking, not_duplicated, missing_in, no_objects, objects_assigned, objects_set, affected_below, affected_with, set_from, union};
+ghost use Rattle.kms_model.specs.Request.Late.{duplicate_at, duplicate_in};
+ghost use Rattle.kms_model.specs.Device.Masks.{has_bit, mask_below};
+ghost use Rattle.kms_model.specs.Request.Resolves.{IsSettable};
 
 use kms_model::{Assign, Both, CrtcState, Duplicates, Mask, ObjId, Set};
 use kms_request::{has_bit, needs_modeset, object_of};
@@ -17,7 +17,7 @@ const FIRST_CONN: u32 = 300;
 
 /// The set of no object.
 fn nothing() -> Mask
-    ensures { result ≡ nothing }
+    ensures { result ≡ no_objects }
 {
     Mask {
         crtcs: 0,
@@ -162,8 +162,8 @@ pub(crate) fn lacking(states: &Duplicates, objects: &Mask) -> Option<Mask>
 }
 
 /// The planes and connectors that a CRTC has before or after, where it needs a modeset.
-fn remade_with(both: Option<Both<CrtcState>>) -> Mask
-    ensures { result ≡ remade_with both }
+fn affected_with(both: Option<Both<CrtcState>>) -> Mask
+    ensures { result ≡ affected_with both }
 {
     match both {
         Some(both) if needs_modeset(&both) => Mask {
@@ -187,15 +187,15 @@ fn crtc_in(states: &Duplicates, crtcs: u32, index: usize) -> Option<Both<CrtcSta
 }
 
 /// The planes and connectors that those of some CRTCs have before or after that need a modeset.
-#[tactic(auto, unfolding(crate::specs::Groups::remade_below))]
-pub(crate) fn remade(states: &Duplicates, named: u32) -> Mask
-    ensures { result ≡ remade_below states.now.crtcs named 4 }
+#[tactic(auto, unfolding(crate::specs::Groups::affected_below))]
+pub(crate) fn affected(states: &Duplicates, named: u32) -> Mask
+    ensures { result ≡ affected_below states.now.crtcs named 4 }
 {
-    let mut remade = nothing();
+    let mut affected = nothing();
     for index in 0..4 {
-        remade = union(&remade, &remade_with(crtc_in(states, named, index)));
+        affected = union(&affected, &affected_with(crtc_in(states, named, index)));
     }
-    remade
+    affected
 }
 
 /// The CRTCs for which a request asks for an out-fence.

@@ -2,12 +2,12 @@
 ghost use Rattle.std.specs.Prelude.{◌≡◌, All};
 ghost use Rattle.kms_model.specs.declared.objects.Topology.{Topology};
 ghost use Rattle.kms_model.specs.declared.worlds.World.{World};
-ghost use Rattle.kms_model.specs.Apply.{apply};
-ghost use Rattle.kms_model.specs.Resolves.{IsSettable};
-ghost use Rattle.kms_model.specs.Touched.{named_set, touched_set};
+ghost use Rattle.kms_model.specs.Request.Apply.{apply};
+ghost use Rattle.kms_model.specs.Request.Resolves.{IsSettable};
+ghost use Rattle.kms_model.specs.Request.Touched.{named_set, touched_set};
 ghost use Rattle.kms_request.specs.Whole.{StandBetween};
 
-use crate::groups::{objects_assigned, only_crtcs, remade, union};
+use crate::groups::{objects_assigned, only_crtcs, affected, union};
 use kms_model::{Duplicates, Mask, Request};
 use kms_request::named_in;
 
@@ -22,6 +22,6 @@ pub fn spans(states: &Duplicates, request: &Request) -> (u32, Mask)
 {
     let named = named_in(states, request);
     let assigned = objects_assigned(request.assigns.as_slice());
-    let remade = remade(states, named);
-    (named, union(&union(&assigned, &only_crtcs(named)), &remade))
+    let affected = affected(states, named);
+    (named, union(&union(&assigned, &only_crtcs(named)), &affected))
 }

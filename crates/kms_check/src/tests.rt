@@ -2,8 +2,8 @@
 //! first CRTC is lit.
 ghost use Rattle.std.specs.Prelude.{◌≡◌, ℕ, Bool, IfOk};
 ghost use Rattle.kms_check.specs.Example as example;
-ghost use Rattle.kms_model.specs.Lookups.{look_up};
-ghost use Rattle.kms_model.specs.Sets.{look_in};
+ghost use Rattle.kms_model.specs.Request.Lookups.{look_up};
+ghost use Rattle.kms_model.specs.Request.Sets.{look_in};
 
 use crate::{Refused, check};
 use kms_model::properties::{

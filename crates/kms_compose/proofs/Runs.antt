@@ -8,7 +8,7 @@ use Rattle.kms_model.specs.declared.objects.Format.{Format}
 use Rattle.kms_model.specs.declared.objects.Format.TheVariants.{Xr24, Ar24, Rg16}
 use Rattle.kms_model.specs.declared.pictures.Colour.{Colour}
 use Rattle.kms_model.specs.declared.pictures.Layer.{Layer}
-use Rattle.kms_model.specs.Frames.{blended, colour_of}
+use Rattle.kms_model.specs.Frames.FrameBytes.{blended, colour_of}
 use Rattle.kms_compose.specs.Parts.{channel_over, has_alpha, is_opaque, is_within, run_colour}
 
 module _ (old run : List ℕ) (left n x : ℕ) (long : length run ≡ n) (fits : left + n ≤ length old) where

@@ -11,13 +11,13 @@ use Rattle.kms_model.specs.declared.pictures.Picture.TheVariants.{Off, On}
 use Rattle.kms_model.specs.declared.pictures.Rect.{Rect}
 use Rattle.kms_model.specs.declared.pictures.Shown.{Shown}
 use Rattle.kms_model.specs.declared.worlds.Thing.{Thing}
-use Rattle.kms_model.specs.Frames.{black, channels, composed, covers, frame_bytes, frame_of, layer_colour, mixed, source_at, word_of}
-use Rattle.kms_model.specs.Images.{image_of}
-use Rattle.kms_model.specs.Stores.{Seen}
+use Rattle.kms_model.specs.Frames.FrameBytes.{black, channels, composed, covers, frame_bytes, frame_of, layer_colour, mixed, source_at, word_of}
+use Rattle.kms_model.specs.Frames.Images.{image_of}
+use Rattle.kms_model.specs.Stores.Kept.{Seen}
 use Rattle.kms_model.proofs.ImageWords.{word_of-image}
 use Rattle.kms_model.proofs.Spans.{flat_map-range_same}
 use Rattle.kms_compose.specs.declared.images.FbImage.{FbImage}
-use Rattle.kms_compose.specs.Images.{AreImagesIn, CanShow, IsShowable, seen, seen_under, word_under}
+use Rattle.kms_compose.specs.Images.{AreImagesIn, CanShow, IsShowable, image_seen, seen_under, word_under}
 use Rattle.kms_compose.proofs.Stretches.{axes, cond_under, source_below}
 
 -- the layers' colours decide a frame
@@ -31,7 +31,7 @@ composed-same words words' x y under (l ∷ layers) same =
 
 -- the image of a framebuffer that is among the images
 image_among : (things : List Thing) (images : List FbImage) (fb : ℕ) (s : Seen) →
-    ((k : ℕ) (d : FbImage) → k < length images → image_of things (slice_index_or images k d).fb ≡ Some (seen (slice_index_or images k d).image)) →
+    ((k : ℕ) (d : FbImage) → k < length images → image_of things (slice_index_or images k d).fb ≡ Some (image_seen (slice_index_or images k d).image)) →
     seen_under images fb ≡ Some s → image_of things fb ≡ Some s
 image_among things [] fb s are found = cc
 image_among things (i ∷ images) fb s are found =
@@ -40,8 +40,8 @@ image_among things (i ∷ images) fb s are found =
     (λ rest. image_among things images fb s (λ k d below. are (suc k) d (omega arith)) rest)
     found
   where
-    among : (b : Bool) → (i.fb == fb) ≡ b → (i.fb ≡ fb → image_of things fb ≡ Some (seen i.image)) → (seen_under images fb ≡ Some s → image_of things fb ≡ Some s) →
-        cond b (Some (seen i.image)) (seen_under images fb) ≡ Some s → image_of things fb ≡ Some s
+    among : (b : Bool) → (i.fb == fb) ≡ b → (i.fb ≡ fb → image_of things fb ≡ Some (image_seen i.image)) → (seen_under images fb ≡ Some s → image_of things fb ≡ Some s) →
+        cond b (Some (image_seen i.image)) (seen_under images fb) ≡ Some s → image_of things fb ≡ Some s
     among true e here there h = here (eqb-true i.fb fb e) ∙ h
     among false e here there h = there h
 

@@ -10,11 +10,11 @@ use Rattle.kms_model.specs.declared.objects.Mode.{Mode}
 use Rattle.kms_model.specs.declared.objects.Format.{Format}
 use Rattle.kms_model.specs.declared.pictures.Layer.{Layer}
 use Rattle.kms_model.specs.declared.pictures.Rect.{Rect}
-use Rattle.kms_model.specs.Frames.{source_at, covers, colour_of}
-use Rattle.kms_model.specs.Images.{IsPlaced, seen_word}
-use Rattle.kms_model.specs.Stores.{Seen}
-use Rattle.kms_model.specs.Pictures.{between_edges, clip, mode_area}
-use Rattle.kms_model.specs.States.{natural}
+use Rattle.kms_model.specs.Frames.FrameBytes.{source_at, covers, colour_of}
+use Rattle.kms_model.specs.Frames.Images.{FitsMode, seen_word}
+use Rattle.kms_model.specs.Stores.Kept.{Seen}
+use Rattle.kms_model.specs.Frames.Pictures.{between_edges, clip, mode_area}
+use Rattle.kms_model.specs.Device.States.{natural}
 use Rattle.kms_compose.specs.Parts.{is_within}
 
 -- what is visible along an axis: from the greater of both starts to the lesser of both ends, and not empty
@@ -108,7 +108,7 @@ pub record HasAxes (m : Mode) (l : Layer) (v : Rect) : Type 0 where
   pub x : IsAxis l.src.x l.dst.x v.x v.w m.hdisplay l.fb.width
   pub y : IsAxis l.src.y l.dst.y v.y v.h m.vdisplay l.fb.height
 
-pub axes : (m : Mode) (l : Layer) (v : Rect) → IsPlaced m l → l.visible ≡ Some v → HasAxes m l v
+pub axes : (m : Mode) (l : Layer) (v : Rect) → FitsMode m l → l.visible ≡ Some v → HasAxes m l v
 axes m l v p e =
     let both = clipped l.dst m v (sym p.visible ∙ e) in
     let tests = and_parts (int_le (l.src.x +ℤ l.src.w) (pos (65536 * l.fb.width))) (int_le (l.src.y +ℤ l.src.h) (pos (65536 * l.fb.height))) p.fits in

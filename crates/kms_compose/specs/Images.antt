@@ -8,18 +8,18 @@ use Rattle.kms_model.specs.declared.pictures.Picture.{Picture}
 use Rattle.kms_model.specs.declared.pictures.Picture.TheVariants.{Off, On}
 use Rattle.kms_model.specs.declared.stores.Image.{Image}
 use Rattle.kms_model.specs.declared.worlds.Thing.{Thing}
-use Rattle.kms_model.specs.Stores.{Seen}
-use Rattle.kms_model.specs.Images.{IsPlaced, image_of, seen_word}
+use Rattle.kms_model.specs.Stores.Kept.{Seen}
+use Rattle.kms_model.specs.Frames.Images.{FitsMode, image_of, seen_word}
 use Rattle.kms_compose.specs.declared.images.FbImage.{FbImage}
 
 -- what is read of an image
-abbrev pub seen : Image → Seen
-seen i = record { width = i.width; height = i.height; format = i.format; words = i.words.now }
+abbrev pub image_seen : Image → Seen
+image_seen i = record { width = i.width; height = i.height; format = i.format; words = i.words.now }
 
 -- what is read of a framebuffer: of the first image under its id
 abbrev pub seen_under : List FbImage → ℕ → Option Seen
 seen_under [] fb = None
-seen_under (i ∷ is) fb = if i.fb == fb then Some (seen i.image) else seen_under is fb
+seen_under (i ∷ is) fb = if i.fb == fb then Some (image_seen i.image) else seen_under is fb
 
 -- the word of a framebuffer at (x, y)
 abbrev pub word_under : List FbImage → ℕ → ℕ → ℕ → Option ℕ
@@ -27,15 +27,15 @@ word_under images fb x y = option_map (λ s. seen_word s x y) (seen_under images
 
 -- there is an image of a framebuffer, in its size and with a word for each pixel
 pub record HasImage (images : List FbImage) (fb : FbInfo) : Type 0 where
-  pub seen : Seen
-  pub found : seen_under images fb.id ≡ Some seen
-  pub width : seen.width ≡ fb.width
-  pub height : seen.height ≡ fb.height
-  pub words : length seen.words ≡ fb.width * fb.height
+  pub image_seen : Seen
+  pub found : seen_under images fb.id ≡ Some image_seen
+  pub width : image_seen.width ≡ fb.width
+  pub height : image_seen.height ≡ fb.height
+  pub words : length image_seen.words ≡ fb.width * fb.height
 
 -- a layer that can be shown in a mode over these images
 pub record IsShowable (m : Mode) (images : List FbImage) (l : Layer) : Type 0 where
-  pub placed : IsPlaced m l
+  pub placed : FitsMode m l
   pub image : HasImage images l.fb
 
 -- a layer that can be shown in some mode
@@ -50,4 +50,4 @@ CanShow images (On p) = All (IsShowable p.mode images) p.layers
 
 -- each image is that of a framebuffer among the things
 abbrev pub AreImagesIn : List Thing → List FbImage → Type 0
-AreImagesIn things images = All (λ i. image_of things i.fb ≡ Some (seen i.image)) images
+AreImagesIn things images = All (λ i. image_of things i.fb ≡ Some (image_seen i.image)) images

@@ -4,7 +4,7 @@ use Rattle.kms_model.specs.declared.objects.Format.{Format}
 use Rattle.kms_model.specs.declared.objects.Format.TheVariants.{Xr24, Ar24, Rg16}
 use Rattle.kms_model.specs.declared.pictures.Colour.{Colour}
 use Rattle.kms_model.specs.declared.pictures.Layer.{Layer}
-use Rattle.kms_model.specs.Frames.{black, blended, channels, colour_of, mixed}
+use Rattle.kms_model.specs.Frames.FrameBytes.{black, blended, channels, colour_of, mixed}
 use Rattle.kms_model.specs.declared.stores.Image.{Image}
 use Rattle.kms_compose.specs.declared.parts.Part.{Part}
 use Rattle.kms_compose.specs.declared.parts.Stretch.{Stretch}

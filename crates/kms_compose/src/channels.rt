@@ -1,7 +1,7 @@
 //! The channels of a word. (Header: `drm_fourcc.h`.)
 ghost use Rattle.std.specs.Prelude.{◌≡◌, ◌<◌, ℕ, length, slice_index, EachIndex};
 ghost use Rattle.kms_model.specs.declared.pictures.Colour.{Colour};
-ghost use Rattle.kms_model.specs.Frames.{colour_of, five_bits, six_bits};
+ghost use Rattle.kms_model.specs.Frames.FrameBytes.{colour_of, five_bits, six_bits};
 
 use kms_model::Format;
 

@@ -1,7 +1,7 @@
 //! The images of framebuffers.
 ghost use Rattle.std.specs.Prelude.{◌≡◌};
 ghost use Rattle.std.specs.Option.{option_map};
-ghost use Rattle.kms_compose.specs.Images.{seen, seen_under};
+ghost use Rattle.kms_compose.specs.Images.{image_seen, seen_under};
 
 use kms_model::{Image, Seq};
 
@@ -19,7 +19,7 @@ pub type Images<'a> = Seq<FbImage<'a>>;
 
 /// The image of a framebuffer; none where it is not among these.
 pub fn image_of<'a>(images: &[FbImage<'a>], fb: u32) -> Option<Image<'a>>
-    ensures { option_map seen result ≡ seen_under images.now fb }
+    ensures { option_map image_seen result ≡ seen_under images.now fb }
 {
     for entry in images {
         if entry.fb == fb {

@@ -1,8 +1,8 @@
 //! The visible parts of layers.
 ghost use Rattle.std.specs.Prelude.{◌≡◌, ◌<◌, ◌≤◌, ◌+◌, ◌*◌, ◌+ℤ◌, ◌-ℤ◌, ◌≤ℤ◌, ℕ, pos, int_div, length, IfSome, option_copied};
 ghost use Rattle.kms_model.specs.declared.objects.Mode.{Mode};
-ghost use Rattle.kms_model.specs.Frames.{layer_colour};
-ghost use Rattle.kms_model.specs.Images.{IsPlaced};
+ghost use Rattle.kms_model.specs.Frames.FrameBytes.{layer_colour};
+ghost use Rattle.kms_model.specs.Frames.Images.{FitsMode};
 ghost use Rattle.kms_compose.specs.Images.{IsShown, word_under};
 ghost use Rattle.kms_compose.specs.Parts.{HasRows, IsPart, on_row, part, part_colour, seen_colour};
 
@@ -37,7 +37,7 @@ pub fn part_of<'a>(layer: &Layer, images: &[FbImage<'a>]) -> Option<Part<'a>>
     requires { IsShown images.now layer.now }
     ensures colours { (x y : ℕ) → layer_colour (word_under images.now) x y layer.now ≡ seen_colour result x y }
     ensures layer { IfSome result (λ p. p.layer ≡ layer.now) }
-    ensures within { (m : Mode) → IsPlaced m layer.now → IfSome result (IsPart m.hdisplay) }
+    ensures within { (m : Mode) → FitsMode m layer.now → IfSome result (IsPart m.hdisplay) }
 {
     let visible = layer.visible?;
     let image = image_of(images, layer.fb.id)?;

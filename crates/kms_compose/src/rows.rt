@@ -1,7 +1,7 @@
 //! Rows of a frame.
 ghost use Rattle.std.specs.Prelude.{◌≡◌, ◌<◌, ◌≤◌, ◌+◌, ◌-◌, ◌*◌, ◌&&◌, ◌==◌, ◌||◌, false, ℕ, List, length, slice_index, EachIndex, All};
 ghost use Rattle.std.specs.List.{flat_map, range_with_len};
-ghost use Rattle.kms_model.specs.Frames.{black, channels, colour_of, mixed};
+ghost use Rattle.kms_model.specs.Frames.FrameBytes.{black, channels, colour_of, mixed};
 ghost use Rattle.kms_compose.specs.Parts.{IsPart, channel_over, colour_at, has_alpha, is_opaque, part_colour, parts_over, run_colour};
 
 use crate::channels::{Alpha, Blue, Channel, Green, Red, unpack};

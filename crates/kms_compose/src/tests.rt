@@ -1,6 +1,6 @@
 ghost use Rattle.std.specs.Prelude.{◌≡◌, ◌≤◌, ◌+◌, ◌*◌, length};
-ghost use Rattle.kms_model.specs.Images.{IsPlaced};
-ghost use Rattle.kms_model.specs.Rectangles.{IsNear};
+ghost use Rattle.kms_model.specs.Frames.Images.{FitsMode};
+ghost use Rattle.kms_model.specs.Frames.Rectangles.{IsNear};
 
 use super::*;
 use kms_geom::clip;
@@ -60,7 +60,7 @@ fn mode(w: u16, h: u16) -> Mode
 
 /// The layer of a plane.
 fn layer(mode: &Mode, id: u32, plane: &Plane) -> Layer
-    ensures placed { IsPlaced mode.now result }
+    ensures placed { FitsMode mode.now result }
     ensures fb { result.fb ≡ record { id = id; width = plane.now.fb_width; height = plane.now.fb_height; format = plane.now.format } }
 {
     let dst = Rect {

@@ -3,8 +3,8 @@ use Rattle.std.proofs.Common.{◌≡◌, ◌↔◌, ℤ, ◌+ℤ◌, ◌-ℤ◌,
 use Rattle.std.specs.Int.{int_max, int_min}
 use Rattle.std.proofs.lemmas.Int.{ints, clamps, by_lt_z}
 use Rattle.kms_model.specs.declared.pictures.Rect.{Rect}
-use Rattle.kms_model.specs.Pictures.{between_edges, clip}
-use Rattle.kms_model.specs.Rectangles.{HasPixel, HasPixelIfAny, IsNear}
+use Rattle.kms_model.specs.Frames.Pictures.{between_edges, clip}
+use Rattle.kms_model.specs.Frames.Rectangles.{HasPixel, HasPixelIfAny, IsNear}
 
 between_edges-inside : (left top right bottom : ℤ) → left <ℤ right → top <ℤ bottom →
     between_edges left top right bottom ≡ Some (record { x = left; y = top; w = right -ℤ left; h = bottom -ℤ top })

@@ -5,8 +5,8 @@
 
 ghost use Rattle.std.specs.Prelude.{◌≡◌, ◌+◌, ◌-◌, ◌*◌, ◌/◌, ◌%◌, ◌^◌, ◌<◌, ◌≤◌, ◌↔◌, ◌+ℤ◌, ◌-ℤ◌, ◌≤ℤ◌, ℤ, pos, FitsSigned, int_le, IsTrue, IsNone};
 ghost use Rattle.std.specs.Int.{w64, int_max, int_min};
-ghost use Rattle.kms_model.specs.Pictures.{between_edges, clip};
-ghost use Rattle.kms_model.specs.Rectangles.{HasPixel, HasPixelIfAny, IsNear, IsNearRect, fits_source, rounded_quotient};
+ghost use Rattle.kms_model.specs.Frames.Pictures.{between_edges, clip};
+ghost use Rattle.kms_model.specs.Frames.Rectangles.{HasPixel, HasPixelIfAny, IsNear, IsNearRect, fits_source, rounded_quotient};
 
 use kms_model::Rect;
 

@@ -7,7 +7,7 @@ use Rattle.kms_histlock.specs.declared.view.View.{View}
 use Rattle.kms_histlock.specs.declared.view.Turn.{Turn}
 use Rattle.kms_histlock.specs.Rules.{Fits, IsStart}
 use Rattle.kms_histlock.specs.Steps.{Sat, lengthened, recounted, merged, Finds}
-use Rattle.kms_histlock.specs.Seats.{Lengthens, served, HasTurn, MayGive, Recounts, gave, Covers}
+use Rattle.kms_histlock.specs.Seats.{Lengthens, served, HasTurn, MayGive, Recounts, gave, HoldsAll}
 use Rattle.kms_histlock.specs.Passes.{PassState, pass_state, IsReached, IsFound}
 use Rattle.atomic_table.specs.Seated.{TableId}
 use Rattle.atomic_table.specs.declared.shared.Seat.{Seat}
@@ -59,7 +59,7 @@ recounts_fits entries counted counts m y r seen = (sym seen ∙ r.seen, r.done)
 
 module _ {E : Type 0} (counted : ℕ → List E → ℕ) where
   -- a history that covers the seat after a join covers both, and reaches the pass of the one that was joined
-  pub covers_both : (v w : View E) (xs : List E) → Covers counted (merged v w) xs → Covers counted v xs × IsStart w.seen xs × (w.length ≤ length xs) × ((k : ℕ) → k < 4 → get_or w.counts k 0 ≤ counted k xs)
+  pub covers_both : (v w : View E) (xs : List E) → HoldsAll counted (merged v w) xs → HoldsAll counted v xs × IsStart w.seen xs × (w.length ≤ length xs) × ((k : ℕ) → k < 4 → get_or w.counts k 0 ≤ counted k xs)
   covers_both v w xs c = (
     record {
       seen = c.seen;
@@ -92,14 +92,14 @@ found_at owner entries counted s q t p f is = subst (λ (z : PassState _ × List
 }
 
 -- what covers the seat of a pass reaches the pass
-pub reached_by : {T E : Type 0} (counted : ℕ → List E → ℕ) (seat : Seat (Option T) (View E)) (p : PassState E) (xs : List E) → pass_state seat ≡ p → Covers counted seat.me.0 xs → IsReached counted p xs
+pub reached_by : {T E : Type 0} (counted : ℕ → List E → ℕ) (seat : Seat (Option T) (View E)) (p : PassState E) (xs : List E) → pass_state seat ≡ p → HoldsAll counted seat.me.0 xs → IsReached counted p xs
 reached_by counted seat p xs is c = subst (λ q. IsReached counted q xs) is record { seen = c.seen; length_read = c.length_read; counts_read = c.counts_read }
 
 -- what covers the seat that has taken another in covers it before, and reaches the pass of the other
-pub reached_both : {T E : Type 0} (counted : ℕ → List E → ℕ) (m m' : Sat T E) (seat : Seat (Option T) (View E)) (p : PassState E) (xs : List E) → pass_state seat ≡ p → m' ≡ (merged m.0 seat.me.0, m.1) → Covers counted m'.0 xs
-    → Covers counted m.0 xs × IsReached counted p xs
+pub reached_both : {T E : Type 0} (counted : ℕ → List E → ℕ) (m m' : Sat T E) (seat : Seat (Option T) (View E)) (p : PassState E) (xs : List E) → pass_state seat ≡ p → m' ≡ (merged m.0 seat.me.0, m.1) → HoldsAll counted m'.0 xs
+    → HoldsAll counted m.0 xs × IsReached counted p xs
 reached_both counted m m' seat p xs is now c =
-    let both = covers_both counted m.0 seat.me.0 xs (subst (λ (z : Sat _ _). Covers counted z.0 xs) now c) in
+    let both = covers_both counted m.0 seat.me.0 xs (subst (λ (z : Sat _ _). HoldsAll counted z.0 xs) now c) in
     (both.0, subst (λ q. IsReached counted q xs) is record { seen = both.1; length_read = both.2; counts_read = both.3 })
 
 -- what contracts see of a pass, after a taking of the turn

@@ -15,9 +15,9 @@ use Rattle.kms_histlock.specs.declared.view.View.{View}
 use Rattle.kms_histlock.specs.declared.view.Turn.{Turn}
 use Rattle.kms_histlock.specs.declared.view.Stage.{Stage}
 use Rattle.kms_histlock.specs.declared.view.Stage.TheVariants.{Idle, Waits, Serves}
-use Rattle.kms_histlock.specs.Rules.{drawn, number, serving, due, having, At, AtMost, Fits, Ranks, Begins, IsStart, Sights, Stands}
+use Rattle.kms_histlock.specs.Rules.{drawn, number, serving, due, having, At, AtMost, Fits, Ranks, GoesOnFrom, IsStart, Sights, IsUpheld}
 use Rattle.kms_histlock.specs.Steps.{Sat, opened, standing, waiting, kept_back, split_off, merged, spent, lengthened, recounted, drew, looked, passed, stored_length, stored_count, read_length, read_count}
-use Rattle.kms_histlock.specs.Seats.{Lengthens, Covers}
+use Rattle.kms_histlock.specs.Seats.{Lengthens, HoldsAll}
 use Rattle.kms_histlock.proofs.Lists.{put, put_else, sum_put, sum_snoc, sum_only, sum_two, each_put, one_at}
 use Rattle.kms_histlock.proofs.Numbering.{mirrors_put, mirrors_snoc, mirrors_more, numbers_stay, numbers_drawn, numbers_passed, is_first}
 use Rattle.kms_histlock.proofs.Holding.{untagged, serving_drawn, held_stays, at_home, held_taken, held_given, held_refit, one_serves, parts_put, not_spent, parts_split, parts_join, leads_put, is_lead, leads_split, leads_join}
@@ -48,7 +48,7 @@ not_serving st q h e = let g = ap serving e in omega arith
 
 module _ {T E : Type 0} (owner : E → ℕ) (entries : T → List E) (counted : ℕ → List E → ℕ) (grows : (k : ℕ) (xs ys : List E) → counted k xs ≤ counted k (xs ++ ys)) (seats : ℕ) where
   abbrev Rule : State (Option T) (View E) → Type 0
-  Rule = Stands owner entries counted seats
+  Rule = IsUpheld owner entries counted seats
 
   -- what a step owes, at these words and homes
   abbrev Owes : List (View E) → ℕ → Sat T E → ℕ → (ℕ → ℕ) → (ℕ → Sat T E → Type 0) → List ℕ → List (maybe.Option (Option T)) → Type 0
@@ -445,7 +445,7 @@ module _ {T E : Type 0} (owner : E → ℕ) (entries : T → List E) (counted : 
       owners = All-nil (λ e. owner e ≤ 1);
     };
     sights = record {
-      begins = λ j v e h. subst (λ z. Begins owner z.rank z.seen []) (only_first me j v e).1 ([], refl, All-nil (λ e. owner e ≢ 1));
+      begins = λ j v e h. subst (λ z. GoesOnFrom owner z.rank z.seen []) (only_first me j v e).1 ([], refl, All-nil (λ e. owner e ≢ 1));
       counted_in = λ j v e h. subst (λ z. (k : ℕ) → k < 4 → k < due z.stage → counted k z.seen ≤ get_or blank k 0) (only_first me j v e).1 (λ k l _. let a = none_yet k l in omega arith);
       joined = λ j v e. subst (λ z. All (λ xs. IsStart xs []) z.joined) (only_first me j v e).1 (All-nil (λ xs. IsStart xs []));
     };
@@ -461,7 +461,7 @@ module _ {T E : Type 0} (owner : E → ℕ) (entries : T → List E) (counted : 
 
   -- the seat that stands for all seats finds the value at home when the table is closed, with all that was made
   pub closes : (id : ℕ) (v : View E) (ws : List ℕ) (xs : List (Option T)) → v.parts ≡ seats → 0 < seats → v.stage ≡ Idle → Final (Seen Rule id v) ws xs
-      → (t : T) × (get_elem? xs 0 ≡ some (Some t)) × (length (entries t) ≡ v.made) × Covers counted v (entries t)
+      → (t : T) × (get_elem? xs 0 ≡ some (Some t)) × (length (entries t) ≡ v.made) × HoldsAll counted v (entries t)
   closes id v ws xs all some_seats idle f =
       let s = f.0 in let r = f.1.0 in let at = f.1.1 in
       let bare : (j : ℕ) (u : View E) → j ≢ id → At s.views j u → (u.stage ≡ Idle) × (u.made ≡ 0) = λ j u ne e.
@@ -478,7 +478,7 @@ module _ {T E : Type 0} (owner : E → ℕ) (entries : T → List E) (counted : 
         x.0,
         f.4 0 (Some x.0) (subst (λ hs. get_elem? hs 0 ≡ some (some (Some x.0))) (sym r.homes_are) (ap some x.1)),
         ap length (sym log) ∙ made,
-        subst (Covers counted v) log record {
+        subst (HoldsAll counted v) log record {
           seen = (b.0, b.1);
           joined = r.sights.joined id v at;
           length_read = read.0;

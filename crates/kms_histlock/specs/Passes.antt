@@ -1,7 +1,7 @@
 use Rattle.std.specs.Prelude.{◌≡◌, ℕ, zero, suc, ◌+◌, List, [], ◌∷◌, ◌++◌, length, slice_index, Option, ◌-◌, ◌≤◌, ◌<◌}
 use Rattle.std.specs.Fn.{FnOnceReturnsAtMut, Once}
 use denote.Ref.{MutBor}
-use Rattle.kms_histlock.specs.Rules.{Begins, IsStart}
+use Rattle.kms_histlock.specs.Rules.{GoesOnFrom, IsStart}
 use Rattle.atomic_table.specs.Seated.{TableId}
 use Rattle.atomic_table.specs.declared.shared.Seat.{Seat}
 use Rattle.kms_histlock.specs.declared.view.View.{View}
@@ -53,7 +53,7 @@ pub record IsReached {E : Type 0} (counted : ℕ → List E → ℕ) (p : PassSt
 
 -- a history that the pass may find at its turn: it has all entries of the pass's rank in what the pass has seen, and reaches the numbers that it has read
 pub record IsFound {E : Type 0} (owner : E → ℕ) (counted : ℕ → List E → ℕ) (p : PassState E) (xs : List E) : Type 0 where
-  pub begins : Begins owner p.rank p.seen xs
+  pub begins : GoesOnFrom owner p.rank p.seen xs
   pub reached : IsReached counted p xs
 
 -- The pass took the turn once, and f was called at the value that was found, and gave r. The pass has then seen the history

@@ -94,8 +94,8 @@ pub record Ranks {E : Type 0} (owner : E → ℕ) (log : List E) (views : List (
   pub owners : All (λ e. owner e ≤ length views) log
 
 -- the history `log` begins with `seen`, and what comes after it is none of the rank's
-abbrev pub Begins : {E : Type 0} → (E → ℕ) → ℕ → List E → List E → Type 0
-Begins {E} owner rank seen log = (rest : List E) × (log ≡ seen ++ rest) × All (λ e. owner e ≢ rank) rest
+abbrev pub GoesOnFrom : {E : Type 0} → (E → ℕ) → ℕ → List E → List E → Type 0
+GoesOnFrom {E} owner rank seen log = (rest : List E) × (log ≡ seen ++ rest) × All (λ e. owner e ≢ rank) rest
 
 -- the history `log` begins with `seen`
 abbrev pub IsStart : {E : Type 0} → List E → List E → Type 0
@@ -103,11 +103,11 @@ IsStart {E} seen log = (rest : List E) × (log ≡ seen ++ rest)
 
 -- What the seats have seen begins the history that was stored last, and has all entries there of the seat's rank. Its counts are at most those in the words.
 pub record Sights {E : Type 0} (owner : E → ℕ) (counted : ℕ → List E → ℕ) (log : List E) (counts : List ℕ) (views : List (View E)) : Type 0 where
-  pub begins : (j : ℕ) (v : View E) → At views j v → 0 < v.parts → Begins owner v.rank v.seen log
+  pub begins : (j : ℕ) (v : View E) → At views j v → 0 < v.parts → GoesOnFrom owner v.rank v.seen log
   pub counted_in : (j : ℕ) (v : View E) → At views j v → 0 < v.parts → (k : ℕ) → k < 4 → k < due v.stage → counted k v.seen ≤ slice_index counts k
   pub joined : (j : ℕ) (v : View E) → At views j v → All (λ xs. IsStart xs log) v.joined
 
-pub record Stands {T E : Type 0} (owner : E → ℕ) (entries : T → List E) (counted : ℕ → List E → ℕ) (seats : ℕ) (s : State (Option T) (View E)) : Type 0 where
+pub record IsUpheld {T E : Type 0} (owner : E → ℕ) (entries : T → List E) (counted : ℕ → List E → ℕ) (seats : ℕ) (s : State (Option T) (View E)) : Type 0 where
   pub tickets : ℕ
   pub served : ℕ
   pub log : List E

@@ -6,7 +6,7 @@ use Rattle.kms_histlock.specs.declared.view.View.{View}
 use Rattle.kms_histlock.specs.declared.view.Stage.{Stage}
 use Rattle.kms_histlock.specs.declared.view.Stage.TheVariants.{Idle, Waits, Serves}
 use Rattle.kms_histlock.specs.declared.view.Turn.{Turn}
-use Rattle.kms_histlock.specs.Rules.{due, AtMost, Fits, Begins}
+use Rattle.kms_histlock.specs.Rules.{due, AtMost, Fits, GoesOnFrom}
 
 -- the first seat of a lock made for so many
 abbrev pub opened : {E : Type 0} → ℕ → View E
@@ -58,7 +58,7 @@ pub record Finds {T E : Type 0} (owner : E → ℕ) (entries : T → List E) (co
   pub fits : Fits entries counted q.log q.counts t
   pub four : length q.counts ≡ 4
   pub stored : q.stored ≡ 4
-  pub begins : Begins owner m.0.rank m.0.seen q.log
+  pub begins : GoesOnFrom owner m.0.rank m.0.seen q.log
   pub length_read : m.0.length ≤ length q.log
   pub counts_read : AtMost m.0.counts q.counts
 

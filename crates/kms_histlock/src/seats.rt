@@ -3,7 +3,7 @@ ghost use Rattle.std.specs.Prelude.{◌≡◌, ℕ, ◌≤◌, ◌<◌, List, []
 ghost use Rattle.std.specs.List.{sum_by};
 ghost use Rattle.kms_histlock.specs.declared.view.Stage.TheVariants.{Idle};
 ghost use Rattle.kms_histlock.specs.Passes.{pass_state, new_pass, new_passes, IsReached};
-ghost use Rattle.kms_histlock.specs.Seats.{IsSized, Covers};
+ghost use Rattle.kms_histlock.specs.Seats.{IsSized, HoldsAll};
 ghost use Rattle.kms_histlock.specs.Steps.{opened};
 
 use crate::kept::Kept;
@@ -77,7 +77,7 @@ pub(crate) fn take_in<T: Kept>(words: &Words<T>, mut passes: Vec<Pass<T>>) -> Pl
     ensures rests { (result.me.1 ≡ []) × (result.me.0.stage ≡ Idle) }
     ensures all { result.me.0.parts ≡ length passes.items }
     ensures made { result.me.0.made ≡ sum_by (λ p. p.made) passes.items }
-    ensures covers { (xs : List T.Entry) → Covers T.counted result.me.0 xs → All (λ p. IsReached T.counted p xs) passes.items }
+    ensures covers { (xs : List T.Entry) → HoldsAll T.counted result.me.0 xs → All (λ p. IsReached T.counted p xs) passes.items }
 {
     let mut seat = take_first(&mut passes).into_seat();
     while let Some(pass) = passes.pop() {
@@ -92,7 +92,7 @@ pub(crate) fn take_out<T: Kept>(table: Board<T>, seat: Place<T>) -> T
     requires rests { (seat.me.1 ≡ []) × (seat.me.0.stage ≡ Idle) }
     requires all { (seat.me.0.parts ≡ table.shared.key) × (0 < table.shared.key) }
     ensures made { length (T.entries result) ≡ seat.me.0.made }
-    ensures covers { Covers T.counted seat.me.0 (T.entries result) }
+    ensures covers { HoldsAll T.counted seat.me.0 (T.entries result) }
 {
     let mut closed = table.close_with(seat);
     let value = closed.take(VALUE).unwrap();

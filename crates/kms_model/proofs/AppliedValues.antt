@@ -6,9 +6,9 @@ use Rattle.kms_model.specs.declared.scripts.Assign.{Assign}
 use Rattle.kms_model.specs.declared.scripts.Value.{Value}
 use Rattle.kms_model.specs.declared.worlds.Setting.{Setting}
 use Rattle.kms_model.specs.declared.worlds.Thing.{Thing}
-use Rattle.kms_model.specs.World.{is_of, value, put, setting}
-use Rattle.kms_model.specs.Apply.{number_of, prop_of, is_kept, object_of, assign, apply}
-use Rattle.kms_model.specs.Touched.{sets}
+use Rattle.kms_model.specs.Device.World.{is_of, value, put, setting}
+use Rattle.kms_model.specs.Request.Apply.{number_of, prop_of, is_kept, object_of, assign, apply}
+use Rattle.kms_model.specs.Request.Touched.{sets}
 use Rattle.kms_model.proofs.Items.{IsIn}
 
 -- where a value comes from: a setting of the property, or nowhere

@@ -5,10 +5,10 @@ use Rattle.kms_model.specs.declared.scripts.Assign.{Assign}
 use Rattle.kms_model.specs.declared.scripts.Value.{Value}
 use Rattle.kms_model.specs.declared.worlds.Setting.{Setting}
 use Rattle.kms_model.specs.declared.worlds.Thing.{Thing}
-use Rattle.kms_model.specs.Apply.{apply, assign, is_kept, number_of, object_of, prop_of}
+use Rattle.kms_model.specs.Request.Apply.{apply, assign, is_kept, number_of, object_of, prop_of}
 use Rattle.kms_model.specs.Firsts.{or_else}
-use Rattle.kms_model.specs.World.{value}
-use Rattle.kms_model.specs.Touched.{last_value, value_if}
+use Rattle.kms_model.specs.Device.World.{value}
+use Rattle.kms_model.specs.Request.Touched.{last_value, value_if}
 use Rattle.kms_model.proofs.AppliedValues.{targets, value-assign}
 
 -- the number that a value stands for, or else another

@@ -19,18 +19,18 @@ use Rattle.kms_model.specs.declared.scripts.Value.TheVariants as value
 use Rattle.kms_model.specs.declared.worlds.Look.{Look}
 use Rattle.kms_model.specs.declared.worlds.Setting.{Setting}
 use Rattle.kms_model.specs.declared.worlds.Thing as worlds
-use Rattle.kms_model.specs.Objects.{exists, object_id}
-use Rattle.kms_model.specs.World.{value as value_of}
-use Rattle.kms_model.specs.States.{crtc_at, natural}
-use Rattle.kms_model.specs.Properties.{property}
-use Rattle.kms_model.specs.Apply.{apply, number_of, object_of, prop_of}
-use Rattle.kms_model.specs.Named.{is_routed}
-use Rattle.kms_model.specs.Refusals.{has_property, is_in_range, is_in_range_of, is_of_kind, is_value}
-use Rattle.kms_model.specs.Resolves.{IsAllowed}
-use Rattle.kms_model.specs.Sets.{crtc_value}
-use Rattle.kms_model.specs.Sound.{IsCrtcOrNone}
-use Rattle.kms_model.specs.Sound.IsCrtcOrNone.{IsNone, IsCrtc}
-use Rattle.kms_model.specs.Touched.{last_value}
+use Rattle.kms_model.specs.Device.Objects.{exists, object_id}
+use Rattle.kms_model.specs.Device.World.{value as value_of}
+use Rattle.kms_model.specs.Device.States.{crtc_at, natural}
+use Rattle.kms_model.specs.Device.Properties.{property}
+use Rattle.kms_model.specs.Request.Apply.{apply, number_of, object_of, prop_of}
+use Rattle.kms_model.specs.Request.Named.{is_routed}
+use Rattle.kms_model.specs.Request.Refusals.{has_property, is_in_range, is_in_range_of, is_of_kind, is_value}
+use Rattle.kms_model.specs.Request.Resolves.{IsAllowed}
+use Rattle.kms_model.specs.Request.Sets.{crtc_value}
+use Rattle.kms_model.specs.Device.Sound.{IsCrtcOrNone}
+use Rattle.kms_model.specs.Device.Sound.IsCrtcOrNone.{IsNone, IsCrtc}
+use Rattle.kms_model.specs.Request.Touched.{last_value}
 use Rattle.kms_model.proofs.ApplyLemmas.{number_or, value-apply}
 use Rattle.kms_model.proofs.HeldValues.{AreAllHeld}
 use Rattle.kms_model.proofs.Items.{ids-has}

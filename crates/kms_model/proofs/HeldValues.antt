@@ -22,18 +22,18 @@ use Rattle.kms_model.specs.declared.worlds.Setting.{Setting}
 use Rattle.kms_model.specs.declared.worlds.Thing as worlds
 use Rattle.kms_model.specs.declared.worlds.World.{World}
 use Rattle.kms_model.specs.declared.stores.BadMode.TheVariants.{Length, Horizontal, Vertical, Clock, Size}
-use Rattle.kms_model.specs.ModeBytes.{decoded, if_legal, mode_held}
-use Rattle.kms_model.specs.Modes.{is_axis, is_legal_mode}
-use Rattle.kms_model.specs.Objects.{object_id, count_of, ids_of}
-use Rattle.kms_model.specs.World.{value, thing_labelled, thing_numbered}
-use Rattle.kms_model.specs.States.{framebuffer_of, framebuffer_in, mode_of, mode_in}
-use Rattle.kms_model.specs.Lookups.{look_of_mode, look_of_content, look_of, look_up}
-use Rattle.kms_model.specs.Properties.{Property, properties, property}
-use Rattle.kms_model.specs.Apply.{id_in, number_of, prop_of, is_kept, object_of, assign, apply}
+use Rattle.kms_model.specs.Device.ModeBytes.{decoded, if_legal, mode_held}
+use Rattle.kms_model.specs.Device.Modes.{is_axis, is_legal_mode}
+use Rattle.kms_model.specs.Device.Objects.{object_id, count_of, ids_of}
+use Rattle.kms_model.specs.Device.World.{value, thing_labelled, thing_numbered}
+use Rattle.kms_model.specs.Device.States.{framebuffer_of, framebuffer_in, mode_of, mode_in}
+use Rattle.kms_model.specs.Request.Lookups.{look_of_mode, look_of_content, look_of, look_up}
+use Rattle.kms_model.specs.Device.Properties.{Property, properties, property}
+use Rattle.kms_model.specs.Request.Apply.{id_in, number_of, prop_of, is_kept, object_of, assign, apply}
 use Rattle.kms_model.specs.Firsts.{number_if}
-use Rattle.kms_model.specs.Refusals.{has_property, is_immutable, is_of_kind, takes, is_in_range, is_in_range_of, is_value, assign_refusal, assigns_refusal}
-use Rattle.kms_model.specs.Objects.{exists}
-use Rattle.kms_model.specs.Sound.{AreNumbered, has_legal_mode, is_thing, is_crtc, is_held, holds_value, kept_properties, holds_values, are_held}
+use Rattle.kms_model.specs.Request.Refusals.{has_property, is_immutable, is_of_kind, takes, is_in_range, is_in_range_of, is_value, assign_refusal, assigns_refusal}
+use Rattle.kms_model.specs.Device.Objects.{exists}
+use Rattle.kms_model.specs.Device.Sound.{AreNumbered, has_legal_mode, is_thing, is_crtc, is_held, holds_value, kept_properties, holds_values, are_held}
 use Rattle.kms_model.proofs.Items.{IsIn, list_all-at, list_all-from, list_any-has, ids-has, or_else-none, number_if-none}
 use Rattle.kms_model.proofs.AppliedValues.{targets, value-assign}
 use Rattle.kms_model.proofs.ThingLemmas.{IsNumberedIn, ids-numbered, find-in, thing_numbered-labelled, IsSeenAlike, seen-push}

@@ -11,11 +11,11 @@ use Rattle.kms_model.specs.declared.scripts.Pattern.{Pattern}
 use Rattle.kms_model.specs.declared.worlds.Content.{Content}
 use Rattle.kms_model.specs.declared.worlds.Content.TheVariants as content
 use Rattle.kms_model.specs.declared.worlds.Thing.{Thing}
-use Rattle.kms_model.specs.Words.{◌>>=◌}
-use Rattle.kms_model.specs.World.{thing_with_id}
-use Rattle.kms_model.specs.Frames.{buffer_in, pattern_word, word_in, word_of}
-use Rattle.kms_model.specs.Images.{image_of, seen_in, seen_word}
-use Rattle.kms_model.specs.Stores.{Seen, row_words, words_of}
+use Rattle.kms_model.specs.Script.Words.{◌>>=◌}
+use Rattle.kms_model.specs.Device.World.{thing_with_id}
+use Rattle.kms_model.specs.Frames.FrameBytes.{buffer_id_in, pattern_word, word_in, word_of}
+use Rattle.kms_model.specs.Frames.Images.{image_of, seen_in, seen_word}
+use Rattle.kms_model.specs.Stores.Kept.{Seen, row_words, buffer_words}
 use Rattle.kms_model.proofs.Spans.{flat_map-range_suc}
 
 -- rows of one length, one after the other
@@ -41,13 +41,13 @@ module _ (f : ℕ → ℕ → ℕ) (width : ℕ) where
 
 -- a word of a pattern
 word_at : (pattern : Pattern) (format : Format) (width height x y : ℕ) → x < width → y < height →
-    slice_index (words_of pattern format width height) (y * width + x) ≡ word_in pattern format width x y
+    slice_index (buffer_words pattern format width height) (y * width + x) ≡ word_in pattern format width x y
 word_at pattern format width height x y left low = place (λ x y. word_in pattern format width x y) width 0 height x y y left low (omega arith)
 
 module _ (s : Seen) (x y : ℕ) (left : x < s.width) (low : y < s.height) where
   word_of_content : (c : Content) → seen_in c ≡ Some s → pattern_word x y c ≡ Some (seen_word s x y)
   word_of_content (content.Buffer width height format pattern) e =
-      let same = same_Some (record { width = width; height = height; format = format; words = words_of pattern format width height }) s e in
+      let same = same_Some (record { width = width; height = height; format = format; words = buffer_words pattern format width height }) s e in
       let wide : width ≡ s.width = ap (λ (s : Seen). s.width) same in
       let high : height ≡ s.height = ap (λ (s : Seen). s.height) same in
       ap Some (sym (word_at pattern format width height x y (omega arith) (omega arith))) ∙ ap (λ (s : Seen). Some (seen_word s x y)) same
@@ -67,10 +67,10 @@ module _ (s : Seen) (x y : ℕ) (left : x < s.width) (low : y < s.height) where
   word_of_id things (Some id) e = word_of_buffer (thing_with_id things id) e
 
   word_of_fb : (things : List Thing) (f : Option Thing) →
-      (f >>= λ f. buffer_in f.content >>= λ id. thing_with_id things id >>= λ b. seen_in b.content) ≡ Some s →
-      (f >>= λ f. buffer_in f.content >>= λ id. thing_with_id things id >>= λ b. pattern_word x y b.content) ≡ Some (seen_word s x y)
+      (f >>= λ f. buffer_id_in f.content >>= λ id. thing_with_id things id >>= λ b. seen_in b.content) ≡ Some s →
+      (f >>= λ f. buffer_id_in f.content >>= λ id. thing_with_id things id >>= λ b. pattern_word x y b.content) ≡ Some (seen_word s x y)
   word_of_fb things None e = cc
-  word_of_fb things (Some f) e = word_of_id things (buffer_in f.content) e
+  word_of_fb things (Some f) e = word_of_id things (buffer_id_in f.content) e
 
 -- the word of a framebuffer at a place of its image
 pub word_of-image : (things : List Thing) (fb x y : ℕ) (s : Seen) → image_of things fb ≡ Some s → x < s.width → y < s.height →

@@ -6,8 +6,8 @@ use Rattle.std.proofs.lemmas.Bool.{and_parts, and_from, or_parts, or_from, or_ca
 use Rattle.kms_model.specs.declared.objects.Kind.{Kind}
 use Rattle.kms_model.specs.declared.objects.Topology.{Topology}
 use Rattle.kms_model.specs.Firsts.{or_else, first_some, number_if}
-use Rattle.kms_model.specs.Objects.{object_id, count_of, ids_of}
-use Rattle.kms_model.specs.Checks.{with_ids}
+use Rattle.kms_model.specs.Device.Objects.{object_id, count_of, ids_of}
+use Rattle.kms_model.specs.Request.Checks.{with_ids}
 
 -- an item of a list
 abbrev pub IsIn : {A : Type 0} → A → List A → Type 0

@@ -8,10 +8,10 @@ use Rattle.kms_model.specs.declared.scripts.Assign.{Assign}
 use Rattle.kms_model.specs.declared.scripts.Value.{Value}
 use Rattle.kms_model.specs.declared.sets.Set.{Set}
 use Rattle.kms_model.specs.declared.worlds.Look.{Look}
-use Rattle.kms_model.specs.Apply.{object_of, prop_of}
+use Rattle.kms_model.specs.Request.Apply.{object_of, prop_of}
 use Rattle.kms_model.specs.Firsts.{or_else}
-use Rattle.kms_model.specs.Sets.{has_target_of, last_sets, set_of}
-use Rattle.kms_model.specs.Touched.{last_value, value_if}
+use Rattle.kms_model.specs.Request.Sets.{has_target_of, last_sets, set_of}
+use Rattle.kms_model.specs.Request.Touched.{last_value, value_if}
 
 -- an item is in a list
 abbrev pub IsIn : {A : Type 0} → A → List A → Type 0

@@ -25,19 +25,19 @@ use Rattle.kms_model.specs.declared.worlds.Setting.{Setting}
 use Rattle.kms_model.specs.declared.worlds.Thing.{Thing}
 use Rattle.kms_model.specs.declared.worlds.World.{World}
 use Rattle.kms_model.specs.Firsts.{or_else, first_some, number_if}
-use Rattle.kms_model.specs.Flags.{wants_event, allows_modeset}
-use Rattle.kms_model.specs.Masks.{has_bit, mask_below}
-use Rattle.kms_model.specs.Modes.{same_mode}
-use Rattle.kms_model.specs.Objects.{first_id, object_id, count_of, ids_of}
-use Rattle.kms_model.specs.World.{value}
-use Rattle.kms_model.specs.States.{natural, mode_at, crtc_at, plane_at}
-use Rattle.kms_model.specs.Named.{names, differs, is_rerouted, needs_modeset}
-use Rattle.kms_model.specs.Touched.{set_where, named_set, is_asked, out_fence_label, asks_signal}
-use Rattle.kms_model.specs.Agreement.{on_crtc, crtc_state_at, conn_state_at, AreOld, AreNew, AgreesOld, AgreesNew}
-use Rattle.kms_model.specs.Checks.{with_ids, is_on, conns_on, plane_refusal, plane_refusal_at, crtc_refusal, crtc_refusal_at, conn_refusal, conn_refusal_at, clone_refusal_at, route_refusal_at, shown_refusal, shown_refusal_at, event_refusal, modeset_refusal, late_refusal}
-use Rattle.kms_model.specs.Late.{duplicate_at, duplicate_in, members, plane_refusal_of, crtc_refusal_of, conn_refusal_of, clone_refusal_of, route_refusal_of, new_mode, shown_refusal_of, needs_modeset_between, needs_modeset_if, first_in, late_of_states}
-use Rattle.kms_model.specs.Sound.IsCrtcOrNone.{IsNone, IsCrtc}
-use Rattle.kms_model.specs.Sound.{IsCrtcOrNone, kept_properties}
+use Rattle.kms_model.specs.Request.Flags.{wants_event, allows_modeset}
+use Rattle.kms_model.specs.Device.Masks.{has_bit, mask_below}
+use Rattle.kms_model.specs.Device.Modes.{same_mode}
+use Rattle.kms_model.specs.Device.Objects.{first_id, object_id, count_of, ids_of}
+use Rattle.kms_model.specs.Device.World.{value}
+use Rattle.kms_model.specs.Device.States.{natural, mode_at, crtc_at, plane_at}
+use Rattle.kms_model.specs.Request.Named.{names, differs, is_rerouted, needs_modeset}
+use Rattle.kms_model.specs.Request.Touched.{set_where, named_set, is_asked, out_fence_label, asks_signal}
+use Rattle.kms_model.specs.Request.Agreement.{on_crtc, crtc_state_at, conn_state_at, AreOld, AreNew, AgreesOld, AgreesNew}
+use Rattle.kms_model.specs.Request.Checks.{with_ids, is_active, conns_on, plane_refusal, plane_refusal_at, crtc_refusal, crtc_refusal_at, conn_refusal, conn_refusal_at, clone_refusal_at, route_refusal_at, shown_refusal, shown_refusal_at, event_refusal, modeset_refusal, late_refusal}
+use Rattle.kms_model.specs.Request.Late.{duplicate_at, duplicate_in, members, plane_refusal_of, crtc_refusal_of, conn_refusal_of, clone_refusal_of, route_refusal_of, new_mode, shown_refusal_of, needs_modeset_between, needs_modeset_if, first_in, late_of_states}
+use Rattle.kms_model.specs.Device.Sound.IsCrtcOrNone.{IsNone, IsCrtc}
+use Rattle.kms_model.specs.Device.Sound.{IsCrtcOrNone, kept_properties}
 use Rattle.kms_model.proofs.Items.{IsIn, ids-has, list_any-at, with_ids-has}
 use Rattle.kms_model.proofs.MaskLemmas.{has_bit-mask_below, has_bit-below, same_masks, same_tests, mask_from}
 use Rattle.kms_model.proofs.UnionLemmas.{has_bit-zero}

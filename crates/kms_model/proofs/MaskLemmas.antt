@@ -6,7 +6,7 @@ use Rattle.std.proofs.Math.Numerals.{add-one}
 use Rattle.std.proofs.lemmas.Bool.{eq-eqb, ne_eqb, lt-ltb, le-ltb, cases_lt, cases_eq}
 use Rattle.std.proofs.lemmas.Nat.{pow_pos, pow-add, pow_below, one_shl, or_lt, and_le_l, or_comm, or_shifted}
 use Rattle.std.proofs.lemmas.Nat.Bits.{and_pow, bit_at-lt, bit_at-zero, bit_at_above, bit_at_cat_low, bit_at_cat_high, bit_at_set_same, bit_at_set_other, bit_at_clear_same, bit_at_clear_other, same_from_bits_below}
-use Rattle.kms_model.specs.Masks.{has_bit, mask_below}
+use Rattle.kms_model.specs.Device.Masks.{has_bit, mask_below}
 
 -- a bit of a number: 1 where a test holds
 abbrev pub bit : Bool → ℕ

@@ -5,7 +5,7 @@ use Rattle.std.specs.List.{list_all, list_any, range_with_len}
 use Rattle.std.proofs.lemmas.Bool.{and_parts, or_cases, or_left, or_right, cases_eq, ltb-true, lt-ltb}
 use Rattle.kms_model.specs.declared.objects.Kind.{Kind}
 use Rattle.kms_model.specs.declared.objects.Topology.{Topology}
-use Rattle.kms_model.specs.Objects.{count_of, exists, ids_of, object_id}
+use Rattle.kms_model.specs.Device.Objects.{count_of, exists, ids_of, object_id}
 
 all_from : (p : ℕ → Bool) (f : ℕ → ℕ) (a n i : ℕ) → list_all p (map f (range_with_len a n)) ≡ true → a ≤ i → i < a + n → p (f i) ≡ true
 all_from p f a zero i all low high = absurd (omega arith)

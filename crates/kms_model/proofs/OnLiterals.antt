@@ -3,14 +3,14 @@ use Rattle.std.specs.Prelude.{⊤}
 use Rattle.std.specs.Fmt.{digits}
 use Rattle.sha2.specs.Sha256.{sha256, digest_bytes, hash_after, compress, rounds, schedule, first_words}
 use Rattle.hex.proofs.OnLiterals.{hex_on_literals}
-use Rattle.kms_model.specs.Refusals.{assign_refusal, assigns_refusal, early_refusal}
-use Rattle.kms_model.specs.Checks.{plane_refusal, shown_refusal, late_refusal}
-use Rattle.kms_model.specs.Built.{unbuilt_command, unbuilt_client}
-use Rattle.kms_model.specs.Verdict.{verdict}
-use Rattle.kms_model.specs.Pictures.{picture}
-use Rattle.kms_model.specs.Execution.{execute}
-use Rattle.kms_model.specs.Serial.{serial_from, show_from}
-use Rattle.kms_model.specs.Flat.{run_from, latch_lines, latches_of, freed_by}
+use Rattle.kms_model.specs.Request.Refusals.{assign_refusal, assigns_refusal, early_refusal}
+use Rattle.kms_model.specs.Request.Checks.{plane_refusal, shown_refusal, late_refusal}
+use Rattle.kms_model.specs.Script.Built.{unbuilt_command, unbuilt_client}
+use Rattle.kms_model.specs.Request.Verdict.{verdict}
+use Rattle.kms_model.specs.Frames.Pictures.{picture}
+use Rattle.kms_model.specs.Device.Execution.{execute}
+use Rattle.kms_model.specs.Device.Serial.{serial_from, show_from}
+use Rattle.kms_model.specs.Report.Flat.{run_from, latch_lines, latches_of, freed_by}
 
 -- the words of a report
 unfoldable pub on_literals : ⊤

@@ -6,9 +6,9 @@ use Rattle.std.specs.Option.{option_map}
 use Rattle.kms_model.specs.declared.tables.Slot.{Slot}
 use Rattle.kms_model.specs.declared.worlds.Content.{Content}
 use Rattle.kms_model.specs.declared.worlds.Thing.{Thing}
-use Rattle.kms_model.specs.Closing.{closed_if, closed_in}
-use Rattle.kms_model.specs.OpenThings.{open_value, open_values}
-use Rattle.kms_model.specs.Tables.{slot, without_id}
+use Rattle.kms_model.specs.Device.Closing.{closed_if, closed_in}
+use Rattle.kms_model.specs.Stores.OpenThings.{open_value, open_values}
+use Rattle.kms_model.specs.Stores.Tables.{slot, without_id}
 
 module _ {V : Type 0} where
   -- the value that stands first where it is open

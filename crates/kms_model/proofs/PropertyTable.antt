@@ -5,7 +5,7 @@ use Rattle.std.specs.List.{list_all}
 use Rattle.std.proofs.lemmas.Bool.{and_parts}
 use Rattle.kms_model.specs.declared.objects.Kind.{Kind}
 use Rattle.kms_model.specs.declared.objects.Kind.TheVariants.{Enc}
-use Rattle.kms_model.specs.Properties.{all_flags, flags, format_of, formats, properties, property_id, range_of, immutable_of, name_of, is_named, is_property, property_named}
+use Rattle.kms_model.specs.Device.Properties.{all_flags, flags, format_of, formats, properties, property_id, range_of, immutable_of, name_of, is_named, is_property, property_named}
 
 -- what each item passes, the first that passes another test passes
 pub find-list_all : {A : Type 0} (p q : A → Bool) (xs : List A) → list_all p xs ≡ true → IfSome (find q xs) (λ x. p x ≡ true)

@@ -20,14 +20,14 @@ use Rattle.kms_model.specs.declared.scripts.Value.{Value}
 use Rattle.kms_model.specs.declared.scripts.Value.TheVariants.{Num, Named, New, Crtc}
 use Rattle.kms_model.specs.declared.worlds.Look.{Look}
 use Rattle.kms_model.specs.Firsts.{or_else, number_if}
-use Rattle.kms_model.specs.Objects.{exists, count_of}
-use Rattle.kms_model.specs.Properties.{Property, properties, property, has_id, keeps_limits, same_kind}
-use Rattle.kms_model.specs.Words.{between}
+use Rattle.kms_model.specs.Device.Objects.{exists, count_of}
+use Rattle.kms_model.specs.Device.Properties.{Property, properties, property, has_id, keeps_limits, same_kind}
+use Rattle.kms_model.specs.Script.Words.{between}
 use Rattle.kms_model.proofs.Items.{number_if-none}
 use Rattle.kms_model.proofs.PropertyTable.{find-list_all}
-use Rattle.kms_model.specs.Refusals.{flags_refusal, assign_refusal, assigns_refusal, early_refusal, has_property, is_immutable, is_value, is_in_range, is_in_range_of, is_second_fence, names_fence, is_of_kind}
-use Rattle.kms_model.specs.Apply.{prop_of, object_of}
-use Rattle.kms_model.specs.Resolves.{IsAllowed, IsSettable, IsSettableNumber, IsSettableValue, IsPlaced}
+use Rattle.kms_model.specs.Request.Refusals.{flags_refusal, assign_refusal, assigns_refusal, early_refusal, has_property, is_immutable, is_value, is_in_range, is_in_range_of, is_second_fence, names_fence, is_of_kind}
+use Rattle.kms_model.specs.Request.Apply.{prop_of, object_of}
+use Rattle.kms_model.specs.Request.Resolves.{IsAllowed, IsSettable, IsSettableNumber, IsSettableValue, HasPlace}
 
 -- the first of several is none where each is
 pub none_of_both : {A : Type 0} (first second : Option A) → or_else first second ≡ None → (first ≡ None) × (second ≡ None)
@@ -174,7 +174,7 @@ no_encoder : (prop : PropRef) → has_property kind.Enc prop ≡ true → ⊥
 no_encoder (Unknown name) has = cc
 no_encoder (Known id) has = no_encoder_of (property id) (find-list_all has_no_encoder (has_id id) properties no_encoders) has
 
-placed : (t : Topology) (k : Kind) (index : ℕ) (prop : PropRef) → HasFew t → exists t k index ≡ true → has_property k prop ≡ true → IsPlaced k index
+placed : (t : Topology) (k : Kind) (index : ℕ) (prop : PropRef) → HasFew t → exists t k index ≡ true → has_property k prop ≡ true → HasPlace k index
 placed t kind.Crtc index prop few is has = omega (arith, ltb-true index t.crtcs is)
 placed t kind.Plane index prop few is has = omega (arith, ltb-true index (length t.planes) is)
 placed t kind.Conn index prop few is has = omega (arith, ltb-true index (length t.conns) is)

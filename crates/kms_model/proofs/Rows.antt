@@ -12,11 +12,11 @@ use Rattle.kms_model.specs.declared.scripts.Pattern.TheVariants.{Solid}
 use Rattle.kms_model.specs.declared.scripts.PropRef.TheVariants.{Known}
 use Rattle.kms_model.specs.declared.scripts.Script.{Script}
 use Rattle.kms_model.specs.declared.scripts.Value.TheVariants as value
-use Rattle.kms_model.specs.WholeInput.{input}
-use Rattle.kms_model.specs.Flat.{flat}
-use Rattle.kms_model.specs.Frames.{colour_of}
-use Rattle.kms_model.specs.Execution.{new_buffer_refusal}
-use Rattle.kms_model.specs.Ppm.{ppm}
+use Rattle.kms_model.specs.Script.WholeInput.{input}
+use Rattle.kms_model.specs.Report.Flat.{flat}
+use Rattle.kms_model.specs.Frames.FrameBytes.{colour_of}
+use Rattle.kms_model.specs.Device.Execution.{new_buffer_refusal}
+use Rattle.kms_model.specs.Frames.Ppm.{ppm}
 use Rattle.kms_model.proofs.OnLiterals.{on_literals}
 use Rattle.kms_model.proofs.OnScripts.{on_scripts}
 

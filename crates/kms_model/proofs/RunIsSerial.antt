@@ -17,14 +17,14 @@ use Rattle.kms_model.specs.declared.scripts.Script.{Script}
 use Rattle.kms_model.specs.declared.worlds.Thing.{Thing}
 use Rattle.kms_model.specs.declared.worlds.World.{World}
 use Rattle.kms_model.specs.declared.objects.Kind.TheVariants.{Crtc}
-use Rattle.kms_model.specs.Objects.{object_id}
-use Rattle.kms_model.specs.World.{start, thing_labelled}
-use Rattle.kms_model.specs.Flags.{is_test}
-use Rattle.kms_model.specs.Verdict.{verdict}
-use Rattle.kms_model.specs.Execution.{Executed, BufferInfo, answer, make_unless, new_buffer_refusal, committed, commit, add_fb, buffer_of, close_unless, destroy_refusal, close_refusal, signal_unless, signal_refusal, execute}
-use Rattle.kms_model.specs.Serial.{Pictured, Entry, is_accepted, shown_by, from_one, command_of, execute_in, shown_in, serial_from, serial, show_from, show}
-use Rattle.kms_model.specs.Flat.{Turn, Done, done, turn_of, round, longest, turns_of, is_journaled, next_place, entry_of, journal_of, run_from, run, shown_then, latches_of, journal_line, reply_line, latch_lines, latch_lines_of, by_client, freed_by, freed_line, flat}
-use Rattle.kms_model.specs.Headline.{StandsAtItsPlace, EachStandsAtItsPlace, TellsJournal}
+use Rattle.kms_model.specs.Device.Objects.{object_id}
+use Rattle.kms_model.specs.Device.World.{start, thing_labelled}
+use Rattle.kms_model.specs.Request.Flags.{is_test}
+use Rattle.kms_model.specs.Request.Verdict.{verdict}
+use Rattle.kms_model.specs.Device.Execution.{Executed, BufferInfo, answer, make_unless, new_buffer_refusal, committed, commit, add_fb, buffer_of, close_unless, destroy_refusal, close_refusal, signal_unless, signal_refusal, execute}
+use Rattle.kms_model.specs.Device.Serial.{Pictured, Entry, is_accepted, shown_by, from_one, command_of, execute_in, shown_in, serial_from, serial, show_from, show}
+use Rattle.kms_model.specs.Report.Flat.{Turn, Done, done, turn_of, round, longest, turns_of, is_journaled, next_place, entry_of, journal_of, run_from, run, shown_then, latches_of, journal_line, reply_line, latch_lines, latch_lines_of, by_client, freed_by, freed_line, flat}
+use Rattle.kms_model.specs.Report.Headline.{StandsAtItsPlace, EachStandsAtItsPlace, TellsJournal}
 
 -- What is not accepted changes nothing and shows nothing.
 

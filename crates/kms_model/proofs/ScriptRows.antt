@@ -17,8 +17,8 @@ use Rattle.kms_model.specs.declared.scripts.Value.{Value}
 use Rattle.kms_model.specs.declared.scripts.Value.TheVariants as value
 use Rattle.kms_model.specs.declared.scripts.Why.{Why}
 use Rattle.kms_model.specs.declared.scripts.Why.TheVariants.{Bytes, Cut, Form, Label, Limit}
-use Rattle.kms_model.specs.Grammar.{int, hex}
-use Rattle.kms_model.specs.WholeInput.{input, device_of}
+use Rattle.kms_model.specs.Script.Grammar.{int, hex}
+use Rattle.kms_model.specs.Script.WholeInput.{input, device_of}
 use Rattle.kms_model.proofs.OnScripts.{on_scripts}
 
 -- A script of every command

@@ -14,16 +14,16 @@ use Rattle.kms_model.specs.declared.scripts.Request.{Request}
 use Rattle.kms_model.specs.declared.states.PlaneState.{PlaneState}
 use Rattle.kms_model.specs.declared.worlds.Setting.{Setting}
 use Rattle.kms_model.specs.declared.worlds.Thing.{Thing}
-use Rattle.kms_model.specs.Objects.{first_id, ids_of}
-use Rattle.kms_model.specs.World.{value}
-use Rattle.kms_model.specs.States.{natural, mode_at, crtc_at, plane_at}
-use Rattle.kms_model.specs.Named.{needs_modeset}
-use Rattle.kms_model.specs.Properties.{Property}
-use Rattle.kms_model.specs.Sound.IsCrtcOrNone.{IsNone, IsCrtc}
-use Rattle.kms_model.specs.Sound.{AreNumbered, IsCrtcOrNone, is_thing, is_crtc, kept_properties, are_held}
-use Rattle.kms_model.specs.Closing.{closed_in}
-use Rattle.kms_model.specs.Checks.{with_ids, is_on, plane_refusal_at, crtc_refusal, crtc_refusal_at, route_refusal_at, shown_refusal, shown_refusal_at, late_refusal}
-use Rattle.kms_model.specs.Touched.{asks_signal}
+use Rattle.kms_model.specs.Device.Objects.{first_id, ids_of}
+use Rattle.kms_model.specs.Device.World.{value}
+use Rattle.kms_model.specs.Device.States.{natural, mode_at, crtc_at, plane_at}
+use Rattle.kms_model.specs.Request.Named.{needs_modeset}
+use Rattle.kms_model.specs.Device.Properties.{Property}
+use Rattle.kms_model.specs.Device.Sound.IsCrtcOrNone.{IsNone, IsCrtc}
+use Rattle.kms_model.specs.Device.Sound.{AreNumbered, IsCrtcOrNone, is_thing, is_crtc, kept_properties, are_held}
+use Rattle.kms_model.specs.Device.Closing.{closed_in}
+use Rattle.kms_model.specs.Request.Checks.{with_ids, is_active, plane_refusal_at, crtc_refusal, crtc_refusal_at, route_refusal_at, shown_refusal, shown_refusal_at, late_refusal}
+use Rattle.kms_model.specs.Request.Touched.{asks_signal}
 use Rattle.kms_model.proofs.Items.{IsIn, IsObject, ids-in, ids-has, IsWithId, with_ids-in, first_some-same, list_any-same, list_any-some, Passes}
 use Rattle.kms_model.proofs.ThingLemmas.{IsSeenAlike, seen-closed}
 use Rattle.kms_model.proofs.HeldValues.{AreAllHeld, all_held-from, seen-held}
@@ -132,7 +132,7 @@ late-seen t xs ys old new r before after held =
     let planes = first_some-same (plane_refusal_at xs old new) (plane_refusal_at ys old new) (with_ids (first_id kind.Plane) t.planes)
     (λ p is. rw (plane-seen t xs ys old p.0 before (planes-in t p is), plane-seen t xs ys new p.0 after (planes-in t p is)) refl) in
     let crtcs = first_some-same (crtc_refusal_at xs old new r) (crtc_refusal_at ys old new r) (ids_of t kind.Crtc)
-    (λ crtc is. ap (crtc_refusal (asks_signal old new r crtc) (is_on old crtc) (is_on new crtc)) (mode-seen t xs ys new crtc after is)) in
+    (λ crtc is. ap (crtc_refusal (asks_signal old new r crtc) (is_active old crtc) (is_active new crtc)) (mode-seen t xs ys new crtc after is)) in
     let routes = first_some-same (route_refusal_at t xs new) (route_refusal_at t ys new) (ids_of t kind.Crtc)
     (λ crtc is. rw (mode-seen t xs ys new crtc after is) refl) in
     let shown = first_some-same (shown_refusal_at xs new) (shown_refusal_at ys new) (ids_of t kind.Plane)

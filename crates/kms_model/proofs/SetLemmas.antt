@@ -10,10 +10,10 @@ use Rattle.kms_model.specs.declared.ranges.Range.{Range}
 use Rattle.kms_model.specs.declared.ranges.Range.TheVariants.{Numbers, Thing, CrtcName}
 use Rattle.kms_model.specs.declared.sets.SetValue.{SetValue}
 use Rattle.kms_model.specs.declared.sets.SetValue.TheVariants as to
-use Rattle.kms_model.specs.Properties.{Property, property, properties, has_id}
-use Rattle.kms_model.specs.Apply.{is_kept}
-use Rattle.kms_model.specs.Refusals.{is_of_kind, is_immutable_row}
-use Rattle.kms_model.specs.SetRanges.{is_among, is_among_row, may_set}
+use Rattle.kms_model.specs.Device.Properties.{Property, property, properties, has_id}
+use Rattle.kms_model.specs.Request.Apply.{is_kept}
+use Rattle.kms_model.specs.Request.Refusals.{is_of_kind, is_immutable_row}
+use Rattle.kms_model.specs.Request.SetRanges.{range_takes, is_among_row, may_set}
 use Rattle.kms_model.proofs.PropertyTable.{find-list_all}
 
 -- which property of a kind of object takes a kind of value
@@ -30,7 +30,7 @@ takes _ _ _ = false
 -- a range has values of a kind
 abbrev has_kind : ℕ → Range → SetValue → Bool
 has_kind prop (Numbers low high) (to.Num n) = true
-has_kind prop range value = is_among prop range value
+has_kind prop range value = range_takes prop range value
 
 abbrev row_takes : Kind → SetValue → Property → Bool
 row_takes kind value p = if is_of_kind kind (Some p) && has_kind p.id p.range value then takes kind p.id value else true
@@ -57,7 +57,7 @@ rows_take Enc (to.Mode mode) = refl
 rows_take Enc (to.Crtc id) = refl
 rows_take Enc to.Fence = refl
 
-has_kind-among : (prop : ℕ) (range : Range) (value : SetValue) → is_among prop range value ≡ true → has_kind prop range value ≡ true
+has_kind-among : (prop : ℕ) (range : Range) (value : SetValue) → range_takes prop range value ≡ true → has_kind prop range value ≡ true
 has_kind-among prop (Numbers low high) (to.Num n) h = refl
 has_kind-among prop (Numbers low high) (to.Fb fb) h = h
 has_kind-among prop (Numbers low high) (to.Mode mode) h = h
@@ -79,8 +79,8 @@ row_means : (kind : Kind) (prop : ℕ) (value : SetValue) (row : Option Property
     → (is_of_kind kind row && (not (is_immutable_row row) && is_among_row row value)) ≡ true → takes kind prop value ≡ true
 row_means kind prop value None good found h = absurd (false≢true h)
 row_means kind prop value (Some p) good found h =
-    let parts = and_parts (is_of_kind kind (Some p)) (not p.immutable && is_among p.id p.range value) h in
-    let among : is_among p.id p.range value ≡ true = (and_parts (not p.immutable) (is_among p.id p.range value) parts.1).1 in
+    let parts = and_parts (is_of_kind kind (Some p)) (not p.immutable && range_takes p.id p.range value) h in
+    let among : range_takes p.id p.range value ≡ true = (and_parts (not p.immutable) (range_takes p.id p.range value) parts.1).1 in
     let both : takes kind p.id value ≡ true = rw (parts.0, has_kind-among p.id p.range value among) at good in
     subst (λ id. takes kind id value ≡ true) (eqb-true p.id prop found) both
 

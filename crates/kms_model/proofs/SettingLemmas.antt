@@ -14,12 +14,12 @@ use Rattle.kms_model.specs.declared.scripts.PropRef.TheVariants.{Known, Unknown}
 use Rattle.kms_model.specs.declared.scripts.Value.{Value}
 use Rattle.kms_model.specs.declared.scripts.Value.TheVariants.{Num, Named, New, Crtc}
 use Rattle.kms_model.specs.declared.worlds.Look.{Look}
-use Rattle.kms_model.specs.Properties.{Property, has_id, properties, property}
-use Rattle.kms_model.specs.Apply.{is_kept, prop_of}
-use Rattle.kms_model.specs.Refusals.{has_property, is_immutable_row, is_in_range, is_in_range_of, is_of_kind}
-use Rattle.kms_model.specs.Resolves.{IsAllowed}
-use Rattle.kms_model.specs.SetRanges.{is_among, is_among_row, may_set}
-use Rattle.kms_model.specs.Sets.{set_value}
+use Rattle.kms_model.specs.Device.Properties.{Property, has_id, properties, property}
+use Rattle.kms_model.specs.Request.Apply.{is_kept, prop_of}
+use Rattle.kms_model.specs.Request.Refusals.{has_property, is_immutable_row, is_in_range, is_in_range_of, is_of_kind}
+use Rattle.kms_model.specs.Request.Resolves.{IsAllowed}
+use Rattle.kms_model.specs.Request.SetRanges.{range_takes, is_among_row, may_set}
+use Rattle.kms_model.specs.Request.Sets.{set_value}
 use Rattle.kms_model.proofs.PropertyTable.{find-list_all}
 use Rattle.kms_model.proofs.SetLemmas.{find-passes}
 
@@ -37,7 +37,7 @@ not-is true h = sym h
 not-is false h = refl
 
 -- a value of a range is set to one among the range's
-among : (t : Topology) (f : ℕ → Look) (prop : ℕ) (range : Range) (v : Value) → has_shape prop range ≡ true → is_in_range t f prop range v ≡ true → is_among prop range (set_value f prop v) ≡ true
+among : (t : Topology) (f : ℕ → Look) (prop : ℕ) (range : Range) (v : Value) → has_shape prop range ≡ true → is_in_range t f prop range v ≡ true → range_takes prop range (set_value f prop v) ≡ true
 among t f prop (Numbers low high) (Num n) shape within =
     let a = and_parts (not (prop == FB_ID)) (not (prop == MODE_ID) && (not (prop == CRTC_ID) && is_kept prop)) shape in
     let b = and_parts (not (prop == MODE_ID)) (not (prop == CRTC_ID) && is_kept prop) a.1 in
@@ -61,7 +61,7 @@ among t f prop (Thing none) v shape within = elim (cases_Bool (prop == FB_ID)) [
 among_row : (t : Topology) (f : ℕ → Look) (prop : ℕ) (v : Value) (row : Option Property) → IfSome row (λ p. has_shape p.id p.range ≡ true) → IfSome row (λ p. has_id prop p ≡ true) → is_in_range_of t f v row ≡ true → is_among_row row (set_value f prop v) ≡ true
 among_row t f prop v None shape found within = absurd (cc)
 among_row t f prop v (Some p) shape found within =
-    let P : ℕ → Type 0 = λ id. is_among p.id p.range (set_value f id v) ≡ true in
+    let P : ℕ → Type 0 = λ id. range_takes p.id p.range (set_value f id v) ≡ true in
     subst P (eqb-true p.id prop found) (among t f p.id p.range v shape within)
 
 has_row : (k : Kind) (prop : PropRef) → has_property k prop ≡ true → is_of_kind k (property (prop_of prop)) ≡ true

@@ -24,25 +24,25 @@ use Rattle.kms_model.specs.declared.worlds.Setting.{Setting}
 use Rattle.kms_model.specs.declared.worlds.Thing.{Thing}
 use Rattle.kms_model.specs.declared.worlds.World.{World}
 use Rattle.kms_model.specs.Firsts.{first_some, number_if}
-use Rattle.kms_model.specs.Flags.{is_test}
-use Rattle.kms_model.specs.Objects.{first_id, ids_of}
-use Rattle.kms_model.specs.Modes.{mode_numbers, same_numbers, same_mode}
-use Rattle.kms_model.specs.World.{value, thing_labelled}
-use Rattle.kms_model.specs.States.{mode_at, crtc_at, plane_at}
-use Rattle.kms_model.specs.Lookups.{look_up}
-use Rattle.kms_model.specs.Apply.{apply}
-use Rattle.kms_model.specs.Named.{differs, is_rerouted, needs_modeset}
-use Rattle.kms_model.specs.Grammar.{format_bit}
-use Rattle.kms_model.specs.Masks.{has_bit}
-use Rattle.kms_model.specs.Rectangles.{fits_source}
-use Rattle.kms_model.specs.Refusals.{flags_refusal, assigns_refusal, early_refusal}
-use Rattle.kms_model.specs.Checks.{hops, has_crtc, is_beyond, is_on, with_ids, placed_refusal, plane_refusal_with, plane_refusal, plane_refusal_at, crtc_refusal, crtc_refusal_at, conn_refusal_at, clone_refusal_at, route_refusal_at, shown_refusal_at, event_refusal, late_refusal}
-use Rattle.kms_model.specs.Touched.{asks_signal, out_fence_label}
-use Rattle.kms_model.specs.Execution.{make, make_unless, answer, add_fb, buffer_of, BufferInfo}
-use Rattle.kms_model.specs.Sound.{are_held, empty_request, IsSound}
-use Rattle.kms_model.specs.Verdict.{verdict}
-use Rattle.kms_model.specs.Closing.{closed_if, closed_in}
-use Rattle.kms_model.specs.Execution.{close, close_unless, signal_unless, make_out_fence, make_out_fences, committed, commit, execute, new_buffer_refusal, destroy_refusal, close_refusal, signal_refusal}
+use Rattle.kms_model.specs.Request.Flags.{is_test}
+use Rattle.kms_model.specs.Device.Objects.{first_id, ids_of}
+use Rattle.kms_model.specs.Device.Modes.{mode_numbers, same_numbers, same_mode}
+use Rattle.kms_model.specs.Device.World.{value, thing_labelled}
+use Rattle.kms_model.specs.Device.States.{mode_at, crtc_at, plane_at}
+use Rattle.kms_model.specs.Request.Lookups.{look_up}
+use Rattle.kms_model.specs.Request.Apply.{apply}
+use Rattle.kms_model.specs.Request.Named.{differs, is_rerouted, needs_modeset}
+use Rattle.kms_model.specs.Script.Grammar.{format_bit}
+use Rattle.kms_model.specs.Device.Masks.{has_bit}
+use Rattle.kms_model.specs.Frames.Rectangles.{fits_source}
+use Rattle.kms_model.specs.Request.Refusals.{flags_refusal, assigns_refusal, early_refusal}
+use Rattle.kms_model.specs.Request.Checks.{switches_crtc, has_crtc, is_beyond, is_active, with_ids, placed_refusal, plane_refusal_with, plane_refusal, plane_refusal_at, crtc_refusal, crtc_refusal_at, conn_refusal_at, clone_refusal_at, route_refusal_at, shown_refusal_at, event_refusal, late_refusal}
+use Rattle.kms_model.specs.Request.Touched.{asks_signal, out_fence_label}
+use Rattle.kms_model.specs.Device.Execution.{make, make_unless, answer, add_fb, buffer_of, BufferInfo}
+use Rattle.kms_model.specs.Device.Sound.{are_held, empty_request, IsSound}
+use Rattle.kms_model.specs.Request.Verdict.{verdict}
+use Rattle.kms_model.specs.Device.Closing.{closed_if, closed_in}
+use Rattle.kms_model.specs.Device.Execution.{close, close_unless, signal_unless, make_out_fence, make_out_fences, committed, commit, execute, new_buffer_refusal, destroy_refusal, close_refusal, signal_refusal}
 use Rattle.kms_model.proofs.Items.{AreNone, or_else-none, or_else-nones, none-number_if, first_some-at, first_some-none, list_any-none}
 use Rattle.kms_model.proofs.ThingLemmas.{numbered-push, numbered-closed, seen-closed}
 use Rattle.kms_model.proofs.HeldValues.{are_held-kept, held-apply, held-push, held-seen, all_held-from}
@@ -71,8 +71,8 @@ needs_modeset-self t things values crtc =
     (not_from_true (int_eq (value values crtc ACTIVE) (value values crtc ACTIVE)) ((Decides-int_eq (value values crtc ACTIVE) (value values crtc ACTIVE)).1 refl))
     (list_any-none (is_rerouted values values crtc) (ids_of t kind.Conn) (λ conn is. differs-self (crtc_at values conn == crtc))))
 
-hops-self : (crtc : ℕ) → hops crtc crtc ≡ false
-hops-self crtc = and_right (not (crtc == 0)) (not (crtc == 0) && not (crtc == crtc)) (and_right (not (crtc == 0)) (not (crtc == crtc)) (not_from_true (crtc == crtc) (eq-eqb crtc crtc refl)))
+switches_crtc-self : (crtc : ℕ) → switches_crtc crtc crtc ≡ false
+switches_crtc-self crtc = and_right (not (crtc == 0)) (not (crtc == 0) && not (crtc == crtc)) (and_right (not (crtc == 0)) (not (crtc == crtc)) (not_from_true (crtc == crtc) (eq-eqb crtc crtc refl)))
 
 placed-again : (info : PlaneInfo) (fb : FbInfo) (old new : PlaneState) → placed_refusal info fb old new ≡ None → placed_refusal info fb new new ≡ None
 placed-again info fb old new none =
@@ -80,7 +80,7 @@ placed-again info fb old new none =
     let twelve = or_else-none (number_if 12 (not (has_bit info.formats (format_bit fb.format)))) _ eleven.second_none in
     let thirteen = or_else-none (number_if 13 (is_beyond new.dst)) _ twelve.second_none in
     let fourteen = or_else-none (number_if 14 (not (fits_source new.src fb.width fb.height))) _ thirteen.second_none in
-    or_else-nones _ _ eleven.first_none (or_else-nones _ _ twelve.first_none (or_else-nones _ _ thirteen.first_none (or_else-nones _ _ fourteen.first_none (none-number_if 15 (hops new.crtc new.crtc) (hops-self new.crtc)))))
+    or_else-nones _ _ eleven.first_none (or_else-nones _ _ twelve.first_none (or_else-nones _ _ thirteen.first_none (or_else-nones _ _ fourteen.first_none (none-number_if 15 (switches_crtc new.crtc new.crtc) (switches_crtc-self new.crtc)))))
 
 plane_with-again : (info : PlaneInfo) (old new : PlaneState) (fb : Option FbInfo) (off : Bool) → plane_refusal_with info old new fb off ≡ None → plane_refusal_with info new new fb off ≡ None
 plane_with-again info old new None true none = refl
@@ -112,7 +112,7 @@ late-again t things old new r none =
     let planes_again : first_some (plane_refusal_at things new new) (with_ids (first_id kind.Plane) t.planes) ≡ None = first_some-none (plane_refusal_at things new new) (with_ids (first_id kind.Plane) t.planes)
     (λ p is. plane-again p.1 (plane_at things old p.0) (plane_at things new p.0) (first_some-at (plane_refusal_at things old new) (with_ids (first_id kind.Plane) t.planes) p planes.first_none is)) in
     let crtcs_again : first_some (crtc_refusal_at things new new empty_request) (ids_of t kind.Crtc) ≡ None = first_some-none (crtc_refusal_at things new new empty_request) (ids_of t kind.Crtc)
-    (λ crtc is. crtc-again (asks_signal old new r crtc) (is_on old crtc) (is_on new crtc) (mode_at things new crtc) (first_some-at (crtc_refusal_at things old new r) (ids_of t kind.Crtc) crtc crtcs.first_none is)) in
+    (λ crtc is. crtc-again (asks_signal old new r crtc) (is_active old crtc) (is_active new crtc) (mode_at things new crtc) (first_some-at (crtc_refusal_at things old new r) (ids_of t kind.Crtc) crtc crtcs.first_none is)) in
     let modesets_again : list_any (needs_modeset t things new new) (ids_of t kind.Crtc) ≡ false = list_any-none (needs_modeset t things new new) (ids_of t kind.Crtc) (λ crtc is. needs_modeset-self t things new crtc) in
     or_else-nones _ _ planes_again (or_else-nones _ _ crtcs_again (or_else-nones _ _ conns.first_none (or_else-nones _ _ clones.first_none (or_else-nones _ _ routes.first_none (or_else-nones _ _ shown.first_none (none-number_if 24 _ modesets_again))))))
 

@@ -14,15 +14,15 @@ use Rattle.kms_model.specs.declared.objects.Topology.{Topology}
 use Rattle.kms_model.specs.declared.properties.TheConstants.{FB_ID, CRTC_ID, ACTIVE, MODE_ID}
 use Rattle.kms_model.specs.declared.states.PlaneState.{PlaneState}
 use Rattle.kms_model.specs.declared.worlds.Setting.{Setting}
-use Rattle.kms_model.specs.Words.{between}
-use Rattle.kms_model.specs.Objects.{first_id, count_of, ids_of}
-use Rattle.kms_model.specs.Properties.{Property, properties, keeps_limits}
-use Rattle.kms_model.specs.World.{value, start_crtc, start_plane, start_planes, start_conn, start}
-use Rattle.kms_model.specs.States.{natural, mode_at, crtc_at, plane_at}
-use Rattle.kms_model.specs.Apply.{is_kept}
-use Rattle.kms_model.specs.Named.{needs_modeset}
-use Rattle.kms_model.specs.Sound.{HasPlaneKind, IsDevice, is_held, empty_request, IsSound}
-use Rattle.kms_model.specs.Checks.{with_ids, conns_on, plane_refusal, plane_refusal_at, crtc_refusal_at, conn_refusal_at, clone_refusal_at, route_refusal_at, shown_refusal, shown_refusal_at, late_refusal}
+use Rattle.kms_model.specs.Script.Words.{between}
+use Rattle.kms_model.specs.Device.Objects.{first_id, count_of, ids_of}
+use Rattle.kms_model.specs.Device.Properties.{Property, properties, keeps_limits}
+use Rattle.kms_model.specs.Device.World.{value, start_crtc, start_plane, start_planes, start_conn, start}
+use Rattle.kms_model.specs.Device.States.{natural, mode_at, crtc_at, plane_at}
+use Rattle.kms_model.specs.Request.Apply.{is_kept}
+use Rattle.kms_model.specs.Request.Named.{needs_modeset}
+use Rattle.kms_model.specs.Device.Sound.{HasPlaneKind, IsDevice, is_held, empty_request, IsSound}
+use Rattle.kms_model.specs.Request.Checks.{with_ids, conns_on, plane_refusal, plane_refusal_at, crtc_refusal_at, conn_refusal_at, clone_refusal_at, route_refusal_at, shown_refusal, shown_refusal_at, late_refusal}
 use Rattle.kms_model.proofs.Items.{IsIn, IsObject, ids-in, list_all-at, list_any-none, or_else-nones, none-number_if, first_some-none}
 use Rattle.kms_model.proofs.AppliedValues.{ComesFrom, value-cases}
 use Rattle.kms_model.proofs.HeldValues.{IsKeptRow, HoldsAll, kept_row, are_held-from}

@@ -21,17 +21,17 @@ use Rattle.kms_model.specs.declared.worlds.Content.TheVariants as content
 use Rattle.kms_model.specs.declared.worlds.Look.TheVariants as look
 use Rattle.kms_model.specs.declared.worlds.Thing as worlds
 use Rattle.kms_model.specs.declared.worlds.World.{World}
-use Rattle.kms_model.specs.Agreement.{StandsFor}
-use Rattle.kms_model.specs.Apply.{id_in, number_of, prop_of, is_kept}
-use Rattle.kms_model.specs.Lookups.{look_of, look_of_content, look_of_mode, look_up}
-use Rattle.kms_model.specs.ModeBytes.{decoded}
-use Rattle.kms_model.specs.Modes.{is_legal_mode}
-use Rattle.kms_model.specs.Properties.{Property, properties, property, has_id}
-use Rattle.kms_model.specs.Refusals.{takes, is_in_range, is_in_range_of, is_value}
-use Rattle.kms_model.specs.Sets.{fb_of_look, mode_of_look, fb_value, mode_value, crtc_value, number_value, set_value}
-use Rattle.kms_model.specs.Sound.{AreNumbered}
-use Rattle.kms_model.specs.States.{framebuffer_of, framebuffer_in, mode_of, mode_in}
-use Rattle.kms_model.specs.World.{thing_labelled, thing_numbered}
+use Rattle.kms_model.specs.Request.Agreement.{StandsFor}
+use Rattle.kms_model.specs.Request.Apply.{id_in, number_of, prop_of, is_kept}
+use Rattle.kms_model.specs.Request.Lookups.{look_of, look_of_content, look_of_mode, look_up}
+use Rattle.kms_model.specs.Device.ModeBytes.{decoded}
+use Rattle.kms_model.specs.Device.Modes.{is_legal_mode}
+use Rattle.kms_model.specs.Device.Properties.{Property, properties, property, has_id}
+use Rattle.kms_model.specs.Request.Refusals.{takes, is_in_range, is_in_range_of, is_value}
+use Rattle.kms_model.specs.Request.Sets.{fb_of_look, mode_of_look, fb_value, mode_value, crtc_value, number_value, set_value}
+use Rattle.kms_model.specs.Device.Sound.{AreNumbered}
+use Rattle.kms_model.specs.Device.States.{framebuffer_of, framebuffer_in, mode_of, mode_in}
+use Rattle.kms_model.specs.Device.World.{thing_labelled, thing_numbered}
 use Rattle.kms_model.proofs.Items.{IsIn}
 use Rattle.kms_model.proofs.HeldValues.{IsAccepted}
 use Rattle.kms_model.proofs.PropertyTable.{find-list_all}

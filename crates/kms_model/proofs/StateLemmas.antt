@@ -13,13 +13,13 @@ use Rattle.kms_model.specs.declared.worlds.Setting.{Setting}
 use Rattle.kms_model.specs.declared.worlds.Thing.{Thing}
 use Rattle.kms_model.specs.declared.worlds.World.{World}
 use Rattle.kms_model.specs.Firsts.{first_some, number_if}
-use Rattle.kms_model.specs.Objects.{object_id, count_of, ids_of, first_id}
-use Rattle.kms_model.specs.World.{value}
-use Rattle.kms_model.specs.States.{natural, mode_at, crtc_at, plane_at}
-use Rattle.kms_model.specs.Properties.{Property}
-use Rattle.kms_model.specs.Sound.{IsBetween, IsCrtcOrNone, IsPlaneInRange, IsSound, empty_request, kept_properties, is_held}
-use Rattle.kms_model.specs.Touched.{asks_signal}
-use Rattle.kms_model.specs.Checks.{is_on, with_ids, crtc_refusal, crtc_refusal_at, plane_refusal_at, event_refusal, late_refusal}
+use Rattle.kms_model.specs.Device.Objects.{object_id, count_of, ids_of, first_id}
+use Rattle.kms_model.specs.Device.World.{value}
+use Rattle.kms_model.specs.Device.States.{natural, mode_at, crtc_at, plane_at}
+use Rattle.kms_model.specs.Device.Properties.{Property}
+use Rattle.kms_model.specs.Device.Sound.{IsBetween, IsCrtcOrNone, IsPlaneInRange, IsSound, empty_request, kept_properties, is_held}
+use Rattle.kms_model.specs.Request.Touched.{asks_signal}
+use Rattle.kms_model.specs.Request.Checks.{is_active, with_ids, crtc_refusal, crtc_refusal_at, plane_refusal_at, event_refusal, late_refusal}
 use Rattle.kms_model.proofs.Items.{IsIn, ids-has, or_else-none, number_if-none, first_some-at}
 use Rattle.kms_model.proofs.HeldValues.{AreAllHeld, all_held-from}
 use Rattle.kms_model.proofs.SeenLemmas.{row-at, plane_crtc-held, conn_crtc-held}
@@ -75,11 +75,11 @@ crtc-mode : (asks was on : Bool) (mode : Option Mode) → crtc_refusal asks was 
 crtc-mode asks was on mode none is = on-mode on mode (number_if-none 16 _ (or_else-none (number_if 16 (on && is_none mode)) _ none).first_none) is
 
 -- a CRTC that is on has a mode
-pub sound-mode : (t : Topology) (w : World) (index : ℕ) → IsSound t w → index < count_of t kind.Crtc → is_on w.values (object_id kind.Crtc index) ≡ true → is_some (mode_at w.things w.values (object_id kind.Crtc index)) ≡ true
+pub sound-mode : (t : Topology) (w : World) (index : ℕ) → IsSound t w → index < count_of t kind.Crtc → is_active w.values (object_id kind.Crtc index) ≡ true → is_some (mode_at w.things w.values (object_id kind.Crtc index)) ≡ true
 unfolding late_refusal
 sound-mode t w index sound within on =
     let events = or_else-none (event_refusal t w.values w.values empty_request) _ sound.accepted in
     let planes = or_else-none (first_some (plane_refusal_at w.things w.values w.values) (with_ids (first_id kind.Plane) t.planes)) _ events.second_none in
     let crtcs = or_else-none (first_some (crtc_refusal_at w.things w.values w.values empty_request) (ids_of t kind.Crtc)) _ planes.second_none in
-    crtc-mode (asks_signal w.values w.values empty_request (object_id kind.Crtc index)) (is_on w.values (object_id kind.Crtc index)) (is_on w.values (object_id kind.Crtc index)) (mode_at w.things w.values (object_id kind.Crtc index))
+    crtc-mode (asks_signal w.values w.values empty_request (object_id kind.Crtc index)) (is_active w.values (object_id kind.Crtc index)) (is_active w.values (object_id kind.Crtc index)) (mode_at w.things w.values (object_id kind.Crtc index))
     (first_some-at (crtc_refusal_at w.things w.values w.values empty_request) (ids_of t kind.Crtc) (object_id kind.Crtc index) crtcs.first_none (ids-has t kind.Crtc index within)) on

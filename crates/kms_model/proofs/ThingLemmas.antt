@@ -5,10 +5,10 @@ use Rattle.std.specs.Ordering.{int_eq}
 use Rattle.std.proofs.lemmas.Bool.{cases_Bool, cond-true, cond-false, false_from_ne_true}
 use Rattle.std.proofs.lemmas.Bool.Decides.{Decides-int_eq}
 use Rattle.kms_model.specs.declared.worlds.Thing.{Thing}
-use Rattle.kms_model.specs.World.{thing_labelled, thing_numbered}
-use Rattle.kms_model.specs.States.{framebuffer_of, framebuffer_in, mode_of, mode_in}
-use Rattle.kms_model.specs.Sound.{AreNumbered}
-use Rattle.kms_model.specs.Closing.{closed_if, closed_in}
+use Rattle.kms_model.specs.Device.World.{thing_labelled, thing_numbered}
+use Rattle.kms_model.specs.Device.States.{framebuffer_of, framebuffer_in, mode_of, mode_in}
+use Rattle.kms_model.specs.Device.Sound.{AreNumbered}
+use Rattle.kms_model.specs.Device.Closing.{closed_if, closed_in}
 use Rattle.kms_model.proofs.Items.{IsIn}
 
 -- a thing's id is a number of the count

@@ -18,20 +18,20 @@ use Rattle.kms_model.specs.declared.worlds.Setting.{Setting}
 use Rattle.kms_model.specs.declared.worlds.Thing.{Thing}
 use Rattle.kms_model.specs.declared.worlds.World.{World}
 use Rattle.kms_model.specs.Firsts.{or_else, first_some, number_if}
-use Rattle.kms_model.specs.Words.{between}
-use Rattle.kms_model.specs.Modes.{same_mode}
-use Rattle.kms_model.specs.Objects.{first_id, object_id, count_of, ids_of, exists}
-use Rattle.kms_model.specs.Properties.{keeps_limits}
-use Rattle.kms_model.specs.World.{value}
-use Rattle.kms_model.specs.States.{natural, mode_at, crtc_at, plane_at, plane_from}
-use Rattle.kms_model.specs.Lookups.{look_up}
-use Rattle.kms_model.specs.Apply.{object_of, prop_of, apply}
-use Rattle.kms_model.specs.Named.{is_routed, moves_on, is_named_by, names, differs, is_rerouted, needs_modeset}
-use Rattle.kms_model.specs.Touched.{sets, is_remade, touches_crtc, touches_routed, asks_signal}
-use Rattle.kms_model.specs.Refusals.{assigns_refusal, early_refusal}
-use Rattle.kms_model.specs.Checks.{with_ids, is_on, conns_on, plane_refusal, plane_refusal_at, crtc_refusal, crtc_refusal_at, conn_refusal_at, clone_refusal_at, route_refusal_at, shown_refusal, shown_refusal_at, event_refusal, late_refusal}
-use Rattle.kms_model.specs.Sound.IsCrtcOrNone.{IsNone, IsCrtc}
-use Rattle.kms_model.specs.Sound.{IsDevice, IsCrtcOrNone, IsSound, empty_request}
+use Rattle.kms_model.specs.Script.Words.{between}
+use Rattle.kms_model.specs.Device.Modes.{same_mode}
+use Rattle.kms_model.specs.Device.Objects.{first_id, object_id, count_of, ids_of, exists}
+use Rattle.kms_model.specs.Device.Properties.{keeps_limits}
+use Rattle.kms_model.specs.Device.World.{value}
+use Rattle.kms_model.specs.Device.States.{natural, mode_at, crtc_at, plane_at, plane_from}
+use Rattle.kms_model.specs.Request.Lookups.{look_up}
+use Rattle.kms_model.specs.Request.Apply.{object_of, prop_of, apply}
+use Rattle.kms_model.specs.Request.Named.{is_routed, moves_on, is_named_by, names, differs, is_rerouted, needs_modeset}
+use Rattle.kms_model.specs.Request.Touched.{sets, is_affected, touches_crtc, touches_routed, asks_signal}
+use Rattle.kms_model.specs.Request.Refusals.{assigns_refusal, early_refusal}
+use Rattle.kms_model.specs.Request.Checks.{with_ids, is_active, conns_on, plane_refusal, plane_refusal_at, crtc_refusal, crtc_refusal_at, conn_refusal_at, clone_refusal_at, route_refusal_at, shown_refusal, shown_refusal_at, event_refusal, late_refusal}
+use Rattle.kms_model.specs.Device.Sound.IsCrtcOrNone.{IsNone, IsCrtc}
+use Rattle.kms_model.specs.Device.Sound.{IsDevice, IsCrtcOrNone, IsSound, empty_request}
 use Rattle.kms_model.proofs.Items.{IsIn, IsObject, ids-in, ids-has, AreNone, or_else-none, or_else-nones, number_if-none, none-number_if, first_some-at, list_any-at, list_any-none, list_any-some, list_any-has, Passes, filter-same}
 use Rattle.kms_model.proofs.AppliedValues.{value-apply_unset}
 use Rattle.kms_model.proofs.HeldValues.{IsAccepted, accepted-assign, all_held-from}
@@ -119,7 +119,7 @@ pub plane_at-unset : (w : World) (r : Request) (plane : ℕ) → sets r.assigns 
 plane_at-unset w r plane unset = ap (λ v. plane_from v w.things) (λ i prop. value-apply_unset w.things w.values r.assigns plane prop unset i)
 
 pub mode_at-unset : (w : World) (r : Request) (crtc : ℕ) → sets r.assigns crtc ≡ false → mode_at w.things (after w r) crtc ≡ mode_at w.things w.values crtc
-mode_at-unset w r crtc unset = ap (λ n. Rattle.kms_model.specs.States.mode_of (Rattle.kms_model.specs.World.thing_numbered w.things n)) (value-apply_unset w.things w.values r.assigns crtc MODE_ID unset)
+mode_at-unset w r crtc unset = ap (λ n. Rattle.kms_model.specs.Device.States.mode_of (Rattle.kms_model.specs.Device.World.thing_numbered w.things n)) (value-apply_unset w.things w.values r.assigns crtc MODE_ID unset)
 
 -- a CRTC that is not named has the same objects of a kind before and after
 pub routed-unnamed : (t : Topology) (w : World) (r : Request) (k : Kind) (crtc object : ℕ) → IsRequestAt t w r → is_routed k ≡ true → IsIn object (ids_of t k) → names w.values (after w r) r.assigns crtc ≡ false
@@ -183,13 +183,13 @@ untouched-plane t w r p at is untouched =
     let unset = (or_parts (sets r.assigns p.0) _ untouched).0 in
     ap (plane_refusal p.1 (plane_at w.things w.values p.0)) (plane_at-unset w r p.0 unset) ∙ (accepts t w at.sound).planes p is
 
-is_on-unset : (w : World) (r : Request) (crtc : ℕ) → sets r.assigns crtc ≡ false → is_on (after w r) crtc ≡ is_on w.values crtc
-is_on-unset w r crtc unset = ap (λ n. not (int_eq n (pos 0))) (value-apply_unset w.things w.values r.assigns crtc ACTIVE unset)
+is_active-unset : (w : World) (r : Request) (crtc : ℕ) → sets r.assigns crtc ≡ false → is_active (after w r) crtc ≡ is_active w.values crtc
+is_active-unset w r crtc unset = ap (λ n. not (int_eq n (pos 0))) (value-apply_unset w.things w.values r.assigns crtc ACTIVE unset)
 
 pub untouched-crtc : (t : Topology) (w : World) (r : Request) (crtc : ℕ) → IsRequestAt t w r → IsIn crtc (ids_of t kind.Crtc) → touches w r crtc ≡ false → crtc_refusal_at w.things w.values (after w r) r crtc ≡ None
 untouched-crtc t w r crtc at is untouched =
     let parts = or_parts (sets r.assigns crtc) (names w.values (after w r) r.assigns crtc) untouched in
-    rw (parts.1, is_on-unset w r crtc parts.0, mode_at-unset w r crtc parts.0) ((accepts t w at.sound).crtcs crtc is)
+    rw (parts.1, is_active-unset w r crtc parts.0, mode_at-unset w r crtc parts.0) ((accepts t w at.sound).crtcs crtc is)
 
 pub untouched-conn : (t : Topology) (w : World) (r : Request) (c : ℕ × ℕ) → IsRequestAt t w r → IsIn c (with_ids (first_id kind.Conn) t.conns) → touches_object t w r c.0 ≡ false → conn_refusal_at (after w r) c ≡ None
 untouched-conn t w r c at is untouched =
@@ -235,12 +235,12 @@ shown-modes a b s same = rw same refl
 -- a plane that is not set and whose CRTC needs no modeset
 pub untouched-shown : (t : Topology) (w : World) (r : Request) (plane : ℕ) → IsRequestAt t w r → IsIn plane (ids_of t kind.Plane) → touches_object t w r plane ≡ false → shown_refusal_at w.things (after w r) plane ≡ None
 untouched-shown t w r plane at is untouched =
-    let parts = or_parts (sets r.assigns plane) (is_remade t w.things w.values (after w r) plane) untouched in
+    let parts = or_parts (sets r.assigns plane) (is_affected t w.things w.values (after w r) plane) untouched in
     ap (λ s. shown_refusal (mode_at w.things (after w r) s.crtc) s) (plane_at-unset w r plane parts.0)
     ∙ on_its_crtc (plane_crtc-held t w.things w.values plane (all_held-from t w.things w.values at.sound.held) is) parts.1
     ∙ (accepts t w at.sound).shown plane is
   where
-    on_its_crtc : IsCrtcOrNone t (crtc_at w.values plane) → is_remade t w.things w.values (after w r) plane ≡ false
+    on_its_crtc : IsCrtcOrNone t (crtc_at w.values plane) → is_affected t w.things w.values (after w r) plane ≡ false
         → shown_refusal (mode_at w.things (after w r) (crtc_at w.values plane)) (plane_at w.things w.values plane) ≡ shown_refusal (mode_at w.things w.values (crtc_at w.values plane)) (plane_at w.things w.values plane)
     on_its_crtc (IsNone off) kept = shown-off _ _ (plane_at w.things w.values plane) off
     on_its_crtc (IsCrtc index within same) kept =

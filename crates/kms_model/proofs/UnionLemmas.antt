@@ -5,7 +5,7 @@ use Rattle.std.specs.Int.{bit_at}
 use Rattle.std.proofs.lemmas.Bool.Decides.{eqb_tells}
 use Rattle.std.proofs.lemmas.Nat.{one_shl}
 use Rattle.std.proofs.lemmas.Nat.Bits.{bit_at-pow_same, bit_at-pow_other, bit_at_or, bit_at-zero}
-use Rattle.kms_model.specs.Masks.{has_bit}
+use Rattle.kms_model.specs.Device.Masks.{has_bit}
 use Rattle.kms_model.proofs.MaskLemmas.{bit, bit_from, has_bit-from}
 
 pow_bit : (k i : ℕ) → bit_at (2 ^ k) i ≡ bit (k == i)

@@ -3,7 +3,7 @@ use Rattle.std.proofs.Common.{◌≡◌, ◌≢◌, ℕ, List, cond, Bool, true,
 use Rattle.std.specs.Prelude.{◌&&◌, ◌==◌, ℤ}
 use Rattle.std.proofs.lemmas.Bool.{eq-eqb, ne_eqb}
 use Rattle.kms_model.specs.declared.worlds.Setting.{Setting}
-use Rattle.kms_model.specs.World.{put, value}
+use Rattle.kms_model.specs.Device.World.{put, value}
 use Rattle.kms_model.proofs.AppliedValues.{value-put}
 
 -- values that differ in one property of one object alone

@@ -18,9 +18,9 @@ use Rattle.kms_model.specs.declared.scripts.PropRef.TheVariants.{Known}
 use Rattle.kms_model.specs.declared.scripts.Script.{Script}
 use Rattle.kms_model.specs.declared.scripts.Value.{Value}
 use Rattle.kms_model.specs.declared.scripts.Value.TheVariants as value
-use Rattle.kms_model.specs.Built.{is_built, unbuilt_line}
-use Rattle.kms_model.specs.Flat.{run, flat}
-use Rattle.kms_model.specs.ModeBytes.{mode_bytes}
+use Rattle.kms_model.specs.Script.Built.{is_built, unbuilt_line}
+use Rattle.kms_model.specs.Report.Flat.{run, flat}
+use Rattle.kms_model.specs.Device.ModeBytes.{mode_bytes}
 use Rattle.kms_model.proofs.OnLiterals.{on_literals}
 use Rattle.kms_model.proofs.Rows.{device, tiny}
 

@@ -3,13 +3,13 @@ ghost use Rattle.std.specs.Prelude.{◌≡◌, ℕ, Bool};
 ghost use Rattle.kms_model.specs.declared.objects.Topology.{Topology};
 ghost use Rattle.kms_model.specs.declared.scripts.Command.{Command};
 ghost use Rattle.kms_model.specs.declared.scripts.Script.{Script};
-ghost use Rattle.kms_model.specs.Serial.{show};
-ghost use Rattle.kms_model.specs.Flat.{flat, journal_of, latches_of, run};
-ghost use Rattle.kms_model.specs.Headline.{EachStandsAtItsPlace, TellsJournal};
+ghost use Rattle.kms_model.specs.Device.Serial.{show};
+ghost use Rattle.kms_model.specs.Report.Flat.{flat, journal_of, latches_of, run};
+ghost use Rattle.kms_model.specs.Report.Headline.{EachStandsAtItsPlace, TellsJournal};
 ghost use Rattle.kms_model.specs.declared.worlds.World.{World};
-ghost use Rattle.kms_model.specs.World.{start};
-ghost use Rattle.kms_model.specs.Sound.{IsDevice, IsSound};
-ghost use Rattle.kms_model.specs.Execution.{execute};
+ghost use Rattle.kms_model.specs.Device.World.{start};
+ghost use Rattle.kms_model.specs.Device.Sound.{IsDevice, IsSound};
+ghost use Rattle.kms_model.specs.Device.Execution.{execute};
 
 /// What a script's clients do in rounds is what the device of one thread does when it executes the journal of
 /// the accepted commands: each CRTC latches what the journal shows, and each command's result is that of the

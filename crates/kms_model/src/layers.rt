@@ -19,7 +19,7 @@ impl Model for Layers {
 
     ghost Value = { List Layer };
 
-    ghost use Rattle.kms_model.specs.LayersInPlace.{IsInPlace, in_place, count_again, items_again};
+    ghost use Rattle.kms_model.specs.Frames.LayersInPlace.{IsInPlace, in_place, count_again, items_again};
     ghost use Rattle.std.specs.Prelude.{length};
     ghost use Rattle.std.proofs.Common.{refl};
 

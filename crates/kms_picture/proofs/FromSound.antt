@@ -14,20 +14,20 @@ use Rattle.kms_model.specs.declared.states.CrtcState.{CrtcState}
 use Rattle.kms_model.specs.declared.states.Duplicates.{Duplicates}
 use Rattle.kms_model.specs.declared.states.PlaneState.{PlaneState}
 use Rattle.kms_model.specs.declared.worlds.World.{World}
-use Rattle.kms_model.specs.Masks.{has_bit}
-use Rattle.kms_model.specs.Objects.{object_id}
-use Rattle.kms_model.specs.States.{crtc_at, plane_at}
-use Rattle.kms_model.specs.Sound.{IsBetween, IsDevice, IsPlaneInRange, IsSound}
-use Rattle.kms_model.specs.Agreement.{AgreesNew, crtc_state_at}
+use Rattle.kms_model.specs.Device.Masks.{has_bit}
+use Rattle.kms_model.specs.Device.Objects.{object_id}
+use Rattle.kms_model.specs.Device.States.{crtc_at, plane_at}
+use Rattle.kms_model.specs.Device.Sound.{IsBetween, IsDevice, IsPlaneInRange, IsSound}
+use Rattle.kms_model.specs.Request.Agreement.{AgreesNew, crtc_state_at}
 use Rattle.kms_model.proofs.MaskLemmas.{has_bit-mask_below}
 use Rattle.kms_model.proofs.StateLemmas.{sound-plane_in_range}
 use Rattle.kms_model.proofs.TouchedLemmas.{HasFewObjects, few_objects}
 use Rattle.kms_state.specs.Places.{state_at}
 use Rattle.kms_state.proofs.Slots.{slot_at}
-use Rattle.kms_picture.specs.Covered.{HasRoom, are_covered, is_covered, is_near, is_near_rect, is_ready, may_picture}
+use Rattle.kms_picture.specs.Covered.{FitsDuplicates, are_placeable, is_placeable, is_near, is_near_rect, is_ready, may_picture}
 
 -- a device has no more objects than duplicates have room for
-pub has_room : (t : Topology) → IsDevice t → HasRoom t
+pub has_room : (t : Topology) → IsDevice t → FitsDuplicates t
 has_room t device = let few : HasFewObjects t = few_objects t device in record { planes = few.planes; conns = few.conns }
 
 int_le-from : (a b : ℤ) → a ≤ℤ b → int_le a b ≡ true
@@ -49,7 +49,7 @@ list_all-from : (f : ℕ → Bool) (start n : ℕ) → ((i : ℕ) → f i ≡ tr
 list_all-from f start zero each = refl
 list_all-from f start (suc n) each = and_from (f start) (list_all f (range_with_len (start + 1) n)) (each start) (list_all-from f (start + 1) n each)
 
-covered-from : (planes : List (Option (Both PlaneState))) (mask index : ℕ) → (has_bit mask index ≡ true → is_ready (state_at planes index) ≡ true) → is_covered planes mask index ≡ true
+covered-from : (planes : List (Option (Both PlaneState))) (mask index : ℕ) → (has_bit mask index ≡ true → is_ready (state_at planes index) ≡ true) → is_placeable planes mask index ≡ true
 covered-from planes mask index h =
     elim (cases_Bool (has_bit mask index)) [
       | inl has ↦ rw has (h has)
@@ -61,7 +61,7 @@ ready-from None there near = absurd (false≢true there)
 ready-from (Some both) there near = near both refl
 
 slot_covered : (t : Topology) (w : World) (d : Duplicates) (crtc : ℕ) (slot : Option (Both CrtcState)) → state_at d.crtcs crtc ≡ slot → IsSound t w → AgreesNew t w.things w.values d → is_some slot ≡ true
-    → ((both : Both CrtcState) (index : ℕ) → slot ≡ Some both → has_bit both.new.planes index ≡ true → is_some (state_at d.planes index) ≡ true) → are_covered d.planes slot ≡ true
+    → ((both : Both CrtcState) (index : ℕ) → slot ≡ Some both → has_bit both.new.planes index ≡ true → is_some (state_at d.planes index) ≡ true) → are_placeable d.planes slot ≡ true
 slot_covered t w d crtc None is sound agrees there covers = absurd (false≢true there)
 slot_covered t w d crtc (Some both) is sound agrees there covers =
     let new : both.new ≡ crtc_state_at t w.things w.values (object_id Crtc crtc) = agrees.crtcs crtc both (slot_at d.crtcs crtc both is) in
@@ -69,7 +69,7 @@ slot_covered t w d crtc (Some both) is sound agrees there covers =
     let within : (index : ℕ) → has_bit both.new.planes index ≡ true → index < length t.planes = λ index has.
     ltb-true index (length t.planes) (and_parts (nat_lt index (length t.planes)) (test index)
     (sym (has_bit-mask_below test (length t.planes) index) ∙ sym (ap (λ (s : CrtcState). has_bit s.planes index) new) ∙ has)).0 in
-    list_all-from (is_covered d.planes both.new.planes) 0 16 (λ index. covered-from d.planes both.new.planes index (λ has.
+    list_all-from (is_placeable d.planes both.new.planes) 0 16 (λ index. covered-from d.planes both.new.planes index (λ has.
     ready-from (state_at d.planes index) (covers both index refl has) (λ plane at.
     near-dst plane.new (subst IsPlaneInRange (sym (agrees.planes index plane (slot_at d.planes index plane at))) (sound-plane_in_range t w index sound (within index has))))))
 

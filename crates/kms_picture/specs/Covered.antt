@@ -11,10 +11,10 @@ use Rattle.kms_model.specs.declared.states.Duplicates.{Duplicates}
 use Rattle.kms_model.specs.declared.states.PlaneState.{PlaneState}
 use Rattle.kms_model.specs.declared.worlds.Setting.{Setting}
 use Rattle.kms_model.specs.declared.worlds.Thing.{Thing}
-use Rattle.kms_model.specs.Masks.{has_bit}
-use Rattle.kms_model.specs.Objects.{object_id}
-use Rattle.kms_model.specs.Pictures.{picture}
-use Rattle.kms_model.specs.Agreement.{AgreesNew}
+use Rattle.kms_model.specs.Device.Masks.{has_bit}
+use Rattle.kms_model.specs.Device.Objects.{object_id}
+use Rattle.kms_model.specs.Frames.Pictures.{picture}
+use Rattle.kms_model.specs.Request.Agreement.{AgreesNew}
 use Rattle.kms_state.specs.Places.{state_at}
 
 -- a place or a size that a destination can have
@@ -29,22 +29,22 @@ is_ready None = false
 is_ready (Some both) = is_near_rect both.new.dst
 
 -- a plane, if it is in a set, is duplicated, and its destination has the numbers that a property can have
-abbrev pub is_covered : List (Option (Both PlaneState)) → ℕ → ℕ → Bool
-is_covered planes mask index = not (has_bit mask index) || is_ready (state_at planes index)
+abbrev pub is_placeable : List (Option (Both PlaneState)) → ℕ → ℕ → Bool
+is_placeable planes mask index = not (has_bit mask index) || is_ready (state_at planes index)
 
-abbrev pub are_covered : List (Option (Both PlaneState)) → Option (Both CrtcState) → Bool
-are_covered planes None = false
-are_covered planes (Some both) = list_all (is_covered planes both.new.planes) (range_with_len 0 16)
+abbrev pub are_placeable : List (Option (Both PlaneState)) → Option (Both CrtcState) → Bool
+are_placeable planes None = false
+are_placeable planes (Some both) = list_all (is_placeable planes both.new.planes) (range_with_len 0 16)
 
 -- the CRTC is duplicated, and all planes that are on it then
 abbrev pub may_picture : Duplicates → ℕ → Bool
-may_picture d crtc = are_covered d.planes (state_at d.crtcs crtc)
+may_picture d crtc = are_placeable d.planes (state_at d.crtcs crtc)
 
 -- a device has no more planes and connectors than duplicates have room for
-pub record HasRoom (t : Topology) : Type 0 where
+pub record FitsDuplicates (t : Topology) : Type 0 where
   pub planes : length t.planes ≤ 16
   pub conns : length t.conns ≤ 8
 
 -- A picture is what a CRTC shows in each device with whose values the new states agree.
 abbrev pub IsPictureOf : Duplicates → ℕ → Picture → Type 0
-IsPictureOf d crtc p = (t : Topology) (things : List Thing) (values : List Setting) → HasRoom t → AgreesNew t things values d → p ≡ picture t things values (object_id Crtc crtc)
+IsPictureOf d crtc p = (t : Topology) (things : List Thing) (values : List Setting) → FitsDuplicates t → AgreesNew t things values d → p ≡ picture t things values (object_id Crtc crtc)

@@ -1,5 +1,5 @@
 -- What the rows of the code's tables say, in the words of the definitions.
-use Rattle.kms_model.specs.Properties as model
+use Rattle.kms_model.specs.Device.Properties as model
 use Rattle.kms_props.specs.declared.formats.FormatRow.{FormatRow}
 use Rattle.kms_props.specs.declared.properties.PropertyRow.{PropertyRow}
 

@@ -1,8 +1,8 @@
 //! Which devices there are.
 ghost use Rattle.std.specs.Prelude.{◌≡◌, ◌≤◌, IsTrue};
 ghost use Rattle.std.specs.List.{list_all};
-ghost use Rattle.kms_model.specs.Words.{between};
-ghost use Rattle.kms_model.specs.Properties.{has_legal_masks, is_legal_device, is_mask_below, keeps_limits};
+ghost use Rattle.kms_model.specs.Script.Words.{between};
+ghost use Rattle.kms_model.specs.Device.Properties.{has_legal_masks, is_legal_device, is_mask_below, keeps_limits};
 
 use kms_model::{PlaneInfo, Topology};
 

@@ -1,8 +1,8 @@
 //! The flags of an atomic request. (Header: `drm_mode.h`.)
 ghost use Rattle.std.specs.Prelude.{⊤, ◌≡◌, option_map};
 ghost use Rattle.kms_model.specs.Firsts.{number_if};
-ghost use Rattle.kms_model.specs.Properties.{are_flags};
-ghost use Rattle.kms_model.specs.Properties.{flags as flag_rows};
+ghost use Rattle.kms_model.specs.Device.Properties.{are_flags};
+ghost use Rattle.kms_model.specs.Device.Properties.{flags as flag_rows};
 ghost use Rattle.kms_props.specs.Flags.{bits_of};
 
 use bitflags::{Flag, Flags, bitflag_items};

@@ -1,7 +1,7 @@
 //! The table of formats. (Header: `drm_fourcc.h`.)
 ghost use Rattle.std.specs.Prelude.{◌≡◌, map};
-ghost use Rattle.kms_model.specs.Properties.{format_of};
-ghost use Rattle.kms_model.specs.Properties.{formats as format_rows};
+ghost use Rattle.kms_model.specs.Device.Properties.{format_of};
+ghost use Rattle.kms_model.specs.Device.Properties.{formats as format_rows};
 ghost use Rattle.kms_props.specs.Rows.{format_row_of};
 
 use crate::first_row;

@@ -1,8 +1,8 @@
 //! The table of properties. (Kernel: "KMS Properties".)
 ghost use Rattle.std.specs.Prelude.{◌≡◌, Some, IfSome, IsTrue, map, option_map};
-ghost use Rattle.kms_model.specs.Properties.{is_named, is_property, range_of, immutable_of};
-ghost use Rattle.kms_model.specs.Properties.{name_of, property, property_id, property_named};
-ghost use Rattle.kms_model.specs.Properties.{properties as property_rows};
+ghost use Rattle.kms_model.specs.Device.Properties.{is_named, is_property, range_of, immutable_of};
+ghost use Rattle.kms_model.specs.Device.Properties.{name_of, property, property_id, property_named};
+ghost use Rattle.kms_model.specs.Device.Properties.{properties as property_rows};
 ghost use Rattle.kms_props.specs.Rows.{property_of};
 
 use crate::first_row;

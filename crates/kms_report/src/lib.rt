@@ -2,8 +2,8 @@
 #![tactic(auto)]
 
 ghost use Rattle.std.specs.Prelude.{◌≡◌, ◌*◌, length, IfOk};
-ghost use Rattle.kms_model.specs.Flat.{digest_of};
-ghost use Rattle.kms_model.specs.Ppm.{ppm};
+ghost use Rattle.kms_model.specs.Report.Flat.{digest_of};
+ghost use Rattle.kms_model.specs.Frames.Ppm.{ppm};
 
 mod pixmaps;
 

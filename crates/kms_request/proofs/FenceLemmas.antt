@@ -14,13 +14,13 @@ use Rattle.kms_model.specs.declared.objects.Kind.TheVariants.{Crtc, Plane, Conn,
 use Rattle.kms_model.specs.declared.objects.ObjId.{ObjId}
 use Rattle.kms_model.specs.declared.scripts.Assign.{Assign}
 use Rattle.kms_model.specs.declared.scripts.Value.{Value}
-use Rattle.kms_model.specs.Apply.{object_of, prop_of}
+use Rattle.kms_model.specs.Request.Apply.{object_of, prop_of}
 use Rattle.kms_model.specs.Firsts.{or_else}
-use Rattle.kms_model.specs.Objects.{object_id}
-use Rattle.kms_model.specs.Properties.{same_kind}
-use Rattle.kms_model.specs.Resolves.{IsPlaced, IsSettable}
-use Rattle.kms_model.specs.Sets.{obj_id}
-use Rattle.kms_model.specs.Touched.{last_value, value_if}
+use Rattle.kms_model.specs.Device.Objects.{object_id}
+use Rattle.kms_model.specs.Device.Properties.{same_kind}
+use Rattle.kms_model.specs.Request.Resolves.{HasPlace, IsSettable}
+use Rattle.kms_model.specs.Request.Sets.{obj_id}
+use Rattle.kms_model.specs.Request.Touched.{last_value, value_if}
 use Rattle.kms_request.specs.Fences.{ListsNumbers, TellLast, numbered}
 
 or_else-none : {A : Type 0} (first : Option A) → or_else first None ≡ first
@@ -39,7 +39,7 @@ last_value-push (b ∷ assigns) a object prop =
     rw (last_value-push assigns a object prop) (or_else_assoc (value_if ((object_of a == object) && (prop_of a.prop == prop)) a.value) (last_value assigns object prop) (value_if ((object_of b == object) && (prop_of b.prop == prop)) b.value))
 
 -- ids of objects are the same where kinds and indices are
-same_object : (k l : Kind) (i index : ℕ) → IsPlaced k i → index < 16 → (object_id k i == object_id l index) ≡ (same_kind k l && (i == index))
+same_object : (k l : Kind) (i index : ℕ) → HasPlace k i → index < 16 → (object_id k i == object_id l index) ≡ (same_kind k l && (i == index))
 same_object Crtc Crtc i index h less = grind (arith, nat_tests)
 same_object Crtc Plane i index h less = grind (arith, nat_tests)
 same_object Crtc Conn i index h less = grind (arith, nat_tests)

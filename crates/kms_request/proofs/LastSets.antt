@@ -8,7 +8,7 @@ use Rattle.kms_request.specs.Targets.{TellTargets}
 use Rattle.kms_model.specs.declared.scripts.Assign.{Assign}
 use Rattle.kms_model.specs.declared.sets.Set.{Set}
 use Rattle.kms_model.specs.declared.worlds.Look.{Look}
-use Rattle.kms_model.specs.Sets.{has_target_of, last_sets, set_of}
+use Rattle.kms_model.specs.Request.Sets.{has_target_of, last_sets, set_of}
 
 -- the items from the place before one on
 pub drop_before : {A : Type 0} (xs : List A) (n : ℕ) (d : A) → 0 < n → n ≤ length xs → drop (n - 1) xs ≡ get_or xs (n - 1) d ∷ drop n xs

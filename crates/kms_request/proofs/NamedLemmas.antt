@@ -22,25 +22,25 @@ use Rattle.kms_model.specs.declared.worlds.Look.{Look}
 use Rattle.kms_model.specs.declared.worlds.Setting.{Setting}
 use Rattle.kms_model.specs.declared.worlds.Thing as worlds
 use Rattle.kms_model.specs.declared.worlds.World.{World}
-use Rattle.kms_model.specs.Words.{between}
-use Rattle.kms_model.specs.Masks.{mask_below}
-use Rattle.kms_model.specs.Objects.{exists, object_id}
-use Rattle.kms_model.specs.States.{crtc_at}
-use Rattle.kms_model.specs.Agreement.{AgreesNew, AgreesOld}
-use Rattle.kms_model.specs.Apply.{apply, is_kept, object_of, prop_of}
-use Rattle.kms_model.specs.Named.{is_routed, moves_on, names}
-use Rattle.kms_model.specs.Named.{is_named_by as is_named_by_assign}
-use Rattle.kms_model.specs.Resolves.{IsAllowed, IsPlaced, IsSettable}
-use Rattle.kms_model.specs.Sets.{crtc_value, last_sets, set_of, set_value}
-use Rattle.kms_model.specs.Touched.{last_value, named_set}
+use Rattle.kms_model.specs.Script.Words.{between}
+use Rattle.kms_model.specs.Device.Masks.{mask_below}
+use Rattle.kms_model.specs.Device.Objects.{exists, object_id}
+use Rattle.kms_model.specs.Device.States.{crtc_at}
+use Rattle.kms_model.specs.Request.Agreement.{AgreesNew, AgreesOld}
+use Rattle.kms_model.specs.Request.Apply.{apply, is_kept, object_of, prop_of}
+use Rattle.kms_model.specs.Request.Named.{is_routed, moves_on, names}
+use Rattle.kms_model.specs.Request.Named.{set_names as is_named_by_assign}
+use Rattle.kms_model.specs.Request.Resolves.{IsAllowed, HasPlace, IsSettable}
+use Rattle.kms_model.specs.Request.Sets.{crtc_value, last_sets, set_of, set_value}
+use Rattle.kms_model.specs.Request.Touched.{last_value, named_set}
 use Rattle.kms_model.proofs.RequestLemmas.{HasFew, accepted_allowed, all_settable, has_few}
-use Rattle.kms_model.specs.Sound.{IsCrtcOrNone}
-use Rattle.kms_model.specs.Sound.IsCrtcOrNone.{IsNone, IsCrtc}
+use Rattle.kms_model.specs.Device.Sound.{IsCrtcOrNone}
+use Rattle.kms_model.specs.Device.Sound.IsCrtcOrNone.{IsNone, IsCrtc}
 use Rattle.kms_model.proofs.HeldValues.{AreAllHeld, all_held-from}
 use Rattle.kms_model.proofs.CrtcLemmas.{all_in, crtc_after, crtc_after_held, crtc_before_held, routed}
 use Rattle.kms_model.proofs.LastLemmas.{IsIn, from_last, has_last, in_passes, set_by, some_in}
 use Rattle.kms_model.proofs.MaskLemmas.{mask_from}
-use Rattle.kms_request.specs.Naming.{AreCrtcs, Covers, is_duplicated, is_named_by, new_crtc, next_crtc, number_in, old_crtc, routed_number}
+use Rattle.kms_request.specs.Naming.{AreCrtcs, Covers, is_routed_duplicated, set_names, new_crtc, next_crtc, number_in, old_crtc, routed_number}
 
 -- The old CRTC
 
@@ -63,14 +63,14 @@ record AreNumbers (plane : Both PlaneState → ℕ) (conn : Both ConnState → �
   planes : (index : ℕ) (both : Both PlaneState) → slice_get d.planes index ≡ Some (Some both) → plane both ≡ value (200 + index)
   conns : (index : ℕ) (both : Both ConnState) → slice_get d.conns index ≡ Some (Some both) → conn both ≡ value (300 + index)
 
-numbers_plane : (plane : Both PlaneState → ℕ) (conn : Both ConnState → ℕ) (value : ℕ → ℕ) (d : Duplicates) (index : ℕ) → AreNumbers plane conn value d → index < 16 → is_duplicated d (200 + index) ≡ true → routed_number plane conn d (200 + index) ≡ value (200 + index)
+numbers_plane : (plane : Both PlaneState → ℕ) (conn : Both ConnState → ℕ) (value : ℕ → ℕ) (d : Duplicates) (index : ℕ) → AreNumbers plane conn value d → index < 16 → is_routed_duplicated d (200 + index) ≡ true → routed_number plane conn d (200 + index) ≡ value (200 + index)
 numbers_plane plane conn value d index numbers less duplicated =
     let is : between 200 215 (200 + index) ≡ true = inside 200 215 (200 + index) (omega arith) (omega arith) in
     let place : 200 + index - 200 ≡ index = omega arith in
     let there : is_some (option_flatten (slice_get d.planes index)) ≡ true = rw (is, place) at duplicated in
     rw (is, place) (number_is plane (value (200 + index)) (slice_get d.planes index) there (numbers.planes index))
 
-numbers_conn : (plane : Both PlaneState → ℕ) (conn : Both ConnState → ℕ) (value : ℕ → ℕ) (d : Duplicates) (index : ℕ) → AreNumbers plane conn value d → index < 8 → is_duplicated d (300 + index) ≡ true → routed_number plane conn d (300 + index) ≡ value (300 + index)
+numbers_conn : (plane : Both PlaneState → ℕ) (conn : Both ConnState → ℕ) (value : ℕ → ℕ) (d : Duplicates) (index : ℕ) → AreNumbers plane conn value d → index < 8 → is_routed_duplicated d (300 + index) ≡ true → routed_number plane conn d (300 + index) ≡ value (300 + index)
 numbers_conn plane conn value d index numbers less duplicated =
     let out : between 200 215 (300 + index) ≡ false = above 200 215 (300 + index) (omega arith) in
     let is : between 300 307 (300 + index) ≡ true = inside 300 307 (300 + index) (omega arith) (omega arith) in
@@ -87,7 +87,7 @@ old_none d index less = numbers_none (λ both. both.old.crtc) (λ both. both.old
 pub next_none : (d : Duplicates) (index : ℕ) → index < 4 → next_crtc d (100 + index) ≡ 0
 next_none d index less = numbers_none (λ both. both.new.crtc) (λ both. both.new.crtc) d index less
 
-numbers_routed : (plane : Both PlaneState → ℕ) (conn : Both ConnState → ℕ) (value : ℕ → ℕ) (d : Duplicates) (k : Kind) (i : ℕ) → AreNumbers plane conn value d → is_routed k ≡ true → IsPlaced k i → is_duplicated d (object_id k i) ≡ true
+numbers_routed : (plane : Both PlaneState → ℕ) (conn : Both ConnState → ℕ) (value : ℕ → ℕ) (d : Duplicates) (k : Kind) (i : ℕ) → AreNumbers plane conn value d → is_routed k ≡ true → HasPlace k i → is_routed_duplicated d (object_id k i) ≡ true
     → routed_number plane conn d (object_id k i) ≡ value (object_id k i)
 numbers_routed plane conn value d Crtc i numbers routes placed duplicated = absurd (cc)
 numbers_routed plane conn value d Plane i numbers routes placed duplicated = numbers_plane plane conn value d i numbers placed duplicated
@@ -95,14 +95,14 @@ numbers_routed plane conn value d Conn i numbers routes placed duplicated = numb
 numbers_routed plane conn value d Enc i numbers routes placed duplicated = absurd placed
 
 -- an object that is duplicated is on the CRTC that it was on before, and comes to be on the one that it is on after
-pub old_is : (t : Topology) (things : List worlds.Thing) (old : List Setting) (d : Duplicates) (k : Kind) (i : ℕ) → AgreesOld t things old d → is_routed k ≡ true → IsPlaced k i → is_duplicated d (object_id k i) ≡ true
+pub old_is : (t : Topology) (things : List worlds.Thing) (old : List Setting) (d : Duplicates) (k : Kind) (i : ℕ) → AgreesOld t things old d → is_routed k ≡ true → HasPlace k i → is_routed_duplicated d (object_id k i) ≡ true
     → old_crtc d (object_id k i) ≡ crtc_at old (object_id k i)
 old_is t things old d k i agrees routes placed duplicated =
     numbers_routed (λ both. both.old.crtc) (λ both. both.old.crtc) (crtc_at old) d k i
     (record { planes = λ index both there. ap (λ (s : PlaneState). s.crtc) (agrees.planes index both there); conns = λ index both there. ap (λ (s : ConnState). s.crtc) (agrees.conns index both there) })
     routes placed duplicated
 
-pub next_is : (t : Topology) (things : List worlds.Thing) (new : List Setting) (d : Duplicates) (k : Kind) (i : ℕ) → AgreesNew t things new d → is_routed k ≡ true → IsPlaced k i → is_duplicated d (object_id k i) ≡ true
+pub next_is : (t : Topology) (things : List worlds.Thing) (new : List Setting) (d : Duplicates) (k : Kind) (i : ℕ) → AgreesNew t things new d → is_routed k ≡ true → HasPlace k i → is_routed_duplicated d (object_id k i) ≡ true
     → next_crtc d (object_id k i) ≡ crtc_at new (object_id k i)
 next_is t things new d k i agrees routes placed duplicated =
     numbers_routed (λ both. both.new.crtc) (λ both. both.new.crtc) (crtc_at new) d k i
@@ -110,7 +110,7 @@ next_is t things new d k i agrees routes placed duplicated =
     routes placed duplicated
 
 -- only planes and connectors have an old CRTC
-old_routes : (d : Duplicates) (k : Kind) (i crtc : ℕ) → IsPlaced k i → 0 < crtc → old_crtc d (object_id k i) ≡ crtc → is_routed k ≡ true
+old_routes : (d : Duplicates) (k : Kind) (i crtc : ℕ) → HasPlace k i → 0 < crtc → old_crtc d (object_id k i) ≡ crtc → is_routed k ≡ true
 old_routes d Crtc i crtc placed some is = absurd (omega (arith, old_none d i placed, is))
 old_routes d Plane i crtc placed some is = refl
 old_routes d Conn i crtc placed some is = refl
@@ -151,7 +151,7 @@ module _ (t : Topology) (things : List worlds.Thing) (old : List Setting) (f : �
   ]
 
   -- a CRTC that a set names is one that its assignment names
-  set_names : (b : Assign) (crtc : ℕ) → 0 < crtc → IsIn b assigns → last_value assigns (object_of b) (prop_of b.prop) ≡ Some b.value → is_duplicated d (object_of b) ≡ true → is_named_by d (set_of f b) crtc ≡ true
+  set_names : (b : Assign) (crtc : ℕ) → 0 < crtc → IsIn b assigns → last_value assigns (object_of b) (prop_of b.prop) ≡ Some b.value → is_routed_duplicated d (object_of b) ≡ true → set_names d (set_of f b) crtc ≡ true
       → is_named_by_assign old (apply things old assigns) crtc b ≡ true
   set_names b crtc some member last duplicated named =
       let fits = all_in IsSettable assigns b settable member in
@@ -172,34 +172,34 @@ module _ (t : Topology) (things : List worlds.Thing) (old : List Setting) (f : �
       ]
 
   -- all sets are of duplicated objects
-  module _ (duplicated : All (λ s. is_duplicated d s.object.0 ≡ true) (last_sets f assigns)) where
-    sets_to_names : (crtc : ℕ) → 0 < crtc → list_any (λ s. is_named_by d s crtc) (last_sets f assigns) ≡ true → names old (apply things old assigns) assigns crtc ≡ true
+  module _ (duplicated : All (λ s. is_routed_duplicated d s.object.0 ≡ true) (last_sets f assigns)) where
+    sets_to_names : (crtc : ℕ) → 0 < crtc → list_any (λ s. set_names d s crtc) (last_sets f assigns) ≡ true → names old (apply things old assigns) assigns crtc ≡ true
     sets_to_names crtc some any =
-        let found = some_in (λ s. is_named_by d s crtc) (last_sets f assigns) any in
+        let found = some_in (λ s. set_names d s crtc) (last_sets f assigns) any in
         let from = from_last f assigns found.item found.member in
-        let P : Set → Type 0 = λ s. is_duplicated d s.object.0 ≡ true in
-        let Q : Set → Type 0 = λ s. is_named_by d s crtc ≡ true in
-        let there : is_duplicated d (object_of from.item) ≡ true = subst P from.set (all_in P (last_sets f assigns) found.item duplicated found.member) in
+        let P : Set → Type 0 = λ s. is_routed_duplicated d s.object.0 ≡ true in
+        let Q : Set → Type 0 = λ s. set_names d s crtc ≡ true in
+        let there : is_routed_duplicated d (object_of from.item) ≡ true = subst P from.set (all_in P (last_sets f assigns) found.item duplicated found.member) in
         in_passes (is_named_by_assign old (apply things old assigns) crtc) assigns from.item from.is.member
         (set_names from.item crtc some from.is.member from.is.last there (subst Q from.set found.passes))
 
     -- what an object that is set is known by: one of the sets is of it
-    listed_duplicated : (b : Assign) → IsIn (set_of f b) (last_sets f assigns) → is_duplicated d (object_of b) ≡ true
-    listed_duplicated b listed = let P : Set → Type 0 = λ s. is_duplicated d s.object.0 ≡ true in all_in P (last_sets f assigns) (set_of f b) duplicated listed
+    listed_duplicated : (b : Assign) → IsIn (set_of f b) (last_sets f assigns) → is_routed_duplicated d (object_of b) ≡ true
+    listed_duplicated b listed = let P : Set → Type 0 = λ s. is_routed_duplicated d s.object.0 ≡ true in all_in P (last_sets f assigns) (set_of f b) duplicated listed
 
-    by_set : (b : Assign) (crtc : ℕ) → IsIn (set_of f b) (last_sets f assigns) → is_named_by d (set_of f b) crtc ≡ true → list_any (λ s. is_named_by d s crtc) (last_sets f assigns) ≡ true
-    by_set b crtc listed named = in_passes (λ s. is_named_by d s crtc) (last_sets f assigns) (set_of f b) listed named
+    by_set : (b : Assign) (crtc : ℕ) → IsIn (set_of f b) (last_sets f assigns) → set_names d (set_of f b) crtc ≡ true → list_any (λ s. set_names d s crtc) (last_sets f assigns) ≡ true
+    by_set b crtc listed named = in_passes (λ s. set_names d s crtc) (last_sets f assigns) (set_of f b) listed named
 
     -- a plane or a connector that is set, and was on a CRTC
-    by_old : (a b : Assign) (crtc : ℕ) → IsIn a assigns → object_of a ≡ object_of b → IsIn (set_of f b) (last_sets f assigns) → is_routed a.kind ≡ true → crtc_at old (object_of a) ≡ crtc → list_any (λ s. is_named_by d s crtc) (last_sets f assigns) ≡ true
+    by_old : (a b : Assign) (crtc : ℕ) → IsIn a assigns → object_of a ≡ object_of b → IsIn (set_of f b) (last_sets f assigns) → is_routed a.kind ≡ true → crtc_at old (object_of a) ≡ crtc → list_any (λ s. set_names d s crtc) (last_sets f assigns) ≡ true
     by_old a b crtc member same listed routes was =
         let fits = all_in IsSettable assigns a settable member in
-        let there : is_duplicated d (object_of a) ≡ true = subst (λ o. is_duplicated d o ≡ true) (sym same) (listed_duplicated b listed) in
+        let there : is_routed_duplicated d (object_of a) ≡ true = subst (λ o. is_routed_duplicated d o ≡ true) (sym same) (listed_duplicated b listed) in
         let is : old_crtc d (object_of b) ≡ crtc = ap (old_crtc d) (sym same) ∙ old_is t things old d a.kind a.index agrees routes fits.place there ∙ was in
         by_set b crtc listed (or_left ((object_of b == crtc) || (old_crtc d (object_of b) == crtc)) _ (or_right (object_of b == crtc) _ (eq-eqb (old_crtc d (object_of b)) crtc is)))
 
     -- a plane or a connector that a request puts on a CRTC
-    by_new : (object crtc : ℕ) (v : Value) → last_value assigns object CRTC_ID ≡ Some v → crtc_value v ≡ crtc → list_any (λ s. is_named_by d s crtc) (last_sets f assigns) ≡ true
+    by_new : (object crtc : ℕ) (v : Value) → last_value assigns object CRTC_ID ≡ Some v → crtc_value v ≡ crtc → list_any (λ s. set_names d s crtc) (last_sets f assigns) ≡ true
     by_new object crtc v last is =
         let by = set_by assigns object CRTC_ID v last in
         let b = has_last f assigns by.item by.member in
@@ -211,7 +211,7 @@ module _ (t : Topology) (things : List worlds.Thing) (old : List Setting) (f : �
         let goes : new_crtc (set_value f (prop_of b.item.prop) b.item.value) ≡ crtc = crtc_set f (prop_of b.item.prop) b.item.value prop_same ∙ ap crtc_value (sym same) ∙ is in
         by_set b.item crtc b.is.listed (or_right ((object_of b.item == crtc) || (old_crtc d (object_of b.item) == crtc)) _ (eq-eqb (new_crtc (set_value f (prop_of b.item.prop) b.item.value)) crtc goes))
 
-    names_to_sets : (crtc : ℕ) → 0 < crtc → names old (apply things old assigns) assigns crtc ≡ true → list_any (λ s. is_named_by d s crtc) (last_sets f assigns) ≡ true
+    names_to_sets : (crtc : ℕ) → 0 < crtc → names old (apply things old assigns) assigns crtc ≡ true → list_any (λ s. set_names d s crtc) (last_sets f assigns) ≡ true
     names_to_sets crtc some any =
         let found = some_in (is_named_by_assign old (apply things old assigns) crtc) assigns any in
         let a = found.item in
@@ -229,7 +229,7 @@ module _ (t : Topology) (things : List worlds.Thing) (old : List Setting) (f : �
               ])
         ]
 
-    same_names : (crtc : ℕ) → 0 < crtc → list_any (λ s. is_named_by d s crtc) (last_sets f assigns) ≡ names old (apply things old assigns) assigns crtc
+    same_names : (crtc : ℕ) → 0 < crtc → list_any (λ s. set_names d s crtc) (last_sets f assigns) ≡ names old (apply things old assigns) assigns crtc
     same_names crtc some = same_from_decides _ _ (λ h. h, λ h. h) (names_to_sets crtc some, sets_to_names crtc some)
 
 -- No request names a CRTC that the device does not have
@@ -239,7 +239,7 @@ not_outside : (t : Topology) (id index : ℕ) → t.crtcs ≤ index → IsCrtcOr
 not_outside t id index out (IsNone none) = ne_eqb id (100 + index) (λ e. omega (arith, none, e))
 not_outside t id index out (IsCrtc i less is) = ne_eqb id (100 + index) (λ e. omega (arith, less, is, e))
 
-not_itself : (t : Topology) (k : Kind) (i index : ℕ) → t.crtcs ≤ index → index < 4 → exists t k i ≡ true → IsPlaced k i → (object_id k i == 100 + index) ≡ false
+not_itself : (t : Topology) (k : Kind) (i index : ℕ) → t.crtcs ≤ index → index < 4 → exists t k i ≡ true → HasPlace k i → (object_id k i == 100 + index) ≡ false
 not_itself t Crtc i index out less there placed = (let h : i < t.crtcs = ltb-true i t.crtcs there in ne_eqb (100 + i) (100 + index) (λ e. omega (arith, h, e)))
 not_itself t Plane i index out less there placed = ne_eqb (200 + i) (100 + index) (λ e. omega (arith, e))
 not_itself t Conn i index out less there placed = ne_eqb (300 + i) (100 + index) (λ e. omega (arith, e))
@@ -281,12 +281,12 @@ crtcs_named t things old f assigns test mask few held allowed settable are same 
 
 -- the CRTCs that the sets name are those that the request names
 pub named_is : (t : Topology) (w : World) (f : ℕ → Look) (r : Request) (resolved : Resolved) (d : Duplicates) (mask : ℕ) → Covers t w f r resolved d
-    → AreCrtcs (λ crtc. list_any (λ s. is_named_by d s crtc) resolved.sets) mask → mask ≡ named_set t w.values (apply w.things w.values r.assigns) r.assigns
+    → AreCrtcs (λ crtc. list_any (λ s. set_names d s crtc) resolved.sets) mask → mask ≡ named_set t w.values (apply w.things w.values r.assigns) r.assigns
 named_is t w f r resolved d mask covers are =
     let allowed = accepted_allowed t f r covers.asks.accepted in
     let settable = all_settable t f r.assigns covers.limits allowed in
-    let Duplicated : List Set → Type 0 = λ sets. All (λ s. is_duplicated d s.object.0 ≡ true) sets in
+    let Duplicated : List Set → Type 0 = λ sets. All (λ s. is_routed_duplicated d s.object.0 ≡ true) sets in
     let duplicated = subst Duplicated covers.asks.sets covers.duplicated in
-    let NamedBy : List Set → ℕ → Bool = λ sets crtc. list_any (λ s. is_named_by d s crtc) sets in
+    let NamedBy : List Set → ℕ → Bool = λ sets crtc. list_any (λ s. set_names d s crtc) sets in
     crtcs_named t w.things w.values f r.assigns (NamedBy resolved.sets) mask (has_few t covers.limits) (all_held-from t w.things w.values covers.sound.held) allowed settable are
     (λ crtc some. ap (λ (sets : List Set). NamedBy sets crtc) covers.asks.sets ∙ same_names t w.things w.values f r.assigns d allowed settable covers.old duplicated crtc some)

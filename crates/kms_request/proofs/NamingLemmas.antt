@@ -6,7 +6,7 @@ use Rattle.std.specs.List.{list_any}
 use Rattle.std.proofs.lemmas.List.{take_all}
 use Rattle.std.proofs.lemmas.List.Folds.{list_any_more}
 use Rattle.std.proofs.lemmas.Nat.{one_shl, or_lt, pow_below}
-use Rattle.kms_model.specs.Masks.{has_bit}
+use Rattle.kms_model.specs.Device.Masks.{has_bit}
 use Rattle.kms_model.proofs.UnionLemmas.{has_bit-one, has_bit-or, has_bit-zero}
 use Rattle.kms_request.specs.Naming.{AreCrtcs}
 

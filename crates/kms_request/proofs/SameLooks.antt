@@ -19,15 +19,15 @@ use Rattle.kms_model.specs.declared.sets.Resolved.{Resolved}
 use Rattle.kms_model.specs.declared.worlds.Look.{Look}
 use Rattle.kms_model.specs.declared.worlds.World.{World}
 use Rattle.kms_model.proofs.Items.{IsIn}
-use Rattle.kms_model.specs.Apply.{prop_of}
+use Rattle.kms_model.specs.Request.Apply.{prop_of}
 use Rattle.kms_model.specs.Firsts.{or_else}
-use Rattle.kms_model.specs.Lookups.{label_of, look_up, lookups}
-use Rattle.kms_model.specs.Objects.{ids_of}
-use Rattle.kms_model.specs.Properties.{Property, property}
-use Rattle.kms_model.specs.Refusals.{assign_refusal, assigns_refusal, early_refusal, is_in_range, is_in_range_of, takes}
-use Rattle.kms_model.specs.Resolves.{IsResolved}
-use Rattle.kms_model.specs.Sets.{fb_of_look, fb_value, fence_of_look, in_fence, in_fences, last_sets, look_in, mode_of_look, mode_value, obj_id, set_of}
-use Rattle.kms_model.specs.Touched.{last_value, value_if}
+use Rattle.kms_model.specs.Request.Lookups.{label_of, look_up, lookups}
+use Rattle.kms_model.specs.Device.Objects.{ids_of}
+use Rattle.kms_model.specs.Device.Properties.{Property, property}
+use Rattle.kms_model.specs.Request.Refusals.{assign_refusal, assigns_refusal, early_refusal, is_in_range, is_in_range_of, takes}
+use Rattle.kms_model.specs.Request.Resolves.{IsResolved}
+use Rattle.kms_model.specs.Request.Sets.{fb_of_look, fb_value, fence_of_look, in_fence, in_fences, last_sets, look_in, mode_of_look, mode_value, obj_id, set_of}
+use Rattle.kms_model.specs.Request.Touched.{last_value, value_if}
 use Rattle.kms_request.specs.declared.errors.RequestError.{RequestError}
 use Rattle.kms_request.specs.declared.errors.RequestError.TheVariants.{Of, NoMemory}
 use Rattle.kms_request.specs.Answers.{ComesFrom}

@@ -15,20 +15,20 @@ use Rattle.kms_model.specs.declared.states.PlaneState.{PlaneState}
 use Rattle.kms_model.specs.declared.worlds.Setting.{Setting}
 use Rattle.kms_model.specs.declared.worlds.Thing as worlds
 use Rattle.kms_model.specs.declared.worlds.World.{World}
-use Rattle.kms_model.specs.Words.{between}
-use Rattle.kms_model.specs.Agreement.{AgreesNew, AgreesOld}
-use Rattle.kms_model.specs.Apply.{apply}
-use Rattle.kms_model.specs.Checks.{late_refusal}
-use Rattle.kms_model.specs.Late.{ArePlanesInRange, late_of_states}
-use Rattle.kms_model.specs.Lookups.{look_up}
-use Rattle.kms_model.specs.Masks.{has_bit, mask_below}
-use Rattle.kms_model.specs.Named.{is_named_by, is_routed, moves_on}
-use Rattle.kms_model.specs.Objects.{count_of, object_id}
-use Rattle.kms_model.specs.Properties.{keeps_limits}
-use Rattle.kms_model.specs.Resolves.{IsAllowed, IsPlaced, IsSettable}
-use Rattle.kms_model.specs.Sound.{IsDevice, IsPlaneInRange}
-use Rattle.kms_model.specs.States.{crtc_at}
-use Rattle.kms_model.specs.Touched.{is_asked, named_set, out_fence_label}
+use Rattle.kms_model.specs.Script.Words.{between}
+use Rattle.kms_model.specs.Request.Agreement.{AgreesNew, AgreesOld}
+use Rattle.kms_model.specs.Request.Apply.{apply}
+use Rattle.kms_model.specs.Request.Checks.{late_refusal}
+use Rattle.kms_model.specs.Request.Late.{ArePlanesInRange, late_of_states}
+use Rattle.kms_model.specs.Request.Lookups.{look_up}
+use Rattle.kms_model.specs.Device.Masks.{has_bit, mask_below}
+use Rattle.kms_model.specs.Request.Named.{is_named_by, is_routed, moves_on}
+use Rattle.kms_model.specs.Device.Objects.{count_of, object_id}
+use Rattle.kms_model.specs.Device.Properties.{keeps_limits}
+use Rattle.kms_model.specs.Request.Resolves.{IsAllowed, HasPlace, IsSettable}
+use Rattle.kms_model.specs.Device.Sound.{IsDevice, IsPlaneInRange}
+use Rattle.kms_model.specs.Device.States.{crtc_at}
+use Rattle.kms_model.specs.Request.Touched.{is_asked, named_set, out_fence_label}
 use Rattle.kms_model.proofs.CrtcLemmas.{all_in}
 use Rattle.kms_model.proofs.LastLemmas.{IsIn}
 use Rattle.kms_model.proofs.HeldValues.{all_held-from}
@@ -40,7 +40,7 @@ use Rattle.kms_model.proofs.RequestLemmas.{accepted_allowed, all_settable, has_f
 use Rattle.kms_model.proofs.SoundKept.{apply-held}
 use Rattle.kms_model.proofs.StateLemmas.{plane_in_range}
 use Rattle.kms_request.specs.Fences.{TellOutFences, has_number}
-use Rattle.kms_request.specs.Naming.{AreCrtcs, is_duplicated, next_crtc, old_crtc}
+use Rattle.kms_request.specs.Naming.{AreCrtcs, is_routed_duplicated, next_crtc, old_crtc}
 use Rattle.kms_request.specs.Whole.{AreAllDuplicated, StandBetween, is_named_between}
 use Rattle.kms_request.proofs.NamedLemmas.{above, crtcs_named, inside, next_is, next_none, old_is, old_none}
 
@@ -53,7 +53,7 @@ all_bits : (index : ℕ) → index < 32 → has_bit (2 ^ 32 - 1) index ≡ true
 all_bits index less = has_bit-from (2 ^ 32 - 1) index true (bit_at_ones 32 index less)
 
 -- each object of a device that is all duplicated is duplicated
-duplicated_from : (t : Topology) (d : Duplicates) (k : Kind) (i : ℕ) → AreAllDuplicated t d → is_routed k ≡ true → IsPlaced k i → i < count_of t k → is_duplicated d (object_id k i) ≡ true
+duplicated_from : (t : Topology) (d : Duplicates) (k : Kind) (i : ℕ) → AreAllDuplicated t d → is_routed k ≡ true → HasPlace k i → i < count_of t k → is_routed_duplicated d (object_id k i) ≡ true
 duplicated_from t d Crtc i all routes placed there = absurd (cc)
 duplicated_from t d Plane i all routes placed there =
     let is : between 200 215 (200 + i) ≡ true = inside 200 215 (200 + i) (omega arith) (omega arith) in
@@ -81,20 +81,20 @@ or_false false = refl
 
 -- an assignment names a CRTC by the states where it names it by the values
 module _ (t : Topology) (things : List worlds.Thing) (old new : List Setting) (d : Duplicates) (before : AgreesOld t things old d) (after : AgreesNew t things new d) (all : AreAllDuplicated t d) where
-  named_routed : (k : Kind) (i crtc : ℕ) → is_routed k ≡ true → IsPlaced k i → i < count_of t k →
+  named_routed : (k : Kind) (i crtc : ℕ) → is_routed k ≡ true → HasPlace k i → i < count_of t k →
       (((object_id k i == crtc) || (old_crtc d (object_id k i) == crtc)) || (next_crtc d (object_id k i) == crtc)) ≡ ((object_id k i == crtc) || (is_routed k && moves_on old new crtc (object_id k i)))
   named_routed k i crtc routes placed there =
       let known = duplicated_from t d k i all routes placed there in
       rw (old_is t things old d k i before routes placed known, next_is t things new d k i after routes placed known, routes)
       (or_assoc (object_id k i == crtc) (crtc_at old (object_id k i) == crtc) (crtc_at new (object_id k i) == crtc))
 
-  named_itself : (i crtc : ℕ) → IsPlaced Crtc i → 0 < crtc →
+  named_itself : (i crtc : ℕ) → HasPlace Crtc i → 0 < crtc →
       (((object_id Crtc i == crtc) || (old_crtc d (object_id Crtc i) == crtc)) || (next_crtc d (object_id Crtc i) == crtc)) ≡ ((object_id Crtc i == crtc) || false)
   named_itself i crtc placed some =
       let apart : (0 == crtc) ≡ false = ne_eqb 0 crtc (λ e. omega (arith, e)) in
       rw (old_none d i placed, next_none d i placed, apart) (or_false (object_id Crtc i == crtc))
 
-  named_same : (k : Kind) (i crtc : ℕ) → IsPlaced k i → i < count_of t k → 0 < crtc →
+  named_same : (k : Kind) (i crtc : ℕ) → HasPlace k i → i < count_of t k → 0 < crtc →
       (((object_id k i == crtc) || (old_crtc d (object_id k i) == crtc)) || (next_crtc d (object_id k i) == crtc)) ≡ ((object_id k i == crtc) || (is_routed k && moves_on old new crtc (object_id k i)))
   named_same Crtc i crtc placed there some = named_itself i crtc placed some
   named_same Plane i crtc placed there some = named_routed Plane i crtc refl placed there

@@ -5,8 +5,8 @@ use Rattle.kms_request.specs.declared.errors.RequestError.{RequestError}
 use Rattle.kms_request.specs.declared.errors.RequestError.TheVariants.{Of, NoMemory}
 
 -- the number of a refusal
-abbrev pub number_of : Option Refusal → Option ℕ
-number_of refusal = option_map (λ r. r.0) refusal
+abbrev pub refusal_number : Option Refusal → Option ℕ
+refusal_number refusal = option_map (λ r. r.0) refusal
 
 -- An error comes from a first refusal, or from none: the refusal, or want of memory where there is none.
 abbrev pub ComesFrom : Option ℕ → RequestError → Type 0

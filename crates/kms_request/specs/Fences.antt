@@ -9,12 +9,12 @@ use Rattle.kms_model.specs.declared.properties.TheConstants.{IN_FENCE_FD, OUT_FE
 use Rattle.kms_model.specs.declared.scripts.Assign.{Assign}
 use Rattle.kms_model.specs.declared.scripts.Value.{Value}
 use Rattle.kms_model.specs.declared.worlds.Look.{Look}
-use Rattle.kms_model.specs.Apply.{prop_of}
-use Rattle.kms_model.specs.Lookups.{label_of}
-use Rattle.kms_model.specs.Objects.{object_id}
-use Rattle.kms_model.specs.Refusals.{names_fence}
-use Rattle.kms_model.specs.Sets.{fence_of_look, obj_id}
-use Rattle.kms_model.specs.Touched.{last_value, new_label}
+use Rattle.kms_model.specs.Request.Apply.{prop_of}
+use Rattle.kms_model.specs.Request.Lookups.{label_of}
+use Rattle.kms_model.specs.Device.Objects.{object_id}
+use Rattle.kms_model.specs.Request.Refusals.{names_fence}
+use Rattle.kms_model.specs.Request.Sets.{fence_of_look, obj_id}
+use Rattle.kms_model.specs.Request.Touched.{last_value, new_label}
 
 -- for each plane index, whether one of the earlier assignments named a fence for that plane
 abbrev pub TellFences : List Assign → List Bool → Type 0

@@ -14,13 +14,13 @@ use Rattle.kms_model.specs.declared.states.Duplicates.{Duplicates}
 use Rattle.kms_model.specs.declared.states.PlaneState.{PlaneState}
 use Rattle.kms_model.specs.declared.worlds.Look.{Look}
 use Rattle.kms_model.specs.declared.worlds.World.{World}
-use Rattle.kms_model.specs.Words.{between}
-use Rattle.kms_model.specs.Masks.{has_bit}
-use Rattle.kms_model.specs.Objects.{object_id}
-use Rattle.kms_model.specs.Properties.{keeps_limits}
-use Rattle.kms_model.specs.Sound.{IsSound}
-use Rattle.kms_model.specs.Resolves.{IsResolved}
-use Rattle.kms_model.specs.Agreement.{AgreesOld}
+use Rattle.kms_model.specs.Script.Words.{between}
+use Rattle.kms_model.specs.Device.Masks.{has_bit}
+use Rattle.kms_model.specs.Device.Objects.{object_id}
+use Rattle.kms_model.specs.Device.Properties.{keeps_limits}
+use Rattle.kms_model.specs.Device.Sound.{IsSound}
+use Rattle.kms_model.specs.Request.Resolves.{IsResolved}
+use Rattle.kms_model.specs.Request.Agreement.{AgreesOld}
 
 -- a set of CRTCs: each of the four is in it where a test says so
 pub record AreCrtcs (test : ℕ → Bool) (mask : ℕ) : Type 0 where
@@ -55,12 +55,12 @@ new_crtc (to.Mode mode) = 0
 new_crtc to.Fence = 0
 
 -- A set names a CRTC: it sets it, or a plane or a connector that was on it, or it puts one on it.
-abbrev pub is_named_by : Duplicates → Set → ℕ → Bool
-is_named_by d s crtc = ((s.object.0 == crtc) || (old_crtc d s.object.0 == crtc)) || (new_crtc s.value == crtc)
+abbrev pub set_names : Duplicates → Set → ℕ → Bool
+set_names d s crtc = ((s.object.0 == crtc) || (old_crtc d s.object.0 == crtc)) || (new_crtc s.value == crtc)
 
 -- a plane or a connector is duplicated (of other objects nothing is asked)
-abbrev pub is_duplicated : Duplicates → ℕ → Bool
-is_duplicated d object =
+abbrev pub is_routed_duplicated : Duplicates → ℕ → Bool
+is_routed_duplicated d object =
     if between 200 215 object then is_some (option_flatten (slice_get d.planes (object - 200)))
     else (if between 300 307 object then is_some (option_flatten (slice_get d.conns (object - 300)))
     else true)
@@ -73,4 +73,4 @@ pub record Covers (t : Topology) (w : World) (f : ℕ → Look) (r : Request) (r
   pub sound : IsSound t w
   pub asks : IsResolved t f r resolved
   pub old : AgreesOld t w.things w.values d
-  pub duplicated : All (λ s. IsTrue (is_duplicated d s.object.0)) resolved.sets
+  pub duplicated : All (λ s. IsTrue (is_routed_duplicated d s.object.0)) resolved.sets

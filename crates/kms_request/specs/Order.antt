@@ -7,9 +7,9 @@ use Rattle.kms_model.specs.declared.states.Both.{Both}
 use Rattle.kms_model.specs.declared.states.Duplicates.{Duplicates}
 use Rattle.kms_model.specs.declared.states.Mask.{Mask}
 use Rattle.kms_model.specs.declared.states.PlaneState.{PlaneState}
-use Rattle.kms_model.specs.Objects.{count_of}
-use Rattle.kms_model.specs.Sound.{IsPlaneInRange}
-use Rattle.kms_model.specs.Late.{duplicate_in, plane_refusal_of, crtc_refusal_of, conn_refusal_of, clone_refusal_of, route_refusal_of, shown_refusal_of}
+use Rattle.kms_model.specs.Device.Objects.{count_of}
+use Rattle.kms_model.specs.Device.Sound.{IsPlaneInRange}
+use Rattle.kms_model.specs.Request.Late.{duplicate_in, plane_refusal_of, crtc_refusal_of, conn_refusal_of, clone_refusal_of, route_refusal_of, shown_refusal_of}
 use Rattle.kms_request.specs.declared.late.Asked.{Asked}
 use Rattle.kms_request.specs.declared.late.Step.{Step}
 use Rattle.kms_request.specs.declared.late.Step.TheVariants.{Planes, Crtcs, Conns, Clones, Routes, Shown}

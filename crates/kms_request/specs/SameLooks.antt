@@ -3,7 +3,7 @@ use Rattle.std.specs.Prelude.{◌≡◌, ℕ, List, All, IfSome}
 use Rattle.kms_model.specs.declared.scripts.Assign.{Assign}
 use Rattle.kms_model.specs.declared.scripts.Value.{Value}
 use Rattle.kms_model.specs.declared.worlds.Look.{Look}
-use Rattle.kms_model.specs.Lookups.{label_of}
+use Rattle.kms_model.specs.Request.Lookups.{label_of}
 
 -- of the label that a value names, if it names one
 abbrev pub TellsLabel : (ℕ → Look) → (ℕ → Look) → Value → Type 0

@@ -4,9 +4,9 @@ use Rattle.std.specs.List.{list_any}
 use Rattle.kms_model.specs.declared.objects.Kind.{Kind}
 use Rattle.kms_model.specs.declared.objects.Kind.TheVariants.{Crtc, Plane, Conn, Enc}
 use Rattle.kms_model.specs.declared.scripts.Assign.{Assign}
-use Rattle.kms_model.specs.Apply.{prop_of}
-use Rattle.kms_model.specs.Resolves.{IsSettable}
-use Rattle.kms_model.specs.Sets.{has_target_of}
+use Rattle.kms_model.specs.Request.Apply.{prop_of}
+use Rattle.kms_model.specs.Request.Resolves.{IsSettable}
+use Rattle.kms_model.specs.Request.Sets.{has_target_of}
 
 -- the place of an object among 4 CRTCs, 16 planes and 8 connectors
 abbrev pub place_of : Kind → ℕ → ℕ

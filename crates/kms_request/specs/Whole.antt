@@ -6,13 +6,13 @@ use Rattle.kms_model.specs.declared.scripts.Assign.{Assign}
 use Rattle.kms_model.specs.declared.scripts.Request.{Request}
 use Rattle.kms_model.specs.declared.states.Duplicates.{Duplicates}
 use Rattle.kms_model.specs.declared.worlds.World.{World}
-use Rattle.kms_model.specs.Agreement.{AgreesNew, AgreesOld}
-use Rattle.kms_model.specs.Apply.{apply, object_of}
-use Rattle.kms_model.specs.Late.{duplicate_at}
-use Rattle.kms_model.specs.Lookups.{look_up}
-use Rattle.kms_model.specs.Objects.{count_of}
-use Rattle.kms_model.specs.Refusals.{early_refusal}
-use Rattle.kms_model.specs.Sound.{IsDevice, IsSound}
+use Rattle.kms_model.specs.Request.Agreement.{AgreesNew, AgreesOld}
+use Rattle.kms_model.specs.Request.Apply.{apply, object_of}
+use Rattle.kms_model.specs.Request.Late.{duplicate_at}
+use Rattle.kms_model.specs.Request.Lookups.{look_up}
+use Rattle.kms_model.specs.Device.Objects.{count_of}
+use Rattle.kms_model.specs.Request.Refusals.{early_refusal}
+use Rattle.kms_model.specs.Device.Sound.{IsDevice, IsSound}
 use Rattle.kms_request.specs.Naming.{next_crtc, old_crtc}
 
 -- An assignment names a CRTC: it sets it, or a plane or a connector that is on it in its old or its new state.

@@ -2,11 +2,11 @@
 ghost use Rattle.std.specs.Prelude.{◌≡◌, ◌≤◌, ◌<◌, ◌&&◌, ◌==◌, ℕ, List, [], ◌∷◌, ◌++◌, All, IfOk, IsTrue, Option, Some, None, take};
 ghost use Rattle.kms_model.specs.declared.objects.Kind.TheVariants.{Crtc, Plane};
 ghost use Rattle.kms_model.specs.declared.scripts.Assign.{Assign};
-ghost use Rattle.kms_model.specs.Apply.{prop_of};
-ghost use Rattle.kms_model.specs.Properties.{keeps_limits, same_kind};
-ghost use Rattle.kms_model.specs.Resolves.{IsSettable};
-ghost use Rattle.kms_model.specs.Sets.{in_fences, out_fences};
-ghost use Rattle.kms_model.specs.Touched.{new_label, out_fence_label};
+ghost use Rattle.kms_model.specs.Request.Apply.{prop_of};
+ghost use Rattle.kms_model.specs.Device.Properties.{keeps_limits, same_kind};
+ghost use Rattle.kms_model.specs.Request.Resolves.{IsSettable};
+ghost use Rattle.kms_model.specs.Request.Sets.{in_fences, out_fences};
+ghost use Rattle.kms_model.specs.Request.Touched.{new_label, out_fence_label};
 ghost use Rattle.kms_request.specs.Fences.{fence_value, ListsNumbers, TellInFences, TellNumbers, TellOutFences};
 
 use crate::lookups::Looker;

@@ -5,11 +5,11 @@ ghost use Rattle.std.specs.List.{list_any, range_with_len};
 ghost use Rattle.std.specs.Option.{option_and_then};
 ghost use Rattle.kms_model.specs.declared.objects.Kind.TheVariants.{Crtc, Plane};
 ghost use Rattle.kms_model.specs.Firsts.{first_some, number_if};
-ghost use Rattle.kms_model.specs.Flags.{allows_modeset, wants_event};
-ghost use Rattle.kms_model.specs.Late.{ArePlanesInRange, clone_refusal_of, conn_refusal_of, crtc_refusal_of, duplicate_in, late_of_states, members, needs_modeset_if, new_mode, plane_refusal_of, route_refusal_of, shown_refusal_of};
-ghost use Rattle.kms_model.specs.Objects.{count_of};
-ghost use Rattle.kms_model.specs.Sound.{IsPlaneInRange};
-ghost use Rattle.kms_request.specs.Answers.{number_of};
+ghost use Rattle.kms_model.specs.Request.Flags.{allows_modeset, wants_event};
+ghost use Rattle.kms_model.specs.Request.Late.{ArePlanesInRange, clone_refusal_of, conn_refusal_of, crtc_refusal_of, duplicate_in, late_of_states, members, needs_modeset_if, new_mode, plane_refusal_of, route_refusal_of, shown_refusal_of};
+ghost use Rattle.kms_model.specs.Device.Objects.{count_of};
+ghost use Rattle.kms_model.specs.Device.Sound.{IsPlaneInRange};
+ghost use Rattle.kms_request.specs.Answers.{refusal_number};
 ghost use Rattle.kms_request.specs.Order.{IsLookedAtInRange, count_at, refusal_at};
 
 use crate::flags::{ALLOW_MODESET, PAGE_FLIP_EVENT};
@@ -230,7 +230,7 @@ pub fn late_refusal(
     asked: Asked,
 ) -> Option<Refusal>
     requires { ArePlanesInRange topology.now states.now objects.now.planes }
-    ensures { number_of result ≡ late_of_states topology.now states.now objects.now asked.flags asked.named asked.fenced }
+    ensures { refusal_number result ≡ late_of_states topology.now states.now objects.now asked.flags asked.named asked.fenced }
 {
     if asked.flags & PAGE_FLIP_EVENT != 0 && asked.named == 0 {
         return Some(Refusal(9));

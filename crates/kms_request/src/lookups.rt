@@ -1,7 +1,7 @@
 //! What labels name.
 ghost use Rattle.std.specs.Prelude.{◌≡◌, ℕ};
 ghost use Rattle.kms_model.specs.declared.worlds.Look.{Look};
-ghost use Rattle.kms_model.specs.Sets.{look_in};
+ghost use Rattle.kms_model.specs.Request.Sets.{look_in};
 
 use kms_model::{Look, Lookups};
 

@@ -5,9 +5,9 @@ ghost use Rattle.kms_model.specs.declared.objects.Topology.{Topology};
 ghost use Rattle.kms_model.specs.declared.scripts.Request.{Request};
 ghost use Rattle.kms_model.specs.declared.worlds.Look.{Look};
 ghost use Rattle.kms_model.specs.declared.worlds.World.{World};
-ghost use Rattle.kms_model.specs.Apply.{apply};
-ghost use Rattle.kms_model.specs.Touched.{named_set};
-ghost use Rattle.kms_request.specs.Naming.{AreCrtcs, Covers, is_named_by, new_crtc, next_crtc, old_crtc};
+ghost use Rattle.kms_model.specs.Request.Apply.{apply};
+ghost use Rattle.kms_model.specs.Request.Touched.{named_set};
+ghost use Rattle.kms_request.specs.Naming.{AreCrtcs, Covers, set_names, new_crtc, next_crtc, old_crtc};
 
 use kms_model::{Duplicates, Resolved, Set, SetValue};
 
@@ -54,7 +54,7 @@ fn new_crtc(value: SetValue) -> u32
 
 /// The CRTCs that one set names.
 fn named_by(states: &Duplicates, set: &Set) -> u32
-    ensures { AreCrtcs (is_named_by states.now set.now) result }
+    ensures { AreCrtcs (set_names states.now set.now) result }
 {
     let object = set.object.0;
     let (old, _) = crtcs_of(states, object);
@@ -63,7 +63,7 @@ fn named_by(states: &Duplicates, set: &Set) -> u32
 
 /// The CRTCs that some sets name.
 fn all_named_by(states: &Duplicates, sets: &[Set]) -> u32
-    ensures { AreCrtcs (λ crtc. list_any (λ s. is_named_by states.now s crtc) sets.now) result }
+    ensures { AreCrtcs (λ crtc. list_any (λ s. set_names states.now s crtc) sets.now) result }
 {
     let mut named = 0;
     for set in sets {

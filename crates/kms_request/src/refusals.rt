@@ -1,14 +1,14 @@
 //! Refusals 1 to 8. (Kernel: `drm_atomic_uapi.c`, `drm_mode_atomic_ioctl`, `drm_atomic_set_property`.)
 ghost use Rattle.std.specs.Prelude.{◌≡◌, ◌<◌, ◌≤◌, ℕ, ◌&&◌, ◌==◌, List, [], ◌∷◌, All, IsNone, IsTrue, Option, Some, None, option_map, slice_index_or, slice_set, false, if◌then◌else◌};
 ghost use Rattle.std.specs.List.{list_any};
-ghost use Rattle.kms_model.specs.Apply.{prop_of};
+ghost use Rattle.kms_model.specs.Request.Apply.{prop_of};
 ghost use Rattle.kms_model.specs.Firsts.{number_if, or_else};
-ghost use Rattle.kms_model.specs.Objects.{count_of, exists};
-ghost use Rattle.kms_model.specs.Properties.{are_flags, keeps_limits, property};
-ghost use Rattle.kms_model.specs.Refusals.{assign_refusal, assigns_refusal, early_refusal, flags_refusal, is_in_range, is_label, is_second_fence, takes};
-ghost use Rattle.kms_model.specs.Resolves.{IsAllowed, IsSettable};
+ghost use Rattle.kms_model.specs.Device.Objects.{count_of, exists};
+ghost use Rattle.kms_model.specs.Device.Properties.{are_flags, keeps_limits, property};
+ghost use Rattle.kms_model.specs.Request.Refusals.{assign_refusal, assigns_refusal, early_refusal, flags_refusal, is_in_range, names_label, is_second_fence, takes};
+ghost use Rattle.kms_model.specs.Request.Resolves.{IsAllowed, IsSettable};
 ghost use Rattle.kms_props.specs.Rows.{property_of};
-ghost use Rattle.kms_request.specs.Answers.{number_of};
+ghost use Rattle.kms_request.specs.Answers.{refusal_number};
 ghost use Rattle.kms_request.specs.Fences.{SetsFenceOfPlane, TellFences};
 
 use crate::flags::{PAGE_FLIP_ASYNC, PAGE_FLIP_EVENT, TEST_ONLY};
@@ -165,7 +165,7 @@ fn first_refusal<L: Looker>(topology: &Topology, found: &L, assigns: &[Assign]) 
 #[tactic(auto, unfolding(kms_model::specs::Refusals::early_refusal))]
 pub fn early<L: Looker>(topology: &Topology, request: &Request, found: &L) -> Option<Refusal>
     requires { IsTrue (keeps_limits topology.now) }
-    ensures first { number_of result ≡ early_refusal topology.now (L.meaning found.now) request.now }
+    ensures first { refusal_number result ≡ early_refusal topology.now (L.meaning found.now) request.now }
     ensures allowed { IsNone result → All (IsAllowed topology.now (L.meaning found.now)) request.now.assigns }
     ensures settable { IsNone result → All IsSettable request.now.assigns }
 {

@@ -1,10 +1,10 @@
 //! What an accepted request asks for.
 ghost use Rattle.std.specs.Prelude.{◌≡◌, ℕ, IfErr, IfOk, IsTrue};
 ghost use Rattle.kms_model.specs.declared.worlds.Look.{Look};
-ghost use Rattle.kms_model.specs.Properties.{keeps_limits};
-ghost use Rattle.kms_model.specs.Refusals.{early_refusal};
-ghost use Rattle.kms_model.specs.Resolves.{IsResolved};
-ghost use Rattle.kms_model.specs.Sets.{look_in};
+ghost use Rattle.kms_model.specs.Device.Properties.{keeps_limits};
+ghost use Rattle.kms_model.specs.Request.Refusals.{early_refusal};
+ghost use Rattle.kms_model.specs.Request.Resolves.{IsResolved};
+ghost use Rattle.kms_model.specs.Request.Sets.{look_in};
 ghost use Rattle.kms_request.specs.Answers.{ComesFrom};
 ghost use Rattle.kms_request.specs.SameLooks.{TellsLabels};
 

@@ -2,11 +2,11 @@
 //! `drm_atomic_crtc_set_property`, `drm_atomic_connector_set_property`.)
 ghost use Rattle.std.specs.Prelude.{◌≡◌, ◌<◌, ◌||◌, ℕ, All, IfOk, IsTrue};
 ghost use Rattle.kms_model.specs.declared.objects.Topology.{Topology};
-ghost use Rattle.kms_model.specs.Apply.{is_kept, object_of, prop_of};
-ghost use Rattle.kms_model.specs.Objects.{object_id};
-ghost use Rattle.kms_model.specs.Resolves.{IsAllowed, IsSettable, IsSettableValue};
-ghost use Rattle.kms_model.specs.SetRanges.{may_set};
-ghost use Rattle.kms_model.specs.Sets.{crtc_value, fb_value, fence_of_look, last_sets, mode_value, number_value, set_of, set_value};
+ghost use Rattle.kms_model.specs.Request.Apply.{is_kept, object_of, prop_of};
+ghost use Rattle.kms_model.specs.Device.Objects.{object_id};
+ghost use Rattle.kms_model.specs.Request.Resolves.{IsAllowed, IsSettable, IsSettableValue};
+ghost use Rattle.kms_model.specs.Request.SetRanges.{may_set};
+ghost use Rattle.kms_model.specs.Request.Sets.{crtc_value, fb_value, fence_of_look, last_sets, mode_value, number_value, set_of, set_value};
 
 use crate::lookups::Looker;
 use crate::targets::{mark, no_marks};

@@ -1,13 +1,13 @@
 //! Refusals of the states of one object. (Kernel: `drm_atomic_plane_check`, `drm_atomic_crtc_check`,
 //! `drm_atomic_helper_check_modeset`, `drm_atomic_helper_check_plane_state`.)
 ghost use Rattle.std.specs.Prelude.{◌≡◌, ◌*◌, ◌+ℤ◌, ◌==◌, int_lt, pos, negsuc, Some};
-ghost use Rattle.kms_model.specs.Checks.{conn_refusal, crtc_refusal, has_crtc, hops, is_beyond, is_unscaled, is_whole, placed_refusal, plane_refusal, shown_refusal};
-ghost use Rattle.kms_model.specs.Grammar.{format_bit};
-ghost use Rattle.kms_model.specs.Masks.{has_bit};
-ghost use Rattle.kms_model.specs.Modes.{same_mode};
-ghost use Rattle.kms_model.specs.States.{natural};
-ghost use Rattle.kms_model.specs.Sound.{IsBetween, IsPlaneInRange};
-ghost use Rattle.kms_model.specs.Late.{needs_modeset_between};
+ghost use Rattle.kms_model.specs.Request.Checks.{conn_refusal, crtc_refusal, has_crtc, switches_crtc, is_beyond, is_unscaled, is_whole, placed_refusal, plane_refusal, shown_refusal};
+ghost use Rattle.kms_model.specs.Script.Grammar.{format_bit};
+ghost use Rattle.kms_model.specs.Device.Masks.{has_bit};
+ghost use Rattle.kms_model.specs.Device.Modes.{same_mode};
+ghost use Rattle.kms_model.specs.Device.States.{natural};
+ghost use Rattle.kms_model.specs.Device.Sound.{IsBetween, IsPlaneInRange};
+ghost use Rattle.kms_model.specs.Request.Late.{needs_modeset_between};
 
 use kms_geom::fits_source;
 use kms_model::{Both, CrtcState, FbInfo, Format, Mode, PlaneInfo, PlaneState, Rect};
@@ -67,8 +67,8 @@ fn ends_beyond(start: i64, size: i64) -> bool
 }
 
 /// Whether a plane goes from one CRTC straight to another.
-fn hops(old: u32, new: u32) -> bool
-    ensures { result ≡ hops old new }
+fn switches_crtc(old: u32, new: u32) -> bool
+    ensures { result ≡ switches_crtc old new }
 {
     old != 0 && new != 0 && old != new
 }
@@ -90,7 +90,7 @@ fn placed_refusal(info: &PlaneInfo, fb: FbInfo, old: &PlaneState, new: &PlaneSta
     if !fits_source(new.src, fb.width, fb.height) {
         return Some(14);
     }
-    if hops(old.crtc, new.crtc) {
+    if switches_crtc(old.crtc, new.crtc) {
         return Some(15);
     }
     None

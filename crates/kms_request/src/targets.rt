@@ -2,8 +2,8 @@
 ghost use Rattle.std.specs.Prelude.{◌≡◌, ◌<◌, ℕ, List, [], ◌∷◌, not};
 ghost use Rattle.std.specs.List.{list_any};
 ghost use Rattle.kms_model.specs.declared.scripts.Assign.{Assign};
-ghost use Rattle.kms_model.specs.Resolves.{IsPlaced, IsSettable};
-ghost use Rattle.kms_model.specs.Sets.{has_target_of};
+ghost use Rattle.kms_model.specs.Request.Resolves.{HasPlace, IsSettable};
+ghost use Rattle.kms_model.specs.Request.Sets.{has_target_of};
 ghost use Rattle.kms_request.specs.Targets.{place_of, target_of, TellTargets};
 
 use crate::sets::prop_of;
@@ -24,7 +24,7 @@ pub fn no_marks() -> Marks
 
 /// The place of an object among all that can be set.
 fn place_of(kind: Kind, index: u32) -> usize
-    requires { IsPlaced kind index }
+    requires { HasPlace kind index }
     ensures place { result ≡ place_of kind index }
     ensures within { result < 28 }
 {

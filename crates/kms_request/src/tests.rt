@@ -1,6 +1,6 @@
 //! What no clause says: requests worked out by hand.
 ghost use Rattle.std.specs.Prelude.{IfOk, IsTrue};
-ghost use Rattle.kms_model.specs.Properties.{keeps_limits};
+ghost use Rattle.kms_model.specs.Device.Properties.{keeps_limits};
 
 use crate::{RequestError, early, named, resolve};
 use kms_model::properties::{

@@ -7,10 +7,10 @@ use Rattle.kms_model.specs.declared.objects.Topology.{Topology}
 use Rattle.kms_model.specs.declared.scripts.Command.{Command}
 use Rattle.kms_model.specs.declared.scripts.Script.{Script}
 use Rattle.kms_model.specs.declared.worlds.World.{World}
-use Rattle.kms_model.specs.Flat as flat
-use Rattle.kms_model.specs.Flat.{Turn, Done, done, is_journaled, next_place, run_from, freed_by, turn_of, longest, turns_of}
-use Rattle.kms_model.specs.Sound.{IsSound}
-use Rattle.kms_model.specs.WellFormed.{IsFitClient, IsFitCommand, IsWellFormed}
+use Rattle.kms_model.specs.Report.Flat as flat
+use Rattle.kms_model.specs.Report.Flat.{Turn, Done, done, is_journaled, next_place, run_from, freed_by, turn_of, longest, turns_of}
+use Rattle.kms_model.specs.Device.Sound.{IsSound}
+use Rattle.kms_model.specs.Script.WellFormed.{IsFitClient, IsFitCommand, IsWellFormed}
 use Rattle.kms_model.proofs.SoundKept.{execution_keeps_sound}
 use Rattle.kms_model.proofs.SoundStart.{start_is_sound}
 use Rattle.kms_run.specs.declared.freed.Freed.{Freed}

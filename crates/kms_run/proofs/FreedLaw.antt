@@ -17,13 +17,13 @@ use Rattle.kms_model.specs.declared.worlds.Content.TheVariants as content
 use Rattle.kms_model.specs.declared.worlds.Setting.{Setting}
 use Rattle.kms_model.specs.declared.worlds.Thing.{Thing}
 use Rattle.kms_model.specs.declared.worlds.World.{World}
-use Rattle.kms_model.specs.Execution.{execute, is_framebuffer}
-use Rattle.kms_model.specs.Flat.{Done, is_among, is_journaled, is_needed, is_used, needed, freed_between, freed_by}
-use Rattle.kms_model.specs.Objects.{object_id, ids_of}
-use Rattle.kms_model.specs.Serial.{is_accepted}
-use Rattle.kms_model.specs.Sound.{AreNumbered, IsSound, is_thing}
-use Rattle.kms_model.specs.States.{framebuffer_in, framebuffer_of}
-use Rattle.kms_model.specs.World.{thing_numbered, thing_with_id, value}
+use Rattle.kms_model.specs.Device.Execution.{execute, is_framebuffer}
+use Rattle.kms_model.specs.Report.Flat.{Done, has_thing, is_journaled, is_needed, is_used, needed, freed_between, freed_by}
+use Rattle.kms_model.specs.Device.Objects.{object_id, ids_of}
+use Rattle.kms_model.specs.Device.Serial.{is_accepted}
+use Rattle.kms_model.specs.Device.Sound.{AreNumbered, IsSound, is_thing}
+use Rattle.kms_model.specs.Device.States.{framebuffer_in, framebuffer_of}
+use Rattle.kms_model.specs.Device.World.{thing_numbered, thing_with_id, value}
 use Rattle.kms_model.proofs.HeldValues.{all_held-from}
 use Rattle.kms_model.proofs.Items.{IsIn, IsObject, ids-has, ids-in, list_any-has, list_any-none, list_any-some}
 use Rattle.kms_model.proofs.SeenLemmas.{fb-held}
@@ -174,7 +174,7 @@ abbrev freed : ℕ → ℕ → Freed
 freed label id = record { label = label; id = id }
 
 abbrev is_gone : Topology → World → Thing → Bool
-is_gone t after x = not (is_among (needed t after) x)
+is_gone t after x = not (has_thing (needed t after) x)
 
 entry_freed : (s : Thing) (used : Bool) (id : ℕ) → is_framebuffer s.content ≡ true → s.is_open ≡ false → used ≡ false → freed_if (framebuffer_entry (Some s)) used id ≡ Some (freed s.label id)
 entry_freed s used id fb shut unused = rw (fb, shut, unused) refl
@@ -188,9 +188,9 @@ gone-freed : (t : Topology) (before after : World) (closing : ℕ) (x : Thing) (
 gone-freed t before after closing x s numbered fb gone =
     let fb_now : is_framebuffer s.now.content ≡ true = ap is_framebuffer s.content ∙ fb in
     let unneeded : is_needed t after.values s.now ≡ false = false_from_ne_true (is_needed t after.values s.now) (λ is.
-    let among : is_among (needed t after) x ≡ true =
+    let among : has_thing (needed t after) x ≡ true =
     list_any-has (λ other. eqb other.id x.id) (needed t after) s.now (filter-in (is_needed t after.values) after.things s.now s.is_in is) (eq-eqb s.now.id x.id s.id) in
-    let none = not-true (is_among (needed t after) x) gone in
+    let none = not-true (has_thing (needed t after) x) gone in
     true≢false (sym among ∙ none)) in
     let shut = shut-since (is_framebuffer s.now.content) s.now.is_open (is_used t after.values s.now.id) fb_now unneeded in
     let found : thing_with_id after.things x.id ≡ Some s.now = ap (thing_with_id after.things) (sym s.id) ∙ found-id 1000 after.things s.now numbered s.is_in in
@@ -223,12 +223,12 @@ freed-gone t before after closing f x s numbered is =
     let found : thing_with_id after.things f.id ≡ Some s.now = ap (thing_with_id after.things) (sym id) ∙ found-id 1000 after.things s.now numbered s.is_in in
     let shut : IsShut s.now (is_used t after.values f.id) f.id f = entry-shut s.now (is_used t after.values f.id) f.id f fb_now (ap (λ (o : Option Thing). freed_if (framebuffer_entry o) (is_used t after.values f.id) f.id) (sym found) ∙ is) in
     let unneeded : (s.now.is_open || is_used t after.values s.now.id) ≡ false = ap (λ (k : ℕ). s.now.is_open || is_used t after.values k) id ∙ shut.unneeded in
-    let alone : is_among (needed t after) x.item ≡ false = list_any-none (λ other. eqb other.id x.item.id) (needed t after) (λ other in_needed.
+    let alone : has_thing (needed t after) x.item ≡ false = list_any-none (λ other. eqb other.id x.item.id) (needed t after) (λ other in_needed.
     let kept = in-filter (is_needed t after.values) after.things other in_needed in
     false_from_ne_true (eqb other.id x.item.id) (λ same.
     let one : other ≡ s.now = same_thing after.things other s.now numbered kept.is_in s.is_in (eqb-true other.id x.item.id same ∙ sym s.id) in
     not_needed (is_framebuffer s.now.content) s.now.is_open (is_used t after.values s.now.id) unneeded (ap (is_needed t after.values) (sym one) ∙ kept.passes))) in
-    (not_from_false (is_among (needed t after) x.item) alone, ap (λ (label : ℕ). freed label x.item.id) (sym s.label) ∙ ap (freed s.now.label) x.id ∙ shut.same)
+    (not_from_false (has_thing (needed t after) x.item) alone, ap (λ (label : ℕ). freed label x.item.id) (sym s.label) ∙ ap (freed s.now.label) x.id ∙ shut.same)
 
 -- Both together
 

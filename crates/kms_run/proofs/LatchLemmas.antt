@@ -10,11 +10,11 @@ use Rattle.kms_model.specs.declared.scripts.Command.TheVariants as command
 use Rattle.kms_model.specs.declared.scripts.Request.{Request}
 use Rattle.kms_model.specs.declared.worlds.Setting.{Setting}
 use Rattle.kms_model.specs.declared.worlds.World.{World}
-use Rattle.kms_model.specs.Masks.{has_bit}
-use Rattle.kms_model.specs.Named.{names}
-use Rattle.kms_model.specs.Objects.{object_id}
-use Rattle.kms_model.specs.Serial.{Pictured, pictured, shown_after, shown_by}
-use Rattle.kms_model.specs.Touched.{named_set}
+use Rattle.kms_model.specs.Device.Masks.{has_bit}
+use Rattle.kms_model.specs.Request.Named.{names}
+use Rattle.kms_model.specs.Device.Objects.{object_id}
+use Rattle.kms_model.specs.Device.Serial.{Pictured, pictured, shown_after, shown_by}
+use Rattle.kms_model.specs.Request.Touched.{named_set}
 use Rattle.std.proofs.lemmas.Nat.Bits.{bit_at-zero}
 use Rattle.kms_model.proofs.MaskLemmas.{has_bit-below, has_bit-from}
 use Rattle.kms_run.specs.declared.latches.Latched.{Latched}

@@ -8,8 +8,8 @@ use Rattle.std.proofs.lemmas.List.Concat.{flat_map-append}
 use Rattle.std.proofs.lemmas.List.Elements.{filter-append}
 use Rattle.std.proofs.lemmas.Bool.{eq-eqb, ne_eqb, cond-true, cond-false}
 use Rattle.kms_model.specs.declared.replies.Answered.{Answered}
-use Rattle.kms_model.specs.Flat.{line}
-use Rattle.kms_model.specs.Serial.{is_accepted}
+use Rattle.kms_model.specs.Report.Flat.{line}
+use Rattle.kms_model.specs.Device.Serial.{is_accepted}
 use Rattle.kms_run.specs.declared.latches.Latched.{Latched}
 use Rattle.kms_run.specs.Report.{count_with, journal_text, latch_text, latches_text, replies_text, reply_text}
 

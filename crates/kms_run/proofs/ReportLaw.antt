@@ -13,15 +13,15 @@ use Rattle.kms_model.specs.declared.pictures.Picture.{Picture}
 use Rattle.kms_model.specs.declared.pictures.Picture.TheVariants.{Off, On}
 use Rattle.kms_model.specs.declared.replies.Answered.{Answered}
 use Rattle.kms_model.specs.declared.scripts.Script.{Script}
-use Rattle.kms_model.specs.Objects.{object_id}
-use Rattle.kms_model.specs.Serial.{Pictured, is_accepted, shown_by}
-use Rattle.kms_model.specs.Flat as flat
-use Rattle.kms_model.specs.Flat.{Done, is_journaled, entry_of, journal_of, journal_line, reply_line, line, by_client, count_after, latch_line, latch_lines, latches_of, latch_lines_of, shown_then, freed_by, freed_line, report_of}
+use Rattle.kms_model.specs.Device.Objects.{object_id}
+use Rattle.kms_model.specs.Device.Serial.{Pictured, is_accepted, shown_by}
+use Rattle.kms_model.specs.Report.Flat as flat
+use Rattle.kms_model.specs.Report.Flat.{Done, is_journaled, entry_of, journal_of, journal_line, reply_line, line, by_client, count_after, latch_line, latch_lines, latches_of, latch_lines_of, shown_then, freed_by, freed_line, report_of}
 use Rattle.kms_run.specs.declared.latches.Latched.{Latched}
 use Rattle.kms_run.specs.declared.run.Run.{Run}
 use Rattle.kms_run.specs.Freed.{freed_of}
 use Rattle.kms_run.specs.Latches.{latched_of, latched_if, latched_at, latched_by}
-use Rattle.kms_run.specs.Report.{all_latches_text, all_replies_text, freed_text, journal_text, latch_text, latches_on, latches_text, replies_text, reply_text, text_of}
+use Rattle.kms_run.specs.Report.{all_latches_text, all_replies_text, freed_text, journal_text, latch_text, latches_on, latches_text, replies_text, reply_text, report_text}
 use Rattle.kms_run.specs.Run.{HasRun, answered_of}
 use Rattle.kms_run.proofs.Ranges.{flat_map-range_same}
 
@@ -146,5 +146,5 @@ parts frames s ds =
     rw (j, r, l, x) refl
 
 -- what a run of all of a script has come to is the script's report
-pub run_is_report : (frames : Bool) (s : Script) (run : Run) → HasRun frames s run → text_of s run ≡ flat.flat frames s
+pub run_is_report : (frames : Bool) (s : Script) (run : Run) → HasRun frames s run → report_text s run ≡ flat.flat frames s
 run_is_report frames s run has = rw (has.answers, has.latches, has.freed) (parts frames s (flat.run s))

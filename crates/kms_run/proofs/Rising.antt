@@ -8,9 +8,9 @@ use Rattle.std.proofs.lemmas.Bool.{eq-eqb, ne_eqb, cases_Bool, cases_eq, cond-tr
 use Rattle.kms_model.specs.declared.objects.Topology.{Topology}
 use Rattle.kms_model.specs.declared.worlds.Thing.{Thing}
 use Rattle.kms_model.specs.declared.worlds.World.{World}
-use Rattle.kms_model.specs.World.{thing_with_id}
-use Rattle.kms_model.specs.Flat.{is_used}
-use Rattle.kms_model.specs.Sound.{AreNumbered}
+use Rattle.kms_model.specs.Device.World.{thing_with_id}
+use Rattle.kms_model.specs.Report.Flat.{is_used}
+use Rattle.kms_model.specs.Device.Sound.{AreNumbered}
 use Rattle.kms_model.proofs.Items.{IsIn}
 use Rattle.kms_serial.specs.Framebuffers.{framebuffer_entry}
 use Rattle.kms_run.specs.declared.freed.Freed.{Freed}

@@ -13,17 +13,17 @@ use Rattle.kms_model.specs.declared.worlds.Content.{Content}
 use Rattle.kms_model.specs.declared.worlds.Content.TheVariants as content
 use Rattle.kms_model.specs.declared.worlds.Thing.{Thing}
 use Rattle.kms_model.specs.declared.worlds.World.{World}
-use Rattle.kms_model.specs.Apply.{apply}
-use Rattle.kms_model.specs.Closing.{closed_if, closed_in}
-use Rattle.kms_model.specs.Execution.{BufferInfo, answer, make, make_unless, add_fb, buffer_of, is_blob, is_framebuffer, destroy_refusal, close_refusal, close_unless, signal_refusal, signal_unless, new_buffer_refusal, make_out_fence, make_out_fences, committed, commit, execute}
+use Rattle.kms_model.specs.Request.Apply.{apply}
+use Rattle.kms_model.specs.Device.Closing.{closed_if, closed_in}
+use Rattle.kms_model.specs.Device.Execution.{BufferInfo, answer, make, make_unless, add_fb, buffer_of, is_blob, is_framebuffer, destroy_refusal, close_refusal, close_unless, signal_refusal, signal_unless, new_buffer_refusal, make_out_fence, make_out_fences, committed, commit, execute}
 use Rattle.kms_model.specs.Firsts.{number_if}
-use Rattle.kms_model.specs.Flags.{is_test}
-use Rattle.kms_model.specs.Objects.{ids_of}
-use Rattle.kms_model.specs.Serial.{is_accepted}
-use Rattle.kms_model.specs.Sound.{AreNumbered}
-use Rattle.kms_model.specs.Touched.{out_fence_label}
-use Rattle.kms_model.specs.Verdict.{verdict}
-use Rattle.kms_model.specs.World.{thing_labelled, thing_with_id}
+use Rattle.kms_model.specs.Request.Flags.{is_test}
+use Rattle.kms_model.specs.Device.Objects.{ids_of}
+use Rattle.kms_model.specs.Device.Serial.{is_accepted}
+use Rattle.kms_model.specs.Device.Sound.{AreNumbered}
+use Rattle.kms_model.specs.Request.Touched.{out_fence_label}
+use Rattle.kms_model.specs.Request.Verdict.{verdict}
+use Rattle.kms_model.specs.Device.World.{thing_labelled, thing_with_id}
 use Rattle.kms_model.proofs.Items.{IsIn, or_else-none, number_if-none}
 use Rattle.kms_model.proofs.ThingLemmas.{IsNumberedIn, ids-numbered, find-in}
 use Rattle.kms_run.specs.Freed.{closing_id}

@@ -6,11 +6,11 @@ use Rattle.kms_model.specs.declared.objects.Topology.{Topology}
 use Rattle.kms_model.specs.declared.replies.Reply.{Reply}
 use Rattle.kms_model.specs.declared.replies.Reply.TheVariants as reply
 use Rattle.kms_model.specs.declared.worlds.World.{World}
-use Rattle.kms_model.specs.Execution.{Executed, execute}
-use Rattle.kms_model.specs.Flat.{Done, Turn, freed_by}
-use Rattle.kms_model.specs.Objects.{object_id}
-use Rattle.kms_model.specs.Serial.{is_accepted, shown_by}
-use Rattle.kms_model.specs.Sound.{IsSound}
+use Rattle.kms_model.specs.Device.Execution.{Executed, execute}
+use Rattle.kms_model.specs.Report.Flat.{Done, Turn, freed_by}
+use Rattle.kms_model.specs.Device.Objects.{object_id}
+use Rattle.kms_model.specs.Device.Serial.{is_accepted, shown_by}
+use Rattle.kms_model.specs.Device.Sound.{IsSound}
 use Rattle.kms_serial.specs.Commands.{Grows}
 use Rattle.kms_run.specs.declared.freed.Candidates.{Candidates}
 use Rattle.kms_run.specs.declared.freed.Freed.{Freed}

@@ -2,9 +2,9 @@
 use Rattle.std.specs.Prelude.{◌≡◌, ℕ, Bool, List, Vec, Result, Ok, Err, ⊤}
 use Rattle.std.specs.declared.alloc.Global.{Global}
 use Rattle.kms_model.specs.declared.scripts.Script.{Script}
-use Rattle.kms_model.specs.Built.{built_input}
-use Rattle.kms_model.specs.Flat.{flat}
-use Rattle.kms_model.specs.Headline.{TellsJournal}
+use Rattle.kms_model.specs.Script.Built.{built_input}
+use Rattle.kms_model.specs.Report.Flat.{flat}
+use Rattle.kms_model.specs.Report.Headline.{TellsJournal}
 use Rattle.kms_script.specs.declared.faults.ParseError.{ParseError}
 use Rattle.kms_script.specs.declared.faults.ParseError.TheVariants as errors
 

@@ -10,11 +10,11 @@ use Rattle.kms_model.specs.declared.scripts.Command.TheVariants as command
 use Rattle.kms_model.specs.declared.worlds.Setting.{Setting}
 use Rattle.kms_model.specs.declared.worlds.Thing.{Thing}
 use Rattle.kms_model.specs.declared.worlds.World.{World}
-use Rattle.kms_model.specs.Objects.{object_id}
-use Rattle.kms_model.specs.World.{value, thing_labelled, thing_with_id}
-use Rattle.kms_model.specs.Execution.{execute}
-use Rattle.kms_model.specs.Sound.{IsSound}
-use Rattle.kms_model.specs.Flat.{Done, is_used}
+use Rattle.kms_model.specs.Device.Objects.{object_id}
+use Rattle.kms_model.specs.Device.World.{value, thing_labelled, thing_with_id}
+use Rattle.kms_model.specs.Device.Execution.{execute}
+use Rattle.kms_model.specs.Device.Sound.{IsSound}
+use Rattle.kms_model.specs.Report.Flat.{Done, is_used}
 use Rattle.kms_serial.specs.Framebuffers.{framebuffer_entry}
 use Rattle.kms_run.specs.declared.freed.Candidates.{Candidates}
 use Rattle.kms_run.specs.declared.freed.Freed.{Freed}
@@ -22,13 +22,13 @@ use Rattle.kms_run.specs.declared.freed.Freed.{Freed}
 abbrev pub freed_of : Thing → Freed
 freed_of t = record { label = t.label; id = t.id }
 
-abbrev pub id_or_zero : Option Thing → ℕ
-id_or_zero None = 0
-id_or_zero (Some t) = t.id
+abbrev pub thing_id_or_zero : Option Thing → ℕ
+thing_id_or_zero None = 0
+thing_id_or_zero (Some t) = t.id
 
 -- the id of the thing that a command closes, 0 of any other command
 abbrev pub closing_id : List Thing → Command → ℕ
-closing_id things (command.CloseFb label) = id_or_zero (thing_labelled things label)
+closing_id things (command.CloseFb label) = thing_id_or_zero (thing_labelled things label)
 closing_id things _ = 0
 
 -- the framebuffers that planes are set to, by plane, and 0 in all other places

@@ -11,13 +11,13 @@ use Rattle.kms_model.specs.declared.replies.Reply.{Reply}
 use Rattle.kms_model.specs.declared.replies.Reply.TheVariants as reply
 use Rattle.kms_model.specs.declared.worlds.Thing.{Thing}
 use Rattle.kms_model.specs.declared.worlds.World.{World}
-use Rattle.kms_model.specs.Images.{image_of}
-use Rattle.kms_model.specs.Masks.{has_bit}
-use Rattle.kms_model.specs.Objects.{object_id}
-use Rattle.kms_model.specs.Ppm.{ppm}
-use Rattle.kms_model.specs.Serial.{Pictured, pictured, shown_by}
-use Rattle.kms_model.specs.Flat.{Done, digest_of, is_on}
-use Rattle.kms_compose.specs.Images.{seen, seen_under}
+use Rattle.kms_model.specs.Frames.Images.{image_of}
+use Rattle.kms_model.specs.Device.Masks.{has_bit}
+use Rattle.kms_model.specs.Device.Objects.{object_id}
+use Rattle.kms_model.specs.Frames.Ppm.{ppm}
+use Rattle.kms_model.specs.Device.Serial.{Pictured, pictured, shown_by}
+use Rattle.kms_model.specs.Report.Flat.{Done, digest_of, is_lit}
+use Rattle.kms_compose.specs.Images.{image_seen, seen_under}
 use Rattle.kms_compose.specs.declared.images.FbImage.{FbImage}
 use Rattle.kms_run.specs.declared.latches.Latched.{Latched}
 
@@ -30,7 +30,7 @@ pub record IsPushed (things : List Thing) (fb : ℕ) (old new : List FbImage) : 
   pub image : FbImage
   pub pushed : new ≡ old ++ image ∷ []
   pub id : image.fb ≡ fb
-  pub found : image_of things fb ≡ Some (seen image.image)
+  pub found : image_of things fb ≡ Some (image_seen image.image)
 
 -- the end of the line of a latch that is on: digest and, where it is asked for, the frame as text
 abbrev pub on_text : Bool → Mode → List ℕ → List ℕ
@@ -42,7 +42,7 @@ latched_text frames Off frame = codes "off\n"
 latched_text frames (On p) frame = on_text frames p.mode frame
 
 abbrev pub latched_of : Bool → ℕ → Pictured → Latched
-latched_of frames index p = record { index = index; commit = p.commit; is_on = is_on p.picture; text = latched_text frames p.picture p.frame }
+latched_of frames index p = record { index = index; commit = p.commit; is_lit = is_lit p.picture; text = latched_text frames p.picture p.frame }
 
 abbrev pub latched_if : Bool → ℕ → Option Pictured → List Latched
 latched_if frames index None = []

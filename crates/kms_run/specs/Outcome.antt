@@ -5,30 +5,30 @@ use Rattle.kms_io.specs.Bytes.{Begins}
 use Rattle.kms_model.specs.declared.scripts.Why.{Why}
 use Rattle.kms_run.specs.declared.status.Status.{Status}
 use Rattle.kms_run.specs.declared.status.Status.TheVariants as status
-use Rattle.kms_model.specs.Built.{built_input}
-use Rattle.kms_model.specs.InputLines.{input_limit}
+use Rattle.kms_model.specs.Script.Built.{built_input}
+use Rattle.kms_model.specs.Script.InputLines.{input_limit}
 use Rattle.kms_run.specs.Answers.{IsReport}
 
 -- All that the source had left was read, or, of a longer input, one byte more than an input may have.
-pub record IsWhole (left : Option (List ℕ)) (input : List ℕ) : Type 0 where
+pub record ReadsAll (left : Option (List ℕ)) (input : List ℕ) : Type 0 where
   pub most : length input ≤ input_limit + 1
   pub end : length input < input_limit + 1 → IsAtEnd left
 
 -- The whole input was read, and what was written is its report.
 pub record WritesReport (frames : Bool) (left : Option (List ℕ)) (input output : List ℕ) : Type 0 where
-  pub whole : IsWhole left input
+  pub whole : ReadsAll left input
   pub report : IsReport frames input output
 
 -- The whole input was read, and what was written is a front part of its report.
 pub record WritesFront (frames : Bool) (left : Option (List ℕ)) (input output : List ℕ) : Type 0 where
-  pub whole : IsWhole left input
+  pub whole : ReadsAll left input
   pub text : List ℕ
   pub report : IsReport frames input text
   pub front : Begins text output
 
 -- The whole input was read, this is its first fault, and nothing was written.
 pub record TellsFault (left : Option (List ℕ)) (line : ℕ) (why : Why) (input output : List ℕ) : Type 0 where
-  pub whole : IsWhole left input
+  pub whole : ReadsAll left input
   pub fault : built_input input ≡ Err (record { line = line; why = why })
   pub nothing : output ≡ []
 

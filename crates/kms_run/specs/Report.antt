@@ -4,8 +4,8 @@ use Rattle.std.specs.List.{flat_map, range_with_len}
 use Rattle.std.specs.Fmt.{decimal}
 use Rattle.kms_model.specs.declared.replies.Answered.{Answered}
 use Rattle.kms_model.specs.declared.scripts.Script.{Script}
-use Rattle.kms_model.specs.Serial.{is_accepted}
-use Rattle.kms_model.specs.Flat.{line, reply_words}
+use Rattle.kms_model.specs.Device.Serial.{is_accepted}
+use Rattle.kms_model.specs.Report.Flat.{line, reply_words}
 use Rattle.kms_run.specs.declared.freed.Freed.{Freed}
 use Rattle.kms_run.specs.declared.latches.Latched.{Latched}
 use Rattle.kms_run.specs.declared.run.Run.{Run}
@@ -49,8 +49,8 @@ all_replies_text clients answers = flat_map (λ client. replies_text client answ
 abbrev pub all_latches_text : ℕ → List Latched → List ℕ
 all_latches_text crtcs latches = flat_map (λ index. latches_on index latches) (range_with_len 0 crtcs)
 
-abbrev pub text_of : Script → Run → List ℕ
-text_of s run =
+abbrev pub report_text : Script → Run → List ℕ
+report_text s run =
     journal_text run.answers
     ++ all_replies_text (length s.clients) run.answers
     ++ all_latches_text s.topology.crtcs run.latches

@@ -7,11 +7,11 @@ use Rattle.kms_model.specs.declared.scripts.Script.{Script}
 use Rattle.kms_model.specs.declared.scripts.Command.{Command}
 use Rattle.kms_model.specs.declared.scripts.Command.TheVariants as command
 use Rattle.kms_model.specs.declared.worlds.Setting.{Setting}
-use Rattle.kms_model.specs.Touched.{named_set}
-use Rattle.kms_model.specs.World.{start}
-use Rattle.kms_model.specs.Flat as flat
-use Rattle.kms_model.specs.Flat.{Turn, Done, done, next_place, run_from, freed_by}
-use Rattle.kms_model.specs.Sound.{IsSound}
+use Rattle.kms_model.specs.Request.Touched.{named_set}
+use Rattle.kms_model.specs.Device.World.{start}
+use Rattle.kms_model.specs.Report.Flat as flat
+use Rattle.kms_model.specs.Report.Flat.{Turn, Done, done, next_place, run_from, freed_by}
+use Rattle.kms_model.specs.Device.Sound.{IsSound}
 use Rattle.kms_serial.specs.Commands.{Grows, HasRoom}
 use Rattle.kms_run.specs.Freed.{freed_of}
 use Rattle.kms_run.specs.Latches.{latched_by}

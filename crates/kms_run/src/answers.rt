@@ -1,7 +1,7 @@
 //! What the program says to an input.
 ghost use Rattle.std.specs.Prelude.{◌≡◌, ℕ, List, IfOk};
-ghost use Rattle.kms_model.specs.Flat.{flat};
-ghost use Rattle.kms_model.specs.WellFormed.{IsWellFormed};
+ghost use Rattle.kms_model.specs.Report.Flat.{flat};
+ghost use Rattle.kms_model.specs.Script.WellFormed.{IsWellFormed};
 ghost use Rattle.kms_run.specs.Answers.{Answers};
 
 use crate::built::unbuilt_line;

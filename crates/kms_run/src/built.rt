@@ -1,11 +1,11 @@
 //! Which scripts are executed so far.
 ghost use Rattle.std.specs.Prelude.{◌≡◌, ◌≤◌, ◌<◌, ◌+◌, ◌^◌, ℕ, length};
 ghost use Rattle.std.specs.List.{AllByRecursion, list_all};
-ghost use Rattle.kms_model.specs.Apply.{prop_of};
-ghost use Rattle.kms_model.specs.Built.{is_built, is_built_assign, is_built_value, unbuilt_client, unbuilt_command, unbuilt_line};
+ghost use Rattle.kms_model.specs.Request.Apply.{prop_of};
+ghost use Rattle.kms_model.specs.Script.Built.{is_built, is_built_assign, is_built_value, unbuilt_client, unbuilt_command, unbuilt_line};
 ghost use Rattle.kms_model.specs.declared.scripts.Command.TheVariants as command;
-ghost use Rattle.kms_model.specs.Flags.{wants_event};
-ghost use Rattle.kms_model.specs.WellFormed.{IsFitClient, IsWellFormed};
+ghost use Rattle.kms_model.specs.Request.Flags.{wants_event};
+ghost use Rattle.kms_model.specs.Script.WellFormed.{IsFitClient, IsWellFormed};
 
 use kms_model::properties::IN_FENCE_FD;
 use kms_model::{Assign, Command, PropRef, Request, Script, Seq, Value};

@@ -1,6 +1,6 @@
 //! The framebuffers that a command frees.
 ghost use Rattle.std.specs.Prelude.{◌≡◌, ◌≤◌, ◌<◌, ◌++◌, ℕ, List, [], map, length, OnOk, IfOk};
-ghost use Rattle.kms_model.specs.Flat.{Done, freed_by, is_used};
+ghost use Rattle.kms_model.specs.Report.Flat.{Done, freed_by, is_used};
 ghost use Rattle.kms_run.specs.Freed.{AreCandidates, AreUsed, IsExecuted, closing_id, freed_at, freed_from, freed_next, freed_of};
 
 use crate::replies::is_accepted;

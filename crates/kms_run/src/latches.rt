@@ -1,9 +1,9 @@
 //! What a commit makes the CRTCs show.
 ghost use Rattle.std.specs.Prelude.{◌≡◌, ◌<◌, ◌≤◌, ◌*◌, ◌++◌, ◌∷◌, [], ℕ, All, length, IfOk, OnOk};
 ghost use Rattle.kms_compose.specs.Images.{AreImagesIn, CanShow};
-ghost use Rattle.kms_model.specs.Frames.{frame_bytes};
-ghost use Rattle.kms_model.specs.Objects.{object_id};
-ghost use Rattle.kms_model.specs.Serial.{pictured};
+ghost use Rattle.kms_model.specs.Frames.FrameBytes.{frame_bytes};
+ghost use Rattle.kms_model.specs.Device.Objects.{object_id};
+ghost use Rattle.kms_model.specs.Device.Serial.{pictured};
 ghost use Rattle.kms_model.specs.declared.objects.Kind.TheVariants as kind;
 ghost use Rattle.kms_serial.specs.Shown.{EachCanBeShown, HasWords};
 ghost use Rattle.kms_run.specs.Latches.{AreSeen, IsPushed, latched_of, latched_text, latches_now, marked_latch, on_text};

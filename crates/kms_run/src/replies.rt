@@ -1,6 +1,6 @@
 //! Which replies accept a command.
 ghost use Rattle.std.specs.Prelude.{◌≡◌, ◌+◌, ◌<◌, ◌^◌, ℕ, Bool, if◌then◌else◌};
-ghost use Rattle.kms_model.specs.Serial.{is_accepted};
+ghost use Rattle.kms_model.specs.Device.Serial.{is_accepted};
 
 use kms_model::Reply;
 

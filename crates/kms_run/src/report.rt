@@ -1,7 +1,7 @@
 //! The report of a run.
 ghost use Rattle.std.specs.Prelude.{◌≡◌, ◌<◌, ◌≤◌, ◌^◌, ◌++◌, ◌∷◌, [], IfOk, OnOk, length, slice_index_or};
 ghost use Rattle.std.specs.List.{flat_map};
-ghost use Rattle.kms_run.specs.Report.{all_latches_text, all_replies_text, count_with, freed_text, journal_text, latch_text, latches_on, replies_text, text_of};
+ghost use Rattle.kms_run.specs.Report.{all_latches_text, all_replies_text, count_with, freed_text, journal_text, latch_text, latches_on, replies_text, report_text};
 
 use crate::freed::Freed;
 use crate::latches::Latched;
@@ -175,7 +175,7 @@ fn push_all_freed(
 /// The report of a run of a script.
 pub fn text_of(alloc: Global, script: &Script, run: &Run) -> Result<Vec<u8>, NoMemory>
     requires { length script.now.clients ≤ 16 }
-    ensures { IfOk result (λ text. text.items ≡ text_of script.now run.now) }
+    ensures { IfOk result (λ text. text.items ≡ report_text script.now run.now) }
 {
     let mut text = Vec::new(alloc);
     let answers = run.answers.as_slice();

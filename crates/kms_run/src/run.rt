@@ -2,12 +2,12 @@
 ghost use Rattle.std.specs.Prelude.{◌≡◌, ◌<◌, ◌≤◌, ◌+◌, ◌++◌, ℕ, List, length, slice_get, IfOk, OnOk};
 ghost use Rattle.std.specs.List.{AllByRecursion};
 ghost use Rattle.kms_model.specs.declared.replies.Reply.TheVariants as reply;
-ghost use Rattle.kms_model.specs.Execution.{execute};
-ghost use Rattle.kms_model.specs.Flat as flat;
-ghost use Rattle.kms_model.specs.Flat.{Turn, longest, turn_of};
-ghost use Rattle.kms_model.specs.Sound.{IsDevice};
-ghost use Rattle.kms_model.specs.WellFormed.{IsFitClient, IsFitCommand, IsWellFormed};
-ghost use Rattle.kms_model.specs.World.{start};
+ghost use Rattle.kms_model.specs.Device.Execution.{execute};
+ghost use Rattle.kms_model.specs.Report.Flat as flat;
+ghost use Rattle.kms_model.specs.Report.Flat.{Turn, longest, turn_of};
+ghost use Rattle.kms_model.specs.Device.Sound.{IsDevice};
+ghost use Rattle.kms_model.specs.Script.WellFormed.{IsFitClient, IsFitCommand, IsWellFormed};
+ghost use Rattle.kms_model.specs.Device.World.{start};
 ghost use Rattle.kms_serial.specs.Commands.{Grows, HasRoom};
 ghost use Rattle.kms_run.specs.Run.{Continues, HasRun, IsNew, IsReady, Steps, named_by};
 

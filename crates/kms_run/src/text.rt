@@ -1,7 +1,7 @@
 //! The lines of a report.
 ghost use Rattle.std.specs.Prelude.{◌≡◌, ◌++◌, ◌∷◌, [], codes, ℕ, List, IfOk, OnOk, string_bytes, length};
 ghost use Rattle.std.specs.Fmt.{decimal};
-ghost use Rattle.kms_model.specs.Flat.{errno_of, line, object_name, reply_words};
+ghost use Rattle.kms_model.specs.Report.Flat.{errno_of, line, object_name, reply_words};
 ghost use Rattle.kms_run.specs.Report.{latch_front, reply_text};
 
 use crate::latches::Latched;

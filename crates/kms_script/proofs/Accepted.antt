@@ -2,8 +2,8 @@
 use Rattle.std.proofs.Common.{◌≡◌, ℕ, zero, suc, ◌≤◌, ◌⊎◌, inl, inr, Bool, true, false, List, [], ◌∷◌, cond, Option, Some, None, Ok, Err, refl, arith}
 use Rattle.std.specs.Prelude.{Result, ◌||◌, ◌==◌, not}
 use Rattle.kms_model.specs.declared.scripts.Why.{Why}
-use Rattle.kms_model.specs.CommandLines.{or_form, unless}
-use Rattle.kms_model.specs.WholeInput.{is_nil}
+use Rattle.kms_model.specs.Script.CommandLines.{or_form, unless}
+use Rattle.kms_model.specs.Script.WholeInput.{is_nil}
 
 -- what was read of a line, and what followed
 pub record Formed {A B : Type 0} (o : Option A) (f : A → Result B Why) (x : B) : Type 0 where

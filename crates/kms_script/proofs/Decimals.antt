@@ -7,7 +7,7 @@ use Rattle.std.proofs.lemmas.Bool.{and_parts, leb-true, eqb-true, eqb-false}
 use Rattle.std.proofs.lemmas.Fmt.{decimal-digits_value}
 use Rattle.std.proofs.lemmas.List.{nil_from_length}
 use Rattle.std.proofs.lemmas.Str.Parse.{IsNumeralModel, numerals_by_fold}
-use Rattle.kms_model.specs.Words.{is_digit, number_from, is_dec, dec}
+use Rattle.kms_model.specs.Script.Words.{is_digit, number_from, is_dec, dec}
 use Rattle.kms_script.proofs.Inverted.{if_some, some_same}
 
 -- the digits of words, and their numbers, are those of std

@@ -6,11 +6,11 @@ use Rattle.std.specs.Str.{bytes_eq}
 use Rattle.kms_model.specs.declared.objects.PlaneInfo.{PlaneInfo}
 use Rattle.kms_model.specs.declared.scripts.Command.{Command}
 use Rattle.kms_model.specs.declared.scripts.Why.TheVariants.{Bytes, Cut, Form, Label, Limit}
-use Rattle.kms_model.specs.CommandLines.{Names, command_read, is_over, or_form, unless}
-use Rattle.kms_model.specs.Grammar.{is_printable}
-use Rattle.kms_model.specs.InputLines.{Row, rows_of}
-use Rattle.kms_model.specs.Words.{until, from, end_at}
-use Rattle.kms_model.specs.WholeInput.{Draft, Lined, is_nil, crtcs_at, plane_at, conn_at, clients_in, script_limit, is_done, is_conn_of, first_line, crtcs_line, plane_line, conn_line, client_line, command_line, later_line, script_line, sized, line_after, device_after, topology_in, missing}
+use Rattle.kms_model.specs.Script.CommandLines.{Names, command_read, is_over, or_form, unless}
+use Rattle.kms_model.specs.Script.Grammar.{is_printable}
+use Rattle.kms_model.specs.Script.InputLines.{Row, rows_of}
+use Rattle.kms_model.specs.Script.Words.{until, from, end_at}
+use Rattle.kms_model.specs.Script.WholeInput.{Draft, Lined, is_nil, crtcs_at, plane_fields, conn_at, clients_in, script_limit, is_done, is_conn_of, first_line, crtcs_line, plane_line, conn_line, client_line, command_line, later_line, script_line, sized, line_after, device_after, topology_in, missing_line}
 use Rattle.kms_script.specs.declared.stop.Stop.{Stop}
 use Rattle.kms_script.specs.declared.stop.Stop.TheVariants as stops
 use Rattle.kms_script.specs.Drafted.{Becomes, error_at}
@@ -55,7 +55,7 @@ keyword text = until 32 text
 
 plane_keeps : (d : Draft) (fields : List ℕ) → KeepsClient d (plane_line d fields)
 unfolding plane_line
-plane_keeps d fields = plane_step d (plane_at d.crtcs fields) (not (is_nil d.conns)) (nat_le 16 (length d.planes))
+plane_keeps d fields = plane_step d (plane_fields d.crtcs fields) (not (is_nil d.conns)) (nat_le 16 (length d.planes))
 
 conn_keeps : (d : Draft) (fields : List ℕ) → KeepsClient d (conn_line d fields)
 unfolding conn_line
@@ -145,7 +145,7 @@ unfolding device_after
 device_stopped d after n row rows (stops.Fault why) some e = rw (some, e) refl
 device_stopped d after n row rows stops.NoMemory some e = tt
 
-pub device_ended_early : (d : Draft) (n : ℕ) (rest : List ℕ) → length rest ≡ 0 → is_nil d.conns ≡ true → device_after d n (rows_of rest) ≡ Err (missing n)
+pub device_ended_early : (d : Draft) (n : ℕ) (rest : List ℕ) → length rest ≡ 0 → is_nil d.conns ≡ true → device_after d n (rows_of rest) ≡ Err (missing_line n)
 unfolding device_after rows_of
 device_ended_early d n [] e none = rw none refl
 device_ended_early d n (b ∷ bs) e none = absurd (omega arith)

@@ -3,7 +3,7 @@ use Rattle.std.proofs.Common.{◌≡◌, ℕ, zero, suc, ◌+◌, ◌-◌, ◌*�
 use Rattle.std.proofs.lemmas.Bool.{lt-leb}
 use Rattle.std.proofs.Math.Nat.{mul-le-mul_right, pow-le-pow_right, pow-suc}
 use Rattle.std.specs.Prelude.{nat_le, ◌&&◌}
-use Rattle.kms_model.specs.Words.{number_from, is_dec, dec}
+use Rattle.kms_model.specs.Script.Words.{number_from, is_dec, dec}
 
 pub number_from-grows : (acc : ℕ) (ds : List ℕ) → acc ≤ number_from acc ds
 number_from-grows acc [] = omega arith

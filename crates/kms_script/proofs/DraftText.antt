@@ -6,9 +6,9 @@ use Rattle.std.specs.List.{flat_map}
 use Rattle.std.proofs.lemmas.Grind.{flat_map-append}
 use Rattle.kms_model.specs.declared.objects.PlaneInfo.{PlaneInfo}
 use Rattle.kms_model.specs.declared.scripts.Command.{Command}
-use Rattle.kms_model.specs.CommandLines.{words_in}
-use Rattle.kms_model.specs.TextLines.{line}
-use Rattle.kms_model.specs.WholeInput.{Draft, clients_in, clients_of, script_in}
+use Rattle.kms_model.specs.Script.CommandLines.{words_in}
+use Rattle.kms_model.specs.Report.TextLines.{line}
+use Rattle.kms_model.specs.Script.WholeInput.{Draft, clients_in, clients_of, script_in}
 use Rattle.kms_script.specs.Spelling.{text_of, plane_words, conn_words, command_words, client_lines, spelling}
 
 -- the first line

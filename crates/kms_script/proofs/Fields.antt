@@ -4,18 +4,18 @@ use Rattle.std.specs.Prelude.{◌==◌, option_map}
 use Rattle.std.specs.Option.{option_map_or}
 use Rattle.std.proofs.lemmas.List.{append_assoc}
 use Rattle.kms_model.specs.declared.scripts.Assign.{Assign}
-use Rattle.kms_model.specs.CommandLines.{Names, assign_read, assigns_read}
-use Rattle.kms_model.specs.Grammar.{parted, words_of}
-use Rattle.kms_model.specs.Words.{◌>>=◌, until, from, field_at}
+use Rattle.kms_model.specs.Script.CommandLines.{Names, assign_read, assigns_read}
+use Rattle.kms_model.specs.Script.Grammar.{parted, field_words}
+use Rattle.kms_model.specs.Script.Words.{◌>>=◌, until, from, field_at}
 use Rattle.kms_script.specs.Named.{assigns_at}
 use Rattle.kms_script.proofs.Parts.{later_parts, first_part}
 
-next_step : (t : Bool) (b : ℕ) (bs : List ℕ) → (b == 32) ≡ t → words_of (from 32 bs) ≡ Some (later_parts 32 (from 32 bs)) → words_of (cond t (b ∷ bs) (from 32 bs)) ≡ Some (later_parts 32 (cond t (b ∷ bs) (from 32 bs)))
+next_step : (t : Bool) (b : ℕ) (bs : List ℕ) → (b == 32) ≡ t → field_words (from 32 bs) ≡ Some (later_parts 32 (from 32 bs)) → field_words (cond t (b ∷ bs) (from 32 bs)) ≡ Some (later_parts 32 (cond t (b ∷ bs) (from 32 bs)))
 next_step true b bs e ih = rw e refl
 next_step false b bs e ih = ih
 
 -- the words from the next blank on
-next_words : (bs : List ℕ) → words_of (from 32 bs) ≡ Some (later_parts 32 (from 32 bs))
+next_words : (bs : List ℕ) → field_words (from 32 bs) ≡ Some (later_parts 32 (from 32 bs))
 next_words [] = refl
 next_words (b ∷ bs) = next_step (b == 32) b bs refl (next_words bs)
 
@@ -39,7 +39,7 @@ word_of o = option_map_or (λ p. p.0) o []
 abbrev rest_of : Option Pair → List ℕ
 rest_of o = option_map_or (λ p. p.1) o []
 
-field_step : (t : Bool) (bs word after : List ℕ) → pair word after ≡ cond t (Some (field bs)) None → cond t (Some (parted 32 bs)) None ≡ behind word (words_of after)
+field_step : (t : Bool) (bs word after : List ℕ) → pair word after ≡ cond t (Some (field bs)) None → cond t (Some (parted 32 bs)) None ≡ behind word (field_words after)
 field_step true bs word after e =
     let front : word ≡ until 32 bs = ap word_of e in
     let back : after ≡ from 32 bs = ap rest_of e in
@@ -47,7 +47,7 @@ field_step true bs word after e =
 field_step false bs word after e = absurd cc
 
 -- the words of bytes whose first field is known
-pub first_word : (bytes word after : List ℕ) → pair word after ≡ field_at bytes → words_of bytes ≡ behind word (words_of after)
+pub first_word : (bytes word after : List ℕ) → pair word after ≡ field_at bytes → field_words bytes ≡ behind word (field_words after)
 unfolding field_at
 first_word [] word after e = absurd cc
 first_word (b ∷ bs) word after e = field_step (b == 32) bs word after e
@@ -56,7 +56,7 @@ no_field : (t : Bool) (bs : List ℕ) → None ≡ cond t (Some (field bs)) None
 no_field true bs e = absurd cc
 no_field false bs e = refl
 
-pub no_word : (bytes : List ℕ) → 1 ≤ length bytes → None ≡ field_at bytes → words_of bytes ≡ None
+pub no_word : (bytes : List ℕ) → 1 ≤ length bytes → None ≡ field_at bytes → field_words bytes ≡ None
 unfolding field_at
 no_word [] long e = absurd (omega arith)
 no_word (b ∷ bs) long e = no_field (b == 32) bs e
@@ -91,10 +91,10 @@ unread (Some ws) = refl
 
 pub next_set : (sets : List Assign) (names after : Names) (bytes word rest : List ℕ) (a : Assign) → pair word rest ≡ field_at bytes → Some (a, after) ≡ assign_read names word
     → with_sets sets (assigns_at names bytes) ≡ with_sets (sets ++ a ∷ []) (assigns_at after rest)
-next_set sets names after bytes word rest a f e = rw (first_word bytes word rest f, behind_first names word (words_of rest), ← e) (counted sets a after (words_of rest))
+next_set sets names after bytes word rest a f e = rw (first_word bytes word rest f, behind_first names word (field_words rest), ← e) (counted sets a after (field_words rest))
 
 pub bad_set : (names : Names) (bytes word rest : List ℕ) → pair word rest ≡ field_at bytes → None ≡ assign_read names word → assigns_at names bytes ≡ None
-bad_set names bytes word rest f e = rw (first_word bytes word rest f, behind_first names word (words_of rest), ← e) (unread (words_of rest))
+bad_set names bytes word rest f e = rw (first_word bytes word rest f, behind_first names word (field_words rest), ← e) (unread (field_words rest))
 
 pub bad_field : (names : Names) (bytes : List ℕ) → 1 ≤ length bytes → None ≡ field_at bytes → assigns_at names bytes ≡ None
 bad_field names bytes long e = rw (no_word bytes long e) refl

@@ -5,10 +5,10 @@ use Rattle.std.specs.List.{AllByRecursion, list_all}
 use Rattle.std.proofs.lemmas.Bool.{le-leb, lt-ltb}
 use Rattle.kms_model.specs.declared.objects.PlaneInfo.{PlaneInfo}
 use Rattle.kms_model.specs.declared.scripts.Command.{Command}
-use Rattle.kms_model.specs.Properties.{has_legal_masks, is_legal_device, is_mask_below}
-use Rattle.kms_model.specs.WellFormed.{IsFitClient, IsWellFormed}
-use Rattle.kms_model.specs.WholeInput.{Draft, topology_in}
-use Rattle.kms_model.specs.Words.{between}
+use Rattle.kms_model.specs.Device.Properties.{has_legal_masks, is_legal_device, is_mask_below}
+use Rattle.kms_model.specs.Script.WellFormed.{IsFitClient, IsWellFormed}
+use Rattle.kms_model.specs.Script.WholeInput.{Draft, topology_in}
+use Rattle.kms_model.specs.Script.Words.{between}
 use Rattle.kms_script.specs.Drafted.{ended}
 use Rattle.kms_script.specs.Fitting.{IsFitCount, IsFitDevice, IsFitMask, IsFitPlane}
 

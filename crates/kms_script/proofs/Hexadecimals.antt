@@ -7,8 +7,8 @@ use Rattle.std.proofs.lemmas.Bool.{and_parts, leb-true, lt-ltb, le-ltb, eqb-true
 use Rattle.std.proofs.lemmas.Fmt.{hex_one_digit}
 use Rattle.std.proofs.lemmas.List.{nil_from_length}
 use Rattle.kms_model.specs.declared.objects.Format.{Format}
-use Rattle.kms_model.specs.Grammar.{digits_of, is_hex_number, hex, pixel, hex_pair, hex_bytes}
-use Rattle.kms_model.specs.Words.{is_digit, is_hex, hex_value, hex_from, strip}
+use Rattle.kms_model.specs.Script.Grammar.{digits_of, is_hex_number, hex, pixel_number, hex_pair, hex_bytes}
+use Rattle.kms_model.specs.Script.Words.{is_digit, is_hex, hex_value, hex_from, strip}
 use Rattle.kms_script.specs.Spelling.{hex_word, hex_digits, pixel_word, blob_word}
 use Rattle.kms_script.proofs.Inverted.{bind_some, if_some, some_same}
 use Rattle.kms_script.proofs.LineFields.{strip_spelt}
@@ -105,9 +105,9 @@ hex_spelt n word e =
     let parts = and_parts (nat_le (length b.value) 8) (is_hex_number b.value) read.0 in
     rw (← some_same (hex_from 0 b.value) n read.1, number_spelt b.value parts.1 (leb-true (length b.value) 8 parts.0)) (strip_spelt (codes "0x") word b.value b.given)
 
--- the word of a pixel
-pub pixel_spelt : (format : Format) (n : ℕ) (word : List ℕ) → pixel format word ≡ Some n → pixel_word format n ≡ word
-unfolding pixel
+-- the word of a pixel_number
+pub pixel_spelt : (format : Format) (n : ℕ) (word : List ℕ) → pixel_number format word ≡ Some n → pixel_word format n ≡ word
+unfolding pixel_number
 pixel_spelt format n word e =
     let read = if_some ((length word == digits_of format) && list_all is_hex word) (Some (hex_from 0 word)) n e in
     let parts = and_parts (length word == digits_of format) (list_all is_hex word) read.0 in

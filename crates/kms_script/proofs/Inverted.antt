@@ -3,7 +3,7 @@ use Rattle.std.proofs.Common.{◌≡◌, Bool, true, false, ◌⊎◌, inl, inr,
 use Rattle.std.specs.Prelude.{option_map}
 use Rattle.std.specs.Option.{option_map_or}
 use Rattle.kms_model.specs.Firsts.{or_else}
-use Rattle.kms_model.specs.Words.{◌>>=◌}
+use Rattle.kms_model.specs.Script.Words.{◌>>=◌}
 
 -- the value that a first step gave, and what the rest made of it
 pub record Bound {A B : Type 0} (o : Option A) (f : A → Option B) (y : B) : Type 0 where

@@ -3,9 +3,9 @@ use Rattle.std.proofs.Common.{◌≡◌, ℕ, Bool, true, false, cond, List, [],
 use Rattle.std.specs.Prelude.{◌==◌}
 use Rattle.std.specs.List.{onto_first}
 use Rattle.std.proofs.lemmas.Bool.{eqb-true}
-use Rattle.kms_model.specs.Grammar.{parted, words_of}
-use Rattle.kms_model.specs.TextLines.{line}
-use Rattle.kms_model.specs.Words.{until, from, strip, field_at, end_at}
+use Rattle.kms_model.specs.Script.Grammar.{parted, field_words}
+use Rattle.kms_model.specs.Report.TextLines.{line}
+use Rattle.kms_model.specs.Script.Words.{until, from, strip, field_at, end_at}
 use Rattle.kms_script.proofs.Inverted.{if_some, some_same}
 use Rattle.kms_script.proofs.Parts.{later_parts, first_part}
 
@@ -82,7 +82,7 @@ parted_fields [] = refl
 parted_fields (b ∷ bs) = parted_step (b == 32) b bs (eqb-true b 32) (parted_fields bs)
 
 -- all words up to the end of a line
-pub words_spelt : (bytes : List ℕ) (ws : List (List ℕ)) → words_of bytes ≡ Some ws → fields_to ws [] ≡ bytes
+pub words_spelt : (bytes : List ℕ) (ws : List (List ℕ)) → field_words bytes ≡ Some ws → fields_to ws [] ≡ bytes
 words_spelt [] ws e = rw (← some_same [] ws e) refl
 words_spelt (b ∷ bs) ws e =
     let read = if_some (b == 32) (Some (parted 32 bs)) ws e in

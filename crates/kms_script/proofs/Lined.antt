@@ -3,8 +3,8 @@ use Rattle.std.proofs.Common.{◌≡◌, ℕ, ◌-◌, ◌<◌, ◌≤◌, Bool,
 use Rattle.std.specs.Prelude.{◌==◌}
 use Rattle.std.proofs.lemmas.List.{length-take, length-drop, nil_from_length}
 use Rattle.std.proofs.Math.Seq.{take-length}
-use Rattle.kms_model.specs.Words.{until, from}
-use Rattle.kms_model.specs.InputLines.{Row, before_rows, rows_of}
+use Rattle.kms_model.specs.Script.Words.{until, from}
+use Rattle.kms_model.specs.Script.InputLines.{Row, before_rows, rows_of}
 
 abbrev row : List ℕ → Bool → Row
 row text ended = record { text = text; is_ended = ended }

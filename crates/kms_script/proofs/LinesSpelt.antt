@@ -5,10 +5,10 @@ use Rattle.std.specs.Fmt.{decimal}
 use Rattle.std.specs.Str.{bytes_eq}
 use Rattle.std.proofs.lemmas.Slice.Eq.{bytes_eq-Decides}
 use Rattle.kms_model.specs.declared.objects.PlaneInfo.{PlaneInfo}
-use Rattle.kms_model.specs.Grammar.{crtc_list, format_list}
-use Rattle.kms_model.specs.TextLines.{line}
-use Rattle.kms_model.specs.WholeInput.{crtcs_at, plane_type, plane_at, conn_at}
-use Rattle.kms_model.specs.Words.{until, from, field_at, dec, dec_at, end_at}
+use Rattle.kms_model.specs.Script.Grammar.{crtc_list, format_list}
+use Rattle.kms_model.specs.Report.TextLines.{line}
+use Rattle.kms_model.specs.Script.WholeInput.{crtcs_at, plane_type, plane_fields, conn_at}
+use Rattle.kms_model.specs.Script.Words.{until, from, field_at, dec, dec_at, end_at}
 use Rattle.kms_script.specs.Spelling.{type_word, crtcs_word, formats_word}
 use Rattle.kms_script.proofs.Decimals.{dec_at_most}
 use Rattle.kms_script.proofs.Inverted.{bind_some, some_same}
@@ -74,8 +74,8 @@ abbrev pub plane_fields : PlaneInfo → List (List ℕ)
 plane_fields p = type_word p.kind ∷ crtcs_word p.crtcs ∷ formats_word p.formats ∷ []
 
 -- the fields of a plane that was read
-pub plane_spelt : (crtcs : ℕ) (bytes : List ℕ) (p : PlaneInfo) → crtcs ≤ 4 → plane_at crtcs bytes ≡ Some p → fields_to (plane_fields p) [] ≡ bytes
-unfolding plane_at
+pub plane_spelt : (crtcs : ℕ) (bytes : List ℕ) (p : PlaneInfo) → crtcs ≤ 4 → plane_fields crtcs bytes ≡ Some p → fields_to (plane_fields p) [] ≡ bytes
+unfolding plane_fields
 plane_spelt crtcs bytes p few e =
     let t = bind_some (field_at bytes) _ p e in
     let l = bind_some (field_at t.value.1) _ p t.then in

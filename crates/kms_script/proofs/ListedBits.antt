@@ -4,7 +4,7 @@ use Rattle.std.specs.Prelude.{nat_le}
 use Rattle.std.proofs.lemmas.Bool.{leb-true, le-leb}
 use Rattle.std.proofs.Math.Nat.{eq-or-lt_of_le}
 use Rattle.std.proofs.lemmas.Grind.{pow_more}
-use Rattle.kms_model.specs.Grammar.{rising}
+use Rattle.kms_model.specs.Script.Grammar.{rising}
 use Rattle.kms_script.proofs.Inverted.{bind_some, if_some, some_same}
 
 -- the mask of bits, of which the first has a weight

@@ -4,9 +4,9 @@ use Rattle.std.specs.Prelude.{option_map}
 use Rattle.std.proofs.lemmas.List.{append_assoc}
 use Rattle.std.proofs.Math.Seq.{take-length}
 use Rattle.kms_model.specs.declared.objects.Format.{Format}
-use Rattle.kms_model.specs.CommandLines.{pixels_at}
-use Rattle.kms_model.specs.Grammar.{hex_pair, hex_bytes, pixel_at}
-use Rattle.kms_model.specs.Words.{◌>>=◌}
+use Rattle.kms_model.specs.Script.CommandLines.{pixels_at}
+use Rattle.kms_model.specs.Script.Grammar.{hex_pair, hex_bytes, pixel_at}
+use Rattle.kms_model.specs.Script.Words.{◌>>=◌}
 
 -- items read so far, and those to come
 abbrev pub joined : {A : Type 0} → List A → Option (List A) → Option (List A)

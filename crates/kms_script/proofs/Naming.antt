@@ -10,8 +10,8 @@ use Rattle.std.specs.Str.{bytes_eq}
 use Rattle.std.specs.declared.alloc.Global.{Global}
 use Rattle.std.specs.declared.vec.Vec.{Vec}
 use Rattle.indexmap.specs.IndexMap.{insert_entry}
-use Rattle.kms_model.specs.CommandLines.{Name, Names, said, made, was_made, making, saying, unmade}
-use Rattle.kms_script.specs.Named.{HasRoom}
+use Rattle.kms_model.specs.Script.CommandLines.{Name, Names, said, made, was_made, making, saying, unmade}
+use Rattle.kms_script.specs.Named.{HasRoomForNames}
 
 some_of : (t : Bool) (n i : ℕ) → Some i ≡ cond t (Some n) None → i ≡ n
 some_of true n i e = cc
@@ -136,5 +136,5 @@ pub next_unmade : (ws : List (List ℕ)) (i : ℕ) (w : List ℕ) → slice_get 
 unfolding saying
 next_unmade ws i w e d = rw (said_last ws i w e d) refl
 
-pub room_for_one : (ws : List (List ℕ)) (i : ℕ) → i < length ws → length ws ≤ 2 ^ 32 → HasRoom (unmade (take i ws)) 1
+pub room_for_one : (ws : List (List ℕ)) (i : ℕ) → i < length ws → length ws ≤ 2 ^ 32 → HasRoomForNames (unmade (take i ws)) 1
 room_for_one ws i lt few = record { all = rw (length-map, length-take) (omega arith); made = omega arith }

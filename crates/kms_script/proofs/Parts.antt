@@ -5,9 +5,9 @@ use Rattle.std.specs.List.{onto_first}
 use Rattle.std.proofs.Math.Pow.{pow_mono}
 use Rattle.std.proofs.Math.Seq.{take-length}
 use Rattle.std.proofs.lemmas.Grind.{pow_more}
-use Rattle.kms_model.specs.Grammar.{parted, rising}
+use Rattle.kms_model.specs.Script.Grammar.{parted, rising}
 use Rattle.std.proofs.lemmas.Bool.{le-leb, lt-leb}
-use Rattle.kms_model.specs.Words.{◌>>=◌, until, from}
+use Rattle.kms_model.specs.Script.Words.{◌>>=◌, until, from}
 
 -- the parts behind the first
 abbrev pub later_parts : ℕ → List ℕ → List (List ℕ)

@@ -3,10 +3,10 @@ use Rattle.std.proofs.Common.{◌≡◌, ℕ, ◌≤◌, inl, inr, Bool, true, f
 use Rattle.std.specs.Prelude.{◌&&◌}
 use Rattle.std.specs.List.{flat_map, list_all}
 use Rattle.std.proofs.lemmas.Bool.{and_parts, cases_lt}
-use Rattle.kms_model.specs.Grammar.{is_printable}
-use Rattle.kms_model.specs.InputLines.{Row}
-use Rattle.kms_model.specs.CommandLines.{words_in}
-use Rattle.kms_model.specs.WholeInput.{Draft, Lined, blank, is_nil, script_in, script_line}
+use Rattle.kms_model.specs.Script.Grammar.{is_printable}
+use Rattle.kms_model.specs.Script.InputLines.{Row}
+use Rattle.kms_model.specs.Script.CommandLines.{words_in}
+use Rattle.kms_model.specs.Script.WholeInput.{Draft, Lined, blank_draft, is_nil, script_in, script_line}
 use Rattle.kms_script.specs.Spelling.{lined, spelt_line, spelt_lines, spelling}
 use Rattle.kms_script.proofs.DraftGrows.{IsInOrder, Follows}
 use Rattle.kms_script.proofs.DraftText.{draft_text, script_text}
@@ -76,7 +76,7 @@ rows_reach d last (row ∷ rows) o e =
     first_row d b.value last row rows l.is_ended f (rows_reach b.value last rows f.ordered b.then)
 
 -- what no line spells is in order
-blank_ordered : IsInOrder blank
+blank_ordered : IsInOrder blank_draft
 blank_ordered = record { crtcs = omega arith; planes = λ lt. refl; conns = λ lt. refl; late_client = λ nil. refl; first_client = λ none. refl }
 
 -- a device with connectors has its first two lines
@@ -87,8 +87,8 @@ whole_head d o some = elim (cases_lt d.head 2) [
 ]
 
 -- the lines of a script are its text
-pub rows_are_text : (last : Draft) (rows : List Row) → spelt_lines blank rows ≡ Some last → (all_ended rows ≡ true) × (flat_map ended_text rows ≡ spelling (script_in last))
+pub rows_are_text : (last : Draft) (rows : List Row) → spelt_lines blank_draft rows ≡ Some last → (all_ended rows ≡ true) × (flat_map ended_text rows ≡ spelling (script_in last))
 rows_are_text last rows e =
-    let r = rows_reach blank last rows blank_ordered e in
+    let r = rows_reach blank_draft last rows blank_ordered e in
     let s = r.spelt (words_in last.names) (record { more = []; whole = sym (append-nil (words_in last.names)) }) in
     (r.ended, s.grown ∙ script_text last (whole_head last r.ordered r.some))

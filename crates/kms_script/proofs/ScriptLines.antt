@@ -6,9 +6,9 @@ use Rattle.std.specs.Str.{bytes_eq}
 use Rattle.std.proofs.lemmas.Bool.{eqb-true}
 use Rattle.std.proofs.lemmas.Slice.Eq.{bytes_eq-Decides}
 use Rattle.kms_model.specs.declared.scripts.Why.TheVariants.{Form, Label, Limit}
-use Rattle.kms_model.specs.CommandLines.{command_read, is_over}
-use Rattle.kms_model.specs.WholeInput.{Draft, is_nil, crtcs_at, plane_at, conn_at, clients_in, first_line, crtcs_line, plane_line, conn_line, client_line, command_line, later_line, script_line}
-use Rattle.kms_model.specs.Words.{until, from, end_at}
+use Rattle.kms_model.specs.Script.CommandLines.{command_read, is_over}
+use Rattle.kms_model.specs.Script.WholeInput.{Draft, is_nil, crtcs_at, plane_fields, conn_at, clients_in, first_line, crtcs_line, plane_line, conn_line, client_line, command_line, later_line, script_line}
+use Rattle.kms_model.specs.Script.Words.{until, from, end_at}
 use Rattle.kms_script.specs.Spelling.{crtcs_word}
 use Rattle.kms_script.proofs.Accepted.{accepted, form_ok, unless_ok, if_ok, either_ok, ok_same, second_off, on_from, is_late}
 use Rattle.kms_script.proofs.DraftGrows.{IsInOrder, Follows, with_client, first_follows, second_follows, plane_follows, conn_follows, client_follows, command_follows}
@@ -40,7 +40,7 @@ crtcs_line_follows d next text o first e =
 plane_line_follows : (d next : Draft) (text : List ℕ) → IsInOrder d → 2 ≤ d.head → begins_with (codes "plane") text → plane_line d (from 32 text) ≡ Ok next → Follows d next text
 unfolding plane_line
 plane_line_follows d next text o late is e =
-    let p = form_ok (plane_at d.crtcs (from 32 text)) _ next e in
+    let p = form_ok (plane_fields d.crtcs (from 32 text)) _ next e in
     let form = unless_ok (not (is_nil d.conns)) Form _ next p.then in
     let limit = unless_ok (nat_le 16 (length d.planes)) Limit _ next form.1 in
     subst (λ n. Follows d n text) (ok_same (record d { planes = d.planes ++ p.value ∷ [] }) next limit.1)

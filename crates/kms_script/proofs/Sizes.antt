@@ -4,9 +4,9 @@ use Rattle.std.specs.Prelude.{codes, ◌==◌}
 use Rattle.std.specs.Str.{bytes_eq}
 use Rattle.kms_model.specs.declared.scripts.Why.{Why}
 use Rattle.kms_model.specs.declared.scripts.Why.TheVariants.{Form, Label, Limit}
-use Rattle.kms_model.specs.CommandLines.{command_read, or_form, unless}
-use Rattle.kms_model.specs.WholeInput.{Draft, Lined, crtcs_at, plane_at, conn_at, first_line, crtcs_line, plane_line, conn_line, client_line, command_line, later_line, script_line}
-use Rattle.kms_model.specs.Words.{until, from, end_at}
+use Rattle.kms_model.specs.Script.CommandLines.{command_read, or_form, unless}
+use Rattle.kms_model.specs.Script.WholeInput.{Draft, Lined, crtcs_at, plane_fields, conn_at, first_line, crtcs_line, plane_line, conn_line, client_line, command_line, later_line, script_line}
+use Rattle.kms_model.specs.Script.Words.{until, from, end_at}
 
 -- a draft of so many bytes
 abbrev pub resized : ℕ → Draft → Draft
@@ -35,7 +35,7 @@ in_choice n false r s p q first second = second
 -- a plane whatever the bytes so far
 plane_same : (n : ℕ) (d : Draft) (fields : List ℕ) → plane_line (resized n d) fields ≡ relined n (plane_line d fields)
 unfolding plane_line
-plane_same n d fields = in_form n (plane_at d.crtcs fields) _ _ (λ p. in_unless n _ Form _ _ (in_unless n _ Limit _ _ refl))
+plane_same n d fields = in_form n (plane_fields d.crtcs fields) _ _ (λ p. in_unless n _ Form _ _ (in_unless n _ Limit _ _ refl))
 
 -- a connector likewise
 conn_same : (n : ℕ) (d : Draft) (fields : List ℕ) → conn_line (resized n d) fields ≡ relined n (conn_line d fields)

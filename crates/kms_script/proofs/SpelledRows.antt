@@ -3,7 +3,7 @@ use Rattle.std.proofs.Common.{◌≡◌, ℕ, Bool, true, false, List, [], ◌�
 use Rattle.std.specs.Prelude.{◌==◌}
 use Rattle.std.specs.List.{flat_map, list_all}
 use Rattle.std.proofs.lemmas.Bool.{eqb-true}
-use Rattle.kms_model.specs.InputLines.{Row, before_rows, rows_of}
+use Rattle.kms_model.specs.Script.InputLines.{Row, before_rows, rows_of}
 
 -- a line and its line feed
 abbrev pub ended_text : Row → List ℕ

@@ -9,9 +9,9 @@ use Rattle.kms_model.specs.declared.scripts.PropRef.{PropRef}
 use Rattle.kms_model.specs.declared.scripts.PropRef.TheVariants.{Known, Unknown}
 use Rattle.kms_model.specs.declared.scripts.Value.{Value}
 use Rattle.kms_model.specs.declared.scripts.Value.TheVariants as value
-use Rattle.kms_model.specs.CommandLines.{Names, place, saying, making, assign_words, property_read, value_read, assign_read, assigns_read}
-use Rattle.kms_model.specs.Grammar.{int, object, is_property_word, known_property}
-use Rattle.kms_model.specs.Words.{until, from, strip, dec, is_label}
+use Rattle.kms_model.specs.Script.CommandLines.{Names, place, saying, making, assign_words, property_read, value_read, assign_read, assigns_read}
+use Rattle.kms_model.specs.Script.Grammar.{int, object, is_property_word, known_property}
+use Rattle.kms_model.specs.Script.Words.{until, from, strip, dec, is_label}
 use Rattle.kms_script.specs.Spelling.{kind_word, property_word, value_word, assign_word}
 use Rattle.kms_script.proofs.Decimals.{dec_spelt}
 use Rattle.kms_script.proofs.Inverted.{bind_some, if_some, map_some, some_same, or_some}

@@ -5,10 +5,10 @@ use Rattle.std.specs.Fmt.{decimal}
 use Rattle.std.specs.Str.{bytes_eq}
 use Rattle.kms_model.specs.declared.scripts.Command.{Command}
 use Rattle.kms_model.specs.declared.scripts.Command.TheVariants as command
-use Rattle.kms_model.specs.CommandLines.{Names, assigns_read, atomic_read, thing_read, label_read, command_read}
-use Rattle.kms_model.specs.Grammar.{hex_at, words_of}
-use Rattle.kms_model.specs.TextLines.{line}
-use Rattle.kms_model.specs.Words.{until, from, dec_at, end_at}
+use Rattle.kms_model.specs.Script.CommandLines.{Names, assigns_read, atomic_read, thing_read, label_read, command_read}
+use Rattle.kms_model.specs.Script.Grammar.{hex_at, field_words}
+use Rattle.kms_model.specs.Report.TextLines.{line}
+use Rattle.kms_model.specs.Script.Words.{until, from, dec_at, end_at}
 use Rattle.kms_script.specs.Spelling.{hex_word, assign_word, command_words}
 use Rattle.kms_script.proofs.Inverted.{from_bind, map_some, some_same, choice_some}
 use Rattle.kms_script.proofs.LineFields.{fields_to, fields_end, line_fields, end_spelt, words_spelt, until_from}
@@ -28,7 +28,7 @@ unfolding atomic_read
 atomic_reads all names bytes r e =
     from_bind (hex_at bytes) _ r e (λ flags first more.
     from_bind (dec_at 18446744073709551615 flags.1) _ r more (λ user second more.
-    from_bind (words_of user.1) _ r more (λ words rest more.
+    from_bind (field_words user.1) _ r more (λ words rest more.
     from_bind (assigns_read names words) _ r more (λ sets given more.
     rw (← some_same _ r more) (λ b.
     let a = assigns_named all words names sets given b in

@@ -6,9 +6,9 @@ use Rattle.std.specs.List.{list_all}
 use Rattle.std.proofs.lemmas.Bool.{and_parts, eqb-true}
 use Rattle.kms_model.specs.declared.objects.Format.{Format}
 use Rattle.kms_model.specs.declared.objects.Mode.{Mode}
-use Rattle.kms_model.specs.CommandLines.{label_alone, five_at, mode_at}
-use Rattle.kms_model.specs.Grammar.{hex, hex_at, pixel, pixel_at, format_named, format_at}
-use Rattle.kms_model.specs.Words.{◌>>=◌, until, dec, is_label, is_name_byte, field_at, dec_at, label_at, name_at, end_at}
+use Rattle.kms_model.specs.Script.CommandLines.{label_alone, five_at, mode_fields}
+use Rattle.kms_model.specs.Script.Grammar.{hex, hex_at, pixel_number, pixel_at, format_named, format_at}
+use Rattle.kms_model.specs.Script.Words.{◌>>=◌, until, dec, is_label, is_name_byte, field_at, dec_at, label_at, name_at, end_at}
 use Rattle.kms_script.specs.Spelling.{hex_word, pixel_word, format_word, mode_words}
 use Rattle.kms_script.proofs.Decimals.{dec_spelt}
 use Rattle.kms_script.proofs.Hexadecimals.{hex_spelt, pixel_spelt}
@@ -33,10 +33,10 @@ dec_at_spelt most bytes r small e = at_spelt (dec most) decimal (λ n word. dec_
 pub hex_at_spelt : (bytes : List ℕ) (r : ℕ × List ℕ) → hex_at bytes ≡ Some r → 32 ∷ (hex_word r.0 ++ r.1) ≡ bytes
 hex_at_spelt bytes r e = at_spelt hex hex_word hex_spelt bytes r e
 
--- the word of a pixel
+-- the word of a pixel_number
 pub pixel_at_spelt : (format : Format) (bytes : List ℕ) (r : ℕ × List ℕ) → pixel_at format bytes ≡ Some r → 32 ∷ (pixel_word format r.0 ++ r.1) ≡ bytes
 unfolding pixel_at
-pixel_at_spelt format bytes r e = at_spelt (pixel format) (pixel_word format) (pixel_spelt format) bytes r e
+pixel_at_spelt format bytes r e = at_spelt (pixel_number format) (pixel_word format) (pixel_spelt format) bytes r e
 
 -- a format
 pub format_at_spelt : (bytes : List ℕ) (r : Format × List ℕ) → format_at bytes ≡ Some r → 32 ∷ (format_word r.0 ++ r.1) ≡ bytes
@@ -130,8 +130,8 @@ mode_joined clock r f k h v n bytes first across down rate flags kind name =
     (then_five v (decimal r.0 ∷ decimal f.0 ∷ decimal k.0 ∷ until 0 n.0 ∷ []) n.1 h.5 down last))
 
 -- a mode
-pub mode_at_spelt : (bytes : List ℕ) (m : Mode × List ℕ) → mode_at bytes ≡ Some m → fields_to (mode_words m.0) m.1 ≡ bytes
-unfolding mode_at
+pub mode_at_spelt : (bytes : List ℕ) (m : Mode × List ℕ) → mode_fields bytes ≡ Some m → fields_to (mode_words m.0) m.1 ≡ bytes
+unfolding mode_fields
 mode_at_spelt bytes m e =
     from_bind (dec_at 4294967295 bytes) _ m e (λ clock first more.
     from_bind (five_at clock.1) _ m more (λ h across more.

@@ -11,9 +11,9 @@ use Rattle.kms_model.specs.declared.objects.Format.{Format}
 use Rattle.kms_model.specs.declared.objects.Format.TheVariants.{Xr24, Ar24, Rg16}
 use Rattle.kms_model.specs.declared.objects.Kind.{Kind}
 use Rattle.kms_model.specs.declared.objects.Kind.TheVariants.{Crtc, Plane, Conn, Enc}
-use Rattle.kms_model.specs.Grammar.{negative, int, format_named, indexed, object, known_property}
-use Rattle.kms_model.specs.Properties.{Property, properties, property_id, is_named, same_kind, name_of}
-use Rattle.kms_model.specs.Words.{dec, strip}
+use Rattle.kms_model.specs.Script.Grammar.{negative, int, format_named, indexed, object, known_property}
+use Rattle.kms_model.specs.Device.Properties.{Property, properties, property_id, is_named, same_kind, name_of}
+use Rattle.kms_model.specs.Script.Words.{dec, strip}
 use Rattle.kms_model.proofs.PropertyTable.{find-list_all}
 use Rattle.kms_model.proofs.SetLemmas.{find-passes}
 use Rattle.kms_script.specs.Spelling.{format_word, kind_word}

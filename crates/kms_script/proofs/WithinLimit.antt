@@ -4,9 +4,9 @@ use Rattle.std.specs.Prelude.{Result, not, nat_lt}
 use Rattle.std.specs.List.{flat_map, list_all}
 use Rattle.std.proofs.lemmas.Bool.{le-ltb}
 use Rattle.kms_model.specs.declared.scripts.Why.TheVariants.{Bytes, Cut, Limit}
-use Rattle.kms_model.specs.Grammar.{is_printable}
-use Rattle.kms_model.specs.InputLines.{Fault, Row}
-use Rattle.kms_model.specs.WholeInput.{Draft, Lined, is_nil, script_line, script_limit, sized, line_after, lines_after, or_fault, missing}
+use Rattle.kms_model.specs.Script.Grammar.{is_printable}
+use Rattle.kms_model.specs.Script.InputLines.{Fault, Row}
+use Rattle.kms_model.specs.Script.WholeInput.{Draft, Lined, is_nil, script_line, script_limit, sized, line_after, lines_after, or_fault, missing_line}
 use Rattle.kms_script.specs.Spelling.{spelt_line, spelt_lines}
 use Rattle.kms_script.proofs.Accepted.{unless_ok, on_from, ok_same}
 use Rattle.kms_script.proofs.Inverted.{bind_some}
@@ -50,7 +50,7 @@ no_fault n (Ok d) f x e = record { next = d; is = refl; then = e }
 no_fault n (Err why) f x e = absurd cc
 
 -- a whole draft ends both
-whole_end : (none : Bool) (n m : ℕ) (d last : Draft) → cond none (Err (missing n)) (Ok d) ≡ Ok last → cond none None (Some (resized m d)) ≡ Some (resized m last)
+whole_end : (none : Bool) (n m : ℕ) (d last : Draft) → cond none (Err (missing_line n)) (Ok d) ≡ Ok last → cond none None (Some (resized m d)) ≡ Some (resized m last)
 whole_end true n m d last e = absurd cc
 whole_end false n m d last e = cc
 

@@ -1,11 +1,11 @@
 -- What the reader has read so far, as the definitions see it.
 use Rattle.std.specs.Prelude.{◌≡◌, ◌≤◌, ◌+◌, ◌*◌, ℕ, List, [], length, Result, Ok, Err, ⊤, false, Bool, ◌||◌, nat_le, nat_lt, true}
 use Rattle.kms_model.specs.declared.scripts.Command.{Command}
-use Rattle.kms_model.specs.CommandLines.{is_over}
-use Rattle.kms_model.specs.InputLines.{Fault, Row}
-use Rattle.kms_model.specs.WholeInput.{Draft, Lined, clients_in}
+use Rattle.kms_model.specs.Script.CommandLines.{is_over}
+use Rattle.kms_model.specs.Script.InputLines.{Fault, Row}
+use Rattle.kms_model.specs.Script.WholeInput.{Draft, Lined, clients_in}
 use Rattle.kms_script.specs.Fitting.{IsFitDevice, HasFitClients}
-use Rattle.kms_script.specs.Named.{HasRoom, Grows}
+use Rattle.kms_script.specs.Named.{HasRoomForNames, NamesGrow}
 use Rattle.kms_script.specs.declared.draft.Draft.{Draft as Held}
 use Rattle.kms_script.specs.declared.faults.ParseError.{ParseError}
 use Rattle.kms_script.specs.declared.faults.ParseError.TheVariants as errors
@@ -20,7 +20,7 @@ abbrev pub row_in : Seen → Row
 row_in r = record { text = r.text.now; is_ended = r.is_ended }
 
 -- what stands between two lines: the limits are kept, and each byte of the lines brings at most two names
-pub record IsSound (d : Draft) : Type 0 where
+pub record IsSoundDraft (d : Draft) : Type 0 where
   pub device : IsFitDevice d
   pub clients : HasFitClients d
   pub size : d.size ≤ 1048576
@@ -29,14 +29,14 @@ pub record IsSound (d : Draft) : Type 0 where
 
 -- the names of a command's line have numbers
 abbrev pub HasRoomFor : Draft → List ℕ → Type 0
-HasRoomFor d text = d.has_client ≡ true → HasRoom d.names (length text + 2)
+HasRoomFor d text = d.has_client ≡ true → HasRoomForNames d.names (length text + 2)
 
 -- a line keeps the limits, and brings at most so many names
 pub record Keeps (old new : Draft) (more : ℕ) : Type 0 where
   pub device : IsFitDevice new
   pub clients : HasFitClients new
   pub size : new.size ≡ old.size
-  pub names : Grows old.names new.names more
+  pub names : NamesGrow old.names new.names more
 
 -- The answer to a line: what is read after it, or its fault; want of memory may come anywhere.
 abbrev pub Becomes : Result (Unit {0}) Stop → Lined → Draft → Type 0

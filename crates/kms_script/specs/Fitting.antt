@@ -5,9 +5,9 @@ use Rattle.kms_model.specs.declared.scripts.Command.{Command}
 use Rattle.kms_model.specs.declared.scripts.Command.TheVariants as command
 use Rattle.kms_model.specs.declared.scripts.Pattern.{Pattern}
 use Rattle.kms_model.specs.declared.scripts.Pattern.TheVariants.{Pixels}
-use Rattle.kms_model.specs.Stores.{Fills}
-use Rattle.kms_model.specs.WellFormed.{IsFitClient, IsFitCommand}
-use Rattle.kms_model.specs.WholeInput.{Draft, clients_in}
+use Rattle.kms_model.specs.Stores.Kept.{Fills}
+use Rattle.kms_model.specs.Script.WellFormed.{IsFitClient, IsFitCommand}
+use Rattle.kms_model.specs.Script.WholeInput.{Draft, clients_in}
 
 -- a pattern fills its buffer
 abbrev pub HasFilled : Command → Type 0

@@ -3,7 +3,7 @@ use Rattle.std.specs.Prelude.{◌≡◌, Option, Result, Ok, Err, List, ℕ, ⊤
 use Rattle.kms_model.specs.declared.scripts.Command.{Command}
 use Rattle.kms_model.specs.declared.scripts.Why.{Why}
 use Rattle.kms_model.specs.declared.scripts.Why.TheVariants.{Label, Limit}
-use Rattle.kms_model.specs.CommandLines.{Names, Read, command_read, is_over, or_form, unless}
+use Rattle.kms_model.specs.Script.CommandLines.{Names, Read, command_read, is_over, or_form, unless}
 use Rattle.kms_script.specs.declared.stop.Stop.{Stop}
 use Rattle.kms_script.specs.declared.stop.Stop.TheVariants as stops
 

@@ -1,7 +1,7 @@
 -- Lists parted by commas, as the reader goes over them.
 use Rattle.std.specs.Prelude.{ℕ, ◌-◌, List, Option, option_map, ⊤}
-use Rattle.kms_model.specs.Grammar.{format_bit, format_named}
-use Rattle.kms_model.specs.Words.{dec}
+use Rattle.kms_model.specs.Script.Grammar.{format_bit, format_named}
+use Rattle.kms_model.specs.Script.Words.{dec}
 use Rattle.kms_script.specs.Fitting.{IsFitCount}
 use Rattle.kms_script.specs.declared.lists.Listed.{Listed}
 use Rattle.kms_script.specs.declared.lists.Listed.TheVariants.{Crtcs, Formats}
@@ -12,9 +12,9 @@ HasFew (Crtcs crtcs) = IsFitCount crtcs
 HasFew Formats = ⊤
 
 -- how many bits there are
-abbrev pub bits_of : Listed → ℕ
-bits_of (Crtcs crtcs) = crtcs
-bits_of Formats = 3
+abbrev pub bit_count : Listed → ℕ
+bit_count (Crtcs crtcs) = crtcs
+bit_count Formats = 3
 
 -- the bit that a word stands for
 abbrev pub bit_of : Listed → List ℕ → Option ℕ

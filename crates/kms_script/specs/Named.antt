@@ -2,9 +2,9 @@
 use Rattle.std.specs.Prelude.{◌≡◌, ◌<◌, ◌≤◌, ◌+◌, ◌^◌, ◌==◌, Bool, true, false, ℕ, List, [], ◌∷◌, Option, option_map, length, take}
 use Rattle.std.specs.List.{list_any}
 use Rattle.kms_model.specs.declared.scripts.Assign.{Assign}
-use Rattle.kms_model.specs.CommandLines.{Name, Names, assigns_read, label_alone, making, place, saying, unmade}
-use Rattle.kms_model.specs.Grammar.{words_of}
-use Rattle.kms_model.specs.Words.{◌>>=◌}
+use Rattle.kms_model.specs.Script.CommandLines.{Name, Names, assigns_read, label_alone, making, place, saying, unmade}
+use Rattle.kms_model.specs.Script.Grammar.{field_words}
+use Rattle.kms_model.specs.Script.Words.{◌>>=◌}
 
 -- the names so far, and the words of those that were there before
 pub record Held : Type 0 where
@@ -35,18 +35,18 @@ abbrev pub kept : List (List ℕ) → Held
 kept words = record { names = unmade words; before = words }
 
 -- So many names more have numbers below 2^32.
-pub record HasRoom (names : Names) (more : ℕ) : Type 0 where
+pub record HasRoomForNames (names : Names) (more : ℕ) : Type 0 where
   pub all : length names.all + more ≤ 2 ^ 32
   pub made : names.made + more ≤ 2 ^ 63
 
 -- Names that became others have at most so many more.
-pub record Grows (old new : Names) (more : ℕ) : Type 0 where
+pub record NamesGrow (old new : Names) (more : ℕ) : Type 0 where
   pub all : length new.all ≤ length old.all + more
   pub made : new.made ≤ old.made + more
 
 -- the assignments of all fields of a line's bytes, and the names after them
 abbrev pub assigns_at : Names → List ℕ → Option (List Assign × Names)
-assigns_at names bytes = words_of bytes >>= assigns_read names
+assigns_at names bytes = field_words bytes >>= assigns_read names
 
 -- the number of the one label of a line's bytes, which the line makes or says, and the names after it
 abbrev pub made_alone : Names → List ℕ → Option (ℕ × Names)

@@ -2,9 +2,9 @@
 use Rattle.std.specs.Prelude.{◌≡◌, ℕ, ◌+◌, ◌*◌, Bool, true, false, ◌==◌, ◌++◌, nat_le, nat_lt, List, [], ◌∷◌, filter, length, map, Option, Some, None, option_map, if◌then◌else◌, codes}
 use Rattle.std.specs.List.{flat_map}
 use Rattle.std.specs.Option.{option_map_or}
-use Rattle.kms_model.specs.CommandLines.{Name, assign_words}
-use Rattle.kms_model.specs.Grammar.{hex_at, int, words_of}
-use Rattle.kms_model.specs.Words.{◌>>=◌, dec, dec_at, is_label, strip}
+use Rattle.kms_model.specs.Script.CommandLines.{Name, assign_words}
+use Rattle.kms_model.specs.Script.Grammar.{hex_at, int, field_words}
+use Rattle.kms_model.specs.Script.Words.{◌>>=◌, dec, dec_at, is_label, strip}
 
 -- how many blanks bytes have
 abbrev pub blanks : List ℕ → ℕ
@@ -40,7 +40,7 @@ labels_of (w ∷ ws) = do
   Some (label_and label labels)
 
 abbrev pub labels_at : List ℕ → Option (List (List ℕ))
-labels_at bytes = words_of bytes >>= labels_of
+labels_at bytes = field_words bytes >>= labels_of
 
 -- the labels that the assignments of an atomic line make, by the bytes behind its first word
 unfoldable pub atomic_labels : List ℕ → Option (List (List ℕ))

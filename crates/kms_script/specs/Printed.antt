@@ -22,6 +22,6 @@ item_word Crtcs bit = decimal bit
 item_word Formats bit = format_word (format_at_bit bit)
 
 -- the numbers of a mode, in the order of its line
-abbrev pub mode_numbers : Mode → List ℕ
-mode_numbers m =
+abbrev pub mode_line_numbers : Mode → List ℕ
+mode_line_numbers m =
     m.clock ∷ m.hdisplay ∷ m.hsync_start ∷ m.hsync_end ∷ m.htotal ∷ m.hskew ∷ m.vdisplay ∷ m.vsync_start ∷ m.vsync_end ∷ m.vtotal ∷ m.vscan ∷ m.vrefresh ∷ m.flags ∷ m.kind ∷ []

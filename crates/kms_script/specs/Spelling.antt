@@ -20,13 +20,13 @@ use Rattle.kms_model.specs.declared.scripts.PropRef.TheVariants.{Known, Unknown}
 use Rattle.kms_model.specs.declared.scripts.Script.{Script}
 use Rattle.kms_model.specs.declared.scripts.Value.{Value}
 use Rattle.kms_model.specs.declared.scripts.Value.TheVariants as value
-use Rattle.kms_model.specs.Grammar.{digits_of, is_printable}
-use Rattle.kms_model.specs.InputLines.{Row, rows_of}
-use Rattle.kms_model.specs.Masks.{has_bit}
-use Rattle.kms_model.specs.Properties.{name_of}
-use Rattle.kms_model.specs.TextLines.{line}
-use Rattle.kms_model.specs.WholeInput.{Draft, Lined, blank, is_nil, script_in, script_line}
-use Rattle.kms_model.specs.Words.{◌>>=◌, until}
+use Rattle.kms_model.specs.Script.Grammar.{digits_of, is_printable}
+use Rattle.kms_model.specs.Script.InputLines.{Row, rows_of}
+use Rattle.kms_model.specs.Device.Masks.{has_bit}
+use Rattle.kms_model.specs.Device.Properties.{name_of}
+use Rattle.kms_model.specs.Report.TextLines.{line}
+use Rattle.kms_model.specs.Script.WholeInput.{Draft, Lined, blank_draft, is_nil, script_in, script_line}
+use Rattle.kms_model.specs.Script.Words.{◌>>=◌, until}
 
 -- Words
 
@@ -167,7 +167,7 @@ spelt_lines d (row ∷ rows) = spelt_line d row >>= (λ next. spelt_lines next r
 
 -- the script that bytes spell
 abbrev pub spelt : List ℕ → Option Script
-spelt bytes = option_map script_in (spelt_lines blank (rows_of bytes))
+spelt bytes = option_map script_in (spelt_lines blank_draft (rows_of bytes))
 
 -- bytes spell a script
 abbrev pub Spells : List ℕ → Script → Type 0

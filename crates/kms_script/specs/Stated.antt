@@ -7,8 +7,8 @@ use Rattle.kms_script.specs.declared.one_line.LineError.{LineError}
 use Rattle.kms_script.specs.declared.one_line.LineError.TheVariants as refusals
 use Rattle.kms_model.specs.declared.objects.Topology.{Topology}
 use Rattle.kms_model.specs.declared.scripts.Script.{Script}
-use Rattle.kms_model.specs.InputLines.{Fault}
-use Rattle.kms_model.specs.WholeInput.{Draft, topology_in}
+use Rattle.kms_model.specs.Script.InputLines.{Fault}
+use Rattle.kms_model.specs.Script.WholeInput.{Draft, topology_in}
 use Rattle.kms_script.specs.declared.devices.TopologyRead.{TopologyRead}
 use Rattle.kms_script.specs.declared.faults.ParseError.{ParseError}
 use Rattle.kms_script.specs.declared.faults.ParseError.TheVariants as errors

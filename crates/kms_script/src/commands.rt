@@ -1,8 +1,8 @@
 //! Commands of one line.
 ghost use Rattle.std.specs.Prelude.{◌≡◌, ◌≤◌, ◌+◌, ℕ, Some, IfOk, OnOk, IfSome, length, option_map};
-ghost use Rattle.kms_model.specs.CommandLines.{buffer_read, label_alone, addfb_read, mode_read, blob_read, thing_read, label_read, command_read, is_over};
+ghost use Rattle.kms_model.specs.Script.CommandLines.{buffer_read, label_alone, addfb_read, mode_read, blob_read, thing_read, label_read, command_read, is_over};
 ghost use Rattle.kms_script.specs.Fitting.{HasFilled};
-ghost use Rattle.kms_script.specs.Named.{HasRoom, Grows, made_alone, said_alone};
+ghost use Rattle.kms_script.specs.Named.{HasRoomForNames, NamesGrow, made_alone, said_alone};
 
 use crate::lists::take_format;
 use crate::modes::take_mode;
@@ -27,9 +27,9 @@ fn label_alone(bytes: &[u8]) -> Option<&[u8]>
 /// `LABEL W H FMT PATTERN`.
 #[tactic(auto, unfolding(kms_model::specs::CommandLines::buffer_read))]
 fn read_buffer(names: &mut Names, alloc: Global, bytes: &[u8]) -> Result<Option<Command>, NoMemory>
-    requires { HasRoom names.old.names 1 }
+    requires { HasRoomForNames names.old.names 1 }
     ensures value { IfOk result (λ o. option_map (λ c. (c, names.new.names)) o ≡ buffer_read names.old.names bytes.now) }
-    ensures grows { OnOk result (Grows names.old.names names.new.names 1) }
+    ensures grows { OnOk result (NamesGrow names.old.names names.new.names 1) }
     ensures before { names.new.before ≡ names.old.before }
     ensures filled { IfOk result (λ o. IfSome o HasFilled) }
 {
@@ -61,9 +61,9 @@ fn read_buffer(names: &mut Names, alloc: Global, bytes: &[u8]) -> Result<Option<
 /// `LABEL BUFFERLABEL`.
 #[tactic(auto, unfolding(kms_model::specs::CommandLines::addfb_read))]
 fn read_addfb(names: &mut Names, alloc: Global, bytes: &[u8]) -> Result<Option<Command>, NoMemory>
-    requires { HasRoom names.old.names 2 }
+    requires { HasRoomForNames names.old.names 2 }
     ensures value { IfOk result (λ o. option_map (λ c. (c, names.new.names)) o ≡ addfb_read names.old.names bytes.now) }
-    ensures grows { OnOk result (Grows names.old.names names.new.names 2) }
+    ensures grows { OnOk result (NamesGrow names.old.names names.new.names 2) }
     ensures before { names.new.before ≡ names.old.before }
     ensures filled { IfOk result (λ o. IfSome o HasFilled) }
 {
@@ -81,9 +81,9 @@ fn read_addfb(names: &mut Names, alloc: Global, bytes: &[u8]) -> Result<Option<C
 /// `LABEL` and the 15 words of a mode.
 #[tactic(auto, unfolding(kms_model::specs::CommandLines::mode_read))]
 fn read_mode(names: &mut Names, alloc: Global, bytes: &[u8]) -> Result<Option<Command>, NoMemory>
-    requires { HasRoom names.old.names 1 }
+    requires { HasRoomForNames names.old.names 1 }
     ensures value { IfOk result (λ o. option_map (λ c. (c, names.new.names)) o ≡ mode_read names.old.names bytes.now) }
-    ensures grows { OnOk result (Grows names.old.names names.new.names 1) }
+    ensures grows { OnOk result (NamesGrow names.old.names names.new.names 1) }
     ensures before { names.new.before ≡ names.old.before }
     ensures filled { IfOk result (λ o. IfSome o HasFilled) }
 {
@@ -107,9 +107,9 @@ fn read_blob_words(
     alloc: Global,
     bytes: &[u8],
 ) -> Result<Option<Command>, NoMemory>
-    requires { HasRoom names.old.names 1 }
+    requires { HasRoomForNames names.old.names 1 }
     ensures value { IfOk result (λ o. option_map (λ c. (c, names.new.names)) o ≡ blob_read names.old.names bytes.now) }
-    ensures grows { OnOk result (Grows names.old.names names.new.names 1) }
+    ensures grows { OnOk result (NamesGrow names.old.names names.new.names 1) }
     ensures before { names.new.before ≡ names.old.before }
     ensures filled { IfOk result (λ o. IfSome o HasFilled) }
 {
@@ -131,9 +131,9 @@ fn read_blob_words(
 
 /// `LABEL` of a thing that the command makes.
 fn make_alone(names: &mut Names, alloc: Global, bytes: &[u8]) -> Result<Option<u32>, NoMemory>
-    requires { HasRoom names.old.names 1 }
+    requires { HasRoomForNames names.old.names 1 }
     ensures value { IfOk result (λ o. option_map (λ n. (n, names.new.names)) o ≡ made_alone names.old.names bytes.now) }
-    ensures grows { OnOk result (Grows names.old.names names.new.names 1) }
+    ensures grows { OnOk result (NamesGrow names.old.names names.new.names 1) }
     ensures before { names.new.before ≡ names.old.before }
 {
     match label_alone(bytes) {
@@ -144,9 +144,9 @@ fn make_alone(names: &mut Names, alloc: Global, bytes: &[u8]) -> Result<Option<u
 
 /// `LABEL` of a thing that the command names.
 fn say_alone(names: &mut Names, alloc: Global, bytes: &[u8]) -> Result<Option<u32>, NoMemory>
-    requires { HasRoom names.old.names 1 }
+    requires { HasRoomForNames names.old.names 1 }
     ensures value { IfOk result (λ o. option_map (λ n. (n, names.new.names)) o ≡ said_alone names.old.names bytes.now) }
-    ensures grows { OnOk result (Grows names.old.names names.new.names 1) }
+    ensures grows { OnOk result (NamesGrow names.old.names names.new.names 1) }
     ensures before { names.new.before ≡ names.old.before }
 {
     match label_alone(bytes) {
@@ -163,9 +163,9 @@ fn read_thing(
     keyword: &[u8],
     fields: &[u8],
 ) -> Result<Option<Command>, NoMemory>
-    requires { HasRoom names.old.names 2 }
+    requires { HasRoomForNames names.old.names 2 }
     ensures value { IfOk result (λ o. option_map (λ c. (c, names.new.names)) o ≡ thing_read names.old.names keyword.now fields.now) }
-    ensures grows { OnOk result (Grows names.old.names names.new.names 2) }
+    ensures grows { OnOk result (NamesGrow names.old.names names.new.names 2) }
     ensures before { names.new.before ≡ names.old.before }
     ensures filled { IfOk result (λ o. IfSome o HasFilled) }
 {
@@ -190,9 +190,9 @@ fn read_labelled(
     keyword: &[u8],
     fields: &[u8],
 ) -> Result<Option<Command>, NoMemory>
-    requires { HasRoom names.old.names 2 }
+    requires { HasRoomForNames names.old.names 2 }
     ensures value { IfOk result (λ o. option_map (λ c. (c, names.new.names)) o ≡ label_read names.old.names keyword.now fields.now) }
-    ensures grows { OnOk result (Grows names.old.names names.new.names 2) }
+    ensures grows { OnOk result (NamesGrow names.old.names names.new.names 2) }
     ensures before { names.new.before ≡ names.old.before }
     ensures filled { IfOk result (λ o. IfSome o HasFilled) }
 {
@@ -222,9 +222,9 @@ pub fn command_of(
     alloc: Global,
     line: &[u8],
 ) -> Result<Option<Command>, NoMemory>
-    requires { HasRoom names.old.names (length line.now + 2) }
+    requires { HasRoomForNames names.old.names (length line.now + 2) }
     ensures value { IfOk result (λ o. option_map (λ c. (c, names.new.names)) o ≡ command_read names.old.names line.now) }
-    ensures grows { OnOk result (Grows names.old.names names.new.names (length line.now + 2)) }
+    ensures grows { OnOk result (NamesGrow names.old.names names.new.names (length line.now + 2)) }
     ensures before { names.new.before ≡ names.old.before }
     ensures filled { IfOk result (λ o. IfSome o HasFilled) }
 {

@@ -1,6 +1,6 @@
 //! The device at the front of an input.
 ghost use Rattle.std.specs.Prelude.{◌≡◌, ◌≤◌, ℕ};
-ghost use Rattle.kms_model.specs.WholeInput.{device_of};
+ghost use Rattle.kms_model.specs.Script.WholeInput.{device_of};
 ghost use Rattle.kms_script.specs.Stated.{GivesDevice, device_in};
 ghost use Rattle.kms_script.specs.Drafted.{draft_in};
 

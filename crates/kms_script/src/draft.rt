@@ -1,11 +1,11 @@
 //! What the lines so far spell.
 ghost use Rattle.std.specs.Prelude.{◌≡◌, ◌<◌, ◌≤◌, ◌+◌, ◌*◌, ℕ, Some, true, false, IfOk, IfSome, OnOk, length, option_map};
 ghost use Rattle.std.specs.List.{list_all};
-ghost use Rattle.kms_model.specs.Grammar.{is_printable};
-ghost use Rattle.kms_model.specs.WholeInput.{blank, is_nil, crtcs_at, plane_type, plane_at, conn_at, first_line, crtcs_line, plane_line, conn_line, client_line, command_line, later_line, script_line, clients_in, line_after, topology_in, script_in, is_conn_of, is_done};
-ghost use Rattle.kms_model.specs.WellFormed.{IsWellFormed};
+ghost use Rattle.kms_model.specs.Script.Grammar.{is_printable};
+ghost use Rattle.kms_model.specs.Script.WholeInput.{blank_draft, is_nil, crtcs_at, plane_type, plane_fields, conn_at, first_line, crtcs_line, plane_line, conn_line, client_line, command_line, later_line, script_line, clients_in, line_after, topology_in, script_in, is_conn_of, is_done};
+ghost use Rattle.kms_model.specs.Script.WellFormed.{IsWellFormed};
 ghost use Rattle.kms_script.specs.Fitting.{IsFitCount, IsFitPlane, IsFitMask, HasFitClients};
-ghost use Rattle.kms_script.specs.Drafted.{draft_in, row_in, IsSound, HasRoomFor, Keeps, Becomes, ended, is_full};
+ghost use Rattle.kms_script.specs.Drafted.{draft_in, row_in, IsSoundDraft, HasRoomFor, Keeps, Becomes, ended, is_full};
 
 use crate::lines::read_line;
 use crate::lists::{read_crtcs, read_formats};
@@ -48,10 +48,10 @@ fn plane_type(word: &[u8]) -> Option<u32>
 }
 
 /// `TYPE LIST FMTS`, of a device with 1 to 4 CRTCs.
-#[tactic(auto, unfolding(kms_model::specs::WholeInput::plane_at))]
+#[tactic(auto, unfolding(kms_model::specs::WholeInput::plane_fields))]
 fn take_plane(crtcs: u32, bytes: &[u8]) -> Option<PlaneInfo>
     requires { IsFitCount crtcs }
-    ensures value { result ≡ plane_at crtcs bytes.now }
+    ensures value { result ≡ plane_fields crtcs bytes.now }
     ensures fit { IfSome result (IsFitPlane crtcs) }
 {
     let (kind, rest) = take_field(bytes)?;
@@ -117,8 +117,8 @@ pub struct Draft {
 impl Draft {
     /// What no line spells.
     pub fn new(alloc: Global) -> Draft
-        ensures value { draft_in result ≡ blank }
-        ensures sound { IsSound (draft_in result) }
+        ensures value { draft_in result ≡ blank_draft }
+        ensures sound { IsSoundDraft (draft_in result) }
     {
         Draft {
             head: 0,
@@ -142,7 +142,7 @@ impl Draft {
 
     #[tactic(auto, unfolding(kms_model::specs::WholeInput::first_line))]
     fn first_line(&mut self, text: &[u8]) -> Result<(), Stop>
-        requires sound { IsSound (draft_in self.old) }
+        requires sound { IsSoundDraft (draft_in self.old) }
         requires first { (draft_in self.old).head ≡ 0 }
         ensures value { Becomes result (first_line (draft_in self.old) text.now) (draft_in self.new) }
         ensures keeps { OnOk result (Keeps (draft_in self.old) (draft_in self.new) 0) }
@@ -156,7 +156,7 @@ impl Draft {
 
     #[tactic(auto, unfolding(kms_model::specs::WholeInput::crtcs_line))]
     fn crtcs_line(&mut self, text: &[u8]) -> Result<(), Stop>
-        requires sound { IsSound (draft_in self.old) }
+        requires sound { IsSoundDraft (draft_in self.old) }
         requires second { (draft_in self.old).head ≡ 1 }
         ensures value { Becomes result (crtcs_line (draft_in self.old) text.now) (draft_in self.new) }
         ensures keeps { OnOk result (Keeps (draft_in self.old) (draft_in self.new) 0) }
@@ -176,7 +176,7 @@ impl Draft {
     /// A plane, before the first connector.
     #[tactic(auto, unfolding(kms_model::specs::WholeInput::plane_line))]
     fn plane_line(&mut self, fields: &[u8]) -> Result<(), Stop>
-        requires sound { IsSound (draft_in self.old) }
+        requires sound { IsSoundDraft (draft_in self.old) }
         requires later { 2 ≤ (draft_in self.old).head }
         ensures value { Becomes result (plane_line (draft_in self.old) fields.now) (draft_in self.new) }
         ensures keeps { OnOk result (Keeps (draft_in self.old) (draft_in self.new) 0) }
@@ -197,7 +197,7 @@ impl Draft {
     /// A connector, behind the planes and before the first client.
     #[tactic(auto, unfolding(kms_model::specs::WholeInput::conn_line))]
     fn conn_line(&mut self, fields: &[u8]) -> Result<(), Stop>
-        requires sound { IsSound (draft_in self.old) }
+        requires sound { IsSoundDraft (draft_in self.old) }
         requires later { 2 ≤ (draft_in self.old).head }
         ensures value { Becomes result (conn_line (draft_in self.old) fields.now) (draft_in self.new) }
         ensures keeps { OnOk result (Keeps (draft_in self.old) (draft_in self.new) 0) }
@@ -220,7 +220,7 @@ impl Draft {
 
     /// How many clients there are.
     fn client_count(&self) -> usize
-        requires { IsSound (draft_in self.now) }
+        requires { IsSoundDraft (draft_in self.now) }
         ensures { result ≡ length (clients_in (draft_in self.now)) }
     {
         if self.has_client {
@@ -247,7 +247,7 @@ impl Draft {
     /// A client, behind the connectors.
     #[tactic(auto, unfolding(kms_model::specs::WholeInput::client_line))]
     fn client_line(&mut self, alloc: Global, fields: &[u8]) -> Result<(), Stop>
-        requires { IsSound (draft_in self.old) }
+        requires { IsSoundDraft (draft_in self.old) }
         ensures value { Becomes result (client_line (draft_in self.old) fields.now) (draft_in self.new) }
         ensures keeps { OnOk result (Keeps (draft_in self.old) (draft_in self.new) 0) }
     {
@@ -275,7 +275,7 @@ impl Draft {
     /// A command of the present client.
     #[tactic(auto, unfolding(kms_model::specs::WholeInput::command_line))]
     fn command_line(&mut self, alloc: Global, text: &[u8]) -> Result<(), Stop>
-        requires sound { IsSound (draft_in self.old) }
+        requires sound { IsSoundDraft (draft_in self.old) }
         requires room { HasRoomFor (draft_in self.old) text.now }
         ensures value { Becomes result (command_line (draft_in self.old) text.now) (draft_in self.new) }
         ensures keeps { OnOk result (Keeps (draft_in self.old) (draft_in self.new) (length text.now + 2)) }
@@ -294,7 +294,7 @@ impl Draft {
     /// A line behind the first two.
     #[tactic(auto, unfolding(kms_model::specs::WholeInput::later_line))]
     fn later_line(&mut self, alloc: Global, text: &[u8]) -> Result<(), Stop>
-        requires sound { IsSound (draft_in self.old) }
+        requires sound { IsSoundDraft (draft_in self.old) }
         requires later { 2 ≤ (draft_in self.old).head }
         requires room { HasRoomFor (draft_in self.old) text.now }
         ensures value { Becomes result (later_line (draft_in self.old) text.now) (draft_in self.new) }
@@ -314,7 +314,7 @@ impl Draft {
 
     #[tactic(auto, unfolding(kms_model::specs::WholeInput::script_line))]
     fn script_line(&mut self, alloc: Global, text: &[u8]) -> Result<(), Stop>
-        requires sound { IsSound (draft_in self.old) }
+        requires sound { IsSoundDraft (draft_in self.old) }
         requires room { HasRoomFor (draft_in self.old) text.now }
         ensures value { Becomes result (script_line (draft_in self.old) text.now) (draft_in self.new) }
         ensures keeps { OnOk result (Keeps (draft_in self.old) (draft_in self.new) (length text.now + 2)) }
@@ -330,10 +330,10 @@ impl Draft {
     /// more use.
     #[tactic(auto, unfolding(kms_model::specs::WholeInput::line_after))]
     pub fn line(&mut self, alloc: Global, row: &Row<'_>) -> Result<(), Stop>
-        requires sound { IsSound (draft_in self.old) }
+        requires sound { IsSoundDraft (draft_in self.old) }
         requires room { HasRoomFor (draft_in self.old) (row_in row.now).text }
         ensures value { Becomes result (line_after (draft_in self.old) (row_in row.now)) (draft_in self.new) }
-        ensures sound { OnOk result (IsSound (draft_in self.new)) }
+        ensures sound { OnOk result (IsSoundDraft (draft_in self.new)) }
         ensures longer { OnOk result ((draft_in self.old).size < (draft_in self.new).size) }
     {
         if !all_printable(row.text) {
@@ -352,7 +352,7 @@ impl Draft {
 
     /// Whether the device is whole before a line: there are connectors, and the line is none.
     pub fn is_done(&self, row: &Row<'_>) -> bool
-        requires { IsSound (draft_in self.now) }
+        requires { IsSoundDraft (draft_in self.now) }
         ensures { result ≡ is_done (draft_in self.now) (row_in row.now) }
     {
         !self.conns.is_empty() && !is_conn(self.crtcs, row)
@@ -373,7 +373,7 @@ impl Draft {
 
     /// The script that all lines spell.
     pub fn into_script(mut self, alloc: Global) -> Result<Script, NoMemory>
-        requires sound { IsSound (draft_in self) }
+        requires sound { IsSoundDraft (draft_in self) }
         requires whole { 0 < length (draft_in self).conns }
         ensures value { IfOk result (λ script. script ≡ script_in (draft_in self)) }
         ensures formed { IfOk result IsWellFormed }

@@ -1,11 +1,11 @@
 //! Whole inputs.
 ghost use Rattle.std.specs.Prelude.{◌≡◌, ◌≤◌, ◌<◌, ℕ, IfOk, length};
-ghost use Rattle.kms_model.specs.InputLines.{rows_of};
-ghost use Rattle.kms_model.specs.WholeInput.{blank, input, lines_after};
-ghost use Rattle.kms_model.specs.WellFormed.{IsWellFormed};
+ghost use Rattle.kms_model.specs.Script.InputLines.{rows_of};
+ghost use Rattle.kms_model.specs.Script.WholeInput.{blank_draft, input, lines_after};
+ghost use Rattle.kms_model.specs.Script.WellFormed.{IsWellFormed};
 ghost use Rattle.kms_script.specs.Spelling.{Spells};
 ghost use Rattle.kms_script.specs.Stated.{Gives};
-ghost use Rattle.kms_script.specs.Drafted.{draft_in, GivesDraft, IsSound};
+ghost use Rattle.kms_script.specs.Drafted.{draft_in, GivesDraft, IsSoundDraft};
 
 use crate::draft::Draft;
 use crate::faults::ParseError;
@@ -19,8 +19,8 @@ const LIMIT: usize = 67_108_864;
 /// Reads the lines of an input that is no longer than an input may be.
 fn read_lines(alloc: Global, bytes: &[u8]) -> Result<Draft, ParseError>
     requires { length bytes.now ≤ 67108864 }
-    ensures value { GivesDraft result (lines_after blank 1 (rows_of bytes.now)) }
-    ensures sound { IfOk result (λ draft. IsSound (draft_in draft)) }
+    ensures value { GivesDraft result (lines_after blank_draft 1 (rows_of bytes.now)) }
+    ensures sound { IfOk result (λ draft. IsSoundDraft (draft_in draft)) }
     ensures whole { IfOk result (λ draft. 0 < length (draft_in draft).conns) }
 {
     let mut draft = Draft::new(alloc);

@@ -1,7 +1,7 @@
 //! A command's line, or its first fault.
 ghost use Rattle.std.specs.Prelude.{◌≡◌, ◌+◌, ◌≤◌, false, OnOk, length};
 ghost use Rattle.kms_script.specs.Lines.{GivesLine, line_of};
-ghost use Rattle.kms_script.specs.Named.{HasRoom, Grows};
+ghost use Rattle.kms_script.specs.Named.{HasRoomForNames, NamesGrow};
 
 use crate::commands::command_of;
 use crate::names::Names;
@@ -15,9 +15,9 @@ use std::alloc::Global;
 /// labels made that are equal, and more than 256 assignments. Of a line with more no name is kept.
 pub fn read_line(names: &mut Names, alloc: Global, line: &[u8]) -> Result<Command, Stop>
     requires once { names.old.names.is_twice ≡ false }
-    requires room { HasRoom names.old.names (length line.now + 2) }
+    requires room { HasRoomForNames names.old.names (length line.now + 2) }
     ensures value { GivesLine result (line_of names.old.names line.now) names.new.names }
-    ensures grows { OnOk result (Grows names.old.names names.new.names (length line.now + 2)) }
+    ensures grows { OnOk result (NamesGrow names.old.names names.new.names (length line.now + 2)) }
     ensures before { names.new.before ≡ names.old.before }
 {
     let (keyword, fields) = split_at_byte(line, b' ');

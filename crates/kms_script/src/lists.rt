@@ -1,8 +1,8 @@
 //! Formats, and lists parted by commas.
 ghost use Rattle.std.specs.Prelude.{◌≡◌, ◌≤◌, ◌<◌, ◌^◌, ℕ, IfSome, option_map};
-ghost use Rattle.kms_model.specs.Grammar.{parted, format_named, format_at, format_bit, rising, crtc_list, format_list};
+ghost use Rattle.kms_model.specs.Script.Grammar.{parted, format_named, format_at, format_bit, rising, crtc_list, format_list};
 ghost use Rattle.kms_script.specs.Fitting.{IsFitCount, IsFitMask};
-ghost use Rattle.kms_script.specs.Listed.{HasFew, bit_of, bits_of};
+ghost use Rattle.kms_script.specs.Listed.{HasFew, bit_of, bit_count};
 
 use crate::words::{read_dec, split_at_byte, take_field};
 use kms_model::Format;
@@ -55,7 +55,7 @@ fn bit_of(listed: Listed, word: &[u8]) -> Option<u32>
     requires { HasFew listed }
     ensures value { result ≡ bit_of listed word.now }
     ensures most { IfSome result (λ bit. bit < 4) }
-    ensures below { IfSome result (λ bit. bit < bits_of listed) }
+    ensures below { IfSome result (λ bit. bit < bit_count listed) }
 {
     match listed {
         Listed::Crtcs(crtcs) => Some(read_dec(word, u64::from(crtcs.saturating_sub(1)))? as u32),
@@ -75,7 +75,7 @@ fn mask_of(bit: u32) -> u32
 fn read_list(listed: Listed, word: &[u8]) -> Option<u32>
     requires { HasFew listed }
     ensures value { result ≡ rising (bit_of listed) 0 (parted 44 word.now) }
-    ensures below { IfSome result (λ mask. mask < 2 ^ bits_of listed) }
+    ensures below { IfSome result (λ mask. mask < 2 ^ bit_count listed) }
 {
     let mut mask = 0u32;
     let mut low = 0u32;

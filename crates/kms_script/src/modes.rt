@@ -1,8 +1,8 @@
 //! The fields of a mode.
 ghost use Rattle.std.specs.Prelude.{◌≡◌, ◌<◌, ◌≤◌, ◌^◌, ◌+◌, ◌++◌, ◌-◌, ℕ, List, option_map, length, replicate};
 ghost use Rattle.std.specs.List.{list_all};
-ghost use Rattle.kms_model.specs.Words.{is_name_byte, name_at};
-ghost use Rattle.kms_model.specs.CommandLines.{five_at, mode_at};
+ghost use Rattle.kms_model.specs.Script.Words.{is_name_byte, name_at};
+ghost use Rattle.kms_model.specs.Script.CommandLines.{five_at, mode_fields};
 
 use crate::words::{MOST, take_dec, take_field};
 use kms_model::Mode;
@@ -58,9 +58,9 @@ fn take_name(bytes: &[u8]) -> Option<([u8; 32], &[u8])>
 }
 
 /// The 15 words of a mode, and the bytes behind them.
-#[tactic(auto, unfolding(kms_model::specs::CommandLines::mode_at))]
+#[tactic(auto, unfolding(kms_model::specs::CommandLines::mode_fields))]
 pub fn take_mode(bytes: &[u8]) -> Option<(Mode, &[u8])>
-    ensures { option_map (λ x. (x.0, x.1.now)) result ≡ mode_at bytes.now }
+    ensures { option_map (λ x. (x.0, x.1.now)) result ≡ mode_fields bytes.now }
 {
     let (clock, rest) = take_dec(bytes, MOST)?;
     let (hdisplay, hsync_start, hsync_end, htotal, hskew, rest) = take_five(rest)?;

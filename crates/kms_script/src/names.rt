@@ -2,8 +2,8 @@
 ghost use Rattle.std.specs.Prelude.{◌≡◌, ◌≤◌, ◌<◌, ◌+◌, ◌++◌, ◌^◌, ℕ, [], if◌then◌else◌, IfOk, OnOk, length, map};
 ghost use Rattle.std.specs.List.{IsDistinct, list_any};
 ghost use Rattle.std.specs.Str.{bytes_eq};
-ghost use Rattle.kms_model.specs.CommandLines.{place, saying, making, unmade, words_in};
-ghost use Rattle.kms_script.specs.Named.{HasRoom, Grows, kept};
+ghost use Rattle.kms_model.specs.Script.CommandLines.{place, saying, making, unmade, words_in};
+ghost use Rattle.kms_script.specs.Named.{HasRoomForNames, NamesGrow, kept};
 ghost use Rattle.kms_script.specs.Overlong.{made_words, packed_all, packed_alone};
 
 use crate::numbering::Numbering;
@@ -79,10 +79,10 @@ impl Names {
 
     /// The number of a name that is said.
     pub fn say(&mut self, alloc: Global, word: &[u8]) -> Result<u32, NoMemory>
-        requires { HasRoom self.old.names 1 }
+        requires { HasRoomForNames self.old.names 1 }
         ensures number { IfOk result (λ n. n ≡ place word.now self.old.names) }
         ensures names { OnOk result (self.new.names ≡ saying word.now self.old.names) }
-        ensures grows { OnOk result (Grows self.old.names self.new.names 1) }
+        ensures grows { OnOk result (NamesGrow self.old.names self.new.names 1) }
         ensures before { self.new.before ≡ self.old.before }
     {
         if let Some(number) = self.numbering.find(word) {
@@ -95,10 +95,10 @@ impl Names {
 
     /// The number of a label that a line makes.
     pub fn make(&mut self, alloc: Global, word: &[u8]) -> Result<u32, NoMemory>
-        requires { HasRoom self.old.names 1 }
+        requires { HasRoomForNames self.old.names 1 }
         ensures number { IfOk result (λ n. n ≡ place word.now self.old.names) }
         ensures names { OnOk result (self.new.names ≡ making word.now self.old.names) }
-        ensures grows { OnOk result (Grows self.old.names self.new.names 1) }
+        ensures grows { OnOk result (NamesGrow self.old.names self.new.names 1) }
         ensures before { self.new.before ≡ self.old.before }
     {
         let number = self.say(alloc, word)?;
@@ -110,7 +110,7 @@ impl Names {
 
     /// Adds the numbers of the labels that lines make.
     pub fn push_made(&self, numbers: &mut Vec<u128>) -> Result<(), NoMemory>
-        requires { HasRoom self.now.names 1 }
+        requires { HasRoomForNames self.now.names 1 }
         ensures made { OnOk result (numbers.new.items ≡ numbers.old.items ++ packed_all (made_words self.now.names.all)) }
         ensures differ { IsDistinct bytes_eq (words_in self.now.names) }
     {

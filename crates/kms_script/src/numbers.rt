@@ -1,6 +1,6 @@
 //! Numbers with a sign, flags, pixels and bytes.
 ghost use Rattle.std.specs.Prelude.{◌≡◌, ◌≤◌, ◌<◌, ℕ, IfOk, IfSome, length, option_map};
-ghost use Rattle.kms_model.specs.Grammar.{negative, int, hex, hex_at, digits_of, pixel, pixel_at, hex_pair, hex_bytes, blob_bytes};
+ghost use Rattle.kms_model.specs.Script.Grammar.{negative, int, hex, hex_at, digits_of, pixel_number, pixel_at, hex_pair, hex_bytes, blob_bytes};
 
 use crate::words::{hex_value, is_hex, read_dec, read_digits, strip, take_field};
 use kms_model::{Format, NoMemory, Seq};
@@ -67,9 +67,9 @@ fn digits_of(format: Format) -> usize
     }
 }
 
-#[tactic(auto, unfolding(kms_model::specs::Grammar::pixel))]
+#[tactic(auto, unfolding(kms_model::specs::Grammar::pixel_number))]
 fn read_pixel(format: Format, word: &[u8]) -> Option<u32>
-    ensures { result ≡ pixel format word.now }
+    ensures { result ≡ pixel_number format word.now }
 {
     if word.len() == digits_of(format) {
         read_digits(word)

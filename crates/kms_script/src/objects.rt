@@ -1,8 +1,8 @@
 //! The objects, properties and words of an assignment.
 ghost use Rattle.std.specs.Prelude.{◌≡◌, ◌≤◌, IfSome, length, option_map};
 ghost use Rattle.std.specs.List.{list_all};
-ghost use Rattle.kms_model.specs.CommandLines.{assign_words};
-ghost use Rattle.kms_model.specs.Grammar.{indexed, object, is_property_byte, is_property_word, known_property};
+ghost use Rattle.kms_model.specs.Script.CommandLines.{assign_words};
+ghost use Rattle.kms_model.specs.Script.Grammar.{indexed, object, is_property_byte, is_property_word, known_property};
 
 use crate::words::{read_dec, split_at_byte, strip};
 use kms_model::Kind;

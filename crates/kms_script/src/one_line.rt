@@ -2,7 +2,7 @@
 ghost use Rattle.std.specs.Prelude.{◌≡◌, ◌≤◌, ◌<◌, ◌+◌, [], IfOk, OnErr, length};
 ghost use Rattle.std.specs.List.{IsDistinct};
 ghost use Rattle.std.specs.Str.{bytes_eq};
-ghost use Rattle.kms_model.specs.CommandLines.{line_read};
+ghost use Rattle.kms_model.specs.Script.CommandLines.{line_read};
 ghost use Rattle.kms_script.specs.Stated.{GivesCommand, line_error};
 
 use crate::lines::read_line;

@@ -4,9 +4,9 @@ ghost use Rattle.std.specs.Prelude.{◌≡◌, ◌≤◌, ◌<◌, ◌+◌, ◌^
 ghost use Rattle.std.specs.Bool.{Decides, nat_eq};
 ghost use Rattle.std.specs.List.{IsDistinct};
 ghost use Rattle.std.specs.Option.{option_map_or};
-ghost use Rattle.kms_model.specs.CommandLines.{atomic_read};
+ghost use Rattle.kms_model.specs.Script.CommandLines.{atomic_read};
 ghost use Rattle.kms_script.specs.Lines.{checked};
-ghost use Rattle.kms_script.specs.Named.{HasRoom};
+ghost use Rattle.kms_script.specs.Named.{HasRoomForNames};
 ghost use Rattle.kms_script.specs.Overlong.{AddsLabels, assign_label, atomic_labels, blanks, has_many, labels_at, made_words, packed, packed_all, packed_alone, value_label};
 
 use crate::names::Names;
@@ -142,7 +142,7 @@ fn are_distinct(mut numbers: Vec<u128>) -> bool
 pub fn fault_of_many(names: &Names, alloc: Global, fields: &[u8]) -> Result<Why, NoMemory>
     requires once { names.now.names.is_twice ≡ false }
     requires many { IsTrue (has_many fields.now) }
-    requires room { HasRoom names.now.names (length fields.now) }
+    requires room { HasRoomForNames names.now.names (length fields.now) }
     ensures { IfOk result (λ why. checked (atomic_read names.now.names fields.now) ≡ Err why) }
 {
     let Some((_, rest)) = take_hex(fields) else {

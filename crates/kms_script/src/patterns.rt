@@ -1,8 +1,8 @@
 //! What a buffer is filled with.
 ghost use Rattle.std.specs.Prelude.{◌≡◌, ◌≤◌, ◌*◌, ℕ, IfOk, IfSome, length, option_map};
-ghost use Rattle.kms_model.specs.Stores.{Fills};
+ghost use Rattle.kms_model.specs.Stores.Kept.{Fills};
 ghost use Rattle.kms_script.specs.Fitting.{IsOfPixels};
-ghost use Rattle.kms_model.specs.CommandLines.{pixels_at, solid_at, checker_at, ramp_at, each_pixel_at, pattern_at};
+ghost use Rattle.kms_model.specs.Script.CommandLines.{pixels_at, solid_at, checker_at, ramp_at, each_pixel_at, pattern_at};
 
 use crate::numbers::take_pixel;
 use crate::words::{take_dec, take_end, take_field};

@@ -1,7 +1,7 @@
 //! The words that print a script's values.
 ghost use Rattle.std.specs.Prelude.{◌≡◌, ◌<◌, ◌++◌, false, OnOk};
 ghost use Rattle.std.specs.Fmt.{decimal, signed_decimal, digit_glyph};
-ghost use Rattle.kms_model.specs.Masks.{has_bit};
+ghost use Rattle.kms_model.specs.Device.Masks.{has_bit};
 ghost use Rattle.kms_script.specs.Printed.{bits_in, item_word};
 ghost use Rattle.kms_script.specs.Spelling.{assign_word, blob_word, crtcs_word, format_at_bit, format_word, formats_word, hex_digits, hex_word, kind_word, list_word, name_word, pixel_word, property_word, type_word, value_word};
 

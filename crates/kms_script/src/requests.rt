@@ -1,8 +1,8 @@
 //! Atomic requests.
 ghost use Rattle.std.specs.Prelude.{◌≡◌, ◌≤◌, ◌+◌, ℕ, Some, IfOk, IfSome, OnOk, length, option_map};
-ghost use Rattle.kms_model.specs.CommandLines.{property_read, value_read, assign_read, atomic_read};
+ghost use Rattle.kms_model.specs.Script.CommandLines.{property_read, value_read, assign_read, atomic_read};
 ghost use Rattle.kms_script.specs.Fitting.{HasFilled};
-ghost use Rattle.kms_script.specs.Named.{HasRoom, Grows, assigns_at};
+ghost use Rattle.kms_script.specs.Named.{HasRoomForNames, NamesGrow, assigns_at};
 
 use crate::names::Names;
 use crate::numbers::{read_int, take_hex};
@@ -14,9 +14,9 @@ use std::alloc::Global;
 /// The property of a name.
 #[tactic(auto, unfolding(kms_model::specs::CommandLines::property_read))]
 fn read_property(names: &mut Names, alloc: Global, word: &[u8]) -> Result<PropRef, NoMemory>
-    requires { HasRoom names.old.names 1 }
+    requires { HasRoomForNames names.old.names 1 }
     ensures value { IfOk result (λ p. (p, names.new.names) ≡ property_read names.old.names word.now) }
-    ensures grows { OnOk result (Grows names.old.names names.new.names 1) }
+    ensures grows { OnOk result (NamesGrow names.old.names names.new.names 1) }
     ensures before { names.new.before ≡ names.old.before }
 {
     match known_property(word) {
@@ -28,9 +28,9 @@ fn read_property(names: &mut Names, alloc: Global, word: &[u8]) -> Result<PropRe
 /// The value of a word: `@LABEL`, `+LABEL`, `crtc` with an index to 255, or a number.
 #[tactic(auto, unfolding(kms_model::specs::CommandLines::value_read))]
 fn read_value(names: &mut Names, alloc: Global, word: &[u8]) -> Result<Option<Value>, NoMemory>
-    requires { HasRoom names.old.names 1 }
+    requires { HasRoomForNames names.old.names 1 }
     ensures value { IfOk result (λ o. option_map (λ v. (v, names.new.names)) o ≡ value_read names.old.names word.now) }
-    ensures grows { OnOk result (Grows names.old.names names.new.names 1) }
+    ensures grows { OnOk result (NamesGrow names.old.names names.new.names 1) }
     ensures before { names.new.before ≡ names.old.before }
 {
     if let Some(label) = strip(b"@", word) {
@@ -60,9 +60,9 @@ fn read_value(names: &mut Names, alloc: Global, word: &[u8]) -> Result<Option<Va
 /// The assignment of a word.
 #[tactic(auto, unfolding(kms_model::specs::CommandLines::assign_read))]
 fn read_assign(names: &mut Names, alloc: Global, word: &[u8]) -> Result<Option<Assign>, NoMemory>
-    requires { HasRoom names.old.names 2 }
+    requires { HasRoomForNames names.old.names 2 }
     ensures value { IfOk result (λ o. option_map (λ a. (a, names.new.names)) o ≡ assign_read names.old.names word.now) }
-    ensures grows { OnOk result (Grows names.old.names names.new.names 2) }
+    ensures grows { OnOk result (NamesGrow names.old.names names.new.names 2) }
     ensures before { names.new.before ≡ names.old.before }
     ensures some { IfOk result (λ o. IfSome o (λ _. 1 ≤ length word.now)) }
 {
@@ -87,9 +87,9 @@ fn read_assigns(
     alloc: Global,
     fields: &[u8],
 ) -> Result<Option<Seq<Assign>>, NoMemory>
-    requires { HasRoom names.old.names (length fields.now + 2) }
+    requires { HasRoomForNames names.old.names (length fields.now + 2) }
     ensures value { IfOk result (λ o. option_map (λ a. (a, names.new.names)) o ≡ assigns_at names.old.names fields.now) }
-    ensures grows { OnOk result (Grows names.old.names names.new.names (length fields.now + 2)) }
+    ensures grows { OnOk result (NamesGrow names.old.names names.new.names (length fields.now + 2)) }
     ensures before { names.new.before ≡ names.old.before }
 {
     let mut assigns = Seq::new(alloc);
@@ -114,9 +114,9 @@ pub fn read_atomic(
     alloc: Global,
     bytes: &[u8],
 ) -> Result<Option<Command>, NoMemory>
-    requires { HasRoom names.old.names (length bytes.now + 2) }
+    requires { HasRoomForNames names.old.names (length bytes.now + 2) }
     ensures value { IfOk result (λ o. option_map (λ c. (c, names.new.names)) o ≡ atomic_read names.old.names bytes.now) }
-    ensures grows { OnOk result (Grows names.old.names names.new.names (length bytes.now + 2)) }
+    ensures grows { OnOk result (NamesGrow names.old.names names.new.names (length bytes.now + 2)) }
     ensures before { names.new.before ≡ names.old.before }
     ensures filled { IfOk result (λ o. IfSome o HasFilled) }
 {

@@ -1,6 +1,6 @@
 //! Lines of an input.
 ghost use Rattle.std.specs.Prelude.{◌≡◌, ◌<◌, ◌≤◌, ◌∷◌, length};
-ghost use Rattle.kms_model.specs.InputLines.{rows_of};
+ghost use Rattle.kms_model.specs.Script.InputLines.{rows_of};
 ghost use Rattle.kms_script.specs.Drafted.{row_in};
 
 use crate::words::split_at_byte;

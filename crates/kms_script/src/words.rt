@@ -3,8 +3,8 @@ ghost use Rattle.std.specs.Prelude.{◌≡◌, ◌<◌, ◌≤◌, ◌+◌, ℕ,
 ghost use Rattle.std.specs.Str.{bytes_eq};
 ghost use Rattle.std.specs.List.{list_all};
 ghost use Rattle.kms_model.specs.Firsts.{number_if};
-ghost use Rattle.kms_model.specs.Words.{strip};
-ghost use Rattle.kms_model.specs.Words.{until, from, dec, is_digit, is_label, is_label_rest, is_hex, hex_value, hex_from, strip, field_at, dec_at, label_at, end_at};
+ghost use Rattle.kms_model.specs.Script.Words.{strip};
+ghost use Rattle.kms_model.specs.Script.Words.{until, from, dec, is_digit, is_label, is_label_rest, is_hex, hex_value, hex_from, strip, field_at, dec_at, label_at, end_at};
 
 /// The largest number of 32 bits.
 pub const MOST: u64 = 4_294_967_295;

@@ -5,8 +5,8 @@ use Rattle.std.proofs.lemmas.Bool.{eq-eqb}
 use Rattle.kms_model.specs.declared.scripts.Assign.{Assign}
 use Rattle.kms_model.specs.declared.worlds.Setting.{Setting}
 use Rattle.kms_model.specs.declared.worlds.Thing.{Thing}
-use Rattle.kms_model.specs.Apply.{apply, assign}
-use Rattle.kms_model.specs.World.{is_of, setting, put}
+use Rattle.kms_model.specs.Request.Apply.{apply, assign}
+use Rattle.kms_model.specs.Device.World.{is_of, setting, put}
 
 -- a setting that is found is changed in its place
 pub put_found : (vs : List Setting) (i : ℕ) (d : Setting) (o p : ℕ) (x : ℤ) → i < length vs → (get_or vs i d).object ≡ o → (get_or vs i d).prop ≡ p

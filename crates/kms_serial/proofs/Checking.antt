@@ -8,9 +8,9 @@ use Rattle.kms_model.specs.declared.objects.Topology.{Topology}
 use Rattle.kms_model.specs.declared.scripts.Assign.{Assign}
 use Rattle.kms_model.specs.declared.states.Both.{Both}
 use Rattle.kms_model.specs.declared.states.Duplicates.{Duplicates}
-use Rattle.kms_model.specs.Late.{duplicate_at}
-use Rattle.kms_model.specs.Objects.{count_of, exists, first_id, object_id}
-use Rattle.kms_model.specs.Resolves.{IsAllowed, IsPlaced, IsSettable}
+use Rattle.kms_model.specs.Request.Late.{duplicate_at}
+use Rattle.kms_model.specs.Device.Objects.{count_of, exists, first_id, object_id}
+use Rattle.kms_model.specs.Request.Resolves.{IsAllowed, HasPlace, IsSettable}
 use Rattle.kms_state.specs.Places.{OldStates, is_duplicated, is_duplicated_of, kind_of, old_states, olds, state_at, state_of}
 use Rattle.kms_state.specs.Changes.{HasObject, Sets}
 use Rattle.kms_state.proofs.KindsOfIds.{kind-crtc, kind-plane, kind-conn}
@@ -20,12 +20,12 @@ use Rattle.kms_model.specs.declared.scripts.Value.TheVariants.{Num}
 use Rattle.kms_model.specs.declared.sets.Set.{Set}
 use Rattle.kms_model.specs.declared.worlds.Setting.{Setting}
 use Rattle.kms_model.specs.declared.worlds.World.{World}
-use Rattle.kms_model.specs.Agreement.{AgreesNew}
-use Rattle.kms_model.specs.Apply.{apply, assign, number_of}
-use Rattle.kms_model.specs.Lookups.{look_up}
-use Rattle.kms_model.specs.SetRanges.{may_set}
-use Rattle.kms_model.specs.Sets.{set_of}
-use Rattle.kms_model.specs.Sound.{AreNumbered, IsDevice, IsSound}
+use Rattle.kms_model.specs.Request.Agreement.{AgreesNew}
+use Rattle.kms_model.specs.Request.Apply.{apply, assign, number_of}
+use Rattle.kms_model.specs.Request.Lookups.{look_up}
+use Rattle.kms_model.specs.Request.SetRanges.{may_set}
+use Rattle.kms_model.specs.Request.Sets.{set_of}
+use Rattle.kms_model.specs.Device.Sound.{AreNumbered, IsDevice, IsSound}
 use Rattle.kms_model.proofs.RequestLemmas.{accepted_allowed, all_settable}
 use Rattle.kms_model.proofs.SoundStart.{few_planes}
 use Rattle.kms_model.proofs.StandsLemmas.{stands-accepted}
@@ -33,9 +33,9 @@ use Rattle.std.proofs.Math.ListN.{get_or}
 use Rattle.std.proofs.lemmas.List.{take_all}
 use Rattle.kms_request.proofs.WholeLemmas.{limits_of}
 use Rattle.kms_model.specs.declared.scripts.Request.{Request}
-use Rattle.kms_model.specs.Refusals.{early_refusal}
+use Rattle.kms_model.specs.Request.Refusals.{early_refusal}
 use Rattle.kms_request.specs.Whole.{StandBetween}
-use Rattle.kms_model.specs.Verdict.{verdict}
+use Rattle.kms_model.specs.Request.Verdict.{verdict}
 use Rattle.kms_model.proofs.Items.{or_else-none}
 use Rattle.kms_serial.specs.Device.{AreWhole, IsAfter, IsLetThrough, IsPresent, IsWhole, Stands}
 use Rattle.kms_serial.proofs.StartStates.{few_conns}
@@ -48,23 +48,23 @@ state_there k states index count whole lt =
     rw (above, place) (whole.there index lt)
 
 -- an object's id tells its kind
-pub kind_is : (k : Kind) (index : ℕ) → IsPlaced k index → kind_of (object_id k index) ≡ k
+pub kind_is : (k : Kind) (index : ℕ) → HasPlace k index → kind_of (object_id k index) ≡ k
 kind_is kind.Crtc index placed = kind-crtc (object_id kind.Crtc index) (omega (arith, placed))
 kind_is kind.Plane index placed = kind-plane (object_id kind.Plane index) (omega arith) (omega (arith, placed))
 kind_is kind.Conn index placed = kind-conn (object_id kind.Conn index) (omega arith) (omega (arith, placed))
 kind_is kind.Enc index placed = absurd placed
 
-there_of : (t : Topology) (d : Duplicates) (k : Kind) (index : ℕ) → IsWhole t d → IsPlaced k index → exists t k index ≡ true → is_duplicated_of k d (object_id k index) ≡ true
+there_of : (t : Topology) (d : Duplicates) (k : Kind) (index : ℕ) → IsWhole t d → HasPlace k index → exists t k index ≡ true → is_duplicated_of k d (object_id k index) ≡ true
 there_of t d kind.Crtc index whole placed there = state_there kind.Crtc d.crtcs index t.crtcs whole.crtcs (grind (arith, nat_tests))
 there_of t d kind.Plane index whole placed there = state_there kind.Plane d.planes index (length t.planes) whole.planes (grind (arith, nat_tests))
 there_of t d kind.Conn index whole placed there = state_there kind.Conn d.conns index (length t.conns) whole.conns (grind (arith, nat_tests))
 there_of t d kind.Enc index whole placed there = absurd placed
 
 -- every object of a device is duplicated
-pub duplicated : (t : Topology) (d : Duplicates) (k : Kind) (index : ℕ) → IsWhole t d → IsPlaced k index → exists t k index ≡ true → is_duplicated d (object_id k index) ≡ true
+pub duplicated : (t : Topology) (d : Duplicates) (k : Kind) (index : ℕ) → IsWhole t d → HasPlace k index → exists t k index ≡ true → is_duplicated d (object_id k index) ≡ true
 duplicated t d k index whole placed there = ap (λ kind. is_duplicated_of kind d (object_id k index)) (kind_is k index placed) ∙ there_of t d k index whole placed there
 
-pub has_object : (t : Topology) (k : Kind) (index : ℕ) → length t.planes ≤ 16 → length t.conns ≤ 8 → IsPlaced k index → exists t k index ≡ true → HasObject t (object_id k index)
+pub has_object : (t : Topology) (k : Kind) (index : ℕ) → length t.planes ≤ 16 → length t.conns ≤ 8 → HasPlace k index → exists t k index ≡ true → HasObject t (object_id k index)
 has_object t k index planes conns placed there = record {
   planes = planes;
   conns = conns;

@@ -19,17 +19,17 @@ use Rattle.kms_model.specs.declared.worlds.Content.TheVariants as content
 use Rattle.kms_model.specs.declared.worlds.Setting.{Setting}
 use Rattle.kms_model.specs.declared.worlds.Thing.{Thing}
 use Rattle.kms_model.specs.declared.worlds.World.{World}
-use Rattle.kms_model.specs.Agreement.{AgreesNew, AgreesOld, AreNew, AreOld}
-use Rattle.kms_model.specs.Apply.{apply}
-use Rattle.kms_model.specs.Execution.{execute, make_out_fence, make_out_fences}
-use Rattle.kms_model.specs.Flags.{is_test}
-use Rattle.kms_model.specs.Late.{duplicate_at}
-use Rattle.kms_model.specs.Objects.{ids_of, object_id}
-use Rattle.kms_model.specs.Execution.{Executed}
-use Rattle.kms_model.specs.Sound.{IsSound}
+use Rattle.kms_model.specs.Request.Agreement.{AgreesNew, AgreesOld, AreNew, AreOld}
+use Rattle.kms_model.specs.Request.Apply.{apply}
+use Rattle.kms_model.specs.Device.Execution.{execute, make_out_fence, make_out_fences}
+use Rattle.kms_model.specs.Request.Flags.{is_test}
+use Rattle.kms_model.specs.Request.Late.{duplicate_at}
+use Rattle.kms_model.specs.Device.Objects.{ids_of, object_id}
+use Rattle.kms_model.specs.Device.Execution.{Executed}
+use Rattle.kms_model.specs.Device.Sound.{IsSound}
 use Rattle.std.proofs.lemmas.List.FromFn.{length-map-range_with_len}
-use Rattle.kms_model.specs.Touched.{out_fence_label}
-use Rattle.kms_model.specs.Verdict.{verdict}
+use Rattle.kms_model.specs.Request.Touched.{out_fence_label}
+use Rattle.kms_model.specs.Request.Verdict.{verdict}
 use Rattle.kms_model.proofs.SeenLemmas.{AreSeenAlike}
 use Rattle.kms_model.proofs.SoundKept.{execution_keeps_sound, sound-apply, sound-out_fences}
 use Rattle.kms_model.proofs.ThingLemmas.{IsSeenAlike}
@@ -37,7 +37,7 @@ use Rattle.kms_request.specs.Fences.{TellOutFences}
 use Rattle.kms_serial.specs.Commands.{Grows}
 use Rattle.kms_serial.specs.Device.{AreWhole, IsAfter, IsPresent, IsWhole, Stands}
 use Rattle.kms_serial.specs.OutFences.{fences_made, world_after}
-use Rattle.kms_serial.specs.Settling.{alike_new, settled, settled_states}
+use Rattle.kms_serial.specs.Swapping.{alike_new, swapped, swapped_states}
 use Rattle.kms_serial.specs.Starting.{alike}
 use Rattle.kms_serial.proofs.Executing.{IsSeenAfter, present_seen, seen_made, seen_same}
 
@@ -116,30 +116,30 @@ within_fences t client assigns w (crtc ∷ crtcs) sound =
 
 -- New states that become the present ones
 
--- one state more is settled
-pub settle_more : {S : Type 0} (before now : List (Option (Both S))) (i : ℕ) (d new : Option (Both S)) → i < length before → now ≡ settled_states (take i before) ++ drop i before → new ≡ alike_new (get_or now i d)
-    → set now i new ≡ settled_states (take (i + 1) before) ++ drop (i + 1) before
+-- one state more is swapped
+pub settle_more : {S : Type 0} (before now : List (Option (Both S))) (i : ℕ) (d new : Option (Both S)) → i < length before → now ≡ swapped_states (take i before) ++ drop i before → new ≡ alike_new (get_or now i d)
+    → set now i new ≡ swapped_states (take (i + 1) before) ++ drop (i + 1) before
 settle_more {S} before now i d new lt is one = grind (arith, common_steps, map_over_more (alike_new {S = S}))
 
-settled_at : {S : Type 0} (states : List (Option (Both S))) (index : ℕ) → slice_get (settled_states states) index ≡ option_map alike_new (slice_get states index)
-settled_at [] index = refl
-settled_at (s ∷ states) zero = refl
-settled_at (s ∷ states) (suc index) = settled_at states index
+swapped_at : {S : Type 0} (states : List (Option (Both S))) (index : ℕ) → slice_get (swapped_states states) index ≡ option_map alike_new (slice_get states index)
+swapped_at [] index = refl
+swapped_at (s ∷ states) zero = refl
+swapped_at (s ∷ states) (suc index) = swapped_at states index
 
 is_some-alike : {S : Type 0} (o : Option (Option (Both S))) → is_some (option_flatten (option_map alike_new o)) ≡ is_some (option_flatten o)
 is_some-alike None = refl
 is_some-alike (Some None) = refl
 is_some-alike (Some (Some both)) = refl
 
-settled_whole : {S : Type 0} (count : ℕ) (states : List (Option (Both S))) → AreWhole count states → AreWhole count (settled_states states)
-settled_whole count states whole =
-    let same : (index : ℕ) → is_some (duplicate_at (settled_states states) index) ≡ is_some (duplicate_at states index) = λ index. ap (λ o. is_some (option_flatten o)) (settled_at states index) ∙ is_some-alike (slice_get states index) in
+swapped_whole : {S : Type 0} (count : ℕ) (states : List (Option (Both S))) → AreWhole count states → AreWhole count (swapped_states states)
+swapped_whole count states whole =
+    let same : (index : ℕ) → is_some (duplicate_at (swapped_states states) index) ≡ is_some (duplicate_at states index) = λ index. ap (λ o. is_some (option_flatten o)) (swapped_at states index) ∙ is_some-alike (slice_get states index) in
     record {
       there = λ index lt. same index ∙ whole.there index lt;
       only = λ index some. whole.only index (sym (same index) ∙ some);
     }
 
--- what a settled state was
+-- what a swapped state was
 record WasNew {S : Type 0} (o : Option (Option (Both S))) (both : Both S) : Type 0 where
   was : Both S
   at : o ≡ Some (Some was)
@@ -150,24 +150,24 @@ was_new None both e = absurd cc
 was_new (Some None) both e = absurd cc
 was_new (Some (Some was)) both e = record { was = was; at = refl; same = cc }
 
-settled_old : {S : Type 0} (f : ℕ → S) (states : List (Option (Both S))) → AreNew f states → AreOld f (settled_states states)
-settled_old f states new index both at =
-    let w = was_new (slice_get states index) both (sym (settled_at states index) ∙ at) in
+swapped_old : {S : Type 0} (f : ℕ → S) (states : List (Option (Both S))) → AreNew f states → AreOld f (swapped_states states)
+swapped_old f states new index both at =
+    let w = was_new (slice_get states index) both (sym (swapped_at states index) ∙ at) in
     ap (λ (b : Both _). b.old) w.same ∙ new index w.was w.at
 
-settled_new : {S : Type 0} (f : ℕ → S) (states : List (Option (Both S))) → AreNew f states → AreNew f (settled_states states)
-settled_new f states new index both at =
-    let w = was_new (slice_get states index) both (sym (settled_at states index) ∙ at) in
+swapped_new : {S : Type 0} (f : ℕ → S) (states : List (Option (Both S))) → AreNew f states → AreNew f (swapped_states states)
+swapped_new f states new index both at =
+    let w = was_new (slice_get states index) both (sym (swapped_at states index) ∙ at) in
     ap (λ (b : Both _). b.new) w.same ∙ new index w.was w.at
 
 -- states after a request are the present ones where its values hold
-settled_present : (t : Topology) (w after : World) (r : Request) (d : Duplicates) → after.things ≡ w.things → after.values ≡ apply w.things w.values r.assigns → IsAfter t w r d → IsPresent t after (settled d)
-settled_present t w after r d things values is =
+swapped_present : (t : Topology) (w after : World) (r : Request) (d : Duplicates) → after.things ≡ w.things → after.values ≡ apply w.things w.values r.assigns → IsAfter t w r d → IsPresent t after (swapped d)
+swapped_present t w after r d things values is =
     let new : AgreesNew t after.things after.values d = rw (things, values) is.new in
     record {
-      whole = record { crtcs = settled_whole t.crtcs d.crtcs is.whole.crtcs; planes = settled_whole (length t.planes) d.planes is.whole.planes; conns = settled_whole (length t.conns) d.conns is.whole.conns };
-      old = record { crtcs = settled_old _ d.crtcs new.crtcs; planes = settled_old _ d.planes new.planes; conns = settled_old _ d.conns new.conns };
-      new = record { crtcs = settled_new _ d.crtcs new.crtcs; planes = settled_new _ d.planes new.planes; conns = settled_new _ d.conns new.conns };
+      whole = record { crtcs = swapped_whole t.crtcs d.crtcs is.whole.crtcs; planes = swapped_whole (length t.planes) d.planes is.whole.planes; conns = swapped_whole (length t.conns) d.conns is.whole.conns };
+      old = record { crtcs = swapped_old _ d.crtcs new.crtcs; planes = swapped_old _ d.planes new.planes; conns = swapped_old _ d.conns new.conns };
+      new = record { crtcs = swapped_new _ d.crtcs new.crtcs; planes = swapped_new _ d.planes new.planes; conns = swapped_new _ d.conns new.conns };
     }
 
 -- The device after a commit
@@ -203,12 +203,12 @@ pub values_committed : (t : Topology) (w : World) (client : ℕ) (r : Request) �
 values_committed t w client r sound none = (within_after t w client r sound none).values
 
 -- a device stands after a commit
-pub stands_committed : (t : Topology) (w : World) (d after : Duplicates) (client : ℕ) (r : Request) → Stands t w d → verdict t w r ≡ None → is_test r.flags ≡ false → IsAfter t w r after → Stands t (world_after client r t.crtcs w) (settled after)
+pub stands_committed : (t : Topology) (w : World) (d after : Duplicates) (client : ℕ) (r : Request) → Stands t w d → verdict t w r ≡ None → is_test r.flags ≡ false → IsAfter t w r after → Stands t (world_after client r t.crtcs w) (swapped after)
 stands_committed t w d after client r stands none test is =
     let before : World = record w { values = apply w.things w.values r.assigns; commits = w.commits + 1 } in
     let within = within_after t w client r stands.sound none in
     record {
       device = stands.device;
       sound = subst (λ (e : Executed). IsSound t e.world) (executes t w client r none test) (execution_keeps_sound t w client (command.Atomic r) stands.sound);
-      present = present_seen t before (world_after client r t.crtcs w) (settled after) within.values within.alike (settled_present t w before r after refl refl is);
+      present = present_seen t before (world_after client r t.crtcs w) (swapped after) within.values within.alike (swapped_present t w before r after refl refl is);
     }

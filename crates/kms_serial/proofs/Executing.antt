@@ -16,15 +16,15 @@ use Rattle.kms_model.specs.declared.worlds.Content.TheVariants as content
 use Rattle.kms_model.specs.declared.worlds.Setting.{Setting}
 use Rattle.kms_model.specs.declared.worlds.Thing.{Thing}
 use Rattle.kms_model.specs.declared.worlds.World.{World}
-use Rattle.kms_model.specs.Agreement.{AgreesNew, AgreesOld, AreNew, AreOld, conn_state_at, crtc_state_at}
-use Rattle.kms_model.specs.Closing.{closed_in}
-use Rattle.kms_model.specs.Execution.{close, close_refusal, close_unless, destroy_refusal, execute, new_buffer_refusal, signal_refusal, signal_unless}
-use Rattle.kms_model.specs.Late.{duplicate_at}
-use Rattle.kms_model.specs.Objects.{count_of, ids_of, object_id}
-use Rattle.kms_model.specs.Execution.{BufferInfo, Executed, add_fb, answer, buffer_of, make, make_unless}
-use Rattle.kms_model.specs.Sound.{IsSound}
-use Rattle.kms_model.specs.States.{mode_at, plane_at}
-use Rattle.kms_model.specs.World.{thing_labelled, value}
+use Rattle.kms_model.specs.Request.Agreement.{AgreesNew, AgreesOld, AreNew, AreOld, conn_state_at, crtc_state_at}
+use Rattle.kms_model.specs.Device.Closing.{closed_in}
+use Rattle.kms_model.specs.Device.Execution.{close, close_refusal, close_unless, destroy_refusal, execute, new_buffer_refusal, signal_refusal, signal_unless}
+use Rattle.kms_model.specs.Request.Late.{duplicate_at}
+use Rattle.kms_model.specs.Device.Objects.{count_of, ids_of, object_id}
+use Rattle.kms_model.specs.Device.Execution.{BufferInfo, Executed, add_fb, answer, buffer_of, make, make_unless}
+use Rattle.kms_model.specs.Device.Sound.{IsSound}
+use Rattle.kms_model.specs.Device.States.{mode_at, plane_at}
+use Rattle.kms_model.specs.Device.World.{thing_labelled, value}
 use Rattle.kms_model.proofs.Items.{ids-has}
 use Rattle.kms_model.proofs.SeenLemmas.{AreSeenAlike, alike-closed, alike-push, mode-seen, plane-seen}
 use Rattle.kms_model.proofs.SoundKept.{execution_keeps_sound}

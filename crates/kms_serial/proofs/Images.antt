@@ -10,14 +10,14 @@ use Rattle.kms_model.specs.declared.tables.Slot.{Slot}
 use Rattle.kms_model.specs.declared.worlds.Content.{Content}
 use Rattle.kms_model.specs.declared.worlds.Content.TheVariants as content
 use Rattle.kms_model.specs.declared.worlds.Thing.{Thing}
-use Rattle.kms_model.specs.Frames.{buffer_in}
-use Rattle.kms_model.specs.Images.{image_of, seen_in}
-use Rattle.kms_model.specs.Execution.{BufferInfo, buffer_info}
-use Rattle.kms_model.specs.Sound.{AreNumbered}
-use Rattle.kms_model.specs.Stores.{Seen, seen, seen_with_id}
-use Rattle.kms_model.specs.Tables.{value_with_id}
-use Rattle.kms_model.specs.Words.{◌>>=◌}
-use Rattle.kms_model.specs.World.{thing_with_id}
+use Rattle.kms_model.specs.Frames.FrameBytes.{buffer_id_in}
+use Rattle.kms_model.specs.Frames.Images.{image_of, seen_in}
+use Rattle.kms_model.specs.Device.Execution.{BufferInfo, buffer_info}
+use Rattle.kms_model.specs.Device.Sound.{AreNumbered}
+use Rattle.kms_model.specs.Stores.Kept.{Seen, seen, seen_with_id}
+use Rattle.kms_model.specs.Stores.Tables.{value_with_id}
+use Rattle.kms_model.specs.Script.Words.{◌>>=◌}
+use Rattle.kms_model.specs.Device.World.{thing_with_id}
 use Rattle.kms_buffers.specs.Things as store
 use Rattle.kms_buffers.specs.Things.{buffers_of}
 use Rattle.kms_serial.specs.Index.{AreKept, FramesIn, Ids}

@@ -13,13 +13,13 @@ use Rattle.kms_model.specs.declared.tables.Slot.{Slot}
 use Rattle.kms_model.specs.declared.worlds.Content.{Content}
 use Rattle.kms_model.specs.declared.worlds.Content.TheVariants as content
 use Rattle.kms_model.specs.declared.worlds.Thing.{Thing}
-use Rattle.kms_model.specs.Closing.{closed_if, closed_in}
-use Rattle.kms_model.specs.Execution.{all_bytes, buffer_bytes}
+use Rattle.kms_model.specs.Device.Closing.{closed_if, closed_in}
+use Rattle.kms_model.specs.Device.Execution.{all_bytes, buffer_bytes}
 use Rattle.kms_model.specs.Firsts.{or_else, number_if}
-use Rattle.kms_model.specs.Sound.{AreNumbered}
-use Rattle.kms_model.specs.Stores.{area_bytes, buffer, bytes_of, bytes_with, largest_bytes}
-use Rattle.kms_model.specs.Tables.{AreBelow, slot}
-use Rattle.kms_model.specs.World.{thing_with_id}
+use Rattle.kms_model.specs.Device.Sound.{AreNumbered}
+use Rattle.kms_model.specs.Stores.Kept.{area_bytes, buffer, bytes_of, bytes_with, largest_bytes}
+use Rattle.kms_model.specs.Stores.Tables.{AreBelow, slot}
+use Rattle.kms_model.specs.Device.World.{thing_with_id}
 use Rattle.kms_buffers.specs.declared.buffers.MakeError.{MakeError}
 use Rattle.kms_buffers.specs.declared.buffers.MakeError.TheVariants as error
 use Rattle.kms_buffers.specs.Things.{buffer_in, buffers_of}

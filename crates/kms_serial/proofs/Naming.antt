@@ -16,14 +16,14 @@ use Rattle.kms_model.specs.declared.worlds.Content.{Content}
 use Rattle.kms_model.specs.declared.worlds.Content.TheVariants as content
 use Rattle.kms_model.specs.declared.worlds.Thing.{Thing}
 use Rattle.kms_model.specs.declared.worlds.World.{World}
-use Rattle.kms_model.specs.Frames.{buffer_in}
-use Rattle.kms_model.specs.Images.{image_of, seen_in}
-use Rattle.kms_model.specs.Objects.{object_id, count_of}
-use Rattle.kms_model.specs.Sound.{AreNumbered, has_legal_mode, is_thing, IsSound}
-use Rattle.kms_model.specs.Late.{duplicate_at}
-use Rattle.kms_model.specs.States.{framebuffer_in, framebuffer_of, mode_of, plane_at}
-use Rattle.kms_model.specs.Words.{◌>>=◌}
-use Rattle.kms_model.specs.World.{value, thing_numbered, thing_with_id}
+use Rattle.kms_model.specs.Frames.FrameBytes.{buffer_id_in}
+use Rattle.kms_model.specs.Frames.Images.{image_of, seen_in}
+use Rattle.kms_model.specs.Device.Objects.{object_id, count_of}
+use Rattle.kms_model.specs.Device.Sound.{AreNumbered, has_legal_mode, is_thing, IsSound}
+use Rattle.kms_model.specs.Request.Late.{duplicate_at}
+use Rattle.kms_model.specs.Device.States.{framebuffer_in, framebuffer_of, mode_of, plane_at}
+use Rattle.kms_model.specs.Script.Words.{◌>>=◌}
+use Rattle.kms_model.specs.Device.World.{value, thing_numbered, thing_with_id}
 use Rattle.kms_model.proofs.LateLemmas.{flatten-some}
 use Rattle.kms_model.proofs.HeldValues.{all_held-from}
 use Rattle.kms_model.proofs.Items.{IsIn, ids-has}
@@ -98,7 +98,7 @@ fb_of_state t w d index (Some both) stands framed within is =
     let new = stands.present.new.planes index both (flatten-some (slice_get d.planes index) both is) in
     ap (λ (s : PlaneState). pos (id_or_zero s.fb)) new ∙ fb_id-is t w index stands.sound framed within
 
-no-buffer : (c : Content) → framebuffer_in c ≡ None → buffer_in c ≡ None
+no-buffer : (c : Content) → framebuffer_in c ≡ None → buffer_id_in c ≡ None
 no-buffer (content.Framebuffer info of) e = absurd cc
 no-buffer (content.Buffer width height format pattern) e = refl
 no-buffer (content.Mode m) e = refl
@@ -106,7 +106,7 @@ no-buffer (content.Blob bytes) e = refl
 no-buffer content.Fence e = refl
 no-buffer content.OutFence e = refl
 
-no-image-in : (things : List Thing) (o : Option Thing) → framebuffer_of o ≡ None → (o >>= λ f. buffer_in f.content >>= λ id. thing_with_id things id >>= λ b. seen_in b.content) ≡ None
+no-image-in : (things : List Thing) (o : Option Thing) → framebuffer_of o ≡ None → (o >>= λ f. buffer_id_in f.content >>= λ id. thing_with_id things id >>= λ b. seen_in b.content) ≡ None
 no-image-in things None e = refl
 no-image-in things (Some t) e = rw (no-buffer t.content e) refl
 

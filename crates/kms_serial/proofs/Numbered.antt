@@ -7,10 +7,10 @@ use Rattle.std.proofs.lemmas.Bool.Decides.{nat_tests, eqb_tells}
 use Rattle.std.proofs.lemmas.Option.{slice_get_past, slice_get_read}
 use Rattle.std.proofs.lemmas.List.{length-append}
 use Rattle.kms_model.specs.declared.worlds.Thing.{Thing}
-use Rattle.kms_model.specs.World.{thing_labelled, thing_with_id}
-use Rattle.kms_model.specs.Closing.{closed_in}
+use Rattle.kms_model.specs.Device.World.{thing_labelled, thing_with_id}
+use Rattle.kms_model.specs.Device.Closing.{closed_in}
 use Rattle.kms_model.specs.Firsts.{or_else}
-use Rattle.kms_model.specs.Sound.{AreNumbered}
+use Rattle.kms_model.specs.Device.Sound.{AreNumbered}
 use Rattle.kms_serial.specs.Index.{Ids, IsIndex, id_labelled, id_under}
 
 not_same : (a b : ℕ) → a < b → eqb b a ≡ false

@@ -13,16 +13,16 @@ use Rattle.kms_model.specs.declared.states.CrtcState.{CrtcState}
 use Rattle.kms_model.specs.declared.states.Duplicates.{Duplicates}
 use Rattle.kms_model.specs.declared.states.PlaneState.{PlaneState}
 use Rattle.kms_model.specs.declared.worlds.World.{World}
-use Rattle.kms_model.specs.Agreement.{on_crtc}
-use Rattle.kms_model.specs.Late.{duplicate_at}
-use Rattle.kms_model.specs.Masks.{has_bit, mask_below}
-use Rattle.kms_model.specs.Objects.{count_of, object_id}
-use Rattle.kms_model.specs.Sound.{IsBetween, IsPlaneInRange, IsSound}
-use Rattle.kms_model.specs.States.{crtc_at, plane_at}
+use Rattle.kms_model.specs.Request.Agreement.{on_crtc}
+use Rattle.kms_model.specs.Request.Late.{duplicate_at}
+use Rattle.kms_model.specs.Device.Masks.{has_bit, mask_below}
+use Rattle.kms_model.specs.Device.Objects.{count_of, object_id}
+use Rattle.kms_model.specs.Device.Sound.{IsBetween, IsPlaneInRange, IsSound}
+use Rattle.kms_model.specs.Device.States.{crtc_at, plane_at}
 use Rattle.kms_model.proofs.LateLemmas.{flatten-some}
 use Rattle.kms_model.proofs.MaskLemmas.{has_bit-mask_below}
 use Rattle.kms_model.proofs.StateLemmas.{sound-plane_in_range}
-use Rattle.kms_picture.specs.Covered.{are_covered, is_covered, is_near, is_near_rect, is_ready, may_picture}
+use Rattle.kms_picture.specs.Covered.{are_placeable, is_placeable, is_near, is_near_rect, is_ready, may_picture}
 use Rattle.kms_serial.specs.Device.{IsPresent, Stands}
 
 le-int_le : (a b : ℤ) → a ≤ℤ b → int_le a b ≡ true
@@ -67,12 +67,12 @@ all_from : (p : ℕ → Bool) (a n : ℕ) → ((i : ℕ) → p i ≡ true) → l
 all_from p a zero each = refl
 all_from p a (suc n) each = and_from (p a) (list_all p (range_with_len (a + 1) n)) (each a) (all_from p (a + 1) n each)
 
-covered_crtc : (t : Topology) (w : World) (d : Duplicates) (crtc : ℕ) (o : Option (Both CrtcState)) → Stands t w d → duplicate_at d.crtcs crtc ≡ o → crtc < t.crtcs → are_covered d.planes o ≡ true
+covered_crtc : (t : Topology) (w : World) (d : Duplicates) (crtc : ℕ) (o : Option (Both CrtcState)) → Stands t w d → duplicate_at d.crtcs crtc ≡ o → crtc < t.crtcs → are_placeable d.planes o ≡ true
 covered_crtc t w d crtc None stands is lt = absurd (let some = stands.present.whole.crtcs.there crtc lt in let none : is_some (duplicate_at d.crtcs crtc) ≡ false = rw is refl in cc)
 covered_crtc t w d crtc (Some both) stands is lt =
     let at = flatten-some (slice_get d.crtcs crtc) both is in
     let planes : both.new.planes ≡ on_crtc t w.values (object_id kind.Crtc crtc) kind.Plane = ap (λ (s : CrtcState). s.planes) (stands.present.new.crtcs crtc both at) in
-    all_from (is_covered d.planes both.new.planes) 0 16 (λ i. implied_by (has_bit both.new.planes i) (is_ready (duplicate_at d.planes i))
+    all_from (is_placeable d.planes both.new.planes) 0 16 (λ i. implied_by (has_bit both.new.planes i) (is_ready (duplicate_at d.planes i))
     (λ has. ready_plane t w d i (duplicate_at d.planes i) stands refl (within t w (object_id kind.Crtc crtc) i (sym (ap (λ m. has_bit m i) planes) ∙ has))))
 
 -- the picture of each CRTC of a device that stands can be told

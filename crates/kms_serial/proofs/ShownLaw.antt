@@ -23,21 +23,21 @@ use Rattle.kms_model.specs.declared.worlds.Content.TheVariants as content
 use Rattle.kms_model.specs.declared.worlds.Setting.{Setting}
 use Rattle.kms_model.specs.declared.worlds.Thing.{Thing}
 use Rattle.kms_model.specs.declared.worlds.World.{World}
-use Rattle.kms_model.specs.Checks.{with_ids, is_unscaled, placed_refusal, plane_refusal_with, plane_refusal, plane_refusal_at, shown_refusal, shown_refusal_at, event_refusal, crtc_refusal_at, conn_refusal_at, clone_refusal_at, route_refusal_at, late_refusal, has_crtc, is_beyond, hops, is_whole}
-use Rattle.kms_model.specs.Execution.{BufferInfo, buffer_info}
+use Rattle.kms_model.specs.Request.Checks.{with_ids, is_unscaled, placed_refusal, plane_refusal_with, plane_refusal, plane_refusal_at, shown_refusal, shown_refusal_at, event_refusal, crtc_refusal_at, conn_refusal_at, clone_refusal_at, route_refusal_at, late_refusal, has_crtc, is_beyond, switches_crtc, is_whole}
+use Rattle.kms_model.specs.Device.Execution.{BufferInfo, buffer_info}
 use Rattle.kms_model.specs.Firsts.{first_some, or_else, number_if}
-use Rattle.kms_model.specs.Frames.{buffer_in}
-use Rattle.kms_model.specs.Grammar.{format_bit}
-use Rattle.kms_model.specs.Images.{IsPlaced, image_of, seen_in}
-use Rattle.kms_model.specs.Masks.{has_bit}
-use Rattle.kms_model.specs.Objects.{object_id, ids_of, count_of, first_id}
-use Rattle.kms_model.specs.Pictures.{layer_of, seen_on, put_layer, put_plane, layers_of, picture_in, picture}
-use Rattle.kms_model.specs.Rectangles.{fits_source}
-use Rattle.kms_model.specs.Sound.{AreNumbered, IsSound, IsBetween, IsPlaneInRange, empty_request}
-use Rattle.kms_model.specs.States.{natural, framebuffer_in, framebuffer_of, mode_at, plane_at}
-use Rattle.kms_model.specs.Stores.{Seen, row_words, words_of}
-use Rattle.kms_model.specs.Words.{◌>>=◌}
-use Rattle.kms_model.specs.World.{value, thing_numbered, thing_with_id}
+use Rattle.kms_model.specs.Frames.FrameBytes.{buffer_id_in}
+use Rattle.kms_model.specs.Script.Grammar.{format_bit}
+use Rattle.kms_model.specs.Frames.Images.{FitsMode, image_of, seen_in}
+use Rattle.kms_model.specs.Device.Masks.{has_bit}
+use Rattle.kms_model.specs.Device.Objects.{object_id, ids_of, count_of, first_id}
+use Rattle.kms_model.specs.Frames.Pictures.{layer_of, seen_on, put_layer, put_plane, layers_of, picture_in, picture}
+use Rattle.kms_model.specs.Frames.Rectangles.{fits_source}
+use Rattle.kms_model.specs.Device.Sound.{AreNumbered, IsSound, IsBetween, IsPlaneInRange, empty_request}
+use Rattle.kms_model.specs.Device.States.{natural, framebuffer_in, framebuffer_of, mode_at, plane_at}
+use Rattle.kms_model.specs.Stores.Kept.{Seen, row_words, buffer_words}
+use Rattle.kms_model.specs.Script.Words.{◌>>=◌}
+use Rattle.kms_model.specs.Device.World.{value, thing_numbered, thing_with_id}
 use Rattle.kms_model.proofs.Items.{IsIn, AreNone, or_else-none, number_if-none, first_some-at, IsObject, ids-in, with_ids-has}
 use Rattle.kms_model.proofs.ThingLemmas.{find-in, ids-numbered}
 use Rattle.kms_model.proofs.StateLemmas.{sound-plane_in_range}
@@ -161,7 +161,7 @@ item-at (x ∷ xs) zero less = (x, refl)
 item-at (x ∷ xs) (suc i) less = item-at xs i (omega arith)
 
 placed : (t : Topology) (w : World) (m : Mode) (crtc plane : ℕ) (fb : FbInfo) → IsSound t w → IsIn plane (ids_of t kind.Plane)
-    → seen_on crtc (plane_at w.things w.values plane) ≡ Some fb → IsPlaced m (layer_of m plane (plane_at w.things w.values plane) fb)
+    → seen_on crtc (plane_at w.things w.values plane) ≡ Some fb → FitsMode m (layer_of m plane (plane_at w.things w.values plane) fb)
 placed t w m crtc plane fb sound is seen =
     let all = are_passed t w sound in
     let o = ids-in t kind.Plane plane is in
@@ -193,7 +193,7 @@ length-rows f width each from (suc n) =
     let rest = length-rows f width each (from + 1) n in
     length-append (f from) (flat_map f (range_with_len (from + 1) n)) ∙ rw (each from, rest) (omega arith)
 
-length-words : (pattern : Pattern) (format : Format) (width height : ℕ) → length (words_of pattern format width height) ≡ width * height
+length-words : (pattern : Pattern) (format : Format) (width height : ℕ) → length (buffer_words pattern format width height) ≡ width * height
 length-words pattern format width height = length-rows (row_words pattern format width) width (λ y. length-map-range_with_len _ 0 width) 0 height
 
 buffer-words : (id : ℕ) (c : Content) (fb : FbInfo) (buffer : ℕ) → buffer_info id c ≡ Some (shown_buffer fb buffer)
@@ -202,7 +202,7 @@ buffer-words id (content.Buffer width height format pattern) fb buffer e =
     let same : record { id = id; width = width; height = height; format = format } ≡ shown_buffer fb buffer = cc e in
     let w : width ≡ fb.width = ap (λ (b : BufferInfo). b.width) same in
     let h : height ≡ fb.height = ap (λ (b : BufferInfo). b.height) same in
-    (record { width = width; height = height; format = format; words = words_of pattern format width height }, (refl, (w, (h, length-words pattern format width height ∙ rw (w, h) refl))))
+    (record { width = width; height = height; format = format; words = buffer_words pattern format width height }, (refl, (w, (h, length-words pattern format width height ∙ rw (w, h) refl))))
 buffer-words id (content.Framebuffer info of) fb buffer e = absurd cc
 buffer-words id (content.Mode m) fb buffer e = absurd cc
 buffer-words id (content.Blob bytes) fb buffer e = absurd cc

@@ -12,15 +12,15 @@ use Rattle.kms_model.specs.declared.objects.Topology.{Topology}
 use Rattle.kms_model.specs.declared.properties.TheConstants.{TYPE, FB_ID, CRTC_ID, CRTC_X, CRTC_Y, CRTC_W, CRTC_H, SRC_X, SRC_Y, SRC_W, SRC_H, ALPHA, BLEND, ZPOS, ACTIVE, MODE_ID}
 use Rattle.kms_model.specs.declared.states.Both.{Both}
 use Rattle.kms_model.specs.declared.worlds.Setting.{Setting}
-use Rattle.kms_model.specs.Agreement.{AreNew, AreOld, conn_state_at, crtc_state_at}
-use Rattle.kms_model.specs.Late.{duplicate_at}
-use Rattle.kms_model.specs.Masks.{mask_below}
-use Rattle.kms_model.specs.Objects.{count_of, object_id}
-use Rattle.kms_model.specs.Properties.{keeps_limits}
-use Rattle.kms_model.specs.Sound.{IsDevice}
-use Rattle.kms_model.specs.States.{crtc_at, plane_at}
-use Rattle.kms_model.specs.Words.{between}
-use Rattle.kms_model.specs.World.{is_of, settings, start, start_conn, start_crtc, start_plane, start_planes, value}
+use Rattle.kms_model.specs.Request.Agreement.{AreNew, AreOld, conn_state_at, crtc_state_at}
+use Rattle.kms_model.specs.Request.Late.{duplicate_at}
+use Rattle.kms_model.specs.Device.Masks.{mask_below}
+use Rattle.kms_model.specs.Device.Objects.{count_of, object_id}
+use Rattle.kms_model.specs.Device.Properties.{keeps_limits}
+use Rattle.kms_model.specs.Device.Sound.{IsDevice}
+use Rattle.kms_model.specs.Device.States.{crtc_at, plane_at}
+use Rattle.kms_model.specs.Script.Words.{between}
+use Rattle.kms_model.specs.Device.World.{is_of, settings, start, start_conn, start_crtc, start_plane, start_planes, value}
 use Rattle.kms_model.proofs.SoundStart.{few_planes, start_is_sound, start-crtc, start-zero}
 use Rattle.kms_serial.specs.Device.{AreWhole, IsPresent, IsWhole, Stands}
 use Rattle.kms_serial.specs.Starting.{alike, off_conn, off_crtc, off_plane, start_states, states_below}

@@ -7,7 +7,7 @@ use Rattle.std.proofs.lemmas.Bool.Decides.{nat_tests}
 use Rattle.kms_model.specs.declared.states.Both.{Both}
 use Rattle.kms_model.specs.declared.objects.PlaneInfo.{PlaneInfo}
 use Rattle.kms_model.specs.declared.worlds.Setting.{Setting}
-use Rattle.kms_model.specs.World.{start_plane, start_planes}
+use Rattle.kms_model.specs.Device.World.{start_plane, start_planes}
 use Rattle.std.proofs.lemmas.List.{at_drop_more, drop_all, append-nil}
 use Rattle.kms_serial.specs.Starting.{alike, states_below}
 

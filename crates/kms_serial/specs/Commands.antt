@@ -5,8 +5,8 @@ use Rattle.kms_model.specs.declared.replies.Reply.{Reply}
 use Rattle.kms_model.specs.declared.replies.Reply.TheVariants as reply
 use Rattle.kms_model.specs.declared.scripts.Request.{Request}
 use Rattle.kms_model.specs.declared.worlds.Setting.{Setting}
-use Rattle.kms_model.specs.Execution.{BufferInfo}
-use Rattle.kms_model.specs.Touched.{named_set}
+use Rattle.kms_model.specs.Device.Execution.{BufferInfo}
+use Rattle.kms_model.specs.Request.Touched.{named_set}
 use Rattle.kms_model.specs.declared.scripts.Command.{Command}
 use Rattle.kms_model.specs.declared.scripts.Command.TheVariants as command
 use Rattle.kms_model.specs.declared.worlds.World.{World}

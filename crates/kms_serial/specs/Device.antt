@@ -5,12 +5,12 @@ use Rattle.kms_model.specs.declared.states.Both.{Both}
 use Rattle.kms_model.specs.declared.states.Duplicates.{Duplicates}
 use Rattle.kms_model.specs.declared.worlds.World.{World}
 use Rattle.kms_model.specs.declared.scripts.Request.{Request}
-use Rattle.kms_model.specs.Apply.{apply}
-use Rattle.kms_model.specs.Agreement.{AgreesNew, AgreesOld}
-use Rattle.kms_model.specs.Late.{duplicate_at}
-use Rattle.kms_model.specs.Lookups.{look_up}
-use Rattle.kms_model.specs.Refusals.{early_refusal}
-use Rattle.kms_model.specs.Sound.{IsDevice, IsSound}
+use Rattle.kms_model.specs.Request.Apply.{apply}
+use Rattle.kms_model.specs.Request.Agreement.{AgreesNew, AgreesOld}
+use Rattle.kms_model.specs.Request.Late.{duplicate_at}
+use Rattle.kms_model.specs.Request.Lookups.{look_up}
+use Rattle.kms_model.specs.Request.Refusals.{early_refusal}
+use Rattle.kms_model.specs.Device.Sound.{IsDevice, IsSound}
 
 -- a device and its world
 pub record Device : Type 0 where

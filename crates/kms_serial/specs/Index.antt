@@ -11,9 +11,9 @@ use Rattle.kms_model.specs.declared.tables.Slot.{Slot}
 use Rattle.kms_model.specs.declared.worlds.Content.{Content}
 use Rattle.kms_model.specs.declared.worlds.Content.TheVariants as content
 use Rattle.kms_model.specs.declared.worlds.Thing.{Thing}
-use Rattle.kms_model.specs.World.{thing_labelled, thing_with_id}
-use Rattle.kms_model.specs.Execution.{BufferInfo, buffer_info}
-use Rattle.kms_model.specs.Sound.{AreNumbered}
+use Rattle.kms_model.specs.Device.World.{thing_labelled, thing_with_id}
+use Rattle.kms_model.specs.Device.Execution.{BufferInfo, buffer_info}
+use Rattle.kms_model.specs.Device.Sound.{AreNumbered}
 use Rattle.kms_buffers.specs.declared.buffers.MakeError.{MakeError}
 use Rattle.kms_buffers.specs.declared.buffers.MakeError.TheVariants as error
 use Rattle.kms_buffers.specs.Things.{buffer_in, buffers_of}

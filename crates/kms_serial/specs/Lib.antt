@@ -4,5 +4,5 @@ pub mod Starting
 pub mod Device
 pub mod Commands
 pub mod OutFences
-pub mod Settling
+pub mod Swapping
 pub mod Shown

@@ -4,9 +4,9 @@ use Rattle.std.specs.List.{range_with_len}
 use Rattle.kms_model.specs.declared.objects.Kind.TheVariants.{Crtc}
 use Rattle.kms_model.specs.declared.scripts.Request.{Request}
 use Rattle.kms_model.specs.declared.worlds.World.{World}
-use Rattle.kms_model.specs.Execution.{make_out_fence, make_out_fences}
-use Rattle.kms_model.specs.Apply.{apply}
-use Rattle.kms_model.specs.Objects.{object_id}
+use Rattle.kms_model.specs.Device.Execution.{make_out_fence, make_out_fences}
+use Rattle.kms_model.specs.Request.Apply.{apply}
+use Rattle.kms_model.specs.Device.Objects.{object_id}
 
 -- out-fences are made under the labels that are asked for, in order
 abbrev pub fences_made : ℕ → World → List (Option ℕ) → World

@@ -6,8 +6,8 @@ use Rattle.kms_model.specs.declared.pictures.Layer.{Layer}
 use Rattle.kms_model.specs.declared.pictures.Picture.{Picture}
 use Rattle.kms_model.specs.declared.pictures.Picture.TheVariants.{Off, On}
 use Rattle.kms_model.specs.declared.worlds.Thing.{Thing}
-use Rattle.kms_model.specs.Images.{IsPlaced, image_of}
-use Rattle.kms_model.specs.Stores.{Seen}
+use Rattle.kms_model.specs.Frames.Images.{FitsMode, image_of}
+use Rattle.kms_model.specs.Stores.Kept.{Seen}
 
 -- a framebuffer of the things, with a word for each pixel of its buffer
 pub record HasWords (things : List Thing) (fb : FbInfo) : Type 0 where
@@ -19,7 +19,7 @@ pub record HasWords (things : List Thing) (fb : FbInfo) : Type 0 where
 
 -- a layer that can be shown in a mode
 pub record CanBeShown (things : List Thing) (m : Mode) (l : Layer) : Type 0 where
-  pub placed : IsPlaced m l
+  pub placed : FitsMode m l
   pub words : HasWords things l.fb
 
 -- each layer of a picture can be shown

@@ -1,15 +1,15 @@
 //! The commands that make and close things.
 ghost use Rattle.std.specs.Prelude.{◌≡◌, ◌<◌, IfOk, IfSome, OnErr, Some, option_map, option_copied};
-ghost use Rattle.kms_model.specs.Execution.{close_fb, close_refusal, destroy, destroy_refusal, is_blob, is_framebuffer, is_made_fence, signal_refusal, signal_unless, execute};
-ghost use Rattle.kms_model.specs.Lookups.{look_of_content, look_of_mode, look_up};
-ghost use Rattle.kms_model.specs.ModeBytes.{decoded};
-ghost use Rattle.kms_model.specs.Modes.{is_legal_mode};
-ghost use Rattle.kms_model.specs.Execution.{add_fb, buffer_of};
-ghost use Rattle.kms_model.specs.World.{thing_labelled, thing_with_id};
+ghost use Rattle.kms_model.specs.Device.Execution.{close_fb, close_refusal, destroy, destroy_refusal, is_blob, is_framebuffer, is_made_fence, signal_refusal, signal_unless, execute};
+ghost use Rattle.kms_model.specs.Request.Lookups.{look_of_content, look_of_mode, look_up};
+ghost use Rattle.kms_model.specs.Device.ModeBytes.{decoded};
+ghost use Rattle.kms_model.specs.Device.Modes.{is_legal_mode};
+ghost use Rattle.kms_model.specs.Device.Execution.{add_fb, buffer_of};
+ghost use Rattle.kms_model.specs.Device.World.{thing_labelled, thing_with_id};
 ghost use Rattle.kms_model.specs.declared.objects.Topology.{Topology};
-ghost use Rattle.kms_model.specs.WellFormed.{IsFitCommand};
+ghost use Rattle.kms_model.specs.Script.WellFormed.{IsFitCommand};
 ghost use Rattle.kms_serial.specs.Commands.{HasRoom, IsNoRequest, done_unless, framebuffer_refusal, made_unless};
-ghost use Rattle.kms_serial.specs.Framebuffers.{framebuffer_entry, framebuffer_of};
+ghost use Rattle.kms_serial.specs.Framebuffers.{framebuffer_entry, new_framebuffer};
 ghost use Rattle.kms_serial.specs.Index.{IsFramed};
 
 use crate::store::WorldStore;
@@ -19,7 +19,7 @@ use std::alloc::Global;
 
 /// What a framebuffer of a client's buffer is, with the next id, and the id of the buffer.
 fn framebuffer_of(store: &WorldStore, client: u32, label: u32) -> Option<(FbInfo, u32)>
-    ensures value { result ≡ framebuffer_of store.now client label }
+    ensures value { result ≡ new_framebuffer store.now client label }
     ensures framed { IfSome result (λ f. IsFramed store.now.things store.now.next_id f.0 f.1) }
 {
     let thing = store.labelled(label)?;

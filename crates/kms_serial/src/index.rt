@@ -1,16 +1,16 @@
 //! Things in order of making, with an index of their labels.
 ghost use Rattle.std.specs.Prelude.{◌≡◌, ◌<◌, ◌≤◌, ◌+◌, ℕ, [], ◌∷◌, ◌++◌, List, Some, length, nat_eq, option_copied, vec_len, vec_capacity, if◌then◌else◌};
 ghost use Rattle.std.specs.HashMap.{spare};
-ghost use Rattle.kms_model.specs.World.{thing_labelled, thing_with_id};
-ghost use Rattle.kms_model.specs.Closing.{closed_in};
+ghost use Rattle.kms_model.specs.Device.World.{thing_labelled, thing_with_id};
+ghost use Rattle.kms_model.specs.Device.Closing.{closed_in};
 ghost use Rattle.kms_model.specs.Firsts.{or_else};
-ghost use Rattle.kms_model.specs.Sound.{AreNumbered};
+ghost use Rattle.kms_model.specs.Device.Sound.{AreNumbered};
 ghost use Rattle.kms_model.specs.declared.stores.Buffer.{Buffer};
 ghost use Rattle.kms_model.specs.declared.tables.Slot.{Slot};
 ghost use Rattle.kms_model.specs.declared.worlds.World.{World};
 ghost use Rattle.kms_serial.specs.Index.{AreKept, IsIndex, id_under};
 ghost use Rattle.kms_serial.specs.OutFences.{fences_made};
-ghost use Rattle.kms_model.specs.Execution.{make_out_fence};
+ghost use Rattle.kms_model.specs.Device.Execution.{make_out_fence};
 
 use kms_model::{Content, Thing};
 use std::collections::HashMap;

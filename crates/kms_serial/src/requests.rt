@@ -1,13 +1,13 @@
 //! Whether a request is accepted, and what it leaves.
 ghost use Rattle.std.specs.Prelude.{◌≡◌, All, IfErr, IfOk, OnOk, None, Some};
 ghost use Rattle.kms_model.specs.declared.objects.Topology.{Topology};
-ghost use Rattle.kms_model.specs.Flags.{is_test};
-ghost use Rattle.kms_model.specs.Lookups.{look_up};
-ghost use Rattle.kms_model.specs.Sound.{IsDevice, IsSound};
-ghost use Rattle.kms_model.specs.Verdict.{verdict};
-ghost use Rattle.kms_model.specs.Resolves.{IsSettable};
+ghost use Rattle.kms_model.specs.Request.Flags.{is_test};
+ghost use Rattle.kms_model.specs.Request.Lookups.{look_up};
+ghost use Rattle.kms_model.specs.Device.Sound.{IsDevice, IsSound};
+ghost use Rattle.kms_model.specs.Request.Verdict.{verdict};
+ghost use Rattle.kms_model.specs.Request.Resolves.{IsSettable};
 ghost use Rattle.kms_request.specs.Whole.{StandBetween};
-ghost use Rattle.kms_serial.specs.Settling.{alike_new, settled, settled_states};
+ghost use Rattle.kms_serial.specs.Swapping.{alike_new, swapped, swapped_states};
 ghost use Rattle.kms_serial.specs.Device.{IsAfter, IsLetThrough, IsLetThroughSomewhere, IsPresent};
 
 use crate::commands;
@@ -76,18 +76,18 @@ pub fn check(
 }
 
 /// New states as the present ones: old and new alike.
-pub fn settled(states: &Duplicates) -> Duplicates
-    ensures { result ≡ settled states.now }
+pub fn swapped(states: &Duplicates) -> Duplicates
+    ensures { result ≡ swapped states.now }
 {
-    let mut settled = *states;
-    settle(&mut settled.crtcs);
-    settle(&mut settled.planes);
-    settle(&mut settled.conns);
-    settled
+    let mut swapped = *states;
+    settle(&mut swapped.crtcs);
+    settle(&mut swapped.planes);
+    settle(&mut swapped.conns);
+    swapped
 }
 
 fn settle<S: Copy>(states: &mut [Option<Both<S>>])
-    ensures { states.new ≡ settled_states states.old }
+    ensures { states.new ≡ swapped_states states.old }
 {
     for both in states.iter_mut() {
         *both = alike_new(*both);

@@ -1,19 +1,19 @@
 //! The device of one thread.
 ghost use Rattle.std.specs.Prelude.{◌≡◌, ◌<◌, ◌≤◌, ◌+◌, ℕ, IfNone, IfOk, IfSome, IsTrue, None, Some, OnOk, OnErr, is_none, option_map, length, pos};
 ghost use Rattle.kms_model.specs.declared.scripts.Command.TheVariants as command;
-ghost use Rattle.kms_model.specs.Execution.{execute};
-ghost use Rattle.kms_model.specs.Images.{image_of};
-ghost use Rattle.kms_model.specs.Lookups.{look_up};
+ghost use Rattle.kms_model.specs.Device.Execution.{execute};
+ghost use Rattle.kms_model.specs.Frames.Images.{image_of};
+ghost use Rattle.kms_model.specs.Request.Lookups.{look_up};
 ghost use Rattle.kms_model.specs.declared.objects.Kind.TheVariants as kind;
-ghost use Rattle.kms_model.specs.Objects.{object_id};
-ghost use Rattle.kms_model.specs.Pictures.{picture};
-ghost use Rattle.kms_model.specs.Sound.{IsDevice};
-ghost use Rattle.kms_model.specs.States.{framebuffer_of};
-ghost use Rattle.kms_model.specs.Apply.{apply};
-ghost use Rattle.kms_model.specs.Touched.{named_set, touched_set};
-ghost use Rattle.kms_model.specs.Verdict.{verdict};
-ghost use Rattle.kms_model.specs.WellFormed.{IsFitCommand};
-ghost use Rattle.kms_model.specs.World.{start, thing_labelled, thing_with_id, value};
+ghost use Rattle.kms_model.specs.Device.Objects.{object_id};
+ghost use Rattle.kms_model.specs.Frames.Pictures.{picture};
+ghost use Rattle.kms_model.specs.Device.Sound.{IsDevice};
+ghost use Rattle.kms_model.specs.Device.States.{framebuffer_of};
+ghost use Rattle.kms_model.specs.Request.Apply.{apply};
+ghost use Rattle.kms_model.specs.Request.Touched.{named_set, touched_set};
+ghost use Rattle.kms_model.specs.Request.Verdict.{verdict};
+ghost use Rattle.kms_model.specs.Script.WellFormed.{IsFitCommand};
+ghost use Rattle.kms_model.specs.Device.World.{start, thing_labelled, thing_with_id, value};
 ghost use Rattle.kms_serial.specs.Shown.{EachCanBeShown};
 ghost use Rattle.kms_serial.specs.Framebuffers.{framebuffer_id};
 ghost use Rattle.kms_model.specs.declared.properties.TheConstants.{FB_ID};
@@ -22,7 +22,7 @@ ghost use Rattle.kms_serial.specs.Device.{IsPresent};
 ghost use Rattle.kms_serial.specs.Framebuffers.{framebuffer_entry};
 
 use crate::commands;
-use crate::requests::{changed, check, is_test, settled};
+use crate::requests::{changed, check, is_test, swapped};
 use crate::start::{start_states, start_values};
 use crate::store::WorldStore;
 use kms_check::spans;
@@ -127,7 +127,7 @@ impl Serial {
         let commit = self
             .store
             .commit_request(alloc, client, request, self.topology.crtcs)?;
-        self.states = settled(&after);
+        self.states = swapped(&after);
         Ok((Reply::Commit { commit }, named_in(&after, request)))
     }
 

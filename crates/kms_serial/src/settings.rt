@@ -1,8 +1,8 @@
 //! The values after a request.
 ghost use Rattle.std.specs.Prelude.{◌≡◌, ◌<◌, ℕ, ℤ, pos, ◌++◌, [], ◌∷◌, All, IfSome, IfNone, OnOk, IfOk, length, option_copied, slice_set};
-ghost use Rattle.kms_model.specs.Apply.{apply, assign, id_in, is_kept, number_of, object_of};
-ghost use Rattle.kms_model.specs.Resolves.{IsSettable, IsSettableNumber, IsSettableValue};
-ghost use Rattle.kms_model.specs.World.{is_of, put, setting, thing_labelled};
+ghost use Rattle.kms_model.specs.Request.Apply.{apply, assign, id_in, is_kept, number_of, object_of};
+ghost use Rattle.kms_model.specs.Request.Resolves.{IsSettable, IsSettableNumber, IsSettableValue};
+ghost use Rattle.kms_model.specs.Device.World.{is_of, put, setting, thing_labelled};
 
 use crate::store::WorldStore;
 use kms_model::properties::{IN_FENCE_FD, OUT_FENCE_PTR};

@@ -1,8 +1,8 @@
 //! The device before the first command.
 ghost use Rattle.std.specs.Prelude.{◌≡◌, ◌++◌, ◌≤◌, OnOk, IfOk, length};
 ghost use Rattle.std.specs.List.{flat_map, range_with_len};
-ghost use Rattle.kms_model.specs.Sound.{IsDevice};
-ghost use Rattle.kms_model.specs.World.{settings, start, start_plane};
+ghost use Rattle.kms_model.specs.Device.Sound.{IsDevice};
+ghost use Rattle.kms_model.specs.Device.World.{settings, start, start_plane};
 ghost use Rattle.kms_serial.specs.Starting.{alike, off_conn, off_crtc, off_plane, start_states, states_below};
 
 use kms_model::properties::{

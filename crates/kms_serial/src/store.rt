@@ -1,14 +1,14 @@
 //! The world of the device, with an index of its labels and the words of its buffers.
 ghost use Rattle.std.specs.Prelude.{All, ◌≡◌, ◌<◌, ◌+◌, ℕ, [], IfNone, IfOk, IfSome, IsTrue, None, OnErr, OnOk, Some, length, option_copied, ◌≤◌};
 ghost use Rattle.kms_model.specs.declared.worlds.Content.TheVariants as content;
-ghost use Rattle.kms_model.specs.Closing.{closed_in};
-ghost use Rattle.kms_model.specs.Execution.{new_buffer_refusal};
-ghost use Rattle.kms_model.specs.Images.{image_of};
-ghost use Rattle.kms_model.specs.States.{framebuffer_of};
-ghost use Rattle.kms_model.specs.Execution.{add_fb, buffer_of, make, make_unless};
-ghost use Rattle.kms_model.specs.Resolves.{IsSettable};
-ghost use Rattle.kms_model.specs.Stores.{Fills};
-ghost use Rattle.kms_model.specs.World.{thing_labelled, thing_with_id};
+ghost use Rattle.kms_model.specs.Device.Closing.{closed_in};
+ghost use Rattle.kms_model.specs.Device.Execution.{new_buffer_refusal};
+ghost use Rattle.kms_model.specs.Frames.Images.{image_of};
+ghost use Rattle.kms_model.specs.Device.States.{framebuffer_of};
+ghost use Rattle.kms_model.specs.Device.Execution.{add_fb, buffer_of, make, make_unless};
+ghost use Rattle.kms_model.specs.Request.Resolves.{IsSettable};
+ghost use Rattle.kms_model.specs.Stores.Kept.{Fills};
+ghost use Rattle.kms_model.specs.Device.World.{thing_labelled, thing_with_id};
 ghost use Rattle.std.specs.List.{AllByRecursion};
 ghost use Rattle.kms_serial.specs.Commands.{HasRoom, has_room};
 ghost use Rattle.kms_serial.specs.OutFences.{fences_made, world_after};

@@ -1,7 +1,7 @@
 //! What no clause says: requests worked out by hand, on devices of one thread.
 ghost use Rattle.std.specs.Prelude.{All, IfOk};
-ghost use Rattle.kms_model.specs.Sound.{IsDevice};
-ghost use Rattle.kms_model.specs.WellFormed.{IsFitCommand};
+ghost use Rattle.kms_model.specs.Device.Sound.{IsDevice};
+ghost use Rattle.kms_model.specs.Script.WellFormed.{IsFitCommand};
 
 use crate::Serial;
 use kms_model::properties::{

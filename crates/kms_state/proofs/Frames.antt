@@ -12,10 +12,10 @@ use Rattle.kms_model.specs.declared.objects.Topology.{Topology}
 use Rattle.kms_model.specs.declared.properties.TheConstants.{CRTC_ID, MODE_ID, ACTIVE}
 use Rattle.kms_model.specs.declared.worlds.Setting.{Setting}
 use Rattle.kms_model.specs.declared.worlds.Thing.{Thing}
-use Rattle.kms_model.specs.Objects.{object_id, count_of}
-use Rattle.kms_model.specs.World.{thing_numbered}
-use Rattle.kms_model.specs.States.{natural, crtc_at, mode_of, plane_at, plane_from}
-use Rattle.kms_model.specs.Agreement.{conn_state_at, crtc_state_at, on_crtc}
+use Rattle.kms_model.specs.Device.Objects.{object_id, count_of}
+use Rattle.kms_model.specs.Device.World.{thing_numbered}
+use Rattle.kms_model.specs.Device.States.{natural, crtc_at, mode_of, plane_at, plane_from}
+use Rattle.kms_model.specs.Request.Agreement.{conn_state_at, crtc_state_at, on_crtc}
 use Rattle.kms_model.proofs.MaskLemmas.{same_masks}
 use Rattle.kms_model.proofs.ValueLemmas.{Puts}
 

@@ -11,9 +11,9 @@ use Rattle.kms_model.specs.declared.states.CrtcState.{CrtcState}
 use Rattle.kms_model.specs.declared.states.Duplicates.{Duplicates}
 use Rattle.kms_model.specs.declared.states.PlaneState.{PlaneState}
 use Rattle.kms_model.specs.declared.states.ObjState.TheVariants as state
-use Rattle.kms_model.specs.Objects.{first_id, object_id}
-use Rattle.kms_model.specs.States.{plane_at}
-use Rattle.kms_model.specs.Agreement.{conn_state_at, crtc_state_at}
+use Rattle.kms_model.specs.Device.Objects.{first_id, object_id}
+use Rattle.kms_model.specs.Device.States.{plane_at}
+use Rattle.kms_model.specs.Request.Agreement.{conn_state_at, crtc_state_at}
 use Rattle.kms_state.specs.Places.{duplicated, is_duplicated, is_duplicated_of, is_free, is_free_place, kind_of, state_of, unchanged}
 use Rattle.kms_state.specs.StandsIn.{KeepsNew, KeepsOld}
 use Rattle.kms_state.proofs.KindsOfIds.{kind-conn, kind-crtc, kind-plane}

@@ -12,11 +12,11 @@ use Rattle.kms_model.specs.declared.states.Both.{Both}
 use Rattle.kms_model.specs.declared.states.CrtcState.{CrtcState}
 use Rattle.kms_model.specs.declared.worlds.Setting.{Setting}
 use Rattle.kms_model.specs.declared.worlds.Thing.{Thing}
-use Rattle.kms_model.specs.Masks.{mask_below}
-use Rattle.kms_model.specs.Objects.{object_id, count_of}
-use Rattle.kms_model.specs.World.{thing_numbered}
-use Rattle.kms_model.specs.States.{crtc_at, mode_of}
-use Rattle.kms_model.specs.Agreement.{AreNew, crtc_state_at, on_crtc}
+use Rattle.kms_model.specs.Device.Masks.{mask_below}
+use Rattle.kms_model.specs.Device.Objects.{object_id, count_of}
+use Rattle.kms_model.specs.Device.World.{thing_numbered}
+use Rattle.kms_model.specs.Device.States.{crtc_at, mode_of}
+use Rattle.kms_model.specs.Request.Agreement.{AreNew, crtc_state_at, on_crtc}
 use Rattle.kms_model.proofs.MaskLemmas.{mask_set, mask_cleared, same_masks}
 use Rattle.kms_model.proofs.ValueLemmas.{Puts}
 use Rattle.kms_state.specs.Changes.{changed, rerouted, with_member, with_routed}

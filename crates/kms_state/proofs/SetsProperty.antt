@@ -22,12 +22,12 @@ use Rattle.kms_model.specs.declared.states.Duplicates.{Duplicates}
 use Rattle.kms_model.specs.declared.states.PlaneState.{PlaneState}
 use Rattle.kms_model.specs.declared.worlds.Setting.{Setting}
 use Rattle.kms_model.specs.declared.worlds.Thing.{Thing}
-use Rattle.kms_model.specs.Objects.{first_id, object_id, count_of, exists}
-use Rattle.kms_model.specs.World.{put, thing_numbered, value}
-use Rattle.kms_model.specs.States.{crtc_at, framebuffer_of, mode_of, natural, plane_at, plane_from}
-use Rattle.kms_model.specs.Apply.{is_kept}
-use Rattle.kms_model.specs.SetRanges.{may_set}
-use Rattle.kms_model.specs.Agreement.{AgreesNew, AreNew, StandsFor, conn_state_at, crtc_state_at}
+use Rattle.kms_model.specs.Device.Objects.{first_id, object_id, count_of, exists}
+use Rattle.kms_model.specs.Device.World.{put, thing_numbered, value}
+use Rattle.kms_model.specs.Device.States.{crtc_at, framebuffer_of, mode_of, natural, plane_at, plane_from}
+use Rattle.kms_model.specs.Request.Apply.{is_kept}
+use Rattle.kms_model.specs.Request.SetRanges.{may_set}
+use Rattle.kms_model.specs.Request.Agreement.{AgreesNew, AreNew, StandsFor, conn_state_at, crtc_state_at}
 use Rattle.kms_model.proofs.SetLemmas.{may_set-takes, takes}
 use Rattle.kms_model.proofs.ValueLemmas.{Puts, Puts-put}
 use Rattle.kms_state.specs.Places.{is_duplicated, is_duplicated_of, kind_of, state_at, state_of, old_states}

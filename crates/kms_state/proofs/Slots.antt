@@ -11,11 +11,11 @@ use Rattle.kms_model.specs.declared.objects.Topology.{Topology}
 use Rattle.kms_model.specs.declared.states.Duplicates.{Duplicates}
 use Rattle.kms_model.specs.declared.worlds.Setting.{Setting}
 use Rattle.kms_model.specs.declared.worlds.Thing.{Thing}
-use Rattle.kms_model.specs.States.{plane_at}
+use Rattle.kms_model.specs.Device.States.{plane_at}
 use Rattle.kms_model.specs.declared.states.CrtcState.{CrtcState}
 use Rattle.kms_model.specs.declared.states.Both.{Both}
-use Rattle.kms_model.specs.Objects.{first_id, object_id}
-use Rattle.kms_model.specs.Agreement.{AgreesOld, AreNew, AreOld, conn_state_at, crtc_state_at}
+use Rattle.kms_model.specs.Device.Objects.{first_id, object_id}
+use Rattle.kms_model.specs.Request.Agreement.{AgreesOld, AreNew, AreOld, conn_state_at, crtc_state_at}
 use Rattle.kms_state.specs.Places.{is_duplicated, is_duplicated_of, kind_of, old_states, olds, state_at, state_of}
 use Rattle.kms_state.specs.Changes.{with_new, put_at, changed, rerouted, with_routed}
 

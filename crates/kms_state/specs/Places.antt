@@ -11,7 +11,7 @@ use Rattle.kms_model.specs.declared.states.Duplicates.{Duplicates}
 use Rattle.kms_model.specs.declared.states.ObjState.{ObjState}
 use Rattle.kms_model.specs.declared.states.ObjState.TheVariants as state
 use Rattle.kms_model.specs.declared.states.PlaneState.{PlaneState}
-use Rattle.kms_model.specs.Objects.{first_id}
+use Rattle.kms_model.specs.Device.Objects.{first_id}
 
 -- the kind of object that an id is of
 abbrev pub kind_of : ℕ → Kind
@@ -36,8 +36,8 @@ abbrev pub is_duplicated : Duplicates → ℕ → Bool
 is_duplicated d id = is_duplicated_of (kind_of id) d id
 
 -- no object is duplicated
-abbrev pub nothing : Duplicates
-nothing = record { crtcs = replicate 4 None; planes = replicate 16 None; conns = replicate 8 None }
+abbrev pub none_duplicated : Duplicates
+none_duplicated = record { crtcs = replicate 4 None; planes = replicate 16 None; conns = replicate 8 None }
 
 -- an object that was just duplicated
 abbrev pub unchanged : {S : Type 0} → S → Both S
@@ -48,7 +48,7 @@ is_free_place None = false
 is_free_place (Some None) = true
 is_free_place (Some (Some s)) = false
 
--- there is a place for an object of a kind, and nothing in it
+-- there is a place for an object of a kind, and none_duplicated in it
 abbrev pub is_free : {S : Type 0} → Kind → List (Option S) → ℕ → Bool
 is_free kind states id = if nat_le (first_id kind) id then is_free_place (slice_get states (id - first_id kind)) else false
 

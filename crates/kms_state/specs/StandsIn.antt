@@ -6,8 +6,8 @@ use Rattle.kms_model.specs.declared.states.ObjState.{ObjState}
 use Rattle.kms_model.specs.declared.states.ObjState.TheVariants as state
 use Rattle.kms_model.specs.declared.worlds.Setting.{Setting}
 use Rattle.kms_model.specs.declared.worlds.Thing.{Thing}
-use Rattle.kms_model.specs.States.{plane_at}
-use Rattle.kms_model.specs.Agreement.{AgreesNew, AgreesOld, conn_state_at, crtc_state_at}
+use Rattle.kms_model.specs.Device.States.{plane_at}
+use Rattle.kms_model.specs.Request.Agreement.{AgreesNew, AgreesOld, conn_state_at, crtc_state_at}
 
 -- a state is that of an object in a device's values
 abbrev pub IsStateOf : Topology → List Thing → List Setting → ℕ → ObjState → Type 0

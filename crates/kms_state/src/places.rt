@@ -5,10 +5,10 @@ ghost use Rattle.kms_model.specs.declared.sets.SetValue.TheVariants as to;
 ghost use Rattle.kms_model.specs.declared.states.Duplicates.{Duplicates};
 ghost use Rattle.kms_model.specs.declared.worlds.Setting.{Setting};
 ghost use Rattle.kms_model.specs.declared.worlds.Thing.{Thing};
-ghost use Rattle.kms_model.specs.Agreement.{AgreesNew, AgreesOld};
-ghost use Rattle.kms_model.specs.SetRanges.{may_set};
+ghost use Rattle.kms_model.specs.Request.Agreement.{AgreesNew, AgreesOld};
+ghost use Rattle.kms_model.specs.Request.SetRanges.{may_set};
 ghost use Rattle.kms_state.specs.Changes.{Sets, after_set};
-ghost use Rattle.kms_state.specs.Places.{duplicated, is_duplicated, kind_of, may_duplicate, nothing, old_states, state_at};
+ghost use Rattle.kms_state.specs.Places.{duplicated, is_duplicated, kind_of, may_duplicate, none_duplicated, old_states, state_at};
 ghost use Rattle.kms_state.specs.StandsIn.{KeepsNew, KeepsOld};
 
 use crate::sets::{move_conn, move_plane, set_active, set_fb, set_mode, set_number};
@@ -36,7 +36,7 @@ pub trait Duplicating {
 
     /// No duplicated state. (Kernel: `drm_atomic_state_alloc`.)
     fn empty() -> Self
-        ensures states { duplicates result ≡ nothing }
+        ensures states { duplicates result ≡ none_duplicated }
         ensures old { (t : Topology) (things : List Thing) (values : List Setting) → AgreesOld t things values (duplicates result) }
         ensures new { (t : Topology) (things : List Thing) (values : List Setting) → AgreesNew t things values (duplicates result) };
 

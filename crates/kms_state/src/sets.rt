@@ -3,7 +3,7 @@ ghost use Rattle.std.specs.Prelude.{◌≡◌, ◌<◌, IsTrue, is_some};
 ghost use Rattle.kms_model.specs.declared.objects.Kind.TheVariants.{Crtc, Plane, Conn};
 ghost use Rattle.kms_model.specs.declared.properties.TheConstants.{ACTIVE, CRTC_ID, FB_ID, MODE_ID};
 ghost use Rattle.kms_model.specs.declared.sets.SetValue.TheVariants as to;
-ghost use Rattle.kms_model.specs.SetRanges.{may_set};
+ghost use Rattle.kms_model.specs.Request.SetRanges.{may_set};
 ghost use Rattle.kms_state.specs.Places.{state_of};
 ghost use Rattle.kms_state.specs.Changes.{IsSet, changed, plane_with, rerouted, set_to, with_member, with_routed};
 

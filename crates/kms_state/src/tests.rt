@@ -1,5 +1,5 @@
 ghost use Rattle.std.specs.Prelude.{IsTrue};
-ghost use Rattle.kms_model.specs.SetRanges.{may_set};
+ghost use Rattle.kms_model.specs.Request.SetRanges.{may_set};
 ghost use Rattle.kms_state.specs.Places.{kind_of};
 
 use crate::{Duplicating, kind_of};

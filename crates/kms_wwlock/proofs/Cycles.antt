@@ -8,10 +8,10 @@ use Rattle.kms_wwlock.specs.declared.contexts.Doing.{Doing}
 use Rattle.kms_wwlock.specs.declared.contexts.Doing.TheVariants.{Taking, MustBackOff, BackedOff}
 use Rattle.kms_wwlock.specs.declared.table.Lock.TheVariants.{Own, Older, Younger}
 use Rattle.kms_wwlock.specs.declared.table.Relock.TheVariants.{Held}
-use Rattle.kms_wwlock.specs.Objects.{place_of}
+use Rattle.kms_wwlock.specs.Objects.{lock_place}
 use Rattle.kms_wwlock.specs.Table.{Table, holder_of, doing_of, backed_off_for}
 use Rattle.kms_wwlock.specs.Calls.{lock_answer, relock_from}
-use Rattle.kms_wwlock.specs.Waits.{after_all, empty, Waits, ForYounger, ForObject, WaitsAlong, NoCycleOfWaits, BackedOffHoldsNothing, HoldersAreOpen}
+use Rattle.kms_wwlock.specs.Waits.{after_all, empty_table, Waits, ForYounger, ForObject, WaitsAlong, NoCycleOfWaits, BackedOffHoldsNothing, HoldersAreOpen}
 use Rattle.kms_wwlock.proofs.Sound.{MayHold, IsSound, always_sound}
 
 -- who is called younger holds the object, and is younger
@@ -36,12 +36,12 @@ held_by (Some h) y e = cc
 
 -- who is waited for may hold objects
 waited_for : (table : Table) (x y : Ticket) → IsSound table → Waits table x y → MayHold (doing_of table y)
-waited_for table x y s (ForYounger id may e) = s.held (place_of id) y (younger x y (holder_of table id) e).0
+waited_for table x y s (ForYounger id may e) = s.held (lock_place id) y (younger x y (holder_of table id) e).0
 waited_for table x y s (ForObject may e) = of_object (backed_off_for (doing_of table x)) e
   where
     of_object : (o : Option ObjId) → relock_from (option_and_then (holder_of table) o) ≡ Held y → MayHold (doing_of table y)
     of_object None e = cc
-    of_object (Some id) e = s.held (place_of id) y (held_by (holder_of table id) y e)
+    of_object (Some id) e = s.held (lock_place id) y (held_by (holder_of table id) y e)
 
 -- who waits and may hold objects waits for a younger one
 rises : (table : Table) (x y : Ticket) → MayHold (doing_of table x) → Waits table x y → x.0 < y.0
@@ -67,15 +67,15 @@ rises_along table x (y ∷ ys) z s may waits =
 
 pub no_cycle : NoCycleOfWaits
 no_cycle calls first others may waits =
-    let table = after_all empty calls in
+    let table = after_all empty_table calls in
     let s = always_sound calls may in
     let below : first.0 < first.0 = rises_along table first others first s (last_waited_for table first others first s waits) waits in
     omega arith
 
 pub backed_off_holds_nothing : BackedOffHoldsNothing
 backed_off_holds_nothing calls t id object may off holds =
-    subst MayHold off ((always_sound calls may).held (place_of id) t holds)
+    subst MayHold off ((always_sound calls may).held (lock_place id) t holds)
 
 pub holders_are_open : HoldersAreOpen
 holders_are_open calls t id may holds over =
-    subst MayHold over ((always_sound calls may).held (place_of id) t holds)
+    subst MayHold over ((always_sound calls may).held (lock_place id) t holds)

@@ -8,7 +8,7 @@ use Rattle.kms_model.specs.declared.objects.Ticket.{Ticket}
 use Rattle.kms_wwlock.specs.declared.contexts.Context.{Context}
 use Rattle.kms_wwlock.specs.declared.contexts.Doing.{Doing}
 use Rattle.kms_wwlock.specs.declared.contexts.Doing.TheVariants.{Taking}
-use Rattle.kms_wwlock.specs.Table.{doing_in, IsOfLockable, NamesLockable, IsBelow, AreKept}
+use Rattle.kms_wwlock.specs.Table.{doing_in, IsOfLockable, NamesLockable, IsBelow, AreOfTable}
 use Rattle.kms_wwlock.specs.Calls.{with_doing}
 
 -- what a context is doing names a lockable object, if it names one
@@ -31,7 +31,7 @@ each_set P t d (c ∷ cs) keeps all =
     step true = keeps c (All-head P c cs all)
     step false = All-head P c cs all
 
-pub set_kept : (t : Ticket) (d : Doing) (cs : List Context) (drawn : ℕ) → IsOfLockable d → AreKept cs drawn → AreKept (map (with_doing t d) cs) drawn
+pub set_kept : (t : Ticket) (d : Doing) (cs : List Context) (drawn : ℕ) → IsOfLockable d → AreOfTable cs drawn → AreOfTable (map (with_doing t d) cs) drawn
 set_kept t d cs drawn now kept =
     record {
       lockable = each_set NamesLockable t d cs (λ c h. now) kept.lockable;
@@ -43,18 +43,18 @@ pub front_is : (cs news : List Context) (n : ℕ) → n ≡ length news → take
 front_is cs news n long = ap (λ (k : ℕ). take k (news ++ drop (length news) cs)) long ∙ take-append_seam news (drop (length news) cs)
 
 -- the same for such a list
-pub front_kept : (t : Ticket) (d : Doing) (cs news : List Context) (n drawn : ℕ) → IsOfLockable d → AreKept cs drawn
-    → news ≡ map (with_doing t d) cs → n ≡ length news → AreKept (take n (news ++ drop (length news) cs)) drawn
+pub front_kept : (t : Ticket) (d : Doing) (cs news : List Context) (n drawn : ℕ) → IsOfLockable d → AreOfTable cs drawn
+    → news ≡ map (with_doing t d) cs → n ≡ length news → AreOfTable (take n (news ++ drop (length news) cs)) drawn
 front_kept t d cs news n drawn now kept is long =
-    subst (λ xs. AreKept xs drawn) (sym is ∙ sym (front_is cs news n long)) (set_kept t d cs drawn now kept)
+    subst (λ xs. AreOfTable xs drawn) (sym is ∙ sym (front_is cs news n long)) (set_kept t d cs drawn now kept)
 
 -- some of the contexts
-pub others_kept : (test : Context → Bool) (cs : List Context) (drawn : ℕ) → AreKept cs drawn → AreKept (filter test cs) drawn
+pub others_kept : (test : Context → Bool) (cs : List Context) (drawn : ℕ) → AreOfTable cs drawn → AreOfTable (filter test cs) drawn
 others_kept test cs drawn kept =
     record { lockable = All-filter test NamesLockable cs kept.lockable; below = All-filter test (IsBelow drawn) cs kept.below }
 
 -- a context that begins with the next ticket
-pub begun_kept : (cs : List Context) (c : Context) (drawn : ℕ) → c.doing ≡ Taking → c.ticket.0 ≡ drawn → AreKept cs drawn → AreKept (cs ++ c ∷ []) (drawn + 1)
+pub begun_kept : (cs : List Context) (c : Context) (drawn : ℕ) → c.doing ≡ Taking → c.ticket.0 ≡ drawn → AreOfTable cs drawn → AreOfTable (cs ++ c ∷ []) (drawn + 1)
 begun_kept cs c drawn taking next kept =
     record {
       lockable = All-push NamesLockable cs c kept.lockable (subst IsOfLockable (sym taking) tt);

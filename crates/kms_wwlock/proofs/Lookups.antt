@@ -7,15 +7,15 @@ use Rattle.kms_model.specs.declared.objects.Ticket.{Ticket}
 use Rattle.kms_wwlock.specs.declared.contexts.Context.{Context}
 use Rattle.kms_wwlock.specs.declared.contexts.Doing.{Doing}
 use Rattle.kms_wwlock.specs.Table.{doing_in}
-use Rattle.kms_wwlock.specs.Calls.{with_doing, without}
+use Rattle.kms_wwlock.specs.Calls.{with_doing, holder_without}
 
 pub same_ticket : (t u : Ticket) → t.0 ≡ u.0 → t ≡ u
 same_ticket t u e = ap (λ (n : ℕ). let w : Ticket = record { 0 = n } in w) e
 
 -- who holds a place once a ticket's locks are free held it before, and has another ticket
-pub held-freed : (t y : Ticket) (hs : List (Option Ticket)) (i : ℕ) → get_or (map (without t) hs) i None ≡ Some y
+pub held-freed : (t y : Ticket) (hs : List (Option Ticket)) (i : ℕ) → get_or (map (holder_without t) hs) i None ≡ Some y
     → (get_or hs i None ≡ Some y) × (y.0 ≢ t.0)
-held-freed t y hs i e = kept (get_or hs i None) (sym (get_or-map (without t) hs i None) ∙ e)
+held-freed t y hs i e = kept (get_or hs i None) (sym (get_or-map (holder_without t) hs i None) ∙ e)
   where
     chosen : (h : Ticket) (b : Bool) → (h.0 == t.0) ≡ b → (if b then None else Some h) ≡ Some y → (Some h ≡ Some y) × (y.0 ≢ t.0)
     chosen h true is e = cc
@@ -24,7 +24,7 @@ held-freed t y hs i e = kept (get_or hs i None) (sym (get_or-map (without t) hs 
         other : (h : Ticket) → (h.0 == t.0) ≡ false → Some h ≡ Some y → y.0 ≡ t.0 → ⊥
         other h is e same = let hy : h ≡ y = cc in let yes = eq-eqb h.0 t.0 (ap (λ (u : Ticket). u.0) hy ∙ same) in cc
 
-    kept : (o : Option Ticket) → without t o ≡ Some y → (o ≡ Some y) × (y.0 ≢ t.0)
+    kept : (o : Option Ticket) → holder_without t o ≡ Some y → (o ≡ Some y) × (y.0 ≢ t.0)
     kept None e = cc
     kept (Some h) e = chosen h (h.0 == t.0) refl e
 

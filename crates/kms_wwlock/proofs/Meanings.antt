@@ -8,9 +8,9 @@ use Rattle.kms_model.specs.declared.objects.Ticket.{Ticket}
 use Rattle.kms_wwlock.specs.declared.contexts.Context.{Context}
 use Rattle.kms_wwlock.specs.declared.contexts.Doing.{Doing}
 use Rattle.kms_wwlock.specs.declared.contexts.Doing.TheVariants.{Taking, BackedOff}
-use Rattle.kms_wwlock.specs.Objects.{IsLockable, place_of}
-use Rattle.kms_wwlock.specs.Table.{Table, doing_of, AreKept}
-use Rattle.kms_wwlock.specs.Calls.{with_doing, without, set_doing, taken, freed, IsTakenBy, IsDoing, AreFreed, after_begin, next_ticket, after_drop_all}
+use Rattle.kms_wwlock.specs.Objects.{IsLockable, lock_place}
+use Rattle.kms_wwlock.specs.Table.{Table, doing_of, AreOfTable}
+use Rattle.kms_wwlock.specs.Calls.{with_doing, holder_without, set_doing, locked_by, unlocked, IsTakenBy, IsDoing, AreFreed, after_begin, next_ticket, after_drop_all}
 use Rattle.kms_wwlock.proofs.Lookups.{doing_in-others, doing_in-set, doing_in-beginner, doing_in-beside, doing_in-over, doing_in-gone}
 use Rattle.kms_wwlock.proofs.Kept.{none_at}
 
@@ -18,12 +18,12 @@ use Rattle.kms_wwlock.proofs.Kept.{none_at}
 
 -- two lockable objects have two places, all of them below 28
 record IsPlaced (id : ObjId) : Type 0 where
-  crtc : id.0 < 200 → (place_of id ≡ id.0 - 100) × (100 ≤ id.0) × (id.0 < 104)
-  plane : 200 ≤ id.0 → id.0 < 300 → (place_of id ≡ id.0 - 200 + 4) × (id.0 < 216)
-  connector : 300 ≤ id.0 → (place_of id ≡ id.0 - 300 + 20) × (id.0 < 308)
+  crtc : id.0 < 200 → (lock_place id ≡ id.0 - 100) × (100 ≤ id.0) × (id.0 < 104)
+  plane : 200 ≤ id.0 → id.0 < 300 → (lock_place id ≡ id.0 - 200 + 4) × (id.0 < 216)
+  connector : 300 ≤ id.0 → (lock_place id ≡ id.0 - 300 + 20) × (id.0 < 308)
 
 placed : (id : ObjId) → IsLockable id → IsPlaced id
-unfolding place_of
+unfolding lock_place
 placed id is =
     record {
       crtc = λ lt. (cond-true _ _ _ (lt-ltb id.0 200 lt), omega arith, omega arith);
@@ -31,10 +31,10 @@ placed id is =
       connector = λ ge. (cond-false _ _ _ (le-ltb id.0 200 (omega arith)) ∙ cond-false _ _ _ (le-ltb id.0 300 ge), omega arith);
     }
 
-pub place_of_within : (id : ObjId) → IsLockable id → place_of id < 28
+pub place_of_within : (id : ObjId) → IsLockable id → lock_place id < 28
 place_of_within id is = let p = placed id is in grind (arith, p.crtc, p.plane, p.connector)
 
-pub place_of_apart : (a b : ObjId) → IsLockable a → IsLockable b → a.0 ≢ b.0 → place_of a ≢ place_of b
+pub place_of_apart : (a b : ObjId) → IsLockable a → IsLockable b → a.0 ≢ b.0 → lock_place a ≢ lock_place b
 place_of_apart a b la lb ne = λ same.
     let p = placed a la in
     let q = placed b lb in
@@ -42,16 +42,16 @@ place_of_apart a b la lb ne = λ same.
 
 -- holders
 
-pub taken_by : (table : Table) (t : Ticket) (id : ObjId) → length table.holders ≡ 28 → IsLockable id → IsTakenBy table (taken table t id) t id
+pub taken_by : (table : Table) (t : Ticket) (id : ObjId) → length table.holders ≡ 28 → IsLockable id → IsTakenBy table (locked_by table t id) t id
 taken_by table t id long is =
     let within = place_of_within id is in
     record {
-      taken = get_or-set_same table.holders (place_of id) (Some t) None (omega arith);
-      others = λ other is_other ne. get_or-set_other table.holders (place_of id) (place_of other) (Some t) None (place_of_apart other id is_other is ne);
+      locked_by = get_or-set_same table.holders (lock_place id) (Some t) None (omega arith);
+      others = λ other is_other ne. get_or-set_other table.holders (lock_place id) (lock_place other) (Some t) None (place_of_apart other id is_other is ne);
     }
 
-pub freed_all : (table : Table) (t : Ticket) → AreFreed table (freed table t) t
-freed_all table t id = get_or-map (without t) table.holders (place_of id) None
+pub freed_all : (table : Table) (t : Ticket) → AreFreed table (unlocked table t) t
+freed_all table t id = get_or-map (holder_without t) table.holders (lock_place id) None
 
 -- contexts
 
@@ -62,10 +62,10 @@ set_is_doing table t d e found =
       others = λ other ne. doing_in-others t other d table.contexts ne;
     }
 
-pub next_is_fresh : (table : Table) → AreKept table.contexts table.drawn → doing_of table (next_ticket table) ≡ None
+pub next_is_fresh : (table : Table) → AreOfTable table.contexts table.drawn → doing_of table (next_ticket table) ≡ None
 next_is_fresh table kept = none_at (next_ticket table) table.contexts table.drawn kept.below (omega arith)
 
-pub begun_is_doing : (table : Table) (client : ℕ) → AreKept table.contexts table.drawn
+pub begun_is_doing : (table : Table) (client : ℕ) → AreOfTable table.contexts table.drawn
     → IsDoing table (after_begin table client) (next_ticket table) (Some Taking)
 begun_is_doing table client kept =
     let new : Context = record { ticket = next_ticket table; client = client; doing = Taking } in
@@ -95,12 +95,12 @@ set_at table t d e holders contexts now found =
 
 -- the context of a ticket that backed off for an object takes it, and goes on
 pub relocked_at : (table : Table) (t : Ticket) (id : ObjId) (place : ℕ) (contexts : List Context) → length table.holders ≡ 28 → IsLockable id
-    → place ≡ place_of id → contexts ≡ map (with_doing t Taking) table.contexts → doing_of table t ≡ Some (BackedOff id)
+    → place ≡ lock_place id → contexts ≡ map (with_doing t Taking) table.contexts → doing_of table t ≡ Some (BackedOff id)
     → IsTakenBy table (record table { holders = set table.holders place (Some t); contexts = contexts }) t id
     × IsDoing table (record table { holders = set table.holders place (Some t); contexts = contexts }) t (Some Taking)
 relocked_at table t id place contexts long is at now off =
     let new : ℕ → List Context → Table = λ p cs. record table { holders = set table.holders p (Some t); contexts = cs } in
     let holds = taken_by table t id long is in
-    let there : IsTakenBy table (new (place_of id) (map (with_doing t Taking) table.contexts)) t id =
-    record { taken = holds.taken; others = holds.others } in
-    rw (at, now) (there, set_at table t Taking (BackedOff id) (set table.holders (place_of id) (Some t)) (map (with_doing t Taking) table.contexts) refl off)
+    let there : IsTakenBy table (new (lock_place id) (map (with_doing t Taking) table.contexts)) t id =
+    record { locked_by = holds.taken; others = holds.others } in
+    rw (at, now) (there, set_at table t Taking (BackedOff id) (set table.holders (lock_place id) (Some t)) (map (with_doing t Taking) table.contexts) refl off)

@@ -10,10 +10,10 @@ use Rattle.kms_wwlock.specs.declared.table.Lock.{Lock as Answer}
 use Rattle.kms_wwlock.specs.declared.table.Lock.TheVariants.{Got, Own, Older, Younger}
 use Rattle.kms_wwlock.specs.declared.table.Relock.{Relock as Again}
 use Rattle.kms_wwlock.specs.declared.table.Relock.TheVariants.{Got as GotAgain, Held}
-use Rattle.kms_wwlock.specs.Objects.{place_of}
+use Rattle.kms_wwlock.specs.Objects.{lock_place}
 use Rattle.kms_wwlock.specs.Table.{Table, holder_of, doing_of, doing_in, must_back_off_for, backed_off_for}
-use Rattle.kms_wwlock.specs.Calls.{with_doing, taken, after_begin, lock_answer, after_lock, backed_off, relock_answer, relocked, after_drop_all}
-use Rattle.kms_wwlock.specs.Waits.{Call, Begin, Lock, Backoff, Relock, DropAll, IsAllowed, after, AreAllowed, after_all, empty}
+use Rattle.kms_wwlock.specs.Calls.{with_doing, locked_by, after_begin, lock_answer, after_lock, backed_off, relock_answer, relocked, after_drop_all}
+use Rattle.kms_wwlock.specs.Waits.{Call, Begin, Lock, Backoff, Relock, DropAll, IsCallAllowed, after_call, AreAllowed, after_all, empty_table}
 use Rattle.kms_wwlock.proofs.Lookups.{same_ticket, held-freed, held-taken, doing_in-others, doing_in-set, doing_in-begun, doing_in-over}
 
 -- it may hold objects
@@ -44,14 +44,14 @@ begin_sound table client s = record { held = λ place y e. kept y (doing_in tabl
     kept y None is may = absurd may
     kept y (Some d) is may = subst MayHold (sym (doing_in-begun _ y d table.contexts is)) may
 
-taken_sound : (table : Table) (t : Ticket) (id : ObjId) → doing_in table.contexts t ≡ Some Taking → IsSound table → IsSound (taken table t id)
+taken_sound : (table : Table) (t : Ticket) (id : ObjId) → doing_in table.contexts t ≡ Some Taking → IsSound table → IsSound (locked_by table t id)
 taken_sound table t id taking s =
     record {
       held = λ place y e.
           ⊎_elim
           (λ (same : t ≡ y). subst (λ (u : Ticket). MayHold (doing_in table.contexts u)) same (subst MayHold (sym taking) tt))
           (λ before. s.held place y before)
-          (held-taken t y table.holders (place_of id) place e);
+          (held-taken t y table.holders (lock_place id) place e);
     }
 
 lock_sound : (table : Table) (t : Ticket) (id : ObjId) (answer : Answer) → doing_in table.contexts t ≡ Some Taking → IsSound table
@@ -81,7 +81,7 @@ relock_sound table t (Some (BackedOff id)) GotAgain is s =
           ⊎_elim
           (λ (same : t ≡ y). absurd (ne (ap (λ (u : Ticket). u.0) (sym same))))
           (λ before. s.held place y before)
-          (held-taken t y table.holders (place_of id) place e));
+          (held-taken t y table.holders (lock_place id) place e));
     }
 relock_sound table t (Some (BackedOff id)) (Held holder) is s = s
 relock_sound table t (Some (MustBackOff id)) answer is s = s
@@ -97,7 +97,7 @@ drop_all_sound table t s =
     }
 
 -- each call keeps the table sound
-pub after_sound : (table : Table) (call : Call) → IsAllowed table call → IsSound table → IsSound (after table call)
+pub after_sound : (table : Table) (call : Call) → IsCallAllowed table call → IsSound table → IsSound (after_call table call)
 after_sound table (Begin client) may s = begin_sound table client s
 after_sound table (Lock t id) may s = lock_sound table t id (lock_answer t (holder_of table id)) may.taking s
 after_sound table (Backoff t) may s = backoff_sound table t (must_back_off_for (doing_of table t)) s
@@ -106,7 +106,7 @@ after_sound table (DropAll t) may s = drop_all_sound table t s
 
 all_sound : (table : Table) (calls : List Call) → AreAllowed table calls → IsSound table → IsSound (after_all table calls)
 all_sound table [] may s = s
-all_sound table (call ∷ calls) may s = all_sound (after table call) calls may.1 (after_sound table call may.0 s)
+all_sound table (call ∷ calls) may s = all_sound (after_call table call) calls may.1 (after_sound table call may.0 s)
 
 -- in the new table nobody holds anything
 free : (n place : ℕ) (y : Ticket) → get_or (replicate n None) place None ≡ Some y → ⊥
@@ -114,6 +114,6 @@ free zero place y e = cc
 free (suc n) zero y e = cc
 free (suc n) (suc place) y e = free n place y e
 
--- after every list of calls the table is sound
-pub always_sound : (calls : List Call) → AreAllowed empty calls → IsSound (after_all empty calls)
-always_sound calls may = all_sound empty calls may (record { held = λ place y e. absurd (free 28 place y e) })
+-- after_call every list of calls the table is sound
+pub always_sound : (calls : List Call) → AreAllowed empty_table calls → IsSound (after_all empty_table calls)
+always_sound calls may = all_sound empty_table calls may (record { held = λ place y e. absurd (free 28 place y e) })

@@ -12,7 +12,7 @@ use Rattle.kms_wwlock.specs.declared.table.Lock.{Lock}
 use Rattle.kms_wwlock.specs.declared.table.Lock.TheVariants.{Got, Own, Older, Younger}
 use Rattle.kms_wwlock.specs.declared.table.Relock.{Relock}
 use Rattle.kms_wwlock.specs.declared.table.Relock.TheVariants.{Got as GotAgain, Held}
-use Rattle.kms_wwlock.specs.Objects.{IsLockable, place_of}
+use Rattle.kms_wwlock.specs.Objects.{IsLockable, lock_place}
 use Rattle.kms_wwlock.specs.Table.{Table, holder_of, doing_of, must_back_off_for, backed_off_for}
 
 -- parts of the changes
@@ -25,23 +25,23 @@ abbrev pub set_doing : Table → Ticket → Doing → Table
 set_doing table t doing = record table { contexts = map (with_doing t doing) table.contexts }
 
 -- an object is held by a ticket
-abbrev pub taken : Table → Ticket → ObjId → Table
-taken table t id = record table { holders = slice_set table.holders (place_of id) (Some t) }
+abbrev pub locked_by : Table → Ticket → ObjId → Table
+locked_by table t id = record table { holders = slice_set table.holders (lock_place id) (Some t) }
 
 -- the holder that an object has once a ticket's locks are free
-abbrev pub without : Ticket → Option Ticket → Option Ticket
-without t None = None
-without t (Some holder) = if holder.0 == t.0 then None else Some holder
+abbrev pub holder_without : Ticket → Option Ticket → Option Ticket
+holder_without t None = None
+holder_without t (Some holder) = if holder.0 == t.0 then None else Some holder
 
 -- no object is held by a ticket
-abbrev pub freed : Table → Ticket → Table
-freed table t = record table { holders = map (without t) table.holders }
+abbrev pub unlocked : Table → Ticket → Table
+unlocked table t = record table { holders = map (holder_without t) table.holders }
 
 -- what the changes mean for who holds what and for what contexts do
 
 -- an object is held by a ticket now, and who holds the others is as it was
 pub record IsTakenBy (old new : Table) (t : Ticket) (id : ObjId) : Type 0 where
-  pub taken : holder_of new id ≡ Some t
+  pub locked_by : holder_of new id ≡ Some t
   pub others : (other : ObjId) → IsLockable other → other.0 ≢ id.0 → holder_of new other ≡ holder_of old other
 
 -- a context does this now, or there is none with the ticket, and the others go on as they did
@@ -51,7 +51,7 @@ pub record IsDoing (old new : Table) (t : Ticket) (doing : Option Doing) : Type 
 
 -- a ticket holds no object now, and who else holds one is as it was
 abbrev pub AreFreed : Table → Table → Ticket → Type 0
-AreFreed old new t = (id : ObjId) → holder_of new id ≡ without t (holder_of old id)
+AreFreed old new t = (id : ObjId) → holder_of new id ≡ holder_without t (holder_of old id)
 
 -- the context backs off for the object for which it had to
 abbrev pub IsBackedOff : Table → Table → Ticket → Type 0
@@ -102,7 +102,7 @@ lock_answer t (Some holder) =
     if holder.0 == t.0 then Own else if nat_lt holder.0 t.0 then Older holder else Younger holder
 
 abbrev pub after_lock : Table → Ticket → ObjId → Lock → Table
-after_lock table t id Got = taken table t id
+after_lock table t id Got = locked_by table t id
 after_lock table t id Own = table
 after_lock table t id (Older holder) = set_doing table t (MustBackOff id)
 after_lock table t id (Younger holder) = table
@@ -116,7 +116,7 @@ MayBackOff table t = IsSome (must_back_off_for (doing_of table t))
 -- the context holds nothing, and keeps its ticket
 abbrev pub backed_off : Table → Ticket → Option ObjId → Table
 backed_off table t None = table
-backed_off table t (Some id) = set_doing (freed table t) t (BackedOff id)
+backed_off table t (Some id) = set_doing (unlocked table t) t (BackedOff id)
 
 abbrev pub after_backoff : Table → Ticket → Table
 after_backoff table t = backed_off table t (must_back_off_for (doing_of table t))
@@ -136,7 +136,7 @@ abbrev pub relock_answer : Table → Ticket → Relock
 relock_answer table t = relock_from (option_and_then (holder_of table) (backed_off_for (doing_of table t)))
 
 abbrev pub relocked : Table → Ticket → Option ObjId → Relock → Table
-relocked table t (Some id) GotAgain = set_doing (taken table t id) t Taking
+relocked table t (Some id) GotAgain = set_doing (locked_by table t id) t Taking
 relocked table t _ _ = table
 
 abbrev pub after_relock : Table → Ticket → Relock → Table
@@ -151,4 +151,4 @@ MayDropAll table t = IsSome (doing_of table t)
 -- its objects are free, and it is over
 abbrev pub after_drop_all : Table → Ticket → Table
 after_drop_all table t =
-    record (freed table t) { contexts = filter (λ c. not (c.ticket.0 == t.0)) table.contexts }
+    record (unlocked table t) { contexts = filter (λ c. not (c.ticket.0 == t.0)) table.contexts }

@@ -11,8 +11,8 @@ IsLockable id =
     ((100 ≤ id.0) × (id.0 < 104)) ⊎ (((200 ≤ id.0) × (id.0 < 216)) ⊎ ((300 ≤ id.0) × (id.0 < 308)))
 
 -- the place of a lockable object among all of them in the order of their ids
-unfoldable pub place_of : ObjId → ℕ
-place_of id =
+unfoldable pub lock_place : ObjId → ℕ
+lock_place id =
     if nat_lt id.0 200 then id.0 - 100
     else if nat_lt id.0 300 then id.0 - 200 + 4
     else id.0 - 300 + 20

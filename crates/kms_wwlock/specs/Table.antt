@@ -5,7 +5,7 @@ use Rattle.kms_model.specs.declared.objects.Ticket.{Ticket}
 use Rattle.kms_wwlock.specs.declared.contexts.Context.{Context}
 use Rattle.kms_wwlock.specs.declared.contexts.Doing.{Doing}
 use Rattle.kms_wwlock.specs.declared.contexts.Doing.TheVariants.{Taking, MustBackOff, BackedOff}
-use Rattle.kms_wwlock.specs.Objects.{IsLockable, place_of}
+use Rattle.kms_wwlock.specs.Objects.{IsLockable, lock_place}
 
 pub record Table : Type 0 where
   -- for each lockable object, in the order of their ids, the context that holds it: one at most
@@ -17,7 +17,7 @@ pub record Table : Type 0 where
 
 -- the context that holds an object
 abbrev pub holder_of : Table → ObjId → Option Ticket
-holder_of table id = slice_index_or table.holders (place_of id) None
+holder_of table id = slice_index_or table.holders (lock_place id) None
 
 abbrev pub doing_in : List Context → Ticket → Option Doing
 doing_in [] t = None
@@ -50,6 +50,6 @@ abbrev pub IsBelow : ℕ → Context → Type 0
 IsBelow drawn c = c.ticket.0 < drawn
 
 -- what holds of the contexts of every table
-pub record AreKept (contexts : List Context) (drawn : ℕ) : Type 0 where
+pub record AreOfTable (contexts : List Context) (drawn : ℕ) : Type 0 where
   pub lockable : All NamesLockable contexts
   pub below : All (IsBelow drawn) contexts

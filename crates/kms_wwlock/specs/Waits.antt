@@ -19,33 +19,33 @@ pub data Call : Type 0 where
   DropAll : (t : Ticket) → Call
 
 -- the call's conditions hold
-abbrev pub IsAllowed : Table → Call → Type 0
-IsAllowed table (Begin client) = MayBegin table client
-IsAllowed table (Lock t id) = MayLock table t id
-IsAllowed table (Backoff t) = MayBackOff table t
-IsAllowed table (Relock t) = MayRelock table t
-IsAllowed table (DropAll t) = MayDropAll table t
+abbrev pub IsCallAllowed : Table → Call → Type 0
+IsCallAllowed table (Begin client) = MayBegin table client
+IsCallAllowed table (Lock t id) = MayLock table t id
+IsCallAllowed table (Backoff t) = MayBackOff table t
+IsCallAllowed table (Relock t) = MayRelock table t
+IsCallAllowed table (DropAll t) = MayDropAll table t
 
--- the table after the call
-abbrev pub after : Table → Call → Table
-after table (Begin client) = after_begin table client
-after table (Lock t id) = after_lock table t id (lock_answer t (holder_of table id))
-after table (Backoff t) = after_backoff table t
-after table (Relock t) = after_relock table t (relock_answer table t)
-after table (DropAll t) = after_drop_all table t
+-- the table after_call the call
+abbrev pub after_call : Table → Call → Table
+after_call table (Begin client) = after_begin table client
+after_call table (Lock t id) = after_lock table t id (lock_answer t (holder_of table id))
+after_call table (Backoff t) = after_backoff table t
+after_call table (Relock t) = after_relock table t (relock_answer table t)
+after_call table (DropAll t) = after_drop_all table t
 
 -- each call of the list is allowed where it is made
 abbrev pub AreAllowed : Table → List Call → Type 0
 AreAllowed table [] = Unit {0}
-AreAllowed table (call ∷ calls) = IsAllowed table call × AreAllowed (after table call) calls
+AreAllowed table (call ∷ calls) = IsCallAllowed table call × AreAllowed (after_call table call) calls
 
 abbrev pub after_all : Table → List Call → Table
 after_all table [] = table
-after_all table (call ∷ calls) = after_all (after table call) calls
+after_all table (call ∷ calls) = after_all (after_call table call) calls
 
 -- the new table: 28 free objects, no context
-abbrev pub empty : Table
-empty = record { holders = replicate 28 None; contexts = []; drawn = 0 }
+abbrev pub empty_table : Table
+empty_table = record { holders = replicate 28 None; contexts = []; drawn = 0 }
 
 -- context x waits for context y: it may take locks, and of some object it is told that the younger y holds it;
 -- or it has backed off, and is told that y holds its object
@@ -53,7 +53,7 @@ pub data Waits (table : Table) (x y : Ticket) : Type 0 where
   ForYounger : (id : ObjId) → MayLock table x id → lock_answer x (holder_of table id) ≡ Younger y → Waits table x y
   ForObject : MayRelock table x → relock_answer table x ≡ Held y → Waits table x y
 
--- x waits for the first of the list, each of the list for the next one, and the last for z; with an empty list, x
+-- x waits for the first of the list, each of the list for the next one, and the last for z; with an empty_table list, x
 -- waits for z
 abbrev pub WaitsAlong : Table → Ticket → List Ticket → Ticket → Type 0
 WaitsAlong table x [] z = Waits table x z
@@ -63,18 +63,18 @@ WaitsAlong table x (y ∷ ys) z = Waits table x y × WaitsAlong table y ys z
 abbrev pub NoCycleOfWaits : Type 0
 NoCycleOfWaits =
     (calls : List Call) (first : Ticket) (others : List Ticket)
-    → AreAllowed empty calls → ¬ WaitsAlong (after_all empty calls) first others first
+    → AreAllowed empty_table calls → ¬ WaitsAlong (after_all empty_table calls) first others first
 
--- after every list of calls, a context that has backed off holds no object
+-- after_call every list of calls, a context that has backed off holds no object
 abbrev pub BackedOffHoldsNothing : Type 0
 BackedOffHoldsNothing =
     (calls : List Call) (t : Ticket) (id object : ObjId)
-    → AreAllowed empty calls → doing_of (after_all empty calls) t ≡ Some (BackedOff object)
-    → ¬ (holder_of (after_all empty calls) id ≡ Some t)
+    → AreAllowed empty_table calls → doing_of (after_all empty_table calls) t ≡ Some (BackedOff object)
+    → ¬ (holder_of (after_all empty_table calls) id ≡ Some t)
 
--- after every list of calls, who holds an object has begun and is not over
+-- after_call every list of calls, who holds an object has begun and is not over
 abbrev pub HoldersAreOpen : Type 0
 HoldersAreOpen =
     (calls : List Call) (t : Ticket) (id : ObjId)
-    → AreAllowed empty calls → holder_of (after_all empty calls) id ≡ Some t
-    → ¬ (doing_of (after_all empty calls) t ≡ None)
+    → AreAllowed empty_table calls → holder_of (after_all empty_table calls) id ≡ Some t
+    → ¬ (doing_of (after_all empty_table calls) t ≡ None)

@@ -49,23 +49,23 @@ pub struct LockTable {
 }
 
 impl Model for LockTable {
-    ghost use Rattle.kms_wwlock.specs.Table.{Table, AreKept};
+    ghost use Rattle.kms_wwlock.specs.Table.{Table, AreOfTable};
 
     ghost Value = { Table };
 
     ghost view = { λ s. record { holders = s.holders; contexts = s.contexts.items; drawn = s.drawn } };
 
-    ghost invariant = { λ s. AreKept s.contexts.items s.drawn };
+    ghost invariant = { λ s. AreOfTable s.contexts.items s.drawn };
 }
 
 impl LockTable {
     ghost use Rattle.kms_wwlock.specs.Table.{doing_of, holder_of};
     ghost use Rattle.kms_wwlock.specs.Calls.{IsTakenBy, IsRelocked, AreFreed, IsDoing, IsBackedOff, IfOlder, MayBegin, next_ticket, after_begin, MayLock, lock_answer, after_lock, MayBackOff, after_backoff, MayRelock, relock_answer, after_relock, MayDropAll, after_drop_all};
-    ghost use Rattle.kms_wwlock.specs.Waits.{empty};
+    ghost use Rattle.kms_wwlock.specs.Waits.{empty_table};
 
     /// The table in which every object is free and no context has begun. It takes no memory.
     pub fn new(alloc: Global) -> LockTable
-        ensures { result ≡ empty }
+        ensures { result ≡ empty_table }
     {
         LockTable {
             holders: [None; LOCKABLE],

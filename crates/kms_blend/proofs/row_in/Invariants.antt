@@ -1,6 +1,6 @@
 -- The places before i are blended, and the others are as they were.
 use Rattle.std.proofs.Common.{◌≡◌, ◌≤◌, ◌<◌, ℕ, List, slice_index}
-use Rattle.kms_model.specs.Frames.{blended}
+use Rattle.kms_model.specs.Frames.FrameBytes.{blended}
 use Rattle.kms_blend.proofs.row_in.Given as goal
 
 pub record IsBlendedBefore (blend : ℕ → ℕ → ℕ → ℕ) (q f old now : List ℕ) (i : ℕ) : Type 0 where

@@ -2,7 +2,7 @@ use Rattle.std.proofs.Common.{◌≡◌, ◌++◌, ◌∷◌, [], ℕ, List, ap,
 use Rattle.std.specs.Prelude.{map}
 use Rattle.std.specs.List.{range_with_len}
 use Rattle.std.proofs.lemmas.List.FromFn.{map-range_with_len_more}
-use Rattle.kms_model.specs.Frames.{word_in}
+use Rattle.kms_model.specs.Frames.FrameBytes.{word_in}
 use Rattle.kms_buffers.proofs.patterns.push_row.Goals as goal
 
 pub loop-x-preserved : goal.loop-x-preserved

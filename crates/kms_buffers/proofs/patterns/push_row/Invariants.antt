@@ -1,7 +1,7 @@
 use Rattle.std.proofs.Common.{◌≡◌, ◌++◌}
 use Rattle.std.specs.Prelude.{map}
 use Rattle.std.specs.List.{range_with_len}
-use Rattle.kms_model.specs.Frames.{word_in}
+use Rattle.kms_model.specs.Frames.FrameBytes.{word_in}
 use Rattle.kms_buffers.proofs.patterns.push_row.Given as goal
 
 abbrev pub invariant-loop-x : goal.invariant-loop-x

@@ -1,6 +1,6 @@
 use Rattle.std.proofs.Common.{◌+◌}
 use Rattle.std.specs.Prelude.{◌==◌}
-use Rattle.kms_model.specs.Apply.{object_of}
+use Rattle.kms_model.specs.Request.Apply.{object_of}
 use Rattle.kms_check.proofs.GroupLemmas.{none_yet, items-more}
 use Rattle.kms_check.proofs.groups.assigned_from.Goals as goal
 

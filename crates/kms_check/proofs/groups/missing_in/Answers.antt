@@ -1,7 +1,7 @@
 use Rattle.std.proofs.Common.{◌<◌, arith, refl}
 use Rattle.std.specs.Prelude.{◌&&◌, is_none}
-use Rattle.kms_model.specs.Late.{duplicate_at}
-use Rattle.kms_model.specs.Masks.{has_bit, mask_below}
+use Rattle.kms_model.specs.Request.Late.{duplicate_at}
+use Rattle.kms_model.specs.Device.Masks.{has_bit, mask_below}
 use Rattle.kms_check.proofs.GroupLemmas.{bit-more}
 use Rattle.kms_check.proofs.groups.missing_in.Goals as goal
 

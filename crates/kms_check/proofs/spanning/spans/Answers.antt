@@ -1,13 +1,13 @@
 use Rattle.std.proofs.Common.{◌≡◌, ◌∙◌, List, ap, sym, subst}
 use Rattle.std.specs.Prelude.{All}
 use Rattle.kms_model.specs.declared.scripts.Assign.{Assign}
-use Rattle.kms_model.specs.Lookups.{look_up}
-use Rattle.kms_model.specs.Resolves.{IsSettable}
+use Rattle.kms_model.specs.Request.Lookups.{look_up}
+use Rattle.kms_model.specs.Request.Resolves.{IsSettable}
 use Rattle.kms_model.proofs.LateLemmas.{StandAt}
 use Rattle.kms_model.proofs.TouchedLemmas.{IsRequestAt}
-use Rattle.kms_check.specs.Groups.{objects_assigned, set_group, remade_below, remade_group}
+use Rattle.kms_check.specs.Groups.{objects_assigned, set_group, affected_below, affected_group}
 use Rattle.kms_check.proofs.Conclusions.{touched-known}
-use Rattle.kms_check.proofs.Remade.{remade-is}
+use Rattle.kms_check.proofs.Affected.{affected-is}
 use Rattle.kms_check.proofs.RequestFacts.{objects_assigned-is}
 use Rattle.kms_check.proofs.spanning.spans.Goals as goal
 
@@ -22,5 +22,5 @@ returns-clause-touched c = λ t w stand.
     let stands : StandAt t w r d = record { at = at; old = stand.old; new = stand.new } in
     let named = c.named_in-named.ensures t w stand in
     let set : c.objects_assigned-assigned.result ≡ set_group t r = c.objects_assigned-assigned.ensures ∙ ap objects_assigned c.as_slice.ensures.value ∙ objects_assigned-is t (look_up w) r at.device at.early in
-    let remade : c.remade-remade.result ≡ remade_group t w r = c.remade-remade.ensures ∙ ap (λ n. remade_below d.crtcs n 4) named ∙ remade-is t w r d stands (λ i there is. stand.all.crtcs i there) in
-    touched-known t w r _ _ _ _ _ _ set named c.only_crtcs.ensures remade c.union.ensures c.union-2.ensures
+    let affected : c.affected-affected.result ≡ affected_group t w r = c.affected-affected.ensures ∙ ap (λ n. affected_below d.crtcs n 4) named ∙ affected-is t w r d stands (λ i there is. stand.all.crtcs i there) in
+    touched-known t w r _ _ _ _ _ _ set named c.only_crtcs.ensures affected c.union.ensures c.union-2.ensures

@@ -1,7 +1,7 @@
 use Rattle.std.proofs.Common.{◌≡◌, sym, subst}
 use Rattle.kms_model.specs.declared.objects.Topology.{Topology}
-use Rattle.kms_model.specs.Sets.{look_in}
-use Rattle.kms_model.specs.Sound.{IsDevice, IsSound}
+use Rattle.kms_model.specs.Request.Sets.{look_in}
+use Rattle.kms_model.specs.Device.Sound.{IsDevice, IsSound}
 use Rattle.kms_check.specs.Example.{device, world_of}
 use Rattle.kms_check.proofs.ExampleLemmas.{is_device, is_sound, states_fresh, states_old}
 use Rattle.kms_check.proofs.tests.checked.Goals as goal

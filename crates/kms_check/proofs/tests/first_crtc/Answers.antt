@@ -1,5 +1,5 @@
 use Rattle.std.proofs.Common.{refl}
-use Rattle.kms_model.specs.Masks.{mask_below}
+use Rattle.kms_model.specs.Device.Masks.{mask_below}
 use Rattle.kms_check.proofs.tests.first_crtc.Goals as goal
 
 pub returns-then-lit : goal.returns-then-lit

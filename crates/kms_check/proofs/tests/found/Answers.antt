@@ -1,6 +1,6 @@
 use Rattle.std.proofs.Common.{◌≡◌, ◌∙◌, ap, refl}
 use Rattle.std.specs.Prelude.{map}
-use Rattle.kms_model.specs.Sets.{look_in}
+use Rattle.kms_model.specs.Request.Sets.{look_in}
 use Rattle.kms_check.specs.Example.{things}
 use Rattle.kms_check.proofs.ExampleLemmas.{found_in, seen}
 use Rattle.kms_check.proofs.tests.found.Goals as goal

@@ -3,7 +3,7 @@ use Rattle.std.specs.Prelude.{IfOk}
 use Rattle.kms_model.specs.declared.copying.NoMemory.{NoMemory}
 use Rattle.kms_model.specs.declared.pictures.Picture.{Picture}
 use Rattle.kms_model.specs.declared.worlds.Thing.{Thing}
-use Rattle.kms_model.specs.Frames.{frame_bytes, frame_of}
+use Rattle.kms_model.specs.Frames.FrameBytes.{frame_bytes, frame_of}
 use Rattle.kms_compose.specs.declared.images.FbImage.{FbImage}
 use Rattle.kms_compose.specs.Images.{AreImagesIn, CanShow, word_under}
 use Rattle.kms_compose.proofs.SameFrames.{frame_same}

@@ -1,6 +1,6 @@
 use Rattle.std.proofs.Common.{◌≡◌, ◌<◌, ℕ, ◌+◌, ◌++◌, List, length, ap, sym, ◌∙◌, arith, rules}
 use Rattle.std.specs.List.{flat_map, range_with_len}
-use Rattle.kms_model.specs.Frames.{black, channels}
+use Rattle.kms_model.specs.Frames.FrameBytes.{black, channels}
 use Rattle.kms_model.proofs.Spans.{flat_map-range_more, flat_map-range_same}
 use Rattle.kms_compose.specs.declared.parts.Part.{Part}
 use Rattle.kms_compose.specs.Parts.{colour_at, part_pixel, parts_over}

@@ -4,7 +4,7 @@ use Rattle.std.proofs.lemmas.List.{append-nil, at_drop_more}
 use Rattle.std.proofs.lemmas.List.Elements.{All-push}
 use Rattle.kms_model.specs.declared.pictures.Colour.{Colour}
 use Rattle.kms_model.specs.declared.pictures.Layer.{Layer}
-use Rattle.kms_model.specs.Frames.{black, composed, layer_colour, mixed}
+use Rattle.kms_model.specs.Frames.FrameBytes.{black, composed, layer_colour, mixed}
 use Rattle.kms_compose.specs.declared.parts.Part.{Part}
 use Rattle.kms_compose.specs.Images.{IsShowable, word_under}
 use Rattle.kms_compose.specs.Parts.{IsPart, listed, part_colour, parts_over, seen_colour}

@@ -1,7 +1,7 @@
 -- The rest of the layers over the parts so far are all layers over black.
 use Rattle.std.proofs.Common.{◌≡◌, ℕ, drop}
 use Rattle.std.specs.Prelude.{All}
-use Rattle.kms_model.specs.Frames.{black, composed}
+use Rattle.kms_model.specs.Frames.FrameBytes.{black, composed}
 use Rattle.kms_compose.specs.Images.{word_under}
 use Rattle.kms_compose.specs.Parts.{IsPart, parts_over}
 use Rattle.kms_compose.proofs.frames.parts_of.Given as goal

@@ -6,13 +6,13 @@ use Rattle.kms_model.specs.declared.objects.Mode.{Mode}
 use Rattle.kms_model.specs.declared.pictures.Layer.{Layer}
 use Rattle.kms_model.specs.declared.pictures.Rect.{Rect}
 use Rattle.kms_model.specs.declared.stores.Image.{Image}
-use Rattle.kms_model.specs.Frames.{layer_colour}
-use Rattle.kms_model.specs.Stores.{Seen}
-use Rattle.kms_model.specs.Images.{IsPlaced}
+use Rattle.kms_model.specs.Frames.FrameBytes.{layer_colour}
+use Rattle.kms_model.specs.Stores.Kept.{Seen}
+use Rattle.kms_model.specs.Frames.Images.{FitsMode}
 use Rattle.kms_compose.specs.declared.images.FbImage.{FbImage}
 use Rattle.kms_compose.specs.declared.parts.Part.{Part}
 use Rattle.kms_compose.specs.declared.parts.Stretch.{Stretch}
-use Rattle.kms_compose.specs.Images.{HasImage, seen, seen_under, word_under}
+use Rattle.kms_compose.specs.Images.{HasImage, image_seen, seen_under, word_under}
 use Rattle.kms_compose.specs.Parts.{HasRows, IsPart, part, part_colour}
 use Rattle.kms_compose.proofs.Stretches.{HasAxes, IsAxis, axes, covered, colour_counted}
 use Rattle.kms_compose.proofs.parts.part_of.Goals as goal
@@ -65,14 +65,14 @@ some_pixel src dst start size limit side count a n = omega (arith, ints, a.some)
 
 -- the image that was found is that of the framebuffer
 record IsItsImage (images : List FbImage) (layer : Layer) (i : Image) : Type 0 where
-  found : seen_under images layer.fb.id ≡ Some (seen i)
+  found : seen_under images layer.fb.id ≡ Some (image_seen i)
   width : i.width ≡ layer.fb.width
   height : i.height ≡ layer.fb.height
   words : length i.words.now ≡ layer.fb.width * layer.fb.height
 
-its_image : (images : List FbImage) (layer : Layer) (i : Image) → HasImage images layer.fb → Some (seen i) ≡ seen_under images layer.fb.id → IsItsImage images layer i
+its_image : (images : List FbImage) (layer : Layer) (i : Image) → HasImage images layer.fb → Some (image_seen i) ≡ seen_under images layer.fb.id → IsItsImage images layer i
 its_image images layer i h e =
-    let same = same_Some h.seen (seen i) (sym h.found ∙ sym e) in record {
+    let same = same_Some h.seen (image_seen i) (sym h.found ∙ sym e) in record {
       found = sym e;
       width = sym (ap (λ (s : Seen). s.width) same) ∙ h.width;
       height = sym (ap (λ (s : Seen). s.height) same) ∙ h.height;
@@ -107,13 +107,13 @@ cut_fits layer columns rows i m v images h its a =
     }
 
 layer_colour-part : (images : List FbImage) (layer : Layer) (i : Image) (v : Rect) (columns rows : Stretch) →
-    seen_under images layer.fb.id ≡ Some (seen i) → layer.visible ≡ Some v → AreStretches layer v columns rows →
+    seen_under images layer.fb.id ≡ Some (image_seen i) → layer.visible ≡ Some v → AreStretches layer v columns rows →
     (x y : ℕ) → layer_colour (word_under images) x y layer ≡ part_colour (part layer columns rows i) x y
 layer_colour-part images layer i v columns rows found shown a x y =
     let column : pos columns.source ≡ int_div layer.src.x (pos 65536) +ℤ (pos columns.start -ℤ layer.dst.x) = rw a.x a.column in
     let below : pos rows.source ≡ int_div layer.src.y (pos 65536) +ℤ (pos rows.start -ℤ layer.dst.y) = rw a.y a.below in
     rw (shown, found, covered v columns.start columns.size rows.start rows.size x y a.x a.w a.y a.h)
-    (colour_counted layer.fb.format (seen i) layer.src.x layer.dst.x layer.src.y layer.dst.y columns.start columns.size rows.start rows.size columns.source rows.source x y column below)
+    (colour_counted layer.fb.format (image_seen i) layer.src.x layer.dst.x layer.src.y layer.dst.y columns.start columns.size rows.start rows.size columns.source rows.source x y column below)
 
 -- the facts of the calls
 record Known (layer : Layer) (images : List FbImage) (v : Rect) (i : Image) (columns rows : Stretch) : Type 0 where
@@ -146,7 +146,7 @@ cut-requires c =
     record { columns = fits.right; rows = fits.low; some = fits.some; words = fits.words }
 
 is_part : (p : Part) (layer : Layer) (columns rows : Stretch) (i : Image) (m : Mode) (v : Rect) → p ≡ part layer columns rows i → HasRows p →
-    IsPlaced m layer → layer.visible ≡ Some v → AreStretches layer v columns rows → IsPart m.hdisplay p
+    FitsMode m layer → layer.visible ≡ Some v → AreStretches layer v columns rows → IsPart m.hdisplay p
 is_part p layer columns rows i m v e inside placed shown a =
     let h = axes m layer v placed shown in record {
       within = rw e (mode_end _ _ _ _ _ _ columns.start columns.size h.x a.w a.x);

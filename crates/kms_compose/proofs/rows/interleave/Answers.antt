@@ -1,7 +1,7 @@
 use Rattle.std.proofs.Common.{◌≡◌, ◌≤◌, ℕ, ◌+◌, ◌*◌, List, [], ◌∷◌, ◌++◌, length, take, slice_set, ap, sym, ◌∙◌, append_assoc, arith}
 use Rattle.std.proofs.lemmas.Grind.{take-set_at}
 use Rattle.std.proofs.lemmas.List.{length-set}
-use Rattle.kms_model.specs.Frames.{channels}
+use Rattle.kms_model.specs.Frames.FrameBytes.{channels}
 use Rattle.kms_model.proofs.Spans.{flat_map-range_more}
 use Rattle.kms_compose.specs.Parts.{colour_at}
 use Rattle.kms_compose.proofs.rows.interleave.Goals as goal

@@ -1,7 +1,7 @@
 -- The pixels before x stand at their places.
 use Rattle.std.proofs.Common.{◌≡◌, ◌*◌, take}
 use Rattle.std.specs.List.{flat_map, range_with_len}
-use Rattle.kms_model.specs.Frames.{channels}
+use Rattle.kms_model.specs.Frames.FrameBytes.{channels}
 use Rattle.kms_compose.specs.Parts.{colour_at}
 use Rattle.kms_compose.proofs.rows.interleave.Given as goal
 

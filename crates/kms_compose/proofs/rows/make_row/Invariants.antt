@@ -1,6 +1,6 @@
 -- The row has the parts so far, so the rest over it are all parts over black.
 use Rattle.std.proofs.Common.{◌≡◌, ◌<◌, ℕ, drop, length}
-use Rattle.kms_model.specs.Frames.{black}
+use Rattle.kms_model.specs.Frames.FrameBytes.{black}
 use Rattle.kms_compose.specs.Parts.{colour_at, parts_over}
 use Rattle.kms_compose.proofs.rows.make_row.Given as goal
 

@@ -5,9 +5,9 @@ use Rattle.std.proofs.lemmas.List.Elements.{All-push}
 use Rattle.kms_model.specs.declared.objects.Mode.{Mode}
 use Rattle.kms_model.specs.declared.pictures.FbInfo.{FbInfo}
 use Rattle.kms_model.specs.declared.pictures.Layer.{Layer}
-use Rattle.kms_model.specs.Images.{IsPlaced}
+use Rattle.kms_model.specs.Frames.Images.{FitsMode}
 use Rattle.kms_compose.specs.declared.images.FbImage.{FbImage}
-use Rattle.kms_compose.specs.Images.{HasImage, IsShowable, seen}
+use Rattle.kms_compose.specs.Images.{HasImage, IsShowable, image_seen}
 use Rattle.kms_compose.proofs.tests.two_planes.Goals as goal
 
 -- an image in the size of a framebuffer
@@ -19,7 +19,7 @@ record IsOf (i : FbImage) (fb : FbInfo) : Type 0 where
 
 first_image : (i j : FbImage) (fb : FbInfo) → IsOf i fb → HasImage (i ∷ j ∷ []) fb
 first_image i j fb h = record {
-  seen = seen i.image;
+  image_seen = image_seen i.image;
   found = let same = eq-eqb i.fb fb.id h.id in rw same refl;
   width = h.width;
   height = h.height;
@@ -28,7 +28,7 @@ first_image i j fb h = record {
 
 second_image : (i j : FbImage) (fb : FbInfo) → (i.fb == fb.id) ≡ false → IsOf j fb → HasImage (i ∷ j ∷ []) fb
 second_image i j fb other h = record {
-  seen = seen j.image;
+  image_seen = image_seen j.image;
   found = let same = eq-eqb j.fb fb.id h.id in rw (other, same) refl;
   width = h.width;
   height = h.height;
@@ -36,7 +36,7 @@ second_image i j fb other h = record {
 }
 
 both_shown : (m : Mode) (a b : Layer) (i j : FbImage) (layers : List Layer) (images : List FbImage) → layers ≡ a ∷ b ∷ [] → images ≡ i ∷ j ∷ [] →
-    IsPlaced m a → IsPlaced m b → IsOf i a.fb → IsOf j b.fb → (i.fb == b.fb.id) ≡ false → All (IsShowable m images) layers
+    FitsMode m a → FitsMode m b → IsOf i a.fb → IsOf j b.fb → (i.fb == b.fb.id) ≡ false → All (IsShowable m images) layers
 both_shown m a b i j layers images ls is pa pb ia jb other = rw (ls, is) (
     All-push (IsShowable m (i ∷ j ∷ [])) (a ∷ []) b
     (All-push (IsShowable m (i ∷ j ∷ [])) [] a (λ k d h. absurd (omega arith)) (record { placed = pa; image = first_image i j a.fb ia }))

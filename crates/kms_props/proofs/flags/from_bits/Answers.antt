@@ -3,7 +3,7 @@ use Rattle.std.specs.Prelude.{IfSome, IsSome, ◌↔◌, bit_and}
 use Rattle.std.proofs.lemmas.Bool.Decides.{eqb_tells}
 use Rattle.bitflags.proofs.OnLiterals.{bitflags_on_literals}
 use Rattle.kms_model.specs.Firsts.{number_if}
-use Rattle.kms_model.specs.Properties.{are_flags, all_flags}
+use Rattle.kms_model.specs.Device.Properties.{are_flags, all_flags}
 use Rattle.kms_props.specs.declared.flags.AtomicFlags.{AtomicFlags}
 use Rattle.kms_props.specs.Flags.{bits_of}
 use Rattle.kms_props.proofs.flags.from_bits.Goals as goal

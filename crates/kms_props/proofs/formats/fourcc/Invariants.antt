@@ -1,5 +1,5 @@
 use Rattle.std.proofs.Common.{◌≡◌, drop, map, find}
-use Rattle.kms_model.specs.Properties.{has_code, formats}
+use Rattle.kms_model.specs.Device.Properties.{has_code, formats}
 use Rattle.kms_props.specs.Rows.{format_row_of}
 use Rattle.kms_props.proofs.formats.fourcc.Given as goal
 

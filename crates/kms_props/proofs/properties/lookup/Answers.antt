@@ -1,6 +1,6 @@
 use Rattle.std.proofs.Common.{rules, ◌≡◌, ◌∙◌, sym, subst, ap, Option, Some, true, option_map}
 use Rattle.std.specs.Prelude.{IfSome}
-use Rattle.kms_model.specs.Properties.{Property, is_property, property_named}
+use Rattle.kms_model.specs.Device.Properties.{Property, is_property, property_named}
 use Rattle.kms_model.proofs.PropertyTable.{is_property-named}
 use Rattle.kms_props.specs.Rows.{property_of}
 use Rattle.kms_props.proofs.properties.lookup.Goals as goal

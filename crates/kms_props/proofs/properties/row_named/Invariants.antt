@@ -1,5 +1,5 @@
 use Rattle.std.proofs.Common.{◌≡◌, drop, map, find}
-use Rattle.kms_model.specs.Properties.{is_named, properties}
+use Rattle.kms_model.specs.Device.Properties.{is_named, properties}
 use Rattle.kms_props.specs.Rows.{property_of}
 use Rattle.kms_props.proofs.properties.row_named.Given as goal
 

@@ -1,5 +1,5 @@
 use Rattle.std.proofs.Common.{◌≡◌, drop, map, find}
-use Rattle.kms_model.specs.Properties.{has_id, properties}
+use Rattle.kms_model.specs.Device.Properties.{has_id, properties}
 use Rattle.kms_props.specs.Rows.{property_of}
 use Rattle.kms_props.proofs.properties.row_of.Given as goal
 

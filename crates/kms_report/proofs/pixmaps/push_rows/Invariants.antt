@@ -1,6 +1,6 @@
 -- The lines so far, and those of the rest, are all lines; the rest has as many numbers as its lines take.
 use Rattle.std.proofs.Common.{◌≡◌, ◌*◌, ◌-◌, ◌++◌, length}
-use Rattle.kms_model.specs.Ppm.{number_lines}
+use Rattle.kms_model.specs.Frames.Ppm.{number_lines}
 use Rattle.kms_report.proofs.pixmaps.push_rows.Given as goal
 
 abbrev pub invariant-loop : goal.invariant-loop

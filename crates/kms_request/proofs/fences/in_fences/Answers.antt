@@ -1,6 +1,6 @@
 use Rattle.std.proofs.Common.{arith}
 use Rattle.std.proofs.lemmas.Result.{IfOk-weaker}
-use Rattle.kms_model.specs.Sets.{in_fence, in_fences}
+use Rattle.kms_model.specs.Request.Sets.{in_fence, in_fences}
 use Rattle.kms_model.proofs.RequestLemmas.{has_few}
 use Rattle.kms_request.proofs.fences.in_fences.Goals as goal
 

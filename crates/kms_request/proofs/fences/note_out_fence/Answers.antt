@@ -1,5 +1,5 @@
 use Rattle.std.proofs.Common.{◌∙◌, sym}
-use Rattle.kms_model.specs.Touched.{new_label}
+use Rattle.kms_model.specs.Request.Touched.{new_label}
 use Rattle.kms_model.specs.declared.objects.Kind.TheVariants.{Crtc}
 use Rattle.kms_model.specs.declared.properties.TheConstants.{OUT_FENCE_PTR}
 use Rattle.kms_request.proofs.FenceLemmas.{tell_noted, tell_passed}

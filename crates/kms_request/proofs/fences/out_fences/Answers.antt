@@ -1,7 +1,7 @@
 use Rattle.std.proofs.Common.{arith}
 use Rattle.std.proofs.lemmas.Result.{IfOk-weaker}
-use Rattle.kms_model.specs.Sets.{out_fences}
-use Rattle.kms_model.specs.Touched.{out_fence_label}
+use Rattle.kms_model.specs.Request.Sets.{out_fences}
+use Rattle.kms_model.specs.Request.Touched.{out_fence_label}
 use Rattle.kms_model.proofs.RequestLemmas.{has_few}
 use Rattle.kms_request.proofs.fences.out_fences.Goals as goal
 

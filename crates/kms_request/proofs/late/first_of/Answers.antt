@@ -1,7 +1,7 @@
 use Rattle.std.proofs.Common.{◌<◌, ◌∙◌, ℕ, sym}
 use Rattle.kms_model.specs.declared.objects.Topology.{Topology}
 use Rattle.kms_model.specs.declared.states.Duplicates.{Duplicates}
-use Rattle.kms_model.specs.Late.{ArePlanesInRange, duplicate_in}
+use Rattle.kms_model.specs.Request.Late.{ArePlanesInRange, duplicate_in}
 use Rattle.kms_request.specs.declared.late.Step.{Step}
 use Rattle.kms_request.specs.declared.late.Step.TheVariants.{Planes, Crtcs, Conns, Clones, Routes, Shown}
 use Rattle.kms_request.specs.Order.{IsLookedAtInRange, count_at, refusal_at}

@@ -1,6 +1,6 @@
 use Rattle.std.proofs.Common.{◌≡◌, List, [], None, sym, subst}
 use Rattle.kms_model.specs.declared.scripts.Assign.{Assign}
-use Rattle.kms_model.specs.Refusals.{assigns_refusal}
+use Rattle.kms_model.specs.Request.Refusals.{assigns_refusal}
 use Rattle.kms_model.proofs.RequestLemmas.{all_allowed, all_settable}
 use Rattle.kms_request.proofs.refusals.early.Goals as goal
 

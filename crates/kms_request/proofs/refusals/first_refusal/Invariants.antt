@@ -1,5 +1,5 @@
 use Rattle.std.proofs.Common.{◌≡◌, take, drop, [], reverse}
-use Rattle.kms_model.specs.Refusals.{assigns_refusal}
+use Rattle.kms_model.specs.Request.Refusals.{assigns_refusal}
 use Rattle.kms_request.specs.Fences.{TellFences}
 use Rattle.kms_request.proofs.refusals.first_refusal.Given as goal
 

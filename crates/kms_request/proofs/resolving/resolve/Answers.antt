@@ -1,5 +1,5 @@
 use Rattle.std.proofs.Common.{rules, ◌∙◌, sym}
-use Rattle.kms_model.specs.Sets.{look_in}
+use Rattle.kms_model.specs.Request.Sets.{look_in}
 use Rattle.kms_request.proofs.SameLooks.{answer-refused, early-same, resolved-same}
 use Rattle.kms_request.proofs.resolving.resolve.Goals as goal
 

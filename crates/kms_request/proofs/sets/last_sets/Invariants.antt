@@ -1,5 +1,5 @@
 use Rattle.std.proofs.Common.{◌≡◌, ◌≤◌, length, drop, reverse}
-use Rattle.kms_model.specs.Sets.{last_sets}
+use Rattle.kms_model.specs.Request.Sets.{last_sets}
 use Rattle.kms_request.specs.Targets.{TellTargets}
 use Rattle.kms_request.proofs.sets.last_sets.Given as goal
 

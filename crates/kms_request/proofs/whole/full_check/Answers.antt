@@ -2,7 +2,7 @@ use Rattle.std.proofs.Common.{◌∙◌, List, sym, subst}
 use Rattle.std.specs.Prelude.{All}
 use Rattle.std.specs.List.{list_any}
 use Rattle.kms_model.specs.declared.scripts.Assign.{Assign}
-use Rattle.kms_model.specs.Resolves.{IsSettable}
+use Rattle.kms_model.specs.Request.Resolves.{IsSettable}
 use Rattle.kms_model.proofs.RequestLemmas.{has_few}
 use Rattle.kms_request.specs.Fences.{TellOutFences}
 use Rattle.kms_request.specs.Naming.{AreCrtcs}

@@ -1,5 +1,5 @@
 use Rattle.std.specs.Prelude.{◌||◌, ◌==◌}
-use Rattle.kms_model.specs.Apply.{object_of}
+use Rattle.kms_model.specs.Request.Apply.{object_of}
 use Rattle.kms_request.specs.Naming.{next_crtc, old_crtc}
 use Rattle.kms_request.proofs.NamingLemmas.{both_crtcs, crtc_as}
 use Rattle.kms_request.proofs.whole.named_between.Goals as goal

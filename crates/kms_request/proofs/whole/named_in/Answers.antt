@@ -2,7 +2,7 @@ use Rattle.std.proofs.Common.{List, sym, subst}
 use Rattle.std.specs.Prelude.{All}
 use Rattle.std.specs.List.{list_any}
 use Rattle.kms_model.specs.declared.scripts.Assign.{Assign}
-use Rattle.kms_model.specs.Resolves.{IsSettable}
+use Rattle.kms_model.specs.Request.Resolves.{IsSettable}
 use Rattle.kms_request.specs.Naming.{AreCrtcs}
 use Rattle.kms_request.specs.Whole.{is_named_between}
 use Rattle.kms_request.proofs.WholeLemmas.{named_between-is}

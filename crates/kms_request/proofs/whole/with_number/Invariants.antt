@@ -1,5 +1,5 @@
 use Rattle.std.proofs.Common.{◌≡◌}
-use Rattle.kms_model.specs.Masks.{mask_below}
+use Rattle.kms_model.specs.Device.Masks.{mask_below}
 use Rattle.kms_request.specs.Fences.{has_number}
 use Rattle.kms_request.proofs.whole.with_number.Given as goal
 

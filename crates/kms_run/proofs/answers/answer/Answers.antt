@@ -1,6 +1,6 @@
 use Rattle.std.proofs.Common.{◌≡◌, ℕ, List, None, sym, ap, ◌∙◌, subst}
-use Rattle.kms_model.specs.Built.{if_built, or_unbuilt, unbuilt_line}
-use Rattle.kms_model.specs.Headline.{TellsJournal}
+use Rattle.kms_model.specs.Script.Built.{if_built, or_unbuilt, unbuilt_line}
+use Rattle.kms_model.specs.Report.Headline.{TellsJournal}
 use Rattle.kms_model.proofs.RunIsSerial.{flat_tells_the_journal}
 use Rattle.kms_run.proofs.answers.answer.Goals as goal
 

@@ -1,7 +1,7 @@
 use Rattle.std.proofs.Common.{◌≡◌, ◌≤◌, ◌+◌, ◌*◌, drop}
 use Rattle.std.specs.List.{AllByRecursion}
-use Rattle.kms_model.specs.Built.{unbuilt_client}
-use Rattle.kms_model.specs.WellFormed.{IsFitClient}
+use Rattle.kms_model.specs.Script.Built.{unbuilt_client}
+use Rattle.kms_model.specs.Script.WellFormed.{IsFitClient}
 use Rattle.kms_run.proofs.built.unbuilt_client.Given as goal
 
 abbrev pub invariant-loop-commands : goal.invariant-loop-commands

@@ -1,5 +1,5 @@
 use Rattle.std.proofs.Common.{◌≡◌, ◌+◌, drop}
-use Rattle.kms_model.specs.Built.{unbuilt_command}
+use Rattle.kms_model.specs.Script.Built.{unbuilt_command}
 use Rattle.kms_run.proofs.built.unbuilt_command.Given as goal
 
 abbrev pub invariant-loop-command : goal.invariant-loop-command

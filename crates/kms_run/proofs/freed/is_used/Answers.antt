@@ -3,8 +3,8 @@ use Rattle.std.specs.Prelude.{pos}
 use Rattle.std.proofs.lemmas.Bool.{cases_lt}
 use Rattle.kms_model.specs.declared.objects.Kind.TheVariants.{Plane}
 use Rattle.kms_model.specs.declared.properties.TheConstants.{FB_ID}
-use Rattle.kms_model.specs.Objects.{object_id}
-use Rattle.kms_model.specs.World.{value}
+use Rattle.kms_model.specs.Device.Objects.{object_id}
+use Rattle.kms_model.specs.Device.World.{value}
 use Rattle.kms_run.proofs.FreedLaw.{used-has, used-none}
 use Rattle.kms_run.proofs.freed.is_used.Goals as goal
 

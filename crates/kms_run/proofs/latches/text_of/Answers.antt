@@ -1,5 +1,5 @@
 use Rattle.std.proofs.Common.{ap, ◌∙◌, length}
-use Rattle.kms_model.specs.Frames.{frame_bytes, word_of}
+use Rattle.kms_model.specs.Frames.FrameBytes.{frame_bytes, word_of}
 use Rattle.kms_run.proofs.ImageLemmas.{length-frame}
 use Rattle.kms_run.proofs.latches.text_of.Goals as goal
 

@@ -3,7 +3,7 @@ use Rattle.std.specs.Prelude.{Option, slice_get}
 use Rattle.std.proofs.lemmas.Option.{slice_get_past, slice_get_read}
 use Rattle.std.proofs.lemmas.Result.{on_ok_weaker}
 use Rattle.kms_model.specs.declared.scripts.Command.{Command}
-use Rattle.kms_model.specs.Flat.{Turn, turn_of}
+use Rattle.kms_model.specs.Report.Flat.{Turn, turn_of}
 use Rattle.kms_run.specs.Run.{Continues}
 use Rattle.kms_run.proofs.Continuing.{continued, ready}
 use Rattle.kms_run.proofs.run.client_turn.Goals as goal

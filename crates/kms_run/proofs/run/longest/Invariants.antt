@@ -1,5 +1,5 @@
 use Rattle.std.proofs.Common.{◌≡◌, max, drop}
-use Rattle.kms_model.specs.Flat.{longest}
+use Rattle.kms_model.specs.Report.Flat.{longest}
 use Rattle.kms_run.proofs.run.longest.Given as goal
 
 abbrev pub invariant-loop-commands : goal.invariant-loop-commands

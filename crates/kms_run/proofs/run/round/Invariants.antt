@@ -1,5 +1,5 @@
 use Rattle.std.proofs.Common.{◌≡◌, ◌+◌, ◌++◌, drop}
-use Rattle.kms_model.specs.Flat as flat
+use Rattle.kms_model.specs.Report.Flat as flat
 use Rattle.kms_run.specs.Run.{Continues}
 use Rattle.kms_run.proofs.run.round.Given as goal
 

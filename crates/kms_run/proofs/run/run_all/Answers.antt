@@ -1,5 +1,5 @@
 use Rattle.std.proofs.Common.{◌<◌, ◌≤◌, List, ap, ◌∙◌, subst, arith}
-use Rattle.kms_model.specs.Flat.{Turn, longest}
+use Rattle.kms_model.specs.Report.Flat.{Turn, longest}
 use Rattle.kms_run.specs.Run.{Continues}
 use Rattle.kms_run.proofs.Continuing.{ended, later-end, later-step, longest-few, started}
 use Rattle.kms_run.proofs.run.run_all.Goals as goal

@@ -1,7 +1,7 @@
 use Rattle.std.proofs.Common.{◌≡◌, ℕ, ◌++◌, ◌∙◌, subst}
 use Rattle.kms_model.specs.declared.objects.Topology.{Topology}
 use Rattle.kms_model.specs.declared.replies.Reply.TheVariants as reply
-use Rattle.kms_model.specs.Execution.{Executed, execute}
+use Rattle.kms_model.specs.Device.Execution.{Executed, execute}
 use Rattle.kms_run.specs.Freed.{AreCandidates}
 use Rattle.kms_run.specs.Latches.{latches_now}
 use Rattle.kms_run.specs.Run.{named_by}

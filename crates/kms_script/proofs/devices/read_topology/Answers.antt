@@ -1,6 +1,6 @@
 use Rattle.std.proofs.Common.{◌≡◌, ◌∙◌, length, refl, sym, ap, arith, rules}
-use Rattle.kms_model.specs.InputLines.{rows_of}
-use Rattle.kms_model.specs.WholeInput.{device_after}
+use Rattle.kms_model.specs.Script.InputLines.{rows_of}
+use Rattle.kms_model.specs.Script.WholeInput.{device_after}
 use Rattle.kms_script.specs.Drafted.{draft_in, row_in}
 use Rattle.kms_script.proofs.DeviceLines.{no_client, next_device_line, device_is_done, device_stopped, device_ended_early, device_ended_well}
 use Rattle.kms_script.proofs.devices.read_topology.Goals as goal

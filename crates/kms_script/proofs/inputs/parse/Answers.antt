@@ -1,5 +1,5 @@
 use Rattle.std.proofs.Common.{rules}
-use Rattle.kms_model.specs.WholeInput.{input}
+use Rattle.kms_model.specs.Script.WholeInput.{input}
 use Rattle.kms_script.proofs.OneSpelling.{spelt_where_read}
 use Rattle.kms_script.proofs.inputs.parse.Goals as goal
 

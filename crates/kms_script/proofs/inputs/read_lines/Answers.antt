@@ -1,6 +1,6 @@
 use Rattle.std.proofs.Common.{◌≡◌, ◌∙◌, length, sym, ap, arith, rules}
-use Rattle.kms_model.specs.InputLines.{rows_of}
-use Rattle.kms_model.specs.WholeInput.{lines_after}
+use Rattle.kms_model.specs.Script.InputLines.{rows_of}
+use Rattle.kms_model.specs.Script.WholeInput.{lines_after}
 use Rattle.kms_script.specs.Drafted.{draft_in, row_in}
 use Rattle.kms_script.proofs.Drafts.{next_line, stopped, ended_early, ended_well, room_for}
 use Rattle.kms_script.proofs.inputs.read_lines.Goals as goal

@@ -1,5 +1,5 @@
 use Rattle.std.proofs.Common.{◌∙◌, arith}
-use Rattle.kms_script.specs.Listed.{bit_of, bits_of}
+use Rattle.kms_script.specs.Listed.{bit_of, bit_count}
 use Rattle.kms_script.proofs.Parts.{part_is_none, part_is_low, part_is_last, part_has_more, mask_grows, mask_is_below}
 use Rattle.kms_script.proofs.lists.read_list.Goals as goal
 
@@ -21,4 +21,4 @@ parts-preserved c = record {
 }
 
 pub returns-in_default-clause-below : goal.returns-in_default-clause-below
-returns-in_default-clause-below c = rw c.mask_of-mask.ensures (mask_is_below c.parts.mask c.parts.low c.in_ok-bit.bit (bits_of c.args.listed) c.parts.invariant.mask c.if-bit-low.false c.in_ok-bit.ensures.below)
+returns-in_default-clause-below c = rw c.mask_of-mask.ensures (mask_is_below c.parts.mask c.parts.low c.in_ok-bit.bit (bit_count c.args.listed) c.parts.invariant.mask c.if-bit-low.false c.in_ok-bit.ensures.below)

@@ -1,6 +1,6 @@
 use Rattle.std.proofs.Common.{◌≡◌, ◌≤◌, ◌<◌, ◌^◌, length}
-use Rattle.kms_model.specs.Grammar.{parted, rising}
-use Rattle.kms_script.specs.Listed.{bit_of, bits_of}
+use Rattle.kms_model.specs.Script.Grammar.{parted, rising}
+use Rattle.kms_script.specs.Listed.{bit_of, bit_count}
 use Rattle.kms_script.proofs.Parts.{with_bits}
 use Rattle.kms_script.proofs.lists.read_list.Given as goal
 
@@ -9,7 +9,7 @@ invariant-parts l = record {
   read : with_bits l.mask (rising (bit_of l.listed) l.low (parted 44 l.rest)) ≡ rising (bit_of l.listed) 0 (parted 44 l.word);
   mask : l.mask < 2 ^ l.low;
   low : l.low ≤ 4;
-  below : l.low ≤ bits_of l.listed;
+  below : l.low ≤ bit_count l.listed;
 }
 
 abbrev pub decreases-parts : goal.decreases-parts

@@ -1,5 +1,5 @@
 use Rattle.std.proofs.Common.{◌≡◌, length}
-use Rattle.kms_model.specs.Grammar.{hex_bytes}
+use Rattle.kms_model.specs.Script.Grammar.{hex_bytes}
 use Rattle.kms_script.proofs.Loops.{joined}
 use Rattle.kms_script.proofs.numbers.read_bytes.Given as goal
 

@@ -1,5 +1,5 @@
 use Rattle.std.proofs.Common.{◌≡◌, ◌-◌, length}
-use Rattle.kms_model.specs.CommandLines.{pixels_at}
+use Rattle.kms_model.specs.Script.CommandLines.{pixels_at}
 use Rattle.kms_script.proofs.Loops.{joined}
 use Rattle.kms_script.proofs.patterns.take_pixels.Given as goal
 

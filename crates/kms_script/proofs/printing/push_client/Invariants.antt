@@ -1,7 +1,7 @@
 -- The lines of the commands so far were added.
 use Rattle.std.proofs.Common.{◌≡◌, ◌++◌, take}
 use Rattle.std.specs.List.{flat_map}
-use Rattle.kms_model.specs.TextLines.{line}
+use Rattle.kms_model.specs.Report.TextLines.{line}
 use Rattle.kms_script.specs.Spelling.{command_words}
 use Rattle.kms_script.proofs.printing.push_client.Given as goal
 

@@ -1,5 +1,5 @@
 use Rattle.std.proofs.Common.{◌≡◌, ◌++◌, true, false, sym, rules}
-use Rattle.kms_model.specs.Masks.{has_bit}
+use Rattle.kms_model.specs.Device.Masks.{has_bit}
 use Rattle.kms_script.specs.Printed.{item_word}
 use Rattle.kms_script.proofs.Listing.{comma_taken, comma_passed, list_passed, word_added}
 use Rattle.kms_script.proofs.printing_words.push_list.Goals as goal

@@ -1,6 +1,6 @@
 use Rattle.std.proofs.Common.{◌≡◌, ◌≤◌, length}
 use Rattle.std.specs.List.{list_all}
-use Rattle.kms_model.specs.Words.{number_from, is_digit}
+use Rattle.kms_model.specs.Script.Words.{number_from, is_digit}
 use Rattle.kms_script.proofs.words.read_dec.Given as goal
 
 abbrev pub invariant-reading : goal.invariant-reading

@@ -1,6 +1,6 @@
 use Rattle.std.proofs.Common.{◌≡◌, ◌+◌, ◌^◌, ◌*◌, ◌≤◌, length}
 use Rattle.std.specs.List.{list_all}
-use Rattle.kms_model.specs.Words.{hex_from, is_hex}
+use Rattle.kms_model.specs.Script.Words.{hex_from, is_hex}
 use Rattle.kms_script.proofs.words.read_digits.Given as goal
 
 abbrev pub invariant-reading : goal.invariant-reading

@@ -1,5 +1,5 @@
 use Rattle.std.proofs.Common.{◌≡◌, ◌+◌, ◌++◌, length, take, drop}
-use Rattle.kms_model.specs.Words.{until, from}
+use Rattle.kms_model.specs.Script.Words.{until, from}
 use Rattle.kms_script.proofs.words.split_at_byte.Given as goal
 
 abbrev pub invariant-seeking : goal.invariant-seeking

@@ -1,5 +1,5 @@
 use Rattle.std.proofs.Common.{◌≡◌, length}
-use Rattle.kms_model.specs.Words.{strip}
+use Rattle.kms_model.specs.Script.Words.{strip}
 use Rattle.kms_script.proofs.words.strip.Given as goal
 
 abbrev pub invariant-matching : goal.invariant-matching

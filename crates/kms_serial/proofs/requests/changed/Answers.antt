@@ -4,12 +4,12 @@ use Rattle.std.proofs.Math.ListN.{get_or}
 use Rattle.std.proofs.lemmas.List.{take_more}
 use Rattle.kms_model.specs.declared.objects.Topology.{Topology}
 use Rattle.kms_model.specs.declared.scripts.Assign.{Assign}
-use Rattle.kms_model.specs.Agreement.{AgreesNew}
-use Rattle.kms_model.specs.Apply.{apply}
-use Rattle.kms_model.specs.Lookups.{look_up}
-use Rattle.kms_model.specs.Resolves.{IsAllowed, IsSettable}
-use Rattle.kms_model.specs.SetRanges.{may_set}
-use Rattle.kms_model.specs.Sets.{set_of}
+use Rattle.kms_model.specs.Request.Agreement.{AgreesNew}
+use Rattle.kms_model.specs.Request.Apply.{apply}
+use Rattle.kms_model.specs.Request.Lookups.{look_up}
+use Rattle.kms_model.specs.Request.Resolves.{IsAllowed, IsSettable}
+use Rattle.kms_model.specs.Request.SetRanges.{may_set}
+use Rattle.kms_model.specs.Request.Sets.{set_of}
 use Rattle.kms_serial.proofs.Applying.{apply_more}
 use Rattle.kms_serial.proofs.Checking.{IsAllowedSet, allowed_set, nothing, set_agrees, set_duplicated, set_may, stands_between, stands_changed}
 use Rattle.kms_serial.proofs.requests.changed.Goals as goal

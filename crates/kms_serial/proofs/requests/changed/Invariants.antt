@@ -1,7 +1,7 @@
 use Rattle.std.proofs.Common.{◌≡◌, take}
 use Rattle.kms_model.specs.declared.objects.Topology.{Topology}
-use Rattle.kms_model.specs.Agreement.{AgreesNew}
-use Rattle.kms_model.specs.Apply.{apply}
+use Rattle.kms_model.specs.Request.Agreement.{AgreesNew}
+use Rattle.kms_model.specs.Request.Apply.{apply}
 use Rattle.kms_state.specs.Places.{old_states}
 use Rattle.kms_serial.specs.Device.{IsLetThrough}
 use Rattle.kms_serial.proofs.requests.changed.Given as goal

@@ -1,5 +1,5 @@
 use Rattle.std.proofs.Common.{◌≡◌, refl, sym}
-use Rattle.kms_model.specs.Verdict.{verdict}
+use Rattle.kms_model.specs.Request.Verdict.{verdict}
 use Rattle.kms_serial.proofs.Checking.{through}
 use Rattle.kms_serial.proofs.requests.check.Goals as goal
 

@@ -1,5 +1,5 @@
 use Rattle.std.proofs.Common.{◌≡◌, drop}
-use Rattle.kms_model.specs.Apply.{apply}
+use Rattle.kms_model.specs.Request.Apply.{apply}
 use Rattle.kms_serial.proofs.settings.apply.Given as goal
 
 abbrev pub invariant-loop-a : goal.invariant-loop-a

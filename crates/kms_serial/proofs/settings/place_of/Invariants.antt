@@ -1,6 +1,6 @@
 use Rattle.std.proofs.Common.{◌≡◌, ◌++◌, take, drop}
 use Rattle.std.specs.Prelude.{ℤ}
-use Rattle.kms_model.specs.World.{put}
+use Rattle.kms_model.specs.Device.World.{put}
 use Rattle.kms_serial.proofs.settings.place_of.Given as goal
 
 abbrev pub invariant-loop-place : goal.invariant-loop-place

@@ -1,5 +1,5 @@
 use Rattle.std.proofs.Common.{◌≡◌, ◌++◌, take}
-use Rattle.kms_model.specs.World.{settings}
+use Rattle.kms_model.specs.Device.World.{settings}
 use Rattle.kms_serial.proofs.start.push_all.Given as goal
 
 abbrev pub invariant-loop-prop : goal.invariant-loop-prop

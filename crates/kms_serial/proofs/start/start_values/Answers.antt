@@ -1,7 +1,7 @@
 use Rattle.std.proofs.Common.{◌≡◌, ◌≤◌, ◌++◌, ap, sym, ◌∙◌, arith, subst, refl, rules, append_assoc, length, List}
 use Rattle.std.proofs.Math.ListN.{get_or}
 use Rattle.kms_model.specs.declared.objects.PlaneInfo.{PlaneInfo}
-use Rattle.kms_model.specs.World.{start_crtc, start_conn, start_planes}
+use Rattle.kms_model.specs.Device.World.{start_crtc, start_conn, start_planes}
 use Rattle.kms_model.proofs.Spans.{flat_map-range_more}
 use Rattle.kms_serial.proofs.Starting.{planes_step, planes_end}
 use Rattle.kms_serial.proofs.start.start_values.Goals as goal

@@ -1,6 +1,6 @@
 use Rattle.std.proofs.Common.{◌≡◌, ◌++◌, drop}
 use Rattle.std.specs.List.{flat_map, range_with_len}
-use Rattle.kms_model.specs.World.{start_crtc, start_conn, start_planes}
+use Rattle.kms_model.specs.Device.World.{start_crtc, start_conn, start_planes}
 use Rattle.kms_serial.proofs.start.start_values.Given as goal
 
 abbrev pub invariant-loop-crtc : goal.invariant-loop-crtc

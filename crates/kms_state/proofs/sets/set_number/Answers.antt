@@ -6,7 +6,7 @@ use Rattle.kms_model.specs.declared.properties.TheConstants.{CRTC_ID, FB_ID}
 use Rattle.kms_model.specs.declared.sets.SetValue.TheVariants as to
 use Rattle.kms_model.specs.declared.states.Both.{Both}
 use Rattle.kms_model.specs.declared.states.PlaneState.{PlaneState}
-use Rattle.kms_model.specs.Apply.{is_kept}
+use Rattle.kms_model.specs.Request.Apply.{is_kept}
 use Rattle.kms_model.proofs.ValueLemmas.{Puts}
 use Rattle.kms_model.proofs.SetLemmas.{may_set-takes}
 use Rattle.kms_state.specs.Changes.{plane_with}

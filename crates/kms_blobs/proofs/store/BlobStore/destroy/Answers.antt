@@ -1,5 +1,5 @@
 use Rattle.std.proofs.Common.{rules, ◌≡◌, ap, sym, ◌∙◌}
-use Rattle.kms_model.specs.Tables.{without_id}
+use Rattle.kms_model.specs.Stores.Tables.{without_id}
 use Rattle.kms_model.proofs.OpenLemmas.{closed_values}
 use Rattle.kms_blobs.specs.Things.{blob_in}
 use Rattle.kms_blobs.proofs.store.BlobStore.destroy.Goals as goal

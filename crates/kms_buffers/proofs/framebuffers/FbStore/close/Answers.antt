@@ -1,5 +1,5 @@
 use Rattle.std.proofs.Common.{rules, ◌≡◌, refl, ap, sym, ◌∙◌}
-use Rattle.kms_model.specs.Tables.{without_id}
+use Rattle.kms_model.specs.Stores.Tables.{without_id}
 use Rattle.kms_model.proofs.OpenLemmas.{closed_values}
 use Rattle.kms_buffers.specs.Things.{fb_in, open_fbs}
 use Rattle.kms_buffers.proofs.Things.{fewer_closed}

@@ -1,5 +1,5 @@
 use Rattle.std.proofs.Common.{◌≡◌, drop}
-use Rattle.kms_model.specs.Sets.{look_in}
+use Rattle.kms_model.specs.Request.Sets.{look_in}
 use Rattle.kms_request.proofs.lookups.LookupsLooker.look.Given as goal
 
 -- what the entries that are left say is what all say

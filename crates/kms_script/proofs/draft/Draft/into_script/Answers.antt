@@ -1,5 +1,5 @@
 use Rattle.std.proofs.Common.{◌≡◌, ◌<◌, ◌≤◌, length, subst, sym}
-use Rattle.kms_model.specs.WholeInput.{Draft}
+use Rattle.kms_model.specs.Script.WholeInput.{Draft}
 use Rattle.kms_script.specs.Drafted.{draft_in, ended}
 use Rattle.kms_script.specs.Fitting.{HasFitClients, IsFitDevice}
 use Rattle.kms_script.proofs.Formed.{ended_device, well_formed}

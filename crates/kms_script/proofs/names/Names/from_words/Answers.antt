@@ -1,7 +1,7 @@
 use Rattle.std.proofs.Common.{◌≡◌, length, Some, refl, sym, ap, ◌∙◌}
 use Rattle.std.specs.Prelude.{slice_get}
 use Rattle.std.proofs.lemmas.Option.{slice_get_read}
-use Rattle.kms_model.specs.CommandLines.{saying}
+use Rattle.kms_model.specs.Script.CommandLines.{saying}
 use Rattle.kms_script.proofs.Naming.{next_unmade, room_for_one}
 use Rattle.kms_script.proofs.names.Names.from_words.Goals as goal
 

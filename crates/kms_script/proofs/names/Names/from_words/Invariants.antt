@@ -1,5 +1,5 @@
 use Rattle.std.proofs.Common.{◌≡◌, take}
-use Rattle.kms_model.specs.CommandLines.{unmade}
+use Rattle.kms_model.specs.Script.CommandLines.{unmade}
 use Rattle.kms_script.specs.Named.{names_in}
 use Rattle.kms_script.proofs.names.Names.from_words.Given as goal
 

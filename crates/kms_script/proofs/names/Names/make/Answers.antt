@@ -1,6 +1,6 @@
 use Rattle.std.proofs.Common.{ap, ◌∙◌, false}
 use Rattle.std.specs.Option.{unwrap_or}
-use Rattle.kms_model.specs.CommandLines.{place}
+use Rattle.kms_model.specs.Script.CommandLines.{place}
 use Rattle.kms_script.specs.Named.{names_in}
 use Rattle.kms_script.proofs.Naming.{text, making_names, place_called}
 use Rattle.kms_script.proofs.names.Names.make.Goals as goal

@@ -1,5 +1,5 @@
 use Rattle.std.proofs.Common.{ap, sym, ◌∙◌}
-use Rattle.kms_model.specs.CommandLines.{place}
+use Rattle.kms_model.specs.Script.CommandLines.{place}
 use Rattle.kms_script.specs.Named.{names_in}
 use Rattle.kms_script.proofs.Naming.{text, is_word, found_place, saying_new, saying_there, place_called}
 use Rattle.kms_script.proofs.names.Names.say.Goals as goal

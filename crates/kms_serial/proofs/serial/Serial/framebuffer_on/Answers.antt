@@ -1,9 +1,9 @@
 use Rattle.std.proofs.Common.{◌≡◌, ◌<◌, length, subst, sym, ap, ◌∙◌, pos, refl}
 use Rattle.kms_model.specs.declared.objects.Kind.TheVariants as kind
 use Rattle.kms_model.specs.declared.properties.TheConstants.{FB_ID}
-use Rattle.kms_model.specs.Late.{duplicate_at}
-use Rattle.kms_model.specs.Objects.{object_id}
-use Rattle.kms_model.specs.World.{value}
+use Rattle.kms_model.specs.Request.Late.{duplicate_at}
+use Rattle.kms_model.specs.Device.Objects.{object_id}
+use Rattle.kms_model.specs.Device.World.{value}
 use Rattle.kms_serial.specs.Device.{Device}
 use Rattle.kms_serial.specs.Framebuffers.{framebuffer_id}
 use Rattle.kms_serial.proofs.Naming.{fb_of_state}

@@ -1,6 +1,6 @@
 use Rattle.std.proofs.Common.{◌≡◌, None, subst}
 use Rattle.std.specs.Prelude.{IfNone}
-use Rattle.kms_model.specs.Images.{image_of}
+use Rattle.kms_model.specs.Frames.Images.{image_of}
 use Rattle.kms_serial.specs.Device.{Device}
 use Rattle.kms_serial.proofs.Images.{if_none}
 use Rattle.kms_serial.proofs.Naming.{no_image}

@@ -1,8 +1,8 @@
 use Rattle.std.proofs.Common.{◌≡◌, ◌<◌, subst, sym, rules}
 use Rattle.kms_serial.specs.Device.{Device}
 use Rattle.kms_model.specs.declared.objects.Kind.TheVariants as kind
-use Rattle.kms_model.specs.Objects.{object_id}
-use Rattle.kms_model.specs.Pictures.{picture}
+use Rattle.kms_model.specs.Device.Objects.{object_id}
+use Rattle.kms_model.specs.Frames.Pictures.{picture}
 use Rattle.kms_serial.specs.Shown.{EachCanBeShown}
 use Rattle.kms_serial.proofs.Shown.{may_picture-stands}
 use Rattle.kms_picture.proofs.FromSound.{has_room}

@@ -1,8 +1,8 @@
 use Rattle.std.proofs.Common.{◌≡◌, List, None, subst, sym}
 use Rattle.std.specs.Prelude.{All}
-use Rattle.kms_model.specs.Apply.{apply}
-use Rattle.kms_model.specs.Touched.{named_set, touched_set}
-use Rattle.kms_model.specs.Verdict.{verdict}
+use Rattle.kms_model.specs.Request.Apply.{apply}
+use Rattle.kms_model.specs.Request.Touched.{named_set, touched_set}
+use Rattle.kms_model.specs.Request.Verdict.{verdict}
 use Rattle.kms_request.proofs.WholeLemmas.{settable_between}
 use Rattle.kms_serial.specs.Device.{Device, IsLetThrough}
 use Rattle.kms_serial.proofs.Checking.{through-accepted}

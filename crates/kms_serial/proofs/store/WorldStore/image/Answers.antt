@@ -1,8 +1,8 @@
 use Rattle.std.proofs.Common.{◌≡◌, Some, None, sym, ◌∙◌, subst}
 use Rattle.std.specs.Prelude.{IfNone, IfSome}
 use Rattle.kms_model.specs.declared.worlds.World.{World}
-use Rattle.kms_model.specs.States.{framebuffer_of}
-use Rattle.kms_model.specs.World.{thing_with_id}
+use Rattle.kms_model.specs.Device.States.{framebuffer_of}
+use Rattle.kms_model.specs.Device.World.{thing_with_id}
 use Rattle.kms_serial.proofs.Images.{has_image, if_none, if_some, image_is}
 use Rattle.kms_serial.proofs.store.WorldStore.image.Goals as goal
 

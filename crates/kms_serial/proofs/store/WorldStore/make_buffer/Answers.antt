@@ -2,7 +2,7 @@ use Rattle.std.proofs.Common.{sym, None, ◌≡◌, ◌++◌, ◌∷◌, [], Lis
 use Rattle.kms_model.specs.declared.worlds.Content.TheVariants as content
 use Rattle.kms_model.specs.declared.worlds.Thing.{Thing}
 use Rattle.kms_model.specs.declared.worlds.World.{World}
-use Rattle.kms_model.specs.Execution.{new_buffer_refusal}
+use Rattle.kms_model.specs.Device.Execution.{new_buffer_refusal}
 use Rattle.kms_serial.specs.Index.{IsIndex}
 use Rattle.kms_serial.proofs.Kept.{all_below, kept_buffer}
 use Rattle.kms_serial.proofs.store.WorldStore.make_buffer.Goals as goal

@@ -3,7 +3,7 @@ use Rattle.std.proofs.Common.{◌≡◌, true, arith, refl, rules, subst, subst�
 use Rattle.kms_model.specs.declared.objects.Kind.TheVariants.{Plane}
 use Rattle.kms_model.specs.declared.properties.TheConstants.{ACTIVE, CRTC_ID, FB_ID, MODE_ID}
 use Rattle.kms_model.specs.declared.sets.SetValue.TheVariants as to
-use Rattle.kms_model.specs.SetRanges.{may_set}
+use Rattle.kms_model.specs.Request.SetRanges.{may_set}
 use Rattle.kms_state.specs.Changes.{IsSet, set_to}
 use Rattle.kms_state.proofs.Slots.{same_duplicated}
 use Rattle.kms_state.proofs.SetsProperty.{active_set, as_set, conn_move, fb_set, fence_set, made, mode_set, number_set, plane_move}

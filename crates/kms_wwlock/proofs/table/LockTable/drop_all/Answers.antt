@@ -1,7 +1,7 @@
 use Rattle.std.proofs.Common.{◌≡◌, ◌==◌, not, rules, refl, sym, subst, filter, List}
 use Rattle.std.proofs.lemmas.Fn.{filter_same}
 use Rattle.kms_wwlock.specs.declared.contexts.Context.{Context}
-use Rattle.kms_wwlock.specs.Table.{Table, AreKept}
+use Rattle.kms_wwlock.specs.Table.{Table, AreOfTable}
 use Rattle.kms_wwlock.proofs.Kept.{others_kept}
 use Rattle.kms_wwlock.proofs.Meanings.{over_is_doing}
 use Rattle.kms_wwlock.proofs.table.LockTable.drop_all.Goals as goal
@@ -13,7 +13,7 @@ kept c = filter_same _ (λ (x : Context). not (x.ticket.0 == c.args.t.0)) _ (λ 
 
 pub invariant_of-self : goal.invariant_of-self
 invariant_of-self c =
-    subst (λ (xs : List Context). AreKept xs c.self.inside.drawn) (sym (kept c))
+    subst (λ (xs : List Context). AreOfTable xs c.self.inside.drawn) (sym (kept c))
     (others_kept (λ (x : Context). not (x.ticket.0 == c.args.t.0)) c.self.inside.contexts.items c.self.inside.drawn c.self.invariant)
 
 pub returns-clause-after : goal.returns-clause-after

@@ -3,7 +3,7 @@ use Rattle.std.specs.Vec.{with_items}
 use Rattle.kms_model.specs.declared.objects.ObjId.{ObjId}
 use Rattle.kms_wwlock.specs.Table.{Table, doing_in}
 use Rattle.kms_wwlock.specs.declared.contexts.Doing.TheVariants.{Taking, BackedOff}
-use Rattle.kms_wwlock.specs.Objects.{IsLockable, place_of}
+use Rattle.kms_wwlock.specs.Objects.{IsLockable, lock_place}
 use Rattle.kms_wwlock.specs.Calls.{with_doing}
 use Rattle.kms_wwlock.proofs.Meanings.{relocked_at}
 use Rattle.kms_wwlock.proofs.Kept.{named, front_is, front_kept}
@@ -35,6 +35,6 @@ returns-in-None-clause-got c = λ _. λ id is.
     (relocked_at old c.args.t id c.place_of.result (with_items c.self.inside.contexts c.set_doing.new.contexts).items
     (search rules)
     (subst IsLockable (sym same) (lockable (goal.at.returns-in-None-clause-got c).In-Some-BackedOff))
-    (c.place_of.ensures.place ∙ ap (λ (o : ObjId). place_of o) (sym same))
+    (c.place_of.ensures.place ∙ ap (λ (o : ObjId). lock_place o) (sym same))
     (front_is old.contexts c.set_doing.new.contexts c.self.inside.contexts.len (search rules) ∙ written)
     asked)

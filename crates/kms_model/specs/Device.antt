@@ -1,0 +1,11 @@
+pub mod Objects
+pub mod Modes
+pub mod ModeBytes
+pub mod Properties
+pub mod Masks
+pub mod World
+pub mod States
+pub mod Sound
+pub mod Closing
+pub mod Execution
+pub mod Serial

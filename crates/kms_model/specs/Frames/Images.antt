@@ -1,0 +1,48 @@
+-- Images of framebuffers: what is read of a buffer, word by word, and the layers that can be shown over them.
+-- From: "Frame Buffer Abstraction"; "Plane Composition Properties".
+use Rattle.std.specs.Prelude.{◌≡◌, ◌≤◌, ℕ, ◌+◌, ◌*◌, ℤ, pos, ◌*ℤ◌, ◌≤ℤ◌, true, List, Option, Some, None, slice_index}
+use Rattle.kms_model.specs.declared.objects.Mode.{Mode}
+use Rattle.kms_model.specs.declared.pictures.Layer.{Layer}
+use Rattle.kms_model.specs.declared.worlds.Content.{Content}
+use Rattle.kms_model.specs.declared.worlds.Content.TheVariants as content
+use Rattle.kms_model.specs.declared.worlds.Thing.{Thing}
+use Rattle.kms_model.specs.Script.Words.{◌>>=◌}
+use Rattle.kms_model.specs.Device.World.{thing_with_id}
+use Rattle.kms_model.specs.Frames.Pictures.{clip, mode_area}
+use Rattle.kms_model.specs.Frames.Rectangles.{fits_source}
+use Rattle.kms_model.specs.Frames.FrameBytes.{buffer_id_in}
+use Rattle.kms_model.specs.Stores.Kept.{Seen, buffer_words}
+
+-- the word at (x, y) of what is read of a buffer, row by row
+abbrev pub seen_word : Seen → ℕ → ℕ → ℕ
+seen_word s x y = slice_index s.words (y * s.width + x)
+
+-- what is read of a thing that is a buffer: the words of its pattern
+abbrev pub seen_in : Content → Option Seen
+seen_in (content.Buffer width height format pattern) = Some (record { width = width; height = height; format = format; words = buffer_words pattern format width height })
+seen_in (content.Framebuffer info buffer) = None
+seen_in (content.Mode m) = None
+seen_in (content.Blob bytes) = None
+seen_in content.Fence = None
+seen_in content.OutFence = None
+
+-- what is read of a framebuffer: its buffer
+abbrev pub image_of : List Thing → ℕ → Option Seen
+image_of things fb = do
+  f ← thing_with_id things fb
+  id ← buffer_id_in f.content
+  b ← thing_with_id things id
+  seen_in b.content
+
+-- A layer as a check of the state lets it through: its source begins and ends in its framebuffer and is as large as
+-- its destination, and what is visible of it is the destination clipped to the mode.
+-- From: `drm_atomic_plane_check`; that planes do not scale is own.
+pub record FitsMode (m : Mode) (l : Layer) : Type 0 where
+  pub visible : l.visible ≡ clip l.dst (mode_area m)
+  pub alpha : l.alpha ≤ 65535
+  pub blend : l.blend ≤ 2
+  pub left : pos 0 ≤ℤ l.src.x
+  pub top : pos 0 ≤ℤ l.src.y
+  pub fits : fits_source l.src l.fb.width l.fb.height ≡ true
+  pub width : l.src.w ≡ pos 65536 *ℤ l.dst.w
+  pub height : l.src.h ≡ pos 65536 *ℤ l.dst.h

@@ -1,0 +1,13 @@
+pub mod Flags
+pub mod Lookups
+pub mod Apply
+pub mod Named
+pub mod Touched
+pub mod Refusals
+pub mod Checks
+pub mod Late
+pub mod Verdict
+pub mod Sets
+pub mod SetRanges
+pub mod Resolves
+pub mod Agreement

@@ -1,0 +1,7 @@
+pub mod Words
+pub mod InputLines
+pub mod Grammar
+pub mod CommandLines
+pub mod WholeInput
+pub mod WellFormed
+pub mod Built
