@@ -1,8 +1,7 @@
 -- The CRTCs of planes and connectors before and after a request.
-use Rattle.std.proofs.Common.{◌≡◌, ◌≢◌, ◌∙◌, ◌⊎◌, ℕ, ◌+◌, ◌<◌, ◌≤◌, List, [], ◌∷◌, Bool, true, false, Option, Some, None, ℤ, pos, inl, inr, arith, refl, sym, ap, subst}
-use Rattle.std.specs.Prelude.{◌==◌, All, length}
-use Rattle.std.specs.List.{list_any, AllByRecursion}
-use Rattle.std.specs.Ordering.{int_eq}
+use Rattle.std.proofs.Common.{◌≡◌, ◌∙◌, ◌⊎◌, ℕ, List, [], ◌∷◌, true, Option, Some, None, pos, inl, inr, refl, sym, ap, subst}
+use Rattle.std.specs.Prelude.{All, length}
+use Rattle.std.specs.List.{AllByRecursion}
 use Rattle.std.proofs.lemmas.Bool.{ltb-true}
 use Rattle.std.proofs.lemmas.Bool.Decides.{Decides-int_eq}
 use Rattle.std.proofs.lemmas.List.Elements.{recursion_from_All}
@@ -23,9 +22,9 @@ use Rattle.kms_model.specs.Device.Objects.{exists, object_id}
 use Rattle.kms_model.specs.Device.World.{value as value_of}
 use Rattle.kms_model.specs.Device.States.{crtc_at, natural}
 use Rattle.kms_model.specs.Device.Properties.{property}
-use Rattle.kms_model.specs.Request.Apply.{apply, number_of, object_of, prop_of}
+use Rattle.kms_model.specs.Request.Apply.{apply, number_of, prop_of}
 use Rattle.kms_model.specs.Request.Named.{is_routed}
-use Rattle.kms_model.specs.Request.Refusals.{has_property, is_in_range, is_in_range_of, is_of_kind, is_value}
+use Rattle.kms_model.specs.Request.Refusals.{has_property, is_in_range, is_in_range_of, is_of_kind}
 use Rattle.kms_model.specs.Request.Resolves.{IsAllowed}
 use Rattle.kms_model.specs.Request.Sets.{crtc_value}
 use Rattle.kms_model.specs.Device.Sound.{IsCrtcOrNone}
@@ -43,7 +42,7 @@ all_in {A} P xs x all member = go xs (recursion_from_All P xs all) member
   where
     go : (ys : List A) → AllByRecursion P ys → IsIn x ys → P x
     go [] rest member = absurd member
-    go (y ∷ ys) rest (inl same) = subst P (sym same) rest.0
+    go (y ∷ ys) rest (inl same) = subst P same rest.0
     go (y ∷ ys) rest (inr later) = go ys rest.1 later
 
 -- the CRTC that a value of CRTC_ID is

@@ -1,8 +1,7 @@
 -- The words of what is read of a framebuffer are those of its buffer's pattern.
-use Rattle.std.proofs.Common.{◌≡◌, ◌<◌, ◌≤◌, ℕ, ◌+◌, ◌-◌, ◌*◌, zero, suc, List, [], ◌∷◌, ◌++◌, length, slice_index, Option, Some, None, ap, sym, ◌∙◌, ⊎_elim, refl, arith, rules, add-one}
+use Rattle.std.proofs.Common.{◌≡◌, ◌<◌, ℕ, ◌+◌, ◌*◌, zero, suc, List, ◌++◌, slice_index, Option, Some, None, ap, sym, ◌∙◌, arith}
 use Rattle.std.specs.Prelude.{map}
 use Rattle.std.specs.List.{flat_map, range_with_len}
-use Rattle.std.proofs.lemmas.Bool.{cases_lt}
 use Rattle.std.proofs.lemmas.List.{get_or_append_left, get_or-append-add}
 use Rattle.std.proofs.lemmas.List.FromFn.{length-map-range_with_len, get_or-map-range_with_len}
 use Rattle.std.proofs.lemmas.Option.{same_Some}
@@ -15,8 +14,7 @@ use Rattle.kms_model.specs.Script.Words.{◌>>=◌}
 use Rattle.kms_model.specs.Device.World.{thing_with_id}
 use Rattle.kms_model.specs.Frames.FrameBytes.{buffer_id_in, pattern_word, word_in, word_of}
 use Rattle.kms_model.specs.Frames.Images.{image_of, seen_in, seen_word}
-use Rattle.kms_model.specs.Stores.Kept.{Seen, row_words, buffer_words}
-use Rattle.kms_model.proofs.Spans.{flat_map-range_suc}
+use Rattle.kms_model.specs.Stores.Kept.{Seen, buffer_words}
 
 -- rows of one length, one after the other
 module _ (f : ℕ → ℕ → ℕ) (width : ℕ) where

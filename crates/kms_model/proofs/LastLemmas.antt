@@ -1,6 +1,6 @@
 -- The last assignments of a request, and what they leave.
-use Rattle.std.proofs.Common.{◌≡◌, ◌∙◌, ◌⊎◌, ℕ, List, [], ◌∷◌, ◌++◌, Bool, true, false, Option, Some, None, ℤ, inl, inr, arith, refl, sym, ap, subst}
-use Rattle.std.specs.Prelude.{not, ◌&&◌, ◌||◌, ◌==◌}
+use Rattle.std.proofs.Common.{◌≡◌, ◌∙◌, ◌⊎◌, ℕ, List, [], ◌∷◌, Bool, true, false, Option, Some, None, inl, inr, arith, refl, sym, ap, subst}
+use Rattle.std.specs.Prelude.{◌&&◌, ◌==◌}
 use Rattle.std.specs.List.{list_any}
 use Rattle.std.proofs.lemmas.Bool.{and_parts, and_from, or_cases, or_left, or_right, or_parts, cases_Bool, eqb-true, eq-eqb}
 use Rattle.std.proofs.lemmas.Bool.Decides.{nat_tests}
@@ -12,11 +12,7 @@ use Rattle.kms_model.specs.Request.Apply.{object_of, prop_of}
 use Rattle.kms_model.specs.Firsts.{or_else}
 use Rattle.kms_model.specs.Request.Sets.{has_target_of, last_sets, set_of}
 use Rattle.kms_model.specs.Request.Touched.{last_value, value_if}
-
--- an item is in a list
-abbrev pub IsIn : {A : Type 0} → A → List A → Type 0
-IsIn x [] = ⊥
-IsIn x (y ∷ ys) = (x ≡ y) ⊎ IsIn x ys
+pub use Rattle.kms_model.proofs.Items.{IsIn}
 
 pub record SomeIn {A : Type 0} (p : A → Bool) (xs : List A) : Type 0 where
   pub item : A
@@ -33,7 +29,7 @@ some_in p (x ∷ xs) any = elim (or_cases (p x) (list_any p xs) any) [
 
 pub in_passes : {A : Type 0} (p : A → Bool) (xs : List A) (x : A) → IsIn x xs → p x ≡ true → list_any p xs ≡ true
 in_passes p [] x member passes = absurd member
-in_passes p (y ∷ ys) x (inl same) passes = or_left (p y) (list_any p ys) (subst (λ z. p z ≡ true) same passes)
+in_passes p (y ∷ ys) x (inl same) passes = or_left (p y) (list_any p ys) (subst (λ z. p z ≡ true) (sym same) passes)
 in_passes p (y ∷ ys) x (inr later) passes = or_right (p y) (list_any p ys) (in_passes p ys x later passes)
 
 -- two assignments set one property of one object
@@ -103,10 +99,10 @@ has_last f (b ∷ assigns) a (inl same) = elim (cases_Bool (list_any (has_target
       let target = same_target b found.item found.passes in
       record {
         item = last.item;
-        same = record { object = ap object_of same ∙ target.object ∙ last.same.object; prop = ap (λ (x : Assign). prop_of x.prop) same ∙ target.prop ∙ last.same.prop };
+        same = record { object = ap object_of (sym same) ∙ target.object ∙ last.same.object; prop = ap (λ (x : Assign). prop_of x.prop) (sym same) ∙ target.prop ∙ last.same.prop };
         is = last_later f b assigns last.item last.is;
       })
-  | inr none ↦ record { item = b; same = record { object = ap object_of same; prop = ap (λ (x : Assign). prop_of x.prop) same }; is = last_here f b assigns none }
+  | inr none ↦ record { item = b; same = record { object = ap object_of (sym same); prop = ap (λ (x : Assign). prop_of x.prop) (sym same) }; is = last_here f b assigns none }
 ]
 
 -- each set comes from a last assignment
@@ -118,8 +114,8 @@ pub record FromLast (f : ℕ → Look) (assigns : List Assign) (s : Set) : Type 
 from_later : (f : ℕ → Look) (a : Assign) (assigns : List Assign) (s : Set) → FromLast f assigns s → FromLast f (a ∷ assigns) s
 from_later f a assigns s from = record { item = from.item; set = from.set; is = last_later f a assigns from.item from.is }
 
-from_here : (f : ℕ → Look) (a : Assign) (assigns : List Assign) (s : Set) → list_any (has_target_of a) assigns ≡ false → (IsIn s (last_sets f assigns) → FromLast f assigns s) → (s ≡ set_of f a) ⊎ IsIn s (last_sets f assigns) → FromLast f (a ∷ assigns) s
-from_here f a assigns s none rest (inl same) = record { item = a; set = same; is = last_here f a assigns none }
+from_here : (f : ℕ → Look) (a : Assign) (assigns : List Assign) (s : Set) → list_any (has_target_of a) assigns ≡ false → (IsIn s (last_sets f assigns) → FromLast f assigns s) → (set_of f a ≡ s) ⊎ IsIn s (last_sets f assigns) → FromLast f (a ∷ assigns) s
+from_here f a assigns s none rest (inl same) = record { item = a; set = sym same; is = last_here f a assigns none }
 from_here f a assigns s none rest (inr later) = from_later f a assigns s (rest later)
 
 pub from_last : (f : ℕ → Look) (assigns : List Assign) (s : Set) → IsIn s (last_sets f assigns) → FromLast f assigns s

@@ -1,22 +1,18 @@
 -- Refusals 9 to 24 of duplicated states are those of the values that the states agree with.
-use Rattle.std.proofs.Common.{◌≡◌, ◌≢◌, ℕ, zero, suc, ◌+◌, ◌-◌, ◌<◌, ◌≤◌, ◌⊎◌, Bool, true, false, cond, List, [], ◌∷◌, length, map, Option, Some, None, inl, inr, arith, refl, sym, ap, ◌∙◌, subst}
-use Rattle.std.specs.Prelude.{◌&&◌, ◌||◌, ◌==◌, not, ℤ, pos, negsuc, int_le, is_none, is_some, filter, slice_get, if◌then◌else◌, nat_lt}
+use Rattle.std.proofs.Common.{◌≡◌, ℕ, zero, suc, ◌+◌, ◌-◌, ◌<◌, ◌≤◌, ◌⊎◌, Bool, true, false, List, [], ◌∷◌, length, map, Option, Some, None, inl, inr, arith, refl, sym, ap, ◌∙◌, subst}
+use Rattle.std.specs.Prelude.{◌&&◌, ◌||◌, ◌==◌, not, ℤ, pos, negsuc, int_le, is_some, filter, slice_get, if◌then◌else◌, nat_lt}
 use Rattle.std.specs.List.{list_any, range_with_len}
 use Rattle.std.specs.Ordering.{int_eq}
 use Rattle.std.specs.Option.{option_and_then, option_flatten}
-use Rattle.std.proofs.lemmas.Bool.{eqb-true, eq-eqb, ne_eqb, and_parts, and_from, or_parts, or_from, or_left, or_cases, cases_Bool, cond-true, cond-false, leb-true, ltb-true, lt-ltb, not-false, not_from_true, not_from_false, both_ways, false_from_ne_true, false≢true, cases_lt}
+use Rattle.std.proofs.lemmas.Bool.{eq-eqb, ne_eqb, cases_Bool, lt-ltb, not_from_true, not_from_false, both_ways, false≢true, cases_lt}
 use Rattle.std.proofs.lemmas.Nat.{pow_pos}
 use Rattle.std.proofs.lemmas.Option.{slice_get_within}
-use Rattle.std.proofs.lemmas.Bool.Decides.{Decides-int_eq}
 use Rattle.kms_model.specs.declared.objects.Kind.{Kind}
 use Rattle.kms_model.specs.declared.objects.Kind.TheVariants as kind
-use Rattle.kms_model.specs.declared.objects.Mode.{Mode}
-use Rattle.kms_model.specs.declared.objects.PlaneInfo.{PlaneInfo}
 use Rattle.kms_model.specs.declared.objects.Topology.{Topology}
-use Rattle.kms_model.specs.declared.properties.TheConstants.{ACTIVE, MODE_ID, CRTC_ID}
+use Rattle.kms_model.specs.declared.properties.TheConstants.{ACTIVE}
 use Rattle.kms_model.specs.declared.scripts.Request.{Request}
 use Rattle.kms_model.specs.declared.states.Both.{Both}
-use Rattle.kms_model.specs.declared.states.ConnState.{ConnState}
 use Rattle.kms_model.specs.declared.states.CrtcState.{CrtcState}
 use Rattle.kms_model.specs.declared.states.Duplicates.{Duplicates}
 use Rattle.kms_model.specs.declared.states.Mask.{Mask}
@@ -25,21 +21,20 @@ use Rattle.kms_model.specs.declared.worlds.Setting.{Setting}
 use Rattle.kms_model.specs.declared.worlds.Thing.{Thing}
 use Rattle.kms_model.specs.declared.worlds.World.{World}
 use Rattle.kms_model.specs.Firsts.{or_else, first_some, number_if}
-use Rattle.kms_model.specs.Request.Flags.{wants_event, allows_modeset}
-use Rattle.kms_model.specs.Device.Masks.{has_bit, mask_below}
+use Rattle.kms_model.specs.Device.Masks.{has_bit}
 use Rattle.kms_model.specs.Device.Modes.{same_mode}
 use Rattle.kms_model.specs.Device.Objects.{first_id, object_id, count_of, ids_of}
 use Rattle.kms_model.specs.Device.World.{value}
-use Rattle.kms_model.specs.Device.States.{natural, mode_at, crtc_at, plane_at}
+use Rattle.kms_model.specs.Device.States.{mode_at, crtc_at, plane_at}
 use Rattle.kms_model.specs.Request.Named.{names, differs, is_rerouted, needs_modeset}
-use Rattle.kms_model.specs.Request.Touched.{set_where, named_set, is_asked, out_fence_label, asks_signal}
-use Rattle.kms_model.specs.Request.Agreement.{on_crtc, crtc_state_at, conn_state_at, AreOld, AreNew, AgreesOld, AgreesNew}
-use Rattle.kms_model.specs.Request.Checks.{with_ids, is_active, conns_on, plane_refusal, plane_refusal_at, crtc_refusal, crtc_refusal_at, conn_refusal, conn_refusal_at, clone_refusal_at, route_refusal_at, shown_refusal, shown_refusal_at, event_refusal, modeset_refusal, late_refusal}
+use Rattle.kms_model.specs.Request.Touched.{set_where, named_set, is_asked, out_fence_label}
+use Rattle.kms_model.specs.Request.Agreement.{on_crtc, crtc_state_at, AgreesOld, AgreesNew}
+use Rattle.kms_model.specs.Request.Checks.{with_ids, plane_refusal_at, crtc_refusal_at, conn_refusal_at, clone_refusal_at, route_refusal_at, shown_refusal, shown_refusal_at, late_refusal}
 use Rattle.kms_model.specs.Request.Late.{duplicate_at, duplicate_in, members, plane_refusal_of, crtc_refusal_of, conn_refusal_of, clone_refusal_of, route_refusal_of, new_mode, shown_refusal_of, needs_modeset_between, needs_modeset_if, first_in, late_of_states}
 use Rattle.kms_model.specs.Device.Sound.IsCrtcOrNone.{IsNone, IsCrtc}
 use Rattle.kms_model.specs.Device.Sound.{IsCrtcOrNone, kept_properties}
 use Rattle.kms_model.proofs.Items.{IsIn, ids-has, list_any-at, with_ids-has}
-use Rattle.kms_model.proofs.MaskLemmas.{has_bit-mask_below, has_bit-below, same_masks, same_tests, mask_from}
+use Rattle.kms_model.proofs.MaskLemmas.{has_bit-below, same_masks, same_tests, mask_from}
 use Rattle.kms_model.proofs.UnionLemmas.{has_bit-zero}
 use Rattle.kms_model.proofs.HeldValues.{AreAllHeld, all_held-from}
 use Rattle.kms_model.proofs.SeenLemmas.{row-at, plane_crtc-held, shown-off}

@@ -1,15 +1,13 @@
 -- Requests that pass refusals 1 to 8, and what their assignments set.
-use Rattle.std.proofs.Common.{◌≡◌, ◌≢◌, ◌∙◌, ℕ, ◌+◌, ◌<◌, ◌≤◌, ◌^◌, List, [], ◌∷◌, ◌++◌, Bool, true, false, Option, Some, None, ℤ, pos, negsuc, refl, sym, ap, subst, arith, rules, inl, inr, cond, lit<}
-use Rattle.std.specs.Prelude.{not, ◌&&◌, ◌||◌, ◌==◌, int_le, nat_le, find, IsTrue, All, IfSome, length, if◌then◌else◌}
-use Rattle.std.specs.List.{list_any, list_all}
-use Rattle.std.specs.Ordering.{int_eq}
-use Rattle.std.proofs.lemmas.Bool.{and_parts, cases_Bool, ltb-true, leb-true, not-true}
+use Rattle.std.proofs.Common.{◌≡◌, ℕ, ◌≤◌, List, [], ◌∷◌, Bool, true, false, Option, Some, None, ℤ, pos, negsuc, refl, sym, subst, arith, inl, inr, lit<}
+use Rattle.std.specs.Prelude.{not, ◌&&◌, int_le, nat_le, find, All, IfSome, length}
+use Rattle.std.specs.List.{list_all}
+use Rattle.std.proofs.lemmas.Bool.{and_parts, ltb-true, leb-true, not-true}
 use Rattle.std.proofs.lemmas.Bool.Decides.{eqb_tells, nat_tests, Decides-int_eq}
 use Rattle.std.proofs.lemmas.List.Elements.{All-nil, All-cons, All-weaker}
 use Rattle.kms_model.specs.declared.objects.Kind.{Kind}
 use Rattle.kms_model.specs.declared.objects.Kind.TheVariants as kind
 use Rattle.kms_model.specs.declared.objects.Topology.{Topology}
-use Rattle.kms_model.specs.declared.properties.TheConstants.{FB_ID, IN_FENCE_FD, MODE_ID, OUT_FENCE_PTR}
 use Rattle.kms_model.specs.declared.ranges.Range.{Range}
 use Rattle.kms_model.specs.declared.ranges.Range.TheVariants.{Numbers, Thing, CrtcName}
 use Rattle.kms_model.specs.declared.scripts.Assign.{Assign}
@@ -21,12 +19,12 @@ use Rattle.kms_model.specs.declared.scripts.Value.TheVariants.{Num, Named, New, 
 use Rattle.kms_model.specs.declared.worlds.Look.{Look}
 use Rattle.kms_model.specs.Firsts.{or_else, number_if}
 use Rattle.kms_model.specs.Device.Objects.{exists, count_of}
-use Rattle.kms_model.specs.Device.Properties.{Property, properties, property, has_id, keeps_limits, same_kind}
+use Rattle.kms_model.specs.Device.Properties.{Property, properties, property, has_id, keeps_limits}
 use Rattle.kms_model.specs.Script.Words.{between}
 use Rattle.kms_model.proofs.Items.{number_if-none}
 use Rattle.kms_model.proofs.PropertyTable.{find-list_all}
-use Rattle.kms_model.specs.Request.Refusals.{flags_refusal, assign_refusal, assigns_refusal, early_refusal, has_property, is_immutable, is_value, is_in_range, is_in_range_of, is_second_fence, names_fence, is_of_kind}
-use Rattle.kms_model.specs.Request.Apply.{prop_of, object_of}
+use Rattle.kms_model.specs.Request.Refusals.{flags_refusal, assign_refusal, assigns_refusal, early_refusal, has_property, is_immutable, is_value, is_in_range, is_in_range_of, is_of_kind}
+use Rattle.kms_model.specs.Request.Apply.{prop_of}
 use Rattle.kms_model.specs.Request.Resolves.{IsAllowed, IsSettable, IsSettableNumber, IsSettableValue, HasPlace}
 
 -- the first of several is none where each is

@@ -1,15 +1,14 @@
 -- What an accepted assignment sets stands for the number that its value then is.
-use Rattle.std.proofs.Common.{◌≡◌, ◌≢◌, ℕ, ◌+◌, ◌≤◌, Bool, true, false, List, [], ◌∷◌, length, Option, Some, None, inl, inr, arith, refl, sym, ap, ◌∙◌, subst}
-use Rattle.std.specs.Prelude.{◌&&◌, ◌||◌, ◌==◌, not, ℤ, pos, find, IfSome, if◌then◌else◌}
+use Rattle.std.proofs.Common.{◌≡◌, ℕ, ◌+◌, ◌≤◌, Bool, true, false, List, [], ◌∷◌, Option, Some, None, inl, inr, arith, refl, ap, ◌∙◌, subst}
+use Rattle.std.specs.Prelude.{◌||◌, ◌==◌, not, pos, find, IfSome, if◌then◌else◌}
 use Rattle.std.specs.List.{list_all}
 use Rattle.std.specs.Ordering.{int_eq}
 use Rattle.std.specs.Result.{result_ok}
-use Rattle.std.proofs.lemmas.Bool.{eqb-true, cases_Bool, false_from_ne_true, ne_eqb}
+use Rattle.std.proofs.lemmas.Bool.{eqb-true, cases_Bool, false_from_ne_true}
 use Rattle.std.proofs.lemmas.Bool.Decides.{Decides-int_eq}
 use Rattle.kms_model.specs.declared.objects.Mode.{Mode}
 use Rattle.kms_model.specs.declared.objects.Topology.{Topology}
-use Rattle.kms_model.specs.declared.pictures.FbInfo.{FbInfo}
-use Rattle.kms_model.specs.declared.properties.TheConstants.{FB_ID, CRTC_ID, MODE_ID, OUT_FENCE_PTR}
+use Rattle.kms_model.specs.declared.properties.TheConstants.{FB_ID, CRTC_ID, MODE_ID}
 use Rattle.kms_model.specs.declared.ranges.Range.{Range}
 use Rattle.kms_model.specs.declared.ranges.Range.TheVariants.{Numbers, Thing, CrtcName}
 use Rattle.kms_model.specs.declared.scripts.Assign.{Assign}
@@ -27,15 +26,14 @@ use Rattle.kms_model.specs.Request.Lookups.{look_of, look_of_content, look_of_mo
 use Rattle.kms_model.specs.Device.ModeBytes.{decoded}
 use Rattle.kms_model.specs.Device.Modes.{is_legal_mode}
 use Rattle.kms_model.specs.Device.Properties.{Property, properties, property, has_id}
-use Rattle.kms_model.specs.Request.Refusals.{takes, is_in_range, is_in_range_of, is_value}
+use Rattle.kms_model.specs.Request.Refusals.{takes, is_in_range, is_in_range_of}
 use Rattle.kms_model.specs.Request.Sets.{fb_of_look, mode_of_look, fb_value, mode_value, crtc_value, number_value, set_value}
 use Rattle.kms_model.specs.Device.Sound.{AreNumbered}
 use Rattle.kms_model.specs.Device.States.{framebuffer_of, framebuffer_in, mode_of, mode_in}
 use Rattle.kms_model.specs.Device.World.{thing_labelled, thing_numbered}
-use Rattle.kms_model.proofs.Items.{IsIn}
 use Rattle.kms_model.proofs.HeldValues.{IsAccepted}
 use Rattle.kms_model.proofs.PropertyTable.{find-list_all}
-use Rattle.kms_model.proofs.ThingLemmas.{IsNumberedIn, ids-numbered, find-in, thing_numbered-labelled}
+use Rattle.kms_model.proofs.ThingLemmas.{thing_numbered-labelled}
 
 -- no thing has the number 0
 pub thing_numbered-zero : (n : ℕ) (things : List worlds.Thing) → 1 ≤ n → AreNumbered n things → thing_numbered things (pos 0) ≡ None

@@ -1,9 +1,8 @@
 -- Objects that a request does not touch keep passing what they passed in a sound world.
-use Rattle.std.proofs.Common.{◌≡◌, ◌≢◌, ℕ, ◌+◌, ◌<◌, ◌≤◌, ◌⊎◌, Bool, true, false, cond, List, [], ◌∷◌, length, Option, Some, None, inl, inr, arith, refl, sym, ap, ◌∙◌, subst}
-use Rattle.std.specs.Prelude.{◌&&◌, ◌||◌, ◌==◌, not, ℤ, pos, is_none, is_some, filter, if◌then◌else◌, nat_lt}
-use Rattle.std.specs.List.{list_any}
+use Rattle.std.proofs.Common.{◌≡◌, ℕ, ◌<◌, ◌≤◌, Bool, true, false, List, [], ◌∷◌, length, Option, Some, None, inl, inr, arith, refl, sym, ap, ◌∙◌, subst}
+use Rattle.std.specs.Prelude.{◌&&◌, ◌==◌, not, pos, is_none, is_some, nat_lt}
 use Rattle.std.specs.Ordering.{int_eq}
-use Rattle.std.proofs.lemmas.Bool.{eqb-true, eq-eqb, and_parts, and_from, or_parts, or_from, or_left, or_cases, cases_Bool, cond-true, cond-false, leb-true, ltb-true, not-false, not_from_true, both_ways, false_from_ne_true}
+use Rattle.std.proofs.lemmas.Bool.{eqb-true, eq-eqb, and_parts, and_from, or_parts, or_from, or_left, cases_Bool, leb-true, ltb-true, not-false, not_from_true, both_ways, false_from_ne_true}
 use Rattle.std.proofs.lemmas.Bool.Decides.{Decides-int_eq}
 use Rattle.kms_model.specs.declared.objects.Kind.{Kind}
 use Rattle.kms_model.specs.declared.objects.Kind.TheVariants as kind
@@ -14,39 +13,34 @@ use Rattle.kms_model.specs.declared.properties.TheConstants.{ACTIVE, MODE_ID, CR
 use Rattle.kms_model.specs.declared.scripts.Assign.{Assign}
 use Rattle.kms_model.specs.declared.scripts.Request.{Request}
 use Rattle.kms_model.specs.declared.states.PlaneState.{PlaneState}
-use Rattle.kms_model.specs.declared.worlds.Setting.{Setting}
-use Rattle.kms_model.specs.declared.worlds.Thing.{Thing}
 use Rattle.kms_model.specs.declared.worlds.World.{World}
-use Rattle.kms_model.specs.Firsts.{or_else, first_some, number_if}
+use Rattle.kms_model.specs.Firsts.{first_some, number_if}
 use Rattle.kms_model.specs.Script.Words.{between}
 use Rattle.kms_model.specs.Device.Modes.{same_mode}
-use Rattle.kms_model.specs.Device.Objects.{first_id, object_id, count_of, ids_of, exists}
+use Rattle.kms_model.specs.Device.Objects.{first_id, object_id, count_of, ids_of}
 use Rattle.kms_model.specs.Device.Properties.{keeps_limits}
 use Rattle.kms_model.specs.Device.World.{value}
 use Rattle.kms_model.specs.Device.States.{natural, mode_at, crtc_at, plane_at, plane_from}
 use Rattle.kms_model.specs.Request.Lookups.{look_up}
-use Rattle.kms_model.specs.Request.Apply.{object_of, prop_of, apply}
+use Rattle.kms_model.specs.Request.Apply.{object_of}
+pub use Rattle.kms_model.specs.Request.Apply.{after}
 use Rattle.kms_model.specs.Request.Named.{is_routed, moves_on, is_named_by, names, differs, is_rerouted, needs_modeset}
-use Rattle.kms_model.specs.Request.Touched.{sets, is_affected, touches_crtc, touches_routed, asks_signal}
+use Rattle.kms_model.specs.Request.Touched.{sets, is_affected, touches_crtc, touches_routed}
 use Rattle.kms_model.specs.Request.Refusals.{assigns_refusal, early_refusal}
-use Rattle.kms_model.specs.Request.Checks.{with_ids, is_active, conns_on, plane_refusal, plane_refusal_at, crtc_refusal, crtc_refusal_at, conn_refusal_at, clone_refusal_at, route_refusal_at, shown_refusal, shown_refusal_at, event_refusal, late_refusal}
+use Rattle.kms_model.specs.Request.Checks.{with_ids, is_active, conns_on, plane_refusal, plane_refusal_at, crtc_refusal_at, conn_refusal_at, clone_refusal_at, route_refusal_at, shown_refusal, shown_refusal_at, event_refusal, late_refusal}
 use Rattle.kms_model.specs.Device.Sound.IsCrtcOrNone.{IsNone, IsCrtc}
 use Rattle.kms_model.specs.Device.Sound.{IsDevice, IsCrtcOrNone, IsSound, empty_request}
-use Rattle.kms_model.proofs.Items.{IsIn, IsObject, ids-in, ids-has, AreNone, or_else-none, or_else-nones, number_if-none, none-number_if, first_some-at, list_any-at, list_any-none, list_any-some, list_any-has, Passes, filter-same}
+use Rattle.kms_model.proofs.Items.{IsIn, IsObject, ids-in, ids-has, or_else-none, first_some-at, list_any-at, list_any-none, list_any-some, Passes, filter-same}
 use Rattle.kms_model.proofs.AppliedValues.{value-apply_unset}
 use Rattle.kms_model.proofs.HeldValues.{IsAccepted, accepted-assign, all_held-from}
-use Rattle.kms_model.proofs.SeenLemmas.{planes-in, conns-in, plane_crtc-held, shown-off}
-use Rattle.kms_model.proofs.SoundKept.{same_mode-self, differs-self, crtc-again, early-parts}
+use Rattle.kms_model.proofs.SeenLemmas.{plane_crtc-held, shown-off}
+use Rattle.kms_model.proofs.SoundKept.{same_mode-self, differs-self, early-parts}
 
 -- a request that refusals 1 to 8 let through, in a sound world of a device
 pub record IsRequestAt (t : Topology) (w : World) (r : Request) : Type 0 where
   pub device : IsDevice t
   pub sound : IsSound t w
   pub early : early_refusal t (look_up w) r ≡ None
-
--- the values after it
-abbrev pub after : World → Request → List Setting
-after w r = apply w.things w.values r.assigns
 
 -- Objects of several kinds have different ids
 

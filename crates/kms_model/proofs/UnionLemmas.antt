@@ -1,5 +1,5 @@
 -- Sets of objects as masks: one object, and unions.
-use Rattle.std.proofs.Common.{◌≡◌, ◌≢◌, ◌∙◌, ℕ, ◌+◌, ◌*◌, ◌^◌, ◌%◌, ◌<◌, Bool, true, false, inl, inr, arith, refl, sym, ap, subst, max}
+use Rattle.std.proofs.Common.{◌≡◌, ◌∙◌, ℕ, ◌*◌, ◌^◌, ◌%◌, ◌<◌, Bool, true, false, inl, inr, refl, sym, ap, max}
 use Rattle.std.specs.Prelude.{◌||◌, ◌==◌, bit_or}
 use Rattle.std.specs.Int.{bit_at}
 use Rattle.std.proofs.lemmas.Bool.Decides.{eqb_tells}

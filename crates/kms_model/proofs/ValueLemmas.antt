@@ -1,5 +1,5 @@
 -- The values after a property of an object is set.
-use Rattle.std.proofs.Common.{◌≡◌, ◌≢◌, ℕ, List, cond, Bool, true, false, refl, sym, ap, ◌∙◌}
+use Rattle.std.proofs.Common.{◌≡◌, ◌≢◌, ℕ, List, cond, Bool, true, false, refl, sym, ◌∙◌}
 use Rattle.std.specs.Prelude.{◌&&◌, ◌==◌, ℤ}
 use Rattle.std.proofs.lemmas.Bool.{eq-eqb, ne_eqb}
 use Rattle.kms_model.specs.declared.worlds.Setting.{Setting}

@@ -1,11 +1,10 @@
 -- Worked examples of what the device of one thread answers, computed: each reply of a script's commands.
-use Rattle.std.proofs.Common.{◌≡◌, ℕ, Bool, true, false, List, [], ◌∷◌, ◌++◌, refl, codes, pos, Some, None, replicate}
-use Rattle.std.specs.Prelude.{map, ℤ, negsuc}
+use Rattle.std.proofs.Common.{◌≡◌, ℕ, Bool, true, false, List, [], ◌∷◌, ◌++◌, refl, codes, pos, Some}
+use Rattle.std.specs.Prelude.{map, negsuc}
 use Rattle.kms_model.specs.declared.objects.Format.{Format}
 use Rattle.kms_model.specs.declared.objects.Format.TheVariants.{Xr24, Rg16}
 use Rattle.kms_model.specs.declared.objects.Kind.{Kind}
 use Rattle.kms_model.specs.declared.objects.Kind.TheVariants as kind
-use Rattle.kms_model.specs.declared.objects.PlaneInfo.{PlaneInfo}
 use Rattle.kms_model.specs.declared.objects.Topology.{Topology}
 use Rattle.kms_model.specs.declared.properties.TheConstants.{TYPE, FB_ID, CRTC_ID, CRTC_X, CRTC_W, CRTC_H, SRC_X, SRC_W, SRC_H, IN_FENCE_FD, ALPHA, ACTIVE, MODE_ID, OUT_FENCE_PTR}
 use Rattle.kms_model.specs.declared.replies.Reply.{Reply}
@@ -15,7 +14,6 @@ use Rattle.kms_model.specs.declared.scripts.Command.{Command}
 use Rattle.kms_model.specs.declared.scripts.Command.TheVariants as command
 use Rattle.kms_model.specs.declared.scripts.Pattern.TheVariants.{Solid}
 use Rattle.kms_model.specs.declared.scripts.PropRef.TheVariants.{Known}
-use Rattle.kms_model.specs.declared.scripts.Script.{Script}
 use Rattle.kms_model.specs.declared.scripts.Value.{Value}
 use Rattle.kms_model.specs.declared.scripts.Value.TheVariants as value
 use Rattle.kms_model.specs.Script.Built.{is_built, unbuilt_line}

@@ -1,5 +1,7 @@
 -- The first of several.
 use Rattle.std.specs.Prelude.{ℕ, Bool, List, [], ◌∷◌, Option, Some, None, if◌then◌else◌}
+use Rattle.kms_model.specs.declared.replies.Denied.{Denied}
+use Rattle.kms_model.specs.declared.replies.Refusal.{Refusal}
 
 -- the first value, or else the second
 abbrev pub or_else : {A : Type 0} → Option A → Option A → Option A
@@ -14,3 +16,10 @@ first_some f (x ∷ xs) = or_else (f x) (first_some f xs)
 -- a number where a test says so
 abbrev pub number_if : ℕ → Bool → Option ℕ
 number_if n b = if b then Some n else None
+
+-- the number of a refusal of a request, or of another command, where a test says so
+abbrev pub refused_if : Refusal → Bool → Option ℕ
+refused_if refusal b = number_if refusal.0 b
+
+abbrev pub denied_if : Denied → Bool → Option ℕ
+denied_if denied b = number_if denied.0 b

@@ -1,3 +1,4 @@
+pub mod Replies
 pub mod TextLines
 pub mod Flat
 pub mod Headline

@@ -8,10 +8,13 @@ mod copying;
 mod laws;
 mod layers;
 mod list;
+mod masks;
 mod objects;
 mod pictures;
+mod printing;
 pub mod properties;
 mod ranges;
+mod refusals;
 mod replies;
 mod scripts;
 mod sets;
@@ -24,9 +27,14 @@ pub use copying::{Duplicate, NoMemory};
 pub use laws::{execution_keeps_sound, rounds_are_the_journal, start_is_sound};
 pub use layers::Layers;
 pub use list::Seq;
-pub use objects::{Format, Kind, Mode, ObjId, PlaneInfo, Ticket, Topology};
+pub use masks::has_bit;
+pub use objects::{
+    FIRST_THING_ID, Format, Kind, MAX_CLIENTS, MAX_CONNECTORS, MAX_CRTCS, MAX_PLANES, Mode, ObjId,
+    PlaneInfo, Ticket, Topology,
+};
 pub use pictures::{Colour, FbInfo, Layer, Picture, Rect, Shown};
 pub use ranges::Range;
+pub use refusals::{Rule, rule_of};
 pub use replies::{Answered, Denied, Event, Refusal, Reply, Step};
 pub use scripts::{Assign, Command, Pattern, PropRef, Request, Script, Value, Why};
 pub use sets::{Lookups, Resolved, Set, SetValue};

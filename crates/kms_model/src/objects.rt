@@ -1,10 +1,91 @@
-//! Display objects, modes and the device's topology.
+//! Display objects, their ids and limits, modes and the device's topology.
+ghost use Rattle.std.specs.Prelude.{◌≡◌, ◌≤◌, ◌+◌, ◌&&◌, nat_le, nat_lt};
+ghost use Rattle.kms_model.specs.declared.objects.Kind.TheVariants as kind;
+ghost use Rattle.kms_model.specs.Device.Objects.{first_id, index_of, is_id_of, kind_of, object_id};
+
 use crate::list::Seq;
+
+/// The most CRTCs of a device, and so of a set of CRTCs.
+pub const MAX_CRTCS: u32 = 4;
+
+/// The most planes of a device.
+pub const MAX_PLANES: u32 = 16;
+
+/// The most connectors of a device.
+pub const MAX_CONNECTORS: u32 = 8;
+
+/// The most clients of a script. They are counted from 1.
+pub const MAX_CLIENTS: u32 = 16;
+
+/// The id of the first thing that is made; the next ones have the next ids.
+pub const FIRST_THING_ID: u32 = 1000;
 
 /// The id of a display object: CRTC index i has 100 + i, plane 200 + i, connector 300 + i and encoder
 /// 400 + i. (Kernel: "Modeset Base Object Abstraction", `struct drm_mode_object`; the numbers are this device's.)
 #[derive(Clone, Copy, Debug, PartialEq, Eq)]
 pub struct ObjId(pub u32);
+
+impl ObjId {
+    /// The id of the object of a kind with an index.
+    pub fn of(kind: Kind, index: u32) -> ObjId
+        requires { index ≤ 255 }
+        ensures { result.0 ≡ object_id kind index }
+    {
+        ObjId(kind.first_id() + index)
+    }
+
+    /// The kind of object that the id is of: ids below 200 are those of CRTCs, below 300 of planes, below 400 of
+    /// connectors, and the others of encoders.
+    pub fn kind(self) -> Kind
+        ensures { result ≡ kind_of self.0 }
+    {
+        if self.0 < Kind::Plane.first_id() {
+            Kind::Crtc
+        } else if self.0 < Kind::Conn.first_id() {
+            Kind::Plane
+        } else if self.0 < Kind::Enc.first_id() {
+            Kind::Conn
+        } else {
+            Kind::Enc
+        }
+    }
+
+    /// The index of the object among those of its kind; 0 of an id that no object has.
+    pub fn index(self) -> u32
+        ensures { result ≡ index_of self.0 }
+    {
+        self.0.saturating_sub(self.kind().first_id())
+    }
+
+    /// Whether it is the id of a CRTC of the largest device: from 100 to 103.
+    pub fn is_crtc(self) -> bool
+        ensures { result ≡ is_id_of kind.Crtc self.0 }
+    {
+        is_among(Kind::Crtc.first_id(), MAX_CRTCS, self.0)
+    }
+
+    /// Whether it is the id of a plane of the largest device: from 200 to 215.
+    pub fn is_plane(self) -> bool
+        ensures { result ≡ is_id_of kind.Plane self.0 }
+    {
+        is_among(Kind::Plane.first_id(), MAX_PLANES, self.0)
+    }
+
+    /// Whether it is the id of a connector of the largest device: from 300 to 307.
+    pub fn is_connector(self) -> bool
+        ensures { result ≡ is_id_of kind.Conn self.0 }
+    {
+        is_among(Kind::Conn.first_id(), MAX_CONNECTORS, self.0)
+    }
+}
+
+/// Whether a number is one of so many from a first one on.
+fn is_among(first: u32, count: u32, number: u32) -> bool
+    requires { first + count ≤ 1000 }
+    ensures { result ≡ (nat_le first number && nat_lt number (first + count)) }
+{
+    first <= number && number < first + count
+}
 
 /// The ticket of an acquire context, counted from 0 in the order in which contexts begin. The smaller
 /// ticket is the older one. (Kernel: "KMS Locking", `struct drm_modeset_acquire_ctx`.)
@@ -22,6 +103,20 @@ pub enum Kind {
     Conn,
     /// An encoder. It has no property.
     Enc,
+}
+
+impl Kind {
+    /// The id of the object of this kind with index 0.
+    pub fn first_id(self) -> u32
+        ensures { result ≡ first_id self }
+    {
+        match self {
+            Kind::Crtc => 100,
+            Kind::Plane => 200,
+            Kind::Conn => 300,
+            Kind::Enc => 400,
+        }
+    }
 }
 
 /// A pixel format. (Header: `drm_fourcc.h`.)
@@ -75,9 +170,9 @@ pub struct Mode {
 pub struct PlaneInfo {
     /// The value of its property `type`: 0 overlay, 1 primary, 2 cursor.
     pub kind: u32,
-    /// Its possible CRTCs: bit i stands for CRTC index i.
+    /// Its possible CRTCs, a mask: bit i stands for CRTC index i.
     pub crtcs: u32,
-    /// Its formats: bit 0 XR24, bit 1 AR24, bit 2 RG16.
+    /// Its formats, a mask: bit 0 XR24, bit 1 AR24, bit 2 RG16.
     pub formats: u32,
 }
 

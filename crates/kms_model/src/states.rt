@@ -13,11 +13,11 @@ pub struct PlaneState {
     pub dst: Rect,
     /// Which part of the framebuffer is shown, in 16.16 fixed point.
     pub src: Rect,
-    /// From 0 to 65535.
+    /// Its opacity, a number from 0 (transparent) to 65535 (opaque).
     pub alpha: u32,
-    /// 0 Pre-multiplied, 1 Coverage, 2 None.
+    /// Its blend mode, a number: 0 Pre-multiplied, 1 Coverage, 2 None.
     pub blend: u32,
-    /// From 0 to 255.
+    /// Its place in the order of layers, a number from 0 (lowest) to 255.
     pub zpos: u32,
 }
 
@@ -28,9 +28,9 @@ pub struct CrtcState {
     pub active: bool,
     /// Its mode, if any; it is enabled where it has one.
     pub mode: Option<Mode>,
-    /// The planes whose CRTC it is: bit i stands for plane index i.
+    /// The planes whose CRTC it is, a mask: bit i stands for plane index i.
     pub planes: u32,
-    /// The connectors whose CRTC it is: bit i stands for connector index i.
+    /// The connectors whose CRTC it is, a mask: bit i stands for connector index i.
     pub conns: u32,
 }
 
@@ -73,7 +73,7 @@ pub struct Duplicates {
     pub conns: [Option<Both<ConnState>>; 8],
 }
 
-/// A set of objects: bit i of a field stands for the object of that kind with index i.
+/// A set of objects, each field a mask: bit i of a field stands for the object of that kind with index i.
 #[derive(Clone, Copy, Debug, PartialEq, Eq)]
 pub struct Mask {
     /// The CRTCs.
@@ -89,7 +89,7 @@ pub struct Mask {
 pub struct Checked {
     /// The states before and after the request.
     pub states: Duplicates,
-    /// The CRTCs that the request names: bit i stands for CRTC index i.
+    /// The CRTCs that the request names, a mask: bit i stands for CRTC index i.
     pub named: u32,
     /// The objects that the request touches.
     pub touched: Mask,

@@ -14,11 +14,12 @@ use Rattle.kms_model.specs.declared.worlds.Content.{Content}
 use Rattle.kms_model.specs.declared.worlds.Content.TheVariants as content
 use Rattle.kms_model.specs.declared.worlds.Thing.{Thing}
 use Rattle.kms_model.specs.declared.worlds.World.{World}
-use Rattle.kms_model.specs.Firsts.{or_else, number_if}
+use Rattle.kms_model.specs.declared.replies.TheConstants.Denied.{INVALID_SIZE, NO_BUFFER_SPACE, NOT_FOUND, NOT_OWNER, NOT_SIGNALLABLE}
+use Rattle.kms_model.specs.Firsts.{or_else, denied_if}
 use Rattle.kms_model.specs.Request.Flags.{is_test}
 use Rattle.kms_model.specs.Device.Objects.{ids_of}
 use Rattle.kms_model.specs.Device.World.{thing_labelled}
-use Rattle.kms_model.specs.Request.Apply.{apply}
+use Rattle.kms_model.specs.Request.Apply.{after}
 use Rattle.kms_model.specs.Device.Closing.{closed_in}
 use Rattle.kms_model.specs.Script.Words.{◌>>=◌}
 use Rattle.kms_model.specs.Stores.Kept.{is_bad_size, area_bytes, largest_bytes}
@@ -69,7 +70,7 @@ buffer_of things client label = do
 
 -- A framebuffer of a buffer, in its size and format. 33: the label is no buffer of this client.
 abbrev pub add_fb : World → ℕ → ℕ → Option BufferInfo → Executed
-add_fb w client label None = answer w (reply.Denied 33)
+add_fb w client label None = answer w (reply.Denied NOT_FOUND.0)
 add_fb w client label (Some b) = make w client label (content.Framebuffer (record { id = w.next_id; width = b.width; height = b.height; format = b.format }) b.id)
 
 -- the bytes of a thing's words: those of a buffer, 0 of any other thing
@@ -89,8 +90,8 @@ all_bytes (t ∷ ts) = buffer_bytes t.content + all_bytes ts
 -- What is wrong with a new buffer: 31, a side is 0 or above 4096; 32, the bytes of all buffers would pass 268435456.
 abbrev pub new_buffer_refusal : List Thing → ℕ → ℕ → Format → Option ℕ
 new_buffer_refusal things width height format =
-    or_else (number_if 31 (is_bad_size width height))
-    (number_if 32 (nat_lt largest_bytes (all_bytes things + area_bytes width height format)))
+    or_else (denied_if INVALID_SIZE (is_bad_size width height))
+    (denied_if NO_BUFFER_SPACE (nat_lt largest_bytes (all_bytes things + area_bytes width height format)))
 
 abbrev pub is_blob : Content → Bool
 is_blob (content.Mode m) = true
@@ -118,20 +119,20 @@ is_made_fence (content.Blob bytes) = false
 
 -- What is wrong with destroying a thing: 33, it is no open blob; 34, it is another client's.
 abbrev pub destroy_refusal : ℕ → Option Thing → Option ℕ
-destroy_refusal client None = Some 33
+destroy_refusal client None = Some NOT_FOUND.0
 destroy_refusal client (Some t) =
-    or_else (number_if 33 (not (is_blob t.content && t.is_open)))
-    (number_if 34 (not (t.owner == client)))
+    or_else (denied_if NOT_FOUND (not (is_blob t.content && t.is_open)))
+    (denied_if NOT_OWNER (not (t.owner == client)))
 
 -- What is wrong with closing a thing: 33, it is no open framebuffer of this client.
 abbrev pub close_refusal : ℕ → Option Thing → Option ℕ
-close_refusal client None = Some 33
-close_refusal client (Some t) = number_if 33 (not (is_framebuffer t.content && (t.is_open && (t.owner == client))))
+close_refusal client None = Some NOT_FOUND.0
+close_refusal client (Some t) = denied_if NOT_FOUND (not (is_framebuffer t.content && (t.is_open && (t.owner == client))))
 
 -- What is wrong with signalling a thing: 35, it is no fence that a `fence` command made.
 abbrev pub signal_refusal : Option Thing → Option ℕ
-signal_refusal None = Some 35
-signal_refusal (Some t) = number_if 35 (not (is_made_fence t.content))
+signal_refusal None = Some NOT_SIGNALLABLE.0
+signal_refusal (Some t) = denied_if NOT_SIGNALLABLE (not (is_made_fence t.content))
 
 -- a thing is closed, unless a number refuses it
 abbrev pub close : World → Option Thing → World
@@ -166,7 +167,7 @@ make_out_fences client assigns w (crtc ∷ crtcs) = make_out_fences client assig
 -- the values of an accepted request hold, its out-fences are made, and the number of commits before it is answered
 abbrev pub committed : Topology → World → ℕ → Request → Executed
 committed t w client r = record {
-  world = make_out_fences client r.assigns (record w { values = apply w.things w.values r.assigns; commits = w.commits + 1 }) (ids_of t Crtc);
+  world = make_out_fences client r.assigns (record w { values = after w r; commits = w.commits + 1 }) (ids_of t Crtc);
   reply = reply.Commit w.commits;
 }
 

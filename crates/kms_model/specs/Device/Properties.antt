@@ -9,6 +9,7 @@ use Rattle.kms_model.specs.declared.objects.Kind.{Kind}
 use Rattle.kms_model.specs.declared.objects.Kind.TheVariants.{Crtc, Plane, Conn, Enc}
 use Rattle.kms_model.specs.declared.objects.PlaneInfo.{PlaneInfo}
 use Rattle.kms_model.specs.declared.objects.Topology.{Topology}
+use Rattle.kms_model.specs.declared.objects.TheConstants.{MAX_CRTCS, MAX_PLANES, MAX_CONNECTORS}
 use Rattle.kms_model.specs.declared.properties.TheConstants.{TYPE, FB_ID, CRTC_ID, CRTC_X, CRTC_Y, CRTC_W, CRTC_H, SRC_X, SRC_Y, SRC_W, SRC_H, IN_FENCE_FD, ALPHA, BLEND, ZPOS, ACTIVE, MODE_ID, OUT_FENCE_PTR}
 use Rattle.kms_model.specs.declared.ranges.Range.{Range}
 use Rattle.kms_model.specs.declared.ranges.Range.TheVariants.{Numbers, Thing, CrtcName}
@@ -158,7 +159,7 @@ has_legal_masks crtcs plane = is_mask_below crtcs plane.crtcs && is_mask_below (
 
 -- 1 to 4 CRTCs, 1 to 16 planes and 1 to 8 connectors
 abbrev pub keeps_limits : Topology → Bool
-keeps_limits t = between 1 4 t.crtcs && (between 1 16 (length t.planes) && between 1 8 (length t.conns))
+keeps_limits t = between 1 MAX_CRTCS t.crtcs && (between 1 MAX_PLANES (length t.planes) && between 1 MAX_CONNECTORS (length t.conns))
 
 -- A device keeps the limits, and no mask has a bit outside of it. (What a plane is, its kind, is neither a limit
 -- nor a mask, and an empty mask has no bit outside.)

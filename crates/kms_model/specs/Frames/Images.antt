@@ -1,6 +1,6 @@
 -- Images of framebuffers: what is read of a buffer, word by word, and the layers that can be shown over them.
 -- From: "Frame Buffer Abstraction"; "Plane Composition Properties".
-use Rattle.std.specs.Prelude.{◌≡◌, ◌≤◌, ℕ, ◌+◌, ◌*◌, ℤ, pos, ◌*ℤ◌, ◌≤ℤ◌, true, List, Option, Some, None, slice_index}
+use Rattle.std.specs.Prelude.{◌≡◌, ◌≤◌, ℕ, ◌+◌, ◌*◌, pos, ◌*ℤ◌, ◌≤ℤ◌, true, List, Option, Some, None, slice_index}
 use Rattle.kms_model.specs.declared.objects.Mode.{Mode}
 use Rattle.kms_model.specs.declared.pictures.Layer.{Layer}
 use Rattle.kms_model.specs.declared.worlds.Content.{Content}

@@ -1,5 +1,5 @@
 -- The report of a script whose clients execute in rounds on the device of one thread.
-use Rattle.std.specs.Prelude.{ℕ, ◌+◌, ◌-◌, Bool, true, false, not, ◌&&◌, ◌||◌, ◌==◌, nat_lt, pos, List, [], ◌∷◌, ◌++◌, length, map, filter, Option, Some, None, if◌then◌else◌, codes, max, slice_get, slice_index_or}
+use Rattle.std.specs.Prelude.{ℕ, ◌+◌, Bool, true, false, not, ◌&&◌, ◌||◌, ◌==◌, pos, List, [], ◌∷◌, ◌++◌, length, map, filter, Option, Some, None, if◌then◌else◌, codes, max, slice_get, slice_index_or}
 use Rattle.std.specs.List.{flat_map, range_with_len, list_any}
 use Rattle.std.specs.Ordering.{int_eq}
 use Rattle.std.specs.Fmt.{decimal}
@@ -9,8 +9,6 @@ use Rattle.kms_model.specs.declared.objects.Kind.TheVariants.{Crtc, Plane}
 use Rattle.kms_model.specs.declared.objects.Topology.{Topology}
 use Rattle.kms_model.specs.declared.pictures.Picture.{Picture}
 use Rattle.kms_model.specs.declared.pictures.Picture.TheVariants.{Off, On}
-use Rattle.kms_model.specs.declared.replies.Reply.{Reply}
-use Rattle.kms_model.specs.declared.replies.Reply.TheVariants as reply
 use Rattle.kms_model.specs.declared.scripts.Command.{Command}
 use Rattle.kms_model.specs.declared.scripts.Script.{Script}
 use Rattle.kms_model.specs.declared.worlds.Setting.{Setting}
@@ -23,6 +21,7 @@ use Rattle.kms_model.specs.Device.Execution.{Executed, execute, is_framebuffer}
 use Rattle.kms_model.specs.Device.Serial.{Pictured, Entry, is_accepted, shown_by}
 use Rattle.kms_model.specs.Frames.Ppm.{ppm}
 pub use Rattle.kms_model.specs.Report.TextLines.{line}
+pub use Rattle.kms_model.specs.Report.Replies.{errno_of, object_name, reply_words}
 
 -- a command, with its client and its number
 pub record Turn : Type 0 where
@@ -79,35 +78,6 @@ entry_of d = record { client = d.turn.client; command = d.turn.number }
 
 abbrev pub journal_of : List Done → List Entry
 journal_of ds = map entry_of (filter is_journaled ds)
-
--- the name of a refusal's error number (From: errno.h)
-abbrev pub errno_of : ℕ → List ℕ
-errno_of n =
-    if (n == 4) || ((n == 5) || (n == 33)) then codes "ENOENT"
-    else (if (n == 13) || (n == 22) then codes "ERANGE"
-    else (if (n == 14) || (n == 32) then codes "ENOSPC"
-    else (if n == 34 then codes "EPERM" else codes "EINVAL")))
-
--- the name of a display object, as `crtc0` or `plane3`
-abbrev pub object_name : ℕ → List ℕ
-object_name id =
-    if nat_lt id 200 then codes "crtc" ++ decimal (id - 100)
-    else (if nat_lt id 300 then codes "plane" ++ decimal (id - 200)
-    else (if nat_lt id 400 then codes "conn" ++ decimal (id - 300)
-    else codes "enc" ++ decimal (id - 400)))
-
--- the words of a reply
-abbrev pub reply_words : Reply → List (List ℕ)
-reply_words (reply.Made id) = codes "made" ∷ decimal id ∷ []
-reply_words reply.Done = codes "done" ∷ []
-reply_words (reply.Commit k) = codes "commit" ∷ decimal k ∷ []
-reply_words reply.Tested = codes "tested" ∷ []
-reply_words (reply.Refused n) = errno_of n.0 ∷ decimal n.0 ∷ []
-reply_words (reply.Space used) = codes "ENOMEM" ∷ codes "events" ∷ codes "25" ∷ decimal used ∷ []
-reply_words (reply.Busy object k) = codes "EBUSY" ∷ codes "26" ∷ object_name object.0 ∷ decimal k ∷ []
-reply_words (reply.Denied n) = errno_of n ∷ decimal n ∷ []
-reply_words (reply.Event e) = codes "event" ∷ decimal e.user_data ∷ decimal e.sequence ∷ decimal e.crtc ∷ []
-reply_words reply.NoEvent = codes "none" ∷ []
 
 -- `J CLIENT COMMAND`
 abbrev pub journal_line : Entry → List ℕ

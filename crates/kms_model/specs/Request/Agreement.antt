@@ -1,6 +1,6 @@
 -- Typed states of the device's objects, and duplicates that stand for a world's values. From: "Atomic Mode Setting";
 -- struct drm_crtc_state, drm_plane_state and drm_connector_state.
-use Rattle.std.specs.Prelude.{◌≡◌, ℕ, ◌==◌, ℤ, pos, List, Option, Some, None, slice_get, ⊤}
+use Rattle.std.specs.Prelude.{◌≡◌, ℕ, ◌==◌, ℤ, pos, List, Option, Some, slice_get, ⊤}
 use Rattle.kms_model.specs.declared.objects.Kind.{Kind}
 use Rattle.kms_model.specs.declared.objects.Kind.TheVariants.{Crtc, Plane, Conn}
 use Rattle.kms_model.specs.declared.objects.Topology.{Topology}

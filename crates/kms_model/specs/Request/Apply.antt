@@ -3,12 +3,14 @@ use Rattle.std.specs.Prelude.{ℕ, Bool, not, ◌||◌, ◌==◌, ℤ, pos, List
 use Rattle.kms_model.specs.declared.objects.Kind.TheVariants as kind
 use Rattle.kms_model.specs.declared.properties.TheConstants.{IN_FENCE_FD, OUT_FENCE_PTR}
 use Rattle.kms_model.specs.declared.scripts.Assign.{Assign}
+use Rattle.kms_model.specs.declared.scripts.Request.{Request}
 use Rattle.kms_model.specs.declared.scripts.PropRef.{PropRef}
 use Rattle.kms_model.specs.declared.scripts.PropRef.TheVariants.{Known, Unknown}
 use Rattle.kms_model.specs.declared.scripts.Value.{Value}
 use Rattle.kms_model.specs.declared.scripts.Value.TheVariants.{Num, Named, New, Crtc}
 use Rattle.kms_model.specs.declared.worlds.Setting.{Setting}
 use Rattle.kms_model.specs.declared.worlds.Thing.{Thing}
+use Rattle.kms_model.specs.declared.worlds.World.{World}
 use Rattle.kms_model.specs.Device.Objects.{object_id}
 use Rattle.kms_model.specs.Device.World.{put, thing_labelled}
 
@@ -43,3 +45,7 @@ assign things values a = if is_kept (prop_of a.prop) then put values (object_of 
 abbrev pub apply : List Thing → List Setting → List Assign → List Setting
 apply things values [] = values
 apply things values (a ∷ assigns) = apply things (assign things values a) assigns
+
+-- the values of a world after a request
+abbrev pub after : World → Request → List Setting
+after w r = apply w.things w.values r.assigns

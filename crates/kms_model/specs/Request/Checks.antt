@@ -15,11 +15,12 @@ use Rattle.kms_model.specs.declared.scripts.Request.{Request}
 use Rattle.kms_model.specs.declared.states.PlaneState.{PlaneState}
 use Rattle.kms_model.specs.declared.worlds.Setting.{Setting}
 use Rattle.kms_model.specs.declared.worlds.Thing.{Thing}
-use Rattle.kms_model.specs.Firsts.{or_else, first_some, number_if}
+use Rattle.kms_model.specs.declared.replies.TheConstants.Refusal.{EVENT_WITHOUT_CRTC, FRAMEBUFFER_XOR_CRTC, CRTC_NOT_POSSIBLE, FORMAT_NOT_SUPPORTED, DESTINATION_TOO_FAR, SOURCE_OUTSIDE_FRAMEBUFFER, SWITCHES_CRTC, ACTIVE_WITHOUT_MODE, SIGNAL_WHILE_OFF, CONNECTOR_NOT_POSSIBLE, CLONED_CONNECTORS, MODE_XOR_CONNECTOR, CRTC_NOT_ENABLED, SCALED, FRACTIONAL_SOURCE, MODESET_NOT_ALLOWED}
+use Rattle.kms_model.specs.Firsts.{or_else, first_some, refused_if}
 use Rattle.kms_model.specs.Request.Flags.{wants_event, allows_modeset}
 use Rattle.kms_model.specs.Script.Grammar.{format_bit}
 use Rattle.kms_model.specs.Device.Masks.{has_bit}
-use Rattle.kms_model.specs.Device.Objects.{first_id, object_id, ids_of}
+use Rattle.kms_model.specs.Device.Objects.{first_id, ids_of}
 use Rattle.kms_model.specs.Device.World.{value}
 use Rattle.kms_model.specs.Device.States.{natural, mode_at, crtc_at, plane_at}
 use Rattle.kms_model.specs.Request.Named.{names, needs_modeset, differs}
@@ -43,17 +44,17 @@ switches_crtc old new = not (old == 0) && (not (new == 0) && not (old == new))
 -- framebuffer; 15, it goes from one CRTC straight to another.
 abbrev pub placed_refusal : PlaneInfo → FbInfo → PlaneState → PlaneState → Option ℕ
 placed_refusal info fb old new =
-    or_else (number_if 11 (not (has_crtc info.crtcs new.crtc)))
-    (or_else (number_if 12 (not (has_bit info.formats (format_bit fb.format))))
-    (or_else (number_if 13 (is_beyond new.dst))
-    (or_else (number_if 14 (not (fits_source new.src fb.width fb.height)))
-    (number_if 15 (switches_crtc old.crtc new.crtc)))))
+    or_else (refused_if CRTC_NOT_POSSIBLE (not (has_crtc info.crtcs new.crtc)))
+    (or_else (refused_if FORMAT_NOT_SUPPORTED (not (has_bit info.formats (format_bit fb.format))))
+    (or_else (refused_if DESTINATION_TOO_FAR (is_beyond new.dst))
+    (or_else (refused_if SOURCE_OUTSIDE_FRAMEBUFFER (not (fits_source new.src fb.width fb.height)))
+    (refused_if SWITCHES_CRTC (switches_crtc old.crtc new.crtc)))))
 
 -- 10: a framebuffer without a CRTC, or a CRTC without a framebuffer
 abbrev pub plane_refusal_with : PlaneInfo → PlaneState → PlaneState → Option FbInfo → Bool → Option ℕ
 plane_refusal_with info old new None true = None
-plane_refusal_with info old new None false = Some 10
-plane_refusal_with info old new (Some fb) true = Some 10
+plane_refusal_with info old new None false = Some FRAMEBUFFER_XOR_CRTC.0
+plane_refusal_with info old new (Some fb) true = Some FRAMEBUFFER_XOR_CRTC.0
 plane_refusal_with info old new (Some fb) false = placed_refusal info fb old new
 
 -- what is wrong with a plane, from 10 to 15
@@ -64,12 +65,12 @@ plane_refusal info old new = plane_refusal_with info old new new.fb (new.crtc ==
 -- and stays off.
 abbrev pub crtc_refusal : Bool → Bool → Bool → Option Mode → Option ℕ
 crtc_refusal asks was_on is_active mode =
-    or_else (number_if 16 (is_active && is_none mode))
-    (number_if 17 (asks && (not was_on && not is_active)))
+    or_else (refused_if ACTIVE_WITHOUT_MODE (is_active && is_none mode))
+    (refused_if SIGNAL_WHILE_OFF (asks && (not was_on && not is_active)))
 
 -- What is wrong with a connector of possible CRTCs: 18, its CRTC is not among them.
 abbrev pub conn_refusal : ℕ → ℕ → Option ℕ
-conn_refusal possible crtc = number_if 18 (not (crtc == 0) && not (has_crtc possible crtc))
+conn_refusal possible crtc = refused_if CONNECTOR_NOT_POSSIBLE (not (crtc == 0) && not (has_crtc possible crtc))
 
 -- SRC_W is CRTC_W in 16.16 fixed point, and SRC_H is CRTC_H
 abbrev pub is_unscaled : Rect → Rect → Bool
@@ -84,9 +85,9 @@ is_whole z = natural z % 65536 == 0
 unfoldable pub shown_refusal : Option Mode → PlaneState → Option ℕ
 shown_refusal mode s =
     if s.crtc == 0 then None
-    else or_else (number_if 21 (is_none mode))
-    (or_else (number_if 22 (not (is_unscaled s.src s.dst)))
-    (number_if 23 (not (is_whole s.src.x && is_whole s.src.y))))
+    else or_else (refused_if CRTC_NOT_ENABLED (is_none mode))
+    (or_else (refused_if SCALED (not (is_unscaled s.src s.dst)))
+    (refused_if FRACTIONAL_SOURCE (not (is_whole s.src.x && is_whole s.src.y))))
 
 -- items with ids, of which the first has this one
 abbrev pub with_ids : {A : Type 0} → ℕ → List A → List (ℕ × A)
@@ -112,22 +113,22 @@ conn_refusal_at new c = conn_refusal c.1 (crtc_at new c.0)
 
 -- 19: two or more connectors have the CRTC
 abbrev pub clone_refusal_at : Topology → List Setting → ℕ → Option ℕ
-clone_refusal_at t new crtc = number_if 19 (nat_lt 1 (length (conns_on t new crtc)))
+clone_refusal_at t new crtc = refused_if CLONED_CONNECTORS (nat_lt 1 (length (conns_on t new crtc)))
 
 -- 20: the CRTC has a mode and no connector, or a connector and no mode
 abbrev pub route_refusal_at : Topology → List Thing → List Setting → ℕ → Option ℕ
-route_refusal_at t things new crtc = number_if 20 (differs (is_some (mode_at things new crtc)) (nat_lt 0 (length (conns_on t new crtc))))
+route_refusal_at t things new crtc = refused_if MODE_XOR_CONNECTOR (differs (is_some (mode_at things new crtc)) (nat_lt 0 (length (conns_on t new crtc))))
 
 abbrev pub shown_refusal_at : List Thing → List Setting → ℕ → Option ℕ
 shown_refusal_at things new plane = let s = plane_at things new plane in shown_refusal (mode_at things new s.crtc) s
 
 -- 9: an event is asked for, and no CRTC is named
 abbrev pub event_refusal : Topology → List Setting → List Setting → Request → Option ℕ
-event_refusal t old new r = number_if 9 (wants_event r.flags && not (list_any (names old new r.assigns) (ids_of t Crtc)))
+event_refusal t old new r = refused_if EVENT_WITHOUT_CRTC (wants_event r.flags && not (list_any (names old new r.assigns) (ids_of t Crtc)))
 
 -- 24: a CRTC needs a modeset and ALLOW_MODESET is not set
 abbrev pub modeset_refusal : Topology → List Thing → List Setting → List Setting → ℕ → Option ℕ
-modeset_refusal t things old new flags = number_if 24 (not (allows_modeset flags) && list_any (needs_modeset t things old new) (ids_of t Crtc))
+modeset_refusal t things old new flags = refused_if MODESET_NOT_ALLOWED (not (allows_modeset flags) && list_any (needs_modeset t things old new) (ids_of t Crtc))
 
 -- the first refusal from 9 to 24 of a request that makes new values of old ones: all objects of the device are tried
 unfoldable pub late_refusal : Topology → List Thing → List Setting → List Setting → Request → Option ℕ

@@ -13,7 +13,8 @@ use Rattle.kms_model.specs.declared.states.CrtcState.{CrtcState}
 use Rattle.kms_model.specs.declared.states.Duplicates.{Duplicates}
 use Rattle.kms_model.specs.declared.states.Mask.{Mask}
 use Rattle.kms_model.specs.declared.states.PlaneState.{PlaneState}
-use Rattle.kms_model.specs.Firsts.{or_else, first_some, number_if}
+use Rattle.kms_model.specs.declared.replies.TheConstants.Refusal.{EVENT_WITHOUT_CRTC, CLONED_CONNECTORS, MODE_XOR_CONNECTOR, MODESET_NOT_ALLOWED}
+use Rattle.kms_model.specs.Firsts.{or_else, first_some, refused_if}
 use Rattle.kms_model.specs.Request.Flags.{wants_event, allows_modeset}
 use Rattle.kms_model.specs.Device.Masks.{has_bit}
 use Rattle.kms_model.specs.Device.Modes.{same_mode}
@@ -45,10 +46,10 @@ abbrev pub conn_refusal_of : Topology → ℕ → Both ConnState → Option ℕ
 conn_refusal_of t index both = option_and_then (λ possible. conn_refusal possible both.new.crtc) (slice_get t.conns index)
 
 abbrev pub clone_refusal_of : Topology → Both CrtcState → Option ℕ
-clone_refusal_of t both = number_if 19 (nat_lt 1 (members both.new.conns (count_of t Conn)))
+clone_refusal_of t both = refused_if CLONED_CONNECTORS (nat_lt 1 (members both.new.conns (count_of t Conn)))
 
 abbrev pub route_refusal_of : Both CrtcState → Option ℕ
-route_refusal_of both = number_if 20 (differs (is_some both.new.mode) (not (both.new.conns == 0)))
+route_refusal_of both = refused_if MODE_XOR_CONNECTOR (differs (is_some both.new.mode) (not (both.new.conns == 0)))
 
 -- the mode of a CRTC that is duplicated, by its id
 abbrev pub new_mode : List (Option (Both CrtcState)) → ℕ → Option Mode
@@ -72,14 +73,14 @@ first_in mask states f n = first_some (λ index. option_and_then (f index) (dupl
 -- the first refusal from 9 to 24 of a set of objects
 unfoldable pub late_of_states : Topology → Duplicates → Mask → ℕ → ℕ → ℕ → Option ℕ
 late_of_states t d objects flags named fenced =
-    or_else (number_if 9 (wants_event flags && (named == 0)))
+    or_else (refused_if EVENT_WITHOUT_CRTC (wants_event flags && (named == 0)))
     (or_else (first_in objects.planes d.planes (plane_refusal_of t) (count_of t Plane))
     (or_else (first_in objects.crtcs d.crtcs (crtc_refusal_of flags named fenced) (count_of t Crtc))
     (or_else (first_in objects.conns d.conns (conn_refusal_of t) (count_of t Conn))
     (or_else (first_in objects.crtcs d.crtcs (λ index both. clone_refusal_of t both) (count_of t Crtc))
     (or_else (first_in objects.crtcs d.crtcs (λ index both. route_refusal_of both) (count_of t Crtc))
     (or_else (first_in objects.planes d.planes (λ index both. shown_refusal_of d.crtcs both) (count_of t Plane))
-    (number_if 24 (not (allows_modeset flags) && list_any (λ index. needs_modeset_if (duplicate_in objects.crtcs d.crtcs index)) (range_with_len 0 (count_of t Crtc))))))))))
+    (refused_if MODESET_NOT_ALLOWED (not (allows_modeset flags) && list_any (λ index. needs_modeset_if (duplicate_in objects.crtcs d.crtcs index)) (range_with_len 0 (count_of t Crtc))))))))))
 
 -- the numbers of the planes of a set are in the ranges of their properties
 abbrev pub ArePlanesInRange : Topology → Duplicates → ℕ → Type 0

@@ -16,7 +16,7 @@ use Rattle.kms_model.specs.Device.Modes.{same_mode}
 use Rattle.kms_model.specs.Device.Objects.{ids_of}
 use Rattle.kms_model.specs.Device.World.{value}
 use Rattle.kms_model.specs.Device.States.{mode_at, crtc_at}
-use Rattle.kms_model.specs.Request.Apply.{object_of, apply}
+use Rattle.kms_model.specs.Request.Apply.{object_of, after}
 
 -- objects with a CRTC_ID
 abbrev pub is_routed : Kind → Bool
@@ -39,7 +39,7 @@ names old new assigns crtc = list_any (is_named_by old new crtc) assigns
 
 -- the CRTCs that a request names in a world, in order
 abbrev pub named : Topology → World → Request → List ℕ
-named t w r = filter (names w.values (apply w.things w.values r.assigns) r.assigns) (ids_of t Crtc)
+named t w r = filter (names w.values (after w r) r.assigns) (ids_of t Crtc)
 
 abbrev pub differs : Bool → Bool → Bool
 differs true b = not b

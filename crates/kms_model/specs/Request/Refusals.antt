@@ -1,7 +1,7 @@
 -- The refusals of a request that its flags, its assignments and what its labels name decide, before any state is looked
 -- at. Their numbers and their order are this device's own. From: `drm_atomic_uapi.c`, drm_mode_atomic_ioctl,
 -- drm_atomic_set_property.
-use Rattle.std.specs.Prelude.{ℕ, Bool, true, false, not, ◌&&◌, ◌==◌, pos, int_le, List, [], ◌∷◌, Option, Some, None, if◌then◌else◌}
+use Rattle.std.specs.Prelude.{ℕ, Bool, true, false, not, ◌&&◌, ◌==◌, pos, int_le, List, [], ◌∷◌, Option, Some, None}
 use Rattle.std.specs.List.{list_any}
 use Rattle.std.specs.Ordering.{int_eq}
 use Rattle.kms_model.specs.declared.objects.Kind.{Kind}
@@ -18,7 +18,8 @@ use Rattle.kms_model.specs.declared.scripts.Value.{Value}
 use Rattle.kms_model.specs.declared.scripts.Value.TheVariants.{Num, Named, New, Crtc}
 use Rattle.kms_model.specs.declared.worlds.Look.{Look}
 use Rattle.kms_model.specs.declared.worlds.Look.TheVariants as look
-use Rattle.kms_model.specs.Firsts.{or_else, number_if}
+use Rattle.kms_model.specs.declared.replies.TheConstants.Refusal.{UNKNOWN_FLAG, ASYNC_FLIP, TEST_WITH_EVENT, NO_OBJECT, NO_PROPERTY, IMMUTABLE_PROPERTY, INVALID_VALUE, SECOND_IN_FENCE}
+use Rattle.kms_model.specs.Firsts.{or_else, refused_if}
 use Rattle.kms_model.specs.Request.Flags.{wants_event, is_async, is_test}
 use Rattle.kms_model.specs.Device.Objects.{exists}
 use Rattle.kms_model.specs.Device.Properties.{Property, property, same_kind, are_flags}
@@ -28,9 +29,9 @@ use Rattle.kms_model.specs.Request.Apply.{object_of, prop_of}
 -- are set
 abbrev pub flags_refusal : ℕ → Option ℕ
 flags_refusal flags =
-    or_else (number_if 1 (not (are_flags flags)))
-    (or_else (number_if 2 (is_async flags))
-    (number_if 3 (is_test flags && wants_event flags)))
+    or_else (refused_if UNKNOWN_FLAG (not (are_flags flags)))
+    (or_else (refused_if ASYNC_FLIP (is_async flags))
+    (refused_if TEST_WITH_EVENT (is_test flags && wants_event flags)))
 
 -- a row of the table is a property of objects of a kind
 abbrev pub is_of_kind : Kind → Option Property → Bool
@@ -102,11 +103,11 @@ is_second_fence earlier a = (prop_of a.prop == IN_FENCE_FD) && list_any (names_f
 -- 6, the property is immutable; 7, the value is not among the property's values; 8, a second fence.
 unfoldable pub assign_refusal : Topology → (ℕ → Look) → List Assign → Assign → Option ℕ
 assign_refusal t f earlier a =
-    or_else (number_if 4 (not (exists t a.kind a.index)))
-    (or_else (number_if 5 (not (has_property a.kind a.prop)))
-    (or_else (number_if 6 (is_immutable a.prop))
-    (or_else (number_if 7 (not (is_value t f a.prop a.value)))
-    (number_if 8 (is_second_fence earlier a)))))
+    or_else (refused_if NO_OBJECT (not (exists t a.kind a.index)))
+    (or_else (refused_if NO_PROPERTY (not (has_property a.kind a.prop)))
+    (or_else (refused_if IMMUTABLE_PROPERTY (is_immutable a.prop))
+    (or_else (refused_if INVALID_VALUE (not (is_value t f a.prop a.value)))
+    (refused_if SECOND_IN_FENCE (is_second_fence earlier a)))))
 
 -- the first that is wrong with assignments behind earlier ones, of which the last is the first of the list
 unfoldable pub assigns_refusal : Topology → (ℕ → Look) → List Assign → List Assign → Option ℕ

@@ -11,7 +11,7 @@ use Rattle.kms_model.specs.declared.pictures.FbInfo.{FbInfo}
 use Rattle.kms_model.specs.declared.properties.TheConstants.{FB_ID, CRTC_ID, MODE_ID, IN_FENCE_FD}
 use Rattle.kms_model.specs.declared.scripts.Assign.{Assign}
 use Rattle.kms_model.specs.declared.scripts.Value.{Value}
-use Rattle.kms_model.specs.declared.scripts.Value.TheVariants.{Num, Named, New, Crtc}
+use Rattle.kms_model.specs.declared.scripts.Value.TheVariants.{Num, Named, Crtc}
 use Rattle.kms_model.specs.declared.sets.Set.{Set}
 use Rattle.kms_model.specs.declared.sets.SetValue.{SetValue}
 use Rattle.kms_model.specs.declared.sets.SetValue.TheVariants as to

@@ -13,11 +13,12 @@ use Rattle.kms_model.specs.declared.scripts.Value.TheVariants as value
 use Rattle.kms_model.specs.declared.states.Mask.{Mask}
 use Rattle.kms_model.specs.declared.worlds.Setting.{Setting}
 use Rattle.kms_model.specs.declared.worlds.Thing.{Thing}
+use Rattle.kms_model.specs.declared.worlds.World.{World}
 use Rattle.kms_model.specs.Firsts.{or_else}
 use Rattle.kms_model.specs.Request.Flags.{wants_event}
 use Rattle.kms_model.specs.Device.Masks.{mask_below}
 use Rattle.kms_model.specs.Device.Objects.{object_id, ids_of, count_of}
-use Rattle.kms_model.specs.Request.Apply.{object_of, prop_of}
+use Rattle.kms_model.specs.Request.Apply.{object_of, prop_of, after}
 use Rattle.kms_model.specs.Request.Named.{names, moves_on, needs_modeset}
 
 -- a request sets an object, also by an assignment that a later one overrides
@@ -54,6 +55,13 @@ touched_set t things old new assigns = record {
 
 abbrev pub value_if : Bool → Value → Option Value
 value_if b v = if b then Some v else None
+
+-- the CRTCs that a request names in a world, and the objects that it touches there, as sets
+abbrev pub named_by : Topology → World → Request → ℕ
+named_by t w r = named_set t w.values (after w r) r.assigns
+
+abbrev pub touched_by : Topology → World → Request → Mask
+touched_by t w r = touched_set t w.things w.values (after w r) r.assigns
 
 -- the last value that a request sets a property of an object to
 abbrev pub last_value : List Assign → ℕ → ℕ → Option Value

@@ -6,10 +6,17 @@ use Rattle.kms_model.specs.declared.scripts.Request.{Request}
 use Rattle.kms_model.specs.declared.worlds.World.{World}
 use Rattle.kms_model.specs.Firsts.{or_else}
 use Rattle.kms_model.specs.Request.Lookups.{look_up}
-use Rattle.kms_model.specs.Request.Apply.{apply}
+use Rattle.kms_model.specs.Request.Apply.{after}
 use Rattle.kms_model.specs.Request.Refusals.{early_refusal}
 use Rattle.kms_model.specs.Request.Checks.{late_refusal}
 
+-- the first refusal from 1 to 8 of a request in a world, and the first from 9 to 24
+abbrev pub early_in : Topology → World → Request → Option ℕ
+early_in t w r = early_refusal t (look_up w) r
+
+abbrev pub late_in : Topology → World → Request → Option ℕ
+late_in t w r = late_refusal t w.things w.values (after w r) r
+
 -- the first refusal of a request in a world, from 1 to 24; none where it is accepted
 unfoldable pub verdict : Topology → World → Request → Option ℕ
-verdict t w r = or_else (early_refusal t (look_up w) r) (late_refusal t w.things w.values (apply w.things w.values r.assigns) r)
+verdict t w r = or_else (early_in t w r) (late_in t w r)

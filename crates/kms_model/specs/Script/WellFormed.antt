@@ -1,5 +1,5 @@
 -- What holds of every script that some bytes spell, within the limits.
-use Rattle.std.specs.Prelude.{◌≤◌, ℕ, List, length, ⊤}
+use Rattle.std.specs.Prelude.{◌≤◌, List, length, ⊤}
 use Rattle.std.specs.List.{AllByRecursion}
 use Rattle.kms_model.specs.declared.scripts.Command.{Command}
 use Rattle.kms_model.specs.declared.scripts.Command.TheVariants as command
