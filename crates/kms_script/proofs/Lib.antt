@@ -33,3 +33,4 @@ pub mod SpeltThings
 pub mod SpeltWords
 pub mod Texts
 pub mod WithinLimit
+pub mod WordsNumbered

@@ -1,6 +1,7 @@
 -- The names that the reader keeps, as the definitions see them, and how many there may be.
 use Rattle.std.specs.Prelude.{◌≡◌, ◌<◌, ◌≤◌, ◌+◌, ◌^◌, ◌==◌, Bool, true, false, ℕ, List, [], ◌∷◌, Option, option_map, length, take}
 use Rattle.std.specs.List.{list_any}
+use Rattle.std.specs.Ordering.{is_eq, nat_cmp}
 use Rattle.kms_model.specs.declared.scripts.Assign.{Assign}
 use Rattle.kms_model.specs.Script.CommandLines.{Name, Names, assigns_read, label_alone, making, place, saying, unmade}
 use Rattle.kms_model.specs.Script.Grammar.{field_words}
@@ -11,19 +12,19 @@ pub record Held : Type 0 where
   pub names : Names
   pub before : List (List ℕ)
 
--- a number is among the numbers
+-- whether a number is among numbers
 abbrev pub has_number : List ℕ → ℕ → Bool
-has_number numbers n = list_any (λ m. n == m) numbers
+has_number numbers n = list_any (λ m. is_eq (nat_cmp n m)) numbers
 
--- words from a number on, as names of which those with the numbers are made
-abbrev pub marked : List ℕ → ℕ → List (List ℕ) → List Name
-marked numbers n [] = []
-marked numbers n (w ∷ ws) = record { word = w; is_made = has_number numbers n } ∷ marked numbers (n + 1) ws
+-- words from a number on, as names of which those with some numbers are made
+abbrev pub marked : (ℕ → Bool) → ℕ → List (List ℕ) → List Name
+marked is_made n [] = []
+marked is_made n (w ∷ ws) = record { word = w; is_made = is_made n } ∷ marked is_made (n + 1) ws
 
 -- words with their numbers, how many of them were there before, the numbers of labels that are made, how often one was
 -- made, and whether one was made twice
 abbrev pub held : List (List ℕ) → ℕ → List ℕ → ℕ → Bool → Held
-held words earlier numbers count twice = record { names = record { all = marked numbers 0 words; made = count; is_twice = twice }; before = take earlier words }
+held words earlier numbers count twice = record { names = record { all = marked (has_number numbers) 0 words; made = count; is_twice = twice }; before = take earlier words }
 
 -- the numbers are those of words, and so many were there before
 pub record AreMade (words : List (List ℕ)) (count : ℕ) (numbers : List ℕ) : Type 0 where

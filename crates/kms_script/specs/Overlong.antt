@@ -62,6 +62,11 @@ packed (b ∷ bs) = b + 256 * packed bs
 abbrev pub packed_alone : List ℕ → List ℕ
 packed_alone word = if nat_le (length word) 16 then packed word ∷ [] else []
 
+-- the number of a label, where there is one
+abbrev pub packed_label : Option (List ℕ) → List ℕ
+packed_label None = []
+packed_label (Some label) = packed_alone label
+
 -- the numbers of those words that have at most 16 bytes
 abbrev pub packed_all : List (List ℕ) → List ℕ
 packed_all words = flat_map packed_alone words

@@ -15,7 +15,7 @@ use kms_model::{Command, Mode, NoMemory};
 use std::alloc::Global;
 
 /// One label.
-#[tactic(auto, unfolding(kms_model::specs::CommandLines::label_alone))]
+#[tactic(auto, unfolding(kms_model::specs::Script::CommandLines::label_alone))]
 fn label_alone(bytes: &[u8]) -> Option<&[u8]>
     ensures { option_map (λ x. x.now) result ≡ label_alone bytes.now }
 {
@@ -25,7 +25,7 @@ fn label_alone(bytes: &[u8]) -> Option<&[u8]>
 }
 
 /// `LABEL W H FMT PATTERN`.
-#[tactic(auto, unfolding(kms_model::specs::CommandLines::buffer_read))]
+#[tactic(auto, unfolding(kms_model::specs::Script::CommandLines::buffer_read))]
 fn read_buffer(names: &mut Names, alloc: Global, bytes: &[u8]) -> Result<Option<Command>, NoMemory>
     requires { HasRoomForNames names.old.names 1 }
     ensures value { IfOk result (λ o. option_map (λ c. (c, names.new.names)) o ≡ buffer_read names.old.names bytes.now) }
@@ -59,7 +59,7 @@ fn read_buffer(names: &mut Names, alloc: Global, bytes: &[u8]) -> Result<Option<
 }
 
 /// `LABEL BUFFERLABEL`.
-#[tactic(auto, unfolding(kms_model::specs::CommandLines::addfb_read))]
+#[tactic(auto, unfolding(kms_model::specs::Script::CommandLines::addfb_read))]
 fn read_addfb(names: &mut Names, alloc: Global, bytes: &[u8]) -> Result<Option<Command>, NoMemory>
     requires { HasRoomForNames names.old.names 2 }
     ensures value { IfOk result (λ o. option_map (λ c. (c, names.new.names)) o ≡ addfb_read names.old.names bytes.now) }
@@ -79,7 +79,7 @@ fn read_addfb(names: &mut Names, alloc: Global, bytes: &[u8]) -> Result<Option<C
 }
 
 /// `LABEL` and the 15 words of a mode.
-#[tactic(auto, unfolding(kms_model::specs::CommandLines::mode_read))]
+#[tactic(auto, unfolding(kms_model::specs::Script::CommandLines::mode_read))]
 fn read_mode(names: &mut Names, alloc: Global, bytes: &[u8]) -> Result<Option<Command>, NoMemory>
     requires { HasRoomForNames names.old.names 1 }
     ensures value { IfOk result (λ o. option_map (λ c. (c, names.new.names)) o ≡ mode_read names.old.names bytes.now) }
@@ -101,7 +101,7 @@ fn read_mode(names: &mut Names, alloc: Global, bytes: &[u8]) -> Result<Option<Co
 }
 
 /// `LABEL BYTES`.
-#[tactic(auto, unfolding(kms_model::specs::CommandLines::blob_read))]
+#[tactic(auto, unfolding(kms_model::specs::Script::CommandLines::blob_read))]
 fn read_blob_words(
     names: &mut Names,
     alloc: Global,
@@ -156,7 +156,7 @@ fn say_alone(names: &mut Names, alloc: Global, bytes: &[u8]) -> Result<Option<u3
 }
 
 /// A command that makes a thing, but no fence.
-#[tactic(auto, unfolding(kms_model::specs::CommandLines::thing_read))]
+#[tactic(auto, unfolding(kms_model::specs::Script::CommandLines::thing_read))]
 fn read_thing(
     names: &mut Names,
     alloc: Global,
@@ -183,7 +183,7 @@ fn read_thing(
 }
 
 /// A command with one label alone, or one that makes a thing.
-#[tactic(auto, unfolding(kms_model::specs::CommandLines::label_read, kms_model::specs::CommandLines::making_read, kms_model::specs::CommandLines::naming_read))]
+#[tactic(auto, unfolding(kms_model::specs::Script::CommandLines::label_read, kms_model::specs::Script::CommandLines::making_read, kms_model::specs::Script::CommandLines::naming_read))]
 fn read_labelled(
     names: &mut Names,
     alloc: Global,
@@ -216,7 +216,7 @@ fn read_labelled(
 }
 
 /// The command that a line spells: its first word says which.
-#[tactic(auto, unfolding(kms_model::specs::CommandLines::command_read))]
+#[tactic(auto, unfolding(kms_model::specs::Script::CommandLines::command_read))]
 pub fn command_of(
     names: &mut Names,
     alloc: Global,

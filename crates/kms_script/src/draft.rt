@@ -21,7 +21,7 @@ use std::mem::replace;
 const LIMIT: usize = 1_048_576;
 
 /// `crtcs N`: the number of CRTCs, from 1 to 4.
-#[tactic(auto, unfolding(kms_model::specs::WholeInput::crtcs_at))]
+#[tactic(auto, unfolding(kms_model::specs::Script::WholeInput::crtcs_at))]
 fn take_count(bytes: &[u8]) -> Option<u32>
     ensures value { result ≡ crtcs_at bytes.now }
     ensures fit { IfSome result IsFitCount }
@@ -48,7 +48,7 @@ fn plane_type(word: &[u8]) -> Option<u32>
 }
 
 /// `TYPE LIST FMTS`, of a device with 1 to 4 CRTCs.
-#[tactic(auto, unfolding(kms_model::specs::WholeInput::plane_fields))]
+#[tactic(auto, unfolding(kms_model::specs::Script::WholeInput::plane_fields))]
 fn take_plane(crtcs: u32, bytes: &[u8]) -> Option<PlaneInfo>
     requires { IsFitCount crtcs }
     ensures value { result ≡ plane_fields crtcs bytes.now }
@@ -66,7 +66,7 @@ fn take_plane(crtcs: u32, bytes: &[u8]) -> Option<PlaneInfo>
 }
 
 /// `LIST`, of a device with 1 to 4 CRTCs.
-#[tactic(auto, unfolding(kms_model::specs::WholeInput::conn_at))]
+#[tactic(auto, unfolding(kms_model::specs::Script::WholeInput::conn_at))]
 fn take_conn(crtcs: u32, bytes: &[u8]) -> Option<u32>
     requires { IsFitCount crtcs }
     ensures value { result ≡ conn_at crtcs bytes.now }
@@ -140,7 +140,7 @@ impl Draft {
         self.conns.is_empty()
     }
 
-    #[tactic(auto, unfolding(kms_model::specs::WholeInput::first_line))]
+    #[tactic(auto, unfolding(kms_model::specs::Script::WholeInput::first_line))]
     fn first_line(&mut self, text: &[u8]) -> Result<(), Stop>
         requires sound { IsSoundDraft (draft_in self.old) }
         requires first { (draft_in self.old).head ≡ 0 }
@@ -154,7 +154,7 @@ impl Draft {
         Ok(())
     }
 
-    #[tactic(auto, unfolding(kms_model::specs::WholeInput::crtcs_line))]
+    #[tactic(auto, unfolding(kms_model::specs::Script::WholeInput::crtcs_line))]
     fn crtcs_line(&mut self, text: &[u8]) -> Result<(), Stop>
         requires sound { IsSoundDraft (draft_in self.old) }
         requires second { (draft_in self.old).head ≡ 1 }
@@ -174,7 +174,7 @@ impl Draft {
     }
 
     /// A plane, before the first connector.
-    #[tactic(auto, unfolding(kms_model::specs::WholeInput::plane_line))]
+    #[tactic(auto, unfolding(kms_model::specs::Script::WholeInput::plane_line))]
     fn plane_line(&mut self, fields: &[u8]) -> Result<(), Stop>
         requires sound { IsSoundDraft (draft_in self.old) }
         requires later { 2 ≤ (draft_in self.old).head }
@@ -195,7 +195,7 @@ impl Draft {
     }
 
     /// A connector, behind the planes and before the first client.
-    #[tactic(auto, unfolding(kms_model::specs::WholeInput::conn_line))]
+    #[tactic(auto, unfolding(kms_model::specs::Script::WholeInput::conn_line))]
     fn conn_line(&mut self, fields: &[u8]) -> Result<(), Stop>
         requires sound { IsSoundDraft (draft_in self.old) }
         requires later { 2 ≤ (draft_in self.old).head }
@@ -245,7 +245,7 @@ impl Draft {
     }
 
     /// A client, behind the connectors.
-    #[tactic(auto, unfolding(kms_model::specs::WholeInput::client_line))]
+    #[tactic(auto, unfolding(kms_model::specs::Script::WholeInput::client_line))]
     fn client_line(&mut self, alloc: Global, fields: &[u8]) -> Result<(), Stop>
         requires { IsSoundDraft (draft_in self.old) }
         ensures value { Becomes result (client_line (draft_in self.old) fields.now) (draft_in self.new) }
@@ -273,7 +273,7 @@ impl Draft {
     }
 
     /// A command of the present client.
-    #[tactic(auto, unfolding(kms_model::specs::WholeInput::command_line))]
+    #[tactic(auto, unfolding(kms_model::specs::Script::WholeInput::command_line))]
     fn command_line(&mut self, alloc: Global, text: &[u8]) -> Result<(), Stop>
         requires sound { IsSoundDraft (draft_in self.old) }
         requires room { HasRoomFor (draft_in self.old) text.now }
@@ -292,7 +292,7 @@ impl Draft {
     }
 
     /// A line behind the first two.
-    #[tactic(auto, unfolding(kms_model::specs::WholeInput::later_line))]
+    #[tactic(auto, unfolding(kms_model::specs::Script::WholeInput::later_line))]
     fn later_line(&mut self, alloc: Global, text: &[u8]) -> Result<(), Stop>
         requires sound { IsSoundDraft (draft_in self.old) }
         requires later { 2 ≤ (draft_in self.old).head }
@@ -312,7 +312,7 @@ impl Draft {
         }
     }
 
-    #[tactic(auto, unfolding(kms_model::specs::WholeInput::script_line))]
+    #[tactic(auto, unfolding(kms_model::specs::Script::WholeInput::script_line))]
     fn script_line(&mut self, alloc: Global, text: &[u8]) -> Result<(), Stop>
         requires sound { IsSoundDraft (draft_in self.old) }
         requires room { HasRoomFor (draft_in self.old) text.now }
@@ -328,7 +328,7 @@ impl Draft {
 
     /// A line, or its first fault in the order Bytes, Cut, Form, Label, Limit. After a fault the draft is of no
     /// more use.
-    #[tactic(auto, unfolding(kms_model::specs::WholeInput::line_after))]
+    #[tactic(auto, unfolding(kms_model::specs::Script::WholeInput::line_after))]
     pub fn line(&mut self, alloc: Global, row: &Row<'_>) -> Result<(), Stop>
         requires sound { IsSoundDraft (draft_in self.old) }
         requires room { HasRoomFor (draft_in self.old) (row_in row.now).text }

@@ -51,7 +51,7 @@ fn read_lines(alloc: Global, bytes: &[u8]) -> Result<Draft, ParseError>
 /// passed with this line: 16 planes, 8 connectors, 16 clients, 4096 commands of a client, 256 assignments of a
 /// request, 4096 labels made, or 1,048,576 bytes of lines. Where the input ends before the first connector, the fault
 /// is `Form` at the number after the last line.
-#[tactic(auto, unfolding(kms_model::specs::WholeInput::input))]
+#[tactic(auto, unfolding(kms_model::specs::Script::WholeInput::input))]
 pub fn parse(alloc: Global, bytes: &[u8]) -> Result<Script, ParseError>
     ensures value { Gives result (input bytes.now) }
     ensures formed { IfOk result IsWellFormed }

@@ -23,7 +23,7 @@ fn format_named(word: &[u8]) -> Option<Format>
 }
 
 /// A format, and the bytes behind it.
-#[tactic(auto, unfolding(kms_model::specs::Grammar::format_at))]
+#[tactic(auto, unfolding(kms_model::specs::Script::Grammar::format_at))]
 pub fn take_format(bytes: &[u8]) -> Option<(Format, &[u8])>
     ensures { option_map (λ x. (x.0, x.1.now)) result ≡ format_at bytes.now }
 {
@@ -96,7 +96,7 @@ fn read_list(listed: Listed, word: &[u8]) -> Option<u32>
 }
 
 /// The mask of a list of CRTC indices, of a device with 1 to 4 CRTCs.
-#[tactic(auto, unfolding(kms_model::specs::Grammar::crtc_list))]
+#[tactic(auto, unfolding(kms_model::specs::Script::Grammar::crtc_list))]
 pub fn read_crtcs(crtcs: u32, word: &[u8]) -> Option<u32>
     requires { IsFitCount crtcs }
     ensures value { result ≡ crtc_list crtcs word.now }
@@ -106,7 +106,7 @@ pub fn read_crtcs(crtcs: u32, word: &[u8]) -> Option<u32>
 }
 
 /// The mask of a list of formats.
-#[tactic(auto, unfolding(kms_model::specs::Grammar::format_list))]
+#[tactic(auto, unfolding(kms_model::specs::Script::Grammar::format_list))]
 pub fn read_formats(word: &[u8]) -> Option<u32>
     ensures value { result ≡ format_list word.now }
     ensures below { IfSome result (λ mask. mask < 8) }

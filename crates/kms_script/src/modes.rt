@@ -7,7 +7,7 @@ ghost use Rattle.kms_model.specs.Script.CommandLines.{five_at, mode_fields};
 use crate::words::{MOST, take_dec, take_field};
 use kms_model::Mode;
 
-#[tactic(auto, unfolding(kms_model::specs::CommandLines::five_at))]
+#[tactic(auto, unfolding(kms_model::specs::Script::CommandLines::five_at))]
 fn take_five(bytes: &[u8]) -> Option<(u16, u16, u16, u16, u16, &[u8])>
     ensures { option_map (λ x. (x.0, x.1, x.2, x.3, x.4, x.5.now)) result ≡ five_at bytes.now }
 {
@@ -45,7 +45,7 @@ fn padded(word: &[u8]) -> [u8; 32]
     name
 }
 
-#[tactic(auto, unfolding(kms_model::specs::Words::name_at))]
+#[tactic(auto, unfolding(kms_model::specs::Script::Words::name_at))]
 fn take_name(bytes: &[u8]) -> Option<([u8; 32], &[u8])>
     ensures { option_map (λ x. (x.0, x.1.now)) result ≡ name_at bytes.now }
 {
@@ -58,7 +58,7 @@ fn take_name(bytes: &[u8]) -> Option<([u8; 32], &[u8])>
 }
 
 /// The 15 words of a mode, and the bytes behind them.
-#[tactic(auto, unfolding(kms_model::specs::CommandLines::mode_fields))]
+#[tactic(auto, unfolding(kms_model::specs::Script::CommandLines::mode_fields))]
 pub fn take_mode(bytes: &[u8]) -> Option<(Mode, &[u8])>
     ensures { option_map (λ x. (x.0, x.1.now)) result ≡ mode_fields bytes.now }
 {

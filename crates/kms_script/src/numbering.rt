@@ -1,7 +1,8 @@
 //! Words that have numbers.
-ghost use Rattle.std.specs.Prelude.{◌≡◌, ◌≤◌, ◌<◌, ◌^◌, ℕ, [], ◌∷◌, ◌++◌, None, OnOk, OnErr, length, position, take};
+ghost use Rattle.std.specs.Prelude.{◌≡◌, ◌≤◌, ◌<◌, ◌^◌, ◌-◌, ℕ, [], ◌∷◌, ◌++◌, None, OnOk, OnErr, length, take};
 ghost use Rattle.std.specs.List.{IsDistinct};
 ghost use Rattle.std.specs.Str.{bytes_eq};
+ghost use Rattle.kms_script.specs.Numbered.{number_in};
 
 use kms_model::{NoMemory, Seq};
 use std::alloc::Global;
@@ -55,14 +56,14 @@ impl Numbering {
 
     /// The number of a word; none where it is not among the words.
     pub fn find(&self, word: &[u8]) -> Option<u32>
-        ensures { result ≡ position (bytes_eq word.now) self.now }
+        ensures { result ≡ number_in word.now self.now }
     {
         self.numbers.get(word).copied()
     }
 
     /// Puts a word behind the others, of which none is equal to it. Want of memory leaves them as they were.
     pub fn push(&mut self, alloc: Global, word: &[u8]) -> Result<(), NoMemory>
-        requires new { position (bytes_eq word.now) self.old ≡ None }
+        requires new { number_in word.now self.old ≡ None }
         requires few { length self.old < 2 ^ 32 }
         ensures added { OnOk result (self.new ≡ self.old ++ word.now ∷ []) }
         ensures unchanged { OnErr result (self.new ≡ self.old) }
@@ -71,11 +72,22 @@ impl Numbering {
         let number = self.words.len() as u32;
         self.words
             .push(Seq::from_vec(Vec::from_slice(alloc, word)?))?;
-        if self.numbers.insert(key, number).is_err() {
-            self.words.pop();
-            return Err(NoMemory);
+        match self.numbers.insert(key, number) {
+            Ok(_) => Ok(()),
+            Err(_) => {
+                self.words.pop();
+                Err(NoMemory)
+            }
         }
-        Ok(())
+    }
+
+    /// Takes the last word away, where there is one.
+    fn drop_last(&mut self)
+        ensures { self.new ≡ take (length self.old - 1) self.old }
+    {
+        if let Some(word) = self.words.pop() {
+            self.numbers.remove(word.as_slice());
+        }
     }
 
     /// Lets the first words stay, and no others.
@@ -83,10 +95,8 @@ impl Numbering {
         requires { count ≤ length self.old }
         ensures { self.new ≡ take count self.old }
     {
-        while self.words.len() > count {
-            if let Some(word) = self.words.pop() {
-                self.numbers.remove(word.as_slice());
-            }
+        'dropping: while self.len() > count {
+            self.drop_last();
         }
     }
 

@@ -18,7 +18,7 @@ fn read_negative(digits: &[u8]) -> Option<i128>
 
 /// The number of a word, from -9223372036854775808 to 18446744073709551615: `-` and a number that is not 0, or a
 /// number. Each has one spelling: no leading zero, no `-0` and no `+`.
-#[tactic(auto, unfolding(kms_model::specs::Grammar::int))]
+#[tactic(auto, unfolding(kms_model::specs::Script::Grammar::int))]
 pub fn read_int(word: &[u8]) -> Option<i128>
     ensures { result ≡ int word.now }
 {
@@ -29,7 +29,7 @@ pub fn read_int(word: &[u8]) -> Option<i128>
 }
 
 /// The number of `0x` and `0`, or at most eight lower-case hexadecimal digits of which the first is not 0.
-#[tactic(auto, unfolding(kms_model::specs::Grammar::hex))]
+#[tactic(auto, unfolding(kms_model::specs::Script::Grammar::hex))]
 fn read_hex(word: &[u8]) -> Option<u32>
     ensures { result ≡ hex word.now }
 {
@@ -67,7 +67,7 @@ fn digits_of(format: Format) -> usize
     }
 }
 
-#[tactic(auto, unfolding(kms_model::specs::Grammar::pixel_number))]
+#[tactic(auto, unfolding(kms_model::specs::Script::Grammar::pixel_number))]
 fn read_pixel(format: Format, word: &[u8]) -> Option<u32>
     ensures { result ≡ pixel_number format word.now }
 {
@@ -79,7 +79,7 @@ fn read_pixel(format: Format, word: &[u8]) -> Option<u32>
 }
 
 /// The word of a pixel in a format, and the bytes behind it.
-#[tactic(auto, unfolding(kms_model::specs::Grammar::pixel_at))]
+#[tactic(auto, unfolding(kms_model::specs::Script::Grammar::pixel_at))]
 pub fn take_pixel(format: Format, bytes: &[u8]) -> Option<(u32, &[u8])>
     ensures { option_map (λ x. (x.0, x.1.now)) result ≡ pixel_at format bytes.now }
 {
@@ -89,7 +89,7 @@ pub fn take_pixel(format: Format, bytes: &[u8]) -> Option<(u32, &[u8])>
 }
 
 /// The byte of two hexadecimal digits.
-#[tactic(auto, unfolding(kms_model::specs::Grammar::hex_pair))]
+#[tactic(auto, unfolding(kms_model::specs::Script::Grammar::hex_pair))]
 fn read_pair(high: u8, low: u8) -> Option<u8>
     ensures { result ≡ hex_pair high low }
 {

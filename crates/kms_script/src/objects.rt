@@ -15,7 +15,7 @@ fn indexed(kind: Kind, digits: &[u8]) -> Option<(Kind, u32)>
 }
 
 /// The kind and the index of an object: `crtc`, `plane`, `conn` or `enc` with an index to 255.
-#[tactic(auto, unfolding(kms_model::specs::Grammar::object))]
+#[tactic(auto, unfolding(kms_model::specs::Script::Grammar::object))]
 fn read_object(word: &[u8]) -> Option<(Kind, u32)>
     ensures { result ≡ object word.now }
 {
@@ -77,7 +77,7 @@ pub struct AssignWords<'a> {
 }
 
 /// The words of `OBJ.PROP=VALUE`.
-#[tactic(auto, unfolding(kms_model::specs::CommandLines::assign_words))]
+#[tactic(auto, unfolding(kms_model::specs::Script::CommandLines::assign_words))]
 pub fn read_assign_words(word: &[u8]) -> Option<AssignWords<'_>>
     ensures value { option_map (λ w. (w.kind, w.index, w.prop.now, w.value.now)) result ≡ assign_words word.now }
     ensures some { IfSome result (λ _. 1 ≤ length word.now) }

@@ -3,11 +3,10 @@
 ghost use Rattle.std.specs.Prelude.{◌≡◌, ◌≤◌, ◌<◌, ◌+◌, ◌^◌, ◌++◌, [], ℕ, Bool, false, true, Err, IfOk, OnOk, IsTrue, length, option_map};
 ghost use Rattle.std.specs.Bool.{Decides, nat_eq};
 ghost use Rattle.std.specs.List.{IsDistinct};
-ghost use Rattle.std.specs.Option.{option_map_or};
 ghost use Rattle.kms_model.specs.Script.CommandLines.{atomic_read};
 ghost use Rattle.kms_script.specs.Lines.{checked};
 ghost use Rattle.kms_script.specs.Named.{HasRoomForNames};
-ghost use Rattle.kms_script.specs.Overlong.{AddsLabels, assign_label, atomic_labels, blanks, has_many, labels_at, made_words, packed, packed_all, packed_alone, value_label};
+ghost use Rattle.kms_script.specs.Overlong.{AddsLabels, assign_label, atomic_labels, blanks, has_many, labels_at, made_words, packed, packed_alone, packed_label, value_label};
 
 use crate::names::Names;
 use crate::numbers::{read_int, take_hex};
@@ -23,15 +22,11 @@ const SHORTEST: usize = 10;
 pub fn has_many(fields: &[u8]) -> bool
     ensures { result ≡ has_many fields.now }
 {
-    let mut count = 0usize;
-    for b in fields {
-        count += usize::from(*b == b' ');
-    }
-    count > 258
+    fields.iter().filter(|b| **b == b' ').count() > 258
 }
 
 /// The label that a value makes, if it makes one; none for a word that is no value.
-#[tactic(auto, unfolding(kms_script::specs::Overlong::value_label))]
+#[tactic(auto, unfolding(crate::specs::Overlong::value_label))]
 fn value_label(word: &[u8]) -> Option<Option<&[u8]>>
     ensures { option_map (λ o. option_map (λ x. x.now) o) result ≡ value_label word.now }
 {
@@ -58,7 +53,7 @@ fn value_label(word: &[u8]) -> Option<Option<&[u8]>>
 }
 
 /// The label that an assignment makes, if it makes one; none for a word that is no assignment.
-#[tactic(auto, unfolding(kms_script::specs::Overlong::assign_label))]
+#[tactic(auto, unfolding(crate::specs::Overlong::assign_label))]
 fn assign_label(word: &[u8]) -> Option<Option<&[u8]>>
     ensures { option_map (λ o. option_map (λ x. x.now) o) result ≡ assign_label word.now }
 {
@@ -90,7 +85,7 @@ pub fn push_packed(numbers: &mut Vec<u128>, word: &[u8]) -> Result<(), NoMemory>
 
 /// Adds the number of a label, where there is one.
 fn push_label(numbers: &mut Vec<u128>, label: Option<&[u8]>) -> Result<(), NoMemory>
-    ensures { OnOk result (numbers.new.items ≡ numbers.old.items ++ option_map_or (λ x. packed_alone x.now) label []) }
+    ensures { OnOk result (numbers.new.items ≡ numbers.old.items ++ packed_label (option_map (λ x. x.now) label)) }
 {
     match label {
         Some(label) => push_packed(numbers, label),

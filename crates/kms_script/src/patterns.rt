@@ -9,7 +9,7 @@ use crate::words::{take_dec, take_end, take_field};
 use kms_model::{Format, NoMemory, Pattern, Seq};
 use std::alloc::Global;
 
-#[tactic(auto, unfolding(kms_model::specs::CommandLines::solid_at))]
+#[tactic(auto, unfolding(kms_model::specs::Script::CommandLines::solid_at))]
 fn take_solid(format: Format, bytes: &[u8]) -> Option<Pattern>
     ensures value { result ≡ solid_at format bytes.now }
     ensures fills { IfSome result (λ p. (w h : ℕ) → Fills p w h) }
@@ -19,7 +19,7 @@ fn take_solid(format: Format, bytes: &[u8]) -> Option<Pattern>
     Some(Pattern::Solid(word))
 }
 
-#[tactic(auto, unfolding(kms_model::specs::CommandLines::checker_at))]
+#[tactic(auto, unfolding(kms_model::specs::Script::CommandLines::checker_at))]
 fn take_checker(format: Format, bytes: &[u8]) -> Option<Pattern>
     ensures value { result ≡ checker_at format bytes.now }
     ensures fills { IfSome result (λ p. (w h : ℕ) → Fills p w h) }
@@ -72,7 +72,7 @@ fn take_pixels(
 }
 
 /// A word for each pixel, from 1 to 256 of them.
-#[tactic(auto, unfolding(kms_model::specs::CommandLines::each_pixel_at))]
+#[tactic(auto, unfolding(kms_model::specs::Script::CommandLines::each_pixel_at))]
 fn take_each(
     alloc: Global,
     format: Format,
@@ -92,7 +92,7 @@ fn take_each(
 }
 
 /// The pattern of a buffer of a width, a height and a format, up to the end of the line.
-#[tactic(auto, unfolding(kms_model::specs::CommandLines::pattern_at))]
+#[tactic(auto, unfolding(kms_model::specs::Script::CommandLines::pattern_at))]
 pub fn take_pattern(
     alloc: Global,
     width: u32,

@@ -12,7 +12,7 @@ use kms_model::{Assign, Command, NoMemory, PropRef, Request, Seq, Value};
 use std::alloc::Global;
 
 /// The property of a name.
-#[tactic(auto, unfolding(kms_model::specs::CommandLines::property_read))]
+#[tactic(auto, unfolding(kms_model::specs::Script::CommandLines::property_read))]
 fn read_property(names: &mut Names, alloc: Global, word: &[u8]) -> Result<PropRef, NoMemory>
     requires { HasRoomForNames names.old.names 1 }
     ensures value { IfOk result (λ p. (p, names.new.names) ≡ property_read names.old.names word.now) }
@@ -26,7 +26,7 @@ fn read_property(names: &mut Names, alloc: Global, word: &[u8]) -> Result<PropRe
 }
 
 /// The value of a word: `@LABEL`, `+LABEL`, `crtc` with an index to 255, or a number.
-#[tactic(auto, unfolding(kms_model::specs::CommandLines::value_read))]
+#[tactic(auto, unfolding(kms_model::specs::Script::CommandLines::value_read))]
 fn read_value(names: &mut Names, alloc: Global, word: &[u8]) -> Result<Option<Value>, NoMemory>
     requires { HasRoomForNames names.old.names 1 }
     ensures value { IfOk result (λ o. option_map (λ v. (v, names.new.names)) o ≡ value_read names.old.names word.now) }
@@ -58,7 +58,7 @@ fn read_value(names: &mut Names, alloc: Global, word: &[u8]) -> Result<Option<Va
 }
 
 /// The assignment of a word.
-#[tactic(auto, unfolding(kms_model::specs::CommandLines::assign_read))]
+#[tactic(auto, unfolding(kms_model::specs::Script::CommandLines::assign_read))]
 fn read_assign(names: &mut Names, alloc: Global, word: &[u8]) -> Result<Option<Assign>, NoMemory>
     requires { HasRoomForNames names.old.names 2 }
     ensures value { IfOk result (λ o. option_map (λ a. (a, names.new.names)) o ≡ assign_read names.old.names word.now) }
@@ -108,7 +108,7 @@ fn read_assigns(
 }
 
 /// `FLAGS USERDATA` and 0 or more assignments.
-#[tactic(auto, unfolding(kms_model::specs::CommandLines::atomic_read))]
+#[tactic(auto, unfolding(kms_model::specs::Script::CommandLines::atomic_read))]
 pub fn read_atomic(
     names: &mut Names,
     alloc: Global,

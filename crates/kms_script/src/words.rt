@@ -48,7 +48,7 @@ pub fn strip<'a>(front: &[u8], bytes: &'a [u8]) -> Option<&'a [u8]>
 
 /// The number that a word spells in decimal digits, where it is at most `most`. Each number has one spelling:
 /// `0`, or digits of which the first is not 0.
-#[tactic(auto, unfolding(kms_model::specs::Words::dec))]
+#[tactic(auto, unfolding(kms_model::specs::Script::Words::dec))]
 pub fn read_dec(word: &[u8], most: u64) -> Option<u64>
     ensures value { result ≡ dec most word.now }
     ensures most { IfSome result (λ n. n ≤ most) }
@@ -76,7 +76,7 @@ pub fn read_dec(word: &[u8], most: u64) -> Option<u64>
 }
 
 /// Whether a word is a label: a letter from `a` to `z`, and at most 15 such letters, digits and `_` behind it.
-#[tactic(auto, unfolding(kms_model::specs::Words::is_label))]
+#[tactic(auto, unfolding(kms_model::specs::Script::Words::is_label))]
 pub fn is_label(word: &[u8]) -> bool
     ensures { result ≡ is_label word.now }
 {
@@ -144,7 +144,7 @@ pub fn read_digits(word: &[u8]) -> Option<u32>
 
 /// A field is a blank and the word behind it: the word at the front of a line's bytes, and the bytes from the
 /// next blank on.
-#[tactic(auto, unfolding(kms_model::specs::Words::field_at))]
+#[tactic(auto, unfolding(kms_model::specs::Script::Words::field_at))]
 pub fn take_field(bytes: &[u8]) -> Option<(&[u8], &[u8])>
     ensures shorter { IfSome result (λ x. length x.0.now + length x.1.now + 1 ≡ length bytes.now) }
     ensures value { option_map (λ x. (x.0.now, x.1.now)) result ≡ field_at bytes.now }
@@ -162,7 +162,7 @@ pub fn take_field(bytes: &[u8]) -> Option<(&[u8], &[u8])>
 }
 
 /// A number at most `most`, and the bytes behind it.
-#[tactic(auto, unfolding(kms_model::specs::Words::dec_at))]
+#[tactic(auto, unfolding(kms_model::specs::Script::Words::dec_at))]
 pub fn take_dec(bytes: &[u8], most: u64) -> Option<(u64, &[u8])>
     ensures value { option_map (λ x. (x.0, x.1.now)) result ≡ dec_at most bytes.now }
     ensures most { IfSome result (λ x. x.0 ≤ most) }
@@ -174,7 +174,7 @@ pub fn take_dec(bytes: &[u8], most: u64) -> Option<(u64, &[u8])>
 }
 
 /// A label, and the bytes behind it.
-#[tactic(auto, unfolding(kms_model::specs::Words::label_at))]
+#[tactic(auto, unfolding(kms_model::specs::Script::Words::label_at))]
 pub fn take_label(bytes: &[u8]) -> Option<(&[u8], &[u8])>
     ensures { option_map (λ x. (x.0.now, x.1.now)) result ≡ label_at bytes.now }
 {
