@@ -19,6 +19,7 @@ pub mod Loops
 pub mod NamesBegin
 pub mod Naming
 pub mod OneSpelling
+pub mod PackedNames
 pub mod Parts
 pub mod RowsSpelt
 pub mod ScriptLines

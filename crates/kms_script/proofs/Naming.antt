@@ -1,12 +1,14 @@
 -- Words with numbers, as names in order of first occurrence.
-use Rattle.std.proofs.Common.{◌≡◌, ℕ, ◌+◌, ◌<◌, ◌≤◌, ◌^◌, Bool, true, false, zero, suc, List, [], ◌∷◌, ◌++◌, map, length, take, drop, length-take, take-length, cond, not, Option, Some, None, refl, sym, ap, subst, ◌∙◌, arith}
+use Rattle.std.proofs.Common.{◌≡◌, ℕ, ◌+◌, ◌<◌, ◌≤◌, ◌^◌, Bool, true, false, zero, suc, List, [], ◌∷◌, ◌++◌, map, length, take, drop, length-take, cond, not, Option, Some, None, refl, sym, ap, subst, ◌∙◌, arith}
 use Rattle.std.specs.Prelude.{◌||◌, ◌==◌, option_map, slice_get}
 use Rattle.std.specs.Cmp.Lexicographic.{nat_list_eq_equiv}
 use Rattle.std.specs.List.{AllByRecursion, IsDistinct, position_or_len}
 use Rattle.std.specs.Ordering.{is_eq, nat_cmp}
 use Rattle.std.specs.Str.{bytes_eq}
 use Rattle.kms_model.specs.Script.CommandLines.{Name, Names, place, said, made, was_made, making, saying, unmade, words_in}
-use Rattle.kms_script.specs.Named.{AreMade, Held, held, has_number, kept, marked, HasRoomForNames}
+use Rattle.std.proofs.lemmas.Bool.Decides.{nat_tests}
+use Rattle.std.proofs.lemmas.List.{length-map}
+use Rattle.kms_script.specs.Named.{AreMade, Held, held, has_number, kept, marked, HasRoomForNames, NamesGrow}
 use Rattle.kms_script.specs.Numbered.{number_in}
 use Rattle.kms_script.proofs.WordsNumbered.{differ_front, number_last}
 
@@ -161,7 +163,7 @@ was_again w (n ∷ ns) = was_again_step (is w n) w n ns refl (was_again w ns)
 
 -- Names
 
-abbrev names_of : List (List ℕ) → List ℕ → ℕ → Bool → Names
+abbrev pub names_of : List (List ℕ) → List ℕ → ℕ → Bool → Names
 names_of ws numbers count twice = record { all = marked (has_number numbers) 0 ws; made = count; is_twice = twice }
 
 -- a name that is there
@@ -188,13 +190,118 @@ making_said w old ws numbers after count twice new said_is new_is after_is =
     let words : ws ≡ map (λ (n : Name). n.word) (said w old.all) = sym (marked_words (has_number numbers) 0 ws) ∙ ap (λ (ns : List Name). map (λ (n : Name). n.word) ns) all in
     let found : number_in w ws ≡ Some (place w old) = rw words (said_found w old.all) in
     let now : made w old.all ≡ marked (has_number after) 0 ws = sym (made_again w old.all) ∙ (ap (made w) (sym all) ∙ made_at (has_number numbers) (has_number after) w 0 ws (place w old) found (marks_of (place w old) after_is)) in
-    let was : was_made w old.all ≡ has_number numbers (place w old) = sym (was_again w old.all) ∙ (ap (was_made w) (sym all) ∙ was_at (has_number numbers) w 0 ws (place w old) found) in
+    let was : was_made w old.all ≡ has_number numbers (place w old) = sym (was_again w old.all) ∙ (ap (was_made w) (sym all) ∙ (was_at (has_number numbers) w 0 ws (place w old) found ∙ ap (has_number numbers) (from_none (place w old)))) in
     let counts : count ≡ old.made = ap (λ (n : Names). n.made) said_is in
     let twices : twice ≡ old.is_twice = ap (λ (n : Names). n.is_twice) said_is in
     rw (now, was, counts, twices, new_is, not_not (has_number numbers (place w old))) refl
   where
     marks_of : (n : ℕ) → ((m : ℕ) → has_number after m ≡ cond (is_eq (nat_cmp n m)) true (has_number numbers m)) → Marks (has_number numbers) (has_number after) (0 + n)
-    marks_of n is = record { here = is n ∙ rw (same_number n) refl; others = λ m apart. is m ∙ rw (other_number n m apart) refl }
+    marks_of n e =
+        let marks : Marks (has_number numbers) (has_number after) n = record { here = e n ∙ rw (same_number n) refl; others = λ m apart. e m ∙ rw (other_number n m apart) refl } in
+        let at : n ≡ 0 + n = omega arith in
+        subst (λ (i : ℕ). Marks (has_number numbers) (has_number after) i) at marks
+    from_none : (n : ℕ) → 0 + n ≡ n
+    from_none n = omega arith
     not_not : (b : Bool) → not (not b) ≡ b
     not_not true = refl
     not_not false = refl
+
+-- a name that was said has its place as its number
+pub found_said : (w : List ℕ) (old : Names) (ws : List (List ℕ)) (numbers : List ℕ) (count : ℕ) (twice : Bool) → names_of ws numbers count twice ≡ saying w old → number_in w ws ≡ Some (place w old)
+unfolding saying
+found_said w old ws numbers count twice said_is =
+    let words : ws ≡ map (λ (n : Name). n.word) (said w old.all) = sym (marked_words (has_number numbers) 0 ws) ∙ ap (λ (n : Names). words_in n) said_is in
+    rw words (said_found w old.all)
+
+below_step : (t : Bool) (o : Option ℕ) (n len : ℕ) → cond t (Some 0) (option_map (λ n. n + 1) o) ≡ Some n → ((m : ℕ) → o ≡ Some m → m < len) → n < suc len
+below_step true o n len e ih = let none : 0 ≡ n = cc in omega (arith, none)
+below_step false None n len e ih = absurd cc
+below_step false (Some m) n len e ih = let more : m + 1 ≡ n = cc in omega (arith, more, ih m refl)
+
+pub number_below : (w : List ℕ) (ws : List (List ℕ)) (n : ℕ) → number_in w ws ≡ Some n → n < length ws
+number_below w [] n e = absurd cc
+number_below w (x ∷ ws) n e = below_step (bytes_eq w x) (number_in w ws) n (length ws) e (λ m is. number_below w ws m is)
+
+equal_numbers : (n m : ℕ) → is_eq (nat_cmp n m) ≡ true → m ≡ n
+equal_numbers n m e = grind (arith, nat_tests)
+
+-- numbers after one more, all of them those of words
+pub made_below : (ws : List (List ℕ)) (n : ℕ) (numbers after : List ℕ) → n < length ws → ((m : ℕ) → has_number numbers m ≡ true → m < length ws)
+    → ((m : ℕ) → has_number after m ≡ cond (is_eq (nat_cmp n m)) true (has_number numbers m)) → (m : ℕ) → has_number after m ≡ true → m < length ws
+made_below ws n numbers after at below is m e = step (is_eq (nat_cmp n m)) refl (sym (is m) ∙ e)
+  where
+    step : (t : Bool) → is_eq (nat_cmp n m) ≡ t → cond t true (has_number numbers m) ≡ true → m < length ws
+    step true eq e = let same : m ≡ n = equal_numbers n m eq in omega (arith, same, at)
+    step false eq e = below m e
+
+-- How many names there are
+
+length_step : (t : Bool) (n : Name) (ns after : List Name) → length after ≤ length ns + 1 → length (cond t (n ∷ ns) (n ∷ after)) ≤ suc (length ns) + 1
+length_step true n ns after ih = omega arith
+length_step false n ns after ih = omega (arith, ih)
+
+said_length : (w : List ℕ) (ns : List Name) → length (said w ns) ≤ length ns + 1
+said_length w [] = omega arith
+said_length w (n ∷ ns) = length_step (is w n) n ns (said w ns) (said_length w ns)
+
+made_step_length : (t : Bool) (n m : Name) (ns after : List Name) → length after ≤ length ns + 1 → length (cond t (m ∷ ns) (n ∷ after)) ≤ suc (length ns) + 1
+made_step_length true n m ns after ih = omega arith
+made_step_length false n m ns after ih = omega (arith, ih)
+
+made_length : (w : List ℕ) (ns : List Name) → length (made w ns) ≤ length ns + 1
+made_length w [] = omega arith
+made_length w (n ∷ ns) = made_step_length (is w n) n (named n.word true) ns (made w ns) (made_length w ns)
+
+pub saying_grows : (w : List ℕ) (names : Names) → NamesGrow names (saying w names) 1
+unfolding saying
+saying_grows w names = record { all = said_length w names.all; made = omega arith }
+
+pub making_grows : (w : List ℕ) (names : Names) → NamesGrow names (making w names) 1
+unfolding making
+making_grows w names = record { all = made_length w names.all; made = omega arith }
+
+-- Names that stay
+
+none_marked : (k : ℕ) (ws : List (List ℕ)) → marked (has_number []) k ws ≡ map (λ w. record { word = w; is_made = false }) ws
+none_marked k [] = refl
+none_marked k (w ∷ ws) = ap (λ (ns : List Name). named w false ∷ ns) (none_marked (k + 1) ws)
+
+take_again : (n : ℕ) (ws : List (List ℕ)) → take n (take n ws) ≡ take n ws
+take_again zero ws = refl
+take_again (suc n) [] = refl
+take_again (suc n) (w ∷ ws) = ap (λ (vs : List (List ℕ)). w ∷ vs) (take_again n ws)
+
+pub held_kept : (n : ℕ) (ws : List (List ℕ)) → held (take n ws) n [] 0 false ≡ kept (take n ws)
+held_kept n ws = rw (none_marked 0 (take n ws), take_again n ws) refl
+
+pub words_unmade : (ws : List (List ℕ)) → words_in (unmade ws) ≡ ws
+words_unmade [] = refl
+words_unmade (w ∷ ws) = ap (λ (vs : List (List ℕ)). w ∷ vs) (words_unmade ws)
+
+-- Words said one after the other
+
+abbrev fresh : List (List ℕ) → List Name
+fresh ws = map (λ w. record { word = w; is_made = false }) ws
+
+-- a word differs from each that is equal to none of these
+apart_from : (x w : List ℕ) (ws : List (List ℕ)) (i : ℕ) → slice_get ws i ≡ Some w → AllByRecursion (λ v. bytes_eq x v ≡ false) ws → bytes_eq x w ≡ false
+apart_from x w [] i e all = absurd cc
+apart_from x w (v ∷ ws) zero e all = let same : v ≡ w = cc in rw (← same) all.0
+apart_from x w (v ∷ ws) (suc i) e all = apart_from x w ws i e all.1
+
+-- a word that differs from all before it goes last
+said_last : (ws : List (List ℕ)) (i : ℕ) (w : List ℕ) → slice_get ws i ≡ Some w → IsDistinct bytes_eq ws → said w (fresh (take i ws)) ≡ fresh (take (i + 1) ws)
+unfolding IsDistinct
+said_last [] i w e d = absurd cc
+said_last (v ∷ ws) zero w e d = let same : v ≡ w = cc in rw (← same) refl
+said_last (v ∷ ws) (suc i) w e d =
+    let apart : bytes_eq w v ≡ false = nat_list_eq_equiv.symm w v ∙ apart_from v w ws i e d.0 in
+    let more : suc i + 1 ≡ suc (i + 1) = omega arith in
+    rw (apart, more, said_last ws i w e d.1) refl
+
+pub next_unmade : (ws : List (List ℕ)) (i : ℕ) (w : List ℕ) → slice_get ws i ≡ Some w → IsDistinct bytes_eq ws → saying w (unmade (take i ws)) ≡ unmade (take (i + 1) ws)
+unfolding saying
+next_unmade ws i w e d = rw (said_last ws i w e d) refl
+
+pub room_for_one : (ws : List (List ℕ)) (i : ℕ) → i < length ws → length ws ≤ 2 ^ 32 → HasRoomForNames (unmade (take i ws)) 1
+room_for_one ws i lt few = record { all = rw (length-map, length-take) (omega arith); made = omega arith }

@@ -112,7 +112,7 @@ impl Names {
     pub fn push_made(&self, numbers: &mut Vec<u128>) -> Result<(), NoMemory>
         requires { HasRoomForNames self.now.names 1 }
         ensures made { OnOk result (numbers.new.items ≡ numbers.old.items ++ packed_all (made_words self.now.names.all)) }
-        ensures differ { IsDistinct bytes_eq (words_in self.now.names) }
+        ensures differ { OnOk result (IsDistinct bytes_eq (words_in self.now.names)) }
     {
         let mut number = 0u32;
         for word in self.numbering.words() {

@@ -49,7 +49,8 @@ impl Numbering {
 
     /// The words, in order.
     pub fn words(&self) -> &[Seq<u8>]
-        ensures { result.now ≡ self.now }
+        ensures words { result.now ≡ self.now }
+        ensures differ { IsDistinct bytes_eq self.now }
     {
         self.words.as_slice()
     }
