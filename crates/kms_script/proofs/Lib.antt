@@ -9,6 +9,7 @@ pub mod Fields
 pub mod Formed
 pub mod Hexadecimals
 pub mod Inverted
+pub mod LabelsMade
 pub mod LineFields
 pub mod Lined
 pub mod LinesSpelt
@@ -16,11 +17,13 @@ pub mod ListedBits
 pub mod Listing
 pub mod ListsSpelt
 pub mod Loops
+pub mod ManyFields
 pub mod NamesBegin
 pub mod Naming
 pub mod OneSpelling
 pub mod PackedNames
 pub mod Parts
+pub mod Repeated
 pub mod RowsSpelt
 pub mod ScriptLines
 pub mod Sizes

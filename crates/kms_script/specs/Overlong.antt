@@ -1,5 +1,5 @@
 -- Atomic lines with more assignments than a request may have: what their fault needs.
-use Rattle.std.specs.Prelude.{◌≡◌, ℕ, ◌+◌, ◌*◌, Bool, true, false, ◌==◌, ◌++◌, nat_le, nat_lt, List, [], ◌∷◌, filter, length, map, Option, Some, None, option_map, if◌then◌else◌, codes}
+use Rattle.std.specs.Prelude.{◌≡◌, ℕ, ◌+◌, ◌*◌, Bool, true, false, ◌==◌, ◌++◌, nat_lt, List, [], ◌∷◌, filter, length, map, Option, Some, None, option_map, if◌then◌else◌, codes}
 use Rattle.std.specs.List.{flat_map}
 use Rattle.std.specs.Option.{option_map_or}
 use Rattle.kms_model.specs.Script.CommandLines.{Name, assign_words}
@@ -25,6 +25,11 @@ value_label word =
 -- the label that an assignment makes
 unfoldable pub assign_label : List ℕ → Option (Option (List ℕ))
 assign_label word = assign_words word >>= (λ w. value_label w.3)
+
+-- the label where there is one, or the empty word
+abbrev pub label_word : Option (List ℕ) → List ℕ
+label_word None = []
+label_word (Some label) = label
 
 -- a label before others, where there is one
 abbrev pub label_and : Option (List ℕ) → List (List ℕ) → List (List ℕ)
@@ -58,16 +63,11 @@ abbrev pub packed : List ℕ → ℕ
 packed [] = 0
 packed (b ∷ bs) = b + 256 * packed bs
 
--- a word of at most 16 bytes as a number
+-- a label as a number
 abbrev pub packed_alone : List ℕ → List ℕ
-packed_alone word = if nat_le (length word) 16 then packed word ∷ [] else []
+packed_alone word = if is_label word then packed word ∷ [] else []
 
--- the number of a label, where there is one
-abbrev pub packed_label : Option (List ℕ) → List ℕ
-packed_label None = []
-packed_label (Some label) = packed_alone label
-
--- the numbers of those words that have at most 16 bytes
+-- the numbers of those words that are labels
 abbrev pub packed_all : List (List ℕ) → List ℕ
 packed_all words = flat_map packed_alone words
 
@@ -76,3 +76,13 @@ abbrev pub AddsLabels : Bool → Option (List (List ℕ)) → List ℕ → List 
 AddsLabels true (Some labels) old new = new ≡ old ++ packed_all labels
 AddsLabels true None old new = ⊥
 AddsLabels false labels old new = labels ≡ None
+
+-- whether a list begins with a number
+abbrev pub begins_with : ℕ → List ℕ → Bool
+begins_with n [] = false
+begins_with n (m ∷ ms) = n == m
+
+-- each number differs from the next
+abbrev pub rising : List ℕ → Bool
+rising [] = true
+rising (n ∷ ns) = if begins_with n ns then false else rising ns

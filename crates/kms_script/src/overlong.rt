@@ -6,7 +6,7 @@ ghost use Rattle.std.specs.List.{IsDistinct};
 ghost use Rattle.kms_model.specs.Script.CommandLines.{atomic_read};
 ghost use Rattle.kms_script.specs.Lines.{checked};
 ghost use Rattle.kms_script.specs.Named.{HasRoomForNames};
-ghost use Rattle.kms_script.specs.Overlong.{AddsLabels, assign_label, atomic_labels, blanks, has_many, labels_at, made_words, packed, packed_alone, packed_label, value_label};
+ghost use Rattle.kms_script.specs.Overlong.{AddsLabels, assign_label, atomic_labels, blanks, has_many, labels_at, made_words, packed, packed_alone, label_word, rising, value_label};
 
 use crate::names::Names;
 use crate::numbers::{read_int, take_hex};
@@ -18,44 +18,53 @@ use std::alloc::Global;
 /// The fewest bytes of an assignment that makes a label, as `enc0.p=+l`, with the blank before it.
 const SHORTEST: usize = 10;
 
+/// How many blanks bytes have.
+fn count_blanks(bytes: &[u8]) -> usize
+    ensures { result ≡ blanks bytes.now }
+{
+    let mut count = 0usize;
+    let mut rest = bytes;
+    'counting: while let [b, after @ ..] = rest {
+        count += usize::from(*b == b' ');
+        rest = after;
+    }
+    count
+}
+
 /// Whether a line has more fields than an atomic line with 256 assignments.
 pub fn has_many(fields: &[u8]) -> bool
     ensures { result ≡ has_many fields.now }
 {
-    fields.iter().filter(|b| **b == b' ').count() > 258
+    count_blanks(fields) > 258
 }
 
-/// The label that a value makes, if it makes one; none for a word that is no value.
+/// The label that a value makes, empty where it makes none; none for a word that is no value.
 #[tactic(auto, unfolding(crate::specs::Overlong::value_label))]
-fn value_label(word: &[u8]) -> Option<Option<&[u8]>>
-    ensures { option_map (λ o. option_map (λ x. x.now) o) result ≡ value_label word.now }
+fn value_label(word: &[u8]) -> Option<&[u8]>
+    ensures { option_map (λ x. x.now) result ≡ option_map label_word (value_label word.now) }
 {
     if let Some(label) = strip(b"@", word) {
-        return if is_label(label) { Some(None) } else { None };
+        return if is_label(label) { Some(&[]) } else { None };
     }
     if let Some(label) = strip(b"+", word) {
-        return if is_label(label) {
-            Some(Some(label))
-        } else {
-            None
-        };
+        return if is_label(label) { Some(label) } else { None };
     }
     if let Some(digits) = strip(b"crtc", word) {
         return match read_dec(digits, 255) {
-            Some(_) => Some(None),
+            Some(_) => Some(&[]),
             None => None,
         };
     }
     match read_int(word) {
-        Some(_) => Some(None),
+        Some(_) => Some(&[]),
         None => None,
     }
 }
 
-/// The label that an assignment makes, if it makes one; none for a word that is no assignment.
+/// The label that an assignment makes, empty where it makes none; none for a word that is no assignment.
 #[tactic(auto, unfolding(crate::specs::Overlong::assign_label))]
-fn assign_label(word: &[u8]) -> Option<Option<&[u8]>>
-    ensures { option_map (λ o. option_map (λ x. x.now) o) result ≡ assign_label word.now }
+fn assign_label(word: &[u8]) -> Option<&[u8]>
+    ensures { option_map (λ x. x.now) result ≡ option_map label_word (assign_label word.now) }
 {
     let words = read_assign_words(word)?;
     value_label(words.value)
@@ -73,24 +82,14 @@ fn packed(word: &[u8]) -> u128
     }
 }
 
-/// Adds the number of a word of at most 16 bytes, as each label is one.
+/// Adds the number of a word that is a label.
 pub fn push_packed(numbers: &mut Vec<u128>, word: &[u8]) -> Result<(), NoMemory>
     ensures { OnOk result (numbers.new.items ≡ numbers.old.items ++ packed_alone word.now) }
 {
-    if word.len() <= 16 {
+    if is_label(word) {
         numbers.push(packed(word))?;
     }
     Ok(())
-}
-
-/// Adds the number of a label, where there is one.
-fn push_label(numbers: &mut Vec<u128>, label: Option<&[u8]>) -> Result<(), NoMemory>
-    ensures { OnOk result (numbers.new.items ≡ numbers.old.items ++ packed_label (option_map (λ x. x.now) label)) }
-{
-    match label {
-        Some(label) => push_packed(numbers, label),
-        None => Ok(()),
-    }
 }
 
 /// Adds the numbers of the labels that the assignments of all fields make: false where a field is no assignment.
@@ -105,14 +104,16 @@ fn push_labels(numbers: &mut Vec<u128>, fields: &[u8]) -> Result<bool, NoMemory>
         let Some(label) = assign_label(word) else {
             return Ok(false);
         };
-        push_label(numbers, label)?;
+        push_packed(numbers, label)?;
         rest = after;
     }
     Ok(true)
 }
 
-/// Whether numbers in order differ.
-fn rise(sorted: &[u128]) -> bool {
+/// Whether each number differs from the next.
+fn are_rising(sorted: &[u128]) -> bool
+    ensures { result ≡ rising sorted.now }
+{
     let mut rest = sorted;
     'comparing: while let [first, others @ ..] = rest {
         if let [second, ..] = others
@@ -130,7 +131,7 @@ fn are_distinct(mut numbers: Vec<u128>) -> bool
     ensures { Decides result (IsDistinct nat_eq numbers.items) }
 {
     numbers.sort_unstable();
-    rise(numbers.as_slice())
+    are_rising(numbers.as_slice())
 }
 
 /// The fault of an atomic line with more than 256 assignments, by the bytes behind its first word.
