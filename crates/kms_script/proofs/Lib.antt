@@ -10,6 +10,7 @@ pub mod Formed
 pub mod Hexadecimals
 pub mod Inverted
 pub mod LabelsMade
+pub mod LineFaults
 pub mod LineFields
 pub mod Lined
 pub mod LinesSpelt
@@ -17,6 +18,7 @@ pub mod ListedBits
 pub mod Listing
 pub mod ListsSpelt
 pub mod Loops
+pub mod ManyAssigns
 pub mod ManyFields
 pub mod NamesBegin
 pub mod Naming

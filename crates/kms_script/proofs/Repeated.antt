@@ -222,7 +222,7 @@ distinct_last l (w ∷ ws) none d =
     (all_last w l ws d.0 (nat_list_eq_equiv.symm w l ∙ p.0), distinct_last l ws p.1 d.1)
 
 -- labels that are made once, or one of them twice
-abbrev OnceOrTwice : Bool → List ℕ → Type 0
+abbrev pub OnceOrTwice : Bool → List ℕ → Type 0
 OnceOrTwice true ns = IsDistinct nat_eq ns → ⊥
 OnceOrTwice false ns = IsDistinct nat_eq ns
 
