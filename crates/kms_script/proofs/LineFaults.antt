@@ -1,16 +1,22 @@
 -- The faults of a command's line.
 use Rattle.std.proofs.Common.{◌≡◌, ℕ, ◌+◌, ◌<◌, ◌≤◌, ◌⊎◌, inl, inr, Bool, true, false, List, [], ◌∷◌, length, cond, Option, Some, None, Ok, Err, refl, sym, ap, subst, ◌∙◌, arith}
-use Rattle.std.specs.Prelude.{◌&&◌, codes, nat_lt, option_map}
+use Rattle.std.specs.Prelude.{◌&&◌, codes, nat_lt, option_map, Result}
 use Rattle.std.specs.Str.{bytes_eq}
 use Rattle.std.proofs.lemmas.Bool.Decides.{nat_tests}
 use Rattle.kms_model.specs.declared.scripts.Command.{Command}
 use Rattle.kms_model.specs.declared.scripts.Command.TheVariants as command
-use Rattle.kms_model.specs.declared.scripts.Why.TheVariants.{Form, Label}
-use Rattle.kms_model.specs.Script.CommandLines.{Names, addfb_read, assigns_read, atomic_read, blob_read, buffer_read, command_read, is_over, label_alone, label_read, making_read, mode_read, mode_fields, naming_read, pattern_at, thing_read}
+use Rattle.kms_model.specs.declared.scripts.Why.{Why}
+use Rattle.kms_model.specs.declared.scripts.Why.TheVariants.{Bytes, Cut, Form, Label, Limit, Unbuilt}
+use Rattle.kms_model.specs.Script.CommandLines.{Names, addfb_read, assigns_read, atomic_read, blob_read, buffer_read, command_read, is_over, label_alone, label_read, line_read, making_read, mode_read, mode_fields, naming_read, or_form, pattern_at, thing_read, unless, unmade, words_in}
 use Rattle.kms_model.specs.Script.Grammar.{blob_bytes, field_words, format_at, hex, hex_at}
 use Rattle.kms_model.specs.Script.Words.{dec, dec_at, end_at, field_at, from, label_at, until}
-use Rattle.kms_script.specs.Lines.{checked, line_of}
+use Rattle.kms_model.specs.Script.WellFormed.{IsFitCommand}
+use Rattle.kms_script.specs.Fitting.{HasFilled}
+use Rattle.kms_script.specs.Lines.{GivesLine, checked, line_of}
 use Rattle.kms_script.specs.Overlong.{blanks, has_many}
+use Rattle.kms_script.specs.Stated.{GivesCommand, line_error}
+use Rattle.kms_script.specs.declared.stop.Stop.{Stop}
+use Rattle.kms_script.specs.declared.stop.Stop.TheVariants as stops
 use Rattle.kms_script.proofs.Inverted.{bind_some, choice_some, from_bind, map_some, some_same}
 use Rattle.kms_script.proofs.ManyFields.{assigns_count, field_blanks, words_blanks}
 use Rattle.kms_script.proofs.SpeltWords.{nothing_read}
@@ -124,6 +130,25 @@ few_assigns names text r few e = step (bytes_eq (until 32 text) (codes "atomic")
     step true few e = atomic_few names (from 32 text) r few e
     step false few e = by_word (bytes_eq (until 32 text) (codes "wait")) r _ _ (wait_few names (from 32 text) r) (label_few names (until 32 text) (from 32 text) r) e
 
+fits : (c : Command) → HasFilled c → is_over c ≡ false → IsFitCommand c
+fits (command.Buffer label width height format pattern) filled few = filled
+fits (command.Atomic r) filled few = within (length r.assigns) few
+  where
+    within : (n : ℕ) → nat_lt 256 n ≡ false → n ≤ 256
+    within n e = grind (arith, nat_tests)
+fits (command.AddFb label buffer) filled few = tt
+fits (command.Mode label m) filled few = tt
+fits (command.Blob label bytes) filled few = tt
+fits (command.Destroy label) filled few = tt
+fits (command.CloseFb label) filled few = tt
+fits (command.Fence label) filled few = tt
+fits (command.Signal label) filled few = tt
+fits command.Wait filled few = tt
+
+-- such a command is within the limits of one
+pub fit_command : (names after : Names) (text : List ℕ) (c : Command) → (bytes_eq (until 32 text) (codes "atomic") && has_many (from 32 text)) ≡ false → command_read names text ≡ Some (c, after) → HasFilled c → IsFitCommand c
+fit_command names after text c few e filled = fits c filled (few_assigns names text (c, after) few e)
+
 -- Lines
 
 pub atomic_line : (names : Names) (text : List ℕ) → bytes_eq (until 32 text) (codes "atomic") ≡ true → line_of names text ≡ checked (atomic_read names (from 32 text))
@@ -138,3 +163,86 @@ label_twice names after text c e twice = rw (e, twice) refl
 
 pub line_read_well : (names after : Names) (text : List ℕ) (c : Command) → (bytes_eq (until 32 text) (codes "atomic") && has_many (from 32 text)) ≡ false → command_read names text ≡ Some (c, after) → after.is_twice ≡ false → line_of names text ≡ Ok (c, after)
 line_read_well names after text c few e once = rw (e, once, few_assigns names text (c, after) few e) refl
+
+-- A line alone
+
+-- a command with the names after it
+abbrev well : Command × Names → Result (Command × Names) Why
+well r = Ok r
+
+-- a command with the words of the names after it
+abbrev with_words : Command × Names → Result (Command × List (List ℕ)) Why
+with_words r = Ok (r.0, words_in r.1)
+
+-- what was read of a line alone, or its fault
+abbrev alone : Option (Command × Names) → Result (Command × List (List ℕ)) Why
+alone o = or_form o (λ r. unless r.1.is_twice Label (unless (is_over r.0) Limit (with_words r)))
+
+read_step : (o : Option (Command × Names)) (c : Command) (after : Names) → checked o ≡ well (c, after) → alone o ≡ with_words (c, after)
+read_step None c after e = absurd (none e)
+  where
+    none : Err Form ≡ well (c, after) → ⊥
+    none e = cc
+read_step (Some r) c after e = step r.1.is_twice (is_over r.0) e
+  where
+    step : (twice over : Bool) → unless twice Label (unless over Limit (well r)) ≡ well (c, after) → unless twice Label (unless over Limit (with_words r)) ≡ with_words (c, after)
+    step true over e = absurd (twice_is e)
+      where
+        twice_is : Err Label ≡ well (c, after) → ⊥
+        twice_is e = cc
+    step false true e = absurd (over_is e)
+      where
+        over_is : Err Limit ≡ well (c, after) → ⊥
+        over_is e = cc
+    step false false e = let same : r ≡ (c, after) = cc in rw same refl
+
+-- a command with the names after it
+pub alone_read : (words : List (List ℕ)) (text : List ℕ) (c : Command) (after : Names) → line_of (unmade words) text ≡ Ok (c, after) → line_read words text ≡ Ok (c, words_in after)
+unfolding line_read
+alone_read words text c after e = read_step (command_read (unmade words) text) c after e
+
+-- a fault is one of three, and the same
+record FaultAlone (stated : Result (Command × List (List ℕ)) Why) (why : Why) : Type 0 where
+  same : stated ≡ Err why
+  one : (why ≡ Form) ⊎ ((why ≡ Label) ⊎ (why ≡ Limit))
+
+fault_step : (o : Option (Command × Names)) (why : Why) → checked o ≡ Err why → FaultAlone (alone o) why
+fault_step None why e = let is : Form ≡ why = cc in record { same = ap Err is; one = inl (sym is) }
+fault_step (Some r) why e = step r.1.is_twice (is_over r.0) e
+  where
+    step : (twice over : Bool) → unless twice Label (unless over Limit (Ok r)) ≡ Err why → FaultAlone (unless twice Label (unless over Limit (with_words r))) why
+    step true over e = let is : Label ≡ why = cc in record { same = ap Err is; one = inr (inl (sym is)) }
+    step false true e = let is : Limit ≡ why = cc in record { same = ap Err is; one = inr (inr (sym is)) }
+    step false false e = absurd (none e)
+      where
+        none : Ok r ≡ Err why → ⊥
+        none e = cc
+
+error_step : (stated : Result (Command × List (List ℕ)) Why) (after : List (List ℕ)) (why : Why) → FaultAlone stated why → GivesCommand (Err (line_error (stops.Fault why))) stated after
+error_step stated after Form f = f.same
+error_step stated after Label f = f.same
+error_step stated after Limit f = f.same
+error_step stated after Bytes f = absurd (other f.one)
+  where
+    other : (Bytes ≡ Form) ⊎ ((Bytes ≡ Label) ⊎ (Bytes ≡ Limit)) → ⊥
+    other (inl e) = cc
+    other (inr (inl e)) = cc
+    other (inr (inr e)) = cc
+error_step stated after Cut f = absurd (other f.one)
+  where
+    other : (Cut ≡ Form) ⊎ ((Cut ≡ Label) ⊎ (Cut ≡ Limit)) → ⊥
+    other (inl e) = cc
+    other (inr (inl e)) = cc
+    other (inr (inr e)) = cc
+error_step stated after Unbuilt f = absurd (other f.one)
+  where
+    other : (Unbuilt ≡ Form) ⊎ ((Unbuilt ≡ Label) ⊎ (Unbuilt ≡ Limit)) → ⊥
+    other (inl e) = cc
+    other (inr (inl e)) = cc
+    other (inr (inr e)) = cc
+
+-- the error of a line
+pub alone_stopped : (words after : List (List ℕ)) (text : List ℕ) (names : Names) (stop : Stop) → GivesLine (Err stop) (line_of (unmade words) text) names → GivesCommand (Err (line_error stop)) (line_read words text) after
+unfolding line_read
+alone_stopped words after text names (stops.Fault why) e = error_step _ after why (fault_step (command_read (unmade words) text) why e)
+alone_stopped words after text names stops.NoMemory e = tt

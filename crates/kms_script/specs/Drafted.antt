@@ -19,24 +19,27 @@ draft_in h = record { head = h.head; crtcs = h.crtcs; planes = h.planes; conns =
 abbrev pub row_in : Seen → Row
 row_in r = record { text = r.text.now; is_ended = r.is_ended }
 
--- what stands between two lines: the limits are kept, and each byte of the lines brings at most two names
+-- what stands between two lines: the limits are kept, each byte of the lines brings at most two names, and no label is made
+-- twice
 pub record IsSoundDraft (d : Draft) : Type 0 where
   pub device : IsFitDevice d
   pub clients : HasFitClients d
   pub size : d.size ≤ 1048576
   pub all : length d.names.all ≤ 2 * d.size
   pub made : d.names.made ≤ 2 * d.size
+  pub once : d.names.is_twice ≡ false
 
 -- the names of a command's line have numbers
 abbrev pub HasRoomFor : Draft → List ℕ → Type 0
 HasRoomFor d text = d.has_client ≡ true → HasRoomForNames d.names (length text + 2)
 
--- a line keeps the limits, and brings at most so many names
+-- a line keeps the limits, brings at most so many names, and makes no label again
 pub record Keeps (old new : Draft) (more : ℕ) : Type 0 where
   pub device : IsFitDevice new
   pub clients : HasFitClients new
   pub size : new.size ≡ old.size
   pub names : NamesGrow old.names new.names more
+  pub once : new.names.is_twice ≡ false
 
 -- The answer to a line: what is read after it, or its fault; want of memory may come anywhere.
 abbrev pub Becomes : Result (Unit {0}) Stop → Lined → Draft → Type 0

@@ -1,5 +1,6 @@
 //! A command's line, or its first fault.
-ghost use Rattle.std.specs.Prelude.{◌≡◌, ◌+◌, ◌≤◌, false, OnOk, length};
+ghost use Rattle.std.specs.Prelude.{◌≡◌, ◌+◌, ◌≤◌, false, IfOk, OnOk, length};
+ghost use Rattle.kms_model.specs.Script.WellFormed.{IsFitCommand};
 ghost use Rattle.kms_script.specs.Lines.{GivesLine, line_of};
 ghost use Rattle.kms_script.specs.Named.{HasRoomForNames, NamesGrow};
 
@@ -17,6 +18,8 @@ pub fn read_line(names: &mut Names, alloc: Global, line: &[u8]) -> Result<Comman
     requires once { names.old.names.is_twice ≡ false }
     requires room { HasRoomForNames names.old.names (length line.now + 2) }
     ensures value { GivesLine result (line_of names.old.names line.now) names.new.names }
+    ensures fit { IfOk result IsFitCommand }
+    ensures once { OnOk result (names.new.names.is_twice ≡ false) }
     ensures grows { OnOk result (NamesGrow names.old.names names.new.names (length line.now + 2)) }
     ensures before { names.new.before ≡ names.old.before }
 {
