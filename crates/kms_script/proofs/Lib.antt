@@ -6,6 +6,9 @@ pub mod DraftGrows
 pub mod DraftText
 pub mod Drafts
 pub mod Fields
+pub mod FitCommands
+pub mod FitScripts
+pub mod FitWords
 pub mod Formed
 pub mod Hexadecimals
 pub mod Inverted

@@ -9,7 +9,7 @@ use Rattle.kms_model.specs.Script.Grammar.{crtc_list, format_list}
 use Rattle.kms_model.specs.Report.TextLines.{line}
 use Rattle.kms_model.specs.Script.WholeInput.{crtcs_at, plane_type, plane_fields, conn_at}
 use Rattle.kms_model.specs.Script.Words.{until, from, field_at, dec, dec_at, end_at}
-use Rattle.kms_script.specs.Spelling.{type_word, crtcs_word, formats_word}
+use Rattle.kms_model.specs.Script.Spelling.{type_word, crtcs_word, formats_word}
 use Rattle.kms_script.proofs.Decimals.{dec_at_most}
 use Rattle.kms_script.proofs.Inverted.{bind_some, some_same}
 use Rattle.kms_script.proofs.LineFields.{fields_to, line_fields, fields_end, then_fields, until_from, field_spelt, end_spelt}

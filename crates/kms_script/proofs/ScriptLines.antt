@@ -9,7 +9,7 @@ use Rattle.kms_model.specs.declared.scripts.Why.TheVariants.{Form, Label, Limit}
 use Rattle.kms_model.specs.Script.CommandLines.{command_read, is_over}
 use Rattle.kms_model.specs.Script.WholeInput.{Draft, is_nil, crtcs_at, plane_fields, conn_at, clients_in, first_line, crtcs_line, plane_line, conn_line, client_line, command_line, later_line, script_line}
 use Rattle.kms_model.specs.Script.Words.{until, from, end_at}
-use Rattle.kms_script.specs.Spelling.{crtcs_word}
+use Rattle.kms_model.specs.Script.Spelling.{crtcs_word}
 use Rattle.kms_script.proofs.Accepted.{accepted, form_ok, unless_ok, if_ok, either_ok, ok_same, second_off, on_from, is_late}
 use Rattle.kms_script.proofs.DraftGrows.{IsInOrder, Follows, with_client, first_follows, second_follows, plane_follows, conn_follows, client_follows, command_follows}
 use Rattle.kms_script.proofs.LineFields.{end_spelt}

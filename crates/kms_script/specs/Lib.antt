@@ -6,5 +6,4 @@ pub mod Named
 pub mod Numbered
 pub mod Overlong
 pub mod Printed
-pub mod Spelling
 pub mod Stated

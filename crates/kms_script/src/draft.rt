@@ -3,8 +3,7 @@ ghost use Rattle.std.specs.Prelude.{◌≡◌, ◌<◌, ◌≤◌, ◌+◌, ◌*
 ghost use Rattle.std.specs.List.{list_all};
 ghost use Rattle.kms_model.specs.Script.Grammar.{is_printable};
 ghost use Rattle.kms_model.specs.Script.WholeInput.{blank_draft, is_nil, crtcs_at, plane_type, plane_fields, conn_at, first_line, crtcs_line, plane_line, conn_line, client_line, command_line, later_line, script_line, clients_in, line_after, topology_in, script_in, is_conn_of, is_done};
-ghost use Rattle.kms_model.specs.Script.WellFormed.{IsWellFormed};
-ghost use Rattle.kms_script.specs.Fitting.{IsFitCount, IsFitPlane, IsFitMask, HasFitClients};
+ghost use Rattle.kms_script.specs.Fitting.{KeepsLimits, IsFitCount, IsFitPlane, IsFitMask, HasFitClients};
 ghost use Rattle.kms_script.specs.Drafted.{draft_in, row_in, IsSoundDraft, HasRoomFor, Keeps, Becomes, ended, is_full};
 
 use crate::lines::read_line;
@@ -376,7 +375,7 @@ impl Draft {
         requires sound { IsSoundDraft (draft_in self) }
         requires whole { 0 < length (draft_in self).conns }
         ensures value { IfOk result (λ script. script ≡ script_in (draft_in self)) }
-        ensures formed { IfOk result IsWellFormed }
+        ensures limits { IfOk result KeepsLimits }
     {
         self.end_client(alloc)?;
         Ok(Script {
