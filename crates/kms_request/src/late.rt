@@ -62,7 +62,12 @@ fn members(mask: u32, count: usize) -> usize
 }
 
 /// What is wrong with a plane of a set, from 10 to 15.
-fn plane_at(topology: &Topology, states: &Duplicates, objects: &Mask, index: usize) -> Option<Refusal>
+fn plane_at(
+    topology: &Topology,
+    states: &Duplicates,
+    objects: &Mask,
+    index: usize,
+) -> Option<Refusal>
     requires { IfSome (duplicate_in objects.now.planes states.now.planes index) (λ both. IsPlaneInRange both.new) }
     ensures { refusal_number result ≡ option_and_then (plane_refusal_of topology.now index) (duplicate_in objects.now.planes states.now.planes index) }
 {
@@ -76,14 +81,18 @@ fn crtc_at(states: &Duplicates, objects: &Mask, asked: Asked, index: usize) -> O
     ensures { refusal_number result ≡ option_and_then (crtc_refusal_of (bits_of asked.flags) asked.named asked.fenced index) (duplicate_in objects.now.crtcs states.now.crtcs index) }
 {
     let both = duplicate_in(objects.crtcs, &states.crtcs, index)?;
-    let signals = asked.flags.contains(AtomicFlags::PAGE_FLIP_EVENT)
-        || is_in(asked.fenced, index);
+    let signals = asked.flags.contains(AtomicFlags::PAGE_FLIP_EVENT) || is_in(asked.fenced, index);
     let asks = is_in(asked.named, index) && signals;
     crtc_refusal(asks, both.old.active, both.new.active, both.new.mode)
 }
 
 /// What is wrong with a connector of a set, 18.
-fn conn_at(topology: &Topology, states: &Duplicates, objects: &Mask, index: usize) -> Option<Refusal>
+fn conn_at(
+    topology: &Topology,
+    states: &Duplicates,
+    objects: &Mask,
+    index: usize,
+) -> Option<Refusal>
     ensures { refusal_number result ≡ option_and_then (conn_refusal_of topology.now index) (duplicate_in objects.now.conns states.now.conns index) }
 {
     let both = duplicate_in(objects.conns, &states.conns, index)?;
@@ -92,7 +101,12 @@ fn conn_at(topology: &Topology, states: &Duplicates, objects: &Mask, index: usiz
 }
 
 /// 19, where two or more connectors are on a CRTC of a set.
-fn clones_at(topology: &Topology, states: &Duplicates, objects: &Mask, index: usize) -> Option<Refusal>
+fn clones_at(
+    topology: &Topology,
+    states: &Duplicates,
+    objects: &Mask,
+    index: usize,
+) -> Option<Refusal>
     ensures { refusal_number result ≡ option_and_then (λ both. clone_refusal_of topology.now both) (duplicate_in objects.now.crtcs states.now.crtcs index) }
 {
     let both = duplicate_in(objects.crtcs, &states.crtcs, index)?;
@@ -210,7 +224,6 @@ pub fn late_refusal(
         .or_else(|| first_of(topology, states, objects, asked, Step::Routes))
         .or_else(|| first_of(topology, states, objects, asked, Step::Shown))
         .or_else(|| modeset_refusal(topology, states, objects, asked.flags))
-        
 }
 
 /// 24, where a CRTC of a set needs a modeset and ALLOW_MODESET is not set.
