@@ -75,8 +75,8 @@ fn all_named_by(states: &Duplicates, sets: &[Set]) -> u32
 /// plane or a connector that is on it before or after the request. The old states tell which are on it before; what the
 /// request sets tells which are on it after.
 pub fn named(resolved: &Resolved, states: &Duplicates) -> u32
-    ensures { (t : Topology) (w : World) (f : ℕ → Look) (r : Request) → Covers t w f r resolved.now states.now
-        → result ≡ named_by t w r }
+    ensures { (t : Topology) (w : World) (f : ℕ → Look) (r : Request)
+        → Covers t w f r resolved.now states.now → result ≡ named_by t w r }
 {
     all_named_by(states, resolved.sets.as_slice())
 }

@@ -39,7 +39,8 @@ fn named_between(states: &Duplicates, a: &Assign) -> u32
 /// The CRTCs that assignments name.
 fn all_named_between(states: &Duplicates, assigns: &[Assign]) -> u32
     requires { All IsSettable assigns.now }
-    ensures { AreCrtcs (λ crtc. list_any (λ a. is_named_between states.now a crtc) assigns.now) result }
+    ensures { AreCrtcs (λ crtc. list_any (λ a. is_named_between states.now a crtc) assigns.now)
+        result }
 {
     let mut named = 0;
     for a in assigns {
