@@ -28,7 +28,7 @@ use Rattle.kms_model.proofs.StateLemmas.{natural-held, sound-plane_in_range}
 use Rattle.kms_state.specs.Changes.{Sets, after_crtc, after_number, after_set, after_value, changed, plane_with}
 use Rattle.kms_state.specs.Places.{kind_of}
 use Rattle.kms_state.proofs.Slots.{AreNew-changed}
-use Rattle.kms_check.specs.Answers.{AreFresh}
+use Rattle.kms_model.specs.Request.Deciding.{AreFresh}
 use Rattle.kms_check.specs.Applying.{HasPlanesInRange, IsApplicable}
 
 -- Numbers

@@ -34,9 +34,10 @@ use Rattle.kms_model.proofs.TouchedLemmas.{few_objects, few_of}
 use Rattle.kms_model.proofs.UnionLemmas.{has_bit-zero}
 use Rattle.kms_request.specs.Naming as naming
 use Rattle.kms_state.specs.Places.{is_duplicated, is_duplicated_of, kind_of, state_of}
-use Rattle.kms_check.specs.Answers.{IsOfRequest}
+use Rattle.kms_model.specs.Request.Deciding.{IsOfRequest}
 use Rattle.kms_check.specs.Applying.{IsApplicable}
-use Rattle.kms_check.specs.Groups.{is_empty, lacking, not_duplicated, missing_in, set_group}
+use Rattle.kms_model.specs.Request.Groups.{set_group}
+use Rattle.kms_check.specs.Lacking.{is_empty, lacking, missing_in, not_duplicated}
 use Rattle.kms_check.proofs.RequestFacts.{all-from, IsFromAssign, from_assign}
 
 -- Nothing is not_duplicated
@@ -183,7 +184,7 @@ ready t f r resolved d device asks room covers = all-from (IsApplicable d) resol
 
 -- What the CRTCs that a request names are read from
 
-naming-object : (d : Duplicates) (k : Kind) (i : ℕ) → i < 16 → (k ≡ kind.Conn → i < 8) → is_kind_duplicated k d i ≡ true → naming.is_duplicated d (object_id k i) ≡ true
+naming-object : (d : Duplicates) (k : Kind) (i : ℕ) → i < 16 → (k ≡ kind.Conn → i < 8) → is_kind_duplicated k d i ≡ true → naming.is_routed_duplicated d (object_id k i) ≡ true
 naming-object d kind.Crtc i few conns there = rw (lt-leb 200 (100 + i) (omega arith), lt-leb 300 (100 + i) (omega arith)) refl
 naming-object d kind.Plane i few conns there =
     let index : 200 + i - 200 ≡ i = omega arith in
@@ -206,7 +207,7 @@ named-covers t w r resolved d is room covers = record {
   sound = is.sound;
   asks = is.asks;
   old = is.old;
-  duplicated = all-from (λ s. IsTrue (naming.is_duplicated d s.object.0)) resolved.sets (λ s member.
+  duplicated = all-from (λ s. IsTrue (naming.is_routed_duplicated d s.object.0)) resolved.sets (λ s member.
       let o : IsSetObject t d s = set_object t (look_up w) r resolved d s is.device is.asks room covers member in
-      ap (naming.is_duplicated d) o.same ∙ naming-object d o.of_kind o.index o.few (few_conns t o.of_kind o.index is.device o.within) o.duplicated);
+      ap (naming.is_routed_duplicated d) o.same ∙ naming-object d o.of_kind o.index o.few (few_conns t o.of_kind o.index is.device o.within) o.duplicated);
 }

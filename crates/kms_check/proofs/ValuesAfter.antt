@@ -30,7 +30,7 @@ use Rattle.kms_model.proofs.LastLemmas.{IsIn}
 use Rattle.kms_model.proofs.StandsLemmas.{stands-accepted}
 use Rattle.kms_model.proofs.TouchedLemmas.{after, few_objects, few_of, accepted-each}
 use Rattle.kms_state.specs.Changes.{HasObject, is_on_device}
-use Rattle.kms_check.specs.Answers.{IsOfRequest}
+use Rattle.kms_model.specs.Request.Deciding.{IsOfRequest}
 use Rattle.kms_check.specs.Applying.{set_all, IsNumberedBy}
 use Rattle.kms_check.proofs.RequestFacts.{request_at, all-from, IsFromAssign, from_assign}
 use Rattle.kms_check.proofs.Readiness.{kind_of-object}

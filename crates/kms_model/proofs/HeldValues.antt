@@ -31,7 +31,7 @@ use Rattle.kms_model.specs.Request.Lookups.{look_of_mode, look_of_content, look_
 use Rattle.kms_model.specs.Device.Properties.{Property, properties, property}
 use Rattle.kms_model.specs.Request.Apply.{id_in, number_of, prop_of, is_kept, object_of, assign, apply}
 use Rattle.kms_model.specs.Firsts.{number_if}
-use Rattle.kms_model.specs.Request.Refusals.{has_property, is_immutable, is_of_kind, takes, is_in_range, is_in_range_of, is_value, assign_refusal, assigns_refusal}
+use Rattle.kms_model.specs.Request.Refusals.{own_refusal, has_property, is_immutable, is_of_kind, takes, is_in_range, is_in_range_of, is_value, assign_refusal, assigns_refusal}
 use Rattle.kms_model.specs.Device.Objects.{exists}
 use Rattle.kms_model.specs.Device.Sound.{AreNumbered, has_legal_mode, is_thing, is_crtc, is_held, holds_value, kept_properties, holds_values, are_held}
 use Rattle.kms_model.proofs.Items.{IsIn, list_all-at, list_all-from, list_any-has, ids-has, or_else-none, number_if-none}
@@ -157,17 +157,17 @@ pub record IsAccepted (t : Topology) (w : World) (a : Assign) : Type 0 where
   pub is_value : is_value t (look_up w) a.prop a.value ≡ true
 
 pub accepted-assign : (t : Topology) (w : World) (earlier : List Assign) (a : Assign) → assign_refusal t (look_up w) earlier a ≡ None → IsAccepted t w a
-unfolding assign_refusal
+unfolding assign_refusal own_refusal
 accepted-assign t w earlier a none =
-    let four = or_else-none (number_if 4 (not (exists t a.kind a.index))) _ none in
+    let own = (or_else-none (own_refusal t (look_up w) a) _ none).first_none in
+    let four = or_else-none (number_if 4 (not (exists t a.kind a.index))) _ own in
     let five = or_else-none (number_if 5 (not (has_property a.kind a.prop))) _ four.second_none in
     let six = or_else-none (number_if 6 (is_immutable a.prop)) _ five.second_none in
-    let seven = or_else-none (number_if 7 (not (is_value t (look_up w) a.prop a.value))) _ six.second_none in
     record {
       object_exists = not-false (exists t a.kind a.index) (number_if-none 4 _ four.first_none);
       has = not-false (has_property a.kind a.prop) (number_if-none 5 _ five.first_none);
       mutable = number_if-none 6 (is_immutable a.prop) six.first_none;
-      is_value = not-false (is_value t (look_up w) a.prop a.value) (number_if-none 7 _ seven.first_none);
+      is_value = not-false (is_value t (look_up w) a.prop a.value) (number_if-none 7 _ six.second_none);
     }
 
 held-assign : (t : Topology) (w : World) (a : Assign) (values : List Setting) (object : ℕ) (p : Property) → AreNumbered 1000 w.things → IsKeptRow p → IsAccepted t w a

@@ -1,15 +1,19 @@
 pub mod AppliedValues
 pub mod ApplyLemmas
 pub mod CrtcLemmas
+pub mod FramedLemmas
 pub mod HeldValues
 pub mod ImageWords
 pub mod InPlace
 pub mod Items
 pub mod LastLemmas
 pub mod LateLemmas
+pub mod MachineInputs
+pub mod MachineRows
 pub mod MaskLemmas
 pub mod ObjectLemmas
 pub mod OnLiterals
+pub mod OnMachines
 pub mod OnScripts
 pub mod OpenLemmas
 pub mod PropertyTable
@@ -20,6 +24,7 @@ pub mod ScriptRows
 pub mod SeenLemmas
 pub mod SetLemmas
 pub mod SettingLemmas
+pub mod ShownLemmas
 pub mod SoundKept
 pub mod SoundStart
 pub mod Spans

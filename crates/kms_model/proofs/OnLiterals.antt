@@ -3,7 +3,7 @@ use Rattle.std.specs.Prelude.{⊤}
 use Rattle.std.specs.Fmt.{digits}
 use Rattle.sha2.specs.Sha256.{sha256, digest_bytes, hash_after, compress, rounds, schedule, first_words}
 use Rattle.hex.proofs.OnLiterals.{hex_on_literals}
-use Rattle.kms_model.specs.Request.Refusals.{assign_refusal, assigns_refusal, early_refusal}
+use Rattle.kms_model.specs.Request.Refusals.{own_refusal, assign_refusal, assigns_refusal, early_refusal}
 use Rattle.kms_model.specs.Request.Checks.{plane_refusal, shown_refusal, late_refusal}
 use Rattle.kms_model.specs.Script.Built.{unbuilt_command, unbuilt_client}
 use Rattle.kms_model.specs.Request.Verdict.{verdict}
@@ -14,5 +14,5 @@ use Rattle.kms_model.specs.Report.Flat.{run_from, latch_lines, latches_of, freed
 
 -- the words of a report
 unfoldable pub on_literals : ⊤
-unfolding run_from latch_lines latches_of freed_by execute serial_from show_from verdict early_refusal assigns_refusal assign_refusal late_refusal plane_refusal shown_refusal unbuilt_command unbuilt_client picture digits hex_on_literals sha256 digest_bytes hash_after compress rounds schedule first_words
+unfolding run_from latch_lines latches_of freed_by execute serial_from show_from verdict early_refusal assigns_refusal assign_refusal own_refusal late_refusal plane_refusal shown_refusal unbuilt_command unbuilt_client picture digits hex_on_literals sha256 digest_bytes hash_after compress rounds schedule first_words
 on_literals = tt

@@ -23,7 +23,7 @@ use Rattle.kms_model.specs.Device.Properties.{Property, properties, property, ha
 use Rattle.kms_model.specs.Script.Words.{between}
 use Rattle.kms_model.proofs.Items.{number_if-none}
 use Rattle.kms_model.proofs.PropertyTable.{find-list_all}
-use Rattle.kms_model.specs.Request.Refusals.{flags_refusal, assign_refusal, assigns_refusal, early_refusal, has_property, is_immutable, is_value, is_in_range, is_in_range_of, is_of_kind}
+use Rattle.kms_model.specs.Request.Refusals.{own_refusal, flags_refusal, assign_refusal, assigns_refusal, early_refusal, has_property, is_immutable, is_value, is_in_range, is_in_range_of, is_of_kind}
 use Rattle.kms_model.specs.Request.Apply.{prop_of}
 use Rattle.kms_model.specs.Request.Resolves.{IsAllowed, IsSettable, IsSettableNumber, IsSettableValue, HasPlace}
 
@@ -38,17 +38,17 @@ not_not false h = sym h
 
 -- an assignment that is not refused
 pub allowed : (t : Topology) (f : ℕ → Look) (earlier : List Assign) (a : Assign) → assign_refusal t f earlier a ≡ None → IsAllowed t f a
-unfolding assign_refusal
+unfolding assign_refusal own_refusal
 allowed t f earlier a none =
-    let four = none_of_both (number_if 4 (not (exists t a.kind a.index))) _ none in
+    let own = (none_of_both (own_refusal t f a) _ none).0 in
+    let four = none_of_both (number_if 4 (not (exists t a.kind a.index))) _ own in
     let five = none_of_both (number_if 5 (not (has_property a.kind a.prop))) _ four.1 in
     let six = none_of_both (number_if 6 (is_immutable a.prop)) _ five.1 in
-    let seven = none_of_both (number_if 7 (not (is_value t f a.prop a.value))) _ six.1 in
     record {
       exists = not_not (exists t a.kind a.index) (number_if-none 4 _ four.0);
       has = not_not (has_property a.kind a.prop) (number_if-none 5 _ five.0);
       mutable = number_if-none 6 (is_immutable a.prop) six.0;
-      value = not_not (is_value t f a.prop a.value) (number_if-none 7 _ seven.0);
+      value = not_not (is_value t f a.prop a.value) (number_if-none 7 _ six.1);
     }
 
 pub all_allowed : (t : Topology) (f : ℕ → Look) (earlier assigns : List Assign) → assigns_refusal t f earlier assigns ≡ None → All (IsAllowed t f) assigns

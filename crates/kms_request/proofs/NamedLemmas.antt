@@ -29,7 +29,7 @@ use Rattle.kms_model.specs.Device.States.{crtc_at}
 use Rattle.kms_model.specs.Request.Agreement.{AgreesNew, AgreesOld}
 use Rattle.kms_model.specs.Request.Apply.{apply, is_kept, object_of, prop_of}
 use Rattle.kms_model.specs.Request.Named.{is_routed, moves_on, names}
-use Rattle.kms_model.specs.Request.Named.{set_names as is_named_by_assign}
+use Rattle.kms_model.specs.Request.Named.{is_named_by}
 use Rattle.kms_model.specs.Request.Resolves.{IsAllowed, HasPlace, IsSettable}
 use Rattle.kms_model.specs.Request.Sets.{crtc_value, last_sets, set_of, set_value}
 use Rattle.kms_model.specs.Request.Touched.{last_value, named_set}
@@ -151,9 +151,9 @@ module _ (t : Topology) (things : List worlds.Thing) (old : List Setting) (f : �
   ]
 
   -- a CRTC that a set names is one that its assignment names
-  set_names : (b : Assign) (crtc : ℕ) → 0 < crtc → IsIn b assigns → last_value assigns (object_of b) (prop_of b.prop) ≡ Some b.value → is_routed_duplicated d (object_of b) ≡ true → set_names d (set_of f b) crtc ≡ true
-      → is_named_by_assign old (apply things old assigns) crtc b ≡ true
-  set_names b crtc some member last duplicated named =
+  set_is_named : (b : Assign) (crtc : ℕ) → 0 < crtc → IsIn b assigns → last_value assigns (object_of b) (prop_of b.prop) ≡ Some b.value → is_routed_duplicated d (object_of b) ≡ true → set_names d (set_of f b) crtc ≡ true
+      → is_named_by old (apply things old assigns) crtc b ≡ true
+  set_is_named b crtc some member last duplicated named =
       let fits = all_in IsSettable assigns b settable member in
       let may = all_in (IsAllowed t f) assigns b allowed member in
       elim (or_cases ((object_of b == crtc) || (old_crtc d (object_of b) == crtc)) (new_crtc (set_value f (prop_of b.prop) b.value) == crtc) named) [
@@ -180,8 +180,8 @@ module _ (t : Topology) (things : List worlds.Thing) (old : List Setting) (f : �
         let P : Set → Type 0 = λ s. is_routed_duplicated d s.object.0 ≡ true in
         let Q : Set → Type 0 = λ s. set_names d s crtc ≡ true in
         let there : is_routed_duplicated d (object_of from.item) ≡ true = subst P from.set (all_in P (last_sets f assigns) found.item duplicated found.member) in
-        in_passes (is_named_by_assign old (apply things old assigns) crtc) assigns from.item from.is.member
-        (set_names from.item crtc some from.is.member from.is.last there (subst Q from.set found.passes))
+        in_passes (is_named_by old (apply things old assigns) crtc) assigns from.item from.is.member
+        (set_is_named from.item crtc some from.is.member from.is.last there (subst Q from.set found.passes))
 
     -- what an object that is set is known by: one of the sets is of it
     listed_duplicated : (b : Assign) → IsIn (set_of f b) (last_sets f assigns) → is_routed_duplicated d (object_of b) ≡ true
@@ -213,7 +213,7 @@ module _ (t : Topology) (things : List worlds.Thing) (old : List Setting) (f : �
 
     names_to_sets : (crtc : ℕ) → 0 < crtc → names old (apply things old assigns) assigns crtc ≡ true → list_any (λ s. set_names d s crtc) (last_sets f assigns) ≡ true
     names_to_sets crtc some any =
-        let found = some_in (is_named_by_assign old (apply things old assigns) crtc) assigns any in
+        let found = some_in (is_named_by old (apply things old assigns) crtc) assigns any in
         let a = found.item in
         let b = has_last f assigns a found.member in
         elim (or_cases (object_of a == crtc) (is_routed a.kind && moves_on old (apply things old assigns) crtc (object_of a)) found.passes) [
@@ -248,7 +248,7 @@ not_itself t Enc i index out less there placed = absurd placed
 none_outside : (t : Topology) (things : List worlds.Thing) (old : List Setting) (f : ℕ → Look) (assigns : List Assign) (index : ℕ) → AreAllHeld t things old → All (IsAllowed t f) assigns → All IsSettable assigns → t.crtcs ≤ index → index < 4
     → names old (apply things old assigns) assigns (100 + index) ≡ false
 none_outside t things old f assigns index held allowed settable out less = false_from_ne_true _ (λ any.
-    let found = some_in (is_named_by_assign old (apply things old assigns) (100 + index)) assigns any in
+    let found = some_in (is_named_by old (apply things old assigns) (100 + index)) assigns any in
     let a = found.item in
     let may = all_in (IsAllowed t f) assigns a allowed found.member in
     let fits = all_in IsSettable assigns a settable found.member in
@@ -262,7 +262,7 @@ none_outside t things old f assigns index held allowed settable out less = false
     ])
 
 -- a set of few objects among more
-shorter : (test : ℕ → Bool) (n m : ℕ) → n ≤ m → ((i : ℕ) → n ≤ i → i < m → test i ≡ false) → mask_below test m ≡ mask_below test n
+pub shorter : (test : ℕ → Bool) (n m : ℕ) → n ≤ m → ((i : ℕ) → n ≤ i → i < m → test i ≡ false) → mask_below test m ≡ mask_below test n
 unfolding mask_below
 shorter test n zero low none = let same : n ≡ 0 = omega arith in rw same refl
 shorter test n (suc m) low none = elim (cases_eq n (suc m)) [

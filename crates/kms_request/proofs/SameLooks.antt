@@ -24,7 +24,7 @@ use Rattle.kms_model.specs.Firsts.{or_else}
 use Rattle.kms_model.specs.Request.Lookups.{label_of, look_up, lookups}
 use Rattle.kms_model.specs.Device.Objects.{ids_of}
 use Rattle.kms_model.specs.Device.Properties.{Property, property}
-use Rattle.kms_model.specs.Request.Refusals.{assign_refusal, assigns_refusal, early_refusal, is_in_range, is_in_range_of, takes}
+use Rattle.kms_model.specs.Request.Refusals.{own_refusal, assign_refusal, assigns_refusal, early_refusal, is_in_range, is_in_range_of, takes}
 use Rattle.kms_model.specs.Request.Resolves.{IsResolved}
 use Rattle.kms_model.specs.Request.Sets.{fb_of_look, fb_value, fence_of_look, in_fence, in_fences, last_sets, look_in, mode_of_look, mode_value, obj_id, set_of}
 use Rattle.kms_model.specs.Request.Touched.{last_value, value_if}
@@ -53,7 +53,7 @@ row-same t f g v None same = refl
 row-same t f g v (Some p) same = range-same t f g p.id p.range v same
 
 assign-same : (t : Topology) (f g : ℕ → Look) (earlier : List Assign) (a : Assign) → TellsLabel f g a.value → assign_refusal t f earlier a ≡ assign_refusal t g earlier a
-unfolding assign_refusal
+unfolding assign_refusal own_refusal
 assign-same t f g earlier a same = rw (row-same t f g a.value (property (prop_of a.prop)) same) refl
 
 assigns-same : (t : Topology) (f g : ℕ → Look) (earlier assigns : List Assign) → TellsLabels f g assigns → assigns_refusal t f earlier assigns ≡ assigns_refusal t g earlier assigns

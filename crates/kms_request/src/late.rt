@@ -9,22 +9,22 @@ ghost use Rattle.kms_model.specs.Request.Flags.{allows_modeset, wants_event};
 ghost use Rattle.kms_model.specs.Request.Late.{ArePlanesInRange, clone_refusal_of, conn_refusal_of, crtc_refusal_of, duplicate_in, late_of_states, members, needs_modeset_if, new_mode, plane_refusal_of, route_refusal_of, shown_refusal_of};
 ghost use Rattle.kms_model.specs.Device.Objects.{count_of};
 ghost use Rattle.kms_model.specs.Device.Sound.{IsPlaneInRange};
+ghost use Rattle.kms_props.specs.Flags.{bits_of};
 ghost use Rattle.kms_request.specs.Answers.{refusal_number};
 ghost use Rattle.kms_request.specs.Order.{IsLookedAtInRange, count_at, refusal_at};
 
-use crate::flags::{ALLOW_MODESET, PAGE_FLIP_EVENT};
+use crate::duplicated::{duplicate_at, duplicate_in};
 use crate::states::{
     FIRST_CRTC, conn_refusal, crtc_refusal, has_bit, needs_modeset, plane_refusal, shown_refusal,
 };
-use kms_model::{
-    Both, ConnState, CrtcState, Duplicates, Mask, Mode, PlaneState, Refusal, Topology,
-};
+use kms_model::{Duplicates, Mask, Mode, Refusal, Topology};
+use kms_props::AtomicFlags;
 
 /// What a request asks for, besides what it sets.
 #[derive(Clone, Copy, Debug)]
 pub struct Asked {
     /// Its flags.
-    pub flags: u32,
+    pub flags: AtomicFlags,
     /// The CRTCs that it names: bit i stands for CRTC index i.
     pub named: u32,
     /// The CRTCs for which it asks for an out-fence.
@@ -48,45 +48,12 @@ enum Step {
     Shown,
 }
 
-/// The states of a plane of a set, where they are duplicated.
-fn plane_in(states: &Duplicates, objects: &Mask, index: usize) -> Option<Both<PlaneState>>
-    ensures { result ≡ duplicate_in objects.now.planes states.now.planes index }
-{
-    if has_bit(objects.planes, index) {
-        states.planes.get(index).copied().flatten()
-    } else {
-        None
-    }
-}
-
-/// The states of a CRTC of a set, where they are duplicated.
-fn crtc_in(states: &Duplicates, objects: &Mask, index: usize) -> Option<Both<CrtcState>>
-    ensures { result ≡ duplicate_in objects.now.crtcs states.now.crtcs index }
-{
-    if has_bit(objects.crtcs, index) {
-        states.crtcs.get(index).copied().flatten()
-    } else {
-        None
-    }
-}
-
-/// The states of a connector of a set, where they are duplicated.
-fn conn_in(states: &Duplicates, objects: &Mask, index: usize) -> Option<Both<ConnState>>
-    ensures { result ≡ duplicate_in objects.now.conns states.now.conns index }
-{
-    if has_bit(objects.conns, index) {
-        states.conns.get(index).copied().flatten()
-    } else {
-        None
-    }
-}
-
 /// The new mode of the CRTC with an id, if it is duplicated and has one.
 fn new_mode(states: &Duplicates, crtc: u32) -> Option<Mode>
     ensures { result ≡ new_mode states.now.crtcs crtc }
 {
     let index = crtc.saturating_sub(FIRST_CRTC) as usize;
-    states.crtcs.get(index).copied().flatten()?.new.mode
+    duplicate_at(&states.crtcs, index)?.new.mode
 }
 
 /// How many of the first objects are in a set.
@@ -101,17 +68,18 @@ fn plane_at(topology: &Topology, states: &Duplicates, objects: &Mask, index: usi
     requires { IfSome (duplicate_in objects.now.planes states.now.planes index) (λ both. IsPlaneInRange both.new) }
     ensures { result ≡ option_and_then (plane_refusal_of topology.now index) (duplicate_in objects.now.planes states.now.planes index) }
 {
-    let both = plane_in(states, objects, index)?;
+    let both = duplicate_in(objects.planes, &states.planes, index)?;
     let info = topology.planes.as_slice().get(index)?;
     plane_refusal(info, &both.old, &both.new)
 }
 
 /// What is wrong with a CRTC of a set, 16 or 17.
 fn crtc_at(states: &Duplicates, objects: &Mask, asked: Asked, index: usize) -> Option<u32>
-    ensures { result ≡ option_and_then (crtc_refusal_of asked.flags asked.named asked.fenced index) (duplicate_in objects.now.crtcs states.now.crtcs index) }
+    ensures { result ≡ option_and_then (crtc_refusal_of (bits_of asked.flags) asked.named asked.fenced index) (duplicate_in objects.now.crtcs states.now.crtcs index) }
 {
-    let both = crtc_in(states, objects, index)?;
-    let signals = asked.flags & PAGE_FLIP_EVENT != 0 || has_bit(asked.fenced, index);
+    let both = duplicate_in(objects.crtcs, &states.crtcs, index)?;
+    let signals = asked.flags.contains(AtomicFlags::PAGE_FLIP_EVENT)
+        || has_bit(asked.fenced, index);
     let asks = has_bit(asked.named, index) && signals;
     crtc_refusal(asks, both.old.active, both.new.active, both.new.mode)
 }
@@ -120,7 +88,7 @@ fn crtc_at(states: &Duplicates, objects: &Mask, asked: Asked, index: usize) -> O
 fn conn_at(topology: &Topology, states: &Duplicates, objects: &Mask, index: usize) -> Option<u32>
     ensures { result ≡ option_and_then (conn_refusal_of topology.now index) (duplicate_in objects.now.conns states.now.conns index) }
 {
-    let both = conn_in(states, objects, index)?;
+    let both = duplicate_in(objects.conns, &states.conns, index)?;
     let possible = topology.conns.as_slice().get(index)?;
     conn_refusal(*possible, both.new.crtc)
 }
@@ -129,7 +97,7 @@ fn conn_at(topology: &Topology, states: &Duplicates, objects: &Mask, index: usiz
 fn clones_at(topology: &Topology, states: &Duplicates, objects: &Mask, index: usize) -> Option<u32>
     ensures { result ≡ option_and_then (λ both. clone_refusal_of topology.now both) (duplicate_in objects.now.crtcs states.now.crtcs index) }
 {
-    let both = crtc_in(states, objects, index)?;
+    let both = duplicate_in(objects.crtcs, &states.crtcs, index)?;
     if members(both.new.conns, topology.conns.len()) > 1 {
         Some(19)
     } else {
@@ -141,7 +109,7 @@ fn clones_at(topology: &Topology, states: &Duplicates, objects: &Mask, index: us
 fn route_at(states: &Duplicates, objects: &Mask, index: usize) -> Option<u32>
     ensures { result ≡ option_and_then (λ both. route_refusal_of both) (duplicate_in objects.now.crtcs states.now.crtcs index) }
 {
-    let both = crtc_in(states, objects, index)?;
+    let both = duplicate_in(objects.crtcs, &states.crtcs, index)?;
     if both.new.mode.is_some() != (both.new.conns != 0) {
         Some(20)
     } else {
@@ -154,7 +122,7 @@ fn shown_at(states: &Duplicates, objects: &Mask, index: usize) -> Option<u32>
     requires { IfSome (duplicate_in objects.now.planes states.now.planes index) (λ both. IsPlaneInRange both.new) }
     ensures { result ≡ option_and_then (λ both. shown_refusal_of states.now.crtcs both) (duplicate_in objects.now.planes states.now.planes index) }
 {
-    let both = plane_in(states, objects, index)?;
+    let both = duplicate_in(objects.planes, &states.planes, index)?;
     shown_refusal(new_mode(states, both.new.crtc), &both.new)
 }
 
@@ -214,9 +182,11 @@ fn first_of(
 fn some_needs_modeset(topology: &Topology, states: &Duplicates, objects: &Mask) -> bool
     ensures { result ≡ list_any (λ index. needs_modeset_if (duplicate_in objects.now.crtcs states.now.crtcs index)) (range_with_len 0 (count_of topology.now Crtc)) }
 {
-    (0..topology.crtcs as usize).any(|index| crtc_in(states, objects, index).is_some_and(
-        |both| needs_modeset(&both),
-    ))
+    (0..topology.crtcs as usize).any(|index| duplicate_in(
+        objects.crtcs,
+        &states.crtcs,
+        index,
+    ).is_some_and(|both| needs_modeset(&both)))
 }
 
 /// The first refusal from 9 to 24 of a set of duplicated objects.
@@ -230,9 +200,9 @@ pub fn late_refusal(
     asked: Asked,
 ) -> Option<Refusal>
     requires { ArePlanesInRange topology.now states.now objects.now.planes }
-    ensures { refusal_number result ≡ late_of_states topology.now states.now objects.now asked.flags asked.named asked.fenced }
+    ensures { refusal_number result ≡ late_of_states topology.now states.now objects.now (bits_of asked.flags) asked.named asked.fenced }
 {
-    if asked.flags & PAGE_FLIP_EVENT != 0 && asked.named == 0 {
+    if asked.flags.contains(AtomicFlags::PAGE_FLIP_EVENT) && asked.named == 0 {
         return Some(Refusal(9));
     }
     first_of(topology, states, objects, asked, Step::Planes)
@@ -250,11 +220,13 @@ fn modeset_refusal(
     topology: &Topology,
     states: &Duplicates,
     objects: &Mask,
-    flags: u32,
+    flags: AtomicFlags,
 ) -> Option<u32>
-    ensures { result ≡ number_if 24 (not (allows_modeset flags) && list_any (λ index. needs_modeset_if (duplicate_in objects.now.crtcs states.now.crtcs index)) (range_with_len 0 (count_of topology.now Crtc))) }
+    ensures { result ≡ number_if 24 (not (allows_modeset (bits_of flags)) && list_any (λ index. needs_modeset_if (duplicate_in objects.now.crtcs states.now.crtcs index)) (range_with_len 0 (count_of topology.now Crtc))) }
 {
-    if flags & ALLOW_MODESET == 0 && some_needs_modeset(topology, states, objects) {
+    if !flags.contains(AtomicFlags::ALLOW_MODESET)
+        && some_needs_modeset(topology, states, objects)
+    {
         Some(24)
     } else {
         None

@@ -11,23 +11,22 @@ ghost use Rattle.kms_props.specs.Rows.{property_of};
 ghost use Rattle.kms_request.specs.Answers.{refusal_number};
 ghost use Rattle.kms_request.specs.Fences.{SetsFenceOfPlane, TellFences};
 
-use crate::flags::{PAGE_FLIP_ASYNC, PAGE_FLIP_EVENT, TEST_ONLY};
 use crate::lookups::Looker;
 use kms_model::properties::{FB_ID, IN_FENCE_FD, MODE_ID, OUT_FENCE_PTR};
 use kms_model::{Assign, Kind, Look, PropRef, Range, Refusal, Request, Topology, Value};
-use kms_props::{PropertyRow, from_bits, row_of};
+use kms_props::{AtomicFlags, PropertyRow, from_bits, row_of};
 
 /// What is wrong with flags: 1, there is another bit; 2, PAGE_FLIP_ASYNC is set; 3, TEST_ONLY and PAGE_FLIP_EVENT are set.
 fn flags_refusal(flags: u32) -> Option<u32>
     ensures { result ≡ flags_refusal flags }
 {
-    if from_bits(flags).is_none() {
+    let Some(flags) = from_bits(flags) else {
         return Some(1);
-    }
-    if flags & PAGE_FLIP_ASYNC != 0 {
+    };
+    if flags.contains(AtomicFlags::PAGE_FLIP_ASYNC) {
         return Some(2);
     }
-    if flags & TEST_ONLY != 0 && flags & PAGE_FLIP_EVENT != 0 {
+    if flags.contains(AtomicFlags::TEST_ONLY) && flags.contains(AtomicFlags::PAGE_FLIP_EVENT) {
         return Some(3);
     }
     None

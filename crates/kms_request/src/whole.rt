@@ -18,6 +18,7 @@ use crate::late::{Asked, late_refusal};
 use crate::naming::{crtcs_of, only_crtc};
 use crate::sets::object_of;
 use kms_model::{Assign, Duplicates, Mask, Refusal, Request, Topology};
+use kms_props::AtomicFlags;
 
 /// The set of all objects.
 const ALL: Mask = Mask {
@@ -79,12 +80,12 @@ fn with_number(numbers: &Numbers, count: usize) -> u32
 pub fn full_check(topology: &Topology, states: &Duplicates, request: &Request) -> Option<Refusal>
     requires { StandSomewhere topology.now request.now states.now }
     ensures { (w : World) → StandBetween topology.now w request.now states.now
-        → number_of result ≡ late_refusal topology.now w.things w.values (apply w.things w.values request.now.assigns) request.now }
+        → refusal_number result ≡ late_refusal topology.now w.things w.values (apply w.things w.values request.now.assigns) request.now }
 {
     let assigns = request.assigns.as_slice();
     let fences = out_fence_numbers(assigns);
     let asked = Asked {
-        flags: request.flags,
+        flags: AtomicFlags::of_request(request.flags),
         named: all_named_between(states, assigns),
         fenced: with_number(&fences, topology.crtcs as usize),
     };

@@ -37,8 +37,9 @@ use Rattle.kms_model.specs.Request.Refusals.{early_refusal}
 use Rattle.kms_request.specs.Whole.{StandBetween}
 use Rattle.kms_model.specs.Request.Verdict.{verdict}
 use Rattle.kms_model.proofs.Items.{or_else-none}
-use Rattle.kms_serial.specs.Device.{AreWhole, IsAfter, IsLetThrough, IsPresent, IsWhole, Stands}
-use Rattle.kms_serial.proofs.StartStates.{few_conns}
+use Rattle.kms_serial.specs.Device.{IsLetThrough, Stands}
+use Rattle.kms_things.specs.Present.{AreWhole, IsAfter, IsPresent, IsWhole}
+use Rattle.kms_things.proofs.StartStates.{few_conns}
 
 -- an object's state stands at its index
 state_there : {S : Type 0} (k : Kind) (states : List (Option (Both S))) (index count : ℕ) → AreWhole count states → index < count → is_some (state_of k states (object_id k index)) ≡ true

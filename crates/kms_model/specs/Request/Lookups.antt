@@ -38,6 +38,14 @@ look_of (Some t) = if t.is_open then look_of_content t.id t.content else look.Cl
 abbrev pub look_up : World → ℕ → Look
 look_up w label = look_of (thing_labelled w.things label)
 
+-- the same, where a closed thing counts as it was while it was open
+abbrev pub look_of_any : Option Thing → Look
+look_of_any None = look.Missing
+look_of_any (Some t) = look_of_content t.id t.content
+
+abbrev pub look_up_any : World → ℕ → Look
+look_up_any w label = look_of_any (thing_labelled w.things label)
+
 -- the label that a value names
 abbrev pub label_of : Value → Option ℕ
 label_of (Named label) = Some label

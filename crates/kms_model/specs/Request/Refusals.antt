@@ -99,15 +99,18 @@ names_fence object a = (object_of a == object) && ((prop_of a.prop == IN_FENCE_F
 abbrev pub is_second_fence : List Assign → Assign → Bool
 is_second_fence earlier a = (prop_of a.prop == IN_FENCE_FD) && list_any (names_fence (object_of a)) earlier
 
--- What is wrong with an assignment behind earlier ones: 4, the object does not exist; 5, it does not have the property;
--- 6, the property is immutable; 7, the value is not among the property's values; 8, a second fence.
-unfoldable pub assign_refusal : Topology → (ℕ → Look) → List Assign → Assign → Option ℕ
-assign_refusal t f earlier a =
+-- What is wrong with an assignment by itself: the object does not exist; it does not have the property; the property is
+-- immutable; the value is not among the property's values.
+unfoldable pub own_refusal : Topology → (ℕ → Look) → Assign → Option ℕ
+own_refusal t f a =
     or_else (refused_if NO_OBJECT (not (exists t a.kind a.index)))
     (or_else (refused_if NO_PROPERTY (not (has_property a.kind a.prop)))
     (or_else (refused_if IMMUTABLE_PROPERTY (is_immutable a.prop))
-    (or_else (refused_if INVALID_VALUE (not (is_value t f a.prop a.value)))
-    (refused_if SECOND_IN_FENCE (is_second_fence earlier a)))))
+    (refused_if INVALID_VALUE (not (is_value t f a.prop a.value)))))
+
+-- what is wrong with an assignment behind earlier ones: what is wrong with it by itself, or that it is a second fence
+unfoldable pub assign_refusal : Topology → (ℕ → Look) → List Assign → Assign → Option ℕ
+assign_refusal t f earlier a = or_else (own_refusal t f a) (refused_if SECOND_IN_FENCE (is_second_fence earlier a))
 
 -- the first that is wrong with assignments behind earlier ones, of which the last is the first of the list
 unfoldable pub assigns_refusal : Topology → (ℕ → Look) → List Assign → List Assign → Option ℕ

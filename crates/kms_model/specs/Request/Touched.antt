@@ -3,7 +3,7 @@
 use Rattle.std.specs.Prelude.{ℕ, Bool, true, false, ◌&&◌, ◌||◌, ◌==◌, List, [], ◌∷◌, Option, Some, None, if◌then◌else◌}
 use Rattle.std.specs.List.{list_any}
 use Rattle.kms_model.specs.declared.objects.Kind.{Kind}
-use Rattle.kms_model.specs.declared.objects.Kind.TheVariants.{Crtc, Plane, Conn}
+use Rattle.kms_model.specs.declared.objects.Kind.TheVariants.{Crtc, Plane, Conn, Enc}
 use Rattle.kms_model.specs.declared.objects.Topology.{Topology}
 use Rattle.kms_model.specs.declared.properties.TheConstants.{OUT_FENCE_PTR}
 use Rattle.kms_model.specs.declared.scripts.Assign.{Assign}
@@ -17,7 +17,7 @@ use Rattle.kms_model.specs.declared.worlds.World.{World}
 use Rattle.kms_model.specs.Firsts.{or_else}
 use Rattle.kms_model.specs.Request.Flags.{wants_event}
 use Rattle.kms_model.specs.Device.Masks.{mask_below}
-use Rattle.kms_model.specs.Device.Objects.{object_id, ids_of, count_of}
+use Rattle.kms_model.specs.Device.Objects.{object_id, ids_of, count_of, kind_of}
 use Rattle.kms_model.specs.Request.Apply.{object_of, prop_of, after}
 use Rattle.kms_model.specs.Request.Named.{names, moves_on, needs_modeset}
 
@@ -36,6 +36,17 @@ touches_crtc old new assigns crtc = sets assigns crtc || names old new assigns c
 -- It touches a plane or a connector that it sets, and those on a CRTC that needs a modeset.
 abbrev pub touches_routed : Topology → List Thing → List Setting → List Setting → List Assign → ℕ → Bool
 touches_routed t things old new assigns object = sets assigns object || is_affected t things old new object
+
+-- a request touches an object of a kind in a world
+abbrev pub touches_of_kind : Kind → Topology → World → Request → ℕ → Bool
+touches_of_kind Crtc t w r object = touches_crtc w.values (after w r) r.assigns object
+touches_of_kind Plane t w r object = touches_routed t w.things w.values (after w r) r.assigns object
+touches_of_kind Conn t w r object = touches_routed t w.things w.values (after w r) r.assigns object
+touches_of_kind Enc t w r object = false
+
+-- a request touches an object in a world, by the object's id
+unfoldable pub touches : Topology → World → Request → ℕ → Bool
+touches t w r object = touches_of_kind (kind_of object) t w r object
 
 -- the objects of a kind that pass a test, as a set
 abbrev pub set_where : Topology → Kind → (ℕ → Bool) → ℕ
