@@ -10,3 +10,4 @@ pub mod Rising
 pub mod Survival
 pub mod Turning
 pub mod Lines
+pub mod Committed
