@@ -8,7 +8,7 @@ use Rattle.kms_things.proofs.Kept.{all_below, kept_buffer}
 use Rattle.kms_things.proofs.things.Things.make_buffer.Goals as goal
 
 pub create-requires-clause-fresh : goal.create-requires-clause-fresh
-create-requires-clause-fresh c = rw (c.self.invariant.next, c.self.invariant.words) (all_below 1000 c.self.inside.made.items c.self.invariant.numbered)
+create-requires-clause-fresh c = rw (c.self.invariant.kept.next, c.self.invariant.kept.words) (all_below 1000 c.self.inside.made.items c.self.invariant.kept.numbered)
 
 pub invariant_of-self-2 : goal.invariant_of-self-2
 invariant_of-self-2 c =
