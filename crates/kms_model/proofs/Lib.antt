@@ -6,11 +6,15 @@ pub mod HeldValues
 pub mod ImageWords
 pub mod InPlace
 pub mod Items
+pub mod KindsOfIds
 pub mod LastLemmas
 pub mod LateLemmas
+pub mod MachineInputs
+pub mod MachineRows
 pub mod MaskLemmas
 pub mod ObjectLemmas
 pub mod OnLiterals
+pub mod OnMachines
 pub mod OnScripts
 pub mod OpenLemmas
 pub mod PropertyTable

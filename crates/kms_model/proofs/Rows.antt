@@ -67,10 +67,10 @@ commands flags plane =
 abbrev script : ℕ → ℕ → Script
 script flags plane = record { version = 1; topology = device; names = codes "b" ∷ codes "f" ∷ codes "m" ∷ []; clients = commands flags plane ∷ [] }
 
-abbrev head : List ℕ
+abbrev pub head : List ℕ
 head = codes "kms 1\ncrtcs 1\nplane primary 0 XR24\nconn 0\n"
 
-abbrev made : List ℕ
+abbrev pub made : List ℕ
 made = codes "client\nbuffer b 1 1 XR24 solid 00616263\naddfb f b\nmode m 1 1 1 1 1 0 1 1 1 1 0 60 0 0 tiny\n"
 
 -- a first commit lights the CRTC

@@ -1,3 +1,7 @@
+pub mod Headline
+pub mod Promises
+pub mod Machine
+pub mod Order
 pub mod Device
 pub mod Request
 pub mod Script

@@ -1,4 +1,5 @@
 pub mod Replies
+pub mod History
 pub mod TextLines
 pub mod Flat
 pub mod Headline

@@ -16,6 +16,7 @@ pub mod properties;
 mod ranges;
 mod refusals;
 mod replies;
+mod runs;
 mod scripts;
 mod sets;
 mod shown;
@@ -30,14 +31,15 @@ pub use layers::Layers;
 pub use list::Seq;
 pub use masks::has_bit;
 pub use objects::{
-    FIRST_THING_ID, Format, Kind, MAX_CLIENTS, MAX_CONNECTORS, MAX_CRTCS, MAX_PLANES, Mode, ObjId,
+    FIRST_CONNECTOR_ID, FIRST_CRTC_ID, FIRST_ENCODER_ID, FIRST_PLANE_ID, FIRST_THING_ID, Format, Kind, MAX_CLIENTS, MAX_CONNECTORS, MAX_CRTCS, MAX_PLANES, Mode, ObjId,
     PlaneInfo, Ticket, Topology,
 };
 pub use pictures::{Colour, FbInfo, Layer, Picture, Rect, Shown};
 pub use ranges::Range;
 pub use refusals::{Rule, rule_of};
 pub use replies::{Answered, Denied, Event, Refusal, Reply, Step};
-pub use scripts::{Assign, Command, Pattern, PropRef, Request, Script, Value, Why};
+pub use runs::{Doing, Latch, Place};
+pub use scripts::{Assign, Command, Part, Pattern, PropRef, Request, Script, Value, Why};
 pub use sets::{Lookups, Resolved, Set, SetValue};
 pub use shown::{framebuffers_have_their_buffers, what_is_shown_can_be_composed};
 pub use states::{Both, Checked, ConnState, CrtcState, Duplicates, Mask, ObjState, PlaneState};

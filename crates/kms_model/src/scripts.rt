@@ -162,3 +162,14 @@ pub enum Why {
     /// The line is outside what is built so far.
     Unbuilt,
 }
+
+/// What may follow the script in an input.
+#[derive(Clone, Copy, Debug, PartialEq, Eq)]
+pub enum Part {
+    /// Nothing.
+    Script,
+    /// A line `schedule` and the steps of a history, a line each; or nothing, which is a schedule without steps.
+    Schedule,
+    /// A line `report`, and a report behind it, whose bytes may be any.
+    Report,
+}

@@ -29,9 +29,9 @@ pub use lookups::Looker;
 pub use naming::named;
 pub use refusals::early;
 pub use resolving::resolve;
-pub use sets::{object_id, object_of, prop_of, set_of};
+pub use sets::{object_of, prop_of, set_of};
 pub use spanning::spans;
-pub use states::{has_bit, needs_modeset};
+pub use states::needs_modeset;
 pub use whole::{full_check, named_in};
 
 #[cfg(test)]

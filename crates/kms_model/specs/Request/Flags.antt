@@ -20,3 +20,7 @@ is_test flags = has_flag flags 0x100
 -- DRM_MODE_ATOMIC_ALLOW_MODESET
 abbrev pub allows_modeset : ℕ → Bool
 allows_modeset flags = has_flag flags 0x400
+
+-- DRM_MODE_ATOMIC_NONBLOCK
+abbrev pub is_nonblock : ℕ → Bool
+is_nonblock flags = has_flag flags 0x200
