@@ -48,7 +48,7 @@ fn executed(
     ensures grows { Grows serial.old.world serial.new.world }
 {
     match command {
-        Command::Atomic(request) => serial.commit(alloc, client, request),
+        Command::Atomic(request) => serial.commit(client, request),
         _ => Ok((serial.execute(alloc, client, command)?, 0)),
     }
 }
