@@ -9,11 +9,11 @@ use Rattle.kms_model.specs.declared.scripts.Assign.{Assign}
 use Rattle.kms_model.specs.declared.states.Both.{Both}
 use Rattle.kms_model.specs.declared.states.Duplicates.{Duplicates}
 use Rattle.kms_model.specs.Request.Late.{duplicate_at}
-use Rattle.kms_model.specs.Device.Objects.{count_of, exists, first_id, object_id}
+use Rattle.kms_model.specs.Device.Objects.{count_of, exists, first_id, object_id, kind_of}
 use Rattle.kms_model.specs.Request.Resolves.{IsAllowed, HasPlace, IsSettable}
-use Rattle.kms_state.specs.Places.{OldStates, is_duplicated, is_duplicated_of, kind_of, old_states, olds, state_at, state_of}
+use Rattle.kms_state.specs.Places.{OldStates, is_duplicated, is_duplicated_of, old_states, olds, state_at, state_of}
 use Rattle.kms_state.specs.Changes.{HasObject, Sets}
-use Rattle.kms_state.proofs.KindsOfIds.{kind-crtc, kind-plane, kind-conn}
+use Rattle.kms_model.proofs.KindsOfIds.{kind-crtc, kind-plane, kind-conn}
 use Rattle.kms_state.proofs.Slots.{AgreesOld-same, there_old}
 use Rattle.kms_model.specs.declared.scripts.PropRef.TheVariants.{Known}
 use Rattle.kms_model.specs.declared.scripts.Value.TheVariants.{Num}

@@ -1,9 +1,9 @@
 -- Which ids are of which kind.
-use Rattle.std.proofs.Common.{◌≡◌, ℕ, ◌<◌, ◌≤◌, arith, inl, inr, refl, subst, sym}
+use Rattle.std.proofs.Common.{◌≡◌, ℕ, ◌+◌, ◌-◌, ◌<◌, ◌≤◌, arith, inl, inr, refl, subst, sym}
 use Rattle.std.proofs.lemmas.Bool.{cases_lt, le-ltb, lt-ltb}
 use Rattle.kms_model.specs.declared.objects.Kind.{Kind}
 use Rattle.kms_model.specs.declared.objects.Kind.TheVariants.{Crtc, Plane, Conn, Enc}
-use Rattle.kms_state.specs.Places.{kind_of}
+use Rattle.kms_model.specs.Device.Objects.{index_of, kind_of, object_id}
 
 pub kind-plane : (id : ℕ) → 200 ≤ id → id < 300 → kind_of id ≡ Plane
 kind-plane id from below = rw (le-ltb id 200 from, lt-ltb id 300 below) refl
@@ -43,3 +43,13 @@ has_kind_of id = elim (cases_lt id 200) [
 
 pub has_kind : (kind : Kind) (id : ℕ) → kind_of id ≡ kind → HasKind kind id
 has_kind kind id is = subst (λ k. HasKind k id) is (has_kind_of id)
+
+-- the kind and the index of the object with an id
+pub kind_of-object : (kind : Kind) (i : ℕ) → i < 100 → kind_of (object_id kind i) ≡ kind
+kind_of-object Crtc i few = kind-crtc (100 + i) (omega arith)
+kind_of-object Plane i few = kind-plane (200 + i) (omega arith) (omega arith)
+kind_of-object Conn i few = kind-conn (300 + i) (omega arith) (omega arith)
+kind_of-object Enc i few = kind-enc (400 + i) (omega arith)
+
+pub index_of-object : (kind : Kind) (i : ℕ) → i < 100 → index_of (object_id kind i) ≡ i
+index_of-object kind i few = rw (kind_of-object kind i few) (omega arith)

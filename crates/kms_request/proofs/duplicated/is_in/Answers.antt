@@ -2,7 +2,7 @@ use Rattle.std.proofs.Common.{◌<◌, ◌^◌, ◌∙◌, false, sym, arith}
 use Rattle.std.proofs.lemmas.Bool.{le-ltb}
 use Rattle.std.proofs.lemmas.Nat.Bits.{bit_at_above}
 use Rattle.kms_model.proofs.MaskLemmas.{has_bit-from}
-use Rattle.kms_request.proofs.states.has_bit.Goals as goal
+use Rattle.kms_request.proofs.duplicated.is_in.Goals as goal
 
 pub returns-else-index-lt32 : goal.returns-else-index-lt32
 returns-else-index-lt32 c =

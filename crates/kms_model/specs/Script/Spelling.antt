@@ -5,8 +5,6 @@ use Rattle.std.specs.List.{flat_map, join_with_byte, list_all, range_with_len}
 use Rattle.std.specs.Option.{option_map_or}
 use Rattle.kms_model.specs.declared.objects.Format.{Format}
 use Rattle.kms_model.specs.declared.objects.Format.TheVariants.{Xr24, Ar24, Rg16}
-use Rattle.kms_model.specs.declared.objects.Kind.{Kind}
-use Rattle.kms_model.specs.declared.objects.Kind.TheVariants.{Crtc, Plane, Conn, Enc}
 use Rattle.kms_model.specs.declared.objects.Mode.{Mode}
 use Rattle.kms_model.specs.declared.objects.PlaneInfo.{PlaneInfo}
 use Rattle.kms_model.specs.declared.objects.Topology.{Topology}
@@ -24,6 +22,7 @@ use Rattle.kms_model.specs.Script.Grammar.{digits_of, is_printable}
 use Rattle.kms_model.specs.Script.InputLines.{Row, rows_of}
 use Rattle.kms_model.specs.Device.Masks.{has_bit}
 use Rattle.kms_model.specs.Device.Properties.{name_of}
+use Rattle.kms_model.specs.Report.Replies.{kind_name}
 use Rattle.kms_model.specs.Report.TextLines.{line}
 use Rattle.kms_model.specs.Script.WholeInput.{Draft, Lined, blank_draft, is_nil, script_in, script_line}
 use Rattle.kms_model.specs.Script.Words.{◌>>=◌, until}
@@ -79,12 +78,6 @@ format_at_bit (suc (suc n)) = Rg16
 abbrev pub formats_word : ℕ → List ℕ
 formats_word mask = list_word (λ bit. format_word (format_at_bit bit)) 3 mask
 
-abbrev pub kind_word : Kind → List ℕ
-kind_word Crtc = codes "crtc"
-kind_word Plane = codes "plane"
-kind_word Conn = codes "conn"
-kind_word Enc = codes "enc"
-
 -- Assignments
 
 abbrev pub property_word : List (List ℕ) → PropRef → List ℕ
@@ -99,7 +92,7 @@ value_word names (value.Crtc index) = codes "crtc" ++ decimal index
 
 -- `OBJ.PROP=VALUE`
 abbrev pub assign_word : List (List ℕ) → Assign → List ℕ
-assign_word names a = kind_word a.kind ++ decimal a.index ++ codes "." ++ property_word names a.prop ++ codes "=" ++ value_word names a.value
+assign_word names a = kind_name a.kind ++ decimal a.index ++ codes "." ++ property_word names a.prop ++ codes "=" ++ value_word names a.value
 
 -- Commands: the words of a line
 
