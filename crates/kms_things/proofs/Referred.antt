@@ -1,11 +1,9 @@
 -- The framebuffers that something refers to, as things are made and closed.
-use Rattle.std.proofs.Common.{◌≡◌, ℕ, ◌+◌, ◌<◌, ◌≤◌, Bool, true, false, cond, List, [], ◌∷◌, ◌++◌, map, Option, Some, None, Result, Ok, Err, eqb, refl, sym, ap, ◌∙◌, subst, inl, inr, arith, append-nil}
-use Rattle.std.specs.Prelude.{◌==◌, not, ◌&&◌}
-use Rattle.std.specs.List.{AllByRecursion, cons_option}
+use Rattle.std.proofs.Common.{◌≡◌, ℕ, ◌+◌, ◌<◌, ◌≤◌, Bool, true, false, cond, List, [], ◌∷◌, ◌++◌, Option, Some, None, Result, Ok, Err, refl, sym, ap, ◌∙◌, subst, inl, inr, arith, append-nil}
+use Rattle.std.specs.Prelude.{◌==◌, ◌&&◌}
 use Rattle.std.specs.Option.{option_and_then, option_map}
-use Rattle.std.proofs.lemmas.Bool.Decides.{nat_tests, eqb_tells}
+use Rattle.std.proofs.lemmas.Bool.Decides.{eqb_tells}
 use Rattle.std.proofs.lemmas.List.Elements.{filter_map-append}
-use Rattle.kms_model.specs.declared.pictures.FbInfo.{FbInfo}
 use Rattle.kms_model.specs.declared.replies.Denied.{Denied}
 use Rattle.kms_model.specs.declared.stores.Framebuffer.{Framebuffer}
 use Rattle.kms_model.specs.declared.tables.Slot.{Slot}
@@ -17,9 +15,9 @@ use Rattle.kms_model.specs.Device.Execution.{destroy_refusal, is_blob}
 use Rattle.kms_model.specs.Device.Sound.{AreNumbered}
 use Rattle.kms_model.specs.Device.World.{thing_with_id}
 use Rattle.kms_model.specs.Frames.Shown.{FramesIn}
-use Rattle.kms_model.specs.Stores.Kept.{after_close, after_give, after_take, closed, fbs_closed, fbs_given, fbs_taken, framebuffer, may_close, with_fewer}
+use Rattle.kms_model.specs.Stores.Kept.{after_close, after_give, after_take, closed, fbs_closed, fbs_given, fbs_taken, may_close, with_fewer}
 use Rattle.kms_model.specs.Stores.OpenThings.{denial, open_value, things_after, value_if_open}
-use Rattle.kms_model.specs.Stores.Tables.{AreBelow, put_in, slot, value_with_id, with_value, without_id}
+use Rattle.kms_model.specs.Stores.Tables.{AreBelow, put_in, value_with_id, with_value, without_id}
 use Rattle.kms_model.proofs.OpenLemmas.{closed_values, found_open}
 use Rattle.kms_buffers.specs.Things.{fb_in, open_fbs, open_fbs_of}
 use Rattle.kms_things.specs.Index.{AreReferred, IsBlobAt, IsPlain}
@@ -48,7 +46,7 @@ either P true x y p q = p
 either P false x y p q = q
 
 below_put : (n id : ℕ) (fb : Framebuffer) (s : Slot Framebuffer) → s.id < n → (put_in id fb s).id < n
-below_put n id fb s lt = elim (eqb_tells s.id id) [ | inl here ↦ rw here.0 (subst (λ (k : ℕ). k < n) here.1 lt) | inr away ↦ rw away.0 lt ]
+below_put n id fb s lt = elim (eqb_tells s.id id) [ inl here ↦ rw here.0 (subst (λ (k : ℕ). k < n) here.1 lt) | inr away ↦ rw away.0 lt ]
 
 below_with : (n id : ℕ) (fb : Framebuffer) (fbs : List (Slot Framebuffer)) → AreBelow n fbs → AreBelow n (with_value fbs id fb)
 below_with n id fb [] below = tt

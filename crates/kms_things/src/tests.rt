@@ -23,8 +23,8 @@ fn assert_replies(
     things: &mut Things,
     commands: &[(u32, Command, Reply)],
 ) -> Result<(), NoMemory>
-    requires fit { All (λ c. IsFitCommand c.1.0) commands.now }
-    requires other { All (λ c. IsNoRequest c.1.0) commands.now }
+    requires fit { All (λ c. IsFitCommand c.1) commands.now }
+    requires other { All (λ c. IsNoRequest c.1) commands.now }
 {
     for (client, command, want) in commands {
         assert!(rt; things.has_ids());
@@ -69,12 +69,28 @@ fn a_closed_framebuffer_has_its_image(rt: HostRuntime) -> Result<(), Fail> {
     assert!(rt; things.look(3) == Look::Missing);
     assert!(rt; things.is_referred(1001));
     let closed = [
-        (2, Command::CloseFb { label: FB }, Reply::Denied(Denied::NOT_FOUND.0)),
+        (
+            2,
+            Command::CloseFb { label: FB },
+            Reply::Denied(Denied::NOT_FOUND.0),
+        ),
         (1, Command::CloseFb { label: FB }, Reply::Done),
-        (1, Command::CloseFb { label: FB }, Reply::Denied(Denied::NOT_FOUND.0)),
-        (1, Command::Destroy { label: FENCE }, Reply::Denied(Denied::NOT_FOUND.0)),
+        (
+            1,
+            Command::CloseFb { label: FB },
+            Reply::Denied(Denied::NOT_FOUND.0),
+        ),
+        (
+            1,
+            Command::Destroy { label: FENCE },
+            Reply::Denied(Denied::NOT_FOUND.0),
+        ),
         (1, Command::Signal { label: FENCE }, Reply::Done),
-        (1, Command::Signal { label: FB }, Reply::Denied(Denied::NOT_SIGNALLABLE.0)),
+        (
+            1,
+            Command::Signal { label: FB },
+            Reply::Denied(Denied::NOT_SIGNALLABLE.0),
+        ),
     ];
     assert_replies(&rt, a, &mut things, &closed)?;
     assert!(rt; things.look(FB) == Look::Closed);

@@ -164,12 +164,7 @@ impl Things {
 
     /// What is wrong with a new buffer: 31, a side is 0 or above 4096 pixels; 32, all buffers would have more than
     /// 268435456 bytes.
-    pub(crate) fn new_buffer_refusal(
-        &self,
-        width: u32,
-        height: u32,
-        format: Format,
-    ) -> Option<u32>
+    pub(crate) fn new_buffer_refusal(&self, width: u32, height: u32, format: Format) -> Option<u32>
         ensures { result ≡ new_buffer_refusal self.now.things width height format }
     {
         number_of(self.buffers.total_with(width, height, format))
@@ -245,11 +240,7 @@ impl Things {
 
     /// Makes a client's out-fences with the next ids under the labels that its accepted request asks for, one place for each
     /// CRTC of the device, in order. Want of memory leaves all as it was. (Kernel: "Explicit Fencing Properties", `OUT_FENCE_PTR`.)
-    pub fn make_out_fences(
-        &mut self,
-        client: u32,
-        labels: &[Option<u32>],
-    ) -> Result<(), NoMemory>
+    pub fn make_out_fences(&mut self, client: u32, labels: &[Option<u32>]) -> Result<(), NoMemory>
         requires few { length labels.now ≤ 4 }
         requires ids { HasIds self.old }
         ensures made { OnOk result ((w : World) (assigns : List Assign) (crtcs : List ℕ)

@@ -1,4 +1,4 @@
-use Rattle.std.proofs.Common.{◌≡◌, List, true, refl, subst}
+use Rattle.std.proofs.Common.{List, true, refl, subst}
 use Rattle.kms_model.specs.declared.worlds.Content.TheVariants as content
 use Rattle.kms_things.proofs.Referred.{referred_made}
 use Rattle.kms_model.specs.declared.worlds.Thing.{Thing}

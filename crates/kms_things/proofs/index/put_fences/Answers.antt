@@ -1,4 +1,4 @@
-use Rattle.std.proofs.Common.{◌≡◌, ◌∙◌, ◌+◌, drop, List, None, refl, ap, arith, length-drop}
+use Rattle.std.proofs.Common.{◌∙◌, ◌+◌, drop, None, refl, ap, arith, length-drop}
 use Rattle.std.proofs.lemmas.List.{at_drop_more}
 use Rattle.kms_model.specs.declared.worlds.World.{World}
 use Rattle.kms_things.specs.OutFences.{fences_made}

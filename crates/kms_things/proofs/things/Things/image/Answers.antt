@@ -1,7 +1,5 @@
-use Rattle.std.proofs.Common.{◌≡◌, Some, None, sym, ◌∙◌, subst}
-use Rattle.std.specs.Prelude.{IfNone, IfSome}
+use Rattle.std.proofs.Common.{◌≡◌, Some, sym, ◌∙◌, subst}
 use Rattle.kms_things.specs.Made.{Made}
-use Rattle.kms_model.specs.Device.States.{framebuffer_of}
 use Rattle.kms_model.specs.Device.World.{thing_with_id}
 use Rattle.kms_things.proofs.Images.{has_image, if_none, if_some, image_is}
 use Rattle.kms_things.proofs.things.Things.image.Goals as goal

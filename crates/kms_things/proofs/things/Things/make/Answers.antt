@@ -1,7 +1,5 @@
-use Rattle.std.proofs.Common.{◌≡◌, ◌++◌, ◌∷◌, [], List, true, refl, sym, ap, ◌∙◌, subst}
+use Rattle.std.proofs.Common.{◌≡◌, ◌++◌, ◌∷◌, [], List, true, refl, ap, ◌∙◌, subst}
 use Rattle.kms_model.specs.declared.worlds.Thing.{Thing}
-use Rattle.kms_things.specs.Made.{Made}
-use Rattle.kms_model.specs.Frames.Shown.{FramesIn}
 use Rattle.kms_things.specs.Index.{IsIndex}
 use Rattle.kms_things.proofs.Kept.{kept_made}
 use Rattle.kms_things.proofs.Referred.{frames_plain, referred_made}

@@ -1,10 +1,8 @@
-use Rattle.std.proofs.Common.{◌≡◌, ◌∙◌, ap, sym, subst, List}
+use Rattle.std.proofs.Common.{◌∙◌, ap, sym}
 use Rattle.kms_model.specs.declared.worlds.World.{World}
 use Rattle.kms_things.specs.Made.{Made, with_made}
 use Rattle.kms_things.specs.OutFences.{fences_made}
 use Rattle.kms_things.proofs.MadeLemmas.{fences_of_crtcs}
-use Rattle.kms_model.specs.declared.worlds.Thing.{Thing}
-use Rattle.kms_things.specs.Index.{AreKept, Ids}
 use Rattle.kms_things.proofs.Kept.{kept_reordered}
 use Rattle.kms_things.proofs.things.Things.make_out_fences.Goals as goal
 
