@@ -51,6 +51,7 @@ fn looks(alloc: Global) -> Result<Lookups, NoMemory> {
 }
 
 /// The refusal that a request meets where it is resolved.
+#[tactic(auto, using(crate::proofs::WholeLemmas::limits_of))]
 fn refused(
     alloc: Global,
     topology: &Topology,
@@ -67,6 +68,7 @@ fn refused(
 }
 
 /// Asserts which refusal flags and assignments meet on a device.
+#[tactic(auto, using(crate::proofs::WholeLemmas::limits_of))]
 fn assert_early_on<R: Abort>(
     rt: &R,
     alloc: Global,
