@@ -7,7 +7,7 @@ use Rattle.kms_model.specs.declared.scripts.Command.{Command}
 use Rattle.kms_model.specs.Script.CommandLines.{Names, command_read}
 use Rattle.kms_model.specs.Report.TextLines.{line}
 use Rattle.kms_model.specs.Script.WholeInput.{Draft, is_nil, clients_in}
-use Rattle.kms_script.specs.Spelling.{plane_words, conn_words, command_words}
+use Rattle.kms_model.specs.Script.Spelling.{plane_words, conn_words, command_words}
 use Rattle.kms_script.proofs.Accepted.{nil_is}
 use Rattle.kms_script.proofs.DraftText.{head_text, lines_text, draft_text, plane_more, conn_more, client_more, command_more, late_line}
 use Rattle.kms_script.proofs.NamesBegin.{Begins}

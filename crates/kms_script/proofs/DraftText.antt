@@ -9,7 +9,7 @@ use Rattle.kms_model.specs.declared.scripts.Command.{Command}
 use Rattle.kms_model.specs.Script.CommandLines.{words_in}
 use Rattle.kms_model.specs.Report.TextLines.{line}
 use Rattle.kms_model.specs.Script.WholeInput.{Draft, clients_in, clients_of, script_in}
-use Rattle.kms_script.specs.Spelling.{text_of, plane_words, conn_words, command_words, client_lines, spelling}
+use Rattle.kms_model.specs.Script.Spelling.{text_of, plane_words, conn_words, command_words, client_lines, spelling}
 
 -- the first line
 abbrev pub kms_words : List (List ℕ)

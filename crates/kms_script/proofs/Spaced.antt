@@ -9,7 +9,7 @@ use Rattle.kms_model.specs.declared.objects.Mode.{Mode}
 use Rattle.kms_model.specs.Report.TextLines.{line}
 use Rattle.kms_model.specs.Script.Words.{until}
 use Rattle.kms_script.specs.Printed.{fields, mode_line_numbers}
-use Rattle.kms_script.specs.Spelling.{mode_words}
+use Rattle.kms_model.specs.Script.Spelling.{mode_words}
 
 -- a line is its first word, the others with a blank before each, and a line feed
 pub line-fields : (w : List ℕ) (ws : List (List ℕ)) → line (w ∷ ws) ≡ w ++ fields ws ++ 10 ∷ []

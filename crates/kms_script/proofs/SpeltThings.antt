@@ -8,7 +8,7 @@ use Rattle.kms_model.specs.declared.scripts.Pattern.{Pattern}
 use Rattle.kms_model.specs.Script.CommandLines.{Names, place, saying, making, label_alone, pattern_at, buffer_read, addfb_read, mode_fields, mode_read, blob_read, making_read, naming_read}
 use Rattle.kms_model.specs.Script.Grammar.{blob_bytes, format_at, hex_bytes}
 use Rattle.kms_model.specs.Script.Words.{between, field_at, dec_at, label_at, end_at}
-use Rattle.kms_script.specs.Spelling.{name_word, blob_word, format_word, pattern_words, mode_words, command_words}
+use Rattle.kms_model.specs.Script.Spelling.{name_word, blob_word, format_word, pattern_words, mode_words, command_words}
 use Rattle.kms_script.proofs.Hexadecimals.{bytes_spelt}
 use Rattle.kms_script.proofs.Inverted.{from_bind, if_some, some_same}
 use Rattle.kms_script.proofs.LineFields.{fields_to, field_spelt, end_spelt}

@@ -10,7 +10,7 @@ use Rattle.kms_model.specs.declared.objects.Topology.{Topology}
 use Rattle.kms_model.specs.declared.scripts.Command.{Command}
 use Rattle.kms_model.specs.declared.scripts.Script.{Script}
 use Rattle.kms_model.specs.Report.TextLines.{line}
-use Rattle.kms_script.specs.Spelling.{client_lines, command_words, conn_words, device_lines, plane_words, spelling, text_of}
+use Rattle.kms_model.specs.Script.Spelling.{client_lines, command_words, conn_words, device_lines, plane_words, spelling, text_of}
 use Rattle.kms_script.proofs.Spaced.{added, lines-flat, lines-map}
 
 abbrev planes_text : Topology → List ℕ

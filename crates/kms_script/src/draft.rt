@@ -3,11 +3,10 @@ ghost use Rattle.std.specs.Prelude.{◌≡◌, ◌<◌, ◌≤◌, ◌+◌, ◌*
 ghost use Rattle.std.specs.List.{list_all};
 ghost use Rattle.kms_model.specs.Script.Grammar.{is_printable};
 ghost use Rattle.kms_model.specs.Script.WholeInput.{blank_draft, is_nil, crtcs_at, plane_type, plane_fields, conn_at, first_line, crtcs_line, plane_line, conn_line, client_line, command_line, later_line, script_line, clients_in, line_after, topology_in, script_in, is_conn_of, is_done};
-ghost use Rattle.kms_model.specs.Script.WellFormed.{IsWellFormed};
-ghost use Rattle.kms_script.specs.Fitting.{IsFitCount, IsFitPlane, IsFitMask, HasFitClients};
+ghost use Rattle.kms_script.specs.Fitting.{KeepsLimits, IsFitCount, IsFitPlane, IsFitMask, HasFitClients};
 ghost use Rattle.kms_script.specs.Drafted.{draft_in, row_in, IsSoundDraft, HasRoomFor, Keeps, Becomes, ended, is_full};
 
-use crate::commands::is_over;
+use crate::lines::read_line;
 use crate::lists::{read_crtcs, read_formats};
 use crate::names::Names;
 use crate::rows::Row;
@@ -265,11 +264,11 @@ impl Draft {
         Ok(())
     }
 
-    /// Whether a command more passes a limit.
-    fn is_full(&self, command: &Command) -> bool
-        ensures { result ≡ is_full (draft_in self.now) command.now }
+    /// Whether a client has too many commands with one more, or the script makes too many labels.
+    fn is_full(&self) -> bool
+        ensures { result ≡ is_full (draft_in self.now) }
     {
-        is_over(command) || self.commands.len() >= 4096 || self.names.made() > 4096
+        self.commands.len() >= 4096 || self.names.made() > 4096
     }
 
     /// A command of the present client.
@@ -283,13 +282,8 @@ impl Draft {
         if !self.has_client {
             return Err(Stop::Fault(Why::Form));
         }
-        let Some(command) = self.names.command(alloc, text)? else {
-            return Err(Stop::Fault(Why::Form));
-        };
-        if self.names.is_twice() {
-            return Err(Stop::Fault(Why::Label));
-        }
-        if self.is_full(&command) {
+        let command = read_line(&mut self.names, alloc, text)?;
+        if self.is_full() {
             return Err(Stop::Fault(Why::Limit));
         }
         self.commands.push(command)?;
@@ -381,7 +375,7 @@ impl Draft {
         requires sound { IsSoundDraft (draft_in self) }
         requires whole { 0 < length (draft_in self).conns }
         ensures value { IfOk result (λ script. script ≡ script_in (draft_in self)) }
-        ensures formed { IfOk result IsWellFormed }
+        ensures limits { IfOk result KeepsLimits }
     {
         self.end_client(alloc)?;
         Ok(Script {
@@ -391,7 +385,7 @@ impl Draft {
                 planes: self.planes,
                 conns: self.conns,
             },
-            names: self.names.into_words(alloc)?,
+            names: self.names.into_words(),
             clients: self.clients,
         })
     }

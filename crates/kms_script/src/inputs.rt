@@ -3,7 +3,7 @@ ghost use Rattle.std.specs.Prelude.{◌≡◌, ◌≤◌, ◌<◌, ℕ, IfOk, le
 ghost use Rattle.kms_model.specs.Script.InputLines.{rows_of};
 ghost use Rattle.kms_model.specs.Script.WholeInput.{blank_draft, input, lines_after};
 ghost use Rattle.kms_model.specs.Script.WellFormed.{IsWellFormed};
-ghost use Rattle.kms_script.specs.Spelling.{Spells};
+ghost use Rattle.kms_model.specs.Script.Spelling.{Spells};
 ghost use Rattle.kms_script.specs.Stated.{Gives};
 ghost use Rattle.kms_script.specs.Drafted.{draft_in, GivesDraft, IsSoundDraft};
 

@@ -4,7 +4,7 @@ ghost use Rattle.std.specs.Fmt.{decimal};
 ghost use Rattle.std.specs.List.{flat_map};
 ghost use Rattle.kms_model.specs.Report.TextLines.{line};
 ghost use Rattle.kms_model.specs.Script.WholeInput.{input, script_limit};
-ghost use Rattle.kms_script.specs.Spelling.{Spells, client_lines, conn_words, device_lines, plane_words, spelling, text_of};
+ghost use Rattle.kms_model.specs.Script.Spelling.{Spells, client_lines, conn_words, device_lines, plane_words, spelling, text_of};
 
 use crate::printing_commands::{push_command, push_number, push_word};
 use crate::printing_words::{push_crtcs, push_formats, type_word};

@@ -4,7 +4,7 @@ ghost use Rattle.std.specs.Fmt.{decimal};
 ghost use Rattle.std.specs.List.{flat_map};
 ghost use Rattle.kms_model.specs.Report.TextLines.{line};
 ghost use Rattle.kms_script.specs.Printed.{fields, mode_line_numbers};
-ghost use Rattle.kms_script.specs.Spelling.{assign_word, command_words, format_word, hex_word, mode_words, name_word, pattern_words, pixel_word};
+ghost use Rattle.kms_model.specs.Script.Spelling.{assign_word, command_words, format_word, hex_word, mode_words, name_word, pattern_words, pixel_word};
 
 use crate::printing_words::{
     format_word, name_word, push_assign, push_blob, push_decimal, push_hex, push_pixel,

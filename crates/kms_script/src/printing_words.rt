@@ -3,7 +3,8 @@ ghost use Rattle.std.specs.Prelude.{◌≡◌, ◌<◌, ◌++◌, false, OnOk};
 ghost use Rattle.std.specs.Fmt.{decimal, signed_decimal, digit_glyph};
 ghost use Rattle.kms_model.specs.Device.Masks.{has_bit};
 ghost use Rattle.kms_script.specs.Printed.{bits_in, item_word};
-ghost use Rattle.kms_script.specs.Spelling.{assign_word, blob_word, crtcs_word, format_at_bit, format_word, formats_word, hex_digits, hex_word, kind_word, list_word, name_word, pixel_word, property_word, type_word, value_word};
+ghost use Rattle.kms_model.specs.Report.Replies.{kind_name};
+ghost use Rattle.kms_model.specs.Script.Spelling.{assign_word, blob_word, crtcs_word, format_at_bit, format_word, formats_word, hex_digits, hex_word, list_word, name_word, pixel_word, property_word, type_word, value_word};
 
 use itoa::Buffer;
 use kms_model::{Assign, Format, Kind, NoMemory, PropRef, Seq, Value};
@@ -21,7 +22,7 @@ pub fn format_word(format: Format) -> &'static [u8]
 }
 
 fn kind_word(kind: Kind) -> &'static [u8]
-    ensures { result.now ≡ kind_word kind }
+    ensures { result.now ≡ kind_name kind }
 {
     match kind {
         Kind::Crtc => b"crtc",

@@ -3,7 +3,7 @@ use Rattle.std.specs.Prelude.{OnOk}
 use Rattle.std.specs.Fmt.{decimal}
 use Rattle.std.specs.List.{flat_map}
 use Rattle.kms_model.specs.Report.TextLines.{line}
-use Rattle.kms_script.specs.Spelling.{conn_words, plane_words}
+use Rattle.kms_model.specs.Script.Spelling.{conn_words, plane_words}
 use Rattle.kms_script.proofs.Texts.{device_added}
 use Rattle.kms_script.proofs.printing.push_device.Goals as goal
 

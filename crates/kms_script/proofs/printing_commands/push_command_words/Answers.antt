@@ -1,7 +1,7 @@
 use Rattle.std.proofs.Common.{◌≡◌, [], ◌∷◌, ◌++◌, codes, map, rules}
 use Rattle.std.specs.Fmt.{decimal}
 use Rattle.kms_script.specs.Printed.{fields}
-use Rattle.kms_script.specs.Spelling.{assign_word, format_word, hex_word, mode_words, name_word, pattern_words}
+use Rattle.kms_model.specs.Script.Spelling.{assign_word, format_word, hex_word, mode_words, name_word, pattern_words}
 use Rattle.kms_script.proofs.Spaced.{fields-added, front-added, line-ended}
 use Rattle.kms_script.proofs.printing_commands.push_command_words.Goals as goal
 
