@@ -44,12 +44,16 @@ count_at t Shown = count_of t Plane
 
 -- what a step finds wrong with an object of a set, by its index
 abbrev pub refusal_at : Topology → Duplicates → Mask → Asked → Step → ℕ → Option ℕ
-refusal_at t d objects asked Planes index = option_and_then (plane_refusal_of t index) (plane_in d objects index)
+refusal_at t d objects asked Planes index =
+    option_and_then (plane_refusal_of t index) (plane_in d objects index)
 refusal_at t d objects asked Crtcs index =
     option_and_then (crtc_refusal_of (bits_of asked.flags) asked.named asked.fenced index) (crtc_in d objects index)
-refusal_at t d objects asked Conns index = option_and_then (conn_refusal_of t index) (conn_in d objects index)
-refusal_at t d objects asked Clones index = option_and_then (λ both. clone_refusal_of t both) (crtc_in d objects index)
-refusal_at t d objects asked Routes index = option_and_then (λ both. route_refusal_of both) (crtc_in d objects index)
+refusal_at t d objects asked Conns index =
+    option_and_then (conn_refusal_of t index) (conn_in d objects index)
+refusal_at t d objects asked Clones index =
+    option_and_then (λ both. clone_refusal_of t both) (crtc_in d objects index)
+refusal_at t d objects asked Routes index =
+    option_and_then (λ both. route_refusal_of both) (crtc_in d objects index)
 refusal_at t d objects asked Shown index =
     option_and_then (λ both. shown_refusal_of d.crtcs both) (plane_in d objects index)
 

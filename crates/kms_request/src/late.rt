@@ -24,9 +24,9 @@ use kms_props::AtomicFlags;
 pub struct Asked {
     /// Its flags.
     pub flags: AtomicFlags,
-    /// The CRTCs that it names: bit i stands for CRTC index i.
+    /// The mask of the CRTCs that it names: bit i stands for CRTC index i.
     pub named: u32,
-    /// The CRTCs for which it asks for an out-fence.
+    /// The mask of the CRTCs for which it asks for an out-fence.
     pub fenced: u32,
 }
 

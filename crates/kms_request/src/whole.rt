@@ -49,7 +49,7 @@ fn all_named_between(states: &Duplicates, assigns: &[Assign]) -> u32
     named
 }
 
-/// The set of CRTCs that an accepted request names: bit i stands for CRTC index i. Every object of the device is
+/// The mask of the CRTCs that an accepted request names: bit i stands for CRTC index i. Every object of the device is
 /// duplicated, before the request and after it.
 pub fn named_in(states: &Duplicates, request: &Request) -> u32
     requires { All IsSettable request.now.assigns }
