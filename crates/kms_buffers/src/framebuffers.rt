@@ -1,5 +1,5 @@
 //! The store of framebuffers.
-ghost use Rattle.std.specs.Prelude.{◌≡◌, ℕ, List, [], ◌∷◌, ◌++◌, IsTrue, OnOk, OnErr, option_copied};
+ghost use Rattle.std.specs.Prelude.{◌≡◌, ℕ, List, [], ◌∷◌, ◌++◌, IsTrue, OnOk, OnErr, is_some, option_copied};
 ghost use Rattle.kms_model.specs.declared.worlds.Content.TheVariants as content;
 ghost use Rattle.kms_model.specs.declared.worlds.Thing.{Thing};
 ghost use Rattle.kms_model.specs.declared.worlds.World.{World};
@@ -107,6 +107,13 @@ impl FbStore {
             },
         );
         Ok(fb.references == 1)
+    }
+
+    /// Whether something refers to the framebuffer with an id, so that it is in the store.
+    pub fn has(&self, id: u32) -> bool
+        ensures { result ≡ is_some (value_with_id self.now id) }
+    {
+        self.fbs.get(id).is_some()
     }
 
     /// Takes a reference more of a framebuffer that is in the store and has fewer than 4294967295.

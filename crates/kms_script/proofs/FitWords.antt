@@ -5,7 +5,7 @@ use Rattle.std.specs.List.{list_all}
 use Rattle.std.specs.Option.{option_map_or}
 use Rattle.std.specs.Str.{bytes_eq}
 use Rattle.std.proofs.Math.Nat.{mul-le-mul_right, pow-le-pow_right, pow-suc}
-use Rattle.std.proofs.lemmas.Bool.{and_parts, eqb-true, leb-true}
+use Rattle.std.proofs.lemmas.Bool.{and_from, and_parts, eqb-true, leb-true}
 use Rattle.std.proofs.lemmas.Bool.Decides.{nat_tests}
 use Rattle.std.proofs.lemmas.Slice.Eq.{bytes_eq-Decides}
 use Rattle.kms_model.specs.declared.objects.Format.{Format}
@@ -16,7 +16,7 @@ use Rattle.kms_model.specs.declared.scripts.Pattern.{Pattern}
 use Rattle.kms_model.specs.declared.scripts.Pattern.TheVariants.{Solid, Checker, Ramp, Pixels}
 use Rattle.kms_model.specs.Script.CommandLines.{checker_at, each_pixel_at, five_at, label_alone, mode_fields, pattern_at, pixels_at, ramp_at, solid_at}
 use Rattle.kms_model.specs.Script.Grammar.{blob_bytes, digits_of, hex, hex_at, hex_bytes, hex_pair, indexed, int, is_hex_number, negative, object, pixel_at, pixel_number}
-use Rattle.kms_model.specs.Script.WellFormed.{is_integer, is_mode_name, is_pattern_of, is_pixel_of, is_word32}
+use Rattle.kms_model.specs.Script.WellFormed.{are_words16, has_widths, is_integer, is_mode_name, is_pattern_of, is_pixel_of, is_word16, is_word32}
 use Rattle.kms_model.specs.Script.Words.{between, dec, dec_at, end_at, field_at, hex_from, hex_value, is_digit, is_hex, is_label, is_name_byte, label_at, name_at, strip, until}
 use Rattle.kms_script.proofs.Decimals.{dec_at_most}
 use Rattle.kms_script.proofs.Inverted.{bind_some, choice_some, from_bind, if_some, map_some, or_some, some_same}
@@ -198,7 +198,27 @@ name_fit bytes r e =
     sides : (n : ℕ) → nat_lt 0 n ≡ true → nat_lt n 32 ≡ true → between 1 31 n ≡ true
     sides n some few = grind (arith, nat_tests)
 
-pub mode_fit : (bytes : List ℕ) (m : Mode × List ℕ) → mode_fields bytes ≡ Some m → is_mode_name m.0.name ≡ true
+word16_fit : (n : ℕ) → n ≤ 65535 → is_word16 n ≡ true
+word16_fit n few = lt_test n (2 ^ 16) (omega (arith, few))
+
+word32_fit : (n : ℕ) → n ≤ 4294967295 → is_word32 n ≡ true
+word32_fit n few = lt_test n (2 ^ 32) (omega (arith, few))
+
+five_fit : (bytes : List ℕ) (r : ℕ × ℕ × ℕ × ℕ × ℕ × List ℕ) → five_at bytes ≡ Some r → are_words16 r.0 r.1 r.2 r.3 r.4 ≡ true
+unfolding five_at
+five_fit bytes r e =
+    from_bind (dec_at 65535 bytes) _ r e (λ a first more.
+    from_bind (dec_at 65535 a.1) _ r more (λ b second more.
+    from_bind (dec_at 65535 b.1) _ r more (λ c third more.
+    from_bind (dec_at 65535 c.1) _ r more (λ d fourth more.
+    from_bind (dec_at 65535 d.1) _ r more (λ n fifth more.
+    rw (← some_same _ r more)
+    (both (is_word16 a.0) (is_word16 b.0 && (is_word16 c.0 && (is_word16 d.0 && is_word16 n.0))) (word16_fit a.0 (dec_at_fit 65535 bytes a first))
+    (both (is_word16 b.0) (is_word16 c.0 && (is_word16 d.0 && is_word16 n.0)) (word16_fit b.0 (dec_at_fit 65535 a.1 b second))
+    (both (is_word16 c.0) (is_word16 d.0 && is_word16 n.0) (word16_fit c.0 (dec_at_fit 65535 b.1 c third))
+    (both (is_word16 d.0) (is_word16 n.0) (word16_fit d.0 (dec_at_fit 65535 c.1 d fourth)) (word16_fit n.0 (dec_at_fit 65535 d.1 n fifth)))))))))))
+
+pub mode_fit : (bytes : List ℕ) (m : Mode × List ℕ) → mode_fields bytes ≡ Some m → (has_widths m.0 && is_mode_name m.0.name) ≡ true
 unfolding mode_fields
 mode_fit bytes m e =
     from_bind (dec_at 4294967295 bytes) _ m e (λ clock first more.
@@ -207,7 +227,14 @@ mode_fit bytes m e =
     from_bind (dec_at 4294967295 v.5) _ m more (λ r rate more.
     from_bind (dec_at 4294967295 r.1) _ m more (λ f flags more.
     from_bind (dec_at 4294967295 f.1) _ m more (λ k kind more.
-    from_bind (name_at k.1) _ m more (λ n name more. rw (← some_same _ m more) (name_fit k.1 n name))))))))
+    from_bind (name_at k.1) _ m more (λ n name more.
+    rw (← some_same _ m more) (and_from _ (is_mode_name n.0)
+      (and_from (is_word32 clock.0) _ (word32_fit clock.0 (dec_at_fit 4294967295 bytes clock first))
+      (and_from (are_words16 h.0 h.1 h.2 h.3 h.4) _ (five_fit clock.1 h across)
+      (and_from (are_words16 v.0 v.1 v.2 v.3 v.4) _ (five_fit h.5 v down)
+      (and_from (is_word32 r.0) _ (word32_fit r.0 (dec_at_fit 4294967295 v.5 r rate))
+      (and_from (is_word32 f.0) (is_word32 k.0) (word32_fit f.0 (dec_at_fit 4294967295 r.1 f flags)) (word32_fit k.0 (dec_at_fit 4294967295 f.1 k kind)))))))
+      (name_fit k.1 n name)))))))))
 
 -- Blobs
 

@@ -23,7 +23,7 @@ use Rattle.kms_model.specs.Device.World.{thing_with_id}
 use Rattle.kms_buffers.specs.declared.buffers.MakeError.{MakeError}
 use Rattle.kms_buffers.specs.declared.buffers.MakeError.TheVariants as error
 use Rattle.kms_buffers.specs.Things.{buffer_in, buffers_of}
-use Rattle.kms_things.specs.Index.{AreKept, HasNoWords, Ids, IsIndex, id_labelled, id_under, number_told}
+use Rattle.kms_things.specs.Index.{AreKept, Ids, IsIndex, id_labelled, id_under, number_told}
 use Rattle.kms_model.specs.Frames.Shown.{AreFramed, FramesIn}
 use Rattle.kms_model.proofs.FramedLemmas.{IsSameBut, closed_same, framed_closed, framed_more}
 use Rattle.kms_model.proofs.ThingLemmas.{numbered-closed, numbered-push}
@@ -32,7 +32,7 @@ use Rattle.kms_things.proofs.Numbered.{length_more}
 words_more : (ts : List Thing) (t : Thing) → buffers_of (ts ++ t ∷ []) ≡ buffers_of ts ++ buffers_of (t ∷ [])
 words_more ts t = filter_map-append (λ u. buffer_in u.id u.owner u.content) ts (t ∷ [])
 
-no_words : (t : Thing) → HasNoWords t.content → buffers_of (t ∷ []) ≡ []
+no_words : (t : Thing) → ((id owner : ℕ) → buffer_in id owner t.content ≡ None) → buffers_of (t ∷ []) ≡ []
 no_words t wordless = rw (wordless t.id t.owner) refl
 
 append_none : (bs cs : List (Slot Buffer)) → cs ≡ [] → bs ++ cs ≡ bs
@@ -40,7 +40,7 @@ append_none bs cs e = rw e (append-nil bs)
 
 -- a thing more that is no buffer
 pub kept_made : (ts : List Thing) (next : ℕ) (ids more : Ids) (buffers : List (Slot Buffer)) (t : Thing)
-    → AreKept ts next ids buffers → t.id ≡ next → HasNoWords t.content → FramesIn ts next t.content → IsIndex more (ts ++ t ∷ []) → AreKept (ts ++ t ∷ []) (next + 1) more buffers
+    → AreKept ts next ids buffers → t.id ≡ next → ((id owner : ℕ) → buffer_in id owner t.content ≡ None) → FramesIn ts next t.content → IsIndex more (ts ++ t ∷ []) → AreKept (ts ++ t ∷ []) (next + 1) more buffers
 kept_made ts next ids more buffers t kept is wordless framed indexed = record {
   numbered = numbered-push 1000 ts t kept.numbered (is ∙ kept.next);
   next = length_more next ts t kept.next;

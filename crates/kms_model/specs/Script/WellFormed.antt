@@ -3,6 +3,7 @@ use Rattle.std.specs.Prelude.{◌≡◌, ◌≤◌, ℕ, ◌+◌, ◌-◌, ◌*�
 use Rattle.std.specs.List.{AllByRecursion, IsDistinct, list_all}
 use Rattle.std.specs.Str.{bytes_eq}
 use Rattle.kms_model.specs.declared.objects.Format.{Format}
+use Rattle.kms_model.specs.declared.objects.Mode.{Mode}
 use Rattle.kms_model.specs.declared.objects.PlaneInfo.{PlaneInfo}
 use Rattle.kms_model.specs.declared.scripts.Assign.{Assign}
 use Rattle.kms_model.specs.declared.scripts.Command.{Command}
@@ -73,6 +74,21 @@ abbrev pub is_mode_name : List ℕ → Bool
 is_mode_name name =
     between 1 31 (length (until 0 name)) && (list_all is_name_byte (until 0 name) && bytes_eq name (until 0 name ++ replicate (32 - length (until 0 name)) 0))
 
+-- numbers below 2^16
+abbrev pub is_word16 : ℕ → Bool
+is_word16 n = nat_lt n (2 ^ 16)
+
+abbrev pub are_words16 : ℕ → ℕ → ℕ → ℕ → ℕ → Bool
+are_words16 a b c d e = is_word16 a && (is_word16 b && (is_word16 c && (is_word16 d && is_word16 e)))
+
+-- the numbers of a mode are within their widths. From: `drm_mode.h`, struct drm_mode_modeinfo.
+abbrev pub has_widths : Mode → Bool
+has_widths m =
+    is_word32 m.clock
+    && (are_words16 m.hdisplay m.hsync_start m.hsync_end m.htotal m.hskew
+    && (are_words16 m.vdisplay m.vsync_start m.vsync_end m.vtotal m.vscan
+    && (is_word32 m.vrefresh && (is_word32 m.flags && is_word32 m.kind))))
+
 -- from -9223372036854775808 to 18446744073709551615
 abbrev pub is_integer : ℤ → Bool
 is_integer z = int_le (negsuc 9223372036854775807) z && int_le z (pos 18446744073709551615)
@@ -90,7 +106,7 @@ is_assign_in names a = nat_le a.index 255 && (is_property_in names a.prop && is_
 abbrev pub is_command_in : List (List ℕ) → Command → Bool
 is_command_in names (command.Buffer label width height format pattern) = is_label_in names label && (is_word32 width && (is_word32 height && is_pattern_of format width height pattern))
 is_command_in names (command.AddFb label buffer) = is_label_in names label && is_label_in names buffer
-is_command_in names (command.Mode label m) = is_label_in names label && is_mode_name m.name
+is_command_in names (command.Mode label m) = is_label_in names label && (has_widths m && is_mode_name m.name)
 is_command_in names (command.Blob label bytes) = is_label_in names label && (between 1 2048 (length bytes) && list_all (λ b. nat_lt b 256) bytes)
 is_command_in names (command.Destroy label) = is_label_in names label
 is_command_in names (command.CloseFb label) = is_label_in names label
