@@ -116,76 +116,103 @@ def overlong(size, front, words, last):
 
 def fault(line, why):
     """What the program says of a fault."""
-    return f"kms: line {line}: {why}\n".encode()
+    return f"kms: line {line}: {why}\n"
 
 
-def measured(program, text, wanted, runs):
+def prepared(path, make):
+    """Writes an input into a file, and gives its bytes, lines, made labels and fault. A process of its own makes it, since
+    the memory of this one would count as that of the programs that it starts."""
+    read, write = os.pipe()
+    child = os.fork()
+    if child == 0:
+        text, lines, made, why = make()
+        with open(path, "wb") as source:
+            source.write(text)
+        os.write(write, f"{len(text)} {lines} {made} {why}".encode())
+        os._exit(0)
+    os.close(write)
+    with os.fdopen(read, "rb") as told:
+        size, lines, made, why = told.read().decode().split()
+    if os.waitpid(child, 0)[1] != 0:
+        sys.exit("the input could not be made")
+    return int(size), int(lines), int(made), why
+
+
+def measured(program, path, wanted, runs):
     """The shortest of several runs, in seconds, and the greatest memory of one, in bytes."""
     best, memory = None, 0
-    with tempfile.NamedTemporaryFile() as source:
-        source.write(text)
-        source.flush()
-        for _ in range(runs):
-            with open(source.name, "rb") as stdin, tempfile.TemporaryFile() as told:
-                begin = time.perf_counter()
-                child = subprocess.Popen([program, "one"], stdin=stdin, stdout=subprocess.DEVNULL, stderr=told)
-                _, status, usage = os.wait4(child.pid, 0)
-                taken = time.perf_counter() - begin
-                child.returncode = os.waitstatus_to_exitcode(status)
-                told.seek(0)
-                answer = told.read()
-            if child.returncode != 4 or answer != wanted:
-                sys.exit(f"unexpected answer: {child.returncode} {answer!r}, wanted {wanted!r}")
-            best = taken if best is None else min(best, taken)
-            memory = max(memory, usage.ru_maxrss * 1024)
+    for _ in range(runs):
+        with open(path, "rb") as stdin, tempfile.TemporaryFile() as told:
+            begin = time.perf_counter()
+            child = subprocess.Popen([program, "one"], stdin=stdin, stdout=subprocess.DEVNULL, stderr=told)
+            _, status, usage = os.wait4(child.pid, 0)
+            taken = time.perf_counter() - begin
+            child.returncode = os.waitstatus_to_exitcode(status)
+            told.seek(0)
+            answer = told.read().decode()
+        if child.returncode != 4 or answer != wanted:
+            sys.exit(f"unexpected answer: {child.returncode} {answer!r}, wanted {wanted!r}")
+        best = taken if best is None else min(best, taken)
+        memory = max(memory, usage.ru_maxrss * 1024)
     return best, memory
 
 
-def show(name, program, text, lines, made, wanted, runs):
+def show(name, program, runs, make):
     """Measures one input and prints its row."""
-    taken, memory = measured(program, text, wanted, runs)
+    with tempfile.TemporaryDirectory() as folder:
+        path = os.path.join(folder, "input")
+        size, lines, made, why = prepared(path, make)
+        taken, memory = measured(program, path, fault(lines, why), runs)
     print(
-        f"{name:<34} {len(text):>9} {lines:>7} {made:>8} {taken * 1e3:>9.2f} {taken * 1e6 / (len(text) / 1024):>10.2f}"
-        f" {memory / 2**20:>8.1f} {memory / len(text):>7.2f}"
+        f"{name:<34} {size:>9} {lines:>7} {made:>8} {taken * 1e3:>9.2f} {taken * 1e6 / (size / 1024):>10.2f}"
+        f" {memory / 2**20:>8.1f} {memory / size:>7.2f}",
+        flush=True,
     )
-    return taken, memory
 
 
 def scripts(program, runs):
     """Scripts that grow, and the worst names for an ordered map."""
     for size in SIZES:
-        text, lines, made = script(size)
-        show(f"script of {size // 1024} KiB", program, text, lines, made, fault(lines, "form"), runs)
+        show(f"script of {size // 1024} KiB", program, runs, lambda: (*script(size), "form"))
     sorts = {
-        "long names": ["z" * 27 + digits(i, 5) for i in range(24_000)],
-        "short names": ["z" + digits(i, 3) for i in range(50_000)],
+        "long names": lambda: ["z" * 27 + digits(i, 5) for i in range(24_000)],
+        "short names": lambda: ["z" + digits(i, 3) for i in range(50_000)],
     }
     for sort, names in sorts.items():
         for order in ("rising", "falling", "inward"):
-            text, lines, made = named(ordered(names, order))
-            show(f"{sort}, {order}", program, text, lines, made, fault(lines, "form"), runs)
+            show(f"{sort}, {order}", program, runs, lambda: (*named(ordered(names(), order)), "form"))
 
 
 def long_lines(program, runs):
     """One line that is far too long."""
     line = HEAD.count("\n") + 1
+
+    def made(size):
+        """Labels that are made: multiples of a number that no number of labels divides go over all of them in no order."""
+        return (f" enc0.p=+a{digits(i * 40_000_003 % 37**5, 5)}" for i in range(size // 15))
+
+    def said(size):
+        return (f" enc0.p=@a{digits(i, 5)}" for i in range(size))
+
+    def blanks(size):
+        return (" " for _ in range(size))
+
+    def blob(size):
+        return ("00" for _ in range(size // 2))
+
     for size in (8 * 1024 * 1024, MOST):
-        # Multiples of a number without a divisor of 37 go over all of them in no order.
-        made = [f" enc0.p=+a{digits(i * 40_000_003 % 37**5, 5)}" for i in range(size // 15)]
-        said = (f" enc0.p=@a{digits(i, 5)}" for i in range(size))
-        cases = [
-            ("labels made", overlong(size, "atomic 0x0 0", made, ""), "limit"),
-            ("labels made, one twice", overlong(size, "atomic 0x0 0", made, made[0]), "label"),
-            ("names said", overlong(size, "atomic 0x0 0", said, ""), "limit"),
-            ("a last word of no form", overlong(size, "atomic 0x0 0", made, " x"), "form"),
-            ("blanks", overlong(size, "atomic 0x0 0", (" " for _ in range(size)), ""), "form"),
-            ("a blob", overlong(size, "blob b ", ("00" for _ in range(size // 2)), ""), "form"),
-            ("no line feed", b"a" * size, "cut"),
-        ]
-        for name, text, why in cases:
-            labels = len(made) if why in ("limit", "label") and name.startswith("labels") else 0
-            place = 1 if why == "cut" else line
-            show(f"{size // 2**20} MiB, {name}", program, text, place, labels, fault(place, why), runs)
+        count = (size - len(HEAD) - len("atomic 0x0 0\n")) // 15
+        cases = {
+            "labels made": lambda: (overlong(size, "atomic 0x0 0", made(size), ""), line, count, "limit"),
+            "labels made, one twice": lambda: (overlong(size, "atomic 0x0 0", made(size), " enc0.p=+a00000"), line, count, "label"),
+            "names said": lambda: (overlong(size, "atomic 0x0 0", said(size), ""), line, 0, "limit"),
+            "a last word of no form": lambda: (overlong(size, "atomic 0x0 0", made(size), " x"), line, 0, "form"),
+            "blanks": lambda: (overlong(size, "atomic 0x0 0", blanks(size), ""), line, 0, "form"),
+            "a blob": lambda: (overlong(size, "blob b ", blob(size), ""), line, 0, "form"),
+            "no line feed": lambda: (b"a" * size, 1, 0, "cut"),
+        }
+        for name, make in cases.items():
+            show(f"{size // 2**20} MiB, {name}", program, runs, make)
 
 
 def main():

@@ -76,6 +76,7 @@ plain_digits (d ∷ ds) e = step (d == 48) refl e
     none : (xs : List ℕ) → (length xs == 0) ≡ true → xs ≡ []
     none [] e = refl
     none (x ∷ xs) e = absurd (omega (arith, eqb-true (length (x ∷ xs)) 0 e))
+
     step : (t : Bool) → (d == 48) ≡ t → cond t (length ds == 0) (list_all is_hex (d ∷ ds)) ≡ true → list_all is_hex (d ∷ ds) ≡ true
     step true is e = rw (eqb-true d 48 is, none ds e) refl
     step false is e = e
@@ -267,6 +268,7 @@ blob_fit word bytes e =
   where
     parts : (n : ℕ) → between 2 4096 n ≡ true → (2 ≤ n) × (n ≤ 4096)
     parts n e = let p = and_parts (nat_le 2 n) (nat_le n 4096) e in (leb-true 2 n p.0, leb-true n 4096 p.1)
+
     sides : (n m : ℕ) → between 2 4096 n ≡ true → n ≡ 2 * m → between 1 2048 m ≡ true
     sides n m e same = let p = parts n e in both (nat_le 1 m) (nat_le m 2048) (le_test 1 m (omega (arith, p.0, same))) (le_test m 2048 (omega (arith, p.1, same)))
 

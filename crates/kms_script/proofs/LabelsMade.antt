@@ -50,6 +50,7 @@ made_step false w v n ns after e ih = rw ih (there (bytes_eq w n.word) (bytes_eq
         differ e = cc
     there true false m was other = refl
     there false t m was other = refl
+
     apart : bytes_eq w n.word ≡ true → bytes_eq w v ≡ false
     apart is = let same : w ≡ n.word = (bytes_eq-Decides w n.word).0 is in rw same (nat_list_eq_equiv.symm n.word v ∙ e)
 

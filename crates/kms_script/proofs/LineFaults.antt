@@ -115,8 +115,10 @@ atomic_few names bytes r few e =
   where
     below : (n : ℕ) → nat_lt 258 n ≡ false → n ≤ 258
     below n lt = grind (arith, nat_tests)
+
     within : (n : ℕ) {a b : ℕ} → blanks bytes ≡ 1 + a → a ≡ 1 + b → n ≡ b → n ≤ 256
     within n first second count = omega (arith, below (blanks bytes) few, first, second, count)
+
     test : (n : ℕ) → n ≤ 256 → nat_lt 256 n ≡ false
     test n le = grind (arith, nat_tests)
 

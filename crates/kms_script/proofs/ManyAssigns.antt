@@ -64,6 +64,7 @@ next_label bytes word after l f e = rw (first_word bytes word after f) (step (fi
     inner : (o : Option (List (List ℕ))) → (o >>= (λ ls. Some (label_and l ls))) ≡ option_map (label_and l) o
     inner None = refl
     inner (Some ls) = refl
+
     step : (o : Option (List (List ℕ))) → (option_map (λ ws. word ∷ ws) o >>= labels_of) ≡ option_map (label_and l) (o >>= labels_of)
     step None = refl
     step (Some ws) = rw e (inner (labels_of ws))
@@ -229,6 +230,7 @@ no_labels names bytes flags user d f u e = rw (f, u) (step (field_words user.1) 
   where
     form : Read → Result (Command × Names) Why
     form o = checked o
+
     step : (o : Option (List (List ℕ))) → field_words user.1 ≡ o → (o >>= labels_of) ≡ None
         → checked (o >>= (λ words. assigns_read names words >>= (λ sets. Some (command.Atomic (record { flags = flags.0; user_data = user.0; assigns = sets.0 }), sets.1)))) ≡ Err Form
     step None is e = refl
@@ -263,10 +265,13 @@ many_fault names bytes flags user labels once d many f u e =
   where
     above : (n : ℕ) → nat_lt 258 n ≡ true → 258 < n
     above n lt = grind (arith, nat_tests)
+
     over : (n : ℕ) → blanks bytes ≡ 1 + blanks flags.1 → blanks flags.1 ≡ 1 + blanks user.1 → n ≡ blanks user.1 → 256 < n
     over n first second count = omega (arith, above (blanks bytes) many, first, second, count)
+
     test : (n m : ℕ) → m ≡ n → 256 < n → nat_lt 256 m ≡ true
     test n m same lt = grind (arith, nat_tests)
+
     step : (o : Option (List Assign × Names)) (n : ℕ) → 256 < n → AllAgree o names (made_words names.all) n (Some labels)
         → checked (o >>= (λ sets. Some (command.Atomic (record { flags = flags.0; user_data = user.0; assigns = sets.0 }), sets.1))) ≡ Err (why_of (twice_in (made_words names.all) labels))
     step None n lt h = absurd h

@@ -8,8 +8,8 @@ use Rattle.std.specs.Str.{bytes_eq}
 use Rattle.kms_model.specs.Script.CommandLines.{Name, Names, place, said, made, was_made, making, saying, unmade, words_in}
 use Rattle.std.proofs.lemmas.Bool.Decides.{nat_tests}
 use Rattle.std.proofs.lemmas.List.{length-map}
-use Rattle.kms_script.specs.Named.{AreMade, Held, held, has_number, kept, marked, HasRoomForNames, NamesGrow}
-use Rattle.kms_script.specs.Numbered.{number_in}
+use Rattle.kms_script.specs.Named.{AreMade, HeldNames, held, is_in_numbers, kept, marked, HasRoomForNames, NamesGrow}
+use Rattle.kms_script.specs.Numbered.{place_among}
 use Rattle.kms_script.proofs.WordsNumbered.{differ_front, number_last}
 
 abbrev is : List ℕ → Name → Bool
@@ -37,9 +37,9 @@ some_step true o n p e ih = cc
 some_step false None n p e ih = absurd cc
 some_step false (Some m) n p e ih = let same : m + 1 ≡ n = cc in omega (arith, ih m refl, same)
 
-pub place_found : (f : ℕ → Bool) (w : List ℕ) (k : ℕ) (ws : List (List ℕ)) (n : ℕ) → number_in w ws ≡ Some n → position_or_len (is w) (marked f k ws) ≡ n
+pub place_found : (f : ℕ → Bool) (w : List ℕ) (k : ℕ) (ws : List (List ℕ)) (n : ℕ) → place_among w ws ≡ Some n → position_or_len (is w) (marked f k ws) ≡ n
 place_found f w k [] n e = absurd cc
-place_found f w k (x ∷ ws) n e = some_step (bytes_eq w x) (number_in w ws) n _ e (λ m is. place_found f w (k + 1) ws m is)
+place_found f w k (x ∷ ws) n e = some_step (bytes_eq w x) (place_among w ws) n _ e (λ m is. place_found f w (k + 1) ws m is)
 
 absent_head : (t : Bool) (o : Option ℕ) → cond t (Some 0) (option_map (λ n. n + 1) o) ≡ None → (t ≡ false) × (o ≡ None)
 absent_head true o e = absurd cc
@@ -50,10 +50,10 @@ none_step : (t : Bool) (p len : ℕ) → t ≡ false → p ≡ len → cond (not
 none_step true p len e same = absurd cc
 none_step false p len e same = omega (arith, same)
 
-pub place_new : (f : ℕ → Bool) (w : List ℕ) (k : ℕ) (ws : List (List ℕ)) → number_in w ws ≡ None → position_or_len (is w) (marked f k ws) ≡ length ws
+pub place_new : (f : ℕ → Bool) (w : List ℕ) (k : ℕ) (ws : List (List ℕ)) → place_among w ws ≡ None → position_or_len (is w) (marked f k ws) ≡ length ws
 place_new f w k [] e = refl
 place_new f w k (x ∷ ws) e =
-    let head : (bytes_eq w x ≡ false) × (number_in w ws ≡ None) = absent_head (bytes_eq w x) (number_in w ws) e in
+    let head : (bytes_eq w x ≡ false) × (place_among w ws ≡ None) = absent_head (bytes_eq w x) (place_among w ws) e in
     none_step (bytes_eq w x) _ (length ws) head.0 (place_new f w (k + 1) ws head.1)
 
 -- A name that is said
@@ -63,21 +63,21 @@ there_step true o n x ns after e ih = refl
 there_step false None n x ns after e ih = absurd cc
 there_step false (Some m) n x ns after e ih = rw (ih m refl) refl
 
-pub said_there : (f : ℕ → Bool) (w : List ℕ) (k : ℕ) (ws : List (List ℕ)) (n : ℕ) → number_in w ws ≡ Some n → said w (marked f k ws) ≡ marked f k ws
+pub said_there : (f : ℕ → Bool) (w : List ℕ) (k : ℕ) (ws : List (List ℕ)) (n : ℕ) → place_among w ws ≡ Some n → said w (marked f k ws) ≡ marked f k ws
 said_there f w k [] n e = absurd cc
-said_there f w k (x ∷ ws) n e = there_step (bytes_eq w x) (number_in w ws) n (named x (f k)) (marked f (k + 1) ws) (said w (marked f (k + 1) ws)) e (λ m is. said_there f w (k + 1) ws m is)
+said_there f w k (x ∷ ws) n e = there_step (bytes_eq w x) (place_among w ws) n (named x (f k)) (marked f (k + 1) ws) (said w (marked f (k + 1) ws)) e (λ m is. said_there f w (k + 1) ws m is)
 
 new_step : (t : Bool) (x : Name) (ns after : List Name) → t ≡ false → cond t (x ∷ ns) (x ∷ after) ≡ x ∷ after
 new_step true x ns after e = absurd cc
 new_step false x ns after e = refl
 
-pub said_new : (f : ℕ → Bool) (w : List ℕ) (k : ℕ) (ws : List (List ℕ)) → number_in w ws ≡ None → f (k + length ws) ≡ false → said w (marked f k ws) ≡ marked f k (ws ++ w ∷ [])
+pub said_new : (f : ℕ → Bool) (w : List ℕ) (k : ℕ) (ws : List (List ℕ)) → place_among w ws ≡ None → f (k + length ws) ≡ false → said w (marked f k ws) ≡ marked f k (ws ++ w ∷ [])
 said_new f w k [] e off = let here : f k ≡ false = subst (λ (n : ℕ). f n ≡ false) (nothing_more k) off in rw here refl
   where
     nothing_more : (n : ℕ) → n + 0 ≡ n
     nothing_more n = omega arith
 said_new f w k (x ∷ ws) e off =
-    let head : (bytes_eq w x ≡ false) × (number_in w ws ≡ None) = absent_head (bytes_eq w x) (number_in w ws) e in
+    let head : (bytes_eq w x ≡ false) × (place_among w ws ≡ None) = absent_head (bytes_eq w x) (place_among w ws) e in
     let there : f (k + 1 + length ws) ≡ false = subst (λ (n : ℕ). f n ≡ false) (moved k (length ws)) off in
     new_step (bytes_eq w x) (named x (f k)) (marked f (k + 1) ws) (said w (marked f (k + 1) ws)) head.0 ∙ ap (λ (ns : List Name). named x (f k) ∷ ns) (said_new f w (k + 1) ws head.1 there)
   where
@@ -114,32 +114,32 @@ made_step false (Some m) n k f g x ws after e marks ih =
     let off : g k ≡ f k = marks.others k (λ same. absurd (omega (arith, same, more))) in
     rw (off, ih m refl there) refl
 
-made_at : (f g : ℕ → Bool) (w : List ℕ) (k : ℕ) (ws : List (List ℕ)) (n : ℕ) → number_in w ws ≡ Some n → Marks f g (k + n) → made w (marked f k ws) ≡ marked g k ws
+made_at : (f g : ℕ → Bool) (w : List ℕ) (k : ℕ) (ws : List (List ℕ)) (n : ℕ) → place_among w ws ≡ Some n → Marks f g (k + n) → made w (marked f k ws) ≡ marked g k ws
 made_at f g w k [] n e marks = absurd cc
-made_at f g w k (x ∷ ws) n e marks = made_step (bytes_eq w x) (number_in w ws) n k f g x ws (made w (marked f (k + 1) ws)) e marks (λ m is more. made_at f g w (k + 1) ws m is more)
+made_at f g w k (x ∷ ws) n e marks = made_step (bytes_eq w x) (place_among w ws) n k f g x ws (made w (marked f (k + 1) ws)) e marks (λ m is more. made_at f g w (k + 1) ws m is more)
 
 was_step : (t : Bool) (o : Option ℕ) (n k : ℕ) (f : ℕ → Bool) (after : Bool) → cond t (Some 0) (option_map (λ n. n + 1) o) ≡ Some n → ((m : ℕ) → o ≡ Some m → after ≡ f (k + 1 + m)) → cond t (f k) after ≡ f (k + n)
 was_step true o n k f after e ih = let none : 0 ≡ n = cc in ap f (omega (arith, none))
 was_step false None n k f after e ih = absurd cc
 was_step false (Some m) n k f after e ih = let more : m + 1 ≡ n = cc in ih m refl ∙ ap f (omega (arith, more))
 
-was_at : (f : ℕ → Bool) (w : List ℕ) (k : ℕ) (ws : List (List ℕ)) (n : ℕ) → number_in w ws ≡ Some n → was_made w (marked f k ws) ≡ f (k + n)
+was_at : (f : ℕ → Bool) (w : List ℕ) (k : ℕ) (ws : List (List ℕ)) (n : ℕ) → place_among w ws ≡ Some n → was_made w (marked f k ws) ≡ f (k + n)
 was_at f w k [] n e = absurd cc
-was_at f w k (x ∷ ws) n e = was_step (bytes_eq w x) (number_in w ws) n k f (was_made w (marked f (k + 1) ws)) e (λ m is. was_at f w (k + 1) ws m is)
+was_at f w k (x ∷ ws) n e = was_step (bytes_eq w x) (place_among w ws) n k f (was_made w (marked f (k + 1) ws)) e (λ m is. was_at f w (k + 1) ws m is)
 
-found_step : (t : Bool) (n : Name) (ns after : List Name) (p : ℕ) (o : Option ℕ) (w : List ℕ) → bytes_eq w n.word ≡ t → o ≡ Some p → number_in w (map (λ n. n.word) after) ≡ o
-    → number_in w (map (λ n. n.word) (cond t (n ∷ ns) (n ∷ after))) ≡ Some (cond (not t) (1 + p) 0)
+found_step : (t : Bool) (n : Name) (ns after : List Name) (p : ℕ) (o : Option ℕ) (w : List ℕ) → bytes_eq w n.word ≡ t → o ≡ Some p → place_among w (map (λ n. n.word) after) ≡ o
+    → place_among w (map (λ n. n.word) (cond t (n ∷ ns) (n ∷ after))) ≡ Some (cond (not t) (1 + p) 0)
 found_step true n ns after p o w e there is = rw e refl
 found_step false n ns after p o w e there is = rw (e, is, there) (ap Some (one_more p))
   where
     one_more : (n : ℕ) → n + 1 ≡ 1 + n
     one_more n = omega arith
 
-alone : (w : List ℕ) → number_in w (w ∷ []) ≡ Some 0
+alone : (w : List ℕ) → place_among w (w ∷ []) ≡ Some 0
 alone w = rw (nat_list_eq_equiv.refl w) refl
 
 -- a name that was said is found at its place
-said_found : (w : List ℕ) (ns : List Name) → number_in w (map (λ n. n.word) (said w ns)) ≡ Some (position_or_len (is w) ns)
+said_found : (w : List ℕ) (ns : List Name) → place_among w (map (λ n. n.word) (said w ns)) ≡ Some (position_or_len (is w) ns)
 said_found w [] = alone w
 said_found w (n ∷ ns) = found_step (is w n) n ns (said w ns) (position_or_len (is w) ns) _ w refl (said_found w ns) refl
 
@@ -164,53 +164,55 @@ was_again w (n ∷ ns) = was_again_step (is w n) w n ns refl (was_again w ns)
 -- Names
 
 abbrev pub names_of : List (List ℕ) → List ℕ → ℕ → Bool → Names
-names_of ws numbers count twice = record { all = marked (has_number numbers) 0 ws; made = count; is_twice = twice }
+names_of ws numbers count twice = record { all = marked (is_in_numbers numbers) 0 ws; made = count; is_twice = twice }
 
 -- a name that is there
-pub saying_there : (w : List ℕ) (ws : List (List ℕ)) (numbers : List ℕ) (count : ℕ) (twice : Bool) (n : ℕ) → number_in w ws ≡ Some n → names_of ws numbers count twice ≡ saying w (names_of ws numbers count twice)
+pub saying_there : (w : List ℕ) (ws : List (List ℕ)) (numbers : List ℕ) (count : ℕ) (twice : Bool) (n : ℕ) → place_among w ws ≡ Some n → names_of ws numbers count twice ≡ saying w (names_of ws numbers count twice)
 unfolding saying
-saying_there w ws numbers count twice n e = rw (said_there (has_number numbers) w 0 ws n e) refl
+saying_there w ws numbers count twice n e = rw (said_there (is_in_numbers numbers) w 0 ws n e) refl
 
 -- a name that is not
-pub saying_new : (w : List ℕ) (ws : List (List ℕ)) (numbers : List ℕ) (count : ℕ) (twice : Bool) → number_in w ws ≡ None → ((n : ℕ) → has_number numbers n ≡ true → n < length ws) → names_of (ws ++ w ∷ []) numbers count twice ≡ saying w (names_of ws numbers count twice)
+pub saying_new : (w : List ℕ) (ws : List (List ℕ)) (numbers : List ℕ) (count : ℕ) (twice : Bool) → place_among w ws ≡ None → ((n : ℕ) → is_in_numbers numbers n ≡ true → n < length ws) → names_of (ws ++ w ∷ []) numbers count twice ≡ saying w (names_of ws numbers count twice)
 unfolding saying
-saying_new w ws numbers count twice e below = rw (said_new (has_number numbers) w 0 ws e (past (has_number numbers (0 + length ws)) (length ws) refl below)) refl
+saying_new w ws numbers count twice e below = rw (said_new (is_in_numbers numbers) w 0 ws e (past (is_in_numbers numbers (0 + length ws)) (length ws) refl below)) refl
   where
-    past : (b : Bool) (len : ℕ) → has_number numbers (0 + len) ≡ b → ((n : ℕ) → has_number numbers n ≡ true → n < len) → has_number numbers (0 + len) ≡ false
+    past : (b : Bool) (len : ℕ) → is_in_numbers numbers (0 + len) ≡ b → ((n : ℕ) → is_in_numbers numbers n ≡ true → n < len) → is_in_numbers numbers (0 + len) ≡ false
     past true len e below = absurd (omega (arith, below (0 + len) e))
     past false len e below = e
 
 -- a label that is made, once its name is said
 pub making_said : (w : List ℕ) (old : Names) (ws : List (List ℕ)) (numbers after : List ℕ) (count : ℕ) (twice new : Bool) → names_of ws numbers count twice ≡ saying w old
-    → new ≡ not (has_number numbers (place w old)) → ((m : ℕ) → has_number after m ≡ cond (is_eq (nat_cmp (place w old) m)) true (has_number numbers m))
+    → new ≡ not (is_in_numbers numbers (place w old)) → ((m : ℕ) → is_in_numbers after m ≡ cond (is_eq (nat_cmp (place w old) m)) true (is_in_numbers numbers m))
     → names_of ws after (count + 1) (twice || not new) ≡ making w old
 unfolding saying making
 making_said w old ws numbers after count twice new said_is new_is after_is =
-    let all : marked (has_number numbers) 0 ws ≡ said w old.all = ap (λ (n : Names). n.all) said_is in
-    let words : ws ≡ map (λ (n : Name). n.word) (said w old.all) = sym (marked_words (has_number numbers) 0 ws) ∙ ap (λ (ns : List Name). map (λ (n : Name). n.word) ns) all in
-    let found : number_in w ws ≡ Some (place w old) = rw words (said_found w old.all) in
-    let now : made w old.all ≡ marked (has_number after) 0 ws = sym (made_again w old.all) ∙ (ap (made w) (sym all) ∙ made_at (has_number numbers) (has_number after) w 0 ws (place w old) found (marks_of (place w old) after_is)) in
-    let was : was_made w old.all ≡ has_number numbers (place w old) = sym (was_again w old.all) ∙ (ap (was_made w) (sym all) ∙ (was_at (has_number numbers) w 0 ws (place w old) found ∙ ap (has_number numbers) (from_none (place w old)))) in
+    let all : marked (is_in_numbers numbers) 0 ws ≡ said w old.all = ap (λ (n : Names). n.all) said_is in
+    let words : ws ≡ map (λ (n : Name). n.word) (said w old.all) = sym (marked_words (is_in_numbers numbers) 0 ws) ∙ ap (λ (ns : List Name). map (λ (n : Name). n.word) ns) all in
+    let found : place_among w ws ≡ Some (place w old) = rw words (said_found w old.all) in
+    let now : made w old.all ≡ marked (is_in_numbers after) 0 ws = sym (made_again w old.all) ∙ (ap (made w) (sym all) ∙ made_at (is_in_numbers numbers) (is_in_numbers after) w 0 ws (place w old) found (marks_of (place w old) after_is)) in
+    let was : was_made w old.all ≡ is_in_numbers numbers (place w old) = sym (was_again w old.all) ∙ (ap (was_made w) (sym all) ∙ (was_at (is_in_numbers numbers) w 0 ws (place w old) found ∙ ap (is_in_numbers numbers) (from_none (place w old)))) in
     let counts : count ≡ old.made = ap (λ (n : Names). n.made) said_is in
     let twices : twice ≡ old.is_twice = ap (λ (n : Names). n.is_twice) said_is in
-    rw (now, was, counts, twices, new_is, not_not (has_number numbers (place w old))) refl
+    rw (now, was, counts, twices, new_is, not_not (is_in_numbers numbers (place w old))) refl
   where
-    marks_of : (n : ℕ) → ((m : ℕ) → has_number after m ≡ cond (is_eq (nat_cmp n m)) true (has_number numbers m)) → Marks (has_number numbers) (has_number after) (0 + n)
+    marks_of : (n : ℕ) → ((m : ℕ) → is_in_numbers after m ≡ cond (is_eq (nat_cmp n m)) true (is_in_numbers numbers m)) → Marks (is_in_numbers numbers) (is_in_numbers after) (0 + n)
     marks_of n e =
-        let marks : Marks (has_number numbers) (has_number after) n = record { here = e n ∙ rw (same_number n) refl; others = λ m apart. e m ∙ rw (other_number n m apart) refl } in
+        let marks : Marks (is_in_numbers numbers) (is_in_numbers after) n = record { here = e n ∙ rw (same_number n) refl; others = λ m apart. e m ∙ rw (other_number n m apart) refl } in
         let at : n ≡ 0 + n = omega arith in
-        subst (λ (i : ℕ). Marks (has_number numbers) (has_number after) i) at marks
+        subst (λ (i : ℕ). Marks (is_in_numbers numbers) (is_in_numbers after) i) at marks
+
     from_none : (n : ℕ) → 0 + n ≡ n
     from_none n = omega arith
+
     not_not : (b : Bool) → not (not b) ≡ b
     not_not true = refl
     not_not false = refl
 
 -- a name that was said has its place as its number
-pub found_said : (w : List ℕ) (old : Names) (ws : List (List ℕ)) (numbers : List ℕ) (count : ℕ) (twice : Bool) → names_of ws numbers count twice ≡ saying w old → number_in w ws ≡ Some (place w old)
+pub found_said : (w : List ℕ) (old : Names) (ws : List (List ℕ)) (numbers : List ℕ) (count : ℕ) (twice : Bool) → names_of ws numbers count twice ≡ saying w old → place_among w ws ≡ Some (place w old)
 unfolding saying
 found_said w old ws numbers count twice said_is =
-    let words : ws ≡ map (λ (n : Name). n.word) (said w old.all) = sym (marked_words (has_number numbers) 0 ws) ∙ ap (λ (n : Names). words_in n) said_is in
+    let words : ws ≡ map (λ (n : Name). n.word) (said w old.all) = sym (marked_words (is_in_numbers numbers) 0 ws) ∙ ap (λ (n : Names). words_in n) said_is in
     rw words (said_found w old.all)
 
 below_step : (t : Bool) (o : Option ℕ) (n len : ℕ) → cond t (Some 0) (option_map (λ n. n + 1) o) ≡ Some n → ((m : ℕ) → o ≡ Some m → m < len) → n < suc len
@@ -218,19 +220,19 @@ below_step true o n len e ih = let none : 0 ≡ n = cc in omega (arith, none)
 below_step false None n len e ih = absurd cc
 below_step false (Some m) n len e ih = let more : m + 1 ≡ n = cc in omega (arith, more, ih m refl)
 
-pub number_below : (w : List ℕ) (ws : List (List ℕ)) (n : ℕ) → number_in w ws ≡ Some n → n < length ws
+pub number_below : (w : List ℕ) (ws : List (List ℕ)) (n : ℕ) → place_among w ws ≡ Some n → n < length ws
 number_below w [] n e = absurd cc
-number_below w (x ∷ ws) n e = below_step (bytes_eq w x) (number_in w ws) n (length ws) e (λ m is. number_below w ws m is)
+number_below w (x ∷ ws) n e = below_step (bytes_eq w x) (place_among w ws) n (length ws) e (λ m is. number_below w ws m is)
 
 equal_numbers : (n m : ℕ) → is_eq (nat_cmp n m) ≡ true → m ≡ n
 equal_numbers n m e = grind (arith, nat_tests)
 
 -- numbers after one more, all of them those of words
-pub made_below : (ws : List (List ℕ)) (n : ℕ) (numbers after : List ℕ) → n < length ws → ((m : ℕ) → has_number numbers m ≡ true → m < length ws)
-    → ((m : ℕ) → has_number after m ≡ cond (is_eq (nat_cmp n m)) true (has_number numbers m)) → (m : ℕ) → has_number after m ≡ true → m < length ws
+pub made_below : (ws : List (List ℕ)) (n : ℕ) (numbers after : List ℕ) → n < length ws → ((m : ℕ) → is_in_numbers numbers m ≡ true → m < length ws)
+    → ((m : ℕ) → is_in_numbers after m ≡ cond (is_eq (nat_cmp n m)) true (is_in_numbers numbers m)) → (m : ℕ) → is_in_numbers after m ≡ true → m < length ws
 made_below ws n numbers after at below is m e = step (is_eq (nat_cmp n m)) refl (sym (is m) ∙ e)
   where
-    step : (t : Bool) → is_eq (nat_cmp n m) ≡ t → cond t true (has_number numbers m) ≡ true → m < length ws
+    step : (t : Bool) → is_eq (nat_cmp n m) ≡ t → cond t true (is_in_numbers numbers m) ≡ true → m < length ws
     step true eq e = let same : m ≡ n = equal_numbers n m eq in omega (arith, same, at)
     step false eq e = below m e
 
@@ -262,7 +264,7 @@ making_grows w names = record { all = made_length w names.all; made = omega arit
 
 -- Names that stay
 
-none_marked : (k : ℕ) (ws : List (List ℕ)) → marked (has_number []) k ws ≡ map (λ w. record { word = w; is_made = false }) ws
+none_marked : (k : ℕ) (ws : List (List ℕ)) → marked (is_in_numbers []) k ws ≡ map (λ w. record { word = w; is_made = false }) ws
 none_marked k [] = refl
 none_marked k (w ∷ ws) = ap (λ (ns : List Name). named w false ∷ ns) (none_marked (k + 1) ws)
 

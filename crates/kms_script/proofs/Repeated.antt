@@ -14,7 +14,7 @@ use Rattle.std.proofs.lemmas.List.Sorted.{IsPermutation-sym}
 use Rattle.std.proofs.lemmas.Map.Keys.{IsDistinct-IsPermutation}
 use Rattle.std.proofs.lemmas.Slice.Eq.{bytes_eq-Decides}
 use Rattle.kms_model.specs.Script.Words.{between, is_digit, is_label, is_label_rest, is_letter}
-use Rattle.kms_script.specs.Overlong.{begins_with, packed, packed_all, packed_alone, rising}
+use Rattle.kms_script.specs.Overlong.{begins_with, packed, packed_all, packed_alone, are_rising}
 use Rattle.kms_script.proofs.LabelsMade.{twice_in}
 
 -- Numbers in order
@@ -50,10 +50,10 @@ rise_step : (t : Bool) (rest : Bool) → cond t false rest ≡ true → (t ≡ f
 rise_step true rest e = absurd cc
 rise_step false rest e = (refl, e)
 
-rising_above : (n : ℕ) (ns : List ℕ) → SortedList (n ∷ ns) → rising (n ∷ ns) ≡ true → Above n ns
+rising_above : (n : ℕ) (ns : List ℕ) → SortedList (n ∷ ns) → are_rising (n ∷ ns) ≡ true → Above n ns
 rising_above n [] s e = tt
 rising_above n (m ∷ ns) s e =
-    let head : ((n == m) ≡ false) × (rising (m ∷ ns) ≡ true) = rise_step (n == m) (rising (m ∷ ns)) e in
+    let head : ((n == m) ≡ false) × (are_rising (m ∷ ns) ≡ true) = rise_step (n == m) (are_rising (m ∷ ns)) e in
     let le : n ≤ m = sorted_head n m ns s in
     let lt : n < m = less n m le head.0 in
     (lt, above_less n m ns le (rising_above m ns (sorted_tail n (m ∷ ns) s) head.1))
@@ -61,24 +61,25 @@ rising_above n (m ∷ ns) s e =
     less : (n m : ℕ) → n ≤ m → (n == m) ≡ false → n < m
     less n m le apart = grind (arith, nat_tests)
 
-rising_differ : (ns : List ℕ) → SortedList ns → rising ns ≡ true → IsDistinct nat_eq ns
+rising_differ : (ns : List ℕ) → SortedList ns → are_rising ns ≡ true → IsDistinct nat_eq ns
 unfolding IsDistinct
 rising_differ [] s e = tt
 rising_differ (n ∷ ns) s e =
-    let head : (begins_with n ns ≡ false) × (rising ns ≡ true) = rise_step (begins_with n ns) (rising ns) e in
+    let head : (begins_with n ns ≡ false) × (are_rising ns ≡ true) = rise_step (begins_with n ns) (are_rising ns) e in
     (apart_above n ns (rising_above n ns s e), rising_differ ns (sorted_tail n ns s) head.1)
 
-differ_rising : (ns : List ℕ) → IsDistinct nat_eq ns → rising ns ≡ true
+differ_rising : (ns : List ℕ) → IsDistinct nat_eq ns → are_rising ns ≡ true
 unfolding IsDistinct
 differ_rising [] d = refl
 differ_rising (n ∷ []) d = refl
 differ_rising (n ∷ m ∷ ns) d = rw (d.0.0, differ_rising (m ∷ ns) d.1) refl
 
 -- numbers differ exactly where, in order, each differs from the next
-pub rising_decides : (ns sorted : List ℕ) → IsPermutation ns sorted → SortedList sorted → Decides (rising sorted) (IsDistinct nat_eq ns)
-rising_decides ns sorted moved s =
-    (λ e. IsDistinct-IsPermutation nat_eq symmetric sorted ns (IsPermutation-sym ns sorted moved) (rising_differ sorted s e),
-    λ d. differ_rising sorted (IsDistinct-IsPermutation nat_eq symmetric ns sorted moved d))
+pub rising_decides : (ns sorted : List ℕ) → IsPermutation ns sorted → SortedList sorted → Decides (are_rising sorted) (IsDistinct nat_eq ns)
+rising_decides ns sorted moved s = (
+  λ e. IsDistinct-IsPermutation nat_eq symmetric sorted ns (IsPermutation-sym ns sorted moved) (rising_differ sorted s e),
+  λ d. differ_rising sorted (IsDistinct-IsPermutation nat_eq symmetric ns sorted moved d),
+)
   where
     symmetric : (x y : ℕ) → nat_eq x y ≡ nat_eq y x
     symmetric x y = nat_eq_equiv.symm x y
@@ -233,7 +234,7 @@ once_step true seen label labels e d is ih = clash label seen (packed_all labels
 once_step false seen label labels e d is ih =
     let alone : packed_alone label ≡ packed label ∷ [] = rw is refl in
     let whole : packed_all (seen ++ label ∷ []) ++ packed_all labels ≡ packed_all seen ++ (packed label ∷ packed_all labels) =
-        ap (λ (ns : List ℕ). ns ++ packed_all labels) (numbers_append seen (label ∷ []) ∙ ap (λ (ns : List ℕ). packed_all seen ++ (ns ++ [])) alone) ∙ append_assoc (packed_all seen) (packed label ∷ []) (packed_all labels) in
+    ap (λ (ns : List ℕ). ns ++ packed_all labels) (numbers_append seen (label ∷ []) ∙ ap (λ (ns : List ℕ). packed_all seen ++ (ns ++ [])) alone) ∙ append_assoc (packed_all seen) (packed label ∷ []) (packed_all labels) in
     subst (λ (ns : List ℕ). OnceOrTwice (twice_in (seen ++ label ∷ []) labels) ns) whole (ih (distinct_last label seen e d))
 
 pub once_or_twice : (labels seen : List (List ℕ)) → IsDistinct bytes_eq seen → AllByRecursion (λ l. is_label l ≡ true) labels → OnceOrTwice (twice_in seen labels) (packed_all seen ++ packed_all labels)

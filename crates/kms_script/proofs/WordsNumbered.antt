@@ -13,7 +13,7 @@ use Rattle.std.specs.declared.alloc.Global.{Global}
 use Rattle.std.specs.declared.vec.Vec.{Vec}
 use Rattle.std.proofs.lemmas.Map.Text.{is_eq-slice_cmp}
 use Rattle.std.proofs.lemmas.Slice.Eq.{bytes_eq-Decides}
-use Rattle.kms_script.specs.Numbered.{AreNumbered, has_bytes, number_in}
+use Rattle.kms_script.specs.Numbered.{AreFound, has_bytes, place_among}
 
 abbrev Key : Type 0
 Key = Vec ℕ Global
@@ -38,7 +38,7 @@ found_after bs m n w h cs =
 
 -- A word behind the others
 
-last_alone : (w v : List ℕ) → number_in v (w ∷ []) ≡ cond (bytes_eq w v) (Some 0) None
+last_alone : (w v : List ℕ) → place_among v (w ∷ []) ≡ cond (bytes_eq w v) (Some 0) None
 last_alone w v = rw (nat_list_eq_equiv.symm v w) refl
 
 absent_head : (t : Bool) (o : Option ℕ) → cond t (Some 0) (option_map (λ n. n + 1) o) ≡ None → (t ≡ false) × (o ≡ None)
@@ -57,12 +57,12 @@ last_step false true count o after apart e = refl
 last_step false false count o after apart e = rw e refl
 
 -- what is found where a new word is put behind the others
-pub number_last : (ws : List (List ℕ)) (w v : List ℕ) → number_in w ws ≡ None → number_in v (ws ++ w ∷ []) ≡ cond (bytes_eq w v) (Some (length ws)) (number_in v ws)
+pub number_last : (ws : List (List ℕ)) (w v : List ℕ) → place_among w ws ≡ None → place_among v (ws ++ w ∷ []) ≡ cond (bytes_eq w v) (Some (length ws)) (place_among v ws)
 number_last [] w v none = last_alone w v
 number_last (x ∷ ws) w v none =
-    let head : (bytes_eq w x ≡ false) × (number_in w ws ≡ None) = absent_head (bytes_eq w x) (number_in w ws) none in
+    let head : (bytes_eq w x ≡ false) × (place_among w ws ≡ None) = absent_head (bytes_eq w x) (place_among w ws) none in
     let apart : bytes_eq w v ≡ true → bytes_eq v x ≡ false = λ e. subst (λ (u : List ℕ). bytes_eq u x ≡ false) ((bytes_eq-Decides w v).0 e) head.0 in
-    rw (add_one (length ws)) (last_step (bytes_eq w v) (bytes_eq v x) (length ws) (number_in v ws) (number_in v (ws ++ w ∷ [])) apart (number_last ws w v head.1))
+    rw (add_one (length ws)) (last_step (bytes_eq w v) (bytes_eq v x) (length ws) (place_among v ws) (place_among v (ws ++ w ∷ [])) apart (number_last ws w v head.1))
   where
     add_one : (n : ℕ) → suc n ≡ n + 1
     add_one n = omega arith
@@ -71,11 +71,11 @@ all_but : (v w : List ℕ) (ws : List (List ℕ)) → AllByRecursion (λ y. byte
 all_but v w [] all e = (e, tt)
 all_but v w (x ∷ ws) all e = (all.0, all_but v w ws all.1 e)
 
-pub differ_last : (ws : List (List ℕ)) (w : List ℕ) → IsDistinct bytes_eq ws → number_in w ws ≡ None → IsDistinct bytes_eq (ws ++ w ∷ [])
+pub differ_last : (ws : List (List ℕ)) (w : List ℕ) → IsDistinct bytes_eq ws → place_among w ws ≡ None → IsDistinct bytes_eq (ws ++ w ∷ [])
 unfolding IsDistinct
 differ_last [] w d none = (tt, tt)
 differ_last (x ∷ ws) w d none =
-    let head : (bytes_eq w x ≡ false) × (number_in w ws ≡ None) = absent_head (bytes_eq w x) (number_in w ws) none in
+    let head : (bytes_eq w x ≡ false) × (place_among w ws ≡ None) = absent_head (bytes_eq w x) (place_among w ws) none in
     (all_but x w ws d.0 (nat_list_eq_equiv.symm x w ∙ head.0), differ_last ws w d.1 head.1)
 
 front_but : (v w : List ℕ) (ws : List (List ℕ)) → AllByRecursion (λ y. bytes_eq v y ≡ false) (ws ++ w ∷ []) → AllByRecursion (λ y. bytes_eq v y ≡ false) ws × (bytes_eq v w ≡ false)
@@ -83,19 +83,19 @@ front_but v w [] all = (tt, all.0)
 front_but v w (x ∷ ws) all = ((all.0, (front_but v w ws all.1).0), (front_but v w ws all.1).1)
 
 -- of words that differ the last is not among those before it
-pub differ_front : (ws : List (List ℕ)) (w : List ℕ) → IsDistinct bytes_eq (ws ++ w ∷ []) → IsDistinct bytes_eq ws × (number_in w ws ≡ None)
+pub differ_front : (ws : List (List ℕ)) (w : List ℕ) → IsDistinct bytes_eq (ws ++ w ∷ []) → IsDistinct bytes_eq ws × (place_among w ws ≡ None)
 unfolding IsDistinct
 differ_front [] w d = (tt, refl)
 differ_front (x ∷ ws) w d =
     let f : AllByRecursion (λ y. bytes_eq x y ≡ false) ws × (bytes_eq x w ≡ false) = front_but x w ws d.0 in
-    let more : IsDistinct bytes_eq ws × (number_in w ws ≡ None) = differ_front ws w d.1 in
+    let more : IsDistinct bytes_eq ws × (place_among w ws ≡ None) = differ_front ws w d.1 in
     ((f.0, more.0), rw (nat_list_eq_equiv.symm w x ∙ f.1, more.1) refl)
 
 -- Changes of the map
 
 -- a new word put behind the others
-pub numbered_last : (ws : List (List ℕ)) (key : Key) (word : List ℕ) (m n : BTreeMap Key ℕ) → AreNumbered ws m.entries → key.items ≡ word → number_in word ws ≡ None
-    → tree.UpdatesBy (λ x y. slice_cmp nat_cmp x.items y.items) (λ k. slice_cmp nat_cmp key.items k.items) m n (Some (length ws)) → AreNumbered (ws ++ word ∷ []) n.entries
+pub numbered_last : (ws : List (List ℕ)) (key : Key) (word : List ℕ) (m n : BTreeMap Key ℕ) → AreFound ws m.entries → key.items ≡ word → place_among word ws ≡ None
+    → tree.UpdatesBy (λ x y. slice_cmp nat_cmp x.items y.items) (λ k. slice_cmp nat_cmp key.items k.items) m n (Some (length ws)) → AreFound (ws ++ word ∷ []) n.entries
 numbered_last ws key word m n is same none h = record {
   differ = differ_last ws word is.differ none;
   found = λ v. found_after key.items m n (Some (length ws)) h v ∙ rw (same, is.found v) (sym (number_last ws word v none));
@@ -106,18 +106,18 @@ taken_back true count o none = sym (none refl)
 taken_back false count o none = refl
 
 -- the last word taken away
-pub numbered_front : (ws : List (List ℕ)) (word : List ℕ) (m n : BTreeMap Key ℕ) → AreNumbered (ws ++ word ∷ []) m.entries
-    → tree.UpdatesBy (λ x y. slice_cmp nat_cmp x.items y.items) (λ k. slice_cmp nat_cmp word k.items) m n None → AreNumbered ws n.entries
+pub numbered_front : (ws : List (List ℕ)) (word : List ℕ) (m n : BTreeMap Key ℕ) → AreFound (ws ++ word ∷ []) m.entries
+    → tree.UpdatesBy (λ x y. slice_cmp nat_cmp x.items y.items) (λ k. slice_cmp nat_cmp word k.items) m n None → AreFound ws n.entries
 numbered_front ws word m n is h =
-    let front : IsDistinct bytes_eq ws × (number_in word ws ≡ None) = differ_front ws word is.differ in
+    let front : IsDistinct bytes_eq ws × (place_among word ws ≡ None) = differ_front ws word is.differ in
     record {
       differ = front.0;
       found = λ v.
-          let gone : bytes_eq word v ≡ true → number_in v ws ≡ None = λ e. subst (λ (u : List ℕ). number_in u ws ≡ None) ((bytes_eq-Decides word v).0 e) front.1 in
-          found_after word m n None h v ∙ rw (is.found v, number_last ws word v front.1) (taken_back (bytes_eq word v) (length ws) (number_in v ws) gone);
+          let gone : bytes_eq word v ≡ true → place_among v ws ≡ None = λ e. subst (λ (u : List ℕ). place_among u ws ≡ None) ((bytes_eq-Decides word v).0 e) front.1 in
+          found_after word m n None h v ∙ rw (is.found v, number_last ws word v front.1) (taken_back (bytes_eq word v) (length ws) (place_among v ws) gone);
     }
 
 -- no words
-pub none_numbered : AreNumbered [] []
+pub none_numbered : AreFound [] []
 unfolding IsDistinct
 none_numbered = record { differ = tt; found = λ w. refl }

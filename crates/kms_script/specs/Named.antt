@@ -8,13 +8,13 @@ use Rattle.kms_model.specs.Script.Grammar.{field_words}
 use Rattle.kms_model.specs.Script.Words.{◌>>=◌}
 
 -- the names so far, and the words of those that were there before
-pub record Held : Type 0 where
+pub record HeldNames : Type 0 where
   pub names : Names
   pub before : List (List ℕ)
 
 -- whether a number is among numbers
-abbrev pub has_number : List ℕ → ℕ → Bool
-has_number numbers n = list_any (λ m. is_eq (nat_cmp n m)) numbers
+abbrev pub is_in_numbers : List ℕ → ℕ → Bool
+is_in_numbers numbers n = list_any (λ m. is_eq (nat_cmp n m)) numbers
 
 -- words from a number on, as names of which those with some numbers are made
 abbrev pub marked : (ℕ → Bool) → ℕ → List (List ℕ) → List Name
@@ -23,16 +23,16 @@ marked is_made n (w ∷ ws) = record { word = w; is_made = is_made n } ∷ marke
 
 -- words with their numbers, how many of them were there before, the numbers of labels that are made, how often one was
 -- made, and whether one was made twice
-abbrev pub held : List (List ℕ) → ℕ → List ℕ → ℕ → Bool → Held
-held words earlier numbers count twice = record { names = record { all = marked (has_number numbers) 0 words; made = count; is_twice = twice }; before = take earlier words }
+abbrev pub held : List (List ℕ) → ℕ → List ℕ → ℕ → Bool → HeldNames
+held words earlier numbers count twice = record { names = record { all = marked (is_in_numbers numbers) 0 words; made = count; is_twice = twice }; before = take earlier words }
 
 -- the numbers are those of words, and so many were there before
 pub record AreMade (words : List (List ℕ)) (count : ℕ) (numbers : List ℕ) : Type 0 where
-  pub below : (n : ℕ) → has_number numbers n ≡ true → n < length words
+  pub below : (n : ℕ) → is_in_numbers numbers n ≡ true → n < length words
   pub before : count ≤ length words
 
 -- words that were all there before, of which no line makes one
-abbrev pub kept : List (List ℕ) → Held
+abbrev pub kept : List (List ℕ) → HeldNames
 kept words = record { names = unmade words; before = words }
 
 -- So many names more have numbers below 2^32.

@@ -9,15 +9,15 @@ use Rattle.std.specs.declared.alloc.Global.{Global}
 use Rattle.std.specs.declared.vec.Vec.{Vec}
 
 -- a word's place among words, where it is one of them
-abbrev pub number_in : List ℕ → List (List ℕ) → Option ℕ
-number_in word [] = None
-number_in word (w ∷ ws) = if bytes_eq word w then Some 0 else option_map (λ n. n + 1) (number_in word ws)
+abbrev pub place_among : List ℕ → List (List ℕ) → Option ℕ
+place_among word [] = None
+place_among word (w ∷ ws) = if bytes_eq word w then Some 0 else option_map (λ n. n + 1) (place_among word ws)
 
 -- whether a key of the map has a word's bytes
 abbrev pub has_bytes : List ℕ → Vec ℕ Global → Bool
 has_bytes word key = is_eq (slice_cmp nat_cmp word key.items)
 
 -- the words differ, and the map finds each word's place among them
-pub record AreNumbered (words : List (List ℕ)) (entries : List (Vec ℕ Global × ℕ)) : Type 0 where
+pub record AreFound (words : List (List ℕ)) (entries : List (Vec ℕ Global × ℕ)) : Type 0 where
   pub differ : IsDistinct bytes_eq words
-  pub found : (word : List ℕ) → lookup (has_bytes word) entries ≡ number_in word words
+  pub found : (word : List ℕ) → lookup (has_bytes word) entries ≡ place_among word words

@@ -83,6 +83,6 @@ begins_with n [] = false
 begins_with n (m ∷ ms) = n == m
 
 -- each number differs from the next
-abbrev pub rising : List ℕ → Bool
-rising [] = true
-rising (n ∷ ns) = if begins_with n ns then false else rising ns
+abbrev pub are_rising : List ℕ → Bool
+are_rising [] = true
+are_rising (n ∷ ns) = if begins_with n ns then false else are_rising ns

@@ -28,7 +28,8 @@ fn label_alone(bytes: &[u8]) -> Option<&[u8]>
 #[tactic(auto, unfolding(kms_model::specs::Script::CommandLines::buffer_read))]
 fn read_buffer(names: &mut Names, alloc: Global, bytes: &[u8]) -> Result<Option<Command>, NoMemory>
     requires { HasRoomForNames names.old.names 1 }
-    ensures value { IfOk result (λ o. option_map (λ c. (c, names.new.names)) o ≡ buffer_read names.old.names bytes.now) }
+    ensures value { IfOk result (λ o. option_map (λ c. (c, names.new.names)) o
+        ≡ buffer_read names.old.names bytes.now) }
     ensures grows { OnOk result (NamesGrow names.old.names names.new.names 1) }
     ensures before { names.new.before ≡ names.old.before }
     ensures filled { IfOk result (λ o. IfSome o HasFilled) }
@@ -62,7 +63,8 @@ fn read_buffer(names: &mut Names, alloc: Global, bytes: &[u8]) -> Result<Option<
 #[tactic(auto, unfolding(kms_model::specs::Script::CommandLines::addfb_read))]
 fn read_addfb(names: &mut Names, alloc: Global, bytes: &[u8]) -> Result<Option<Command>, NoMemory>
     requires { HasRoomForNames names.old.names 2 }
-    ensures value { IfOk result (λ o. option_map (λ c. (c, names.new.names)) o ≡ addfb_read names.old.names bytes.now) }
+    ensures value { IfOk result (λ o. option_map (λ c. (c, names.new.names)) o
+        ≡ addfb_read names.old.names bytes.now) }
     ensures grows { OnOk result (NamesGrow names.old.names names.new.names 2) }
     ensures before { names.new.before ≡ names.old.before }
     ensures filled { IfOk result (λ o. IfSome o HasFilled) }
@@ -82,7 +84,8 @@ fn read_addfb(names: &mut Names, alloc: Global, bytes: &[u8]) -> Result<Option<C
 #[tactic(auto, unfolding(kms_model::specs::Script::CommandLines::mode_read))]
 fn read_mode(names: &mut Names, alloc: Global, bytes: &[u8]) -> Result<Option<Command>, NoMemory>
     requires { HasRoomForNames names.old.names 1 }
-    ensures value { IfOk result (λ o. option_map (λ c. (c, names.new.names)) o ≡ mode_read names.old.names bytes.now) }
+    ensures value { IfOk result (λ o. option_map (λ c. (c, names.new.names)) o
+        ≡ mode_read names.old.names bytes.now) }
     ensures grows { OnOk result (NamesGrow names.old.names names.new.names 1) }
     ensures before { names.new.before ≡ names.old.before }
     ensures filled { IfOk result (λ o. IfSome o HasFilled) }
@@ -108,7 +111,8 @@ fn read_blob_words(
     bytes: &[u8],
 ) -> Result<Option<Command>, NoMemory>
     requires { HasRoomForNames names.old.names 1 }
-    ensures value { IfOk result (λ o. option_map (λ c. (c, names.new.names)) o ≡ blob_read names.old.names bytes.now) }
+    ensures value { IfOk result (λ o. option_map (λ c. (c, names.new.names)) o
+        ≡ blob_read names.old.names bytes.now) }
     ensures grows { OnOk result (NamesGrow names.old.names names.new.names 1) }
     ensures before { names.new.before ≡ names.old.before }
     ensures filled { IfOk result (λ o. IfSome o HasFilled) }
@@ -132,7 +136,8 @@ fn read_blob_words(
 /// `LABEL` of a thing that the command makes.
 fn make_alone(names: &mut Names, alloc: Global, bytes: &[u8]) -> Result<Option<u32>, NoMemory>
     requires { HasRoomForNames names.old.names 1 }
-    ensures value { IfOk result (λ o. option_map (λ n. (n, names.new.names)) o ≡ made_alone names.old.names bytes.now) }
+    ensures value { IfOk result (λ o. option_map (λ n. (n, names.new.names)) o
+        ≡ made_alone names.old.names bytes.now) }
     ensures grows { OnOk result (NamesGrow names.old.names names.new.names 1) }
     ensures before { names.new.before ≡ names.old.before }
 {
@@ -145,7 +150,8 @@ fn make_alone(names: &mut Names, alloc: Global, bytes: &[u8]) -> Result<Option<u
 /// `LABEL` of a thing that the command names.
 fn say_alone(names: &mut Names, alloc: Global, bytes: &[u8]) -> Result<Option<u32>, NoMemory>
     requires { HasRoomForNames names.old.names 1 }
-    ensures value { IfOk result (λ o. option_map (λ n. (n, names.new.names)) o ≡ said_alone names.old.names bytes.now) }
+    ensures value { IfOk result (λ o. option_map (λ n. (n, names.new.names)) o
+        ≡ said_alone names.old.names bytes.now) }
     ensures grows { OnOk result (NamesGrow names.old.names names.new.names 1) }
     ensures before { names.new.before ≡ names.old.before }
 {
@@ -164,7 +170,8 @@ fn read_thing(
     fields: &[u8],
 ) -> Result<Option<Command>, NoMemory>
     requires { HasRoomForNames names.old.names 2 }
-    ensures value { IfOk result (λ o. option_map (λ c. (c, names.new.names)) o ≡ thing_read names.old.names keyword.now fields.now) }
+    ensures value { IfOk result (λ o. option_map (λ c. (c, names.new.names)) o
+        ≡ thing_read names.old.names keyword.now fields.now) }
     ensures grows { OnOk result (NamesGrow names.old.names names.new.names 2) }
     ensures before { names.new.before ≡ names.old.before }
     ensures filled { IfOk result (λ o. IfSome o HasFilled) }
@@ -191,7 +198,8 @@ fn read_labelled(
     fields: &[u8],
 ) -> Result<Option<Command>, NoMemory>
     requires { HasRoomForNames names.old.names 2 }
-    ensures value { IfOk result (λ o. option_map (λ c. (c, names.new.names)) o ≡ label_read names.old.names keyword.now fields.now) }
+    ensures value { IfOk result (λ o. option_map (λ c. (c, names.new.names)) o
+        ≡ label_read names.old.names keyword.now fields.now) }
     ensures grows { OnOk result (NamesGrow names.old.names names.new.names 2) }
     ensures before { names.new.before ≡ names.old.before }
     ensures filled { IfOk result (λ o. IfSome o HasFilled) }
@@ -223,7 +231,8 @@ pub fn command_of(
     line: &[u8],
 ) -> Result<Option<Command>, NoMemory>
     requires { HasRoomForNames names.old.names (length line.now + 2) }
-    ensures value { IfOk result (λ o. option_map (λ c. (c, names.new.names)) o ≡ command_read names.old.names line.now) }
+    ensures value { IfOk result (λ o. option_map (λ c. (c, names.new.names)) o
+        ≡ command_read names.old.names line.now) }
     ensures grows { OnOk result (NamesGrow names.old.names names.new.names (length line.now + 2)) }
     ensures before { names.new.before ≡ names.old.before }
     ensures filled { IfOk result (λ o. IfSome o HasFilled) }

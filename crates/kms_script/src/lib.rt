@@ -9,6 +9,7 @@ mod devices;
 mod draft;
 mod faults;
 mod inputs;
+mod limits;
 mod lines;
 mod lists;
 mod modes;

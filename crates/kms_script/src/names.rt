@@ -29,9 +29,9 @@ pub struct Names {
 }
 
 impl Model for Names {
-    ghost use Rattle.kms_script.specs.Named.{Held, held, AreMade};
+    ghost use Rattle.kms_script.specs.Named.{HeldNames, held, AreMade};
 
-    ghost Value = { Held };
+    ghost Value = { HeldNames };
 
     ghost view = { λ n. held n.numbering n.before n.made.keys n.count n.is_twice };
 
@@ -40,7 +40,8 @@ impl Model for Names {
 
 /// Adds the number of a label that a line makes.
 fn push_where(numbers: &mut Vec<u128>, is_made: bool, word: &[u8]) -> Result<(), NoMemory>
-    ensures { OnOk result (numbers.new.items ≡ numbers.old.items ++ (if is_made then packed_alone word.now else [])) }
+    ensures { OnOk result (numbers.new.items
+        ≡ numbers.old.items ++ (if is_made then packed_alone word.now else [])) }
 {
     if is_made {
         push_packed(numbers, word)
@@ -111,7 +112,8 @@ impl Names {
     /// Adds the numbers of the labels that lines make.
     pub fn push_made(&self, numbers: &mut Vec<u128>) -> Result<(), NoMemory>
         requires { HasRoomForNames self.now.names 1 }
-        ensures made { OnOk result (numbers.new.items ≡ numbers.old.items ++ packed_all (made_words self.now.names.all)) }
+        ensures made { OnOk result (numbers.new.items
+            ≡ numbers.old.items ++ packed_all (made_words self.now.names.all)) }
         ensures differ { OnOk result (IsDistinct bytes_eq (words_in self.now.names)) }
     {
         let mut number = 0u32;

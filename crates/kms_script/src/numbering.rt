@@ -2,7 +2,7 @@
 ghost use Rattle.std.specs.Prelude.{◌≡◌, ◌≤◌, ◌<◌, ◌^◌, ◌-◌, ℕ, [], ◌∷◌, ◌++◌, None, OnOk, OnErr, length, take};
 ghost use Rattle.std.specs.List.{IsDistinct};
 ghost use Rattle.std.specs.Str.{bytes_eq};
-ghost use Rattle.kms_script.specs.Numbered.{number_in};
+ghost use Rattle.kms_script.specs.Numbered.{place_among};
 
 use kms_model::{NoMemory, Seq};
 use std::alloc::Global;
@@ -20,13 +20,13 @@ pub struct Numbering {
 
 impl Model for Numbering {
     ghost use Rattle.std.specs.Prelude.{ℕ, List};
-    ghost use Rattle.kms_script.specs.Numbered.{AreNumbered};
+    ghost use Rattle.kms_script.specs.Numbered.{AreFound};
 
     ghost Value = { List (List ℕ) };
 
     ghost view = { λ n. n.words.items };
 
-    ghost invariant = { λ n. AreNumbered n.words.items n.numbers.entries };
+    ghost invariant = { λ n. AreFound n.words.items n.numbers.entries };
 }
 
 impl Numbering {
@@ -57,14 +57,14 @@ impl Numbering {
 
     /// The number of a word; none where it is not among the words.
     pub fn find(&self, word: &[u8]) -> Option<u32>
-        ensures { result ≡ number_in word.now self.now }
+        ensures { result ≡ place_among word.now self.now }
     {
         self.numbers.get(word).copied()
     }
 
     /// Puts a word behind the others, of which none is equal to it. Want of memory leaves them as they were.
     pub fn push(&mut self, alloc: Global, word: &[u8]) -> Result<(), NoMemory>
-        requires new { number_in word.now self.old ≡ None }
+        requires new { place_among word.now self.old ≡ None }
         requires few { length self.old < 2 ^ 32 }
         ensures added { OnOk result (self.new ≡ self.old ++ word.now ∷ []) }
         ensures unchanged { OnErr result (self.new ≡ self.old) }

@@ -6,8 +6,9 @@ ghost use Rattle.std.specs.List.{IsDistinct};
 ghost use Rattle.kms_model.specs.Script.CommandLines.{atomic_read};
 ghost use Rattle.kms_script.specs.Lines.{checked};
 ghost use Rattle.kms_script.specs.Named.{HasRoomForNames};
-ghost use Rattle.kms_script.specs.Overlong.{AddsLabels, assign_label, atomic_labels, blanks, has_many, labels_at, made_words, packed, packed_alone, label_word, rising, value_label};
+ghost use Rattle.kms_script.specs.Overlong.{AddsLabels, assign_label, atomic_labels, blanks, has_many, labels_at, made_words, packed, packed_alone, label_word, are_rising, value_label};
 
+use crate::limits::MAX_ASSIGNS;
 use crate::names::Names;
 use crate::numbers::{read_int, take_hex};
 use crate::objects::read_assign_words;
@@ -35,7 +36,7 @@ fn count_blanks(bytes: &[u8]) -> usize
 pub fn has_many(fields: &[u8]) -> bool
     ensures { result ≡ has_many fields.now }
 {
-    count_blanks(fields) > 258
+    count_blanks(fields) > MAX_ASSIGNS + 2
 }
 
 /// The label that a value makes, empty where it makes none; none for a word that is no value.
@@ -94,7 +95,8 @@ pub fn push_packed(numbers: &mut Vec<u128>, word: &[u8]) -> Result<(), NoMemory>
 
 /// Adds the numbers of the labels that the assignments of all fields make: false where a field is no assignment.
 fn push_labels(numbers: &mut Vec<u128>, fields: &[u8]) -> Result<bool, NoMemory>
-    ensures { IfOk result (λ formed. AddsLabels formed (labels_at fields.now) numbers.old.items numbers.new.items) }
+    ensures { IfOk result (λ formed.
+        AddsLabels formed (labels_at fields.now) numbers.old.items numbers.new.items) }
 {
     let mut rest = fields;
     'reading: while !rest.is_empty() {
@@ -112,7 +114,7 @@ fn push_labels(numbers: &mut Vec<u128>, fields: &[u8]) -> Result<bool, NoMemory>
 
 /// Whether each number differs from the next.
 fn are_rising(sorted: &[u128]) -> bool
-    ensures { result ≡ rising sorted.now }
+    ensures { result ≡ are_rising sorted.now }
 {
     let mut rest = sorted;
     'comparing: while let [first, others @ ..] = rest {

@@ -15,7 +15,8 @@ use std::alloc::Global;
 #[tactic(auto, unfolding(kms_model::specs::Script::CommandLines::property_read))]
 fn read_property(names: &mut Names, alloc: Global, word: &[u8]) -> Result<PropRef, NoMemory>
     requires { HasRoomForNames names.old.names 1 }
-    ensures value { IfOk result (λ p. (p, names.new.names) ≡ property_read names.old.names word.now) }
+    ensures value { IfOk result (λ p. (p, names.new.names)
+        ≡ property_read names.old.names word.now) }
     ensures grows { OnOk result (NamesGrow names.old.names names.new.names 1) }
     ensures before { names.new.before ≡ names.old.before }
 {
@@ -29,7 +30,8 @@ fn read_property(names: &mut Names, alloc: Global, word: &[u8]) -> Result<PropRe
 #[tactic(auto, unfolding(kms_model::specs::Script::CommandLines::value_read))]
 fn read_value(names: &mut Names, alloc: Global, word: &[u8]) -> Result<Option<Value>, NoMemory>
     requires { HasRoomForNames names.old.names 1 }
-    ensures value { IfOk result (λ o. option_map (λ v. (v, names.new.names)) o ≡ value_read names.old.names word.now) }
+    ensures value { IfOk result (λ o. option_map (λ v. (v, names.new.names)) o
+        ≡ value_read names.old.names word.now) }
     ensures grows { OnOk result (NamesGrow names.old.names names.new.names 1) }
     ensures before { names.new.before ≡ names.old.before }
 {
@@ -61,7 +63,8 @@ fn read_value(names: &mut Names, alloc: Global, word: &[u8]) -> Result<Option<Va
 #[tactic(auto, unfolding(kms_model::specs::Script::CommandLines::assign_read))]
 fn read_assign(names: &mut Names, alloc: Global, word: &[u8]) -> Result<Option<Assign>, NoMemory>
     requires { HasRoomForNames names.old.names 2 }
-    ensures value { IfOk result (λ o. option_map (λ a. (a, names.new.names)) o ≡ assign_read names.old.names word.now) }
+    ensures value { IfOk result (λ o. option_map (λ a. (a, names.new.names)) o
+        ≡ assign_read names.old.names word.now) }
     ensures grows { OnOk result (NamesGrow names.old.names names.new.names 2) }
     ensures before { names.new.before ≡ names.old.before }
     ensures some { IfOk result (λ o. IfSome o (λ _. 1 ≤ length word.now)) }
@@ -88,8 +91,10 @@ fn read_assigns(
     fields: &[u8],
 ) -> Result<Option<Seq<Assign>>, NoMemory>
     requires { HasRoomForNames names.old.names (length fields.now + 2) }
-    ensures value { IfOk result (λ o. option_map (λ a. (a, names.new.names)) o ≡ assigns_at names.old.names fields.now) }
-    ensures grows { OnOk result (NamesGrow names.old.names names.new.names (length fields.now + 2)) }
+    ensures value { IfOk result (λ o. option_map (λ a. (a, names.new.names)) o
+        ≡ assigns_at names.old.names fields.now) }
+    ensures grows { OnOk result
+        (NamesGrow names.old.names names.new.names (length fields.now + 2)) }
     ensures before { names.new.before ≡ names.old.before }
 {
     let mut assigns = Seq::new(alloc);
@@ -115,7 +120,8 @@ pub fn read_atomic(
     bytes: &[u8],
 ) -> Result<Option<Command>, NoMemory>
     requires { HasRoomForNames names.old.names (length bytes.now + 2) }
-    ensures value { IfOk result (λ o. option_map (λ c. (c, names.new.names)) o ≡ atomic_read names.old.names bytes.now) }
+    ensures value { IfOk result (λ o. option_map (λ c. (c, names.new.names)) o
+        ≡ atomic_read names.old.names bytes.now) }
     ensures grows { OnOk result (NamesGrow names.old.names names.new.names (length bytes.now + 2)) }
     ensures before { names.new.before ≡ names.old.before }
     ensures filled { IfOk result (λ o. IfSome o HasFilled) }

@@ -2,7 +2,7 @@ use Rattle.std.proofs.Common.{◌≡◌, [], ◌∷◌, ◌++◌, None, subst, r
 use Rattle.std.specs.BTreeMap as tree
 use Rattle.std.specs.Cmp.Lexicographic.{slice_cmp}
 use Rattle.std.specs.Ordering.{nat_cmp}
-use Rattle.kms_script.specs.Numbered.{AreNumbered}
+use Rattle.kms_script.specs.Numbered.{AreFound}
 use Rattle.kms_script.proofs.WordsNumbered.{numbered_front}
 use Rattle.kms_script.proofs.numbering.Numbering.drop_last.Goals as goal
 
@@ -11,6 +11,6 @@ invariant_of-self c =
     let after = c.pop.new.self.items in
     let word = c.as_slice.result.now in
     let split : c.self.inside.words.items ≡ after ++ word ∷ [] = search rules in
-    let is : AreNumbered (after ++ word ∷ []) c.self.inside.numbers.entries = subst (λ ws. AreNumbered ws c.self.inside.numbers.entries) split c.self.invariant in
+    let is : AreFound (after ++ word ∷ []) c.self.inside.numbers.entries = subst (λ ws. AreFound ws c.self.inside.numbers.entries) split c.self.invariant in
     let updates : tree.UpdatesBy (λ x y. slice_cmp nat_cmp x.items y.items) (λ k. slice_cmp nat_cmp word k.items) c.self.inside.numbers c.remove.new.self None = search rules in
     numbered_front after word c.self.inside.numbers c.remove.new.self is updates
