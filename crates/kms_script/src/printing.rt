@@ -4,7 +4,7 @@ ghost use Rattle.std.specs.Fmt.{decimal};
 ghost use Rattle.std.specs.List.{flat_map};
 ghost use Rattle.kms_model.specs.Report.TextLines.{line};
 ghost use Rattle.kms_model.specs.Script.WholeInput.{input, script_limit};
-ghost use Rattle.kms_model.specs.Script.Spelling.{Spells, client_lines, conn_words, device_lines, plane_words, spelling, text_of};
+ghost use Rattle.kms_model.specs.Script.Spelling.{Spells, client_lines, conn_words, device_lines, spelt_plane, spelling, text_of};
 
 use crate::printing_commands::{push_command, push_number, push_word};
 use crate::printing_words::{push_crtcs, push_formats, type_word};
@@ -24,7 +24,7 @@ fn push_numbered(text: &mut Vec<u8>, word: &[u8], number: u32) -> Result<(), NoM
 
 /// Adds `plane TYPE LIST FMTS`.
 fn push_plane(text: &mut Vec<u8>, plane: &PlaneInfo) -> Result<(), NoMemory>
-    ensures { OnOk result (text.new.items ≡ text.old.items ++ line (plane_words plane.now)) }
+    ensures { OnOk result (text.new.items ≡ text.old.items ++ line (spelt_plane plane.now)) }
 {
     text.extend_from_slice(b"plane")?;
     push_word(text, type_word(plane.kind))?;

@@ -4,7 +4,7 @@ ghost use Rattle.std.specs.Fmt.{decimal};
 ghost use Rattle.std.specs.List.{flat_map};
 ghost use Rattle.kms_model.specs.Report.TextLines.{line};
 ghost use Rattle.kms_script.specs.Printed.{fields, mode_line_numbers};
-ghost use Rattle.kms_model.specs.Script.Spelling.{assign_word, command_words, format_word, hex_word, mode_words, name_word, pattern_words, pixel_word};
+ghost use Rattle.kms_model.specs.Script.Spelling.{assign_word, command_words, format_word, hex_word, spelt_mode, name_word, pattern_words, pixel_word};
 
 use crate::printing_words::{
     format_word, name_word, push_assign, push_blob, push_decimal, push_hex, push_pixel,
@@ -104,7 +104,7 @@ fn push_numbers(text: &mut Vec<u8>, numbers: &[u32]) -> Result<(), NoMemory>
 
 /// Adds the 15 words of a mode: its name ends before its first zero.
 fn push_mode(text: &mut Vec<u8>, mode: &Mode) -> Result<(), NoMemory>
-    ensures { OnOk result (text.new.items ≡ text.old.items ++ fields (mode_words mode.now)) }
+    ensures { OnOk result (text.new.items ≡ text.old.items ++ fields (spelt_mode mode.now)) }
 {
     push_numbers(text, &mode_numbers(mode))?;
     let (name, _) = split_at_byte(&mode.name, 0);

@@ -103,8 +103,8 @@ pattern_words format Ramp = codes "ramp" ∷ []
 pattern_words format (Pixels words) = codes "pixels" ∷ map (pixel_word format) words
 
 -- a mode's name ends before its first zero
-abbrev pub mode_words : Mode → List (List ℕ)
-mode_words m =
+abbrev pub spelt_mode : Mode → List (List ℕ)
+spelt_mode m =
     decimal m.clock ∷ decimal m.hdisplay ∷ decimal m.hsync_start ∷ decimal m.hsync_end ∷ decimal m.htotal ∷ decimal m.hskew
     ∷ decimal m.vdisplay ∷ decimal m.vsync_start ∷ decimal m.vsync_end ∷ decimal m.vtotal ∷ decimal m.vscan
     ∷ decimal m.vrefresh ∷ decimal m.flags ∷ decimal m.kind ∷ until 0 m.name ∷ []
@@ -113,7 +113,7 @@ abbrev pub command_words : List (List ℕ) → Command → List (List ℕ)
 command_words names (command.Buffer label width height format pattern) =
     codes "buffer" ∷ name_word names label ∷ decimal width ∷ decimal height ∷ format_word format ∷ pattern_words format pattern
 command_words names (command.AddFb label buffer) = codes "addfb" ∷ name_word names label ∷ name_word names buffer ∷ []
-command_words names (command.Mode label m) = codes "mode" ∷ name_word names label ∷ mode_words m
+command_words names (command.Mode label m) = codes "mode" ∷ name_word names label ∷ spelt_mode m
 command_words names (command.Blob label bytes) = codes "blob" ∷ name_word names label ∷ blob_word bytes ∷ []
 command_words names (command.Destroy label) = codes "destroy" ∷ name_word names label ∷ []
 command_words names (command.CloseFb label) = codes "closefb" ∷ name_word names label ∷ []
@@ -128,15 +128,15 @@ command_words names command.Wait = codes "wait" ∷ []
 abbrev pub text_of : List (List (List ℕ)) → List ℕ
 text_of lines = flat_map line lines
 
-abbrev pub plane_words : PlaneInfo → List (List ℕ)
-plane_words p = codes "plane" ∷ type_word p.kind ∷ crtcs_word p.crtcs ∷ formats_word p.formats ∷ []
+abbrev pub spelt_plane : PlaneInfo → List (List ℕ)
+spelt_plane p = codes "plane" ∷ type_word p.kind ∷ crtcs_word p.crtcs ∷ formats_word p.formats ∷ []
 
 abbrev pub conn_words : ℕ → List (List ℕ)
 conn_words mask = codes "conn" ∷ crtcs_word mask ∷ []
 
 -- the device's lines
 abbrev pub device_lines : Topology → List (List (List ℕ))
-device_lines t = (codes "crtcs" ∷ decimal t.crtcs ∷ []) ∷ map plane_words t.planes ++ map conn_words t.conns
+device_lines t = (codes "crtcs" ∷ decimal t.crtcs ∷ []) ∷ map spelt_plane t.planes ++ map conn_words t.conns
 
 abbrev pub client_lines : List (List ℕ) → List Command → List (List (List ℕ))
 client_lines names commands = (codes "client" ∷ []) ∷ map (command_words names) commands

@@ -1,5 +1,5 @@
 -- What holds of every script that some bytes spell, within the limits.
-use Rattle.std.specs.Prelude.{◌≡◌, ◌≤◌, ℕ, ◌+◌, ◌-◌, ◌*◌, ◌^◌, ◌==◌, ◌&&◌, Bool, true, not, nat_le, nat_lt, List, [], ◌∷◌, ◌++◌, length, replicate, is_some, ℤ, pos, negsuc, int_le, ⊤}
+use Rattle.std.specs.Prelude.{◌≡◌, ◌≤◌, ℕ, ◌-◌, ◌*◌, ◌^◌, ◌==◌, ◌&&◌, Bool, true, not, nat_le, nat_lt, List, ◌++◌, length, replicate, is_some, ℤ, pos, negsuc, int_le, ⊤}
 use Rattle.std.specs.List.{AllByRecursion, IsDistinct, list_all}
 use Rattle.std.specs.Str.{bytes_eq}
 use Rattle.kms_model.specs.declared.objects.Format.{Format}
