@@ -2,7 +2,8 @@
 ghost use Rattle.std.specs.Prelude.{◌≡◌, ◌+◌, ◌≤◌, ◌++◌, length, IfOk, IsTrue, Ok, take, drop, slice_range};
 ghost use Rattle.kms_model.specs.Device.Modes.{is_axis, is_legal_mode};
 ghost use Rattle.kms_model.specs.Device.ModeBytes.{mode_bytes, mode_held, two_at, four_at, if_legal, decoded};
-ghost use Rattle.kms_blobs.specs.Ranges.{FitsTypes, FitsFront, FitsMiddle, FitsBack};
+ghost use Rattle.kms_blobs.specs.Ranges.{FitsBack, FitsFront, FitsMiddle, FitsTypes};
+ghost use Rattle.kms_blobs.specs.Parts.{back_bytes, front_bytes, middle_bytes};
 
 use kms_model::{BadMode, Mode};
 
@@ -113,75 +114,90 @@ pub fn encode_mode(mode: &Mode) -> [u8; 68]
     ensures bytes { result ≡ mode_bytes mode.now }
     ensures read_back { IsTrue (is_legal_mode mode.now) → decoded result ≡ Ok mode.now }
 {
-    learn_ranges(mode);
     written(mode)
 }
 
-// These do nothing. Proofs learn here that the fields are within their types, as each one is read.
-fn learn_ranges(mode: &Mode)
-    ensures { FitsTypes mode.now }
-{
-    learn_front(mode);
-    learn_middle(mode);
-    learn_back(mode);
-}
-
-fn learn_front(mode: &Mode)
-    ensures { FitsFront mode.now }
-{
-    let _clock = mode.clock;
-    let _hdisplay = mode.hdisplay;
-    let _hsync_start = mode.hsync_start;
-    let _hsync_end = mode.hsync_end;
-    let _htotal = mode.htotal;
-    let _hskew = mode.hskew;
-}
-
-fn learn_middle(mode: &Mode)
-    ensures { FitsMiddle mode.now }
-{
-    let _vdisplay = mode.vdisplay;
-    let _vsync_start = mode.vsync_start;
-    let _vsync_end = mode.vsync_end;
-    let _vtotal = mode.vtotal;
-    let _vscan = mode.vscan;
-}
-
-fn learn_back(mode: &Mode)
-    ensures { FitsBack mode.now }
-{
-    let _vrefresh = mode.vrefresh;
-    let _flags = mode.flags;
-    let _kind = mode.kind;
-    let _name = mode.name;
-}
-
-// The bytes of a mode.
+// The bytes of a mode, whose fields are within their types.
 fn written(mode: &Mode) -> [u8; 68]
-    ensures { result ≡ mode_bytes mode.now }
+    ensures bytes { result ≡ mode_bytes mode.now }
+    ensures fits { FitsTypes mode.now }
 {
     let mut bytes = [0; 68];
-    put(&mut bytes, 0, &mode.clock.to_le_bytes());
-    put(&mut bytes, 4, &mode.hdisplay.to_le_bytes());
-    put(&mut bytes, 6, &mode.hsync_start.to_le_bytes());
-    put(&mut bytes, 8, &mode.hsync_end.to_le_bytes());
-    put(&mut bytes, 10, &mode.htotal.to_le_bytes());
-    put(&mut bytes, 12, &mode.hskew.to_le_bytes());
-    put(&mut bytes, 14, &mode.vdisplay.to_le_bytes());
-    put(&mut bytes, 16, &mode.vsync_start.to_le_bytes());
-    put(&mut bytes, 18, &mode.vsync_end.to_le_bytes());
-    put(&mut bytes, 20, &mode.vtotal.to_le_bytes());
-    put(&mut bytes, 22, &mode.vscan.to_le_bytes());
-    put(&mut bytes, 24, &mode.vrefresh.to_le_bytes());
-    put(&mut bytes, 28, &mode.flags.to_le_bytes());
-    put(&mut bytes, 32, &mode.kind.to_le_bytes());
-    put(&mut bytes, 36, &mode.name);
+    put(&mut bytes, 0, &front(mode));
+    put(&mut bytes, 14, &middle(mode));
+    put(&mut bytes, 24, &back(mode));
+    bytes
+}
+
+// The clock and the columns: the first 14 bytes.
+fn front(mode: &Mode) -> [u8; 14]
+    ensures bytes { result ≡ front_bytes mode.now }
+    ensures fits { FitsFront mode.now }
+{
+    let Mode {
+        clock,
+        hdisplay,
+        hsync_start,
+        hsync_end,
+        htotal,
+        hskew,
+        ..
+    } = *mode;
+    let mut bytes = [0; 14];
+    put(&mut bytes, 0, &clock.to_le_bytes());
+    put(&mut bytes, 4, &hdisplay.to_le_bytes());
+    put(&mut bytes, 6, &hsync_start.to_le_bytes());
+    put(&mut bytes, 8, &hsync_end.to_le_bytes());
+    put(&mut bytes, 10, &htotal.to_le_bytes());
+    put(&mut bytes, 12, &hskew.to_le_bytes());
+    bytes
+}
+
+// The rows: the next 10 bytes.
+fn middle(mode: &Mode) -> [u8; 10]
+    ensures bytes { result ≡ middle_bytes mode.now }
+    ensures fits { FitsMiddle mode.now }
+{
+    let Mode {
+        vdisplay,
+        vsync_start,
+        vsync_end,
+        vtotal,
+        vscan,
+        ..
+    } = *mode;
+    let mut bytes = [0; 10];
+    put(&mut bytes, 0, &vdisplay.to_le_bytes());
+    put(&mut bytes, 2, &vsync_start.to_le_bytes());
+    put(&mut bytes, 4, &vsync_end.to_le_bytes());
+    put(&mut bytes, 6, &vtotal.to_le_bytes());
+    put(&mut bytes, 8, &vscan.to_le_bytes());
+    bytes
+}
+
+// The refresh rate, the flags, the type and the name: the last 44 bytes.
+fn back(mode: &Mode) -> [u8; 44]
+    ensures bytes { result ≡ back_bytes mode.now }
+    ensures fits { FitsBack mode.now }
+{
+    let Mode {
+        vrefresh,
+        flags,
+        kind,
+        name,
+        ..
+    } = *mode;
+    let mut bytes = [0; 44];
+    put(&mut bytes, 0, &vrefresh.to_le_bytes());
+    put(&mut bytes, 4, &flags.to_le_bytes());
+    put(&mut bytes, 8, &kind.to_le_bytes());
+    put(&mut bytes, 12, &name);
     bytes
 }
 
 // Writes a part from a place on.
-fn put(bytes: &mut [u8; 68], at: usize, part: &[u8])
-    requires { at + length part.now ≤ 68 }
+fn put(bytes: &mut [u8], at: usize, part: &[u8])
+    requires { at + length part.now ≤ length bytes.old }
     ensures { bytes.new ≡ take at bytes.old ++ part.now ++ drop (at + length part.now) bytes.old }
 {
     bytes[at..at + part.len()].copy_from_slice(part);

@@ -42,8 +42,8 @@ impl BlobStore {
         }
     }
 
-    /// Makes a client's blob of these bytes, of which a script gives 1 to 2048. Its id is greater than those of all blobs before. Want of memory
-    /// leaves the store as it was.
+    /// Makes a client's blob of these bytes, of which a script gives 1 to 2048. Its id is greater than those of all blobs
+    /// before. Want of memory leaves the store as it was.
     pub fn create(
         &mut self,
         alloc: Global,
@@ -72,10 +72,10 @@ impl BlobStore {
         ensures things { (things : List Thing) → blobs_of things ≡ self.old → blobs_of (things_after result things id) ≡ self.new }
     {
         let Some(blob) = self.blobs.get(id) else {
-            return Err(Denied(33));
+            return Err(Denied::NOT_FOUND);
         };
         if blob.owner != owner {
-            return Err(Denied(34));
+            return Err(Denied::NOT_OWNER);
         }
         self.blobs.remove(id);
         Ok(())

@@ -63,11 +63,11 @@ fn a_blob_is_destroyed_by_its_client_alone(rt: HostRuntime) -> Result<(), NoMemo
     let mut store = BlobStore::new(rt.alloc());
     store.create(rt.alloc(), 1, 1000, &[7, 8])?;
     store.create(rt.alloc(), 2, 1001, &[9])?;
-    assert!(rt; store.destroy(2, 1000) == Err(Denied(34)));
+    assert!(rt; store.destroy(2, 1000) == Err(Denied::NOT_OWNER));
     assert!(rt; store.get(1000) == Some(&[7, 8][..]));
     assert!(rt; store.destroy(1, 1000) == Ok(()));
     assert!(rt; store.get(1000) == None);
-    assert!(rt; store.destroy(2, 1000) == Err(Denied(33)));
+    assert!(rt; store.destroy(2, 1000) == Err(Denied::NOT_FOUND));
     assert!(rt; store.get(1001) == Some(&[9][..]));
     Ok(())
 }

@@ -84,10 +84,10 @@ impl FbStore {
         ensures things { (things : List Thing) → open_fbs_of things ≡ open_fbs self.old → open_fbs_of (things_after result things id) ≡ open_fbs self.new }
     {
         let Some(fb) = found(&self.fbs, id) else {
-            return Err(Denied(33));
+            return Err(Denied::NOT_FOUND);
         };
         if !fb.is_open || fb.owner != owner {
-            return Err(Denied(33));
+            return Err(Denied::NOT_FOUND);
         }
         let left = fb.references - 1;
         put_back(

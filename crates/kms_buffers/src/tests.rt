@@ -21,12 +21,12 @@ fn a_framebuffer_is_kept_while_something_refers_to_it(rt: HostRuntime) -> Result
     let mut store = FbStore::new(rt.alloc());
     store.add(rt.alloc(), 1, 1001, 1000, info(1001))?;
     store.take(1001);
-    assert!(rt; store.close(2, 1001) == Err(Denied(33)));
+    assert!(rt; store.close(2, 1001) == Err(Denied::NOT_FOUND));
     assert!(rt; store.close(1, 1001) == Ok(false));
-    assert!(rt; store.close(1, 1001) == Err(Denied(33)));
-    assert!(rt; store.close(2, 1001) == Err(Denied(33)));
+    assert!(rt; store.close(1, 1001) == Err(Denied::NOT_FOUND));
+    assert!(rt; store.close(2, 1001) == Err(Denied::NOT_FOUND));
     assert!(rt; store.give(1001));
-    assert!(rt; store.close(1, 1001) == Err(Denied(33)));
+    assert!(rt; store.close(1, 1001) == Err(Denied::NOT_FOUND));
     Ok(())
 }
 
@@ -35,7 +35,7 @@ fn a_framebuffer_that_nothing_took_goes_as_it_is_closed(rt: HostRuntime) -> Resu
     let mut store = FbStore::new(rt.alloc());
     store.add(rt.alloc(), 3, 1001, 1000, info(1001))?;
     assert!(rt; store.close(3, 1001) == Ok(true));
-    assert!(rt; store.close(3, 1001) == Err(Denied(33)));
+    assert!(rt; store.close(3, 1001) == Err(Denied::NOT_FOUND));
     Ok(())
 }
 

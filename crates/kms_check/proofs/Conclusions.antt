@@ -39,12 +39,16 @@ use Rattle.kms_model.proofs.TouchedLemmas.{IsRequestAt, after, accepted-each, ki
 use Rattle.kms_request.specs.Naming as naming
 use Rattle.kms_state.specs.Places.{old_states, olds, state_at}
 use Rattle.kms_state.proofs.Slots.{AgreesOld-same, there_old}
-use Rattle.kms_check.specs.Answers.{IsOfRequest, AreFresh, IsAskedFor}
+use Rattle.kms_model.specs.Request.Deciding.{IsOfRequest, AreFresh, IsAskedFor}
 use Rattle.kms_check.specs.Applying.{set_all, SetsAll}
-use Rattle.kms_check.specs.Groups.{crtcs_fenced, lacking, not_duplicated, missing_in, is_empty, objects_set, set_group, named_group, affected_group, affected_below, union, first_lacking}
+use Rattle.kms_model.specs.Request.Groups.{set_group, named_group, affected_group, union}
+use Rattle.kms_request.specs.Groups.{affected_below, crtcs_fenced, objects_set}
+use Rattle.kms_check.specs.Lacking.{first_lacking, is_empty, lacking, missing_in, not_duplicated}
 use Rattle.kms_check.proofs.Readiness.{HasRoom, IsCovered, covered, named-covers}
-use Rattle.kms_check.proofs.Affected.{affected-is, touched-is}
-use Rattle.kms_check.proofs.RequestFacts.{objects_set-is, request_at, fresh-agrees, shrunk}
+use Rattle.kms_request.proofs.AffectedLemmas.{affected-is, touched-is}
+use Rattle.kms_request.proofs.NamedLemmas.{shorter}
+use Rattle.kms_request.proofs.SetGroups.{objects_set-is}
+use Rattle.kms_check.proofs.RequestFacts.{request_at, fresh-agrees}
 use Rattle.kms_check.proofs.ValuesAfter.{number_in, numbered, value-last_sets, agrees-same}
 
 -- After the sets were applied
@@ -202,7 +206,7 @@ fenced-is t w r resolved d is =
     let few = few_objects t is.device in
     ap crtcs_fenced is.asks.out_fences
     ∙ same_masks (λ i. list_any (is_of (object_id kind.Crtc i)) (filter_map (fence_of r.assigns) (ids_of t kind.Crtc))) (λ i. list_any (λ c. is_asked (out_fence_label r.assigns c) && (c == object_id kind.Crtc i)) (ids_of t kind.Crtc)) 4 (λ i h. fenced-ids r.assigns (ids_of t kind.Crtc) (object_id kind.Crtc i))
-    ∙ shrunk (λ i. list_any (λ c. is_asked (out_fence_label r.assigns c) && (c == object_id kind.Crtc i)) (ids_of t kind.Crtc)) t.crtcs 4 few.crtcs (λ i low high. no_crtc t r.assigns i low)
+    ∙ shorter (λ i. list_any (λ c. is_asked (out_fence_label r.assigns c) && (c == object_id kind.Crtc i)) (ids_of t kind.Crtc)) t.crtcs 4 few.crtcs (λ i low high. no_crtc t r.assigns i low)
     ∙ same_masks _ _ t.crtcs (λ i h. asked-crtc t r.assigns (object_id kind.Crtc i) (items.ids-has t kind.Crtc i h))
 
 -- What the groups lack, as the steps find it
@@ -280,13 +284,6 @@ all-covered t w r resolved d d' named has none =
     (covered d' (set_group t r) (lacking-same d d' (set_group t r) has.has.room has.room has.same ∙ has.has.none))
     (covered d' (named_group t w r) (lacking-same d d' (named_group t w r) has.has.room has.room has.same ∙ has.none))
     (covered d' (affected_group t w r) (lacking-same d d' (affected_group t w r) has.has.room has.room has.same ∙ none))
-
--- what is looked at is what the request touches
-pub touched-known : (t : Topology) (w : World) (r : Request) (set crtcs both affected touched : Mask) (named : ℕ) → set ≡ set_group t r → named ≡ named_set t w.values (after w r) r.assigns → crtcs ≡ record { crtcs = named; planes = 0; conns = 0 } → affected ≡ affected_group t w r
-    → both ≡ union set crtcs → touched ≡ union both affected → touched ≡ touched_set t w.things w.values (after w r) r.assigns
-touched-known t w r set crtcs both affected touched named set_is named_is crtcs_is affected_is both_is touched_is =
-    touched_is ∙ ap (λ m. union m affected) both_is ∙ ap (λ m. union (union m crtcs) affected) set_is ∙ ap (λ m. union (union (set_group t r) m) affected) crtcs_is
-    ∙ ap (λ n. union (union (set_group t r) (record { crtcs = n; planes = 0; conns = 0 })) affected) named_is ∙ ap (union (union (set_group t r) (named_group t w r))) affected_is ∙ touched-is t w r
 
 -- The first refusal that is found is that of the whole device.
 pub refusal-known : (t : Topology) (w : World) (r : Request) (resolved : Resolved) (d d' : Duplicates) (named fenced : ℕ) (touched : Mask) (fences : List (ObjId × ℕ)) (found : Option ℕ) → HasApplied t w r resolved d d' named → lacking d (affected_group t w r) ≡ None

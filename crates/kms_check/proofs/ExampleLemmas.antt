@@ -11,9 +11,10 @@ use Rattle.kms_model.specs.Request.Lookups.{look_of, look_up}
 use Rattle.kms_model.specs.declared.pictures.Rect.{Rect}
 use Rattle.kms_model.specs.Device.Masks.{mask_below}
 use Rattle.kms_model.specs.Request.Sets.{look_in}
-use Rattle.kms_model.specs.Device.Sound.{IsDevice, IsSound}
-use Rattle.kms_check.specs.Answers.{AreFresh, AreFreshIn}
-use Rattle.kms_check.specs.Example.{alike, conn, crtc, device, if_given, plane, states, things, world_of}
+use Rattle.kms_model.specs.Device.Sound.{IsSound}
+use Rattle.kms_model.specs.Request.Deciding.{AreFresh, AreFreshIn}
+use Rattle.kms_samples.specs.Samples.{double}
+use Rattle.kms_check.specs.Example.{alike, conn, crtc, if_given, plane, states, things, world_of}
 
 -- what the labels of some things name, as a list
 abbrev pub seen : Thing → ℕ × Look
@@ -31,10 +32,7 @@ pub found_in : (lit : Bool) (label : ℕ) → look_in (map seen things) label �
 found_in true label = looks things label
 found_in false label = looks things label
 
-pub is_device : IsDevice device
-is_device = record { legal = refl; kinds = search rules }
-
-pub is_sound : (lit : Bool) → IsSound device (world_of lit)
+pub is_sound : (lit : Bool) → IsSound double (world_of lit)
 unfolding late_refusal plane_refusal shown_refusal
 is_sound true = record { numbered = search rules; next = refl; held = refl; accepted = refl }
 is_sound false = record { numbered = search rules; next = refl; held = refl; accepted = refl }
@@ -73,7 +71,7 @@ pub off_plane : (lit : Bool) → record { fb = None; crtc = 0; dst = nowhere; sr
 off_plane true = refl
 off_plane false = refl
 
-pub states_old : (lit a b c : Bool) → AgreesOld device (world_of lit).things (world_of lit).values (states lit a b c)
+pub states_old : (lit a b c : Bool) → AgreesOld double (world_of lit).things (world_of lit).values (states lit a b c)
 states_old lit a b c = record { crtcs = given_old a 2 (crtc lit); planes = given_old b 14 (plane lit); conns = given_old c 6 (conn lit) }
 
 pub states_fresh : (lit a b c : Bool) → AreFresh (states lit a b c)

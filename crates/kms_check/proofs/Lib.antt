@@ -1,9 +1,8 @@
 pub mod ApplyingLemmas
 pub mod Conclusions
 pub mod ExampleLemmas
-pub mod GroupLemmas
+pub mod LackingLemmas
 pub mod PlaneRanges
 pub mod Readiness
-pub mod Affected
 pub mod RequestFacts
 pub mod ValuesAfter

@@ -29,8 +29,8 @@ use Rattle.kms_model.proofs.LastLemmas.{IsIn, FromLast, from_last, IsLast}
 use Rattle.kms_model.proofs.MaskLemmas.{same_masks}
 use Rattle.kms_model.proofs.RequestLemmas.{accepted_allowed}
 use Rattle.kms_model.proofs.TouchedLemmas.{IsRequestAt, few_objects, few_of, first_id-apart}
-use Rattle.kms_check.specs.Answers.{IsOfRequest, AreFreshIn, AreFresh}
-use Rattle.kms_check.specs.Groups.{assigned_from, set_from, objects_assigned, objects_set, set_group}
+use Rattle.kms_model.specs.Request.Deciding.{AreFresh, AreFreshIn, IsOfRequest}
+use Rattle.kms_request.proofs.SetGroups.{allowed-each}
 
 -- the request, in the world
 pub request_at : (t : Topology) (w : World) (r : Request) (resolved : Resolved) (d : Duplicates) → IsOfRequest t w r resolved d → IsRequestAt t w r
@@ -47,18 +47,6 @@ fresh-agrees t w r resolved d is fresh = record {
   conns = fresh_new _ d.conns fresh.conns is.old.conns;
 }
 
--- Items
-
-pub turned : {A : Type 0} (x : A) (xs : List A) → IsIn x xs → items.IsIn x xs
-turned x [] is = absurd is
-turned x (y ∷ ys) (inl same) = inl (sym same)
-turned x (y ∷ ys) (inr rest) = inr (turned x ys rest)
-
-turned_back : {A : Type 0} (x : A) (xs : List A) → items.IsIn x xs → IsIn x xs
-turned_back x [] is = absurd is
-turned_back x (y ∷ ys) (inl same) = inl (sym same)
-turned_back x (y ∷ ys) (inr rest) = inr (turned_back x ys rest)
-
 get_or-in : {A : Type 0} (xs : List A) (k : ℕ) (d : A) → k < length xs → IsIn (get_or xs k d) xs
 get_or-in [] k d within = absurd (omega arith)
 get_or-in (x ∷ xs) zero d within = inl refl
@@ -70,14 +58,10 @@ all-from P xs each = λ k d within. each (get_or xs k d) (get_or-in xs k d withi
 
 -- What a request sets
 
--- an assignment of a request for which none of refusals 1 to 8 is due is allowed
-allowed-each : (t : Topology) (f : ℕ → Look) (r : Request) (a : Assign) → early_refusal t f r ≡ None → IsIn a r.assigns → IsAllowed t f a
-allowed-each t f r a accepted is = all_in (IsAllowed t f) r.assigns a (accepted_allowed t f r accepted) is
-
 -- a set comes from an allowed assignment
 pub record IsFromAssign (t : Topology) (f : ℕ → Look) (r : Request) (s : Set) : Type 0 where
   pub assign : Assign
-  pub is_in : items.IsIn assign r.assigns
+  pub is_in : IsIn assign r.assigns
   pub set : s ≡ set_of f assign
   pub last : IsLast f r.assigns assign
   pub allowed : IsAllowed t f assign
@@ -85,73 +69,4 @@ pub record IsFromAssign (t : Topology) (f : ℕ → Look) (r : Request) (s : Set
 pub from_assign : (t : Topology) (f : ℕ → Look) (r : Request) (s : Set) → early_refusal t f r ≡ None → IsIn s (last_sets f r.assigns) → IsFromAssign t f r s
 from_assign t f r s accepted is =
     let from : FromLast f r.assigns s = from_last f r.assigns s is in
-    record { assign = from.item; is_in = turned from.item r.assigns from.is.member; set = from.set; last = from.is; allowed = allowed-each t f r from.item accepted from.is.member }
-
--- objects that are set are those of the last sets
-same_object : (a b : Assign) (object : ℕ) → has_target_of a b ≡ true → (object_of a == object) ≡ true → (object_of b == object) ≡ true
-same_object a b object target is =
-    let same : object_of a ≡ object_of b = eqb-true (object_of a) (object_of b) (and_parts (object_of a == object_of b) _ target).0 in
-    subst (λ o. (o == object) ≡ true) same is
-
-set_later : (a : Assign) (assigns : List Assign) (object : ℕ) → list_any (has_target_of a) assigns ≡ true → (object_of a == object) ≡ true → sets assigns object ≡ true
-set_later a [] object again is = absurd (both_ways _ refl again)
-set_later a (b ∷ assigns) object again is =
-    elim (or_cases (has_target_of a b) (list_any (has_target_of a) assigns) again) [
-      | inl here ↦ or_left (object_of b == object) (sets assigns object) (same_object a b object here is)
-      | inr later ↦ or_right (object_of b == object) (sets assigns object) (set_later a assigns object later is)
-    ]
-
-pub sets-last : (f : ℕ → Look) (assigns : List Assign) (object : ℕ) → list_any (λ s. s.object.0 == object) (last_sets f assigns) ≡ sets assigns object
-unfolding last_sets
-sets-last f [] object = refl
-sets-last f (a ∷ assigns) object =
-    elim (cases_Bool (list_any (has_target_of a) assigns)) [
-      | inl again ↦ rw again (sets-last f assigns object ∙ absorbed (object_of a == object) (sets assigns object) (set_later a assigns object again))
-      | inr not_again ↦ rw not_again (ap (λ b. (object_of a == object) || b) (sets-last f assigns object))
-    ]
-  where
-    absorbed : (a b : Bool) → (a ≡ true → b ≡ true) → b ≡ (a || b)
-    absorbed true b implies = implies refl
-    absorbed false b implies = refl
-
--- objects beyond a device are not set
-unset-beyond : (t : Topology) (f : ℕ → Look) (r : Request) (k : Kind) (i : ℕ) → IsDevice t → early_refusal t f r ≡ None → count_of t k ≤ i → i < 16 → sets r.assigns (object_id k i) ≡ false
-unset-beyond t f r k i device accepted beyond few =
-    items.list_any-none (λ a. object_of a == object_id k i) r.assigns (λ a is. false_from_ne_true _ (λ same. not_there a (allowed-each t f r a accepted (turned_back a r.assigns is)) (eqb-true (object_of a) (object_id k i) same)))
-  where
-    not_there : (a : Assign) → IsAllowed t f a → object_of a ≡ object_id k i → ⊥
-    not_there a allowed same =
-        let below : a.index < count_of t a.kind = ltb-true a.index (count_of t a.kind) allowed.exists in
-        let few_a : count_of t a.kind ≤ 16 = few_of t a.kind (few_objects t device) in
-        let of_kind : a.kind ≡ k = first_id-apart a.kind k a.index i (omega arith) few same in
-        let index : object_id k a.index ≡ object_id k i = ap (λ j. object_id j a.index) (sym of_kind) ∙ same in
-        let below_k : a.index < count_of t k = subst (λ j. a.index < count_of t j) of_kind below in
-        omega arith
-
--- a set of n objects of which those from m on are out
-pub shrunk : (test : ℕ → Bool) (m n : ℕ) → m ≤ n → ((i : ℕ) → m ≤ i → i < n → test i ≡ false) → mask_below test n ≡ mask_below test m
-unfolding mask_below
-shrunk test m zero order out = let e : m ≡ 0 = omega arith in rw e refl
-shrunk test m (suc n) order out =
-    elim (cases_lt n m) [
-      | inl last ↦ (let e : m ≡ suc n = omega arith in rw e refl)
-      | inr further ↦ rw (out n further (omega arith)) (let none : mask_below test n + 0 ≡ mask_below test n = omega arith in none ∙ shrunk test m n further (λ i low high. out i low (omega arith)))
-    ]
-
--- the objects of a kind that assignments set, and that sets do
-assigned_from-is : (t : Topology) (f : ℕ → Look) (r : Request) (k : Kind) (n : ℕ) → IsDevice t → early_refusal t f r ≡ None → count_of t k ≤ n → n ≤ 16 → assigned_from r.assigns (first_id k) n ≡ set_where t k (sets r.assigns)
-assigned_from-is t f r k n device accepted few wide = shrunk (λ i. sets r.assigns (object_id k i)) (count_of t k) n few (λ i low high. unset-beyond t f r k i device accepted low (omega arith))
-
-set_from-is : (t : Topology) (f : ℕ → Look) (r : Request) (k : Kind) (n : ℕ) → IsDevice t → early_refusal t f r ≡ None → count_of t k ≤ n → n ≤ 16 → set_from (last_sets f r.assigns) (first_id k) n ≡ set_where t k (sets r.assigns)
-set_from-is t f r k n device accepted few wide =
-    same_masks _ _ n (λ i h. sets-last f r.assigns (object_id k i)) ∙ assigned_from-is t f r k n device accepted few wide
-
-pub objects_assigned-is : (t : Topology) (f : ℕ → Look) (r : Request) → IsDevice t → early_refusal t f r ≡ None → objects_assigned r.assigns ≡ set_group t r
-objects_assigned-is t f r device accepted =
-    let few = few_objects t device in
-    rw (assigned_from-is t f r kind.Crtc 4 device accepted few.crtcs (omega arith), assigned_from-is t f r kind.Plane 16 device accepted few.planes (omega arith), assigned_from-is t f r kind.Conn 8 device accepted few.conns (omega arith)) refl
-
-pub objects_set-is : (t : Topology) (f : ℕ → Look) (r : Request) (resolved : Resolved) → IsDevice t → IsResolved t f r resolved → objects_set resolved.sets ≡ set_group t r
-objects_set-is t f r resolved device asks =
-    let few = few_objects t device in
-    rw (asks.sets, set_from-is t f r kind.Crtc 4 device asks.accepted few.crtcs (omega arith), set_from-is t f r kind.Plane 16 device asks.accepted few.planes (omega arith), set_from-is t f r kind.Conn 8 device asks.accepted few.conns (omega arith)) refl
+    record { assign = from.item; is_in = from.is.member; set = from.set; last = from.is; allowed = allowed-each t f r from.item accepted from.is.member }

@@ -12,7 +12,8 @@ use Rattle.kms_model.specs.Request.SetRanges.{may_set}
 use Rattle.kms_model.specs.Request.Sets.{set_in}
 use Rattle.kms_model.specs.Device.Sound.{IsPlaneInRange}
 use Rattle.kms_state.specs.Changes.{HasObject}
-use Rattle.kms_state.specs.Places.{is_duplicated, kind_of}
+use Rattle.kms_model.specs.Device.Objects.{kind_of}
+use Rattle.kms_state.specs.Places.{is_duplicated}
 
 -- the values after several sets, each to the number that a function gives for it
 abbrev pub set_all : List Setting → (Set → ℤ) → List Set → List Setting

@@ -26,33 +26,7 @@ use Rattle.kms_model.specs.Request.Apply.{apply}
 use Rattle.kms_model.specs.Device.Objects.{object_id}
 use Rattle.kms_model.specs.Device.States.{plane_at}
 use Rattle.kms_model.specs.Device.World.{start}
-
-abbrev pub plane_of : ℕ → PlaneInfo
-plane_of crtcs = record { kind = 1; crtcs = crtcs; formats = 1 }
-
--- two CRTCs, a plane of both and one of the first alone, and two connectors of the first alone
-abbrev pub device : Topology
-device = record { crtcs = 2; planes = plane_of 3 ∷ plane_of 1 ∷ []; conns = 1 ∷ 1 ∷ [] }
-
--- one pixel
-abbrev pub tiny : Mode
-tiny = record {
-  clock = 1;
-  hdisplay = 1;
-  hsync_start = 1;
-  hsync_end = 1;
-  htotal = 1;
-  hskew = 0;
-  vdisplay = 1;
-  vsync_start = 1;
-  vsync_end = 1;
-  vtotal = 1;
-  vscan = 0;
-  vrefresh = 60;
-  flags = 0;
-  kind = 0;
-  name = replicate 32 0;
-}
+use Rattle.kms_samples.specs.Samples.{double, light, tiny}
 
 abbrev pub thing : ℕ → ℕ → Content → Thing
 thing label id content = record { label = label; id = id; owner = 1; content = content; is_open = true }
@@ -71,28 +45,11 @@ things =
     ∷ thing 4 1004 (content.Mode tiny)
     ∷ []
 
-abbrev pub sets_to : Kind → ℕ → Value → Assign
-sets_to kind prop given = record { kind = kind; index = 0; prop = Known prop; value = given }
-
--- what lights the first CRTC
-abbrev pub light : List Assign
-light =
-    sets_to Crtc ACTIVE (value.Num (pos 1))
-    ∷ sets_to Crtc MODE_ID (value.Named 1)
-    ∷ sets_to Conn CRTC_ID (value.Crtc 0)
-    ∷ sets_to Plane FB_ID (value.Named 0)
-    ∷ sets_to Plane CRTC_ID (value.Crtc 0)
-    ∷ sets_to Plane CRTC_W (value.Num (pos 1))
-    ∷ sets_to Plane CRTC_H (value.Num (pos 1))
-    ∷ sets_to Plane SRC_W (value.Num (pos 65536))
-    ∷ sets_to Plane SRC_H (value.Num (pos 65536))
-    ∷ []
-
 abbrev pub dark_world : World
-dark_world = record { values = (start device).values; things = things; next_id = 1005; commits = 0 }
+dark_world = record { values = (start double).values; things = things; next_id = 1005; commits = 0 }
 
 abbrev pub lit_world : World
-lit_world = record { values = apply things (start device).values light; things = things; next_id = 1005; commits = 0 }
+lit_world = record { values = apply things (start double).values (light 0 1); things = things; next_id = 1005; commits = 0 }
 
 -- the world in which the first CRTC is lit, or not
 abbrev pub world_of : Bool → World
@@ -112,7 +69,7 @@ abbrev pub if_given : {S : Type 0} → Bool → ℕ → (ℕ → S) → List (Op
 if_given given n state = if given then two n state else replicate (2 + n) None
 
 abbrev pub crtc : Bool → ℕ → CrtcState
-crtc lit index = crtc_state_at device (world_of lit).things (world_of lit).values (object_id Crtc index)
+crtc lit index = crtc_state_at double (world_of lit).things (world_of lit).values (object_id Crtc index)
 
 abbrev pub plane : Bool → ℕ → PlaneState
 plane lit index = plane_at (world_of lit).things (world_of lit).values (object_id Plane index)

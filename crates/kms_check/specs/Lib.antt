@@ -1,4 +1,4 @@
-pub mod Groups
+pub mod Lacking
 pub mod Applying
 pub mod Answers
 pub mod Example

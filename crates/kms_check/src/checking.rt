@@ -2,20 +2,23 @@
 ghost use Rattle.std.specs.Prelude.{◌≡◌, None, IfOk};
 ghost use Rattle.kms_model.specs.declared.scripts.Request.{Request};
 ghost use Rattle.kms_model.specs.declared.worlds.World.{World};
-ghost use Rattle.kms_model.specs.Request.Apply.{apply as values_after};
-ghost use Rattle.kms_model.specs.Request.Checks.{late_refusal};
 ghost use Rattle.kms_model.specs.Device.Sound.{IsDevice};
-ghost use Rattle.kms_check.specs.Answers.{AreFresh, AreOfSoundWorld, IsAskedFor, IsChecked, IsOfRequest, locks_of, refusal_of};
-ghost use Rattle.kms_check.specs.Groups.{first_lacking};
+ghost use Rattle.kms_model.specs.Request.Deciding.{AreFresh, AreOfSoundWorld, IsAskedFor, IsChecked, IsOfRequest};
+ghost use Rattle.kms_model.specs.Request.Verdict.{late_in};
+ghost use Rattle.kms_check.specs.Answers.{locks_of, refusal_of};
+ghost use Rattle.kms_check.specs.Lacking.{first_lacking};
 ghost use Rattle.kms_state.specs.Places.{old_states};
 
 use crate::applying::apply;
-use crate::groups::{crtcs_fenced, lacking, objects_set, only_crtcs, affected, union};
+use crate::lacking::lacking;
 use kms_model::{Checked, Duplicates, Mask, Refusal, Resolved, Topology};
-use kms_request::{Asked, late_refusal, named};
+use kms_props::AtomicFlags;
+use kms_request::{
+    Asked, affected, crtcs_fenced, late_refusal, named, objects_set, only_crtcs, union,
+};
 
 /// Why a request is not accepted.
-#[derive(Clone, Copy, Debug)]
+#[derive(Clone, Copy, Debug, PartialEq, Eq)]
 pub enum Refused {
     /// One of refusals 9 to 24.
     Of(Refusal),
@@ -49,12 +52,14 @@ pub fn check(
     requires fresh { AreFresh states }
 
     // Which objects are still to be duplicated; none of them is asked for twice.
-    ensures locks { (w : World) (r : Request) → IsOfRequest topology.now w r resolved.now states → locks_of result ≡ first_lacking topology.now w r states }
+    ensures locks { (w : World) (r : Request) → IsOfRequest topology.now w r resolved.now states
+        → locks_of result ≡ first_lacking topology.now w r states }
 
     // The second part of the verdict, over the whole device.
-    ensures refusal { (w : World) (r : Request) → IsOfRequest topology.now w r resolved.now states → first_lacking topology.now w r states ≡ None
-        → refusal_of result ≡ late_refusal topology.now w.things w.values (values_after w.things w.values r.assigns) r }
-    ensures checked { (w : World) (r : Request) → IsOfRequest topology.now w r resolved.now states → IfOk result (IsChecked topology.now w r) }
+    ensures refusal { (w : World) (r : Request) → IsOfRequest topology.now w r resolved.now states
+        → first_lacking topology.now w r states ≡ None → refusal_of result ≡ late_in topology.now w r }
+    ensures checked { (w : World) (r : Request) → IsOfRequest topology.now w r resolved.now states
+        → IfOk result (IsChecked topology.now w r) }
 
     // No state is lost: the same objects are duplicated, with the same old states.
     ensures kept { IfOk result (λ c. old_states c.states ≡ old_states states) }
@@ -76,7 +81,7 @@ pub fn check(
     }
     let touched = union(&union(&set, &only_crtcs(named)), &affected);
     let asked = Asked {
-        flags: resolved.flags,
+        flags: AtomicFlags::of_request(resolved.flags),
         named,
         fenced: crtcs_fenced(resolved.out_fences.as_slice()),
     };

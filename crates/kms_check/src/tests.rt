@@ -6,17 +6,14 @@ ghost use Rattle.kms_model.specs.Request.Lookups.{look_up};
 ghost use Rattle.kms_model.specs.Request.Sets.{look_in};
 
 use crate::{Refused, check};
-use kms_model::properties::{
-    ACTIVE, ALPHA, CRTC_H, CRTC_ID, CRTC_W, CRTC_X, FB_ID, MODE_ID, SRC_H, SRC_W, SRC_X,
-};
+use kms_model::properties::{ACTIVE, ALPHA, CRTC_ID, CRTC_W, CRTC_X, FB_ID, MODE_ID, SRC_W, SRC_X};
 use kms_model::{
     Assign, Both, Checked, ConnState, CrtcState, Duplicates, FbInfo, Format, Kind, Look, Lookups,
-    Mask, Mode, NoMemory, PlaneInfo, PlaneState, PropRef, Rect, Refusal, Request, Seq, Topology,
-    Value,
+    Mask, NoMemory, ObjId, PlaneState, Rect, Refusal, Seq, Value,
 };
 use kms_request::resolve;
+use kms_samples::{ALLOW_MODESET, double, light, on_crtc, on_plane, request, set, tiny};
 use std::alloc::Global;
-use std::process::Abort;
 use std::test::Fail;
 
 /// The labels of the worlds: framebuffers, and one mode under two labels.
@@ -29,43 +26,6 @@ const SHORT: u32 = 2;
 const WIDE: u32 = 3;
 
 const SAME_MODE: u32 = 4;
-
-/// `DRM_MODE_ATOMIC_ALLOW_MODESET`, without which a request may not change a mode.
-const ALLOW_MODESET: u32 = 0x400;
-
-const TINY: Mode = Mode {
-    clock: 1,
-    hdisplay: 1,
-    hsync_start: 1,
-    hsync_end: 1,
-    htotal: 1,
-    hskew: 0,
-    vdisplay: 1,
-    vsync_start: 1,
-    vsync_end: 1,
-    vtotal: 1,
-    vscan: 0,
-    vrefresh: 60,
-    flags: 0,
-    kind: 0,
-    name: [0; 32],
-};
-
-/// Two CRTCs, a plane of both and one of the first alone, and two connectors of the first alone.
-fn device(alloc: Global) -> Result<Topology, NoMemory>
-    ensures { IfOk result (λ t. t ≡ example.device) }
-{
-    let both = PlaneInfo {
-        kind: 1,
-        crtcs: 3,
-        formats: 1,
-    };
-    Ok(Topology {
-        crtcs: 2,
-        planes: Seq::from_vec(Vec::from_array(alloc, [both, PlaneInfo { crtcs: 1, ..both }])?),
-        conns: Seq::from_vec(Vec::from_array(alloc, [1, 1])?),
-    })
-}
 
 /// A framebuffer of one row.
 fn row(id: u32, width: u32, format: Format) -> FbInfo
@@ -85,10 +45,10 @@ fn found(alloc: Global) -> Result<Lookups, NoMemory>
 {
     let entries = [
         (FB, Look::Fb(row(1000, 1, Format::Xr24))),
-        (MODE, Look::Mode(TINY, 1001)),
+        (MODE, Look::Mode(tiny(), 1001)),
         (SHORT, Look::Fb(row(1002, 1, Format::Rg16))),
         (WIDE, Look::Fb(row(1003, 2, Format::Xr24))),
-        (SAME_MODE, Look::Mode(TINY, 1004)),
+        (SAME_MODE, Look::Mode(tiny(), 1004)),
     ];
     Ok(Seq::from_vec(Vec::from_array(alloc, entries)?))
 }
@@ -152,7 +112,7 @@ fn first_crtc(lit: bool) -> CrtcState
     if lit {
         CrtcState {
             active: true,
-            mode: Some(TINY),
+            mode: Some(tiny()),
             planes: 1,
             conns: 1,
         }
@@ -170,7 +130,7 @@ fn first_plane(lit: bool) -> PlaneState
     }
     PlaneState {
         fb: Some(row(1000, 1, Format::Xr24)),
-        crtc: 100,
+        crtc: ObjId::of(Kind::Crtc, 0).0,
         dst: Rect {
             w: 1,
             h: 1,
@@ -190,7 +150,7 @@ fn first_conn(lit: bool) -> ConnState
     ensures { result ≡ example.conn lit 0 }
 {
     ConnState {
-        crtc: if lit { 100 } else { 0 },
+        crtc: if lit { ObjId::of(Kind::Crtc, 0).0 } else { 0 },
     }
 }
 
@@ -248,99 +208,91 @@ fn checked(
     first: &[Assign],
     more: &[Assign],
 ) -> Result<Result<Checked, Refused>, Fail> {
-    let topology = device(alloc)?;
+    let topology = double(alloc)?;
     let found = found(alloc)?;
-    let mut assigns = first.to_vec(alloc)?;
-    assigns.extend_from_slice(more)?;
-    let request = Request {
-        flags,
-        user_data: 0,
-        assigns: Seq::from_vec(assigns),
-    };
+    let request = request(alloc, flags, first, more)?;
     let resolved = resolve(alloc, &topology, &request, &found)?;
     Ok(check(&topology, states(given), &resolved))
 }
 
-/// The number of a refusal; 0 where the request is accepted.
-fn refusal(
+/// Why a request is not accepted, if it is not.
+fn refused(
     alloc: Global,
     given: Given,
     flags: u32,
     first: &[Assign],
     more: &[Assign],
-) -> Result<u32, Fail> {
-    Ok(match checked(alloc, given, flags, first, more)? {
-        Err(Refused::Of(Refusal(number))) => number,
-        Err(Refused::MoreLocks { .. }) => 99,
-        Ok(_) => 0,
-    })
-}
-
-fn set(kind: Kind, index: u32, prop: u32, value: Value) -> Assign {
-    Assign {
-        kind,
-        index,
-        prop: PropRef::Known(prop),
-        value,
-    }
-}
-
-fn on_plane(prop: u32, value: Value) -> Assign {
-    set(Kind::Plane, 0, prop, value)
-}
-
-fn on_crtc(prop: u32, value: Value) -> Assign {
-    set(Kind::Crtc, 0, prop, value)
-}
-
-/// What a request sets that lights the first CRTC; the first three are to the CRTC and its connector.
-fn light() -> [Assign; 9] {
-    [
-        on_crtc(ACTIVE, Value::Num(1)),
-        on_crtc(MODE_ID, Value::Named(MODE)),
-        set(Kind::Conn, 0, CRTC_ID, Value::Crtc(0)),
-        on_plane(FB_ID, Value::Named(FB)),
-        on_plane(CRTC_ID, Value::Crtc(0)),
-        on_plane(CRTC_W, Value::Num(1)),
-        on_plane(CRTC_H, Value::Num(1)),
-        on_plane(SRC_W, Value::Num(65536)),
-        on_plane(SRC_H, Value::Num(65536)),
-    ]
+) -> Result<Option<Refused>, Fail> {
+    Ok(checked(alloc, given, flags, first, more)?.err())
 }
 
 /// Requests that set one property of a device which shows nothing, and requests that light it but for one.
 #[test]
 fn a_request_is_refused_by_the_state_after_it(rt: HostRuntime) -> Result<(), Fail> {
     let a = rt.alloc();
-    for (flags, one, number) in [
-        (ALLOW_MODESET, on_plane(FB_ID, Value::Named(FB)), 10),
-        (ALLOW_MODESET, on_crtc(ACTIVE, Value::Num(1)), 16),
-        (ALLOW_MODESET, on_crtc(MODE_ID, Value::Named(MODE)), 20),
+    let plugged = set(Kind::Conn, 0, CRTC_ID, Value::Crtc(1));
+    for (flags, one, refusal) in [
         (
             ALLOW_MODESET,
-            set(Kind::Conn, 0, CRTC_ID, Value::Crtc(1)),
-            18,
+            on_plane(FB_ID, Value::Named(FB)),
+            Refusal::FRAMEBUFFER_XOR_CRTC,
         ),
-        (0x1, on_crtc(ACTIVE, Value::Num(0)), 17),
-    ] {
-        assert_eq!(rt; refusal(a, DARK, flags, &[one], &[])?, number);
-    }
-    let all = light();
-    for (flags, one, number) in [
-        (ALLOW_MODESET, on_plane(FB_ID, Value::Named(SHORT)), 12),
-        (ALLOW_MODESET, on_plane(CRTC_X, Value::Num(2147483647)), 13),
-        (ALLOW_MODESET, on_plane(SRC_W, Value::Num(65537)), 14),
         (
             ALLOW_MODESET,
-            set(Kind::Conn, 1, CRTC_ID, Value::Crtc(0)),
-            19,
+            on_crtc(ACTIVE, Value::Num(1)),
+            Refusal::ACTIVE_WITHOUT_MODE,
         ),
-        (ALLOW_MODESET, on_plane(CRTC_W, Value::Num(2)), 22),
-        (0, on_plane(ALPHA, Value::Num(1)), 24),
-        (ALLOW_MODESET, on_plane(ALPHA, Value::Num(1)), 0),
+        (
+            ALLOW_MODESET,
+            on_crtc(MODE_ID, Value::Named(MODE)),
+            Refusal::MODE_XOR_CONNECTOR,
+        ),
+        (ALLOW_MODESET, plugged, Refusal::CONNECTOR_NOT_POSSIBLE),
+        (
+            0x1,
+            on_crtc(ACTIVE, Value::Num(0)),
+            Refusal::SIGNAL_WHILE_OFF,
+        ),
     ] {
-        assert_eq!(rt; refusal(a, DARK, flags, &all, &[one])?, number);
+        assert_eq!(rt;
+            refused(a, DARK, flags, &[one], &[])?,
+            Some(Refused::Of(refusal))
+        );
     }
+    let all = light(FB, MODE);
+    let cloned = set(Kind::Conn, 1, CRTC_ID, Value::Crtc(0));
+    let far = on_plane(CRTC_X, Value::Num(2147483647));
+    for (flags, one, refusal) in [
+        (
+            ALLOW_MODESET,
+            on_plane(FB_ID, Value::Named(SHORT)),
+            Refusal::FORMAT_NOT_SUPPORTED,
+        ),
+        (ALLOW_MODESET, far, Refusal::DESTINATION_TOO_FAR),
+        (
+            ALLOW_MODESET,
+            on_plane(SRC_W, Value::Num(65537)),
+            Refusal::SOURCE_OUTSIDE_FRAMEBUFFER,
+        ),
+        (ALLOW_MODESET, cloned, Refusal::CLONED_CONNECTORS),
+        (
+            ALLOW_MODESET,
+            on_plane(CRTC_W, Value::Num(2)),
+            Refusal::SCALED,
+        ),
+        (
+            0,
+            on_plane(ALPHA, Value::Num(1)),
+            Refusal::MODESET_NOT_ALLOWED,
+        ),
+    ] {
+        assert_eq!(rt;
+            refused(a, DARK, flags, &all, &[one])?,
+            Some(Refused::Of(refusal))
+        );
+    }
+    let dim = [on_plane(ALPHA, Value::Num(1))];
+    assert_eq!(rt; refused(a, DARK, ALLOW_MODESET, &all, &dim)?, None);
     Ok(())
 }
 
@@ -349,24 +301,61 @@ fn a_request_is_refused_by_the_state_after_it(rt: HostRuntime) -> Result<(), Fai
 #[test]
 fn a_request_is_refused_by_what_the_device_can_do(rt: HostRuntime) -> Result<(), Fail> {
     let a = rt.alloc();
-    assert_eq!(rt; refusal(a, DARK, 0x1, &[], &[])?, 9);
-    assert_eq!(rt; refusal(a, DARK, 0, &[], &[])?, 0);
+    let all = light(FB, MODE);
     let away = [
         set(Kind::Plane, 1, FB_ID, Value::Named(FB)),
         set(Kind::Plane, 1, CRTC_ID, Value::Crtc(1)),
     ];
-    assert_eq!(rt; refusal(a, DARK, ALLOW_MODESET, &away, &[])?, 11);
-    let all = light();
-    assert_eq!(rt; refusal(a, DARK, ALLOW_MODESET, &all[3..], &[])?, 21);
     let between = [
         on_plane(FB_ID, Value::Named(WIDE)),
         on_plane(SRC_X, Value::Num(32768)),
     ];
-    assert_eq!(rt; refusal(a, DARK, ALLOW_MODESET, &all, &between)?, 23);
-    let hop = [on_plane(CRTC_ID, Value::Crtc(1))];
-    assert_eq!(rt; refusal(a, LIT, ALLOW_MODESET, &hop, &[])?, 15);
+    let switch = [on_plane(CRTC_ID, Value::Crtc(1))];
     let same = [on_crtc(MODE_ID, Value::Named(SAME_MODE))];
-    assert_eq!(rt; refusal(a, LIT, 0, &same, &[])?, 0);
+    for (given, flags, first, more, refusal) in [
+        (
+            DARK,
+            0x1,
+            &[][..],
+            &[][..],
+            Some(Refusal::EVENT_WITHOUT_CRTC),
+        ),
+        (DARK, 0, &[], &[], None),
+        (
+            DARK,
+            ALLOW_MODESET,
+            &away,
+            &[],
+            Some(Refusal::CRTC_NOT_POSSIBLE),
+        ),
+        (
+            DARK,
+            ALLOW_MODESET,
+            &all[3..],
+            &[],
+            Some(Refusal::CRTC_NOT_ENABLED),
+        ),
+        (
+            DARK,
+            ALLOW_MODESET,
+            &all,
+            &between,
+            Some(Refusal::FRACTIONAL_SOURCE),
+        ),
+        (
+            LIT,
+            ALLOW_MODESET,
+            &switch,
+            &[],
+            Some(Refusal::SWITCHES_CRTC),
+        ),
+        (LIT, 0, &same, &[], None),
+    ] {
+        assert_eq!(rt;
+            refused(a, given, flags, first, more)?,
+            refusal.map(Refused::Of)
+        );
+    }
     Ok(())
 }
 
@@ -398,7 +387,7 @@ fn objects_are_asked_for_in_three_groups(rt: HostRuntime) -> Result<(), Fail> {
         planes: false,
         conns: false,
     };
-    assert_eq!(rt; locks(a, nothing, &light())?, Some(mask(1, 1, 1)));
+    assert_eq!(rt; locks(a, nothing, &light(FB, MODE))?, Some(mask(1, 1, 1)));
     let raised = [on_plane(ALPHA, Value::Num(7))];
     let planes = Given {
         planes: true,

@@ -27,11 +27,11 @@ word_under images fb x y = option_map (λ s. seen_word s x y) (seen_under images
 
 -- there is an image of a framebuffer, in its size and with a word for each pixel
 pub record HasImage (images : List FbImage) (fb : FbInfo) : Type 0 where
-  pub image_seen : Seen
-  pub found : seen_under images fb.id ≡ Some image_seen
-  pub width : image_seen.width ≡ fb.width
-  pub height : image_seen.height ≡ fb.height
-  pub words : length image_seen.words ≡ fb.width * fb.height
+  pub seen : Seen
+  pub found : seen_under images fb.id ≡ Some seen
+  pub width : seen.width ≡ fb.width
+  pub height : seen.height ≡ fb.height
+  pub words : length seen.words ≡ fb.width * fb.height
 
 -- a layer that can be shown in a mode over these images
 pub record IsShowable (m : Mode) (images : List FbImage) (l : Layer) : Type 0 where

@@ -89,7 +89,8 @@ fn six_bits(v: u32) -> u8
 /// Reads a channel of each word.
 pub fn unpack<C: Channel>(format: Format, words: &[u32], out: &mut [u8])
     requires { length words.now ≡ length out.old }
-    ensures { EachIndex out.new (λ k. slice_index out.new k ≡ C.channel (colour_of format (slice_index words.now k))) }
+    ensures { EachIndex out.new (λ k.
+        slice_index out.new k ≡ C.channel (colour_of format (slice_index words.now k))) }
 {
     for (i, place) in out.iter_mut().enumerate() {
         *place = C::of_word(format, words[i]);

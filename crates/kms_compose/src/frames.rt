@@ -28,7 +28,8 @@ pub fn frame(alloc: Global, picture: &Picture, images: &Images) -> Result<Frame,
     ensures exact { IfOk result (λ bytes. bytes ≡ frame_of (word_under images.now) picture.now) }
 
     // Where each image is that of a framebuffer among some things, the frame is theirs.
-    ensures things { IfOk result (λ bytes. (things : List Thing) → AreImagesIn things images.now → bytes ≡ frame_bytes things picture.now) }
+    ensures things { IfOk result (λ bytes. (things : List Thing)
+        → AreImagesIn things images.now → bytes ≡ frame_bytes things picture.now) }
 {
     match picture {
         Picture::Off => Ok(Seq::new(alloc)),
@@ -56,7 +57,9 @@ fn parts_of<'a>(
 ) -> Result<Vec<Part<'a>>, NoMemory>
     requires { All (IsShowable shown.now.mode images.now) shown.now.layers }
     ensures parts { IfOk result (λ parts. All (IsPart shown.now.mode.hdisplay) parts.items) }
-    ensures colours { IfOk result (λ parts. (x y : ℕ) → parts_over x y black parts.items ≡ composed (word_under images.now) x y black shown.now.layers) }
+    ensures colours { IfOk result (λ parts. (x y : ℕ)
+        → parts_over x y black parts.items
+        ≡ composed (word_under images.now) x y black shown.now.layers) }
 {
     let mut parts = Vec::new(alloc);
     for layer in shown.layers.as_slice() {
@@ -85,7 +88,9 @@ fn parts_bytes(
     requires parts { All (IsPart width) parts.now }
     requires narrow { width < 65536 }
     requires low { height < 65536 }
-    ensures { IfOk result (λ bytes. bytes.items ≡ flat_map (λ y. flat_map (part_pixel parts.now y) (range_with_len 0 width)) (range_with_len 0 height)) }
+    ensures { IfOk result (λ bytes. bytes.items
+        ≡ flat_map (λ y. flat_map (part_pixel parts.now y) (range_with_len 0 width))
+        (range_with_len 0 height)) }
 {
     let mut bytes = Vec::with_capacity(alloc, 3 * width * height)?;
     let mut channels = vec![in alloc; 0u8; 5 * width]?;

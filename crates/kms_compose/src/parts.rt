@@ -35,7 +35,8 @@ pub struct Stretch {
 /// The visible part of a layer; none where nothing of it is visible.
 pub fn part_of<'a>(layer: &Layer, images: &[FbImage<'a>]) -> Option<Part<'a>>
     requires { IsShown images.now layer.now }
-    ensures colours { (x y : ℕ) → layer_colour (word_under images.now) x y layer.now ≡ seen_colour result x y }
+    ensures colours { (x y : ℕ)
+        → layer_colour (word_under images.now) x y layer.now ≡ seen_colour result x y }
     ensures layer { IfSome result (λ p. p.layer ≡ layer.now) }
     ensures within { (m : Mode) → FitsMode m layer.now → IfSome result (IsPart m.hdisplay) }
 {
@@ -90,7 +91,8 @@ fn stretch_of(src: i64, dst: i64, start: i64, size: i64) -> Stretch
 /// The words that a part shows on a row; none where the row is above or below it.
 pub fn words_on<'a>(part: &Part<'a>, y: usize) -> Option<&'a [u32]>
     requires { HasRows part.now }
-    ensures colours { (x : ℕ) → part_colour part.now x y ≡ on_row part.now (option_copied result) x }
+    ensures colours { (x : ℕ)
+        → part_colour part.now x y ≡ on_row part.now (option_copied result) x }
     ensures width { IfSome result (λ words. length words.now ≡ part.now.width) }
 {
     if y < part.top {

@@ -39,10 +39,12 @@ fn put_channel<C: Channel>(
     requires blend { layer.now.blend ≤ 2 }
     requires within { left + length words.now ≤ length lower.old }
     requires alpha { is_opaque layer.now ≡ false → length alpha.now ≡ length words.now }
-    requires alphas { is_opaque layer.now ≡ false → EachIndex alpha.now (λ k. slice_index alpha.now k ≡ (colour_of layer.now.fb.format (slice_index words.now k)).alpha) }
+    requires alphas { is_opaque layer.now ≡ false → EachIndex alpha.now (λ k.
+        slice_index alpha.now k ≡ (colour_of layer.now.fb.format (slice_index words.now k)).alpha) }
     requires own { is_opaque layer.now ≡ false → length own.old ≡ length words.now }
     ensures { EachIndex lower.new (λ x. slice_index lower.new x
-        ≡ channel_over layer.now C.channel (run_colour layer.now.fb.format words.now left x) (slice_index lower.old x)) }
+        ≡ channel_over layer.now C.channel (run_colour layer.now.fb.format words.now left x)
+        (slice_index lower.old x)) }
 {
     let end = left + words.len();
     let shown = &mut lower[left..end];
@@ -57,7 +59,8 @@ fn put_channel<C: Channel>(
 /// Reads the alpha of words, unless the layer is opaque.
 fn read_alpha(layer: &Layer, words: &[u32], alpha: &mut [u8])
     requires { length words.now ≡ length alpha.old }
-    ensures { is_opaque layer.now ≡ false → EachIndex alpha.new (λ k. slice_index alpha.new k ≡ (colour_of layer.now.fb.format (slice_index words.now k)).alpha) }
+    ensures { is_opaque layer.now ≡ false → EachIndex alpha.new (λ k.
+        slice_index alpha.new k ≡ (colour_of layer.now.fb.format (slice_index words.now k)).alpha) }
 {
     if !is_opaque(layer) {
         unpack::<Alpha>(layer.fb.format, words, alpha);
@@ -109,7 +112,8 @@ pub fn make_row(
     requires own { length own.old ≡ length red.old }
     requires green { length green.old ≡ length red.old }
     requires blue { length blue.old ≡ length red.old }
-    ensures { (x : ℕ) → x < length red.old → colour_at red.new green.new blue.new x ≡ parts_over x y black parts.now }
+    ensures { (x : ℕ) → x < length red.old
+        → colour_at red.new green.new blue.new x ≡ parts_over x y black parts.now }
 {
     red.fill(0);
     green.fill(0);
@@ -124,7 +128,9 @@ pub fn interleave(red: &[u8], green: &[u8], blue: &[u8], pixels: &mut [u8])
     requires green { length green.now ≡ length red.now }
     requires blue { length blue.now ≡ length red.now }
     requires room { length pixels.old ≡ 3 * length red.now }
-    ensures { pixels.new ≡ flat_map (λ x. channels (colour_at red.now green.now blue.now x)) (range_with_len 0 (length red.now)) }
+    ensures { pixels.new
+        ≡ flat_map (λ x. channels (colour_at red.now green.now blue.now x))
+        (range_with_len 0 (length red.now)) }
 {
     for (x, channel) in red.iter().enumerate() {
         let at = 3 * x;

@@ -61,7 +61,12 @@ fn mode(w: u16, h: u16) -> Mode
 /// The layer of a plane.
 fn layer(mode: &Mode, id: u32, plane: &Plane) -> Layer
     ensures placed { FitsMode mode.now result }
-    ensures fb { result.fb ≡ record { id = id; width = plane.now.fb_width; height = plane.now.fb_height; format = plane.now.format } }
+    ensures fb { result.fb ≡ record {
+      id = id;
+      width = plane.now.fb_width;
+      height = plane.now.fb_height;
+      format = plane.now.format;
+    } }
 {
     let dst = Rect {
         x: plane.x,
@@ -98,7 +103,15 @@ fn layer(mode: &Mode, id: u32, plane: &Plane) -> Layer
 
 /// The image of a plane's framebuffer.
 fn image<'a>(id: u32, plane: &Plane<'a>) -> FbImage<'a>
-    ensures { result ≡ record { fb = id; image = record { width = plane.now.fb_width; height = plane.now.fb_height; format = plane.now.format; words = plane.now.words } } }
+    ensures { result ≡ record {
+      fb = id;
+      image = record {
+        width = plane.now.fb_width;
+        height = plane.now.fb_height;
+        format = plane.now.format;
+        words = plane.now.words;
+      };
+    } }
 {
     FbImage {
         fb: id,

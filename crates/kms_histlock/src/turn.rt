@@ -17,7 +17,7 @@ fn wait<T: Kept, W: Wait>(rt: &W, words: &Words<T>, seat: &mut Place<T>, number:
     requires own { (seat.old.table_id ≡ words.now.table_id) × IsSized words.now.table_id }
     requires waits { seat.old.me.0.stage ≡ Waits number }
     ensures same { IsSameSeat seat.old seat.new }
-    ensures takes { Takes T.owner T.entries T.counted number seat.old.me seat.new.me }
+    ensures takes { Takes T.owner T.entries T.counted T.fixed number seat.old.me seat.new.me }
 {
     for _ in rt.forever() {
         if words.load::<Look>(seat, SERVED) == number {
@@ -31,9 +31,10 @@ fn wait<T: Kept, W: Wait>(rt: &W, words: &Words<T>, seat: &mut Place<T>, number:
 /// Waits for the turn, and takes the value.
 pub(crate) fn take<T: Kept, W: Wait>(rt: &W, words: &Words<T>, seat: &mut Place<T>) -> T
     requires own { (seat.old.table_id ≡ words.now.table_id) × IsSized words.now.table_id }
-    requires rests { (seat.old.me.0.stage ≡ Idle) × (seat.old.me.1 ≡ []) × (0 < seat.old.me.0.parts) }
+    requires rests { (seat.old.me.0.stage ≡ Idle) × (seat.old.me.1 ≡ [])
+        × (0 < seat.old.me.0.parts) }
     ensures same { IsSameSeat seat.old seat.new }
-    ensures turn { HasTurn T.owner T.entries T.counted seat.old.me result seat.new.me }
+    ensures turn { HasTurn T.owner T.entries T.counted T.fixed seat.old.me result seat.new.me }
 {
     let number = words.fetch_add::<Draw>(seat, TICKETS, 1);
     wait(rt, words, seat, number);
@@ -74,7 +75,7 @@ fn store_counts<T: Kept>(words: &Words<T>, seat: &mut Place<T>, counts: &[u64; 4
 /// Answers the length. It was `found` when the turn came.
 pub(crate) fn give<T: Kept>(words: &Words<T>, seat: &mut Place<T>, found: u64, value: T) -> u64
     requires own { (seat.old.table_id ≡ words.now.table_id) × IsSized words.now.table_id }
-    requires turn { MayGive T.owner T.entries T.counted found value seat.old.me }
+    requires turn { MayGive T.owner T.entries T.counted T.fixed found value seat.old.me }
     ensures same { IsSameSeat seat.old seat.new }
     ensures length { result ≡ length (T.entries value) }
     ensures rests { seat.new.me ≡ (gave (T.entries value) found seat.old.me.0, []) }

@@ -1,10 +1,12 @@
 pub mod AppliedValues
 pub mod ApplyLemmas
 pub mod CrtcLemmas
+pub mod FramedLemmas
 pub mod HeldValues
 pub mod ImageWords
 pub mod InPlace
 pub mod Items
+pub mod KindsOfIds
 pub mod LastLemmas
 pub mod LateLemmas
 pub mod MachineInputs
@@ -23,6 +25,7 @@ pub mod ScriptRows
 pub mod SeenLemmas
 pub mod SetLemmas
 pub mod SettingLemmas
+pub mod ShownLemmas
 pub mod SoundKept
 pub mod SoundStart
 pub mod Spans

@@ -2,5 +2,6 @@ pub mod Pictures
 pub mod Rectangles
 pub mod FrameBytes
 pub mod Images
+pub mod Shown
 pub mod LayersInPlace
 pub mod Ppm

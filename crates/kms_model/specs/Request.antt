@@ -11,4 +11,6 @@ pub mod Sets
 pub mod SetRanges
 pub mod Resolves
 pub mod Agreement
+pub mod Groups
+pub mod Deciding
 pub mod Reach

@@ -19,6 +19,7 @@ mod replies;
 mod runs;
 mod scripts;
 mod sets;
+mod shown;
 mod states;
 mod stores;
 mod tables;
@@ -30,7 +31,7 @@ pub use layers::Layers;
 pub use list::Seq;
 pub use masks::has_bit;
 pub use objects::{
-    FIRST_THING_ID, Format, Kind, MAX_CLIENTS, MAX_CONNECTORS, MAX_CRTCS, MAX_PLANES, Mode, ObjId,
+    FIRST_CONNECTOR_ID, FIRST_CRTC_ID, FIRST_ENCODER_ID, FIRST_PLANE_ID, FIRST_THING_ID, Format, Kind, MAX_CLIENTS, MAX_CONNECTORS, MAX_CRTCS, MAX_PLANES, Mode, ObjId,
     PlaneInfo, Ticket, Topology,
 };
 pub use pictures::{Colour, FbInfo, Layer, Picture, Rect, Shown};
@@ -40,6 +41,7 @@ pub use replies::{Answered, Denied, Event, Refusal, Reply, Step};
 pub use runs::{Doing, Latch, Place};
 pub use scripts::{Assign, Command, Part, Pattern, PropRef, Request, Script, Value, Why};
 pub use sets::{Lookups, Resolved, Set, SetValue};
+pub use shown::{framebuffers_have_their_buffers, what_is_shown_can_be_composed};
 pub use states::{Both, Checked, ConnState, CrtcState, Duplicates, Mask, ObjState, PlaneState};
 pub use stores::{BadMode, Blob, Buffer, Framebuffer, Image};
 pub use tables::{IdTable, Slot};

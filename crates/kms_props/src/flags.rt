@@ -1,6 +1,7 @@
 //! The flags of an atomic request. (Header: `drm_mode.h`.)
 ghost use Rattle.std.specs.Prelude.{⊤, ◌≡◌, option_map};
 ghost use Rattle.kms_model.specs.Firsts.{number_if};
+ghost use Rattle.kms_model.specs.Request.Flags.{has_flag};
 ghost use Rattle.kms_model.specs.Device.Properties.{are_flags};
 ghost use Rattle.kms_model.specs.Device.Properties.{flags as flag_rows};
 ghost use Rattle.kms_props.specs.Flags.{bits_of};
@@ -45,6 +46,22 @@ impl Flags for AtomicFlags {
 
     fn from_bits_retain(bits: u32) -> AtomicFlags {
         AtomicFlags(bits)
+    }
+}
+
+impl AtomicFlags {
+    /// The flags of a request, also where a bit outside 0x703 is set.
+    pub fn of_request(flags: u32) -> AtomicFlags
+        ensures { bits_of result ≡ flags }
+    {
+        AtomicFlags(flags)
+    }
+
+    /// Whether each bit of a flag is set.
+    pub fn contains(self, flag: AtomicFlags) -> bool
+        ensures { result ≡ has_flag (bits_of self) (bits_of flag) }
+    {
+        Flags::contains(&self, flag)
     }
 }
 

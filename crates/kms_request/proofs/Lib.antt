@@ -5,3 +5,6 @@ pub mod NamedLemmas
 pub mod NamingLemmas
 pub mod WholeLemmas
 pub mod SameLooks
+pub mod GroupLemmas
+pub mod AffectedLemmas
+pub mod SetGroups

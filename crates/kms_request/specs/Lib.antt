@@ -5,3 +5,4 @@ pub mod Targets
 pub mod Whole
 pub mod Order
 pub mod SameLooks
+pub mod Groups

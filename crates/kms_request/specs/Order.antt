@@ -10,6 +10,7 @@ use Rattle.kms_model.specs.declared.states.PlaneState.{PlaneState}
 use Rattle.kms_model.specs.Device.Objects.{count_of}
 use Rattle.kms_model.specs.Device.Sound.{IsPlaneInRange}
 use Rattle.kms_model.specs.Request.Late.{duplicate_in, plane_refusal_of, crtc_refusal_of, conn_refusal_of, clone_refusal_of, route_refusal_of, shown_refusal_of}
+use Rattle.kms_props.specs.Flags.{bits_of}
 use Rattle.kms_request.specs.declared.late.Asked.{Asked}
 use Rattle.kms_request.specs.declared.late.Step.{Step}
 use Rattle.kms_request.specs.declared.late.Step.TheVariants.{Planes, Crtcs, Conns, Clones, Routes, Shown}
@@ -26,7 +27,7 @@ count_at t Shown = count_of t Plane
 -- what a step finds wrong with an object of a set, by its index
 abbrev pub refusal_at : Topology → Duplicates → Mask → Asked → Step → ℕ → Option ℕ
 refusal_at t d objects asked Planes index = option_and_then (plane_refusal_of t index) (duplicate_in objects.planes d.planes index)
-refusal_at t d objects asked Crtcs index = option_and_then (crtc_refusal_of asked.flags asked.named asked.fenced index) (duplicate_in objects.crtcs d.crtcs index)
+refusal_at t d objects asked Crtcs index = option_and_then (crtc_refusal_of (bits_of asked.flags) asked.named asked.fenced index) (duplicate_in objects.crtcs d.crtcs index)
 refusal_at t d objects asked Conns index = option_and_then (conn_refusal_of t index) (duplicate_in objects.conns d.conns index)
 refusal_at t d objects asked Clones index = option_and_then (λ both. clone_refusal_of t both) (duplicate_in objects.crtcs d.crtcs index)
 refusal_at t d objects asked Routes index = option_and_then (λ both. route_refusal_of both) (duplicate_in objects.crtcs d.crtcs index)

@@ -10,7 +10,7 @@ ghost use Rattle.kms_model.specs.Request.Touched.{new_label, out_fence_label};
 ghost use Rattle.kms_request.specs.Fences.{fence_value, ListsNumbers, TellInFences, TellNumbers, TellOutFences};
 
 use crate::lookups::Looker;
-use crate::sets::{object_id, prop_of};
+use crate::sets::prop_of;
 use kms_model::properties::{IN_FENCE_FD, OUT_FENCE_PTR};
 use kms_model::{Assign, Kind, Look, NoMemory, ObjId, Seq, Topology, Value};
 use std::alloc::Global;
@@ -108,7 +108,7 @@ fn listed(
         let Some(number) = numbers[index] else {
             continue;
         };
-        all.push((ObjId(object_id(kind, index as u32)), number))?;
+        all.push((ObjId::of(kind, index as u32), number))?;
     }
     Ok(all)
 }

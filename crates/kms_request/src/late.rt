@@ -9,22 +9,20 @@ ghost use Rattle.kms_model.specs.Request.Flags.{allows_modeset, wants_event};
 ghost use Rattle.kms_model.specs.Request.Late.{ArePlanesInRange, clone_refusal_of, conn_refusal_of, crtc_refusal_of, duplicate_in, late_of_states, members, needs_modeset_if, new_mode, plane_refusal_of, route_refusal_of, shown_refusal_of};
 ghost use Rattle.kms_model.specs.Device.Objects.{count_of};
 ghost use Rattle.kms_model.specs.Device.Sound.{IsPlaneInRange};
+ghost use Rattle.kms_props.specs.Flags.{bits_of};
 ghost use Rattle.kms_request.specs.Answers.{refusal_number};
 ghost use Rattle.kms_request.specs.Order.{IsLookedAtInRange, count_at, refusal_at};
 
-use crate::flags::{ALLOW_MODESET, PAGE_FLIP_EVENT};
-use crate::states::{
-    FIRST_CRTC, conn_refusal, crtc_refusal, has_bit, needs_modeset, plane_refusal, shown_refusal,
-};
-use kms_model::{
-    Both, ConnState, CrtcState, Duplicates, Mask, Mode, PlaneState, Refusal, Topology,
-};
+use crate::duplicated::{duplicate_at, duplicate_in, is_in};
+use crate::states::{conn_refusal, crtc_refusal, needs_modeset, plane_refusal, shown_refusal};
+use kms_model::{Duplicates, Kind, Mask, Mode, Refusal, Topology};
+use kms_props::AtomicFlags;
 
 /// What a request asks for, besides what it sets.
 #[derive(Clone, Copy, Debug)]
 pub struct Asked {
     /// Its flags.
-    pub flags: u32,
+    pub flags: AtomicFlags,
     /// The CRTCs that it names: bit i stands for CRTC index i.
     pub named: u32,
     /// The CRTCs for which it asks for an out-fence.
@@ -48,113 +46,81 @@ enum Step {
     Shown,
 }
 
-/// The states of a plane of a set, where they are duplicated.
-fn plane_in(states: &Duplicates, objects: &Mask, index: usize) -> Option<Both<PlaneState>>
-    ensures { result ≡ duplicate_in objects.now.planes states.now.planes index }
-{
-    if has_bit(objects.planes, index) {
-        states.planes.get(index).copied().flatten()
-    } else {
-        None
-    }
-}
-
-/// The states of a CRTC of a set, where they are duplicated.
-fn crtc_in(states: &Duplicates, objects: &Mask, index: usize) -> Option<Both<CrtcState>>
-    ensures { result ≡ duplicate_in objects.now.crtcs states.now.crtcs index }
-{
-    if has_bit(objects.crtcs, index) {
-        states.crtcs.get(index).copied().flatten()
-    } else {
-        None
-    }
-}
-
-/// The states of a connector of a set, where they are duplicated.
-fn conn_in(states: &Duplicates, objects: &Mask, index: usize) -> Option<Both<ConnState>>
-    ensures { result ≡ duplicate_in objects.now.conns states.now.conns index }
-{
-    if has_bit(objects.conns, index) {
-        states.conns.get(index).copied().flatten()
-    } else {
-        None
-    }
-}
-
 /// The new mode of the CRTC with an id, if it is duplicated and has one.
 fn new_mode(states: &Duplicates, crtc: u32) -> Option<Mode>
     ensures { result ≡ new_mode states.now.crtcs crtc }
 {
-    let index = crtc.saturating_sub(FIRST_CRTC) as usize;
-    states.crtcs.get(index).copied().flatten()?.new.mode
+    let index = crtc.saturating_sub(Kind::Crtc.first_id()) as usize;
+    duplicate_at(&states.crtcs, index)?.new.mode
 }
 
 /// How many of the first objects are in a set.
 fn members(mask: u32, count: usize) -> usize
     ensures { result ≡ members mask count }
 {
-    (0..count).filter(|&index| has_bit(mask, index)).count()
+    (0..count).filter(|&index| is_in(mask, index)).count()
 }
 
 /// What is wrong with a plane of a set, from 10 to 15.
-fn plane_at(topology: &Topology, states: &Duplicates, objects: &Mask, index: usize) -> Option<u32>
+fn plane_at(topology: &Topology, states: &Duplicates, objects: &Mask, index: usize) -> Option<Refusal>
     requires { IfSome (duplicate_in objects.now.planes states.now.planes index) (λ both. IsPlaneInRange both.new) }
-    ensures { result ≡ option_and_then (plane_refusal_of topology.now index) (duplicate_in objects.now.planes states.now.planes index) }
+    ensures { refusal_number result ≡ option_and_then (plane_refusal_of topology.now index) (duplicate_in objects.now.planes states.now.planes index) }
 {
-    let both = plane_in(states, objects, index)?;
+    let both = duplicate_in(objects.planes, &states.planes, index)?;
     let info = topology.planes.as_slice().get(index)?;
     plane_refusal(info, &both.old, &both.new)
 }
 
 /// What is wrong with a CRTC of a set, 16 or 17.
-fn crtc_at(states: &Duplicates, objects: &Mask, asked: Asked, index: usize) -> Option<u32>
-    ensures { result ≡ option_and_then (crtc_refusal_of asked.flags asked.named asked.fenced index) (duplicate_in objects.now.crtcs states.now.crtcs index) }
+fn crtc_at(states: &Duplicates, objects: &Mask, asked: Asked, index: usize) -> Option<Refusal>
+    ensures { refusal_number result ≡ option_and_then (crtc_refusal_of (bits_of asked.flags) asked.named asked.fenced index) (duplicate_in objects.now.crtcs states.now.crtcs index) }
 {
-    let both = crtc_in(states, objects, index)?;
-    let signals = asked.flags & PAGE_FLIP_EVENT != 0 || has_bit(asked.fenced, index);
-    let asks = has_bit(asked.named, index) && signals;
+    let both = duplicate_in(objects.crtcs, &states.crtcs, index)?;
+    let signals = asked.flags.contains(AtomicFlags::PAGE_FLIP_EVENT)
+        || is_in(asked.fenced, index);
+    let asks = is_in(asked.named, index) && signals;
     crtc_refusal(asks, both.old.active, both.new.active, both.new.mode)
 }
 
 /// What is wrong with a connector of a set, 18.
-fn conn_at(topology: &Topology, states: &Duplicates, objects: &Mask, index: usize) -> Option<u32>
-    ensures { result ≡ option_and_then (conn_refusal_of topology.now index) (duplicate_in objects.now.conns states.now.conns index) }
+fn conn_at(topology: &Topology, states: &Duplicates, objects: &Mask, index: usize) -> Option<Refusal>
+    ensures { refusal_number result ≡ option_and_then (conn_refusal_of topology.now index) (duplicate_in objects.now.conns states.now.conns index) }
 {
-    let both = conn_in(states, objects, index)?;
+    let both = duplicate_in(objects.conns, &states.conns, index)?;
     let possible = topology.conns.as_slice().get(index)?;
     conn_refusal(*possible, both.new.crtc)
 }
 
 /// 19, where two or more connectors are on a CRTC of a set.
-fn clones_at(topology: &Topology, states: &Duplicates, objects: &Mask, index: usize) -> Option<u32>
-    ensures { result ≡ option_and_then (λ both. clone_refusal_of topology.now both) (duplicate_in objects.now.crtcs states.now.crtcs index) }
+fn clones_at(topology: &Topology, states: &Duplicates, objects: &Mask, index: usize) -> Option<Refusal>
+    ensures { refusal_number result ≡ option_and_then (λ both. clone_refusal_of topology.now both) (duplicate_in objects.now.crtcs states.now.crtcs index) }
 {
-    let both = crtc_in(states, objects, index)?;
+    let both = duplicate_in(objects.crtcs, &states.crtcs, index)?;
     if members(both.new.conns, topology.conns.len()) > 1 {
-        Some(19)
+        Some(Refusal::CLONED_CONNECTORS)
     } else {
         None
     }
 }
 
 /// 20, where a CRTC of a set has a mode and no connector, or a connector and no mode.
-fn route_at(states: &Duplicates, objects: &Mask, index: usize) -> Option<u32>
-    ensures { result ≡ option_and_then (λ both. route_refusal_of both) (duplicate_in objects.now.crtcs states.now.crtcs index) }
+fn route_at(states: &Duplicates, objects: &Mask, index: usize) -> Option<Refusal>
+    ensures { refusal_number result ≡ option_and_then (λ both. route_refusal_of both) (duplicate_in objects.now.crtcs states.now.crtcs index) }
 {
-    let both = crtc_in(states, objects, index)?;
+    let both = duplicate_in(objects.crtcs, &states.crtcs, index)?;
     if both.new.mode.is_some() != (both.new.conns != 0) {
-        Some(20)
+        Some(Refusal::MODE_XOR_CONNECTOR)
     } else {
         None
     }
 }
 
 /// What is wrong with a plane of a set on its CRTC, from 21 to 23.
-fn shown_at(states: &Duplicates, objects: &Mask, index: usize) -> Option<u32>
+fn shown_at(states: &Duplicates, objects: &Mask, index: usize) -> Option<Refusal>
     requires { IfSome (duplicate_in objects.now.planes states.now.planes index) (λ both. IsPlaneInRange both.new) }
-    ensures { result ≡ option_and_then (λ both. shown_refusal_of states.now.crtcs both) (duplicate_in objects.now.planes states.now.planes index) }
+    ensures { refusal_number result ≡ option_and_then (λ both. shown_refusal_of states.now.crtcs both) (duplicate_in objects.now.planes states.now.planes index) }
 {
-    let both = plane_in(states, objects, index)?;
+    let both = duplicate_in(objects.planes, &states.planes, index)?;
     shown_refusal(new_mode(states, both.new.crtc), &both.new)
 }
 
@@ -166,9 +132,9 @@ fn refusal_at(
     asked: Asked,
     step: Step,
     index: usize,
-) -> Option<u32>
+) -> Option<Refusal>
     requires { IsLookedAtInRange step (duplicate_in objects.now.planes states.now.planes index) }
-    ensures { result ≡ refusal_at topology.now states.now objects.now asked step index }
+    ensures { refusal_number result ≡ refusal_at topology.now states.now objects.now asked step index }
 {
     match step {
         Step::Planes => plane_at(topology, states, objects, index),
@@ -198,13 +164,13 @@ fn first_of(
     objects: &Mask,
     asked: Asked,
     step: Step,
-) -> Option<u32>
+) -> Option<Refusal>
     requires { ArePlanesInRange topology.now states.now objects.now.planes }
-    ensures { result ≡ first_some (refusal_at topology.now states.now objects.now asked step) (range_with_len 0 (count_at topology.now step)) }
+    ensures { refusal_number result ≡ first_some (refusal_at topology.now states.now objects.now asked step) (range_with_len 0 (count_at topology.now step)) }
 {
     for index in 0..count_at(topology, step) {
-        if let Some(number) = refusal_at(topology, states, objects, asked, step, index) {
-            return Some(number);
+        if let Some(refusal) = refusal_at(topology, states, objects, asked, step, index) {
+            return Some(refusal);
         }
     }
     None
@@ -214,9 +180,11 @@ fn first_of(
 fn some_needs_modeset(topology: &Topology, states: &Duplicates, objects: &Mask) -> bool
     ensures { result ≡ list_any (λ index. needs_modeset_if (duplicate_in objects.now.crtcs states.now.crtcs index)) (range_with_len 0 (count_of topology.now Crtc)) }
 {
-    (0..topology.crtcs as usize).any(|index| crtc_in(states, objects, index).is_some_and(
-        |both| needs_modeset(&both),
-    ))
+    (0..topology.crtcs as usize).any(|index| duplicate_in(
+        objects.crtcs,
+        &states.crtcs,
+        index,
+    ).is_some_and(|both| needs_modeset(&both)))
 }
 
 /// The first refusal from 9 to 24 of a set of duplicated objects.
@@ -230,10 +198,10 @@ pub fn late_refusal(
     asked: Asked,
 ) -> Option<Refusal>
     requires { ArePlanesInRange topology.now states.now objects.now.planes }
-    ensures { refusal_number result ≡ late_of_states topology.now states.now objects.now asked.flags asked.named asked.fenced }
+    ensures { refusal_number result ≡ late_of_states topology.now states.now objects.now (bits_of asked.flags) asked.named asked.fenced }
 {
-    if asked.flags & PAGE_FLIP_EVENT != 0 && asked.named == 0 {
-        return Some(Refusal(9));
+    if asked.flags.contains(AtomicFlags::PAGE_FLIP_EVENT) && asked.named == 0 {
+        return Some(Refusal::EVENT_WITHOUT_CRTC);
     }
     first_of(topology, states, objects, asked, Step::Planes)
         .or_else(|| first_of(topology, states, objects, asked, Step::Crtcs))
@@ -242,7 +210,7 @@ pub fn late_refusal(
         .or_else(|| first_of(topology, states, objects, asked, Step::Routes))
         .or_else(|| first_of(topology, states, objects, asked, Step::Shown))
         .or_else(|| modeset_refusal(topology, states, objects, asked.flags))
-        .map(Refusal)
+        
 }
 
 /// 24, where a CRTC of a set needs a modeset and ALLOW_MODESET is not set.
@@ -250,12 +218,14 @@ fn modeset_refusal(
     topology: &Topology,
     states: &Duplicates,
     objects: &Mask,
-    flags: u32,
-) -> Option<u32>
-    ensures { result ≡ number_if 24 (not (allows_modeset flags) && list_any (λ index. needs_modeset_if (duplicate_in objects.now.crtcs states.now.crtcs index)) (range_with_len 0 (count_of topology.now Crtc))) }
+    flags: AtomicFlags,
+) -> Option<Refusal>
+    ensures { refusal_number result ≡ number_if 24 (not (allows_modeset (bits_of flags)) && list_any (λ index. needs_modeset_if (duplicate_in objects.now.crtcs states.now.crtcs index)) (range_with_len 0 (count_of topology.now Crtc))) }
 {
-    if flags & ALLOW_MODESET == 0 && some_needs_modeset(topology, states, objects) {
-        Some(24)
+    if !flags.contains(AtomicFlags::ALLOW_MODESET)
+        && some_needs_modeset(topology, states, objects)
+    {
+        Some(Refusal::MODESET_NOT_ALLOWED)
     } else {
         None
     }

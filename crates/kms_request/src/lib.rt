@@ -6,28 +6,32 @@
 //! 24 of a set of duplicated objects, and `full_check` that of the whole device.
 #![tactic(auto)]
 
+mod duplicated;
 mod errors;
 mod fences;
-mod flags;
+mod groups;
 mod late;
 mod lookups;
 mod naming;
 mod refusals;
 mod resolving;
 mod sets;
+mod spanning;
 mod states;
 mod targets;
 mod whole;
 
 pub use errors::RequestError;
 pub use fences::out_fence_numbers;
+pub use groups::{affected, crtcs_fenced, objects_set, only_crtcs, union};
 pub use late::{Asked, late_refusal};
 pub use lookups::Looker;
 pub use naming::named;
 pub use refusals::early;
 pub use resolving::resolve;
-pub use sets::{object_id, object_of, prop_of, set_of};
-pub use states::{has_bit, needs_modeset};
+pub use sets::{object_of, prop_of, set_of};
+pub use spanning::spans;
+pub use states::needs_modeset;
 pub use whole::{full_check, named_in};
 
 #[cfg(test)]

@@ -5,30 +5,29 @@ ghost use Rattle.kms_model.specs.Request.Apply.{prop_of};
 ghost use Rattle.kms_model.specs.Firsts.{number_if, or_else};
 ghost use Rattle.kms_model.specs.Device.Objects.{count_of, exists};
 ghost use Rattle.kms_model.specs.Device.Properties.{are_flags, keeps_limits, property};
-ghost use Rattle.kms_model.specs.Request.Refusals.{assign_refusal, assigns_refusal, early_refusal, flags_refusal, is_in_range, names_label, is_second_fence, takes};
+ghost use Rattle.kms_model.specs.Request.Refusals.{assigns_refusal, early_refusal, flags_refusal, is_in_range, names_label, is_second_fence, own_refusal, takes};
 ghost use Rattle.kms_model.specs.Request.Resolves.{IsAllowed, IsSettable};
 ghost use Rattle.kms_props.specs.Rows.{property_of};
 ghost use Rattle.kms_request.specs.Answers.{refusal_number};
 ghost use Rattle.kms_request.specs.Fences.{SetsFenceOfPlane, TellFences};
 
-use crate::flags::{PAGE_FLIP_ASYNC, PAGE_FLIP_EVENT, TEST_ONLY};
 use crate::lookups::Looker;
 use kms_model::properties::{FB_ID, IN_FENCE_FD, MODE_ID, OUT_FENCE_PTR};
 use kms_model::{Assign, Kind, Look, PropRef, Range, Refusal, Request, Topology, Value};
-use kms_props::{PropertyRow, from_bits, row_of};
+use kms_props::{AtomicFlags, PropertyRow, from_bits, row_of};
 
 /// What is wrong with flags: 1, there is another bit; 2, PAGE_FLIP_ASYNC is set; 3, TEST_ONLY and PAGE_FLIP_EVENT are set.
-fn flags_refusal(flags: u32) -> Option<u32>
-    ensures { result ≡ flags_refusal flags }
+fn flags_refusal(flags: u32) -> Option<Refusal>
+    ensures { refusal_number result ≡ flags_refusal flags }
 {
-    if from_bits(flags).is_none() {
-        return Some(1);
+    let Some(flags) = from_bits(flags) else {
+        return Some(Refusal::UNKNOWN_FLAG);
+    };
+    if flags.contains(AtomicFlags::PAGE_FLIP_ASYNC) {
+        return Some(Refusal::ASYNC_FLIP);
     }
-    if flags & PAGE_FLIP_ASYNC != 0 {
-        return Some(2);
-    }
-    if flags & TEST_ONLY != 0 && flags & PAGE_FLIP_EVENT != 0 {
-        return Some(3);
+    if flags.contains(AtomicFlags::TEST_ONLY) && flags.contains(AtomicFlags::PAGE_FLIP_EVENT) {
+        return Some(Refusal::TEST_WITH_EVENT);
     }
     None
 }
@@ -96,26 +95,25 @@ fn is_in_range<L: Looker>(
 
 /// What is wrong with an assignment by itself, whatever comes before it: 4, its object does not exist; 5, the object
 /// does not have the property; 6, the property is immutable; 7, the value is not among the property's.
-#[tactic(auto, unfolding(kms_model::specs::Request::Refusals::assign_refusal))]
-fn own_refusal<L: Looker>(topology: &Topology, found: &L, a: &Assign) -> Option<u32>
-    ensures first { (earlier : List Assign) → assign_refusal topology.now (L.meaning found.now) earlier a.now
-        ≡ or_else result (number_if 8 (is_second_fence earlier a.now)) }
+#[tactic(auto, unfolding(kms_model::specs::Request::Refusals::own_refusal))]
+fn own_refusal<L: Looker>(topology: &Topology, found: &L, a: &Assign) -> Option<Refusal>
+    ensures refusal { refusal_number result ≡ own_refusal topology.now (L.meaning found.now) a.now }
     ensures allowed { IsNone result → IsAllowed topology.now (L.meaning found.now) a.now }
 {
     if !exists(topology, a.kind, a.index) {
-        return Some(4);
+        return Some(Refusal::NO_OBJECT);
     }
     let Some(row) = row_named(a.prop) else {
-        return Some(5);
+        return Some(Refusal::NO_PROPERTY);
     };
     if !row.kinds.contains(&a.kind) {
-        return Some(5);
+        return Some(Refusal::NO_PROPERTY);
     }
     if row.immutable {
-        return Some(6);
+        return Some(Refusal::IMMUTABLE_PROPERTY);
     }
     if !is_in_range(topology, found, row.id, row.range, a.value) {
-        return Some(7);
+        return Some(Refusal::INVALID_VALUE);
     }
     None
 }
@@ -139,19 +137,19 @@ fn note_fence(fenced: &mut [bool; 16], a: &Assign)
 }
 
 /// The first that is wrong with assignments, from 4 to 8.
-#[tactic(auto, unfolding(kms_model::specs::Request::Refusals::assigns_refusal))]
-fn first_refusal<L: Looker>(topology: &Topology, found: &L, assigns: &[Assign]) -> Option<u32>
+#[tactic(auto, unfolding(kms_model::specs::Request::Refusals::assigns_refusal, kms_model::specs::Request::Refusals::assign_refusal))]
+fn first_refusal<L: Looker>(topology: &Topology, found: &L, assigns: &[Assign]) -> Option<Refusal>
     requires { IsTrue (keeps_limits topology.now) }
-    ensures { result ≡ assigns_refusal topology.now (L.meaning found.now) [] assigns.now }
+    ensures { refusal_number result ≡ assigns_refusal topology.now (L.meaning found.now) [] assigns.now }
 {
     // For each plane, whether an assignment named a fence for it.
     let mut fenced = [false; 16];
     for a in assigns {
-        if let Some(number) = own_refusal(topology, found, a) {
-            return Some(number);
+        if let Some(refusal) = own_refusal(topology, found, a) {
+            return Some(refusal);
         }
         if is_second_fence(&fenced, a) {
-            return Some(8);
+            return Some(Refusal::SECOND_IN_FENCE);
         }
         note_fence(&mut fenced, a);
     }
@@ -169,11 +167,8 @@ pub fn early<L: Looker>(topology: &Topology, request: &Request, found: &L) -> Op
     ensures allowed { IsNone result → All (IsAllowed topology.now (L.meaning found.now)) request.now.assigns }
     ensures settable { IsNone result → All IsSettable request.now.assigns }
 {
-    if let Some(number) = flags_refusal(request.flags) {
-        return Some(Refusal(number));
+    if let Some(refusal) = flags_refusal(request.flags) {
+        return Some(refusal);
     }
-    match first_refusal(topology, found, request.assigns.as_slice()) {
-        Some(number) => Some(Refusal(number)),
-        None => None,
-    }
+    first_refusal(topology, found, request.assigns.as_slice())
 }

@@ -31,7 +31,7 @@ pub pushed-images : (things : List Thing) (fb : ℕ) (old new : List FbImage) �
 pushed-images things fb old new p images =
     subst (AreImagesIn things) (sym p.pushed) (All-push (IsImageIn things) old p.image images (pushed_found things fb old new p))
 
--- which image is image_seen, by whether it is the first one
+-- which image is seen, by whether it is the first one
 here_or_behind : (b : Bool) (x y z : Option Seen) → (b ≡ true → x ≡ z) → (b ≡ false → y ≡ z) → cond b x y ≡ z
 here_or_behind true x y z one other = one refl
 here_or_behind false x y z one other = other refl
@@ -63,7 +63,7 @@ pushed_kept : (things : List Thing) (fb : ℕ) (old new : List FbImage) → IsPu
 pushed_kept things fb old new p l before =
     ap (λ (is : List FbImage). seen_under is l.fb.id) p.pushed ∙ seen_kept things old p.image l.fb.id (pushed_found things fb old new p) before
 
--- the layers up to one more are image_seen
+-- the layers up to one more are seen
 pub pushed-more : (things : List Thing) (layers : List Layer) (i : ℕ) (d : Layer) (old new : List FbImage) → i < length layers
     → IsPushed things (get_or layers i d).fb.id old new → AreImagesIn things old → AreSeen things old (take i layers) → AreSeen things new (take (i + 1) layers)
 pushed-more things layers i d old new within p images before =
@@ -73,7 +73,7 @@ pushed-more things layers i d old new within p images before =
 
 -- Pictures
 
--- layers that can be shown, over images in which they are image_seen
+-- layers that can be shown, over images in which they are seen
 pub showable : (things : List Thing) (m : Mode) (images : List FbImage) (layers : List Layer) → All (CanBeShown things m) layers → AreSeen things images layers → All (IsShowable m images) layers
 showable things m images layers can are k d within =
     let one = can k d within in

@@ -42,7 +42,7 @@ latched_text frames Off frame = codes "off\n"
 latched_text frames (On p) frame = on_text frames p.mode frame
 
 abbrev pub latched_of : Bool → ℕ → Pictured → Latched
-latched_of frames index p = record { index = index; commit = p.commit; is_lit = is_lit p.picture; text = latched_text frames p.picture p.frame }
+latched_of frames index p = record { index = index; commit = p.commit; is_on = is_lit p.picture; text = latched_text frames p.picture p.frame }
 
 abbrev pub latched_if : Bool → ℕ → Option Pictured → List Latched
 latched_if frames index None = []

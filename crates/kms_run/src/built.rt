@@ -9,14 +9,12 @@ ghost use Rattle.kms_model.specs.Script.WellFormed.{IsFitClient, IsWellFormed};
 
 use kms_model::properties::IN_FENCE_FD;
 use kms_model::{Assign, Command, PropRef, Request, Script, Seq, Value};
-
-/// DRM_MODE_PAGE_FLIP_EVENT.
-const EVENT: u32 = 0x1;
+use kms_props::AtomicFlags;
 
 fn wants_event(flags: u32) -> bool
     ensures { result ≡ wants_event flags }
 {
-    flags & EVENT != 0
+    AtomicFlags::of_request(flags).contains(AtomicFlags::PAGE_FLIP_EVENT)
 }
 
 fn prop_of(prop: PropRef) -> u32

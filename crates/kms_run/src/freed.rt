@@ -4,13 +4,15 @@ ghost use Rattle.kms_model.specs.Report.Flat.{Done, freed_by, is_used};
 ghost use Rattle.kms_run.specs.Freed.{AreCandidates, AreUsed, IsExecuted, closing_id, freed_at, freed_from, freed_next, freed_of};
 
 use crate::replies::is_accepted;
-use kms_model::{Command, NoMemory, Reply, Seq};
+use kms_model::{Command, MAX_PLANES, NoMemory, Reply, Seq};
 use kms_serial::Serial;
 
-/// A framebuffer that was freed: its label, as a place among the names, and its id.
+/// A framebuffer that was freed.
 #[derive(Clone, Copy, Debug, PartialEq, Eq)]
 pub struct Freed {
+    /// The index of its label among the names.
     pub label: u32,
+    /// Its id.
     pub id: u32,
 }
 
@@ -18,19 +20,20 @@ pub struct Freed {
 /// closes. 0 stands for none.
 #[derive(Clone, Copy, Debug)]
 pub struct Candidates {
-    pub ids: [u32; 17],
+    /// The ids: by the index of the plane, and then the one that is closed.
+    pub ids: [u32; CLOSED + 1],
 }
 
 /// Where the framebuffer that is closed stands among the candidates, behind those of at most 16 planes.
-const CLOSED: usize = 16;
+const CLOSED: usize = MAX_PLANES as usize;
 
 /// The framebuffers that planes are set to, by plane, and 0 in all other places.
-fn used(serial: &Serial, planes: usize) -> [u32; 17]
+fn used(serial: &Serial, planes: usize) -> [u32; CLOSED + 1]
     requires few { planes ≤ 16 }
     requires planes { planes ≡ length serial.now.topology.planes }
     ensures { AreUsed serial.now.topology serial.now.world.values planes result }
 {
-    let mut ids = [0; 17];
+    let mut ids = [0; CLOSED + 1];
     for index in 0..planes {
         let fb = serial.framebuffer_on(index as u32);
         ids[index] = fb;
@@ -100,7 +103,8 @@ fn push_next(
 ) -> Result<(), NoMemory>
     requires few { planes ≤ 16 }
     requires planes { planes ≡ length serial.now.topology.planes }
-    ensures { OnOk result (all.new ≡ all.old ++ freed_next serial.now.topology serial.now.world last id) }
+    ensures { OnOk result (all.new
+        ≡ all.old ++ freed_next serial.now.topology serial.now.world last id) }
 {
     if id == last {
         return Ok(());
@@ -121,7 +125,8 @@ fn push_each(
 ) -> Result<(), NoMemory>
     requires few { planes ≤ 16 }
     requires planes { planes ≡ length serial.now.topology.planes }
-    ensures { OnOk result (all.new ≡ all.old ++ freed_from serial.now.topology serial.now.world 0 ids.now) }
+    ensures { OnOk result (all.new
+        ≡ all.old ++ freed_from serial.now.topology serial.now.world 0 ids.now) }
 {
     let mut last = 0;
     for id in ids {

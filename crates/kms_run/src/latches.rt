@@ -9,18 +9,22 @@ ghost use Rattle.kms_serial.specs.Shown.{EachCanBeShown, HasWords};
 ghost use Rattle.kms_run.specs.Latches.{AreSeen, IsPushed, latched_of, latched_text, latches_now, marked_latch, on_text};
 
 use kms_compose::{FbImage, Frame, Images, frame};
-use kms_model::{Layer, Mode, NoMemory, Picture, Reply, Seq};
+use kms_model::{Layer, Mode, NoMemory, Picture, Reply, Seq, has_bit};
 use kms_report::{digest, ppm};
 use kms_serial::Serial;
 use std::alloc::Global;
 
-/// What a CRTC latched: its index, the commit's number, whether the CRTC is on, and the end of the latch's line: the
-/// frame's digest or `off`, a line feed, and the frame as text where it is asked for.
+/// What a CRTC latched, with the end of the latch's line: the frame's digest or `off`, a line feed, and the frame as
+/// text where it is asked for.
 #[derive(Drop, Debug)]
 pub struct Latched {
+    /// The index of the CRTC.
     pub index: u32,
+    /// The commit's number, counted from 0.
     pub commit: u32,
+    /// Whether the CRTC is on.
     pub is_on: bool,
+    /// The end of the line.
     pub text: Seq<u8>,
 }
 
@@ -112,7 +116,8 @@ fn text_of(
     frames: bool,
 ) -> Result<Seq<u8>, NoMemory>
     requires { EachCanBeShown serial.now.world.things picture.now }
-    ensures { IfOk result (λ text. text ≡ latched_text frames picture.now (frame_bytes serial.now.world.things picture.now)) }
+    ensures { IfOk result (λ text. text
+        ≡ latched_text frames picture.now (frame_bytes serial.now.world.things picture.now)) }
 {
     let frame = frame_of(alloc, serial, picture)?;
     match picture {
@@ -130,7 +135,8 @@ fn latch_of(
     frames: bool,
 ) -> Result<Latched, NoMemory>
     requires { index < serial.now.topology.crtcs }
-    ensures { IfOk result (λ l. l ≡ latched_of frames index (pictured serial.now.topology serial.now.world (object_id kind.Crtc index) commit)) }
+    ensures { IfOk result (λ l. l ≡ latched_of frames index
+        (pictured serial.now.topology serial.now.world (object_id kind.Crtc index) commit)) }
 {
     let picture = serial.picture(index);
     let text = text_of(alloc, serial, &picture, frames)?;
@@ -142,7 +148,7 @@ fn latch_of(
     })
 }
 
-/// Adds what a CRTC latches of a commit, where the commit names it: `named` has its bit.
+/// Adds what a CRTC latches of a commit, where the commit names it: `named` is the mask of these CRTCs.
 fn push_latch(
     alloc: Global,
     latches: &mut Seq<Latched>,
@@ -152,17 +158,17 @@ fn push_latch(
     named: u32,
     frames: bool,
 ) -> Result<(), NoMemory>
-    requires few { index < 32 }
     requires crtc { index < serial.now.topology.crtcs }
-    ensures { OnOk result (latches.new ≡ latches.old ++ marked_latch frames serial.now.topology serial.now.world commit named index) }
+    ensures { OnOk result (latches.new ≡ latches.old
+        ++ marked_latch frames serial.now.topology serial.now.world commit named index) }
 {
-    if named & (1 << index) == 0 {
+    if !has_bit(named, index) {
         return Ok(());
     }
     Ok(latches.push(latch_of(alloc, serial, index, commit, frames)?)?)
 }
 
-/// Adds what each CRTC that a commit names latches: `named` has a bit for each.
+/// Adds what each CRTC that a commit names latches: `named` is the mask of these, and `crtcs` the count of all.
 pub fn push_latches(
     alloc: Global,
     latches: &mut Seq<Latched>,
@@ -174,7 +180,8 @@ pub fn push_latches(
 ) -> Result<(), NoMemory>
     requires few { crtcs ≤ 4 }
     requires crtcs { crtcs ≡ serial.now.topology.crtcs }
-    ensures { OnOk result (latches.new ≡ latches.old ++ latches_now frames serial.now.topology serial.now.world named reply.now) }
+    ensures { OnOk result (latches.new ≡ latches.old
+        ++ latches_now frames serial.now.topology serial.now.world named reply.now) }
 {
     let Reply::Commit { commit } = reply else {
         return Ok(());

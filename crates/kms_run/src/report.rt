@@ -38,7 +38,8 @@ fn push_reply(
     client: u32,
     answer: &Answered,
 ) -> Result<(), NoMemory>
-    ensures { OnOk result (text.new.items ≡ text.old.items ++ replies_text client (answer.now ∷ [])) }
+    ensures { OnOk result (text.new.items
+        ≡ text.old.items ++ replies_text client (answer.now ∷ [])) }
 {
     if answer.client != client {
         return Ok(());
@@ -134,7 +135,8 @@ fn push_all_replies(
     answers: &[Answered],
 ) -> Result<(), NoMemory>
     requires { clients ≤ 16 }
-    ensures { OnOk result (text.new.items ≡ text.old.items ++ all_replies_text clients answers.now) }
+    ensures { OnOk result (text.new.items
+        ≡ text.old.items ++ all_replies_text clients answers.now) }
 {
     for client in 1..clients + 1 {
         push_replies(alloc, text, client, answers)?;
@@ -164,7 +166,8 @@ fn push_all_freed(
     names: &Seq<Seq<u8>>,
     all: &[Freed],
 ) -> Result<(), NoMemory>
-    ensures { OnOk result (text.new.items ≡ text.old.items ++ flat_map (freed_text names.now) all.now) }
+    ensures { OnOk result (text.new.items
+        ≡ text.old.items ++ flat_map (freed_text names.now) all.now) }
 {
     for freed in all {
         push_freed(alloc, text, names, freed)?;

@@ -38,8 +38,12 @@ fn executed(
 ) -> Result<(Reply, u32), NoMemory>
     requires room { HasRoom serial.old.world }
     requires fit { IsFitCommand command.now }
-    ensures executed { IfOk result (λ x. execute serial.old.topology serial.old.world client command.now ≡ record { world = serial.new.world; reply = x.0 }) }
-    ensures named { IfOk result (λ x. (k : ℕ) → x.0 ≡ reply.Commit k → x.1 ≡ named_by serial.old.topology serial.old.world.values serial.new.world.values command.now) }
+    ensures executed { IfOk result (λ x.
+        execute serial.old.topology serial.old.world client command.now
+        ≡ record { world = serial.new.world; reply = x.0 }) }
+    ensures named { IfOk result (λ x. (k : ℕ) → x.0 ≡ reply.Commit k
+        → x.1 ≡ named_by serial.old.topology
+        serial.old.world.values serial.new.world.values command.now) }
     ensures topology { serial.new.topology ≡ serial.old.topology }
     ensures grows { Grows serial.old.world serial.new.world }
 {
@@ -62,7 +66,8 @@ fn turn(
     requires device { IsDevice script.now.topology }
     requires ready { IsReady script.now.topology run.old }
     requires fit { IsFitCommand command.now }
-    ensures { OnOk result (Steps frames script.now.topology run.old run.new (record { client = client; number = number; command = command.now })) }
+    ensures { OnOk result (Steps frames script.now.topology run.old run.new
+        (record { client = client; number = number; command = command.now })) }
 {
     let planes = script.topology.planes.len();
     let candidates = may_free(&run.serial, planes, command);
@@ -102,7 +107,8 @@ fn client_turn(
     requires device { IsDevice script.now.topology }
     requires fit { AllByRecursion IsFitCommand commands.now }
     requires place { place < 65536 }
-    requires continues { Continues frames script.now run.old (turn_of client (place + 1) (slice_get commands.now place) ++ left) }
+    requires continues { Continues frames script.now run.old
+        (turn_of client (place + 1) (slice_get commands.now place) ++ left) }
     ensures { OnOk result (Continues frames script.now run.new left) }
 {
     match commands.get(place) {
@@ -130,7 +136,8 @@ fn round(
     ghost left: { List Turn }
     requires formed { IsWellFormed script.now }
     requires place { place < 65536 }
-    requires continues { Continues frames script.now run.old (flat.round place 1 script.now.clients ++ left) }
+    requires continues { Continues frames script.now run.old
+        (flat.round place 1 script.now.clients ++ left) }
     ensures { OnOk result (Continues frames script.now run.new left) }
 {
     let mut client = 1;

@@ -89,7 +89,8 @@ pub fn status_text(alloc: Global, status: &Status) -> Result<String, NoMemory>
 }
 
 fn script_text(alloc: Global, line: u32, why: &str) -> Result<String, AllocError>
-    ensures { IfOk result (λ text. string_bytes text ≡ codes "kms: line " ++ decimal line ++ codes ": " ++ why.now) }
+    ensures { IfOk result (λ text. string_bytes text
+        ≡ codes "kms: line " ++ decimal line ++ codes ": " ++ why.now) }
 {
     let mut text = String::new(alloc);
     write!(text, "kms: line {line}: {why}")?;
@@ -97,7 +98,8 @@ fn script_text(alloc: Global, line: u32, why: &str) -> Result<String, AllocError
 }
 
 fn illegal_text(alloc: Global, at: u64) -> Result<String, AllocError>
-    ensures { IfOk result (λ text. string_bytes text ≡ codes "kms: event " ++ decimal at ++ codes " is not legal") }
+    ensures { IfOk result (λ text. string_bytes text
+        ≡ codes "kms: event " ++ decimal at ++ codes " is not legal") }
 {
     format!(in alloc; "kms: event {at} is not legal")
 }

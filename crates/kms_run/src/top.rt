@@ -1,10 +1,9 @@
 //! The top calls.
-ghost use Rattle.std.specs.Prelude.{◌≡◌, ◌↔◌, ◌<◌, ◌≤◌, ℕ, List, map, length, IsTrue, string_bytes};
+ghost use Rattle.std.specs.Prelude.{◌≡◌, ◌↔◌, map, string_bytes};
 ghost use Rattle.kms_io.specs.Causes.{Rose};
 ghost use Rattle.kms_io.specs.Bytes.{Moved};
 ghost use Rattle.kms_run.specs.Words.{IsLegal, wants_frames};
-ghost use Rattle.kms_model.specs.declared.scripts.Why.{Why};
-ghost use Rattle.kms_run.specs.Outcome.{IsBuilt, IsSilent, Meets, MovesNothing, TellsFault, WritesFront, WritesNothing, WritesReport};
+ghost use Rattle.kms_run.specs.Outcome.{HasEnded, Meets};
 
 use crate::answers::answer;
 use crate::status::Status;
@@ -26,10 +25,14 @@ fn answered<S: Source, K: Sink>(
     source: &mut S,
     sink: &mut K,
 ) -> Status
-    ensures moved { Moved (S.left source.old) (S.left source.new) (K.written sink.old) (K.written sink.new) (Meets (wants_frames (map string_bytes words.now)) result (S.left source.new)) }
+    ensures moved { Moved
+        (S.left source.old) (S.left source.new) (K.written sink.old) (K.written sink.new)
+        (Meets (wants_frames (map string_bytes words.now)) result (S.left source.new)) }
     ensures usage { (result ≡ Status.Usage) ↔ (IsLegal (map string_bytes words.now) → ⊥) }
-    ensures read_fault { result ≡ Status.ReadFault → Rose (S.faults source.old) (S.faults source.new) }
-    ensures write_fault { result ≡ Status.WriteFault → Rose (K.faults sink.old) (K.faults sink.new) }
+    ensures read_fault { result ≡ Status.ReadFault
+        → Rose (S.faults source.old) (S.faults source.new) }
+    ensures write_fault { result ≡ Status.WriteFault
+        → Rose (K.faults sink.old) (K.faults sink.new) }
 {
     if !legal_words(words) {
         return Status::Usage;
@@ -62,22 +65,10 @@ pub fn kms_plain<R: Threads, S: Source, K: Sink>(
     source: &mut S,
     sink: &mut K,
 ) -> Status
-    // The whole input was read, and what was written is the report of the script that it spells, or a front of it.
-    ensures ok { result ≡ Status.Ok → Moved (S.left source.old) (S.left source.new) (K.written sink.old) (K.written sink.new) (WritesReport (wants_frames (map string_bytes words.now)) (S.left source.new)) }
-    ensures cut { result ≡ Status.WriteFault → Moved (S.left source.old) (S.left source.new) (K.written sink.old) (K.written sink.new) (WritesFront (wants_frames (map string_bytes words.now)) (S.left source.new)) }
-
-    // A fault is the whole input's first, and then nothing was written.
-    ensures script { (line : ℕ) (why : Why) → result ≡ Status.Script line why → Moved (S.left source.old) (S.left source.new) (K.written sink.old) (K.written sink.new) (TellsFault (S.left source.new) line why) }
-
-    // Otherwise nothing was written, and without legal words nothing was read.
-    ensures read_only { IsSilent result → Moved (S.left source.old) (S.left source.new) (K.written sink.old) (K.written sink.new) WritesNothing }
-    ensures untouched { result ≡ Status.Usage → Moved (S.left source.old) (S.left source.new) (K.written sink.old) (K.written sink.new) MovesNothing }
-
-    // When the statuses come that the bytes do not determine. No other status comes, but want of memory.
-    ensures usage { (result ≡ Status.Usage) ↔ (IsLegal (map string_bytes words.now) → ⊥) }
-    ensures read_fault { result ≡ Status.ReadFault → Rose (S.faults source.old) (S.faults source.new) }
-    ensures write_fault { result ≡ Status.WriteFault → Rose (K.faults sink.old) (K.faults sink.new) }
-    ensures no_other { IsBuilt result }
+    ensures ended { HasEnded (map string_bytes words.now) result
+        (S.left source.old) (S.left source.new) (K.written sink.old) (K.written sink.new)
+        (Rose (S.faults source.old) (S.faults source.new))
+        (Rose (K.faults sink.old) (K.faults sink.new)) }
 {
     answered(alloc, words, source, sink)
 }
@@ -92,22 +83,10 @@ pub fn kms_main<R: Threads + Wait, S: Source, K: Sink, G: Gate + Sync>(
     sink: &mut K,
     _gate: &G,
 ) -> Status
-    // The whole input was read, and what was written is the report of the script that it spells, or a front of it.
-    ensures ok { result ≡ Status.Ok → Moved (S.left source.old) (S.left source.new) (K.written sink.old) (K.written sink.new) (WritesReport (wants_frames (map string_bytes words.now)) (S.left source.new)) }
-    ensures cut { result ≡ Status.WriteFault → Moved (S.left source.old) (S.left source.new) (K.written sink.old) (K.written sink.new) (WritesFront (wants_frames (map string_bytes words.now)) (S.left source.new)) }
-
-    // A fault is the whole input's first, and then nothing was written.
-    ensures script { (line : ℕ) (why : Why) → result ≡ Status.Script line why → Moved (S.left source.old) (S.left source.new) (K.written sink.old) (K.written sink.new) (TellsFault (S.left source.new) line why) }
-
-    // Otherwise nothing was written, and without legal words nothing was read.
-    ensures read_only { IsSilent result → Moved (S.left source.old) (S.left source.new) (K.written sink.old) (K.written sink.new) WritesNothing }
-    ensures untouched { result ≡ Status.Usage → Moved (S.left source.old) (S.left source.new) (K.written sink.old) (K.written sink.new) MovesNothing }
-
-    // When the statuses come that the bytes do not determine. No other status comes, but want of memory.
-    ensures usage { (result ≡ Status.Usage) ↔ (IsLegal (map string_bytes words.now) → ⊥) }
-    ensures read_fault { result ≡ Status.ReadFault → Rose (S.faults source.old) (S.faults source.new) }
-    ensures write_fault { result ≡ Status.WriteFault → Rose (K.faults sink.old) (K.faults sink.new) }
-    ensures no_other { IsBuilt result }
+    ensures ended { HasEnded (map string_bytes words.now) result
+        (S.left source.old) (S.left source.new) (K.written sink.old) (K.written sink.new)
+        (Rose (S.faults source.old) (S.faults source.new))
+        (Rose (K.faults sink.old) (K.faults sink.new)) }
 {
     kms_plain(rt, alloc, words, source, sink)
 }

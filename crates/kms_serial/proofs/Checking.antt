@@ -9,11 +9,11 @@ use Rattle.kms_model.specs.declared.scripts.Assign.{Assign}
 use Rattle.kms_model.specs.declared.states.Both.{Both}
 use Rattle.kms_model.specs.declared.states.Duplicates.{Duplicates}
 use Rattle.kms_model.specs.Request.Late.{duplicate_at}
-use Rattle.kms_model.specs.Device.Objects.{count_of, exists, first_id, object_id}
+use Rattle.kms_model.specs.Device.Objects.{count_of, exists, first_id, object_id, kind_of}
 use Rattle.kms_model.specs.Request.Resolves.{IsAllowed, HasPlace, IsSettable}
-use Rattle.kms_state.specs.Places.{OldStates, is_duplicated, is_duplicated_of, kind_of, old_states, olds, state_at, state_of}
+use Rattle.kms_state.specs.Places.{OldStates, is_duplicated, is_duplicated_of, old_states, olds, state_at, state_of}
 use Rattle.kms_state.specs.Changes.{HasObject, Sets}
-use Rattle.kms_state.proofs.KindsOfIds.{kind-crtc, kind-plane, kind-conn}
+use Rattle.kms_model.proofs.KindsOfIds.{kind-crtc, kind-plane, kind-conn}
 use Rattle.kms_state.proofs.Slots.{AgreesOld-same, there_old}
 use Rattle.kms_model.specs.declared.scripts.PropRef.TheVariants.{Known}
 use Rattle.kms_model.specs.declared.scripts.Value.TheVariants.{Num}
@@ -37,8 +37,9 @@ use Rattle.kms_model.specs.Request.Refusals.{early_refusal}
 use Rattle.kms_request.specs.Whole.{StandBetween}
 use Rattle.kms_model.specs.Request.Verdict.{verdict}
 use Rattle.kms_model.proofs.Items.{or_else-none}
-use Rattle.kms_serial.specs.Device.{AreWhole, IsAfter, IsLetThrough, IsPresent, IsWhole, Stands}
-use Rattle.kms_serial.proofs.StartStates.{few_conns}
+use Rattle.kms_serial.specs.Device.{IsLetThrough, Stands}
+use Rattle.kms_things.specs.Present.{AreWhole, IsAfter, IsPresent, IsWhole}
+use Rattle.kms_things.proofs.StartStates.{few_conns}
 
 -- an object's state stands at its index
 state_there : {S : Type 0} (k : Kind) (states : List (Option (Both S))) (index count : ℕ) → AreWhole count states → index < count → is_some (state_of k states (object_id k index)) ≡ true

@@ -20,8 +20,8 @@ use Rattle.kms_model.specs.declared.worlds.Setting.{Setting}
 use Rattle.kms_model.specs.declared.worlds.Thing.{Thing}
 use Rattle.kms_model.specs.declared.worlds.World.{World}
 use Rattle.kms_model.specs.Request.Agreement.{AgreesNew, AgreesOld, AreNew, AreOld}
-use Rattle.kms_model.specs.Request.Apply.{apply}
-use Rattle.kms_model.specs.Device.Execution.{execute, make_out_fence, make_out_fences}
+use Rattle.kms_model.specs.Request.Apply.{after}
+use Rattle.kms_model.specs.Device.Execution.{committed, execute, make_out_fence, make_out_fences}
 use Rattle.kms_model.specs.Request.Flags.{is_test}
 use Rattle.kms_model.specs.Request.Late.{duplicate_at}
 use Rattle.kms_model.specs.Device.Objects.{ids_of, object_id}
@@ -35,18 +35,15 @@ use Rattle.kms_model.proofs.SoundKept.{execution_keeps_sound, sound-apply, sound
 use Rattle.kms_model.proofs.ThingLemmas.{IsSeenAlike}
 use Rattle.kms_request.specs.Fences.{TellOutFences}
 use Rattle.kms_serial.specs.Commands.{Grows}
-use Rattle.kms_serial.specs.Device.{AreWhole, IsAfter, IsPresent, IsWhole, Stands}
-use Rattle.kms_serial.specs.OutFences.{fences_made, world_after}
-use Rattle.kms_serial.specs.Swapping.{alike_new, swapped, swapped_states}
-use Rattle.kms_serial.specs.Starting.{alike}
+use Rattle.kms_serial.specs.Device.{Stands}
+use Rattle.kms_model.specs.Frames.Shown.{AreFramed}
+use Rattle.kms_things.specs.Present.{IsAfter, IsPresent}
+use Rattle.kms_things.specs.Swapping.{swapped}
+use Rattle.kms_things.proofs.SwappedStates.{swapped_present}
+use Rattle.kms_model.proofs.FramedLemmas.{execution_keeps_framed}
 use Rattle.kms_serial.proofs.Executing.{IsSeenAfter, present_seen, seen_made, seen_same}
 
 -- Out-fences
-
--- fences under the labels of CRTCs are those of the CRTCs
-pub fences_of_crtcs : (client : ℕ) (assigns : List Assign) (w : World) (crtcs : List ℕ) → fences_made client w (map (out_fence_label assigns) crtcs) ≡ make_out_fences client assigns w crtcs
-fences_of_crtcs client assigns w [] = refl
-fences_of_crtcs client assigns w (crtc ∷ crtcs) = fences_of_crtcs client assigns (make_out_fence client w (out_fence_label assigns crtc)) crtcs
 
 -- the first of some labels by a function of their places
 labels_by : (f : ℕ → Option ℕ) (a n : ℕ) (labels : List (Option ℕ)) → n ≤ length labels → ((i : ℕ) → i < n → slice_index_or labels i None ≡ f (a + i)) → take n labels ≡ map f (range_with_len a n)
@@ -65,15 +62,6 @@ pub labels_are : (assigns : List Assign) (labels : List (Option ℕ)) (crtcs : �
 labels_are assigns labels crtcs long few tell =
     labels_by (λ i. out_fence_label assigns (object_id kind.Crtc i)) 0 crtcs labels (omega arith) (λ i lt. tell i (omega arith) ∙ ap (λ k. out_fence_label assigns (object_id kind.Crtc k)) (omega arith))
     ∙ sym (mapped_ids (out_fence_label assigns) 0 crtcs)
-
--- the world after a request's values hold and its out-fences are made
-pub committed_world : (client : ℕ) (r : Request) (crtcs : ℕ) (w : World) (values copied : List Setting) (assigns : List Assign) (labels : List (Option ℕ))
-    → values ≡ apply w.things copied assigns → copied ≡ w.values → assigns ≡ r.assigns → length labels ≡ 16 → crtcs ≤ 4 → TellOutFences assigns labels
-    → fences_made client (record w { values = values; commits = w.commits + 1 }) (take crtcs labels) ≡ world_after client r crtcs w
-committed_world client r crtcs w values copied assigns labels applied from same long few tell =
-    let told = subst (λ (all : List Assign). TellOutFences all labels) same tell in
-    rw (applied, from, same, labels_are r.assigns labels crtcs long few told)
-    (fences_of_crtcs client r.assigns (record w { values = apply w.things w.values r.assigns; commits = w.commits + 1 }) (map (object_id kind.Crtc) (range_with_len 0 crtcs)))
 
 -- What is seen after out-fences
 
@@ -114,66 +102,10 @@ within_fences t client assigns w (crtc ∷ crtcs) sound =
     let more = within_then t 1 (length crtcs) w one (make_out_fences client assigns one crtcs) (within_one t client w (out_fence_label assigns crtc) sound) (within_fences t client assigns one crtcs (sound-out_fences t client assigns w (crtc ∷ []) sound)) in
     record { values = more.values; alike = more.alike; ids = omega (arith, more.ids); commits = more.commits }
 
--- New states that become the present ones
-
--- one state more is swapped
-pub settle_more : {S : Type 0} (before now : List (Option (Both S))) (i : ℕ) (d new : Option (Both S)) → i < length before → now ≡ swapped_states (take i before) ++ drop i before → new ≡ alike_new (get_or now i d)
-    → set now i new ≡ swapped_states (take (i + 1) before) ++ drop (i + 1) before
-settle_more {S} before now i d new lt is one = grind (arith, common_steps, map_over_more (alike_new {S = S}))
-
-swapped_at : {S : Type 0} (states : List (Option (Both S))) (index : ℕ) → slice_get (swapped_states states) index ≡ option_map alike_new (slice_get states index)
-swapped_at [] index = refl
-swapped_at (s ∷ states) zero = refl
-swapped_at (s ∷ states) (suc index) = swapped_at states index
-
-is_some-alike : {S : Type 0} (o : Option (Option (Both S))) → is_some (option_flatten (option_map alike_new o)) ≡ is_some (option_flatten o)
-is_some-alike None = refl
-is_some-alike (Some None) = refl
-is_some-alike (Some (Some both)) = refl
-
-swapped_whole : {S : Type 0} (count : ℕ) (states : List (Option (Both S))) → AreWhole count states → AreWhole count (swapped_states states)
-swapped_whole count states whole =
-    let same : (index : ℕ) → is_some (duplicate_at (swapped_states states) index) ≡ is_some (duplicate_at states index) = λ index. ap (λ o. is_some (option_flatten o)) (swapped_at states index) ∙ is_some-alike (slice_get states index) in
-    record {
-      there = λ index lt. same index ∙ whole.there index lt;
-      only = λ index some. whole.only index (sym (same index) ∙ some);
-    }
-
--- what a swapped state was
-record WasNew {S : Type 0} (o : Option (Option (Both S))) (both : Both S) : Type 0 where
-  was : Both S
-  at : o ≡ Some (Some was)
-  same : both ≡ alike was.new
-
-was_new : {S : Type 0} (o : Option (Option (Both S))) (both : Both S) → option_map alike_new o ≡ Some (Some both) → WasNew o both
-was_new None both e = absurd cc
-was_new (Some None) both e = absurd cc
-was_new (Some (Some was)) both e = record { was = was; at = refl; same = cc }
-
-swapped_old : {S : Type 0} (f : ℕ → S) (states : List (Option (Both S))) → AreNew f states → AreOld f (swapped_states states)
-swapped_old f states new index both at =
-    let w = was_new (slice_get states index) both (sym (swapped_at states index) ∙ at) in
-    ap (λ (b : Both _). b.old) w.same ∙ new index w.was w.at
-
-swapped_new : {S : Type 0} (f : ℕ → S) (states : List (Option (Both S))) → AreNew f states → AreNew f (swapped_states states)
-swapped_new f states new index both at =
-    let w = was_new (slice_get states index) both (sym (swapped_at states index) ∙ at) in
-    ap (λ (b : Both _). b.new) w.same ∙ new index w.was w.at
-
--- states after a request are the present ones where its values hold
-swapped_present : (t : Topology) (w after : World) (r : Request) (d : Duplicates) → after.things ≡ w.things → after.values ≡ apply w.things w.values r.assigns → IsAfter t w r d → IsPresent t after (swapped d)
-swapped_present t w after r d things values is =
-    let new : AgreesNew t after.things after.values d = rw (things, values) is.new in
-    record {
-      whole = record { crtcs = swapped_whole t.crtcs d.crtcs is.whole.crtcs; planes = swapped_whole (length t.planes) d.planes is.whole.planes; conns = swapped_whole (length t.conns) d.conns is.whole.conns };
-      old = record { crtcs = swapped_old _ d.crtcs new.crtcs; planes = swapped_old _ d.planes new.planes; conns = swapped_old _ d.conns new.conns };
-      new = record { crtcs = swapped_new _ d.crtcs new.crtcs; planes = swapped_new _ d.planes new.planes; conns = swapped_new _ d.conns new.conns };
-    }
-
 -- The device after a commit
 
 -- a request that is let through is committed
-pub executes : (t : Topology) (w : World) (client : ℕ) (r : Request) → verdict t w r ≡ None → is_test r.flags ≡ false → execute t w client (command.Atomic r) ≡ record { world = world_after client r t.crtcs w; reply = reply.Commit w.commits }
+pub executes : (t : Topology) (w : World) (client : ℕ) (r : Request) → verdict t w r ≡ None → is_test r.flags ≡ false → execute t w client (command.Atomic r) ≡ record { world = (committed t w client r).world; reply = reply.Commit w.commits }
 unfolding execute
 executes t w client r none test = rw (none, test) refl
 
@@ -191,24 +123,26 @@ length-range : (f : ℕ → ℕ) (a n : ℕ) → length (map f (range_with_len a
 length-range f a n = length-map-range_with_len f a n
 
 within_after : (t : Topology) (w : World) (client : ℕ) (r : Request) → IsSound t w → verdict t w r ≡ None
-    → IsSeenWithin t t.crtcs (record w { values = apply w.things w.values r.assigns; commits = w.commits + 1 }) (world_after client r t.crtcs w)
+    → IsSeenWithin t t.crtcs (record w { values = after w r; commits = w.commits + 1 }) (committed t w client r).world
 within_after t w client r sound none =
-    let before : World = record w { values = apply w.things w.values r.assigns; commits = w.commits + 1 } in
-    subst (λ n. IsSeenWithin t n before (world_after client r t.crtcs w)) (length-range (object_id kind.Crtc) 0 t.crtcs) (within_fences t client r.assigns before (map (object_id kind.Crtc) (range_with_len 0 t.crtcs)) (sound-apply t w r (w.commits + 1) sound none))
+    let before : World = record w { values = after w r; commits = w.commits + 1 } in
+    subst (λ n. IsSeenWithin t n before (committed t w client r).world) (length-range (object_id kind.Crtc) 0 t.crtcs) (within_fences t client r.assigns before (map (object_id kind.Crtc) (range_with_len 0 t.crtcs)) (sound-apply t w r (w.commits + 1) sound none))
 
-pub grows_committed : (t : Topology) (w : World) (client : ℕ) (r : Request) → IsSound t w → t.crtcs ≤ 4 → verdict t w r ≡ None → Grows w (world_after client r t.crtcs w)
+pub grows_committed : (t : Topology) (w : World) (client : ℕ) (r : Request) → IsSound t w → t.crtcs ≤ 4 → verdict t w r ≡ None → Grows w (committed t w client r).world
 grows_committed t w client r sound few none = let within = within_after t w client r sound none in record { ids = omega (arith, within.ids); commits = omega (arith, within.commits) }
 
-pub values_committed : (t : Topology) (w : World) (client : ℕ) (r : Request) → IsSound t w → verdict t w r ≡ None → (world_after client r t.crtcs w).values ≡ apply w.things w.values r.assigns
+pub values_committed : (t : Topology) (w : World) (client : ℕ) (r : Request) → IsSound t w → verdict t w r ≡ None → (committed t w client r).world.values ≡ after w r
 values_committed t w client r sound none = (within_after t w client r sound none).values
 
 -- a device stands after a commit
-pub stands_committed : (t : Topology) (w : World) (d after : Duplicates) (client : ℕ) (r : Request) → Stands t w d → verdict t w r ≡ None → is_test r.flags ≡ false → IsAfter t w r after → Stands t (world_after client r t.crtcs w) (swapped after)
-stands_committed t w d after client r stands none test is =
-    let before : World = record w { values = apply w.things w.values r.assigns; commits = w.commits + 1 } in
+pub stands_committed : (t : Topology) (w : World) (d new : Duplicates) (client : ℕ) (r : Request) → Stands t w d → verdict t w r ≡ None → is_test r.flags ≡ false → IsAfter t w r new → Stands t (committed t w client r).world (swapped new)
+stands_committed t w d new client r stands none test is =
+    let before : World = record w { values = after w r; commits = w.commits + 1 } in
     let within = within_after t w client r stands.sound none in
+    let executed = executes t w client r none test in
     record {
       device = stands.device;
-      sound = subst (λ (e : Executed). IsSound t e.world) (executes t w client r none test) (execution_keeps_sound t w client (command.Atomic r) stands.sound);
-      present = present_seen t before (world_after client r t.crtcs w) (swapped after) within.values within.alike (swapped_present t w before r after refl refl is);
+      sound = subst (λ (e : Executed). IsSound t e.world) executed (execution_keeps_sound t w client (command.Atomic r) stands.sound);
+      framed = subst (λ (e : Executed). AreFramed e.world.things) executed (execution_keeps_framed t w client (command.Atomic r) stands.sound.numbered stands.framed);
+      present = present_seen t before (committed t w client r).world (swapped new) within.values within.alike (swapped_present t w r new is);
     }

@@ -29,8 +29,11 @@ use Rattle.kms_model.proofs.Items.{ids-has}
 use Rattle.kms_model.proofs.SeenLemmas.{AreSeenAlike, alike-closed, alike-push, mode-seen, plane-seen}
 use Rattle.kms_model.proofs.SoundKept.{execution_keeps_sound}
 use Rattle.kms_model.proofs.ThingLemmas.{seen-same}
-use Rattle.kms_serial.specs.Commands.{Grows, IsNoRequest}
-use Rattle.kms_serial.specs.Device.{AreWhole, IsPresent, IsWhole, Stands}
+use Rattle.kms_serial.specs.Commands.{Grows}
+use Rattle.kms_serial.specs.Device.{Stands}
+use Rattle.kms_things.specs.Commands.{IsNoRequest}
+use Rattle.kms_things.specs.Present.{AreWhole, IsPresent, IsWhole}
+use Rattle.kms_model.proofs.FramedLemmas.{execution_keeps_framed}
 
 -- What is seen of a world's things
 
@@ -139,6 +142,7 @@ stands_executed t w after d client c other is stands =
     subst (λ (v : World). Stands t v d) is (record {
       device = stands.device;
       sound = execution_keeps_sound t w client c stands.sound;
+      framed = execution_keeps_framed t w client c stands.sound.numbered stands.framed;
       present = present_seen t w (execute t w client c).world d seen.values seen.alike stands.present;
     })
 

@@ -1,12 +1,7 @@
-pub mod Numbered
-pub mod Kept
 pub mod Starting
-pub mod StartStates
 pub mod Executing
-pub mod Images
 pub mod Applying
 pub mod Checking
 pub mod Committing
 pub mod Shown
-pub mod ShownLaw
 pub mod Naming

@@ -31,7 +31,7 @@ use Rattle.kms_model.proofs.SeenLemmas.{fb-held}
 use Rattle.kms_model.proofs.ThingLemmas.{find-in, ids-numbered}
 use Rattle.kms_serial.specs.Device.{Stands}
 use Rattle.kms_serial.specs.Framebuffers.{framebuffer_id, id_or_zero}
-use Rattle.kms_serial.specs.Index.{FramesIn}
+use Rattle.kms_model.specs.Frames.Shown.{AreFramed, FramesIn}
 
 matches-if : (y x : Thing) (z : ℤ) (b : Bool) (o : Option Thing) → int_eq (pos y.id) z ≡ b → cond b (Some y) o ≡ Some x → (o ≡ Some x → pos x.id ≡ z) → pos x.id ≡ z
 matches-if y x z true o is e rest = let same : y ≡ x = cc in ap (λ (t : Thing). pos t.id) (sym same) ∙ (Decides-int_eq (pos y.id) z).0 is
@@ -61,7 +61,7 @@ no-zero things t z numbered at zero_ =
     let same : t.id ≡ 0 = cc in
     omega (arith, within.low, same)
 
-number-of : (things : List Thing) (z : ℤ) (o : Option Thing) → AreNumbered 1000 things → AllByRecursion (λ t. FramesIn things t.id t.content) things → thing_numbered things z ≡ o
+number-of : (things : List Thing) (z : ℤ) (o : Option Thing) → AreNumbered 1000 things → AreFramed things → thing_numbered things z ≡ o
     → (int_eq z (pos 0) || is_some (framebuffer_of o)) ≡ true → pos (id_or_zero (framebuffer_of o)) ≡ z
 number-of things z None numbered framed at held =
     elim (or_cases (int_eq z (pos 0)) false held) [
@@ -81,7 +81,7 @@ is-held false true d e = refl
 is-held false false d e = absurd cc
 
 -- a plane is set to the id of its state's framebuffer
-pub fb_id-is : (t : Topology) (w : World) (index : ℕ) → IsSound t w → AllByRecursion (λ u. FramesIn w.things u.id u.content) w.things → index < count_of t kind.Plane
+pub fb_id-is : (t : Topology) (w : World) (index : ℕ) → IsSound t w → AreFramed w.things → index < count_of t kind.Plane
     → pos (id_or_zero (plane_at w.things w.values (object_id kind.Plane index)).fb) ≡ value w.values (object_id kind.Plane index) FB_ID
 fb_id-is t w index sound framed within =
     let z = value w.values (object_id kind.Plane index) FB_ID in
@@ -90,13 +90,13 @@ fb_id-is t w index sound framed within =
     (fb-held t w.things w.values (object_id kind.Plane index) (all_held-from t w.things w.values sound.held) (ids-has t kind.Plane index within)))
 
 -- the same of a state that is duplicated
-pub fb_of_state : (t : Topology) (w : World) (d : Duplicates) (index : ℕ) (o : Option (Both PlaneState)) → Stands t w d → AllByRecursion (λ u. FramesIn w.things u.id u.content) w.things → index < length t.planes
+pub fb_of_state : (t : Topology) (w : World) (d : Duplicates) (index : ℕ) (o : Option (Both PlaneState)) → Stands t w d → index < length t.planes
     → duplicate_at d.planes index ≡ o → pos (framebuffer_id (option_map (λ b. b.new) o)) ≡ value w.values (object_id kind.Plane index) FB_ID
-fb_of_state t w d index None stands framed within is =
+fb_of_state t w d index None stands within is =
     absurd (let some = stands.present.whole.planes.there index within in let none : is_some (duplicate_at d.planes index) ≡ false = rw is refl in cc)
-fb_of_state t w d index (Some both) stands framed within is =
+fb_of_state t w d index (Some both) stands within is =
     let new = stands.present.new.planes index both (flatten-some (slice_get d.planes index) both is) in
-    ap (λ (s : PlaneState). pos (id_or_zero s.fb)) new ∙ fb_id-is t w index stands.sound framed within
+    ap (λ (s : PlaneState). pos (id_or_zero s.fb)) new ∙ fb_id-is t w index stands.sound stands.framed within
 
 no-buffer : (c : Content) → framebuffer_in c ≡ None → buffer_id_in c ≡ None
 no-buffer (content.Framebuffer info of) e = absurd cc

@@ -23,7 +23,8 @@ use Rattle.kms_model.proofs.LateLemmas.{flatten-some}
 use Rattle.kms_model.proofs.MaskLemmas.{has_bit-mask_below}
 use Rattle.kms_model.proofs.StateLemmas.{sound-plane_in_range}
 use Rattle.kms_picture.specs.Covered.{are_placeable, is_placeable, is_near, is_near_rect, is_ready, may_picture}
-use Rattle.kms_serial.specs.Device.{IsPresent, Stands}
+use Rattle.kms_serial.specs.Device.{Stands}
+use Rattle.kms_things.specs.Present.{IsPresent}
 
 le-int_le : (a b : ℤ) → a ≤ℤ b → int_le a b ≡ true
 le-int_le a b le = grind (arith, nat_tests, ints)

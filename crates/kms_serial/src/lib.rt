@@ -1,13 +1,10 @@
 //! The device of one thread.
 #![tactic(auto)]
 
-mod commands;
-mod index;
 mod requests;
 mod serial;
-mod settings;
-mod start;
 mod store;
+mod values;
 
 pub use serial::Serial;
 

@@ -2,36 +2,24 @@
 ghost use Rattle.std.specs.Prelude.{◌≡◌, All, IfErr, IfOk, OnOk, None, Some};
 ghost use Rattle.kms_model.specs.declared.objects.Topology.{Topology};
 ghost use Rattle.kms_model.specs.Request.Flags.{is_test};
-ghost use Rattle.kms_model.specs.Request.Lookups.{look_up};
 ghost use Rattle.kms_model.specs.Device.Sound.{IsDevice, IsSound};
 ghost use Rattle.kms_model.specs.Request.Verdict.{verdict};
 ghost use Rattle.kms_model.specs.Request.Resolves.{IsSettable};
 ghost use Rattle.kms_request.specs.Whole.{StandBetween};
-ghost use Rattle.kms_serial.specs.Swapping.{alike_new, swapped, swapped_states};
-ghost use Rattle.kms_serial.specs.Device.{IsAfter, IsLetThrough, IsLetThroughSomewhere, IsPresent};
+ghost use Rattle.kms_serial.specs.Device.{IsLetThrough, IsLetThroughSomewhere};
+ghost use Rattle.kms_things.specs.Present.{IsAfter, IsPresent};
 
-use crate::commands;
 use crate::store::WorldStore;
-use kms_model::{Both, Duplicates, Look, Refusal, Request, Topology};
-use kms_request::{Looker, early, full_check, set_of};
+use kms_model::{Duplicates, Refusal, Request, Topology};
+use kms_props::AtomicFlags;
+use kms_request::{early, full_check, set_of};
 use kms_state::Duplicating;
-
-/// `DRM_MODE_ATOMIC_TEST_ONLY`. (Header: `drm_mode.h`.)
-const TEST_ONLY: u32 = 0x100;
-
-impl Looker for WorldStore {
-    ghost meaning = { look_up };
-
-    fn look(&self, label: u32) -> Look {
-        commands::look(self, label)
-    }
-}
 
 /// Whether a request is only tested.
 pub fn is_test(flags: u32) -> bool
     ensures { result ≡ is_test flags }
 {
-    flags & TEST_ONLY != 0
+    AtomicFlags::of_request(flags).contains(AtomicFlags::TEST_ONLY)
 }
 
 /// The states of all objects after a request for which none of refusals 1 to 8 is due. They are the device's present
@@ -73,30 +61,4 @@ pub fn check(
         Some(refusal) => Err(refusal),
         None => Ok(after),
     }
-}
-
-/// New states as the present ones: old and new alike.
-pub fn swapped(states: &Duplicates) -> Duplicates
-    ensures { result ≡ swapped states.now }
-{
-    let mut swapped = *states;
-    settle(&mut swapped.crtcs);
-    settle(&mut swapped.planes);
-    settle(&mut swapped.conns);
-    swapped
-}
-
-fn settle<S: Copy>(states: &mut [Option<Both<S>>])
-    ensures { states.new ≡ swapped_states states.old }
-{
-    for both in states.iter_mut() {
-        *both = alike_new(*both);
-    }
-}
-
-fn alike_new<S: Copy>(both: Option<Both<S>>) -> Option<Both<S>>
-    ensures { result ≡ alike_new both }
-{
-    let new = both?.new;
-    Some(Both { old: new, new })
 }

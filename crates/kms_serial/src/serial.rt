@@ -9,37 +9,36 @@ ghost use Rattle.kms_model.specs.Device.Objects.{object_id};
 ghost use Rattle.kms_model.specs.Frames.Pictures.{picture};
 ghost use Rattle.kms_model.specs.Device.Sound.{IsDevice};
 ghost use Rattle.kms_model.specs.Device.States.{framebuffer_of};
-ghost use Rattle.kms_model.specs.Request.Apply.{apply};
-ghost use Rattle.kms_model.specs.Request.Touched.{named_set, touched_set};
+ghost use Rattle.kms_model.specs.Request.Touched.{named_by, touched_by};
 ghost use Rattle.kms_model.specs.Request.Verdict.{verdict};
 ghost use Rattle.kms_model.specs.Script.WellFormed.{IsFitCommand};
 ghost use Rattle.kms_model.specs.Device.World.{start, thing_labelled, thing_with_id, value};
-ghost use Rattle.kms_serial.specs.Shown.{EachCanBeShown};
+ghost use Rattle.kms_model.specs.Frames.Shown.{EachCanBeShown};
 ghost use Rattle.kms_serial.specs.Framebuffers.{framebuffer_id};
 ghost use Rattle.kms_model.specs.declared.properties.TheConstants.{FB_ID};
-ghost use Rattle.kms_serial.specs.Commands.{Grows, HasRoom, has_room, IsEmptyUnlessCommitted, IsNoRequest, NamesWhereCommitted};
-ghost use Rattle.kms_serial.specs.Device.{IsPresent};
-ghost use Rattle.kms_serial.specs.Framebuffers.{framebuffer_entry};
+ghost use Rattle.kms_serial.specs.Commands.{Grows, HasRoom, has_room, IsEmptyUnlessCommitted, NamesWhereCommitted};
+ghost use Rattle.kms_things.specs.Commands.{IsNoRequest};
+ghost use Rattle.kms_things.specs.Framebuffers.{framebuffer_entry};
+ghost use Rattle.kms_things.specs.Present.{IsPresent};
 
-use crate::commands;
-use crate::requests::{changed, check, is_test, swapped};
-use crate::start::{start_states, start_values};
+use crate::requests::{changed, check, is_test};
 use crate::store::WorldStore;
-use kms_check::spans;
+use kms_request::spans;
 use kms_model::{
     Command, Duplicates, Image, Look, Mask, NoMemory, Picture, PlaneState, Reply, Request, Topology,
 };
 use kms_picture::picture;
-use kms_request::named_in;
+use kms_request::{Looker, named_in};
 use kms_state::Duplicating;
+use kms_things::{start_states, swapped};
 use std::alloc::Global;
 use std::marker::Model;
 
 /// The device of one thread. Contracts see its topology and its world: the values, the things in order of making, the
 /// next id and the number of commits.
 ///
-/// It keeps the world's values and things with an index of labels, the words of buffers, and the present states of all
-/// objects, typed. A call costs no more after many things were made than after few, but for the memory that they take.
+/// It keeps the things with an index of labels and the words of buffers, and the present states of all objects, typed; the
+/// values exist in proofs alone. A call costs no more after many things were made than after few, but for the memory that they take.
 #[derive(Drop)]
 pub struct Serial {
     topology: Topology,
@@ -74,11 +73,11 @@ impl Serial {
         requires { IsDevice topology }
         ensures { IfOk result (λ s. s ≡ record { topology = topology; world = start topology }) }
     {
-        let values = start_values(alloc, &topology)?;
+        let store = WorldStore::at_start(alloc, &topology);
         let states = start_states(&topology);
         Ok(Serial {
             topology,
-            store: WorldStore::with_values(alloc, values),
+            store,
             states,
         })
     }
@@ -98,20 +97,19 @@ impl Serial {
         ensures grows { OnOk result (Grows self.old.world self.new.world) }
         ensures unchanged { OnErr result (self.new ≡ self.old) }
     {
-        commands::execute(alloc, &mut self.store, client, command)
+        self.store.execute(alloc, client, command)
     }
 
     /// Executes a client's atomic request. Where it is committed, the set of CRTCs that it names comes with the answer:
     /// bit i stands for CRTC index i; else that set is empty. Want of memory leaves the device as it was.
     pub fn commit(
         &mut self,
-        alloc: Global,
         client: u32,
         request: &Request,
     ) -> Result<(Reply, u32), NoMemory>
         requires { HasRoom self.old.world }
         ensures executed { IfOk result (λ x. execute self.old.topology self.old.world client (command.Atomic request.now) ≡ record { world = self.new.world; reply = x.0 }) }
-        ensures named { IfOk result (λ x. NamesWhereCommitted self.old.topology self.old.world.values self.new.world.values request.now x.0 x.1) }
+        ensures named { IfOk result (λ x. NamesWhereCommitted self.old.topology self.old.world request.now x.0 x.1) }
         ensures empty { IfOk result (λ x. IsEmptyUnlessCommitted x.0 x.1) }
         ensures topology { self.new.topology ≡ self.old.topology }
         ensures grows { OnOk result (Grows self.old.world self.new.world) }
@@ -124,9 +122,7 @@ impl Serial {
         if is_test(request.flags) {
             return Ok((Reply::Tested, 0));
         }
-        let commit = self
-            .store
-            .commit_request(alloc, client, request, self.topology.crtcs)?;
+        let commit = self.store.commit(client, request, &self.topology)?;
         self.states = swapped(&after);
         Ok((Reply::Commit { commit }, named_in(&after, request)))
     }
@@ -149,7 +145,7 @@ impl Serial {
     {
         match command {
             Command::Atomic(request) => {
-                let (reply, _) = self.commit(alloc, client, request)?;
+                let (reply, _) = self.commit(client, request)?;
                 Ok(reply)
             }
             _ => self.execute_other(alloc, client, command),
@@ -163,7 +159,7 @@ impl Serial {
     {
         match command {
             Command::Atomic(request) => self.preview_request(request),
-            _ => commands::preview(&self.store, client, command),
+            _ => self.store.preview(client, command),
         }
     }
 
@@ -197,8 +193,8 @@ impl Serial {
     /// after. Nothing changes, and no memory is taken.
     pub fn spans(&self, request: &Request) -> (u32, Mask)
         requires { verdict self.now.topology self.now.world request.now ≡ None }
-        ensures named { result.0 ≡ named_set self.now.topology self.now.world.values (apply self.now.world.things self.now.world.values request.now.assigns) request.now.assigns }
-        ensures touched { result.1 ≡ touched_set self.now.topology self.now.world.things self.now.world.values (apply self.now.world.things self.now.world.values request.now.assigns) request.now.assigns }
+        ensures named { result.0 ≡ named_by self.now.topology self.now.world request.now }
+        ensures touched { result.1 ≡ touched_by self.now.topology self.now.world request.now }
     {
         spans(&changed(&self.store, &self.states, request), request)
     }
@@ -209,7 +205,6 @@ impl Serial {
         ensures picture { result ≡ picture self.now.topology self.now.world.things self.now.world.values (object_id kind.Crtc crtc) }
         ensures shown { EachCanBeShown self.now.world.things result }
     {
-        self.store.are_framed();
         picture(&self.states, crtc)
     }
 
@@ -240,14 +235,14 @@ impl Serial {
         ensures none { IfNone result (framebuffer_of (thing_with_id self.now.world.things fb) ≡ None) }
         ensures unseen { IfNone result (image_of self.now.world.things fb ≡ None) }
     {
-        self.store.image(fb)
+        self.store.things().image(fb)
     }
 
     /// The label of the framebuffer with an id, and whether it is open; none where no framebuffer has it.
     pub fn framebuffer(&self, id: u32) -> Option<(u32, bool)>
         ensures { result ≡ framebuffer_entry (thing_with_id self.now.world.things id) }
     {
-        commands::framebuffer(&self.store, id)
+        self.store.things().framebuffer(id)
     }
 
     /// The id of the framebuffer that a plane of the device, by its index, is set to; 0 where it has none.
@@ -255,7 +250,6 @@ impl Serial {
         requires { plane < length self.now.topology.planes }
         ensures { pos result ≡ value self.now.world.values (object_id kind.Plane plane) FB_ID }
     {
-        self.store.are_framed();
         framebuffer_id(self.states.new_plane(plane))
     }
 
@@ -263,13 +257,13 @@ impl Serial {
     pub fn id_of(&self, label: u32) -> Option<u32>
         ensures { result ≡ option_map (λ t. t.id) (thing_labelled self.now.world.things label) }
     {
-        Some(self.store.labelled(label)?.id)
+        Some(self.store.things().labelled(label)?.id)
     }
 
     /// What a label names.
     pub fn look(&self, label: u32) -> Look
         ensures { result ≡ look_up self.now.world label }
     {
-        commands::look(&self.store, label)
+        self.store.look(label)
     }
 }

@@ -15,11 +15,11 @@ use Rattle.kms_model.specs.declared.states.Duplicates.{Duplicates}
 use Rattle.kms_model.specs.declared.states.PlaneState.{PlaneState}
 use Rattle.kms_model.specs.declared.worlds.Setting.{Setting}
 use Rattle.kms_model.specs.declared.worlds.Thing as worlds
-use Rattle.kms_model.specs.Device.Objects.{first_id, exists}
+use Rattle.kms_model.specs.Device.Objects.{first_id, exists, kind_of}
 use Rattle.kms_model.specs.Device.States.{natural}
 use Rattle.kms_model.specs.Request.Sets.{obj_id, set_in}
 use Rattle.kms_model.specs.Request.Agreement.{AgreesNew, StandsFor}
-use Rattle.kms_state.specs.Places.{kind_of, state_of, old_states}
+use Rattle.kms_state.specs.Places.{state_of, old_states}
 
 -- A set of objects with the object with an index, or without it. From: drm_plane_mask, drm_connector_mask.
 abbrev pub with_member : ℕ → ℕ → Bool → ℕ

@@ -11,11 +11,7 @@ use Rattle.kms_model.specs.declared.states.Duplicates.{Duplicates}
 use Rattle.kms_model.specs.declared.states.ObjState.{ObjState}
 use Rattle.kms_model.specs.declared.states.ObjState.TheVariants as state
 use Rattle.kms_model.specs.declared.states.PlaneState.{PlaneState}
-use Rattle.kms_model.specs.Device.Objects.{first_id}
-
--- the kind of object that an id is of
-abbrev pub kind_of : ℕ → Kind
-kind_of id = if nat_lt id (first_id Plane) then Crtc else (if nat_lt id (first_id Conn) then Plane else (if nat_lt id (first_id Enc) then Conn else Enc))
+use Rattle.kms_model.specs.Device.Objects.{first_id, kind_of}
 
 -- what is duplicated at an index, if anything
 abbrev pub state_at : {S : Type 0} → List (Option S) → ℕ → Option S

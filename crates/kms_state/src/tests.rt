@@ -1,8 +1,8 @@
 ghost use Rattle.std.specs.Prelude.{IsTrue};
 ghost use Rattle.kms_model.specs.Request.SetRanges.{may_set};
-ghost use Rattle.kms_state.specs.Places.{kind_of};
+ghost use Rattle.kms_model.specs.Device.Objects.{kind_of};
 
-use crate::{Duplicating, kind_of};
+use crate::Duplicating;
 use kms_model::properties::{
     ACTIVE, ALPHA, BLEND, CRTC_H, CRTC_ID, CRTC_W, CRTC_X, CRTC_Y, FB_ID, IN_FENCE_FD, MODE_ID,
     OUT_FENCE_PTR, SRC_H, SRC_W, SRC_X, SRC_Y, ZPOS,
@@ -261,7 +261,7 @@ fn ids_that_are_no_objects_have_no_place(rt: HostRuntime) {
         (399, Kind::Conn),
         (400, Kind::Enc),
     ] {
-        assert_eq!(rt; kind_of(ObjId(id)), kind);
+        assert_eq!(rt; ObjId(id).kind(), kind);
         assert!(rt; !states.may_duplicate(ObjId(id), &a_crtc(0, 0)));
         assert!(rt; !states.may_duplicate(ObjId(id), &a_conn(0)));
     }

@@ -3,3 +3,4 @@ pub mod Kept
 pub mod Meanings
 pub mod Sound
 pub mod Cycles
+mod Rows

@@ -1,14 +1,17 @@
 -- What the changes of the table mean for who holds what and for what contexts do.
-use Rattle.std.proofs.Common.{◌≡◌, ◌≢◌, ℕ, ◌+◌, ◌-◌, ◌<◌, ◌≤◌, List, length, map, set, Option, Some, None, refl, ◌∙◌, arith}
+use Rattle.std.proofs.Common.{◌≡◌, ◌≢◌, ℕ, ◌+◌, ◌-◌, ◌<◌, ◌≤◌, List, length, map, set, Option, Some, None, refl, ap, ◌∙◌, arith}
 use Rattle.std.proofs.Math.ListN.{get_or-map}
 use Rattle.std.proofs.lemmas.List.{get_or-set_same, get_or-set_other}
 use Rattle.std.proofs.lemmas.Bool.{cond-true, cond-false, lt-ltb, le-ltb}
+use Rattle.kms_model.specs.declared.objects.Kind.{Kind}
+use Rattle.kms_model.specs.declared.objects.Kind.TheVariants.{Crtc, Plane, Conn}
 use Rattle.kms_model.specs.declared.objects.ObjId.{ObjId}
+use Rattle.kms_model.specs.Device.Objects.{first_id, kind_of}
 use Rattle.kms_model.specs.declared.objects.Ticket.{Ticket}
 use Rattle.kms_wwlock.specs.declared.contexts.Context.{Context}
 use Rattle.kms_wwlock.specs.declared.contexts.Doing.{Doing}
 use Rattle.kms_wwlock.specs.declared.contexts.Doing.TheVariants.{Taking, BackedOff}
-use Rattle.kms_wwlock.specs.Objects.{IsLockable, lock_place}
+use Rattle.kms_wwlock.specs.Objects.{IsLockable, lock_place, locks_before}
 use Rattle.kms_wwlock.specs.Table.{Table, doing_of, AreOfTable}
 use Rattle.kms_wwlock.specs.Calls.{with_doing, holder_without, set_doing, locked_by, unlocked, IsTakenBy, IsDoing, AreFreed, after_begin, next_ticket, after_drop_all}
 use Rattle.kms_wwlock.proofs.Lookups.{doing_in-others, doing_in-set, doing_in-beginner, doing_in-beside, doing_in-over, doing_in-gone}
@@ -22,13 +25,23 @@ record IsPlaced (id : ObjId) : Type 0 where
   plane : 200 ≤ id.0 → id.0 < 300 → (lock_place id ≡ id.0 - 200 + 4) × (id.0 < 216)
   connector : 300 ≤ id.0 → (lock_place id ≡ id.0 - 300 + 20) × (id.0 < 308)
 
-placed : (id : ObjId) → IsLockable id → IsPlaced id
+-- the place by the kind
+of_kind : (id : ObjId) (kind : Kind) → kind_of id.0 ≡ kind → lock_place id ≡ locks_before kind + (id.0 - first_id kind)
 unfolding lock_place
+of_kind id kind is = ap (λ (k : Kind). locks_before k + (id.0 - first_id k)) is
+
+placed : (id : ObjId) → IsLockable id → IsPlaced id
 placed id is =
     record {
-      crtc = λ lt. (cond-true _ _ _ (lt-ltb id.0 200 lt), omega arith, omega arith);
-      plane = λ ge lt. (cond-false _ _ _ (le-ltb id.0 200 ge) ∙ cond-true _ _ _ (lt-ltb id.0 300 lt), omega arith);
-      connector = λ ge. (cond-false _ _ _ (le-ltb id.0 200 (omega arith)) ∙ cond-false _ _ _ (le-ltb id.0 300 ge), omega arith);
+      crtc = λ lt.
+          let at : lock_place id ≡ 0 + (id.0 - 100) = of_kind id Crtc (cond-true _ _ _ (lt-ltb id.0 200 lt)) in
+          (omega arith, omega arith, omega arith);
+      plane = λ ge lt.
+          let at : lock_place id ≡ 4 + (id.0 - 200) = of_kind id Plane (cond-false _ _ _ (le-ltb id.0 200 ge) ∙ cond-true _ _ _ (lt-ltb id.0 300 lt)) in
+          (omega arith, omega arith);
+      connector = λ ge.
+          let at : lock_place id ≡ 20 + (id.0 - 300) = of_kind id Conn (cond-false _ _ _ (le-ltb id.0 200 (omega arith)) ∙ (cond-false _ _ _ (le-ltb id.0 300 ge) ∙ cond-true _ _ _ (lt-ltb id.0 400 (omega arith)))) in
+          (omega arith, omega arith);
     }
 
 pub place_of_within : (id : ObjId) → IsLockable id → lock_place id < 28

@@ -114,6 +114,6 @@ free zero place y e = cc
 free (suc n) zero y e = cc
 free (suc n) (suc place) y e = free n place y e
 
--- after_call every list of calls the table is sound
+-- after every list of calls the table is sound
 pub always_sound : (calls : List Call) → AreAllowed empty_table calls → IsSound (after_all empty_table calls)
 always_sound calls may = all_sound empty_table calls may (record { held = λ place y e. absurd (free 28 place y e) })

@@ -26,7 +26,7 @@ IsCallAllowed table (Backoff t) = MayBackOff table t
 IsCallAllowed table (Relock t) = MayRelock table t
 IsCallAllowed table (DropAll t) = MayDropAll table t
 
--- the table after_call the call
+-- the table after the call
 abbrev pub after_call : Table → Call → Table
 after_call table (Begin client) = after_begin table client
 after_call table (Lock t id) = after_lock table t id (lock_answer t (holder_of table id))
@@ -53,7 +53,7 @@ pub data Waits (table : Table) (x y : Ticket) : Type 0 where
   ForYounger : (id : ObjId) → MayLock table x id → lock_answer x (holder_of table id) ≡ Younger y → Waits table x y
   ForObject : MayRelock table x → relock_answer table x ≡ Held y → Waits table x y
 
--- x waits for the first of the list, each of the list for the next one, and the last for z; with an empty_table list, x
+-- x waits for the first of the list, each of the list for the next one, and the last for z; with an empty list, x
 -- waits for z
 abbrev pub WaitsAlong : Table → Ticket → List Ticket → Ticket → Type 0
 WaitsAlong table x [] z = Waits table x z
@@ -65,14 +65,14 @@ NoCycleOfWaits =
     (calls : List Call) (first : Ticket) (others : List Ticket)
     → AreAllowed empty_table calls → ¬ WaitsAlong (after_all empty_table calls) first others first
 
--- after_call every list of calls, a context that has backed off holds no object
+-- after every list of calls, a context that has backed off holds no object
 abbrev pub BackedOffHoldsNothing : Type 0
 BackedOffHoldsNothing =
     (calls : List Call) (t : Ticket) (id object : ObjId)
     → AreAllowed empty_table calls → doing_of (after_all empty_table calls) t ≡ Some (BackedOff object)
     → ¬ (holder_of (after_all empty_table calls) id ≡ Some t)
 
--- after_call every list of calls, who holds an object has begun and is not over
+-- after every list of calls, who holds an object has begun and is not over
 abbrev pub HoldersAreOpen : Type 0
 HoldersAreOpen =
     (calls : List Call) (t : Ticket) (id : ObjId)

@@ -22,7 +22,7 @@ pub enum Doing {
 pub struct Context {
     /// Its ticket, by which it is known.
     pub ticket: Ticket,
-    /// The client that began it.
+    /// The number of the client that began it, counted from 1.
     pub client: u32,
     /// What it is doing.
     pub doing: Doing,

@@ -1,29 +1,33 @@
 //! Who holds each object's lock, in the order of the objects' ids.
 ghost use Rattle.std.specs.Prelude.{◌≡◌, ◌<◌, map};
-ghost use Rattle.kms_wwlock.specs.Objects.{IsLockable, lock_place};
+ghost use Rattle.kms_wwlock.specs.Objects.{IsLockable, lock_place, locks_before};
 ghost use Rattle.kms_wwlock.specs.Calls.{holder_without};
 
-use kms_model::{ObjId, Ticket};
+use kms_model::{Kind, MAX_CONNECTORS, MAX_CRTCS, MAX_PLANES, ObjId, Ticket};
 
 /// How many objects can have a lock: 4 CRTCs, 16 planes and 8 connectors.
-pub const LOCKABLE: usize = 28;
+pub const LOCKABLE: usize = (MAX_CRTCS + MAX_PLANES + MAX_CONNECTORS) as usize;
 
-/// The place of an object among all that can have a lock.
+/// How many objects that can have a lock come before those of a kind.
+fn locks_before(kind: Kind) -> u32
+    ensures { result ≡ locks_before kind }
+{
+    match kind {
+        Kind::Crtc => 0,
+        Kind::Plane => MAX_CRTCS,
+        Kind::Conn => MAX_CRTCS + MAX_PLANES,
+        Kind::Enc => MAX_CRTCS + MAX_PLANES + MAX_CONNECTORS,
+    }
+}
+
+/// The place, an index from 0 to 27, of an object among all that can have a lock.
 #[tactic(auto, unfolding(crate::specs::Objects::lock_place))]
 pub fn place_of(id: ObjId) -> usize
     requires { IsLockable id }
     ensures place { result ≡ lock_place id }
     ensures within { result < LOCKABLE }
 {
-    // CRTC i has the id 100 + i, plane i 200 + i and connector i 300 + i.
-    let place = if id.0 < 200 {
-        id.0 - 100
-    } else if id.0 < 300 {
-        id.0 - 200 + 4
-    } else {
-        id.0 - 300 + 20
-    };
-    place as usize
+    (locks_before(id.kind()) + id.index()) as usize
 }
 
 /// Frees all objects that the context of a ticket holds.

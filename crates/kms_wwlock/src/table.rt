@@ -74,8 +74,8 @@ impl LockTable {
         }
     }
 
-    /// Begins a context for a client, and gives its ticket: 0 for the first context, 1 for the second, and so
-    /// on. The client has no context, and fewer than 4294967295 tickets were drawn. For want of memory
+    /// Begins a context for a client, by its number, and gives its ticket: 0 for the first context, 1 for the
+    /// second, and so on. The client has no context, and fewer than 4294967295 tickets were drawn. For want of memory
     /// nothing changes.
     pub fn begin(&mut self, _alloc: Global, client: u32) -> Result<Ticket, NoMemory>
         requires { MayBegin self.old client }
@@ -97,8 +97,8 @@ impl LockTable {
     }
 
     /// Asks for an object. The context has begun and is not over, and neither has to back off nor has backed
-    /// off without a `relock` that answered `Got` since. The object is a CRTC (100 to 103), a plane (200 to 215)
-    /// or a connector (300 to 307).
+    /// off without a `relock` that answered `Got` since. The object is a CRTC, a plane or a connector of the
+    /// largest device.
     ///
     /// `Got` comes exactly where the object is free; the context then holds it. `Own`, `Older` and `Younger`
     /// come exactly where this, an older or a younger context holds it. After `Older` the context has to back
@@ -171,8 +171,8 @@ impl LockTable {
         free_all(&mut self.holders, t)
     }
 
-    /// The context that holds an object, none exactly where it is free. The object is a CRTC (100 to 103), a
-    /// plane (200 to 215) or a connector (300 to 307).
+    /// The context that holds an object, none exactly where it is free. The object is a CRTC, a plane or a
+    /// connector of the largest device.
     pub fn holder(&self, id: ObjId) -> Option<Ticket>
         requires { IsLockable id }
         ensures { result ≡ holder_of self.now id }

@@ -1,44 +1,93 @@
-use Rattle.std.proofs.Common.{◌≡◌, ◌∙◌, None, sym, ap, arith, subst}
+use Rattle.std.proofs.Common.{◌≡◌, ◌∙◌, ℕ, Option, None, sym, ap, arith, subst}
 use Rattle.std.specs.Prelude.{All}
 use Rattle.kms_model.specs.declared.objects.Kind.TheVariants.{Plane}
+use Rattle.kms_model.specs.declared.objects.Topology.{Topology}
+use Rattle.kms_model.specs.declared.scripts.Request.{Request}
+use Rattle.kms_model.specs.declared.sets.Resolved.{Resolved}
+use Rattle.kms_model.specs.declared.states.Duplicates.{Duplicates}
+use Rattle.kms_model.specs.declared.states.Mask.{Mask}
+use Rattle.kms_model.specs.declared.worlds.World.{World}
 use Rattle.kms_model.specs.Request.Lookups.{look_up}
 use Rattle.kms_model.specs.Device.Objects.{count_of}
 use Rattle.kms_model.specs.Request.Touched.{named_set, touched_set}
 use Rattle.kms_model.proofs.LateLemmas.{StandAt}
 use Rattle.kms_model.proofs.TouchedLemmas.{after}
+use Rattle.kms_props.specs.Flags.{bits_of}
 use Rattle.kms_request.specs.Answers.{refusal_number}
-use Rattle.kms_check.specs.Answers.{AreOfSoundWorld, IsAskedFor}
+use Rattle.kms_model.specs.Request.Deciding.{AreOfSoundWorld, IsAskedFor, IsOfRequest}
 use Rattle.kms_check.specs.Applying.{IsApplicable, SetsAll}
-use Rattle.kms_check.specs.Groups.{lacking, objects_set, set_group, named_group, affected_group}
+use Rattle.kms_model.specs.Request.Groups.{affected_group, named_group, set_group}
+use Rattle.kms_request.specs.Groups.{objects_set}
+use Rattle.kms_check.specs.Lacking.{lacking}
 use Rattle.kms_check.proofs.Readiness.{HasRoom, covered, ready}
-use Rattle.kms_check.proofs.Conclusions.{applied, asked-lacking, room-same, set-lacking, first-set, first-named, first-affected, asked-first, HasSets, named-known, named-lacking, HasApplied, affected-lacking, affected-known, touched-known, refusal-known}
+use Rattle.kms_check.proofs.Conclusions.{applied, asked-lacking, room-same, set-lacking, first-set, first-named, first-affected, asked-first, HasSets, named-known, named-lacking, HasApplied, affected-lacking, affected-known, refusal-known}
 use Rattle.kms_check.proofs.PlaneRanges.{fresh-in_range, looked_at-in_range}
-use Rattle.kms_check.proofs.RequestFacts.{objects_set-is}
+use Rattle.kms_request.proofs.AffectedLemmas.{touched-known}
+use Rattle.kms_request.proofs.SetGroups.{objects_set-is}
+use Rattle.kms_check.proofs.checking.check.Goals.{After-lacking, After-lacking-2, After-lacking-3, After-union-touched}
 use Rattle.kms_check.proofs.checking.check.Goals as goal
+
+-- What is found of each group, whatever comes of it
+
+set_found : (c : After-lacking) (w : World) (r : Request) → IsOfRequest c.args.topology.now w r c.args.resolved.now c.args.states
+    → lacking c.args.states (set_group c.args.topology.now r) ≡ c.lacking.result
+set_found c w r is = set-lacking _ w r _ _ _ _ _ is c.as_slice-sets.ensures.value c.objects_set-set.ensures c.lacking.ensures
+
+-- What the first group tells, and the second, where nothing of them is lacking
+
+record NamedKnown (t : Topology) (w : World) (r : Request) (resolved : Resolved) (d : Duplicates) (named : ℕ) (found : Option Mask) : Type 0 where
+  has : HasSets t w r resolved d
+  named_is : named ≡ named_set t w.values (after w r) r.assigns
+  named_found : lacking d (named_group t w r) ≡ found
+
+named_known : (c : After-lacking-2) (w : World) (r : Request) → IsOfRequest c.args.topology.now w r c.args.resolved.now c.args.states
+    → NamedKnown c.args.topology.now w r c.args.resolved.now c.args.states c.named-named.result c.lacking-2.result
+named_known c w r is =
+    let t = c.args.topology.now in
+    let d = c.args.states in
+    let room : HasRoom d = record { crtcs = omega arith; planes = omega arith; conns = omega arith } in
+    let lacks : lacking d (set_group t r) ≡ c.lacking.result = set-lacking t w r c.args.resolved.now d _ _ _ is c.as_slice-sets.ensures.value c.objects_set-set.ensures c.lacking.ensures in
+    let has : HasSets t w r c.args.resolved.now d = record { is = is; room = room; none = lacks ∙ c.in_default.is } in
+    let named_is : c.named-named.result ≡ named_set t w.values (after w r) r.assigns = named-known t w r c.args.resolved.now d c.named-named.result has c.named-named.ensures in
+    record { has = has; named_is = named_is; named_found = named-lacking t w r d _ _ _ named_is c.only_crtcs.ensures c.lacking-2.ensures }
+
+record AllKnown (t : Topology) (w : World) (r : Request) (resolved : Resolved) (d d' : Duplicates) (named : ℕ) (found : Option Mask) : Type 0 where
+  applied_to : HasApplied t w r resolved d d' named
+  affected_found : lacking d (affected_group t w r) ≡ found
+
+all_known : (c : After-lacking-3) (w : World) (r : Request) → IsOfRequest c.args.topology.now w r c.args.resolved.now c.args.states
+    → NamedKnown c.args.topology.now w r c.args.resolved.now c.args.states c.named-named.result c.lacking-2.result
+    → AllKnown c.args.topology.now w r c.args.resolved.now c.args.states c.apply.new.states c.named-named.result c.lacking-3.result
+all_known c w r is known =
+    let t = c.args.topology.now in
+    let d = c.args.states in
+    let d' = c.apply.new.states in
+    let set_all : SetsAll d c.args.resolved.now.sets d' = subst (λ ss. SetsAll d ss d') c.as_slice-sets.ensures.value c.apply.ensures.new in
+    let applied_to : HasApplied t w r c.args.resolved.now d d' c.named-named.result = record {
+      has = known.has;
+      room = room-same d d' c.apply.ensures.old known.has.room;
+      named_is = known.named_is;
+      none = known.named_found ∙ c.in_default-lacking.is;
+      stand = applied t w r c.args.resolved.now d d' is c.requires.fresh set_all c.apply.ensures.old;
+      same = c.apply.ensures.old;
+    } in
+    record { applied_to = applied_to; affected_found = affected-lacking t w r c.args.resolved.now d d' _ _ _ applied_to c.affected-affected.ensures c.lacking-3.ensures }
 
 pub returns-in-Some-clause-locks : goal.returns-in-Some-clause-locks
 returns-in-Some-clause-locks c = λ w r is.
-    first-set c.args.topology.now w r c.args.states c.in-Some.locks (set-lacking c.args.topology.now w r c.args.resolved.now c.args.states c.as_slice-sets.result.now c.objects_set-set.result _ is c.as_slice-sets.ensures.value c.objects_set-set.ensures (sym c.in-Some.is ∙ c.lacking.ensures))
+    let found = set_found ((goal.at.returns-in-Some-clause-locks c).After-lacking) w r is in
+    first-set _ w r _ _ (found ∙ c.in-Some.is)
 
 pub returns-in-Some-clause-refusal : goal.returns-in-Some-clause-refusal
-returns-in-Some-clause-refusal c = λ w r is none.
-    asked-first c.in-Some.locks _ _ _ (first-set c.args.topology.now w r c.args.states c.in-Some.locks (set-lacking c.args.topology.now w r c.args.resolved.now c.args.states c.as_slice-sets.result.now c.objects_set-set.result _ is c.as_slice-sets.ensures.value c.objects_set-set.ensures (sym c.in-Some.is ∙ c.lacking.ensures))) none
+returns-in-Some-clause-refusal c = λ w r is none. asked-first _ _ _ _ (returns-in-Some-clause-locks c w r is) none
 
 pub returns-in-Some-lacking-clause-locks : goal.returns-in-Some-lacking-clause-locks
 returns-in-Some-lacking-clause-locks c = λ w r is.
-    let room : HasRoom c.args.states = record { crtcs = omega arith; planes = omega arith; conns = omega arith } in
-    let set_none : lacking c.args.states (set_group c.args.topology.now r) ≡ None = set-lacking c.args.topology.now w r c.args.resolved.now c.args.states c.as_slice-sets.result.now c.objects_set-set.result None is c.as_slice-sets.ensures.value c.objects_set-set.ensures (sym c.in_default.is ∙ c.lacking.ensures) in
-    let has : HasSets c.args.topology.now w r c.args.resolved.now c.args.states = record { is = is; room = room; none = set_none } in
-    let named_is : c.named-named.result ≡ named_set c.args.topology.now w.values (after w r) r.assigns = named-known c.args.topology.now w r c.args.resolved.now c.args.states c.named-named.result has c.named-named.ensures in
-    first-named c.args.topology.now w r c.args.states c.in-Some-lacking.locks set_none (named-lacking c.args.topology.now w r c.args.states c.named-named.result c.only_crtcs.result _ named_is c.only_crtcs.ensures (sym c.in-Some-lacking.is ∙ c.lacking-2.ensures))
+    let known = named_known ((goal.at.returns-in-Some-lacking-clause-locks c).After-lacking-2) w r is in
+    first-named _ w r _ _ known.has.none (known.named_found ∙ c.in-Some-lacking.is)
 
 pub returns-in-Some-lacking-clause-refusal : goal.returns-in-Some-lacking-clause-refusal
-returns-in-Some-lacking-clause-refusal c = λ w r is none.
-    let room : HasRoom c.args.states = record { crtcs = omega arith; planes = omega arith; conns = omega arith } in
-    let set_none : lacking c.args.states (set_group c.args.topology.now r) ≡ None = set-lacking c.args.topology.now w r c.args.resolved.now c.args.states c.as_slice-sets.result.now c.objects_set-set.result None is c.as_slice-sets.ensures.value c.objects_set-set.ensures (sym c.in_default.is ∙ c.lacking.ensures) in
-    let has : HasSets c.args.topology.now w r c.args.resolved.now c.args.states = record { is = is; room = room; none = set_none } in
-    let named_is : c.named-named.result ≡ named_set c.args.topology.now w.values (after w r) r.assigns = named-known c.args.topology.now w r c.args.resolved.now c.args.states c.named-named.result has c.named-named.ensures in
-    asked-first c.in-Some-lacking.locks _ _ _ (first-named c.args.topology.now w r c.args.states c.in-Some-lacking.locks set_none (named-lacking c.args.topology.now w r c.args.states c.named-named.result c.only_crtcs.result _ named_is c.only_crtcs.ensures (sym c.in-Some-lacking.is ∙ c.lacking-2.ensures))) none
+returns-in-Some-lacking-clause-refusal c = λ w r is none. asked-first _ _ _ _ (returns-in-Some-lacking-clause-locks c w r is) none
 
 pub apply-requires : goal.apply-requires
 apply-requires c =
@@ -50,29 +99,12 @@ apply-requires c =
 
 pub returns-in-Some-lacking-2-clause-locks : goal.returns-in-Some-lacking-2-clause-locks
 returns-in-Some-lacking-2-clause-locks c = λ w r is.
-    let room : HasRoom c.args.states = record { crtcs = omega arith; planes = omega arith; conns = omega arith } in
-    let set_none : lacking c.args.states (set_group c.args.topology.now r) ≡ None = set-lacking c.args.topology.now w r c.args.resolved.now c.args.states c.as_slice-sets.result.now c.objects_set-set.result None is c.as_slice-sets.ensures.value c.objects_set-set.ensures (sym c.in_default.is ∙ c.lacking.ensures) in
-    let has : HasSets c.args.topology.now w r c.args.resolved.now c.args.states = record { is = is; room = room; none = set_none } in
-    let named_is : c.named-named.result ≡ named_set c.args.topology.now w.values (after w r) r.assigns = named-known c.args.topology.now w r c.args.resolved.now c.args.states c.named-named.result has c.named-named.ensures in
-    let named_none : lacking c.args.states (named_group c.args.topology.now w r) ≡ None = named-lacking c.args.topology.now w r c.args.states c.named-named.result c.only_crtcs.result None named_is c.only_crtcs.ensures (sym c.in_default-lacking.is ∙ c.lacking-2.ensures) in
-    let room_after : HasRoom c.apply.new.states = room-same c.args.states c.apply.new.states c.apply.ensures.old room in
-    let set_all : SetsAll c.args.states c.args.resolved.now.sets c.apply.new.states = subst (λ ss. SetsAll c.args.states ss c.apply.new.states) c.as_slice-sets.ensures.value c.apply.ensures.new in
-    let stand : StandAt c.args.topology.now w r c.apply.new.states = applied c.args.topology.now w r c.args.resolved.now c.args.states c.apply.new.states is c.requires.fresh set_all c.apply.ensures.old in
-    let applied_to : HasApplied c.args.topology.now w r c.args.resolved.now c.args.states c.apply.new.states c.named-named.result = record { has = has; room = room_after; named_is = named_is; none = named_none; stand = stand; same = c.apply.ensures.old } in
-    first-affected c.args.topology.now w r c.args.states _ set_none named_none (affected-lacking c.args.topology.now w r c.args.resolved.now c.args.states c.apply.new.states c.named-named.result c.affected-affected.result _ applied_to c.affected-affected.ensures (sym c.in-Some-lacking-2.is ∙ c.lacking-3.ensures))
+    let at = goal.at.returns-in-Some-lacking-2-clause-locks c in
+    let all = all_known at.After-lacking-3 w r is (named_known at.After-lacking-2 w r is) in
+    first-affected _ w r _ _ all.applied_to.has.none all.applied_to.none (all.affected_found ∙ c.in-Some-lacking-2.is)
 
 pub returns-in-Some-lacking-2-clause-refusal : goal.returns-in-Some-lacking-2-clause-refusal
-returns-in-Some-lacking-2-clause-refusal c = λ w r is none.
-    let room : HasRoom c.args.states = record { crtcs = omega arith; planes = omega arith; conns = omega arith } in
-    let set_none : lacking c.args.states (set_group c.args.topology.now r) ≡ None = set-lacking c.args.topology.now w r c.args.resolved.now c.args.states c.as_slice-sets.result.now c.objects_set-set.result None is c.as_slice-sets.ensures.value c.objects_set-set.ensures (sym c.in_default.is ∙ c.lacking.ensures) in
-    let has : HasSets c.args.topology.now w r c.args.resolved.now c.args.states = record { is = is; room = room; none = set_none } in
-    let named_is : c.named-named.result ≡ named_set c.args.topology.now w.values (after w r) r.assigns = named-known c.args.topology.now w r c.args.resolved.now c.args.states c.named-named.result has c.named-named.ensures in
-    let named_none : lacking c.args.states (named_group c.args.topology.now w r) ≡ None = named-lacking c.args.topology.now w r c.args.states c.named-named.result c.only_crtcs.result None named_is c.only_crtcs.ensures (sym c.in_default-lacking.is ∙ c.lacking-2.ensures) in
-    let room_after : HasRoom c.apply.new.states = room-same c.args.states c.apply.new.states c.apply.ensures.old room in
-    let set_all : SetsAll c.args.states c.args.resolved.now.sets c.apply.new.states = subst (λ ss. SetsAll c.args.states ss c.apply.new.states) c.as_slice-sets.ensures.value c.apply.ensures.new in
-    let stand : StandAt c.args.topology.now w r c.apply.new.states = applied c.args.topology.now w r c.args.resolved.now c.args.states c.apply.new.states is c.requires.fresh set_all c.apply.ensures.old in
-    let applied_to : HasApplied c.args.topology.now w r c.args.resolved.now c.args.states c.apply.new.states c.named-named.result = record { has = has; room = room_after; named_is = named_is; none = named_none; stand = stand; same = c.apply.ensures.old } in
-    asked-first c.in-Some-lacking-2.locks _ _ _ (first-affected c.args.topology.now w r c.args.states _ set_none named_none (affected-lacking c.args.topology.now w r c.args.resolved.now c.args.states c.apply.new.states c.named-named.result c.affected-affected.result _ applied_to c.affected-affected.ensures (sym c.in-Some-lacking-2.is ∙ c.lacking-3.ensures))) none
+returns-in-Some-lacking-2-clause-refusal c = λ w r is none. asked-first _ _ _ _ (returns-in-Some-lacking-2-clause-locks c w r is) none
 
 pub late_refusal-requires : goal.late_refusal-requires
 late_refusal-requires c =
@@ -80,80 +112,55 @@ late_refusal-requires c =
     looked_at-in_range c.args.topology.now c.apply.new.states c.union-touched.result.planes
     (c.apply.ensures.in_range (count_of c.args.topology.now Plane) (fresh-in_range c.args.topology.now held.world c.args.states held.sound held.old c.requires.fresh))
 
+-- What is known once nothing is lacking
+
+record Known (t : Topology) (w : World) (r : Request) (resolved : Resolved) (d d' : Duplicates) (named : ℕ) (touched : Mask) : Type 0 where
+  applied_to : HasApplied t w r resolved d d' named
+  none : lacking d (affected_group t w r) ≡ None
+  touched_is : touched ≡ touched_set t w.things w.values (after w r) r.assigns
+
+known : (c : After-union-touched) (w : World) (r : Request) → IsOfRequest c.args.topology.now w r c.args.resolved.now c.args.states
+    → AllKnown c.args.topology.now w r c.args.resolved.now c.args.states c.apply.new.states c.named-named.result c.lacking-3.result
+    → Known c.args.topology.now w r c.args.resolved.now c.args.states c.apply.new.states c.named-named.result c.union-touched.result
+known c w r is all =
+    let t = c.args.topology.now in
+    let set_is : c.objects_set-set.result ≡ set_group t r = c.objects_set-set.ensures ∙ ap objects_set c.as_slice-sets.ensures.value ∙ objects_set-is t (look_up w) r c.args.resolved.now is.device is.asks in
+    let affected_is : c.affected-affected.result ≡ affected_group t w r = affected-known t w r c.args.resolved.now c.args.states c.apply.new.states c.named-named.result _ all.applied_to c.affected-affected.ensures in
+    record {
+      applied_to = all.applied_to;
+      none = all.affected_found ∙ c.in_default-lacking-2.is;
+      touched_is = touched-known t w r _ _ _ _ _ _ set_is all.applied_to.named_is c.only_crtcs-2.ensures affected_is c.union.ensures c.union-touched.ensures;
+    }
+
 pub returns-in-Some-late_refusal-clause-locks : goal.returns-in-Some-late_refusal-clause-locks
 returns-in-Some-late_refusal-clause-locks c = λ w r is.
-    let room : HasRoom c.args.states = record { crtcs = omega arith; planes = omega arith; conns = omega arith } in
-    let set_none : lacking c.args.states (set_group c.args.topology.now r) ≡ None = set-lacking c.args.topology.now w r c.args.resolved.now c.args.states c.as_slice-sets.result.now c.objects_set-set.result None is c.as_slice-sets.ensures.value c.objects_set-set.ensures (sym c.in_default.is ∙ c.lacking.ensures) in
-    let has : HasSets c.args.topology.now w r c.args.resolved.now c.args.states = record { is = is; room = room; none = set_none } in
-    let named_is : c.named-named.result ≡ named_set c.args.topology.now w.values (after w r) r.assigns = named-known c.args.topology.now w r c.args.resolved.now c.args.states c.named-named.result has c.named-named.ensures in
-    let named_none : lacking c.args.states (named_group c.args.topology.now w r) ≡ None = named-lacking c.args.topology.now w r c.args.states c.named-named.result c.only_crtcs.result None named_is c.only_crtcs.ensures (sym c.in_default-lacking.is ∙ c.lacking-2.ensures) in
-    let room_after : HasRoom c.apply.new.states = room-same c.args.states c.apply.new.states c.apply.ensures.old room in
-    let set_all : SetsAll c.args.states c.args.resolved.now.sets c.apply.new.states = subst (λ ss. SetsAll c.args.states ss c.apply.new.states) c.as_slice-sets.ensures.value c.apply.ensures.new in
-    let stand : StandAt c.args.topology.now w r c.apply.new.states = applied c.args.topology.now w r c.args.resolved.now c.args.states c.apply.new.states is c.requires.fresh set_all c.apply.ensures.old in
-    let applied_to : HasApplied c.args.topology.now w r c.args.resolved.now c.args.states c.apply.new.states c.named-named.result = record { has = has; room = room_after; named_is = named_is; none = named_none; stand = stand; same = c.apply.ensures.old } in
-    let affected_none : lacking c.args.states (affected_group c.args.topology.now w r) ≡ None = affected-lacking c.args.topology.now w r c.args.resolved.now c.args.states c.apply.new.states c.named-named.result c.affected-affected.result None applied_to c.affected-affected.ensures (sym c.in_default-lacking-2.is ∙ c.lacking-3.ensures) in
-    first-affected c.args.topology.now w r c.args.states None set_none named_none affected_none
+    let at = goal.at.returns-in-Some-late_refusal-clause-locks c in
+    let known = known at.After-union-touched w r is (all_known at.After-lacking-3 w r is (named_known at.After-lacking-2 w r is)) in
+    first-affected _ w r _ _ known.applied_to.has.none known.applied_to.none known.none
 
 pub returns-in-None-clause-locks : goal.returns-in-None-clause-locks
 returns-in-None-clause-locks c = λ w r is.
-    let room : HasRoom c.args.states = record { crtcs = omega arith; planes = omega arith; conns = omega arith } in
-    let set_none : lacking c.args.states (set_group c.args.topology.now r) ≡ None = set-lacking c.args.topology.now w r c.args.resolved.now c.args.states c.as_slice-sets.result.now c.objects_set-set.result None is c.as_slice-sets.ensures.value c.objects_set-set.ensures (sym c.in_default.is ∙ c.lacking.ensures) in
-    let has : HasSets c.args.topology.now w r c.args.resolved.now c.args.states = record { is = is; room = room; none = set_none } in
-    let named_is : c.named-named.result ≡ named_set c.args.topology.now w.values (after w r) r.assigns = named-known c.args.topology.now w r c.args.resolved.now c.args.states c.named-named.result has c.named-named.ensures in
-    let named_none : lacking c.args.states (named_group c.args.topology.now w r) ≡ None = named-lacking c.args.topology.now w r c.args.states c.named-named.result c.only_crtcs.result None named_is c.only_crtcs.ensures (sym c.in_default-lacking.is ∙ c.lacking-2.ensures) in
-    let room_after : HasRoom c.apply.new.states = room-same c.args.states c.apply.new.states c.apply.ensures.old room in
-    let set_all : SetsAll c.args.states c.args.resolved.now.sets c.apply.new.states = subst (λ ss. SetsAll c.args.states ss c.apply.new.states) c.as_slice-sets.ensures.value c.apply.ensures.new in
-    let stand : StandAt c.args.topology.now w r c.apply.new.states = applied c.args.topology.now w r c.args.resolved.now c.args.states c.apply.new.states is c.requires.fresh set_all c.apply.ensures.old in
-    let applied_to : HasApplied c.args.topology.now w r c.args.resolved.now c.args.states c.apply.new.states c.named-named.result = record { has = has; room = room_after; named_is = named_is; none = named_none; stand = stand; same = c.apply.ensures.old } in
-    let affected_none : lacking c.args.states (affected_group c.args.topology.now w r) ≡ None = affected-lacking c.args.topology.now w r c.args.resolved.now c.args.states c.apply.new.states c.named-named.result c.affected-affected.result None applied_to c.affected-affected.ensures (sym c.in_default-lacking-2.is ∙ c.lacking-3.ensures) in
-    first-affected c.args.topology.now w r c.args.states None set_none named_none affected_none
+    let at = goal.at.returns-in-None-clause-locks c in
+    let known = known at.After-union-touched w r is (all_known at.After-lacking-3 w r is (named_known at.After-lacking-2 w r is)) in
+    first-affected _ w r _ _ known.applied_to.has.none known.applied_to.none known.none
 
 pub returns-in-Some-late_refusal-clause-refusal : goal.returns-in-Some-late_refusal-clause-refusal
 returns-in-Some-late_refusal-clause-refusal c = λ w r is none.
-    let room : HasRoom c.args.states = record { crtcs = omega arith; planes = omega arith; conns = omega arith } in
-    let set_none : lacking c.args.states (set_group c.args.topology.now r) ≡ None = set-lacking c.args.topology.now w r c.args.resolved.now c.args.states c.as_slice-sets.result.now c.objects_set-set.result None is c.as_slice-sets.ensures.value c.objects_set-set.ensures (sym c.in_default.is ∙ c.lacking.ensures) in
-    let has : HasSets c.args.topology.now w r c.args.resolved.now c.args.states = record { is = is; room = room; none = set_none } in
-    let named_is : c.named-named.result ≡ named_set c.args.topology.now w.values (after w r) r.assigns = named-known c.args.topology.now w r c.args.resolved.now c.args.states c.named-named.result has c.named-named.ensures in
-    let named_none : lacking c.args.states (named_group c.args.topology.now w r) ≡ None = named-lacking c.args.topology.now w r c.args.states c.named-named.result c.only_crtcs.result None named_is c.only_crtcs.ensures (sym c.in_default-lacking.is ∙ c.lacking-2.ensures) in
-    let room_after : HasRoom c.apply.new.states = room-same c.args.states c.apply.new.states c.apply.ensures.old room in
-    let set_all : SetsAll c.args.states c.args.resolved.now.sets c.apply.new.states = subst (λ ss. SetsAll c.args.states ss c.apply.new.states) c.as_slice-sets.ensures.value c.apply.ensures.new in
-    let stand : StandAt c.args.topology.now w r c.apply.new.states = applied c.args.topology.now w r c.args.resolved.now c.args.states c.apply.new.states is c.requires.fresh set_all c.apply.ensures.old in
-    let applied_to : HasApplied c.args.topology.now w r c.args.resolved.now c.args.states c.apply.new.states c.named-named.result = record { has = has; room = room_after; named_is = named_is; none = named_none; stand = stand; same = c.apply.ensures.old } in
-    let affected_none : lacking c.args.states (affected_group c.args.topology.now w r) ≡ None = affected-lacking c.args.topology.now w r c.args.resolved.now c.args.states c.apply.new.states c.named-named.result c.affected-affected.result None applied_to c.affected-affected.ensures (sym c.in_default-lacking-2.is ∙ c.lacking-3.ensures) in
-    let touched_is : c.union-touched.result ≡ touched_set c.args.topology.now w.things w.values (after w r) r.assigns = touched-known c.args.topology.now w r c.objects_set-set.result c.only_crtcs-2.result c.union.result c.affected-affected.result c.union-touched.result c.named-named.result
-    (c.objects_set-set.ensures ∙ ap objects_set c.as_slice-sets.ensures.value ∙ objects_set-is c.args.topology.now (look_up w) r c.args.resolved.now is.device is.asks) named_is c.only_crtcs-2.ensures
-    (affected-known c.args.topology.now w r c.args.resolved.now c.args.states c.apply.new.states c.named-named.result c.affected-affected.result applied_to c.affected-affected.ensures) c.union.ensures c.union-touched.ensures in
-    refusal-known c.args.topology.now w r c.args.resolved.now c.args.states c.apply.new.states c.named-named.result c.crtcs_fenced.result c.union-touched.result c.as_slice.result.now _ applied_to affected_none touched_is c.as_slice.ensures.value c.crtcs_fenced.ensures (ap refusal_number (sym c.in-Some-late_refusal.is) ∙ c.late_refusal.ensures)
+    let at = goal.at.returns-in-Some-late_refusal-clause-refusal c in
+    let known = known at.After-union-touched w r is (all_known at.After-lacking-3 w r is (named_known at.After-lacking-2 w r is)) in
+    let found = rw c.of_request.ensures at c.late_refusal.ensures in
+    refusal-known _ w r _ _ _ _ _ _ _ _ known.applied_to known.none known.touched_is c.as_slice.ensures.value c.crtcs_fenced.ensures (ap refusal_number (sym c.in-Some-late_refusal.is) ∙ found)
 
 pub returns-in-None-clause-refusal : goal.returns-in-None-clause-refusal
 returns-in-None-clause-refusal c = λ w r is none.
-    let room : HasRoom c.args.states = record { crtcs = omega arith; planes = omega arith; conns = omega arith } in
-    let set_none : lacking c.args.states (set_group c.args.topology.now r) ≡ None = set-lacking c.args.topology.now w r c.args.resolved.now c.args.states c.as_slice-sets.result.now c.objects_set-set.result None is c.as_slice-sets.ensures.value c.objects_set-set.ensures (sym c.in_default.is ∙ c.lacking.ensures) in
-    let has : HasSets c.args.topology.now w r c.args.resolved.now c.args.states = record { is = is; room = room; none = set_none } in
-    let named_is : c.named-named.result ≡ named_set c.args.topology.now w.values (after w r) r.assigns = named-known c.args.topology.now w r c.args.resolved.now c.args.states c.named-named.result has c.named-named.ensures in
-    let named_none : lacking c.args.states (named_group c.args.topology.now w r) ≡ None = named-lacking c.args.topology.now w r c.args.states c.named-named.result c.only_crtcs.result None named_is c.only_crtcs.ensures (sym c.in_default-lacking.is ∙ c.lacking-2.ensures) in
-    let room_after : HasRoom c.apply.new.states = room-same c.args.states c.apply.new.states c.apply.ensures.old room in
-    let set_all : SetsAll c.args.states c.args.resolved.now.sets c.apply.new.states = subst (λ ss. SetsAll c.args.states ss c.apply.new.states) c.as_slice-sets.ensures.value c.apply.ensures.new in
-    let stand : StandAt c.args.topology.now w r c.apply.new.states = applied c.args.topology.now w r c.args.resolved.now c.args.states c.apply.new.states is c.requires.fresh set_all c.apply.ensures.old in
-    let applied_to : HasApplied c.args.topology.now w r c.args.resolved.now c.args.states c.apply.new.states c.named-named.result = record { has = has; room = room_after; named_is = named_is; none = named_none; stand = stand; same = c.apply.ensures.old } in
-    let affected_none : lacking c.args.states (affected_group c.args.topology.now w r) ≡ None = affected-lacking c.args.topology.now w r c.args.resolved.now c.args.states c.apply.new.states c.named-named.result c.affected-affected.result None applied_to c.affected-affected.ensures (sym c.in_default-lacking-2.is ∙ c.lacking-3.ensures) in
-    let touched_is : c.union-touched.result ≡ touched_set c.args.topology.now w.things w.values (after w r) r.assigns = touched-known c.args.topology.now w r c.objects_set-set.result c.only_crtcs-2.result c.union.result c.affected-affected.result c.union-touched.result c.named-named.result
-    (c.objects_set-set.ensures ∙ ap objects_set c.as_slice-sets.ensures.value ∙ objects_set-is c.args.topology.now (look_up w) r c.args.resolved.now is.device is.asks) named_is c.only_crtcs-2.ensures
-    (affected-known c.args.topology.now w r c.args.resolved.now c.args.states c.apply.new.states c.named-named.result c.affected-affected.result applied_to c.affected-affected.ensures) c.union.ensures c.union-touched.ensures in
-    refusal-known c.args.topology.now w r c.args.resolved.now c.args.states c.apply.new.states c.named-named.result c.crtcs_fenced.result c.union-touched.result c.as_slice.result.now _ applied_to affected_none touched_is c.as_slice.ensures.value c.crtcs_fenced.ensures (ap refusal_number (sym c.in-None.is) ∙ c.late_refusal.ensures)
+    let at = goal.at.returns-in-None-clause-refusal c in
+    let known = known at.After-union-touched w r is (all_known at.After-lacking-3 w r is (named_known at.After-lacking-2 w r is)) in
+    let found = rw c.of_request.ensures at c.late_refusal.ensures in
+    refusal-known _ w r _ _ _ _ _ _ _ _ known.applied_to known.none known.touched_is c.as_slice.ensures.value c.crtcs_fenced.ensures (ap refusal_number (sym c.in-None.is) ∙ found)
 
 pub returns-in-None-clause-checked : goal.returns-in-None-clause-checked
 returns-in-None-clause-checked c = λ w r is.
-    let room : HasRoom c.args.states = record { crtcs = omega arith; planes = omega arith; conns = omega arith } in
-    let set_none : lacking c.args.states (set_group c.args.topology.now r) ≡ None = set-lacking c.args.topology.now w r c.args.resolved.now c.args.states c.as_slice-sets.result.now c.objects_set-set.result None is c.as_slice-sets.ensures.value c.objects_set-set.ensures (sym c.in_default.is ∙ c.lacking.ensures) in
-    let has : HasSets c.args.topology.now w r c.args.resolved.now c.args.states = record { is = is; room = room; none = set_none } in
-    let named_is : c.named-named.result ≡ named_set c.args.topology.now w.values (after w r) r.assigns = named-known c.args.topology.now w r c.args.resolved.now c.args.states c.named-named.result has c.named-named.ensures in
-    let named_none : lacking c.args.states (named_group c.args.topology.now w r) ≡ None = named-lacking c.args.topology.now w r c.args.states c.named-named.result c.only_crtcs.result None named_is c.only_crtcs.ensures (sym c.in_default-lacking.is ∙ c.lacking-2.ensures) in
-    let room_after : HasRoom c.apply.new.states = room-same c.args.states c.apply.new.states c.apply.ensures.old room in
-    let set_all : SetsAll c.args.states c.args.resolved.now.sets c.apply.new.states = subst (λ ss. SetsAll c.args.states ss c.apply.new.states) c.as_slice-sets.ensures.value c.apply.ensures.new in
-    let stand : StandAt c.args.topology.now w r c.apply.new.states = applied c.args.topology.now w r c.args.resolved.now c.args.states c.apply.new.states is c.requires.fresh set_all c.apply.ensures.old in
-    let applied_to : HasApplied c.args.topology.now w r c.args.resolved.now c.args.states c.apply.new.states c.named-named.result = record { has = has; room = room_after; named_is = named_is; none = named_none; stand = stand; same = c.apply.ensures.old } in
-    let touched_is : c.union-touched.result ≡ touched_set c.args.topology.now w.things w.values (after w r) r.assigns = touched-known c.args.topology.now w r c.objects_set-set.result c.only_crtcs-2.result c.union.result c.affected-affected.result c.union-touched.result c.named-named.result
-    (c.objects_set-set.ensures ∙ ap objects_set c.as_slice-sets.ensures.value ∙ objects_set-is c.args.topology.now (look_up w) r c.args.resolved.now is.device is.asks) named_is c.only_crtcs-2.ensures
-    (affected-known c.args.topology.now w r c.args.resolved.now c.args.states c.apply.new.states c.named-named.result c.affected-affected.result applied_to c.affected-affected.ensures) c.union.ensures c.union-touched.ensures in
-    record { old = stand.old; new = stand.new; named = named_is; touched = touched_is }
+    let at = goal.at.returns-in-None-clause-checked c in
+    let known = known at.After-union-touched w r is (all_known at.After-lacking-3 w r is (named_known at.After-lacking-2 w r is)) in
+    let stand = known.applied_to.stand in
+    record { old = stand.old; new = stand.new; named = known.applied_to.named_is; touched = known.touched_is }

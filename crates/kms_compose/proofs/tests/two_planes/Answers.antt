@@ -19,7 +19,7 @@ record IsOf (i : FbImage) (fb : FbInfo) : Type 0 where
 
 first_image : (i j : FbImage) (fb : FbInfo) → IsOf i fb → HasImage (i ∷ j ∷ []) fb
 first_image i j fb h = record {
-  image_seen = image_seen i.image;
+  seen = image_seen i.image;
   found = let same = eq-eqb i.fb fb.id h.id in rw same refl;
   width = h.width;
   height = h.height;
@@ -28,7 +28,7 @@ first_image i j fb h = record {
 
 second_image : (i j : FbImage) (fb : FbInfo) → (i.fb == fb.id) ≡ false → IsOf j fb → HasImage (i ∷ j ∷ []) fb
 second_image i j fb other h = record {
-  image_seen = image_seen j.image;
+  seen = image_seen j.image;
   found = let same = eq-eqb j.fb fb.id h.id in rw (other, same) refl;
   width = h.width;
   height = h.height;

@@ -33,4 +33,4 @@ returns c = λ w stand.
     let named = named_between-is t w r d c.all_named_between.result stand (subst Named c.as_slice-assigns.ensures.value c.all_named_between.ensures) in
     let few = has_few t (limits_of t stand.device) in
     let fenced = c.with_number.ensures ∙ fenced_is t r c.out_fence_numbers-fences.result few.crtcs (subst Fenced c.as_slice-assigns.ensures.value c.out_fence_numbers-fences.ensures) in
-    c.late_refusal.ensures ∙ whole_is t w r d c.all_named_between.result c.with_number.result stand named fenced
+    (rw c.of_request.ensures at c.late_refusal.ensures) ∙ whole_is t w r d c.all_named_between.result c.with_number.result stand named fenced

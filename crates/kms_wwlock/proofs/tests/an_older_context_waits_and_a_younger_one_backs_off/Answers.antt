@@ -1,4 +1,4 @@
--- What each call of the worked example requires: the tables are computed one after_call another.
+-- What each call of the worked example requires: the tables are computed one after another.
 use Rattle.std.proofs.Common.{◌≡◌, ℕ, List, [], ◌∷◌, ◌++◌, take, refl, ap, ◌∙◌, inl, arith}
 use Rattle.kms_model.specs.declared.objects.ObjId.{ObjId}
 use Rattle.kms_model.specs.declared.objects.Ticket.{Ticket}
@@ -68,7 +68,7 @@ lock-requires-5 g c =
     let now = told g (goal.at.lock-requires-5 g c).After-holder in
     rw (now.is, now.older) (record { taking = refl; lockable = inl (omega arith, omega arith) })
 
--- the calls after_call it
+-- the calls after it
 abbrev rest : List Call
 rest = Lock (at 0) crtc ∷ Lock (at 0) crtc ∷ Relock (at 1) ∷ DropAll (at 0) ∷ []
 

@@ -1,6 +1,6 @@
 use Rattle.std.proofs.Common.{◌≡◌, ◌∙◌, sym, ap, subst, refl, arith}
 use Rattle.kms_serial.proofs.Committing.{executes, grows_committed, refuses, stands_committed, tests, values_committed}
-use Rattle.kms_serial.proofs.StartStates.{few_crtcs}
+use Rattle.kms_things.proofs.StartStates.{few_crtcs}
 use Rattle.kms_serial.proofs.serial.Serial.commit.Goals as goal
 
 pub returns-in-Err-clause-executed : goal.returns-in-Err-clause-executed

@@ -2,7 +2,7 @@ use Rattle.std.proofs.Common.{◌≡◌, None, subst}
 use Rattle.std.specs.Prelude.{IfNone}
 use Rattle.kms_model.specs.Frames.Images.{image_of}
 use Rattle.kms_serial.specs.Device.{Device}
-use Rattle.kms_serial.proofs.Images.{if_none}
+use Rattle.kms_things.proofs.Images.{if_none}
 use Rattle.kms_serial.proofs.Naming.{no_image}
 use Rattle.kms_serial.proofs.serial.Serial.image.Goals as goal
 

@@ -1,6 +1,0 @@
-use Rattle.std.proofs.Common.{◌≡◌, take}
-use Rattle.kms_check.specs.Groups.{crtcs_fenced}
-use Rattle.kms_check.proofs.groups.crtcs_fenced.Given as goal
-
-abbrev pub invariant-loop-crtc : goal.invariant-loop-crtc
-invariant-loop-crtc l = l.fenced ≡ crtcs_fenced (take l.crtc-index l.out_fences)

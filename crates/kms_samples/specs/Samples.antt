@@ -1,0 +1,90 @@
+-- Modes, devices and requests that tests are about.
+use Rattle.std.specs.Prelude.{ℕ, pos, List, [], ◌∷◌, replicate}
+use Rattle.kms_model.specs.declared.objects.Kind.{Kind}
+use Rattle.kms_model.specs.declared.objects.Kind.TheVariants.{Crtc, Plane, Conn}
+use Rattle.kms_model.specs.declared.objects.Mode.{Mode}
+use Rattle.kms_model.specs.declared.objects.PlaneInfo.{PlaneInfo}
+use Rattle.kms_model.specs.declared.objects.Topology.{Topology}
+use Rattle.kms_model.specs.declared.properties.TheConstants.{ACTIVE, CRTC_H, CRTC_ID, CRTC_W, FB_ID, MODE_ID, SRC_H, SRC_W}
+use Rattle.kms_model.specs.declared.scripts.Assign.{Assign}
+use Rattle.kms_model.specs.declared.scripts.PropRef.TheVariants.{Known}
+use Rattle.kms_model.specs.declared.scripts.Request.{Request}
+use Rattle.kms_model.specs.declared.scripts.Value.{Value}
+use Rattle.kms_model.specs.declared.scripts.Value.TheVariants as value
+
+-- so many pixels in a row, and so many rows, with nothing around them
+abbrev pub mode_of : ℕ → ℕ → Mode
+mode_of columns rows = record {
+  clock = 1;
+  hdisplay = columns;
+  hsync_start = columns;
+  hsync_end = columns;
+  htotal = columns;
+  hskew = 0;
+  vdisplay = rows;
+  vsync_start = rows;
+  vsync_end = rows;
+  vtotal = rows;
+  vscan = 0;
+  vrefresh = 60;
+  flags = 0;
+  kind = 0;
+  name = replicate 32 0;
+}
+
+-- one pixel
+abbrev pub tiny : Mode
+tiny = mode_of 1 1
+
+-- a primary plane of some CRTCs that takes XR24 alone
+abbrev pub plane_of : ℕ → PlaneInfo
+plane_of crtcs = record { kind = 1; crtcs = crtcs; formats = 1 }
+
+abbrev pub device_of : ℕ → List PlaneInfo → List ℕ → Topology
+device_of crtcs planes conns = record { crtcs = crtcs; planes = planes; conns = conns }
+
+-- one CRTC, a plane of it and a connector of it
+abbrev pub single : Topology
+single = device_of 1 (plane_of 1 ∷ []) (1 ∷ [])
+
+-- one CRTC, a plane and two connectors of it
+abbrev pub cloned : Topology
+cloned = device_of 1 (plane_of 1 ∷ []) (1 ∷ 1 ∷ [])
+
+-- two CRTCs, a plane of both, one of the first alone and a connector of the first alone
+abbrev pub pair : Topology
+pair = device_of 2 (plane_of 3 ∷ plane_of 1 ∷ []) (1 ∷ [])
+
+-- the same with a second connector of the first CRTC alone
+abbrev pub double : Topology
+double = device_of 2 (plane_of 3 ∷ plane_of 1 ∷ []) (1 ∷ 1 ∷ [])
+
+-- a plane of two CRTCs that takes every format
+abbrev pub plane_of_both : PlaneInfo
+plane_of_both = record { kind = 1; crtcs = 3; formats = 7 }
+
+-- two CRTCs, and two planes and a connector that go on each of them
+abbrev pub split : Topology
+split = device_of 2 (plane_of_both ∷ plane_of_both ∷ []) (3 ∷ [])
+
+-- sets a property of the object of a kind with an index
+abbrev pub set : Kind → ℕ → ℕ → Value → Assign
+set kind index prop given = record { kind = kind; index = index; prop = Known prop; value = given }
+
+-- what lights the first CRTC, by the labels of a framebuffer and of a mode of one pixel
+abbrev pub light : ℕ → ℕ → List Assign
+light fb mode =
+    set Crtc 0 ACTIVE (value.Num (pos 1))
+    ∷ set Crtc 0 MODE_ID (value.Named mode)
+    ∷ set Conn 0 CRTC_ID (value.Crtc 0)
+    ∷ set Plane 0 FB_ID (value.Named fb)
+    ∷ set Plane 0 CRTC_ID (value.Crtc 0)
+    ∷ set Plane 0 CRTC_W (value.Num (pos 1))
+    ∷ set Plane 0 CRTC_H (value.Num (pos 1))
+    ∷ set Plane 0 SRC_W (value.Num (pos 65536))
+    ∷ set Plane 0 SRC_H (value.Num (pos 65536))
+    ∷ []
+
+-- a request that sets what assignments say
+abbrev pub request : ℕ → List Assign → Request
+request flags assigns = record { flags = flags; user_data = 7; assigns = assigns }

@@ -1,0 +1,11 @@
+//! Modes, devices and requests that tests are about, each with its exact value. Nothing but tests, and definitions for
+//! tests, calls this crate.
+#![tactic(auto)]
+
+mod devices;
+mod modes;
+mod requests;
+
+pub use devices::{cloned, double, pair, plane_of, single, split};
+pub use modes::{mode_of, tiny};
+pub use requests::{ALLOW_MODESET, light, on_crtc, on_plane, request, set};

@@ -1,7 +1,0 @@
-use Rattle.std.proofs.Common.{◌≡◌, ◌++◌, ◌∷◌, [], rules, subst, sym}
-use Rattle.kms_serial.specs.Index.{IsIndex}
-use Rattle.kms_serial.proofs.Numbered.{indexed_more}
-use Rattle.kms_serial.proofs.index.put.Goals as goal
-
-pub returns-clause-indexed : goal.returns-clause-indexed
-returns-clause-indexed c = let e : c.push.new.self.items ≡ c.args.things.now.items ++ c.args.thing ∷ [] = search rules in subst (λ ts. IsIndex c.note.new.ids ts) (sym e) (indexed_more c.args.ids.now c.note.new.ids c.args.things.now.items c.args.thing c.requires.indexed c.note.ensures.noted)

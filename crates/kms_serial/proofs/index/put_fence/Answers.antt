@@ -1,9 +1,0 @@
-use Rattle.std.proofs.Common.{◌≡◌, List, subst}
-use Rattle.kms_model.specs.declared.worlds.Thing.{Thing}
-use Rattle.kms_serial.specs.Index.{IsIndex}
-use Rattle.kms_serial.proofs.Kept.{kept_fence}
-use Rattle.kms_serial.proofs.index.put_fence.Goals as goal
-
-pub returns-clause-kept : goal.returns-clause-kept
-returns-clause-kept c =
-    λ buffers kept. rw c.put.ensures.things (kept_fence c.args.things.now.items c.args.next c.args.ids.now c.put.new.ids buffers c.in-Some.label c.args.client kept (subst (λ (ts : List Thing). IsIndex c.put.new.ids ts) c.put.ensures.things c.put.ensures.indexed))

@@ -1,6 +1,0 @@
-use Rattle.std.proofs.Common.{◌≡◌}
-use Rattle.kms_serial.specs.Starting.{off_plane, states_below}
-use Rattle.kms_serial.proofs.start.start_planes.Given as goal
-
-abbrev pub invariant-loop-index : goal.invariant-loop-index
-invariant-loop-index l = l.states ≡ states_below 16 off_plane l.index

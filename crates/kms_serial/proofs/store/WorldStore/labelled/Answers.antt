@@ -1,5 +1,0 @@
-use Rattle.kms_serial.proofs.Numbered.{labelled_own}
-use Rattle.kms_serial.proofs.store.WorldStore.labelled.Goals as goal
-
-pub returns-clause-own_id : goal.returns-clause-own_id
-returns-clause-own_id c = rw (← c.self.view_is) (labelled_own c.args.label c.self.inside.things.items c.thing_labelled.result c.self.invariant.numbered (rw (← c.as_slice.ensures.value) c.thing_labelled.ensures))

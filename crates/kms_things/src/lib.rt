@@ -1,0 +1,20 @@
+//! The things that commands make and close, and the present states of a device's objects.
+//!
+//! `Things` has the blobs, buffers, framebuffers and fences, open and closed, by label and by id, and executes the
+//! commands that make and close them. No call takes longer after many things were made than after few, but for the
+//! memory that they take. `start_states` and `swapped` give the states of all objects before the first command and
+//! after an accepted request.
+#![tactic(auto)]
+
+mod index;
+mod looks;
+mod making;
+mod previews;
+mod refusals;
+mod starting;
+mod swapping;
+mod things;
+
+pub use starting::start_states;
+pub use swapping::swapped;
+pub use things::Things;

@@ -1,0 +1,55 @@
+//! What labels and ids name.
+ghost use Rattle.std.specs.Prelude.{◌≡◌};
+ghost use Rattle.kms_model.specs.Device.World.{thing_labelled, thing_with_id};
+ghost use Rattle.kms_model.specs.Request.Lookups.{look_of, look_of_content, look_of_mode};
+ghost use Rattle.kms_things.specs.Framebuffers.{framebuffer_entry};
+
+use crate::refusals::is_framebuffer;
+use crate::things::Things;
+use kms_blobs::{decode_mode, is_legal_mode};
+use kms_model::{Content, Look, Mode};
+
+/// A blob of bytes, by the mode that they hold, if any.
+fn look_of_mode(id: u32, mode: Option<Mode>) -> Look
+    ensures { result ≡ look_of_mode id mode }
+{
+    match mode {
+        Some(mode) => Look::Mode(mode, id),
+        None => Look::Blob(id),
+    }
+}
+
+/// An open thing by its kind.
+fn look_of_content(id: u32, content: &Content) -> Look
+    ensures { result ≡ look_of_content id content.now }
+{
+    match content {
+        Content::Buffer { .. } => Look::Buffer(id),
+        Content::Framebuffer { info, .. } => Look::Fb(*info),
+        Content::Mode(mode) if is_legal_mode(mode) => Look::Mode(*mode, id),
+        Content::Mode(_) => Look::Blob(id),
+        Content::Blob(bytes) => look_of_mode(id, decode_mode(bytes.as_slice()).ok()),
+        Content::Fence | Content::OutFence => Look::Fence(id),
+    }
+}
+
+impl Things {
+    /// What a label names.
+    pub fn look(&self, label: u32) -> Look
+        ensures { result ≡ look_of (thing_labelled self.now.things label) }
+    {
+        match self.labelled(label) {
+            None => Look::Missing,
+            Some(thing) if thing.is_open => look_of_content(thing.id, &thing.content),
+            Some(_) => Look::Closed,
+        }
+    }
+
+    /// The label of the framebuffer with an id, and whether it is open; none where no framebuffer has it.
+    pub fn framebuffer(&self, id: u32) -> Option<(u32, bool)>
+        ensures { result ≡ framebuffer_entry (thing_with_id self.now.things id) }
+    {
+        let thing = self.with_id(id)?;
+        is_framebuffer(&thing.content).then_some((thing.label, thing.is_open))
+    }
+}

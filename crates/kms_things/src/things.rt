@@ -1,0 +1,249 @@
+//! The things that were made, by label and by id, with the words of buffers.
+ghost use Rattle.std.specs.Prelude.{◌≡◌, ◌<◌, ℕ, List, [], map, IfNone, IfOk, IfSome, IsTrue, None, OnErr, OnOk, Some, length, option_copied, ◌≤◌};
+ghost use Rattle.kms_model.specs.declared.worlds.Content.TheVariants as content;
+ghost use Rattle.kms_model.specs.declared.worlds.World.{World};
+ghost use Rattle.kms_model.specs.Device.Closing.{closed_in};
+ghost use Rattle.kms_model.specs.Device.Execution.{make, make_out_fences, make_unless, new_buffer_refusal};
+ghost use Rattle.kms_model.specs.Request.Touched.{out_fence_label};
+ghost use Rattle.kms_model.specs.declared.scripts.Assign.{Assign};
+ghost use Rattle.kms_model.specs.Device.States.{framebuffer_of};
+ghost use Rattle.kms_model.specs.Device.World.{thing_labelled, thing_with_id};
+ghost use Rattle.kms_model.specs.Frames.Images.{image_of};
+ghost use Rattle.kms_model.specs.Frames.Shown.{FramesIn};
+ghost use Rattle.kms_model.specs.Stores.Kept.{Fills};
+ghost use Rattle.kms_things.specs.Index.{HasNoWords, number_told};
+ghost use Rattle.kms_things.specs.Made.{HasIds, has_ids, with_made};
+
+use crate::index;
+use kms_buffers::{Buffers, MakeError};
+use kms_model::{
+    Content, Denied, FIRST_THING_ID, Format, Image, NoMemory, Pattern, Reply, Thing,
+};
+use std::alloc::Global;
+use std::collections::HashMap;
+use std::marker::Model;
+
+/// Below this a next id leaves room for the things of one command more.
+const MOST: u32 = 4294967000;
+
+/// The things that were made, open and closed, which are found by their labels and their ids without a walk, with the
+/// words of the buffers. Contracts see the things in order of making, and the id of the next one.
+#[derive(Drop)]
+pub struct Things {
+    made: Vec<Thing>,
+    next_id: u32,
+    // The id of the thing that was made under each label.
+    ids: HashMap<u32, u32>,
+    buffers: Buffers,
+}
+
+impl Model for Things {
+    ghost use Rattle.kms_things.specs.Index.{AreKept};
+    ghost use Rattle.kms_things.specs.Made.{Made};
+
+    ghost Value = { Made };
+
+    ghost view = { λ s. record { things = s.made.items; next_id = s.next_id } };
+
+    ghost invariant = { λ s. AreKept s.made.items s.next_id s.ids s.buffers };
+}
+
+impl Things {
+    /// Nothing was made. It takes no memory until the first thing.
+    pub fn new(alloc: Global) -> Things
+        ensures { result ≡ record { things = []; next_id = 1000 } }
+    {
+        Things {
+            made: Vec::new(alloc),
+            next_id: FIRST_THING_ID,
+            ids: HashMap::new(alloc),
+            buffers: Buffers::new(alloc),
+        }
+    }
+
+    /// The id of the next thing.
+    pub fn next_id(&self) -> u32
+        ensures { result ≡ self.now.next_id }
+    {
+        self.next_id
+    }
+
+    /// Whether there are ids for the things of one command more.
+    pub fn has_ids(&self) -> bool
+        ensures is { result ≡ has_ids self.now }
+        ensures ids { IsTrue result → HasIds self.now }
+    {
+        self.next_id < MOST
+    }
+
+    /// The thing that was made under a label, open or closed.
+    pub fn labelled(&self, label: u32) -> Option<&Thing>
+        ensures thing { option_copied result ≡ thing_labelled self.now.things label }
+        ensures own_id { IfSome result (λ t. thing_with_id self.now.things t.now.id ≡ Some t.now) }
+    {
+        index::thing_labelled(self.made.as_slice(), &self.ids, label)
+    }
+
+    /// The thing with an id, open or closed.
+    pub fn with_id(&self, id: u32) -> Option<&Thing>
+        ensures { option_copied result ≡ thing_with_id self.now.things id }
+    {
+        index::thing_with_id(self.made.as_slice(), id)
+    }
+
+    /// Makes a thing that is no buffer. Want of memory leaves all as it was.
+    pub(crate) fn make(
+        &mut self,
+        owner: u32,
+        label: u32,
+        content: Content,
+    ) -> Result<Reply, NoMemory>
+        requires room { self.old.next_id < 4294967295 }
+        requires wordless { HasNoWords content }
+        requires framed { FramesIn self.old.things self.old.next_id content }
+        ensures made { IfOk result (λ r. (w : World) → make (with_made w self.old) owner label content
+            ≡ record { world = with_made w self.new; reply = r }) }
+        ensures unchanged { OnErr result (self.new ≡ self.old) }
+    {
+        self.made.reserve(1)?;
+        self.ids.reserve(1)?;
+        let id = self.next_id;
+        index::put(
+            &mut self.made,
+            &mut self.ids,
+            Thing {
+                label,
+                id,
+                owner,
+                content,
+                is_open: true,
+            },
+        );
+        self.next_id = id + 1;
+        Ok(Reply::Made { id })
+    }
+
+    /// What is wrong with a new buffer: 31, a side is 0 or above 4096 pixels; 32, all buffers would have more than
+    /// 268435456 bytes.
+    pub(crate) fn new_buffer_refusal(
+        &self,
+        width: u32,
+        height: u32,
+        format: Format,
+    ) -> Option<u32>
+        ensures { result ≡ new_buffer_refusal self.now.things width height format }
+    {
+        number_of(self.buffers.total_with(width, height, format))
+    }
+
+    /// Makes a buffer with its words, unless it is refused. Want of memory leaves all as it was.
+    pub(crate) fn make_buffer(
+        &mut self,
+        alloc: Global,
+        owner: u32,
+        label: u32,
+        width: u32,
+        height: u32,
+        format: Format,
+        pattern: Pattern,
+    ) -> Result<Reply, NoMemory>
+        requires room { self.old.next_id < 4294967295 }
+        requires fills { Fills pattern width height }
+        ensures made { IfOk result (λ r. (w : World) → make_unless (with_made w self.old) owner label
+            (content.Buffer width height format pattern) (new_buffer_refusal self.old.things width height format)
+            ≡ record { world = with_made w self.new; reply = r }) }
+        ensures unchanged { OnErr result (self.new ≡ self.old) }
+    {
+        if let Some(number) = self.new_buffer_refusal(width, height, format) {
+            return Ok(Reply::Denied(number));
+        }
+        self.made.reserve(1)?;
+        self.ids.reserve(1)?;
+        let id = self.next_id;
+        match self
+            .buffers
+            .create(alloc, owner, id, width, height, format, &pattern)
+        {
+            Ok(()) => {}
+            Err(_) => return Err(NoMemory),
+        }
+        index::put(
+            &mut self.made,
+            &mut self.ids,
+            Thing {
+                label,
+                id,
+                owner,
+                content: Content::Buffer {
+                    width,
+                    height,
+                    format,
+                    pattern,
+                },
+                is_open: true,
+            },
+        );
+        self.next_id = id + 1;
+        Ok(Reply::Made { id })
+    }
+
+    /// The words of a framebuffer's buffer; none exactly where no framebuffer, open or closed, has the id.
+    pub fn image(&self, fb: u32) -> Option<Image<'_>>
+        ensures some { IfSome result (λ image. image_of self.now.things fb ≡ Some (record {
+          width = image.width;
+          height = image.height;
+          format = image.format;
+          words = image.words.now;
+        })) }
+        ensures none { IfNone result (framebuffer_of (thing_with_id self.now.things fb) ≡ None) }
+    {
+        match &self.with_id(fb)?.content {
+            Content::Framebuffer { buffer, .. } => self.buffers.image(*buffer),
+            _ => None,
+        }
+    }
+
+    /// Makes a client's out-fences with the next ids under the labels that its accepted request asks for, one place for each
+    /// CRTC of the device, in order. Want of memory leaves all as it was. (Kernel: "Explicit Fencing Properties", `OUT_FENCE_PTR`.)
+    pub fn make_out_fences(
+        &mut self,
+        client: u32,
+        labels: &[Option<u32>],
+    ) -> Result<(), NoMemory>
+        requires few { length labels.now ≤ 4 }
+        requires ids { HasIds self.old }
+        ensures made { OnOk result ((w : World) (assigns : List Assign) (crtcs : List ℕ)
+            → labels.now ≡ map (out_fence_label assigns) crtcs
+            → make_out_fences client assigns (with_made w self.old) crtcs ≡ with_made w self.new) }
+        ensures unchanged { OnErr result (self.new ≡ self.old) }
+    {
+        self.made.reserve(labels.len())?;
+        self.ids.reserve(labels.len())?;
+        self.next_id = index::put_fences(
+            &mut self.made,
+            &mut self.ids,
+            client,
+            self.next_id,
+            labels,
+        );
+        Ok(())
+    }
+
+    /// Closes the thing with an id.
+    pub(crate) fn close(&mut self, id: u32)
+        ensures { self.new ≡ record self.old { things = closed_in self.old.things id } }
+    {
+        index::close(&mut self.made, id);
+    }
+}
+
+/// The number with which an answer of the store of buffers refuses a buffer.
+fn number_of(total: Result<u64, MakeError>) -> Option<u32>
+    ensures { result ≡ number_told total }
+{
+    match total {
+        Err(MakeError::BadSize) => Some(Denied::INVALID_SIZE.0),
+        Err(MakeError::Space { .. }) => Some(Denied::NO_BUFFER_SPACE.0),
+        Ok(_) | Err(MakeError::NoMemory) => None,
+    }
+}
