@@ -1,0 +1,4 @@
+pub mod BankLemmas
+pub mod ModeWords
+pub mod Rows
+pub mod Signed
