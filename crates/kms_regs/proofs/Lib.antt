@@ -1,4 +1,5 @@
 pub mod BankLemmas
 pub mod ModeWords
+pub mod Pictured
 pub mod Rows
 pub mod Signed

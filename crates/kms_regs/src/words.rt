@@ -6,6 +6,7 @@ ghost use Rattle.kms_model.specs.Device.Objects.{object_id};
 ghost use Rattle.kms_model.specs.Device.Sound.{IsPlaneInRange};
 ghost use Rattle.kms_model.specs.Device.States.{natural};
 ghost use Rattle.kms_model.specs.declared.objects.Kind.TheVariants.{Plane};
+ghost use Rattle.kms_model.specs.Frames.Rectangles.{IsNearRect};
 ghost use Rattle.kms_model.specs.Machine.Registers.{bytes_of_words, code_of, crtc_words, fb_in, fb_number, flag_word, first_crtc_words, first_plane_words, mode_in_words, mode_words, plane_in, plane_words, words_of_bytes};
 
 use kms_blobs::{encode_mode, mode_of};
@@ -209,7 +210,8 @@ impl PlaneWords {
 
     /// The state of a plane that has these words.
     pub fn state(&self) -> PlaneState
-        ensures { result ≡ plane_in self.now }
+        ensures state { result ≡ plane_in self.now }
+        ensures near { IsNearRect result.dst }
     {
         PlaneState {
             fb: self.fb_info(),
@@ -224,7 +226,8 @@ impl PlaneWords {
 
     /// The destination that the words tell of, in pixels.
     fn destination(&self) -> Rect
-        ensures { result ≡ (plane_in self.now).dst }
+        ensures dst { result ≡ (plane_in self.now).dst }
+        ensures near { IsNearRect result }
     {
         Rect {
             x: i64::from(self.x.cast_signed()),
