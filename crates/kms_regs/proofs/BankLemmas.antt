@@ -103,7 +103,7 @@ abbrev planes_from : ℕ → ℕ → List ℕ
 planes_from from n = map (object_id Plane) (range_with_len from n)
 
 -- what the definition's latch copies
-kept-copied : (shadow live : Registers) (crtc from n i : ℕ) (d : PlaneWords) → is_copied shadow live crtc (object_id Plane i) ≡ false
+pub kept-copied : (shadow live : Registers) (crtc from n i : ℕ) (d : PlaneWords) → is_copied shadow live crtc (object_id Plane i) ≡ false
     → read d (copied_planes shadow live crtc (planes_from from n)) (object_id Plane i) ≡ read d live.planes (object_id Plane i)
 unfolding copied_planes
 kept-copied shadow live crtc from zero i d not = refl
@@ -116,7 +116,7 @@ kept-copied shadow live crtc from (suc n) i d not =
       | inr off_it ↦ rw off_it (kept-copied shadow live crtc (from + 1) n i d not)
     ]
 
-later-copied : (shadow live : Registers) (crtc from n i : ℕ) (d : PlaneWords) → from + n ≤ i
+pub later-copied : (shadow live : Registers) (crtc from n i : ℕ) (d : PlaneWords) → from + n ≤ i
     → read d (copied_planes shadow live crtc (planes_from from n)) (object_id Plane i) ≡ read d live.planes (object_id Plane i)
 unfolding copied_planes
 later-copied shadow live crtc from zero i d past = refl
@@ -128,7 +128,7 @@ later-copied shadow live crtc from (suc n) i d past =
       | inr off_it ↦ rw off_it (later-copied shadow live crtc (from + 1) n i d (omega (arith, past)))
     ]
 
-copied-copied : (shadow live : Registers) (crtc from n i : ℕ) (d : PlaneWords) → from ≤ i → i < from + n → is_copied shadow live crtc (object_id Plane i) ≡ true
+pub copied-copied : (shadow live : Registers) (crtc from n i : ℕ) (d : PlaneWords) → from ≤ i → i < from + n → is_copied shadow live crtc (object_id Plane i) ≡ true
     → read d (copied_planes shadow live crtc (planes_from from n)) (object_id Plane i) ≡ plane_register shadow (object_id Plane i)
 unfolding copied_planes
 copied-copied shadow live crtc from zero i d low high is = absurd (omega (arith, low, high))

@@ -7,6 +7,7 @@ use Rattle.kms_model.specs.declared.pictures.Picture.{Picture}
 use Rattle.kms_model.specs.declared.pictures.Picture.TheVariants.{Off}
 use Rattle.kms_model.specs.Machine.Registers.{Registers, decoded_picture, is_on_in, latched_registers, read}
 use Rattle.kms_model.specs.Machine.State.{DeviceState, count_at, go_at}
+use Rattle.kms_model.specs.Request.Checks.{with_ids}
 use Rattle.kms_regs.specs.Words.{ReadSame}
 
 -- what a register file holds, for a device with so many planes
@@ -17,6 +18,16 @@ pub record RegisterFile : Type 0 where
   -- whether a CRTC has GO, and the count of its vertical blankings, by id
   pub go : List (ℕ × Bool)
   pub counts : List (ℕ × ℕ)
+
+-- a register file of arrays, by index
+abbrev pub file_of : ℕ → Registers → Registers → List Bool → List ℕ → RegisterFile
+file_of planes shadow live go counts = record {
+  planes = planes;
+  shadow = shadow;
+  live = live;
+  go = with_ids (object_id Crtc 0) go;
+  counts = with_ids (object_id Crtc 0) counts;
+}
 
 -- a CRTC has GO, by id
 abbrev pub has_go : RegisterFile → ℕ → Bool

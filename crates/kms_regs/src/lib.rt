@@ -6,9 +6,10 @@
 #![tactic(auto)]
 
 mod banks;
+mod file;
+mod law;
 mod pictures;
 mod words;
 
-pub use banks::Bank;
-pub use pictures::decoded_picture;
-pub use words::{CrtcWords, PlaneWords};
+pub use file::RegFile;
+pub use law::latch_shows_what_was_written;
