@@ -22,7 +22,7 @@ use Rattle.kms_model.specs.Script.Words.{between, dec, dec_at, end_at, field_at,
 use Rattle.kms_script.proofs.FitWords.{alone_fit, blob_fit, dec_at_fit, fits_both, hex_at_fit, index_fit, int_fit, label_fit, long_fit, mode_fit, object_fit, pattern_fit, word_fit}
 use Rattle.kms_script.proofs.Inverted.{bind_some, choice_some, from_bind, if_some, map_some, or_some, some_same}
 use Rattle.kms_script.proofs.NamesBegin.{Begins, before_saying, making_says, said_word}
-use Rattle.kms_script.proofs.SpeltAssigns.{assign_named, assigns_named, property_named, value_named}
+use Rattle.kms_script.proofs.SpeltAssigns.{assign_named, assigns_named, prop_of, property_named, value_named}
 use Rattle.kms_script.proofs.SpeltWords.{id_word, nothing_read, property_spelt}
 
 -- Assignments
@@ -60,9 +60,6 @@ id_fit id word same is = step (name_of id) word same is
       where
         none : is_property_word [] ≡ true → ⊥
         none e = cc
-
-abbrev prop_of : Names → List ℕ → Option ℕ → PropRef × Names
-prop_of names word o = option_map_or (λ id. (Known id, names)) o (Unknown (place word names), saying word names)
 
 property_step : (all : List (List ℕ)) (names : Names) (word : List ℕ) (o : Option ℕ) → known_property word ≡ o → is_property_word word ≡ true → Begins (prop_of names word o).1 all → is_property_in all (prop_of names word o).0 ≡ true
 property_step all names word (Some id) e is b = id_fit id word (property_spelt id word e) is

@@ -16,6 +16,7 @@ use Rattle.kms_model.specs.Script.CommandLines.{Name, Names, place, said, made, 
 use Rattle.kms_model.specs.Script.Grammar.{int, known_property}
 use Rattle.kms_model.specs.Script.Words.{◌>>=◌, dec, is_label, strip}
 use Rattle.kms_script.specs.Overlong.{assign_label, label_and, labels_of, value_label}
+use Rattle.kms_script.proofs.SpeltAssigns.{prop_of}
 use Rattle.kms_script.proofs.Inverted.{bind_some, some_same}
 
 -- What is made
@@ -92,10 +93,6 @@ making_makes w names = record { was = λ v. made_makes v w names.all; twice = re
 
 nothing_makes : (names : Names) → Makes names None names
 nothing_makes names = record { was = λ v. refl; twice = or_none names.is_twice }
-
--- the property of a word, known or not
-abbrev prop_of : Names → List ℕ → Option ℕ → PropRef × Names
-prop_of names word o = option_map_or (λ id. (Known id, names)) o (Unknown (place word names), saying word names)
 
 -- the names after it
 property_makes : (names : Names) (word : List ℕ) → Makes names None (property_read names word).1

@@ -203,7 +203,7 @@ clash l [] rest label any d = absurd (none any)
     none e = cc
 clash l (w ∷ ws) rest label any d = clash_step (bytes_eq l w) l w ws rest refl label (λ more. clash l ws rest label more) any d
 
-numbers_append : (vs ws : List (List ℕ)) → packed_all (vs ++ ws) ≡ packed_all vs ++ packed_all ws
+pub numbers_append : (vs ws : List (List ℕ)) → packed_all (vs ++ ws) ≡ packed_all vs ++ packed_all ws
 numbers_append [] ws = refl
 numbers_append (v ∷ vs) ws = ap (λ (ns : List ℕ). packed_alone v ++ ns) (numbers_append vs ws) ∙ sym (append_assoc (packed_alone v) (packed_all vs) (packed_all ws))
 
