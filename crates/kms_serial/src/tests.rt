@@ -11,8 +11,9 @@ use kms_model::properties::{
 use kms_model::{
     Assign, Command, Denied, Format, Kind, Mask, NoMemory, Pattern, Refusal, Reply, Topology, Value,
 };
-use kms_props::AtomicFlags;
-use kms_samples::{cloned, light, on_crtc, on_plane, pair, request, set, single, tiny};
+use kms_samples::{
+    ALLOW_MODESET, cloned, light, on_crtc, on_plane, pair, request, set, single, tiny,
+};
 use std::alloc::Global;
 use std::process::Abort;
 use std::test::Fail;
@@ -29,9 +30,6 @@ const NEW: u32 = 3;
 
 /// The label of an out-fence.
 const OUT: u32 = 4;
-
-/// `DRM_MODE_ATOMIC_ALLOW_MODESET`, without which a request may not change a mode.
-const ALLOW_MODESET: u32 = AtomicFlags::ALLOW_MODESET.bits();
 
 /// What a device with room answers to a client's command.
 fn ask(
