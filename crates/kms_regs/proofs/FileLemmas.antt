@@ -151,7 +151,7 @@ counted_file t d planes s l go go' counts index h low goes = record {
   live_words = h.live_words;
   goes = goes;
   counted = row_set (λ (n : ℕ). n) 0 0 d.counts counts index (count_at d (object_id Crtc index) + 1) (get_or counts index 0 + 1) h.counted low
-  (ap (λ (n : ℕ). n + 1) (h.counted index ∙ read-with_ids 0 counts (object_id Crtc 0) index (object_id Crtc index) refl));
+      (ap (λ (n : ℕ). n + 1) (h.counted index ∙ read-with_ids 0 counts (object_id Crtc 0) index (object_id Crtc index) refl));
 }
 
 -- whether a CRTC has GO

@@ -10,5 +10,4 @@ pub fn latch_shows_what_was_written()
     ensures shows { (t : Topology) (shadow live : Registers) (crtc : ℕ) → ShowsTheShadow t shadow live crtc }
     ensures others { (t : Topology) (shadow live : Registers) (crtc : ℕ) → NoPlaneMoves t shadow live
         → LeavesTheOthers t shadow live crtc }
-{
-}
+{}
