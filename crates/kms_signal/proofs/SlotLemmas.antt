@@ -6,7 +6,7 @@ use Rattle.std.proofs.lemmas.Bool.{eq-eqb}
 use Rattle.std.proofs.lemmas.Bool.Decides.{eqb_tells}
 use Rattle.kms_model.specs.declared.tables.Slot.{Slot}
 use Rattle.kms_model.specs.Firsts.{or_else}
-use Rattle.kms_model.specs.Stores.Tables.{slot, AreBelow, value_with_id, with_value, without_id}
+use Rattle.kms_model.specs.Stores.Tables.{slot, AreBelow, value_with_id, with_value, without_id, put_in}
 
 -- another value under an id
 pub value_other : {T : Type 0} (slots : List (Slot T)) (id other : ℕ) (v : T) → (id == other) ≡ false → value_with_id (with_value slots id v) other ≡ value_with_id slots other
@@ -62,13 +62,12 @@ value_above (s ∷ slots) n id below above = rw (apart_below s.id id n below.0 a
 
 -- Ids below a number stay so.
 
-put_below : {T : Type 0} (s : Slot T) (n id : ℕ) (v : T) (b : Bool) → id < n → s.id < n → (cond b (slot id v) s).id < n
-put_below s n id v true up below = up
-put_below s n id v false up below = below
+put_below : {T : Type 0} (s : Slot T) (n id : ℕ) (v : T) → s.id < n → (put_in id v s).id < n
+put_below s n id v below = elim (eqb_tells s.id id) [ inl same ↦ rw same.0 (rw same.1 at below) | inr different ↦ rw different.0 below ]
 
-pub below-with_value : {T : Type 0} (slots : List (Slot T)) (n id : ℕ) (v : T) → id < n → AreBelow n slots → AreBelow n (with_value slots id v)
-below-with_value [] n id v up below = tt
-below-with_value (s ∷ slots) n id v up below = (put_below s n id v (s.id == id) up below.0, below-with_value slots n id v up below.1)
+pub below-with_value : {T : Type 0} (slots : List (Slot T)) (n id : ℕ) (v : T) → AreBelow n slots → AreBelow n (with_value slots id v)
+below-with_value [] n id v below = tt
+below-with_value (s ∷ slots) n id v below = (put_below s n id v below.0, below-with_value slots n id v below.1)
 
 kept_below : {T : Type 0} (s : Slot T) (rest : List (Slot T)) (n : ℕ) (b : Bool) → s.id < n → AreBelow n rest → AreBelow n (cond b (s ∷ rest) rest)
 kept_below s rest n true here below = (here, below)
