@@ -2,8 +2,8 @@ use Rattle.kms_run.specs.declared.status.Status.TheVariants as status
 use Rattle.kms_run.proofs.Outcomes.{met_at, met_silent, met_built}
 use Rattle.kms_run.proofs.top.kms_plain.Goals as goal
 
-pub returns : goal.returns
-returns g c = let ended = c.answered.result in let moved = c.answered.ensures.moved in record {
+pub returns-clause-ended : goal.returns-clause-ended
+returns-clause-ended g c = let ended = c.answered.result in let moved = c.answered.ensures.moved in record {
   ok = λ e. met_at _ _ _ _ _ ended status.Ok e moved;
   cut = λ e. met_at _ _ _ _ _ ended status.WriteFault e moved;
   script = λ line why e. met_at _ _ _ _ _ ended (status.Script line why) e moved;
