@@ -1,6 +1,6 @@
 -- What was read of words and fields is within the bounds of a well-formed script.
-use Rattle.std.proofs.Common.{◌≡◌, ℕ, ◌+◌, ◌-◌, ◌*◌, ◌<◌, ◌≤◌, ◌^◌, zero, suc, inl, inr, Bool, true, false, not, List, [], ◌∷◌, ◌++◌, length, replicate, cond, Option, Some, None, ℤ, pos, negsuc, neg_ℤ, refl, sym, ap, subst, ◌∙◌, arith}
-use Rattle.std.specs.Prelude.{◌==◌, ◌&&◌, codes, int_le, is_some, nat_le, nat_lt, option_map}
+use Rattle.std.proofs.Common.{◌≡◌, ℕ, ◌+◌, ◌-◌, ◌*◌, ◌<◌, ◌≤◌, ◌^◌, zero, suc, inl, inr, Bool, true, false, List, [], ◌∷◌, ◌++◌, length, replicate, cond, Option, Some, None, ℤ, pos, negsuc, neg_ℤ, refl, sym, ap, arith}
+use Rattle.std.specs.Prelude.{◌==◌, ◌&&◌, codes, int_le, nat_le, nat_lt, option_map}
 use Rattle.std.specs.List.{list_all}
 use Rattle.std.specs.Option.{option_map_or}
 use Rattle.std.specs.Str.{bytes_eq}
@@ -13,7 +13,7 @@ use Rattle.kms_model.specs.declared.objects.Kind.{Kind}
 use Rattle.kms_model.specs.declared.objects.Kind.TheVariants.{Crtc, Plane, Conn, Enc}
 use Rattle.kms_model.specs.declared.objects.Mode.{Mode}
 use Rattle.kms_model.specs.declared.scripts.Pattern.{Pattern}
-use Rattle.kms_model.specs.declared.scripts.Pattern.TheVariants.{Solid, Checker, Ramp, Pixels}
+use Rattle.kms_model.specs.declared.scripts.Pattern.TheVariants.{Checker, Pixels}
 use Rattle.kms_model.specs.Script.CommandLines.{checker_at, each_pixel_at, five_at, label_alone, mode_fields, pattern_at, pixels_at, ramp_at, solid_at}
 use Rattle.kms_model.specs.Script.Grammar.{blob_bytes, digits_of, hex, hex_at, hex_bytes, hex_pair, indexed, int, is_hex_number, negative, object, pixel_at, pixel_number}
 use Rattle.kms_model.specs.Script.WellFormed.{are_words16, has_widths, is_integer, is_mode_name, is_pattern_of, is_pixel_of, is_word16, is_word32}

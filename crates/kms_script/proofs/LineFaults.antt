@@ -1,5 +1,5 @@
 -- The faults of a command's line.
-use Rattle.std.proofs.Common.{◌≡◌, ℕ, ◌+◌, ◌<◌, ◌≤◌, ◌⊎◌, inl, inr, Bool, true, false, List, [], ◌∷◌, length, cond, Option, Some, None, Ok, Err, refl, sym, ap, subst, ◌∙◌, arith}
+use Rattle.std.proofs.Common.{◌≡◌, ℕ, ◌+◌, ◌≤◌, ◌⊎◌, inl, inr, Bool, true, false, List, length, cond, Option, Some, None, Ok, Err, refl, sym, ap, ◌∙◌, arith}
 use Rattle.std.specs.Prelude.{◌&&◌, codes, nat_lt, option_map, Result}
 use Rattle.std.specs.Str.{bytes_eq}
 use Rattle.std.proofs.lemmas.Bool.Decides.{nat_tests}
@@ -8,8 +8,8 @@ use Rattle.kms_model.specs.declared.scripts.Command.TheVariants as command
 use Rattle.kms_model.specs.declared.scripts.Why.{Why}
 use Rattle.kms_model.specs.declared.scripts.Why.TheVariants.{Bytes, Cut, Form, Label, Limit, Unbuilt}
 use Rattle.kms_model.specs.Script.CommandLines.{Names, addfb_read, assigns_read, atomic_read, blob_read, buffer_read, command_read, is_over, label_alone, label_read, line_read, making_read, mode_read, mode_fields, naming_read, or_form, pattern_at, thing_read, unless, unmade, words_in}
-use Rattle.kms_model.specs.Script.Grammar.{blob_bytes, field_words, format_at, hex, hex_at}
-use Rattle.kms_model.specs.Script.Words.{dec, dec_at, end_at, field_at, from, label_at, until}
+use Rattle.kms_model.specs.Script.Grammar.{blob_bytes, field_words, format_at, hex_at}
+use Rattle.kms_model.specs.Script.Words.{dec_at, end_at, field_at, from, label_at, until}
 use Rattle.kms_model.specs.Script.WellFormed.{IsFitCommand}
 use Rattle.kms_script.specs.Fitting.{HasFilled}
 use Rattle.kms_script.specs.Lines.{GivesLine, checked, line_of}

@@ -1,6 +1,6 @@
 -- The fault of an atomic line with more assignments than a request may have, by its labels.
-use Rattle.std.proofs.Common.{◌≡◌, ℕ, ◌+◌, ◌<◌, ◌≤◌, suc, Bool, true, false, not, List, [], ◌∷◌, ◌++◌, length, map, cond, append-nil, append_assoc, Option, Some, None, Ok, Err, refl, sym, ap, subst, ◌∙◌, arith}
-use Rattle.std.specs.Prelude.{◌||◌, codes, filter, if◌then◌else◌, nat_lt, option_map, Result, ⊤}
+use Rattle.std.proofs.Common.{◌≡◌, ℕ, ◌+◌, ◌<◌, ◌≤◌, Bool, true, false, not, List, [], ◌∷◌, ◌++◌, length, map, cond, append-nil, append_assoc, Option, Some, None, Err, refl, sym, ap, subst, ◌∙◌, arith}
+use Rattle.std.specs.Prelude.{codes, if◌then◌else◌, nat_lt, option_map, Result, ⊤}
 use Rattle.std.specs.Bool.{Decides, nat_eq}
 use Rattle.std.specs.List.{AllByRecursion, IsDistinct, list_any}
 use Rattle.std.specs.Option.{option_map_or}
@@ -12,14 +12,14 @@ use Rattle.kms_model.specs.declared.scripts.Command.{Command}
 use Rattle.kms_model.specs.declared.scripts.Command.TheVariants as command
 use Rattle.kms_model.specs.declared.scripts.Why.{Why}
 use Rattle.kms_model.specs.declared.scripts.Why.TheVariants.{Form, Label, Limit}
-use Rattle.kms_model.specs.Script.CommandLines.{Name, Names, Read, assign_words, assigns_read, atomic_read, is_over, or_form, unless, was_made, words_in}
-use Rattle.kms_model.specs.Script.Grammar.{field_words, hex, hex_at, int}
+use Rattle.kms_model.specs.Script.CommandLines.{Name, Names, Read, assign_words, assigns_read, atomic_read, is_over, was_made, words_in}
+use Rattle.kms_model.specs.Script.Grammar.{field_words, hex_at, int}
 use Rattle.kms_model.specs.Script.Words.{◌>>=◌, dec, dec_at, field_at, is_label, strip}
 use Rattle.kms_script.specs.Lines.{checked}
 use Rattle.kms_script.specs.Overlong.{AddsLabels, assign_label, blanks, has_many, label_and, label_word, labels_at, labels_of, made_words, packed_all, packed_alone, value_label}
 use Rattle.kms_script.proofs.Fields.{first_word, no_word, pair}
-use Rattle.kms_script.proofs.Inverted.{bind_some, if_some, some_same}
-use Rattle.kms_script.proofs.LabelsMade.{AllAgree, Holds, assigns_agree, twice_in}
+use Rattle.kms_script.proofs.Inverted.{bind_some, some_same}
+use Rattle.kms_script.proofs.LabelsMade.{AllAgree, assigns_agree, twice_in}
 use Rattle.kms_script.proofs.ManyFields.{request_blanks, words_blanks}
 use Rattle.kms_script.proofs.Repeated.{OnceOrTwice, numbers_append, once_or_twice}
 

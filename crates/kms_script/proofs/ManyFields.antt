@@ -1,11 +1,11 @@
 -- How many blanks a line has, and how many fields.
-use Rattle.std.proofs.Common.{◌≡◌, ℕ, ◌+◌, ◌≤◌, zero, suc, Bool, true, false, List, [], ◌∷◌, length, cond, Option, Some, None, refl, sym, ap, ◌∙◌, arith}
+use Rattle.std.proofs.Common.{◌≡◌, ℕ, ◌+◌, suc, Bool, true, false, List, [], ◌∷◌, length, cond, Some, refl, sym, ap, ◌∙◌, arith}
 use Rattle.std.specs.Prelude.{◌==◌}
 use Rattle.std.specs.List.{onto_first}
 use Rattle.kms_model.specs.declared.scripts.Assign.{Assign}
 use Rattle.kms_model.specs.Script.CommandLines.{Names, assign_read, assigns_read}
 use Rattle.kms_model.specs.Script.Grammar.{field_words, hex, hex_at, parted}
-use Rattle.kms_model.specs.Script.Words.{◌>>=◌, until, from, dec, dec_at, field_at}
+use Rattle.kms_model.specs.Script.Words.{until, from, dec, dec_at, field_at}
 use Rattle.kms_script.specs.Overlong.{blanks}
 use Rattle.kms_script.proofs.Inverted.{bind_some, if_some, some_same}
 use Rattle.kms_script.proofs.Parts.{later_parts, first_part}

@@ -1,6 +1,6 @@
 -- Words with numbers, as names in order of first occurrence.
-use Rattle.std.proofs.Common.{◌≡◌, ℕ, ◌+◌, ◌<◌, ◌≤◌, ◌^◌, Bool, true, false, zero, suc, List, [], ◌∷◌, ◌++◌, map, length, take, drop, length-take, cond, not, Option, Some, None, refl, sym, ap, subst, ◌∙◌, arith}
-use Rattle.std.specs.Prelude.{◌||◌, ◌==◌, option_map, slice_get}
+use Rattle.std.proofs.Common.{◌≡◌, ℕ, ◌+◌, ◌<◌, ◌≤◌, ◌^◌, Bool, true, false, zero, suc, List, [], ◌∷◌, ◌++◌, map, length, take, length-take, cond, not, Option, Some, None, refl, sym, ap, subst, ◌∙◌, arith}
+use Rattle.std.specs.Prelude.{◌||◌, option_map, slice_get}
 use Rattle.std.specs.Cmp.Lexicographic.{nat_list_eq_equiv}
 use Rattle.std.specs.List.{AllByRecursion, IsDistinct, position_or_len}
 use Rattle.std.specs.Ordering.{is_eq, nat_cmp}
@@ -8,7 +8,7 @@ use Rattle.std.specs.Str.{bytes_eq}
 use Rattle.kms_model.specs.Script.CommandLines.{Name, Names, place, said, made, was_made, making, saying, unmade, words_in}
 use Rattle.std.proofs.lemmas.Bool.Decides.{nat_tests}
 use Rattle.std.proofs.lemmas.List.{length-map}
-use Rattle.kms_script.specs.Named.{AreMade, HeldNames, held, is_in_numbers, kept, marked, HasRoomForNames, NamesGrow}
+use Rattle.kms_script.specs.Named.{held, is_in_numbers, kept, marked, HasRoomForNames, NamesGrow}
 use Rattle.kms_script.specs.Numbered.{place_among}
 use Rattle.kms_script.proofs.WordsNumbered.{absent_head}
 
