@@ -1,6 +1,6 @@
 -- A register file goes on standing for the device, call by call.
-use Rattle.std.proofs.Common.{◌≡◌, ◌≢◌, ℕ, ◌+◌, ◌<◌, ◌≤◌, Bool, true, false, List, [], ◌∷◌, length, get_or, Option, Some, None, is_some, arith, refl, sym, ap, ◌∙◌, subst, inl, inr, zero, suc, if◌then◌else◌}
-use Rattle.std.specs.Prelude.{◌==◌, not, slice_set}
+use Rattle.std.proofs.Common.{◌≡◌, ◌≢◌, ℕ, ◌+◌, ◌<◌, Bool, true, false, List, [], ◌∷◌, length, get_or, Some, None, is_some, arith, refl, sym, ap, ◌∙◌, subst, inl, inr, zero, suc, if◌then◌else◌}
+use Rattle.std.specs.Prelude.{not, slice_set}
 use Rattle.std.proofs.lemmas.Bool.{cases_eq}
 use Rattle.kms_model.specs.Device.Objects.{object_id}
 use Rattle.kms_model.specs.declared.objects.Kind.TheVariants.{Crtc}

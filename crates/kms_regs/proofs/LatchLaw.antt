@@ -1,7 +1,7 @@
 -- A latch shows what was written for its CRTC, and leaves the other CRTCs alone.
-use Rattle.std.proofs.Common.{◌≡◌, ◌≢◌, ℕ, ◌+◌, ◌<◌, ◌⊎◌, Bool, true, false, List, length, arith, refl, sym, ap, ◌∙◌, inl, inr, if◌then◌else◌, None}
-use Rattle.std.specs.Prelude.{◌==◌, ◌||◌}
-use Rattle.std.proofs.lemmas.Bool.{cases_Bool, cases_eq, or_cases, or_parts}
+use Rattle.std.proofs.Common.{◌≡◌, ◌≢◌, ℕ, ◌<◌, Bool, true, false, List, length, arith, refl, sym, ap, ◌∙◌, inl, inr, if◌then◌else◌, None}
+use Rattle.std.specs.Prelude.{◌==◌}
+use Rattle.std.proofs.lemmas.Bool.{cases_Bool, or_cases, or_parts}
 use Rattle.std.proofs.lemmas.Bool.Decides.{eqb_tells}
 use Rattle.kms_model.specs.Device.Objects.{object_id}
 use Rattle.kms_model.specs.declared.objects.Kind.TheVariants.{Crtc, Plane}
@@ -9,7 +9,7 @@ use Rattle.kms_model.specs.declared.objects.Mode.{Mode}
 use Rattle.kms_model.specs.declared.objects.Topology.{Topology}
 use Rattle.kms_model.specs.declared.pictures.Layer.{Layer}
 use Rattle.kms_model.specs.Frames.Pictures.{put_plane, seen_on}
-use Rattle.kms_model.specs.Machine.Registers.{CrtcWords, PlaneWords, Registers, crtc_register, first_crtc_words, first_plane_words, is_copied, latched_registers, plane_in, plane_register}
+use Rattle.kms_model.specs.Machine.Registers.{PlaneWords, Registers, crtc_register, first_crtc_words, first_plane_words, is_copied, latched_registers, plane_in, plane_register}
 use Rattle.kms_regs.specs.Latches.{LeavesTheOthers, Moves, NoPlaneMoves, ShowsTheShadow}
 use Rattle.kms_regs.proofs.BankLemmas.{copied-copied, kept-copied}
 use Rattle.kms_regs.proofs.Rows.{other_id, read_here, read_past}
