@@ -8,3 +8,4 @@ pub mod KeptChanges
 pub mod Lockables
 pub mod InStepLemmas
 pub mod MachineAnswers
+pub mod NotYetAnswers
