@@ -61,3 +61,16 @@ pub event_read : (q : Queue) (events : Events) (client : ℕ) (event : Event) (r
     → IsQueueOf (after_read_of q (event ∷ rest)) (record events { unread = (client, rest) ∷ events.unread; events_read = (client, event) ∷ events.events_read }) client
 unfolding read
 event_read q events client event rest is stand = record { reserved = stand.reserved; unread = rw (eq-eqb client client refl) refl }
+
+-- before the first step, and what is another client's
+pub no_events : (client : ℕ) → IsQueueOf empty_queue (record { reserved = []; unread = []; events_read = [] }) client
+unfolding read
+no_events client = record { reserved = refl; unread = refl }
+
+pub others_reserved : (q : Queue) (events : Events) (client other n : ℕ) → (client == other) ≡ false → IsQueueOf q events other → IsQueueOf q (record events { reserved = (client, n) ∷ events.reserved }) other
+unfolding read
+others_reserved q events client other n apart stand = record { reserved = rw apart stand.reserved; unread = stand.unread }
+
+pub others_unread : (q : Queue) (events : Events) (client other : ℕ) (es : List Event) → (client == other) ≡ false → IsQueueOf q events other → IsQueueOf q (record events { unread = (client, es) ∷ events.unread }) other
+unfolding read
+others_unread q events client other es apart stand = record { reserved = stand.reserved; unread = rw apart stand.unread }

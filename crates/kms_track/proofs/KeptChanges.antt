@@ -10,11 +10,13 @@ use Rattle.kms_model.specs.Machine.Commits.{last_below}
 use Rattle.kms_model.specs.Firsts.{or_else}
 use Rattle.kms_model.specs.Stores.Tables.{slot, AreBelow, value_with_id, with_value, without_id}
 use Rattle.kms_signal.proofs.SlotLemmas.{value_other, value_same, value_pushed, value_removed, value_left, value_above, below-with_value, below-without_id, below-push}
+use Rattle.std.proofs.lemmas.List.{get_or-replicate}
+use Rattle.kms_track.specs.Laws.{no_tracking}
 use Rattle.kms_track.specs.declared.commits.Last.{Last}
 use Rattle.kms_track.specs.declared.commits.Pending.{Pending}
 use Rattle.kms_track.specs.declared.commits.Touched.{Touched}
 use Rattle.kms_track.specs.Places.{object_at, mask_has, is_side}
-use Rattle.kms_track.specs.Told.{Told, has_flipped, previous, previous_of, second_previous, KeepsObject, IsTouched, IsPending, IsOver, KeepsCommit, Keeps, TellsOfSetup, nothing, told_claim, told_hw_done, told_latch, told_cleanup}
+use Rattle.kms_track.specs.Told.{Told, has_flipped, previous, previous_of, second_previous, KeepsObject, IsTouched, IsPending, IsOver, KeepsCommit, Keeps, TellsOfSetup, told_claim, told_hw_done, told_latch, told_cleanup}
 use Rattle.kms_track.specs.Tracking.{Tracking, commit_of, last_at, no_last, touched_at, raised, changed, changed_slots, with_claim, with_done, with_latch, IsSetUp}
 use Rattle.kms_track.proofs.Previous.{last_is, last_same}
 
@@ -273,14 +275,14 @@ keeps_cleanup told v w n count lasts is over keeps = record {
 
 -- Set up
 
-pub keeps_nothing : (v : Tracking) → v.count ≡ 0 → v.pending.slots ≡ [] → ((p : ℕ) → p < 28 → last_at v p ≡ no_last) → Keeps nothing v
+pub keeps_none : (told : Told) → told.count ≡ 0 → Keeps told no_tracking
 unfolding last_below
-keeps_nothing v count empty none = record {
-  count = count;
-  below = rw empty tt;
-  last = λ p place. rw (none p place) refl;
-  before = λ p place. rw (none p place) refl;
-  commits = λ k within. absurd (omega arith);
+keeps_none told none = record {
+  count = sym none;
+  below = tt;
+  last = λ p place. rw (none, get_or-replicate 28 p no_last no_last place) refl;
+  before = λ p place. rw (none, get_or-replicate 28 p no_last no_last place) refl;
+  commits = λ k within. absurd (omega (arith, none));
 }
 
 same_old : (old new : Told) (checked : Checked) (fences : List ℕ) (k : ℕ) → TellsOfSetup old new checked fences → k < old.count → SameCommit old new k

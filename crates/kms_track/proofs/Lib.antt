@@ -5,3 +5,7 @@ pub mod Flips
 pub mod Previous
 pub mod KeptAnswers
 pub mod KeptChanges
+pub mod Lockables
+pub mod InStepLemmas
+pub mod MachineAnswers
+pub mod NotYetAnswers

@@ -5,15 +5,16 @@ use Rattle.kms_model.specs.declared.states.Mask.{Mask}
 use Rattle.kms_model.specs.Stores.Tables.{without_id}
 use Rattle.kms_signal.specs.FenceSets.{FenceSet, is_signalled}
 use Rattle.kms_track.specs.Places.{crtc_id}
-use Rattle.kms_track.specs.Told.{Told, Keeps, TellsOfSetup, IsOver, nothing, told_claim, told_hw_done, told_latch, told_cleanup, may_claim, first_busy, first_awaited}
+use Rattle.kms_track.specs.Told.{Told, Keeps, TellsOfSetup, IsOver, told_claim, told_hw_done, told_latch, told_cleanup, may_claim, first_busy, first_awaited}
 use Rattle.kms_track.specs.Tracking.{Tracking, IsSetUp, changed, with_claim, with_done, with_latch, ready_of, busy_of, not_yet_of, no_last}
 
 -- the tracker of no commit
 abbrev pub no_tracking : Tracking
 no_tracking = record { count = 0; lasts = replicate 28 no_last; pending = record { slots = []; room = 0 } }
 
+-- Where no commit was set up, the new tracker keeps what was told.
 abbrev pub KeepsNothing : Type 0
-KeepsNothing = Keeps nothing no_tracking
+KeepsNothing = (told : Told) → told.count ≡ 0 → Keeps told no_tracking
 
 -- It is told of a commit as it was checked, and keeps that.
 abbrev pub KeepsSetup : Type 0

@@ -123,19 +123,6 @@ pub record Keeps (told : Told) (v : Tracking) : Type 0 where
 
 -- What calls tell
 
--- nothing was told
-abbrev pub nothing : Told
-nothing = record {
-  count = 0;
-  touches = λ k object. false;
-  concerns = λ k object crtc. false;
-  fences = λ k. [];
-  claimed = λ k. false;
-  hw_done = λ k. false;
-  latched = λ k crtc. false;
-  cleaned = λ k. false;
-}
-
 -- a commit is told of as it was checked, and the others as before
 pub record TellsOfSetup (old new : Told) (checked : Checked) (fences : List ℕ) : Type 0 where
   pub count : new.count ≡ old.count + 1

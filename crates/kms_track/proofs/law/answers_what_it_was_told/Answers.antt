@@ -1,14 +1,10 @@
-use Rattle.std.proofs.Common.{refl}
-use Rattle.std.proofs.lemmas.List.{get_or-replicate}
-use Rattle.kms_track.specs.Laws.{no_tracking}
-use Rattle.kms_track.specs.Tracking.{no_last}
 use Rattle.kms_track.proofs.KeptAnswers.{ready_told, busy_told, not_yet_told}
-use Rattle.kms_track.proofs.KeptChanges.{keeps_nothing, keeps_setup, keeps_claim, keeps_hw_done, keeps_latch, keeps_cleanup, keeps_room}
+use Rattle.kms_track.proofs.KeptChanges.{keeps_none, keeps_setup, keeps_claim, keeps_hw_done, keeps_latch, keeps_cleanup, keeps_room}
 use Rattle.kms_track.proofs.law.answers_what_it_was_told.Goals as goal
 
 pub returns : goal.returns
 returns c = record {
-  nothing = keeps_nothing no_tracking refl refl (λ p place. get_or-replicate 28 p no_last no_last place);
+  nothing = λ told none. keeps_none told none;
   setup = λ told next v w checked fences keeps set_up tells. keeps_setup told next checked fences v w set_up tells keeps;
   claim = λ told v k keeps. keeps_claim told v k keeps;
   hw_done = λ told v k keeps. keeps_hw_done told v k keeps;
