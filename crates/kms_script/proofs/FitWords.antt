@@ -230,12 +230,12 @@ mode_fit bytes m e =
     from_bind (dec_at 4294967295 f.1) _ m more (λ k kind more.
     from_bind (name_at k.1) _ m more (λ n name more.
     rw (← some_same _ m more) (and_from _ (is_mode_name n.0)
-      (and_from (is_word32 clock.0) _ (word32_fit clock.0 (dec_at_fit 4294967295 bytes clock first))
-      (and_from (are_words16 h.0 h.1 h.2 h.3 h.4) _ (five_fit clock.1 h across)
-      (and_from (are_words16 v.0 v.1 v.2 v.3 v.4) _ (five_fit h.5 v down)
-      (and_from (is_word32 r.0) _ (word32_fit r.0 (dec_at_fit 4294967295 v.5 r rate))
-      (and_from (is_word32 f.0) (is_word32 k.0) (word32_fit f.0 (dec_at_fit 4294967295 r.1 f flags)) (word32_fit k.0 (dec_at_fit 4294967295 f.1 k kind)))))))
-      (name_fit k.1 n name)))))))))
+    (and_from (is_word32 clock.0) _ (word32_fit clock.0 (dec_at_fit 4294967295 bytes clock first))
+    (and_from (are_words16 h.0 h.1 h.2 h.3 h.4) _ (five_fit clock.1 h across)
+    (and_from (are_words16 v.0 v.1 v.2 v.3 v.4) _ (five_fit h.5 v down)
+    (and_from (is_word32 r.0) _ (word32_fit r.0 (dec_at_fit 4294967295 v.5 r rate))
+    (and_from (is_word32 f.0) (is_word32 k.0) (word32_fit f.0 (dec_at_fit 4294967295 r.1 f flags)) (word32_fit k.0 (dec_at_fit 4294967295 f.1 k kind)))))))
+    (name_fit k.1 n name)))))))))
 
 -- Blobs
 
