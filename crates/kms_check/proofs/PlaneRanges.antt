@@ -26,7 +26,6 @@ use Rattle.kms_model.specs.Device.States.{natural}
 use Rattle.kms_model.proofs.LateLemmas.{flatten-some}
 use Rattle.kms_model.proofs.StateLemmas.{natural-held, sound-plane_in_range}
 use Rattle.kms_state.specs.Changes.{Sets, after_crtc, after_number, after_set, after_value, changed, plane_with}
-
 use Rattle.kms_state.proofs.Slots.{AreNew-changed}
 use Rattle.kms_model.specs.Request.Deciding.{AreFresh}
 use Rattle.kms_check.specs.Applying.{HasPlanesInRange, IsApplicable}

@@ -1,17 +1,8 @@
 -- A device for examples, in two sound worlds: one in which nothing is shown, and one in which its first CRTC is lit.
-use Rattle.std.specs.Prelude.{ℕ, ◌+◌, Bool, true, false, pos, List, [], ◌∷◌, replicate, Option, Some, None, if◌then◌else◌}
+use Rattle.std.specs.Prelude.{ℕ, ◌+◌, Bool, true, false, List, [], ◌∷◌, replicate, Option, Some, None, if◌then◌else◌}
 use Rattle.kms_model.specs.declared.objects.Format.{Format}
 use Rattle.kms_model.specs.declared.objects.Format.TheVariants.{Xr24, Rg16}
-use Rattle.kms_model.specs.declared.objects.Kind.{Kind}
 use Rattle.kms_model.specs.declared.objects.Kind.TheVariants.{Crtc, Plane, Conn}
-use Rattle.kms_model.specs.declared.objects.Mode.{Mode}
-use Rattle.kms_model.specs.declared.objects.PlaneInfo.{PlaneInfo}
-use Rattle.kms_model.specs.declared.objects.Topology.{Topology}
-use Rattle.kms_model.specs.declared.properties.TheConstants.{ACTIVE, CRTC_H, CRTC_ID, CRTC_W, FB_ID, MODE_ID, SRC_H, SRC_W}
-use Rattle.kms_model.specs.declared.scripts.Assign.{Assign}
-use Rattle.kms_model.specs.declared.scripts.PropRef.TheVariants.{Known}
-use Rattle.kms_model.specs.declared.scripts.Value.{Value}
-use Rattle.kms_model.specs.declared.scripts.Value.TheVariants as value
 use Rattle.kms_model.specs.declared.worlds.Content.{Content}
 use Rattle.kms_model.specs.declared.worlds.Content.TheVariants as content
 use Rattle.kms_model.specs.declared.worlds.Thing.{Thing}
@@ -29,11 +20,13 @@ use Rattle.kms_model.specs.Device.World.{start}
 use Rattle.kms_samples.specs.Samples.{double, light, tiny}
 
 abbrev pub thing : ℕ → ℕ → Content → Thing
-thing label id content = record { label = label; id = id; owner = 1; content = content; is_open = true }
+thing label id content =
+    record { label = label; id = id; owner = 1; content = content; is_open = true }
 
 -- a framebuffer of one row
 abbrev pub row : ℕ → ℕ → Format → Content
-row id width format = content.Framebuffer (record { id = id; width = width; height = 1; format = format }) 0
+row id width format =
+    content.Framebuffer (record { id = id; width = width; height = 1; format = format }) 0
 
 -- framebuffers under 0, 2 and 3, and one mode under 1 and 4
 abbrev pub things : List Thing
@@ -69,7 +62,8 @@ abbrev pub if_given : {S : Type 0} → Bool → ℕ → (ℕ → S) → List (Op
 if_given given n state = if given then two n state else replicate (2 + n) None
 
 abbrev pub crtc : Bool → ℕ → CrtcState
-crtc lit index = crtc_state_at double (world_of lit).things (world_of lit).values (object_id Crtc index)
+crtc lit index =
+    crtc_state_at double (world_of lit).things (world_of lit).values (object_id Crtc index)
 
 abbrev pub plane : Bool → ℕ → PlaneState
 plane lit index = plane_at (world_of lit).things (world_of lit).values (object_id Plane index)

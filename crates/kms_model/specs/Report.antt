@@ -1,3 +1,4 @@
+pub mod EventBytes
 pub mod Replies
 pub mod History
 pub mod TextLines

@@ -55,7 +55,8 @@ new_crtc to.Fence = 0
 
 -- A set names a CRTC: it sets it, or a plane or a connector that was on it, or it puts one on it.
 abbrev pub set_names : Duplicates → Set → ℕ → Bool
-set_names d s crtc = ((s.object.0 == crtc) || (old_crtc d s.object.0 == crtc)) || (new_crtc s.value == crtc)
+set_names d s crtc =
+    ((s.object.0 == crtc) || (old_crtc d s.object.0 == crtc)) || (new_crtc s.value == crtc)
 
 -- a plane or a connector is duplicated (of other objects nothing is asked)
 abbrev pub is_routed_duplicated : Duplicates → ℕ → Bool

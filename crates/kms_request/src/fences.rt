@@ -62,7 +62,8 @@ fn note_in_fence<L: Looker>(fences: &mut Numbers, found: &L, a: &Assign)
 /// Notes the label that an assignment asks to be made for a CRTC, or that it asks for none.
 fn note_out_fence(labels: &mut Numbers, a: &Assign)
     requires { IsSettable a.now }
-    ensures { (earlier : List Assign) → TellOutFences earlier labels.old → TellOutFences (earlier ++ a.now ∷ []) labels.new }
+    ensures { (earlier : List Assign) → TellOutFences earlier labels.old
+        → TellOutFences (earlier ++ a.now ∷ []) labels.new }
 {
     if sets_of(a, Kind::Crtc, OUT_FENCE_PTR) {
         labels[a.index as usize] = new_label(a.value);
@@ -122,7 +123,8 @@ pub fn in_fences<L: Looker>(
 ) -> Result<Seq<(ObjId, u32)>, NoMemory>
     requires limits { IsTrue (keeps_limits topology.now) }
     requires settable { All IsSettable assigns.now }
-    ensures { IfOk result (λ fences. fences ≡ in_fences topology.now (L.meaning found.now) assigns.now) }
+    ensures { IfOk result (λ fences.
+        fences ≡ in_fences topology.now (L.meaning found.now) assigns.now) }
 {
     let numbers = in_fence_numbers(found, assigns);
     listed(alloc, Kind::Plane, topology.planes.len(), &numbers)

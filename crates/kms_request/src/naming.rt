@@ -19,7 +19,8 @@ pub fn only_crtc(id: u32) -> u32
     only_of(Kind::Crtc, id)
 }
 
-/// The CRTCs of a plane or a connector in its old and in its new state, each 0 without one.
+/// The ids of the CRTCs of a plane or a connector, given by its id, in its old and in its new state; each is 0 without
+/// one.
 pub fn crtcs_of(states: &Duplicates, object: u32) -> (u32, u32)
     ensures old { result.0 ≡ old_crtc states.now object }
     ensures new { result.1 ≡ next_crtc states.now object }
@@ -41,7 +42,7 @@ pub fn crtcs_of(states: &Duplicates, object: u32) -> (u32, u32)
     }
 }
 
-/// The CRTC that a plane or a connector is put on, or 0.
+/// The id of the CRTC that a plane or a connector is put on, or 0.
 fn new_crtc(value: SetValue) -> u32
     ensures { result ≡ new_crtc value }
 {
@@ -71,12 +72,12 @@ fn all_named_by(states: &Duplicates, sets: &[Set]) -> u32
     named
 }
 
-/// The set of CRTCs that a request names: bit i stands for CRTC index i. A CRTC is named where the request sets it, or a
+/// The mask of the CRTCs that a request names: bit i stands for CRTC index i. A CRTC is named where the request sets it, or a
 /// plane or a connector that is on it before or after the request. The old states tell which are on it before; what the
 /// request sets tells which are on it after.
 pub fn named(resolved: &Resolved, states: &Duplicates) -> u32
-    ensures { (t : Topology) (w : World) (f : ℕ → Look) (r : Request) → Covers t w f r resolved.now states.now
-        → result ≡ named_by t w r }
+    ensures { (t : Topology) (w : World) (f : ℕ → Look) (r : Request)
+        → Covers t w f r resolved.now states.now → result ≡ named_by t w r }
 {
     all_named_by(states, resolved.sets.as_slice())
 }

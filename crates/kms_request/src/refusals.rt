@@ -121,7 +121,8 @@ fn own_refusal<L: Looker>(topology: &Topology, found: &L, a: &Assign) -> Option<
 /// Whether an assignment sets the fence of a plane for which an earlier one named a fence.
 fn is_second_fence(fenced: &[bool; 16], a: &Assign) -> bool
     requires { SetsFenceOfPlane a.now }
-    ensures { (earlier : List Assign) → TellFences earlier fenced.now → result ≡ is_second_fence earlier a.now }
+    ensures { (earlier : List Assign) → TellFences earlier fenced.now
+        → result ≡ is_second_fence earlier a.now }
 {
     a.prop == PropRef::Known(IN_FENCE_FD) && fenced[a.index as usize]
 }
@@ -129,7 +130,8 @@ fn is_second_fence(fenced: &[bool; 16], a: &Assign) -> bool
 /// Notes the fence that an assignment names.
 fn note_fence(fenced: &mut [bool; 16], a: &Assign)
     requires { SetsFenceOfPlane a.now }
-    ensures { (earlier : List Assign) → TellFences earlier fenced.old → TellFences (a.now ∷ earlier) fenced.new }
+    ensures { (earlier : List Assign) → TellFences earlier fenced.old
+        → TellFences (a.now ∷ earlier) fenced.new }
 {
     if a.prop == PropRef::Known(IN_FENCE_FD) && matches!(a.value, Value::Named(_)) {
         fenced[a.index as usize] = true;
@@ -140,7 +142,8 @@ fn note_fence(fenced: &mut [bool; 16], a: &Assign)
 #[tactic(auto, unfolding(kms_model::specs::Request::Refusals::assigns_refusal, kms_model::specs::Request::Refusals::assign_refusal))]
 fn first_refusal<L: Looker>(topology: &Topology, found: &L, assigns: &[Assign]) -> Option<Refusal>
     requires { IsTrue (keeps_limits topology.now) }
-    ensures { refusal_number result ≡ assigns_refusal topology.now (L.meaning found.now) [] assigns.now }
+    ensures { refusal_number result
+        ≡ assigns_refusal topology.now (L.meaning found.now) [] assigns.now }
 {
     // For each plane, whether an assignment named a fence for it.
     let mut fenced = [false; 16];
@@ -163,8 +166,10 @@ fn first_refusal<L: Looker>(topology: &Topology, found: &L, assigns: &[Assign]) 
 #[tactic(auto, unfolding(kms_model::specs::Request::Refusals::early_refusal))]
 pub fn early<L: Looker>(topology: &Topology, request: &Request, found: &L) -> Option<Refusal>
     requires { IsTrue (keeps_limits topology.now) }
-    ensures first { refusal_number result ≡ early_refusal topology.now (L.meaning found.now) request.now }
-    ensures allowed { IsNone result → All (IsAllowed topology.now (L.meaning found.now)) request.now.assigns }
+    ensures first { refusal_number result
+        ≡ early_refusal topology.now (L.meaning found.now) request.now }
+    ensures allowed { IsNone result
+        → All (IsAllowed topology.now (L.meaning found.now)) request.now.assigns }
     ensures settable { IsNone result → All IsSettable request.now.assigns }
 {
     if let Some(refusal) = flags_refusal(request.flags) {

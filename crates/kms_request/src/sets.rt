@@ -105,7 +105,8 @@ pub fn set_of<L: Looker>(found: &L, a: &Assign) -> Set
     ensures set { result ≡ set_of (L.meaning found.now) a.now }
 
     // What that means where the assignment is not refused.
-    ensures among { (t : Topology) → IsAllowed t (L.meaning found.now) a.now → IsTrue (may_set a.now.kind result.prop result.value) }
+    ensures among { (t : Topology) → IsAllowed t (L.meaning found.now) a.now
+        → IsTrue (may_set a.now.kind result.prop result.value) }
 {
     let prop = prop_of(a.prop);
     Set {

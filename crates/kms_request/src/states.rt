@@ -66,7 +66,12 @@ fn switches_crtc(old: u32, new: u32) -> bool
 }
 
 /// What is wrong with a plane that has a framebuffer and a CRTC, from 11 to 15.
-fn placed_refusal(info: &PlaneInfo, fb: FbInfo, old: &PlaneState, new: &PlaneState) -> Option<Refusal>
+fn placed_refusal(
+    info: &PlaneInfo,
+    fb: FbInfo,
+    old: &PlaneState,
+    new: &PlaneState,
+) -> Option<Refusal>
     requires { IsPlaneInRange new.now }
     ensures { refusal_number result ≡ placed_refusal info.now fb old.now new.now }
 {
@@ -106,7 +111,12 @@ pub(crate) fn plane_refusal(info: &PlaneInfo, old: &PlaneState, new: &PlaneState
 
 /// What is wrong with a CRTC: 16, it is on without a mode; 17, an event or an out-fence is asked for it, and it was off
 /// and stays off.
-pub(crate) fn crtc_refusal(asks: bool, was_on: bool, is_on: bool, mode: Option<Mode>) -> Option<Refusal>
+pub(crate) fn crtc_refusal(
+    asks: bool,
+    was_on: bool,
+    is_on: bool,
+    mode: Option<Mode>,
+) -> Option<Refusal>
     ensures { refusal_number result ≡ crtc_refusal asks was_on is_on mode }
 {
     if is_on && mode.is_none() {

@@ -49,8 +49,10 @@ fn target_of(a: &Assign) -> usize
 /// Marks what an assignment sets, and tells whether it was not marked before.
 pub fn mark(marks: &mut Marks, a: &Assign) -> bool
     requires { IsSettable a.now }
-    ensures new { (others : List Assign) → TellTargets others marks.old → result ≡ not (list_any (has_target_of a.now) others) }
-    ensures marked { (others : List Assign) → TellTargets others marks.old → TellTargets (a.now ∷ others) marks.new }
+    ensures new { (others : List Assign) → TellTargets others marks.old
+        → result ≡ not (list_any (has_target_of a.now) others) }
+    ensures marked { (others : List Assign) → TellTargets others marks.old
+        → TellTargets (a.now ∷ others) marks.new }
 {
     let target = target_of(a);
     let was_marked = marks[target];

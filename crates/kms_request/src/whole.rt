@@ -39,7 +39,8 @@ fn named_between(states: &Duplicates, a: &Assign) -> u32
 /// The CRTCs that assignments name.
 fn all_named_between(states: &Duplicates, assigns: &[Assign]) -> u32
     requires { All IsSettable assigns.now }
-    ensures { AreCrtcs (λ crtc. list_any (λ a. is_named_between states.now a crtc) assigns.now) result }
+    ensures { AreCrtcs (λ crtc. list_any (λ a. is_named_between states.now a crtc) assigns.now)
+        result }
 {
     let mut named = 0;
     for a in assigns {
@@ -48,7 +49,7 @@ fn all_named_between(states: &Duplicates, assigns: &[Assign]) -> u32
     named
 }
 
-/// The set of CRTCs that an accepted request names: bit i stands for CRTC index i. Every object of the device is
+/// The mask of the CRTCs that an accepted request names: bit i stands for CRTC index i. Every object of the device is
 /// duplicated, before the request and after it.
 pub fn named_in(states: &Duplicates, request: &Request) -> u32
     requires { All IsSettable request.now.assigns }

@@ -16,7 +16,7 @@ use Rattle.kms_model.specs.Frames.Images.{image_of}
 use Rattle.kms_model.specs.Stores.Kept.{Seen}
 use Rattle.kms_compose.specs.Images.{AreImagesIn, IsShowable, image_seen, seen_under}
 use Rattle.kms_compose.specs.declared.images.FbImage.{FbImage}
-use Rattle.kms_serial.specs.Shown.{CanBeShown, HasWords}
+use Rattle.kms_model.specs.Frames.Shown.{CanBeShown, HasWords}
 use Rattle.kms_run.specs.Latches.{AreSeen, IsPushed}
 
 -- One image more
@@ -79,7 +79,7 @@ showable things m images layers can are k d within =
     let one = can k d within in
     record {
       placed = one.placed;
-      image = record { image_seen = one.words.seen; found = are k d within ∙ one.words.found; width = one.words.width; height = one.words.height; words = one.words.words };
+      image = record { seen = one.words.seen; found = are k d within ∙ one.words.found; width = one.words.width; height = one.words.height; words = one.words.words };
     }
 
 pub have_words : (things : List Thing) (m : Mode) (layers : List Layer) → All (CanBeShown things m) layers → All (λ l. HasWords things l.fb) layers

@@ -151,8 +151,8 @@ stands_between t w r before after i device sound present early all same new =
     }
 
 -- The request of a check that was not refused by 1 to 8 is let through
-pub through : (t : Topology) (w : World) (d : Duplicates) (r : Request) → IsDevice t → IsSound t w → IsPresent t w d → early_refusal t (look_up w) r ≡ None → IsLetThrough t w d r
-through t w d r device sound present early = record { stands = record { device = device; sound = sound; present = present }; early = early }
+pub through : (t : Topology) (w : World) (d : Duplicates) (r : Request) → Stands t w d → early_refusal t (look_up w) r ≡ None → IsLetThrough t w d r
+through t w d r stands early = record { stands = stands; early = early }
 
 -- so is an accepted one
 pub through-accepted : (t : Topology) (w : World) (d : Duplicates) (r : Request) → Stands t w d → verdict t w r ≡ None → IsLetThrough t w d r

@@ -27,8 +27,10 @@ pub trait Duplicating {
     /// No duplicated state. (Kernel: `drm_atomic_state_alloc`.)
     fn empty() -> Self
         ensures states { duplicates result ≡ none_duplicated }
-        ensures old { (t : Topology) (things : List Thing) (values : List Setting) → AgreesOld t things values (duplicates result) }
-        ensures new { (t : Topology) (things : List Thing) (values : List Setting) → AgreesNew t things values (duplicates result) };
+        ensures old { (t : Topology) (things : List Thing) (values : List Setting)
+            → AgreesOld t things values (duplicates result) }
+        ensures new { (t : Topology) (things : List Thing) (values : List Setting)
+            → AgreesNew t things values (duplicates result) };
 
     /// Whether [`Duplicating::duplicate`] takes a state for an id: it is that of one of 4 CRTCs, 16 planes and 8
     /// connectors, of the state's kind, and the object is not duplicated yet.
@@ -41,7 +43,8 @@ pub trait Duplicating {
     fn duplicate(&mut self, id: ObjId, state: ObjState)
         requires { IsTrue (may_duplicate (duplicates self.old) id.0 state) }
         ensures states { duplicates self.new ≡ duplicated (duplicates self.old) id.0 state }
-        ensures there { (o : ℕ) → is_duplicated (duplicates self.new) o ≡ ((o == id.0) || is_duplicated (duplicates self.old) o) }
+        ensures there { (o : ℕ) → is_duplicated (duplicates self.new) o
+            ≡ ((o == id.0) || is_duplicated (duplicates self.old) o) }
         ensures old { KeepsOld (duplicates self.old) id.0 state (duplicates self.new) }
         ensures new { KeepsNew (duplicates self.old) id.0 state (duplicates self.new) };
 
@@ -56,7 +59,8 @@ pub trait Duplicating {
         ensures states { duplicates self.new ≡ after_set (duplicates self.old) set.now }
         ensures new { Sets (duplicates self.old) set.now (duplicates self.new) }
         ensures old { old_states (duplicates self.new) ≡ old_states (duplicates self.old) }
-        ensures same { (o : ℕ) → is_duplicated (duplicates self.new) o ≡ is_duplicated (duplicates self.old) o }
+        ensures same { (o : ℕ) → is_duplicated (duplicates self.new) o
+            ≡ is_duplicated (duplicates self.old) o }
         ensures fence { set.now.value ≡ to.Fence → duplicates self.new ≡ duplicates self.old };
 
     /// The states of the CRTC with an index, where they are duplicated.
@@ -104,14 +108,19 @@ impl Duplicating for Duplicates {
         let id = id.0;
         match state {
             ObjState::Crtc(_) => {
-                id >= FIRST_CRTC_ID && matches!(self.crtcs.get((id - FIRST_CRTC_ID) as usize), Some(None))
+                id >= FIRST_CRTC_ID
+                    && matches!(self.crtcs.get((id - FIRST_CRTC_ID) as usize), Some(None))
             }
             ObjState::Plane(_) => {
                 id >= FIRST_PLANE_ID
                     && matches!(self.planes.get((id - FIRST_PLANE_ID) as usize), Some(None))
             }
             ObjState::Conn(_) => {
-                id >= FIRST_CONNECTOR_ID && matches!(self.conns.get((id - FIRST_CONNECTOR_ID) as usize), Some(None))
+                id >= FIRST_CONNECTOR_ID
+                    && matches!(
+                        self.conns.get((id - FIRST_CONNECTOR_ID) as usize),
+                        Some(None)
+                    )
             }
         }
     }

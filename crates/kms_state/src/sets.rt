@@ -98,7 +98,9 @@ pub(crate) fn move_conn(states: &mut Duplicates, id: u32, crtc: u32)
 /// Puts a plane or a connector on a CRTC, or takes it off, where the CRTC is duplicated.
 fn put_routed(states: &mut Duplicates, id: u32, kind: Kind, index: u32, is_there: bool)
     requires { index < 32 }
-    ensures { states.new ≡ record states.old { crtcs = changed Crtc states.old.crtcs id (with_routed kind index is_there) } }
+    ensures { states.new ≡ record states.old {
+      crtcs = changed Crtc states.old.crtcs id (with_routed kind index is_there);
+    } }
 {
     if id < FIRST_CRTC_ID {
         return;

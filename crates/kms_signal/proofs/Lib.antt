@@ -1,0 +1,5 @@
+pub mod Places
+pub mod Turns
+pub mod SlotLemmas
+pub mod FenceLemmas
+pub mod InStepLemmas

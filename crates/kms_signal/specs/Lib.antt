@@ -1,0 +1,4 @@
+pub mod Rooms
+pub mod FenceSets
+pub mod Queues
+pub mod InStep

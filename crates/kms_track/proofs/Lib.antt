@@ -1,0 +1,11 @@
+pub mod PlaceLemmas
+pub mod FenceIds
+pub mod Writes
+pub mod Flips
+pub mod Previous
+pub mod KeptAnswers
+pub mod KeptChanges
+pub mod Lockables
+pub mod InStepLemmas
+pub mod MachineAnswers
+pub mod NotYetAnswers

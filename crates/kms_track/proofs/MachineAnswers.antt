@@ -1,0 +1,111 @@
+-- What a tracker in step with the machine answers, in the machine's words.
+use Rattle.std.proofs.Common.{◌≡◌, ℕ, ◌+◌, ◌<◌, ◌≤◌, List, [], ◌∷◌, length, Bool, true, false, Some, None, cond, inl, inr, arith, refl, sym, ap, ◌∙◌}
+use Rattle.std.specs.Prelude.{◌&&◌, ◌||◌, not, nat_lt, find, Option, if◌then◌else◌}
+use Rattle.std.specs.List.{list_all}
+use Rattle.kms_model.specs.declared.objects.Kind.TheVariants.{Crtc}
+use Rattle.kms_model.specs.declared.objects.ObjId.{ObjId}
+use Rattle.kms_model.specs.declared.objects.Topology.{Topology}
+use Rattle.kms_model.specs.declared.runs.Latch.{Latch}
+use Rattle.kms_model.specs.declared.scripts.Request.{Request}
+use Rattle.kms_model.specs.declared.states.Mask.{Mask}
+use Rattle.kms_model.specs.Firsts.{or_else, first_some}
+use Rattle.kms_model.specs.Device.Objects.{count_of}
+use Rattle.kms_model.specs.Machine.Commits as machine
+use Rattle.kms_model.specs.Machine.Commits.{has_number, has_latched, commit_touches, commit_concerns, waited_fences, if_there, lockable, last_below, is_hw_done}
+use Rattle.kms_model.specs.Machine.Effects.{commit_numbered}
+use Rattle.kms_model.specs.Machine.State.{Commit, Marks, Machine}
+use Rattle.kms_model.specs.Machine.Steps as steps
+use Rattle.kms_model.specs.Request.Sets.{obj_id}
+use Rattle.kms_model.specs.Request.Touched.{touches}
+use Rattle.kms_model.proofs.Items.{IsIn}
+use Rattle.kms_signal.specs.FenceSets.{FenceSet, is_signalled}
+use Rattle.kms_track.specs.InStep.{told_of, IsInStep, AreOfDevice, is_there, pending_pair, busy_answer}
+use Rattle.kms_track.specs.Places.{object_at, mask_has, all_below, first_below}
+use Rattle.kms_track.specs.Told.{Told, has_flipped, previous, is_settled_for, may_claim, pending_at, pending_of, first_busy}
+use Rattle.kms_track.specs.Tracking.{Tracking, ready_of, busy_of, with_object, unless}
+use Rattle.kms_track.proofs.KeptAnswers.{ready_told, busy_told}
+use Rattle.kms_track.proofs.Lockables.{crtcs_all, all_lockable, first_lockable}
+
+flipped_machine : (t : Topology) (commits : List Commit) (marks : Marks) (latches : List Latch) (k object : ℕ) → AreOfDevice t commits → has_flipped (told_of t commits marks latches) k object ≡ machine.has_flipped t commits latches k object
+unfolding machine.has_flipped
+flipped_machine t commits marks latches k object device =
+    sym (crtcs_all (λ crtc. not (commit_concerns t commits k object crtc) || has_latched latches k crtc) (count_of t Crtc) device.within.crtcs (λ i low high. rw (device.crtcs k object i low high) refl))
+
+previous_machine : (t : Topology) (commits : List Commit) (marks : Marks) (latches : List Latch) (n object : ℕ) → previous (told_of t commits marks latches) n object ≡ machine.previous t commits n object
+unfolding machine.previous
+previous_machine t commits marks latches n object = refl
+
+there_same : (a b : ℕ → Bool) (o : Option ℕ) → ((j : ℕ) → a j ≡ b j) → if_there a o ≡ if_there b o
+there_same a b None same = refl
+there_same a b (Some j) same = same j
+
+settled_machine : (t : Topology) (m : Machine) (k object : ℕ) → AreOfDevice t m.device.commits → is_settled_for (told_of t m.device.commits m.device.marks m.records.latches) k object ≡ steps.is_settled_for t m k object
+settled_machine t m k object device =
+    ap (λ o. if_there (λ j. is_hw_done m.device j && has_flipped (told_of t m.device.commits m.device.marks m.records.latches) j object) o) (previous_machine t m.device.commits m.device.marks m.records.latches k object)
+    ∙ there_same _ _ (machine.previous t m.device.commits k object) (λ j. ap (λ b. is_hw_done m.device j && b) (flipped_machine t m.device.commits m.device.marks m.records.latches j object device))
+
+all_alike : (f g : ℕ → Bool) (xs : List ℕ) → ((x : ℕ) → IsIn x xs → f x ≡ g x) → list_all f xs ≡ list_all g xs
+all_alike f g [] same = refl
+all_alike f g (x ∷ xs) same = rw (same x (inl refl), all_alike f g xs (λ y there. same y (inr there))) refl
+
+-- `ready` tells whether a claim is legal. The fences of the commit are those that the machine has.
+pub ready_machine : (t : Topology) (m : Machine) (v : Tracking) (fences : FenceSet) (k : ℕ) → IsInStep t m v → AreOfDevice t m.device.commits
+    → ((id : ℕ) → IsIn id (waited_fences t m.device.commits k) → is_signalled fences id ≡ has_number m.device.signalled id) → ready_of v fences k ≡ steps.may_claim t m k
+unfolding steps.may_claim
+ready_machine t m v fences k step device signals =
+    let told : Told = told_of t m.device.commits m.device.marks m.records.latches in
+    let waited : list_all (is_signalled fences) (waited_fences t m.device.commits k) ≡ list_all (has_number m.device.signalled) (waited_fences t m.device.commits k) = all_alike _ _ (waited_fences t m.device.commits k) signals in
+    let settled : all_below (λ p. not (commit_touches t m.device.commits k (object_at p)) || is_settled_for told k (object_at p)) 28
+    ≡ list_all (λ object. not (commit_touches t m.device.commits k object) || steps.is_settled_for t m k object) (lockable t) =
+    all_lockable t _ _ device.within (λ p within. ap (λ b. not (commit_touches t m.device.commits k (object_at p)) || b) (settled_machine t m k (object_at p) device)) (λ p within gone. rw (device.objects k p within gone) refl) in
+    ready_told told v fences k step.keeps
+    ∙ (ap (λ b. nat_lt k (length m.device.commits) && (not (has_number m.device.marks.claimed k) && (b && all_below (λ p. not (commit_touches t m.device.commits k (object_at p)) || is_settled_for told k (object_at p)) 28))) waited
+    ∙ ap (λ b. nat_lt k (length m.device.commits) && (not (has_number m.device.marks.claimed k) && (list_all (has_number m.device.signalled) (waited_fences t m.device.commits k) && b))) settled)
+
+-- Busy objects
+
+object_with : (p : ℕ) (o : Option ℕ) → with_object p o ≡ pending_pair (object_at p) o
+object_with p None = refl
+object_with p (Some k) = refl
+
+chosen : (p : ℕ) (b : Bool) (o : Option ℕ) → with_object p (if b then o else None) ≡ (if b then pending_pair (object_at p) o else None)
+chosen p true o = object_with p o
+chosen p false o = refl
+
+unless_pair : (object k : ℕ) (b : Bool) → pending_pair object (unless b k) ≡ (if not b then Some (obj_id object, k) else None)
+unless_pair object k true = refl
+unless_pair object k false = refl
+
+pair_machine : (t : Topology) (m : Machine) (object : ℕ) (o : Option ℕ) → AreOfDevice t m.device.commits → pending_pair object (pending_of (told_of t m.device.commits m.device.marks m.records.latches) object o)
+    ≡ (if not (if_there (λ k. machine.has_flipped t m.device.commits m.records.latches k object) o) then Some (obj_id object, commit_numbered o) else None)
+pair_machine t m object None device = refl
+pair_machine t m object (Some k) device = rw (flipped_machine t m.device.commits m.device.marks m.records.latches k object device) (unless_pair object k (machine.has_flipped t m.device.commits m.records.latches k object))
+
+both_tests : (a b : Bool) (x : Option (ObjId × ℕ)) → (if a then (if b then x else None) else None) ≡ (if a && b then x else None)
+both_tests true b x = refl
+both_tests false b x = refl
+
+find_first : (t : Topology) (commits : List Commit) (test : ℕ → Bool) (xs : List ℕ) → first_some (λ x. if test x then busy_answer t commits (Some x) else None) xs ≡ busy_answer t commits (find test xs)
+find_first t commits test [] = refl
+find_first t commits test (x ∷ xs) =
+    elim (test x) as (λ b. or_else (if b then busy_answer t commits (Some x) else None) (first_some (λ x. if test x then busy_answer t commits (Some x) else None) xs) ≡ busy_answer t commits (cond b (Some x) (find test xs))) [
+      | true ↦ refl
+      | false ↦ find_first t commits test xs
+    ]
+
+-- `busy` of the objects that a request touches tells the first that is pending, and its last commit.
+pub busy_machine : (t : Topology) (m : Machine) (v : Tracking) (mask : Mask) (r : Request) → IsInStep t m v → AreOfDevice t m.device.commits
+    → ((p : ℕ) → p < 28 → mask_has mask p ≡ touches t m.device.world r (object_at p)) → ((p : ℕ) → p < 28 → is_there t p ≡ false → mask_has mask p ≡ false)
+    → busy_of v mask ≡ busy_answer t m.device.commits (steps.first_pending t m r)
+unfolding steps.first_pending steps.is_pending machine.previous
+busy_machine t m v mask r step device named off =
+    let told : Told = told_of t m.device.commits m.device.marks m.records.latches in
+    busy_told told v mask step.keeps
+    ∙ (first_lockable t _ (λ o. if touches t m.device.world r o && steps.is_pending t m o then busy_answer t m.device.commits (Some o) else None) device.within
+    (λ p within.
+    chosen p (mask_has mask p) (pending_at told (object_at p))
+    ∙ (ap (λ b. (if b then pending_pair (object_at p) (pending_at told (object_at p)) else None)) (named p within)
+    ∙ (ap (λ (x : Option (ObjId × ℕ)). (if touches t m.device.world r (object_at p) then x else None)) (pair_machine t m (object_at p) (machine.previous t m.device.commits (length m.device.commits) (object_at p)) device)
+    ∙ both_tests (touches t m.device.world r (object_at p)) (steps.is_pending t m (object_at p)) (busy_answer t m.device.commits (Some (object_at p))))))
+    (λ p within gone. rw (off p within gone) refl)
+    ∙ find_first t m.device.commits (λ o. touches t m.device.world r o && steps.is_pending t m o) (lockable t))

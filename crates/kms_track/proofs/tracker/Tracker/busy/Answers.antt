@@ -1,0 +1,19 @@
+use Rattle.std.proofs.Common.{◌≡◌, None, Some, rules, arith, refl, sym, ap}
+use Rattle.kms_track.specs.Places.{first_below}
+use Rattle.kms_track.specs.Tracking.{with_object, busy_at}
+use Rattle.kms_track.proofs.PlaceLemmas.{none_more, first_found, object_here}
+use Rattle.kms_track.proofs.tracker.Tracker.busy.Goals as goal
+
+pub loop-place-init : goal.loop-place-init
+unfolding first_below
+loop-place-init c = refl
+
+pub loop-place-preserved : goal.loop-place-preserved
+loop-place-preserved c =
+    let none : busy_at c.args.self.now c.args.objects.now c.loop-place.place ≡ None = first_of (cc, search rules, grind arith) in
+    none_more (λ p. with_object p (busy_at c.args.self.now c.args.objects.now p)) c.loop-place.place c.loop-place.invariant (ap (λ o. with_object c.loop-place.place o) none)
+
+pub returns-in-Some : goal.returns-in-Some
+returns-in-Some c =
+    sym (first_found (λ p. with_object p (busy_at c.args.self.now c.args.objects.now p)) c.loop-place.place 28 (c.object_at.result, c.in-Some.commit) c.loop-place.invariant
+    (object_here c.loop-place.place c.in-Some.commit (busy_at c.args.self.now c.args.objects.now c.loop-place.place) c.object_at.result c.in-Some.ensures c.object_at.ensures) (omega arith))

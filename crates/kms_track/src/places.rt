@@ -1,0 +1,75 @@
+//! The objects that commits touch, each at its place in the order of their ids.
+ghost use Rattle.std.specs.Prelude.{◌≡◌, ◌<◌};
+ghost use Rattle.kms_track.specs.Places.{object_at, mask_has, sides_at};
+
+use kms_model::{Duplicates, Kind, MAX_CRTCS, MAX_PLANES, Mask, ObjId, has_bit};
+
+/// How many objects a commit can touch, a count: 4 CRTCs, then 16 planes, then 8 connectors.
+pub const OBJECTS: u32 = 28;
+
+/// The place of the first connector.
+const FIRST_CONNECTOR: u32 = MAX_CRTCS + MAX_PLANES;
+
+/// The CRTCs of an object before and after a commit.
+#[derive(Clone, Copy, Debug, PartialEq, Eq)]
+pub struct Sides {
+    /// The id of its CRTC before the commit, or 0. A CRTC's is its own.
+    pub old: u32,
+    /// The id of its CRTC after it, or 0. A CRTC's is its own.
+    pub new: u32,
+}
+
+/// The object at a place.
+pub(crate) fn object_at(place: u32) -> ObjId
+    requires { place < 28 }
+    ensures { result.0 ≡ object_at place }
+{
+    if place < MAX_CRTCS {
+        ObjId::of(Kind::Crtc, place)
+    } else if place < FIRST_CONNECTOR {
+        ObjId::of(Kind::Plane, place - MAX_CRTCS)
+    } else {
+        ObjId::of(Kind::Conn, place - FIRST_CONNECTOR)
+    }
+}
+
+/// Whether the object at a place is in a set.
+pub(crate) fn has_object(mask: &Mask, place: u32) -> bool
+    requires { place < 28 }
+    ensures { result ≡ mask_has mask.now place }
+{
+    if place < MAX_CRTCS {
+        has_bit(mask.crtcs, place)
+    } else if place < FIRST_CONNECTOR {
+        has_bit(mask.planes, place - MAX_CRTCS)
+    } else {
+        has_bit(mask.conns, place - FIRST_CONNECTOR)
+    }
+}
+
+/// The CRTCs of the object at a place, of its states before and after a commit; none where it was not duplicated.
+pub(crate) fn sides_at(states: &Duplicates, place: u32) -> Sides
+    requires { place < 28 }
+    ensures { result ≡ sides_at states.now place }
+{
+    if place < MAX_CRTCS {
+        let id = ObjId::of(Kind::Crtc, place).0;
+        Sides { old: id, new: id }
+    } else if place < FIRST_CONNECTOR {
+        match states.planes[(place - MAX_CRTCS) as usize] {
+            Some(both) => Sides {
+                old: both.old.crtc,
+                new: both.new.crtc,
+            },
+            None => Sides { old: 0, new: 0 },
+        }
+    } else {
+        match states.conns[(place - FIRST_CONNECTOR) as usize] {
+            Some(both) => Sides {
+                old: both.old.crtc,
+                new: both.new.crtc,
+            },
+            None => Sides { old: 0, new: 0 },
+        }
+    }
+}
