@@ -1,29 +1,54 @@
 #!/usr/bin/env python3
-"""Times how long the program takes to read scripts of 64 KiB, 256 KiB and 1 MiB.
+"""Times how long the program takes to read scripts, and how much memory it takes.
 
 usage: bench/reading.py PROGRAM [RUNS]
 
-PROGRAM is the built program `kms`. Each script has up to 4096 labels and as many names as fit; its last line is no line
-of the grammar, so that the program reads all of it, tells the fault in that line and executes nothing. Printed are, for
-each size, the bytes, the lines, the labels that are made, the shortest of RUNS runs (7 unless told) and the time for each
-KiB; linear growth shows as equal times for each KiB.
+PROGRAM is the built program `kms`. No input is a script, so that the program reads it, tells its first fault and executes
+nothing. Printed are, for each input, its bytes, its lines, the labels that are made, the shortest of RUNS runs (5 unless
+told), the time for each KiB, the greatest memory that a run took, and that memory over the input's size.
+
+First come scripts of 64 KiB, 256 KiB and 1 MiB with up to 4096 labels and as many names as fit; the last line is of no form.
+Linear growth shows as equal times for each KiB.
+
+Then come scripts of 1 MiB whose names are the worst that an ordered map of them can meet: all of 32 bytes, of which the first
+27 are equal, so that each comparison goes over nearly all of them; and the shortest ones, as many as there can be. They come
+rising, falling, and from both ends to the middle.
+
+Then come inputs with one line that is far too long, of 8 MiB and of the most bytes that an input may have: with labels that
+are made, all different or the last one twice; with names that are said; with a last word that is no assignment; with blanks
+alone; with a blob; and with no line feed. Nothing may take more than 3 seconds, or more than three times the input's size
+beside what the program itself takes.
 """
+import os
 import subprocess
 import sys
+import tempfile
 import time
 
 HEAD = "kms 1\ncrtcs 1\nplane primary 0 XR24\nconn 0\nclient\n"
 SIZES = [65536, 262144, 1048576]
 LABELS = 4096
+MOST = 64 * 1024 * 1024
+LETTERS = "abcdefghijklmnopqrstuvwxyz"
+REST = "0123456789_" + LETTERS
 
 
 def word(number):
     """A label for a number: a letter and letters."""
     letters = ""
     for _ in range(4):
-        letters += chr(ord("a") + number % 26)
+        letters += LETTERS[number % 26]
         number //= 26
     return "l" + letters
+
+
+def digits(number, count):
+    """A number in so many of the bytes that a label may have behind its first, the highest first."""
+    text = ""
+    for _ in range(count):
+        text = REST[number % len(REST)] + text
+        number //= len(REST)
+    return text
 
 
 def script(size):
@@ -54,29 +79,149 @@ def script(size):
     return text.encode(), text.count("\n"), made
 
 
-def shortest(program, text, lines, runs):
-    """The shortest of several runs, in seconds."""
-    best = None
+def ordered(names, order):
+    """Names rising, falling, or from both ends to the middle."""
+    if order == "rising":
+        return names
+    if order == "falling":
+        return names[::-1]
+    half = (len(names) + 1) // 2
+    return [name for pair in zip(names[:half], names[::-1]) for name in pair]
+
+
+def named(names):
+    """A script of at most 1 MiB that says these names of properties, 256 in a request, as far as they fit."""
+    lines, length = [HEAD], len(HEAD)
+    for begin in range(0, len(names), 256):
+        line = "atomic 0x0 0" + "".join(f" enc0.{name}=0" for name in names[begin:begin + 256]) + "\n"
+        if length + len(line) > SIZES[-1] - 6:
+            break
+        lines.append(line)
+        length += len(line)
+    lines.append("wrong\n")
+    text = "".join(lines)
+    return text.encode(), text.count("\n"), 0
+
+
+def overlong(size, front, words, last):
+    """An input of at most `size` bytes whose last line has a front and as many of these words as fit, then a last one."""
+    pieces, length = [HEAD, front], len(HEAD) + len(front) + len(last) + 1
+    for piece in words:
+        if length + len(piece) > size:
+            break
+        pieces.append(piece)
+        length += len(piece)
+    return ("".join(pieces) + last + "\n").encode()
+
+
+def fault(line, why):
+    """What the program says of a fault."""
+    return f"kms: line {line}: {why}\n"
+
+
+def prepared(path, make):
+    """Writes an input into a file, and gives its bytes, lines, made labels and fault. A process of its own makes it, since
+    the memory of this one would count as that of the programs that it starts."""
+    read, write = os.pipe()
+    child = os.fork()
+    if child == 0:
+        text, lines, made, why = make()
+        with open(path, "wb") as source:
+            source.write(text)
+        os.write(write, f"{len(text)} {lines} {made} {why}".encode())
+        os._exit(0)
+    os.close(write)
+    with os.fdopen(read, "rb") as told:
+        size, lines, made, why = told.read().decode().split()
+    if os.waitpid(child, 0)[1] != 0:
+        sys.exit("the input could not be made")
+    return int(size), int(lines), int(made), why
+
+
+def measured(program, path, wanted, runs):
+    """The shortest of several runs, in seconds, and the greatest memory of one, in bytes."""
+    best, memory = None, 0
     for _ in range(runs):
-        begin = time.perf_counter()
-        done = subprocess.run([program, "one"], input=text, capture_output=True)
-        taken = time.perf_counter() - begin
-        wanted = f"kms: line {lines}: form\n".encode()
-        if done.returncode != 4 or done.stderr != wanted or done.stdout:
-            sys.exit(f"unexpected answer: {done.returncode} {done.stderr!r}, wanted {wanted!r}")
+        with open(path, "rb") as stdin, tempfile.TemporaryFile() as told:
+            begin = time.perf_counter()
+            child = subprocess.Popen([program, "one"], stdin=stdin, stdout=subprocess.DEVNULL, stderr=told)
+            _, status, usage = os.wait4(child.pid, 0)
+            taken = time.perf_counter() - begin
+            child.returncode = os.waitstatus_to_exitcode(status)
+            told.seek(0)
+            answer = told.read().decode()
+        if child.returncode != 4 or answer != wanted:
+            sys.exit(f"unexpected answer: {child.returncode} {answer!r}, wanted {wanted!r}")
         best = taken if best is None else min(best, taken)
-    return best
+        memory = max(memory, usage.ru_maxrss * 1024)
+    return best, memory
+
+
+def show(name, program, runs, make):
+    """Measures one input and prints its row."""
+    with tempfile.TemporaryDirectory() as folder:
+        path = os.path.join(folder, "input")
+        size, lines, made, why = prepared(path, make)
+        taken, memory = measured(program, path, fault(lines, why), runs)
+    print(
+        f"{name:<34} {size:>9} {lines:>7} {made:>8} {taken * 1e3:>9.2f} {taken * 1e6 / (size / 1024):>10.2f}"
+        f" {memory / 2**20:>8.1f} {memory / size:>7.2f}",
+        flush=True,
+    )
+
+
+def scripts(program, runs):
+    """Scripts that grow, and the worst names for an ordered map."""
+    for size in SIZES:
+        show(f"script of {size // 1024} KiB", program, runs, lambda: (*script(size), "form"))
+    sorts = {
+        "long names": lambda: ["z" * 27 + digits(i, 5) for i in range(24_000)],
+        "short names": lambda: ["z" + digits(i, 3) for i in range(50_000)],
+    }
+    for sort, names in sorts.items():
+        for order in ("rising", "falling", "inward"):
+            show(f"{sort}, {order}", program, runs, lambda: (*named(ordered(names(), order)), "form"))
+
+
+def long_lines(program, runs):
+    """One line that is far too long."""
+    line = HEAD.count("\n") + 1
+
+    def made(size):
+        """Labels that are made: multiples of a number that no number of labels divides go over all of them in no order."""
+        return (f" enc0.p=+a{digits(i * 40_000_003 % 37**5, 5)}" for i in range(size // 15))
+
+    def said(size):
+        return (f" enc0.p=@a{digits(i, 5)}" for i in range(size))
+
+    def blanks(size):
+        return (" " for _ in range(size))
+
+    def blob(size):
+        return ("00" for _ in range(size // 2))
+
+    for size in (8 * 1024 * 1024, MOST):
+        count = (size - len(HEAD) - len("atomic 0x0 0\n")) // 15
+        cases = {
+            "labels made": lambda: (overlong(size, "atomic 0x0 0", made(size), ""), line, count, "limit"),
+            "labels made, one twice": lambda: (overlong(size, "atomic 0x0 0", made(size), " enc0.p=+a00000"), line, count, "label"),
+            "names said": lambda: (overlong(size, "atomic 0x0 0", said(size), ""), line, 0, "limit"),
+            "a last word of no form": lambda: (overlong(size, "atomic 0x0 0", made(size), " x"), line, 0, "form"),
+            "blanks": lambda: (overlong(size, "atomic 0x0 0", blanks(size), ""), line, 0, "form"),
+            "a blob": lambda: (overlong(size, "blob b ", blob(size), ""), line, 0, "form"),
+            "no line feed": lambda: (b"a" * size, 1, 0, "cut"),
+        }
+        for name, make in cases.items():
+            show(f"{size // 2**20} MiB, {name}", program, runs, make)
 
 
 def main():
     if len(sys.argv) not in (2, 3):
         sys.exit(__doc__)
-    runs = int(sys.argv[2]) if len(sys.argv) == 3 else 7
-    print(f"{'bytes':>9} {'lines':>7} {'labels':>7} {'ms':>9} {'us per KiB':>11}")
-    for size in SIZES:
-        text, lines, made = script(size)
-        taken = shortest(sys.argv[1], text, lines, runs)
-        print(f"{len(text):>9} {lines:>7} {made:>7} {taken * 1e3:>9.2f} {taken * 1e6 / (len(text) / 1024):>11.2f}")
+    runs = int(sys.argv[2]) if len(sys.argv) == 3 else 5
+    print(f"{'input':<34} {'bytes':>9} {'lines':>7} {'labels':>8} {'ms':>9} {'us per KiB':>10} {'MiB':>8} {'memory':>7}")
+    scripts(sys.argv[1], runs)
+    long_lines(sys.argv[1], min(runs, 3))
 
 
 if __name__ == "__main__":

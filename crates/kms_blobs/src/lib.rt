@@ -9,7 +9,7 @@ mod modes;
 mod store;
 
 pub use kms_model::BadMode;
-pub use modes::{MODE_BYTES, decode_mode, encode_mode, is_legal_mode};
+pub use modes::{MODE_BYTES, decode_mode, encode_mode, is_legal_mode, mode_of};
 pub use store::BlobStore;
 
 #[cfg(test)]

@@ -67,8 +67,8 @@ fn is_in_order(display: u16, start: u16, end: u16, total: u16) -> bool
     0 < display && display <= start && start <= end && end <= total
 }
 
-// The mode, legal or not, that 68 bytes hold.
-fn mode_of(bytes: &[u8]) -> Mode
+/// The mode, legal or not, that 68 bytes hold. (Header: `drm_mode.h`, `struct drm_mode_modeinfo`.)
+pub fn mode_of(bytes: &[u8]) -> Mode
     requires { length bytes.now ≡ 68 }
     ensures { result ≡ mode_held bytes.now }
 {

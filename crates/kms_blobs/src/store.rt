@@ -7,8 +7,10 @@ ghost use Rattle.kms_model.specs.declared.worlds.Content.TheVariants as content;
 ghost use Rattle.kms_model.specs.declared.worlds.Thing.{Thing};
 ghost use Rattle.kms_model.specs.declared.worlds.World.{World};
 ghost use Rattle.kms_model.specs.Device.ModeBytes.{mode_bytes};
-ghost use Rattle.kms_model.specs.Device.Execution.{make};
-ghost use Rattle.kms_model.specs.Stores.OpenThings.{things_after};
+ghost use Rattle.kms_model.specs.Device.Execution.{destroy_refusal, make};
+ghost use Rattle.kms_model.specs.Device.Sound.{AreNumbered};
+ghost use Rattle.kms_model.specs.Device.World.{thing_with_id};
+ghost use Rattle.kms_model.specs.Stores.OpenThings.{denial, things_after};
 ghost use Rattle.kms_blobs.specs.Things.{blobs_of};
 
 use kms_model::{Blob, Denied, IdTable, NoMemory, Seq};
@@ -69,7 +71,10 @@ impl BlobStore {
     pub fn destroy(&mut self, owner: u32, id: u32) -> Result<(), Denied>
         ensures answer { result ≡ destroy_answer owner (value_with_id self.old id) }
         ensures blobs { self.new ≡ blobs_destroyed self.old owner id }
-        ensures things { (things : List Thing) → blobs_of things ≡ self.old → blobs_of (things_after result things id) ≡ self.new }
+        ensures things { (things : List Thing) → blobs_of things ≡ self.old
+            → blobs_of (things_after result things id) ≡ self.new }
+        ensures refusal { (things : List Thing) → AreNumbered 1000 things → blobs_of things ≡ self.old
+            → denial result ≡ destroy_refusal owner (thing_with_id things id) }
     {
         let Some(blob) = self.blobs.get(id) else {
             return Err(Denied::NOT_FOUND);

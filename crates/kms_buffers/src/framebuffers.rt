@@ -1,10 +1,12 @@
 //! The store of framebuffers.
-ghost use Rattle.std.specs.Prelude.{◌≡◌, ℕ, List, [], ◌∷◌, ◌++◌, IsTrue, OnOk, OnErr, option_copied};
+ghost use Rattle.std.specs.Prelude.{◌≡◌, ℕ, List, [], ◌∷◌, ◌++◌, IsTrue, OnOk, OnErr, is_some, option_copied};
 ghost use Rattle.kms_model.specs.declared.worlds.Content.TheVariants as content;
 ghost use Rattle.kms_model.specs.declared.worlds.Thing.{Thing};
 ghost use Rattle.kms_model.specs.declared.worlds.World.{World};
-ghost use Rattle.kms_model.specs.Device.Execution.{make};
-ghost use Rattle.kms_model.specs.Stores.OpenThings.{things_after};
+ghost use Rattle.kms_model.specs.Device.Execution.{close_refusal, make};
+ghost use Rattle.kms_model.specs.Device.Sound.{AreNumbered};
+ghost use Rattle.kms_model.specs.Device.World.{thing_with_id};
+ghost use Rattle.kms_model.specs.Stores.OpenThings.{denial, things_after};
 ghost use Rattle.kms_buffers.specs.Things.{open_fbs, open_fbs_of};
 ghost use Rattle.kms_model.specs.Stores.Tables.{AreBelow, slot, value_with_id, without_id, with_value};
 ghost use Rattle.kms_model.specs.Stores.Kept.{framebuffer, MayTake, MayGive, AreCounted, close_answer, fbs_closed, fbs_taken, fbs_given, is_last_of, with_fewer, taken, given, closed, may_close};
@@ -57,8 +59,10 @@ impl FbStore {
         ensures added { OnOk result (self.new ≡ self.old ++ slot id (framebuffer owner buffer info) ∷ []) }
         ensures unchanged { OnErr result (self.new ≡ self.old) }
         ensures counted { AreCounted self.new }
-        ensures thing { OnOk result ((w : World) (label : ℕ) → open_fbs_of w.things ≡ open_fbs self.old → w.next_id ≡ id
-            → open_fbs_of (make w owner label (content.Framebuffer info buffer)).world.things ≡ open_fbs self.new) }
+        ensures thing { OnOk result ((w : World) (label : ℕ) → open_fbs_of w.things ≡ open_fbs self.old
+            → w.next_id ≡ id
+            → open_fbs_of (make w owner label (content.Framebuffer info buffer)).world.things
+                ≡ open_fbs self.new) }
     {
         self.fbs.push(
             id,
@@ -81,7 +85,10 @@ impl FbStore {
         ensures answer { result ≡ close_answer owner (value_with_id self.old id) }
         ensures store { self.new ≡ fbs_closed self.old owner id }
         ensures counted { AreCounted self.new }
-        ensures things { (things : List Thing) → open_fbs_of things ≡ open_fbs self.old → open_fbs_of (things_after result things id) ≡ open_fbs self.new }
+        ensures things { (things : List Thing) → open_fbs_of things ≡ open_fbs self.old
+            → open_fbs_of (things_after result things id) ≡ open_fbs self.new }
+        ensures refusal { (things : List Thing) → AreNumbered 1000 things → open_fbs_of things ≡ open_fbs self.old
+            → denial result ≡ close_refusal owner (thing_with_id things id) }
     {
         let Some(fb) = found(&self.fbs, id) else {
             return Err(Denied::NOT_FOUND);
@@ -100,6 +107,13 @@ impl FbStore {
             },
         );
         Ok(fb.references == 1)
+    }
+
+    /// Whether something refers to the framebuffer with an id, so that it is in the store.
+    pub fn has(&self, id: u32) -> bool
+        ensures { result ≡ is_some (value_with_id self.now id) }
+    {
+        self.fbs.get(id).is_some()
     }
 
     /// Takes a reference more of a framebuffer that is in the store and has fewer than 4294967295.

@@ -19,14 +19,13 @@ use Rattle.kms_model.specs.declared.worlds.World.{World}
 use Rattle.kms_model.specs.Request.Agreement.{AgreesOld}
 use Rattle.kms_model.specs.Request.Late.{ArePlanesInRange, duplicate_at}
 use Rattle.kms_model.specs.Device.Masks.{has_bit}
-use Rattle.kms_model.specs.Device.Objects.{count_of, object_id}
+use Rattle.kms_model.specs.Device.Objects.{count_of, object_id, kind_of}
 use Rattle.kms_model.specs.Request.SetRanges.{may_set}
 use Rattle.kms_model.specs.Device.Sound.{IsBetween, IsPlaneInRange, IsSound}
 use Rattle.kms_model.specs.Device.States.{natural}
 use Rattle.kms_model.proofs.LateLemmas.{flatten-some}
 use Rattle.kms_model.proofs.StateLemmas.{natural-held, sound-plane_in_range}
 use Rattle.kms_state.specs.Changes.{Sets, after_crtc, after_number, after_set, after_value, changed, plane_with}
-use Rattle.kms_state.specs.Places.{kind_of}
 use Rattle.kms_state.proofs.Slots.{AreNew-changed}
 use Rattle.kms_model.specs.Request.Deciding.{AreFresh}
 use Rattle.kms_check.specs.Applying.{HasPlanesInRange, IsApplicable}

@@ -18,7 +18,7 @@ use Rattle.kms_model.specs.Request.Apply.{object_of, prop_of}
 use Rattle.kms_model.specs.Request.Late.{duplicate_at}
 use Rattle.kms_model.specs.Request.Lookups.{look_up}
 use Rattle.kms_model.specs.Device.Masks.{has_bit}
-use Rattle.kms_model.specs.Device.Objects.{first_id, object_id, count_of}
+use Rattle.kms_model.specs.Device.Objects.{first_id, object_id, count_of, index_of, kind_of}
 use Rattle.kms_model.specs.Device.Properties.{keeps_limits}
 use Rattle.kms_model.specs.Request.Resolves.{HasPlace, IsResolved}
 use Rattle.kms_model.specs.Request.SetRanges.{may_set}
@@ -32,8 +32,10 @@ use Rattle.kms_model.proofs.RequestLemmas.{has_few, allowed_settable}
 use Rattle.kms_model.proofs.SettingLemmas.{may_set-allowed}
 use Rattle.kms_model.proofs.TouchedLemmas.{few_objects, few_of}
 use Rattle.kms_model.proofs.UnionLemmas.{has_bit-zero}
+use Rattle.kms_model.proofs.KindsOfIds.{index_of-object, kind_of-object}
 use Rattle.kms_request.specs.Naming as naming
-use Rattle.kms_state.specs.Places.{is_duplicated, is_duplicated_of, kind_of, state_of}
+use Rattle.kms_request.proofs.NamedLemmas.{above, beneath, inside}
+use Rattle.kms_state.specs.Places.{is_duplicated, is_duplicated_of, state_of}
 use Rattle.kms_model.specs.Request.Deciding.{IsOfRequest}
 use Rattle.kms_check.specs.Applying.{IsApplicable}
 use Rattle.kms_model.specs.Request.Groups.{set_group}
@@ -79,24 +81,6 @@ pub record HasRoom (d : Duplicates) : Type 0 where
 
 -- Each object that is set is duplicated
 
-kind-plane : (i : ℕ) → i < 16 → kind_of (200 + i) ≡ kind.Plane
-kind-plane i few = rw (le-ltb (200 + i) 200 (omega arith), lt-ltb (200 + i) 300 (omega arith)) refl
-
-kind-crtc : (i : ℕ) → i < 16 → kind_of (100 + i) ≡ kind.Crtc
-kind-crtc i few = rw (lt-ltb (100 + i) 200 (omega arith)) refl
-
-kind-conn : (i : ℕ) → i < 16 → kind_of (300 + i) ≡ kind.Conn
-kind-conn i few = rw (le-ltb (300 + i) 200 (omega arith), le-ltb (300 + i) 300 (omega arith), lt-ltb (300 + i) 400 (omega arith)) refl
-
-kind-enc : (i : ℕ) → i < 16 → kind_of (400 + i) ≡ kind.Enc
-kind-enc i few = rw (le-ltb (400 + i) 200 (omega arith), le-ltb (400 + i) 300 (omega arith), le-ltb (400 + i) 400 (omega arith)) refl
-
-pub kind_of-object : (k : Kind) (i : ℕ) → i < 16 → kind_of (object_id k i) ≡ k
-kind_of-object kind.Crtc i few = kind-crtc i few
-kind_of-object kind.Plane i few = kind-plane i few
-kind_of-object kind.Conn i few = kind-conn i few
-kind_of-object kind.Enc i few = kind-enc i few
-
 state_of-object : {S : Type 0} (k : Kind) (states : List (Option (Both S))) (i : ℕ) → state_of k states (object_id k i) ≡ duplicate_at states i
 state_of-object k states i =
     let index : object_id k i - first_id k ≡ i = omega arith in
@@ -110,7 +94,7 @@ is_kind_duplicated kind.Conn d i = is_some (duplicate_at d.conns i)
 is_kind_duplicated kind.Enc d i = false
 
 pub is_duplicated-object : (k : Kind) (d : Duplicates) (i : ℕ) → i < 16 → is_duplicated d (object_id k i) ≡ is_kind_duplicated k d i
-is_duplicated-object k d i few = ap (λ j. is_duplicated_of j d (object_id k i)) (kind_of-object k i few) ∙ by_kind k
+is_duplicated-object k d i few = ap (λ j. is_duplicated_of j d (object_id k i)) (kind_of-object k i (omega arith)) ∙ by_kind k
   where
     by_kind : (j : Kind) → is_duplicated_of j d (object_id j i) ≡ is_kind_duplicated j d i
     by_kind kind.Crtc = ap is_some (state_of-object kind.Crtc d.crtcs i)
@@ -179,20 +163,20 @@ ready t f r resolved d device asks room covers = all-from (IsApplicable d) resol
     let may : may_set a.kind (prop_of a.prop) (set_value f (prop_of a.prop) a.value) ≡ true = may_set-allowed t f a from.allowed in
     record {
       object = ap (is_duplicated d) o.same ∙ is_duplicated-object o.of_kind d o.index o.few ∙ o.duplicated;
-      value = subst (λ x. may_set (kind_of x.object.0) x.prop x.value ≡ true) (sym from.set) (ap (λ k. may_set k (prop_of a.prop) (set_value f (prop_of a.prop) a.value)) (kind_of-object a.kind a.index few) ∙ may);
+      value = subst (λ x. may_set (kind_of x.object.0) x.prop x.value ≡ true) (sym from.set) (ap (λ k. may_set k (prop_of a.prop) (set_value f (prop_of a.prop) a.value)) (kind_of-object a.kind a.index (omega arith)) ∙ may);
     })
 
 -- What the CRTCs that a request names are read from
 
 naming-object : (d : Duplicates) (k : Kind) (i : ℕ) → i < 16 → (k ≡ kind.Conn → i < 8) → is_kind_duplicated k d i ≡ true → naming.is_routed_duplicated d (object_id k i) ≡ true
-naming-object d kind.Crtc i few conns there = rw (lt-leb 200 (100 + i) (omega arith), lt-leb 300 (100 + i) (omega arith)) refl
+naming-object d kind.Crtc i few conns there = rw (beneath kind.Plane (100 + i) (omega arith), beneath kind.Conn (100 + i) (omega arith)) refl
 naming-object d kind.Plane i few conns there =
-    let index : 200 + i - 200 ≡ i = omega arith in
-    rw (le-leb 200 (200 + i) (omega arith), le-leb (200 + i) 215 (omega arith)) (ap (λ n. is_some (option_flatten (slice_get d.planes n))) index ∙ there)
+    let index : index_of (200 + i) ≡ i = index_of-object kind.Plane i (omega arith) in
+    rw (inside kind.Plane (200 + i) (omega arith) (omega arith), index) there
 naming-object d kind.Conn i few conns there =
     let small : i < 8 = conns refl in
-    let index : 300 + i - 300 ≡ i = omega arith in
-    rw (le-leb 200 (300 + i) (omega arith), lt-leb (300 + i) 215 (omega arith), le-leb 300 (300 + i) (omega arith), le-leb (300 + i) 307 (omega arith)) (ap (λ n. is_some (option_flatten (slice_get d.conns n))) index ∙ there)
+    let index : index_of (300 + i) ≡ i = index_of-object kind.Conn i (omega arith) in
+    rw (above kind.Plane (300 + i) (omega arith), inside kind.Conn (300 + i) (omega arith) (omega arith), index) there
 naming-object d kind.Enc i few conns there = absurd cc
 
 few_conns : (t : Topology) (k : Kind) (i : ℕ) → IsDevice t → i < count_of t k → k ≡ kind.Conn → i < 8

@@ -33,7 +33,7 @@ use Rattle.kms_state.specs.Changes.{HasObject, is_on_device}
 use Rattle.kms_model.specs.Request.Deciding.{IsOfRequest}
 use Rattle.kms_check.specs.Applying.{set_all, IsNumberedBy}
 use Rattle.kms_check.proofs.RequestFacts.{request_at, all-from, IsFromAssign, from_assign}
-use Rattle.kms_check.proofs.Readiness.{kind_of-object}
+use Rattle.kms_model.proofs.KindsOfIds.{kind_of-object}
 
 -- a set of a property of an object
 abbrev pub targets : ℕ → ℕ → Set → Bool
@@ -180,7 +180,7 @@ has_object t k i id device same within few = record {
     on_device : is_on_device t (object_id k i) ≡ true
     on_device =
         let index : object_id k i - first_id k ≡ i = omega arith in
-        ap (λ j. exists t j (object_id k i - first_id j)) (kind_of-object k i few) ∙ ap (exists t k) index ∙ lt-ltb i (count_of t k) within
+        ap (λ j. exists t j (object_id k i - first_id j)) (kind_of-object k i (omega arith)) ∙ ap (exists t k) index ∙ lt-ltb i (count_of t k) within
 
 pub numbered : (t : Topology) (w : World) (r : Request) (resolved : Resolved) (d : Duplicates) → IsOfRequest t w r resolved d → All (IsNumberedBy t w.things (number_in (after w r))) resolved.sets
 numbered t w r resolved d is = all-from (IsNumberedBy t w.things (number_in (after w r))) resolved.sets (λ s member.

@@ -12,7 +12,8 @@ use Rattle.kms_model.specs.Request.SetRanges.{may_set}
 use Rattle.kms_model.specs.Request.Sets.{set_in}
 use Rattle.kms_model.specs.Device.Sound.{IsPlaneInRange}
 use Rattle.kms_state.specs.Changes.{HasObject}
-use Rattle.kms_state.specs.Places.{is_duplicated, kind_of}
+use Rattle.kms_model.specs.Device.Objects.{kind_of}
+use Rattle.kms_state.specs.Places.{is_duplicated}
 
 -- the values after several sets, each to the number that a function gives for it
 abbrev pub set_all : List Setting → (Set → ℤ) → List Set → List Setting
@@ -31,9 +32,13 @@ pub record IsNumberedBy (t : Topology) (things : List Thing) (number : Set → �
 
 -- New states that agree with values before several sets agree after them with the values after them.
 abbrev pub SetsAll : Duplicates → List Set → Duplicates → Type 0
-SetsAll before sets after = (t : Topology) (things : List Thing) (values : List Setting) (number : Set → ℤ)
-    → All (IsNumberedBy t things number) sets → AgreesNew t things values before → AgreesNew t things (set_all values number sets) after
+SetsAll before sets after =
+    (t : Topology) (things : List Thing) (values : List Setting) (number : Set → ℤ)
+    → All (IsNumberedBy t things number) sets → AgreesNew t things values before
+    → AgreesNew t things (set_all values number sets) after
 
 -- the numbers of the new states of those of the first n planes that are duplicated are among those of their properties
 abbrev pub HasPlanesInRange : ℕ → Duplicates → Type 0
-HasPlanesInRange n d = (index : ℕ) (both : Both PlaneState) → index < n → slice_get d.planes index ≡ Some (Some both) → IsPlaneInRange both.new
+HasPlanesInRange n d =
+    (index : ℕ) (both : Both PlaneState) → index < n → slice_get d.planes index ≡ Some (Some both)
+    → IsPlaneInRange both.new

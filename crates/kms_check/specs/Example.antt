@@ -29,11 +29,13 @@ use Rattle.kms_model.specs.Device.World.{start}
 use Rattle.kms_samples.specs.Samples.{double, light, tiny}
 
 abbrev pub thing : ℕ → ℕ → Content → Thing
-thing label id content = record { label = label; id = id; owner = 1; content = content; is_open = true }
+thing label id content =
+    record { label = label; id = id; owner = 1; content = content; is_open = true }
 
 -- a framebuffer of one row
 abbrev pub row : ℕ → ℕ → Format → Content
-row id width format = content.Framebuffer (record { id = id; width = width; height = 1; format = format }) 0
+row id width format =
+    content.Framebuffer (record { id = id; width = width; height = 1; format = format }) 0
 
 -- framebuffers under 0, 2 and 3, and one mode under 1 and 4
 abbrev pub things : List Thing
@@ -69,7 +71,8 @@ abbrev pub if_given : {S : Type 0} → Bool → ℕ → (ℕ → S) → List (Op
 if_given given n state = if given then two n state else replicate (2 + n) None
 
 abbrev pub crtc : Bool → ℕ → CrtcState
-crtc lit index = crtc_state_at double (world_of lit).things (world_of lit).values (object_id Crtc index)
+crtc lit index =
+    crtc_state_at double (world_of lit).things (world_of lit).values (object_id Crtc index)
 
 abbrev pub plane : Bool → ℕ → PlaneState
 plane lit index = plane_at (world_of lit).things (world_of lit).values (object_id Plane index)

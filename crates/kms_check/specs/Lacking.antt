@@ -16,7 +16,8 @@ is_empty m = (m.crtcs == 0) && ((m.planes == 0) && (m.conns == 0))
 
 -- those of a set, among n objects, that are not duplicated
 abbrev pub missing_in : {S : Type 0} → ℕ → List (Option (Both S)) → ℕ → ℕ
-missing_in mask states n = mask_below (λ index. has_bit mask index && is_none (duplicate_at states index)) n
+missing_in mask states n =
+    mask_below (λ index. has_bit mask index && is_none (duplicate_at states index)) n
 
 abbrev pub not_duplicated : Duplicates → Mask → Mask
 not_duplicated d m = record { crtcs = missing_in m.crtcs d.crtcs (length d.crtcs); planes = missing_in m.planes d.planes (length d.planes); conns = missing_in m.conns d.conns (length d.conns) }

@@ -57,7 +57,8 @@ pub fn check(
 
     // The second part of the verdict, over the whole device.
     ensures refusal { (w : World) (r : Request) → IsOfRequest topology.now w r resolved.now states
-        → first_lacking topology.now w r states ≡ None → refusal_of result ≡ late_in topology.now w r }
+        → first_lacking topology.now w r states ≡ None
+        → refusal_of result ≡ late_in topology.now w r }
     ensures checked { (w : World) (r : Request) → IsOfRequest topology.now w r resolved.now states
         → IfOk result (IsChecked topology.now w r) }
 

@@ -41,7 +41,8 @@ fn row(id: u32, width: u32, format: Format) -> FbInfo
 
 /// What the labels name.
 fn found(alloc: Global) -> Result<Lookups, NoMemory>
-    ensures { IfOk result (λ found. (lit : Bool) (label : ℕ) → look_in found label ≡ look_up (example.world_of lit) label) }
+    ensures { IfOk result (λ found. (lit : Bool) (label : ℕ)
+        → look_in found label ≡ look_up (example.world_of lit) label) }
 {
     let entries = [
         (FB, Look::Fb(row(1000, 1, Format::Xr24))),

@@ -4,7 +4,9 @@ ghost use Rattle.kms_model.specs.Frames.Rectangles.{IsNear};
 
 use super::*;
 use kms_geom::clip;
-use kms_model::{FbInfo, Format, Image, Layer, Layers, Mode, NoMemory, Picture, Rect, Seq, Shown};
+use kms_model::{
+    FbInfo, Format, Image, Kind, Layer, Layers, Mode, NoMemory, ObjId, Picture, Rect, Seq, Shown,
+};
 use std::alloc::Global;
 use std::test::Fail;
 
@@ -81,7 +83,7 @@ fn layer(mode: &Mode, id: u32, plane: &Plane) -> Layer
         h: i64::from(mode.vdisplay),
     };
     Layer {
-        plane: 200,
+        plane: ObjId::of(Kind::Plane, 0).0,
         fb: FbInfo {
             id,
             width: plane.fb_width,
@@ -141,7 +143,7 @@ fn two_planes(
     images.push(image(1001, upper))?;
     let picture = Picture::On(Shown {
         mode,
-        conn: 300,
+        conn: ObjId::of(Kind::Conn, 0).0,
         layers,
     });
     let frame = frame(alloc, &picture, &images)?;
@@ -152,7 +154,7 @@ fn two_planes(
 fn no_plane_shows_black(rt: HostRuntime) -> Result<(), Fail> {
     let picture = Picture::On(Shown {
         mode: mode(2, 1),
-        conn: 300,
+        conn: ObjId::of(Kind::Conn, 0).0,
         layers: Layers::new(),
     });
     let frame = frame(rt.alloc(), &picture, &Seq::new(rt.alloc()))?;
@@ -344,7 +346,7 @@ fn a_plane_outside_of_the_mode_shows_nothing(rt: HostRuntime) -> Result<(), Fail
 fn the_largest_mode_has_50331648_bytes(rt: HostRuntime) -> Result<(), Fail> {
     let picture = Picture::On(Shown {
         mode: mode(4096, 4096),
-        conn: 300,
+        conn: ObjId::of(Kind::Conn, 0).0,
         layers: Layers::new(),
     });
     let frame = frame(rt.alloc(), &picture, &Seq::new(rt.alloc()))?;

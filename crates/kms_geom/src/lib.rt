@@ -1,4 +1,4 @@
-//! Rectangles and rounded quotients.
+//! Rectangles, layers at their places and rounded quotients.
 //!
 //! Nothing here takes memory, fails or uses floating point.
 #![tactic(auto)]
@@ -9,6 +9,10 @@ ghost use Rattle.kms_model.specs.Frames.Pictures.{between_edges, clip};
 ghost use Rattle.kms_model.specs.Frames.Rectangles.{HasPixel, HasPixelIfAny, IsNear, IsNearRect, fits_source, rounded_quotient};
 
 use kms_model::Rect;
+
+mod placing;
+
+pub use placing::{Placed, in_place, layer_of, put_placed};
 
 /// The rectangle that `dst` and `area` have in common, in the unit of both; none where no pixel is in
 /// both. A rectangle has the pixels from its left and upper edge up to, but not on, its right and lower

@@ -181,12 +181,14 @@ impl Sink for MemSink {
     fn write(&mut self, piece: &[u8]) -> Result<usize, Failed>
         requires { 0 < length piece.now }
         ensures bound { WritesSome result piece.now }
-        ensures bytes { WriteAppends (Some self.old.written) (Some self.new.written) result piece.now }
+        ensures bytes { WriteAppends (Some self.old.written) (Some self.new.written)
+            result piece.now }
         ensures cause { HasCause self.old.faults self.new.faults result }
 
         // What this sink promises beyond that.
         ensures count { IfOk result (λ n.
-            n ≡ min self.old.step (min (length piece.now) (self.old.room - length self.old.written))) }
+            n ≡ min self.old.step (min (length piece.now)
+            (self.old.room - length self.old.written))) }
         ensures fails { IsErr result ↔ (Contains self.old.fails (next self.old.calls)
             ⊎ (self.old.room ≤ length self.old.written)) }
         ensures faults { CountsFault self.old.faults self.new.faults result }

@@ -1,5 +1,5 @@
 -- Framebuffers have their buffers, whatever is made and closed.
-use Rattle.std.proofs.Common.{◌≡◌, ℕ, ◌+◌, ◌≤◌, Bool, true, false, cond, List, [], ◌∷◌, ◌++◌, map, Option, Some, None, eqb, inl, inr, arith, refl, sym, ap, ◌∙◌, subst}
+use Rattle.std.proofs.Common.{◌≡◌, ℕ, ◌+◌, ◌≤◌, Bool, true, false, cond, List, [], ◌∷◌, ◌++◌, map, Option, Some, None, eqb, inl, inr, arith, refl, sym, ap, subst}
 use Rattle.std.specs.Prelude.{◌==◌, if◌then◌else◌}
 use Rattle.std.specs.List.{AllByRecursion}
 use Rattle.std.proofs.lemmas.Bool.Decides.{nat_tests, eqb_tells}
@@ -19,7 +19,7 @@ use Rattle.kms_model.specs.Device.Objects.{ids_of}
 use Rattle.kms_model.specs.Device.Sound.{AreNumbered}
 use Rattle.kms_model.specs.Device.World.{thing_labelled, thing_with_id}
 use Rattle.kms_model.specs.declared.objects.Kind.TheVariants as kind
-use Rattle.kms_model.specs.Frames.Shown.{AreFramed, FramesIn, IsFramed, shown_buffer}
+use Rattle.kms_model.specs.Frames.Shown.{AreFramed, FramesIn}
 use Rattle.kms_model.specs.Request.Apply.{after}
 use Rattle.kms_model.specs.Request.Flags.{is_test}
 use Rattle.kms_model.specs.Request.Touched.{out_fence_label}

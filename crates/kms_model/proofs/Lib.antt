@@ -6,6 +6,7 @@ pub mod HeldValues
 pub mod ImageWords
 pub mod InPlace
 pub mod Items
+pub mod KindsOfIds
 pub mod LastLemmas
 pub mod LateLemmas
 pub mod MachineInputs

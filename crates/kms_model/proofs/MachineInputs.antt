@@ -1,6 +1,6 @@
 -- What an input's worked history is compared with: the report that one thread makes of it, that of its schedule, or where the
 -- schedule is not legal.
-use Rattle.std.specs.Prelude.{ℕ, Bool, true, false, List, [], Option, Some, None, Result, Ok, Err, if◌then◌else◌}
+use Rattle.std.specs.Prelude.{ℕ, true, false, List, [], Option, None, Result, Ok, Err, if◌then◌else◌}
 use Rattle.kms_model.specs.declared.scripts.Part.TheVariants as part
 use Rattle.kms_model.specs.Machine.Histories.{is_history, illegal_at}
 use Rattle.kms_model.specs.Order.Rounds.{finished_within}

@@ -1,6 +1,6 @@
 -- Worked histories, computed: what the machine does with scripts, in the order of one thread and in others.
-use Rattle.std.proofs.Common.{◌≡◌, ◌≢◌, ℕ, List, [], ◌∷◌, ◌++◌, Bool, true, false, Option, Some, None, refl}
-use Rattle.std.specs.Prelude.{codes, Result, Ok, Err}
+use Rattle.std.proofs.Common.{◌≡◌, ℕ, List, ◌++◌, Some, refl}
+use Rattle.std.specs.Prelude.{codes, Ok}
 use Rattle.kms_model.specs.Script.Generated.{generated}
 use Rattle.kms_model.specs.Script.WholeInput.{input}
 use Rattle.kms_model.proofs.MachineInputs.{one, replayed, not_legal_at, plain, traced}

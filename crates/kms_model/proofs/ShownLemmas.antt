@@ -1,9 +1,9 @@
 -- What the CRTCs of a sound world show can be composed.
-use Rattle.std.proofs.Common.{◌≡◌, ℕ, zero, suc, ◌+◌, ◌*◌, ◌<◌, ◌≤◌, Bool, true, false, cond, List, [], ◌∷◌, length, map, Option, Some, None, inl, inr, arith, refl, sym, ap, ◌∙◌, subst, eqb}
-use Rattle.std.specs.Prelude.{All, nat_le, not, ◌&&◌, ◌==◌, ℤ, pos, negsuc, int_le, ◌≤ℤ◌, ◌*ℤ◌, slice_get, find, is_none}
+use Rattle.std.proofs.Common.{◌≡◌, ℕ, zero, suc, ◌+◌, ◌*◌, ◌<◌, Bool, true, false, cond, List, [], ◌∷◌, length, map, Option, Some, None, inl, inr, arith, refl, sym, ap, ◌∙◌, subst, eqb}
+use Rattle.std.specs.Prelude.{All, nat_le, not, ◌&&◌, ◌==◌, ℤ, pos, negsuc, ◌≤ℤ◌, ◌*ℤ◌, slice_get, is_none}
 use Rattle.std.specs.List.{AllByRecursion, flat_map, range_with_len}
 use Rattle.std.specs.Ordering.{int_eq}
-use Rattle.std.proofs.lemmas.Bool.{eqb-true, and_parts, false≢true}
+use Rattle.std.proofs.lemmas.Bool.{eqb-true, and_parts}
 use Rattle.std.proofs.lemmas.Bool.Decides.{nat_tests}
 use Rattle.std.proofs.lemmas.List.{length-append}
 use Rattle.std.proofs.lemmas.List.FromFn.{length-map-range_with_len}
@@ -23,22 +23,20 @@ use Rattle.kms_model.specs.declared.worlds.Content.TheVariants as content
 use Rattle.kms_model.specs.declared.worlds.Setting.{Setting}
 use Rattle.kms_model.specs.declared.worlds.Thing.{Thing}
 use Rattle.kms_model.specs.declared.worlds.World.{World}
-use Rattle.kms_model.specs.Request.Checks.{with_ids, is_unscaled, placed_refusal, plane_refusal_with, plane_refusal, plane_refusal_at, shown_refusal, shown_refusal_at, event_refusal, crtc_refusal_at, conn_refusal_at, clone_refusal_at, route_refusal_at, late_refusal, has_crtc, is_beyond, switches_crtc, is_whole}
+use Rattle.kms_model.specs.Request.Checks.{with_ids, is_unscaled, placed_refusal, plane_refusal_with, plane_refusal, plane_refusal_at, shown_refusal, shown_refusal_at, event_refusal, crtc_refusal_at, conn_refusal_at, clone_refusal_at, route_refusal_at, late_refusal, has_crtc, is_beyond, is_whole}
 use Rattle.kms_model.specs.Device.Execution.{BufferInfo, buffer_info}
 use Rattle.kms_model.specs.Firsts.{first_some, or_else, number_if}
-use Rattle.kms_model.specs.Frames.FrameBytes.{buffer_id_in}
 use Rattle.kms_model.specs.Script.Grammar.{format_bit}
 use Rattle.kms_model.specs.Frames.Images.{FitsMode, image_of, seen_in}
 use Rattle.kms_model.specs.Device.Masks.{has_bit}
-use Rattle.kms_model.specs.Device.Objects.{object_id, ids_of, count_of, first_id}
+use Rattle.kms_model.specs.Device.Objects.{ids_of, first_id}
 use Rattle.kms_model.specs.Frames.Pictures.{layer_of, seen_on, put_layer, put_plane, layers_of, picture_in, picture}
 use Rattle.kms_model.specs.Frames.Rectangles.{fits_source}
-use Rattle.kms_model.specs.Device.Sound.{AreNumbered, IsSound, IsBetween, IsPlaneInRange, empty_request}
+use Rattle.kms_model.specs.Device.Sound.{AreNumbered, IsSound, IsPlaneInRange, empty_request}
 use Rattle.kms_model.specs.Device.States.{natural, framebuffer_in, framebuffer_of, mode_at, plane_at}
 use Rattle.kms_model.specs.Stores.Kept.{Seen, row_words, buffer_words}
-use Rattle.kms_model.specs.Script.Words.{◌>>=◌}
 use Rattle.kms_model.specs.Device.World.{value, thing_numbered, thing_with_id}
-use Rattle.kms_model.proofs.Items.{IsIn, AreNone, or_else-none, number_if-none, first_some-at, IsObject, ids-in, with_ids-has}
+use Rattle.kms_model.proofs.Items.{IsIn, or_else-none, number_if-none, first_some-at, ids-in, with_ids-has}
 use Rattle.kms_model.proofs.ThingLemmas.{find-in, ids-numbered}
 use Rattle.kms_model.proofs.StateLemmas.{sound-plane_in_range}
 use Rattle.kms_model.specs.Frames.Shown.{AreFramed, IsFramed, FramesIn, shown_buffer, HasWords, CanBeShown, EachCanBeShown}

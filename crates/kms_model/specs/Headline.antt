@@ -10,9 +10,9 @@ use Rattle.kms_model.specs.declared.replies.Answered.{Answered}
 use Rattle.kms_model.specs.declared.replies.Reply.{Reply}
 use Rattle.kms_model.specs.declared.replies.Reply.TheVariants as reply
 use Rattle.kms_model.specs.declared.replies.Step.{Step}
-use Rattle.kms_model.specs.declared.runs.Latch.{Latch}
 use Rattle.kms_model.specs.declared.scripts.Command.{Command}
 use Rattle.kms_model.specs.declared.scripts.Command.TheVariants as command
+use Rattle.kms_model.specs.declared.scripts.Request.{Request}
 use Rattle.kms_model.specs.declared.scripts.Script.{Script}
 use Rattle.kms_model.specs.declared.worlds.World.{World}
 use Rattle.kms_model.specs.Device.Objects.{object_id}
@@ -42,18 +42,19 @@ abbrev pub IsPrefixOf : List CommitPicture → List CommitPicture → Type 0
 IsPrefixOf some all = (rest : List CommitPicture) × (all ≡ some ++ rest)
 
 -- The verdict of the device of one thread on a request in a world, by what was answered: the number that refused it, or
--- none; a commit has the number of the commits before it.
-abbrev pub IsVerdict : Script → World → Reply → Command → Type 0
-IsVerdict s w (reply.Refused n) (command.Atomic r) = verdict s.topology w r ≡ Some n.0
-IsVerdict s w (reply.Commit k) (command.Atomic r) = (verdict s.topology w r ≡ None) × (k ≡ w.commits)
-IsVerdict s w reply.Tested (command.Atomic r) = verdict s.topology w r ≡ None
-IsVerdict s w (reply.Space used) (command.Atomic r) = verdict s.topology w r ≡ None
-IsVerdict s w (reply.Busy object k) (command.Atomic r) = verdict s.topology w r ≡ None
-IsVerdict s w _ _ = ⊤
+-- none; a commit has the number of the commits before it. Nothing else is answered to a request.
+abbrev pub IsVerdictOnRequest : Script → World → Request → Reply → Type 0
+IsVerdictOnRequest s w r (reply.Refused n) = verdict s.topology w r ≡ Some n.0
+IsVerdictOnRequest s w r (reply.Commit k) = (verdict s.topology w r ≡ None) × (k ≡ w.commits)
+IsVerdictOnRequest s w r reply.Tested = verdict s.topology w r ≡ None
+IsVerdictOnRequest s w r (reply.Space used) = verdict s.topology w r ≡ None
+IsVerdictOnRequest s w r (reply.Busy object k) = verdict s.topology w r ≡ None
+IsVerdictOnRequest s w r _ = ⊥
 
-abbrev pub IsVerdictOn : Script → World → Reply → Option Command → Type 0
-IsVerdictOn s w r None = ⊤
-IsVerdictOn s w r (Some c) = IsVerdict s w r c
+abbrev pub IsVerdict : Script → World → Reply → Option Command → Type 0
+IsVerdict s w r None = ⊥
+IsVerdict s w r (Some (command.Atomic q)) = IsVerdictOnRequest s w q r
+IsVerdict s w r (Some _) = ⊤
 
 abbrev pub entry_answered : Answered → Entry
 entry_answered a = record { client = a.client; command = a.command }
@@ -61,7 +62,7 @@ entry_answered a = record { client = a.client; command = a.command }
 -- A reply has a place in the journal, and its verdict is that of the device of one thread after so many entries.
 pub record StandsAtPlace (s : Script) (entries : List Entry) (a : Answered) : Type 0 where
   pub place : a.place ≤ length entries
-  pub is_verdict : IsVerdictOn s (serial s (take a.place entries)) a.reply (command_of s (entry_answered a))
+  pub is_verdict : IsVerdict s (serial s (take a.place entries)) a.reply (command_of s (entry_answered a))
 
 pub record Headline (s : Script) (h : List Step) : Type 0 where
   pub in_order : (crtc : ℕ) → crtc < s.topology.crtcs → IsPrefixOf (latched_pictures s h crtc) (shown_pictures s (history_journal s h) crtc)

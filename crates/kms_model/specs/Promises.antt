@@ -1,19 +1,19 @@
 -- What holds of every history besides the headline: each promise by its name.
-use Rattle.std.specs.Prelude.{◌≡◌, ◌≢◌, ℕ, ◌+◌, ◌*◌, ◌<◌, ◌≤◌, ◌==◌, ◌&&◌, not, Bool, true, false, List, [], ◌∷◌, ◌++◌, length, map, filter, find, reverse, is_some, ◌%◌, ◌^◌, Option, Some, None, ◌↔◌, if◌then◌else◌}
-use Rattle.std.specs.List.{All, list_any, flat_map, filter_map, sum}
+use Rattle.std.specs.Prelude.{◌≡◌, ◌≢◌, ℕ, ◌<◌, ◌==◌, ◌&&◌, not, true, false, List, [], ◌++◌, length, map, filter, find, reverse, ◌%◌, ◌^◌, Option, Some, None, ◌↔◌, if◌then◌else◌}
+use Rattle.std.specs.List.{All, flat_map, filter_map}
 use Rattle.kms_model.specs.declared.objects.Kind.TheVariants.{Crtc, Plane, Conn}
 use Rattle.kms_model.specs.declared.objects.Topology.{Topology}
 use Rattle.kms_model.specs.declared.pictures.Picture.{Picture}
 use Rattle.kms_model.specs.declared.replies.Event.{Event}
 use Rattle.kms_model.specs.declared.replies.Reply.TheVariants as reply
 use Rattle.kms_model.specs.declared.replies.Step.{Step}
-use Rattle.kms_model.specs.declared.replies.Step.TheVariants.{Begin, Lock, BackOff, Relock, Refuse, Test, Swap, Make, Signal, Claim, Write, Flush, HwDone, Vblank, Cleanup, Read, Return, Stall}
+use Rattle.kms_model.specs.declared.replies.Step.TheVariants.{Begin, Lock, BackOff, Relock, Refuse, Test, Swap, Make, Signal, Read, Return}
 use Rattle.kms_model.specs.declared.runs.Latch.{Latch}
 use Rattle.kms_model.specs.declared.scripts.Request.{Request}
 use Rattle.kms_model.specs.declared.scripts.Script.{Script}
 use Rattle.kms_model.specs.declared.worlds.Thing.{Thing}
 use Rattle.kms_model.specs.declared.worlds.World.{World}
-use Rattle.kms_model.specs.Device.Execution.{is_framebuffer, is_made_fence}
+use Rattle.kms_model.specs.Device.Execution.{is_framebuffer}
 use Rattle.kms_model.specs.Device.Objects.{object_id, ids_of, kind_of}
 use Rattle.kms_model.specs.Device.States.{plane_at, crtc_at}
 use Rattle.kms_model.specs.Device.World.{thing_with_id}
@@ -22,10 +22,10 @@ use Rattle.kms_model.specs.Request.Agreement.{crtc_state_at}
 use Rattle.kms_model.specs.Request.Flags.{is_test, is_nonblock}
 use Rattle.kms_model.specs.Request.Sets.{obj_id}
 use Rattle.kms_model.specs.Request.Verdict.{verdict}
-use Rattle.kms_model.specs.Machine.Commits.{asks_event, commit_at, commit_names, has_latched, has_number, is_claimed, is_cleaned, lockable, new_values, previous, waited_fences}
+use Rattle.kms_model.specs.Machine.Commits.{asks_event, commit_at, commit_names, has_latched, is_claimed, is_cleaned, new_values, previous, waited_fences}
 use Rattle.kms_model.specs.Machine.Effects.{decided, next, refusal_reply}
 use Rattle.kms_model.specs.Machine.Framebuffers.{is_needed}
-use Rattle.kms_model.specs.Machine.Histories.{at, awaited_label, commit_numbers, is_awaited, is_dead, is_history, last_latched, legal, stalled_on}
+use Rattle.kms_model.specs.Machine.Histories.{at, commit_numbers, is_awaited, is_dead, is_history, last_latched, legal, stalled_on}
 use Rattle.kms_model.specs.Machine.Registers.{decoded_picture}
 use Rattle.kms_model.specs.Machine.State.{Commit, Machine, doing_at, holds, request_at, reserved_at, unread_at}
 use Rattle.kms_model.specs.Machine.Steps.{first_pending, holds_touched, is_taking, lacks_space}

@@ -31,8 +31,9 @@ pub use layers::Layers;
 pub use list::Seq;
 pub use masks::has_bit;
 pub use objects::{
-    FIRST_THING_ID, Format, Kind, MAX_CLIENTS, MAX_CONNECTORS, MAX_CRTCS, MAX_PLANES, Mode, ObjId,
-    PlaneInfo, Ticket, Topology,
+    FIRST_CONNECTOR_ID, FIRST_CRTC_ID, FIRST_ENCODER_ID, FIRST_PLANE_ID, FIRST_THING_ID, Format,
+    Kind, MAX_CLIENTS, MAX_CONNECTORS, MAX_CRTCS, MAX_PLANES, Mode, ObjId, PlaneInfo, Ticket,
+    Topology,
 };
 pub use pictures::{Colour, FbInfo, Layer, Picture, Rect, Shown};
 pub use ranges::Range;

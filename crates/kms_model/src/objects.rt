@@ -20,6 +20,18 @@ pub const MAX_CLIENTS: u32 = 16;
 /// The id of the first thing that is made; the next ones have the next ids.
 pub const FIRST_THING_ID: u32 = 1000;
 
+/// The id of the CRTC with index 0; the next ones have the next ids, as the objects of the other kinds have.
+pub const FIRST_CRTC_ID: u32 = 100;
+
+/// The id of the plane with index 0.
+pub const FIRST_PLANE_ID: u32 = 200;
+
+/// The id of the connector with index 0.
+pub const FIRST_CONNECTOR_ID: u32 = 300;
+
+/// The id of the encoder with index 0.
+pub const FIRST_ENCODER_ID: u32 = 400;
+
 /// The id of a display object: CRTC index i has 100 + i, plane 200 + i, connector 300 + i and encoder
 /// 400 + i. (Kernel: "Modeset Base Object Abstraction", `struct drm_mode_object`; the numbers are this device's.)
 #[derive(Clone, Copy, Debug, PartialEq, Eq)]
@@ -111,10 +123,10 @@ impl Kind {
         ensures { result ≡ first_id self }
     {
         match self {
-            Kind::Crtc => 100,
-            Kind::Plane => 200,
-            Kind::Conn => 300,
-            Kind::Enc => 400,
+            Kind::Crtc => FIRST_CRTC_ID,
+            Kind::Plane => FIRST_PLANE_ID,
+            Kind::Conn => FIRST_CONNECTOR_ID,
+            Kind::Enc => FIRST_ENCODER_ID,
         }
     }
 }

@@ -34,7 +34,8 @@ is_placeable planes mask index = not (has_bit mask index) || is_ready (state_at 
 
 abbrev pub are_placeable : List (Option (Both PlaneState)) → Option (Both CrtcState) → Bool
 are_placeable planes None = false
-are_placeable planes (Some both) = list_all (is_placeable planes both.new.planes) (range_with_len 0 16)
+are_placeable planes (Some both) =
+    list_all (is_placeable planes both.new.planes) (range_with_len 0 16)
 
 -- the CRTC is duplicated, and all planes that are on it then
 abbrev pub may_picture : Duplicates → ℕ → Bool
@@ -47,4 +48,6 @@ pub record FitsDuplicates (t : Topology) : Type 0 where
 
 -- A picture is what a CRTC shows in each device with whose values the new states agree.
 abbrev pub IsPictureOf : Duplicates → ℕ → Picture → Type 0
-IsPictureOf d crtc p = (t : Topology) (things : List Thing) (values : List Setting) → FitsDuplicates t → AgreesNew t things values d → p ≡ picture t things values (object_id Crtc crtc)
+IsPictureOf d crtc p =
+    (t : Topology) (things : List Thing) (values : List Setting) → FitsDuplicates t
+    → AgreesNew t things values d → p ≡ picture t things values (object_id Crtc crtc)

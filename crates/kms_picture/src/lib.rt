@@ -2,7 +2,6 @@
 #![tactic(auto)]
 
 mod pictures;
-mod placing;
 #[cfg(test)]
 mod tests;
 

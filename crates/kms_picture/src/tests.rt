@@ -1,27 +1,11 @@
 use crate::{may_picture, picture};
 use kms_model::{
-    Both, CrtcState, Duplicates, FbInfo, Format, Mode, Picture, PlaneState, Rect, Shown,
+    Both, CrtcState, Duplicates, FIRST_CONNECTOR_ID, FIRST_CRTC_ID, FIRST_PLANE_ID, FbInfo, Format,
+    Picture, PlaneState, Rect, Shown,
 };
+use kms_samples::mode_of;
 use kms_state::Duplicating;
 use std::process::Abort;
-
-const MODE: Mode = Mode {
-    clock: 1,
-    hdisplay: 10,
-    hsync_start: 10,
-    hsync_end: 10,
-    htotal: 10,
-    hskew: 0,
-    vdisplay: 8,
-    vsync_start: 8,
-    vsync_end: 8,
-    vtotal: 8,
-    vscan: 0,
-    vrefresh: 60,
-    flags: 0,
-    kind: 0,
-    name: [0; 32],
-};
 
 const SOURCE: Rect = Rect {
     x: 0,
@@ -42,7 +26,7 @@ fn a_framebuffer(id: u32) -> FbInfo {
 fn a_plane(id: u32, x: i64, zpos: u32) -> PlaneState {
     PlaneState {
         fb: Some(a_framebuffer(id)),
-        crtc: 101,
+        crtc: FIRST_CRTC_ID + 1,
         dst: Rect {
             x,
             y: 6,
@@ -67,13 +51,13 @@ fn device() -> Duplicates {
     };
     let on = CrtcState {
         active: true,
-        mode: Some(MODE),
+        mode: Some(mode_of(10, 8)),
         ..off
     };
     states.crtcs[1] = Some(Both { old: off, new: on });
     states.planes[0] = both(a_plane(1000, -2, 7));
     states.planes[1] = both(PlaneState {
-        crtc: 100,
+        crtc: FIRST_CRTC_ID,
         ..a_plane(1001, 0, 0)
     });
     states.planes[3] = both(a_plane(1003, 7, 5));
@@ -105,11 +89,16 @@ fn layers_stand_by_zpos_and_then_by_plane(rt: HostRuntime) {
         assert!(rt; false);
         return;
     };
-    assert_eq!(rt; shown.mode, MODE);
-    assert_eq!(rt; shown.conn, 306);
+    assert_eq!(rt; shown.mode, mode_of(10, 8));
+    assert_eq!(rt; shown.conn, FIRST_CONNECTOR_ID + 6);
     let layers = shown.layers.as_slice();
     assert_eq!(rt; layers.len(), 4);
-    for (layer, want) in layers.iter().zip([203, 215, 200, 204]) {
+    for (layer, want) in layers.iter().zip([
+        FIRST_PLANE_ID + 3,
+        FIRST_PLANE_ID + 15,
+        FIRST_PLANE_ID,
+        FIRST_PLANE_ID + 4,
+    ]) {
         assert_eq!(rt; layer.plane, want);
         assert_eq!(rt; layer.fb, a_framebuffer(800 + want));
         assert_eq!(rt; layer.src, SOURCE);
@@ -166,7 +155,7 @@ fn a_crtc_that_is_off_or_has_no_mode_shows_nothing(rt: HostRuntime) {
     assert_eq!(rt; shown(&rt, &states, 0), None);
     let state = CrtcState {
         active: false,
-        mode: Some(MODE),
+        mode: Some(mode_of(10, 8)),
         ..state
     };
     states.crtcs[0] = Some(Both {
@@ -195,7 +184,7 @@ fn a_crtc_without_planes_and_connectors_is_black(rt: HostRuntime) {
     let mut states = Duplicates::empty();
     let state = CrtcState {
         active: true,
-        mode: Some(MODE),
+        mode: Some(mode_of(10, 8)),
         planes: 0,
         conns: 0,
     };
@@ -206,6 +195,6 @@ fn a_crtc_without_planes_and_connectors_is_black(rt: HostRuntime) {
     let seen = shown(&rt, &states, 3);
     assert_eq!(rt;
         seen.map(|s| (s.mode, s.conn, s.layers.len())),
-        Some((MODE, 0, 0))
+        Some((mode_of(10, 8), 0, 0))
     );
 }

@@ -4,7 +4,7 @@ ghost use Rattle.std.specs.List.{list_all};
 ghost use Rattle.kms_model.specs.Script.Words.{between};
 ghost use Rattle.kms_model.specs.Device.Properties.{has_legal_masks, is_legal_device, is_mask_below, keeps_limits};
 
-use kms_model::{PlaneInfo, Topology};
+use kms_model::{MAX_CONNECTORS, MAX_CRTCS, MAX_PLANES, PlaneInfo, Topology};
 
 /// How many formats a plane's mask of formats can name.
 const FORMAT_COUNT: u32 = 3;
@@ -42,10 +42,10 @@ fn are_masks(conns: &[u32], crtcs: u32) -> bool
 }
 
 /// Whether there is at least one, and at most `most`.
-fn is_count(count: usize, most: usize) -> bool
+fn is_count(count: usize, most: u32) -> bool
     ensures { result ≡ between 1 most count }
 {
-    1 <= count && count <= most
+    1 <= count && count <= most as usize
 }
 
 /// Whether a topology has 1 to 4 CRTCs, 1 to 16 planes and 1 to 8 connectors.
@@ -53,9 +53,9 @@ fn has_counts(t: &Topology) -> bool
     ensures limits { result ≡ keeps_limits t.now }
     ensures few { IsTrue result → t.now.crtcs ≤ 4 }
 {
-    is_count(t.crtcs as usize, 4)
-        && is_count(t.planes.as_slice().len(), 16)
-        && is_count(t.conns.as_slice().len(), 8)
+    is_count(t.crtcs as usize, MAX_CRTCS)
+        && is_count(t.planes.len(), MAX_PLANES)
+        && is_count(t.conns.len(), MAX_CONNECTORS)
 }
 
 /// Whether a topology keeps the limits: 1 to 4 CRTCs, 1 to 16 planes and 1 to 8 connectors, and no mask has a bit

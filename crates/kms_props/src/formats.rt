@@ -2,6 +2,7 @@
 ghost use Rattle.std.specs.Prelude.{◌≡◌, map};
 ghost use Rattle.kms_model.specs.Device.Properties.{format_of};
 ghost use Rattle.kms_model.specs.Device.Properties.{formats as format_rows};
+ghost use Rattle.kms_model.specs.Machine.Registers.{code_of};
 ghost use Rattle.kms_props.specs.Rows.{format_row_of};
 
 use crate::first_row;
@@ -47,4 +48,15 @@ pub fn fourcc(code: u32) -> Option<Format>
     ensures { result ≡ format_of code }
 {
     first_row!(format_table(), row if row.code == code => row.format)
+}
+
+/// The code of a format.
+pub fn code(format: Format) -> u32
+    ensures { result ≡ code_of format }
+{
+    match format {
+        Format::Xr24 => FORMATS.rows[0].code,
+        Format::Ar24 => FORMATS.rows[1].code,
+        Format::Rg16 => FORMATS.rows[2].code,
+    }
 }

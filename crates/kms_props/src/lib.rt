@@ -1,6 +1,6 @@
-//! The tables of properties, formats and flags, and the test of a device.
+//! The tables of properties, formats, registers and flags, and the test of a device.
 //!
-//! The tables of properties and of formats are `Table` values, proved equal to their definitions, and are read by
+//! The tables of properties, of formats and of registers are `Table` values, proved equal to their definitions, and are read by
 //! `first_row!` in the bodies of the look-ups; the flags are a type of `bitflags`. Names, codes and bits are those of the kernel's headers `drm_mode.h` and `drm_fourcc.h`; the ids of
 //! properties are this device's own. No call takes memory.
 #![tactic(auto)]
@@ -9,12 +9,14 @@ mod devices;
 mod flags;
 mod formats;
 mod properties;
+mod registers;
 mod table;
 #[cfg(test)]
 mod tests;
 
 pub use devices::check_topology;
 pub use flags::{AtomicFlags, from_bits};
-pub use formats::{FormatRow, format_table, fourcc};
+pub use formats::{FormatRow, code, format_table, fourcc};
 pub use properties::{PropertyRow, is_immutable, lookup, name, property_table, range, row_of};
+pub use registers::{Register, RegisterRow, Start, first_word, register_table};
 pub use table::Table;

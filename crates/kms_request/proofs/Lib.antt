@@ -8,3 +8,5 @@ pub mod SameLooks
 pub mod GroupLemmas
 pub mod AffectedLemmas
 pub mod SetGroups
+pub mod ReachLaw
+mod ReachRows

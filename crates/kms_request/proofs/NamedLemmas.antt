@@ -1,9 +1,9 @@
 -- What a request sets names the CRTCs that the request names.
 use Rattle.std.proofs.Common.{◌≡◌, ◌∙◌, ℕ, zero, suc, ◌+◌, ◌-◌, ◌<◌, ◌≤◌, List, Bool, true, false, Option, Some, None, inl, inr, arith, refl, sym, ap, subst}
-use Rattle.std.specs.Prelude.{◌&&◌, ◌||◌, ◌==◌, All, slice_get, is_some, nat_le}
+use Rattle.std.specs.Prelude.{◌&&◌, ◌||◌, ◌==◌, All, slice_get, is_some, nat_le, nat_lt}
 use Rattle.std.specs.Option.{option_flatten}
 use Rattle.std.specs.List.{list_any}
-use Rattle.std.proofs.lemmas.Bool.{and_from, and_parts, or_cases, or_left, or_right, cases_Bool, cases_eq, eqb-true, eq-eqb, ne_eqb, ltb-true, le-leb, false_from_ne_true, both_ways}
+use Rattle.std.proofs.lemmas.Bool.{and_from, and_parts, or_cases, or_left, or_right, cases_Bool, cases_eq, eqb-true, eq-eqb, ne_eqb, ltb-true, le-leb, lt-ltb, false_from_ne_true, both_ways}
 use Rattle.std.proofs.lemmas.Bool.Decides.{eqb_tells, nat_tests, same_from_decides}
 use Rattle.kms_model.specs.declared.objects.Kind.{Kind}
 use Rattle.kms_model.specs.declared.objects.Kind.TheVariants.{Crtc, Plane, Conn, Enc}
@@ -22,9 +22,9 @@ use Rattle.kms_model.specs.declared.worlds.Look.{Look}
 use Rattle.kms_model.specs.declared.worlds.Setting.{Setting}
 use Rattle.kms_model.specs.declared.worlds.Thing as worlds
 use Rattle.kms_model.specs.declared.worlds.World.{World}
-use Rattle.kms_model.specs.Script.Words.{between}
 use Rattle.kms_model.specs.Device.Masks.{mask_below}
-use Rattle.kms_model.specs.Device.Objects.{exists, object_id}
+use Rattle.kms_model.specs.Device.Objects.{exists, first_id, index_of, is_id_of, most_of, object_id}
+use Rattle.kms_model.proofs.KindsOfIds.{index_of-object}
 use Rattle.kms_model.specs.Device.States.{crtc_at}
 use Rattle.kms_model.specs.Request.Agreement.{AgreesNew, AgreesOld}
 use Rattle.kms_model.specs.Request.Apply.{apply, is_kept, object_of, prop_of}
@@ -49,14 +49,15 @@ number_is number n None some is = absurd (cc)
 number_is number n (Some None) some is = absurd (cc)
 number_is number n (Some (Some both)) some is = is both refl
 
-pub inside : (low high n : ℕ) → low ≤ n → n ≤ high → between low high n ≡ true
-inside low high n least most = and_from (nat_le low n) (nat_le n high) (le-leb low n least) (le-leb n high most)
+-- which ids are those of a kind
+pub inside : (k : Kind) (id : ℕ) → first_id k ≤ id → id < first_id k + most_of k → is_id_of k id ≡ true
+inside k id least most = and_from (nat_le (first_id k) id) (nat_lt id (first_id k + most_of k)) (le-leb (first_id k) id least) (lt-ltb id (first_id k + most_of k) most)
 
-pub above : (low high n : ℕ) → high < n → between low high n ≡ false
-above low high n more = grind (arith, nat_tests)
+pub above : (k : Kind) (id : ℕ) → first_id k + most_of k ≤ id → is_id_of k id ≡ false
+above k id more = grind (arith, nat_tests)
 
-beneath : (low high n : ℕ) → n < low → between low high n ≡ false
-beneath low high n less = grind (arith, nat_tests)
+pub beneath : (k : Kind) (id : ℕ) → id < first_id k → is_id_of k id ≡ false
+beneath k id less = grind (arith, nat_tests)
 
 -- a number of each plane and connector that is duplicated is what a function of its id gives
 record AreNumbers (plane : Both PlaneState → ℕ) (conn : Both ConnState → ℕ) (value : ℕ → ℕ) (d : Duplicates) : Type 0 where
@@ -65,21 +66,21 @@ record AreNumbers (plane : Both PlaneState → ℕ) (conn : Both ConnState → �
 
 numbers_plane : (plane : Both PlaneState → ℕ) (conn : Both ConnState → ℕ) (value : ℕ → ℕ) (d : Duplicates) (index : ℕ) → AreNumbers plane conn value d → index < 16 → is_routed_duplicated d (200 + index) ≡ true → routed_number plane conn d (200 + index) ≡ value (200 + index)
 numbers_plane plane conn value d index numbers less duplicated =
-    let is : between 200 215 (200 + index) ≡ true = inside 200 215 (200 + index) (omega arith) (omega arith) in
-    let place : 200 + index - 200 ≡ index = omega arith in
+    let is : is_id_of Plane (200 + index) ≡ true = inside Plane (200 + index) (omega arith) (omega arith) in
+    let place : index_of (200 + index) ≡ index = index_of-object Plane index (omega arith) in
     let there : is_some (option_flatten (slice_get d.planes index)) ≡ true = rw (is, place) at duplicated in
     rw (is, place) (number_is plane (value (200 + index)) (slice_get d.planes index) there (numbers.planes index))
 
 numbers_conn : (plane : Both PlaneState → ℕ) (conn : Both ConnState → ℕ) (value : ℕ → ℕ) (d : Duplicates) (index : ℕ) → AreNumbers plane conn value d → index < 8 → is_routed_duplicated d (300 + index) ≡ true → routed_number plane conn d (300 + index) ≡ value (300 + index)
 numbers_conn plane conn value d index numbers less duplicated =
-    let out : between 200 215 (300 + index) ≡ false = above 200 215 (300 + index) (omega arith) in
-    let is : between 300 307 (300 + index) ≡ true = inside 300 307 (300 + index) (omega arith) (omega arith) in
-    let place : 300 + index - 300 ≡ index = omega arith in
+    let out : is_id_of Plane (300 + index) ≡ false = above Plane (300 + index) (omega arith) in
+    let is : is_id_of Conn (300 + index) ≡ true = inside Conn (300 + index) (omega arith) (omega arith) in
+    let place : index_of (300 + index) ≡ index = index_of-object Conn index (omega arith) in
     let there : is_some (option_flatten (slice_get d.conns index)) ≡ true = rw (out, is, place) at duplicated in
     rw (out, is, place) (number_is conn (value (300 + index)) (slice_get d.conns index) there (numbers.conns index))
 
 numbers_none : (plane : Both PlaneState → ℕ) (conn : Both ConnState → ℕ) (d : Duplicates) (index : ℕ) → index < 4 → routed_number plane conn d (100 + index) ≡ 0
-numbers_none plane conn d index less = rw (beneath 200 215 (100 + index) (omega arith), beneath 300 307 (100 + index) (omega arith)) refl
+numbers_none plane conn d index less = rw (beneath Plane (100 + index) (omega arith), beneath Conn (100 + index) (omega arith)) refl
 
 pub old_none : (d : Duplicates) (index : ℕ) → index < 4 → old_crtc d (100 + index) ≡ 0
 old_none d index less = numbers_none (λ both. both.old.crtc) (λ both. both.old.crtc) d index less

@@ -10,21 +10,6 @@ use Rattle.kms_model.specs.Device.Masks.{has_bit}
 use Rattle.kms_model.proofs.UnionLemmas.{has_bit-one, has_bit-or, has_bit-zero}
 use Rattle.kms_request.specs.Naming.{AreCrtcs}
 
-same_crtc : (id index : ℕ) → 100 ≤ id → (id - 100 == index) ≡ (id == 100 + index)
-same_crtc id index low = grind (arith, nat_tests)
-
-pub one_crtc : (id : ℕ) → 100 ≤ id → id < 104 → AreCrtcs (λ crtc. id == crtc) (1 * 2 ^ (id - 100) % 2 ^ 32)
-one_crtc id low high = record {
-  below = rw (one_shl (id - 100) 32 (omega arith)) (pow_below (id - 100) 4 (omega arith));
-  bits = λ index less. has_bit-one (id - 100) index (omega arith) ∙ same_crtc id index low;
-}
-
-no_crtc_at : (id index : ℕ) → index < 4 → (id < 100) ⊎ (104 ≤ id) → (id == 100 + index) ≡ false
-no_crtc_at id index less apart = grind (arith, nat_tests)
-
-pub no_crtc : (id : ℕ) → (id < 100) ⊎ (104 ≤ id) → AreCrtcs (λ crtc. id == crtc) 0
-no_crtc id apart = record { below = lit< tt; bits = λ index less. has_bit-zero index ∙ sym (no_crtc_at id index less apart) }
-
 pub both_crtcs : (f g : ℕ → Bool) (a b : ℕ) → AreCrtcs f a → AreCrtcs g b → AreCrtcs (λ crtc. f crtc || g crtc) (bit_or a b)
 both_crtcs f g a b first second = record {
   below = or_lt 4 a b first.below second.below;

@@ -15,7 +15,6 @@ use Rattle.kms_model.specs.declared.states.PlaneState.{PlaneState}
 use Rattle.kms_model.specs.declared.worlds.Setting.{Setting}
 use Rattle.kms_model.specs.declared.worlds.Thing as worlds
 use Rattle.kms_model.specs.declared.worlds.World.{World}
-use Rattle.kms_model.specs.Script.Words.{between}
 use Rattle.kms_model.specs.Request.Agreement.{AgreesNew, AgreesOld}
 use Rattle.kms_model.specs.Request.Apply.{apply}
 use Rattle.kms_model.specs.Request.Checks.{late_refusal}
@@ -23,7 +22,8 @@ use Rattle.kms_model.specs.Request.Late.{ArePlanesInRange, late_of_states}
 use Rattle.kms_model.specs.Request.Lookups.{look_up}
 use Rattle.kms_model.specs.Device.Masks.{has_bit, mask_below}
 use Rattle.kms_model.specs.Request.Named.{is_named_by, is_routed, moves_on}
-use Rattle.kms_model.specs.Device.Objects.{count_of, object_id}
+use Rattle.kms_model.specs.Device.Objects.{count_of, index_of, is_id_of, object_id}
+use Rattle.kms_model.proofs.KindsOfIds.{index_of-object}
 use Rattle.kms_model.specs.Device.Properties.{keeps_limits}
 use Rattle.kms_model.specs.Request.Resolves.{IsAllowed, HasPlace, IsSettable}
 use Rattle.kms_model.specs.Device.Sound.{IsDevice, IsPlaneInRange}
@@ -56,13 +56,13 @@ all_bits index less = has_bit-from (2 ^ 32 - 1) index true (bit_at_ones 32 index
 duplicated_from : (t : Topology) (d : Duplicates) (k : Kind) (i : ℕ) → AreAllDuplicated t d → is_routed k ≡ true → HasPlace k i → i < count_of t k → is_routed_duplicated d (object_id k i) ≡ true
 duplicated_from t d Crtc i all routes placed there = absurd (cc)
 duplicated_from t d Plane i all routes placed there =
-    let is : between 200 215 (200 + i) ≡ true = inside 200 215 (200 + i) (omega arith) (omega arith) in
-    let place : 200 + i - 200 ≡ i = omega arith in
+    let is : is_id_of Plane (200 + i) ≡ true = inside Plane (200 + i) (omega arith) (omega arith) in
+    let place : index_of (200 + i) ≡ i = index_of-object Plane i (omega arith) in
     rw (is, place) (all.planes i there)
 duplicated_from t d Conn i all routes placed there =
-    let out : between 200 215 (300 + i) ≡ false = above 200 215 (300 + i) (omega arith) in
-    let is : between 300 307 (300 + i) ≡ true = inside 300 307 (300 + i) (omega arith) (omega arith) in
-    let place : 300 + i - 300 ≡ i = omega arith in
+    let out : is_id_of Plane (300 + i) ≡ false = above Plane (300 + i) (omega arith) in
+    let is : is_id_of Conn (300 + i) ≡ true = inside Conn (300 + i) (omega arith) (omega arith) in
+    let place : index_of (300 + i) ≡ i = index_of-object Conn i (omega arith) in
     rw (out, is, place) (all.conns i there)
 duplicated_from t d Enc i all routes placed there = absurd placed
 

@@ -57,7 +57,8 @@ affected_with (Some both) =
 -- those of the first n of some CRTCs
 unfoldable pub affected_below : List (Option (Both CrtcState)) → ℕ → ℕ → Mask
 affected_below crtcs named zero = no_objects
-affected_below crtcs named (suc n) = union (affected_below crtcs named n) (affected_with (duplicate_in named crtcs n))
+affected_below crtcs named (suc n) =
+    union (affected_below crtcs named n) (affected_with (duplicate_in named crtcs n))
 
 -- the CRTCs among objects with a number each
 abbrev pub crtcs_fenced : List (ObjId × ℕ) → ℕ

@@ -1,7 +1,6 @@
 -- The CRTCs that a request names, by what it sets and by the old states of the objects that it sets.
-use Rattle.std.specs.Prelude.{◌≡◌, ℕ, ◌-◌, ◌<◌, ◌^◌, Bool, true, ◌||◌, ◌==◌, slice_get, Option, Some, None, IsTrue, All, is_some, if◌then◌else◌}
-use Rattle.std.specs.Option.{option_flatten}
-use Rattle.kms_model.specs.declared.objects.Kind.TheVariants.{Crtc}
+use Rattle.std.specs.Prelude.{◌≡◌, ℕ, ◌<◌, ◌^◌, Bool, true, ◌||◌, ◌==◌, Option, Some, None, IsTrue, All, is_some, if◌then◌else◌}
+use Rattle.kms_model.specs.declared.objects.Kind.TheVariants.{Crtc, Plane, Conn}
 use Rattle.kms_model.specs.declared.objects.Topology.{Topology}
 use Rattle.kms_model.specs.declared.scripts.Request.{Request}
 use Rattle.kms_model.specs.declared.sets.Resolved.{Resolved}
@@ -14,9 +13,9 @@ use Rattle.kms_model.specs.declared.states.Duplicates.{Duplicates}
 use Rattle.kms_model.specs.declared.states.PlaneState.{PlaneState}
 use Rattle.kms_model.specs.declared.worlds.Look.{Look}
 use Rattle.kms_model.specs.declared.worlds.World.{World}
-use Rattle.kms_model.specs.Script.Words.{between}
 use Rattle.kms_model.specs.Device.Masks.{has_bit}
-use Rattle.kms_model.specs.Device.Objects.{object_id}
+use Rattle.kms_model.specs.Device.Objects.{index_of, is_id_of, object_id}
+use Rattle.kms_model.specs.Request.Late.{duplicate_at}
 use Rattle.kms_model.specs.Device.Properties.{keeps_limits}
 use Rattle.kms_model.specs.Device.Sound.{IsSound}
 use Rattle.kms_model.specs.Request.Resolves.{IsResolved}
@@ -34,8 +33,8 @@ number_in number None = 0
 -- a number of a plane or of a connector that is duplicated, 0 for every other object
 abbrev pub routed_number : (Both PlaneState → ℕ) → (Both ConnState → ℕ) → Duplicates → ℕ → ℕ
 routed_number plane conn d object =
-    if between 200 215 object then number_in plane (option_flatten (slice_get d.planes (object - 200)))
-    else (if between 300 307 object then number_in conn (option_flatten (slice_get d.conns (object - 300)))
+    if is_id_of Plane object then number_in plane (duplicate_at d.planes (index_of object))
+    else (if is_id_of Conn object then number_in conn (duplicate_at d.conns (index_of object))
     else 0)
 
 -- the CRTC in the old state of a plane or a connector, 0 without one
@@ -56,13 +55,14 @@ new_crtc to.Fence = 0
 
 -- A set names a CRTC: it sets it, or a plane or a connector that was on it, or it puts one on it.
 abbrev pub set_names : Duplicates → Set → ℕ → Bool
-set_names d s crtc = ((s.object.0 == crtc) || (old_crtc d s.object.0 == crtc)) || (new_crtc s.value == crtc)
+set_names d s crtc =
+    ((s.object.0 == crtc) || (old_crtc d s.object.0 == crtc)) || (new_crtc s.value == crtc)
 
 -- a plane or a connector is duplicated (of other objects nothing is asked)
 abbrev pub is_routed_duplicated : Duplicates → ℕ → Bool
 is_routed_duplicated d object =
-    if between 200 215 object then is_some (option_flatten (slice_get d.planes (object - 200)))
-    else (if between 300 307 object then is_some (option_flatten (slice_get d.conns (object - 300)))
+    if is_id_of Plane object then is_some (duplicate_at d.planes (index_of object))
+    else (if is_id_of Conn object then is_some (duplicate_at d.conns (index_of object))
     else true)
 
 -- Duplicates with what a request sets: over some device, a sound world and what the request's labels name, `resolved` is

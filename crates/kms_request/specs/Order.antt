@@ -1,19 +1,37 @@
 -- The order in which refusals 10 to 23 are tried.
-use Rattle.std.specs.Prelude.{ℕ, Option, IfSome, ⊤}
+use Rattle.std.specs.Prelude.{ℕ, Bool, Option, IfSome, ⊤}
+use Rattle.std.specs.List.{list_any, range_with_len}
 use Rattle.std.specs.Option.{option_and_then}
 use Rattle.kms_model.specs.declared.objects.Kind.TheVariants.{Crtc, Plane, Conn}
 use Rattle.kms_model.specs.declared.objects.Topology.{Topology}
 use Rattle.kms_model.specs.declared.states.Both.{Both}
 use Rattle.kms_model.specs.declared.states.Duplicates.{Duplicates}
 use Rattle.kms_model.specs.declared.states.Mask.{Mask}
+use Rattle.kms_model.specs.declared.states.ConnState.{ConnState}
+use Rattle.kms_model.specs.declared.states.CrtcState.{CrtcState}
 use Rattle.kms_model.specs.declared.states.PlaneState.{PlaneState}
 use Rattle.kms_model.specs.Device.Objects.{count_of}
 use Rattle.kms_model.specs.Device.Sound.{IsPlaneInRange}
-use Rattle.kms_model.specs.Request.Late.{duplicate_in, plane_refusal_of, crtc_refusal_of, conn_refusal_of, clone_refusal_of, route_refusal_of, shown_refusal_of}
+use Rattle.kms_model.specs.Request.Late.{duplicate_in, needs_modeset_if, plane_refusal_of, crtc_refusal_of, conn_refusal_of, clone_refusal_of, route_refusal_of, shown_refusal_of}
 use Rattle.kms_props.specs.Flags.{bits_of}
 use Rattle.kms_request.specs.declared.late.Asked.{Asked}
 use Rattle.kms_request.specs.declared.late.Step.{Step}
 use Rattle.kms_request.specs.declared.late.Step.TheVariants.{Planes, Crtcs, Conns, Clones, Routes, Shown}
+
+-- what is duplicated of the plane, the CRTC or the connector with an index, where it is in a set
+abbrev pub plane_in : Duplicates → Mask → ℕ → Option (Both PlaneState)
+plane_in d objects index = duplicate_in objects.planes d.planes index
+
+abbrev pub crtc_in : Duplicates → Mask → ℕ → Option (Both CrtcState)
+crtc_in d objects index = duplicate_in objects.crtcs d.crtcs index
+
+abbrev pub conn_in : Duplicates → Mask → ℕ → Option (Both ConnState)
+conn_in d objects index = duplicate_in objects.conns d.conns index
+
+-- a CRTC of a set needs a modeset
+abbrev pub some_needs_modeset : Topology → Duplicates → Mask → Bool
+some_needs_modeset t d objects =
+    list_any (λ index. needs_modeset_if (crtc_in d objects index)) (range_with_len 0 (count_of t Crtc))
 
 -- how many objects a step looks at
 abbrev pub count_at : Topology → Step → ℕ
@@ -26,12 +44,18 @@ count_at t Shown = count_of t Plane
 
 -- what a step finds wrong with an object of a set, by its index
 abbrev pub refusal_at : Topology → Duplicates → Mask → Asked → Step → ℕ → Option ℕ
-refusal_at t d objects asked Planes index = option_and_then (plane_refusal_of t index) (duplicate_in objects.planes d.planes index)
-refusal_at t d objects asked Crtcs index = option_and_then (crtc_refusal_of (bits_of asked.flags) asked.named asked.fenced index) (duplicate_in objects.crtcs d.crtcs index)
-refusal_at t d objects asked Conns index = option_and_then (conn_refusal_of t index) (duplicate_in objects.conns d.conns index)
-refusal_at t d objects asked Clones index = option_and_then (λ both. clone_refusal_of t both) (duplicate_in objects.crtcs d.crtcs index)
-refusal_at t d objects asked Routes index = option_and_then (λ both. route_refusal_of both) (duplicate_in objects.crtcs d.crtcs index)
-refusal_at t d objects asked Shown index = option_and_then (λ both. shown_refusal_of d.crtcs both) (duplicate_in objects.planes d.planes index)
+refusal_at t d objects asked Planes index =
+    option_and_then (plane_refusal_of t index) (plane_in d objects index)
+refusal_at t d objects asked Crtcs index =
+    option_and_then (crtc_refusal_of (bits_of asked.flags) asked.named asked.fenced index) (crtc_in d objects index)
+refusal_at t d objects asked Conns index =
+    option_and_then (conn_refusal_of t index) (conn_in d objects index)
+refusal_at t d objects asked Clones index =
+    option_and_then (λ both. clone_refusal_of t both) (crtc_in d objects index)
+refusal_at t d objects asked Routes index =
+    option_and_then (λ both. route_refusal_of both) (crtc_in d objects index)
+refusal_at t d objects asked Shown index =
+    option_and_then (λ both. shown_refusal_of d.crtcs both) (plane_in d objects index)
 
 -- the numbers of a plane that a step looks at are in range
 abbrev pub IsLookedAtInRange : Step → Option (Both PlaneState) → Type 0

@@ -21,4 +21,6 @@ target_of a = place_of a.kind a.index * 19 + prop_of a.prop
 
 -- for each property of an object, whether one of the assignments sets it
 abbrev pub TellTargets : List Assign → List Bool → Type 0
-TellTargets assigns marks = (b : Assign) → IsSettable b → slice_index_or marks (target_of b) false ≡ list_any (has_target_of b) assigns
+TellTargets assigns marks =
+    (b : Assign) → IsSettable b
+    → slice_index_or marks (target_of b) false ≡ list_any (has_target_of b) assigns

@@ -7,7 +7,7 @@ use Rattle.kms_model.specs.declared.scripts.Request.{Request}
 use Rattle.kms_model.specs.declared.states.Duplicates.{Duplicates}
 use Rattle.kms_model.specs.declared.worlds.World.{World}
 use Rattle.kms_model.specs.Request.Agreement.{AgreesNew, AgreesOld}
-use Rattle.kms_model.specs.Request.Apply.{apply, object_of}
+use Rattle.kms_model.specs.Request.Apply.{after, object_of}
 use Rattle.kms_model.specs.Request.Late.{duplicate_at}
 use Rattle.kms_model.specs.Request.Lookups.{look_up}
 use Rattle.kms_model.specs.Device.Objects.{count_of}
@@ -32,7 +32,7 @@ pub record StandBetween (t : Topology) (w : World) (r : Request) (d : Duplicates
   pub sound : IsSound t w
   pub early : early_refusal t (look_up w) r ≡ None
   pub old : AgreesOld t w.things w.values d
-  pub new : AgreesNew t w.things (apply w.things w.values r.assigns) d
+  pub new : AgreesNew t w.things (after w r) d
   pub all : AreAllDuplicated t d
 
 -- some sound world

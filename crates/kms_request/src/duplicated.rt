@@ -1,9 +1,16 @@
 //! Duplicated states, by the index of their object.
 ghost use Rattle.std.specs.Prelude.{◌≡◌};
+ghost use Rattle.kms_model.specs.Device.Masks.{has_bit};
 ghost use Rattle.kms_model.specs.Request.Late.{duplicate_at, duplicate_in};
 
-use crate::states::has_bit;
-use kms_model::Both;
+use kms_model::{Both, has_bit};
+
+/// Whether the object with an index is in a set, by its mask.
+pub(crate) fn is_in(mask: u32, index: usize) -> bool
+    ensures { result ≡ has_bit mask index }
+{
+    index < 32 && has_bit(mask, index as u32)
+}
 
 /// The states of the object with an index, where they are duplicated.
 pub(crate) fn duplicate_at<S: Copy>(states: &[Option<Both<S>>], index: usize) -> Option<Both<S>>
@@ -20,7 +27,7 @@ pub(crate) fn duplicate_in<S: Copy>(
 ) -> Option<Both<S>>
     ensures { result ≡ duplicate_in mask states.now index }
 {
-    if has_bit(mask, index) {
+    if is_in(mask, index) {
         duplicate_at(states, index)
     } else {
         None

@@ -10,7 +10,7 @@ ghost use Rattle.kms_model.specs.Request.Touched.{new_label, out_fence_label};
 ghost use Rattle.kms_request.specs.Fences.{fence_value, ListsNumbers, TellInFences, TellNumbers, TellOutFences};
 
 use crate::lookups::Looker;
-use crate::sets::{object_id, prop_of};
+use crate::sets::prop_of;
 use kms_model::properties::{IN_FENCE_FD, OUT_FENCE_PTR};
 use kms_model::{Assign, Kind, Look, NoMemory, ObjId, Seq, Topology, Value};
 use std::alloc::Global;
@@ -62,7 +62,8 @@ fn note_in_fence<L: Looker>(fences: &mut Numbers, found: &L, a: &Assign)
 /// Notes the label that an assignment asks to be made for a CRTC, or that it asks for none.
 fn note_out_fence(labels: &mut Numbers, a: &Assign)
     requires { IsSettable a.now }
-    ensures { (earlier : List Assign) → TellOutFences earlier labels.old → TellOutFences (earlier ++ a.now ∷ []) labels.new }
+    ensures { (earlier : List Assign) → TellOutFences earlier labels.old
+        → TellOutFences (earlier ++ a.now ∷ []) labels.new }
 {
     if sets_of(a, Kind::Crtc, OUT_FENCE_PTR) {
         labels[a.index as usize] = new_label(a.value);
@@ -108,7 +109,7 @@ fn listed(
         let Some(number) = numbers[index] else {
             continue;
         };
-        all.push((ObjId(object_id(kind, index as u32)), number))?;
+        all.push((ObjId::of(kind, index as u32), number))?;
     }
     Ok(all)
 }
@@ -122,7 +123,8 @@ pub fn in_fences<L: Looker>(
 ) -> Result<Seq<(ObjId, u32)>, NoMemory>
     requires limits { IsTrue (keeps_limits topology.now) }
     requires settable { All IsSettable assigns.now }
-    ensures { IfOk result (λ fences. fences ≡ in_fences topology.now (L.meaning found.now) assigns.now) }
+    ensures { IfOk result (λ fences.
+        fences ≡ in_fences topology.now (L.meaning found.now) assigns.now) }
 {
     let numbers = in_fence_numbers(found, assigns);
     listed(alloc, Kind::Plane, topology.planes.len(), &numbers)

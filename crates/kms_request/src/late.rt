@@ -4,20 +4,19 @@ ghost use Rattle.std.specs.Prelude.{◌≡◌, ◌<◌, ◌&&◌, ◌==◌, ℕ,
 ghost use Rattle.std.specs.List.{list_any, range_with_len};
 ghost use Rattle.std.specs.Option.{option_and_then};
 ghost use Rattle.kms_model.specs.declared.objects.Kind.TheVariants.{Crtc, Plane};
-ghost use Rattle.kms_model.specs.Firsts.{first_some, number_if};
+ghost use Rattle.kms_model.specs.Firsts.{first_some, refused_if};
 ghost use Rattle.kms_model.specs.Request.Flags.{allows_modeset, wants_event};
 ghost use Rattle.kms_model.specs.Request.Late.{ArePlanesInRange, clone_refusal_of, conn_refusal_of, crtc_refusal_of, duplicate_in, late_of_states, members, needs_modeset_if, new_mode, plane_refusal_of, route_refusal_of, shown_refusal_of};
 ghost use Rattle.kms_model.specs.Device.Objects.{count_of};
 ghost use Rattle.kms_model.specs.Device.Sound.{IsPlaneInRange};
 ghost use Rattle.kms_props.specs.Flags.{bits_of};
 ghost use Rattle.kms_request.specs.Answers.{refusal_number};
-ghost use Rattle.kms_request.specs.Order.{IsLookedAtInRange, count_at, refusal_at};
+ghost use Rattle.kms_request.specs.Order.{IsLookedAtInRange, conn_in, count_at, crtc_in, plane_in, refusal_at, some_needs_modeset};
+ghost use Rattle.kms_model.specs.declared.replies.TheConstants.Refusal.{MODESET_NOT_ALLOWED};
 
-use crate::duplicated::{duplicate_at, duplicate_in};
-use crate::states::{
-    FIRST_CRTC, conn_refusal, crtc_refusal, has_bit, needs_modeset, plane_refusal, shown_refusal,
-};
-use kms_model::{Duplicates, Mask, Mode, Refusal, Topology};
+use crate::duplicated::{duplicate_at, duplicate_in, is_in};
+use crate::states::{conn_refusal, crtc_refusal, needs_modeset, plane_refusal, shown_refusal};
+use kms_model::{Duplicates, Kind, Mask, Mode, Refusal, Topology};
 use kms_props::AtomicFlags;
 
 /// What a request asks for, besides what it sets.
@@ -25,9 +24,9 @@ use kms_props::AtomicFlags;
 pub struct Asked {
     /// Its flags.
     pub flags: AtomicFlags,
-    /// The CRTCs that it names: bit i stands for CRTC index i.
+    /// The mask of the CRTCs that it names: bit i stands for CRTC index i.
     pub named: u32,
-    /// The CRTCs for which it asks for an out-fence.
+    /// The mask of the CRTCs for which it asks for an out-fence.
     pub fenced: u32,
 }
 
@@ -52,7 +51,7 @@ enum Step {
 fn new_mode(states: &Duplicates, crtc: u32) -> Option<Mode>
     ensures { result ≡ new_mode states.now.crtcs crtc }
 {
-    let index = crtc.saturating_sub(FIRST_CRTC) as usize;
+    let index = crtc.saturating_sub(Kind::Crtc.first_id()) as usize;
     duplicate_at(&states.crtcs, index)?.new.mode
 }
 
@@ -60,13 +59,19 @@ fn new_mode(states: &Duplicates, crtc: u32) -> Option<Mode>
 fn members(mask: u32, count: usize) -> usize
     ensures { result ≡ members mask count }
 {
-    (0..count).filter(|&index| has_bit(mask, index)).count()
+    (0..count).filter(|&index| is_in(mask, index)).count()
 }
 
 /// What is wrong with a plane of a set, from 10 to 15.
-fn plane_at(topology: &Topology, states: &Duplicates, objects: &Mask, index: usize) -> Option<u32>
-    requires { IfSome (duplicate_in objects.now.planes states.now.planes index) (λ both. IsPlaneInRange both.new) }
-    ensures { result ≡ option_and_then (plane_refusal_of topology.now index) (duplicate_in objects.now.planes states.now.planes index) }
+fn plane_at(
+    topology: &Topology,
+    states: &Duplicates,
+    objects: &Mask,
+    index: usize,
+) -> Option<Refusal>
+    requires { IfSome (plane_in states.now objects.now index) (λ both. IsPlaneInRange both.new) }
+    ensures { refusal_number result ≡ option_and_then (plane_refusal_of topology.now index)
+        (plane_in states.now objects.now index) }
 {
     let both = duplicate_in(objects.planes, &states.planes, index)?;
     let info = topology.planes.as_slice().get(index)?;
@@ -74,19 +79,26 @@ fn plane_at(topology: &Topology, states: &Duplicates, objects: &Mask, index: usi
 }
 
 /// What is wrong with a CRTC of a set, 16 or 17.
-fn crtc_at(states: &Duplicates, objects: &Mask, asked: Asked, index: usize) -> Option<u32>
-    ensures { result ≡ option_and_then (crtc_refusal_of (bits_of asked.flags) asked.named asked.fenced index) (duplicate_in objects.now.crtcs states.now.crtcs index) }
+fn crtc_at(states: &Duplicates, objects: &Mask, asked: Asked, index: usize) -> Option<Refusal>
+    ensures { refusal_number result
+        ≡ option_and_then (crtc_refusal_of (bits_of asked.flags) asked.named asked.fenced index)
+        (crtc_in states.now objects.now index) }
 {
     let both = duplicate_in(objects.crtcs, &states.crtcs, index)?;
-    let signals = asked.flags.contains(AtomicFlags::PAGE_FLIP_EVENT)
-        || has_bit(asked.fenced, index);
-    let asks = has_bit(asked.named, index) && signals;
+    let signals = asked.flags.contains(AtomicFlags::PAGE_FLIP_EVENT) || is_in(asked.fenced, index);
+    let asks = is_in(asked.named, index) && signals;
     crtc_refusal(asks, both.old.active, both.new.active, both.new.mode)
 }
 
 /// What is wrong with a connector of a set, 18.
-fn conn_at(topology: &Topology, states: &Duplicates, objects: &Mask, index: usize) -> Option<u32>
-    ensures { result ≡ option_and_then (conn_refusal_of topology.now index) (duplicate_in objects.now.conns states.now.conns index) }
+fn conn_at(
+    topology: &Topology,
+    states: &Duplicates,
+    objects: &Mask,
+    index: usize,
+) -> Option<Refusal>
+    ensures { refusal_number result ≡ option_and_then (conn_refusal_of topology.now index)
+        (conn_in states.now objects.now index) }
 {
     let both = duplicate_in(objects.conns, &states.conns, index)?;
     let possible = topology.conns.as_slice().get(index)?;
@@ -94,33 +106,41 @@ fn conn_at(topology: &Topology, states: &Duplicates, objects: &Mask, index: usiz
 }
 
 /// 19, where two or more connectors are on a CRTC of a set.
-fn clones_at(topology: &Topology, states: &Duplicates, objects: &Mask, index: usize) -> Option<u32>
-    ensures { result ≡ option_and_then (λ both. clone_refusal_of topology.now both) (duplicate_in objects.now.crtcs states.now.crtcs index) }
+fn clones_at(
+    topology: &Topology,
+    states: &Duplicates,
+    objects: &Mask,
+    index: usize,
+) -> Option<Refusal>
+    ensures { refusal_number result ≡ option_and_then (λ both. clone_refusal_of topology.now both)
+        (crtc_in states.now objects.now index) }
 {
     let both = duplicate_in(objects.crtcs, &states.crtcs, index)?;
     if members(both.new.conns, topology.conns.len()) > 1 {
-        Some(19)
+        Some(Refusal::CLONED_CONNECTORS)
     } else {
         None
     }
 }
 
 /// 20, where a CRTC of a set has a mode and no connector, or a connector and no mode.
-fn route_at(states: &Duplicates, objects: &Mask, index: usize) -> Option<u32>
-    ensures { result ≡ option_and_then (λ both. route_refusal_of both) (duplicate_in objects.now.crtcs states.now.crtcs index) }
+fn route_at(states: &Duplicates, objects: &Mask, index: usize) -> Option<Refusal>
+    ensures { refusal_number result ≡ option_and_then (λ both. route_refusal_of both)
+        (crtc_in states.now objects.now index) }
 {
     let both = duplicate_in(objects.crtcs, &states.crtcs, index)?;
     if both.new.mode.is_some() != (both.new.conns != 0) {
-        Some(20)
+        Some(Refusal::MODE_XOR_CONNECTOR)
     } else {
         None
     }
 }
 
 /// What is wrong with a plane of a set on its CRTC, from 21 to 23.
-fn shown_at(states: &Duplicates, objects: &Mask, index: usize) -> Option<u32>
-    requires { IfSome (duplicate_in objects.now.planes states.now.planes index) (λ both. IsPlaneInRange both.new) }
-    ensures { result ≡ option_and_then (λ both. shown_refusal_of states.now.crtcs both) (duplicate_in objects.now.planes states.now.planes index) }
+fn shown_at(states: &Duplicates, objects: &Mask, index: usize) -> Option<Refusal>
+    requires { IfSome (plane_in states.now objects.now index) (λ both. IsPlaneInRange both.new) }
+    ensures { refusal_number result ≡ option_and_then (λ both. shown_refusal_of states.now.crtcs both)
+        (plane_in states.now objects.now index) }
 {
     let both = duplicate_in(objects.planes, &states.planes, index)?;
     shown_refusal(new_mode(states, both.new.crtc), &both.new)
@@ -134,9 +154,10 @@ fn refusal_at(
     asked: Asked,
     step: Step,
     index: usize,
-) -> Option<u32>
-    requires { IsLookedAtInRange step (duplicate_in objects.now.planes states.now.planes index) }
-    ensures { result ≡ refusal_at topology.now states.now objects.now asked step index }
+) -> Option<Refusal>
+    requires { IsLookedAtInRange step (plane_in states.now objects.now index) }
+    ensures { refusal_number result
+        ≡ refusal_at topology.now states.now objects.now asked step index }
 {
     match step {
         Step::Planes => plane_at(topology, states, objects, index),
@@ -166,13 +187,15 @@ fn first_of(
     objects: &Mask,
     asked: Asked,
     step: Step,
-) -> Option<u32>
+) -> Option<Refusal>
     requires { ArePlanesInRange topology.now states.now objects.now.planes }
-    ensures { result ≡ first_some (refusal_at topology.now states.now objects.now asked step) (range_with_len 0 (count_at topology.now step)) }
+    ensures { refusal_number result
+        ≡ first_some (refusal_at topology.now states.now objects.now asked step)
+        (range_with_len 0 (count_at topology.now step)) }
 {
     for index in 0..count_at(topology, step) {
-        if let Some(number) = refusal_at(topology, states, objects, asked, step, index) {
-            return Some(number);
+        if let Some(refusal) = refusal_at(topology, states, objects, asked, step, index) {
+            return Some(refusal);
         }
     }
     None
@@ -180,7 +203,7 @@ fn first_of(
 
 /// Whether a CRTC of a set needs a modeset.
 fn some_needs_modeset(topology: &Topology, states: &Duplicates, objects: &Mask) -> bool
-    ensures { result ≡ list_any (λ index. needs_modeset_if (duplicate_in objects.now.crtcs states.now.crtcs index)) (range_with_len 0 (count_of topology.now Crtc)) }
+    ensures { result ≡ some_needs_modeset topology.now states.now objects.now }
 {
     (0..topology.crtcs as usize).any(|index| duplicate_in(
         objects.crtcs,
@@ -200,10 +223,11 @@ pub fn late_refusal(
     asked: Asked,
 ) -> Option<Refusal>
     requires { ArePlanesInRange topology.now states.now objects.now.planes }
-    ensures { refusal_number result ≡ late_of_states topology.now states.now objects.now (bits_of asked.flags) asked.named asked.fenced }
+    ensures { refusal_number result ≡ late_of_states topology.now states.now objects.now
+        (bits_of asked.flags) asked.named asked.fenced }
 {
     if asked.flags.contains(AtomicFlags::PAGE_FLIP_EVENT) && asked.named == 0 {
-        return Some(Refusal(9));
+        return Some(Refusal::EVENT_WITHOUT_CRTC);
     }
     first_of(topology, states, objects, asked, Step::Planes)
         .or_else(|| first_of(topology, states, objects, asked, Step::Crtcs))
@@ -212,7 +236,6 @@ pub fn late_refusal(
         .or_else(|| first_of(topology, states, objects, asked, Step::Routes))
         .or_else(|| first_of(topology, states, objects, asked, Step::Shown))
         .or_else(|| modeset_refusal(topology, states, objects, asked.flags))
-        .map(Refusal)
 }
 
 /// 24, where a CRTC of a set needs a modeset and ALLOW_MODESET is not set.
@@ -221,13 +244,15 @@ fn modeset_refusal(
     states: &Duplicates,
     objects: &Mask,
     flags: AtomicFlags,
-) -> Option<u32>
-    ensures { result ≡ number_if 24 (not (allows_modeset (bits_of flags)) && list_any (λ index. needs_modeset_if (duplicate_in objects.now.crtcs states.now.crtcs index)) (range_with_len 0 (count_of topology.now Crtc))) }
+) -> Option<Refusal>
+    ensures { refusal_number result ≡ refused_if MODESET_NOT_ALLOWED
+        (not (allows_modeset (bits_of flags))
+        && some_needs_modeset topology.now states.now objects.now) }
 {
     if !flags.contains(AtomicFlags::ALLOW_MODESET)
         && some_needs_modeset(topology, states, objects)
     {
-        Some(24)
+        Some(Refusal::MODESET_NOT_ALLOWED)
     } else {
         None
     }

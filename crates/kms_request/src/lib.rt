@@ -11,6 +11,7 @@ mod errors;
 mod fences;
 mod groups;
 mod late;
+mod laws;
 mod lookups;
 mod naming;
 mod refusals;
@@ -25,13 +26,14 @@ pub use errors::RequestError;
 pub use fences::out_fence_numbers;
 pub use groups::{affected, crtcs_fenced, objects_set, only_crtcs, union};
 pub use late::{Asked, late_refusal};
+pub use laws::reach_of_accepted_is_touched;
 pub use lookups::Looker;
 pub use naming::named;
 pub use refusals::early;
 pub use resolving::resolve;
-pub use sets::{object_id, object_of, prop_of, set_of};
+pub use sets::{object_of, prop_of, set_of};
 pub use spanning::spans;
-pub use states::{has_bit, needs_modeset};
+pub use states::needs_modeset;
 pub use whole::{full_check, named_in};
 
 #[cfg(test)]

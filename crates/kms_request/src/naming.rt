@@ -5,35 +5,35 @@ ghost use Rattle.kms_model.specs.declared.objects.Topology.{Topology};
 ghost use Rattle.kms_model.specs.declared.scripts.Request.{Request};
 ghost use Rattle.kms_model.specs.declared.worlds.Look.{Look};
 ghost use Rattle.kms_model.specs.declared.worlds.World.{World};
-ghost use Rattle.kms_model.specs.Request.Apply.{apply};
-ghost use Rattle.kms_model.specs.Request.Touched.{named_set};
+ghost use Rattle.kms_model.specs.Request.Touched.{named_by};
 ghost use Rattle.kms_request.specs.Naming.{AreCrtcs, Covers, set_names, new_crtc, next_crtc, old_crtc};
 
-use kms_model::{Duplicates, Resolved, Set, SetValue};
+use crate::duplicated::duplicate_at;
+use crate::groups::only_of;
+use kms_model::{Duplicates, Kind, ObjId, Resolved, Set, SetValue};
 
-/// The set of the CRTC with an id; it is empty for every other number.
+/// The mask of the CRTC with an id; it is empty for every other number.
 pub fn only_crtc(id: u32) -> u32
     ensures { AreCrtcs (λ crtc. id == crtc) result }
 {
-    if 100 <= id && id < 104 {
-        1 << (id - 100)
-    } else {
-        0
-    }
+    only_of(Kind::Crtc, id)
 }
 
-/// The CRTCs of a plane or a connector in its old and in its new state, each 0 without one.
+/// The ids of the CRTCs of a plane or a connector, given by its id, in its old and in its new state; each is 0 without
+/// one.
 pub fn crtcs_of(states: &Duplicates, object: u32) -> (u32, u32)
     ensures old { result.0 ≡ old_crtc states.now object }
     ensures new { result.1 ≡ next_crtc states.now object }
 {
-    if 200 <= object && object <= 215 {
-        match states.planes[(object - 200) as usize] {
+    let id = ObjId(object);
+    let index = id.index() as usize;
+    if id.is_plane() {
+        match duplicate_at(&states.planes, index) {
             Some(both) => (both.old.crtc, both.new.crtc),
             None => (0, 0),
         }
-    } else if 300 <= object && object <= 307 {
-        match states.conns[(object - 300) as usize] {
+    } else if id.is_connector() {
+        match duplicate_at(&states.conns, index) {
             Some(both) => (both.old.crtc, both.new.crtc),
             None => (0, 0),
         }
@@ -42,7 +42,7 @@ pub fn crtcs_of(states: &Duplicates, object: u32) -> (u32, u32)
     }
 }
 
-/// The CRTC that a plane or a connector is put on, or 0.
+/// The id of the CRTC that a plane or a connector is put on, or 0.
 fn new_crtc(value: SetValue) -> u32
     ensures { result ≡ new_crtc value }
 {
@@ -72,12 +72,12 @@ fn all_named_by(states: &Duplicates, sets: &[Set]) -> u32
     named
 }
 
-/// The set of CRTCs that a request names: bit i stands for CRTC index i. A CRTC is named where the request sets it, or a
+/// The mask of the CRTCs that a request names: bit i stands for CRTC index i. A CRTC is named where the request sets it, or a
 /// plane or a connector that is on it before or after the request. The old states tell which are on it before; what the
 /// request sets tells which are on it after.
 pub fn named(resolved: &Resolved, states: &Duplicates) -> u32
-    ensures { (t : Topology) (w : World) (f : ℕ → Look) (r : Request) → Covers t w f r resolved.now states.now
-        → result ≡ named_set t w.values (apply w.things w.values r.assigns) r.assigns }
+    ensures { (t : Topology) (w : World) (f : ℕ → Look) (r : Request)
+        → Covers t w f r resolved.now states.now → result ≡ named_by t w r }
 {
     all_named_by(states, resolved.sets.as_slice())
 }

@@ -5,7 +5,7 @@ ghost use Rattle.kms_model.specs.Request.Apply.{prop_of};
 ghost use Rattle.kms_model.specs.Firsts.{number_if, or_else};
 ghost use Rattle.kms_model.specs.Device.Objects.{count_of, exists};
 ghost use Rattle.kms_model.specs.Device.Properties.{are_flags, keeps_limits, property};
-ghost use Rattle.kms_model.specs.Request.Refusals.{assign_refusal, assigns_refusal, early_refusal, flags_refusal, is_in_range, names_label, is_second_fence, takes};
+ghost use Rattle.kms_model.specs.Request.Refusals.{assigns_refusal, early_refusal, flags_refusal, is_in_range, names_label, is_second_fence, own_refusal, takes};
 ghost use Rattle.kms_model.specs.Request.Resolves.{IsAllowed, IsSettable};
 ghost use Rattle.kms_props.specs.Rows.{property_of};
 ghost use Rattle.kms_request.specs.Answers.{refusal_number};
@@ -17,17 +17,17 @@ use kms_model::{Assign, Kind, Look, PropRef, Range, Refusal, Request, Topology, 
 use kms_props::{AtomicFlags, PropertyRow, from_bits, row_of};
 
 /// What is wrong with flags: 1, there is another bit; 2, PAGE_FLIP_ASYNC is set; 3, TEST_ONLY and PAGE_FLIP_EVENT are set.
-fn flags_refusal(flags: u32) -> Option<u32>
-    ensures { result ≡ flags_refusal flags }
+fn flags_refusal(flags: u32) -> Option<Refusal>
+    ensures { refusal_number result ≡ flags_refusal flags }
 {
     let Some(flags) = from_bits(flags) else {
-        return Some(1);
+        return Some(Refusal::UNKNOWN_FLAG);
     };
     if flags.contains(AtomicFlags::PAGE_FLIP_ASYNC) {
-        return Some(2);
+        return Some(Refusal::ASYNC_FLIP);
     }
     if flags.contains(AtomicFlags::TEST_ONLY) && flags.contains(AtomicFlags::PAGE_FLIP_EVENT) {
-        return Some(3);
+        return Some(Refusal::TEST_WITH_EVENT);
     }
     None
 }
@@ -95,26 +95,25 @@ fn is_in_range<L: Looker>(
 
 /// What is wrong with an assignment by itself, whatever comes before it: 4, its object does not exist; 5, the object
 /// does not have the property; 6, the property is immutable; 7, the value is not among the property's.
-#[tactic(auto, unfolding(kms_model::specs::Request::Refusals::assign_refusal))]
-fn own_refusal<L: Looker>(topology: &Topology, found: &L, a: &Assign) -> Option<u32>
-    ensures first { (earlier : List Assign) → assign_refusal topology.now (L.meaning found.now) earlier a.now
-        ≡ or_else result (number_if 8 (is_second_fence earlier a.now)) }
+#[tactic(auto, unfolding(kms_model::specs::Request::Refusals::own_refusal))]
+fn own_refusal<L: Looker>(topology: &Topology, found: &L, a: &Assign) -> Option<Refusal>
+    ensures refusal { refusal_number result ≡ own_refusal topology.now (L.meaning found.now) a.now }
     ensures allowed { IsNone result → IsAllowed topology.now (L.meaning found.now) a.now }
 {
     if !exists(topology, a.kind, a.index) {
-        return Some(4);
+        return Some(Refusal::NO_OBJECT);
     }
     let Some(row) = row_named(a.prop) else {
-        return Some(5);
+        return Some(Refusal::NO_PROPERTY);
     };
     if !row.kinds.contains(&a.kind) {
-        return Some(5);
+        return Some(Refusal::NO_PROPERTY);
     }
     if row.immutable {
-        return Some(6);
+        return Some(Refusal::IMMUTABLE_PROPERTY);
     }
     if !is_in_range(topology, found, row.id, row.range, a.value) {
-        return Some(7);
+        return Some(Refusal::INVALID_VALUE);
     }
     None
 }
@@ -122,7 +121,8 @@ fn own_refusal<L: Looker>(topology: &Topology, found: &L, a: &Assign) -> Option<
 /// Whether an assignment sets the fence of a plane for which an earlier one named a fence.
 fn is_second_fence(fenced: &[bool; 16], a: &Assign) -> bool
     requires { SetsFenceOfPlane a.now }
-    ensures { (earlier : List Assign) → TellFences earlier fenced.now → result ≡ is_second_fence earlier a.now }
+    ensures { (earlier : List Assign) → TellFences earlier fenced.now
+        → result ≡ is_second_fence earlier a.now }
 {
     a.prop == PropRef::Known(IN_FENCE_FD) && fenced[a.index as usize]
 }
@@ -130,7 +130,8 @@ fn is_second_fence(fenced: &[bool; 16], a: &Assign) -> bool
 /// Notes the fence that an assignment names.
 fn note_fence(fenced: &mut [bool; 16], a: &Assign)
     requires { SetsFenceOfPlane a.now }
-    ensures { (earlier : List Assign) → TellFences earlier fenced.old → TellFences (a.now ∷ earlier) fenced.new }
+    ensures { (earlier : List Assign) → TellFences earlier fenced.old
+        → TellFences (a.now ∷ earlier) fenced.new }
 {
     if a.prop == PropRef::Known(IN_FENCE_FD) && matches!(a.value, Value::Named(_)) {
         fenced[a.index as usize] = true;
@@ -138,19 +139,20 @@ fn note_fence(fenced: &mut [bool; 16], a: &Assign)
 }
 
 /// The first that is wrong with assignments, from 4 to 8.
-#[tactic(auto, unfolding(kms_model::specs::Request::Refusals::assigns_refusal))]
-fn first_refusal<L: Looker>(topology: &Topology, found: &L, assigns: &[Assign]) -> Option<u32>
+#[tactic(auto, unfolding(kms_model::specs::Request::Refusals::assigns_refusal, kms_model::specs::Request::Refusals::assign_refusal))]
+fn first_refusal<L: Looker>(topology: &Topology, found: &L, assigns: &[Assign]) -> Option<Refusal>
     requires { IsTrue (keeps_limits topology.now) }
-    ensures { result ≡ assigns_refusal topology.now (L.meaning found.now) [] assigns.now }
+    ensures { refusal_number result
+        ≡ assigns_refusal topology.now (L.meaning found.now) [] assigns.now }
 {
     // For each plane, whether an assignment named a fence for it.
     let mut fenced = [false; 16];
     for a in assigns {
-        if let Some(number) = own_refusal(topology, found, a) {
-            return Some(number);
+        if let Some(refusal) = own_refusal(topology, found, a) {
+            return Some(refusal);
         }
         if is_second_fence(&fenced, a) {
-            return Some(8);
+            return Some(Refusal::SECOND_IN_FENCE);
         }
         note_fence(&mut fenced, a);
     }
@@ -164,15 +166,14 @@ fn first_refusal<L: Looker>(topology: &Topology, found: &L, assigns: &[Assign]) 
 #[tactic(auto, unfolding(kms_model::specs::Request::Refusals::early_refusal))]
 pub fn early<L: Looker>(topology: &Topology, request: &Request, found: &L) -> Option<Refusal>
     requires { IsTrue (keeps_limits topology.now) }
-    ensures first { refusal_number result ≡ early_refusal topology.now (L.meaning found.now) request.now }
-    ensures allowed { IsNone result → All (IsAllowed topology.now (L.meaning found.now)) request.now.assigns }
+    ensures first { refusal_number result
+        ≡ early_refusal topology.now (L.meaning found.now) request.now }
+    ensures allowed { IsNone result
+        → All (IsAllowed topology.now (L.meaning found.now)) request.now.assigns }
     ensures settable { IsNone result → All IsSettable request.now.assigns }
 {
-    if let Some(number) = flags_refusal(request.flags) {
-        return Some(Refusal(number));
+    if let Some(refusal) = flags_refusal(request.flags) {
+        return Some(refusal);
     }
-    match first_refusal(topology, found, request.assigns.as_slice()) {
-        Some(number) => Some(Refusal(number)),
-        None => None,
-    }
+    first_refusal(topology, found, request.assigns.as_slice())
 }

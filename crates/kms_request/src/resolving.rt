@@ -29,8 +29,10 @@ pub fn resolve(
 
     // The same of every other way to look labels up, as in a world, that tells of the labels of the request what `found`
     // tells.
-    ensures resolved_by { (f : ℕ → Look) → TellsLabels (look_in found.now) f request.now.assigns → IfOk result (IsResolved topology.now f request.now) }
-    ensures refused_by { (f : ℕ → Look) → TellsLabels (look_in found.now) f request.now.assigns → IfErr result (ComesFrom (early_refusal topology.now f request.now)) }
+    ensures resolved_by { (f : ℕ → Look) → TellsLabels (look_in found.now) f request.now.assigns
+        → IfOk result (IsResolved topology.now f request.now) }
+    ensures refused_by { (f : ℕ → Look) → TellsLabels (look_in found.now) f request.now.assigns
+        → IfErr result (ComesFrom (early_refusal topology.now f request.now)) }
 {
     if let Some(refusal) = early(topology, request, found) {
         return Err(RequestError::Of(refusal));

@@ -3,7 +3,6 @@
 ghost use Rattle.std.specs.Prelude.{◌≡◌, ◌<◌, ◌||◌, ℕ, All, IfOk, IsTrue};
 ghost use Rattle.kms_model.specs.declared.objects.Topology.{Topology};
 ghost use Rattle.kms_model.specs.Request.Apply.{is_kept, object_of, prop_of};
-ghost use Rattle.kms_model.specs.Device.Objects.{object_id};
 ghost use Rattle.kms_model.specs.Request.Resolves.{IsAllowed, IsSettable, IsSettableValue};
 ghost use Rattle.kms_model.specs.Request.SetRanges.{may_set};
 ghost use Rattle.kms_model.specs.Request.Sets.{crtc_value, fb_value, fence_of_look, last_sets, mode_value, number_value, set_of, set_value};
@@ -16,26 +15,12 @@ use kms_model::{
 };
 use std::alloc::Global;
 
-/// The id of the object of a kind with an index.
-pub fn object_id(kind: Kind, index: u32) -> u32
-    requires { index < 16 }
-    ensures { result ≡ object_id kind index }
-{
-    let first = match kind {
-        Kind::Crtc => 100,
-        Kind::Plane => 200,
-        Kind::Conn => 300,
-        Kind::Enc => 400,
-    };
-    first + index
-}
-
 /// The id of the object that an assignment sets.
 pub fn object_of(a: &Assign) -> u32
     requires { IsSettable a.now }
     ensures { result ≡ object_of a.now }
 {
-    object_id(a.kind, a.index)
+    ObjId::of(a.kind, a.index).0
 }
 
 /// The id of the property that an assignment sets, or 0 for a name that no property has.
@@ -80,7 +65,7 @@ fn crtc_value(given: Value) -> u32
     ensures { result ≡ crtc_value given }
 {
     match given {
-        Value::Crtc(index) => object_id(Kind::Crtc, index),
+        Value::Crtc(index) => ObjId::of(Kind::Crtc, index).0,
         _ => 0,
     }
 }
@@ -120,7 +105,8 @@ pub fn set_of<L: Looker>(found: &L, a: &Assign) -> Set
     ensures set { result ≡ set_of (L.meaning found.now) a.now }
 
     // What that means where the assignment is not refused.
-    ensures among { (t : Topology) → IsAllowed t (L.meaning found.now) a.now → IsTrue (may_set a.now.kind result.prop result.value) }
+    ensures among { (t : Topology) → IsAllowed t (L.meaning found.now) a.now
+        → IsTrue (may_set a.now.kind result.prop result.value) }
 {
     let prop = prop_of(a.prop);
     Set {

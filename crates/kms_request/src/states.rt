@@ -3,17 +3,16 @@
 ghost use Rattle.std.specs.Prelude.{◌≡◌, ◌*◌, ◌+ℤ◌, ◌==◌, int_lt, pos, negsuc, Some};
 ghost use Rattle.kms_model.specs.Request.Checks.{conn_refusal, crtc_refusal, has_crtc, switches_crtc, is_beyond, is_unscaled, is_whole, placed_refusal, plane_refusal, shown_refusal};
 ghost use Rattle.kms_model.specs.Script.Grammar.{format_bit};
-ghost use Rattle.kms_model.specs.Device.Masks.{has_bit};
 ghost use Rattle.kms_model.specs.Device.Modes.{same_mode};
 ghost use Rattle.kms_model.specs.Device.States.{natural};
 ghost use Rattle.kms_model.specs.Device.Sound.{IsBetween, IsPlaneInRange};
 ghost use Rattle.kms_model.specs.Request.Late.{needs_modeset_between};
+ghost use Rattle.kms_request.specs.Answers.{refusal_number};
 
 use kms_geom::fits_source;
-use kms_model::{Both, CrtcState, FbInfo, Format, Mode, PlaneInfo, PlaneState, Rect};
-
-/// The id of the first CRTC.
-pub(crate) const FIRST_CRTC: u32 = 100;
+use kms_model::{
+    Both, CrtcState, FbInfo, Format, Kind, Mode, PlaneInfo, PlaneState, Rect, Refusal, has_bit,
+};
 
 /// The greatest edge of a destination, in pixels.
 const GREATEST_EDGE: i64 = 2147483647;
@@ -21,22 +20,15 @@ const GREATEST_EDGE: i64 = 2147483647;
 /// One pixel in 16.16 fixed point.
 const PIXEL: i64 = 65536;
 
-/// Whether a set has the object with an index: bit i stands for index i. No set has an index of 32 or more.
-pub fn has_bit(mask: u32, index: usize) -> bool
-    ensures { result ≡ has_bit mask index }
-{
-    index < 32 && mask & (1 << index) != 0
-}
-
 /// Whether a set of CRTCs has the CRTC with an id.
 fn has_crtc(mask: u32, crtc: u32) -> bool
     ensures { result ≡ has_crtc mask crtc }
 {
-    has_bit(mask, crtc.saturating_sub(FIRST_CRTC) as usize)
+    has_bit(mask, crtc.saturating_sub(Kind::Crtc.first_id()))
 }
 
 /// The bit of a format in a plane's formats.
-fn format_bit(format: Format) -> usize
+fn format_bit(format: Format) -> u32
     ensures { result ≡ format_bit format }
 {
     match format {
@@ -74,24 +66,29 @@ fn switches_crtc(old: u32, new: u32) -> bool
 }
 
 /// What is wrong with a plane that has a framebuffer and a CRTC, from 11 to 15.
-fn placed_refusal(info: &PlaneInfo, fb: FbInfo, old: &PlaneState, new: &PlaneState) -> Option<u32>
+fn placed_refusal(
+    info: &PlaneInfo,
+    fb: FbInfo,
+    old: &PlaneState,
+    new: &PlaneState,
+) -> Option<Refusal>
     requires { IsPlaneInRange new.now }
-    ensures { result ≡ placed_refusal info.now fb old.now new.now }
+    ensures { refusal_number result ≡ placed_refusal info.now fb old.now new.now }
 {
     if !has_crtc(info.crtcs, new.crtc) {
-        return Some(11);
+        return Some(Refusal::CRTC_NOT_POSSIBLE);
     }
     if !has_bit(info.formats, format_bit(fb.format)) {
-        return Some(12);
+        return Some(Refusal::FORMAT_NOT_SUPPORTED);
     }
     if is_beyond(new.dst) {
-        return Some(13);
+        return Some(Refusal::DESTINATION_TOO_FAR);
     }
     if !fits_source(new.src, fb.width, fb.height) {
-        return Some(14);
+        return Some(Refusal::SOURCE_OUTSIDE_FRAMEBUFFER);
     }
     if switches_crtc(old.crtc, new.crtc) {
-        return Some(15);
+        return Some(Refusal::SWITCHES_CRTC);
     }
     None
 }
@@ -101,37 +98,42 @@ fn placed_refusal(info: &PlaneInfo, fb: FbInfo, old: &PlaneState, new: &PlaneSta
 /// destination ends beyond 2147483647; 14, the source ends outside the framebuffer; 15, it goes from one CRTC straight
 /// to another. The numbers of the new state are in the ranges of their properties.
 #[tactic(auto, unfolding(kms_model::specs::Request::Checks::plane_refusal))]
-pub(crate) fn plane_refusal(info: &PlaneInfo, old: &PlaneState, new: &PlaneState) -> Option<u32>
+pub(crate) fn plane_refusal(info: &PlaneInfo, old: &PlaneState, new: &PlaneState) -> Option<Refusal>
     requires { IsPlaneInRange new.now }
-    ensures { result ≡ plane_refusal info.now old.now new.now }
+    ensures { refusal_number result ≡ plane_refusal info.now old.now new.now }
 {
     match (new.fb, new.crtc == 0) {
         (None, true) => None,
         (Some(fb), false) => placed_refusal(info, fb, old, new),
-        _ => Some(10),
+        _ => Some(Refusal::FRAMEBUFFER_XOR_CRTC),
     }
 }
 
 /// What is wrong with a CRTC: 16, it is on without a mode; 17, an event or an out-fence is asked for it, and it was off
 /// and stays off.
-pub(crate) fn crtc_refusal(asks: bool, was_on: bool, is_on: bool, mode: Option<Mode>) -> Option<u32>
-    ensures { result ≡ crtc_refusal asks was_on is_on mode }
+pub(crate) fn crtc_refusal(
+    asks: bool,
+    was_on: bool,
+    is_on: bool,
+    mode: Option<Mode>,
+) -> Option<Refusal>
+    ensures { refusal_number result ≡ crtc_refusal asks was_on is_on mode }
 {
     if is_on && mode.is_none() {
-        return Some(16);
+        return Some(Refusal::ACTIVE_WITHOUT_MODE);
     }
     if asks && !was_on && !is_on {
-        return Some(17);
+        return Some(Refusal::SIGNAL_WHILE_OFF);
     }
     None
 }
 
 /// What is wrong with a connector of possible CRTCs: 18, its CRTC is not among them.
-pub(crate) fn conn_refusal(possible: u32, crtc: u32) -> Option<u32>
-    ensures { result ≡ conn_refusal possible crtc }
+pub(crate) fn conn_refusal(possible: u32, crtc: u32) -> Option<Refusal>
+    ensures { refusal_number result ≡ conn_refusal possible crtc }
 {
     if crtc != 0 && !has_crtc(possible, crtc) {
-        return Some(18);
+        return Some(Refusal::CONNECTOR_NOT_POSSIBLE);
     }
     None
 }
@@ -167,21 +169,21 @@ fn is_whole(place: i64) -> bool
 /// What is wrong with a plane on a CRTC of a mode: 21, the CRTC is not enabled; 22, the sizes of source and destination
 /// differ; 23, the source begins between pixels. The numbers of the state are in the ranges of their properties.
 #[tactic(auto, unfolding(kms_model::specs::Request::Checks::shown_refusal))]
-pub(crate) fn shown_refusal(mode: Option<Mode>, state: &PlaneState) -> Option<u32>
+pub(crate) fn shown_refusal(mode: Option<Mode>, state: &PlaneState) -> Option<Refusal>
     requires { IsPlaneInRange state.now }
-    ensures { result ≡ shown_refusal mode state.now }
+    ensures { refusal_number result ≡ shown_refusal mode state.now }
 {
     if state.crtc == 0 {
         return None;
     }
     if mode.is_none() {
-        return Some(21);
+        return Some(Refusal::CRTC_NOT_ENABLED);
     }
     if !is_unscaled(state.src, state.dst) {
-        return Some(22);
+        return Some(Refusal::SCALED);
     }
     if !(is_whole(state.src.x) && is_whole(state.src.y)) {
-        return Some(23);
+        return Some(Refusal::FRACTIONAL_SOURCE);
     }
     None
 }

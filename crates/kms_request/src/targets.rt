@@ -7,7 +7,7 @@ ghost use Rattle.kms_model.specs.Request.Sets.{has_target_of};
 ghost use Rattle.kms_request.specs.Targets.{place_of, target_of, TellTargets};
 
 use crate::sets::prop_of;
-use kms_model::{Assign, Kind};
+use kms_model::{Assign, Kind, MAX_CRTCS, MAX_PLANES};
 
 /// Room for 4 CRTCs, 16 planes and 8 connectors, each with the ids of properties up to 18.
 const ROOM: usize = 532;
@@ -31,8 +31,8 @@ fn place_of(kind: Kind, index: u32) -> usize
     let index = index as usize;
     match kind {
         Kind::Crtc => index,
-        Kind::Plane => 4 + index,
-        Kind::Conn => 20 + index,
+        Kind::Plane => MAX_CRTCS as usize + index,
+        Kind::Conn => (MAX_CRTCS + MAX_PLANES) as usize + index,
         Kind::Enc => unreachable!(),
     }
 }
@@ -49,8 +49,10 @@ fn target_of(a: &Assign) -> usize
 /// Marks what an assignment sets, and tells whether it was not marked before.
 pub fn mark(marks: &mut Marks, a: &Assign) -> bool
     requires { IsSettable a.now }
-    ensures new { (others : List Assign) → TellTargets others marks.old → result ≡ not (list_any (has_target_of a.now) others) }
-    ensures marked { (others : List Assign) → TellTargets others marks.old → TellTargets (a.now ∷ others) marks.new }
+    ensures new { (others : List Assign) → TellTargets others marks.old
+        → result ≡ not (list_any (has_target_of a.now) others) }
+    ensures marked { (others : List Assign) → TellTargets others marks.old
+        → TellTargets (a.now ∷ others) marks.new }
 {
     let target = target_of(a);
     let was_marked = marks[target];

@@ -1,6 +1,5 @@
 //! What no clause says: requests worked out by hand.
-ghost use Rattle.std.specs.Prelude.{IfOk, IsTrue};
-ghost use Rattle.kms_model.specs.Device.Properties.{keeps_limits};
+ghost use Rattle.kms_model.specs.Device.Sound.{IsDevice};
 
 use crate::{RequestError, early, named, resolve};
 use kms_model::properties::{
@@ -8,10 +7,11 @@ use kms_model::properties::{
     OUT_FENCE_PTR, SRC_H, SRC_W, SRC_X, SRC_Y, TYPE, ZPOS,
 };
 use kms_model::{
-    Assign, Both, ConnState, Duplicates, FbInfo, Format, Kind, Look, Lookups, Mode, NoMemory,
-    ObjId, PlaneInfo, PlaneState, PropRef, Rect, Refusal, Request, Resolved, Seq, SetValue,
-    Topology, Value,
+    Assign, Both, ConnState, Duplicates, FIRST_CRTC_ID, FIRST_PLANE_ID, FbInfo, Format, Kind, Look,
+    Lookups, Mode, NoMemory, ObjId, PlaneState, PropRef, Rect, Refusal, Request, Resolved, Seq,
+    SetValue, Topology, Value,
 };
+use kms_samples::{on_crtc, on_plane, request, set, single, split, tiny};
 use std::alloc::Global;
 use std::process::Abort;
 use std::test::Fail;
@@ -38,28 +38,10 @@ const INFO: FbInfo = FbInfo {
     format: Format::Xr24,
 };
 
-const TINY: Mode = Mode {
-    clock: 1,
-    hdisplay: 1,
-    hsync_start: 1,
-    hsync_end: 1,
-    htotal: 1,
-    hskew: 0,
-    vdisplay: 1,
-    vsync_start: 1,
-    vsync_end: 1,
-    vtotal: 1,
-    vscan: 0,
-    vrefresh: 60,
-    flags: 0,
-    kind: 0,
-    name: [0; 32],
-};
-
 fn looks(alloc: Global) -> Result<Lookups, NoMemory> {
     let entries = [
         (FB, Look::Fb(INFO)),
-        (MODE, Look::Mode(TINY, 1002)),
+        (MODE, Look::Mode(tiny(), 1002)),
         (BLOB, Look::Blob(1003)),
         (FENCE, Look::Fence(1004)),
         (BUFFER, Look::Buffer(1005)),
@@ -68,79 +50,15 @@ fn looks(alloc: Global) -> Result<Lookups, NoMemory> {
     Ok(Seq::from_vec(entries.to_vec(alloc)?))
 }
 
-/// A device of two CRTCs, two planes and one connector.
-fn device(alloc: Global) -> Result<Topology, NoMemory>
-    ensures { IfOk result (λ t. IsTrue (keeps_limits t)) }
-{
-    let info = PlaneInfo {
-        kind: 1,
-        crtcs: 3,
-        formats: 7,
-    };
-    let mut planes = Seq::new(alloc);
-    planes.push(info)?;
-    planes.push(info)?;
-    let mut conns = Seq::new(alloc);
-    conns.push(3)?;
-    Ok(Topology {
-        crtcs: 2,
-        planes,
-        conns,
-    })
-}
-
-/// The smallest device: one CRTC, one plane and one connector.
-fn small_device(alloc: Global) -> Result<Topology, NoMemory>
-    ensures { IfOk result (λ t. IsTrue (keeps_limits t)) }
-{
-    let mut planes = Seq::new(alloc);
-    planes.push(PlaneInfo {
-        kind: 1,
-        crtcs: 1,
-        formats: 1,
-    })?;
-    let mut conns = Seq::new(alloc);
-    conns.push(1)?;
-    Ok(Topology {
-        crtcs: 1,
-        planes,
-        conns,
-    })
-}
-
-fn request(alloc: Global, flags: u32, assigns: &[Assign]) -> Result<Request, NoMemory> {
-    Ok(Request {
-        flags,
-        user_data: 7,
-        assigns: Seq::from_vec(assigns.to_vec(alloc)?),
-    })
-}
-
-fn set(kind: Kind, index: u32, prop: u32, value: Value) -> Assign {
-    Assign {
-        kind,
-        index,
-        prop: PropRef::Known(prop),
-        value,
-    }
-}
-
-fn on_plane(prop: u32, value: Value) -> Assign {
-    set(Kind::Plane, 0, prop, value)
-}
-
-fn on_crtc(prop: u32, value: Value) -> Assign {
-    set(Kind::Crtc, 0, prop, value)
-}
-
 /// The refusal that a request meets where it is resolved.
+#[tactic(auto, using(crate::proofs::WholeLemmas::limits_of))]
 fn refused(
     alloc: Global,
     topology: &Topology,
     request: &Request,
     found: &Lookups,
 ) -> Result<Option<Refusal>, NoMemory>
-    requires { IsTrue (keeps_limits topology.now) }
+    requires { IsDevice topology.now }
 {
     match resolve(alloc, topology, request, found) {
         Ok(_) => Ok(None),
@@ -150,19 +68,19 @@ fn refused(
 }
 
 /// Asserts which refusal flags and assignments meet on a device.
+#[tactic(auto, using(crate::proofs::WholeLemmas::limits_of))]
 fn assert_early_on<R: Abort>(
     rt: &R,
     alloc: Global,
     topology: &Topology,
     flags: u32,
     assigns: &[Assign],
-    want: Option<u32>,
+    want: Option<Refusal>,
 ) -> Result<(), NoMemory>
-    requires { IsTrue (keeps_limits topology.now) }
+    requires { IsDevice topology.now }
 {
-    let request = request(alloc, flags, assigns)?;
+    let request = request(alloc, flags, assigns, &[])?;
     let found = looks(alloc)?;
-    let want = want.map(Refusal);
     assert_eq!(rt; early(topology, &request, &found), want);
     assert_eq!(rt; refused(alloc, topology, &request, &found)?, want);
     Ok(())
@@ -174,28 +92,42 @@ fn assert_early<R: Abort>(
     alloc: Global,
     flags: u32,
     assigns: &[Assign],
-    want: Option<u32>,
+    want: Option<Refusal>,
 ) -> Result<(), NoMemory> {
-    let topology = device(alloc)?;
+    let topology = split(alloc)?;
     assert_early_on(rt, alloc, &topology, flags, assigns, want)
 }
 
 #[test]
 fn small_requests_are_refused_on_the_smallest_device(rt: HostRuntime) -> Result<(), NoMemory> {
     let a = rt.alloc();
-    let small = small_device(a)?;
-    for (flags, want) in [(0x1, None), (0x101, Some(3))] {
+    let small = single(a)?;
+    for (flags, want) in [(0x1, None), (0x101, Some(Refusal::TEST_WITH_EVENT))] {
         let off = [on_crtc(ACTIVE, Value::Num(0))];
         assert_early_on(&rt, a, &small, flags, &off, want)?;
     }
-    for (flags, want) in [(0x2, Some(2)), (0x4, Some(1)), (0x1, None), (0, None)] {
+    for (flags, want) in [
+        (0x2, Some(Refusal::ASYNC_FLIP)),
+        (0x4, Some(Refusal::UNKNOWN_FLAG)),
+        (0x1, None),
+        (0, None),
+    ] {
         assert_early_on(&rt, a, &small, flags, &[], want)?;
     }
     for (assign, want) in [
-        (set(Kind::Crtc, 1, ACTIVE, Value::Num(0)), Some(4)),
-        (on_crtc(ALPHA, Value::Num(1)), Some(5)),
-        (on_plane(TYPE, Value::Num(1)), Some(6)),
-        (on_plane(ALPHA, Value::Num(65536)), Some(7)),
+        (
+            set(Kind::Crtc, 1, ACTIVE, Value::Num(0)),
+            Some(Refusal::NO_OBJECT),
+        ),
+        (on_crtc(ALPHA, Value::Num(1)), Some(Refusal::NO_PROPERTY)),
+        (
+            on_plane(TYPE, Value::Num(1)),
+            Some(Refusal::IMMUTABLE_PROPERTY),
+        ),
+        (
+            on_plane(ALPHA, Value::Num(65536)),
+            Some(Refusal::INVALID_VALUE),
+        ),
     ] {
         assert_early_on(&rt, a, &small, 0, &[assign], want)?;
     }
@@ -203,13 +135,19 @@ fn small_requests_are_refused_on_the_smallest_device(rt: HostRuntime) -> Result<
 }
 
 /// An assignment for each of 4 to 8; 8 is due where a fence was named before.
-fn wrong_assignments() -> [(Assign, u32); 5] {
+fn wrong_assignments() -> [(Assign, Refusal); 5] {
     [
-        (set(Kind::Plane, 2, ALPHA, Value::Num(0)), 4),
-        (on_crtc(ALPHA, Value::Num(1)), 5),
-        (on_plane(TYPE, Value::Num(1)), 6),
-        (on_plane(ALPHA, Value::Num(65536)), 7),
-        (on_plane(IN_FENCE_FD, Value::Named(FENCE)), 8),
+        (
+            set(Kind::Plane, 2, ALPHA, Value::Num(0)),
+            Refusal::NO_OBJECT,
+        ),
+        (on_crtc(ALPHA, Value::Num(1)), Refusal::NO_PROPERTY),
+        (on_plane(TYPE, Value::Num(1)), Refusal::IMMUTABLE_PROPERTY),
+        (on_plane(ALPHA, Value::Num(65536)), Refusal::INVALID_VALUE),
+        (
+            on_plane(IN_FENCE_FD, Value::Named(FENCE)),
+            Refusal::SECOND_IN_FENCE,
+        ),
     ]
 }
 
@@ -217,7 +155,11 @@ fn wrong_assignments() -> [(Assign, u32); 5] {
 fn wrong_flags_are_told_before_wrong_assignments(rt: HostRuntime) -> Result<(), NoMemory> {
     let a = rt.alloc();
     let fence = on_plane(IN_FENCE_FD, Value::Named(FENCE));
-    for (flags, want) in [(0x4, 1), (0x2, 2), (0x101, 3)] {
+    for (flags, want) in [
+        (0x4, Refusal::UNKNOWN_FLAG),
+        (0x2, Refusal::ASYNC_FLIP),
+        (0x101, Refusal::TEST_WITH_EVENT),
+    ] {
         for (wrong, _) in wrong_assignments() {
             assert_early(&rt, a, flags, &[fence, wrong], Some(want))?;
         }
@@ -241,13 +183,22 @@ fn the_first_of_two_wrong_assignments_is_told(rt: HostRuntime) -> Result<(), NoM
 fn an_assignment_that_is_wrong_twice_has_the_lower_number(rt: HostRuntime) -> Result<(), NoMemory> {
     let a = rt.alloc();
     for (assign, want) in [
-        (set(Kind::Crtc, 2, ALPHA, Value::Num(1)), 4),
-        (set(Kind::Plane, 2, TYPE, Value::Num(1)), 4),
-        (set(Kind::Plane, 2, ALPHA, Value::Num(65536)), 4),
-        (set(Kind::Conn, 0, TYPE, Value::Num(1)), 5),
-        (on_crtc(ALPHA, Value::Num(65536)), 5),
-        (on_plane(TYPE, Value::Num(3)), 6),
-        (on_plane(IN_FENCE_FD, Value::Named(CLOSED)), 7),
+        (set(Kind::Crtc, 2, ALPHA, Value::Num(1)), Refusal::NO_OBJECT),
+        (set(Kind::Plane, 2, TYPE, Value::Num(1)), Refusal::NO_OBJECT),
+        (
+            set(Kind::Plane, 2, ALPHA, Value::Num(65536)),
+            Refusal::NO_OBJECT,
+        ),
+        (
+            set(Kind::Conn, 0, TYPE, Value::Num(1)),
+            Refusal::NO_PROPERTY,
+        ),
+        (on_crtc(ALPHA, Value::Num(65536)), Refusal::NO_PROPERTY),
+        (on_plane(TYPE, Value::Num(3)), Refusal::IMMUTABLE_PROPERTY),
+        (
+            on_plane(IN_FENCE_FD, Value::Named(CLOSED)),
+            Refusal::INVALID_VALUE,
+        ),
     ] {
         let fence = on_plane(IN_FENCE_FD, Value::Named(FENCE));
         assert_early(&rt, a, 0, &[fence, assign], Some(want))?;
@@ -260,18 +211,18 @@ fn flags_are_refused_in_order(rt: HostRuntime) -> Result<(), NoMemory> {
     let a = rt.alloc();
     for (flags, want) in [
         (0, None),
-        (0x701, Some(3)),
+        (0x701, Some(Refusal::TEST_WITH_EVENT)),
         (0x601, None),
-        (0x4, Some(1)),
-        (0x800, Some(1)),
-        (0x8000_0000, Some(1)),
-        (0x2, Some(2)),
-        (0x101, Some(3)),
+        (0x4, Some(Refusal::UNKNOWN_FLAG)),
+        (0x800, Some(Refusal::UNKNOWN_FLAG)),
+        (0x8000_0000, Some(Refusal::UNKNOWN_FLAG)),
+        (0x2, Some(Refusal::ASYNC_FLIP)),
+        (0x101, Some(Refusal::TEST_WITH_EVENT)),
         (0x100, None),
         (0x1, None),
-        (0x806, Some(1)),
-        (0x103, Some(2)),
-        (0x105, Some(1)),
+        (0x806, Some(Refusal::UNKNOWN_FLAG)),
+        (0x103, Some(Refusal::ASYNC_FLIP)),
+        (0x105, Some(Refusal::UNKNOWN_FLAG)),
     ] {
         assert_early(&rt, a, flags, &[], want)?;
     }
@@ -280,7 +231,7 @@ fn flags_are_refused_in_order(rt: HostRuntime) -> Result<(), NoMemory> {
         a,
         0x101,
         &[set(Kind::Crtc, 9, ACTIVE, Value::Num(5))],
-        Some(3),
+        Some(Refusal::TEST_WITH_EVENT),
     )
 }
 
@@ -295,23 +246,73 @@ fn an_assignment_is_refused_by_the_first_that_is_wrong(rt: HostRuntime) -> Resul
     };
     for (assign, want) in [
         (set(Kind::Crtc, 1, ACTIVE, Value::Num(1)), None),
-        (set(Kind::Crtc, 2, ACTIVE, Value::Num(1)), Some(4)),
-        (set(Kind::Plane, 2, ZPOS, Value::Num(1)), Some(4)),
-        (set(Kind::Conn, 1, CRTC_ID, Value::Num(0)), Some(4)),
-        (set(Kind::Enc, 1, CRTC_ID, Value::Num(0)), Some(4)),
-        (set(Kind::Enc, 0, CRTC_ID, Value::Num(0)), Some(5)),
-        (set(Kind::Crtc, 255, ZPOS, Value::Num(999)), Some(4)),
-        (set(Kind::Crtc, 0, CRTC_ID, Value::Num(0)), Some(5)),
-        (set(Kind::Conn, 0, ACTIVE, Value::Num(0)), Some(5)),
-        (set(Kind::Plane, 0, ACTIVE, Value::Num(9)), Some(5)),
-        (set(Kind::Plane, 0, 19, Value::Num(0)), Some(5)),
-        (unknown, Some(5)),
-        (on_plane(TYPE, Value::Num(1)), Some(6)),
-        (on_plane(TYPE, Value::Num(99)), Some(6)),
-        (set(Kind::Conn, 0, TYPE, Value::Num(1)), Some(5)),
+        (
+            set(Kind::Crtc, 2, ACTIVE, Value::Num(1)),
+            Some(Refusal::NO_OBJECT),
+        ),
+        (
+            set(Kind::Plane, 2, ZPOS, Value::Num(1)),
+            Some(Refusal::NO_OBJECT),
+        ),
+        (
+            set(Kind::Conn, 1, CRTC_ID, Value::Num(0)),
+            Some(Refusal::NO_OBJECT),
+        ),
+        (
+            set(Kind::Enc, 1, CRTC_ID, Value::Num(0)),
+            Some(Refusal::NO_OBJECT),
+        ),
+        (
+            set(Kind::Enc, 0, CRTC_ID, Value::Num(0)),
+            Some(Refusal::NO_PROPERTY),
+        ),
+        (
+            set(Kind::Crtc, 255, ZPOS, Value::Num(999)),
+            Some(Refusal::NO_OBJECT),
+        ),
+        (
+            set(Kind::Crtc, 0, CRTC_ID, Value::Num(0)),
+            Some(Refusal::NO_PROPERTY),
+        ),
+        (
+            set(Kind::Conn, 0, ACTIVE, Value::Num(0)),
+            Some(Refusal::NO_PROPERTY),
+        ),
+        (
+            set(Kind::Plane, 0, ACTIVE, Value::Num(9)),
+            Some(Refusal::NO_PROPERTY),
+        ),
+        (
+            set(Kind::Plane, 0, 19, Value::Num(0)),
+            Some(Refusal::NO_PROPERTY),
+        ),
+        (unknown, Some(Refusal::NO_PROPERTY)),
+        (
+            on_plane(TYPE, Value::Num(1)),
+            Some(Refusal::IMMUTABLE_PROPERTY),
+        ),
+        (
+            on_plane(TYPE, Value::Num(99)),
+            Some(Refusal::IMMUTABLE_PROPERTY),
+        ),
+        (
+            set(Kind::Conn, 0, TYPE, Value::Num(1)),
+            Some(Refusal::NO_PROPERTY),
+        ),
         (set(Kind::Conn, 0, CRTC_ID, Value::Crtc(1)), None),
-        (set(Kind::Conn, 0, CRTC_ID, Value::Crtc(2)), Some(7)),
-        (set(Kind::Conn, 0, CRTC_ID, Value::Num(100)), Some(7)),
+        (
+            set(Kind::Conn, 0, CRTC_ID, Value::Crtc(2)),
+            Some(Refusal::INVALID_VALUE),
+        ),
+        (
+            set(
+                Kind::Conn,
+                0,
+                CRTC_ID,
+                Value::Num(i128::from(FIRST_CRTC_ID)),
+            ),
+            Some(Refusal::INVALID_VALUE),
+        ),
     ] {
         assert_early(&rt, a, 0, &[assign], want)?;
     }
@@ -319,7 +320,7 @@ fn an_assignment_is_refused_by_the_first_that_is_wrong(rt: HostRuntime) -> Resul
         on_plane(ZPOS, Value::Num(256)),
         set(Kind::Crtc, 9, ACTIVE, Value::Num(1)),
     ];
-    assert_early(&rt, a, 0, &late, Some(7))
+    assert_early(&rt, a, 0, &late, Some(Refusal::INVALID_VALUE))
 }
 
 #[test]
@@ -363,16 +364,28 @@ fn numbers_are_not_cut_to_fewer_bits(rt: HostRuntime) -> Result<(), NoMemory> {
         for prop in [
             FB_ID, CRTC_ID, CRTC_X, CRTC_W, SRC_X, SRC_W, ALPHA, BLEND, ZPOS,
         ] {
-            assert_early(&rt, a, 0, &[on_plane(prop, value)], Some(7))?;
+            assert_early(
+                &rt,
+                a,
+                0,
+                &[on_plane(prop, value)],
+                Some(Refusal::INVALID_VALUE),
+            )?;
         }
         for prop in [ACTIVE, MODE_ID, OUT_FENCE_PTR] {
-            assert_early(&rt, a, 0, &[on_crtc(prop, value)], Some(7))?;
+            assert_early(
+                &rt,
+                a,
+                0,
+                &[on_crtc(prop, value)],
+                Some(Refusal::INVALID_VALUE),
+            )?;
         }
     }
     // -1 in its lower 64 bits, and in its lower 32.
     for number in [18446744073709551615, 4294967295] {
         let fence = on_plane(IN_FENCE_FD, Value::Num(number));
-        assert_early(&rt, a, 0, &[fence], Some(7))?;
+        assert_early(&rt, a, 0, &[fence], Some(Refusal::INVALID_VALUE))?;
     }
     Ok(())
 }
@@ -381,7 +394,13 @@ fn numbers_are_not_cut_to_fewer_bits(rt: HostRuntime) -> Result<(), NoMemory> {
 fn the_type_takes_no_number_at_all(rt: HostRuntime) -> Result<(), NoMemory> {
     let a = rt.alloc();
     for number in [-1, 0, 1, 2, 3] {
-        assert_early(&rt, a, 0, &[on_plane(TYPE, Value::Num(number))], Some(6))?;
+        assert_early(
+            &rt,
+            a,
+            0,
+            &[on_plane(TYPE, Value::Num(number))],
+            Some(Refusal::IMMUTABLE_PROPERTY),
+        )?;
     }
     Ok(())
 }
@@ -389,7 +408,12 @@ fn the_type_takes_no_number_at_all(rt: HostRuntime) -> Result<(), NoMemory> {
 #[test]
 fn crtcs_are_taken_up_to_the_last_of_the_device(rt: HostRuntime) -> Result<(), NoMemory> {
     let a = rt.alloc();
-    for (crtc, want) in [(0, None), (1, None), (2, Some(7)), (u32::MAX, Some(7))] {
+    for (crtc, want) in [
+        (0, None),
+        (1, None),
+        (2, Some(Refusal::INVALID_VALUE)),
+        (u32::MAX, Some(Refusal::INVALID_VALUE)),
+    ] {
         let value = Value::Crtc(crtc);
         assert_early(&rt, a, 0, &[on_plane(CRTC_ID, value)], want)?;
         assert_early(&rt, a, 0, &[set(Kind::Conn, 0, CRTC_ID, value)], want)?;
@@ -408,10 +432,10 @@ fn assert_numbers<R: Abort>(
 ) -> Result<(), NoMemory> {
     let (low, high) = (i128::from(low), i128::from(high));
     for (number, want) in [
-        (low - 1, Some(7)),
+        (low - 1, Some(Refusal::INVALID_VALUE)),
         (low, None),
         (high, None),
-        (high + 1, Some(7)),
+        (high + 1, Some(Refusal::INVALID_VALUE)),
     ] {
         assert_early(
             rt,
@@ -429,24 +453,96 @@ fn labels_name_what_their_property_takes(rt: HostRuntime) -> Result<(), NoMemory
     let a = rt.alloc();
     for label in [FB, MODE, BLOB, FENCE, BUFFER, CLOSED, MISSING] {
         let named = Value::Named(label);
-        let fb = if label == FB { None } else { Some(7) };
-        let mode = if label == MODE { None } else { Some(7) };
-        let fence = if label == FENCE { None } else { Some(7) };
+        let fb = if label == FB {
+            None
+        } else {
+            Some(Refusal::INVALID_VALUE)
+        };
+        let mode = if label == MODE {
+            None
+        } else {
+            Some(Refusal::INVALID_VALUE)
+        };
+        let fence = if label == FENCE {
+            None
+        } else {
+            Some(Refusal::INVALID_VALUE)
+        };
         assert_early(&rt, a, 0, &[on_plane(FB_ID, named)], fb)?;
         assert_early(&rt, a, 0, &[on_crtc(MODE_ID, named)], mode)?;
         assert_early(&rt, a, 0, &[on_plane(IN_FENCE_FD, named)], fence)?;
-        assert_early(&rt, a, 0, &[on_crtc(OUT_FENCE_PTR, named)], Some(7))?;
-        assert_early(&rt, a, 0, &[on_plane(ZPOS, named)], Some(7))?;
-        assert_early(&rt, a, 0, &[on_plane(CRTC_ID, named)], Some(7))?;
-        assert_early(&rt, a, 0, &[on_crtc(ACTIVE, named)], Some(7))?;
+        assert_early(
+            &rt,
+            a,
+            0,
+            &[on_crtc(OUT_FENCE_PTR, named)],
+            Some(Refusal::INVALID_VALUE),
+        )?;
+        assert_early(
+            &rt,
+            a,
+            0,
+            &[on_plane(ZPOS, named)],
+            Some(Refusal::INVALID_VALUE),
+        )?;
+        assert_early(
+            &rt,
+            a,
+            0,
+            &[on_plane(CRTC_ID, named)],
+            Some(Refusal::INVALID_VALUE),
+        )?;
+        assert_early(
+            &rt,
+            a,
+            0,
+            &[on_crtc(ACTIVE, named)],
+            Some(Refusal::INVALID_VALUE),
+        )?;
     }
     assert_early(&rt, a, 0, &[on_crtc(OUT_FENCE_PTR, Value::New(9))], None)?;
-    assert_early(&rt, a, 0, &[on_crtc(MODE_ID, Value::New(9))], Some(7))?;
-    assert_early(&rt, a, 0, &[on_crtc(ACTIVE, Value::New(9))], Some(7))?;
-    assert_early(&rt, a, 0, &[on_plane(FB_ID, Value::New(9))], Some(7))?;
-    assert_early(&rt, a, 0, &[on_plane(IN_FENCE_FD, Value::New(9))], Some(7))?;
-    assert_early(&rt, a, 0, &[on_plane(FB_ID, Value::Crtc(0))], Some(7))?;
-    assert_early(&rt, a, 0, &[on_plane(ZPOS, Value::Crtc(0))], Some(7))
+    assert_early(
+        &rt,
+        a,
+        0,
+        &[on_crtc(MODE_ID, Value::New(9))],
+        Some(Refusal::INVALID_VALUE),
+    )?;
+    assert_early(
+        &rt,
+        a,
+        0,
+        &[on_crtc(ACTIVE, Value::New(9))],
+        Some(Refusal::INVALID_VALUE),
+    )?;
+    assert_early(
+        &rt,
+        a,
+        0,
+        &[on_plane(FB_ID, Value::New(9))],
+        Some(Refusal::INVALID_VALUE),
+    )?;
+    assert_early(
+        &rt,
+        a,
+        0,
+        &[on_plane(IN_FENCE_FD, Value::New(9))],
+        Some(Refusal::INVALID_VALUE),
+    )?;
+    assert_early(
+        &rt,
+        a,
+        0,
+        &[on_plane(FB_ID, Value::Crtc(0))],
+        Some(Refusal::INVALID_VALUE),
+    )?;
+    assert_early(
+        &rt,
+        a,
+        0,
+        &[on_plane(ZPOS, Value::Crtc(0))],
+        Some(Refusal::INVALID_VALUE),
+    )
 }
 
 #[test]
@@ -456,31 +552,31 @@ fn a_fence_is_second_where_one_was_named(rt: HostRuntime) -> Result<(), NoMemory
     let none = on_plane(IN_FENCE_FD, Value::Num(-1));
     let wrong = on_plane(IN_FENCE_FD, Value::Named(MISSING));
     let other = set(Kind::Plane, 1, IN_FENCE_FD, Value::Named(FENCE));
-    assert_early(&rt, a, 0, &[fence, fence], Some(8))?;
-    assert_early(&rt, a, 0, &[fence, none], Some(8))?;
+    assert_early(&rt, a, 0, &[fence, fence], Some(Refusal::SECOND_IN_FENCE))?;
+    assert_early(&rt, a, 0, &[fence, none], Some(Refusal::SECOND_IN_FENCE))?;
     assert_early(&rt, a, 0, &[none, none, fence], None)?;
     assert_early(
         &rt,
         a,
         0,
         &[none, fence, on_plane(ZPOS, Value::Num(1)), none],
-        Some(8),
+        Some(Refusal::SECOND_IN_FENCE),
     )?;
-    assert_early(&rt, a, 0, &[fence, wrong], Some(7))?;
+    assert_early(&rt, a, 0, &[fence, wrong], Some(Refusal::INVALID_VALUE))?;
     assert_early(&rt, a, 0, &[fence, other], None)?;
     assert_early(
         &rt,
         a,
         0,
         &[fence, other, fence, on_plane(ZPOS, Value::Num(999))],
-        Some(8),
+        Some(Refusal::SECOND_IN_FENCE),
     )
 }
 
 /// What a request without flags asks for.
 fn resolved(alloc: Global, assigns: &[Assign]) -> Result<Resolved, RequestError> {
-    let topology = device(alloc)?;
-    let request = request(alloc, 0, assigns)?;
+    let topology = split(alloc)?;
+    let request = request(alloc, 0, assigns, &[])?;
     let found = looks(alloc)?;
     resolve(alloc, &topology, &request, &found)
 }
@@ -510,11 +606,11 @@ fn the_last_of_several_sets_counts(rt: HostRuntime) -> Result<(), Fail> {
         lines.push((set.object.0, set.prop, number))?;
     }
     let want = [
-        (200, FB_ID, 1001),
-        (201, ZPOS, 6),
-        (200, ZPOS, 9),
-        (100, MODE_ID, 60),
-        (200, CRTC_ID, 101),
+        (FIRST_PLANE_ID, FB_ID, 1001),
+        (FIRST_PLANE_ID + 1, ZPOS, 6),
+        (FIRST_PLANE_ID, ZPOS, 9),
+        (FIRST_CRTC_ID, MODE_ID, 60),
+        (FIRST_PLANE_ID, CRTC_ID, i64::from(FIRST_CRTC_ID + 1)),
     ];
     assert_eq!(rt; lines.as_slice(), want.as_slice());
     assert_eq!(rt; asks.user_data, 7);
@@ -536,9 +632,16 @@ fn fences_are_listed_by_their_objects(rt: HostRuntime) -> Result<(), Fail> {
     )?;
     assert_eq!(rt;
         asks.in_fences.as_slice(),
-        [(ObjId(200), 1004), (ObjId(201), 1004)].as_slice()
+        [
+            (ObjId(FIRST_PLANE_ID), 1004),
+            (ObjId(FIRST_PLANE_ID + 1), 1004)
+        ]
+        .as_slice()
     );
-    assert_eq!(rt; asks.out_fences.as_slice(), [(ObjId(100), 9)].as_slice());
+    assert_eq!(rt;
+        asks.out_fences.as_slice(),
+        [(ObjId(FIRST_CRTC_ID), 9)].as_slice()
+    );
     assert_eq!(rt; asks.sets.len(), 4);
     Ok(())
 }
@@ -553,7 +656,7 @@ fn a_refused_request_is_not_resolved(rt: HostRuntime) {
         Ok(_) => None,
         Err(error) => Some(error),
     };
-    assert_eq!(rt; refused, Some(RequestError::Of(Refusal(7))));
+    assert_eq!(rt; refused, Some(RequestError::Of(Refusal::INVALID_VALUE)));
 }
 
 const NOWHERE: Rect = Rect {
@@ -598,7 +701,10 @@ fn plane_on(crtc: u32) -> Both<PlaneState> {
 
 #[test]
 fn a_request_names_the_crtcs_of_what_it_sets(rt: HostRuntime) -> Result<(), Fail> {
-    let (apart, off) = (states(100, 101, 101), states(0, 0, 0));
+    let (apart, off) = (
+        states(FIRST_CRTC_ID, FIRST_CRTC_ID + 1, FIRST_CRTC_ID + 1),
+        states(0, 0, 0),
+    );
     let from = resolved(rt.alloc(), &[on_plane(CRTC_ID, Value::Num(0))])?;
     assert_eq!(rt; named(&from, &apart), 1, "it leaves a CRTC");
     assert_eq!(rt; named(&from, &off), 0, "it was on none");

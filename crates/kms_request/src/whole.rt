@@ -2,11 +2,10 @@
 ghost use Rattle.std.specs.Prelude.{◌≡◌, ◌≤◌, ◌<◌, ℕ, All, IsTrue};
 ghost use Rattle.std.specs.List.{list_any};
 ghost use Rattle.kms_model.specs.declared.worlds.World.{World};
-ghost use Rattle.kms_model.specs.Request.Apply.{apply};
-ghost use Rattle.kms_model.specs.Request.Checks.{late_refusal};
+ghost use Rattle.kms_model.specs.Request.Verdict.{late_in};
 ghost use Rattle.kms_model.specs.declared.objects.Topology.{Topology};
 ghost use Rattle.kms_model.specs.Device.Masks.{mask_below};
-ghost use Rattle.kms_model.specs.Request.Touched.{named_set};
+ghost use Rattle.kms_model.specs.Request.Touched.{named_by};
 ghost use Rattle.kms_model.specs.Request.Resolves.{IsSettable};
 ghost use Rattle.kms_request.specs.Answers.{refusal_number};
 ghost use Rattle.kms_request.specs.Naming.{AreCrtcs};
@@ -40,7 +39,8 @@ fn named_between(states: &Duplicates, a: &Assign) -> u32
 /// The CRTCs that assignments name.
 fn all_named_between(states: &Duplicates, assigns: &[Assign]) -> u32
     requires { All IsSettable assigns.now }
-    ensures { AreCrtcs (λ crtc. list_any (λ a. is_named_between states.now a crtc) assigns.now) result }
+    ensures { AreCrtcs (λ crtc. list_any (λ a. is_named_between states.now a crtc) assigns.now)
+        result }
 {
     let mut named = 0;
     for a in assigns {
@@ -49,12 +49,12 @@ fn all_named_between(states: &Duplicates, assigns: &[Assign]) -> u32
     named
 }
 
-/// The set of CRTCs that an accepted request names: bit i stands for CRTC index i. Every object of the device is
+/// The mask of the CRTCs that an accepted request names: bit i stands for CRTC index i. Every object of the device is
 /// duplicated, before the request and after it.
 pub fn named_in(states: &Duplicates, request: &Request) -> u32
     requires { All IsSettable request.now.assigns }
     ensures { (t : Topology) (w : World) → StandBetween t w request.now states.now
-        → result ≡ named_set t w.values (apply w.things w.values request.now.assigns) request.now.assigns }
+        → result ≡ named_by t w request.now }
 {
     all_named_between(states, request.assigns.as_slice())
 }
@@ -80,7 +80,7 @@ fn with_number(numbers: &Numbers, count: usize) -> u32
 pub fn full_check(topology: &Topology, states: &Duplicates, request: &Request) -> Option<Refusal>
     requires { StandSomewhere topology.now request.now states.now }
     ensures { (w : World) → StandBetween topology.now w request.now states.now
-        → refusal_number result ≡ late_refusal topology.now w.things w.values (apply w.things w.values request.now.assigns) request.now }
+        → refusal_number result ≡ late_in topology.now w request.now }
 {
     let assigns = request.assigns.as_slice();
     let fences = out_fence_numbers(assigns);

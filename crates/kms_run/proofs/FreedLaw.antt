@@ -29,7 +29,7 @@ use Rattle.kms_model.proofs.Items.{IsIn, IsObject, ids-has, ids-in, list_any-has
 use Rattle.kms_model.proofs.SeenLemmas.{fb-held}
 use Rattle.kms_model.proofs.SoundKept.{execution_keeps_sound}
 use Rattle.kms_model.proofs.ThingLemmas.{find-in, ids-numbered}
-use Rattle.kms_serial.specs.Framebuffers.{framebuffer_entry}
+use Rattle.kms_things.specs.Framebuffers.{framebuffer_entry}
 use Rattle.kms_run.specs.declared.freed.Candidates.{Candidates}
 use Rattle.kms_run.specs.declared.freed.Freed.{Freed}
 use Rattle.kms_run.specs.Freed.{AreCandidates, IsExecuted, closing_id, freed_at, freed_from, freed_if, freed_of}

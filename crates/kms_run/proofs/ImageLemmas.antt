@@ -16,7 +16,7 @@ use Rattle.kms_model.specs.Frames.Images.{image_of}
 use Rattle.kms_model.specs.Stores.Kept.{Seen}
 use Rattle.kms_compose.specs.Images.{AreImagesIn, IsShowable, image_seen, seen_under}
 use Rattle.kms_compose.specs.declared.images.FbImage.{FbImage}
-use Rattle.kms_serial.specs.Shown.{CanBeShown, HasWords}
+use Rattle.kms_model.specs.Frames.Shown.{CanBeShown, HasWords}
 use Rattle.kms_run.specs.Latches.{AreSeen, IsPushed}
 
 -- One image more

@@ -19,7 +19,7 @@ use Rattle.std.proofs.lemmas.Nat.Bits.{bit_at-zero}
 use Rattle.kms_model.proofs.MaskLemmas.{has_bit-below, has_bit-from}
 use Rattle.kms_run.specs.declared.latches.Latched.{Latched}
 use Rattle.kms_run.specs.Latches.{latched_if, latched_of, latches_now, marked_latch}
-use Rattle.kms_run.specs.Run.{named_by}
+use Rattle.kms_run.specs.Run.{named_crtcs}
 use Rattle.kms_run.proofs.Ranges.{flat_map-range_same, flat_map-range_none}
 
 abbrev empty : List Latched
@@ -27,7 +27,7 @@ empty = []
 
 -- the mask is that of the CRTCs that a commit names
 abbrev IsMaskOf : Topology → List Setting → List Setting → Command → Reply → ℕ → Type 0
-IsMaskOf t old new c r mask = (k : ℕ) → r ≡ reply.Commit k → mask ≡ named_by t old new c
+IsMaskOf t old new c r mask = (k : ℕ) → r ≡ reply.Commit k → mask ≡ named_crtcs t old new c
 
 nowhere : (n : ℕ) → flat_map (λ (index : ℕ). empty) (range_with_len 0 n) ≡ empty
 nowhere n = flat_map-range_none (λ (index : ℕ). empty) 0 n (λ k low high. refl)

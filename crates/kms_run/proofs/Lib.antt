@@ -9,3 +9,5 @@ pub mod ReportLaw
 pub mod Rising
 pub mod Survival
 pub mod Turning
+pub mod Lines
+pub mod Committed

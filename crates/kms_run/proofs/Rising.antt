@@ -12,7 +12,7 @@ use Rattle.kms_model.specs.Device.World.{thing_with_id}
 use Rattle.kms_model.specs.Report.Flat.{is_used}
 use Rattle.kms_model.specs.Device.Sound.{AreNumbered}
 use Rattle.kms_model.proofs.Items.{IsIn}
-use Rattle.kms_serial.specs.Framebuffers.{framebuffer_entry}
+use Rattle.kms_things.specs.Framebuffers.{framebuffer_entry}
 use Rattle.kms_run.specs.declared.freed.Freed.{Freed}
 use Rattle.kms_run.specs.Freed.{freed_at, freed_from, freed_if, freed_next, freed_of}
 

@@ -18,7 +18,7 @@ use Rattle.kms_run.specs.declared.latches.Latched.{Latched}
 use Rattle.kms_run.specs.declared.run.Run.{Run}
 use Rattle.kms_run.specs.Freed.{AreCandidates, IsExecuted, freed_of}
 use Rattle.kms_run.specs.Latches.{latched_by, latched_if, latches_now}
-use Rattle.kms_run.specs.Run.{Steps, named_by, next_done}
+use Rattle.kms_run.specs.Run.{Steps, named_crtcs, next_done}
 use Rattle.kms_run.proofs.LatchLemmas.{latched-now}
 
 -- what the framebuffers freed are, whatever was executed
@@ -28,7 +28,7 @@ Frees t after answer all old new = (d : Done) → IsExecuted t d after answer �
 -- what the parts of a turn did
 pub record HasTurned (frames : Bool) (t : Topology) (old new : Run) (turn : Turn) (answer : Reply) (named : ℕ) (all : Candidates) : Type 0 where
   pub executed : execute t old.serial.world turn.client turn.command ≡ record { world = new.serial.world; reply = answer }
-  pub mask : (k : ℕ) → answer ≡ reply.Commit k → named ≡ named_by t old.serial.world.values new.serial.world.values turn.command
+  pub mask : (k : ℕ) → answer ≡ reply.Commit k → named ≡ named_crtcs t old.serial.world.values new.serial.world.values turn.command
   pub candidates : AreCandidates t old.serial.world turn.command all
   pub grows : Grows old.serial.world new.serial.world
   pub place : new.place ≡ cond (is_accepted answer) (old.place + 1) old.place

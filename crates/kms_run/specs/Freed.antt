@@ -15,7 +15,7 @@ use Rattle.kms_model.specs.Device.World.{value, thing_labelled, thing_with_id}
 use Rattle.kms_model.specs.Device.Execution.{execute}
 use Rattle.kms_model.specs.Device.Sound.{IsSound}
 use Rattle.kms_model.specs.Report.Flat.{Done, is_used}
-use Rattle.kms_serial.specs.Framebuffers.{framebuffer_entry}
+use Rattle.kms_things.specs.Framebuffers.{framebuffer_entry}
 use Rattle.kms_run.specs.declared.freed.Candidates.{Candidates}
 use Rattle.kms_run.specs.declared.freed.Freed.{Freed}
 

@@ -31,9 +31,9 @@ abbrev pub HasRun : Bool → Script → Run → Type 0
 HasRun frames s run = HasDone frames s.topology (flat.run s) run
 
 -- the CRTCs that a commit names, as a set: none of any other command
-abbrev pub named_by : Topology → List Setting → List Setting → Command → ℕ
-named_by t old new (command.Atomic r) = named_set t old new r.assigns
-named_by t old new _ = 0
+abbrev pub named_crtcs : Topology → List Setting → List Setting → Command → ℕ
+named_crtcs t old new (command.Atomic r) = named_set t old new r.assigns
+named_crtcs t old new _ = 0
 
 -- nothing was executed yet
 pub record IsNew (t : Topology) (run : Run) : Type 0 where

@@ -5,7 +5,7 @@ ghost use Rattle.kms_model.specs.Frames.FrameBytes.{frame_bytes};
 ghost use Rattle.kms_model.specs.Device.Objects.{object_id};
 ghost use Rattle.kms_model.specs.Device.Serial.{pictured};
 ghost use Rattle.kms_model.specs.declared.objects.Kind.TheVariants as kind;
-ghost use Rattle.kms_serial.specs.Shown.{EachCanBeShown, HasWords};
+ghost use Rattle.kms_model.specs.Frames.Shown.{EachCanBeShown, HasWords};
 ghost use Rattle.kms_run.specs.Latches.{AreSeen, IsPushed, latched_of, latched_text, latches_now, marked_latch, on_text};
 
 use kms_compose::{FbImage, Frame, Images, frame};

@@ -9,7 +9,7 @@ ghost use Rattle.kms_model.specs.Device.Sound.{IsDevice};
 ghost use Rattle.kms_model.specs.Script.WellFormed.{IsFitClient, IsFitCommand, IsWellFormed};
 ghost use Rattle.kms_model.specs.Device.World.{start};
 ghost use Rattle.kms_serial.specs.Commands.{Grows, HasRoom};
-ghost use Rattle.kms_run.specs.Run.{Continues, HasRun, IsNew, IsReady, Steps, named_by};
+ghost use Rattle.kms_run.specs.Run.{Continues, HasRun, IsNew, IsReady, Steps, named_crtcs};
 
 use crate::freed::{Freed, may_free, push_freed};
 use crate::latches::{Latched, push_latches};
@@ -42,13 +42,13 @@ fn executed(
         execute serial.old.topology serial.old.world client command.now
         ≡ record { world = serial.new.world; reply = x.0 }) }
     ensures named { IfOk result (λ x. (k : ℕ) → x.0 ≡ reply.Commit k
-        → x.1 ≡ named_by serial.old.topology
+        → x.1 ≡ named_crtcs serial.old.topology
         serial.old.world.values serial.new.world.values command.now) }
     ensures topology { serial.new.topology ≡ serial.old.topology }
     ensures grows { Grows serial.old.world serial.new.world }
 {
     match command {
-        Command::Atomic(request) => serial.commit(alloc, client, request),
+        Command::Atomic(request) => serial.commit(client, request),
         _ => Ok((serial.execute(alloc, client, command)?, 0)),
     }
 }

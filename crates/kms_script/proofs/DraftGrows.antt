@@ -7,7 +7,7 @@ use Rattle.kms_model.specs.declared.scripts.Command.{Command}
 use Rattle.kms_model.specs.Script.CommandLines.{Names, command_read}
 use Rattle.kms_model.specs.Report.TextLines.{line}
 use Rattle.kms_model.specs.Script.WholeInput.{Draft, is_nil, clients_in}
-use Rattle.kms_script.specs.Spelling.{plane_words, conn_words, command_words}
+use Rattle.kms_model.specs.Script.Spelling.{spelt_plane, conn_words, command_words}
 use Rattle.kms_script.proofs.Accepted.{nil_is}
 use Rattle.kms_script.proofs.DraftText.{head_text, lines_text, draft_text, plane_more, conn_more, client_more, command_more, late_line}
 use Rattle.kms_script.proofs.NamesBegin.{Begins}
@@ -67,12 +67,12 @@ second_follows d n text o first few spelt = record {
 -- The lines behind them
 
 -- a plane, before the first connector
-pub plane_follows : (d : Draft) (p : PlaneInfo) (text : List ℕ) → IsInOrder d → 2 ≤ d.head → is_nil d.conns ≡ true → line (plane_words p) ≡ text ++ 10 ∷ [] → Follows d (record d { planes = d.planes ++ p ∷ [] }) text
+pub plane_follows : (d : Draft) (p : PlaneInfo) (text : List ℕ) → IsInOrder d → 2 ≤ d.head → is_nil d.conns ≡ true → line (spelt_plane p) ≡ text ++ 10 ∷ [] → Follows d (record d { planes = d.planes ++ p ∷ [] }) text
 plane_follows d p text o late none spelt = record {
   ordered = record { crtcs = o.crtcs; planes = λ lt. absurd (omega arith); conns = λ lt. absurd (omega arith); late_client = o.late_client; first_client = o.first_client };
   spelt = λ all b. record {
     begins = b;
-    grown = late_line all d (record d { planes = d.planes ++ p ∷ [] }) (plane_words p) text late refl spelt
+    grown = late_line all d (record d { planes = d.planes ++ p ∷ [] }) (spelt_plane p) text late refl spelt
         (plane_more all (head_text d.crtcs) d.planes p d.conns (clients_in d) (nil_is d.conns none) (no_clients d o (o.late_client none)));
   };
 }
@@ -84,7 +84,7 @@ conn_follows d mask text o late none spelt = record {
   spelt = λ all b. record {
     begins = b;
     grown = late_line all d (record d { conns = d.conns ++ mask ∷ [] }) (conn_words mask) text late refl spelt
-        (conn_more all (head_text d.crtcs) (lines_text plane_words d.planes) d.conns mask (clients_in d) (no_clients d o none));
+        (conn_more all (head_text d.crtcs) (lines_text spelt_plane d.planes) d.conns mask (clients_in d) (no_clients d o none));
   };
 }
 
@@ -99,7 +99,7 @@ client_follows d text o late some spelt = record {
   spelt = λ all b. record {
     begins = b;
     grown = late_line all d (with_client d) (codes "client" ∷ []) text late refl spelt
-        (client_more all (head_text d.crtcs) (lines_text plane_words d.planes) (lines_text conn_words d.conns) (clients_in d));
+        (client_more all (head_text d.crtcs) (lines_text spelt_plane d.planes) (lines_text conn_words d.conns) (clients_in d));
   };
 }
 
@@ -110,6 +110,6 @@ command_follows d c after text o late has read = record {
   spelt = λ all b. record {
     begins = names_begin all d.names after text c read b;
     grown = late_line all d (record d { names = after; commands = d.commands ++ c ∷ [] }) (command_words all c) text late refl (command_spelt all d.names after text c read b)
-        (command_more all (head_text d.crtcs) (lines_text plane_words d.planes) (lines_text conn_words d.conns) d.clients d.has_client d.commands c has);
+        (command_more all (head_text d.crtcs) (lines_text spelt_plane d.planes) (lines_text conn_words d.conns) d.clients d.has_client d.commands c has);
   };
 }

@@ -9,7 +9,7 @@ use Rattle.kms_model.specs.declared.scripts.Command.{Command}
 use Rattle.kms_model.specs.Script.CommandLines.{words_in}
 use Rattle.kms_model.specs.Report.TextLines.{line}
 use Rattle.kms_model.specs.Script.WholeInput.{Draft, clients_in, clients_of, script_in}
-use Rattle.kms_script.specs.Spelling.{text_of, plane_words, conn_words, command_words, client_lines, spelling}
+use Rattle.kms_model.specs.Script.Spelling.{text_of, spelt_plane, conn_words, command_words, client_lines, spelling}
 
 -- the first line
 abbrev pub kms_words : List (List ℕ)
@@ -33,7 +33,7 @@ whole head planes conns clients = head ++ (planes ++ (conns ++ clients))
 
 -- the lines of a draft by kinds
 abbrev pub parts : List (List ℕ) → Draft → List ℕ
-parts all d = whole (head_text d.crtcs) (lines_text plane_words d.planes) (lines_text conn_words d.conns) (flat_map (client_text all) (clients_in d))
+parts all d = whole (head_text d.crtcs) (lines_text spelt_plane d.planes) (lines_text conn_words d.conns) (flat_map (client_text all) (clients_in d))
 
 -- what stands after so many of the first two lines
 abbrev by_head : ℕ → List ℕ → List ℕ
@@ -58,9 +58,9 @@ planes_end head planes more = simp (append-nil, append_assoc) refl
 
 -- a plane more, where there are neither connectors nor clients
 pub plane_more : (all : List (List ℕ)) (head : List ℕ) (planes : List PlaneInfo) (p : PlaneInfo) (conns : List ℕ) (clients : List (List Command)) → conns ≡ [] → clients ≡ []
-    → whole head (lines_text plane_words planes) (lines_text conn_words conns) (flat_map (client_text all) clients) ++ line (plane_words p)
-    ≡ whole head (lines_text plane_words (planes ++ p ∷ [])) (lines_text conn_words conns) (flat_map (client_text all) clients)
-plane_more all head planes p conns clients no_conns none = rw (no_conns, none, line_more plane_words planes p) (planes_end head (lines_text plane_words planes) (line (plane_words p)))
+    → whole head (lines_text spelt_plane planes) (lines_text conn_words conns) (flat_map (client_text all) clients) ++ line (spelt_plane p)
+    ≡ whole head (lines_text spelt_plane (planes ++ p ∷ [])) (lines_text conn_words conns) (flat_map (client_text all) clients)
+plane_more all head planes p conns clients no_conns none = rw (no_conns, none, line_more spelt_plane planes p) (planes_end head (lines_text spelt_plane planes) (line (spelt_plane p)))
 
 -- bytes behind the connectors, where nothing follows
 conns_end : (head planes conns more : List ℕ) → whole head planes conns [] ++ more ≡ whole head planes (conns ++ more) []
@@ -128,5 +128,5 @@ script_text d le =
     let all : List (List ℕ) = words_in d.names in
     let second : List (List ℕ) = codes "crtcs" ∷ decimal d.crtcs ∷ [] in
     late d.head (parts all d) le
-    ∙ ap (whole (head_text d.crtcs) (lines_text plane_words d.planes) (lines_text conn_words d.conns)) (sym (texts_of all (clients_in d)))
-    ∙ sym (in_parts kms_words second (map plane_words d.planes) (map conn_words d.conns) (flat_map (client_lines all) (clients_in d)))
+    ∙ ap (whole (head_text d.crtcs) (lines_text spelt_plane d.planes) (lines_text conn_words d.conns)) (sym (texts_of all (clients_in d)))
+    ∙ sym (in_parts kms_words second (map spelt_plane d.planes) (map conn_words d.conns) (flat_map (client_lines all) (clients_in d)))

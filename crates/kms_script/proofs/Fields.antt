@@ -23,14 +23,14 @@ next_words (b ∷ bs) = next_step (b == 32) b bs refl (next_words bs)
 abbrev behind : List ℕ → Option (List (List ℕ)) → Option (List (List ℕ))
 behind word o = option_map (λ ws. word ∷ ws) o
 
-abbrev Pair : Type 0
+abbrev pub Pair : Type 0
 Pair = List ℕ × List ℕ
 
 -- the field that bytes begin with
 abbrev field : List ℕ → Pair
 field bs = (until 32 bs, from 32 bs)
 
-abbrev pair : List ℕ → List ℕ → Option Pair
+abbrev pub pair : List ℕ → List ℕ → Option Pair
 pair word after = Some (word, after)
 
 abbrev word_of : Option Pair → List ℕ

@@ -1,16 +1,19 @@
 -- What was read within the limits is a well-formed script.
 use Rattle.std.proofs.Common.{◌≡◌, ℕ, zero, suc, ◌<◌, ◌≤◌, ◌^◌, ◌⊎◌, inl, inr, Bool, true, List, [], ◌∷◌, length, refl, arith}
 use Rattle.std.specs.Prelude.{All}
-use Rattle.std.specs.List.{AllByRecursion, list_all}
+use Rattle.std.specs.List.{AllByRecursion, IsDistinct, list_all}
+use Rattle.std.specs.Str.{bytes_eq}
 use Rattle.std.proofs.lemmas.Bool.{le-leb, lt-ltb}
 use Rattle.kms_model.specs.declared.objects.PlaneInfo.{PlaneInfo}
 use Rattle.kms_model.specs.declared.scripts.Command.{Command}
+use Rattle.kms_model.specs.declared.scripts.Script.{Script}
 use Rattle.kms_model.specs.Device.Properties.{has_legal_masks, is_legal_device, is_mask_below}
 use Rattle.kms_model.specs.Script.WellFormed.{IsFitClient, IsWellFormed}
 use Rattle.kms_model.specs.Script.WholeInput.{Draft, topology_in}
 use Rattle.kms_model.specs.Script.Words.{between}
+use Rattle.kms_script.proofs.FitScripts.{IsSpelt}
 use Rattle.kms_script.specs.Drafted.{ended}
-use Rattle.kms_script.specs.Fitting.{IsFitCount, IsFitDevice, IsFitMask, IsFitPlane}
+use Rattle.kms_script.specs.Fitting.{KeepsLimits, IsFitCount, IsFitDevice, IsFitMask, IsFitPlane}
 
 pub by_recursion : {A : Type 0} (P : A → Type 0) (xs : List A) → All P xs → AllByRecursion P xs
 by_recursion P [] all = tt
@@ -60,10 +63,25 @@ ended_device d fit = record {
   conns = fit.conns;
 }
 
-pub well_formed : (d : Draft) (names : List (List ℕ)) (clients : List (List Command)) → IsFitDevice d → 0 < length d.conns → All IsFitClient clients → length clients ≤ 16
-    → IsWellFormed (record { version = 1; topology = topology_in d; names = names; clients = clients })
-well_formed d names clients fit some each few = record {
+pub keeps_limits : (d : Draft) (names : List (List ℕ)) (clients : List (List Command)) → IsFitDevice d → 0 < length d.conns → All IsFitClient clients → length clients ≤ 16 → IsDistinct bytes_eq names
+    → KeepsLimits (record { version = 1; topology = topology_in d; names = names; clients = clients })
+keeps_limits d names clients fit some each few differ = record {
   device = record { legal = legal_device d fit some; kinds = λ k p lt. (fit.planes k p lt).kind };
   few = few;
   clients = by_recursion IsFitClient clients each;
+  version = refl;
+  differ = differ;
+}
+
+-- a script that bytes spell, and that keeps the limits, is well formed
+pub well_formed : (s : Script) → KeepsLimits s → IsSpelt s → IsWellFormed s
+well_formed s limits spelt = record {
+  device = limits.device;
+  few = limits.few;
+  clients = limits.clients;
+  version = limits.version;
+  planes = spelt.planes;
+  conns = spelt.conns;
+  differ = limits.differ;
+  commands = spelt.commands;
 }

@@ -9,7 +9,7 @@ use Rattle.std.proofs.lemmas.List.{nil_from_length}
 use Rattle.kms_model.specs.declared.objects.Format.{Format}
 use Rattle.kms_model.specs.Script.Grammar.{digits_of, is_hex_number, hex, pixel_number, hex_pair, hex_bytes}
 use Rattle.kms_model.specs.Script.Words.{is_digit, is_hex, hex_value, hex_from, strip}
-use Rattle.kms_script.specs.Spelling.{hex_word, hex_digits, pixel_word, blob_word}
+use Rattle.kms_model.specs.Script.Spelling.{hex_word, hex_digits, pixel_word, blob_word}
 use Rattle.kms_script.proofs.Inverted.{bind_some, if_some, some_same}
 use Rattle.kms_script.proofs.LineFields.{strip_spelt}
 

@@ -6,9 +6,14 @@ pub mod DraftGrows
 pub mod DraftText
 pub mod Drafts
 pub mod Fields
+pub mod FitCommands
+pub mod FitScripts
+pub mod FitWords
 pub mod Formed
 pub mod Hexadecimals
 pub mod Inverted
+pub mod LabelsMade
+pub mod LineFaults
 pub mod LineFields
 pub mod Lined
 pub mod LinesSpelt
@@ -16,10 +21,14 @@ pub mod ListedBits
 pub mod Listing
 pub mod ListsSpelt
 pub mod Loops
+pub mod ManyAssigns
+pub mod ManyFields
 pub mod NamesBegin
 pub mod Naming
 pub mod OneSpelling
+pub mod PackedNames
 pub mod Parts
+pub mod Repeated
 pub mod RowsSpelt
 pub mod ScriptLines
 pub mod Sizes
@@ -33,3 +42,4 @@ pub mod SpeltThings
 pub mod SpeltWords
 pub mod Texts
 pub mod WithinLimit
+pub mod WordsNumbered

@@ -9,7 +9,7 @@ use Rattle.kms_model.specs.Script.Grammar.{crtc_list, format_list}
 use Rattle.kms_model.specs.Report.TextLines.{line}
 use Rattle.kms_model.specs.Script.WholeInput.{crtcs_at, plane_type, plane_fields, conn_at}
 use Rattle.kms_model.specs.Script.Words.{until, from, field_at, dec, dec_at, end_at}
-use Rattle.kms_script.specs.Spelling.{type_word, crtcs_word, formats_word}
+use Rattle.kms_model.specs.Script.Spelling.{type_word, crtcs_word, formats_word}
 use Rattle.kms_script.proofs.Decimals.{dec_at_most}
 use Rattle.kms_script.proofs.Inverted.{bind_some, some_same}
 use Rattle.kms_script.proofs.LineFields.{fields_to, line_fields, fields_end, then_fields, until_from, field_spelt, end_spelt}
@@ -70,11 +70,11 @@ type_spelt w kind e =
     (bytes_eq-Decides w (codes "overlay")).0 (bytes_eq-Decides w (codes "primary")).0 (bytes_eq-Decides w (codes "cursor")).0 e
 
 -- the words of a plane behind the first
-abbrev pub plane_fields : PlaneInfo → List (List ℕ)
-plane_fields p = type_word p.kind ∷ crtcs_word p.crtcs ∷ formats_word p.formats ∷ []
+abbrev pub later_words : PlaneInfo → List (List ℕ)
+later_words p = type_word p.kind ∷ crtcs_word p.crtcs ∷ formats_word p.formats ∷ []
 
 -- the fields of a plane that was read
-pub plane_spelt : (crtcs : ℕ) (bytes : List ℕ) (p : PlaneInfo) → crtcs ≤ 4 → plane_fields crtcs bytes ≡ Some p → fields_to (plane_fields p) [] ≡ bytes
+pub plane_spelt : (crtcs : ℕ) (bytes : List ℕ) (p : PlaneInfo) → crtcs ≤ 4 → plane_fields crtcs bytes ≡ Some p → fields_to (later_words p) [] ≡ bytes
 unfolding plane_fields
 plane_spelt crtcs bytes p few e =
     let t = bind_some (field_at bytes) _ p e in

@@ -5,7 +5,7 @@ use Rattle.std.specs.Fmt.{digit_glyph}
 use Rattle.std.specs.List.{join_with_byte, range_with_len}
 use Rattle.std.proofs.lemmas.List.FromFn.{filter_of_map_range_with_len_more}
 use Rattle.kms_model.specs.Device.Masks.{has_bit}
-use Rattle.kms_script.specs.Spelling.{hex_digits, list_word}
+use Rattle.kms_model.specs.Script.Spelling.{hex_digits, list_word}
 
 pub hex_digits_more : (count n : ℕ) → 0 < count → hex_digits count n ≡ hex_digits (count - 1) (n / 16) ++ digit_glyph false (n % 16) ∷ []
 hex_digits_more zero n pos = absurd (omega arith)

@@ -9,7 +9,7 @@ use Rattle.kms_model.specs.declared.objects.Format.TheVariants.{Xr24, Ar24, Rg16
 use Rattle.kms_model.specs.Script.Grammar.{crtc_list, format_list, format_bit, format_named, parted}
 use Rattle.kms_model.specs.Device.Masks.{has_bit}
 use Rattle.kms_model.specs.Script.Words.{dec}
-use Rattle.kms_script.specs.Spelling.{list_word, crtcs_word, formats_word, format_word, format_at_bit}
+use Rattle.kms_model.specs.Script.Spelling.{list_word, crtcs_word, formats_word, format_word, format_at_bit}
 use Rattle.kms_script.proofs.Decimals.{dec_spelt, dec_at_most}
 use Rattle.kms_script.proofs.Inverted.{map_some}
 use Rattle.kms_script.proofs.SpeltWords.{format_spelt}

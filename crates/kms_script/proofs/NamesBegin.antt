@@ -4,7 +4,7 @@ use Rattle.std.specs.List.{position_or_len}
 use Rattle.std.specs.Str.{bytes_eq}
 use Rattle.std.proofs.lemmas.Slice.Eq.{bytes_eq-Decides}
 use Rattle.kms_model.specs.Script.CommandLines.{Name, Names, words_in, place, said, made, saying, making}
-use Rattle.kms_script.specs.Spelling.{name_word}
+use Rattle.kms_model.specs.Script.Spelling.{name_word}
 
 pub record Begins (names : Names) (all : List (List ℕ)) : Type 0 where
   pub more : List (List ℕ)

@@ -5,7 +5,7 @@ use Rattle.std.proofs.lemmas.Bool.{le-ltb}
 use Rattle.kms_model.specs.declared.scripts.Script.{Script}
 use Rattle.kms_model.specs.Script.InputLines.{Fault, rows_of, input_limit}
 use Rattle.kms_model.specs.Script.WholeInput.{Draft, blank_draft, drafted, input, lines_after, script_in, script_limit}
-use Rattle.kms_script.specs.Spelling.{Spells, spelling, spelt_lines}
+use Rattle.kms_model.specs.Script.Spelling.{Spells, spelling, spelt_lines}
 use Rattle.kms_script.proofs.Inverted.{map_some}
 use Rattle.kms_script.proofs.RowsSpelt.{rows_are_text}
 use Rattle.kms_script.proofs.SpelledRows.{rows_spell}

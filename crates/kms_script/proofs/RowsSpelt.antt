@@ -7,7 +7,7 @@ use Rattle.kms_model.specs.Script.Grammar.{is_printable}
 use Rattle.kms_model.specs.Script.InputLines.{Row}
 use Rattle.kms_model.specs.Script.CommandLines.{words_in}
 use Rattle.kms_model.specs.Script.WholeInput.{Draft, Lined, blank_draft, is_nil, script_in, script_line}
-use Rattle.kms_script.specs.Spelling.{lined, spelt_line, spelt_lines, spelling}
+use Rattle.kms_model.specs.Script.Spelling.{lined, spelt_line, spelt_lines, spelling}
 use Rattle.kms_script.proofs.DraftGrows.{IsInOrder, Follows}
 use Rattle.kms_script.proofs.DraftText.{draft_text, script_text}
 use Rattle.kms_script.proofs.Inverted.{bind_some, if_some, some_same}

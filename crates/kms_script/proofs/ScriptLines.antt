@@ -9,11 +9,11 @@ use Rattle.kms_model.specs.declared.scripts.Why.TheVariants.{Form, Label, Limit}
 use Rattle.kms_model.specs.Script.CommandLines.{command_read, is_over}
 use Rattle.kms_model.specs.Script.WholeInput.{Draft, is_nil, crtcs_at, plane_fields, conn_at, clients_in, first_line, crtcs_line, plane_line, conn_line, client_line, command_line, later_line, script_line}
 use Rattle.kms_model.specs.Script.Words.{until, from, end_at}
-use Rattle.kms_script.specs.Spelling.{crtcs_word}
+use Rattle.kms_model.specs.Script.Spelling.{crtcs_word}
 use Rattle.kms_script.proofs.Accepted.{accepted, form_ok, unless_ok, if_ok, either_ok, ok_same, second_off, on_from, is_late}
 use Rattle.kms_script.proofs.DraftGrows.{IsInOrder, Follows, with_client, first_follows, second_follows, plane_follows, conn_follows, client_follows, command_follows}
 use Rattle.kms_script.proofs.LineFields.{end_spelt}
-use Rattle.kms_script.proofs.LinesSpelt.{line_spelt, plane_fields, count_spelt, plane_spelt, conn_spelt}
+use Rattle.kms_script.proofs.LinesSpelt.{line_spelt, later_words, count_spelt, plane_spelt, conn_spelt}
 
 -- the first word of a line
 abbrev begins_with : List ℕ → List ℕ → Type 0
@@ -44,7 +44,7 @@ plane_line_follows d next text o late is e =
     let form = unless_ok (not (is_nil d.conns)) Form _ next p.then in
     let limit = unless_ok (nat_le 16 (length d.planes)) Limit _ next form.1 in
     subst (λ n. Follows d n text) (ok_same (record d { planes = d.planes ++ p.value ∷ [] }) next limit.1)
-    (plane_follows d p.value text o late (on_from (is_nil d.conns) form.0) (line_spelt (codes "plane") (plane_fields p.value) text is (plane_spelt d.crtcs (from 32 text) p.value o.crtcs p.given)))
+    (plane_follows d p.value text o late (on_from (is_nil d.conns) form.0) (line_spelt (codes "plane") (later_words p.value) text is (plane_spelt d.crtcs (from 32 text) p.value o.crtcs p.given)))
 
 -- a line of a connector
 conn_line_follows : (d next : Draft) (text : List ℕ) → IsInOrder d → 2 ≤ d.head → begins_with (codes "conn") text → conn_line d (from 32 text) ≡ Ok next → Follows d next text

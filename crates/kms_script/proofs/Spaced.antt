@@ -9,7 +9,7 @@ use Rattle.kms_model.specs.declared.objects.Mode.{Mode}
 use Rattle.kms_model.specs.Report.TextLines.{line}
 use Rattle.kms_model.specs.Script.Words.{until}
 use Rattle.kms_script.specs.Printed.{fields, mode_line_numbers}
-use Rattle.kms_script.specs.Spelling.{mode_words}
+use Rattle.kms_model.specs.Script.Spelling.{spelt_mode}
 
 -- a line is its first word, the others with a blank before each, and a line feed
 pub line-fields : (w : List ℕ) (ws : List (List ℕ)) → line (w ∷ ws) ≡ w ++ fields ws ++ 10 ∷ []
@@ -30,7 +30,7 @@ module _ {X : Type 0} where
   lines-flat f [] = refl
   lines-flat f (x ∷ xs) = flat_map-append line (f x) (flat_map f xs) ∙ ap (λ (bs : List ℕ). flat_map line (f x) ++ bs) (lines-flat f xs)
 
-pub mode-fields : (m : Mode) → flat_map (λ n. 32 ∷ decimal n) (mode_line_numbers m) ++ 32 ∷ until 0 m.name ≡ fields (mode_words m)
+pub mode-fields : (m : Mode) → flat_map (λ n. 32 ∷ decimal n) (mode_line_numbers m) ++ 32 ∷ until 0 m.name ≡ fields (spelt_mode m)
 mode-fields m =
     let name = until 0 m.name in
     ap (λ (bs : List ℕ). bs ++ 32 ∷ name) (sym (fields-map decimal (mode_line_numbers m)))

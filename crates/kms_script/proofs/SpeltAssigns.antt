@@ -12,7 +12,8 @@ use Rattle.kms_model.specs.declared.scripts.Value.TheVariants as value
 use Rattle.kms_model.specs.Script.CommandLines.{Names, place, saying, making, assign_words, property_read, value_read, assign_read, assigns_read}
 use Rattle.kms_model.specs.Script.Grammar.{int, object, is_property_word, known_property}
 use Rattle.kms_model.specs.Script.Words.{until, from, strip, dec, is_label}
-use Rattle.kms_script.specs.Spelling.{kind_word, property_word, value_word, assign_word}
+use Rattle.kms_model.specs.Report.Replies.{kind_name}
+use Rattle.kms_model.specs.Script.Spelling.{property_word, value_word, assign_word}
 use Rattle.kms_script.proofs.Decimals.{dec_spelt}
 use Rattle.kms_script.proofs.Inverted.{bind_some, if_some, map_some, some_same, or_some}
 use Rattle.kms_script.proofs.LineFields.{strip_spelt, until_from}
@@ -34,7 +35,7 @@ prop_named all names word None known b = record { begins = before_saying all wor
 prop_named all names word (Some id) known b = record { begins = b; same = known id refl }
 
 -- the property of an assignment
-property_named : (all : List (List ℕ)) (names : Names) (word : List ℕ) → Begins (property_read names word).1 all → Named names all (property_word all (property_read names word).0) word
+pub property_named : (all : List (List ℕ)) (names : Names) (word : List ℕ) → Begins (property_read names word).1 all → Named names all (property_word all (property_read names word).0) word
 unfolding property_read
 property_named all names word b = prop_named all names word (known_property word) (λ id e. property_spelt id word e) b
 
@@ -63,7 +64,7 @@ number_value all names word r is =
     rw (← m.makes) (λ b. record { begins = b; same = int_spelt m.value word m.given })
 
 -- the value of an assignment
-value_named : (all : List (List ℕ)) (names : Names) (word : List ℕ) (r : Value × Names) → value_read names word ≡ Some r → Valued all names r word
+pub value_named : (all : List (List ℕ)) (names : Names) (word : List ℕ) (r : Value × Names) → value_read names word ≡ Some r → Valued all names r word
 unfolding value_read
 value_named all names word r e = elim (or_some _ (strip (codes "@") word) _ r e) [
   | inl at ↦ (let l = if_some (is_label at.value) _ r at.then in named_value all names word at.value r (strip_spelt (codes "@") word at.value at.given) (some_same _ r l.1))
@@ -90,7 +91,7 @@ words_joined kind index prop given tail until_dot from_dot word front dot rest w
     ∙ rw (rest, dot) whole)
 
 -- the words of an assignment give it back
-assign_words_spelt : (word : List ℕ) (w : Parts) → assign_words word ≡ Some w → kind_word w.0 ++ decimal w.1 ++ codes "." ++ w.2 ++ codes "=" ++ w.3 ≡ word
+assign_words_spelt : (word : List ℕ) (w : Parts) → assign_words word ≡ Some w → kind_name w.0 ++ decimal w.1 ++ codes "." ++ w.2 ++ codes "=" ++ w.3 ≡ word
 unfolding assign_words
 assign_words_spelt word w e =
     let o = bind_some (object (until 46 word)) _ w e in
@@ -98,16 +99,16 @@ assign_words_spelt word w e =
     let given = bind_some (strip (codes "=") (from 61 tail.value)) _ w tail.then in
     let read = if_some (is_property_word (until 61 tail.value)) _ w given.then in
     let behind : until 61 tail.value ++ (codes "=" ++ given.value) ≡ tail.value = rw (strip_spelt (codes "=") (from 61 tail.value) given.value given.given) (until_from 61 tail.value) in
-    rw (← some_same _ w read.1) (words_joined (kind_word o.value.0) (decimal o.value.1) (until 61 tail.value) given.value tail.value (until 46 word) (from 46 word) word
+    rw (← some_same _ w read.1) (words_joined (kind_name o.value.0) (decimal o.value.1) (until 61 tail.value) given.value tail.value (until 46 word) (from 46 word) word
     (object_spelt o.value (until 46 word) o.given) (strip_spelt (codes ".") (from 46 word) tail.value tail.given) behind (until_from 46 word))
 
 -- the property and the value as words
-assign_joined : (all : List (List ℕ)) (w : Parts) (p : PropRef) (v : Value) (word : List ℕ) → property_word all p ≡ w.2 → value_word all v ≡ w.3 → kind_word w.0 ++ decimal w.1 ++ codes "." ++ w.2 ++ codes "=" ++ w.3 ≡ word
+assign_joined : (all : List (List ℕ)) (w : Parts) (p : PropRef) (v : Value) (word : List ℕ) → property_word all p ≡ w.2 → value_word all v ≡ w.3 → kind_name w.0 ++ decimal w.1 ++ codes "." ++ w.2 ++ codes "=" ++ w.3 ≡ word
     → assign_word all (record { kind = w.0; index = w.1; prop = p; value = v }) ≡ word
 assign_joined all w p v word prop value whole = rw (prop, value) whole
 
 -- one assignment
-assign_named : (all : List (List ℕ)) (names : Names) (word : List ℕ) (r : Assign × Names) → assign_read names word ≡ Some r → Begins r.1 all → Named names all (assign_word all r.0) word
+pub assign_named : (all : List (List ℕ)) (names : Names) (word : List ℕ) (r : Assign × Names) → assign_read names word ≡ Some r → Begins r.1 all → Named names all (assign_word all r.0) word
 unfolding assign_read
 assign_named all names word r e =
     let w = bind_some (assign_words word) _ r e in

@@ -9,7 +9,7 @@ use Rattle.kms_model.specs.Script.CommandLines.{Names, assigns_read, atomic_read
 use Rattle.kms_model.specs.Script.Grammar.{hex_at, field_words}
 use Rattle.kms_model.specs.Report.TextLines.{line}
 use Rattle.kms_model.specs.Script.Words.{until, from, dec_at, end_at}
-use Rattle.kms_script.specs.Spelling.{hex_word, assign_word, command_words}
+use Rattle.kms_model.specs.Script.Spelling.{hex_word, assign_word, command_words}
 use Rattle.kms_script.proofs.Inverted.{from_bind, map_some, some_same, choice_some}
 use Rattle.kms_script.proofs.LineFields.{fields_to, fields_end, line_fields, end_spelt, words_spelt, until_from}
 use Rattle.kms_script.proofs.NamesBegin.{Begins}

@@ -9,7 +9,7 @@ use Rattle.kms_model.specs.declared.objects.Mode.{Mode}
 use Rattle.kms_model.specs.Script.CommandLines.{label_alone, five_at, mode_fields}
 use Rattle.kms_model.specs.Script.Grammar.{hex, hex_at, pixel_number, pixel_at, format_named, format_at}
 use Rattle.kms_model.specs.Script.Words.{◌>>=◌, until, dec, is_label, is_name_byte, field_at, dec_at, label_at, name_at, end_at}
-use Rattle.kms_script.specs.Spelling.{hex_word, pixel_word, format_word, mode_words}
+use Rattle.kms_model.specs.Script.Spelling.{hex_word, pixel_word, format_word, spelt_mode}
 use Rattle.kms_script.proofs.Decimals.{dec_spelt}
 use Rattle.kms_script.proofs.Hexadecimals.{hex_spelt, pixel_spelt}
 use Rattle.kms_script.proofs.Inverted.{bind_some, from_bind, if_some, some_same}
@@ -69,7 +69,7 @@ name_step true b bs ws is h ih = let no : is_name_byte 0 ≡ true = rw (is refl)
 name_step false b bs ws is h ih = ap (λ (xs : List ℕ). b ∷ xs) ih
 
 -- the zeros behind a name are no part of it
-name_ends : (word : List ℕ) (n : ℕ) → list_all is_name_byte word ≡ true → until 0 (word ++ replicate n 0) ≡ word
+pub name_ends : (word : List ℕ) (n : ℕ) → list_all is_name_byte word ≡ true → until 0 (word ++ replicate n 0) ≡ word
 name_ends [] n h = filled_end n
 name_ends (b ∷ bs) n h =
     let parts = and_parts (is_name_byte b) (list_all is_name_byte bs) h in
@@ -130,7 +130,7 @@ mode_joined clock r f k h v n bytes first across down rate flags kind name =
     (then_five v (decimal r.0 ∷ decimal f.0 ∷ decimal k.0 ∷ until 0 n.0 ∷ []) n.1 h.5 down last))
 
 -- a mode
-pub mode_at_spelt : (bytes : List ℕ) (m : Mode × List ℕ) → mode_fields bytes ≡ Some m → fields_to (mode_words m.0) m.1 ≡ bytes
+pub mode_at_spelt : (bytes : List ℕ) (m : Mode × List ℕ) → mode_fields bytes ≡ Some m → fields_to (spelt_mode m.0) m.1 ≡ bytes
 unfolding mode_fields
 mode_at_spelt bytes m e =
     from_bind (dec_at 4294967295 bytes) _ m e (λ clock first more.

@@ -9,7 +9,7 @@ use Rattle.kms_model.specs.declared.scripts.Pattern.TheVariants.{Checker, Pixels
 use Rattle.kms_model.specs.Script.CommandLines.{pixels_at, solid_at, checker_at, ramp_at, each_pixel_at, pattern_at}
 use Rattle.kms_model.specs.Script.Grammar.{pixel_at}
 use Rattle.kms_model.specs.Script.Words.{between, field_at, dec_at, end_at}
-use Rattle.kms_script.specs.Spelling.{pixel_word, pattern_words}
+use Rattle.kms_model.specs.Script.Spelling.{pixel_word, pattern_words}
 use Rattle.kms_script.proofs.Inverted.{from_bind, if_some, map_some, some_same, choice_some}
 use Rattle.kms_script.proofs.LineFields.{fields_to, then_fields, field_spelt, end_spelt}
 use Rattle.kms_script.proofs.SpeltFields.{dec_at_spelt, pixel_at_spelt}

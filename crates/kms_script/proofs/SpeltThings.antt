@@ -8,7 +8,7 @@ use Rattle.kms_model.specs.declared.scripts.Pattern.{Pattern}
 use Rattle.kms_model.specs.Script.CommandLines.{Names, place, saying, making, label_alone, pattern_at, buffer_read, addfb_read, mode_fields, mode_read, blob_read, making_read, naming_read}
 use Rattle.kms_model.specs.Script.Grammar.{blob_bytes, format_at, hex_bytes}
 use Rattle.kms_model.specs.Script.Words.{between, field_at, dec_at, label_at, end_at}
-use Rattle.kms_script.specs.Spelling.{name_word, blob_word, format_word, pattern_words, mode_words, command_words}
+use Rattle.kms_model.specs.Script.Spelling.{name_word, blob_word, format_word, pattern_words, spelt_mode, command_words}
 use Rattle.kms_script.proofs.Hexadecimals.{bytes_spelt}
 use Rattle.kms_script.proofs.Inverted.{from_bind, if_some, some_same}
 use Rattle.kms_script.proofs.LineFields.{fields_to, field_spelt, end_spelt}
@@ -76,7 +76,7 @@ mode_reads all names bytes r e =
     from_bind (label_at bytes) _ r e (λ label first more.
     from_bind (mode_fields label.1) _ r more (λ mode shown more.
     from_bind (end_at mode.1) _ r more (λ u end more.
-    rw (← some_same _ r more) (λ b. makes all names (codes "mode") bytes _ label (mode_words mode.0) first b refl
+    rw (← some_same _ r more) (λ b. makes all names (codes "mode") bytes _ label (spelt_mode mode.0) first b refl
     (rw (end_spelt mode.1 u end) (mode_at_spelt label.1 mode shown))))))
 
 -- the bytes of a blob up to the end of the line

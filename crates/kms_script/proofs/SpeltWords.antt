@@ -16,7 +16,8 @@ use Rattle.kms_model.specs.Device.Properties.{Property, properties, property_id,
 use Rattle.kms_model.specs.Script.Words.{dec, strip}
 use Rattle.kms_model.proofs.PropertyTable.{find-list_all}
 use Rattle.kms_model.proofs.SetLemmas.{find-passes}
-use Rattle.kms_script.specs.Spelling.{format_word, kind_word}
+use Rattle.kms_model.specs.Report.Replies.{kind_name}
+use Rattle.kms_model.specs.Script.Spelling.{format_word}
 use Rattle.kms_script.proofs.Decimals.{dec_spelt}
 use Rattle.kms_script.proofs.Inverted.{bind_some, map_some, some_same, or_some, or_else_some, choice_some}
 use Rattle.kms_script.proofs.LineFields.{strip_spelt}
@@ -61,12 +62,12 @@ int_spelt z word e = elim (or_some negative (strip (codes "-") word) (option_map
 
 -- the word of an object
 abbrev pub object_word : Kind × ℕ → List ℕ
-object_word o = kind_word o.0 ++ decimal o.1
+object_word o = kind_name o.0 ++ decimal o.1
 
 -- an object whose kind stands at the front of the word, or another
-kind_or : (kind : Kind) (o : Kind × ℕ) (word : List ℕ) (other : Option (Kind × ℕ)) → (other ≡ Some o → object_word o ≡ word) → option_map_or (indexed kind) (strip (kind_word kind) word) other ≡ Some o → object_word o ≡ word
-kind_or kind o word other more e = elim (or_some (indexed kind) (strip (kind_word kind) word) other o e) [
-  | inl b ↦ (let m = map_some _ (dec 255 b.value) o b.then in rw (← m.makes, dec_spelt 255 m.value b.value (omega arith) m.given) (strip_spelt (kind_word kind) word b.value b.given))
+kind_or : (kind : Kind) (o : Kind × ℕ) (word : List ℕ) (other : Option (Kind × ℕ)) → (other ≡ Some o → object_word o ≡ word) → option_map_or (indexed kind) (strip (kind_name kind) word) other ≡ Some o → object_word o ≡ word
+kind_or kind o word other more e = elim (or_some (indexed kind) (strip (kind_name kind) word) other o e) [
+  | inl b ↦ (let m = map_some _ (dec 255 b.value) o b.then in rw (← m.makes, dec_spelt 255 m.value b.value (omega arith) m.given) (strip_spelt (kind_name kind) word b.value b.given))
   | inr there ↦ more there
 ]
 

@@ -10,11 +10,11 @@ use Rattle.kms_model.specs.declared.objects.Topology.{Topology}
 use Rattle.kms_model.specs.declared.scripts.Command.{Command}
 use Rattle.kms_model.specs.declared.scripts.Script.{Script}
 use Rattle.kms_model.specs.Report.TextLines.{line}
-use Rattle.kms_script.specs.Spelling.{client_lines, command_words, conn_words, device_lines, plane_words, spelling, text_of}
+use Rattle.kms_model.specs.Script.Spelling.{client_lines, command_words, conn_words, device_lines, spelt_plane, spelling, text_of}
 use Rattle.kms_script.proofs.Spaced.{added, lines-flat, lines-map}
 
 abbrev planes_text : Topology → List ℕ
-planes_text t = flat_map (λ p. line (plane_words p)) t.planes
+planes_text t = flat_map (λ p. line (spelt_plane p)) t.planes
 
 abbrev conns_text : Topology → List ℕ
 conns_text t = flat_map (λ mask. line (conn_words mask)) t.conns
@@ -25,8 +25,8 @@ crtcs_text t = line (codes "crtcs" ∷ decimal t.crtcs ∷ [])
 device_text : (t : Topology) → (crtcs_text t ++ planes_text t) ++ conns_text t ≡ text_of (device_lines t)
 device_text t =
     ap (λ (bs : List ℕ). (crtcs_text t ++ planes_text t) ++ bs) (sym (lines-map conn_words t.conns))
-    ∙ ap (λ (bs : List ℕ). (crtcs_text t ++ bs) ++ flat_map line (map conn_words t.conns)) (sym (lines-map plane_words t.planes))
-    ∙ sym (flat_map-append line ((codes "crtcs" ∷ decimal t.crtcs ∷ []) ∷ map plane_words t.planes) (map conn_words t.conns))
+    ∙ ap (λ (bs : List ℕ). (crtcs_text t ++ bs) ++ flat_map line (map conn_words t.conns)) (sym (lines-map spelt_plane t.planes))
+    ∙ sym (flat_map-append line ((codes "crtcs" ∷ decimal t.crtcs ∷ []) ∷ map spelt_plane t.planes) (map conn_words t.conns))
 
 pub device_added : (r : Result (Unit {0}) NoMemory) (old first second new : List ℕ) (t : Topology) → first ≡ old ++ crtcs_text t → second ≡ first ++ planes_text t → OnOk r (new ≡ second ++ conns_text t) →
     OnOk r (new ≡ old ++ text_of (device_lines t))

@@ -7,7 +7,7 @@ use Rattle.kms_model.specs.declared.scripts.Why.TheVariants.{Bytes, Cut, Limit}
 use Rattle.kms_model.specs.Script.Grammar.{is_printable}
 use Rattle.kms_model.specs.Script.InputLines.{Fault, Row}
 use Rattle.kms_model.specs.Script.WholeInput.{Draft, Lined, is_nil, script_line, script_limit, sized, line_after, lines_after, or_fault, missing_line}
-use Rattle.kms_script.specs.Spelling.{spelt_line, spelt_lines}
+use Rattle.kms_model.specs.Script.Spelling.{spelt_line, spelt_lines}
 use Rattle.kms_script.proofs.Accepted.{unless_ok, on_from, ok_same}
 use Rattle.kms_script.proofs.Inverted.{bind_some}
 use Rattle.kms_script.proofs.RowsSpelt.{is_line, ended_draft}

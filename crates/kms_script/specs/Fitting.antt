@@ -1,10 +1,14 @@
 -- What is kept of a script while it is read: it is one within the limits.
 use Rattle.std.specs.Prelude.{◌≡◌, ◌<◌, ◌≤◌, ◌^◌, ℕ, length, All, ⊤}
+use Rattle.std.specs.List.{AllByRecursion, IsDistinct}
+use Rattle.std.specs.Str.{bytes_eq}
 use Rattle.kms_model.specs.declared.objects.PlaneInfo.{PlaneInfo}
 use Rattle.kms_model.specs.declared.scripts.Command.{Command}
 use Rattle.kms_model.specs.declared.scripts.Command.TheVariants as command
 use Rattle.kms_model.specs.declared.scripts.Pattern.{Pattern}
 use Rattle.kms_model.specs.declared.scripts.Pattern.TheVariants.{Pixels}
+use Rattle.kms_model.specs.declared.scripts.Script.{Script}
+use Rattle.kms_model.specs.Device.Sound.{IsDevice}
 use Rattle.kms_model.specs.Stores.Kept.{Fills}
 use Rattle.kms_model.specs.Script.WellFormed.{IsFitClient, IsFitCommand}
 use Rattle.kms_model.specs.Script.WholeInput.{Draft, clients_in}
@@ -51,3 +55,11 @@ pub record HasFitClients (d : Draft) : Type 0 where
   pub clients : All IsFitClient d.clients
   pub few_commands : length d.commands ≤ 4096
   pub commands : All IsFitCommand d.commands
+
+-- what a whole draft keeps of a script: the limits, the version and names that differ
+pub record KeepsLimits (s : Script) : Type 0 where
+  pub device : IsDevice s.topology
+  pub few : length s.clients ≤ 16
+  pub clients : AllByRecursion IsFitClient s.clients
+  pub version : s.version ≡ 1
+  pub differ : IsDistinct bytes_eq s.names

@@ -1,13 +1,39 @@
 -- The names that the reader keeps, as the definitions see them, and how many there may be.
-use Rattle.std.specs.Prelude.{◌≤◌, ◌+◌, ◌^◌, ℕ, List, Option, option_map, map, length}
+use Rattle.std.specs.Prelude.{◌≡◌, ◌<◌, ◌≤◌, ◌+◌, ◌^◌, ◌==◌, Bool, true, false, ℕ, List, [], ◌∷◌, Option, option_map, length, take}
+use Rattle.std.specs.List.{list_any}
+use Rattle.std.specs.Ordering.{is_eq, nat_cmp}
 use Rattle.kms_model.specs.declared.scripts.Assign.{Assign}
-use Rattle.kms_model.specs.Script.CommandLines.{Names, assigns_read, label_alone, making, place, saying}
+use Rattle.kms_model.specs.Script.CommandLines.{Name, Names, assigns_read, label_alone, making, place, saying, unmade}
 use Rattle.kms_model.specs.Script.Grammar.{field_words}
 use Rattle.kms_model.specs.Script.Words.{◌>>=◌}
-use Rattle.kms_script.specs.declared.names.Names.{Names as Held}
 
-abbrev pub names_in : Held → Names
-names_in h = record { all = map (λ e. record { word = e.0.items; is_made = e.1 }) h.places.entries; made = h.made; is_twice = h.is_twice }
+-- the names so far, and the words of those that were there before
+pub record HeldNames : Type 0 where
+  pub names : Names
+  pub before : List (List ℕ)
+
+-- whether a number is among numbers
+abbrev pub is_in_numbers : List ℕ → ℕ → Bool
+is_in_numbers numbers n = list_any (λ m. is_eq (nat_cmp n m)) numbers
+
+-- words from a number on, as names of which those with some numbers are made
+abbrev pub marked : (ℕ → Bool) → ℕ → List (List ℕ) → List Name
+marked is_made n [] = []
+marked is_made n (w ∷ ws) = record { word = w; is_made = is_made n } ∷ marked is_made (n + 1) ws
+
+-- words with their numbers, how many of them were there before, the numbers of labels that are made, how often one was
+-- made, and whether one was made twice
+abbrev pub held : List (List ℕ) → ℕ → List ℕ → ℕ → Bool → HeldNames
+held words earlier numbers count twice = record { names = record { all = marked (is_in_numbers numbers) 0 words; made = count; is_twice = twice }; before = take earlier words }
+
+-- the numbers are those of words, and so many were there before
+pub record AreMade (words : List (List ℕ)) (count : ℕ) (numbers : List ℕ) : Type 0 where
+  pub below : (n : ℕ) → is_in_numbers numbers n ≡ true → n < length words
+  pub before : count ≤ length words
+
+-- words that were all there before, of which no line makes one
+abbrev pub kept : List (List ℕ) → HeldNames
+kept words = record { names = unmade words; before = words }
 
 -- So many names more have numbers below 2^32.
 pub record HasRoomForNames (names : Names) (more : ℕ) : Type 0 where

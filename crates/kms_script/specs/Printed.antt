@@ -3,7 +3,7 @@ use Rattle.std.specs.Prelude.{ℕ, List, ◌∷◌, []}
 use Rattle.std.specs.Fmt.{decimal}
 use Rattle.std.specs.List.{flat_map}
 use Rattle.kms_model.specs.declared.objects.Mode.{Mode}
-use Rattle.kms_script.specs.Spelling.{format_at_bit, format_word}
+use Rattle.kms_model.specs.Script.Spelling.{format_at_bit, format_word}
 use Rattle.kms_script.specs.declared.printing_words.Items.{Items}
 use Rattle.kms_script.specs.declared.printing_words.Items.TheVariants.{Crtcs, Formats}
 

@@ -2,7 +2,7 @@
 use Rattle.std.specs.Prelude.{◌≡◌, ℕ, List, Result, Ok, Err}
 use Rattle.kms_model.specs.declared.scripts.Command.{Command}
 use Rattle.kms_model.specs.declared.scripts.Why.{Why}
-use Rattle.kms_model.specs.declared.scripts.Why.TheVariants.{Form, Label, Limit}
+use Rattle.kms_model.specs.declared.scripts.Why.TheVariants.{Bytes, Cut, Form, Label, Limit, Unbuilt}
 use Rattle.kms_script.specs.declared.one_line.LineError.{LineError}
 use Rattle.kms_script.specs.declared.one_line.LineError.TheVariants as refusals
 use Rattle.kms_model.specs.declared.objects.Topology.{Topology}
@@ -12,6 +12,8 @@ use Rattle.kms_model.specs.Script.WholeInput.{Draft, topology_in}
 use Rattle.kms_script.specs.declared.devices.TopologyRead.{TopologyRead}
 use Rattle.kms_script.specs.declared.faults.ParseError.{ParseError}
 use Rattle.kms_script.specs.declared.faults.ParseError.TheVariants as errors
+use Rattle.kms_script.specs.declared.stop.Stop.{Stop}
+use Rattle.kms_script.specs.declared.stop.Stop.TheVariants as stops
 
 -- A script exactly where that script is stated, and a fault exactly where that fault is; want of memory may
 -- come anywhere.
@@ -37,3 +39,13 @@ GivesCommand (Err refusals.Form) stated after = stated ≡ Err Form
 GivesCommand (Err refusals.Label) stated after = stated ≡ Err Label
 GivesCommand (Err refusals.Limit) stated after = stated ≡ Err Limit
 GivesCommand (Err refusals.NoMemory) stated after = Unit {0}
+
+-- the error of a line by what stopped its reader: no line of a command has another fault than these three
+abbrev pub line_error : Stop → LineError
+line_error (stops.Fault Label) = refusals.Label
+line_error (stops.Fault Limit) = refusals.Limit
+line_error (stops.Fault Form) = refusals.Form
+line_error (stops.Fault Bytes) = refusals.Form
+line_error (stops.Fault Cut) = refusals.Form
+line_error (stops.Fault Unbuilt) = refusals.Form
+line_error stops.NoMemory = refusals.NoMemory

@@ -3,22 +3,22 @@ ghost use Rattle.std.specs.Prelude.{◌≡◌, ◌<◌, ◌≤◌, ◌+◌, ◌*
 ghost use Rattle.std.specs.List.{list_all};
 ghost use Rattle.kms_model.specs.Script.Grammar.{is_printable};
 ghost use Rattle.kms_model.specs.Script.WholeInput.{blank_draft, is_nil, crtcs_at, plane_type, plane_fields, conn_at, first_line, crtcs_line, plane_line, conn_line, client_line, command_line, later_line, script_line, clients_in, line_after, topology_in, script_in, is_conn_of, is_done};
-ghost use Rattle.kms_model.specs.Script.WellFormed.{IsWellFormed};
-ghost use Rattle.kms_script.specs.Fitting.{IsFitCount, IsFitPlane, IsFitMask, HasFitClients};
+ghost use Rattle.kms_script.specs.Fitting.{KeepsLimits, IsFitCount, IsFitPlane, IsFitMask, HasFitClients};
 ghost use Rattle.kms_script.specs.Drafted.{draft_in, row_in, IsSoundDraft, HasRoomFor, Keeps, Becomes, ended, is_full};
 
-use crate::commands::is_over;
+use crate::limits::{MAX_COMMANDS, MAX_LABELS, MAX_SCRIPT};
+use crate::lines::read_line;
 use crate::lists::{read_crtcs, read_formats};
 use crate::names::Names;
 use crate::rows::Row;
 use crate::stop::Stop;
 use crate::words::{split_at_byte, take_dec, take_end, take_field};
-use kms_model::{Command, NoMemory, PlaneInfo, Script, Seq, Topology, Why};
+use kms_model::{
+    Command, MAX_CLIENTS, MAX_CONNECTORS, MAX_CRTCS, MAX_PLANES, NoMemory, PlaneInfo, Script, Seq,
+    Topology, Why,
+};
 use std::alloc::Global;
 use std::mem::replace;
-
-/// The most bytes of a script: 1 MiB.
-const LIMIT: usize = 1_048_576;
 
 /// `crtcs N`: the number of CRTCs, from 1 to 4.
 #[tactic(auto, unfolding(kms_model::specs::Script::WholeInput::crtcs_at))]
@@ -26,7 +26,7 @@ fn take_count(bytes: &[u8]) -> Option<u32>
     ensures value { result ≡ crtcs_at bytes.now }
     ensures fit { IfSome result IsFitCount }
 {
-    let (count, rest) = take_dec(bytes, 4)?;
+    let (count, rest) = take_dec(bytes, u64::from(MAX_CRTCS))?;
     take_end(rest)?;
     if count == 0 { None } else { Some(count as u32) }
 }
@@ -144,7 +144,8 @@ impl Draft {
     fn first_line(&mut self, text: &[u8]) -> Result<(), Stop>
         requires sound { IsSoundDraft (draft_in self.old) }
         requires first { (draft_in self.old).head ≡ 0 }
-        ensures value { Becomes result (first_line (draft_in self.old) text.now) (draft_in self.new) }
+        ensures value { Becomes result (first_line (draft_in self.old) text.now)
+            (draft_in self.new) }
         ensures keeps { OnOk result (Keeps (draft_in self.old) (draft_in self.new) 0) }
     {
         if text != b"kms 1".as_slice() {
@@ -158,7 +159,8 @@ impl Draft {
     fn crtcs_line(&mut self, text: &[u8]) -> Result<(), Stop>
         requires sound { IsSoundDraft (draft_in self.old) }
         requires second { (draft_in self.old).head ≡ 1 }
-        ensures value { Becomes result (crtcs_line (draft_in self.old) text.now) (draft_in self.new) }
+        ensures value { Becomes result (crtcs_line (draft_in self.old) text.now)
+            (draft_in self.new) }
         ensures keeps { OnOk result (Keeps (draft_in self.old) (draft_in self.new) 0) }
     {
         let (keyword, fields) = split_at_byte(text, b' ');
@@ -178,7 +180,8 @@ impl Draft {
     fn plane_line(&mut self, fields: &[u8]) -> Result<(), Stop>
         requires sound { IsSoundDraft (draft_in self.old) }
         requires later { 2 ≤ (draft_in self.old).head }
-        ensures value { Becomes result (plane_line (draft_in self.old) fields.now) (draft_in self.new) }
+        ensures value { Becomes result (plane_line (draft_in self.old) fields.now)
+            (draft_in self.new) }
         ensures keeps { OnOk result (Keeps (draft_in self.old) (draft_in self.new) 0) }
     {
         let Some(plane) = take_plane(self.crtcs, fields) else {
@@ -187,7 +190,7 @@ impl Draft {
         if !self.conns.is_empty() {
             return Err(Stop::Fault(Why::Form));
         }
-        if self.planes.len() >= 16 {
+        if self.planes.len() >= MAX_PLANES as usize {
             return Err(Stop::Fault(Why::Limit));
         }
         self.planes.push(plane)?;
@@ -199,7 +202,8 @@ impl Draft {
     fn conn_line(&mut self, fields: &[u8]) -> Result<(), Stop>
         requires sound { IsSoundDraft (draft_in self.old) }
         requires later { 2 ≤ (draft_in self.old).head }
-        ensures value { Becomes result (conn_line (draft_in self.old) fields.now) (draft_in self.new) }
+        ensures value { Becomes result (conn_line (draft_in self.old) fields.now)
+            (draft_in self.new) }
         ensures keeps { OnOk result (Keeps (draft_in self.old) (draft_in self.new) 0) }
     {
         let Some(mask) = take_conn(self.crtcs, fields) else {
@@ -211,7 +215,7 @@ impl Draft {
         if self.has_client {
             return Err(Stop::Fault(Why::Form));
         }
-        if self.conns.len() >= 8 {
+        if self.conns.len() >= MAX_CONNECTORS as usize {
             return Err(Stop::Fault(Why::Limit));
         }
         self.conns.push(mask)?;
@@ -248,7 +252,8 @@ impl Draft {
     #[tactic(auto, unfolding(kms_model::specs::Script::WholeInput::client_line))]
     fn client_line(&mut self, alloc: Global, fields: &[u8]) -> Result<(), Stop>
         requires { IsSoundDraft (draft_in self.old) }
-        ensures value { Becomes result (client_line (draft_in self.old) fields.now) (draft_in self.new) }
+        ensures value { Becomes result (client_line (draft_in self.old) fields.now)
+            (draft_in self.new) }
         ensures keeps { OnOk result (Keeps (draft_in self.old) (draft_in self.new) 0) }
     {
         let Some(()) = take_end(fields) else {
@@ -257,7 +262,7 @@ impl Draft {
         if self.conns.is_empty() {
             return Err(Stop::Fault(Why::Form));
         }
-        if self.client_count() >= 16 {
+        if self.client_count() >= MAX_CLIENTS as usize {
             return Err(Stop::Fault(Why::Limit));
         }
         self.end_client(alloc)?;
@@ -265,11 +270,11 @@ impl Draft {
         Ok(())
     }
 
-    /// Whether a command more passes a limit.
-    fn is_full(&self, command: &Command) -> bool
-        ensures { result ≡ is_full (draft_in self.now) command.now }
+    /// Whether a client has too many commands with one more, or the script makes too many labels.
+    fn is_full(&self) -> bool
+        ensures { result ≡ is_full (draft_in self.now) }
     {
-        is_over(command) || self.commands.len() >= 4096 || self.names.made() > 4096
+        self.commands.len() >= MAX_COMMANDS || self.names.made() > MAX_LABELS
     }
 
     /// A command of the present client.
@@ -277,19 +282,16 @@ impl Draft {
     fn command_line(&mut self, alloc: Global, text: &[u8]) -> Result<(), Stop>
         requires sound { IsSoundDraft (draft_in self.old) }
         requires room { HasRoomFor (draft_in self.old) text.now }
-        ensures value { Becomes result (command_line (draft_in self.old) text.now) (draft_in self.new) }
-        ensures keeps { OnOk result (Keeps (draft_in self.old) (draft_in self.new) (length text.now + 2)) }
+        ensures value { Becomes result (command_line (draft_in self.old) text.now)
+            (draft_in self.new) }
+        ensures keeps { OnOk result (Keeps (draft_in self.old)
+            (draft_in self.new) (length text.now + 2)) }
     {
         if !self.has_client {
             return Err(Stop::Fault(Why::Form));
         }
-        let Some(command) = self.names.command(alloc, text)? else {
-            return Err(Stop::Fault(Why::Form));
-        };
-        if self.names.is_twice() {
-            return Err(Stop::Fault(Why::Label));
-        }
-        if self.is_full(&command) {
+        let command = read_line(&mut self.names, alloc, text)?;
+        if self.is_full() {
             return Err(Stop::Fault(Why::Limit));
         }
         self.commands.push(command)?;
@@ -302,8 +304,10 @@ impl Draft {
         requires sound { IsSoundDraft (draft_in self.old) }
         requires later { 2 ≤ (draft_in self.old).head }
         requires room { HasRoomFor (draft_in self.old) text.now }
-        ensures value { Becomes result (later_line (draft_in self.old) text.now) (draft_in self.new) }
-        ensures keeps { OnOk result (Keeps (draft_in self.old) (draft_in self.new) (length text.now + 2)) }
+        ensures value { Becomes result (later_line (draft_in self.old) text.now)
+            (draft_in self.new) }
+        ensures keeps { OnOk result (Keeps (draft_in self.old)
+            (draft_in self.new) (length text.now + 2)) }
     {
         let (keyword, fields) = split_at_byte(text, b' ');
         if keyword == b"plane".as_slice() {
@@ -321,8 +325,10 @@ impl Draft {
     fn script_line(&mut self, alloc: Global, text: &[u8]) -> Result<(), Stop>
         requires sound { IsSoundDraft (draft_in self.old) }
         requires room { HasRoomFor (draft_in self.old) text.now }
-        ensures value { Becomes result (script_line (draft_in self.old) text.now) (draft_in self.new) }
-        ensures keeps { OnOk result (Keeps (draft_in self.old) (draft_in self.new) (length text.now + 2)) }
+        ensures value { Becomes result (script_line (draft_in self.old) text.now)
+            (draft_in self.new) }
+        ensures keeps { OnOk result (Keeps (draft_in self.old)
+            (draft_in self.new) (length text.now + 2)) }
     {
         match self.head {
             0 => self.first_line(text),
@@ -337,7 +343,8 @@ impl Draft {
     pub fn line(&mut self, alloc: Global, row: &Row<'_>) -> Result<(), Stop>
         requires sound { IsSoundDraft (draft_in self.old) }
         requires room { HasRoomFor (draft_in self.old) (row_in row.now).text }
-        ensures value { Becomes result (line_after (draft_in self.old) (row_in row.now)) (draft_in self.new) }
+        ensures value { Becomes result (line_after (draft_in self.old) (row_in row.now))
+            (draft_in self.new) }
         ensures sound { OnOk result (IsSoundDraft (draft_in self.new)) }
         ensures longer { OnOk result ((draft_in self.old).size < (draft_in self.new).size) }
     {
@@ -348,7 +355,7 @@ impl Draft {
             return Err(Stop::Fault(Why::Cut));
         }
         self.script_line(alloc, row.text)?;
-        if row.text.len() >= LIMIT - self.size {
+        if row.text.len() >= MAX_SCRIPT - self.size {
             return Err(Stop::Fault(Why::Limit));
         }
         self.size += row.text.len() + 1;
@@ -381,7 +388,7 @@ impl Draft {
         requires sound { IsSoundDraft (draft_in self) }
         requires whole { 0 < length (draft_in self).conns }
         ensures value { IfOk result (λ script. script ≡ script_in (draft_in self)) }
-        ensures formed { IfOk result IsWellFormed }
+        ensures limits { IfOk result KeepsLimits }
     {
         self.end_client(alloc)?;
         Ok(Script {
@@ -391,7 +398,7 @@ impl Draft {
                 planes: self.planes,
                 conns: self.conns,
             },
-            names: self.names.into_words(alloc)?,
+            names: self.names.into_words(),
             clients: self.clients,
         })
     }

@@ -3,18 +3,16 @@ ghost use Rattle.std.specs.Prelude.{◌≡◌, ◌≤◌, ◌<◌, ℕ, IfOk, le
 ghost use Rattle.kms_model.specs.Script.InputLines.{rows_of};
 ghost use Rattle.kms_model.specs.Script.WholeInput.{blank_draft, input, lines_after};
 ghost use Rattle.kms_model.specs.Script.WellFormed.{IsWellFormed};
-ghost use Rattle.kms_script.specs.Spelling.{Spells};
+ghost use Rattle.kms_model.specs.Script.Spelling.{Spells};
 ghost use Rattle.kms_script.specs.Stated.{Gives};
 ghost use Rattle.kms_script.specs.Drafted.{draft_in, GivesDraft, IsSoundDraft};
 
 use crate::draft::Draft;
 use crate::faults::ParseError;
+use crate::limits::MAX_INPUT;
 use crate::rows::split_line;
 use kms_model::{Script, Why};
 use std::alloc::Global;
-
-/// The most bytes of an input: 64 MiB.
-const LIMIT: usize = 67_108_864;
 
 /// Reads the lines of an input that is no longer than an input may be.
 fn read_lines(alloc: Global, bytes: &[u8]) -> Result<Draft, ParseError>
@@ -57,7 +55,7 @@ pub fn parse(alloc: Global, bytes: &[u8]) -> Result<Script, ParseError>
     ensures formed { IfOk result IsWellFormed }
     ensures spells { IfOk result (Spells bytes.now) }
 {
-    if bytes.len() > LIMIT {
+    if bytes.len() > MAX_INPUT {
         return Err(ParseError::Fault {
             line: 0,
             why: Why::Limit,

@@ -1,105 +1,167 @@
 //! The names that a script says: labels, and names of properties that no property has.
-ghost use Rattle.std.specs.Prelude.{◌≡◌, ◌≤◌, ◌<◌, ◌+◌, ◌^◌, ℕ, [], Some, IfOk, OnOk, length, map};
-ghost use Rattle.std.specs.List.{IsDistinct};
+ghost use Rattle.std.specs.Prelude.{◌≡◌, ◌≤◌, ◌<◌, ◌+◌, ◌++◌, ◌^◌, ℕ, [], if◌then◌else◌, IfOk, OnOk, length, map};
+ghost use Rattle.std.specs.List.{IsDistinct, list_any};
 ghost use Rattle.std.specs.Str.{bytes_eq};
 ghost use Rattle.kms_model.specs.Script.CommandLines.{place, saying, making, unmade, words_in};
-ghost use Rattle.kms_script.specs.Named.{names_in, HasRoomForNames, NamesGrow};
+ghost use Rattle.kms_script.specs.Named.{HasRoomForNames, NamesGrow, kept};
+ghost use Rattle.kms_script.specs.Overlong.{made_words, packed_all, packed_alone};
 
-use indexmap::IndexMap;
+use crate::numbering::Numbering;
+use crate::overlong::push_packed;
 use kms_model::{NoMemory, Seq};
 use std::alloc::Global;
+use std::collections::BTreeSet;
+use std::marker::Model;
 
-/// The names so far. A name's number is its place in order of first occurrence.
+/// The names so far, and which of them were there before. Contracts see them as the definitions do.
 #[derive(Drop)]
 pub struct Names {
-    /// Each name once, in that order, with whether a line makes a thing under it.
-    places: IndexMap<Vec<u8>, bool>,
-    /// How many labels were made.
-    made: u64,
+    /// Each name's number is its place in order of first occurrence.
+    numbering: Numbering,
+    /// How many of the names were there before.
+    before: usize,
+    /// The numbers of the labels under which a line makes a thing.
+    made: BTreeSet<u32>,
+    /// How often a label was made.
+    count: u64,
     /// Whether a label was made that had been made before.
     is_twice: bool,
+}
+
+impl Model for Names {
+    ghost use Rattle.kms_script.specs.Named.{HeldNames, held, AreMade};
+
+    ghost Value = { HeldNames };
+
+    ghost view = { λ n. held n.numbering n.before n.made.keys n.count n.is_twice };
+
+    ghost invariant = { λ n. AreMade n.numbering n.before n.made.keys };
+}
+
+/// Adds the number of a label that a line makes.
+fn push_where(numbers: &mut Vec<u128>, is_made: bool, word: &[u8]) -> Result<(), NoMemory>
+    ensures { OnOk result (numbers.new.items
+        ≡ numbers.old.items ++ (if is_made then packed_alone word.now else [])) }
+{
+    if is_made {
+        push_packed(numbers, word)
+    } else {
+        Ok(())
+    }
 }
 
 impl Names {
     /// No names.
     pub fn new(alloc: Global) -> Names
-        ensures { names_in result ≡ unmade [] }
+        ensures { result ≡ kept [] }
     {
         Names {
-            places: IndexMap::new(alloc),
-            made: 0,
+            numbering: Numbering::new(alloc),
+            before: 0,
+            made: BTreeSet::new(alloc),
+            count: 0,
             is_twice: false,
         }
     }
 
-    /// How many labels were made.
+    /// How often a label was made.
     pub fn made(&self) -> u64
-        ensures { result ≡ (names_in self.now).made }
+        ensures { result ≡ self.now.names.made }
     {
-        self.made
+        self.count
     }
 
     /// Whether a label was made that had been made before.
     pub fn is_twice(&self) -> bool
-        ensures { result ≡ (names_in self.now).is_twice }
+        ensures { result ≡ self.now.names.is_twice }
     {
         self.is_twice
     }
 
     /// The number of a name that is said.
-    #[tactic(auto, unfolding(kms_model::specs::Script::CommandLines::saying))]
     pub fn say(&mut self, alloc: Global, word: &[u8]) -> Result<u32, NoMemory>
-        requires { HasRoomForNames (names_in self.old) 1 }
-        ensures number { IfOk result (λ n. n ≡ place word.now (names_in self.old)) }
-        ensures names { OnOk result (names_in self.new ≡ saying word.now (names_in self.old)) }
-        ensures grows { OnOk result (NamesGrow (names_in self.old) (names_in self.new) 1) }
+        requires { HasRoomForNames self.old.names 1 }
+        ensures number { IfOk result (λ n. n ≡ place word.now self.old.names) }
+        ensures names { OnOk result (self.new.names ≡ saying word.now self.old.names) }
+        ensures grows { OnOk result (NamesGrow self.old.names self.new.names 1) }
+        ensures before { self.new.before ≡ self.old.before }
     {
-        if let Some(place) = self.places.get_index_of(word) {
-            return Ok(place as u32);
+        if let Some(number) = self.numbering.find(word) {
+            return Ok(number);
         }
-        let key = Vec::from_slice(alloc, word)?;
-        let (place, _) = self.places.insert_full(key, false)?;
-        Ok(place as u32)
+        let number = self.numbering.len() as u32;
+        self.numbering.push(alloc, word)?;
+        Ok(number)
     }
 
     /// The number of a label that a line makes.
-    #[tactic(auto, unfolding(kms_model::specs::Script::CommandLines::making))]
     pub fn make(&mut self, alloc: Global, word: &[u8]) -> Result<u32, NoMemory>
-        requires { HasRoomForNames (names_in self.old) 1 }
-        ensures number { IfOk result (λ n. n ≡ place word.now (names_in self.old)) }
-        ensures names { OnOk result (names_in self.new ≡ making word.now (names_in self.old)) }
-        ensures grows { OnOk result (NamesGrow (names_in self.old) (names_in self.new) 1) }
+        requires { HasRoomForNames self.old.names 1 }
+        ensures number { IfOk result (λ n. n ≡ place word.now self.old.names) }
+        ensures names { OnOk result (self.new.names ≡ making word.now self.old.names) }
+        ensures grows { OnOk result (NamesGrow self.old.names self.new.names 1) }
+        ensures before { self.new.before ≡ self.old.before }
     {
-        let key = Vec::from_slice(alloc, word)?;
-        let (place, before) = self.places.insert_full(key, true)?;
-        self.made += 1;
-        self.is_twice |= before.unwrap_or(false);
-        Ok(place as u32)
+        let number = self.say(alloc, word)?;
+        let is_new = self.made.insert(number)?;
+        self.count += 1;
+        self.is_twice |= !is_new;
+        Ok(number)
+    }
+
+    /// Adds the numbers of the labels that lines make.
+    pub fn push_made(&self, numbers: &mut Vec<u128>) -> Result<(), NoMemory>
+        requires { HasRoomForNames self.now.names 1 }
+        ensures made { OnOk result (numbers.new.items
+            ≡ numbers.old.items ++ packed_all (made_words self.now.names.all)) }
+        ensures differ { OnOk result (IsDistinct bytes_eq (words_in self.now.names)) }
+    {
+        let mut number = 0u32;
+        for word in self.numbering.words() {
+            let is_made = self.made.contains(&number);
+            push_where(numbers, is_made, word.as_slice())?;
+            number += 1;
+        }
+        Ok(())
+    }
+
+    /// Lets all names stay: they are those before the next line, and no line makes one yet.
+    pub fn keep(&mut self, alloc: Global)
+        ensures { self.new ≡ kept (words_in self.old.names) }
+    {
+        self.before = self.numbering.len();
+        self.undo(alloc);
+    }
+
+    /// Takes the names back that were not there before; no line makes one yet.
+    pub fn undo(&mut self, alloc: Global)
+        ensures { self.new ≡ kept self.old.before }
+    {
+        self.numbering.shorten(self.before);
+        self.made = BTreeSet::new(alloc);
+        self.count = 0;
+        self.is_twice = false;
     }
 
     /// The words of all names, in order.
-    pub fn into_words(self, alloc: Global) -> Result<Seq<Seq<u8>>, NoMemory>
-        ensures words { IfOk result (λ words. words ≡ words_in (names_in self)) }
-        ensures differ { IfOk result (IsDistinct bytes_eq) }
+    pub fn into_words(self) -> Seq<Seq<u8>>
+        ensures words { result ≡ words_in self.names }
+        ensures differ { IsDistinct bytes_eq result }
     {
-        let words = self
-            .places
-            .into_keys()
-            .map(|word| Seq::from_vec(word))
-            .collect(alloc)?;
-        Ok(Seq::from_vec(words))
+        self.numbering.into_words()
     }
 
-    /// Names of words that differ, of which no line makes one.
+    /// Names of words that differ, all of them there before, of which no line makes one.
     pub fn from_words(alloc: Global, words: &[Seq<u8>]) -> Result<Names, NoMemory>
         requires differ { IsDistinct bytes_eq words.now }
         requires few { length words.now ≤ 2 ^ 32 }
-        ensures { IfOk result (λ names. names_in names ≡ unmade words.now) }
+        ensures { IfOk result (λ names. names ≡ kept words.now) }
     {
         let mut names = Names::new(alloc);
         for word in words {
             names.say(alloc, word.as_slice())?;
         }
+        names.keep(alloc);
         Ok(names)
     }
 }

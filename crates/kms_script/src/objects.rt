@@ -79,7 +79,8 @@ pub struct AssignWords<'a> {
 /// The words of `OBJ.PROP=VALUE`.
 #[tactic(auto, unfolding(kms_model::specs::Script::CommandLines::assign_words))]
 pub fn read_assign_words(word: &[u8]) -> Option<AssignWords<'_>>
-    ensures value { option_map (λ w. (w.kind, w.index, w.prop.now, w.value.now)) result ≡ assign_words word.now }
+    ensures value { option_map (λ w. (w.kind, w.index, w.prop.now, w.value.now)) result
+        ≡ assign_words word.now }
     ensures some { IfSome result (λ _. 1 ≤ length word.now) }
 {
     let (object, tail) = split_at_byte(word, b'.');

@@ -1,14 +1,16 @@
 //! One line of a script alone.
-ghost use Rattle.std.specs.Prelude.{◌≡◌, ◌≤◌, ◌<◌, ◌+◌, OnErr, length};
+ghost use Rattle.std.specs.Prelude.{◌≡◌, ◌≤◌, ◌<◌, ◌+◌, [], IfOk, OnErr, length};
 ghost use Rattle.std.specs.List.{IsDistinct};
 ghost use Rattle.std.specs.Str.{bytes_eq};
 ghost use Rattle.kms_model.specs.Script.CommandLines.{line_read};
-ghost use Rattle.kms_script.specs.Stated.{GivesCommand};
+ghost use Rattle.kms_script.specs.Stated.{GivesCommand, line_error};
 
-use crate::commands::is_over;
+use crate::lines::read_line;
 use crate::names::Names;
-use kms_model::{Command, NoMemory, Seq, Topology};
+use crate::stop::Stop;
+use kms_model::{Command, NoMemory, Seq, Topology, Why};
 use std::alloc::Global;
+use std::marker::Model;
 
 /// Why a line is no command that may stand behind given names.
 #[derive(Clone, Copy, Debug, PartialEq, Eq)]
@@ -34,14 +36,95 @@ impl From<NoMemory> for LineError {
     }
 }
 
+/// The error of a line by what stopped its reader.
+fn line_error(stop: Stop) -> LineError
+    ensures { result ≡ line_error stop }
+{
+    match stop {
+        Stop::Fault(Why::Label) => LineError::Label,
+        Stop::Fault(Why::Limit) => LineError::Limit,
+        Stop::Fault(_) => LineError::Form,
+        Stop::NoMemory => LineError::NoMemory,
+    }
+}
+
+/// The names that lines say, with an index of them, for lines that are read one after the other. Contracts see the
+/// list of names: labels, and names of properties that no property has, each once in order of first occurrence.
+#[derive(Drop)]
+pub struct NameIndex {
+    names: Names,
+}
+
+impl Model for NameIndex {
+    ghost use Rattle.std.specs.Prelude.{◌≡◌, ℕ, List};
+    ghost use Rattle.kms_script.specs.Named.{kept};
+
+    ghost Value = { List (List ℕ) };
+
+    ghost view = { λ n. n.names.before };
+
+    ghost invariant = { λ n. n.names ≡ kept n.names.before };
+}
+
+impl NameIndex {
+    /// No names.
+    pub fn new(alloc: Global) -> NameIndex
+        ensures { result ≡ [] }
+    {
+        NameIndex {
+            names: Names::new(alloc),
+        }
+    }
+
+    /// The index of names that differ, at most 4,294,967,296 of them.
+    pub fn of(alloc: Global, names: &[Seq<u8>]) -> Result<NameIndex, NoMemory>
+        requires differ { IsDistinct bytes_eq names.now }
+        requires few { length names.now ≤ 4294967296 }
+        ensures { IfOk result (λ index. index ≡ names.now) }
+    {
+        Ok(NameIndex {
+            names: Names::from_words(alloc, names)?,
+        })
+    }
+
+    /// The names.
+    pub fn into_names(self) -> Seq<Seq<u8>>
+        ensures names { result ≡ self }
+        ensures differ { IsDistinct bytes_eq result }
+    {
+        self.names.into_words()
+    }
+
+    /// The command that a line spells, without its line feed, as `read_command` gives it. A call takes no longer for
+    /// the names of earlier lines than to find those of this line among them.
+    ///
+    /// The names must with the line's bytes be fewer than 4,294,967,295.
+    pub fn read(&mut self, alloc: Global, line: &[u8]) -> Result<Command, LineError>
+        requires few { length self.old + length line.now < 4294967295 }
+        ensures value { GivesCommand result (line_read self.old line.now) self.new }
+        ensures few { length self.new ≤ length self.old + length line.now + 2 }
+        ensures unchanged { OnErr result (self.new ≡ self.old) }
+    {
+        match read_line(&mut self.names, alloc, line) {
+            Ok(command) => {
+                self.names.keep(alloc);
+                Ok(command)
+            }
+            Err(stop) => {
+                self.names.undo(alloc);
+                Err(line_error(stop))
+            }
+        }
+    }
+}
+
 /// The command that a line spells, without its line feed. The line's new labels and unknown names of properties go
 /// behind the names. The refusals come in the order Form, Label, Limit, and leave the names as they were; that
 /// earlier lines make the line's labels is no matter of this call. Each object may have any index to 255, whatever
 /// the device has.
 ///
 /// The names must differ, as they do after this call, and with the line's bytes be fewer than 4,294,967,295. A call
-/// goes over all of them.
-#[tactic(auto, unfolding(kms_model::specs::Script::CommandLines::line_read))]
+/// goes over all of them: for many lines take a `NameIndex`.
 pub fn read_command(
     alloc: Global,
     _topology: &Topology,
@@ -55,16 +138,8 @@ pub fn read_command(
     ensures few { length names.new ≤ length names.old + length line.now + 2 }
     ensures unchanged { OnErr result (names.new ≡ names.old) }
 {
-    let mut said = Names::from_words(alloc, names.as_slice())?;
-    let Some(command) = said.command(alloc, line)? else {
-        return Err(LineError::Form);
-    };
-    if said.is_twice() {
-        return Err(LineError::Label);
-    }
-    if is_over(&command) {
-        return Err(LineError::Limit);
-    }
-    *names = said.into_words(alloc)?;
+    let mut index = NameIndex::of(alloc, names.as_slice())?;
+    let command = index.read(alloc, line)?;
+    *names = index.into_names();
     Ok(command)
 }

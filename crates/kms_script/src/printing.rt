@@ -4,7 +4,7 @@ ghost use Rattle.std.specs.Fmt.{decimal};
 ghost use Rattle.std.specs.List.{flat_map};
 ghost use Rattle.kms_model.specs.Report.TextLines.{line};
 ghost use Rattle.kms_model.specs.Script.WholeInput.{input, script_limit};
-ghost use Rattle.kms_script.specs.Spelling.{Spells, client_lines, conn_words, device_lines, plane_words, spelling, text_of};
+ghost use Rattle.kms_model.specs.Script.Spelling.{Spells, client_lines, conn_words, device_lines, spelt_plane, spelling, text_of};
 
 use crate::printing_commands::{push_command, push_number, push_word};
 use crate::printing_words::{push_crtcs, push_formats, type_word};
@@ -13,7 +13,8 @@ use std::alloc::Global;
 
 /// Adds a line of a word and a number.
 fn push_numbered(text: &mut Vec<u8>, word: &[u8], number: u32) -> Result<(), NoMemory>
-    ensures { OnOk result (text.new.items ≡ text.old.items ++ line (word.now ∷ decimal number ∷ [])) }
+    ensures { OnOk result (text.new.items
+        ≡ text.old.items ++ line (word.now ∷ decimal number ∷ [])) }
 {
     text.extend_from_slice(word)?;
     push_number(text, u64::from(number))?;
@@ -23,7 +24,7 @@ fn push_numbered(text: &mut Vec<u8>, word: &[u8], number: u32) -> Result<(), NoM
 
 /// Adds `plane TYPE LIST FMTS`.
 fn push_plane(text: &mut Vec<u8>, plane: &PlaneInfo) -> Result<(), NoMemory>
-    ensures { OnOk result (text.new.items ≡ text.old.items ++ line (plane_words plane.now)) }
+    ensures { OnOk result (text.new.items ≡ text.old.items ++ line (spelt_plane plane.now)) }
 {
     text.extend_from_slice(b"plane")?;
     push_word(text, type_word(plane.kind))?;
@@ -46,7 +47,8 @@ fn push_conn(text: &mut Vec<u8>, crtcs: u32) -> Result<(), NoMemory>
 }
 
 fn push_planes(text: &mut Vec<u8>, planes: &[PlaneInfo]) -> Result<(), NoMemory>
-    ensures { OnOk result (text.new.items ≡ text.old.items ++ flat_map (λ p. line (plane_words p)) planes.now) }
+    ensures { OnOk result (text.new.items
+        ≡ text.old.items ++ flat_map (λ p. line (plane_words p)) planes.now) }
 {
     for plane in planes {
         push_plane(text, plane)?;
@@ -55,7 +57,8 @@ fn push_planes(text: &mut Vec<u8>, planes: &[PlaneInfo]) -> Result<(), NoMemory>
 }
 
 fn push_conns(text: &mut Vec<u8>, conns: &[u32]) -> Result<(), NoMemory>
-    ensures { OnOk result (text.new.items ≡ text.old.items ++ flat_map (λ mask. line (conn_words mask)) conns.now) }
+    ensures { OnOk result (text.new.items
+        ≡ text.old.items ++ flat_map (λ mask. line (conn_words mask)) conns.now) }
 {
     for crtcs in conns {
         push_conn(text, *crtcs)?;
@@ -79,7 +82,8 @@ fn push_client(
     names: &[Seq<u8>],
     commands: &[Command],
 ) -> Result<(), NoMemory>
-    ensures { OnOk result (text.new.items ≡ text.old.items ++ text_of (client_lines names.now commands.now)) }
+    ensures { OnOk result (text.new.items
+        ≡ text.old.items ++ text_of (client_lines names.now commands.now)) }
 {
     text.extend_from_slice(b"client\n")?;
     for command in commands {
@@ -94,7 +98,8 @@ fn push_clients(
     names: &[Seq<u8>],
     clients: &[Seq<Command>],
 ) -> Result<(), NoMemory>
-    ensures { OnOk result (text.new.items ≡ text.old.items ++ flat_map (λ commands. text_of (client_lines names.now commands)) clients.now) }
+    ensures { OnOk result (text.new.items ≡ text.old.items
+        ++ flat_map (λ commands. text_of (client_lines names.now commands)) clients.now) }
 {
     for commands in clients {
         push_client(alloc, text, names, commands.as_slice())?;
@@ -112,7 +117,8 @@ pub fn print(alloc: Global, script: &Script) -> Result<Seq<u8>, NoMemory>
 
     // Each script has one spelling, and `parse` reads it as the same script, where it is no longer than a script may be.
     ensures one { IfOk result (λ t. (bytes : List ℕ) → Spells bytes script.now → t ≡ bytes) }
-    ensures again { IfOk result (λ t. (bytes : List ℕ) → Spells bytes script.now → length t ≤ script_limit → input t ≡ Ok script.now) }
+    ensures again { IfOk result (λ t. (bytes : List ℕ) → Spells bytes script.now
+        → length t ≤ script_limit → input t ≡ Ok script.now) }
 {
     let mut text = Vec::new(alloc);
     push_numbered(&mut text, b"kms", script.version)?;

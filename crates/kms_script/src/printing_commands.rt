@@ -4,7 +4,7 @@ ghost use Rattle.std.specs.Fmt.{decimal};
 ghost use Rattle.std.specs.List.{flat_map};
 ghost use Rattle.kms_model.specs.Report.TextLines.{line};
 ghost use Rattle.kms_script.specs.Printed.{fields, mode_line_numbers};
-ghost use Rattle.kms_script.specs.Spelling.{assign_word, command_words, format_word, hex_word, mode_words, name_word, pattern_words, pixel_word};
+ghost use Rattle.kms_model.specs.Script.Spelling.{assign_word, command_words, format_word, hex_word, spelt_mode, name_word, pattern_words, pixel_word};
 
 use crate::printing_words::{
     format_word, name_word, push_assign, push_blob, push_decimal, push_hex, push_pixel,
@@ -38,7 +38,8 @@ fn push_pixel_word(text: &mut Vec<u8>, format: Format, pixel: u32) -> Result<(),
 }
 
 fn push_pixels(text: &mut Vec<u8>, format: Format, pixels: &[u32]) -> Result<(), NoMemory>
-    ensures { OnOk result (text.new.items ≡ text.old.items ++ flat_map (λ p. 32 ∷ pixel_word format p) pixels.now) }
+    ensures { OnOk result (text.new.items
+        ≡ text.old.items ++ flat_map (λ p. 32 ∷ pixel_word format p) pixels.now) }
 {
     for pixel in pixels {
         push_pixel_word(text, format, *pixel)?;
@@ -47,7 +48,8 @@ fn push_pixels(text: &mut Vec<u8>, format: Format, pixels: &[u32]) -> Result<(),
 }
 
 fn push_pattern(text: &mut Vec<u8>, format: Format, pattern: &Pattern) -> Result<(), NoMemory>
-    ensures { OnOk result (text.new.items ≡ text.old.items ++ fields (pattern_words format pattern.now)) }
+    ensures { OnOk result (text.new.items
+        ≡ text.old.items ++ fields (pattern_words format pattern.now)) }
 {
     match pattern {
         Pattern::Solid(pixel) => {
@@ -91,7 +93,8 @@ fn mode_numbers(mode: &Mode) -> [u32; 14]
 }
 
 fn push_numbers(text: &mut Vec<u8>, numbers: &[u32]) -> Result<(), NoMemory>
-    ensures { OnOk result (text.new.items ≡ text.old.items ++ flat_map (λ n. 32 ∷ decimal n) numbers.now) }
+    ensures { OnOk result (text.new.items
+        ≡ text.old.items ++ flat_map (λ n. 32 ∷ decimal n) numbers.now) }
 {
     for number in numbers {
         push_number(text, u64::from(*number))?;
@@ -101,7 +104,7 @@ fn push_numbers(text: &mut Vec<u8>, numbers: &[u32]) -> Result<(), NoMemory>
 
 /// Adds the 15 words of a mode: its name ends before its first zero.
 fn push_mode(text: &mut Vec<u8>, mode: &Mode) -> Result<(), NoMemory>
-    ensures { OnOk result (text.new.items ≡ text.old.items ++ fields (mode_words mode.now)) }
+    ensures { OnOk result (text.new.items ≡ text.old.items ++ fields (spelt_mode mode.now)) }
 {
     push_numbers(text, &mode_numbers(mode))?;
     let (name, _) = split_at_byte(&mode.name, 0);
@@ -109,7 +112,8 @@ fn push_mode(text: &mut Vec<u8>, mode: &Mode) -> Result<(), NoMemory>
 }
 
 fn push_assigns(text: &mut Vec<u8>, names: &[Seq<u8>], assigns: &[Assign]) -> Result<(), NoMemory>
-    ensures { OnOk result (text.new.items ≡ text.old.items ++ flat_map (λ a. 32 ∷ assign_word names.now a) assigns.now) }
+    ensures { OnOk result (text.new.items
+        ≡ text.old.items ++ flat_map (λ a. 32 ∷ assign_word names.now a) assigns.now) }
 {
     for assign in assigns {
         text.push(b' ')?;
@@ -125,7 +129,9 @@ fn push_atomic(
     names: &[Seq<u8>],
     request: &Request,
 ) -> Result<(), NoMemory>
-    ensures { OnOk result (text.new.items ≡ text.old.items ++ codes "atomic" ++ fields (hex_word request.now.flags ∷ decimal request.now.user_data ∷ map (assign_word names.now) request.now.assigns)) }
+    ensures { OnOk result (text.new.items ≡ text.old.items ++ codes "atomic"
+        ++ fields (hex_word request.now.flags ∷ decimal request.now.user_data
+        ∷ map (assign_word names.now) request.now.assigns)) }
 {
     text.extend_from_slice(b"atomic ")?;
     push_hex(alloc, text, request.flags)?;
@@ -140,7 +146,8 @@ fn push_front(
     names: &[Seq<u8>],
     label: u32,
 ) -> Result<(), NoMemory>
-    ensures { OnOk result (text.new.items ≡ text.old.items ++ keyword.now ++ 32 ∷ name_word names.now label) }
+    ensures { OnOk result (text.new.items
+        ≡ text.old.items ++ keyword.now ++ 32 ∷ name_word names.now label) }
 {
     text.extend_from_slice(keyword)?;
     push_word(text, name_word(names, label))
@@ -148,7 +155,8 @@ fn push_front(
 
 /// Adds ` W H FMT`.
 fn push_size(text: &mut Vec<u8>, width: u32, height: u32, format: Format) -> Result<(), NoMemory>
-    ensures { OnOk result (text.new.items ≡ text.old.items ++ fields (decimal width ∷ decimal height ∷ format_word format ∷ [])) }
+    ensures { OnOk result (text.new.items
+        ≡ text.old.items ++ fields (decimal width ∷ decimal height ∷ format_word format ∷ [])) }
 {
     push_number(text, u64::from(width))?;
     push_number(text, u64::from(height))?;
@@ -162,7 +170,8 @@ fn push_command_words(
     names: &[Seq<u8>],
     command: &Command,
 ) -> Result<(), NoMemory>
-    ensures { OnOk result (text.new.items ++ 10 ∷ [] ≡ text.old.items ++ line (command_words names.now command.now)) }
+    ensures { OnOk result (text.new.items ++ 10 ∷ []
+        ≡ text.old.items ++ line (command_words names.now command.now)) }
 {
     match command {
         Command::Buffer {
@@ -208,7 +217,8 @@ pub fn push_command(
     names: &[Seq<u8>],
     command: &Command,
 ) -> Result<(), NoMemory>
-    ensures { OnOk result (text.new.items ≡ text.old.items ++ line (command_words names.now command.now)) }
+    ensures { OnOk result (text.new.items
+        ≡ text.old.items ++ line (command_words names.now command.now)) }
 {
     push_command_words(alloc, text, names, command)?;
     text.push(b'\n')?;

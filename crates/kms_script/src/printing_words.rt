@@ -1,12 +1,12 @@
 //! The words that print a script's values.
 ghost use Rattle.std.specs.Prelude.{◌≡◌, ◌<◌, ◌++◌, false, OnOk};
 ghost use Rattle.std.specs.Fmt.{decimal, signed_decimal, digit_glyph};
-ghost use Rattle.kms_model.specs.Device.Masks.{has_bit};
 ghost use Rattle.kms_script.specs.Printed.{bits_in, item_word};
-ghost use Rattle.kms_script.specs.Spelling.{assign_word, blob_word, crtcs_word, format_at_bit, format_word, formats_word, hex_digits, hex_word, kind_word, list_word, name_word, pixel_word, property_word, type_word, value_word};
+ghost use Rattle.kms_model.specs.Report.Replies.{kind_name};
+ghost use Rattle.kms_model.specs.Script.Spelling.{assign_word, blob_word, crtcs_word, format_at_bit, format_word, formats_word, hex_digits, hex_word, list_word, name_word, pixel_word, property_word, type_word, value_word};
 
 use itoa::Buffer;
-use kms_model::{Assign, Format, Kind, NoMemory, PropRef, Seq, Value};
+use kms_model::{Assign, Format, Kind, MAX_CRTCS, NoMemory, PropRef, Seq, Value, has_bit};
 use kms_props::row_of;
 use std::alloc::Global;
 
@@ -21,7 +21,7 @@ pub fn format_word(format: Format) -> &'static [u8]
 }
 
 fn kind_word(kind: Kind) -> &'static [u8]
-    ensures { result.now ≡ kind_word kind }
+    ensures { result.now ≡ kind_name kind }
 {
     match kind {
         Kind::Crtc => b"crtc",
@@ -147,7 +147,7 @@ fn bits_in(items: Items) -> u32
     ensures few { result < 5 }
 {
     match items {
-        Items::Crtcs => 4,
+        Items::Crtcs => MAX_CRTCS,
         Items::Formats => 3,
     }
 }
@@ -175,16 +175,10 @@ fn push_item(text: &mut Vec<u8>, items: Items, bit: u32) -> Result<(), NoMemory>
     }
 }
 
-fn has_bit(mask: u32, bit: u32) -> bool
-    requires { bit < 32 }
-    ensures { result ≡ has_bit mask bit }
-{
-    mask & (1 << bit) != 0
-}
-
 /// Adds the words of a set's bits from the lowest, parted by commas.
 fn push_list(text: &mut Vec<u8>, items: Items, mask: u32) -> Result<(), NoMemory>
-    ensures { OnOk result (text.new.items ≡ text.old.items ++ list_word (item_word items) (bits_in items) mask) }
+    ensures { OnOk result (text.new.items
+        ≡ text.old.items ++ list_word (item_word items) (bits_in items) mask) }
 {
     let mut separator: &[u8] = b"";
     for bit in 0..bits_in(items) {

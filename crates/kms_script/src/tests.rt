@@ -2,6 +2,7 @@
 ghost use Rattle.std.specs.Prelude.{◌<◌, length};
 
 use crate::{
+    NameIndex,
     LineError, ParseError, Why, is_label, parse, read_command, read_dec, read_int, read_topology,
 };
 use kms_model::{Script, Seq, Topology};
@@ -268,6 +269,8 @@ fn a_request_has_256_assignments(rt: HostRuntime) -> Result<(), Fail> {
         (257, b"\n", Some((10, Why::Limit))),
         (257, b" crtc0.OUT_FENCE_PTR=+m\n", Some((10, Why::Label))),
         (257, b" crtc0.OUT_FENCE_PTR=+m+\n", Some((10, Why::Form))),
+        (257, b" crtc0.x=+z crtc1.x=+y crtc0.x=@z\n", Some((10, Why::Limit))),
+        (257, b" crtc0.x=+z crtc1.x=+y crtc0.x=+z\n", Some((10, Why::Label))),
     ] {
         let line = repeated(alloc, front.as_slice(), b" crtc0.ACTIVE=1", count)?;
         let text = repeated(alloc, line.as_slice(), last, 1)?;
@@ -430,6 +433,30 @@ fn two_lines(
     read_command(alloc, device, &mut names, first)?;
     read_command(alloc, device, &mut names, second)?;
     Ok(names.len())
+}
+
+/// How many names an index has behind two lines, the second of which may be refused.
+fn two_indexed(alloc: Global, first: &[u8], second: &[u8]) -> Result<usize, LineError>
+    requires first { length first.now < 1024 }
+    requires second { length second.now < 1024 }
+{
+    let mut index = NameIndex::new(alloc);
+    index.read(alloc, first)?;
+    let _ = index.read(alloc, second);
+    Ok(index.into_names().len())
+}
+
+#[test]
+fn an_index_keeps_the_names_of_lines_that_are_not_refused(rt: HostRuntime) -> Result<(), Fail> {
+    let alloc = rt.alloc();
+    assert_eq!(rt; two_indexed(alloc, b"fence a", b"fence a"), Ok(1));
+    assert_eq!(rt; two_indexed(alloc, b"addfb a b", b"addfb b c"), Ok(3));
+    assert_eq!(rt; two_indexed(alloc, b"fence a", b"addfb c d e"), Ok(1));
+    assert_eq!(rt;
+        two_indexed(alloc, b"fence a", b"atomic 0x0 0 crtc0.x=+y crtc0.x=+y"),
+        Ok(1)
+    );
+    Ok(())
 }
 
 #[test]

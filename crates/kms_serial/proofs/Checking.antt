@@ -9,11 +9,11 @@ use Rattle.kms_model.specs.declared.scripts.Assign.{Assign}
 use Rattle.kms_model.specs.declared.states.Both.{Both}
 use Rattle.kms_model.specs.declared.states.Duplicates.{Duplicates}
 use Rattle.kms_model.specs.Request.Late.{duplicate_at}
-use Rattle.kms_model.specs.Device.Objects.{count_of, exists, first_id, object_id}
+use Rattle.kms_model.specs.Device.Objects.{count_of, exists, first_id, object_id, kind_of}
 use Rattle.kms_model.specs.Request.Resolves.{IsAllowed, HasPlace, IsSettable}
-use Rattle.kms_state.specs.Places.{OldStates, is_duplicated, is_duplicated_of, kind_of, old_states, olds, state_at, state_of}
+use Rattle.kms_state.specs.Places.{OldStates, is_duplicated, is_duplicated_of, old_states, olds, state_at, state_of}
 use Rattle.kms_state.specs.Changes.{HasObject, Sets}
-use Rattle.kms_state.proofs.KindsOfIds.{kind-crtc, kind-plane, kind-conn}
+use Rattle.kms_model.proofs.KindsOfIds.{kind-crtc, kind-plane, kind-conn}
 use Rattle.kms_state.proofs.Slots.{AgreesOld-same, there_old}
 use Rattle.kms_model.specs.declared.scripts.PropRef.TheVariants.{Known}
 use Rattle.kms_model.specs.declared.scripts.Value.TheVariants.{Num}
@@ -151,8 +151,8 @@ stands_between t w r before after i device sound present early all same new =
     }
 
 -- The request of a check that was not refused by 1 to 8 is let through
-pub through : (t : Topology) (w : World) (d : Duplicates) (r : Request) → IsDevice t → IsSound t w → IsPresent t w d → early_refusal t (look_up w) r ≡ None → IsLetThrough t w d r
-through t w d r device sound present early = record { stands = record { device = device; sound = sound; present = present }; early = early }
+pub through : (t : Topology) (w : World) (d : Duplicates) (r : Request) → Stands t w d → early_refusal t (look_up w) r ≡ None → IsLetThrough t w d r
+through t w d r stands early = record { stands = stands; early = early }
 
 -- so is an accepted one
 pub through-accepted : (t : Topology) (w : World) (d : Duplicates) (r : Request) → Stands t w d → verdict t w r ≡ None → IsLetThrough t w d r

@@ -140,9 +140,10 @@ stands_committed t w d new client r stands none test is =
     let before : World = record w { values = after w r; commits = w.commits + 1 } in
     let within = within_after t w client r stands.sound none in
     let executed = executes t w client r none test in
+    let now = swapped_present t w r new is in
     record {
       device = stands.device;
       sound = subst (λ (e : Executed). IsSound t e.world) executed (execution_keeps_sound t w client (command.Atomic r) stands.sound);
       framed = subst (λ (e : Executed). AreFramed e.world.things) executed (execution_keeps_framed t w client (command.Atomic r) stands.sound.numbered stands.framed);
-      present = present_seen t before (committed t w client r).world (swapped new) within.values within.alike (swapped_present t w r new is);
+      present = present_seen t before (committed t w client r).world (swapped new) within.values within.alike (record { whole = now.whole; old = now.old; new = now.new });
     }

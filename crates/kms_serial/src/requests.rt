@@ -2,12 +2,11 @@
 ghost use Rattle.std.specs.Prelude.{◌≡◌, All, IfErr, IfOk, OnOk, None, Some};
 ghost use Rattle.kms_model.specs.declared.objects.Topology.{Topology};
 ghost use Rattle.kms_model.specs.Request.Flags.{is_test};
-ghost use Rattle.kms_model.specs.Device.Sound.{IsDevice, IsSound};
 ghost use Rattle.kms_model.specs.Request.Verdict.{verdict};
 ghost use Rattle.kms_model.specs.Request.Resolves.{IsSettable};
 ghost use Rattle.kms_request.specs.Whole.{StandBetween};
-ghost use Rattle.kms_serial.specs.Device.{IsLetThrough, IsLetThroughSomewhere};
-ghost use Rattle.kms_things.specs.Present.{IsAfter, IsPresent};
+ghost use Rattle.kms_serial.specs.Device.{IsLetThrough, IsLetThroughSomewhere, Stands};
+ghost use Rattle.kms_things.specs.Present.{IsAfter};
 
 use crate::store::WorldStore;
 use kms_model::{Duplicates, Refusal, Request, Topology};
@@ -26,8 +25,10 @@ pub fn is_test(flags: u32) -> bool
 /// states before.
 pub fn changed(store: &WorldStore, states: &Duplicates, request: &Request) -> Duplicates
     requires { IsLetThroughSomewhere store.now states.now request.now }
-    ensures between { (t : Topology) → IsLetThrough t store.now states.now request.now → StandBetween t store.now request.now result }
-    ensures after { (t : Topology) → IsLetThrough t store.now states.now request.now → IsAfter t store.now request.now result }
+    ensures between { (t : Topology) → IsLetThrough t store.now states.now request.now
+        → StandBetween t store.now request.now result }
+    ensures after { (t : Topology) → IsLetThrough t store.now states.now request.now
+        → IsAfter t store.now request.now result }
 {
     let mut after = *states;
     for a in request.assigns.as_slice() {
@@ -44,9 +45,7 @@ pub fn check(
     states: &Duplicates,
     request: &Request,
 ) -> Result<Duplicates, Refusal>
-    requires device { IsDevice topology.now }
-    requires sound { IsSound topology.now store.now }
-    requires present { IsPresent topology.now store.now states.now }
+    requires { Stands topology.now store.now states.now }
     ensures refused { IfErr result (λ refusal. verdict topology.now store.now request.now ≡ Some refusal.0) }
     ensures accepted { OnOk result (verdict topology.now store.now request.now ≡ None) }
     ensures between { IfOk result (StandBetween topology.now store.now request.now) }

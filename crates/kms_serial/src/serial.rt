@@ -92,7 +92,8 @@ impl Serial {
         requires fit { IsFitCommand command.now }
         requires room { HasRoom self.old.world }
         requires other { IsNoRequest command.now }
-        ensures executed { IfOk result (λ r. execute self.old.topology self.old.world client command.now ≡ record { world = self.new.world; reply = r }) }
+        ensures executed { IfOk result (λ r. execute self.old.topology self.old.world client command.now
+            ≡ record { world = self.new.world; reply = r }) }
         ensures topology { self.new.topology ≡ self.old.topology }
         ensures grows { OnOk result (Grows self.old.world self.new.world) }
         ensures unchanged { OnErr result (self.new ≡ self.old) }
@@ -108,8 +109,11 @@ impl Serial {
         request: &Request,
     ) -> Result<(Reply, u32), NoMemory>
         requires { HasRoom self.old.world }
-        ensures executed { IfOk result (λ x. execute self.old.topology self.old.world client (command.Atomic request.now) ≡ record { world = self.new.world; reply = x.0 }) }
-        ensures named { IfOk result (λ x. NamesWhereCommitted self.old.topology self.old.world request.now x.0 x.1) }
+        ensures executed { IfOk result (λ x.
+            execute self.old.topology self.old.world client (command.Atomic request.now)
+            ≡ record { world = self.new.world; reply = x.0 }) }
+        ensures named { IfOk result (λ x.
+            NamesWhereCommitted self.old.topology self.old.world self.new.world request.now x.0 x.1) }
         ensures empty { IfOk result (λ x. IsEmptyUnlessCommitted x.0 x.1) }
         ensures topology { self.new.topology ≡ self.old.topology }
         ensures grows { OnOk result (Grows self.old.world self.new.world) }
@@ -138,7 +142,8 @@ impl Serial {
     ) -> Result<Reply, NoMemory>
         requires fit { IsFitCommand command.now }
         requires room { HasRoom self.old.world }
-        ensures executed { IfOk result (λ r. execute self.old.topology self.old.world client command.now ≡ record { world = self.new.world; reply = r }) }
+        ensures executed { IfOk result (λ r. execute self.old.topology self.old.world client command.now
+            ≡ record { world = self.new.world; reply = r }) }
         ensures topology { self.new.topology ≡ self.old.topology }
         ensures grows { OnOk result (Grows self.old.world self.new.world) }
         ensures unchanged { OnErr result (self.new ≡ self.old) }
@@ -166,7 +171,8 @@ impl Serial {
     /// What `commit` would answer to a client's request.
     #[tactic(auto, unfolding(kms_model::specs::Device::Execution::execute))]
     fn preview_request(&self, request: &Request) -> Reply
-        ensures { (client : ℕ) → (execute self.now.topology self.now.world client (command.Atomic request.now)).reply ≡ result }
+        ensures { (client : ℕ)
+            → (execute self.now.topology self.now.world client (command.Atomic request.now)).reply ≡ result }
     {
         match check(&self.topology, &self.store, &self.states, request) {
             Err(refusal) => Reply::Refused(refusal),
@@ -202,7 +208,8 @@ impl Serial {
     /// What a CRTC of the device, by its index, shows.
     pub fn picture(&self, crtc: u32) -> Picture
         requires { crtc < self.now.topology.crtcs }
-        ensures picture { result ≡ picture self.now.topology self.now.world.things self.now.world.values (object_id kind.Crtc crtc) }
+        ensures picture { result
+            ≡ picture self.now.topology self.now.world.things self.now.world.values (object_id kind.Crtc crtc) }
         ensures shown { EachCanBeShown self.now.world.things result }
     {
         picture(&self.states, crtc)

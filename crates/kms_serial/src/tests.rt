@@ -1,17 +1,18 @@
 //! What no clause says: requests worked out by hand, on devices of one thread.
-ghost use Rattle.std.specs.Prelude.{All, IfOk};
+ghost use Rattle.std.specs.Prelude.{All};
 ghost use Rattle.kms_model.specs.Device.Sound.{IsDevice};
 ghost use Rattle.kms_model.specs.Script.WellFormed.{IsFitCommand};
 
 use crate::Serial;
 use kms_model::properties::{
-    ACTIVE, ALPHA, CRTC_H, CRTC_ID, CRTC_W, CRTC_X, FB_ID, IN_FENCE_FD, MODE_ID, OUT_FENCE_PTR,
-    SRC_H, SRC_W, SRC_X, TYPE,
+    ACTIVE, ALPHA, CRTC_ID, CRTC_W, CRTC_X, FB_ID, IN_FENCE_FD, MODE_ID, OUT_FENCE_PTR, SRC_W, SRC_X,
+    TYPE,
 };
 use kms_model::{
-    Assign, Command, Format, Kind, Mask, Mode, NoMemory, Pattern, PlaneInfo, PropRef, Refusal,
-    Reply, Request, Seq, Topology, Value,
+    Assign, Command, Denied, Format, Kind, Mask, NoMemory, Pattern, Refusal, Reply, Topology, Value,
 };
+use kms_props::AtomicFlags;
+use kms_samples::{cloned, light, on_crtc, on_plane, pair, request, set, single, tiny};
 use std::alloc::Global;
 use std::process::Abort;
 use std::test::Fail;
@@ -30,77 +31,7 @@ const NEW: u32 = 3;
 const OUT: u32 = 4;
 
 /// `DRM_MODE_ATOMIC_ALLOW_MODESET`, without which a request may not change a mode.
-const ALLOW_MODESET: u32 = 0x400;
-
-const TINY: Mode = Mode {
-    clock: 1,
-    hdisplay: 1,
-    hsync_start: 1,
-    hsync_end: 1,
-    htotal: 1,
-    hskew: 0,
-    vdisplay: 1,
-    vsync_start: 1,
-    vsync_end: 1,
-    vtotal: 1,
-    vscan: 0,
-    vrefresh: 60,
-    flags: 0,
-    kind: 0,
-    name: [0; 32],
-};
-
-/// One CRTC, a plane of it that takes XR24 and a connector of it.
-fn single(alloc: Global) -> Result<Topology, NoMemory>
-    ensures { IfOk result IsDevice }
-{
-    Ok(Topology {
-        crtcs: 1,
-        planes: Seq::from_vec(Vec::from_array(
-            alloc,
-            [PlaneInfo {
-                kind: 1,
-                crtcs: 1,
-                formats: 1,
-            }],
-        )?),
-        conns: Seq::from_vec(Vec::from_array(alloc, [1])?),
-    })
-}
-
-/// One CRTC, a plane and two connectors of it.
-fn cloned(alloc: Global) -> Result<Topology, NoMemory>
-    ensures { IfOk result IsDevice }
-{
-    Ok(Topology {
-        crtcs: 1,
-        planes: Seq::from_vec(Vec::from_array(
-            alloc,
-            [PlaneInfo {
-                kind: 1,
-                crtcs: 1,
-                formats: 1,
-            }],
-        )?),
-        conns: Seq::from_vec(Vec::from_array(alloc, [1, 1])?),
-    })
-}
-
-/// Two CRTCs, a plane of both, one of the first alone and a connector of the first alone.
-fn pair(alloc: Global) -> Result<Topology, NoMemory>
-    ensures { IfOk result IsDevice }
-{
-    let both = PlaneInfo {
-        kind: 1,
-        crtcs: 3,
-        formats: 1,
-    };
-    Ok(Topology {
-        crtcs: 2,
-        planes: Seq::from_vec(Vec::from_array(alloc, [both, PlaneInfo { crtcs: 1, ..both }])?),
-        conns: Seq::from_vec(Vec::from_array(alloc, [1])?),
-    })
-}
+const ALLOW_MODESET: u32 = AtomicFlags::ALLOW_MODESET.bits();
 
 /// What a device with room answers to a client's command.
 fn ask(
@@ -114,22 +45,6 @@ fn ask(
 {
     assert!(rt; device.has_room());
     device.execute(alloc, client, command)
-}
-
-/// A request that sets what `first` and then `more` say.
-fn request(
-    alloc: Global,
-    flags: u32,
-    first: &[Assign],
-    more: &[Assign],
-) -> Result<Request, NoMemory> {
-    let mut assigns = first.to_vec(alloc)?;
-    assigns.extend_from_slice(more)?;
-    Ok(Request {
-        flags,
-        user_data: 0,
-        assigns: Seq::from_vec(assigns),
-    })
 }
 
 /// What a device answers to a request of client 1.
@@ -178,45 +93,13 @@ fn ready(
     );
     let mode = Command::Mode {
         label: MODE,
-        mode: TINY,
+        mode: tiny(),
     };
     assert_eq!(rt;
         ask(rt, alloc, &mut device, 1, &mode)?,
         Reply::Made { id: 1002 }
     );
     Ok(device)
-}
-
-fn set(kind: Kind, index: u32, prop: u32, value: Value) -> Assign {
-    Assign {
-        kind,
-        index,
-        prop: PropRef::Known(prop),
-        value,
-    }
-}
-
-fn on_plane(prop: u32, value: Value) -> Assign {
-    set(Kind::Plane, 0, prop, value)
-}
-
-fn on_crtc(prop: u32, value: Value) -> Assign {
-    set(Kind::Crtc, 0, prop, value)
-}
-
-/// What a request sets that lights CRTC 0: its own first three assignments are to the CRTC and its connector.
-fn light() -> [Assign; 9] {
-    [
-        on_crtc(ACTIVE, Value::Num(1)),
-        on_crtc(MODE_ID, Value::Named(MODE)),
-        set(Kind::Conn, 0, CRTC_ID, Value::Crtc(0)),
-        on_plane(FB_ID, Value::Named(FB)),
-        on_plane(CRTC_ID, Value::Crtc(0)),
-        on_plane(CRTC_W, Value::Num(1)),
-        on_plane(CRTC_H, Value::Num(1)),
-        on_plane(SRC_W, Value::Num(65536)),
-        on_plane(SRC_H, Value::Num(65536)),
-    ]
 }
 
 /// A request that sets what `first` and then `more` say, and what is answered to it.
@@ -228,12 +111,17 @@ struct Case<'a> {
     want: Reply,
 }
 
-fn refused<'a>(flags: u32, first: &'a [Assign], more: &'a [Assign], number: u32) -> Case<'a> {
+fn refused<'a>(
+    flags: u32,
+    first: &'a [Assign],
+    more: &'a [Assign],
+    refusal: Refusal,
+) -> Case<'a> {
     Case {
         flags,
         first,
         more,
-        want: Reply::Refused(Refusal(number)),
+        want: Reply::Refused(refusal),
     }
 }
 
@@ -285,16 +173,16 @@ fn a_request_is_refused_by_its_flags_and_assignments(rt: HostRuntime) -> Result<
     let fixed = [on_plane(TYPE, Value::Num(1))];
     let bright = [on_plane(ALPHA, Value::Num(65536))];
     let cases = [
-        refused(0x1, &off, &[], 17),
-        refused(0x101, &off, &[], 3),
-        refused(0x2, &[], &[], 2),
-        refused(0x4, &[], &[], 1),
-        refused(0x1, &[], &[], 9),
+        refused(0x1, &off, &[], Refusal::SIGNAL_WHILE_OFF),
+        refused(0x101, &off, &[], Refusal::TEST_WITH_EVENT),
+        refused(0x2, &[], &[], Refusal::ASYNC_FLIP),
+        refused(0x4, &[], &[], Refusal::UNKNOWN_FLAG),
+        refused(0x1, &[], &[], Refusal::EVENT_WITHOUT_CRTC),
         committed(0, &[], 0),
-        refused(0, &other, &[], 4),
-        refused(0, &elsewhere, &[], 5),
-        refused(0, &fixed, &[], 6),
-        refused(0, &bright, &[], 7),
+        refused(0, &other, &[], Refusal::NO_OBJECT),
+        refused(0, &elsewhere, &[], Refusal::NO_PROPERTY),
+        refused(0, &fixed, &[], Refusal::IMMUTABLE_PROPERTY),
+        refused(0, &bright, &[], Refusal::INVALID_VALUE),
     ];
     assert_answers_of(&rt, a, single(a)?, 1, Format::Xr24, &cases)?;
     Ok(())
@@ -304,19 +192,19 @@ fn a_request_is_refused_by_its_flags_and_assignments(rt: HostRuntime) -> Result<
 #[test]
 fn a_request_is_refused_by_the_state_after_it(rt: HostRuntime) -> Result<(), Fail> {
     let a = rt.alloc();
-    let all = light();
+    let all = light(FB, MODE);
     let scaled = [on_plane(CRTC_W, Value::Num(2))];
     let beyond = [on_plane(SRC_W, Value::Num(65537))];
     let far = [on_plane(CRTC_X, Value::Num(2147483647))];
     let cases = [
-        refused(ALLOW_MODESET, &all[3..4], &[], 10),
-        refused(ALLOW_MODESET, &all[..1], &[], 16),
-        refused(ALLOW_MODESET, &all[1..2], &[], 20),
-        refused(ALLOW_MODESET, &all[3..], &[], 21),
-        refused(ALLOW_MODESET, &all, &scaled, 22),
-        refused(ALLOW_MODESET, &all, &beyond, 14),
-        refused(ALLOW_MODESET, &all, &far, 13),
-        refused(0, &all, &[], 24),
+        refused(ALLOW_MODESET, &all[3..4], &[], Refusal::FRAMEBUFFER_XOR_CRTC),
+        refused(ALLOW_MODESET, &all[..1], &[], Refusal::ACTIVE_WITHOUT_MODE),
+        refused(ALLOW_MODESET, &all[1..2], &[], Refusal::MODE_XOR_CONNECTOR),
+        refused(ALLOW_MODESET, &all[3..], &[], Refusal::CRTC_NOT_ENABLED),
+        refused(ALLOW_MODESET, &all, &scaled, Refusal::SCALED),
+        refused(ALLOW_MODESET, &all, &beyond, Refusal::SOURCE_OUTSIDE_FRAMEBUFFER),
+        refused(ALLOW_MODESET, &all, &far, Refusal::DESTINATION_TOO_FAR),
+        refused(0, &all, &[], Refusal::MODESET_NOT_ALLOWED),
         committed(ALLOW_MODESET, &all, 0),
         committed(0, &all, 1),
     ];
@@ -328,11 +216,11 @@ fn a_request_is_refused_by_the_state_after_it(rt: HostRuntime) -> Result<(), Fai
 #[test]
 fn a_request_is_refused_by_its_framebuffer(rt: HostRuntime) -> Result<(), Fail> {
     let a = rt.alloc();
-    let all = light();
+    let all = light(FB, MODE);
     let between = [on_plane(SRC_X, Value::Num(32768))];
-    let short = [refused(ALLOW_MODESET, &all, &[], 12)];
+    let short = [refused(ALLOW_MODESET, &all, &[], Refusal::FORMAT_NOT_SUPPORTED)];
     assert_answers_of(&rt, a, single(a)?, 1, Format::Rg16, &short)?;
-    let wide = [refused(ALLOW_MODESET, &all, &between, 23)];
+    let wide = [refused(ALLOW_MODESET, &all, &between, Refusal::FRACTIONAL_SOURCE)];
     assert_answers_of(&rt, a, single(a)?, 2, Format::Xr24, &wide)?;
     Ok(())
 }
@@ -341,9 +229,9 @@ fn a_request_is_refused_by_its_framebuffer(rt: HostRuntime) -> Result<(), Fail> 
 #[test]
 fn a_request_is_refused_by_its_routes(rt: HostRuntime) -> Result<(), Fail> {
     let a = rt.alloc();
-    let all = light();
+    let all = light(FB, MODE);
     let clone = [set(Kind::Conn, 1, CRTC_ID, Value::Crtc(0))];
-    let twice = [refused(ALLOW_MODESET, &all, &clone, 19)];
+    let twice = [refused(ALLOW_MODESET, &all, &clone, Refusal::CLONED_CONNECTORS)];
     assert_answers_of(&rt, a, cloned(a)?, 1, Format::Xr24, &twice)?;
     let away = [
         set(Kind::Plane, 1, FB_ID, Value::Named(FB)),
@@ -352,10 +240,10 @@ fn a_request_is_refused_by_its_routes(rt: HostRuntime) -> Result<(), Fail> {
     let plugged = [set(Kind::Conn, 0, CRTC_ID, Value::Crtc(1))];
     let hop = [on_plane(CRTC_ID, Value::Crtc(1))];
     let routes = [
-        refused(ALLOW_MODESET, &away, &[], 11),
-        refused(ALLOW_MODESET, &plugged, &[], 18),
+        refused(ALLOW_MODESET, &away, &[], Refusal::CRTC_NOT_POSSIBLE),
+        refused(ALLOW_MODESET, &plugged, &[], Refusal::CONNECTOR_NOT_POSSIBLE),
         committed(ALLOW_MODESET, &all, 0),
-        refused(ALLOW_MODESET, &hop, &[], 15),
+        refused(ALLOW_MODESET, &hop, &[], Refusal::SWITCHES_CRTC),
     ];
     assert_answers_of(&rt, a, pair(a)?, 1, Format::Xr24, &routes)?;
     Ok(())
@@ -394,11 +282,11 @@ fn commands_of_other_clients_are_denied(rt: HostRuntime) -> Result<(), Fail> {
         pattern: Pattern::Solid(0),
     };
     let commands = [
-        (foreign, Reply::Denied(33)),
-        (Command::CloseFb { label: FB }, Reply::Denied(33)),
-        (Command::Destroy { label: MODE }, Reply::Denied(34)),
-        (Command::Signal { label: MODE }, Reply::Denied(35)),
-        (flat, Reply::Denied(31)),
+        (foreign, Reply::Denied(Denied::NOT_FOUND.0)),
+        (Command::CloseFb { label: FB }, Reply::Denied(Denied::NOT_FOUND.0)),
+        (Command::Destroy { label: MODE }, Reply::Denied(Denied::NOT_OWNER.0)),
+        (Command::Signal { label: MODE }, Reply::Denied(Denied::NOT_SIGNALLABLE.0)),
+        (flat, Reply::Denied(Denied::INVALID_SIZE.0)),
     ];
     assert_replies(&rt, a, &mut device, 2, &commands)?;
     Ok(())
@@ -427,7 +315,7 @@ fn a_fifth_large_buffer_is_denied(rt: HostRuntime) -> Result<(), Fail> {
         (1, 4096, Reply::Made { id: 1001 }),
         (2, 4096, Reply::Made { id: 1002 }),
         (3, 4096, Reply::Made { id: 1003 }),
-        (4, 1, Reply::Denied(32)),
+        (4, 1, Reply::Denied(Denied::NO_BUFFER_SPACE.0)),
     ] {
         assert_eq!(rt; ask(&rt, a, &mut device, 1, &square(label, side))?, want);
     }
@@ -442,14 +330,14 @@ fn a_plane_takes_one_fence_and_an_out_fence_is_not_signalled(rt: HostRuntime) ->
     let mut device = ready(&rt, a, single(a)?, 1, Format::Xr24)?;
     let fence = [(Command::Fence { label: NEW }, Reply::Made { id: 1003 })];
     assert_replies(&rt, a, &mut device, 1, &fence)?;
-    let all = light();
+    let all = light(FB, MODE);
     let out = [on_crtc(OUT_FENCE_PTR, Value::New(OUT))];
     let waits = on_plane(IN_FENCE_FD, Value::Named(NEW));
     let none = on_plane(IN_FENCE_FD, Value::Num(-1));
     let again = [waits, none];
     let once = [none, waits];
     let cases = [
-        refused(0, &again, &[], 8),
+        refused(0, &again, &[], Refusal::SECOND_IN_FENCE),
         committed(0, &once, 0),
         Case {
             flags: ALLOW_MODESET,
@@ -461,7 +349,7 @@ fn a_plane_takes_one_fence_and_an_out_fence_is_not_signalled(rt: HostRuntime) ->
     assert_answers(&rt, a, &mut device, &cases)?;
     let signals = [
         (Command::Signal { label: NEW }, Reply::Done),
-        (Command::Signal { label: OUT }, Reply::Denied(35)),
+        (Command::Signal { label: OUT }, Reply::Denied(Denied::NOT_SIGNALLABLE.0)),
     ];
     assert_replies(&rt, a, &mut device, 2, &signals)?;
     Ok(())
@@ -472,12 +360,12 @@ fn a_plane_takes_one_fence_and_an_out_fence_is_not_signalled(rt: HostRuntime) ->
 fn a_mode_is_told_by_its_content(rt: HostRuntime) -> Result<(), Fail> {
     let a = rt.alloc();
     let mut device = ready(&rt, a, single(a)?, 1, Format::Xr24)?;
-    let all = light();
+    let all = light(FB, MODE);
     let lit = [committed(ALLOW_MODESET, &all, 0)];
     assert_answers(&rt, a, &mut device, &lit)?;
     let again = Command::Mode {
         label: NEW,
-        mode: TINY,
+        mode: tiny(),
     };
     let commands = [
         (Command::Destroy { label: MODE }, Reply::Done),
@@ -488,7 +376,7 @@ fn a_mode_is_told_by_its_content(rt: HostRuntime) -> Result<(), Fail> {
     let same = [on_crtc(MODE_ID, Value::Named(NEW))];
     let dim = [on_plane(ALPHA, Value::Num(7))];
     let cases = [
-        refused(0, &closed, &[], 7),
+        refused(0, &closed, &[], Refusal::INVALID_VALUE),
         committed(0, &same, 1),
         committed(0, &dim, 2),
     ];
@@ -515,7 +403,7 @@ fn spanned(
 fn a_modeset_touches_planes_and_connectors(rt: HostRuntime) -> Result<(), Fail> {
     let a = rt.alloc();
     let mut device = ready(&rt, a, pair(a)?, 1, Format::Xr24)?;
-    let all = light();
+    let all = light(FB, MODE);
     let lit = [committed(ALLOW_MODESET, &all, 0)];
     assert_answers(&rt, a, &mut device, &lit)?;
     for (flags, one, named, touched) in [

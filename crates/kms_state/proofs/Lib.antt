@@ -1,5 +1,4 @@
 pub mod Slots
-pub mod KindsOfIds
 pub mod Frames
 pub mod Routes
 pub mod SetsProperty

@@ -11,12 +11,12 @@ use Rattle.kms_model.specs.declared.states.CrtcState.{CrtcState}
 use Rattle.kms_model.specs.declared.states.Duplicates.{Duplicates}
 use Rattle.kms_model.specs.declared.states.PlaneState.{PlaneState}
 use Rattle.kms_model.specs.declared.states.ObjState.TheVariants as state
-use Rattle.kms_model.specs.Device.Objects.{first_id, object_id}
+use Rattle.kms_model.specs.Device.Objects.{first_id, object_id, kind_of}
 use Rattle.kms_model.specs.Device.States.{plane_at}
 use Rattle.kms_model.specs.Request.Agreement.{conn_state_at, crtc_state_at}
-use Rattle.kms_state.specs.Places.{duplicated, is_duplicated, is_duplicated_of, is_free, is_free_place, kind_of, state_of, unchanged}
+use Rattle.kms_state.specs.Places.{duplicated, is_duplicated, is_duplicated_of, is_free, is_free_place, state_of, unchanged}
 use Rattle.kms_state.specs.StandsIn.{KeepsNew, KeepsOld}
-use Rattle.kms_state.proofs.KindsOfIds.{kind-conn, kind-crtc, kind-plane}
+use Rattle.kms_model.proofs.KindsOfIds.{kind-conn, kind-crtc, kind-plane}
 use Rattle.kms_state.proofs.Slots.{AreNew-set, AreOld-set, slice_get-set_other, slice_get-set_same}
 
 -- an empty place for an object of a kind

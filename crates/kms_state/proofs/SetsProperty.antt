@@ -22,7 +22,7 @@ use Rattle.kms_model.specs.declared.states.Duplicates.{Duplicates}
 use Rattle.kms_model.specs.declared.states.PlaneState.{PlaneState}
 use Rattle.kms_model.specs.declared.worlds.Setting.{Setting}
 use Rattle.kms_model.specs.declared.worlds.Thing.{Thing}
-use Rattle.kms_model.specs.Device.Objects.{first_id, object_id, count_of, exists}
+use Rattle.kms_model.specs.Device.Objects.{first_id, object_id, count_of, exists, kind_of}
 use Rattle.kms_model.specs.Device.World.{put, thing_numbered, value}
 use Rattle.kms_model.specs.Device.States.{crtc_at, framebuffer_of, mode_of, natural, plane_at, plane_from}
 use Rattle.kms_model.specs.Request.Apply.{is_kept}
@@ -30,10 +30,10 @@ use Rattle.kms_model.specs.Request.SetRanges.{may_set}
 use Rattle.kms_model.specs.Request.Agreement.{AgreesNew, AreNew, StandsFor, conn_state_at, crtc_state_at}
 use Rattle.kms_model.proofs.SetLemmas.{may_set-takes, takes}
 use Rattle.kms_model.proofs.ValueLemmas.{Puts, Puts-put}
-use Rattle.kms_state.specs.Places.{is_duplicated, is_duplicated_of, kind_of, state_at, state_of, old_states}
+use Rattle.kms_state.specs.Places.{is_duplicated, is_duplicated_of, state_at, state_of, old_states}
 use Rattle.kms_state.specs.Changes.{HasObject, IsSet, Sets, after_crtc, after_number, after_value, new_number, plane_with, rerouted, set_to, with_new}
 use Rattle.kms_state.proofs.Frames.{conn_state_at-other, crtc_at-kept, crtc_state_at-other, on_crtc-same, plane_at-other, same_crtc_state}
-use Rattle.kms_state.proofs.KindsOfIds.{has_kind, kind-conn, kind-crtc, kind-plane}
+use Rattle.kms_model.proofs.KindsOfIds.{has_kind, kind-conn, kind-crtc, kind-plane}
 use Rattle.kms_state.proofs.Routes.{AreNew-rerouted, IsRouted}
 use Rattle.kms_state.proofs.Slots.{AreNew-same, AreNew-set, changed-at, olds-rerouted, olds-set, slot_at, state_of-at}
 

@@ -14,9 +14,9 @@ use Rattle.kms_model.specs.declared.worlds.Thing.{Thing}
 use Rattle.kms_model.specs.Device.States.{plane_at}
 use Rattle.kms_model.specs.declared.states.CrtcState.{CrtcState}
 use Rattle.kms_model.specs.declared.states.Both.{Both}
-use Rattle.kms_model.specs.Device.Objects.{first_id, object_id}
+use Rattle.kms_model.specs.Device.Objects.{first_id, object_id, kind_of}
 use Rattle.kms_model.specs.Request.Agreement.{AgreesOld, AreNew, AreOld, conn_state_at, crtc_state_at}
-use Rattle.kms_state.specs.Places.{is_duplicated, is_duplicated_of, kind_of, old_states, olds, state_at, state_of}
+use Rattle.kms_state.specs.Places.{is_duplicated, is_duplicated_of, old_states, olds, state_at, state_of}
 use Rattle.kms_state.specs.Changes.{with_new, put_at, changed, rerouted, with_routed}
 
 pub slice_get-set_same : {A : Type 0} (xs : List A) (i : ℕ) (x : A) → i < length xs → slice_get (set xs i x) i ≡ Some x

@@ -15,11 +15,11 @@ use Rattle.kms_model.specs.declared.states.Duplicates.{Duplicates}
 use Rattle.kms_model.specs.declared.states.PlaneState.{PlaneState}
 use Rattle.kms_model.specs.declared.worlds.Setting.{Setting}
 use Rattle.kms_model.specs.declared.worlds.Thing as worlds
-use Rattle.kms_model.specs.Device.Objects.{first_id, exists}
+use Rattle.kms_model.specs.Device.Objects.{first_id, exists, kind_of}
 use Rattle.kms_model.specs.Device.States.{natural}
 use Rattle.kms_model.specs.Request.Sets.{obj_id, set_in}
 use Rattle.kms_model.specs.Request.Agreement.{AgreesNew, StandsFor}
-use Rattle.kms_state.specs.Places.{kind_of, state_of, old_states}
+use Rattle.kms_state.specs.Places.{state_of, old_states}
 
 -- A set of objects with the object with an index, or without it. From: drm_plane_mask, drm_connector_mask.
 abbrev pub with_member : ℕ → ℕ → Bool → ℕ
@@ -43,11 +43,14 @@ put_at states index None = states
 put_at states index (Some s) = set states index (Some s)
 
 -- the new state of an object of a kind changed, by its id, where it is duplicated
-abbrev pub changed : {S : Type 0} → Kind → List (Option (Both S)) → ℕ → (S → S) → List (Option (Both S))
-changed kind states id f = put_at states (id - first_id kind) (option_map (with_new f) (state_of kind states id))
+abbrev pub changed : {S : Type 0} → Kind → List (Option (Both S)) → ℕ → (S → S)
+    → List (Option (Both S))
+changed kind states id f =
+    put_at states (id - first_id kind) (option_map (with_new f) (state_of kind states id))
 
 -- the CRTCs after a plane or a connector goes from one to another
-abbrev pub rerouted : List (Option (Both CrtcState)) → Kind → ℕ → ℕ → ℕ → List (Option (Both CrtcState))
+abbrev pub rerouted : List (Option (Both CrtcState)) → Kind → ℕ → ℕ → ℕ
+    → List (Option (Both CrtcState))
 rerouted crtcs kind index from to = changed Crtc (changed Crtc crtcs from (with_routed kind index false)) to (with_routed kind index true)
 
 -- an object that duplicates have room for is on a device
@@ -62,8 +65,10 @@ pub record HasObject (t : Topology) (id : ℕ) : Type 0 where
 
 -- New states that agree with values before a set agree after it with the values after it.
 abbrev pub Sets : Duplicates → Set → Duplicates → Type 0
-Sets before s after = (t : Topology) (things : List worlds.Thing) (values : List Setting) (number : ℤ)
-    → HasObject t s.object.0 → AgreesNew t things values before → StandsFor things s.value number → AgreesNew t things (set_in values s number) after
+Sets before s after =
+    (t : Topology) (things : List worlds.Thing) (values : List Setting) (number : ℤ)
+    → HasObject t s.object.0 → AgreesNew t things values before → StandsFor things s.value number
+    → AgreesNew t things (set_in values s number) after
 
 -- a plane's state after one of its numbers is set
 abbrev pub plane_with : ℕ → ℤ → PlaneState → PlaneState
@@ -91,7 +96,8 @@ set_to object prop value = record { object = obj_id object; prop = prop; value =
 
 -- a number set: `ACTIVE` of a CRTC, or a number of a plane
 abbrev pub after_number : Kind → Duplicates → ℕ → ℕ → ℤ → Duplicates
-after_number Crtc d id prop n = record d { crtcs = changed Crtc d.crtcs id (λ s. record s { active = not (int_eq n (pos 0)) }) }
+after_number Crtc d id prop n =
+    record d { crtcs = changed Crtc d.crtcs id (λ s. record s { active = not (int_eq n (pos 0)) }) }
 after_number Plane d id prop n = record d { planes = changed Plane d.planes id (plane_with prop n) }
 after_number Conn d id prop n = d
 after_number Enc d id prop n = d
@@ -117,8 +123,10 @@ after_crtc Enc d id crtc = d
 -- The states after a property of an object is set to a value.
 abbrev pub after_value : Duplicates → ℕ → ℕ → SetValue → Duplicates
 after_value d id prop (to.Num n) = after_number (kind_of id) d id prop n
-after_value d id prop (to.Fb fb) = record d { planes = changed Plane d.planes id (λ s. record s { fb = fb }) }
-after_value d id prop (to.Mode mode) = record d { crtcs = changed Crtc d.crtcs id (λ s. record s { mode = mode }) }
+after_value d id prop (to.Fb fb) =
+    record d { planes = changed Plane d.planes id (λ s. record s { fb = fb }) }
+after_value d id prop (to.Mode mode) =
+    record d { crtcs = changed Crtc d.crtcs id (λ s. record s { mode = mode }) }
 after_value d id prop (to.Crtc crtc) = after_crtc (kind_of id) d id crtc
 after_value d id prop to.Fence = d
 

@@ -11,11 +11,7 @@ use Rattle.kms_model.specs.declared.states.Duplicates.{Duplicates}
 use Rattle.kms_model.specs.declared.states.ObjState.{ObjState}
 use Rattle.kms_model.specs.declared.states.ObjState.TheVariants as state
 use Rattle.kms_model.specs.declared.states.PlaneState.{PlaneState}
-use Rattle.kms_model.specs.Device.Objects.{first_id}
-
--- the kind of object that an id is of
-abbrev pub kind_of : ℕ → Kind
-kind_of id = if nat_lt id (first_id Plane) then Crtc else (if nat_lt id (first_id Conn) then Plane else (if nat_lt id (first_id Enc) then Conn else Enc))
+use Rattle.kms_model.specs.Device.Objects.{first_id, kind_of}
 
 -- what is duplicated at an index, if anything
 abbrev pub state_at : {S : Type 0} → List (Option S) → ℕ → Option S
@@ -23,7 +19,8 @@ state_at states index = option_flatten (slice_get states index)
 
 -- what is duplicated of an object of a kind, by its id
 abbrev pub state_of : {S : Type 0} → Kind → List (Option S) → ℕ → Option S
-state_of kind states id = if nat_le (first_id kind) id then state_at states (id - first_id kind) else None
+state_of kind states id =
+    if nat_le (first_id kind) id then state_at states (id - first_id kind) else None
 
 abbrev pub is_duplicated_of : Kind → Duplicates → ℕ → Bool
 is_duplicated_of Crtc d id = is_some (state_of Crtc d.crtcs id)
@@ -37,7 +34,8 @@ is_duplicated d id = is_duplicated_of (kind_of id) d id
 
 -- no object is duplicated
 abbrev pub none_duplicated : Duplicates
-none_duplicated = record { crtcs = replicate 4 None; planes = replicate 16 None; conns = replicate 8 None }
+none_duplicated =
+    record { crtcs = replicate 4 None; planes = replicate 16 None; conns = replicate 8 None }
 
 -- an object that was just duplicated
 abbrev pub unchanged : {S : Type 0} → S → Both S
@@ -60,9 +58,12 @@ may_duplicate d id (state.Conn s) = is_free Conn d.conns id
 
 -- an object's state duplicated
 abbrev pub duplicated : Duplicates → ℕ → ObjState → Duplicates
-duplicated d id (state.Crtc s) = record d { crtcs = set d.crtcs (id - first_id Crtc) (Some (unchanged s)) }
-duplicated d id (state.Plane s) = record d { planes = set d.planes (id - first_id Plane) (Some (unchanged s)) }
-duplicated d id (state.Conn s) = record d { conns = set d.conns (id - first_id Conn) (Some (unchanged s)) }
+duplicated d id (state.Crtc s) =
+    record d { crtcs = set d.crtcs (id - first_id Crtc) (Some (unchanged s)) }
+duplicated d id (state.Plane s) =
+    record d { planes = set d.planes (id - first_id Plane) (Some (unchanged s)) }
+duplicated d id (state.Conn s) =
+    record d { conns = set d.conns (id - first_id Conn) (Some (unchanged s)) }
 
 -- the old states
 pub record OldStates : Type 0 where

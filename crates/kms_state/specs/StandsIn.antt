@@ -22,8 +22,12 @@ pub record Agrees (t : Topology) (things : List Thing) (values : List Setting) (
 
 -- New states that agree with values agree after an object's state of these values is duplicated.
 abbrev pub KeepsNew : Duplicates → ℕ → ObjState → Duplicates → Type 0
-KeepsNew before id s after = (t : Topology) (things : List Thing) (values : List Setting) → IsStateOf t things values id s → AgreesNew t things values before → AgreesNew t things values after
+KeepsNew before id s after =
+    (t : Topology) (things : List Thing) (values : List Setting) → IsStateOf t things values id s
+    → AgreesNew t things values before → AgreesNew t things values after
 
 -- The same of old states.
 abbrev pub KeepsOld : Duplicates → ℕ → ObjState → Duplicates → Type 0
-KeepsOld before id s after = (t : Topology) (things : List Thing) (values : List Setting) → IsStateOf t things values id s → AgreesOld t things values before → AgreesOld t things values after
+KeepsOld before id s after =
+    (t : Topology) (things : List Thing) (values : List Setting) → IsStateOf t things values id s
+    → AgreesOld t things values before → AgreesOld t things values after

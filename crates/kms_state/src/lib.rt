@@ -9,4 +9,4 @@ mod sets;
 #[cfg(test)]
 mod tests;
 
-pub use places::{Duplicating, kind_of};
+pub use places::Duplicating;

@@ -8,25 +8,15 @@ ghost use Rattle.kms_model.specs.declared.worlds.Thing.{Thing};
 ghost use Rattle.kms_model.specs.Request.Agreement.{AgreesNew, AgreesOld};
 ghost use Rattle.kms_model.specs.Request.SetRanges.{may_set};
 ghost use Rattle.kms_state.specs.Changes.{Sets, after_set};
-ghost use Rattle.kms_state.specs.Places.{duplicated, is_duplicated, kind_of, may_duplicate, none_duplicated, old_states, state_at};
+ghost use Rattle.kms_model.specs.Device.Objects.{kind_of};
+ghost use Rattle.kms_state.specs.Places.{duplicated, is_duplicated, may_duplicate, none_duplicated, old_states, state_at};
 ghost use Rattle.kms_state.specs.StandsIn.{KeepsNew, KeepsOld};
 
 use crate::sets::{move_conn, move_plane, set_active, set_fb, set_mode, set_number};
 use kms_model::{
-    Both, ConnState, CrtcState, Duplicates, Kind, ObjId, ObjState, PlaneState, Set, SetValue,
+    Both, ConnState, CrtcState, Duplicates, FIRST_CONNECTOR_ID, FIRST_CRTC_ID, FIRST_PLANE_ID,
+    Kind, ObjId, ObjState, PlaneState, Set, SetValue,
 };
-
-/// The id of the first CRTC.
-pub(crate) const FIRST_CRTC: u32 = 100;
-
-/// The id of the first plane.
-pub(crate) const FIRST_PLANE: u32 = 200;
-
-/// The id of the first connector.
-pub(crate) const FIRST_CONN: u32 = 300;
-
-/// The id of the first encoder.
-const FIRST_ENC: u32 = 400;
 
 /// The calls of duplicated states. `Duplicates` has them; a type that keeps states otherwise would tell by
 /// `duplicates` which states it has.
@@ -37,8 +27,10 @@ pub trait Duplicating {
     /// No duplicated state. (Kernel: `drm_atomic_state_alloc`.)
     fn empty() -> Self
         ensures states { duplicates result ≡ none_duplicated }
-        ensures old { (t : Topology) (things : List Thing) (values : List Setting) → AgreesOld t things values (duplicates result) }
-        ensures new { (t : Topology) (things : List Thing) (values : List Setting) → AgreesNew t things values (duplicates result) };
+        ensures old { (t : Topology) (things : List Thing) (values : List Setting)
+            → AgreesOld t things values (duplicates result) }
+        ensures new { (t : Topology) (things : List Thing) (values : List Setting)
+            → AgreesNew t things values (duplicates result) };
 
     /// Whether [`Duplicating::duplicate`] takes a state for an id: it is that of one of 4 CRTCs, 16 planes and 8
     /// connectors, of the state's kind, and the object is not duplicated yet.
@@ -51,7 +43,8 @@ pub trait Duplicating {
     fn duplicate(&mut self, id: ObjId, state: ObjState)
         requires { IsTrue (may_duplicate (duplicates self.old) id.0 state) }
         ensures states { duplicates self.new ≡ duplicated (duplicates self.old) id.0 state }
-        ensures there { (o : ℕ) → is_duplicated (duplicates self.new) o ≡ ((o == id.0) || is_duplicated (duplicates self.old) o) }
+        ensures there { (o : ℕ) → is_duplicated (duplicates self.new) o
+            ≡ ((o == id.0) || is_duplicated (duplicates self.old) o) }
         ensures old { KeepsOld (duplicates self.old) id.0 state (duplicates self.new) }
         ensures new { KeepsNew (duplicates self.old) id.0 state (duplicates self.new) };
 
@@ -66,7 +59,8 @@ pub trait Duplicating {
         ensures states { duplicates self.new ≡ after_set (duplicates self.old) set.now }
         ensures new { Sets (duplicates self.old) set.now (duplicates self.new) }
         ensures old { old_states (duplicates self.new) ≡ old_states (duplicates self.old) }
-        ensures same { (o : ℕ) → is_duplicated (duplicates self.new) o ≡ is_duplicated (duplicates self.old) o }
+        ensures same { (o : ℕ) → is_duplicated (duplicates self.new) o
+            ≡ is_duplicated (duplicates self.old) o }
         ensures fence { set.now.value ≡ to.Fence → duplicates self.new ≡ duplicates self.old };
 
     /// The states of the CRTC with an index, where they are duplicated.
@@ -114,14 +108,19 @@ impl Duplicating for Duplicates {
         let id = id.0;
         match state {
             ObjState::Crtc(_) => {
-                id >= FIRST_CRTC && matches!(self.crtcs.get((id - FIRST_CRTC) as usize), Some(None))
+                id >= FIRST_CRTC_ID
+                    && matches!(self.crtcs.get((id - FIRST_CRTC_ID) as usize), Some(None))
             }
             ObjState::Plane(_) => {
-                id >= FIRST_PLANE
-                    && matches!(self.planes.get((id - FIRST_PLANE) as usize), Some(None))
+                id >= FIRST_PLANE_ID
+                    && matches!(self.planes.get((id - FIRST_PLANE_ID) as usize), Some(None))
             }
             ObjState::Conn(_) => {
-                id >= FIRST_CONN && matches!(self.conns.get((id - FIRST_CONN) as usize), Some(None))
+                id >= FIRST_CONNECTOR_ID
+                    && matches!(
+                        self.conns.get((id - FIRST_CONNECTOR_ID) as usize),
+                        Some(None)
+                    )
             }
         }
     }
@@ -129,13 +128,13 @@ impl Duplicating for Duplicates {
     fn duplicate(&mut self, id: ObjId, state: ObjState) {
         match state {
             ObjState::Crtc(s) => {
-                self.crtcs[(id.0 - FIRST_CRTC) as usize] = Some(Both { old: s, new: s });
+                self.crtcs[(id.0 - FIRST_CRTC_ID) as usize] = Some(Both { old: s, new: s });
             }
             ObjState::Plane(s) => {
-                self.planes[(id.0 - FIRST_PLANE) as usize] = Some(Both { old: s, new: s });
+                self.planes[(id.0 - FIRST_PLANE_ID) as usize] = Some(Both { old: s, new: s });
             }
             ObjState::Conn(s) => {
-                self.conns[(id.0 - FIRST_CONN) as usize] = Some(Both { old: s, new: s });
+                self.conns[(id.0 - FIRST_CONNECTOR_ID) as usize] = Some(Both { old: s, new: s });
             }
         }
     }
@@ -143,11 +142,11 @@ impl Duplicating for Duplicates {
     fn set(&mut self, set: &Set) {
         let id = set.object.0;
         match set.value {
-            SetValue::Num(number) if id < FIRST_PLANE => set_active(self, id, number),
+            SetValue::Num(number) if id < FIRST_PLANE_ID => set_active(self, id, number),
             SetValue::Num(number) => set_number(self, id, set.prop, number),
             SetValue::Fb(fb) => set_fb(self, id, fb),
             SetValue::Mode(mode) => set_mode(self, id, mode),
-            SetValue::Crtc(crtc) if id < FIRST_CONN => move_plane(self, id, crtc),
+            SetValue::Crtc(crtc) if id < FIRST_CONNECTOR_ID => move_plane(self, id, crtc),
             SetValue::Crtc(crtc) => move_conn(self, id, crtc),
             SetValue::Fence => {}
         }
@@ -178,26 +177,11 @@ impl Duplicating for Duplicates {
     }
 
     fn is_duplicated(&self, id: ObjId) -> bool {
-        match kind_of(id) {
-            Kind::Crtc => id.0 >= FIRST_CRTC && self.crtc(id.0 - FIRST_CRTC).is_some(),
-            Kind::Plane => self.plane(id.0 - FIRST_PLANE).is_some(),
-            Kind::Conn => self.conn(id.0 - FIRST_CONN).is_some(),
+        match id.kind() {
+            Kind::Crtc => id.0 >= FIRST_CRTC_ID && self.crtc(id.0 - FIRST_CRTC_ID).is_some(),
+            Kind::Plane => self.plane(id.0 - FIRST_PLANE_ID).is_some(),
+            Kind::Conn => self.conn(id.0 - FIRST_CONNECTOR_ID).is_some(),
             Kind::Enc => false,
         }
-    }
-}
-
-/// The kind of object that an id is of: CRTCs have the ids below 200, planes below 300, connectors below 400.
-pub fn kind_of(id: ObjId) -> Kind
-    ensures { result ≡ kind_of id.0 }
-{
-    if id.0 < FIRST_PLANE {
-        Kind::Crtc
-    } else if id.0 < FIRST_CONN {
-        Kind::Plane
-    } else if id.0 < FIRST_ENC {
-        Kind::Conn
-    } else {
-        Kind::Enc
     }
 }

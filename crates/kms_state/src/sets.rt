@@ -7,18 +7,21 @@ ghost use Rattle.kms_model.specs.Request.SetRanges.{may_set};
 ghost use Rattle.kms_state.specs.Places.{state_of};
 ghost use Rattle.kms_state.specs.Changes.{IsSet, changed, plane_with, rerouted, set_to, with_member, with_routed};
 
-use crate::places::{Duplicating, FIRST_CONN, FIRST_CRTC, FIRST_PLANE};
+use crate::places::Duplicating;
 use kms_model::properties::{
     ALPHA, BLEND, CRTC_H, CRTC_W, CRTC_X, CRTC_Y, SRC_H, SRC_W, SRC_X, SRC_Y, ZPOS,
 };
-use kms_model::{CrtcState, Duplicates, FbInfo, Kind, Mode, PlaneState};
+use kms_model::{
+    CrtcState, Duplicates, FIRST_CONNECTOR_ID, FIRST_CRTC_ID, FIRST_PLANE_ID, FbInfo, Kind, Mode,
+    PlaneState,
+};
 
 /// `ACTIVE` of a CRTC.
 pub(crate) fn set_active(states: &mut Duplicates, id: u32, number: i64)
     requires { IsTrue (is_some (state_of Crtc states.old.crtcs id)) }
     ensures { IsSet states.old (set_to id ACTIVE (to.Num number)) states.new }
 {
-    let index = id - FIRST_CRTC;
+    let index = id - FIRST_CRTC_ID;
     if let Some(mut both) = states.crtc(index) {
         both.new.active = number != 0;
         states.crtcs[index as usize] = Some(both);
@@ -30,7 +33,7 @@ pub(crate) fn set_mode(states: &mut Duplicates, id: u32, mode: Option<Mode>)
     requires { IsTrue (is_some (state_of Crtc states.old.crtcs id)) }
     ensures { IsSet states.old (set_to id MODE_ID (to.Mode mode)) states.new }
 {
-    let index = id - FIRST_CRTC;
+    let index = id - FIRST_CRTC_ID;
     if let Some(mut both) = states.crtc(index) {
         both.new.mode = mode;
         states.crtcs[index as usize] = Some(both);
@@ -43,7 +46,7 @@ pub(crate) fn set_number(states: &mut Duplicates, id: u32, prop: u32, number: i6
     requires value { IsTrue (may_set Plane prop (to.Num number)) }
     ensures { IsSet states.old (set_to id prop (to.Num number)) states.new }
 {
-    let index = id - FIRST_PLANE;
+    let index = id - FIRST_PLANE_ID;
     if let Some(mut both) = states.plane(index) {
         set_plane_number(&mut both.new, prop, number);
         states.planes[index as usize] = Some(both);
@@ -55,7 +58,7 @@ pub(crate) fn set_fb(states: &mut Duplicates, id: u32, fb: Option<FbInfo>)
     requires { IsTrue (is_some (state_of Plane states.old.planes id)) }
     ensures { IsSet states.old (set_to id FB_ID (to.Fb fb)) states.new }
 {
-    let index = id - FIRST_PLANE;
+    let index = id - FIRST_PLANE_ID;
     if let Some(mut both) = states.plane(index) {
         both.new.fb = fb;
         states.planes[index as usize] = Some(both);
@@ -67,7 +70,7 @@ pub(crate) fn move_plane(states: &mut Duplicates, id: u32, crtc: u32)
     requires { IsTrue (is_some (state_of Plane states.old.planes id)) }
     ensures { IsSet states.old (set_to id CRTC_ID (to.Crtc crtc)) states.new }
 {
-    let index = id - FIRST_PLANE;
+    let index = id - FIRST_PLANE_ID;
     if let Some(mut both) = states.plane(index) {
         let from = both.new.crtc;
         both.new.crtc = crtc;
@@ -82,7 +85,7 @@ pub(crate) fn move_conn(states: &mut Duplicates, id: u32, crtc: u32)
     requires { IsTrue (is_some (state_of Conn states.old.conns id)) }
     ensures { IsSet states.old (set_to id CRTC_ID (to.Crtc crtc)) states.new }
 {
-    let index = id - FIRST_CONN;
+    let index = id - FIRST_CONNECTOR_ID;
     if let Some(mut both) = states.conn(index) {
         let from = both.new.crtc;
         both.new.crtc = crtc;
@@ -95,12 +98,14 @@ pub(crate) fn move_conn(states: &mut Duplicates, id: u32, crtc: u32)
 /// Puts a plane or a connector on a CRTC, or takes it off, where the CRTC is duplicated.
 fn put_routed(states: &mut Duplicates, id: u32, kind: Kind, index: u32, is_there: bool)
     requires { index < 32 }
-    ensures { states.new ≡ record states.old { crtcs = changed Crtc states.old.crtcs id (with_routed kind index is_there) } }
+    ensures { states.new ≡ record states.old {
+      crtcs = changed Crtc states.old.crtcs id (with_routed kind index is_there);
+    } }
 {
-    if id < FIRST_CRTC {
+    if id < FIRST_CRTC_ID {
         return;
     }
-    let place = id - FIRST_CRTC;
+    let place = id - FIRST_CRTC_ID;
     if let Some(mut both) = states.crtc(place) {
         change_routed(&mut both.new, kind, index, is_there);
         states.crtcs[place as usize] = Some(both);

@@ -1,7 +1,7 @@
 -- What is kept beside the things stays so as things are made and closed.
 use Rattle.std.proofs.Common.{◌≡◌, ℕ, ◌+◌, ◌<◌, ◌≤◌, Bool, true, false, List, [], ◌∷◌, ◌++◌, length, Option, Some, None, Result, Ok, Err, eqb, refl, sym, ap, ◌∙◌, subst, inl, inr, arith}
-use Rattle.std.specs.Prelude.{map, nat_lt}
-use Rattle.std.specs.List.{AllByRecursion, cons_option}
+use Rattle.std.specs.Prelude.{nat_lt}
+use Rattle.std.specs.List.{cons_option}
 use Rattle.std.proofs.lemmas.Bool.Decides.{nat_tests, eqb_tells}
 use Rattle.std.proofs.lemmas.Bool.{cases_lt}
 use Rattle.std.proofs.lemmas.List.{length-map, append-nil}
@@ -19,20 +19,19 @@ use Rattle.kms_model.specs.Firsts.{or_else, number_if}
 use Rattle.kms_model.specs.Device.Sound.{AreNumbered}
 use Rattle.kms_model.specs.Stores.Kept.{area_bytes, buffer, bytes_of, bytes_with, largest_bytes}
 use Rattle.kms_model.specs.Stores.Tables.{AreBelow, slot}
-use Rattle.kms_model.specs.Device.World.{thing_with_id}
 use Rattle.kms_buffers.specs.declared.buffers.MakeError.{MakeError}
 use Rattle.kms_buffers.specs.declared.buffers.MakeError.TheVariants as error
 use Rattle.kms_buffers.specs.Things.{buffer_in, buffers_of}
-use Rattle.kms_things.specs.Index.{AreKept, HasNoWords, Ids, IsIndex, id_labelled, id_under, number_told}
-use Rattle.kms_model.specs.Frames.Shown.{AreFramed, FramesIn}
-use Rattle.kms_model.proofs.FramedLemmas.{IsSameBut, closed_same, framed_closed, framed_more}
+use Rattle.kms_things.specs.Index.{AreKept, Ids, IsIndex, id_labelled, id_under, number_told}
+use Rattle.kms_model.specs.Frames.Shown.{FramesIn}
+use Rattle.kms_model.proofs.FramedLemmas.{closed_same, framed_closed, framed_more}
 use Rattle.kms_model.proofs.ThingLemmas.{numbered-closed, numbered-push}
 use Rattle.kms_things.proofs.Numbered.{length_more}
 
 words_more : (ts : List Thing) (t : Thing) → buffers_of (ts ++ t ∷ []) ≡ buffers_of ts ++ buffers_of (t ∷ [])
 words_more ts t = filter_map-append (λ u. buffer_in u.id u.owner u.content) ts (t ∷ [])
 
-no_words : (t : Thing) → HasNoWords t.content → buffers_of (t ∷ []) ≡ []
+no_words : (t : Thing) → ((id owner : ℕ) → buffer_in id owner t.content ≡ None) → buffers_of (t ∷ []) ≡ []
 no_words t wordless = rw (wordless t.id t.owner) refl
 
 append_none : (bs cs : List (Slot Buffer)) → cs ≡ [] → bs ++ cs ≡ bs
@@ -40,7 +39,7 @@ append_none bs cs e = rw e (append-nil bs)
 
 -- a thing more that is no buffer
 pub kept_made : (ts : List Thing) (next : ℕ) (ids more : Ids) (buffers : List (Slot Buffer)) (t : Thing)
-    → AreKept ts next ids buffers → t.id ≡ next → HasNoWords t.content → FramesIn ts next t.content → IsIndex more (ts ++ t ∷ []) → AreKept (ts ++ t ∷ []) (next + 1) more buffers
+    → AreKept ts next ids buffers → t.id ≡ next → ((id owner : ℕ) → buffer_in id owner t.content ≡ None) → FramesIn ts next t.content → IsIndex more (ts ++ t ∷ []) → AreKept (ts ++ t ∷ []) (next + 1) more buffers
 kept_made ts next ids more buffers t kept is wordless framed indexed = record {
   numbered = numbered-push 1000 ts t kept.numbered (is ∙ kept.next);
   next = length_more next ts t kept.next;

@@ -1,5 +1,5 @@
 -- What commands make, in any world in which the same was made.
-use Rattle.std.proofs.Common.{◌≡◌, ℕ, List, [], ◌∷◌, Option, Some, None, Result, Ok, Err, ap, refl, sym}
+use Rattle.std.proofs.Common.{◌≡◌, ℕ, List, [], ◌∷◌, Option, Some, None, Result, Ok, Err, ap, refl}
 use Rattle.std.specs.Prelude.{IfOk, map}
 use Rattle.std.specs.Option.{option_map}
 use Rattle.kms_model.specs.declared.pictures.FbInfo.{FbInfo}

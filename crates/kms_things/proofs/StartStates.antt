@@ -1,7 +1,6 @@
 -- The states of a device's objects before the first command are those of its values.
-use Rattle.std.proofs.Common.{◌≡◌, ◌≢◌, ℕ, zero, suc, ◌+◌, ◌<◌, ◌≤◌, Bool, true, false, cond, List, [], ◌∷◌, ◌++◌, length, eqb, Option, Some, None, refl, sym, ap, ◌∙◌, subst, inl, inr, arith, append_assoc}
-use Rattle.std.specs.Prelude.{map, nat_lt, slice_get, ◌==◌, ◌&&◌, ◌||◌, ℤ, pos, is_some}
-use Rattle.std.specs.Option.{option_flatten}
+use Rattle.std.proofs.Common.{◌≡◌, ℕ, zero, suc, ◌+◌, ◌<◌, ◌≤◌, Bool, true, false, cond, List, [], ◌∷◌, ◌++◌, length, eqb, Option, Some, None, refl, ap, ◌∙◌, inl, inr, arith, append_assoc}
+use Rattle.std.specs.Prelude.{map, nat_lt, slice_get, ◌==◌, ℤ, pos, is_some}
 use Rattle.std.specs.List.{flat_map, list_any, range_with_len}
 use Rattle.std.proofs.lemmas.Bool.Decides.{nat_tests, eqb_tells}
 use Rattle.std.proofs.lemmas.Bool.{and_parts, cases_lt, leb-true}
@@ -9,7 +8,7 @@ use Rattle.std.proofs.lemmas.Option.{slice_get_past}
 use Rattle.kms_model.specs.declared.objects.Kind.TheVariants as kind
 use Rattle.kms_model.specs.declared.objects.PlaneInfo.{PlaneInfo}
 use Rattle.kms_model.specs.declared.objects.Topology.{Topology}
-use Rattle.kms_model.specs.declared.properties.TheConstants.{TYPE, FB_ID, CRTC_ID, CRTC_X, CRTC_Y, CRTC_W, CRTC_H, SRC_X, SRC_Y, SRC_W, SRC_H, ALPHA, BLEND, ZPOS, ACTIVE, MODE_ID}
+use Rattle.kms_model.specs.declared.properties.TheConstants.{TYPE, FB_ID, CRTC_ID, CRTC_X, CRTC_Y, CRTC_W, CRTC_H, SRC_X, SRC_Y, SRC_W, SRC_H, ALPHA, BLEND, ZPOS, ACTIVE}
 use Rattle.kms_model.specs.declared.states.Both.{Both}
 use Rattle.kms_model.specs.declared.worlds.Setting.{Setting}
 use Rattle.kms_model.specs.Request.Agreement.{AreNew, AreOld, conn_state_at, crtc_state_at}
@@ -20,9 +19,9 @@ use Rattle.kms_model.specs.Device.Properties.{keeps_limits}
 use Rattle.kms_model.specs.Device.Sound.{IsDevice}
 use Rattle.kms_model.specs.Device.States.{crtc_at, plane_at}
 use Rattle.kms_model.specs.Script.Words.{between}
-use Rattle.kms_model.specs.Device.World.{is_of, settings, start, start_conn, start_crtc, start_plane, start_planes, value}
+use Rattle.kms_model.specs.Device.World.{settings, start, start_conn, start_crtc, start_planes, value}
 use Rattle.kms_model.proofs.SoundStart.{few_planes, start-crtc, start-zero}
-use Rattle.kms_things.specs.Present.{AreWhole, IsPresent, IsWhole}
+use Rattle.kms_things.specs.Present.{AreWhole, IsPresent}
 use Rattle.kms_things.specs.Starting.{alike, off_conn, off_crtc, off_plane, start_states, states_below}
 
 not_on : (crtc other : ℕ) → crtc ≡ 0 → 0 < other → eqb crtc other ≡ false

@@ -1,20 +1,23 @@
 -- How things are kept: in order of making, with an index of labels and the words of buffers.
-use Rattle.std.specs.Prelude.{◌≡◌, ℕ, ◌+◌, List, length, nat_eq, Option, Some, None, Result, Ok, Err}
+use Rattle.std.specs.Prelude.{◌≡◌, ℕ, ◌+◌, true, List, length, nat_eq, Option, Some, None, Result, Ok, Err}
 use Rattle.std.specs.Option.{option_map}
 use Rattle.std.specs.HashMap.{HashMap, get}
 use Rattle.std.specs.declared.hash.BuildHasherDefault.{BuildHasherDefault}
 use Rattle.std.specs.declared.hash.FoldHasher.{FoldHasher}
 use Rattle.kms_model.specs.declared.stores.Buffer.{Buffer}
+use Rattle.kms_model.specs.declared.stores.Framebuffer.{Framebuffer}
 use Rattle.kms_model.specs.declared.tables.Slot.{Slot}
 use Rattle.kms_model.specs.declared.worlds.Content.{Content}
 use Rattle.kms_model.specs.declared.worlds.Thing.{Thing}
-use Rattle.kms_model.specs.Device.World.{thing_labelled}
+use Rattle.kms_model.specs.Device.Execution.{is_blob}
+use Rattle.kms_model.specs.Device.World.{thing_labelled, thing_with_id}
+use Rattle.kms_model.specs.Stores.Tables.{AreBelow}
 use Rattle.kms_model.specs.Device.Sound.{AreNumbered}
 use Rattle.kms_model.specs.Frames.Shown.{AreFramed}
 use Rattle.kms_model.specs.declared.replies.TheConstants.Denied.{INVALID_SIZE, NO_BUFFER_SPACE}
 use Rattle.kms_buffers.specs.declared.buffers.MakeError.{MakeError}
 use Rattle.kms_buffers.specs.declared.buffers.MakeError.TheVariants as error
-use Rattle.kms_buffers.specs.Things.{buffer_in, buffers_of}
+use Rattle.kms_buffers.specs.Things.{buffer_in, buffers_of, fb_in, open_fbs, open_fbs_of}
 
 -- ids by labels
 abbrev pub Ids : Type 0
@@ -41,9 +44,25 @@ pub record AreKept (things : List Thing) (next_id : ℕ) (ids : Ids) (buffers : 
   pub words : buffers ≡ buffers_of things
   pub framed : AreFramed things
 
--- a thing without words
-abbrev pub HasNoWords : Content → Type 0
-HasNoWords c = (id owner : ℕ) → buffer_in id owner c ≡ None
+-- What is kept of the framebuffers that something refers to: their ids are below the next one, and the open ones are
+-- those among the things.
+pub record AreReferred (things : List Thing) (next_id : ℕ) (fbs : List (Slot Framebuffer)) : Type 0 where
+  pub below : AreBelow next_id fbs
+  pub same : open_fbs_of things ≡ open_fbs fbs
+
+-- the same of all
+pub record IsStore (things : List Thing) (next_id : ℕ) (ids : Ids) (buffers : List (Slot Buffer)) (fbs : List (Slot Framebuffer)) : Type 0 where
+  pub kept : AreKept things next_id ids buffers
+  pub referred : AreReferred things next_id fbs
+
+-- neither a buffer nor a framebuffer
+pub record IsPlain (c : Content) : Type 0 where
+  pub wordless : (id owner : ℕ) → buffer_in id owner c ≡ None
+  pub unreferred : (owner : ℕ) → fb_in owner c ≡ None
+
+-- the thing with an id is a blob
+abbrev pub IsBlobAt : List Thing → ℕ → Type 0
+IsBlobAt things id = option_map (λ t. is_blob t.content) (thing_with_id things id) ≡ Some true
 
 -- the number with which an answer of the store of buffers refuses a buffer
 abbrev pub number_told : Result ℕ MakeError → Option ℕ

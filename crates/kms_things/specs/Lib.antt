@@ -1,4 +1,5 @@
 pub mod Made
+pub mod Counting
 pub mod Index
 pub mod Commands
 pub mod Framebuffers

@@ -1,12 +1,15 @@
 -- What was made, as contracts see it.
 use Rattle.std.specs.Prelude.{ℕ, ◌<◌, Bool, nat_lt, List}
+use Rattle.kms_model.specs.declared.stores.Framebuffer.{Framebuffer}
+use Rattle.kms_model.specs.declared.tables.Slot.{Slot}
 use Rattle.kms_model.specs.declared.worlds.Thing.{Thing}
 use Rattle.kms_model.specs.declared.worlds.World.{World}
 
--- the things in order of making, open and closed, and the id of the next one
+-- the things in order of making, open and closed, the id of the next one, and the framebuffers that something refers to
 pub record Made : Type 0 where
   pub things : List Thing
   pub next_id : ℕ
+  pub fbs : List (Slot Framebuffer)
 
 -- a world in which this was made
 abbrev pub with_made : World → Made → World

@@ -1,5 +1,5 @@
 -- The typed states of a device's objects before the first command.
-use Rattle.std.specs.Prelude.{ℕ, ◌+◌, false, nat_lt, pos, List, length, map, Option, Some, None, if◌then◌else◌}
+use Rattle.std.specs.Prelude.{ℕ, false, nat_lt, pos, List, length, map, Option, Some, None, if◌then◌else◌}
 use Rattle.std.specs.List.{range_with_len}
 use Rattle.kms_model.specs.declared.objects.Topology.{Topology}
 use Rattle.kms_model.specs.declared.pictures.Rect.{Rect}

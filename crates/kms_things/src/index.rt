@@ -6,9 +6,10 @@ ghost use Rattle.kms_model.specs.Device.Closing.{closed_in};
 ghost use Rattle.kms_model.specs.Firsts.{or_else};
 ghost use Rattle.kms_model.specs.Device.Sound.{AreNumbered};
 ghost use Rattle.kms_model.specs.declared.stores.Buffer.{Buffer};
+ghost use Rattle.kms_model.specs.declared.stores.Framebuffer.{Framebuffer};
 ghost use Rattle.kms_model.specs.declared.tables.Slot.{Slot};
 ghost use Rattle.kms_model.specs.declared.worlds.World.{World};
-ghost use Rattle.kms_things.specs.Index.{AreKept, IsIndex, id_under};
+ghost use Rattle.kms_things.specs.Index.{AreKept, AreReferred, IsIndex, id_under};
 ghost use Rattle.kms_things.specs.OutFences.{fences_made};
 ghost use Rattle.kms_model.specs.Device.Execution.{make_out_fence};
 
@@ -45,7 +46,8 @@ pub fn thing_labelled<'a>(
 /// Keeps the id of a label that has none yet.
 fn note(ids: &mut HashMap<u32, u32>, label: u32, id: u32)
     requires { 0 < spare ids.old }
-    ensures noted { (q : ℕ) → id_under ids.new q ≡ or_else (id_under ids.old q) (if nat_eq label q then Some id else None) }
+    ensures noted { (q : ℕ) → id_under ids.new q
+        ≡ or_else (id_under ids.old q) (if nat_eq label q then Some id else None) }
     ensures spare { spare ids.old ≤ spare ids.new + 1 }
 {
     if ids.contains_key(&label) {
@@ -95,8 +97,12 @@ fn put_fence(
     requires room { vec_len things.old < vec_capacity things.old }
     requires spare { 0 < spare ids.old }
     requires indexed { IsIndex ids.old things.old.items }
-    ensures made { (w : World) → w.things ≡ things.old.items → w.next_id ≡ next → make_out_fence client w label ≡ record w { things = things.new.items; next_id = result } }
-    ensures kept { (buffers : List (Slot Buffer)) → AreKept things.old.items next ids.old buffers → AreKept things.new.items result ids.new buffers }
+    ensures made { (w : World) → w.things ≡ things.old.items → w.next_id ≡ next
+        → make_out_fence client w label ≡ record w { things = things.new.items; next_id = result } }
+    ensures kept { (buffers : List (Slot Buffer)) → AreKept things.old.items next ids.old buffers
+        → AreKept things.new.items result ids.new buffers }
+    ensures referred { (fbs : List (Slot Framebuffer)) → AreReferred things.old.items next fbs
+        → AreReferred things.new.items result fbs }
     ensures indexed { IsIndex ids.new things.new.items }
     ensures length { vec_len things.new ≤ vec_len things.old + 1 }
     ensures capacity { vec_capacity things.old ≤ vec_capacity things.new }
@@ -134,8 +140,12 @@ pub fn put_fences(
     requires room { vec_len things.old + length labels.now ≤ vec_capacity things.old }
     requires spare { length labels.now ≤ spare ids.old }
     requires indexed { IsIndex ids.old things.old.items }
-    ensures made { (w : World) → w.things ≡ things.old.items → w.next_id ≡ first → fences_made client w labels.now ≡ record w { things = things.new.items; next_id = result } }
-    ensures kept { (buffers : List (Slot Buffer)) → AreKept things.old.items first ids.old buffers → AreKept things.new.items result ids.new buffers }
+    ensures made { (w : World) → w.things ≡ things.old.items → w.next_id ≡ first
+        → fences_made client w labels.now ≡ record w { things = things.new.items; next_id = result } }
+    ensures kept { (buffers : List (Slot Buffer)) → AreKept things.old.items first ids.old buffers
+        → AreKept things.new.items result ids.new buffers }
+    ensures referred { (fbs : List (Slot Framebuffer)) → AreReferred things.old.items first fbs
+        → AreReferred things.new.items result fbs }
 {
     let mut next = first;
     for label in labels {

@@ -18,3 +18,6 @@ mod things;
 pub use starting::start_states;
 pub use swapping::swapped;
 pub use things::Things;
+
+#[cfg(test)]
+mod tests;

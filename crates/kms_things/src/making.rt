@@ -1,13 +1,14 @@
 //! The commands that make and close things.
-ghost use Rattle.std.specs.Prelude.{◌≡◌, ◌<◌, IfOk, IfSome, OnErr};
+ghost use Rattle.std.specs.Prelude.{◌≡◌, ◌<◌, IfOk, IfSome, OnErr, OnOk};
 ghost use Rattle.kms_model.specs.declared.objects.Topology.{Topology};
 ghost use Rattle.kms_model.specs.declared.worlds.World.{World};
-ghost use Rattle.kms_model.specs.Device.Execution.{add_fb, buffer_of, close_fb, destroy, execute, signal_refusal, signal_unless};
+ghost use Rattle.kms_model.specs.Device.Execution.{add_fb, buffer_of, close_fb, close_refusal, destroy, execute, signal_refusal, signal_unless};
 ghost use Rattle.kms_model.specs.Device.World.{thing_labelled};
 ghost use Rattle.kms_model.specs.Frames.Shown.{IsFramed};
 ghost use Rattle.kms_model.specs.Script.WellFormed.{IsFitCommand};
 ghost use Rattle.kms_things.specs.Commands.{IsNoRequest};
 ghost use Rattle.kms_things.specs.Framebuffers.{new_framebuffer};
+ghost use Rattle.kms_things.specs.Counting.{fbs_added, fbs_after, fbs_without};
 ghost use Rattle.kms_things.specs.Made.{HasIds, with_made};
 
 use crate::refusals::{close_refusal, destroy_refusal, signal_refusal};
@@ -44,21 +45,29 @@ pub fn new_framebuffer(things: &Things, client: u32, label: u32) -> Option<(FbIn
 }
 
 /// Makes a framebuffer of a client's buffer; 33 where the label is no buffer of this client.
-fn add_fb(things: &mut Things, client: u32, label: u32, buffer: u32) -> Result<Reply, NoMemory>
+fn add_fb(
+    alloc: Global,
+    things: &mut Things,
+    client: u32,
+    label: u32,
+    buffer: u32,
+) -> Result<Reply, NoMemory>
     requires { things.old.next_id < 4294967295 }
     ensures made { IfOk result (λ r. (w : World) → add_fb (with_made w things.old) client label
         (buffer_of things.old.things client buffer) ≡ record { world = with_made w things.new; reply = r }) }
+    ensures counted { OnOk result (things.new.fbs ≡ fbs_added things.old client (buffer_of things.old.things client buffer)) }
     ensures unchanged { OnErr result (things.new ≡ things.old) }
 {
     match new_framebuffer(things, client, buffer) {
-        Some((info, buffer)) => things.make(client, label, Content::Framebuffer { info, buffer }),
+        Some((info, buffer)) => things.make_fb(alloc, client, label, info, buffer),
         None => Ok(Reply::Denied(Denied::NOT_FOUND.0)),
     }
 }
 
 /// Destroys a client's blob.
 fn destroy(things: &mut Things, client: u32, label: u32) -> Reply
-    ensures { (w : World) → destroy (with_made w things.old) client (thing_labelled things.old.things label)
+    ensures counted { things.new.fbs ≡ things.old.fbs }
+    ensures done { (w : World) → destroy (with_made w things.old) client (thing_labelled things.old.things label)
         ≡ record { world = with_made w things.new; reply = result } }
 {
     let Some(thing) = things.labelled(label) else {
@@ -68,13 +77,15 @@ fn destroy(things: &mut Things, client: u32, label: u32) -> Reply
         return Reply::Denied(number);
     }
     let id = thing.id;
-    things.close(id);
+    things.destroy_blob(id);
     Reply::Done
 }
 
 /// Closes a client's framebuffer.
 fn close_fb(things: &mut Things, client: u32, label: u32) -> Reply
-    ensures { (w : World) → close_fb (with_made w things.old) client (thing_labelled things.old.things label)
+    ensures counted { things.new.fbs ≡ fbs_without things.old client (thing_labelled things.old.things label)
+        (close_refusal client (thing_labelled things.old.things label)) }
+    ensures done { (w : World) → close_fb (with_made w things.old) client (thing_labelled things.old.things label)
         ≡ record { world = with_made w things.new; reply = result } }
 {
     let Some(thing) = things.labelled(label) else {
@@ -84,7 +95,7 @@ fn close_fb(things: &mut Things, client: u32, label: u32) -> Reply
         return Reply::Denied(number);
     }
     let id = thing.id;
-    things.close(id);
+    things.close_fb(client, id);
     Reply::Done
 }
 
@@ -115,6 +126,7 @@ impl Things {
         requires other { IsNoRequest command.now }
         ensures executed { IfOk result (λ r. (t : Topology) (w : World) → execute t (with_made w self.old) client command.now
             ≡ record { world = with_made w self.new; reply = r }) }
+        ensures counted { OnOk result (self.new.fbs ≡ fbs_after self.old client command.now) }
         ensures unchanged { OnErr result (self.new ≡ self.old) }
     {
         match command {
@@ -128,7 +140,7 @@ impl Things {
                 let pattern = pattern.copy(alloc)?;
                 self.make_buffer(alloc, client, *label, *width, *height, *format, pattern)
             }
-            Command::AddFb { label, buffer } => add_fb(self, client, *label, *buffer),
+            Command::AddFb { label, buffer } => add_fb(alloc, self, client, *label, *buffer),
             Command::Mode { label, mode } => self.make(client, *label, Content::Mode(*mode)),
             Command::Blob { label, bytes } => {
                 let bytes = bytes.copy(alloc)?;

@@ -60,8 +60,13 @@ impl Things {
                 id,
                 framebuffer_refusal(self, client, *buffer),
             ),
-            Command::Mode { .. } | Command::Blob { .. } | Command::Fence { .. } => Reply::Made { id },
-            Command::Destroy { label } => done_unless(destroy_refusal(client, self.labelled(*label))),
+            Command::Mode { .. } | Command::Blob { .. } | Command::Fence { .. } => Reply::Made {
+                id,
+            },
+            Command::Destroy { label } => done_unless(destroy_refusal(
+                client,
+                self.labelled(*label),
+            )),
             Command::CloseFb { label } => done_unless(close_refusal(client, self.labelled(*label))),
             Command::Signal { label } => signal(self, *label),
             Command::Atomic(_) | Command::Wait => Reply::NoEvent,

@@ -1,23 +1,24 @@
 //! The things that were made, by label and by id, with the words of buffers.
-ghost use Rattle.std.specs.Prelude.{◌≡◌, ◌<◌, ℕ, List, [], map, IfNone, IfOk, IfSome, IsTrue, None, OnErr, OnOk, Some, length, option_copied, ◌≤◌};
+ghost use Rattle.std.specs.Prelude.{◌≡◌, ◌<◌, ℕ, List, [], ◌∷◌, ◌++◌, map, is_some, IfNone, IfOk, IfSome, IsTrue, None, OnErr, OnOk, Some, length, option_copied, ◌≤◌};
 ghost use Rattle.kms_model.specs.declared.worlds.Content.TheVariants as content;
 ghost use Rattle.kms_model.specs.declared.worlds.World.{World};
 ghost use Rattle.kms_model.specs.Device.Closing.{closed_in};
-ghost use Rattle.kms_model.specs.Device.Execution.{make, make_out_fences, make_unless, new_buffer_refusal};
+ghost use Rattle.kms_model.specs.Device.Execution.{close_refusal, make, make_out_fences, make_unless, new_buffer_refusal};
 ghost use Rattle.kms_model.specs.Request.Touched.{out_fence_label};
 ghost use Rattle.kms_model.specs.declared.scripts.Assign.{Assign};
 ghost use Rattle.kms_model.specs.Device.States.{framebuffer_of};
 ghost use Rattle.kms_model.specs.Device.World.{thing_labelled, thing_with_id};
 ghost use Rattle.kms_model.specs.Frames.Images.{image_of};
-ghost use Rattle.kms_model.specs.Frames.Shown.{FramesIn};
-ghost use Rattle.kms_model.specs.Stores.Kept.{Fills};
-ghost use Rattle.kms_things.specs.Index.{HasNoWords, number_told};
+ghost use Rattle.kms_model.specs.Frames.Shown.{IsFramed};
+ghost use Rattle.kms_model.specs.Stores.Kept.{Fills, MayGive, MayTake, fbs_closed, fbs_given, fbs_taken, framebuffer, is_last_of};
+ghost use Rattle.kms_model.specs.Stores.Tables.{slot, value_with_id};
+ghost use Rattle.kms_things.specs.Index.{IsBlobAt, IsPlain, number_told};
 ghost use Rattle.kms_things.specs.Made.{HasIds, has_ids, with_made};
 
 use crate::index;
-use kms_buffers::{Buffers, MakeError};
+use kms_buffers::{Buffers, FbStore, MakeError};
 use kms_model::{
-    Content, Denied, FIRST_THING_ID, Format, Image, NoMemory, Pattern, Reply, Thing,
+    Content, Denied, FIRST_THING_ID, FbInfo, Format, Image, NoMemory, Pattern, Reply, Thing,
 };
 use std::alloc::Global;
 use std::collections::HashMap;
@@ -35,29 +36,32 @@ pub struct Things {
     // The id of the thing that was made under each label.
     ids: HashMap<u32, u32>,
     buffers: Buffers,
+    // The framebuffers that something refers to: their being open, or a reference that was taken.
+    fbs: FbStore,
 }
 
 impl Model for Things {
-    ghost use Rattle.kms_things.specs.Index.{AreKept};
+    ghost use Rattle.kms_things.specs.Index.{IsStore};
     ghost use Rattle.kms_things.specs.Made.{Made};
 
     ghost Value = { Made };
 
-    ghost view = { λ s. record { things = s.made.items; next_id = s.next_id } };
+    ghost view = { λ s. record { things = s.made.items; next_id = s.next_id; fbs = s.fbs } };
 
-    ghost invariant = { λ s. AreKept s.made.items s.next_id s.ids s.buffers };
+    ghost invariant = { λ s. IsStore s.made.items s.next_id s.ids s.buffers s.fbs };
 }
 
 impl Things {
     /// Nothing was made. It takes no memory until the first thing.
     pub fn new(alloc: Global) -> Things
-        ensures { result ≡ record { things = []; next_id = 1000 } }
+        ensures { result ≡ record { things = []; next_id = 1000; fbs = [] } }
     {
         Things {
             made: Vec::new(alloc),
             next_id: FIRST_THING_ID,
             ids: HashMap::new(alloc),
             buffers: Buffers::new(alloc),
+            fbs: FbStore::new(alloc),
         }
     }
 
@@ -91,7 +95,7 @@ impl Things {
         index::thing_with_id(self.made.as_slice(), id)
     }
 
-    /// Makes a thing that is no buffer. Want of memory leaves all as it was.
+    /// Makes a thing that is neither a buffer nor a framebuffer. Want of memory leaves all as it was.
     pub(crate) fn make(
         &mut self,
         owner: u32,
@@ -99,10 +103,10 @@ impl Things {
         content: Content,
     ) -> Result<Reply, NoMemory>
         requires room { self.old.next_id < 4294967295 }
-        requires wordless { HasNoWords content }
-        requires framed { FramesIn self.old.things self.old.next_id content }
+        requires plain { IsPlain content }
         ensures made { IfOk result (λ r. (w : World) → make (with_made w self.old) owner label content
             ≡ record { world = with_made w self.new; reply = r }) }
+        ensures counted { self.new.fbs ≡ self.old.fbs }
         ensures unchanged { OnErr result (self.new ≡ self.old) }
     {
         self.made.reserve(1)?;
@@ -123,14 +127,44 @@ impl Things {
         Ok(Reply::Made { id })
     }
 
+    /// Makes a framebuffer of a buffer, with the one reference of being open. Want of memory leaves all as it was.
+    pub(crate) fn make_fb(
+        &mut self,
+        alloc: Global,
+        owner: u32,
+        label: u32,
+        info: FbInfo,
+        buffer: u32,
+    ) -> Result<Reply, NoMemory>
+        requires room { self.old.next_id < 4294967295 }
+        requires framed { IsFramed self.old.things self.old.next_id info buffer }
+        ensures made { IfOk result (λ r. (w : World) → make (with_made w self.old) owner label (content.Framebuffer info buffer)
+            ≡ record { world = with_made w self.new; reply = r }) }
+        ensures counted { OnOk result (self.new.fbs ≡ self.old.fbs ++ slot self.old.next_id (framebuffer owner buffer info) ∷ []) }
+        ensures unchanged { OnErr result (self.new ≡ self.old) }
+    {
+        self.made.reserve(1)?;
+        self.ids.reserve(1)?;
+        let id = self.next_id;
+        self.fbs.add(alloc, owner, id, buffer, info)?;
+        index::put(
+            &mut self.made,
+            &mut self.ids,
+            Thing {
+                label,
+                id,
+                owner,
+                content: Content::Framebuffer { info, buffer },
+                is_open: true,
+            },
+        );
+        self.next_id = id + 1;
+        Ok(Reply::Made { id })
+    }
+
     /// What is wrong with a new buffer: 31, a side is 0 or above 4096 pixels; 32, all buffers would have more than
     /// 268435456 bytes.
-    pub(crate) fn new_buffer_refusal(
-        &self,
-        width: u32,
-        height: u32,
-        format: Format,
-    ) -> Option<u32>
+    pub(crate) fn new_buffer_refusal(&self, width: u32, height: u32, format: Format) -> Option<u32>
         ensures { result ≡ new_buffer_refusal self.now.things width height format }
     {
         number_of(self.buffers.total_with(width, height, format))
@@ -152,6 +186,7 @@ impl Things {
         ensures made { IfOk result (λ r. (w : World) → make_unless (with_made w self.old) owner label
             (content.Buffer width height format pattern) (new_buffer_refusal self.old.things width height format)
             ≡ record { world = with_made w self.new; reply = r }) }
+        ensures counted { self.new.fbs ≡ self.old.fbs }
         ensures unchanged { OnErr result (self.new ≡ self.old) }
     {
         if let Some(number) = self.new_buffer_refusal(width, height, format) {
@@ -205,16 +240,13 @@ impl Things {
 
     /// Makes a client's out-fences with the next ids under the labels that its accepted request asks for, one place for each
     /// CRTC of the device, in order. Want of memory leaves all as it was. (Kernel: "Explicit Fencing Properties", `OUT_FENCE_PTR`.)
-    pub fn make_out_fences(
-        &mut self,
-        client: u32,
-        labels: &[Option<u32>],
-    ) -> Result<(), NoMemory>
+    pub fn make_out_fences(&mut self, client: u32, labels: &[Option<u32>]) -> Result<(), NoMemory>
         requires few { length labels.now ≤ 4 }
         requires ids { HasIds self.old }
         ensures made { OnOk result ((w : World) (assigns : List Assign) (crtcs : List ℕ)
             → labels.now ≡ map (out_fence_label assigns) crtcs
             → make_out_fences client assigns (with_made w self.old) crtcs ≡ with_made w self.new) }
+        ensures counted { self.new.fbs ≡ self.old.fbs }
         ensures unchanged { OnErr result (self.new ≡ self.old) }
     {
         self.made.reserve(labels.len())?;
@@ -229,11 +261,49 @@ impl Things {
         Ok(())
     }
 
-    /// Closes the thing with an id.
-    pub(crate) fn close(&mut self, id: u32)
+    /// Destroys the blob with an id.
+    pub(crate) fn destroy_blob(&mut self, id: u32)
+        requires { IsBlobAt self.old.things id }
         ensures { self.new ≡ record self.old { things = closed_in self.old.things id } }
     {
         index::close(&mut self.made, id);
+    }
+
+    /// Closes a client's open framebuffer, which gives the reference of being open back.
+    pub(crate) fn close_fb(&mut self, client: u32, id: u32)
+        requires { close_refusal client (thing_with_id self.old.things id) ≡ None }
+        ensures things { self.new.things ≡ closed_in self.old.things id }
+        ensures next_id { self.new.next_id ≡ self.old.next_id }
+        ensures counted { self.new.fbs ≡ fbs_closed self.old.fbs client id }
+    {
+        let _ = self.fbs.close(client, id);
+        index::close(&mut self.made, id);
+    }
+
+    /// Whether something refers to the framebuffer with an id: its being open, or a reference that was taken.
+    pub fn is_referred(&self, fb: u32) -> bool
+        ensures { result ≡ is_some (value_with_id self.now.fbs fb) }
+    {
+        self.fbs.has(fb)
+    }
+
+    /// Takes a reference more of a framebuffer that something refers to and that has fewer than 4294967295.
+    /// (Kernel: `drm_framebuffer_get`.)
+    pub fn take(&mut self, fb: u32)
+        requires { MayTake (value_with_id self.old.fbs fb) }
+        ensures { self.new ≡ record self.old { fbs = fbs_taken self.old.fbs fb } }
+    {
+        self.fbs.take(fb);
+    }
+
+    /// Gives a reference back of a framebuffer that has one beside that of being open. True exactly where that was the
+    /// last: nothing refers to the framebuffer any more. (Kernel: `drm_framebuffer_put`.)
+    pub fn give(&mut self, fb: u32) -> bool
+        requires { MayGive (value_with_id self.old.fbs fb) }
+        ensures last { result ≡ is_last_of (value_with_id self.old.fbs fb) }
+        ensures given { self.new ≡ record self.old { fbs = fbs_given self.old.fbs fb } }
+    {
+        self.fbs.give(fb)
     }
 }
 

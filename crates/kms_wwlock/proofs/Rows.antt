@@ -1,5 +1,5 @@
 -- Worked examples of the definitions, computed: two contexts, of which the younger holds the first CRTC.
-use Rattle.std.proofs.Common.{◌≡◌, ℕ, List, [], ◌∷◌, replicate, Some, None, refl, inl, arith}
+use Rattle.std.proofs.Common.{◌≡◌, ℕ, [], ◌∷◌, Some, None, refl, inl, arith}
 use Rattle.kms_model.specs.declared.objects.Kind.{Kind}
 use Rattle.kms_model.specs.declared.objects.Kind.TheVariants.{Crtc, Plane, Conn}
 use Rattle.kms_model.specs.declared.objects.ObjId.{ObjId}
@@ -10,7 +10,7 @@ use Rattle.kms_wwlock.specs.declared.table.Lock.TheVariants.{Got, Own, Older, Yo
 use Rattle.kms_wwlock.specs.Objects.{lock_place}
 use Rattle.kms_wwlock.specs.Table.{Table, holder_of, doing_of}
 use Rattle.kms_wwlock.specs.Calls.{lock_answer, after_lock, after_backoff}
-use Rattle.kms_wwlock.specs.Waits.{Call, Lock, Begin, Waits, ForYounger, after_all, empty_table}
+use Rattle.kms_wwlock.specs.Waits.{Lock, Begin, Waits, ForYounger, after_all, empty_table}
 
 abbrev object : Kind → ℕ → ObjId
 object kind index = record { 0 = object_id kind index }

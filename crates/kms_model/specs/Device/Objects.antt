@@ -4,13 +4,13 @@ use Rattle.std.specs.List.{range_with_len}
 use Rattle.kms_model.specs.declared.objects.Kind.{Kind}
 use Rattle.kms_model.specs.declared.objects.Kind.TheVariants.{Crtc, Plane, Conn, Enc}
 use Rattle.kms_model.specs.declared.objects.Topology.{Topology}
-use Rattle.kms_model.specs.declared.objects.TheConstants.{MAX_CRTCS, MAX_PLANES, MAX_CONNECTORS}
+use Rattle.kms_model.specs.declared.objects.TheConstants.{FIRST_CRTC_ID, FIRST_PLANE_ID, FIRST_CONNECTOR_ID, FIRST_ENCODER_ID, MAX_CRTCS, MAX_PLANES, MAX_CONNECTORS}
 
 abbrev pub first_id : Kind → ℕ
-first_id Crtc = 100
-first_id Plane = 200
-first_id Conn = 300
-first_id Enc = 400
+first_id Crtc = FIRST_CRTC_ID
+first_id Plane = FIRST_PLANE_ID
+first_id Conn = FIRST_CONNECTOR_ID
+first_id Enc = FIRST_ENCODER_ID
 
 -- the id of the object of a kind with an index
 abbrev pub object_id : Kind → ℕ → ℕ

@@ -1,10 +1,9 @@
 -- What a commit is about, and what was done of it. From: "Atomic Mode Setting", drm_atomic_helper_setup_commit,
 -- drm_atomic_helper_wait_for_dependencies, drm_atomic_helper_wait_for_flip_done.
-use Rattle.std.specs.Prelude.{ℕ, zero, suc, ◌+◌, ◌==◌, ◌&&◌, ◌||◌, not, Bool, true, false, List, [], ◌∷◌, ◌++◌, length, map, Option, Some, None, if◌then◌else◌}
+use Rattle.std.specs.Prelude.{ℕ, zero, suc, ◌==◌, ◌&&◌, ◌||◌, not, Bool, true, false, List, [], ◌∷◌, ◌++◌, length, map, Option, Some, None, if◌then◌else◌}
 use Rattle.std.specs.List.{list_any, list_all}
 use Rattle.kms_model.specs.declared.objects.Kind.TheVariants.{Crtc, Plane, Conn, Enc}
 use Rattle.kms_model.specs.declared.objects.Kind.{Kind}
-use Rattle.kms_model.specs.declared.objects.ObjId.{ObjId}
 use Rattle.kms_model.specs.declared.objects.Topology.{Topology}
 use Rattle.kms_model.specs.declared.runs.Latch.{Latch}
 use Rattle.kms_model.specs.declared.scripts.Request.{Request}
@@ -12,7 +11,6 @@ use Rattle.kms_model.specs.declared.states.CrtcState.{CrtcState}
 use Rattle.kms_model.specs.declared.states.PlaneState.{PlaneState}
 use Rattle.kms_model.specs.declared.worlds.Setting.{Setting}
 use Rattle.kms_model.specs.declared.worlds.Thing.{Thing}
-use Rattle.kms_model.specs.declared.worlds.World.{World}
 use Rattle.kms_model.specs.Device.Execution.{committed}
 use Rattle.kms_model.specs.Device.Objects.{object_id, ids_of, kind_of}
 use Rattle.kms_model.specs.Device.States.{plane_at, connector_on}
@@ -24,7 +22,7 @@ use Rattle.kms_model.specs.Request.Lookups.{look_up}
 use Rattle.kms_model.specs.Request.Named.{names, moves_on}
 use Rattle.kms_model.specs.Request.Sets.{in_fences}
 use Rattle.kms_model.specs.Request.Touched.{touches, out_fence_label}
-use Rattle.kms_model.specs.Machine.State.{Commit, DeviceState, Marks}
+use Rattle.kms_model.specs.Machine.State.{Commit, DeviceState}
 
 -- Objects
 

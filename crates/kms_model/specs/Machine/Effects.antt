@@ -1,8 +1,7 @@
 -- What a step does. From: as for the steps themselves; drm_atomic_helper_swap_state, drm_crtc_send_vblank_event,
 -- drm_atomic_helper_commit_hw_done, drm_atomic_helper_commit_cleanup_done.
-use Rattle.std.specs.Prelude.{ℕ, ◌+◌, ◌-◌, ◌%◌, ◌^◌, ◌==◌, ◌&&◌, not, Bool, true, false, List, [], ◌∷◌, ◌++◌, length, map, drop, Option, Some, None, if◌then◌else◌}
+use Rattle.std.specs.Prelude.{ℕ, ◌+◌, ◌-◌, ◌%◌, ◌^◌, Bool, true, false, List, [], ◌∷◌, ◌++◌, length, Option, Some, None, if◌then◌else◌}
 use Rattle.kms_model.specs.declared.objects.Kind.TheVariants.{Crtc}
-use Rattle.kms_model.specs.declared.objects.ObjId.{ObjId}
 use Rattle.kms_model.specs.declared.objects.Topology.{Topology}
 use Rattle.kms_model.specs.declared.replies.Event.{Event}
 use Rattle.kms_model.specs.declared.replies.Reply.{Reply}
@@ -11,15 +10,13 @@ use Rattle.kms_model.specs.declared.replies.Step.{Step}
 use Rattle.kms_model.specs.declared.replies.Step.TheVariants.{Begin, Lock, BackOff, Relock, Refuse, Test, Swap, Make, Signal, Claim, Write, Flush, HwDone, Vblank, Cleanup, Read, Return, Stall}
 use Rattle.kms_model.specs.declared.runs.Doing.{Doing}
 use Rattle.kms_model.specs.declared.runs.Doing.TheVariants as doing
-use Rattle.kms_model.specs.declared.runs.Latch.{Latch}
 use Rattle.kms_model.specs.declared.runs.Place.{Place}
 use Rattle.kms_model.specs.declared.scripts.Command.{Command}
 use Rattle.kms_model.specs.declared.scripts.Command.TheVariants as command
 use Rattle.kms_model.specs.declared.scripts.Request.{Request}
 use Rattle.kms_model.specs.declared.scripts.Script.{Script}
-use Rattle.kms_model.specs.declared.worlds.Thing.{Thing}
 use Rattle.kms_model.specs.Device.Execution.{Executed, execute, committed}
-use Rattle.kms_model.specs.Device.Objects.{object_id, ids_of, index_of, is_id_of}
+use Rattle.kms_model.specs.Device.Objects.{object_id, index_of, is_id_of}
 use Rattle.kms_model.specs.Device.Serial.{is_accepted}
 use Rattle.kms_model.specs.Device.World.{thing_labelled}
 use Rattle.kms_model.specs.Request.Flags.{wants_event, is_nonblock}
@@ -28,7 +25,7 @@ use Rattle.kms_model.specs.Request.Sets.{obj_id}
 use Rattle.kms_model.specs.Request.Verdict.{verdict}
 use Rattle.kms_model.specs.Machine.Commits.{commit_at, asks_event, out_fence_of, id_of_thing, new_plane, new_crtc, new_connector, previous}
 use Rattle.kms_model.specs.Machine.Registers.{Registers, decoded_picture, latched_registers, plane_words, crtc_words, write_plane, write_crtc}
-use Rattle.kms_model.specs.Machine.State.{Machine, DeviceState, Contexts, Events, Commit, place_at, doing_at, command_at, request_at, entry_at, holder_at, has_value, go_at, count_at, reserved_at, unread_at}
+use Rattle.kms_model.specs.Machine.State.{Machine, DeviceState, place_at, doing_at, command_at, request_at, entry_at, holder_at, has_value, go_at, count_at, reserved_at, unread_at}
 use Rattle.kms_model.specs.Machine.Steps.{ticket_of, contended, space_used, lacks_space, first_pending}
 
 -- Places, locks and replies

@@ -1,9 +1,7 @@
 -- The state of the machine: the device, the clients' contexts, what is recorded, and events. Tables and lists have their
 -- newest entry first, but for unread events. From: "Atomic Mode Setting" (the commit tail of drm_atomic_helper_commit),
 -- "Vertical Blanking", "KMS Locking"; the order of the parts is this device's own.
-use Rattle.std.specs.Prelude.{ℕ, Bool, false, List, [], ◌∷◌, length, ◌==◌, Option, Some, None, if◌then◌else◌}
-use Rattle.std.specs.Option.{option_or}
-use Rattle.kms_model.specs.declared.pictures.Picture.{Picture}
+use Rattle.std.specs.Prelude.{ℕ, Bool, false, List, [], ◌==◌, Option, Some, None}
 use Rattle.kms_model.specs.declared.replies.Answered.{Answered}
 use Rattle.kms_model.specs.declared.replies.Event.{Event}
 use Rattle.kms_model.specs.declared.runs.Doing.{Doing}

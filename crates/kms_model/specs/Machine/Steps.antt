@@ -2,12 +2,10 @@
 -- `drm_atomic_helper.c` (drm_atomic_helper_setup_commit, drm_atomic_helper_wait_for_dependencies, commit tail), "Vertical
 -- Blanking", `drm_file.c` (drm_event_reserve_init, drm_read), "DMA Fences". That contexts follow wait-die, and the order in
 -- which a worker writes and flushes, are this device's own.
-use Rattle.std.specs.Prelude.{ℕ, ◌+◌, ◌*◌, ◌-◌, ◌==◌, ◌&&◌, ◌||◌, not, nat_lt, Bool, true, false, List, [], ◌∷◌, ◌++◌, length, map, filter, find, is_none, is_some, Option, Some, None, if◌then◌else◌}
-use Rattle.std.specs.List.{list_any, list_all, flat_map, filter_map, range_with_len}
+use Rattle.std.specs.Prelude.{ℕ, ◌+◌, ◌*◌, ◌==◌, ◌&&◌, ◌||◌, not, nat_lt, Bool, true, false, length, find, is_none, is_some, Option, Some, None}
+use Rattle.std.specs.List.{list_all}
 use Rattle.kms_model.specs.declared.objects.Kind.{Kind}
-use Rattle.kms_model.specs.declared.objects.Kind.TheVariants.{Crtc, Plane, Conn, Enc}
-use Rattle.kms_model.specs.declared.objects.ObjId.{ObjId}
-use Rattle.kms_model.specs.declared.objects.Ticket.{Ticket}
+use Rattle.kms_model.specs.declared.objects.Kind.TheVariants.{Crtc, Enc}
 use Rattle.kms_model.specs.declared.objects.Topology.{Topology}
 use Rattle.kms_model.specs.declared.replies.Step.{Step}
 use Rattle.kms_model.specs.declared.replies.Step.TheVariants.{Begin, Lock, BackOff, Relock, Refuse, Test, Swap, Make, Signal, Claim, Write, Flush, HwDone, Vblank, Cleanup, Read, Return, Stall}
@@ -25,7 +23,7 @@ use Rattle.kms_model.specs.Request.Touched.{touches}
 use Rattle.kms_model.specs.Request.Verdict.{early_in, late_in, verdict}
 use Rattle.kms_model.specs.Machine.Commits.{lockable, registered, has_number, has_pair, commit_names, commit_touches, has_flipped, waited_fences, previous, second_previous, if_there, is_claimed, is_hw_done, is_cleaned, is_all_written, is_all_flushed, is_all_latched}
 use Rattle.kms_model.specs.Machine.Registers.{is_on_in}
-use Rattle.kms_model.specs.Machine.State.{Machine, Events, DeviceState, place_at, doing_at, command_at, request_at, holder_at, has_value, holds, go_at, reserved_at, unread_at}
+use Rattle.kms_model.specs.Machine.State.{Machine, Events, DeviceState, doing_at, command_at, request_at, holder_at, has_value, holds, go_at, reserved_at, unread_at}
 
 -- What a client is doing
 

@@ -1,9 +1,7 @@
 -- Which clients wait for which. From: "KMS Locking"; the kernel's document on wound/wait mutexes.
-use Rattle.std.specs.Prelude.{◌≡◌, ◌≢◌, ℕ, Bool, true, false, ◌&&◌, not, Option, Some, ◌⊎◌}
-use Rattle.std.specs.List.{list_any}
+use Rattle.std.specs.Prelude.{◌≡◌, ◌≢◌, ℕ, Bool, true, ◌&&◌, not, ◌⊎◌}
 use Rattle.kms_model.specs.declared.scripts.Script.{Script}
 use Rattle.kms_model.specs.Request.Reach.{reaches}
-use Rattle.kms_model.specs.Machine.Commits.{lockable}
 use Rattle.kms_model.specs.Machine.State.{Machine, doing_at, has_value, holds}
 use Rattle.kms_model.specs.Machine.Steps.{contended, may_lock, taking_at}
 

@@ -1,5 +1,5 @@
 -- The order in which one thread does the steps of all actors: rounds, and the history that they end in. This device's own.
-use Rattle.std.specs.Prelude.{◌≡◌, ℕ, zero, suc, ◌==◌, List, [], length, reverse, Bool, true, false, if◌then◌else◌}
+use Rattle.std.specs.Prelude.{◌≡◌, ℕ, zero, suc, ◌==◌, List, [], length, reverse, Bool, true, if◌then◌else◌}
 use Rattle.std.specs.List.{fold}
 use Rattle.kms_model.specs.declared.replies.Step.{Step}
 use Rattle.kms_model.specs.declared.replies.Step.TheVariants.{Stall}

@@ -84,16 +84,32 @@ step_read bytes = do
 
 -- Each step that a line can spell has one spelling, and it is read back.
 
+abbrev pub IsFitNumber : ℕ → Type 0
+IsFitNumber n = n ≤ greatest_number
+
 abbrev pub IsFitIndex : ℕ → Type 0
 IsFitIndex index = index ≤ 255
 
--- a step whose object, if it has one, has an index that a line can spell
+-- a step whose client or commit, and whose object, if it has one, have numbers that a line can spell
 abbrev pub IsFitStep : Step → Type 0
-IsFitStep (Lock client kind index) = IsFitIndex index
-IsFitStep (Write k kind index) = IsFitIndex index
-IsFitStep (Flush k kind index) = IsFitIndex index
+IsFitStep (Begin client) = IsFitNumber client
+IsFitStep (Lock client kind index) = IsFitNumber client × IsFitIndex index
+IsFitStep (BackOff client) = IsFitNumber client
+IsFitStep (Relock client) = IsFitNumber client
+IsFitStep (Refuse client) = IsFitNumber client
+IsFitStep (Test client) = IsFitNumber client
+IsFitStep (Swap client) = IsFitNumber client
+IsFitStep (Make client) = IsFitNumber client
+IsFitStep (Signal client) = IsFitNumber client
+IsFitStep (Claim k) = IsFitNumber k
+IsFitStep (Write k kind index) = IsFitNumber k × IsFitIndex index
+IsFitStep (Flush k kind index) = IsFitNumber k × IsFitIndex index
+IsFitStep (HwDone k) = IsFitNumber k
 IsFitStep (Vblank kind index) = IsFitIndex index
-IsFitStep _ = ⊤
+IsFitStep (Cleanup k) = IsFitNumber k
+IsFitStep (Read client) = IsFitNumber client
+IsFitStep (Return client) = IsFitNumber client
+IsFitStep Stall = ⊤
 
 pub record IsSpeltOnce : Type 0 where
   pub one : (bytes : List ℕ) (step : Step) → step_read bytes ≡ Some step → bytes ++ 10 ∷ [] ≡ step_line step

@@ -1,7 +1,8 @@
-use Rattle.std.proofs.Common.{◌<◌, ◌∙◌, ℕ, sym}
+use Rattle.std.proofs.Common.{◌<◌, ◌∙◌, ℕ, ap, sym}
 use Rattle.kms_model.specs.declared.objects.Topology.{Topology}
 use Rattle.kms_model.specs.declared.states.Duplicates.{Duplicates}
 use Rattle.kms_model.specs.Request.Late.{ArePlanesInRange, duplicate_in}
+use Rattle.kms_request.specs.Answers.{refusal_number}
 use Rattle.kms_request.specs.declared.late.Step.{Step}
 use Rattle.kms_request.specs.declared.late.Step.TheVariants.{Planes, Crtcs, Conns, Clones, Routes, Shown}
 use Rattle.kms_request.specs.Order.{IsLookedAtInRange, count_at, refusal_at}
@@ -25,4 +26,4 @@ refusal_at-requires c =
 pub loop-index-preserved : goal.loop-index-preserved
 loop-index-preserved c =
     let within : c.loop-index.index < count_at c.args.topology.now c.args.step = rw c.count_at-index-end.ensures at c.loop-index-test.true in
-    first_from-more (refusal_at c.args.topology.now c.args.states.now c.args.objects.now c.args.asked c.args.step) c.loop-index.index (count_at c.args.topology.now c.args.step) _ within (sym c.refusal_at.ensures ∙ c.in_default.is) c.loop-index.invariant
+    first_from-more (refusal_at c.args.topology.now c.args.states.now c.args.objects.now c.args.asked c.args.step) c.loop-index.index (count_at c.args.topology.now c.args.step) _ within (sym c.refusal_at.ensures ∙ ap refusal_number c.in_default.is) c.loop-index.invariant

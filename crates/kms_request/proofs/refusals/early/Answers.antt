@@ -1,16 +1,25 @@
-use Rattle.std.proofs.Common.{◌≡◌, List, [], None, sym, subst}
+use Rattle.std.proofs.Common.{◌≡◌, ◌∙◌, List, [], Option, Some, None, refl, sym, subst}
+use Rattle.std.specs.Prelude.{IsNone}
+use Rattle.kms_model.specs.declared.replies.Refusal.{Refusal}
 use Rattle.kms_model.specs.declared.scripts.Assign.{Assign}
 use Rattle.kms_model.specs.Request.Refusals.{assigns_refusal}
 use Rattle.kms_model.proofs.RequestLemmas.{all_allowed, all_settable}
+use Rattle.kms_request.specs.Answers.{refusal_number}
 use Rattle.kms_request.proofs.refusals.early.Goals as goal
 
-pub returns-in-None-clause-allowed : goal.returns-in-None-clause-allowed
-returns-in-None-clause-allowed g c =
-    let NoneIn : List Assign → Type 0 = λ xs. assigns_refusal c.args.topology.now (g.L.Looker.meaning c.args.found.now) [] xs ≡ None in
-    let none = subst NoneIn c.as_slice.ensures.value (sym c.in-None.ensures) in
-    λ _. all_allowed c.args.topology.now (g.L.Looker.meaning c.args.found.now) [] c.args.request.now.assigns none
+no_number : (refusal : Option Refusal) → IsNone refusal → refusal_number refusal ≡ None
+no_number None none = refl
+no_number (Some refusal) none = absurd cc
 
-pub returns-in-None-clause-settable : goal.returns-in-None-clause-settable
-returns-in-None-clause-settable g c =
-    λ is. all_settable c.args.topology.now (g.L.Looker.meaning c.args.found.now) c.args.request.now.assigns c.requires
-    (returns-in-None-clause-allowed g c is)
+pub returns-clause-allowed : goal.returns-clause-allowed
+returns-clause-allowed g c = λ is.
+    let t = c.args.topology.now in
+    let f = g.L.Looker.meaning c.args.found.now in
+    let none = sym c.first_refusal.ensures ∙ no_number c.first_refusal.result is in
+    let NoneIn : List Assign → Type 0 = λ xs. assigns_refusal t f [] xs ≡ None in
+    all_allowed t f [] c.args.request.now.assigns (subst NoneIn c.as_slice.ensures.value none)
+
+pub returns-clause-settable : goal.returns-clause-settable
+returns-clause-settable g c = λ is.
+    let f = g.L.Looker.meaning c.args.found.now in
+    all_settable c.args.topology.now f c.args.request.now.assigns c.requires (returns-clause-allowed g c is)

@@ -23,4 +23,4 @@ returns-clause-touched c = λ t w stand.
     let named = c.named_in-named.ensures t w stand in
     let set : c.objects_assigned-assigned.result ≡ set_group t r = c.objects_assigned-assigned.ensures ∙ ap objects_assigned c.as_slice.ensures.value ∙ objects_assigned-is t (look_up w) r at.device at.early in
     let affected : c.affected-affected.result ≡ affected_group t w r = c.affected-affected.ensures ∙ ap (λ n. affected_below d.crtcs n 4) named ∙ affected-is t w r d stands (λ i there is. stand.all.crtcs i there) in
-    touched-known t w r _ _ _ _ _ _ set named c.only_crtcs.ensures affected c.union.ensures c.union-2.ensures
+    touched-known t w r _ _ _ _ _ _ set named c.only_crtcs.ensures affected c.union.ensures c.union-touched.ensures

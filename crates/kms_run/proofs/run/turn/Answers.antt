@@ -4,7 +4,7 @@ use Rattle.kms_model.specs.declared.replies.Reply.TheVariants as reply
 use Rattle.kms_model.specs.Device.Execution.{Executed, execute}
 use Rattle.kms_run.specs.Freed.{AreCandidates}
 use Rattle.kms_run.specs.Latches.{latches_now}
-use Rattle.kms_run.specs.Run.{named_by}
+use Rattle.kms_run.specs.Run.{named_crtcs}
 use Rattle.kms_run.proofs.Turning.{Frees, turned}
 use Rattle.kms_run.proofs.run.turn.Goals as goal
 
@@ -22,7 +22,7 @@ returns c =
     let at_new : after.topology ≡ t = same ∙ at_old in
     let result : Executed = record { world = after.world; reply = answer } in
     let Does : Topology → Type 0 = λ d. execute d old.serial.world c.args.client command ≡ result in
-    let Names : Topology → Type 0 = λ d. (k : ℕ) → answer ≡ reply.Commit k → named ≡ named_by d old.serial.world.values after.world.values command in
+    let Names : Topology → Type 0 = λ d. (k : ℕ) → answer ≡ reply.Commit k → named ≡ named_crtcs d old.serial.world.values after.world.values command in
     let May : Topology → Type 0 = λ d. AreCandidates d old.serial.world command all in
     let Shows : Topology → Type 0 = λ d. c.push_latches.new.latches ≡ old.latches ++ latches_now c.args.frames d after.world named answer in
     let Drops : Topology → Type 0 = λ d. Frees d after.world answer all old.freed c.push_freed.new.all in

@@ -2,7 +2,7 @@ use Rattle.std.proofs.Common.{◌≡◌, ◌≤◌, ℕ, List, [], ◌∷◌, �
 use Rattle.std.specs.Fmt.{decimal}
 use Rattle.std.specs.List.{flat_map}
 use Rattle.kms_model.specs.Report.TextLines.{line}
-use Rattle.kms_script.specs.Spelling.{client_lines, device_lines, spelling, text_of}
+use Rattle.kms_model.specs.Script.Spelling.{client_lines, device_lines, spelling, text_of}
 use Rattle.kms_script.proofs.OneSpelling.{one_spelling, read_where_printed}
 use Rattle.kms_script.proofs.Texts.{script_text}
 use Rattle.kms_script.proofs.printing.print.Goals as goal

@@ -2,7 +2,7 @@
 use Rattle.std.proofs.Common.{◌≡◌, ◌++◌, take}
 use Rattle.std.specs.List.{flat_map}
 use Rattle.kms_model.specs.Report.TextLines.{line}
-use Rattle.kms_script.specs.Spelling.{command_words}
+use Rattle.kms_model.specs.Script.Spelling.{command_words}
 use Rattle.kms_script.proofs.printing.push_client.Given as goal
 
 abbrev pub invariant-loop-command : goal.invariant-loop-command

@@ -2,8 +2,8 @@
 use Rattle.std.proofs.Common.{◌≡◌, ◌++◌, take}
 use Rattle.std.specs.List.{flat_map}
 use Rattle.kms_model.specs.Report.TextLines.{line}
-use Rattle.kms_script.specs.Spelling.{plane_words}
+use Rattle.kms_model.specs.Script.Spelling.{spelt_plane}
 use Rattle.kms_script.proofs.printing.push_planes.Given as goal
 
 abbrev pub invariant-loop-plane : goal.invariant-loop-plane
-invariant-loop-plane l = l.text.items ≡ l.initial.text.items ++ flat_map (λ p. line (plane_words p)) (take l.plane-index l.planes)
+invariant-loop-plane l = l.text.items ≡ l.initial.text.items ++ flat_map (λ p. line (spelt_plane p)) (take l.plane-index l.planes)

@@ -1,7 +1,7 @@
 -- The assignments so far were added.
 use Rattle.std.proofs.Common.{◌≡◌, ◌++◌, ◌∷◌, take}
 use Rattle.std.specs.List.{flat_map}
-use Rattle.kms_script.specs.Spelling.{assign_word}
+use Rattle.kms_model.specs.Script.Spelling.{assign_word}
 use Rattle.kms_script.proofs.printing_commands.push_assigns.Given as goal
 
 abbrev pub invariant-loop-assign : goal.invariant-loop-assign

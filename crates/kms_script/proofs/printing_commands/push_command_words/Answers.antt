@@ -1,7 +1,7 @@
 use Rattle.std.proofs.Common.{◌≡◌, [], ◌∷◌, ◌++◌, codes, map, rules}
 use Rattle.std.specs.Fmt.{decimal}
 use Rattle.kms_script.specs.Printed.{fields}
-use Rattle.kms_script.specs.Spelling.{assign_word, format_word, hex_word, mode_words, name_word, pattern_words}
+use Rattle.kms_model.specs.Script.Spelling.{assign_word, format_word, hex_word, spelt_mode, name_word, pattern_words}
 use Rattle.kms_script.proofs.Spaced.{fields-added, front-added, line-ended}
 use Rattle.kms_script.proofs.printing_commands.push_command_words.Goals as goal
 
@@ -23,7 +23,7 @@ returns-in_ok-push_front-in-Mode c =
     let r = c.push_mode.result in
     let name = name_word c.args.names.now m.label in
     let front : c.push_front-in-Mode.new.text.items ≡ c.args.text.now.items ++ codes "mode" ++ 32 ∷ name = search rules in
-    rw m.is (line-ended r _ _ (codes "mode") (name ∷ mode_words m.mode) (front-added r _ _ _ (codes "mode") name (mode_words m.mode) front c.push_mode.ensures))
+    rw m.is (line-ended r _ _ (codes "mode") (name ∷ spelt_mode m.mode) (front-added r _ _ _ (codes "mode") name (spelt_mode m.mode) front c.push_mode.ensures))
 
 pub returns-in-Atomic : goal.returns-in-Atomic
 returns-in-Atomic c =

@@ -2,7 +2,7 @@ use Rattle.std.proofs.Common.{◌≡◌, ◌∷◌, ◌++◌, List, ℕ, codes, 
 use Rattle.std.specs.Prelude.{OnOk}
 use Rattle.std.specs.List.{flat_map}
 use Rattle.kms_script.specs.Printed.{fields}
-use Rattle.kms_script.specs.Spelling.{pixel_word, pattern_words}
+use Rattle.kms_model.specs.Script.Spelling.{pixel_word, pattern_words}
 use Rattle.kms_script.proofs.Spaced.{added, fields-map}
 use Rattle.kms_script.proofs.printing_commands.push_pattern.Goals as goal
 

@@ -1,7 +1,7 @@
 -- The pixels so far were added.
 use Rattle.std.proofs.Common.{◌≡◌, ◌++◌, ◌∷◌, take}
 use Rattle.std.specs.List.{flat_map}
-use Rattle.kms_script.specs.Spelling.{pixel_word}
+use Rattle.kms_model.specs.Script.Spelling.{pixel_word}
 use Rattle.kms_script.proofs.printing_commands.push_pixels.Given as goal
 
 abbrev pub invariant-loop-pixel : goal.invariant-loop-pixel

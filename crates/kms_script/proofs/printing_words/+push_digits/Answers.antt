@@ -1,6 +1,6 @@
 use Rattle.std.proofs.Common.{◌≡◌, ◌-◌, ◌/◌, ◌%◌, false, [], ◌∷◌, ◌++◌, arith, rules}
 use Rattle.std.specs.Fmt.{digit_glyph}
-use Rattle.kms_script.specs.Spelling.{hex_digits}
+use Rattle.kms_model.specs.Script.Spelling.{hex_digits}
 use Rattle.kms_script.proofs.Listing.{digit_added}
 use Rattle.kms_script.proofs.printing_words.+push_digits.Goals as goal
 

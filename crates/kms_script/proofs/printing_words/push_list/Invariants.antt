@@ -1,7 +1,7 @@
 -- The words of the bits so far were added; a comma comes next where there was one.
 use Rattle.std.proofs.Common.{◌≡◌, ◌++◌}
 use Rattle.kms_script.specs.Printed.{item_word}
-use Rattle.kms_script.specs.Spelling.{list_word}
+use Rattle.kms_model.specs.Script.Spelling.{list_word}
 use Rattle.kms_script.proofs.Listing.{bits_below, comma_behind}
 use Rattle.kms_script.proofs.printing_words.push_list.Given as goal
 

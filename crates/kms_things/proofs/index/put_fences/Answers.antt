@@ -1,4 +1,4 @@
-use Rattle.std.proofs.Common.{◌≡◌, ◌∙◌, ◌+◌, drop, List, None, refl, ap, arith, length-drop}
+use Rattle.std.proofs.Common.{◌∙◌, ◌+◌, drop, None, refl, ap, arith, length-drop}
 use Rattle.std.proofs.lemmas.List.{at_drop_more}
 use Rattle.kms_model.specs.declared.worlds.World.{World}
 use Rattle.kms_things.specs.OutFences.{fences_made}
@@ -22,4 +22,5 @@ loop-label-preserved c =
           ∙ at_drop_more (fences_made c.args.client before) labels i None c.loop-label-test.true
           ∙ ap (λ (v : World). fences_made c.args.client v (drop (i + 1) labels)) (c.put_fence-next.ensures.made before refl refl));
       kept = λ buffers kept. c.put_fence-next.ensures.kept buffers (old.kept buffers kept);
+      referred = λ fbs referred. c.put_fence-next.ensures.referred fbs (old.referred fbs referred);
     }

@@ -1,4 +1,4 @@
-use Rattle.std.proofs.Common.{◌≡◌, ◌≤◌, ap, sym, ◌∙◌, arith, subst, refl, Some}
+use Rattle.std.proofs.Common.{◌≡◌, ap, ◌∙◌, arith, refl, Some}
 use Rattle.kms_things.specs.Starting.{alike, off_plane, states_below}
 use Rattle.kms_things.proofs.StatesBelow.{below_more}
 use Rattle.kms_things.proofs.starting.start_planes.Goals as goal

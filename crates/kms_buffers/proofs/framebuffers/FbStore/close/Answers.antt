@@ -1,8 +1,16 @@
-use Rattle.std.proofs.Common.{rules, ◌≡◌, refl, ap, sym, ◌∙◌}
-use Rattle.kms_model.specs.Stores.Tables.{without_id}
+use Rattle.std.proofs.Common.{rules, ◌≡◌, Err, Ok, refl, ap, sym, subst, ◌∙◌}
+use Rattle.kms_model.specs.declared.replies.Denied.{Denied}
+use Rattle.kms_model.specs.declared.stores.Framebuffer.{Framebuffer}
+use Rattle.kms_model.specs.declared.tables.Slot.{Slot}
+use Rattle.std.specs.Prelude.{List, Bool, Result, ◌==◌}
+use Rattle.kms_model.specs.declared.replies.TheConstants.Denied.{NOT_FOUND}
+use Rattle.kms_model.specs.Stores.Kept.{close_answer}
+use Rattle.kms_model.specs.Stores.OpenThings.{denial}
+use Rattle.kms_model.specs.Stores.Tables.{IsRising, value_with_id, without_id}
 use Rattle.kms_model.proofs.OpenLemmas.{closed_values}
 use Rattle.kms_buffers.specs.Things.{fb_in, open_fbs}
 use Rattle.kms_buffers.proofs.Things.{fewer_closed}
+use Rattle.kms_buffers.proofs.Denials.{closes_alike}
 use Rattle.kms_buffers.proofs.Counted.{counted_at, AreCounted-with_fewer, kept-with_fewer}
 use Rattle.kms_buffers.proofs.framebuffers.FbStore.close.Goals as goal
 
@@ -21,3 +29,21 @@ returns-clause-things c =
     let put : open_fbs c.put_back.new.fbs ≡ without_id (open_fbs c.self.inside.fbs) c.args.id =
     ap open_fbs c.put_back.ensures ∙ fewer_closed c.self.inside.fbs c.args.id _ refl in
     λ things same. closed_values fb_in c.args.id things ∙ (ap (λ fbs. without_id fbs c.args.id) (same ∙ ap open_fbs old) ∙ sym put)
+
+pub returns-in_default-clause-refusal : goal.returns-in_default-clause-refusal
+returns-in_default-clause-refusal c =
+    let answer : Err NOT_FOUND ≡ close_answer c.args.owner (value_with_id c.args.self.now c.args.id) = search rules in
+    let rising : IsRising c.args.self.now = subst (λ (fbs : List (Slot Framebuffer)). IsRising fbs) c.self.view_is c.self.invariant.rising in
+    λ things numbered same. ap denial answer ∙ closes_alike c.args.self.now c.args.owner c.args.id things rising numbered same
+
+pub returns-then-not-fb-clause-refusal : goal.returns-then-not-fb-clause-refusal
+returns-then-not-fb-clause-refusal c =
+    let answer : Err NOT_FOUND ≡ close_answer c.args.owner (value_with_id c.args.self.now c.args.id) = search rules in
+    let rising : IsRising c.args.self.now = subst (λ (fbs : List (Slot Framebuffer)). IsRising fbs) c.self.view_is c.self.invariant.rising in
+    λ things numbered same. ap denial answer ∙ closes_alike c.args.self.now c.args.owner c.args.id things rising numbered same
+
+pub returns-clause-refusal : goal.returns-clause-refusal
+returns-clause-refusal c =
+    let answer : Ok (c.in-Some.fb.references == 1) ≡ close_answer c.args.owner (value_with_id c.args.self.now c.args.id) = search rules in
+    let rising : IsRising c.args.self.now = subst (λ (fbs : List (Slot Framebuffer)). IsRising fbs) c.self.view_is c.self.invariant.rising in
+    λ things numbered same. ap denial answer ∙ closes_alike c.args.self.now c.args.owner c.args.id things rising numbered same

@@ -1,7 +1,6 @@
 use Rattle.std.proofs.Common.{◌≡◌, take}
 use Rattle.kms_model.specs.Script.CommandLines.{unmade}
-use Rattle.kms_script.specs.Named.{names_in}
 use Rattle.kms_script.proofs.names.Names.from_words.Given as goal
 
 abbrev pub invariant-loop-word : goal.invariant-loop-word
-invariant-loop-word l = names_in l.names ≡ unmade (take l.word-index l.words)
+invariant-loop-word l = l.names.names ≡ unmade (take l.word-index l.words)

@@ -1,13 +1,9 @@
-use Rattle.std.proofs.Common.{◌≡◌, map, rules, ◌∙◌}
-use Rattle.std.specs.Map.{keys_of}
-use Rattle.kms_script.proofs.Naming.{text, texts_differ, words_called}
+use Rattle.std.proofs.Common.{ap, sym, ◌∙◌}
+use Rattle.kms_model.specs.Script.CommandLines.{words_in}
+use Rattle.kms_script.specs.Named.{is_in_numbers}
+use Rattle.kms_script.proofs.Naming.{marked_words}
 use Rattle.kms_script.proofs.names.Names.into_words.Goals as goal
 
-pub returns : goal.returns
-returns c =
-    let keys = keys_of c.args.self.places.entries in
-    let moved : c.in_ok-words.words.items ≡ map text keys = search rules in
-    record {
-      words = c.from_vec.ensures ∙ moved ∙ words_called c.args.self.places.entries;
-      differ = rw (c.from_vec.ensures ∙ moved) (texts_differ text keys c.into_keys.ensures.unique);
-    }
+pub returns-clause-words : goal.returns-clause-words
+returns-clause-words c =
+    c.into_words.ensures.words ∙ (sym (marked_words (is_in_numbers c.self.inside.made.keys) 0 c.self.inside.numbering) ∙ ap (λ h. words_in h.names) c.self.view_is)

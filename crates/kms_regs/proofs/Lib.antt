@@ -1,0 +1,8 @@
+pub mod BankLemmas
+pub mod FileLemmas
+pub mod LatchLaw
+pub mod ModeWords
+pub mod Pictured
+pub mod Rows
+pub mod SameWords
+pub mod Signed

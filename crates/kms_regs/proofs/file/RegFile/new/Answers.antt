@@ -1,0 +1,8 @@
+use Rattle.std.proofs.Common.{arith, rules, sym, ap, subst, ◌≡◌, ◌∙◌}
+use Rattle.std.proofs.Common.{length}
+use Rattle.kms_model.specs.Machine.Registers.{first_registers}
+use Rattle.kms_regs.proofs.FileLemmas.{started}
+use Rattle.kms_regs.proofs.file.RegFile.new.Goals as goal
+
+pub returns : goal.returns
+returns c = started c.args.topology.now _ c.first.result c.first-2.result first_registers (sym (ap length c.as_slice.ensures.value)) c.first.ensures c.first-2.ensures

@@ -1,0 +1,4 @@
+pub mod File
+pub mod Latches
+pub mod Layers
+pub mod Words

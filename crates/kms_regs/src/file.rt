@@ -1,0 +1,151 @@
+//! The register file.
+ghost use Rattle.std.specs.Prelude.{◌≡◌, ◌<◌, ◌≤◌, ℕ, length, is_some, IfSome};
+ghost use Rattle.kms_model.specs.Device.Objects.{object_id};
+ghost use Rattle.kms_model.specs.Device.Sound.{IsPlaneInRange};
+ghost use Rattle.kms_model.specs.declared.objects.Kind.TheVariants.{Crtc, Plane};
+ghost use Rattle.kms_model.specs.declared.objects.Topology.{Topology};
+ghost use Rattle.kms_model.specs.Machine.Registers.{crtc_register, crtc_words, decoded_picture, plane_register, plane_words, write_crtc, write_plane};
+ghost use Rattle.kms_model.specs.Machine.State.{DeviceState, count_at, first_machine, go_at};
+ghost use Rattle.kms_regs.specs.File.{StandsFor, blanked, blanked_picture, count_in, flushed, flushed_picture, has_go, latched_picture, with_shadow};
+
+use crate::banks::Bank;
+use crate::pictures::decoded_picture;
+use crate::words::{CrtcWords, PlaneWords};
+use kms_model::{CrtcState, Picture, PlaneState, Topology};
+use std::marker::Model;
+
+/// The registers of a device: shadow and live words, which CRTCs go at their next vertical blanking, and how many each
+/// has had. It takes about three kilobytes, in place.
+///
+/// Contracts tell for each state of a machine that the register file stands for, that it stands for the state after the
+/// write, the flush or the vertical blanking. It does not know which commit goes.
+#[derive(Debug, Drop)]
+pub struct RegFile {
+    planes: u32,
+    shadow: Bank,
+    live: Bank,
+    go: [bool; 4],
+    counts: [u64; 4],
+}
+
+impl Model for RegFile {
+    ghost use Rattle.std.specs.Prelude.{◌≤◌};
+    ghost use Rattle.kms_regs.specs.File.{RegisterFile, file_of};
+
+    ghost Value = { RegisterFile };
+
+    ghost view = { λ s. file_of s.planes s.shadow s.live s.go s.counts };
+
+    ghost invariant = { λ s. s.planes ≤ 16 };
+}
+
+impl RegFile {
+    /// The registers before anything is written, of a device with at most 16 planes.
+    pub fn new(topology: &Topology) -> RegFile
+        requires { length topology.now.planes ≤ 16 }
+        ensures { StandsFor topology.now (first_machine topology.now).device result }
+    {
+        RegFile {
+            planes: topology.planes.as_slice().len() as u32,
+            shadow: Bank::first(),
+            live: Bank::first(),
+            go: [false; 4],
+            counts: [0; 4],
+        }
+    }
+
+    /// Writes the shadow words that differ of the plane with an index, from 0 to 15. They are those of the old state,
+    /// and then those of the new one; the numbers of both are in the ranges of their properties.
+    pub fn write_plane(&mut self, index: u32, old: &PlaneState, new: &PlaneState)
+        requires index { index < 16 }
+        requires old_range { IsPlaneInRange old.now }
+        requires new_range { IsPlaneInRange new.now }
+        requires old_words { plane_register self.old.shadow (object_id Plane index) ≡ plane_words old.now }
+        ensures { (t : Topology) (d : DeviceState) → StandsFor t d self.old
+            → StandsFor t (with_shadow d (write_plane d.shadow (object_id Plane index) (plane_words new.now))) self.new }
+    {
+        self.shadow
+            .write_plane(index, &PlaneWords::of(old), &PlaneWords::of(new));
+    }
+
+    /// Writes the shadow words that differ of the CRTC with an index, from 0 to 3. They are those of the old state, and
+    /// then those of the new one with the id of the connector whose CRTC it is, or 0.
+    pub fn write_crtc(&mut self, index: u32, conn: u32, old: &CrtcState, new: &CrtcState)
+        requires index { index < 4 }
+        requires old_words { crtc_register self.old.shadow (object_id Crtc index)
+            ≡ crtc_words (crtc_register self.old.shadow (object_id Crtc index)).conn old.now }
+        ensures { (t : Topology) (d : DeviceState) → StandsFor t d self.old
+            → StandsFor t (with_shadow d (write_crtc d.shadow (object_id Crtc index) (crtc_words conn new.now))) self.new }
+    {
+        let old = CrtcWords::of(self.shadow.crtc(index).conn, old);
+        self.shadow
+            .write_crtc(index, &old, &CrtcWords::of(conn, new));
+    }
+
+    /// Flushes the shadow words of the CRTC with an index, from 0 to 3. One that is on there latches at its next vertical
+    /// blanking. One that is off latches at once: it shows nothing, and that is its picture.
+    pub fn flush(&mut self, crtc: u32) -> Option<Picture>
+        requires { crtc < 4 }
+        ensures stands { (t : Topology) (d : DeviceState) (k : ℕ) → StandsFor t d self.old
+            → StandsFor t (flushed t d k (object_id Crtc crtc)) self.new }
+        ensures picture { (t : Topology) (d : DeviceState) → StandsFor t d self.old
+            → result ≡ flushed_picture d (object_id Crtc crtc) }
+        ensures latched { (t : Topology) (d : DeviceState) → StandsFor t d self.old
+            → IfSome result (λ p. p ≡ latched_picture t d (object_id Crtc crtc)) }
+    {
+        if self.shadow.crtc(crtc).active != 0 {
+            self.go[crtc as usize] = true;
+            return None;
+        }
+        self.live.latch(&self.shadow, self.planes, crtc);
+        Some(Picture::Off)
+    }
+
+    /// Counts a vertical blanking of the CRTC with an index, from 0 to 3. One that goes latches, and this is its picture.
+    /// The count is below 18446744073709551615.
+    pub fn vblank(&mut self, crtc: u32) -> Option<Picture>
+        requires crtc { crtc < 4 }
+        requires count { count_in self.old (object_id Crtc crtc) < 18446744073709551615 }
+        ensures stands { (t : Topology) (d : DeviceState) → StandsFor t d self.old
+            → StandsFor t (blanked t d (object_id Crtc crtc)) self.new }
+        ensures picture { (t : Topology) (d : DeviceState) → StandsFor t d self.old
+            → result ≡ blanked_picture t d (object_id Crtc crtc) }
+    {
+        self.counts[crtc as usize] += 1;
+        if !self.go[crtc as usize] {
+            return None;
+        }
+        self.go[crtc as usize] = false;
+        self.live.latch(&self.shadow, self.planes, crtc);
+        Some(decoded_picture(&self.live, self.planes, crtc))
+    }
+
+    /// What the live words of the CRTC with an index, from 0 to 3, show.
+    pub fn decode_live(&self, crtc: u32) -> Picture
+        requires { crtc < 4 }
+        ensures { (t : Topology) (d : DeviceState) → StandsFor t d self.now
+            → result ≡ decoded_picture t d.live (object_id Crtc crtc) }
+    {
+        decoded_picture(&self.live, self.planes, crtc)
+    }
+
+    /// How many vertical blankings the CRTC with an index, from 0 to 3, has had.
+    pub fn count(&self, crtc: u32) -> u64
+        requires { crtc < 4 }
+        ensures own { result ≡ count_in self.now (object_id Crtc crtc) }
+        ensures device { (t : Topology) (d : DeviceState) → StandsFor t d self.now
+            → result ≡ count_at d (object_id Crtc crtc) }
+    {
+        self.counts[crtc as usize]
+    }
+
+    /// Whether the CRTC with an index, from 0 to 3, latches at its next vertical blanking.
+    pub fn has_go(&self, crtc: u32) -> bool
+        requires { crtc < 4 }
+        ensures own { result ≡ has_go self.now (object_id Crtc crtc) }
+        ensures device { (t : Topology) (d : DeviceState) → StandsFor t d self.now
+            → result ≡ is_some (go_at d (object_id Crtc crtc)) }
+    {
+        self.go[crtc as usize]
+    }
+}

@@ -1,0 +1,93 @@
+-- What requests reach, worked out: on a device of two CRTCs on which the first is lit, with its framebuffer and its mode
+-- closed since.
+use Rattle.std.proofs.Common.{◌≡◌, ℕ, ◌+◌, Bool, true, false, List, [], ◌∷◌, pos, refl}
+use Rattle.std.specs.Prelude.{map, negsuc}
+use Rattle.kms_model.specs.declared.objects.Format.TheVariants.{Xr24}
+use Rattle.kms_model.specs.declared.objects.Kind.{Kind}
+use Rattle.kms_model.specs.declared.objects.Kind.TheVariants as kind
+use Rattle.kms_model.specs.declared.properties.TheConstants.{ACTIVE, ALPHA, CRTC_ID, FB_ID, IN_FENCE_FD, MODE_ID, TYPE}
+use Rattle.kms_model.specs.declared.scripts.Assign.{Assign}
+use Rattle.kms_model.specs.declared.scripts.Value.TheVariants as value
+use Rattle.kms_model.specs.declared.worlds.Content.{Content}
+use Rattle.kms_model.specs.declared.worlds.Content.TheVariants as content
+use Rattle.kms_model.specs.declared.worlds.Thing.{Thing}
+use Rattle.kms_model.specs.declared.worlds.World.{World}
+use Rattle.kms_model.specs.Device.World.{start}
+use Rattle.kms_model.specs.Request.Apply.{apply}
+use Rattle.kms_model.specs.Request.Reach.{reaches}
+use Rattle.kms_model.specs.Request.Refusals.{own_refusal}
+use Rattle.kms_model.specs.Request.Touched.{touches}
+use Rattle.kms_samples.specs.Samples.{double, light, mode_of, request, set, tiny}
+
+abbrev made : ℕ → Bool → Content → Thing
+made label is_open content = record { label = label; id = 1000 + label; owner = 1; content = content; is_open = is_open }
+
+-- a framebuffer under 0 and its mode under 1, both closed, another mode under 2, closed too, and a fence under 3
+abbrev things : List Thing
+things =
+    made 0 false (content.Framebuffer (record { id = 1000; width = 1; height = 1; format = Xr24 }) 0)
+    ∷ made 1 false (content.Mode tiny)
+    ∷ made 2 false (content.Mode (mode_of 2 2))
+    ∷ made 3 true content.Fence
+    ∷ []
+
+abbrev lit : World
+lit = record { values = apply things (start double).values (light 0 1); things = things; next_id = 1004; commits = 1 }
+
+-- which of the two CRTCs, the two planes, the two connectors and an encoder a request reaches
+abbrev reached : List Assign → List Bool
+reached assigns = map (reaches double lit (request 0 assigns)) (100 ∷ 101 ∷ 200 ∷ 201 ∷ 300 ∷ 301 ∷ 400 ∷ [])
+
+abbrev nothing : List Bool
+nothing = false ∷ false ∷ false ∷ false ∷ false ∷ false ∷ false ∷ []
+
+-- a closed framebuffer counts: the second plane is set
+pub closed_framebuffer : reached (set kind.Plane 1 FB_ID (value.Named 0) ∷ []) ≡ false ∷ false ∷ false ∷ true ∷ false ∷ false ∷ false ∷ []
+unfolding reaches own_refusal touches
+closed_framebuffer = refl
+
+-- a closed mode counts: it is another one, so the CRTC needs a modeset
+pub closed_mode : reached (set kind.Crtc 0 MODE_ID (value.Named 2) ∷ []) ≡ true ∷ false ∷ true ∷ false ∷ true ∷ false ∷ false ∷ []
+unfolding reaches own_refusal touches
+closed_mode = refl
+
+-- the mode that it has counts too, and is no modeset
+pub same_mode_closed : reached (set kind.Crtc 0 MODE_ID (value.Named 1) ∷ []) ≡ true ∷ false ∷ false ∷ false ∷ false ∷ false ∷ false ∷ []
+unfolding reaches own_refusal touches
+same_mode_closed = refl
+
+-- left out: an object that the device does not have, whose number would be that of a plane; a property that the object
+-- does not have; one that no request may set; a value out of range; a label that is not made; one of another kind
+pub no_object : reached (set kind.Crtc 100 ACTIVE (value.Num (pos 0)) ∷ []) ≡ nothing
+unfolding reaches own_refusal touches
+no_object = refl
+
+pub no_property : reached (set kind.Crtc 0 ALPHA (value.Num (pos 0)) ∷ []) ≡ nothing
+unfolding reaches own_refusal touches
+no_property = refl
+
+pub immutable_property : reached (set kind.Plane 0 TYPE (value.Num (pos 1)) ∷ []) ≡ nothing
+unfolding reaches own_refusal touches
+immutable_property = refl
+
+pub value_out_of_range : reached (set kind.Plane 0 ALPHA (value.Num (pos 65536)) ∷ []) ≡ nothing
+unfolding reaches own_refusal touches
+value_out_of_range = refl
+
+pub label_not_made : reached (set kind.Plane 0 FB_ID (value.Named 9) ∷ []) ≡ nothing
+unfolding reaches own_refusal touches
+label_not_made = refl
+
+pub label_of_another_kind : reached (set kind.Plane 0 FB_ID (value.Named 1) ∷ []) ≡ nothing
+unfolding reaches own_refusal touches
+label_of_another_kind = refl
+
+-- an encoder has no property, so that it is never set
+pub encoder : reached (set kind.Enc 0 CRTC_ID (value.Num (pos 0)) ∷ []) ≡ nothing
+unfolding reaches own_refusal touches
+encoder = refl
+
+-- a second fence of a plane is refused, and its assignment counts all the same
+pub second_fence : reached (set kind.Plane 1 IN_FENCE_FD (value.Named 3) ∷ set kind.Plane 1 IN_FENCE_FD (value.Num (negsuc 0)) ∷ []) ≡ false ∷ false ∷ false ∷ true ∷ false ∷ false ∷ false ∷ []
+unfolding reaches own_refusal touches
+second_fence = refl

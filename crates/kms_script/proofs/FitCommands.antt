@@ -1,0 +1,216 @@
+-- Each command that was read is one that words spell with the names of the whole script.
+use Rattle.std.proofs.Common.{◌≡◌, ℕ, ◌<◌, ◌≤◌, ◌^◌, inl, inr, Bool, true, false, not, List, [], ◌∷◌, ◌++◌, length, cond, Option, Some, None, refl, sym, ap, subst, ◌∙◌, arith}
+use Rattle.std.specs.Prelude.{◌&&◌, codes, is_some, nat_le, nat_lt, option_map}
+use Rattle.std.specs.List.{list_all}
+use Rattle.std.specs.Option.{option_map_or}
+use Rattle.std.specs.Str.{bytes_eq}
+use Rattle.std.proofs.lemmas.Bool.{and_parts, leb-true}
+use Rattle.kms_model.specs.declared.objects.Kind.{Kind}
+use Rattle.kms_model.specs.declared.scripts.Assign.{Assign}
+use Rattle.kms_model.specs.declared.scripts.Command.{Command}
+use Rattle.kms_model.specs.declared.scripts.Command.TheVariants as command
+use Rattle.kms_model.specs.declared.scripts.PropRef.{PropRef}
+use Rattle.kms_model.specs.declared.scripts.PropRef.TheVariants.{Known, Unknown}
+use Rattle.kms_model.specs.declared.scripts.Value.{Value}
+use Rattle.kms_model.specs.declared.scripts.Value.TheVariants as value
+use Rattle.kms_model.specs.Device.Properties.{name_of}
+use Rattle.kms_model.specs.Script.CommandLines.{Names, addfb_read, assign_read, assign_words, assigns_read, atomic_read, blob_read, buffer_read, command_read, label_alone, label_read, making, making_read, mode_fields, mode_read, naming_read, pattern_at, place, property_read, saying, thing_read, value_read}
+use Rattle.kms_model.specs.Script.Grammar.{blob_bytes, field_words, format_at, hex_at, int, is_property_word, known_property, object}
+use Rattle.kms_model.specs.Script.Spelling.{name_word}
+use Rattle.kms_model.specs.Script.WellFormed.{has_widths, is_assign_in, is_command_in, is_integer, is_label_in, is_mode_name, is_pattern_of, is_property_in, is_value_in, is_word32}
+use Rattle.kms_model.specs.Script.Words.{between, dec, dec_at, end_at, field_at, from, is_label, label_at, strip, until}
+use Rattle.kms_script.proofs.FitWords.{alone_fit, blob_fit, dec_at_fit, fits_both, hex_at_fit, index_fit, int_fit, label_fit, long_fit, mode_fit, object_fit, pattern_fit, word_fit}
+use Rattle.kms_script.proofs.Inverted.{bind_some, choice_some, from_bind, if_some, map_some, or_some, some_same}
+use Rattle.kms_script.proofs.NamesBegin.{Begins, before_saying, making_says, said_word}
+use Rattle.kms_script.proofs.SpeltAssigns.{assign_named, assigns_named, property_named, value_named}
+use Rattle.kms_script.proofs.SpeltWords.{id_word, nothing_read, property_spelt}
+
+-- Assignments
+
+-- a label that was said is one of the names
+said_fit : (all : List (List ℕ)) (names : Names) (label : List ℕ) → is_label label ≡ true → Begins (saying label names) all → is_label_in all (place label names) ≡ true
+said_fit all names label is b = rw (said_word all label names b) is
+
+named_fit : (all : List (List ℕ)) (names : Names) (label : List ℕ) (r : Value × Names) → is_label label ≡ true → (value.Named (place label names), saying label names) ≡ r → Begins r.1 all → is_value_in all r.0 ≡ true
+named_fit all names label r is same = rw (← same) (λ b. said_fit all names label is b)
+
+new_fit : (all : List (List ℕ)) (names : Names) (label : List ℕ) (r : Value × Names) → is_label label ≡ true → (value.New (place label names), making label names) ≡ r → Begins r.1 all → is_value_in all r.0 ≡ true
+new_fit all names label r is same = rw (← same) (λ b. said_fit all names label is (making_says all label names b))
+
+value_fit : (all : List (List ℕ)) (names : Names) (word : List ℕ) (r : Value × Names) → value_read names word ≡ Some r → Begins r.1 all → is_value_in all r.0 ≡ true
+unfolding value_read
+value_fit all names word r e = elim (or_some _ (strip (codes "@") word) _ r e) [
+  | inl at ↦ (let l = if_some (is_label at.value) _ r at.then in named_fit all names at.value r l.0 (some_same _ r l.1))
+  | inr more ↦ elim (or_some _ (strip (codes "+") word) _ r more) [
+    | inl plus ↦ (let l = if_some (is_label plus.value) _ r plus.then in new_fit all names plus.value r l.0 (some_same _ r l.1))
+    | inr last ↦ elim (or_some _ (strip (codes "crtc") word) _ r last) [
+      | inl crtc ↦ (let m = map_some _ (dec 255 crtc.value) r crtc.then in rw (← m.makes) (λ b. index_fit m.value crtc.value m.given))
+      | inr number ↦ (let m = map_some _ (int word) r number in rw (← m.makes) (λ b. int_fit m.value word m.given))
+    ]
+  ]
+]
+
+-- an id whose word is a property's name is in the table
+id_fit : (id : ℕ) (word : List ℕ) → id_word id ≡ word → is_property_word word ≡ true → is_some (name_of id) ≡ true
+id_fit id word same is = step (name_of id) word same is
+  where
+    step : (o : Option (List ℕ)) (word : List ℕ) → option_map_or (λ w. w) o [] ≡ word → is_property_word word ≡ true → is_some o ≡ true
+    step (Some w) word same is = refl
+    step None word same is = absurd (none (rw (← same) at is))
+      where
+        none : is_property_word [] ≡ true → ⊥
+        none e = cc
+
+abbrev prop_of : Names → List ℕ → Option ℕ → PropRef × Names
+prop_of names word o = option_map_or (λ id. (Known id, names)) o (Unknown (place word names), saying word names)
+
+property_step : (all : List (List ℕ)) (names : Names) (word : List ℕ) (o : Option ℕ) → known_property word ≡ o → is_property_word word ≡ true → Begins (prop_of names word o).1 all → is_property_in all (prop_of names word o).0 ≡ true
+property_step all names word (Some id) e is b = id_fit id word (property_spelt id word e) is
+property_step all names word None e is b = rw (said_word all word names b, is, e) refl
+
+property_fit : (all : List (List ℕ)) (names : Names) (word : List ℕ) → is_property_word word ≡ true → Begins (property_read names word).1 all → is_property_in all (property_read names word).0 ≡ true
+unfolding property_read
+property_fit all names word is b = property_step all names word (known_property word) refl is b
+
+-- the words of an assignment
+record WordsFit (index : ℕ) (prop : List ℕ) : Type 0 where
+  few : nat_le index 255 ≡ true
+  named : is_property_word prop ≡ true
+
+words_fit : (word : List ℕ) (w : Kind × ℕ × List ℕ × List ℕ) → assign_words word ≡ Some w → WordsFit w.1 w.2
+unfolding assign_words
+words_fit word w e =
+    from_bind (object (until 46 word)) _ w e (λ o first more.
+    from_bind (strip (codes ".") (from 46 word)) _ w more (λ tail second more.
+    from_bind (strip (codes "=") (from 61 tail)) _ w more (λ given third more.
+    let read = if_some (is_property_word (until 61 tail)) _ w more in
+    rw (← some_same _ w read.1) (record { few = object_fit o (until 46 word) first; named = read.0 }))))
+
+assign_fit : (all : List (List ℕ)) (names : Names) (word : List ℕ) (r : Assign × Names) → assign_read names word ≡ Some r → Begins r.1 all → is_assign_in all r.0 ≡ true
+unfolding assign_read
+assign_fit all names word r e =
+    let w = bind_some (assign_words word) _ r e in
+    let v = bind_some (value_read ((property_read names w.value.2).1) w.value.3) _ r w.then in
+    let fit = words_fit word w.value w.given in
+    rw (← some_same _ r v.then) (λ b.
+    let val = value_named all ((property_read names w.value.2).1) w.value.3 v.value v.given b in
+    fits_both (nat_le w.value.1 255) (is_property_in all ((property_read names w.value.2).0) && is_value_in all v.value.0) fit.few
+    (fits_both (is_property_in all ((property_read names w.value.2).0)) (is_value_in all v.value.0) (property_fit all names w.value.2 fit.named val.begins) (value_fit all ((property_read names w.value.2).1) w.value.3 v.value v.given b)))
+
+assigns_fit : (all : List (List ℕ)) (ws : List (List ℕ)) (names : Names) (r : List Assign × Names) → assigns_read names ws ≡ Some r → Begins r.1 all → list_all (is_assign_in all) r.0 ≡ true
+assigns_fit all [] names r e = rw (← some_same _ r e) (λ b. refl)
+assigns_fit all (w ∷ ws) names r e =
+    let a = bind_some (assign_read names w) _ r e in
+    let more = bind_some (assigns_read a.value.1 ws) _ r a.then in
+    rw (← some_same _ r more.then) (λ b.
+    let later = assigns_named all ws a.value.1 more.value more.given b in
+    fits_both (is_assign_in all a.value.0) (list_all (is_assign_in all) more.value.0) (assign_fit all names w a.value a.given later.begins) (assigns_fit all ws a.value.1 more.value more.given b))
+
+-- Commands
+
+-- what was read is a command that words spell
+abbrev Fits : List (List ℕ) → Command × Names → Type 0
+Fits all r = Begins r.1 all → is_command_in all r.0 ≡ true
+
+atomic_fit : (all : List (List ℕ)) (names : Names) (bytes : List ℕ) (r : Command × Names) → atomic_read names bytes ≡ Some r → Fits all r
+unfolding atomic_read
+atomic_fit all names bytes r e =
+    from_bind (hex_at bytes) _ r e (λ flags first more.
+    from_bind (dec_at 18446744073709551615 flags.1) _ r more (λ user second more.
+    from_bind (field_words user.1) _ r more (λ words rest more.
+    from_bind (assigns_read names words) _ r more (λ sets given more.
+    rw (← some_same _ r more) (λ b.
+    fits_both (is_word32 flags.0) (nat_lt user.0 (2 ^ 64) && list_all (is_assign_in all) sets.0) (hex_at_fit bytes flags first)
+    (fits_both (nat_lt user.0 (2 ^ 64)) (list_all (is_assign_in all) sets.0) (long_fit user.0 (dec_at_fit 18446744073709551615 flags.1 user second)) (assigns_fit all words names sets given b)))))))
+
+buffer_fit : (all : List (List ℕ)) (names : Names) (bytes : List ℕ) (r : Command × Names) → buffer_read names bytes ≡ Some r → Fits all r
+unfolding buffer_read
+buffer_fit all names bytes r e =
+    from_bind (label_at bytes) _ r e (λ label first more.
+    from_bind (dec_at 4294967295 label.1) _ r more (λ w wide more.
+    from_bind (dec_at 4294967295 w.1) _ r more (λ h high more.
+    from_bind (format_at h.1) _ r more (λ format code more.
+    from_bind (pattern_at w.0 h.0 format.0 format.1) _ r more (λ pattern shown more.
+    rw (← some_same _ r more) (λ b.
+    fits_both (is_label_in all (place label.0 names)) (is_word32 w.0 && (is_word32 h.0 && is_pattern_of format.0 w.0 h.0 pattern)) (said_fit all names label.0 (label_fit bytes label first) (making_says all label.0 names b))
+    (fits_both (is_word32 w.0) (is_word32 h.0 && is_pattern_of format.0 w.0 h.0 pattern) (word_fit w.0 (dec_at_fit 4294967295 label.1 w wide))
+    (fits_both (is_word32 h.0) (is_pattern_of format.0 w.0 h.0 pattern) (word_fit h.0 (dec_at_fit 4294967295 w.1 h high)) (pattern_fit w.0 h.0 format.0 format.1 pattern shown)))))))))
+
+addfb_fit : (all : List (List ℕ)) (names : Names) (bytes : List ℕ) (r : Command × Names) → addfb_read names bytes ≡ Some r → Fits all r
+unfolding addfb_read
+addfb_fit all names bytes r e =
+    from_bind (label_at bytes) _ r e (λ label first more.
+    from_bind (label_alone label.1) _ r more (λ buffer last more.
+    rw (← some_same _ r more) (λ b.
+    fits_both (is_label_in all (place label.0 names)) (is_label_in all (place buffer (making label.0 names)))
+    (said_fit all names label.0 (label_fit bytes label first) (making_says all label.0 names (before_saying all buffer (making label.0 names) b)))
+    (said_fit all (making label.0 names) buffer (alone_fit label.1 buffer last) b))))
+
+mode_read_fit : (all : List (List ℕ)) (names : Names) (bytes : List ℕ) (r : Command × Names) → mode_read names bytes ≡ Some r → Fits all r
+unfolding mode_read
+mode_read_fit all names bytes r e =
+    from_bind (label_at bytes) _ r e (λ label first more.
+    from_bind (mode_fields label.1) _ r more (λ mode shown more.
+    from_bind (end_at mode.1) _ r more (λ u end more.
+    rw (← some_same _ r more) (λ b.
+    fits_both (is_label_in all (place label.0 names)) (has_widths mode.0 && is_mode_name mode.0.name) (said_fit all names label.0 (label_fit bytes label first) (making_says all label.0 names b)) (mode_fit label.1 mode shown)))))
+
+blob_read_fit : (all : List (List ℕ)) (names : Names) (bytes : List ℕ) (r : Command × Names) → blob_read names bytes ≡ Some r → Fits all r
+unfolding blob_read
+blob_read_fit all names bytes r e =
+    from_bind (label_at bytes) _ r e (λ label first more.
+    from_bind (field_at label.1) _ r more (λ f shown more.
+    from_bind (end_at f.1) _ r more (λ u end more.
+    from_bind (blob_bytes f.0) _ r more (λ blob given more.
+    rw (← some_same _ r more) (λ b.
+    fits_both (is_label_in all (place label.0 names)) (between 1 2048 (length blob) && list_all (λ b. nat_lt b 256) blob) (said_fit all names label.0 (label_fit bytes label first) (making_says all label.0 names b)) (blob_fit f.0 blob given))))))
+
+-- a command of one label
+abbrev OfLabel : List (List ℕ) → (ℕ → Command) → Type 0
+OfLabel all f = (n : ℕ) → is_label_in all n ≡ true → is_command_in all (f n) ≡ true
+
+naming_fit : (all : List (List ℕ)) (f : ℕ → Command) → OfLabel all f → (names : Names) (bytes : List ℕ) (r : Command × Names) → naming_read f names bytes ≡ Some r → Fits all r
+unfolding naming_read
+naming_fit all f of names bytes r e =
+    from_bind (label_alone bytes) _ r e (λ label alone more.
+    rw (← some_same _ r more) (λ b. of (place label names) (said_fit all names label (alone_fit bytes label alone) b)))
+
+making_fit : (all : List (List ℕ)) (f : ℕ → Command) → OfLabel all f → (names : Names) (bytes : List ℕ) (r : Command × Names) → making_read f names bytes ≡ Some r → Fits all r
+unfolding making_read
+making_fit all f of names bytes r e =
+    from_bind (label_alone bytes) _ r e (λ label alone more.
+    rw (← some_same _ r more) (λ b. of (place label names) (said_fit all names label (alone_fit bytes label alone) (making_says all label names b))))
+
+wait_fit : (all : List (List ℕ)) (names : Names) (bytes : List ℕ) (r : Command × Names) → option_map (λ u. (command.Wait, names)) (end_at bytes) ≡ Some r → Fits all r
+wait_fit all names bytes r e = let m = map_some _ (end_at bytes) r e in rw (← m.makes) (λ b. refl)
+
+-- by a first word that is one of several
+by_word : (all : List (List ℕ)) (t : Bool) (r : Command × Names) (one other : Option (Command × Names)) → (one ≡ Some r → Fits all r) → (other ≡ Some r → Fits all r) → cond t one other ≡ Some r → Fits all r
+by_word all t r one other here there e = elim (choice_some t one other r e) [
+  | inl is ↦ here is.1
+  | inr more ↦ there more
+]
+
+thing_fit : (all : List (List ℕ)) (names : Names) (keyword bytes : List ℕ) (r : Command × Names) → thing_read names keyword bytes ≡ Some r → Fits all r
+unfolding thing_read
+thing_fit all names keyword bytes r e =
+    by_word all (bytes_eq keyword (codes "buffer")) r _ _ (buffer_fit all names bytes r)
+    (by_word all (bytes_eq keyword (codes "addfb")) r _ _ (addfb_fit all names bytes r)
+    (by_word all (bytes_eq keyword (codes "mode")) r _ _ (mode_read_fit all names bytes r)
+    (by_word all (bytes_eq keyword (codes "blob")) r _ None (blob_read_fit all names bytes r) (nothing_read r)))) e
+
+label_read_fit : (all : List (List ℕ)) (names : Names) (keyword bytes : List ℕ) (r : Command × Names) → label_read names keyword bytes ≡ Some r → Fits all r
+unfolding label_read
+label_read_fit all names keyword bytes r e =
+    by_word all (bytes_eq keyword (codes "destroy")) r _ _ (naming_fit all command.Destroy (λ n is. is) names bytes r)
+    (by_word all (bytes_eq keyword (codes "closefb")) r _ _ (naming_fit all command.CloseFb (λ n is. is) names bytes r)
+    (by_word all (bytes_eq keyword (codes "fence")) r _ _ (making_fit all command.Fence (λ n is. is) names bytes r)
+    (by_word all (bytes_eq keyword (codes "signal")) r _ _ (naming_fit all command.Signal (λ n is. is) names bytes r)
+    (thing_fit all names keyword bytes r)))) e
+
+pub command_fit : (all : List (List ℕ)) (names : Names) (text : List ℕ) (r : Command × Names) → command_read names text ≡ Some r → Begins r.1 all → is_command_in all r.0 ≡ true
+unfolding command_read
+command_fit all names text r e =
+    by_word all (bytes_eq (until 32 text) (codes "atomic")) r _ _ (atomic_fit all names (from 32 text) r)
+    (by_word all (bytes_eq (until 32 text) (codes "wait")) r _ _ (wait_fit all names (from 32 text) r)
+    (label_read_fit all names (until 32 text) (from 32 text) r)) e

@@ -1,0 +1,250 @@
+-- The faults of a command's line.
+use Rattle.std.proofs.Common.{◌≡◌, ℕ, ◌+◌, ◌<◌, ◌≤◌, ◌⊎◌, inl, inr, Bool, true, false, List, [], ◌∷◌, length, cond, Option, Some, None, Ok, Err, refl, sym, ap, subst, ◌∙◌, arith}
+use Rattle.std.specs.Prelude.{◌&&◌, codes, nat_lt, option_map, Result}
+use Rattle.std.specs.Str.{bytes_eq}
+use Rattle.std.proofs.lemmas.Bool.Decides.{nat_tests}
+use Rattle.kms_model.specs.declared.scripts.Command.{Command}
+use Rattle.kms_model.specs.declared.scripts.Command.TheVariants as command
+use Rattle.kms_model.specs.declared.scripts.Why.{Why}
+use Rattle.kms_model.specs.declared.scripts.Why.TheVariants.{Bytes, Cut, Form, Label, Limit, Unbuilt}
+use Rattle.kms_model.specs.Script.CommandLines.{Names, addfb_read, assigns_read, atomic_read, blob_read, buffer_read, command_read, is_over, label_alone, label_read, line_read, making_read, mode_read, mode_fields, naming_read, or_form, pattern_at, thing_read, unless, unmade, words_in}
+use Rattle.kms_model.specs.Script.Grammar.{blob_bytes, field_words, format_at, hex, hex_at}
+use Rattle.kms_model.specs.Script.Words.{dec, dec_at, end_at, field_at, from, label_at, until}
+use Rattle.kms_model.specs.Script.WellFormed.{IsFitCommand}
+use Rattle.kms_script.specs.Fitting.{HasFilled}
+use Rattle.kms_script.specs.Lines.{GivesLine, checked, line_of}
+use Rattle.kms_script.specs.Overlong.{blanks, has_many}
+use Rattle.kms_script.specs.Stated.{GivesCommand, line_error}
+use Rattle.kms_script.specs.declared.stop.Stop.{Stop}
+use Rattle.kms_script.specs.declared.stop.Stop.TheVariants as stops
+use Rattle.kms_script.proofs.Inverted.{bind_some, choice_some, from_bind, map_some, some_same}
+use Rattle.kms_script.proofs.ManyFields.{assigns_count, field_blanks, words_blanks}
+use Rattle.kms_script.proofs.SpeltWords.{nothing_read}
+
+-- Commands that are no requests
+
+-- what was read has no more than 256 assignments
+abbrev IsFew : Command × Names → Type 0
+IsFew r = is_over r.0 ≡ false
+
+naming_few : (f : ℕ → Command) → ((n : ℕ) → is_over (f n) ≡ false) → (names : Names) (bytes : List ℕ) (r : Command × Names) → naming_read f names bytes ≡ Some r → IsFew r
+unfolding naming_read
+naming_few f few names bytes r e = from_bind (label_alone bytes) _ r e (λ label alone more. rw (← some_same _ r more) (few _))
+
+making_few : (f : ℕ → Command) → ((n : ℕ) → is_over (f n) ≡ false) → (names : Names) (bytes : List ℕ) (r : Command × Names) → making_read f names bytes ≡ Some r → IsFew r
+unfolding making_read
+making_few f few names bytes r e = from_bind (label_alone bytes) _ r e (λ label alone more. rw (← some_same _ r more) (few _))
+
+buffer_few : (names : Names) (bytes : List ℕ) (r : Command × Names) → buffer_read names bytes ≡ Some r → IsFew r
+unfolding buffer_read
+buffer_few names bytes r e =
+    from_bind (label_at bytes) _ r e (λ label a more.
+    from_bind (dec_at 4294967295 label.1) _ r more (λ w b more.
+    from_bind (dec_at 4294967295 w.1) _ r more (λ h c more.
+    from_bind (format_at h.1) _ r more (λ format d more.
+    from_bind (pattern_at w.0 h.0 format.0 format.1) _ r more (λ pattern p more. rw (← some_same _ r more) refl)))))
+
+addfb_few : (names : Names) (bytes : List ℕ) (r : Command × Names) → addfb_read names bytes ≡ Some r → IsFew r
+unfolding addfb_read
+addfb_few names bytes r e =
+    from_bind (label_at bytes) _ r e (λ label a more.
+    from_bind (label_alone label.1) _ r more (λ buffer b more. rw (← some_same _ r more) refl))
+
+mode_few : (names : Names) (bytes : List ℕ) (r : Command × Names) → mode_read names bytes ≡ Some r → IsFew r
+unfolding mode_read
+mode_few names bytes r e =
+    from_bind (label_at bytes) _ r e (λ label a more.
+    from_bind (mode_fields label.1) _ r more (λ mode b more.
+    from_bind (end_at mode.1) _ r more (λ u c more. rw (← some_same _ r more) refl)))
+
+blob_few : (names : Names) (bytes : List ℕ) (r : Command × Names) → blob_read names bytes ≡ Some r → IsFew r
+unfolding blob_read
+blob_few names bytes r e =
+    from_bind (label_at bytes) _ r e (λ label a more.
+    from_bind (field_at label.1) _ r more (λ f b more.
+    from_bind (end_at f.1) _ r more (λ u c more.
+    from_bind (blob_bytes f.0) _ r more (λ blob d more. rw (← some_same _ r more) refl))))
+
+-- by a first word that is one of several
+by_word : (t : Bool) (r : Command × Names) (one other : Option (Command × Names)) → (one ≡ Some r → IsFew r) → (other ≡ Some r → IsFew r) → cond t one other ≡ Some r → IsFew r
+by_word t r one other here there e = elim (choice_some t one other r e) [
+  | inl is ↦ here is.1
+  | inr more ↦ there more
+]
+
+thing_few : (names : Names) (keyword bytes : List ℕ) (r : Command × Names) → thing_read names keyword bytes ≡ Some r → IsFew r
+unfolding thing_read
+thing_few names keyword bytes r e =
+    by_word (bytes_eq keyword (codes "buffer")) r _ _ (buffer_few names bytes r)
+    (by_word (bytes_eq keyword (codes "addfb")) r _ _ (addfb_few names bytes r)
+    (by_word (bytes_eq keyword (codes "mode")) r _ _ (mode_few names bytes r)
+    (by_word (bytes_eq keyword (codes "blob")) r _ None (blob_few names bytes r) (nothing_read r)))) e
+
+label_few : (names : Names) (keyword bytes : List ℕ) (r : Command × Names) → label_read names keyword bytes ≡ Some r → IsFew r
+unfolding label_read
+label_few names keyword bytes r e =
+    by_word (bytes_eq keyword (codes "destroy")) r _ _ (naming_few command.Destroy (λ n. refl) names bytes r)
+    (by_word (bytes_eq keyword (codes "closefb")) r _ _ (naming_few command.CloseFb (λ n. refl) names bytes r)
+    (by_word (bytes_eq keyword (codes "fence")) r _ _ (making_few command.Fence (λ n. refl) names bytes r)
+    (by_word (bytes_eq keyword (codes "signal")) r _ _ (naming_few command.Signal (λ n. refl) names bytes r)
+    (thing_few names keyword bytes r)))) e
+
+wait_few : (names : Names) (bytes : List ℕ) (r : Command × Names) → option_map (λ u. (command.Wait, names)) (end_at bytes) ≡ Some r → IsFew r
+wait_few names bytes r e = let m = map_some _ (end_at bytes) r e in rw (← m.makes) refl
+
+-- Requests
+
+-- a request with no more fields than 256 assignments take
+atomic_few : (names : Names) (bytes : List ℕ) (r : Command × Names) → has_many bytes ≡ false → atomic_read names bytes ≡ Some r → IsFew r
+unfolding atomic_read dec_at
+atomic_few names bytes r few e =
+    from_bind (hex_at bytes) _ r e (λ flags f more.
+    from_bind (dec_at 18446744073709551615 flags.1) _ r more (λ user u more.
+    from_bind (field_words user.1) _ r more (λ words w more.
+    from_bind (assigns_read names words) _ r more (λ sets s more.
+    let flag = bind_some (field_at bytes) _ flags f in
+    let flag_word = bind_some (hex flag.value.0) (λ n. Some (n, flag.value.1)) flags flag.then in
+    let flag_rest : flag.value.1 ≡ flags.1 = ap (λ (p : ℕ × List ℕ). p.1) (some_same _ flags flag_word.then) in
+    let first : blanks bytes ≡ 1 + blanks flags.1 = field_blanks bytes flag.value flag.given ∙ rw flag_rest refl in
+    let given = bind_some (field_at flags.1) _ user u in
+    let given_word = bind_some (dec 18446744073709551615 given.value.0) (λ n. Some (n, given.value.1)) user given.then in
+    let given_rest : given.value.1 ≡ user.1 = ap (λ (p : ℕ × List ℕ). p.1) (some_same _ user given_word.then) in
+    let second : blanks flags.1 ≡ 1 + blanks user.1 = field_blanks flags.1 given.value given.given ∙ rw given_rest refl in
+    let count : length sets.0 ≡ blanks user.1 = assigns_count words names sets s ∙ words_blanks user.1 words w in
+    rw (← some_same _ r more) (test (length sets.0) (within (length sets.0) first second count))))))
+  where
+    below : (n : ℕ) → nat_lt 258 n ≡ false → n ≤ 258
+    below n lt = grind (arith, nat_tests)
+
+    within : (n : ℕ) {a b : ℕ} → blanks bytes ≡ 1 + a → a ≡ 1 + b → n ≡ b → n ≤ 256
+    within n first second count = omega (arith, below (blanks bytes) few, first, second, count)
+
+    test : (n : ℕ) → n ≤ 256 → nat_lt 256 n ≡ false
+    test n le = grind (arith, nat_tests)
+
+-- a line with no more fields than a request may have is that of a command with no more assignments
+few_assigns : (names : Names) (text : List ℕ) (r : Command × Names) → (bytes_eq (until 32 text) (codes "atomic") && has_many (from 32 text)) ≡ false → command_read names text ≡ Some r → IsFew r
+unfolding command_read
+few_assigns names text r few e = step (bytes_eq (until 32 text) (codes "atomic")) few e
+  where
+    step : (t : Bool) → (t && has_many (from 32 text)) ≡ false
+        → cond t (atomic_read names (from 32 text)) (cond (bytes_eq (until 32 text) (codes "wait")) (option_map (λ u. (command.Wait, names)) (end_at (from 32 text))) (label_read names (until 32 text) (from 32 text))) ≡ Some r → IsFew r
+    step true few e = atomic_few names (from 32 text) r few e
+    step false few e = by_word (bytes_eq (until 32 text) (codes "wait")) r _ _ (wait_few names (from 32 text) r) (label_few names (until 32 text) (from 32 text) r) e
+
+fits : (c : Command) → HasFilled c → is_over c ≡ false → IsFitCommand c
+fits (command.Buffer label width height format pattern) filled few = filled
+fits (command.Atomic r) filled few = within (length r.assigns) few
+  where
+    within : (n : ℕ) → nat_lt 256 n ≡ false → n ≤ 256
+    within n e = grind (arith, nat_tests)
+fits (command.AddFb label buffer) filled few = tt
+fits (command.Mode label m) filled few = tt
+fits (command.Blob label bytes) filled few = tt
+fits (command.Destroy label) filled few = tt
+fits (command.CloseFb label) filled few = tt
+fits (command.Fence label) filled few = tt
+fits (command.Signal label) filled few = tt
+fits command.Wait filled few = tt
+
+-- such a command is within the limits of one
+pub fit_command : (names after : Names) (text : List ℕ) (c : Command) → (bytes_eq (until 32 text) (codes "atomic") && has_many (from 32 text)) ≡ false → command_read names text ≡ Some (c, after) → HasFilled c → IsFitCommand c
+fit_command names after text c few e filled = fits c filled (few_assigns names text (c, after) few e)
+
+-- Lines
+
+pub atomic_line : (names : Names) (text : List ℕ) → bytes_eq (until 32 text) (codes "atomic") ≡ true → line_of names text ≡ checked (atomic_read names (from 32 text))
+unfolding command_read
+atomic_line names text e = rw e refl
+
+pub no_form : (names : Names) (text : List ℕ) → command_read names text ≡ None → line_of names text ≡ Err Form
+no_form names text e = rw e refl
+
+pub label_twice : (names after : Names) (text : List ℕ) (c : Command) → command_read names text ≡ Some (c, after) → after.is_twice ≡ true → line_of names text ≡ Err Label
+label_twice names after text c e twice = rw (e, twice) refl
+
+pub line_read_well : (names after : Names) (text : List ℕ) (c : Command) → (bytes_eq (until 32 text) (codes "atomic") && has_many (from 32 text)) ≡ false → command_read names text ≡ Some (c, after) → after.is_twice ≡ false → line_of names text ≡ Ok (c, after)
+line_read_well names after text c few e once = rw (e, once, few_assigns names text (c, after) few e) refl
+
+-- A line alone
+
+-- a command with the names after it
+abbrev well : Command × Names → Result (Command × Names) Why
+well r = Ok r
+
+-- a command with the words of the names after it
+abbrev with_words : Command × Names → Result (Command × List (List ℕ)) Why
+with_words r = Ok (r.0, words_in r.1)
+
+-- what was read of a line alone, or its fault
+abbrev alone : Option (Command × Names) → Result (Command × List (List ℕ)) Why
+alone o = or_form o (λ r. unless r.1.is_twice Label (unless (is_over r.0) Limit (with_words r)))
+
+read_step : (o : Option (Command × Names)) (c : Command) (after : Names) → checked o ≡ well (c, after) → alone o ≡ with_words (c, after)
+read_step None c after e = absurd (none e)
+  where
+    none : Err Form ≡ well (c, after) → ⊥
+    none e = cc
+read_step (Some r) c after e = step r.1.is_twice (is_over r.0) e
+  where
+    step : (twice over : Bool) → unless twice Label (unless over Limit (well r)) ≡ well (c, after) → unless twice Label (unless over Limit (with_words r)) ≡ with_words (c, after)
+    step true over e = absurd (twice_is e)
+      where
+        twice_is : Err Label ≡ well (c, after) → ⊥
+        twice_is e = cc
+    step false true e = absurd (over_is e)
+      where
+        over_is : Err Limit ≡ well (c, after) → ⊥
+        over_is e = cc
+    step false false e = let same : r ≡ (c, after) = cc in rw same refl
+
+-- a command with the names after it
+pub alone_read : (words : List (List ℕ)) (text : List ℕ) (c : Command) (after : Names) → line_of (unmade words) text ≡ Ok (c, after) → line_read words text ≡ Ok (c, words_in after)
+unfolding line_read
+alone_read words text c after e = read_step (command_read (unmade words) text) c after e
+
+-- a fault is one of three, and the same
+record FaultAlone (stated : Result (Command × List (List ℕ)) Why) (why : Why) : Type 0 where
+  same : stated ≡ Err why
+  one : (why ≡ Form) ⊎ ((why ≡ Label) ⊎ (why ≡ Limit))
+
+fault_step : (o : Option (Command × Names)) (why : Why) → checked o ≡ Err why → FaultAlone (alone o) why
+fault_step None why e = let is : Form ≡ why = cc in record { same = ap Err is; one = inl (sym is) }
+fault_step (Some r) why e = step r.1.is_twice (is_over r.0) e
+  where
+    step : (twice over : Bool) → unless twice Label (unless over Limit (Ok r)) ≡ Err why → FaultAlone (unless twice Label (unless over Limit (with_words r))) why
+    step true over e = let is : Label ≡ why = cc in record { same = ap Err is; one = inr (inl (sym is)) }
+    step false true e = let is : Limit ≡ why = cc in record { same = ap Err is; one = inr (inr (sym is)) }
+    step false false e = absurd (none e)
+      where
+        none : Ok r ≡ Err why → ⊥
+        none e = cc
+
+error_step : (stated : Result (Command × List (List ℕ)) Why) (after : List (List ℕ)) (why : Why) → FaultAlone stated why → GivesCommand (Err (line_error (stops.Fault why))) stated after
+error_step stated after Form f = f.same
+error_step stated after Label f = f.same
+error_step stated after Limit f = f.same
+error_step stated after Bytes f = absurd (other f.one)
+  where
+    other : (Bytes ≡ Form) ⊎ ((Bytes ≡ Label) ⊎ (Bytes ≡ Limit)) → ⊥
+    other (inl e) = cc
+    other (inr (inl e)) = cc
+    other (inr (inr e)) = cc
+error_step stated after Cut f = absurd (other f.one)
+  where
+    other : (Cut ≡ Form) ⊎ ((Cut ≡ Label) ⊎ (Cut ≡ Limit)) → ⊥
+    other (inl e) = cc
+    other (inr (inl e)) = cc
+    other (inr (inr e)) = cc
+error_step stated after Unbuilt f = absurd (other f.one)
+  where
+    other : (Unbuilt ≡ Form) ⊎ ((Unbuilt ≡ Label) ⊎ (Unbuilt ≡ Limit)) → ⊥
+    other (inl e) = cc
+    other (inr (inl e)) = cc
+    other (inr (inr e)) = cc
+
+-- the error of a line
+pub alone_stopped : (words after : List (List ℕ)) (text : List ℕ) (names : Names) (stop : Stop) → GivesLine (Err stop) (line_of (unmade words) text) names → GivesCommand (Err (line_error stop)) (line_read words text) after
+unfolding line_read
+alone_stopped words after text names (stops.Fault why) e = error_step _ after why (fault_step (command_read (unmade words) text) why e)
+alone_stopped words after text names stops.NoMemory e = tt

@@ -1,0 +1,48 @@
+use Rattle.std.proofs.Common.{◌≡◌, ◌+◌, ◌++◌, ◌≤◌, ◌<◌, ◌^◌, ℕ, Bool, List, Some, length, take, append_assoc, ap, sym, refl, subst, ◌∙◌, arith, rules}
+use Rattle.std.specs.Prelude.{slice_get}
+use Rattle.std.specs.List.{IsDistinct}
+use Rattle.std.specs.Str.{bytes_eq}
+use Rattle.std.proofs.lemmas.List.{take_all}
+use Rattle.std.proofs.lemmas.Option.{slice_get_read}
+use Rattle.kms_model.specs.Script.CommandLines.{words_in}
+use Rattle.kms_script.specs.Named.{is_in_numbers, marked}
+use Rattle.kms_script.specs.Overlong.{made_words, packed_all}
+use Rattle.kms_script.proofs.Naming.{marked_length, marked_words}
+use Rattle.kms_script.proofs.PackedNames.{number_after, number_where}
+use Rattle.kms_script.proofs.names.Names.push_made.Goals as goal
+
+pub overflow_add-number : goal.overflow_add-number
+overflow_add-number c =
+    let at = c.self.inside in
+    let count : length c.args.self.now.names.all ≡ length at.numbering = sym (ap (λ h. length h.names.all) c.self.view_is) ∙ marked_length (is_in_numbers at.made.keys) 0 at.numbering in
+    let words : length c.words-word-items.result.now ≡ length at.numbering = ap length c.words-word-items.ensures.words in
+    let inside : c.loop-word.word-index < length c.words-word-items.result.now = search rules in
+    omega (arith, count, words, inside, c.requires.all, c.loop-word.invariant.number)
+
+pub loop-word-preserved : goal.loop-word-preserved
+loop-word-preserved c =
+    let at = c.self.inside in
+    let words = c.words-word-items.result.now in
+    let i = c.loop-word.word-index in
+    let word = c.as_slice.result.now in
+    let item : slice_get words i ≡ Some word = slice_get_read words (length words) i c.word-item.result refl c.loop-word-test.true c.word-item.is ∙ ap Some (sym c.as_slice.ensures.value) in
+    let made : c.contains-is_made.result ≡ is_in_numbers at.made.keys (0 + i) = rw (from_none i, ← c.loop-word.invariant.number) c.contains-is_made.ensures in
+    let front : List ℕ = packed_all (made_words (marked (is_in_numbers at.made.keys) 0 (take i words))) in
+    record {
+      number = ap (λ n. n + 1) c.loop-word.invariant.number;
+      items =
+          c.in_ok-push_where.ensures
+          ∙ (ap (λ b. c.loop-word.numbers.items ++ number_where b word) made
+          ∙ (ap (λ ns. ns ++ number_where (is_in_numbers at.made.keys (0 + i)) word) c.loop-word.invariant.items
+          ∙ (append_assoc c.args.numbers.now.items front (number_where (is_in_numbers at.made.keys (0 + i)) word)
+          ∙ ap (λ ns. c.args.numbers.now.items ++ ns) (sym (number_after (is_in_numbers at.made.keys) 0 words i word item)))));
+    }
+  where
+    from_none : (n : ℕ) → 0 + n ≡ n
+    from_none n = omega arith
+
+pub returns-clause-differ : goal.returns-clause-differ
+returns-clause-differ c =
+    let at = c.self.inside in
+    let words : words_in c.args.self.now.names ≡ at.numbering = sym (ap (λ h. words_in h.names) c.self.view_is) ∙ marked_words (is_in_numbers at.made.keys) 0 at.numbering in
+    subst (λ ws. IsDistinct bytes_eq ws) (sym words) c.words-word-items.ensures.differ
