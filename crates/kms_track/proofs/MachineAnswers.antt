@@ -44,7 +44,7 @@ settled_machine t m k object device =
     ap (λ o. if_there (λ j. is_hw_done m.device j && has_flipped (told_of t m.device.commits m.device.marks m.records.latches) j object) o) (previous_machine t m.device.commits m.device.marks m.records.latches k object)
     ∙ there_same _ _ (machine.previous t m.device.commits k object) (λ j. ap (λ b. is_hw_done m.device j && b) (flipped_machine t m.device.commits m.device.marks m.records.latches j object device))
 
-all_alike : (f g : ℕ → Bool) (xs : List ℕ) → ((x : ℕ) → IsIn x xs → f x ≡ g x) → list_all f xs ≡ list_all g xs
+pub all_alike : (f g : ℕ → Bool) (xs : List ℕ) → ((x : ℕ) → IsIn x xs → f x ≡ g x) → list_all f xs ≡ list_all g xs
 all_alike f g [] same = refl
 all_alike f g (x ∷ xs) same = rw (same x (inl refl), all_alike f g xs (λ y there. same y (inr there))) refl
 
