@@ -8,7 +8,7 @@ use Rattle.kms_model.specs.declared.objects.ObjId.{ObjId}
 use Rattle.kms_model.specs.declared.objects.Topology.{Topology}
 use Rattle.kms_model.specs.declared.scripts.Request.{Request}
 use Rattle.kms_model.specs.Firsts.{or_else}
-use Rattle.kms_model.specs.Device.Masks.{has_bit, mask_below}
+use Rattle.kms_model.specs.Device.Masks.{has_bit}
 use Rattle.kms_model.specs.Device.Objects.{object_id, ids_of, count_of}
 use Rattle.kms_model.specs.Machine.Commits as machine
 use Rattle.kms_model.specs.Machine.Commits.{if_there, is_hw_done, is_cleaned}
@@ -21,7 +21,7 @@ use Rattle.kms_model.proofs.Items.{IsIn, IsObject, ids-in}
 use Rattle.kms_model.proofs.MaskLemmas.{has_bit-mask_below}
 use Rattle.kms_track.specs.InStep.{told_of, IsInStep, IsWithinPlaces}
 use Rattle.kms_track.specs.Places.{object_at, all_below, first_below}
-use Rattle.kms_track.specs.Told.{Told, previous_of, not_marked, awaited_at, first_awaited, crtc_ids}
+use Rattle.kms_track.specs.Told.{Told, previous_of, not_marked, awaited_at, crtc_ids}
 use Rattle.kms_track.specs.Tracking.{Tracking, not_yet_of, with_object, unless, or_other}
 use Rattle.kms_track.proofs.KeptAnswers.{not_yet_told}
 use Rattle.kms_track.proofs.Lockables.{crtcs_all}
@@ -71,7 +71,7 @@ all_filtered : (p r : ℕ → Bool) (xs : List ℕ) → list_all r (filter p xs)
 all_filtered p r [] = refl
 all_filtered p r (x ∷ xs) =
     elim (p x) as (λ b. list_all r (cond b (x ∷ filter p xs) (filter p xs)) ≡ ((not b || r x) && list_all (λ x. not (p x) || r x) xs)) [
-      true ↦ ap (λ rest. r x && rest) (all_filtered p r xs)
+      | true ↦ ap (λ rest. r x && rest) (all_filtered p r xs)
       | false ↦ all_filtered p r xs
     ]
 
@@ -108,15 +108,17 @@ not_yet_machine t m v r step limits =
     ap (λ (o : Option (ObjId × ℕ)). is_none o) (not_yet_told told v (named_by t m.device.world r) step.keeps)
     ∙ (none_below (λ i. with_object i (if has_bit (named_by t m.device.world r) i then awaited_at told (object_at i) else None)) 4
     ∙ (four_below _ (λ o. not (has_bit (named_by t m.device.world r) (o - 100)) || is_ready_at t m o) (at_index t m (named_by t m.device.world r) 0 100 refl) (at_index t m (named_by t m.device.world r) 1 101 refl)
-      (at_index t m (named_by t m.device.world r) 2 102 refl) (at_index t m (named_by t m.device.world r) 3 103 refl)
+    (at_index t m (named_by t m.device.world r) 2 102 refl) (at_index t m (named_by t m.device.world r) 3 103 refl)
     ∙ (sym (crtcs_all (λ o. not (has_bit (named_by t m.device.world r) (o - 100)) || is_ready_at t m o) (count_of t Crtc) limits.crtcs off)
     ∙ (all_alike (λ o. not (has_bit (named_by t m.device.world r) (o - 100)) || is_ready_at t m o) (λ o. not (names m.device.world.values (after m.device.world r) r.assigns o) || is_ready_at t m o) (ids_of t Crtc) alike
     ∙ sym (all_filtered (names m.device.world.values (after m.device.world r) r.assigns) (is_ready_at t m) (ids_of t Crtc))))))
   where
     has : (i : ℕ) → has_bit (named_by t m.device.world r) i ≡ (nat_lt i (count_of t Crtc) && names m.device.world.values (after m.device.world r) r.assigns (object_id Crtc i))
     has i = has_bit-mask_below (λ index. names m.device.world.values (after m.device.world r) r.assigns (object_id Crtc index)) (count_of t Crtc) i
+
     off : (i : ℕ) → count_of t Crtc ≤ i → i < 4 → (not (has_bit (named_by t m.device.world r) (object_id Crtc i - 100)) || is_ready_at t m (object_id Crtc i)) ≡ true
     off i beyond within = (let e : (100 + i) - 100 ≡ i = omega arith in rw (e, has i, le-ltb i (count_of t Crtc) beyond) refl)
+
     alike : (x : ℕ) → IsIn x (ids_of t Crtc) → (not (has_bit (named_by t m.device.world r) (x - 100)) || is_ready_at t m x) ≡ (not (names m.device.world.values (after m.device.world r) r.assigns x) || is_ready_at t m x)
     alike x there =
         (let o : IsObject t Crtc x = ids-in t Crtc x there in
