@@ -62,7 +62,7 @@ impl FbStore {
         ensures thing { OnOk result ((w : World) (label : ℕ) → open_fbs_of w.things ≡ open_fbs self.old
             → w.next_id ≡ id
             → open_fbs_of (make w owner label (content.Framebuffer info buffer)).world.things
-                ≡ open_fbs self.new) }
+            ≡ open_fbs self.new) }
     {
         self.fbs.push(
             id,

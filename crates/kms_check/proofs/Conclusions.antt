@@ -41,11 +41,11 @@ use Rattle.kms_state.specs.Places.{old_states, olds, state_at}
 use Rattle.kms_state.proofs.Slots.{AgreesOld-same, there_old}
 use Rattle.kms_model.specs.Request.Deciding.{IsOfRequest, AreFresh, IsAskedFor}
 use Rattle.kms_check.specs.Applying.{set_all, SetsAll}
-use Rattle.kms_model.specs.Request.Groups.{set_group, named_group, affected_group, union}
+use Rattle.kms_model.specs.Request.Groups.{set_group, named_group, affected_group}
 use Rattle.kms_request.specs.Groups.{affected_below, crtcs_fenced, objects_set}
 use Rattle.kms_check.specs.Lacking.{first_lacking, is_empty, lacking, missing_in, not_duplicated}
 use Rattle.kms_check.proofs.Readiness.{HasRoom, IsCovered, covered, named-covers}
-use Rattle.kms_request.proofs.AffectedLemmas.{affected-is, touched-is}
+use Rattle.kms_request.proofs.AffectedLemmas.{affected-is}
 use Rattle.kms_request.proofs.NamedLemmas.{shorter}
 use Rattle.kms_request.proofs.SetGroups.{objects_set-is}
 use Rattle.kms_check.proofs.RequestFacts.{request_at, fresh-agrees}

@@ -1,17 +1,8 @@
 -- A device for examples, in two sound worlds: one in which nothing is shown, and one in which its first CRTC is lit.
-use Rattle.std.specs.Prelude.{ℕ, ◌+◌, Bool, true, false, pos, List, [], ◌∷◌, replicate, Option, Some, None, if◌then◌else◌}
+use Rattle.std.specs.Prelude.{ℕ, ◌+◌, Bool, true, false, List, [], ◌∷◌, replicate, Option, Some, None, if◌then◌else◌}
 use Rattle.kms_model.specs.declared.objects.Format.{Format}
 use Rattle.kms_model.specs.declared.objects.Format.TheVariants.{Xr24, Rg16}
-use Rattle.kms_model.specs.declared.objects.Kind.{Kind}
 use Rattle.kms_model.specs.declared.objects.Kind.TheVariants.{Crtc, Plane, Conn}
-use Rattle.kms_model.specs.declared.objects.Mode.{Mode}
-use Rattle.kms_model.specs.declared.objects.PlaneInfo.{PlaneInfo}
-use Rattle.kms_model.specs.declared.objects.Topology.{Topology}
-use Rattle.kms_model.specs.declared.properties.TheConstants.{ACTIVE, CRTC_H, CRTC_ID, CRTC_W, FB_ID, MODE_ID, SRC_H, SRC_W}
-use Rattle.kms_model.specs.declared.scripts.Assign.{Assign}
-use Rattle.kms_model.specs.declared.scripts.PropRef.TheVariants.{Known}
-use Rattle.kms_model.specs.declared.scripts.Value.{Value}
-use Rattle.kms_model.specs.declared.scripts.Value.TheVariants as value
 use Rattle.kms_model.specs.declared.worlds.Content.{Content}
 use Rattle.kms_model.specs.declared.worlds.Content.TheVariants as content
 use Rattle.kms_model.specs.declared.worlds.Thing.{Thing}

@@ -6,7 +6,7 @@ use Rattle.std.proofs.lemmas.List.{get_or_default, get_or-set_other, length-set}
 use Rattle.std.proofs.lemmas.Grind.{get_or-set_at}
 use Rattle.std.proofs.Math.ListN.{get_or-eq_default}
 use Rattle.std.proofs.lemmas.Bool.{cases_Bool, cases_eq, cases_lt, false≢true}
-use Rattle.kms_model.specs.Device.Objects.{ids_of, object_id}
+use Rattle.kms_model.specs.Device.Objects.{object_id}
 use Rattle.kms_model.specs.declared.objects.Kind.TheVariants.{Crtc, Plane}
 use Rattle.kms_model.specs.declared.objects.Topology.{Topology}
 use Rattle.kms_model.specs.Machine.Registers.{CrtcWords, PlaneWords, Registers, copied_planes, crtc_register, first_crtc_words, first_plane_words, first_registers, is_copied, latched_registers, plane_register, read, write_crtc, write_plane}
@@ -110,9 +110,9 @@ kept-copied shadow live crtc from zero i d not = refl
 kept-copied shadow live crtc from (suc n) i d not =
     elim (cases_Bool (is_copied shadow live crtc (object_id Plane from))) [
       | inl on_it ↦ rw on_it (
-        read_past d (plane_register shadow (object_id Plane from)) (copied_planes shadow live crtc (planes_from (from + 1) n)) (object_id Plane from) (object_id Plane i)
-        (λ e. (let same : from ≡ i = omega (arith, e) in absurd (false≢true (sym not ∙ ap (λ (k : ℕ). is_copied shadow live crtc (object_id Plane k)) (sym same) ∙ on_it))))
-        ∙ kept-copied shadow live crtc (from + 1) n i d not)
+          read_past d (plane_register shadow (object_id Plane from)) (copied_planes shadow live crtc (planes_from (from + 1) n)) (object_id Plane from) (object_id Plane i)
+          (λ e. (let same : from ≡ i = omega (arith, e) in absurd (false≢true (sym not ∙ ap (λ (k : ℕ). is_copied shadow live crtc (object_id Plane k)) (sym same) ∙ on_it))))
+          ∙ kept-copied shadow live crtc (from + 1) n i d not)
       | inr off_it ↦ rw off_it (kept-copied shadow live crtc (from + 1) n i d not)
     ]
 
@@ -123,8 +123,8 @@ later-copied shadow live crtc from zero i d past = refl
 later-copied shadow live crtc from (suc n) i d past =
     elim (cases_Bool (is_copied shadow live crtc (object_id Plane from))) [
       | inl on_it ↦ rw on_it (
-        read_past d (plane_register shadow (object_id Plane from)) (copied_planes shadow live crtc (planes_from (from + 1) n)) (object_id Plane from) (object_id Plane i) (λ e. absurd (omega (arith, e, past)))
-        ∙ later-copied shadow live crtc (from + 1) n i d (omega (arith, past)))
+          read_past d (plane_register shadow (object_id Plane from)) (copied_planes shadow live crtc (planes_from (from + 1) n)) (object_id Plane from) (object_id Plane i) (λ e. absurd (omega (arith, e, past)))
+          ∙ later-copied shadow live crtc (from + 1) n i d (omega (arith, past)))
       | inr off_it ↦ rw off_it (later-copied shadow live crtc (from + 1) n i d (omega (arith, past)))
     ]
 
@@ -135,12 +135,12 @@ copied-copied shadow live crtc from zero i d low high is = absurd (omega (arith,
 copied-copied shadow live crtc from (suc n) i d low high is =
     elim (cases_eq from i) [
       | inl e ↦ (let here : is_copied shadow live crtc (object_id Plane from) ≡ true = ap (λ (k : ℕ). is_copied shadow live crtc (object_id Plane k)) e ∙ is in
-        rw here (read_here d (plane_register shadow (object_id Plane from)) (copied_planes shadow live crtc (planes_from (from + 1) n)) (object_id Plane from) (object_id Plane i) (ap (object_id Plane) e)
-        ∙ ap (λ (k : ℕ). plane_register shadow (object_id Plane k)) e))
+          rw here (read_here d (plane_register shadow (object_id Plane from)) (copied_planes shadow live crtc (planes_from (from + 1) n)) (object_id Plane from) (object_id Plane i) (ap (object_id Plane) e)
+          ∙ ap (λ (k : ℕ). plane_register shadow (object_id Plane k)) e))
       | inr other ↦ elim (cases_Bool (is_copied shadow live crtc (object_id Plane from))) [
         | inl on_it ↦ rw on_it (
-          read_past d (plane_register shadow (object_id Plane from)) (copied_planes shadow live crtc (planes_from (from + 1) n)) (object_id Plane from) (object_id Plane i) (λ e. absurd (other (omega (arith, e))))
-          ∙ copied-copied shadow live crtc (from + 1) n i d (omega (arith, low, other)) (omega (arith, high)) is)
+            read_past d (plane_register shadow (object_id Plane from)) (copied_planes shadow live crtc (planes_from (from + 1) n)) (object_id Plane from) (object_id Plane i) (λ e. absurd (other (omega (arith, e))))
+            ∙ copied-copied shadow live crtc (from + 1) n i d (omega (arith, low, other)) (omega (arith, high)) is)
         | inr off_it ↦ rw off_it (copied-copied shadow live crtc (from + 1) n i d (omega (arith, low, other)) (omega (arith, high)) is)
       ]
     ]
@@ -215,5 +215,5 @@ first_all planes n x h all is = record {
     | inr past ↦ get_or-eq_default planes (first_plane_words (object_id Plane i)) (omega (arith, h.long, past))
   ]);
   crtcs = λ i. sym (ap (λ (w : CrtcWords). crtc_register (bank_of planes (w ∷ w ∷ w ∷ w ∷ [])) (object_id Crtc i)) is
-  ∙ read-with_ids first_crtc_words (first_crtc_words ∷ first_crtc_words ∷ first_crtc_words ∷ first_crtc_words ∷ []) (object_id Crtc 0) i (object_id Crtc i) refl ∙ first_crtc i);
+      ∙ read-with_ids first_crtc_words (first_crtc_words ∷ first_crtc_words ∷ first_crtc_words ∷ first_crtc_words ∷ []) (object_id Crtc 0) i (object_id Crtc i) refl ∙ first_crtc i);
 }

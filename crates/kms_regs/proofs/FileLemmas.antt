@@ -1,6 +1,6 @@
 -- A register file goes on standing for the device, call by call.
-use Rattle.std.proofs.Common.{◌≡◌, ◌≢◌, ℕ, ◌+◌, ◌<◌, ◌≤◌, Bool, true, false, List, [], ◌∷◌, length, get_or, Option, Some, None, is_some, arith, refl, sym, ap, ◌∙◌, subst, inl, inr, zero, suc, if◌then◌else◌}
-use Rattle.std.specs.Prelude.{◌==◌, not, slice_set}
+use Rattle.std.proofs.Common.{◌≡◌, ◌≢◌, ℕ, ◌+◌, ◌<◌, Bool, true, false, List, [], ◌∷◌, length, get_or, Some, None, is_some, arith, refl, sym, ap, ◌∙◌, subst, inl, inr, zero, suc, if◌then◌else◌}
+use Rattle.std.specs.Prelude.{not, slice_set}
 use Rattle.std.proofs.lemmas.Bool.{cases_eq}
 use Rattle.kms_model.specs.Device.Objects.{object_id}
 use Rattle.kms_model.specs.declared.objects.Kind.TheVariants.{Crtc}
@@ -151,7 +151,7 @@ counted_file t d planes s l go go' counts index h low goes = record {
   live_words = h.live_words;
   goes = goes;
   counted = row_set (λ (n : ℕ). n) 0 0 d.counts counts index (count_at d (object_id Crtc index) + 1) (get_or counts index 0 + 1) h.counted low
-  (ap (λ (n : ℕ). n + 1) (h.counted index ∙ read-with_ids 0 counts (object_id Crtc 0) index (object_id Crtc index) refl));
+      (ap (λ (n : ℕ). n + 1) (h.counted index ∙ read-with_ids 0 counts (object_id Crtc 0) index (object_id Crtc index) refl));
 }
 
 -- whether a CRTC has GO

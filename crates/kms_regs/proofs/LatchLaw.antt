@@ -1,7 +1,7 @@
 -- A latch shows what was written for its CRTC, and leaves the other CRTCs alone.
-use Rattle.std.proofs.Common.{◌≡◌, ◌≢◌, ℕ, ◌+◌, ◌<◌, ◌⊎◌, Bool, true, false, List, length, arith, refl, sym, ap, ◌∙◌, inl, inr, if◌then◌else◌, None}
-use Rattle.std.specs.Prelude.{◌==◌, ◌||◌}
-use Rattle.std.proofs.lemmas.Bool.{cases_Bool, cases_eq, or_cases, or_parts}
+use Rattle.std.proofs.Common.{◌≡◌, ◌≢◌, ℕ, ◌<◌, Bool, true, false, List, length, arith, refl, sym, ap, ◌∙◌, inl, inr, if◌then◌else◌, None}
+use Rattle.std.specs.Prelude.{◌==◌}
+use Rattle.std.proofs.lemmas.Bool.{cases_Bool, or_cases, or_parts}
 use Rattle.std.proofs.lemmas.Bool.Decides.{eqb_tells}
 use Rattle.kms_model.specs.Device.Objects.{object_id}
 use Rattle.kms_model.specs.declared.objects.Kind.TheVariants.{Crtc, Plane}
@@ -9,7 +9,7 @@ use Rattle.kms_model.specs.declared.objects.Mode.{Mode}
 use Rattle.kms_model.specs.declared.objects.Topology.{Topology}
 use Rattle.kms_model.specs.declared.pictures.Layer.{Layer}
 use Rattle.kms_model.specs.Frames.Pictures.{put_plane, seen_on}
-use Rattle.kms_model.specs.Machine.Registers.{CrtcWords, PlaneWords, Registers, crtc_register, first_crtc_words, first_plane_words, is_copied, latched_registers, plane_in, plane_register}
+use Rattle.kms_model.specs.Machine.Registers.{PlaneWords, Registers, crtc_register, first_crtc_words, first_plane_words, is_copied, latched_registers, plane_in, plane_register}
 use Rattle.kms_regs.specs.Latches.{LeavesTheOthers, Moves, NoPlaneMoves, ShowsTheShadow}
 use Rattle.kms_regs.proofs.BankLemmas.{copied-copied, kept-copied}
 use Rattle.kms_regs.proofs.Rows.{other_id, read_here, read_past}
@@ -40,8 +40,8 @@ shows_plane t shadow live crtc i m ls low =
     elim (cases_Bool (is_copied shadow live crtc plane)) [
       | inl on_it ↦ ap (λ (w : PlaneWords). put_at m crtc plane w ls) (copied_words t shadow live crtc i low on_it)
       | inr off_it ↦ (let parts = or_parts ((plane_register live plane).crtc == crtc) ((plane_register shadow plane).crtc == crtc) off_it in
-        ap (λ (w : PlaneWords). put_at m crtc plane w ls) (kept_words t shadow live crtc i off_it)
-        ∙ unseen m crtc plane (plane_register live plane) ls parts.0 ∙ sym (unseen m crtc plane (plane_register shadow plane) ls parts.1))
+          ap (λ (w : PlaneWords). put_at m crtc plane w ls) (kept_words t shadow live crtc i off_it)
+          ∙ unseen m crtc plane (plane_register live plane) ls parts.0 ∙ sym (unseen m crtc plane (plane_register shadow plane) ls parts.1))
     ]
 
 pub shows : (t : Topology) (shadow live : Registers) (crtc : ℕ) → ShowsTheShadow t shadow live crtc
@@ -60,9 +60,9 @@ on_none : (shadow live : Registers) (plane crtc other : ℕ) → crtc ≢ 0 → 
 on_none shadow live plane crtc other some some_other differ still is =
     elim (or_cases ((plane_register live plane).crtc == crtc) ((plane_register shadow plane).crtc == crtc) is) [
       | inl first ↦ (let here : (plane_register live plane).crtc ≡ crtc = equal_of (plane_register live plane).crtc crtc first in
-        ((λ e. differ (sym e ∙ here)), (λ e. still (record { live_on_one = λ z. some (sym here ∙ z); shadow_on_one = λ z. some_other (sym e ∙ z); on_another = λ same. differ (sym e ∙ sym same ∙ here) }))))
+          ((λ e. differ (sym e ∙ here)), (λ e. still (record { live_on_one = λ z. some (sym here ∙ z); shadow_on_one = λ z. some_other (sym e ∙ z); on_another = λ same. differ (sym e ∙ sym same ∙ here) }))))
       | inr second ↦ (let here : (plane_register shadow plane).crtc ≡ crtc = equal_of (plane_register shadow plane).crtc crtc second in
-        ((λ e. still (record { live_on_one = λ z. some_other (sym e ∙ z); shadow_on_one = λ z. some (sym here ∙ z); on_another = λ same. differ (sym e ∙ same ∙ here) })), (λ e. differ (sym e ∙ here))))
+          ((λ e. still (record { live_on_one = λ z. some_other (sym e ∙ z); shadow_on_one = λ z. some (sym here ∙ z); on_another = λ same. differ (sym e ∙ same ∙ here) })), (λ e. differ (sym e ∙ here))))
     ]
 
 leaves_plane : (t : Topology) (shadow live : Registers) (crtc other i : ℕ) (m : Mode) (ls : List (ℕ × Layer)) → crtc ≢ 0 → other ≢ 0 → other ≢ crtc → NoPlaneMoves t shadow live → i < length t.planes
@@ -71,9 +71,9 @@ leaves_plane t shadow live crtc other i m ls some some_other differ still low =
     let plane : ℕ = object_id Plane i in
     elim (cases_Bool (is_copied shadow live crtc plane)) [
       | inl on_it ↦ (let none = on_none shadow live plane crtc other some some_other differ (still i low) on_it in
-        ap (λ (w : PlaneWords). put_at m other plane w ls) (copied_words t shadow live crtc i low on_it)
-        ∙ unseen m other plane (plane_register shadow plane) ls (other_id (plane_register shadow plane).crtc other none.1)
-        ∙ sym (unseen m other plane (plane_register live plane) ls (other_id (plane_register live plane).crtc other none.0)))
+          ap (λ (w : PlaneWords). put_at m other plane w ls) (copied_words t shadow live crtc i low on_it)
+          ∙ unseen m other plane (plane_register shadow plane) ls (other_id (plane_register shadow plane).crtc other none.1)
+          ∙ sym (unseen m other plane (plane_register live plane) ls (other_id (plane_register live plane).crtc other none.0)))
       | inr off_it ↦ ap (λ (w : PlaneWords). put_at m other plane w ls) (kept_words t shadow live crtc i off_it)
     ]
 

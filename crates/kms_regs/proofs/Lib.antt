@@ -6,3 +6,4 @@ pub mod Pictured
 pub mod Rows
 pub mod SameWords
 pub mod Signed
+pub mod WordsBack

@@ -2,3 +2,4 @@ pub mod File
 pub mod Latches
 pub mod Layers
 pub mod Words
+pub mod Written

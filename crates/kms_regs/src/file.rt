@@ -1,5 +1,5 @@
 //! The register file.
-ghost use Rattle.std.specs.Prelude.{◌≡◌, ◌<◌, ◌≤◌, ℕ, length, is_some, IfSome};
+ghost use Rattle.std.specs.Prelude.{◌≡◌, ◌<◌, ◌≤◌, ◌↔◌, ℕ, length, is_some, IfSome, IsTrue};
 ghost use Rattle.kms_model.specs.Device.Objects.{object_id};
 ghost use Rattle.kms_model.specs.Device.Sound.{IsPlaneInRange};
 ghost use Rattle.kms_model.specs.declared.objects.Kind.TheVariants.{Crtc, Plane};
@@ -52,6 +52,26 @@ impl RegFile {
             go: [false; 4],
             counts: [0; 4],
         }
+    }
+
+    /// Whether the shadow words of the plane with an index, from 0 to 15, are those of a state, whose numbers are in the
+    /// ranges of their properties.
+    pub fn has_plane(&self, index: u32, state: &PlaneState) -> bool
+        requires index { index < 16 }
+        requires range { IsPlaneInRange state.now }
+        ensures { IsTrue result ↔ (plane_register self.now.shadow (object_id Plane index) ≡ plane_words state.now) }
+    {
+        *self.shadow.plane(index) == PlaneWords::of(state)
+    }
+
+    /// Whether the shadow words of the CRTC with an index, from 0 to 3, are those of a state, with any connector.
+    pub fn has_crtc(&self, index: u32, state: &CrtcState) -> bool
+        requires { index < 4 }
+        ensures { IsTrue result ↔ (crtc_register self.now.shadow (object_id Crtc index)
+            ≡ crtc_words (crtc_register self.now.shadow (object_id Crtc index)).conn state.now) }
+    {
+        let words = self.shadow.crtc(index);
+        *words == CrtcWords::of(words.conn, state)
     }
 
     /// Writes the shadow words that differ of the plane with an index, from 0 to 15. They are those of the old state,

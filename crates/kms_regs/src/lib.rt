@@ -13,3 +13,6 @@ mod words;
 
 pub use file::RegFile;
 pub use law::latch_shows_what_was_written;
+
+#[cfg(test)]
+mod tests;

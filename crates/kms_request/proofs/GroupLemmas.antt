@@ -1,7 +1,6 @@
 -- Groups of objects as masks, as loops make them.
-use Rattle.std.proofs.Common.{◌≡◌, ◌≢◌, ◌∙◌, ℕ, ◌+◌, ◌-◌, ◌*◌, ◌^◌, ◌%◌, ◌<◌, ◌≤◌, cond, Bool, true, false, List, length, get_or, take, refl, sym, ap, subst, arith, add-one}
+use Rattle.std.proofs.Common.{◌≡◌, ◌≢◌, ◌∙◌, ℕ, ◌+◌, ◌-◌, ◌*◌, ◌^◌, ◌%◌, ◌<◌, ◌≤◌, Bool, false, List, length, get_or, take, refl, sym, ap, subst, arith, add-one}
 use Rattle.std.specs.Prelude.{◌||◌, ◌==◌, bit_or}
-use Rattle.std.specs.Int.Bits.{or_zero_r}
 use Rattle.std.specs.List.{list_any}
 use Rattle.std.proofs.lemmas.Bool.{ne_eqb}
 use Rattle.std.proofs.lemmas.Bool.Decides.{nat_tests}
@@ -9,7 +8,7 @@ use Rattle.std.proofs.lemmas.List.Folds.{list_any_more}
 use Rattle.std.proofs.lemmas.Nat.{pow_pos, pow_below, one_shl, or_lt}
 use Rattle.kms_model.specs.Request.Late.{duplicate_in}
 use Rattle.kms_model.specs.Device.Masks.{has_bit, mask_below}
-use Rattle.kms_model.proofs.MaskLemmas.{has_bit-below, mask_below-lt, mask_from, mask_more, mask_no_more, same_masks}
+use Rattle.kms_model.proofs.MaskLemmas.{has_bit-below, mask_below-lt, mask_from, same_masks}
 use Rattle.kms_model.proofs.UnionLemmas.{has_bit-one, has_bit-zero, has_bit-or}
 use Rattle.kms_model.specs.Request.Groups.{union}
 use Rattle.kms_request.specs.Groups.{affected_below, affected_with}

@@ -1,13 +1,12 @@
 -- Sets of CRTCs, in place.
-use Rattle.std.proofs.Common.{◌≡◌, ◌∙◌, ◌⊎◌, ℕ, ◌+◌, ◌-◌, ◌*◌, ◌^◌, ◌%◌, ◌<◌, ◌≤◌, List, length, take, get_or, Bool, false, arith, sym, ap, lit<}
+use Rattle.std.proofs.Common.{◌≡◌, ◌∙◌, ℕ, ◌+◌, ◌<◌, ◌≤◌, List, length, take, get_or, Bool, sym, ap}
 use Rattle.std.specs.Prelude.{◌||◌, ◌==◌, bit_or}
-use Rattle.std.proofs.lemmas.Bool.Decides.{nat_tests}
 use Rattle.std.specs.List.{list_any}
 use Rattle.std.proofs.lemmas.List.{take_all}
 use Rattle.std.proofs.lemmas.List.Folds.{list_any_more}
-use Rattle.std.proofs.lemmas.Nat.{one_shl, or_lt, pow_below}
+use Rattle.std.proofs.lemmas.Nat.{or_lt}
 use Rattle.kms_model.specs.Device.Masks.{has_bit}
-use Rattle.kms_model.proofs.UnionLemmas.{has_bit-one, has_bit-or, has_bit-zero}
+use Rattle.kms_model.proofs.UnionLemmas.{has_bit-or}
 use Rattle.kms_request.specs.Naming.{AreCrtcs}
 
 pub both_crtcs : (f g : ℕ → Bool) (a b : ℕ) → AreCrtcs f a → AreCrtcs g b → AreCrtcs (λ crtc. f crtc || g crtc) (bit_or a b)

@@ -3,7 +3,6 @@
 use Rattle.std.proofs.Common.{◌≡◌, ℕ, ◌+◌, Bool, true, false, List, [], ◌∷◌, pos, refl}
 use Rattle.std.specs.Prelude.{map, negsuc}
 use Rattle.kms_model.specs.declared.objects.Format.TheVariants.{Xr24}
-use Rattle.kms_model.specs.declared.objects.Kind.{Kind}
 use Rattle.kms_model.specs.declared.objects.Kind.TheVariants as kind
 use Rattle.kms_model.specs.declared.properties.TheConstants.{ACTIVE, ALPHA, CRTC_ID, FB_ID, IN_FENCE_FD, MODE_ID, TYPE}
 use Rattle.kms_model.specs.declared.scripts.Assign.{Assign}

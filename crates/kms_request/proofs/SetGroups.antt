@@ -1,34 +1,28 @@
 -- The group of the objects that a request sets, as assignments and sets tell it.
-use Rattle.std.proofs.Common.{◌≡◌, ◌∙◌, ℕ, zero, suc, ◌+◌, ◌<◌, ◌≤◌, Bool, true, false, List, [], ◌∷◌, length, get_or, Option, None, inl, inr, refl, sym, ap, subst, arith}
-use Rattle.std.specs.Prelude.{◌||◌, ◌==◌, All}
+use Rattle.std.proofs.Common.{◌≡◌, ◌∙◌, ℕ, ◌<◌, ◌≤◌, Bool, true, false, List, [], ◌∷◌, None, inl, inr, refl, sym, ap, subst, arith}
+use Rattle.std.specs.Prelude.{◌||◌, ◌==◌}
 use Rattle.std.specs.List.{list_any}
-use Rattle.std.proofs.lemmas.Bool.{eqb-true, and_parts, or_left, or_right, or_cases, cases_Bool, both_ways, false_from_ne_true, ltb-true, cases_lt}
+use Rattle.std.proofs.lemmas.Bool.{eqb-true, and_parts, or_left, or_right, or_cases, cases_Bool, both_ways, false_from_ne_true, ltb-true}
 use Rattle.kms_model.specs.declared.objects.Kind.{Kind}
 use Rattle.kms_model.specs.declared.objects.Kind.TheVariants as kind
 use Rattle.kms_model.specs.declared.objects.Topology.{Topology}
 use Rattle.kms_model.specs.declared.scripts.Assign.{Assign}
 use Rattle.kms_model.specs.declared.scripts.Request.{Request}
 use Rattle.kms_model.specs.declared.sets.Resolved.{Resolved}
-use Rattle.kms_model.specs.declared.sets.Set.{Set}
-use Rattle.kms_model.specs.declared.states.Both.{Both}
-use Rattle.kms_model.specs.declared.states.Duplicates.{Duplicates}
 use Rattle.kms_model.specs.declared.worlds.Look.{Look}
-use Rattle.kms_model.specs.declared.worlds.World.{World}
-use Rattle.kms_model.specs.Request.Agreement.{AreOld, AreNew, AgreesNew}
 use Rattle.kms_model.specs.Request.Apply.{object_of}
-use Rattle.kms_model.specs.Device.Masks.{mask_below}
 use Rattle.kms_model.specs.Device.Objects.{object_id, count_of, most_of}
 use Rattle.kms_model.specs.Request.Refusals.{early_refusal}
 use Rattle.kms_model.specs.Request.Resolves.{IsAllowed, IsResolved}
-use Rattle.kms_model.specs.Request.Sets.{has_target_of, last_sets, set_of}
+use Rattle.kms_model.specs.Request.Sets.{has_target_of, last_sets}
 use Rattle.kms_model.specs.Device.Sound.{IsDevice}
 use Rattle.kms_model.specs.Request.Touched.{sets, set_where}
 use Rattle.kms_model.proofs.CrtcLemmas.{all_in}
 use Rattle.kms_model.proofs.Items as items
-use Rattle.kms_model.proofs.LastLemmas.{IsIn, FromLast, from_last, IsLast}
+use Rattle.kms_model.proofs.LastLemmas.{IsIn}
 use Rattle.kms_model.proofs.MaskLemmas.{same_masks}
 use Rattle.kms_model.proofs.RequestLemmas.{accepted_allowed}
-use Rattle.kms_model.proofs.TouchedLemmas.{IsRequestAt, few_objects, few_of, first_id-apart}
+use Rattle.kms_model.proofs.TouchedLemmas.{few_objects, few_of, first_id-apart}
 use Rattle.kms_model.specs.Request.Groups.{set_group}
 use Rattle.kms_request.specs.Groups.{assigned_of, objects_assigned, objects_set, set_of_kind}
 use Rattle.kms_request.proofs.NamedLemmas.{shorter}

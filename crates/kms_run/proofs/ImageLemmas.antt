@@ -79,7 +79,7 @@ showable things m images layers can are k d within =
     let one = can k d within in
     record {
       placed = one.placed;
-      image = record { image_seen = one.words.seen; found = are k d within ∙ one.words.found; width = one.words.width; height = one.words.height; words = one.words.words };
+      image = record { seen = one.words.seen; found = are k d within ∙ one.words.found; width = one.words.width; height = one.words.height; words = one.words.words };
     }
 
 pub have_words : (things : List Thing) (m : Mode) (layers : List Layer) → All (CanBeShown things m) layers → All (λ l. HasWords things l.fb) layers

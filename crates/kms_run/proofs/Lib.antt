@@ -10,4 +10,3 @@ pub mod Rising
 pub mod Survival
 pub mod Turning
 pub mod Lines
-pub mod Committed

@@ -1,16 +1,13 @@
 -- Each command that was read is one that words spell with the names of the whole script.
-use Rattle.std.proofs.Common.{◌≡◌, ℕ, ◌<◌, ◌≤◌, ◌^◌, inl, inr, Bool, true, false, not, List, [], ◌∷◌, ◌++◌, length, cond, Option, Some, None, refl, sym, ap, subst, ◌∙◌, arith}
+use Rattle.std.proofs.Common.{◌≡◌, ℕ, ◌^◌, inl, inr, Bool, true, List, [], ◌∷◌, length, cond, Option, Some, None, refl}
 use Rattle.std.specs.Prelude.{◌&&◌, codes, is_some, nat_le, nat_lt, option_map}
 use Rattle.std.specs.List.{list_all}
 use Rattle.std.specs.Option.{option_map_or}
 use Rattle.std.specs.Str.{bytes_eq}
-use Rattle.std.proofs.lemmas.Bool.{and_parts, leb-true}
 use Rattle.kms_model.specs.declared.objects.Kind.{Kind}
 use Rattle.kms_model.specs.declared.scripts.Assign.{Assign}
 use Rattle.kms_model.specs.declared.scripts.Command.{Command}
 use Rattle.kms_model.specs.declared.scripts.Command.TheVariants as command
-use Rattle.kms_model.specs.declared.scripts.PropRef.{PropRef}
-use Rattle.kms_model.specs.declared.scripts.PropRef.TheVariants.{Known, Unknown}
 use Rattle.kms_model.specs.declared.scripts.Value.{Value}
 use Rattle.kms_model.specs.declared.scripts.Value.TheVariants as value
 use Rattle.kms_model.specs.Device.Properties.{name_of}
@@ -22,7 +19,7 @@ use Rattle.kms_model.specs.Script.Words.{between, dec, dec_at, end_at, field_at,
 use Rattle.kms_script.proofs.FitWords.{alone_fit, blob_fit, dec_at_fit, fits_both, hex_at_fit, index_fit, int_fit, label_fit, long_fit, mode_fit, object_fit, pattern_fit, word_fit}
 use Rattle.kms_script.proofs.Inverted.{bind_some, choice_some, from_bind, if_some, map_some, or_some, some_same}
 use Rattle.kms_script.proofs.NamesBegin.{Begins, before_saying, making_says, said_word}
-use Rattle.kms_script.proofs.SpeltAssigns.{assign_named, assigns_named, property_named, value_named}
+use Rattle.kms_script.proofs.SpeltAssigns.{assigns_named, prop_of, value_named}
 use Rattle.kms_script.proofs.SpeltWords.{id_word, nothing_read, property_spelt}
 
 -- Assignments
@@ -60,9 +57,6 @@ id_fit id word same is = step (name_of id) word same is
       where
         none : is_property_word [] ≡ true → ⊥
         none e = cc
-
-abbrev prop_of : Names → List ℕ → Option ℕ → PropRef × Names
-prop_of names word o = option_map_or (λ id. (Known id, names)) o (Unknown (place word names), saying word names)
 
 property_step : (all : List (List ℕ)) (names : Names) (word : List ℕ) (o : Option ℕ) → known_property word ≡ o → is_property_word word ≡ true → Begins (prop_of names word o).1 all → is_property_in all (prop_of names word o).0 ≡ true
 property_step all names word (Some id) e is b = id_fit id word (property_spelt id word e) is

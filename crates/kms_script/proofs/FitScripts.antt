@@ -1,5 +1,5 @@
 -- What lines spell is within the bounds of a well-formed script.
-use Rattle.std.proofs.Common.{◌≡◌, ℕ, ◌+◌, ◌-◌, ◌≤◌, ◌^◌, zero, suc, inl, inr, Bool, true, false, not, List, [], ◌∷◌, ◌++◌, append-nil, length, cond, Option, Some, None, Ok, refl, sym, ap, subst, ◌∙◌, arith}
+use Rattle.std.proofs.Common.{◌≡◌, ℕ, ◌+◌, ◌-◌, ◌≤◌, ◌^◌, inl, inr, Bool, true, false, not, List, [], ◌∷◌, ◌++◌, append-nil, length, cond, Option, Some, None, Ok, refl, sym, subst, arith}
 use Rattle.std.specs.Prelude.{◌==◌, ◌&&◌, ◌||◌, codes, nat_le, nat_lt, option_map}
 use Rattle.std.specs.List.{list_all}
 use Rattle.std.specs.Str.{bytes_eq}
@@ -15,11 +15,11 @@ use Rattle.kms_model.specs.Script.InputLines.{Row, rows_of}
 use Rattle.kms_model.specs.Script.Spelling.{Spells, spelt_line, spelt_lines}
 use Rattle.kms_model.specs.Script.WellFormed.{has_choice, is_command_in}
 use Rattle.kms_model.specs.Script.WholeInput.{Draft, blank_draft, client_line, clients_in, clients_of, command_line, conn_at, conn_line, crtcs_at, crtcs_line, first_line, is_nil, later_line, plane_fields, plane_line, plane_type, script_in, script_line}
-use Rattle.kms_model.specs.Script.Words.{◌>>=◌, dec, end_at, field_at, from, until}
+use Rattle.kms_model.specs.Script.Words.{dec, end_at, field_at, from, until}
 use Rattle.kms_script.proofs.Accepted.{accepted, either_ok, form_ok, if_ok, ok_same, on_from, unless_ok}
 use Rattle.kms_script.proofs.FitCommands.{command_fit}
 use Rattle.kms_script.proofs.FitWords.{fits_both}
-use Rattle.kms_script.proofs.Inverted.{bind_some, from_bind, if_some, map_some, some_same}
+use Rattle.kms_script.proofs.Inverted.{bind_some, from_bind, map_some, some_same}
 use Rattle.kms_script.proofs.NamesBegin.{Begins}
 use Rattle.kms_script.proofs.Parts.{first_part, later_parts}
 use Rattle.kms_script.proofs.RowsSpelt.{ended_draft, is_line}

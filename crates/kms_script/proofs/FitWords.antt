@@ -1,6 +1,6 @@
 -- What was read of words and fields is within the bounds of a well-formed script.
-use Rattle.std.proofs.Common.{◌≡◌, ℕ, ◌+◌, ◌-◌, ◌*◌, ◌<◌, ◌≤◌, ◌^◌, zero, suc, inl, inr, Bool, true, false, not, List, [], ◌∷◌, ◌++◌, length, replicate, cond, Option, Some, None, ℤ, pos, negsuc, neg_ℤ, refl, sym, ap, subst, ◌∙◌, arith}
-use Rattle.std.specs.Prelude.{◌==◌, ◌&&◌, codes, int_le, is_some, nat_le, nat_lt, option_map}
+use Rattle.std.proofs.Common.{◌≡◌, ℕ, ◌+◌, ◌-◌, ◌*◌, ◌<◌, ◌≤◌, ◌^◌, zero, suc, inl, inr, Bool, true, false, List, [], ◌∷◌, ◌++◌, length, replicate, cond, Option, Some, None, ℤ, pos, negsuc, neg_ℤ, refl, sym, ap, arith}
+use Rattle.std.specs.Prelude.{◌==◌, ◌&&◌, codes, int_le, nat_le, nat_lt, option_map}
 use Rattle.std.specs.List.{list_all}
 use Rattle.std.specs.Option.{option_map_or}
 use Rattle.std.specs.Str.{bytes_eq}
@@ -13,7 +13,7 @@ use Rattle.kms_model.specs.declared.objects.Kind.{Kind}
 use Rattle.kms_model.specs.declared.objects.Kind.TheVariants.{Crtc, Plane, Conn, Enc}
 use Rattle.kms_model.specs.declared.objects.Mode.{Mode}
 use Rattle.kms_model.specs.declared.scripts.Pattern.{Pattern}
-use Rattle.kms_model.specs.declared.scripts.Pattern.TheVariants.{Solid, Checker, Ramp, Pixels}
+use Rattle.kms_model.specs.declared.scripts.Pattern.TheVariants.{Checker, Pixels}
 use Rattle.kms_model.specs.Script.CommandLines.{checker_at, each_pixel_at, five_at, label_alone, mode_fields, pattern_at, pixels_at, ramp_at, solid_at}
 use Rattle.kms_model.specs.Script.Grammar.{blob_bytes, digits_of, hex, hex_at, hex_bytes, hex_pair, indexed, int, is_hex_number, negative, object, pixel_at, pixel_number}
 use Rattle.kms_model.specs.Script.WellFormed.{are_words16, has_widths, is_integer, is_mode_name, is_pattern_of, is_pixel_of, is_word16, is_word32}
@@ -230,12 +230,12 @@ mode_fit bytes m e =
     from_bind (dec_at 4294967295 f.1) _ m more (λ k kind more.
     from_bind (name_at k.1) _ m more (λ n name more.
     rw (← some_same _ m more) (and_from _ (is_mode_name n.0)
-      (and_from (is_word32 clock.0) _ (word32_fit clock.0 (dec_at_fit 4294967295 bytes clock first))
-      (and_from (are_words16 h.0 h.1 h.2 h.3 h.4) _ (five_fit clock.1 h across)
-      (and_from (are_words16 v.0 v.1 v.2 v.3 v.4) _ (five_fit h.5 v down)
-      (and_from (is_word32 r.0) _ (word32_fit r.0 (dec_at_fit 4294967295 v.5 r rate))
-      (and_from (is_word32 f.0) (is_word32 k.0) (word32_fit f.0 (dec_at_fit 4294967295 r.1 f flags)) (word32_fit k.0 (dec_at_fit 4294967295 f.1 k kind)))))))
-      (name_fit k.1 n name)))))))))
+    (and_from (is_word32 clock.0) _ (word32_fit clock.0 (dec_at_fit 4294967295 bytes clock first))
+    (and_from (are_words16 h.0 h.1 h.2 h.3 h.4) _ (five_fit clock.1 h across)
+    (and_from (are_words16 v.0 v.1 v.2 v.3 v.4) _ (five_fit h.5 v down)
+    (and_from (is_word32 r.0) _ (word32_fit r.0 (dec_at_fit 4294967295 v.5 r rate))
+    (and_from (is_word32 f.0) (is_word32 k.0) (word32_fit f.0 (dec_at_fit 4294967295 r.1 f flags)) (word32_fit k.0 (dec_at_fit 4294967295 f.1 k kind)))))))
+    (name_fit k.1 n name)))))))))
 
 -- Blobs
 

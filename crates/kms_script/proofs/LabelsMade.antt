@@ -1,22 +1,20 @@
 -- The labels that assignments make, and what names are after them.
-use Rattle.std.proofs.Common.{◌≡◌, ℕ, ◌+◌, inl, inr, suc, Bool, true, false, if◌then◌else◌, List, [], ◌∷◌, ◌++◌, length, cond, Option, Some, None, refl, sym, ap, ◌∙◌, arith}
+use Rattle.std.proofs.Common.{◌≡◌, ℕ, ◌+◌, suc, Bool, true, false, if◌then◌else◌, List, [], ◌∷◌, ◌++◌, length, cond, Option, Some, None, refl, sym, ◌∙◌, arith}
 use Rattle.std.specs.Prelude.{◌||◌, codes, option_map, ⊤}
 use Rattle.std.specs.Cmp.Lexicographic.{nat_list_eq_equiv}
-use Rattle.std.specs.List.{list_all, list_any}
+use Rattle.std.specs.List.{list_any}
 use Rattle.std.specs.Option.{option_map_or}
 use Rattle.std.specs.Str.{bytes_eq}
 use Rattle.std.proofs.lemmas.Slice.Eq.{bytes_eq-Decides}
 use Rattle.kms_model.specs.declared.objects.Kind.{Kind}
 use Rattle.kms_model.specs.declared.scripts.Assign.{Assign}
-use Rattle.kms_model.specs.declared.scripts.PropRef.{PropRef}
-use Rattle.kms_model.specs.declared.scripts.PropRef.TheVariants.{Known, Unknown}
 use Rattle.kms_model.specs.declared.scripts.Value.{Value}
 use Rattle.kms_model.specs.declared.scripts.Value.TheVariants as value
 use Rattle.kms_model.specs.Script.CommandLines.{Name, Names, place, said, made, was_made, saying, making, assign_words, property_read, value_read, assign_read, assigns_read}
 use Rattle.kms_model.specs.Script.Grammar.{int, known_property}
 use Rattle.kms_model.specs.Script.Words.{◌>>=◌, dec, is_label, strip}
 use Rattle.kms_script.specs.Overlong.{assign_label, label_and, labels_of, value_label}
-use Rattle.kms_script.proofs.Inverted.{bind_some, some_same}
+use Rattle.kms_script.proofs.SpeltAssigns.{prop_of}
 
 -- What is made
 
@@ -92,10 +90,6 @@ making_makes w names = record { was = λ v. made_makes v w names.all; twice = re
 
 nothing_makes : (names : Names) → Makes names None names
 nothing_makes names = record { was = λ v. refl; twice = or_none names.is_twice }
-
--- the property of a word, known or not
-abbrev prop_of : Names → List ℕ → Option ℕ → PropRef × Names
-prop_of names word o = option_map_or (λ id. (Known id, names)) o (Unknown (place word names), saying word names)
 
 -- the names after it
 property_makes : (names : Names) (word : List ℕ) → Makes names None (property_read names word).1

@@ -1,5 +1,5 @@
 -- The faults of a command's line.
-use Rattle.std.proofs.Common.{◌≡◌, ℕ, ◌+◌, ◌<◌, ◌≤◌, ◌⊎◌, inl, inr, Bool, true, false, List, [], ◌∷◌, length, cond, Option, Some, None, Ok, Err, refl, sym, ap, subst, ◌∙◌, arith}
+use Rattle.std.proofs.Common.{◌≡◌, ℕ, ◌+◌, ◌≤◌, ◌⊎◌, inl, inr, Bool, true, false, List, length, cond, Option, Some, None, Ok, Err, refl, sym, ap, ◌∙◌, arith}
 use Rattle.std.specs.Prelude.{◌&&◌, codes, nat_lt, option_map, Result}
 use Rattle.std.specs.Str.{bytes_eq}
 use Rattle.std.proofs.lemmas.Bool.Decides.{nat_tests}
@@ -8,8 +8,8 @@ use Rattle.kms_model.specs.declared.scripts.Command.TheVariants as command
 use Rattle.kms_model.specs.declared.scripts.Why.{Why}
 use Rattle.kms_model.specs.declared.scripts.Why.TheVariants.{Bytes, Cut, Form, Label, Limit, Unbuilt}
 use Rattle.kms_model.specs.Script.CommandLines.{Names, addfb_read, assigns_read, atomic_read, blob_read, buffer_read, command_read, is_over, label_alone, label_read, line_read, making_read, mode_read, mode_fields, naming_read, or_form, pattern_at, thing_read, unless, unmade, words_in}
-use Rattle.kms_model.specs.Script.Grammar.{blob_bytes, field_words, format_at, hex, hex_at}
-use Rattle.kms_model.specs.Script.Words.{dec, dec_at, end_at, field_at, from, label_at, until}
+use Rattle.kms_model.specs.Script.Grammar.{blob_bytes, field_words, format_at, hex_at}
+use Rattle.kms_model.specs.Script.Words.{dec_at, end_at, field_at, from, label_at, until}
 use Rattle.kms_model.specs.Script.WellFormed.{IsFitCommand}
 use Rattle.kms_script.specs.Fitting.{HasFilled}
 use Rattle.kms_script.specs.Lines.{GivesLine, checked, line_of}
@@ -17,8 +17,8 @@ use Rattle.kms_script.specs.Overlong.{blanks, has_many}
 use Rattle.kms_script.specs.Stated.{GivesCommand, line_error}
 use Rattle.kms_script.specs.declared.stop.Stop.{Stop}
 use Rattle.kms_script.specs.declared.stop.Stop.TheVariants as stops
-use Rattle.kms_script.proofs.Inverted.{bind_some, choice_some, from_bind, map_some, some_same}
-use Rattle.kms_script.proofs.ManyFields.{assigns_count, field_blanks, words_blanks}
+use Rattle.kms_script.proofs.Inverted.{choice_some, from_bind, map_some, some_same}
+use Rattle.kms_script.proofs.ManyFields.{assigns_count, request_blanks, words_blanks}
 use Rattle.kms_script.proofs.SpeltWords.{nothing_read}
 
 -- Commands that are no requests
@@ -96,28 +96,20 @@ wait_few names bytes r e = let m = map_some _ (end_at bytes) r e in rw (← m.ma
 
 -- a request with no more fields than 256 assignments take
 atomic_few : (names : Names) (bytes : List ℕ) (r : Command × Names) → has_many bytes ≡ false → atomic_read names bytes ≡ Some r → IsFew r
-unfolding atomic_read dec_at
+unfolding atomic_read
 atomic_few names bytes r few e =
     from_bind (hex_at bytes) _ r e (λ flags f more.
     from_bind (dec_at 18446744073709551615 flags.1) _ r more (λ user u more.
     from_bind (field_words user.1) _ r more (λ words w more.
     from_bind (assigns_read names words) _ r more (λ sets s more.
-    let flag = bind_some (field_at bytes) _ flags f in
-    let flag_word = bind_some (hex flag.value.0) (λ n. Some (n, flag.value.1)) flags flag.then in
-    let flag_rest : flag.value.1 ≡ flags.1 = ap (λ (p : ℕ × List ℕ). p.1) (some_same _ flags flag_word.then) in
-    let first : blanks bytes ≡ 1 + blanks flags.1 = field_blanks bytes flag.value flag.given ∙ rw flag_rest refl in
-    let given = bind_some (field_at flags.1) _ user u in
-    let given_word = bind_some (dec 18446744073709551615 given.value.0) (λ n. Some (n, given.value.1)) user given.then in
-    let given_rest : given.value.1 ≡ user.1 = ap (λ (p : ℕ × List ℕ). p.1) (some_same _ user given_word.then) in
-    let second : blanks flags.1 ≡ 1 + blanks user.1 = field_blanks flags.1 given.value given.given ∙ rw given_rest refl in
     let count : length sets.0 ≡ blanks user.1 = assigns_count words names sets s ∙ words_blanks user.1 words w in
-    rw (← some_same _ r more) (test (length sets.0) (within (length sets.0) first second count))))))
+    rw (← some_same _ r more) (test (length sets.0) (within (length sets.0) (request_blanks bytes flags user f u) count))))))
   where
     below : (n : ℕ) → nat_lt 258 n ≡ false → n ≤ 258
     below n lt = grind (arith, nat_tests)
 
-    within : (n : ℕ) {a b : ℕ} → blanks bytes ≡ 1 + a → a ≡ 1 + b → n ≡ b → n ≤ 256
-    within n first second count = omega (arith, below (blanks bytes) few, first, second, count)
+    within : (n : ℕ) {b : ℕ} → blanks bytes ≡ 2 + b → n ≡ b → n ≤ 256
+    within n fields count = omega (arith, below (blanks bytes) few, fields, count)
 
     test : (n : ℕ) → n ≤ 256 → nat_lt 256 n ≡ false
     test n le = grind (arith, nat_tests)

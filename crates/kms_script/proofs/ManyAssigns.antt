@@ -1,6 +1,6 @@
 -- The fault of an atomic line with more assignments than a request may have, by its labels.
-use Rattle.std.proofs.Common.{◌≡◌, ℕ, ◌+◌, ◌<◌, ◌≤◌, suc, Bool, true, false, not, List, [], ◌∷◌, ◌++◌, length, map, cond, append-nil, append_assoc, Option, Some, None, Ok, Err, refl, sym, ap, subst, ◌∙◌, arith}
-use Rattle.std.specs.Prelude.{◌||◌, codes, filter, if◌then◌else◌, nat_lt, option_map, Result, ⊤}
+use Rattle.std.proofs.Common.{◌≡◌, ℕ, ◌+◌, ◌<◌, ◌≤◌, Bool, true, false, not, List, [], ◌∷◌, ◌++◌, length, map, cond, append-nil, append_assoc, Option, Some, None, Err, refl, sym, ap, subst, ◌∙◌, arith}
+use Rattle.std.specs.Prelude.{codes, if◌then◌else◌, nat_lt, option_map, Result, ⊤}
 use Rattle.std.specs.Bool.{Decides, nat_eq}
 use Rattle.std.specs.List.{AllByRecursion, IsDistinct, list_any}
 use Rattle.std.specs.Option.{option_map_or}
@@ -12,16 +12,16 @@ use Rattle.kms_model.specs.declared.scripts.Command.{Command}
 use Rattle.kms_model.specs.declared.scripts.Command.TheVariants as command
 use Rattle.kms_model.specs.declared.scripts.Why.{Why}
 use Rattle.kms_model.specs.declared.scripts.Why.TheVariants.{Form, Label, Limit}
-use Rattle.kms_model.specs.Script.CommandLines.{Name, Names, Read, assign_words, assigns_read, atomic_read, is_over, or_form, unless, was_made, words_in}
-use Rattle.kms_model.specs.Script.Grammar.{field_words, hex, hex_at, int}
+use Rattle.kms_model.specs.Script.CommandLines.{Name, Names, Read, assign_words, assigns_read, atomic_read, is_over, was_made, words_in}
+use Rattle.kms_model.specs.Script.Grammar.{field_words, hex_at, int}
 use Rattle.kms_model.specs.Script.Words.{◌>>=◌, dec, dec_at, field_at, is_label, strip}
 use Rattle.kms_script.specs.Lines.{checked}
 use Rattle.kms_script.specs.Overlong.{AddsLabels, assign_label, blanks, has_many, label_and, label_word, labels_at, labels_of, made_words, packed_all, packed_alone, value_label}
 use Rattle.kms_script.proofs.Fields.{first_word, no_word, pair}
-use Rattle.kms_script.proofs.Inverted.{bind_some, if_some, some_same}
-use Rattle.kms_script.proofs.LabelsMade.{AllAgree, Holds, assigns_agree, twice_in}
-use Rattle.kms_script.proofs.ManyFields.{field_blanks, words_blanks}
-use Rattle.kms_script.proofs.Repeated.{OnceOrTwice, once_or_twice}
+use Rattle.kms_script.proofs.Inverted.{bind_some, some_same}
+use Rattle.kms_script.proofs.LabelsMade.{AllAgree, assigns_agree, twice_in}
+use Rattle.kms_script.proofs.ManyFields.{request_blanks, words_blanks}
+use Rattle.kms_script.proofs.Repeated.{OnceOrTwice, numbers_append, once_or_twice}
 
 -- The labels of fields, one field after the other
 
@@ -80,10 +80,6 @@ one_number : (l : Option (List ℕ)) → packed_all (label_and l []) ≡ packed_
 unfolding is_label
 one_number None = refl
 one_number (Some label) = append-nil (packed_alone label)
-
-numbers_append : (vs ws : List (List ℕ)) → packed_all (vs ++ ws) ≡ packed_all vs ++ packed_all ws
-numbers_append [] ws = refl
-numbers_append (v ∷ vs) ws = ap (λ (ns : List ℕ). packed_alone v ++ ns) (numbers_append vs ws) ∙ sym (append_assoc (packed_alone v) (packed_all vs) (packed_all ws))
 
 label_more : (done ls : List (List ℕ)) (l : Option (List ℕ)) → done ++ label_and l ls ≡ (done ++ label_and l []) ++ ls
 label_more done ls None = rw (append-nil done) refl
@@ -248,26 +244,18 @@ over_step false over c after t o = rw (t, o) refl
 pub many_fault : (names : Names) (bytes : List ℕ) (flags user : ℕ × List ℕ) (labels : List (List ℕ)) → names.is_twice ≡ false → IsDistinct bytes_eq (words_in names) → has_many bytes ≡ true
     → hex_at bytes ≡ Some flags → dec_at 18446744073709551615 flags.1 ≡ Some user → labels_at user.1 ≡ Some labels
     → checked (atomic_read names bytes) ≡ Err (why_of (twice_in (made_words names.all) labels))
-unfolding atomic_read dec_at
+unfolding atomic_read
 many_fault names bytes flags user labels once d many f u e =
     let ws = bind_some (field_words user.1) labels_of labels e in
     let agree : AllAgree (assigns_read names ws.value) names (made_words names.all) (length ws.value) (Some labels) = subst (λ (o : Option (List (List ℕ))). AllAgree (assigns_read names ws.value) names (made_words names.all) (length ws.value) o) ws.then (assigns_agree ws.value names (made_words names.all) (holds_made names.all d)) in
-    let flag = bind_some (field_at bytes) _ flags f in
-    let flag_word = bind_some (hex flag.value.0) (λ n. Some (n, flag.value.1)) flags flag.then in
-    let flag_rest : flag.value.1 ≡ flags.1 = ap (λ (p : ℕ × List ℕ). p.1) (some_same _ flags flag_word.then) in
-    let first : blanks bytes ≡ 1 + blanks flags.1 = field_blanks bytes flag.value flag.given ∙ rw flag_rest refl in
-    let given = bind_some (field_at flags.1) _ user u in
-    let given_word = bind_some (dec 18446744073709551615 given.value.0) (λ n. Some (n, given.value.1)) user given.then in
-    let given_rest : given.value.1 ≡ user.1 = ap (λ (p : ℕ × List ℕ). p.1) (some_same _ user given_word.then) in
-    let second : blanks flags.1 ≡ 1 + blanks user.1 = field_blanks flags.1 given.value given.given ∙ rw given_rest refl in
     let count : length ws.value ≡ blanks user.1 = words_blanks user.1 ws.value ws.given in
-    rw (f, u, ws.given) (step (assigns_read names ws.value) (length ws.value) (over (length ws.value) first second count) agree)
+    rw (f, u, ws.given) (step (assigns_read names ws.value) (length ws.value) (over (length ws.value) (request_blanks bytes flags user f u) count) agree)
   where
     above : (n : ℕ) → nat_lt 258 n ≡ true → 258 < n
     above n lt = grind (arith, nat_tests)
 
-    over : (n : ℕ) → blanks bytes ≡ 1 + blanks flags.1 → blanks flags.1 ≡ 1 + blanks user.1 → n ≡ blanks user.1 → 256 < n
-    over n first second count = omega (arith, above (blanks bytes) many, first, second, count)
+    over : (n : ℕ) → blanks bytes ≡ 2 + blanks user.1 → n ≡ blanks user.1 → 256 < n
+    over n fields count = omega (arith, above (blanks bytes) many, fields, count)
 
     test : (n m : ℕ) → m ≡ n → 256 < n → nat_lt 256 m ≡ true
     test n m same lt = grind (arith, nat_tests)

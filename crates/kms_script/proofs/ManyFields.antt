@@ -1,11 +1,11 @@
 -- How many blanks a line has, and how many fields.
-use Rattle.std.proofs.Common.{◌≡◌, ℕ, ◌+◌, ◌≤◌, zero, suc, Bool, true, false, List, [], ◌∷◌, length, cond, Option, Some, None, refl, sym, ap, ◌∙◌, arith}
+use Rattle.std.proofs.Common.{◌≡◌, ℕ, ◌+◌, suc, Bool, true, false, List, [], ◌∷◌, length, cond, Some, refl, sym, ap, ◌∙◌, arith}
 use Rattle.std.specs.Prelude.{◌==◌}
 use Rattle.std.specs.List.{onto_first}
 use Rattle.kms_model.specs.declared.scripts.Assign.{Assign}
 use Rattle.kms_model.specs.Script.CommandLines.{Names, assign_read, assigns_read}
-use Rattle.kms_model.specs.Script.Grammar.{field_words, parted}
-use Rattle.kms_model.specs.Script.Words.{◌>>=◌, until, from, field_at}
+use Rattle.kms_model.specs.Script.Grammar.{field_words, hex, hex_at, parted}
+use Rattle.kms_model.specs.Script.Words.{until, from, dec, dec_at, field_at}
 use Rattle.kms_script.specs.Overlong.{blanks}
 use Rattle.kms_script.proofs.Inverted.{bind_some, if_some, some_same}
 use Rattle.kms_script.proofs.Parts.{later_parts, first_part}
@@ -82,3 +82,17 @@ assigns_count (w ∷ ws) names r e =
     let a = bind_some (assign_read names w) _ r e in
     let more = bind_some (assigns_read a.value.1 ws) _ r a.then in
     rw (← some_same _ r more.then) (ap suc (assigns_count ws a.value.1 more.value more.given))
+
+-- a blank before the flags, and one before the user data
+pub request_blanks : (bytes : List ℕ) (flags user : ℕ × List ℕ) → hex_at bytes ≡ Some flags → dec_at 18446744073709551615 flags.1 ≡ Some user → blanks bytes ≡ 2 + blanks user.1
+unfolding dec_at
+request_blanks bytes flags user f u =
+    let first = bind_some (field_at bytes) _ flags f in
+    let flag = bind_some (hex first.value.0) (λ n. Some (n, first.value.1)) flags first.then in
+    let behind : first.value.1 ≡ flags.1 = ap (λ (p : ℕ × List ℕ). p.1) (some_same _ flags flag.then) in
+    let one : blanks bytes ≡ 1 + blanks flags.1 = field_blanks bytes first.value first.given ∙ rw behind refl in
+    let second = bind_some (field_at flags.1) _ user u in
+    let number = bind_some (dec 18446744073709551615 second.value.0) (λ n. Some (n, second.value.1)) user second.then in
+    let rest : second.value.1 ≡ user.1 = ap (λ (p : ℕ × List ℕ). p.1) (some_same _ user number.then) in
+    let two : blanks flags.1 ≡ 1 + blanks user.1 = field_blanks flags.1 second.value second.given ∙ rw rest refl in
+    omega (arith, one, two)

@@ -1,6 +1,6 @@
 -- Words with numbers, as names in order of first occurrence.
-use Rattle.std.proofs.Common.{◌≡◌, ℕ, ◌+◌, ◌<◌, ◌≤◌, ◌^◌, Bool, true, false, zero, suc, List, [], ◌∷◌, ◌++◌, map, length, take, drop, length-take, cond, not, Option, Some, None, refl, sym, ap, subst, ◌∙◌, arith}
-use Rattle.std.specs.Prelude.{◌||◌, ◌==◌, option_map, slice_get}
+use Rattle.std.proofs.Common.{◌≡◌, ℕ, ◌+◌, ◌<◌, ◌≤◌, ◌^◌, Bool, true, false, zero, suc, List, [], ◌∷◌, ◌++◌, map, length, take, length-take, cond, not, Option, Some, None, refl, sym, ap, subst, ◌∙◌, arith}
+use Rattle.std.specs.Prelude.{◌||◌, option_map, slice_get}
 use Rattle.std.specs.Cmp.Lexicographic.{nat_list_eq_equiv}
 use Rattle.std.specs.List.{AllByRecursion, IsDistinct, position_or_len}
 use Rattle.std.specs.Ordering.{is_eq, nat_cmp}
@@ -8,9 +8,9 @@ use Rattle.std.specs.Str.{bytes_eq}
 use Rattle.kms_model.specs.Script.CommandLines.{Name, Names, place, said, made, was_made, making, saying, unmade, words_in}
 use Rattle.std.proofs.lemmas.Bool.Decides.{nat_tests}
 use Rattle.std.proofs.lemmas.List.{length-map}
-use Rattle.kms_script.specs.Named.{AreMade, HeldNames, held, is_in_numbers, kept, marked, HasRoomForNames, NamesGrow}
+use Rattle.kms_script.specs.Named.{held, is_in_numbers, kept, marked, HasRoomForNames, NamesGrow}
 use Rattle.kms_script.specs.Numbered.{place_among}
-use Rattle.kms_script.proofs.WordsNumbered.{differ_front, number_last}
+use Rattle.kms_script.proofs.WordsNumbered.{absent_head}
 
 abbrev is : List ℕ → Name → Bool
 is w n = bytes_eq w n.word
@@ -40,11 +40,6 @@ some_step false (Some m) n p e ih = let same : m + 1 ≡ n = cc in omega (arith,
 pub place_found : (f : ℕ → Bool) (w : List ℕ) (k : ℕ) (ws : List (List ℕ)) (n : ℕ) → place_among w ws ≡ Some n → position_or_len (is w) (marked f k ws) ≡ n
 place_found f w k [] n e = absurd cc
 place_found f w k (x ∷ ws) n e = some_step (bytes_eq w x) (place_among w ws) n _ e (λ m is. place_found f w (k + 1) ws m is)
-
-absent_head : (t : Bool) (o : Option ℕ) → cond t (Some 0) (option_map (λ n. n + 1) o) ≡ None → (t ≡ false) × (o ≡ None)
-absent_head true o e = absurd cc
-absent_head false None e = (refl, refl)
-absent_head false (Some n) e = absurd cc
 
 none_step : (t : Bool) (p len : ℕ) → t ≡ false → p ≡ len → cond (not t) (1 + p) 0 ≡ suc len
 none_step true p len e same = absurd cc

@@ -1,8 +1,8 @@
 -- Numbers in order, and labels as numbers: whether one of them comes twice.
-use Rattle.std.proofs.Common.{◌≡◌, ℕ, ◌+◌, ◌*◌, ◌<◌, ◌≤◌, ◌⊎◌, inl, inr, zero, suc, Bool, true, false, not, List, [], ◌∷◌, ◌++◌, length, cond, append_assoc, append-nil, refl, sym, ap, subst, ◌∙◌, arith}
-use Rattle.std.specs.Prelude.{◌||◌, ◌&&◌, ◌==◌, nat_le, nat_lt, get_or}
+use Rattle.std.proofs.Common.{◌≡◌, ℕ, ◌+◌, ◌*◌, ◌<◌, ◌≤◌, suc, Bool, true, false, List, [], ◌∷◌, ◌++◌, length, cond, append_assoc, append-nil, refl, sym, ap, subst, ◌∙◌, arith}
+use Rattle.std.specs.Prelude.{◌||◌, ◌&&◌, ◌==◌, nat_le}
 use Rattle.std.specs.Bool.{Decides, nat_eq}
-use Rattle.std.specs.Cmp.{IsEquivalence, nat_eq_equiv}
+use Rattle.std.specs.Cmp.{nat_eq_equiv}
 use Rattle.std.specs.Cmp.Lexicographic.{nat_list_eq_equiv}
 use Rattle.std.specs.List.{AllByRecursion, IsDistinct, list_all, list_any}
 use Rattle.std.specs.List.Sorted.{IsPermutation, IsSorted}
@@ -13,7 +13,7 @@ use Rattle.std.proofs.lemmas.Bool.Decides.{nat_tests}
 use Rattle.std.proofs.lemmas.List.Sorted.{IsPermutation-sym}
 use Rattle.std.proofs.lemmas.Map.Keys.{IsDistinct-IsPermutation}
 use Rattle.std.proofs.lemmas.Slice.Eq.{bytes_eq-Decides}
-use Rattle.kms_model.specs.Script.Words.{between, is_digit, is_label, is_label_rest, is_letter}
+use Rattle.kms_model.specs.Script.Words.{is_label, is_label_rest, is_letter}
 use Rattle.kms_script.specs.Overlong.{begins_with, packed, packed_all, packed_alone, are_rising}
 use Rattle.kms_script.proofs.LabelsMade.{twice_in}
 
@@ -203,7 +203,7 @@ clash l [] rest label any d = absurd (none any)
     none e = cc
 clash l (w ∷ ws) rest label any d = clash_step (bytes_eq l w) l w ws rest refl label (λ more. clash l ws rest label more) any d
 
-numbers_append : (vs ws : List (List ℕ)) → packed_all (vs ++ ws) ≡ packed_all vs ++ packed_all ws
+pub numbers_append : (vs ws : List (List ℕ)) → packed_all (vs ++ ws) ≡ packed_all vs ++ packed_all ws
 numbers_append [] ws = refl
 numbers_append (v ∷ vs) ws = ap (λ (ns : List ℕ). packed_alone v ++ ns) (numbers_append vs ws) ∙ sym (append_assoc (packed_alone v) (packed_all vs) (packed_all ws))
 

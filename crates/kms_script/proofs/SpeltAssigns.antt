@@ -26,7 +26,7 @@ pub record Named {A : Type 0} (names : Names) (all : List (List ℕ)) (written r
   pub same : written ≡ read
 
 -- the property of a word, known or not
-abbrev prop_of : Names → List ℕ → Option ℕ → PropRef × Names
+abbrev pub prop_of : Names → List ℕ → Option ℕ → PropRef × Names
 prop_of names word o = option_map_or (λ id. (Known id, names)) o (Unknown (place word names), saying word names)
 
 -- by whether a property has the name

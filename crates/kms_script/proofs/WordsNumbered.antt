@@ -1,5 +1,5 @@
 -- Words with numbers, beside a map that finds them.
-use Rattle.std.proofs.Common.{◌≡◌, ℕ, ◌+◌, Bool, true, false, suc, List, [], ◌∷◌, ◌++◌, length, cond, Option, Some, None, refl, sym, ap, subst, ◌∙◌, arith}
+use Rattle.std.proofs.Common.{◌≡◌, ℕ, ◌+◌, Bool, true, false, suc, List, [], ◌∷◌, ◌++◌, length, cond, Option, Some, None, refl, sym, subst, ◌∙◌, arith}
 use Rattle.std.specs.Prelude.{option_map}
 use Rattle.std.specs.BTreeMap as tree
 use Rattle.std.specs.BTreeMap.{BTreeMap}
@@ -41,7 +41,7 @@ found_after bs m n w h cs =
 last_alone : (w v : List ℕ) → place_among v (w ∷ []) ≡ cond (bytes_eq w v) (Some 0) None
 last_alone w v = rw (nat_list_eq_equiv.symm v w) refl
 
-absent_head : (t : Bool) (o : Option ℕ) → cond t (Some 0) (option_map (λ n. n + 1) o) ≡ None → (t ≡ false) × (o ≡ None)
+pub absent_head : (t : Bool) (o : Option ℕ) → cond t (Some 0) (option_map (λ n. n + 1) o) ≡ None → (t ≡ false) × (o ≡ None)
 absent_head true o e = absurd cc
 absent_head false None e = (refl, refl)
 absent_head false (Some n) e = absurd cc

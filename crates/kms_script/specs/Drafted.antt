@@ -1,7 +1,5 @@
 -- What the reader has read so far, as the definitions see it.
 use Rattle.std.specs.Prelude.{◌≡◌, ◌≤◌, ◌+◌, ◌*◌, ℕ, List, [], length, Result, Ok, Err, ⊤, false, Bool, ◌||◌, nat_le, nat_lt, true}
-use Rattle.kms_model.specs.declared.scripts.Command.{Command}
-use Rattle.kms_model.specs.Script.CommandLines.{is_over}
 use Rattle.kms_model.specs.Script.InputLines.{Fault, Row}
 use Rattle.kms_model.specs.Script.WholeInput.{Draft, Lined, clients_in}
 use Rattle.kms_script.specs.Fitting.{IsFitDevice, HasFitClients}

@@ -1,5 +1,5 @@
 -- What a reader of one line answers, with the names before and after it.
-use Rattle.std.specs.Prelude.{◌≡◌, Option, Result, Ok, Err, List, ℕ, ⊤}
+use Rattle.std.specs.Prelude.{◌≡◌, Result, Ok, Err, List, ℕ, ⊤}
 use Rattle.kms_model.specs.declared.scripts.Command.{Command}
 use Rattle.kms_model.specs.declared.scripts.Why.{Why}
 use Rattle.kms_model.specs.declared.scripts.Why.TheVariants.{Label, Limit}

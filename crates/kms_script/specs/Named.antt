@@ -1,5 +1,5 @@
 -- The names that the reader keeps, as the definitions see them, and how many there may be.
-use Rattle.std.specs.Prelude.{◌≡◌, ◌<◌, ◌≤◌, ◌+◌, ◌^◌, ◌==◌, Bool, true, false, ℕ, List, [], ◌∷◌, Option, option_map, length, take}
+use Rattle.std.specs.Prelude.{◌≡◌, ◌<◌, ◌≤◌, ◌+◌, ◌^◌, Bool, true, ℕ, List, [], ◌∷◌, Option, option_map, length, take}
 use Rattle.std.specs.List.{list_any}
 use Rattle.std.specs.Ordering.{is_eq, nat_cmp}
 use Rattle.kms_model.specs.declared.scripts.Assign.{Assign}

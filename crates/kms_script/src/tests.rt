@@ -2,8 +2,8 @@
 ghost use Rattle.std.specs.Prelude.{◌<◌, length};
 
 use crate::{
-    NameIndex,
-    LineError, ParseError, Why, is_label, parse, read_command, read_dec, read_int, read_topology,
+    LineError, NameIndex, ParseError, Why, is_label, parse, read_command, read_dec, read_int,
+    read_topology,
 };
 use kms_model::{Script, Seq, Topology};
 use std::alloc::{AllocError, Global};
@@ -269,8 +269,16 @@ fn a_request_has_256_assignments(rt: HostRuntime) -> Result<(), Fail> {
         (257, b"\n", Some((10, Why::Limit))),
         (257, b" crtc0.OUT_FENCE_PTR=+m\n", Some((10, Why::Label))),
         (257, b" crtc0.OUT_FENCE_PTR=+m+\n", Some((10, Why::Form))),
-        (257, b" crtc0.x=+z crtc1.x=+y crtc0.x=@z\n", Some((10, Why::Limit))),
-        (257, b" crtc0.x=+z crtc1.x=+y crtc0.x=+z\n", Some((10, Why::Label))),
+        (
+            257,
+            b" crtc0.x=+z crtc1.x=+y crtc0.x=@z\n",
+            Some((10, Why::Limit)),
+        ),
+        (
+            257,
+            b" crtc0.x=+z crtc1.x=+y crtc0.x=+z\n",
+            Some((10, Why::Label)),
+        ),
     ] {
         let line = repeated(alloc, front.as_slice(), b" crtc0.ACTIVE=1", count)?;
         let text = repeated(alloc, line.as_slice(), last, 1)?;

@@ -23,12 +23,11 @@ ghost use Rattle.kms_things.specs.Present.{IsPresent};
 
 use crate::requests::{changed, check, is_test};
 use crate::store::WorldStore;
-use kms_request::spans;
 use kms_model::{
     Command, Duplicates, Image, Look, Mask, NoMemory, Picture, PlaneState, Reply, Request, Topology,
 };
 use kms_picture::picture;
-use kms_request::{Looker, named_in};
+use kms_request::{Looker, named_in, spans};
 use kms_state::Duplicating;
 use kms_things::{start_states, swapped};
 use std::alloc::Global;
@@ -103,11 +102,7 @@ impl Serial {
 
     /// Executes a client's atomic request. Where it is committed, the set of CRTCs that it names comes with the answer:
     /// bit i stands for CRTC index i; else that set is empty. Want of memory leaves the device as it was.
-    pub fn commit(
-        &mut self,
-        client: u32,
-        request: &Request,
-    ) -> Result<(Reply, u32), NoMemory>
+    pub fn commit(&mut self, client: u32, request: &Request) -> Result<(Reply, u32), NoMemory>
         requires { HasRoom self.old.world }
         ensures executed { IfOk result (λ x.
             execute self.old.topology self.old.world client (command.Atomic request.now)

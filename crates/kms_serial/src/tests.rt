@@ -5,14 +5,15 @@ ghost use Rattle.kms_model.specs.Script.WellFormed.{IsFitCommand};
 
 use crate::Serial;
 use kms_model::properties::{
-    ACTIVE, ALPHA, CRTC_ID, CRTC_W, CRTC_X, FB_ID, IN_FENCE_FD, MODE_ID, OUT_FENCE_PTR, SRC_W, SRC_X,
-    TYPE,
+    ACTIVE, ALPHA, CRTC_ID, CRTC_W, CRTC_X, FB_ID, IN_FENCE_FD, MODE_ID, OUT_FENCE_PTR, SRC_W,
+    SRC_X, TYPE,
 };
 use kms_model::{
     Assign, Command, Denied, Format, Kind, Mask, NoMemory, Pattern, Refusal, Reply, Topology, Value,
 };
-use kms_props::AtomicFlags;
-use kms_samples::{cloned, light, on_crtc, on_plane, pair, request, set, single, tiny};
+use kms_samples::{
+    ALLOW_MODESET, cloned, light, on_crtc, on_plane, pair, request, set, single, tiny,
+};
 use std::alloc::Global;
 use std::process::Abort;
 use std::test::Fail;
@@ -29,9 +30,6 @@ const NEW: u32 = 3;
 
 /// The label of an out-fence.
 const OUT: u32 = 4;
-
-/// `DRM_MODE_ATOMIC_ALLOW_MODESET`, without which a request may not change a mode.
-const ALLOW_MODESET: u32 = AtomicFlags::ALLOW_MODESET.bits();
 
 /// What a device with room answers to a client's command.
 fn ask(
@@ -111,12 +109,7 @@ struct Case<'a> {
     want: Reply,
 }
 
-fn refused<'a>(
-    flags: u32,
-    first: &'a [Assign],
-    more: &'a [Assign],
-    refusal: Refusal,
-) -> Case<'a> {
+fn refused<'a>(flags: u32, first: &'a [Assign], more: &'a [Assign], refusal: Refusal) -> Case<'a> {
     Case {
         flags,
         first,
@@ -197,12 +190,22 @@ fn a_request_is_refused_by_the_state_after_it(rt: HostRuntime) -> Result<(), Fai
     let beyond = [on_plane(SRC_W, Value::Num(65537))];
     let far = [on_plane(CRTC_X, Value::Num(2147483647))];
     let cases = [
-        refused(ALLOW_MODESET, &all[3..4], &[], Refusal::FRAMEBUFFER_XOR_CRTC),
+        refused(
+            ALLOW_MODESET,
+            &all[3..4],
+            &[],
+            Refusal::FRAMEBUFFER_XOR_CRTC,
+        ),
         refused(ALLOW_MODESET, &all[..1], &[], Refusal::ACTIVE_WITHOUT_MODE),
         refused(ALLOW_MODESET, &all[1..2], &[], Refusal::MODE_XOR_CONNECTOR),
         refused(ALLOW_MODESET, &all[3..], &[], Refusal::CRTC_NOT_ENABLED),
         refused(ALLOW_MODESET, &all, &scaled, Refusal::SCALED),
-        refused(ALLOW_MODESET, &all, &beyond, Refusal::SOURCE_OUTSIDE_FRAMEBUFFER),
+        refused(
+            ALLOW_MODESET,
+            &all,
+            &beyond,
+            Refusal::SOURCE_OUTSIDE_FRAMEBUFFER,
+        ),
         refused(ALLOW_MODESET, &all, &far, Refusal::DESTINATION_TOO_FAR),
         refused(0, &all, &[], Refusal::MODESET_NOT_ALLOWED),
         committed(ALLOW_MODESET, &all, 0),
@@ -241,7 +244,12 @@ fn a_request_is_refused_by_its_routes(rt: HostRuntime) -> Result<(), Fail> {
     let hop = [on_plane(CRTC_ID, Value::Crtc(1))];
     let routes = [
         refused(ALLOW_MODESET, &away, &[], Refusal::CRTC_NOT_POSSIBLE),
-        refused(ALLOW_MODESET, &plugged, &[], Refusal::CONNECTOR_NOT_POSSIBLE),
+        refused(
+            ALLOW_MODESET,
+            &plugged,
+            &[],
+            Refusal::CONNECTOR_NOT_POSSIBLE,
+        ),
         committed(ALLOW_MODESET, &all, 0),
         refused(ALLOW_MODESET, &hop, &[], Refusal::SWITCHES_CRTC),
     ];
@@ -283,9 +291,18 @@ fn commands_of_other_clients_are_denied(rt: HostRuntime) -> Result<(), Fail> {
     };
     let commands = [
         (foreign, Reply::Denied(Denied::NOT_FOUND.0)),
-        (Command::CloseFb { label: FB }, Reply::Denied(Denied::NOT_FOUND.0)),
-        (Command::Destroy { label: MODE }, Reply::Denied(Denied::NOT_OWNER.0)),
-        (Command::Signal { label: MODE }, Reply::Denied(Denied::NOT_SIGNALLABLE.0)),
+        (
+            Command::CloseFb { label: FB },
+            Reply::Denied(Denied::NOT_FOUND.0),
+        ),
+        (
+            Command::Destroy { label: MODE },
+            Reply::Denied(Denied::NOT_OWNER.0),
+        ),
+        (
+            Command::Signal { label: MODE },
+            Reply::Denied(Denied::NOT_SIGNALLABLE.0),
+        ),
         (flat, Reply::Denied(Denied::INVALID_SIZE.0)),
     ];
     assert_replies(&rt, a, &mut device, 2, &commands)?;
@@ -349,7 +366,10 @@ fn a_plane_takes_one_fence_and_an_out_fence_is_not_signalled(rt: HostRuntime) ->
     assert_answers(&rt, a, &mut device, &cases)?;
     let signals = [
         (Command::Signal { label: NEW }, Reply::Done),
-        (Command::Signal { label: OUT }, Reply::Denied(Denied::NOT_SIGNALLABLE.0)),
+        (
+            Command::Signal { label: OUT },
+            Reply::Denied(Denied::NOT_SIGNALLABLE.0),
+        ),
     ];
     assert_replies(&rt, a, &mut device, 2, &signals)?;
     Ok(())

@@ -53,7 +53,11 @@ impl Model for LockTable {
 
     ghost Value = { Table };
 
-    ghost view = { λ s. record { holders = s.holders; contexts = s.contexts.items; drawn = s.drawn } };
+    ghost view = { λ s. record {
+      holders = s.holders;
+      contexts = s.contexts.items;
+      drawn = s.drawn;
+    } };
 
     ghost invariant = { λ s. AreOfTable s.contexts.items s.drawn };
 }

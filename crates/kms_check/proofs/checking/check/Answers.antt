@@ -10,9 +10,7 @@ use Rattle.kms_model.specs.declared.worlds.World.{World}
 use Rattle.kms_model.specs.Request.Lookups.{look_up}
 use Rattle.kms_model.specs.Device.Objects.{count_of}
 use Rattle.kms_model.specs.Request.Touched.{named_set, touched_set}
-use Rattle.kms_model.proofs.LateLemmas.{StandAt}
 use Rattle.kms_model.proofs.TouchedLemmas.{after}
-use Rattle.kms_props.specs.Flags.{bits_of}
 use Rattle.kms_request.specs.Answers.{refusal_number}
 use Rattle.kms_model.specs.Request.Deciding.{AreOfSoundWorld, IsAskedFor, IsOfRequest}
 use Rattle.kms_check.specs.Applying.{IsApplicable, SetsAll}

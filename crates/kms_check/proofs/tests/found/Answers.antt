@@ -7,5 +7,5 @@ use Rattle.kms_check.proofs.tests.found.Goals as goal
 
 pub returns : goal.returns
 returns c = λ lit label.
-    let same : c.from_vec.result ≡ map seen things = c.from_vec.ensures ∙ c.in_ok-from_array.ensures.items ∙ rw (c.row.ensures, c.row-2.ensures, c.row-3.ensures) refl in
+    let same : c.from_vec.result ≡ map seen things = c.from_vec.ensures ∙ c.in_ok-from_array.ensures.items ∙ rw (c.row.ensures, c.tiny.ensures, c.row-2.ensures, c.row-3.ensures, c.tiny-2.ensures) refl in
     ap (λ found. look_in found label) same ∙ found_in lit label

@@ -1,4 +1,4 @@
-use Rattle.std.proofs.Common.{◌≡◌, ◌≢◌, ◌≤◌, ◌<◌, ◌+◌, ◌-◌, ℕ, arith}
+use Rattle.std.proofs.Common.{◌≡◌, ◌≢◌, ◌≤◌, ◌<◌, ◌-◌, ℕ, arith}
 use Rattle.kms_model.specs.Device.Objects.{first_id, most_of, object_id}
 use Rattle.kms_request.proofs.GroupLemmas.{only-there, only-absent}
 use Rattle.kms_request.proofs.groups.only_of.Goals as goal

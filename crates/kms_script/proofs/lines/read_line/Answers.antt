@@ -1,7 +1,7 @@
-use Rattle.std.proofs.Common.{◌≡◌, Bool, true, false, Some, sym, ◌∙◌, rules}
+use Rattle.std.proofs.Common.{◌≡◌, true, false, Some, ◌∙◌, rules}
 use Rattle.std.specs.Prelude.{◌&&◌, codes}
 use Rattle.std.specs.Str.{bytes_eq}
-use Rattle.kms_model.specs.Script.CommandLines.{atomic_read, command_read}
+use Rattle.kms_model.specs.Script.CommandLines.{command_read}
 use Rattle.kms_model.specs.Script.Words.{from, until}
 use Rattle.kms_script.specs.Fitting.{HasFilled}
 use Rattle.kms_script.specs.Overlong.{has_many}

@@ -1,6 +1,4 @@
-use Rattle.std.proofs.Common.{◌≡◌, ◌++◌, ℕ, List, [], Bool, true, false, not, Err, ap, refl, sym, subst, ◌∙◌, rules}
-use Rattle.std.specs.Bool.{Decides, nat_eq}
-use Rattle.std.specs.List.{IsDistinct}
+use Rattle.std.proofs.Common.{◌≡◌, ◌++◌, ℕ, List, [], true, false, not, Err, ap, refl, sym, subst, ◌∙◌, rules}
 use Rattle.kms_script.specs.Overlong.{AddsLabels, labels_at, made_words, packed_all}
 use Rattle.kms_script.proofs.ManyAssigns.{many_decided, no_flags, no_labels, no_user, why_of}
 use Rattle.kms_script.proofs.overlong.fault_of_many.Goals as goal

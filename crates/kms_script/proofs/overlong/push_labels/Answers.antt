@@ -1,4 +1,4 @@
-use Rattle.std.proofs.Common.{◌≤◌, length, rules}
+use Rattle.std.proofs.Common.{rules}
 use Rattle.kms_script.proofs.ManyAssigns.{no_field_there, no_label_there, one_label_more}
 use Rattle.kms_script.proofs.overlong.push_labels.Goals as goal
 

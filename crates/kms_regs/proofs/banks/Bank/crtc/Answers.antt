@@ -1,4 +1,4 @@
-use Rattle.std.proofs.Common.{arith, rules}
+use Rattle.std.proofs.Common.{rules}
 use Rattle.kms_regs.proofs.BankLemmas.{crtc_at}
 use Rattle.kms_regs.proofs.banks.Bank.crtc.Goals as goal
 

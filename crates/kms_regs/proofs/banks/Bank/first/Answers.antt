@@ -1,4 +1,4 @@
-use Rattle.std.proofs.Common.{arith, rules, refl}
+use Rattle.std.proofs.Common.{arith, rules}
 use Rattle.kms_regs.proofs.BankLemmas.{first_all, first_next}
 use Rattle.kms_regs.proofs.banks.Bank.first.Goals as goal
 

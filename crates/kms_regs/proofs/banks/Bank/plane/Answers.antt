@@ -1,4 +1,4 @@
-use Rattle.std.proofs.Common.{arith, rules}
+use Rattle.std.proofs.Common.{rules}
 use Rattle.kms_regs.proofs.BankLemmas.{plane_at}
 use Rattle.kms_regs.proofs.banks.Bank.plane.Goals as goal
 

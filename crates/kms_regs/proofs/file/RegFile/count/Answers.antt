@@ -1,5 +1,4 @@
-use Rattle.std.proofs.Common.{arith, rules, sym, ap, subst, ◌≡◌, ◌∙◌}
-use Rattle.kms_model.specs.Device.Objects.{object_id}
+use Rattle.std.proofs.Common.{sym, ◌∙◌}
 use Rattle.kms_regs.proofs.FileLemmas.{own_count}
 use Rattle.kms_regs.proofs.file.RegFile.count.Goals as goal
 

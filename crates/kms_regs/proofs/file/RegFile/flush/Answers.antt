@@ -1,4 +1,4 @@
-use Rattle.std.proofs.Common.{arith, rules, sym, ap, subst, ◌≡◌, ◌∙◌}
+use Rattle.std.proofs.Common.{rules, ◌∙◌}
 use Rattle.kms_regs.proofs.FileLemmas.{flushed_off, flushed_on, off_latched, opened}
 use Rattle.kms_regs.proofs.file.RegFile.flush.Goals as goal
 

@@ -1,4 +1,4 @@
-use Rattle.std.proofs.Common.{arith, rules, sym, ap, subst, ◌≡◌, ◌∙◌}
+use Rattle.std.proofs.Common.{sym, ◌∙◌}
 use Rattle.kms_regs.proofs.FileLemmas.{own_go}
 use Rattle.kms_regs.proofs.file.RegFile.has_go.Goals as goal
 

@@ -1,4 +1,4 @@
-use Rattle.std.proofs.Common.{arith, rules, sym, ap, subst, ◌≡◌, ◌∙◌}
+use Rattle.std.proofs.Common.{sym, ap}
 use Rattle.std.proofs.Common.{length}
 use Rattle.kms_model.specs.Machine.Registers.{first_registers}
 use Rattle.kms_regs.proofs.FileLemmas.{started}

@@ -1,4 +1,4 @@
-use Rattle.std.proofs.Common.{arith, rules, sym, ap, subst, ◌≡◌, ◌∙◌}
+use Rattle.std.proofs.Common.{arith, rules}
 use Rattle.kms_regs.proofs.FileLemmas.{blanked_latched, blanked_latched_picture, blanked_still, blanked_still_picture, opened, own_count}
 use Rattle.kms_regs.proofs.file.RegFile.vblank.Goals as goal
 

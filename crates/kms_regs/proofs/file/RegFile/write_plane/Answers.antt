@@ -1,4 +1,4 @@
-use Rattle.std.proofs.Common.{arith, rules, sym, ap, subst, ◌≡◌, ◌∙◌}
+use Rattle.std.proofs.Common.{subst}
 use Rattle.kms_model.specs.Device.Objects.{object_id}
 use Rattle.kms_model.specs.declared.objects.Kind.TheVariants.{Plane}
 use Rattle.kms_model.specs.Machine.Registers.{PlaneWords, plane_words, write_plane}

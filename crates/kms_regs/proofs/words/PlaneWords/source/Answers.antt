@@ -1,4 +1,4 @@
-use Rattle.std.proofs.Common.{arith, rules}
+use Rattle.std.proofs.Common.{arith}
 use Rattle.std.proofs.lemmas.Int.{to_z-of_z}
 use Rattle.kms_model.specs.Machine.Registers.{plane_in}
 use Rattle.kms_regs.proofs.words.PlaneWords.source.Goals as goal

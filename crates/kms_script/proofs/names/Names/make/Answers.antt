@@ -1,7 +1,6 @@
-use Rattle.std.proofs.Common.{◌≡◌, ◌+◌, ℕ, Some, true, not, ap, sym, subst, cond, ◌∙◌}
-use Rattle.std.specs.Prelude.{◌||◌}
+use Rattle.std.proofs.Common.{◌≡◌, ℕ, Some, true, not, ap, sym, subst, cond, ◌∙◌}
 use Rattle.std.specs.Ordering.{is_eq, nat_cmp}
-use Rattle.kms_model.specs.Script.CommandLines.{making, place, saying}
+use Rattle.kms_model.specs.Script.CommandLines.{place, saying}
 use Rattle.kms_script.specs.Named.{is_in_numbers, NamesGrow}
 use Rattle.kms_script.specs.Numbered.{place_among}
 use Rattle.kms_script.proofs.Naming.{found_said, made_below, making_grows, making_said, names_of, number_below}

@@ -1,4 +1,4 @@
-use Rattle.std.proofs.Common.{◌≡◌, ◌+◌, ◌≤◌, ◌^◌, [], ◌∷◌, None, length, ap, sym, subst, ◌∙◌, arith, rules}
+use Rattle.std.proofs.Common.{◌≡◌, None, length, ap, sym, subst, ◌∙◌, arith, rules}
 use Rattle.kms_model.specs.Script.CommandLines.{place, saying}
 use Rattle.kms_script.specs.Named.{is_in_numbers, NamesGrow}
 use Rattle.kms_script.specs.Numbered.{place_among}

@@ -2,7 +2,7 @@ use Rattle.std.proofs.Common.{◌≡◌, [], ◌∷◌, ◌++◌, None, Some, le
 use Rattle.std.specs.BTreeMap as tree
 use Rattle.std.specs.Cmp.Lexicographic.{slice_cmp}
 use Rattle.std.specs.Ordering.{nat_cmp}
-use Rattle.kms_script.specs.Numbered.{AreFound, place_among}
+use Rattle.kms_script.specs.Numbered.{place_among}
 use Rattle.kms_script.proofs.WordsNumbered.{numbered_last}
 use Rattle.kms_script.proofs.numbering.Numbering.push.Goals as goal
 

@@ -1,8 +1,6 @@
 use Rattle.std.proofs.Common.{◌≡◌, Ok, Err, ap, sym, subst, ◌∙◌}
 use Rattle.kms_model.specs.Script.CommandLines.{unmade}
 use Rattle.kms_script.specs.Lines.{GivesLine, line_of}
-use Rattle.kms_script.specs.Stated.{GivesCommand}
-use Rattle.kms_model.specs.Script.CommandLines.{line_read}
 use Rattle.kms_script.proofs.LineFaults.{alone_read, alone_stopped}
 use Rattle.kms_script.proofs.one_line.NameIndex.read.Goals as goal
 

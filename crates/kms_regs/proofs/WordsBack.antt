@@ -1,0 +1,151 @@
+-- The states that words were made of are read back from them.
+use Rattle.std.proofs.Common.{◌≡◌, ◌≢◌, ℕ, zero, suc, ◌+◌, ◌*◌, ◌<◌, ◌≤◌, ◌^◌, ℤ, pos, negsuc, ◌≤ℤ◌, List, [], ◌∷◌, ◌++◌, length, get_or, Option, Some, None, arith, rules, refl, sym, ap, ◌∙◌, SFits, if◌then◌else◌}
+use Rattle.std.specs.Prelude.{◌==◌, not, Bool, true, false}
+use Rattle.std.specs.Int.{w16, w32, cast_signed, cast_unsigned, from_le_bytes, to_le_bytes}
+use Rattle.std.proofs.lemmas.Int.{ints, to_z-of_z}
+use Rattle.std.proofs.lemmas.Nat.{le_bytes_4}
+use Rattle.kms_model.specs.declared.objects.Format.{Format}
+use Rattle.kms_model.specs.declared.objects.Format.TheVariants.{Xr24, Ar24, Rg16}
+use Rattle.kms_model.specs.declared.objects.Kind.TheVariants.{Crtc, Plane}
+use Rattle.kms_model.specs.declared.objects.Mode.{Mode}
+use Rattle.kms_model.specs.declared.objects.Topology.{Topology}
+use Rattle.kms_model.specs.declared.pictures.FbInfo.{FbInfo}
+use Rattle.kms_model.specs.declared.pictures.Layer.{Layer}
+use Rattle.kms_model.specs.declared.pictures.Picture.TheVariants.{Off, On}
+use Rattle.kms_model.specs.declared.states.CrtcState.{CrtcState}
+use Rattle.kms_model.specs.declared.states.PlaneState.{PlaneState}
+use Rattle.kms_model.specs.Device.Objects.{ids_of, object_id}
+use Rattle.kms_model.specs.Frames.Pictures.{layers_with, put_plane, seen_on, shown_with}
+use Rattle.kms_model.specs.Device.ModeBytes.{mode_bytes, mode_held}
+use Rattle.kms_model.specs.Device.Sound.{IsBetween, IsPlaneInRange}
+use Rattle.kms_model.specs.Device.States.{natural}
+use Rattle.kms_model.specs.Machine.Registers.{CrtcWords, Registers, bytes_of_words, code_of, crtc_register, crtc_words, decoded_picture, fb_number, flag_word, format_in, mode_words, plane_in, plane_register, plane_words, shown_in_words, words_of_bytes}
+use Rattle.kms_blobs.specs.Ranges.{FitsTypes}
+use Rattle.kms_blobs.proofs.RoundTrip.{mode_held-mode_bytes}
+use Rattle.kms_regs.specs.Written.{AreBytes, AreWritten, HasId, HasMode, IsWritable, IsWritableMode, picture_of_states}
+use Rattle.kms_regs.proofs.Rows.{other_id}
+use Rattle.kms_regs.proofs.SameWords.{same_layers}
+
+-- Planes
+
+format_back : (f : Format) → format_in (code_of f) ≡ f
+format_back Xr24 = refl
+format_back Ar24 = refl
+format_back Rg16 = refl
+
+-- a framebuffer
+fb_back : (fb : Option FbInfo) → HasId fb
+    → (if fb_number (λ x. x.id) fb == 0 then None
+    else Some (record { id = fb_number (λ x. x.id) fb; width = fb_number (λ x. x.width) fb; height = fb_number (λ x. x.height) fb; format = format_in (fb_number (λ x. code_of x.format) fb) })) ≡ fb
+fb_back None has = refl
+fb_back (Some x) has = rw (other_id x.id 0 has, format_back x.format) refl
+
+natural_back : (z : ℤ) → pos 0 ≤ℤ z → pos (natural z) ≡ z
+natural_back (pos n) low = refl
+natural_back (negsuc n) low = absurd (omega (arith, ints, low))
+
+signed_back : (z : ℤ) → IsBetween (negsuc 2147483647) (pos 2147483647) z → cast_signed w32 (cast_unsigned w32 z) ≡ z
+signed_back z between = let fits : SFits w32 z = search (rules, arith, ints, between.low, between.high) in to_z-of_z w32 z fits
+
+pub plane_back : (s : PlaneState) → IsWritable s → plane_in (plane_words s) ≡ s
+unfolding plane_in plane_words
+plane_back s h =
+    rw (fb_back s.fb h.has_id, signed_back s.dst.x h.in_range.x, signed_back s.dst.y h.in_range.y, natural_back s.dst.w h.in_range.w.low, natural_back s.dst.h h.in_range.h.low, natural_back s.src.x h.in_range.src_x.low, natural_back s.src.y h.in_range.src_y.low, natural_back s.src.w h.in_range.src_w.low, natural_back s.src.h h.in_range.src_h.low) refl
+
+-- Modes
+
+four_small : (a b c d : ℕ) (rest : List ℕ) → AreBytes (a ∷ b ∷ c ∷ d ∷ rest) → (i : ℕ) → get_or (a ∷ b ∷ c ∷ d ∷ []) i 0 < 256
+four_small a b c d rest h zero = h.small 0
+four_small a b c d rest h (suc zero) = h.small 1
+four_small a b c d rest h (suc (suc zero)) = h.small 2
+four_small a b c d rest h (suc (suc (suc zero))) = h.small 3
+four_small a b c d rest h (suc (suc (suc (suc i)))) = omega arith
+
+rest_small : (a : ℕ) (rest : List ℕ) → AreBytes (a ∷ rest) → AreBytes rest
+rest_small a rest h = record { small = λ i. h.small (suc i) }
+
+-- whole words of bytes
+words_back : (n : ℕ) (bytes : List ℕ) → length bytes ≡ 4 * n → AreBytes bytes → bytes_of_words (words_of_bytes bytes) ≡ bytes
+unfolding words_of_bytes
+words_back zero [] long h = refl
+words_back zero (a ∷ bytes) long h = absurd (omega (arith, long))
+words_back (suc n) [] long h = absurd (omega (arith, long))
+words_back (suc n) (a ∷ []) long h = absurd (omega (arith, long))
+words_back (suc n) (a ∷ b ∷ []) long h = absurd (omega (arith, long))
+words_back (suc n) (a ∷ b ∷ c ∷ []) long h = absurd (omega (arith, long))
+words_back (suc n) (a ∷ b ∷ c ∷ d ∷ bytes) long h =
+    let rest : bytes_of_words (words_of_bytes bytes) ≡ bytes =
+    words_back n bytes (omega (arith, long)) (rest_small d bytes (rest_small c (d ∷ bytes) (rest_small b (c ∷ d ∷ bytes) (rest_small a (b ∷ c ∷ d ∷ bytes) h)))) in
+    let first : to_le_bytes w32 (from_le_bytes w32 (a ∷ b ∷ c ∷ d ∷ [])) ≡ a ∷ b ∷ c ∷ d ∷ [] = le_bytes_4 (a ∷ b ∷ c ∷ d ∷ []) _ refl (four_small a b c d bytes h) refl in
+    ap (λ (xs : List ℕ). xs ++ bytes_of_words (words_of_bytes bytes)) first ∙ ap (λ (xs : List ℕ). a ∷ b ∷ c ∷ d ∷ xs) rest
+
+append_small : (xs ys : List ℕ) → AreBytes xs → AreBytes ys → AreBytes (xs ++ ys)
+append_small xs ys first second = record { small = go xs first.small } where
+  go : (xs : List ℕ) → ((i : ℕ) → get_or xs i 0 < 256) → (i : ℕ) → get_or (xs ++ ys) i 0 < 256
+  go [] small i = second.small i
+  go (x ∷ xs) small zero = small 0
+  go (x ∷ xs) small (suc i) = go xs (λ j. small (suc j)) i
+
+half_small : (n : ℕ) → AreBytes (to_le_bytes w16 n)
+half_small n = record { small = go } where
+  go : (i : ℕ) → get_or (to_le_bytes w16 n) i 0 < 256
+  go zero = omega arith
+  go (suc zero) = omega arith
+  go (suc (suc i)) = omega arith
+
+word_small : (n : ℕ) → AreBytes (to_le_bytes w32 n)
+word_small n = record { small = go } where
+  go : (i : ℕ) → get_or (to_le_bytes w32 n) i 0 < 256
+  go zero = omega arith
+  go (suc zero) = omega arith
+  go (suc (suc zero)) = omega arith
+  go (suc (suc (suc zero))) = omega arith
+  go (suc (suc (suc (suc i)))) = omega arith
+
+mode_small : (m : Mode) → AreBytes m.name → AreBytes (mode_bytes m)
+mode_small m name =
+    append_small (to_le_bytes w32 m.clock) _ (word_small m.clock)
+    (append_small (to_le_bytes w16 m.hdisplay) _ (half_small m.hdisplay)
+    (append_small (to_le_bytes w16 m.hsync_start) _ (half_small m.hsync_start)
+    (append_small (to_le_bytes w16 m.hsync_end) _ (half_small m.hsync_end)
+    (append_small (to_le_bytes w16 m.htotal) _ (half_small m.htotal)
+    (append_small (to_le_bytes w16 m.hskew) _ (half_small m.hskew)
+    (append_small (to_le_bytes w16 m.vdisplay) _ (half_small m.vdisplay)
+    (append_small (to_le_bytes w16 m.vsync_start) _ (half_small m.vsync_start)
+    (append_small (to_le_bytes w16 m.vsync_end) _ (half_small m.vsync_end)
+    (append_small (to_le_bytes w16 m.vtotal) _ (half_small m.vtotal)
+    (append_small (to_le_bytes w16 m.vscan) _ (half_small m.vscan)
+    (append_small (to_le_bytes w32 m.vrefresh) _ (word_small m.vrefresh)
+    (append_small (to_le_bytes w32 m.flags) _ (word_small m.flags)
+    (append_small (to_le_bytes w32 m.kind) m.name (word_small m.kind) name)))))))))))))
+
+mode_long : (m : Mode) → length m.name ≡ 32 → length (mode_bytes m) ≡ 68
+mode_long m long = ap (λ (n : ℕ). suc (suc (suc (suc (suc (suc (suc (suc (suc (suc (suc (suc (suc (suc (suc (suc (suc (suc (suc (suc (suc (suc (suc (suc (suc (suc (suc (suc (suc (suc (suc (suc (suc (suc (suc (suc n)))))))))))))))))))))))))))))))))))) long
+
+-- the mode that the words of a mode hold is that mode
+pub mode_back : (m : Mode) → IsWritableMode m → mode_held (bytes_of_words (mode_words (Some m))) ≡ m
+mode_back m h = ap mode_held (words_back 17 (mode_bytes m) (mode_long m h.fits.back.name) (mode_small m h.name_bytes)) ∙ mode_held-mode_bytes m h.fits
+
+-- What words show that were written for states
+
+plane_read : (t : Topology) (rs : Registers) (crtc conn : ℕ) (s : CrtcState) (state : ℕ → PlaneState) → AreWritten t rs crtc conn s state → (i : ℕ) → i < length t.planes
+    → plane_in (plane_register rs (object_id Plane i)) ≡ state (object_id Plane i)
+plane_read t rs crtc conn s state h i low = ap plane_in (h.planes_are i low) ∙ plane_back (state (object_id Plane i)) (h.states_are i low)
+
+by_state : (t : Topology) (rs : Registers) (crtc conn : ℕ) (state : ℕ → PlaneState) → ((i : ℕ) → i < length t.planes → plane_in (plane_register rs (object_id Plane i)) ≡ state (object_id Plane i))
+    → (active : Bool) (mode : Option Mode) → HasMode active mode
+    → (if not (flag_word active == 0) then shown_in_words t rs crtc (record { active = flag_word active; conn = conn; mode = mode_words mode }) else Off) ≡ picture_of_states t crtc state conn active mode
+by_state t rs crtc conn state read true (Some m) has =
+    let f : ℕ → PlaneState = λ plane. plane_in (plane_register rs plane) in
+    ap (λ (k : Mode). On (shown_with k conn (layers_with f k crtc (ids_of t Plane)))) (mode_back m has)
+    ∙ ap (λ (ls : List (ℕ × Layer)). On (shown_with m conn ls)) (same_layers f state m crtc 0 (length t.planes) (λ i ls low.
+    ap (λ (x : PlaneState). put_plane m (object_id Plane i) x (seen_on crtc x) ls) (read i (omega (arith, low)))))
+by_state t rs crtc conn state read true None has = absurd has
+by_state t rs crtc conn state read false mode has = refl
+
+pub decoded_written : (t : Topology) (rs : Registers) (crtc conn : ℕ) (s : CrtcState) (state : ℕ → PlaneState) → AreWritten t rs crtc conn s state
+    → decoded_picture t rs (object_id Crtc crtc) ≡ picture_of_states t (object_id Crtc crtc) state conn s.active s.mode
+unfolding decoded_picture crtc_words
+decoded_written t rs crtc conn s state h =
+    ap (λ (c : CrtcWords). if not (c.active == 0) then shown_in_words t rs (object_id Crtc crtc) c else Off) h.crtc_is
+    ∙ by_state t rs (object_id Crtc crtc) conn state (plane_read t rs crtc conn s state h) s.active s.mode h.mode_is

@@ -1,0 +1,290 @@
+//! What no clause says: words worked out by hand, and latches as a caller sees them.
+ghost use Rattle.std.specs.Prelude.{◌<◌};
+ghost use Rattle.kms_model.specs.Device.Sound.{IsPlaneInRange};
+
+use crate::RegFile;
+use crate::words::{CrtcWords, PlaneWords};
+use kms_model::{CrtcState, FbInfo, Format, Mode, Picture, PlaneState, Rect};
+use kms_samples::{split, tiny};
+use std::process::Abort;
+use std::test::Fail;
+
+const NOWHERE: Rect = Rect {
+    x: 0,
+    y: 0,
+    w: 0,
+    h: 0,
+};
+
+const OFF: CrtcState = CrtcState {
+    active: false,
+    mode: None,
+    planes: 0,
+    conns: 0,
+};
+
+/// A CRTC that is on.
+fn lit() -> CrtcState {
+    CrtcState {
+        active: true,
+        mode: Some(tiny()),
+        ..OFF
+    }
+}
+
+/// A plane that is on no CRTC, as at the start.
+fn no_plane(zpos: u8) -> PlaneState
+    ensures { IsPlaneInRange result }
+{
+    PlaneState {
+        fb: None,
+        crtc: 0,
+        dst: NOWHERE,
+        src: NOWHERE,
+        alpha: 65535,
+        blend: 0,
+        zpos: u32::from(zpos),
+    }
+}
+
+/// A plane that shows a pixel at a place.
+fn a_plane(crtc: u32, fb: u32, x: i32, y: i32) -> PlaneState
+    ensures { IsPlaneInRange result }
+{
+    PlaneState {
+        fb: Some(FbInfo {
+            id: fb,
+            width: 1,
+            height: 1,
+            format: Format::Ar24,
+        }),
+        crtc,
+        dst: Rect {
+            x: i64::from(x),
+            y: i64::from(y),
+            w: 1,
+            h: 1,
+        },
+        src: Rect {
+            x: 0,
+            y: 0,
+            w: 65536,
+            h: 65536,
+        },
+        alpha: 65535,
+        blend: 1,
+        zpos: 7,
+    }
+}
+
+/// Writes a plane.
+fn write_plane(rt: &impl Abort, regs: &mut RegFile, index: u32, old: &PlaneState, new: &PlaneState)
+    requires index { index < 16 }
+    requires old { IsPlaneInRange old.now }
+    requires new { IsPlaneInRange new.now }
+{
+    assert!(rt; regs.has_plane(index, old));
+    regs.write_plane(index, old, new);
+    assert!(rt; regs.has_plane(index, new));
+}
+
+/// Writes a CRTC.
+fn write_crtc(
+    rt: &impl Abort,
+    regs: &mut RegFile,
+    index: u32,
+    conn: u32,
+    old: &CrtcState,
+    new: &CrtcState,
+)
+    requires { index < 4 }
+{
+    assert!(rt; regs.has_crtc(index, old));
+    regs.write_crtc(index, conn, old, new);
+    assert!(rt; regs.has_crtc(index, new));
+}
+
+/// A vertical blanking.
+fn blank(rt: &impl Abort, regs: &mut RegFile, crtc: u32) -> Option<Picture>
+    requires { crtc < 4 }
+{
+    assert!(rt; regs.count(crtc) < 100);
+    regs.vblank(crtc)
+}
+
+/// Asserts that a CRTC shows these planes from the lowest, in the mode of one pixel.
+fn assert_shows(rt: &impl Abort, regs: &RegFile, crtc: u32, conn: u32, planes: &[u32])
+    requires { crtc < 4 }
+{
+    match regs.decode_live(crtc) {
+        Picture::Off => assert!(rt; false, "CRTC {crtc} is off"),
+        Picture::On(shown) => {
+            assert_eq!(rt; shown.mode, tiny());
+            assert_eq!(rt; shown.conn, conn);
+            let layers = shown.layers.as_slice();
+            assert_eq!(rt; layers.len(), planes.len());
+            for (layer, plane) in layers.iter().zip(planes) {
+                assert_eq!(rt; layer.plane, *plane);
+                assert_eq!(rt; layer.fb.format, Format::Ar24);
+            }
+        }
+    }
+}
+
+/// Asserts that a CRTC shows nothing.
+fn assert_off(rt: &impl Abort, regs: &RegFile, crtc: u32)
+    requires { crtc < 4 }
+{
+    assert_eq!(rt; regs.decode_live(crtc), Picture::Off);
+}
+
+/// The 1920x1080 mode of CEA-861, and the words of its 68 bytes.
+#[test]
+fn the_words_of_a_mode_are_its_bytes(rt: HostRuntime) {
+    let mut name = [0; 32];
+    name[..9].copy_from_slice(b"1920x1080");
+    let mode = Mode {
+        clock: 148500,
+        hdisplay: 1920,
+        hsync_start: 2008,
+        hsync_end: 2052,
+        htotal: 2200,
+        hskew: 0,
+        vdisplay: 1080,
+        vsync_start: 1084,
+        vsync_end: 1089,
+        vtotal: 1125,
+        vscan: 0,
+        vrefresh: 60,
+        flags: 5,
+        kind: 64,
+        name,
+    };
+    let state = CrtcState {
+        active: true,
+        mode: Some(mode),
+        ..OFF
+    };
+    let words = CrtcWords::of(300, &state);
+    assert_eq!(rt; words.active, 1);
+    assert_eq!(rt; words.conn, 300);
+    assert_eq!(rt;
+        words.mode,
+        [
+            0x0002_4414,
+            0x07d8_0780,
+            0x0898_0804,
+            0x0438_0000,
+            0x0441_043c,
+            0x0000_0465,
+            60,
+            5,
+            64,
+            0x3032_3931,
+            0x3830_3178,
+            0x30,
+            0,
+            0,
+            0,
+            0,
+            0,
+        ]
+    );
+    assert_eq!(rt; words.mode(), mode);
+    assert_eq!(rt; CrtcWords::of(0, &OFF).mode, [0; 17]);
+}
+
+#[test]
+fn negative_places_stand_in_twos_complement(rt: HostRuntime) {
+    let state = a_plane(100, 1000, -1, -2147483648);
+    let words = PlaneWords::of(&state);
+    assert_eq!(rt; words.x, 0xffff_ffff);
+    assert_eq!(rt; words.y, 0x8000_0000);
+    assert_eq!(rt; words.src_w, 0x0001_0000);
+    assert_eq!(rt; words.fb_format, 0x3432_5241);
+    assert_eq!(rt; words.state(), state);
+    let first = PlaneWords::first(15);
+    assert_eq!(rt; first, PlaneWords::of(&no_plane(15)));
+}
+
+#[test]
+fn a_crtc_latches_at_its_vertical_blanking_alone(rt: HostRuntime) -> Result<(), Fail> {
+    let mut regs = RegFile::new(&split(rt.alloc())?);
+    write_crtc(&rt, &mut regs, 0, 300, &OFF, &lit());
+    write_plane(&rt, &mut regs, 1, &no_plane(1), &a_plane(100, 1000, 0, 0));
+    assert!(rt; blank(&rt, &mut regs, 0).is_none());
+    assert_off(&rt, &regs, 0);
+    assert!(rt; regs.flush(0).is_none());
+    assert!(rt; regs.has_go(0));
+    assert!(rt; !regs.has_go(1));
+    assert!(rt; blank(&rt, &mut regs, 1).is_none());
+    assert_off(&rt, &regs, 0);
+    let picture = blank(&rt, &mut regs, 0);
+    assert_eq!(rt; picture, Some(regs.decode_live(0)));
+    assert_shows(&rt, &regs, 0, 300, &[201]);
+    assert!(rt; !regs.has_go(0));
+    assert!(rt; blank(&rt, &mut regs, 0).is_none());
+    assert_eq!(rt; regs.count(0), 3);
+    assert_eq!(rt; regs.count(1), 1);
+    Ok(())
+}
+
+#[test]
+fn a_plane_moves_over_two_latches(rt: HostRuntime) -> Result<(), Fail> {
+    let mut regs = RegFile::new(&split(rt.alloc())?);
+    write_crtc(&rt, &mut regs, 0, 300, &OFF, &lit());
+    write_crtc(&rt, &mut regs, 1, 0, &OFF, &lit());
+    let first = a_plane(100, 1000, 0, 0);
+    let second = a_plane(101, 1000, 0, 0);
+    write_plane(&rt, &mut regs, 0, &no_plane(0), &first);
+    assert!(rt; regs.flush(0).is_none());
+    assert!(rt; regs.flush(1).is_none());
+    assert!(rt; blank(&rt, &mut regs, 0).is_some());
+    assert!(rt; blank(&rt, &mut regs, 1).is_some());
+    assert_shows(&rt, &regs, 0, 300, &[200]);
+    assert_shows(&rt, &regs, 1, 0, &[]);
+    write_plane(&rt, &mut regs, 0, &first, &no_plane(0));
+    assert!(rt; regs.flush(0).is_none());
+    assert_shows(&rt, &regs, 0, 300, &[200]);
+    assert!(rt; blank(&rt, &mut regs, 0).is_some());
+    assert_shows(&rt, &regs, 0, 300, &[]);
+    write_plane(&rt, &mut regs, 0, &no_plane(0), &second);
+    assert!(rt; regs.flush(1).is_none());
+    assert!(rt; blank(&rt, &mut regs, 1).is_some());
+    assert_shows(&rt, &regs, 0, 300, &[]);
+    assert_shows(&rt, &regs, 1, 0, &[200]);
+    Ok(())
+}
+
+#[test]
+fn layers_stand_by_zpos_and_then_by_plane(rt: HostRuntime) -> Result<(), Fail> {
+    let mut regs = RegFile::new(&split(rt.alloc())?);
+    write_crtc(&rt, &mut regs, 0, 300, &OFF, &lit());
+    let plane = a_plane(100, 1000, 0, 0);
+    write_plane(&rt, &mut regs, 0, &no_plane(0), &plane);
+    write_plane(&rt, &mut regs, 1, &no_plane(1), &plane);
+    assert!(rt; regs.flush(0).is_none());
+    assert!(rt; blank(&rt, &mut regs, 0).is_some());
+    assert_shows(&rt, &regs, 0, 300, &[200, 201]);
+    Ok(())
+}
+
+#[test]
+fn a_crtc_that_is_off_latches_at_once_and_its_count_goes_on(rt: HostRuntime) -> Result<(), Fail> {
+    let mut regs = RegFile::new(&split(rt.alloc())?);
+    write_crtc(&rt, &mut regs, 1, 300, &OFF, &lit());
+    assert!(rt; regs.flush(1).is_none());
+    assert!(rt; blank(&rt, &mut regs, 1).is_some());
+    assert!(rt; blank(&rt, &mut regs, 1).is_none());
+    write_crtc(&rt, &mut regs, 1, 0, &lit(), &OFF);
+    assert_shows(&rt, &regs, 1, 300, &[]);
+    assert_eq!(rt; regs.flush(1), Some(Picture::Off));
+    assert_off(&rt, &regs, 1);
+    assert!(rt; !regs.has_go(1));
+    assert_eq!(rt; regs.count(1), 2);
+    write_crtc(&rt, &mut regs, 1, 300, &OFF, &lit());
+    assert!(rt; regs.flush(1).is_none());
+    assert!(rt; blank(&rt, &mut regs, 1).is_some());
+    assert_eq!(rt; regs.count(1), 3);
+    Ok(())
+}
