@@ -1,6 +1,6 @@
 -- Calls keep fences and queues in step with the machine: one fact for each event.
-use Rattle.std.proofs.Common.{◌≡◌, ℕ, ◌+◌, ◌-◌, List, [], ◌∷◌, ◌++◌, length, Some, None, Bool, true, false, inl, inr, refl, sym, ap, ◌∙◌}
-use Rattle.std.specs.Prelude.{◌==◌, ◌||◌, Option, is_some}
+use Rattle.std.proofs.Common.{◌≡◌, ℕ, ◌+◌, ◌-◌, List, [], ◌∷◌, ◌++◌, Some, None, Bool, true, false, inl, inr, refl, sym, ap, ◌∙◌}
+use Rattle.std.specs.Prelude.{◌==◌, Option, is_some}
 use Rattle.std.proofs.lemmas.Bool.{eq-eqb}
 use Rattle.std.proofs.lemmas.Bool.Decides.{eqb_tells}
 use Rattle.kms_model.specs.declared.replies.Event.{Event}
@@ -8,8 +8,8 @@ use Rattle.kms_model.specs.Firsts.{or_else}
 use Rattle.kms_model.specs.Machine.Commits.{has_number}
 use Rattle.kms_model.specs.Machine.Registers.{read}
 use Rattle.kms_model.specs.Machine.State.{Events, reserved_at, unread_at}
-use Rattle.kms_model.specs.Stores.Tables.{slot, value_with_id, AreBelow}
-use Rattle.kms_signal.specs.FenceSets.{FenceSet, is_made, is_signalled, or_not}
+use Rattle.kms_model.specs.Stores.Tables.{slot, value_with_id}
+use Rattle.kms_signal.specs.FenceSets.{FenceSet, or_not}
 use Rattle.kms_signal.specs.InStep.{AreFencesOf, IsQueueOf}
 use Rattle.kms_signal.specs.Queues.{Queue, empty_queue, reserves, delivers, after_read_of}
 use Rattle.kms_signal.proofs.FenceLemmas.{with_signal, signals, still_made}

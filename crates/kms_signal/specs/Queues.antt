@@ -1,6 +1,6 @@
 -- A client's flip events. From: `drm_file.c`, drm_event_reserve_init, drm_send_event and drm_read: a file has space for
 -- 4096 bytes of events, of which a reserved event takes as many as an unread one.
-use Rattle.std.specs.Prelude.{◌≡◌, ℕ, ◌+◌, ◌-◌, ◌*◌, ◌<◌, ◌≤◌, List, [], ◌∷◌, ◌++◌, length, Option, Some, None}
+use Rattle.std.specs.Prelude.{◌≡◌, ℕ, ◌+◌, ◌-◌, ◌*◌, ◌≤◌, List, [], ◌∷◌, ◌++◌, length, Option, Some, None}
 use Rattle.kms_model.specs.declared.replies.Event.{Event}
 use Rattle.kms_model.specs.Report.EventBytes.{event_bytes}
 

@@ -75,7 +75,8 @@ impl EventQueue {
     /// Reserves the space of so many events, a count. `NoSpace` comes exactly where the space that is used and 32 bytes for
     /// each of these events pass 4096. Want of memory comes only where there was no room. A refusal leaves all as it was.
     pub fn reserve(&mut self, _alloc: Global, n: u32) -> Result<(), ReserveError>
-        ensures no_space { 4096 < space_used self.old + 32 * n → result ≡ Err (ReserveError.NoSpace (space_used self.old)) }
+        ensures no_space { 4096 < space_used self.old + 32 * n
+            → result ≡ Err (ReserveError.NoSpace (space_used self.old)) }
         ensures space { HasSpace self.old n → IfErr result (λ e. e ≡ ReserveError.NoMemory) }
         ensures ok { OnOk result (self.new ≡ reserves self.old n self.new.room) }
         ensures room { OnOk result (self.old.room ≤ self.new.room + n) }

@@ -105,7 +105,8 @@ fn place_of<T>(slots: &[Slot<T>], id: u32) -> Option<usize>
     requires { IsRising slots.now }
     ensures in_range { IfSome result (λ i. i < length slots.now) }
     ensures at { IfSome result (λ i. slice_index (slot_ids slots.now) i ≡ id) }
-    ensures absent { IfNone result ((k : ℕ) → k < length slots.now → slice_index (slot_ids slots.now) k ≢ id) }
+    ensures absent { IfNone result
+        ((k : ℕ) → k < length slots.now → slice_index (slot_ids slots.now) k ≢ id) }
 {
     slots.binary_search_by_key(&id, |slot| slot.id).ok()
 }

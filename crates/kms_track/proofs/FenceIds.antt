@@ -1,5 +1,5 @@
 -- The ids of fences that stand at their places.
-use Rattle.std.proofs.Common.{◌≡◌, ℕ, zero, suc, ◌+◌, ◌<◌, ◌≤◌, List, [], ◌∷◌, length, map, get_or, Some, None, arith, refl, ap}
+use Rattle.std.proofs.Common.{◌≡◌, ℕ, suc, ◌<◌, ◌≤◌, List, [], ◌∷◌, length, map, get_or, Some, None, arith, refl, ap}
 use Rattle.std.specs.Prelude.{Option}
 use Rattle.kms_model.specs.declared.objects.ObjId.{ObjId}
 use Rattle.kms_track.specs.Tracking.{fence_ids}

@@ -1,21 +1,21 @@
 -- Calls keep a tracker in step with the machine: one fact for each event.
-use Rattle.std.proofs.Common.{◌≡◌, ℕ, zero, suc, ◌+◌, ◌<◌, ◌≤◌, List, [], ◌∷◌, length, map, Bool, true, false, Some, None, cond, inl, inr, arith, refl, sym, ap, ◌∙◌, add-one}
-use Rattle.std.specs.Prelude.{◌==◌, ◌&&◌, ◌||◌, Option}
+use Rattle.std.proofs.Common.{◌≡◌, ℕ, ◌<◌, List, [], ◌∷◌, length, false, inl, inr, arith, refl, sym, ◌∙◌, add-one}
+use Rattle.std.specs.Prelude.{◌==◌}
 use Rattle.std.proofs.lemmas.Bool.{eq-eqb}
 use Rattle.std.proofs.lemmas.Bool.Decides.{eqb_tells}
 use Rattle.kms_model.specs.declared.objects.Topology.{Topology}
 use Rattle.kms_model.specs.declared.runs.Latch.{Latch}
 use Rattle.kms_model.specs.declared.states.Checked.{Checked}
 use Rattle.kms_model.specs.Device.Objects.{kind_of}
-use Rattle.kms_model.specs.Machine.Commits.{has_number, has_latched, commit_at, commit_touches, commit_concerns, is_on_before_or_after, waited_fences}
-use Rattle.kms_model.specs.Machine.State.{Commit, Marks, Machine, no_marks}
+use Rattle.kms_model.specs.Machine.Commits.{has_latched, commit_at, commit_touches, commit_concerns, is_on_before_or_after, waited_fences}
+use Rattle.kms_model.specs.Machine.State.{Commit, Marks, no_marks}
 use Rattle.kms_model.specs.Request.Touched.{touches}
 use Rattle.kms_model.specs.Stores.Tables.{without_id}
 use Rattle.kms_track.specs.InStep.{told_of, IsUntouched, IsTrackerOf, IsCheckedFor}
 use Rattle.kms_track.specs.Laws.{no_tracking}
 use Rattle.kms_track.specs.Places.{object_at, crtc_id}
-use Rattle.kms_track.specs.Told.{Told, IsOver, TellsOfSetup, told_claim, told_hw_done, told_latch, told_cleanup}
-use Rattle.kms_track.specs.Tracking.{Tracking, IsSetUp, changed, with_claim, with_done, with_latch, no_last}
+use Rattle.kms_track.specs.Told.{IsOver, TellsOfSetup}
+use Rattle.kms_track.specs.Tracking.{Tracking, IsSetUp, changed, with_claim, with_done, with_latch}
 use Rattle.kms_track.proofs.KeptChanges.{keeps_none, keeps_setup, keeps_claim, keeps_hw_done, keeps_latch, keeps_cleanup, keeps_room}
 
 apart_from : (n k : ℕ) → n < k → (n == k) ≡ false

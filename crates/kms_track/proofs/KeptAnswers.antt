@@ -1,19 +1,19 @@
 -- What a tracker answers is what was told of the commits.
-use Rattle.std.proofs.Common.{◌≡◌, ℕ, ◌+◌, ◌<◌, ◌≤◌, List, [], ◌∷◌, length, get_or, Bool, true, false, Some, None, inl, inr, arith, refl, sym, ap, ◌∙◌}
-use Rattle.std.specs.Prelude.{Option, ◌==◌, ◌&&◌, ◌||◌, not, nat_lt, if◌then◌else◌}
+use Rattle.std.proofs.Common.{◌≡◌, ℕ, ◌<◌, List, [], ◌∷◌, get_or, Bool, true, false, Some, None, inl, inr, arith, refl, sym, ap, ◌∙◌}
+use Rattle.std.specs.Prelude.{Option, ◌&&◌, ◌||◌, not, if◌then◌else◌}
 use Rattle.std.specs.List.{list_all}
 use Rattle.std.proofs.lemmas.Bool.{cases_lt}
 use borrow.Author.Tests.{lt-ltb, le-ltb}
 use Rattle.kms_model.specs.declared.states.Mask.{Mask}
 use Rattle.kms_model.specs.Device.Masks.{has_bit}
-use Rattle.kms_model.specs.Machine.Commits.{last_below, if_there}
+use Rattle.kms_model.specs.Machine.Commits.{if_there}
 use Rattle.kms_signal.specs.FenceSets.{FenceSet, is_signalled}
 use Rattle.kms_signal.proofs.SlotLemmas.{value_above}
 use Rattle.kms_track.specs.declared.commits.Pending.{Pending}
 use Rattle.kms_track.specs.declared.commits.Touched.{Touched}
-use Rattle.kms_track.specs.Places.{object_at, mask_has, is_side, all_below, first_below}
-use Rattle.kms_track.specs.Told.{Told, has_flipped, previous, previous_of, second_previous, is_settled_for, may_claim, pending_of, pending_at, first_busy, not_marked, awaited_at, first_awaited, KeepsObject, IsTouched, IsPending, IsOver, KeepsCommit, Keeps}
-use Rattle.kms_track.specs.Tracking.{Tracking, commit_of, last_at, done_of, flipped_of, object_flipped, is_gone, unless, unflipped, busy_at, busy_of, unfinished, uncleaned, or_other, awaited, not_yet_at, not_yet_of, with_object, is_settled, is_signal, all_signalled, fence_ids, pending_ready, ready_of}
+use Rattle.kms_track.specs.Places.{object_at, mask_has, is_side, all_below}
+use Rattle.kms_track.specs.Told.{Told, has_flipped, previous, previous_of, second_previous, is_settled_for, may_claim, pending_of, pending_at, first_busy, not_marked, awaited_at, first_awaited, KeepsObject, IsPending, KeepsCommit, Keeps}
+use Rattle.kms_track.specs.Tracking.{Tracking, commit_of, last_at, done_of, flipped_of, object_flipped, is_gone, unless, unflipped, busy_at, busy_of, unfinished, uncleaned, awaited, not_yet_at, not_yet_of, with_object, is_settled, all_signalled, fence_ids, pending_ready, ready_of}
 use Rattle.kms_track.proofs.Flips.{flips}
 use Rattle.kms_track.proofs.PlaceLemmas.{first_same, all_same}
 use Rattle.kms_track.proofs.Previous.{last_is}

@@ -1,5 +1,5 @@
 -- A tracker keeps what it was told: one fact for each call.
-use Rattle.std.proofs.Common.{◌≡◌, ℕ, zero, suc, cond, add-one, ◌+◌, ◌<◌, ◌≤◌, List, [], ◌∷◌, ◌++◌, length, get_or, Bool, true, false, Some, None, inl, inr, arith, refl, sym, ap, ◌∙◌, subst, get_or-set_same, get_or-set_other, length-set}
+use Rattle.std.proofs.Common.{◌≡◌, ℕ, zero, suc, cond, add-one, ◌+◌, ◌<◌, ◌≤◌, List, [], ◌∷◌, length, get_or, Bool, true, false, Some, None, inl, inr, arith, refl, sym, ap, ◌∙◌, subst, get_or-set_same, get_or-set_other, length-set}
 use Rattle.std.specs.Prelude.{Option, ◌==◌, ◌&&◌, ◌||◌, not, is_some}
 use Rattle.std.proofs.Math.ListN.{set}
 use Rattle.std.proofs.lemmas.Bool.{eq-eqb, cases_lt}
@@ -8,15 +8,15 @@ use Rattle.kms_model.specs.declared.states.Checked.{Checked}
 use Rattle.kms_model.specs.declared.tables.Slot.{Slot}
 use Rattle.kms_model.specs.Machine.Commits.{last_below}
 use Rattle.kms_model.specs.Firsts.{or_else}
-use Rattle.kms_model.specs.Stores.Tables.{slot, AreBelow, value_with_id, with_value, without_id}
+use Rattle.kms_model.specs.Stores.Tables.{AreBelow, value_with_id, without_id}
 use Rattle.kms_signal.proofs.SlotLemmas.{value_other, value_same, value_pushed, value_removed, value_left, value_above, below-with_value, below-without_id, below-push}
 use Rattle.std.proofs.lemmas.List.{get_or-replicate}
 use Rattle.kms_track.specs.Laws.{no_tracking}
 use Rattle.kms_track.specs.declared.commits.Last.{Last}
 use Rattle.kms_track.specs.declared.commits.Pending.{Pending}
 use Rattle.kms_track.specs.declared.commits.Touched.{Touched}
-use Rattle.kms_track.specs.Places.{object_at, mask_has, is_side}
-use Rattle.kms_track.specs.Told.{Told, has_flipped, previous, previous_of, second_previous, KeepsObject, IsTouched, IsPending, IsOver, KeepsCommit, Keeps, TellsOfSetup, told_claim, told_hw_done, told_latch, told_cleanup}
+use Rattle.kms_track.specs.Places.{object_at, mask_has}
+use Rattle.kms_track.specs.Told.{Told, has_flipped, previous, previous_of, second_previous, KeepsObject, IsOver, KeepsCommit, Keeps, TellsOfSetup, told_claim, told_hw_done, told_latch, told_cleanup}
 use Rattle.kms_track.specs.Tracking.{Tracking, commit_of, last_at, no_last, touched_at, raised, changed, changed_slots, with_claim, with_done, with_latch, IsSetUp}
 use Rattle.kms_track.proofs.Previous.{last_is, last_same}
 

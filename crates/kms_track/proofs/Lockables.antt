@@ -1,6 +1,6 @@
 -- The objects of a device, by their places and by their ids.
-use Rattle.std.proofs.Common.{◌≡◌, ℕ, zero, suc, ◌+◌, ◌-◌, ◌<◌, ◌≤◌, List, [], ◌∷◌, ◌++◌, map, Bool, true, false, Some, None, inl, inr, arith, refl, sym, ap, ◌∙◌, add-one, add-zero, zero-add}
-use Rattle.std.specs.Prelude.{◌&&◌, nat_lt, is_none, Option, if◌then◌else◌}
+use Rattle.std.proofs.Common.{◌≡◌, ℕ, zero, suc, ◌+◌, ◌-◌, ◌<◌, ◌≤◌, List, [], ◌∷◌, ◌++◌, map, Bool, true, false, Some, None, arith, refl, sym, ap, ◌∙◌, add-one, add-zero, zero-add}
+use Rattle.std.specs.Prelude.{◌&&◌, is_none, Option}
 use Rattle.std.specs.List.{list_all, range_with_len}
 use borrow.Author.Tests.{le-ltb, lt-ltb}
 use Rattle.kms_model.specs.declared.objects.Kind.TheVariants.{Crtc, Plane, Conn}

@@ -1,5 +1,5 @@
 -- What a tracker in step with the machine answers, in the machine's words.
-use Rattle.std.proofs.Common.{◌≡◌, ℕ, ◌+◌, ◌<◌, ◌≤◌, List, [], ◌∷◌, length, Bool, true, false, Some, None, cond, inl, inr, arith, refl, sym, ap, ◌∙◌}
+use Rattle.std.proofs.Common.{◌≡◌, ℕ, ◌<◌, List, [], ◌∷◌, length, Bool, true, false, Some, None, cond, inl, inr, refl, sym, ap, ◌∙◌}
 use Rattle.std.specs.Prelude.{◌&&◌, ◌||◌, not, nat_lt, find, Option, if◌then◌else◌}
 use Rattle.std.specs.List.{list_all}
 use Rattle.kms_model.specs.declared.objects.Kind.TheVariants.{Crtc}
@@ -20,8 +20,8 @@ use Rattle.kms_model.specs.Request.Touched.{touches}
 use Rattle.kms_model.proofs.Items.{IsIn}
 use Rattle.kms_signal.specs.FenceSets.{FenceSet, is_signalled}
 use Rattle.kms_track.specs.InStep.{told_of, IsInStep, AreOfDevice, is_there, pending_pair, busy_answer}
-use Rattle.kms_track.specs.Places.{object_at, mask_has, all_below, first_below}
-use Rattle.kms_track.specs.Told.{Told, has_flipped, previous, is_settled_for, may_claim, pending_at, pending_of, first_busy}
+use Rattle.kms_track.specs.Places.{object_at, mask_has, all_below}
+use Rattle.kms_track.specs.Told.{Told, has_flipped, previous, is_settled_for, pending_at, pending_of}
 use Rattle.kms_track.specs.Tracking.{Tracking, ready_of, busy_of, with_object, unless}
 use Rattle.kms_track.proofs.KeptAnswers.{ready_told, busy_told}
 use Rattle.kms_track.proofs.Lockables.{crtcs_all, all_lockable, first_lockable}
@@ -44,7 +44,7 @@ settled_machine t m k object device =
     ap (λ o. if_there (λ j. is_hw_done m.device j && has_flipped (told_of t m.device.commits m.device.marks m.records.latches) j object) o) (previous_machine t m.device.commits m.device.marks m.records.latches k object)
     ∙ there_same _ _ (machine.previous t m.device.commits k object) (λ j. ap (λ b. is_hw_done m.device j && b) (flipped_machine t m.device.commits m.device.marks m.records.latches j object device))
 
-all_alike : (f g : ℕ → Bool) (xs : List ℕ) → ((x : ℕ) → IsIn x xs → f x ≡ g x) → list_all f xs ≡ list_all g xs
+pub all_alike : (f g : ℕ → Bool) (xs : List ℕ) → ((x : ℕ) → IsIn x xs → f x ≡ g x) → list_all f xs ≡ list_all g xs
 all_alike f g [] same = refl
 all_alike f g (x ∷ xs) same = rw (same x (inl refl), all_alike f g xs (λ y there. same y (inr there))) refl
 

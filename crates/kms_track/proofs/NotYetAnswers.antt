@@ -8,7 +8,7 @@ use Rattle.kms_model.specs.declared.objects.ObjId.{ObjId}
 use Rattle.kms_model.specs.declared.objects.Topology.{Topology}
 use Rattle.kms_model.specs.declared.scripts.Request.{Request}
 use Rattle.kms_model.specs.Firsts.{or_else}
-use Rattle.kms_model.specs.Device.Masks.{has_bit, mask_below}
+use Rattle.kms_model.specs.Device.Masks.{has_bit}
 use Rattle.kms_model.specs.Device.Objects.{object_id, ids_of, count_of}
 use Rattle.kms_model.specs.Machine.Commits as machine
 use Rattle.kms_model.specs.Machine.Commits.{if_there, is_hw_done, is_cleaned}
@@ -21,7 +21,7 @@ use Rattle.kms_model.proofs.Items.{IsIn, IsObject, ids-in}
 use Rattle.kms_model.proofs.MaskLemmas.{has_bit-mask_below}
 use Rattle.kms_track.specs.InStep.{told_of, IsInStep, IsWithinPlaces}
 use Rattle.kms_track.specs.Places.{object_at, all_below, first_below}
-use Rattle.kms_track.specs.Told.{Told, previous_of, not_marked, awaited_at, first_awaited, crtc_ids}
+use Rattle.kms_track.specs.Told.{Told, previous_of, not_marked, awaited_at, crtc_ids}
 use Rattle.kms_track.specs.Tracking.{Tracking, not_yet_of, with_object, unless, or_other}
 use Rattle.kms_track.proofs.KeptAnswers.{not_yet_told}
 use Rattle.kms_track.proofs.Lockables.{crtcs_all}

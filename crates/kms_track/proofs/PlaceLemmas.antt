@@ -1,8 +1,7 @@
 -- Loops over places: the first value, and a test of all.
-use Rattle.std.proofs.Common.{◌≡◌, ℕ, zero, suc, ◌+◌, ◌<◌, ◌≤◌, Bool, true, false, Some, None, inl, inr, arith, refl, add-one, zero-add, suc-add, ◌-◌}
+use Rattle.std.proofs.Common.{◌≡◌, ℕ, zero, suc, ◌+◌, ◌<◌, Bool, true, false, Some, None, inl, inr, arith, refl, add-one, zero-add, suc-add, ◌-◌}
 use Rattle.std.specs.Prelude.{Option, ◌&&◌}
 use Rattle.std.proofs.lemmas.Bool.{cases_lt}
-use Rattle.kms_model.specs.Firsts.{or_else}
 use Rattle.kms_model.specs.declared.objects.ObjId.{ObjId}
 use Rattle.kms_track.specs.Places.{object_at, all_below, first_below}
 use Rattle.kms_track.specs.Tracking.{with_object}

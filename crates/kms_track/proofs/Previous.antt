@@ -1,5 +1,5 @@
 -- The last number below another that passes a test.
-use Rattle.std.proofs.Common.{◌≡◌, ℕ, zero, suc, ◌<◌, Bool, true, false, Some, None, cond, arith, refl}
+use Rattle.std.proofs.Common.{◌≡◌, ℕ, zero, suc, ◌<◌, Bool, true, false, Some, cond, arith, refl}
 use Rattle.kms_model.specs.Machine.Commits.{last_below}
 
 pub last_is : (test : ℕ → Bool) (n j : ℕ) → last_below test n ≡ Some j → (j < n) × (test j ≡ true)

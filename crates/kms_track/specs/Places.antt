@@ -1,6 +1,6 @@
 -- The objects that commits touch, each at its place in the order of their ids: 4 CRTCs, 16 planes and 8 connectors of the
 -- largest device. From: "KMS Locking"; drm_crtc_mask, drm_plane_mask, drm_connector_mask.
-use Rattle.std.specs.Prelude.{ℕ, zero, suc, ◌+◌, ◌-◌, ◌==◌, ◌||◌, ◌&&◌, nat_lt, Bool, true, false, List, Option, Some, None, slice_index_or, if◌then◌else◌}
+use Rattle.std.specs.Prelude.{ℕ, zero, suc, ◌-◌, ◌==◌, ◌||◌, ◌&&◌, nat_lt, Bool, true, Option, Some, None, slice_index_or, if◌then◌else◌}
 use Rattle.kms_model.specs.declared.objects.Kind.TheVariants.{Crtc, Plane, Conn}
 use Rattle.kms_model.specs.declared.states.Both.{Both}
 use Rattle.kms_model.specs.declared.states.ConnState.{ConnState}

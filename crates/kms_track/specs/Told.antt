@@ -1,6 +1,6 @@
 -- What a tracker was told of the commits that were set up so far, in the words of the machine's commits. From:
 -- drm_atomic_helper_setup_commit, drm_atomic_helper_wait_for_dependencies; `struct drm_crtc_commit`.
-use Rattle.std.specs.Prelude.{◌≡◌, ℕ, ◌+◌, ◌<◌, ◌==◌, ◌&&◌, ◌||◌, not, nat_lt, Bool, true, false, List, [], ◌∷◌, length, map, slice_index_or, Option, Some, None, if◌then◌else◌}
+use Rattle.std.specs.Prelude.{◌≡◌, ℕ, ◌+◌, ◌<◌, ◌==◌, ◌&&◌, ◌||◌, not, nat_lt, Bool, true, false, List, [], ◌∷◌, length, slice_index_or, Option, Some, None, if◌then◌else◌}
 use Rattle.std.specs.List.{list_all}
 use Rattle.kms_model.specs.declared.objects.ObjId.{ObjId}
 use Rattle.kms_model.specs.declared.states.Checked.{Checked}
@@ -11,7 +11,7 @@ use Rattle.kms_model.specs.Stores.Tables.{AreBelow}
 use Rattle.kms_track.specs.declared.commits.Pending.{Pending}
 use Rattle.kms_track.specs.declared.commits.Touched.{Touched}
 use Rattle.kms_track.specs.Places.{object_at, crtc_id, mask_has, sides_at, is_side, all_below, first_below}
-use Rattle.kms_track.specs.Tracking.{Tracking, no_last, last_at, commit_of, fence_ids, with_object, unless, or_other}
+use Rattle.kms_track.specs.Tracking.{Tracking, last_at, commit_of, fence_ids, with_object, unless, or_other}
 
 -- Commits are numbered from 0, and objects and CRTCs are given by their ids.
 pub record Told : Type 0 where

@@ -140,7 +140,8 @@ pub(crate) fn all_fences(in_fences: &[(ObjId, u32)]) -> [Option<u32>; 16]
 
 /// The last two commits of each object after one that touches these.
 pub(crate) fn raise(last: &mut [Last; 28], touched: &Mask, commit: u32)
-    ensures { (p : ℕ) → p < 28 → slice_index_or last.new p no_last ≡ raised (slice_index_or last.old p no_last) (mask_has touched.now p) commit }
+    ensures { (p : ℕ) → p < 28 → slice_index_or last.new p no_last
+        ≡ raised (slice_index_or last.old p no_last) (mask_has touched.now p) commit }
 {
     for place in 0..OBJECTS {
         let i = place as usize;

@@ -87,7 +87,8 @@ impl Tracker {
         requires count { self.old.count < 4294967295 }
         requires fences { length in_fences.now ≤ 16 }
         ensures number { IfOk result (λ k. k ≡ self.old.count) }
-        ensures set_up { OnOk result (IsSetUp self.old self.new checked.now (map (λ f. f.1) in_fences.now)) }
+        ensures set_up { OnOk result
+            (IsSetUp self.old self.new checked.now (map (λ f. f.1) in_fences.now)) }
         ensures room { OnOk result (self.old.pending.room ≤ self.new.pending.room + 1) }
         ensures there { 0 < self.old.pending.room → IsOk result }
         ensures err { OnErr result (self.new ≡ self.old) }

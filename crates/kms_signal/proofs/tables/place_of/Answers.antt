@@ -1,6 +1,4 @@
-use Rattle.std.proofs.Common.{rules, ℕ, length}
-use Rattle.std.specs.Prelude.{Result}
-use Rattle.std.specs.Fn.{ComputesKey}
+use Rattle.std.proofs.Common.{rules}
 use Rattle.std.proofs.lemmas.Fn.{always_returns_same}
 use Rattle.kms_signal.proofs.Places.{found_place, absent_place}
 use Rattle.kms_signal.proofs.tables.place_of.Goals as goal

@@ -1,4 +1,4 @@
-use Rattle.std.proofs.Common.{◌≡◌, ◌<◌, ◌≤◌, length, None, Some, get_or, arith, ◌∙◌, length-set}
+use Rattle.std.proofs.Common.{◌<◌, length, None, Some, get_or, arith, ◌∙◌, length-set}
 use Rattle.kms_track.proofs.FenceIds.{ids_at_places}
 use Rattle.kms_track.proofs.Writes.{each_below, each_behind, fence_here}
 use Rattle.kms_track.proofs.commits.all_fences.Goals as goal

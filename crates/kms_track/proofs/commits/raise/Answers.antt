@@ -1,4 +1,4 @@
-use Rattle.std.proofs.Common.{◌<◌, ◌≤◌, length, get_or, arith, ◌∙◌, length-set}
+use Rattle.std.proofs.Common.{◌<◌, length, get_or, arith, ◌∙◌, length-set}
 use Rattle.kms_track.specs.Places.{mask_has}
 use Rattle.kms_track.specs.Tracking.{no_last, raised}
 use Rattle.kms_track.proofs.Writes.{each_below, each_behind, raise_here}

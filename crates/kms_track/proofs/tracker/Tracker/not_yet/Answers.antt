@@ -1,4 +1,4 @@
-use Rattle.std.proofs.Common.{◌≡◌, None, Some, rules, arith, refl, sym, ap}
+use Rattle.std.proofs.Common.{◌≡◌, None, rules, arith, refl, sym, ap}
 use Rattle.kms_track.specs.Places.{first_below}
 use Rattle.kms_track.specs.Tracking.{with_object, not_yet_at}
 use Rattle.kms_track.proofs.PlaceLemmas.{none_more, first_found, object_here}
