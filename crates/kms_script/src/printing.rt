@@ -48,7 +48,7 @@ fn push_conn(text: &mut Vec<u8>, crtcs: u32) -> Result<(), NoMemory>
 
 fn push_planes(text: &mut Vec<u8>, planes: &[PlaneInfo]) -> Result<(), NoMemory>
     ensures { OnOk result (text.new.items
-        ≡ text.old.items ++ flat_map (λ p. line (plane_words p)) planes.now) }
+        ≡ text.old.items ++ flat_map (λ p. line (spelt_plane p)) planes.now) }
 {
     for plane in planes {
         push_plane(text, plane)?;
