@@ -1,0 +1,165 @@
+-- The words of a sound world's states, read back.
+use Rattle.std.proofs.Common.{◌≡◌, ℕ, ◌≤◌, List, [], ◌∷◌, Bool, true, false, ◌==◌, Option, Some, None, refl, sym, ap, ◌∙◌, subst, arith, rules, inl, inr}
+use Rattle.std.specs.Prelude.{if◌then◌else◌, not, ℤ, pos, negsuc, is_some}
+use Rattle.std.specs.Int.{w32, cast_signed, cast_unsigned}
+use Rattle.std.specs.List.{AllByRecursion}
+use Rattle.std.specs.Ordering.{int_eq}
+use Rattle.std.proofs.lemmas.Bool.{cond-false, ne_eqb}
+use Rattle.std.proofs.lemmas.Int.{ints, to_z-of_z}
+use Rattle.kms_model.specs.declared.objects.Format.{Format}
+use Rattle.kms_model.specs.declared.objects.Format.TheVariants.{Xr24, Ar24, Rg16}
+use Rattle.kms_model.specs.declared.objects.Kind.TheVariants.{Crtc, Plane, Conn}
+use Rattle.kms_model.specs.declared.objects.Mode.{Mode}
+use Rattle.kms_model.specs.declared.objects.Topology.{Topology}
+use Rattle.kms_model.specs.declared.pictures.FbInfo.{FbInfo}
+use Rattle.kms_model.specs.declared.pictures.Picture.{Picture}
+use Rattle.kms_model.specs.declared.pictures.Picture.TheVariants.{Off, On}
+use Rattle.kms_model.specs.declared.properties.TheConstants.{ACTIVE, FB_ID, MODE_ID}
+use Rattle.kms_model.specs.declared.states.PlaneState.{PlaneState}
+use Rattle.kms_model.specs.declared.worlds.Content.{Content}
+use Rattle.kms_model.specs.declared.worlds.Content.TheVariants as content
+use Rattle.kms_model.specs.declared.worlds.Thing.{Thing}
+use Rattle.kms_model.specs.declared.worlds.World.{World}
+use Rattle.kms_model.specs.Device.ModeBytes.{mode_held}
+use Rattle.kms_model.specs.Device.Objects.{ids_of}
+use Rattle.kms_model.specs.Device.Sound.{AreNumbered, IsBetween, IsPlaneInRange, IsSound}
+use Rattle.kms_model.specs.Device.States.{connector_on, framebuffer_in, framebuffer_of, mode_at, mode_in, mode_of, natural, plane_at}
+use Rattle.kms_model.specs.Device.World.{thing_numbered, value}
+use Rattle.kms_model.specs.Frames.Pictures.{layers_with, picture, picture_in, put_plane, seen_on, shown_with}
+use Rattle.kms_model.specs.Frames.Shown.{AreFramed, FramesIn}
+use Rattle.kms_model.specs.Machine.Registers.{CrtcWords, bytes_of_words, code_of, crtc_words, fb_number, flag_word, format_in, mode_in_words, mode_words, plane_in, plane_words}
+use Rattle.kms_model.specs.Request.Checks.{is_active}
+use Rattle.kms_model.proofs.HeldValues.{all_held-from}
+use Rattle.kms_model.proofs.Items.{IsIn, IsObject, ids-in}
+use Rattle.kms_model.proofs.StateLemmas.{plane_in_range, sound-mode}
+use Rattle.kms_model.proofs.ThingLemmas.{IsNumberedIn, find-in, ids-numbered}
+use Rattle.kms_laws.proofs.Invariants.{picture_in_words}
+use Rattle.kms_laws.proofs.Requests.{words_at}
+
+-- Items of a list of things
+
+pub by_recursion-at : {A : Type 0} (P : A → Type 0) (xs : List A) (x : A) → AllByRecursion P xs → IsIn x xs → P x
+by_recursion-at P [] x all is = absurd is
+by_recursion-at P (y ∷ ys) x all (inl same) = subst P same all.0
+by_recursion-at P (y ∷ ys) x all (inr rest) = by_recursion-at P ys x all.1 rest
+
+-- the id of a framebuffer that is found under a number
+framed_id : (things : List Thing) (id : ℕ) (c : Content) (fb : FbInfo) → FramesIn things id c → framebuffer_in c ≡ Some fb → fb.id ≡ id
+framed_id things id (content.Framebuffer info buffer) fb frames e = (let same : info ≡ fb = cc in ap (λ (f : FbInfo). f.id) (sym same) ∙ frames.own_id)
+framed_id things id (content.Buffer width height format pattern) fb frames e = absurd cc
+framed_id things id (content.Mode m) fb frames e = absurd cc
+framed_id things id (content.Blob bytes) fb frames e = absurd cc
+framed_id things id content.Fence fb frames e = absurd cc
+framed_id things id content.OutFence fb frames e = absurd cc
+
+fb_some : (things : List Thing) (number : ℤ) (fb : FbInfo) → AreNumbered 1000 things → AreFramed things → framebuffer_of (thing_numbered things number) ≡ Some fb → 1000 ≤ fb.id
+fb_some things number fb numbered framed e = go (thing_numbered things number) refl e
+  where
+    go : (o : Option Thing) → thing_numbered things number ≡ o → framebuffer_of o ≡ Some fb → 1000 ≤ fb.id
+    go None found e = absurd cc
+    go (Some thing) found e =
+        let is : IsIn thing things = find-in (λ u. int_eq (pos u.id) number) things thing found in
+        let n : IsNumberedIn 1000 things thing.id = ids-numbered 1000 things thing numbered is in
+        let same : fb.id ≡ thing.id = framed_id things thing.id thing.content fb (by_recursion-at (λ u. FramesIn things u.id u.content) things thing framed is) e in
+        omega (arith, n.low, same)
+
+-- Planes
+
+format_back : (f : Format) → format_in (code_of f) ≡ f
+format_back Xr24 = refl
+format_back Ar24 = refl
+format_back Rg16 = refl
+
+-- a framebuffer, or none, of a plane's words
+fb_words : Option FbInfo → Option FbInfo
+fb_words fb =
+    if fb_number (λ f. f.id) fb == 0 then None
+    else Some (record { id = fb_number (λ f. f.id) fb; width = fb_number (λ f. f.width) fb; height = fb_number (λ f. f.height) fb; format = format_in (fb_number (λ f. code_of f.format) fb) })
+
+fb_back : (fb : Option FbInfo) → ((f : FbInfo) → fb ≡ Some f → 1000 ≤ f.id) → fb_words fb ≡ fb
+unfolding fb_words
+fb_back None known = refl
+fb_back (Some f) known =
+    cond-false (f.id == 0) None _ (ne_eqb f.id 0 (λ e. absurd (omega (arith, e, known f refl))))
+    ∙ ap (λ z. Some (record { id = f.id; width = f.width; height = f.height; format = z })) (format_back f.format)
+
+signed_back : (z : ℤ) → IsBetween (negsuc 2147483647) (pos 2147483647) z → cast_signed w32 (cast_unsigned w32 z) ≡ z
+signed_back z between = to_z-of_z w32 z (search (rules, between.low, between.high))
+
+pos_back : (high : ℕ) (z : ℤ) → IsBetween (pos 0) (pos high) z → pos (natural z) ≡ z
+pos_back high (pos n) between = refl
+pos_back high (negsuc n) between = absurd (omega (arith, ints, between.low))
+
+plane_with : Option FbInfo → ℤ → ℤ → ℤ → ℤ → ℤ → ℤ → ℤ → ℤ → PlaneState → PlaneState
+plane_with fb x y w h src_x src_y src_w src_h s = record s {
+  fb = fb;
+  dst = record { x = x; y = y; w = w; h = h };
+  src = record { x = src_x; y = src_y; w = src_w; h = src_h };
+}
+
+state_back : (s : PlaneState) → IsPlaneInRange s → ((f : FbInfo) → s.fb ≡ Some f → 1000 ≤ f.id) → plane_in (plane_words s) ≡ s
+unfolding plane_in plane_words plane_with fb_words
+state_back s range known = (λ i. plane_with (fb_back s.fb known i) (signed_back s.dst.x range.x i) (signed_back s.dst.y range.y i)
+    (pos_back 2147483647 s.dst.w range.w i) (pos_back 2147483647 s.dst.h range.h i)
+    (pos_back 4294967295 s.src.x range.src_x i) (pos_back 4294967295 s.src.y range.src_y i) (pos_back 4294967295 s.src.w range.src_w i) (pos_back 4294967295 s.src.h range.src_h i) s)
+
+pub plane_back : (t : Topology) (w : World) (p : ℕ) → IsSound t w → AreFramed w.things → IsIn p (ids_of t Plane) → plane_in (plane_words (plane_at w.things w.values p)) ≡ plane_at w.things w.values p
+plane_back t w p sound framed is =
+    state_back (plane_at w.things w.values p) (plane_in_range t w.things w.values p (all_held-from t w.things w.values sound.held) is)
+    (λ f e. fb_some w.things (value w.values p FB_ID) f sound.numbered framed e)
+
+-- Modes
+
+-- a mode is what its words hold
+abbrev pub IsKeptMode : Mode → Type 0
+IsKeptMode m = mode_held (bytes_of_words (mode_words (Some m))) ≡ m
+
+-- so is the mode of a content, if it has one
+pub record KeepsMode (c : Content) : Type 0 where
+  pub mode : (m : Mode) → mode_in c ≡ Some m → IsKeptMode m
+
+abbrev pub AreKept : List Thing → Type 0
+AreKept things = AllByRecursion (λ thing. KeepsMode thing.content) things
+
+kept_mode : (things : List Thing) (number : ℤ) (m : Mode) → AreKept things → mode_of (thing_numbered things number) ≡ Some m → IsKeptMode m
+kept_mode things number m kept e = go (thing_numbered things number) refl e
+  where
+    go : (o : Option Thing) → thing_numbered things number ≡ o → mode_of o ≡ Some m → IsKeptMode m
+    go None found e = absurd cc
+    go (Some thing) found e = (by_recursion-at (λ u. KeepsMode u.content) things thing kept (find-in (λ u. int_eq (pos u.id) number) things thing found)).mode m e
+
+-- Pictures
+
+layers-alike : (f g : ℕ → PlaneState) (m : Mode) (c : ℕ) (ps : List ℕ) → ((p : ℕ) → IsIn p ps → f p ≡ g p) → layers_with f m c ps ≡ layers_with g m c ps
+layers-alike f g m c [] h = refl
+layers-alike f g m c (p ∷ ps) h = (λ i. put_plane m p (h p (inl refl) i) (seen_on c (h p (inl refl) i)) (layers-alike f g m c ps (λ q e. h q (inr e)) i))
+
+pub picture-alike : (t : Topology) (w : CrtcWords) (f g : ℕ → PlaneState) (c : ℕ) → ((p : ℕ) → IsIn p (ids_of t Plane) → f p ≡ g p) → picture_in_words t w f c ≡ picture_in_words t w g c
+picture-alike t w f g c h =
+    ap (λ layers. if not (w.active == 0) then On (shown_with (mode_in_words w) w.conn layers) else Off) (layers-alike f g (mode_in_words w) c (ids_of t Plane) h)
+
+-- what a CRTC's words show, where they are those of values, is what the values show
+pub words_show : (t : Topology) (w : World) (c : ℕ) → IsSound t w → AreFramed w.things → AreKept w.things → IsIn c (ids_of t Crtc)
+    → picture_in_words t (words_at t w.things w.values c) (λ p. plane_in (plane_words (plane_at w.things w.values p))) c ≡ picture t w.things w.values c
+unfolding crtc_words picture
+words_show t w c sound framed kept is =
+    picture-alike t (words_at t w.things w.values c) _ (plane_at w.things w.values) c (λ p i. plane_back t w p sound framed i)
+    ∙ by_active (int_eq (value w.values c ACTIVE) (pos 0)) refl
+  where
+    shows : Option Mode → Picture
+    shows m = On (shown_with (mode_held (bytes_of_words (mode_words m))) (connector_on w.values c (ids_of t Conn)) (layers_with (plane_at w.things w.values) (mode_held (bytes_of_words (mode_words m))) c (ids_of t Plane)))
+
+    with_mode : (m : Option Mode) → mode_at w.things w.values c ≡ m → is_some m ≡ true → shows m ≡ picture_in t w.things w.values c m
+    with_mode None e some = absurd cc
+    with_mode (Some m) e some =
+        ap (λ z. On (shown_with z (connector_on w.values c (ids_of t Conn)) (layers_with (plane_at w.things w.values) z c (ids_of t Plane)))) (kept_mode w.things (value w.values c MODE_ID) m kept e)
+
+    some_mode : is_active w.values c ≡ true → is_some (mode_at w.things w.values c) ≡ true
+    some_mode on =
+        let o : IsObject t Crtc c = ids-in t Crtc c is in
+        subst (λ z. is_active w.values z ≡ true → is_some (mode_at w.things w.values z) ≡ true) (sym o.same) (sound-mode t w o.index sound o.within) on
+
+    by_active : (off : Bool) → int_eq (value w.values c ACTIVE) (pos 0) ≡ off
+        → (if not (flag_word (not off) == 0) then shows (mode_at w.things w.values c) else Off) ≡ (if off then Off else picture_in t w.things w.values c (mode_at w.things w.values c))
+    by_active true e = refl
+    by_active false e = with_mode (mode_at w.things w.values c) refl (some_mode (ap not e))

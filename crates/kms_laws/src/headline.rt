@@ -1,0 +1,41 @@
+//! The headline: every interleaving shows what one thread shows.
+ghost use Rattle.kms_model.specs.Headline.{HeadlineHolds};
+ghost use Rattle.kms_model.specs.Promises.{EventsOnce, FramebuffersOnce, InEachHistory, WholePictures};
+ghost use Rattle.kms_laws.specs.Laws.{HasSerialWorld, TailsGoOn};
+
+/// For every script and every interleaving of clients, workers, fences and vertical blankings: the pictures that each CRTC
+/// latches are, in order, a prefix of those that the device of one thread shows when it executes the journal's commands
+/// one by one, and all of them once the run has drained; every verdict on a request is that device's at its place in
+/// the journal.
+pub fn headline_holds()
+    ensures { HeadlineHolds }
+{}
+
+/// The world of the machine is that of the device of one thread after the journal, and that device is sound.
+pub fn world_is_serial()
+    ensures { InEachHistory HasSerialWorld }
+{}
+
+/// Pictures are whole: at each moment the live picture of a CRTC is the last that it latched, Off before the first, and each
+/// that it latched is what it shows in the new values of one commit.
+pub fn pictures_are_whole()
+    ensures { WholePictures }
+{}
+
+/// A framebuffer that was made and is not needed is never needed again. So each is freed at most once, by the step after
+/// which it is first not needed.
+pub fn framebuffers_are_freed_once()
+    ensures { FramebuffersOnce }
+{}
+
+/// Events come once: what a client has read, and then its unread events, are those delivered, one for each latch of its
+/// commits that ask for events; and one is reserved for each that is still to come.
+pub fn events_come_once()
+    ensures { EventsOnce }
+{}
+
+/// Tails go on: where a commit is not cleaned, a step may be done that is no vertical blanking without GO, or the least
+/// such commit is not claimed and waits for a fence that is not signalled.
+pub fn tails_go_on()
+    ensures { TailsGoOn }
+{}
