@@ -2,3 +2,4 @@ pub mod Rooms
 pub mod FenceSets
 pub mod Queues
 pub mod InStep
+pub mod MachineLaws

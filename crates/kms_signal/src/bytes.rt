@@ -1,5 +1,5 @@
-//! The bytes of an event.
-ghost use Rattle.std.specs.Prelude.{◌≡◌};
+//! Flip events, and their bytes.
+ghost use Rattle.std.specs.Prelude.{◌≡◌, ◌%◌, ◌^◌};
 ghost use Rattle.kms_model.specs.Report.EventBytes.{event_bytes};
 
 use kms_model::Event;
@@ -22,4 +22,17 @@ pub fn event_bytes(event: &Event) -> [u8; 32]
     bytes[24..28].copy_from_slice(&event.sequence.to_le_bytes());
     bytes[28..32].copy_from_slice(&event.crtc.to_le_bytes());
     bytes
+}
+
+/// The event of a latch at the CRTC of an id, with the user data of its request. Its sequence is the CRTC's count of
+/// vertical blankings without what is above 32 bits. (Header: `drm.h`, `struct drm_event_vblank`; kernel:
+/// `drm_vblank.c`, `send_vblank_event`.)
+pub fn flip_event(user_data: u64, count: u64, crtc: u32) -> Event
+    ensures { result ≡ record { user_data = user_data; sequence = count % 2 ^ 32; crtc = crtc } }
+{
+    Event {
+        user_data,
+        sequence: (count % 0x1_0000_0000) as u32,
+        crtc,
+    }
 }

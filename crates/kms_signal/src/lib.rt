@@ -16,8 +16,8 @@ mod tables;
 #[cfg(test)]
 mod tests;
 
-pub use bytes::{EVENT_BYTES, event_bytes};
+pub use bytes::{EVENT_BYTES, event_bytes, flip_event};
 pub use fences::Fences;
-pub use law::delivered_is_read_then_unread;
+pub use law::{delivered_is_read_then_unread, stands_for_the_machine};
 pub use queues::{EVENT_SPACE, EventQueue, ReserveError};
 pub use tables::RoomTable;

@@ -38,6 +38,13 @@ fn an_event_is_read_as_its_bytes(rt: HostRuntime) -> Result<(), Fail> {
 }
 
 #[test]
+fn a_sequence_has_the_lower_32_bits_of_the_count(rt: HostRuntime) -> Result<(), Fail> {
+    assert_eq!(rt; flip_event(7, 4_294_967_297, 100), flip(1));
+    assert_eq!(rt; flip_event(7, 4_294_967_295, 100), flip(4_294_967_295));
+    Ok(())
+}
+
+#[test]
 fn events_are_read_in_the_order_of_their_delivery(rt: HostRuntime) -> Result<(), Fail> {
     let mut queue = EventQueue::new(rt.alloc());
     assert_eq!(rt; queue.reserve(rt.alloc(), 2), Ok(()));

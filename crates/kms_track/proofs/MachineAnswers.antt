@@ -26,10 +26,16 @@ use Rattle.kms_track.specs.Tracking.{Tracking, ready_of, busy_of, with_object, u
 use Rattle.kms_track.proofs.KeptAnswers.{ready_told, busy_told}
 use Rattle.kms_track.proofs.Lockables.{crtcs_all, all_lockable, first_lockable}
 
-flipped_machine : (t : Topology) (commits : List Commit) (marks : Marks) (latches : List Latch) (k object : ℕ) → AreOfDevice t commits → has_flipped (told_of t commits marks latches) k object ≡ machine.has_flipped t commits latches k object
+-- what holds of an object that is there, and of one that is not
+where_there : {A : Type 0} (b : Bool) → (b ≡ true → A) → (b ≡ false → A) → A
+where_there true there gone = there refl
+where_there false there gone = gone refl
+
+flipped_machine : (t : Topology) (commits : List Commit) (marks : Marks) (latches : List Latch) (k p : ℕ) → p < 28 → is_there t p ≡ true → AreOfDevice t commits
+    → has_flipped (told_of t commits marks latches) k (object_at p) ≡ machine.has_flipped t commits latches k (object_at p)
 unfolding machine.has_flipped
-flipped_machine t commits marks latches k object device =
-    sym (crtcs_all (λ crtc. not (commit_concerns t commits k object crtc) || has_latched latches k crtc) (count_of t Crtc) device.within.crtcs (λ i low high. rw (device.crtcs k object i low high) refl))
+flipped_machine t commits marks latches k p place there device =
+    sym (crtcs_all (λ crtc. not (commit_concerns t commits k (object_at p) crtc) || has_latched latches k crtc) (count_of t Crtc) device.within.crtcs (λ i low high. rw (device.crtcs k p i place there low high) refl))
 
 previous_machine : (t : Topology) (commits : List Commit) (marks : Marks) (latches : List Latch) (n object : ℕ) → previous (told_of t commits marks latches) n object ≡ machine.previous t commits n object
 unfolding machine.previous
@@ -39,10 +45,11 @@ there_same : (a b : ℕ → Bool) (o : Option ℕ) → ((j : ℕ) → a j ≡ b 
 there_same a b None same = refl
 there_same a b (Some j) same = same j
 
-settled_machine : (t : Topology) (m : Machine) (k object : ℕ) → AreOfDevice t m.device.commits → is_settled_for (told_of t m.device.commits m.device.marks m.records.latches) k object ≡ steps.is_settled_for t m k object
-settled_machine t m k object device =
-    ap (λ o. if_there (λ j. is_hw_done m.device j && has_flipped (told_of t m.device.commits m.device.marks m.records.latches) j object) o) (previous_machine t m.device.commits m.device.marks m.records.latches k object)
-    ∙ there_same _ _ (machine.previous t m.device.commits k object) (λ j. ap (λ b. is_hw_done m.device j && b) (flipped_machine t m.device.commits m.device.marks m.records.latches j object device))
+settled_machine : (t : Topology) (m : Machine) (k p : ℕ) → p < 28 → is_there t p ≡ true → AreOfDevice t m.device.commits
+    → is_settled_for (told_of t m.device.commits m.device.marks m.records.latches) k (object_at p) ≡ steps.is_settled_for t m k (object_at p)
+settled_machine t m k p place there device =
+    ap (λ o. if_there (λ j. is_hw_done m.device j && has_flipped (told_of t m.device.commits m.device.marks m.records.latches) j (object_at p)) o) (previous_machine t m.device.commits m.device.marks m.records.latches k (object_at p))
+    ∙ there_same _ _ (machine.previous t m.device.commits k (object_at p)) (λ j. ap (λ b. is_hw_done m.device j && b) (flipped_machine t m.device.commits m.device.marks m.records.latches j p place there device))
 
 pub all_alike : (f g : ℕ → Bool) (xs : List ℕ) → ((x : ℕ) → IsIn x xs → f x ≡ g x) → list_all f xs ≡ list_all g xs
 all_alike f g [] same = refl
@@ -57,7 +64,8 @@ ready_machine t m v fences k step device signals =
     let waited : list_all (is_signalled fences) (waited_fences t m.device.commits k) ≡ list_all (has_number m.device.signalled) (waited_fences t m.device.commits k) = all_alike _ _ (waited_fences t m.device.commits k) signals in
     let settled : all_below (λ p. not (commit_touches t m.device.commits k (object_at p)) || is_settled_for told k (object_at p)) 28
     ≡ list_all (λ object. not (commit_touches t m.device.commits k object) || steps.is_settled_for t m k object) (lockable t) =
-    all_lockable t _ _ device.within (λ p within. ap (λ b. not (commit_touches t m.device.commits k (object_at p)) || b) (settled_machine t m k (object_at p) device)) (λ p within gone. rw (device.objects k p within gone) refl) in
+    all_lockable t _ _ device.within (λ p within.
+    where_there (is_there t p) (λ there. ap (λ b. not (commit_touches t m.device.commits k (object_at p)) || b) (settled_machine t m k p within there device)) (λ gone. rw (device.objects k p within gone) refl)) (λ p within gone. rw (device.objects k p within gone) refl) in
     ready_told told v fences k step.keeps
     ∙ (ap (λ b. nat_lt k (length m.device.commits) && (not (has_number m.device.marks.claimed k) && (b && all_below (λ p. not (commit_touches t m.device.commits k (object_at p)) || is_settled_for told k (object_at p)) 28))) waited
     ∙ ap (λ b. nat_lt k (length m.device.commits) && (not (has_number m.device.marks.claimed k) && (list_all (has_number m.device.signalled) (waited_fences t m.device.commits k) && b))) settled)
@@ -76,10 +84,11 @@ unless_pair : (object k : ℕ) (b : Bool) → pending_pair object (unless b k) �
 unless_pair object k true = refl
 unless_pair object k false = refl
 
-pair_machine : (t : Topology) (m : Machine) (object : ℕ) (o : Option ℕ) → AreOfDevice t m.device.commits → pending_pair object (pending_of (told_of t m.device.commits m.device.marks m.records.latches) object o)
-    ≡ (if not (if_there (λ k. machine.has_flipped t m.device.commits m.records.latches k object) o) then Some (obj_id object, commit_numbered o) else None)
-pair_machine t m object None device = refl
-pair_machine t m object (Some k) device = rw (flipped_machine t m.device.commits m.device.marks m.records.latches k object device) (unless_pair object k (machine.has_flipped t m.device.commits m.records.latches k object))
+pair_machine : (t : Topology) (m : Machine) (p : ℕ) (o : Option ℕ) → p < 28 → is_there t p ≡ true → AreOfDevice t m.device.commits
+    → pending_pair (object_at p) (pending_of (told_of t m.device.commits m.device.marks m.records.latches) (object_at p) o)
+    ≡ (if not (if_there (λ k. machine.has_flipped t m.device.commits m.records.latches k (object_at p)) o) then Some (obj_id (object_at p), commit_numbered o) else None)
+pair_machine t m p None place there device = refl
+pair_machine t m p (Some k) place there device = rw (flipped_machine t m.device.commits m.device.marks m.records.latches k p place there device) (unless_pair (object_at p) k (machine.has_flipped t m.device.commits m.records.latches k (object_at p)))
 
 both_tests : (a b : Bool) (x : Option (ObjId × ℕ)) → (if a then (if b then x else None) else None) ≡ (if a && b then x else None)
 both_tests true b x = refl
@@ -103,9 +112,12 @@ busy_machine t m v mask r step device named off =
     busy_told told v mask step.keeps
     ∙ (first_lockable t _ (λ o. if touches t m.device.world r o && steps.is_pending t m o then busy_answer t m.device.commits (Some o) else None) device.within
     (λ p within.
+    where_there (is_there t p)
+    (λ there.
     chosen p (mask_has mask p) (pending_at told (object_at p))
     ∙ (ap (λ b. (if b then pending_pair (object_at p) (pending_at told (object_at p)) else None)) (named p within)
-    ∙ (ap (λ (x : Option (ObjId × ℕ)). (if touches t m.device.world r (object_at p) then x else None)) (pair_machine t m (object_at p) (machine.previous t m.device.commits (length m.device.commits) (object_at p)) device)
+    ∙ (ap (λ (x : Option (ObjId × ℕ)). (if touches t m.device.world r (object_at p) then x else None)) (pair_machine t m p (machine.previous t m.device.commits (length m.device.commits) (object_at p)) within there device)
     ∙ both_tests (touches t m.device.world r (object_at p)) (steps.is_pending t m (object_at p)) (busy_answer t m.device.commits (Some (object_at p))))))
+    (λ gone. rw (off p within gone, sym (named p within) ∙ off p within gone) refl))
     (λ p within gone. rw (off p within gone) refl)
     ∙ find_first t m.device.commits (λ o. touches t m.device.world r o && steps.is_pending t m o) (lockable t))

@@ -63,10 +63,12 @@ is_there t p =
     if nat_lt p 4 then nat_lt p (count_of t Crtc)
     else (if nat_lt p 20 then nat_lt (p - 4) (count_of t Plane) else nat_lt (p - 20) (count_of t Conn))
 
--- Commits touch objects of the device alone, which are on its CRTCs alone.
+-- Commits touch objects of the device alone, and these are on its CRTCs alone.
 pub record AreOfDevice (t : Topology) (commits : List Commit) : Type 0 where
   pub within : IsWithinPlaces t
-  pub crtcs : (k object i : ℕ) → count_of t Crtc ≤ i → i < 4 → commit_concerns t commits k object (crtc_id i) ≡ false
+  pub crtcs :
+      (k p i : ℕ) → p < 28 → is_there t p ≡ true → count_of t Crtc ≤ i → i < 4
+      → commit_concerns t commits k (object_at p) (crtc_id i) ≡ false
   pub objects : (k p : ℕ) → p < 28 → is_there t p ≡ false → commit_touches t commits k (object_at p) ≡ false
 
 -- an object with a commit, where there is one

@@ -1,5 +1,8 @@
-//! That a tracker answers what it was told.
+//! That a tracker answers what it was told, and so what the machine's conditions are.
 ghost use Rattle.kms_track.specs.Laws.{KeepsNothing, KeepsSetup, KeepsClaim, KeepsHwDone, KeepsLatch, KeepsCleanup, KeepsRoom, AnswersReady, AnswersBusy, AnswersNotYet};
+ghost use Rattle.kms_track.specs.MachineLaws.{StandsAtFirst, StandsAfterSetup, StandsAfterClaim, StandsAfterHwDone};
+ghost use Rattle.kms_track.specs.MachineLaws.{StandsAfterLatch, StandsAfterCleanup, StandsWithRoom};
+ghost use Rattle.kms_track.specs.MachineLaws.{TellsClaim, TellsPending, TellsReady};
 
 /// After any calls on a tracker, in any order in which no commit is cleaned before it is claimed, done and flipped, its
 /// answers are those of the commits as they were set up and of what it was told of each, cleaned ones too.
@@ -14,4 +17,21 @@ pub fn answers_what_it_was_told()
     ensures ready { AnswersReady }
     ensures busy { AnswersBusy }
     ensures not_yet { AnswersNotYet }
+{}
+
+/// While a tracker is told of each commit of a machine and of each of its marks and latches, it stands for them. `ready`
+/// is then the condition of a claim, `busy` tells the first object that is pending and its last commit, and `not_yet` is
+/// none exactly where the CRTCs that a request names are ready for its swap. (Kernel: `drm_atomic_helper.c`,
+/// `drm_atomic_helper_setup_commit`, `drm_atomic_helper_wait_for_dependencies`.)
+pub fn answers_as_the_machine()
+    ensures first { StandsAtFirst }
+    ensures setup { StandsAfterSetup }
+    ensures claim { StandsAfterClaim }
+    ensures hw_done { StandsAfterHwDone }
+    ensures flip_done { StandsAfterLatch }
+    ensures cleanup { StandsAfterCleanup }
+    ensures make_room { StandsWithRoom }
+    ensures ready { TellsClaim }
+    ensures busy { TellsPending }
+    ensures not_yet { TellsReady }
 {}
