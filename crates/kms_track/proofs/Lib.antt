@@ -7,5 +7,6 @@ pub mod KeptAnswers
 pub mod KeptChanges
 pub mod Lockables
 pub mod InStepLemmas
+mod OneCrtc
 pub mod MachineAnswers
 pub mod NotYetAnswers
