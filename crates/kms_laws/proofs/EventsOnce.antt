@@ -174,7 +174,7 @@ module _ (s : Script) where
         go step Ends = stall_keeps
         go step (May may) = may_keeps step may
 
-first_events : (s : Script) → HasEvents s (first_machine s.topology)
+pub first_events : (s : Script) → HasEvents s (first_machine s.topology)
 unfolding read
 first_events s = record { told = λ client. refl; counted = λ client. refl }
 

@@ -24,11 +24,11 @@ use Rattle.kms_model.specs.Device.Sound.{AreNumbered}
 use Rattle.kms_model.specs.Device.States.{framebuffer_in, framebuffer_of, plane_at}
 use Rattle.kms_model.specs.Device.World.{thing_labelled, thing_numbered, thing_with_id, value}
 use Rattle.kms_model.specs.Frames.Shown.{AreFramed, FramesIn}
-use Rattle.kms_model.specs.Machine.Commits.{commit_touches, is_cleaned, new_plane, old_plane}
+use Rattle.kms_model.specs.Machine.Commits.{commit_touches, is_cleaned, new_plane, old_plane, out_fence_of}
 use Rattle.kms_model.specs.Machine.Framebuffers.{commit_keeps, commits_keep, is_fb, is_needed, live_names, picture_names, values_name}
 use Rattle.kms_model.specs.Machine.Histories.{at, commit_numbers, is_history, legal}
 use Rattle.kms_model.specs.Machine.Effects.{next}
-use Rattle.kms_model.specs.Machine.Registers.{PlaneWords, decoded_picture, fb_number, plane_words}
+use Rattle.kms_model.specs.Machine.Registers.{PlaneWords, decoded_picture, fb_number, latched_registers, plane_words}
 use Rattle.kms_model.specs.Machine.State.{Commit, DeviceState, Machine, command_at, entry_at}
 use Rattle.kms_model.specs.Request.Apply.{after, id_in, number_of, prop_of}
 use Rattle.kms_model.specs.Request.Lookups.{look_of, look_of_content, look_up}
@@ -51,8 +51,8 @@ use Rattle.kms_laws.proofs.Invariants.{plane_after}
 use Rattle.kms_laws.proofs.Numbered.{plane_new, plane_old, touches_old}
 use Rattle.kms_laws.proofs.Present.{StatesStand, follows, states_like, swap_present}
 use Rattle.kms_laws.proofs.Steps.{Holds, IsPlainScript, history_kept}
-use Rattle.kms_laws.proofs.Traversal.{IsKept, commit_of, step_keeps}
-use Rattle.kms_laws.proofs.Whole.{Whole, history_whole, whole_kept}
+use Rattle.kms_laws.proofs.Traversal.{IsKept, commit_of, latch_of, latched_any, step_keeps}
+use Rattle.kms_laws.proofs.Whole.{Whole, history_whole, whole_kept, whole_latched}
 use Rattle.kms_laws.proofs.Words.{by_recursion-at}
 use Rattle.kms_model.specs.declared.worlds.Setting.{Setting}
 use Rattle.kms_model.specs.declared.worlds.Look.TheVariants as look
@@ -216,6 +216,13 @@ module _ (s : Script) (plain : IsPlainScript s) (fb : ℕ) where
       later : (p : ℕ) → IsIn p (ids_of s.topology Plane) → (plane_words (plane_at m.device.world.things (after m.device.world r) p)).fb ≡ fb → ⊥
       later p i e = ⊎_elim (λ old. G.unnamed p i old) (λ o. open_at-shut m.device.world.things fb G.shut o) (applied_fb s.topology m.device.world r p fb at H.present.framed G.some e)
 
+  signalled-freeing : (d : DeviceState) (ls : List Latch) (fence : ℕ) → Freeing s.topology fb d ls → Freeing s.topology fb (record d { signalled = fence ∷ d.signalled }) ls
+  signalled-freeing d ls fence F = record {
+    whole = (whole_kept s plain).signalled d ls fence F.whole;
+    states = F.states;
+    gone = record { some = F.gone.some; below = F.gone.below; shut = F.gone.shut; unnamed = F.gone.unnamed; unlive = F.gone.unlive; unkept = F.gone.unkept };
+  }
+
   pub freeing_kept : IsKept s (Freeing s.topology fb)
   freeing_kept = record {
     made = made-gone;
@@ -238,12 +245,14 @@ module _ (s : Script) (plain : IsPlainScript s) (fb : ℕ) where
     };
     waits = λ d ls c o F. record { whole = (whole_kept s plain).waits d ls c o F.whole; states = F.states; gone = record { some = F.gone.some; below = F.gone.below; shut = F.gone.shut; unnamed = F.gone.unnamed; unlive = F.gone.unlive; unkept = F.gone.unkept } };
     counted = λ d ls c n F. record { whole = (whole_kept s plain).counted d ls c n F.whole; states = F.states; gone = record { some = F.gone.some; below = F.gone.below; shut = F.gone.shut; unnamed = F.gone.unnamed; unlive = F.gone.unlive; unkept = F.gone.unkept } };
-    latched = λ d ls k c count T found F. record {
-      whole = (whole_kept s plain).latched d ls k c count T found F.whole;
-      states = F.states;
-      gone = record { some = F.gone.some; below = F.gone.below; shut = F.gone.shut; unnamed = F.gone.unnamed; unlive = unlive_after s.topology fb d ls k c count T found F.whole F.states F.gone; unkept = F.gone.unkept };
-    };
-    signalled = λ d ls fence F. record { whole = (whole_kept s plain).signalled d ls fence F.whole; states = F.states; gone = record { some = F.gone.some; below = F.gone.below; shut = F.gone.shut; unnamed = F.gone.unnamed; unlive = F.gone.unlive; unkept = F.gone.unkept } };
+    latched = λ d ls k c count T found F.
+        latched_any (Freeing s.topology fb) signalled-freeing (record d { live = latched_registers s.topology d.shadow d.live c }) (latch_of s.topology d k c count ∷ ls) (out_fence_of s.topology d.commits k c)
+        (record {
+          whole = whole_latched s.topology d ls k c count T found F.whole;
+          states = F.states;
+          gone = record { some = F.gone.some; below = F.gone.below; shut = F.gone.shut; unnamed = F.gone.unnamed; unlive = unlive_after s.topology fb d ls k c count T found F.whole F.states F.gone; unkept = F.gone.unkept };
+        });
+    signalled = signalled-freeing;
   }
 
 -- The definition of what is needed
@@ -252,7 +261,7 @@ is_fb-word : (fb : ℕ) (o : Option FbInfo) → 1 ≤ fb → is_fb fb o ≡ (fb_
 is_fb-word fb None some = sym (ne_eqb 0 fb (λ e. absurd (omega arith)))
 is_fb-word fb (Some f) some = refl
 
-range-below : (from n k : ℕ) → IsIn k (range_with_len from n) → k < from + n
+pub range-below : (from n k : ℕ) → IsIn k (range_with_len from n) → k < from + n
 range-below from zero k is = absurd is
 range-below from (suc n) k (inl same) = omega arith
 range-below from (suc n) k (inr rest) = let l = range-below (from + 1) n k rest in omega arith

@@ -10,21 +10,19 @@ use Rattle.kms_model.specs.declared.replies.Step.{Step}
 use Rattle.kms_model.specs.declared.replies.Step.TheVariants.{Claim, Write, Flush, HwDone, Vblank, Cleanup}
 use Rattle.kms_model.specs.declared.scripts.Script.{Script}
 use Rattle.kms_model.specs.Device.Objects.{count_of, ids_of, object_id}
-use Rattle.kms_model.specs.Machine.Commits.{commit_concerns, commit_names, commit_touches, has_flipped, has_latched, has_number, has_pair, if_there, is_all_flushed, is_all_latched, is_all_written, is_claimed, last_below, lockable, previous, registered, waited_fences}
-use Rattle.kms_model.specs.Machine.Histories.{at, client_numbers, commit_numbers, for_each, is_history, steps_of_client, steps_of_commit, steps_that_move, steps_with_go}
+use Rattle.kms_model.specs.Machine.Commits.{commit_concerns, commit_names, commit_touches, has_flipped, has_latched, has_number, has_pair, if_there, is_all_flushed, is_all_latched, is_all_written, last_below, lockable, previous, registered, waited_fences}
+use Rattle.kms_model.specs.Machine.Histories.{client_numbers, commit_numbers, for_each, steps_of_client, steps_of_commit, steps_that_move, steps_with_go}
 use Rattle.kms_model.specs.Machine.State.{DeviceState, Machine, first_machine, go_at, has_value}
 use Rattle.kms_model.specs.Machine.Steps.{is_settled_for, may, may_claim, next_flush, next_write}
-use Rattle.kms_model.proofs.Items.{IsIn, IsObject, ids-in, list_all-at, list_all-from, list_any-has}
-use Rattle.kms_laws.proofs.Whole.{history_whole}
-use Rattle.kms_laws.specs.Laws.{IsAllCleaned, WaitsAtFence, can_move}
+use Rattle.kms_model.proofs.Items.{IsIn, IsObject, ids-in, list_all-at, list_all-from}
 use Rattle.kms_laws.proofs.Apart.{CommitsApart}
 use Rattle.kms_laws.proofs.Basics.{both_bools, implied, implied_from, in_either, in_left, in_right}
-use Rattle.kms_laws.proofs.Going.{Going, step_go}
+use Rattle.kms_laws.proofs.Going.{Going}
 use Rattle.kms_laws.proofs.Headlines.{range-in}
-use Rattle.kms_laws.proofs.Steps.{Holds, IsPlainScript, along, first_kept, step_kept}
+use Rattle.kms_laws.proofs.Steps.{Holds}
 
 -- where not all are done, one is not
-not_all : (a b : ℕ → Bool) (xs : List ℕ) → list_all (λ o. not (a o) || b o) xs ≡ false → list_any (λ o. a o && not (b o)) xs ≡ true
+pub not_all : (a b : ℕ → Bool) (xs : List ℕ) → list_all (λ o. not (a o) || b o) xs ≡ false → list_any (λ o. a o && not (b o)) xs ≡ true
 not_all a b [] h = absurd (false≢true (sym h))
 not_all a b (x ∷ xs) h = ⊎_elim (λ e. or_left _ _ (here (a x) (b x) e)) (λ rest. or_right (a x && not (b x)) _ (not_all a b xs rest)) (and_cases (not (a x) || b x) _ h)
   where
@@ -34,16 +32,16 @@ not_all a b (x ∷ xs) h = ⊎_elim (λ e. or_left _ _ (here (a x) (b x) e)) (λ
     here false q e = absurd (false≢true (sym e))
 
 -- the first that passes
-record Found (test : ℕ → Bool) (xs : List ℕ) : Type 0 where
-  at : ℕ
-  is_in : IsIn at xs
-  passes : test at ≡ true
-  found : find test xs ≡ Some at
+pub record Found (test : ℕ → Bool) (xs : List ℕ) : Type 0 where
+  pub at : ℕ
+  pub is_in : IsIn at xs
+  pub passes : test at ≡ true
+  pub found : find test xs ≡ Some at
 
 found_further : (test : ℕ → Bool) (x : ℕ) (xs : List ℕ) → test x ≡ false → Found test xs → Found test (x ∷ xs)
 found_further test x xs fails f = record { at = f.at; is_in = inr f.is_in; passes = f.passes; found = cond-false (test x) (Some x) (find test xs) fails ∙ f.found }
 
-find-found : (test : ℕ → Bool) (xs : List ℕ) → list_any test xs ≡ true → Found test xs
+pub find-found : (test : ℕ → Bool) (xs : List ℕ) → list_any test xs ≡ true → Found test xs
 find-found test [] h = absurd (false≢true h)
 find-found test (x ∷ xs) h =
     elim (cases_Bool (test x)) [
@@ -51,12 +49,12 @@ find-found test (x ∷ xs) h =
       | inr fails ↦ found_further test x xs fails (find-found test xs (⊎_elim (λ e. absurd (both_bools _ e fails)) (λ e. e) (or_cases (test x) _ h)))
     ]
 
-in_flat : {A : Type 0} (f : ℕ → List A) (ks : List ℕ) (k : ℕ) (x : A) → IsIn k ks → IsIn x (f k) → IsIn x (flat_map f ks)
+pub in_flat : {A : Type 0} (f : ℕ → List A) (ks : List ℕ) (k : ℕ) (x : A) → IsIn k ks → IsIn x (f k) → IsIn x (flat_map f ks)
 in_flat f [] k x ik ix = absurd ik
 in_flat {A} f (j ∷ ks) k x (inl same) ix = in_left (f j) (flat_map f ks) x (subst (λ z. IsIn x (f z)) (sym same) ix)
 in_flat f (j ∷ ks) k x (inr rest) ix = in_right (f j) (flat_map f ks) x (in_flat f ks k x rest ix)
 
-in_map : {A : Type 0} (f : ℕ → A) (ks : List ℕ) (k : ℕ) → IsIn k ks → IsIn (f k) (map f ks)
+pub in_map : {A : Type 0} (f : ℕ → A) (ks : List ℕ) (k : ℕ) → IsIn k ks → IsIn (f k) (map f ks)
 in_map f [] k ik = absurd ik
 in_map f (j ∷ ks) k (inl same) = inl (ap f same)
 in_map f (j ∷ ks) k (inr rest) = inr (in_map f ks k rest)
@@ -83,7 +81,7 @@ module _ (s : Script) (m : Machine) where
       (in_left (flat_map (steps_of_commit s.topology) (commit_numbers m)) (steps_with_go s.topology m) step
       (in_flat (steps_of_commit s.topology) (commit_numbers m) k step (range-in 0 (length m.device.commits) k (omega arith) (omega (arith, l))) i))
 
-  each_in : (kind : Kind) (step : Kind → ℕ → Step) (index : ℕ) → index < count_of s.topology kind → IsIn (step kind index) (for_each s.topology kind step)
+  pub each_in : (kind : Kind) (step : Kind → ℕ → Step) (index : ℕ) → index < count_of s.topology kind → IsIn (step kind index) (for_each s.topology kind step)
   each_in kind step index l = in_map (step kind) (range_with_len 0 (count_of s.topology kind)) index (range-in 0 (count_of s.topology kind) index (omega arith) (omega (arith, l)))
 
   abbrev crtc_writes : ℕ → List Step
@@ -257,25 +255,5 @@ oldest d (suc n) =
     (cases_Bool (has_number d.marks.cleaned n)))
     (oldest d n)
 
-first_going : (t : Topology) → Going (first_machine t)
+pub first_going : (t : Topology) → Going (first_machine t)
 first_going t k c flushed un = absurd (false≢true flushed)
-
--- along a history
-pub history_progress : (s : Script) (h : List Step) → IsPlainScript s → is_history s h ≡ true → (o : Oldest (at s h).device (length (at s h).device.commits))
-    → CanMove s (at s h) ⊎ ((is_claimed (at s h).device o.commit ≡ false) × (list_all (has_number (at s h).device.signalled) (waited_fences s.topology (at s h).device.commits o.commit) ≡ false))
-history_progress s h plain is o =
-    let both = along s (λ m. Holds s m × Going m)
-    (λ m step both legal_step. (step_kept s m step plain both.0 legal_step, step_go s m both.0 both.1 step legal_step))
-    h (first_machine s.topology) (first_kept s plain, first_going s.topology) is in
-    goes_or_waits s (at s h) both.0 both.1 (history_whole s h plain is).apart o.commit o.within o.unclean o.before
-
-pub tails_go_on : (s : Script) (h : List Step) → IsPlainScript s → is_history s h ≡ true → IsAllCleaned (at s h) ⊎ ((can_move s (at s h) ≡ true) ⊎ WaitsAtFence s.topology (at s h))
-tails_go_on s h plain is =
-    ⊎_elim
-    (λ o. inr (
-    ⊎_elim
-    (λ move. inl (list_any-has (may s (at s h)) (steps_that_move s (at s h)) move.step move.is_in move.may_be))
-    (λ waits. inr (record { commit = o.commit; there = o.within; not_cleaned = o.unclean; least = o.before; not_claimed = waits.0; waits = waits.1 }))
-    (history_progress s h plain is o)))
-    (λ all. inl all)
-    (oldest (at s h).device (length (at s h).device.commits))

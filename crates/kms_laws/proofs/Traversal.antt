@@ -1,5 +1,5 @@
 -- One way over all steps, for what speaks of the device and of the latches.
-use Rattle.std.proofs.Common.{◌≡◌, ℕ, ◌+◌, List, [], ◌∷◌, length, Bool, true, false, not, ◌&&◌, Option, Some, None, refl}
+use Rattle.std.proofs.Common.{subst, ◌≡◌, ℕ, ◌+◌, List, [], ◌∷◌, length, Bool, true, false, not, ◌&&◌, Option, Some, None, refl}
 use Rattle.std.specs.Prelude.{if◌then◌else◌}
 use Rattle.std.proofs.lemmas.Bool.{and_parts, not-true}
 use Rattle.kms_model.specs.declared.objects.Kind.TheVariants.{Crtc}
@@ -63,6 +63,11 @@ pub record IsLatch (t : Topology) (d : DeviceState) (ls : List Latch) (k c : ℕ
 abbrev pub latch_of : Topology → DeviceState → ℕ → ℕ → ℕ → Latch
 latch_of t d k c count = record { crtc = index_of c; commit = k; count = count; picture = decoded_picture t (latched_registers t d.shadow d.live c) c }
 
+-- a fence is signalled, if there is one
+abbrev pub with_signal : DeviceState → Option ℕ → DeviceState
+with_signal d None = d
+with_signal d (Some fence) = record d { signalled = fence ∷ d.signalled }
+
 -- what is kept by each change of the device
 pub record IsKept (s : Script) (P : DeviceState → List Latch → Type 0) : Type 0 where
   pub made : (m : Machine) (client : ℕ) (c : Command) → Holds s m → command_at s m client ≡ Some c → is_atomic c ≡ false → P m.device m.records.latches
@@ -78,7 +83,7 @@ pub record IsKept (s : Script) (P : DeviceState → List Latch → Type 0) : Typ
   pub waits : (d : DeviceState) (ls : List Latch) (c : ℕ) (o : Option ℕ) → P d ls → P (record d { go = (c, o) ∷ d.go }) ls
   pub counted : (d : DeviceState) (ls : List Latch) (c n : ℕ) → P d ls → P (record d { counts = (c, n) ∷ d.counts }) ls
   pub latched : (d : DeviceState) (ls : List Latch) (k c count : ℕ) → TailOf s.topology d ls → IsLatch s.topology d ls k c → P d ls
-      → P (record d { live = latched_registers s.topology d.shadow d.live c }) (latch_of s.topology d k c count ∷ ls)
+      → P (with_signal (record d { live = latched_registers s.topology d.shadow d.live c }) (out_fence_of s.topology d.commits k c)) (latch_of s.topology d k c count ∷ ls)
   pub signalled : (d : DeviceState) (ls : List Latch) (fence : ℕ) → P d ls → P (record d { signalled = fence ∷ d.signalled }) ls
 
 module _ (s : Script) (P : DeviceState → List Latch → Type 0) (K : IsKept s P) where
@@ -95,11 +100,19 @@ module _ (s : Script) (P : DeviceState → List Latch → Type 0) (K : IsKept s 
 
   latch_keeps : (m : Machine) (k c count : ℕ) → TailOf s.topology m.device m.records.latches → IsLatch s.topology m.device m.records.latches k c → Of m → Of (latches s.topology m k c count)
   unfolding latches
-  latch_keeps m k c count T l p = signals_keeps _ (out_fence_of s.topology m.device.commits k c) (with_event (asks_event s.topology m.device.commits k))
+  latch_keeps m k c count T l p = with_event (asks_event s.topology m.device.commits k) (out_fence_of s.topology m.device.commits k c) refl
     where
-      with_event : (b : Bool) → Of (if b then delivers s.topology (latches_picture s.topology m k c count) k c count else latches_picture s.topology m k c count)
-      with_event true = K.latched m.device m.records.latches k c count T l p
-      with_event false = K.latched m.device m.records.latches k c count T l p
+      with_event : (b : Bool) (o : Option ℕ) → out_fence_of s.topology m.device.commits k c ≡ o
+          → Of (signals (if b then delivers s.topology (latches_picture s.topology m k c count) k c count else latches_picture s.topology m k c count) o)
+      with_event b o e =
+          by_cases b o (subst (λ f. P (with_signal (record m.device { live = latched_registers s.topology m.device.shadow m.device.live c }) f) (latch_of s.topology m.device k c count ∷ m.records.latches)) e (K.latched m.device m.records.latches k c count T l p))
+        where
+          by_cases : (b : Bool) (o : Option ℕ) → P (with_signal (record m.device { live = latched_registers s.topology m.device.shadow m.device.live c }) o) (latch_of s.topology m.device k c count ∷ m.records.latches)
+              → Of (signals (if b then delivers s.topology (latches_picture s.topology m k c count) k c count else latches_picture s.topology m k c count) o)
+          by_cases true None q = q
+          by_cases true (Some fence) q = q
+          by_cases false None q = q
+          by_cases false (Some fence) q = q
 
   module _ (m : Machine) (H : Holds s m) (p : P m.device m.records.latches) where
     refuse_keeps : (client : ℕ) → Of (refused s.topology m client (request_at s m client))
@@ -244,3 +257,8 @@ along_history s P K h plain first is =
     along s (λ m. Holds s m × P m.device m.records.latches)
     (λ m step both legal_step. (step_kept s m step plain both.0 legal_step, step_keeps s P K m both.0 both.1 step legal_step))
     h (first_machine s.topology) (first_kept s plain, first) is
+
+-- what does not read the signalled fences is kept by a latch where it is kept without the signal
+pub latched_any : (P : DeviceState → List Latch → Type 0) → ((d : DeviceState) (ls : List Latch) (fence : ℕ) → P d ls → P (record d { signalled = fence ∷ d.signalled }) ls) → (d : DeviceState) (ls : List Latch) (o : Option ℕ) → P d ls → P (with_signal d o) ls
+latched_any P keeps d ls None p = p
+latched_any P keeps d ls (Some fence) p = keeps d ls fence p

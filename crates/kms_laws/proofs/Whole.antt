@@ -8,7 +8,7 @@ use Rattle.kms_model.specs.declared.replies.Step.{Step}
 use Rattle.kms_model.specs.declared.runs.Latch.{Latch}
 use Rattle.kms_model.specs.declared.scripts.Script.{Script}
 use Rattle.kms_model.specs.Device.Objects.{ids_of, index_of, object_id}
-use Rattle.kms_model.specs.Machine.Commits.{commit_concerns, commit_touches, has_latched, has_pair, lockable}
+use Rattle.kms_model.specs.Machine.Commits.{commit_concerns, commit_touches, has_latched, has_pair, lockable, out_fence_of}
 use Rattle.kms_model.specs.Machine.Effects.{written_registers}
 use Rattle.kms_laws.proofs.Written.{other-plane, written-plane}
 use Rattle.kms_model.specs.Machine.Histories.{at, is_history, last_latched}
@@ -26,7 +26,7 @@ use Rattle.kms_laws.proofs.Numbered.{concerns_old, picture_old}
 use Rattle.kms_laws.proofs.Objects.{crtc_index, plane_registered}
 use Rattle.kms_laws.proofs.Steps.{IsPlainScript}
 use Rattle.kms_laws.proofs.Tails.{latch_cases}
-use Rattle.kms_laws.proofs.Traversal.{IsKept, IsLatch, IsWrite, TailOf, along_history, commit_of, latch_of}
+use Rattle.kms_laws.proofs.Traversal.{IsKept, IsLatch, IsWrite, TailOf, along_history, commit_of, latch_of, latched_any}
 
 -- A plane is live on one side of a commit and in the shadow on the other, one of them no CRTC.
 pub record IsPendingPlane (t : Topology) (cs : List Commit) (writes : List (ℕ × ℕ)) (ls : List Latch) (live shadow p : ℕ) : Type 0 where
@@ -301,11 +301,11 @@ whole_kept s plain = record {
   cleaned = λ d ls k done all L. record { apart = L.apart; near = L.near; steady = L.steady; told = L.told };
   waits = λ d ls c o L. record { apart = L.apart; near = L.near; steady = L.steady; told = L.told };
   counted = λ d ls c n L. record { apart = L.apart; near = L.near; steady = L.steady; told = L.told };
-  latched = λ d ls k c count T found L. whole_latched s.topology d ls k c count T found L;
+  latched = λ d ls k c count T found L. latched_any (Whole s.topology) (λ e ms fence W. record { apart = W.apart; near = W.near; steady = W.steady; told = W.told }) (record d { live = latched_registers s.topology d.shadow d.live c }) (latch_of s.topology d k c count ∷ ls) (out_fence_of s.topology d.commits k c) (whole_latched s.topology d ls k c count T found L);
   signalled = λ d ls fence L. record { apart = L.apart; near = L.near; steady = L.steady; told = L.told };
 }
 
-first_whole : (t : Topology) → Whole t (first_machine t).device []
+pub first_whole : (t : Topology) → Whole t (first_machine t).device []
 unfolding last_latched read decoded_picture
 first_whole t = record {
   apart = none_apart t;

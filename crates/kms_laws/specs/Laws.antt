@@ -1,42 +1,33 @@
--- What the laws say beside the promises: the world of a machine, and that tails go on.
-use Rattle.std.specs.Prelude.{◌≡◌, ◌⊎◌, ℕ, ◌<◌, Bool, true, false, List, length}
-use Rattle.std.specs.List.{list_all, list_any}
-use Rattle.kms_model.specs.declared.objects.Topology.{Topology}
+-- What the laws say beside the promises: the world of a machine, and that histories go on.
+use Rattle.std.specs.Prelude.{◌≡◌, ◌⊎◌, ℕ, Bool, true, List, Some}
+use Rattle.std.specs.List.{list_any}
 use Rattle.kms_model.specs.declared.replies.Step.{Step}
 use Rattle.kms_model.specs.declared.scripts.Script.{Script}
 use Rattle.kms_model.specs.Device.Serial.{serial}
 use Rattle.kms_model.specs.Device.Sound.{IsSound}
 use Rattle.kms_model.specs.Headline.{history_journal}
-use Rattle.kms_model.specs.Machine.Commits.{has_number, is_claimed, is_cleaned, waited_fences}
-use Rattle.kms_model.specs.Machine.Histories.{at, steps_that_move}
+use Rattle.kms_model.specs.Machine.Histories.{at, awaited_label, is_drained, steps_that_move}
 use Rattle.kms_model.specs.Machine.State.{Machine}
 use Rattle.kms_model.specs.Machine.Steps.{may}
-use Rattle.kms_model.specs.Promises.{InEachHistory}
+use Rattle.kms_model.specs.Promises.{InEachHistory, WaitsForFence}
 
 -- The world of the machine is that of the device of one thread after the journal, and it is sound.
 pub record HasSerialWorld (s : Script) (h : List Step) : Type 0 where
   pub is_serial : serial s (history_journal s h) ≡ (at s h).device.world
   pub is_sound : IsSound s.topology (at s h).device.world
 
--- Tails
-
--- each commit is cleaned
-abbrev pub IsAllCleaned : Machine → Type 0
-IsAllCleaned m = (k : ℕ) → k < length m.device.commits → is_cleaned m.device k ≡ true
+-- Ways on
 
 -- a step of a client, of a tail or of a CRTC that has GO may be done
 abbrev pub can_move : Script → Machine → Bool
 can_move s m = list_any (may s m) (steps_that_move s m)
 
--- The least commit that is not cleaned is not claimed, and one of the fences that it waits for is not signalled.
-pub record WaitsAtFence (t : Topology) (m : Machine) : Type 0 where
-  pub commit : ℕ
-  pub there : commit < length m.device.commits
-  pub not_cleaned : is_cleaned m.device commit ≡ false
-  pub least : (k : ℕ) → k < commit → is_cleaned m.device k ≡ true
-  pub not_claimed : is_claimed m.device commit ≡ false
-  pub waits : list_all (has_number m.device.signalled) (waited_fences t m.device.commits commit) ≡ false
+-- A commit waits for a fence of a `fence` command that is not signalled, and the label of that fence is the one that is told.
+pub record TellsFence (s : Script) (m : Machine) : Type 0 where
+  pub label : ℕ
+  pub told : awaited_label s.topology m ≡ Some label
+  pub waits : WaitsForFence s m label
 
--- Where a commit is not cleaned, a step may be done, or the least such commit waits for a fence.
-abbrev pub TailsGoOn : Type 0
-TailsGoOn = InEachHistory (λ s h. IsAllCleaned (at s h) ⊎ ((can_move s (at s h) ≡ true) ⊎ WaitsAtFence s.topology (at s h)))
+-- A history is drained, or a step may be done in it, or a commit waits for a fence whose label is told.
+abbrev pub HistoriesGoOn : Type 0
+HistoriesGoOn = InEachHistory (λ s h. (is_drained s (at s h) ≡ true) ⊎ ((can_move s (at s h) ≡ true) ⊎ TellsFence s (at s h)))

@@ -1,7 +1,7 @@
 //! The headline: every interleaving shows what one thread shows.
 ghost use Rattle.kms_model.specs.Headline.{HeadlineHolds};
-ghost use Rattle.kms_model.specs.Promises.{EventsOnce, FramebuffersOnce, InEachHistory, WholePictures};
-ghost use Rattle.kms_laws.specs.Laws.{HasSerialWorld, TailsGoOn};
+ghost use Rattle.kms_model.specs.Promises.{DeadNamesAFence, EventsOnce, FramebuffersOnce, InEachHistory, WholePictures};
+ghost use Rattle.kms_laws.specs.Laws.{HasSerialWorld, HistoriesGoOn};
 
 /// For every script and every interleaving of clients, workers, fences and vertical blankings: the pictures that each CRTC
 /// latches are, in order, a prefix of those that the device of one thread shows when it executes the journal's commands
@@ -34,8 +34,15 @@ pub fn events_come_once()
     ensures { EventsOnce }
 {}
 
-/// Tails go on: where a commit is not cleaned, a step may be done that is no vertical blanking without GO, or the least
-/// such commit is not claimed and waits for a fence that is not signalled.
-pub fn tails_go_on()
-    ensures { TailsGoOn }
+/// Each history is drained, or a step may be done in it that is no vertical blanking without GO; or else the least commit
+/// that is not cleaned is not claimed and waits for a fence that a `fence` command made and that is not signalled, and
+/// that fence's label is the one that a dead history tells.
+pub fn histories_go_on()
+    ensures { HistoriesGoOn }
+{}
+
+/// A dead history names a fence: the least commit that is not cleaned is not claimed and waits for a fence that a `fence`
+/// command made and that is not signalled; the label told is that fence's.
+pub fn dead_histories_name_a_fence()
+    ensures { DeadNamesAFence }
 {}

@@ -3,8 +3,10 @@
 #![tactic(auto)]
 
 mod headline;
+mod locks;
 
 pub use headline::{
-    events_come_once, framebuffers_are_freed_once, headline_holds, pictures_are_whole, tails_go_on,
-    world_is_serial,
+    dead_histories_name_a_fence, events_come_once, framebuffers_are_freed_once, headline_holds,
+    histories_go_on, pictures_are_whole, world_is_serial,
 };
+pub use locks::{busy_has_its_cause, tests_change_nothing, waits_have_no_cycle};

@@ -1,0 +1,338 @@
+-- What each step leaves of contexts.
+use Rattle.std.proofs.Common.{◌≡◌, ℕ, suc, ◌+◌, ◌<◌, ◌≤◌, List, [], ◌∷◌, length, Bool, true, false, Option, Some, None, refl, sym, ap, ◌∙◌, arith, ⊎_elim}
+use Rattle.std.specs.Prelude.{if◌then◌else◌, is_some}
+use Rattle.std.proofs.lemmas.Bool.{and_parts, cases_eq, false≢true}
+use Rattle.kms_model.specs.declared.replies.Event.{Event}
+use Rattle.kms_model.specs.declared.replies.Reply.{Reply}
+use Rattle.kms_model.specs.declared.replies.Reply.TheVariants as reply
+use Rattle.kms_model.specs.declared.replies.Step.{Step}
+use Rattle.kms_model.specs.declared.replies.Step.TheVariants.{Begin, Lock, BackOff, Relock, Refuse, Test, Swap, Make, Signal, Claim, Write, Flush, HwDone, Vblank, Cleanup, Read, Return, Stall}
+use Rattle.kms_model.specs.declared.runs.Doing.{Doing}
+use Rattle.kms_model.specs.declared.runs.Doing.TheVariants as doing
+use Rattle.kms_model.specs.declared.runs.Place.{Place}
+use Rattle.kms_model.specs.declared.scripts.Command.{Command}
+use Rattle.kms_model.specs.declared.scripts.Command.TheVariants as command
+use Rattle.kms_model.specs.declared.scripts.Request.{Request}
+use Rattle.kms_model.specs.declared.scripts.Script.{Script}
+use Rattle.kms_model.specs.Device.Execution.{execute}
+use Rattle.kms_model.specs.Device.Objects.{object_id}
+use Rattle.kms_model.specs.Device.Serial.{is_accepted}
+use Rattle.kms_model.specs.Machine.Commits.{asks_event, new_crtc, out_fence_of}
+use Rattle.kms_model.specs.Machine.Effects.{answers, backed_off, begun, blanks, counts_vblank, delivers, dropped, drops_locks, fence_signalled, flushes, goes_on, joins_if, joins_journal, latches, latches_picture, locked, made_thing, next, now_doing, reads, refused, relocked, sets_up, signalled_by, signals, swapped_state}
+use Rattle.kms_model.specs.Machine.Histories.{legal}
+use Rattle.kms_model.specs.Machine.Registers.{read}
+use Rattle.kms_model.specs.Machine.State.{Contexts, Machine, command_at, count_at, doing_at, first_machine, go_at, holder_at, place_at, request_at, request_in, reserved_at, unread_at}
+use Rattle.kms_model.specs.Machine.Steps.{contended, idle_at, is_atomic, is_idle, is_lockable, is_making, is_signal, is_taking, is_wait, may, may_lock, must_back_off, returning_of, taking_at, ticket_of}
+use Rattle.kms_model.specs.Request.Flags.{is_nonblock, wants_event}
+use Rattle.kms_model.specs.Request.Named.{named}
+use Rattle.kms_model.specs.Request.Reach.{reaches}
+use Rattle.kms_model.specs.Request.Sets.{obj_id}
+use Rattle.kms_laws.proofs.Basics.{both_bools, read_other, read_same}
+use Rattle.kms_laws.proofs.Contexts.{HasRequest, LocksStand, doing_in, dropped-other, dropped-own, has_ticket, holder_in, may_hold, moved, place_in}
+use Rattle.kms_laws.proofs.Steps.{IsLegal, idle-none, idle-some, legal-cases}
+use Rattle.kms_laws.proofs.Steps.IsLegal.{Ends, May}
+
+abbrev pub HasLocks : Script → Machine → Type 0
+HasLocks s m = LocksStand s m.contexts (length m.device.commits)
+
+module _ (s : Script) (x : Contexts) (n : ℕ) (L : LocksStand s x n) (client : ℕ) where
+  -- a client that drops its locks and goes where it has no ticket
+  leaves : (place : Place) (m : ℕ) → n ≤ m → has_ticket place.doing ≡ false → ((k : ℕ) → place.doing ≡ doing.Returning k → k < m)
+      → LocksStand s (record { places = (client, place) ∷ x.places; locks = dropped client x.locks; tickets = x.tickets }) m
+  leaves place m l none back =
+      moved s x n L client place (dropped client x.locks) x.tickets m (omega arith) l
+      (λ object e. absurd (dropped-own client x.locks object e))
+      (λ object a ne e. dropped-other client x.locks object a e)
+      (λ t. absurd (both_bools _ t none)) back
+
+  -- a client that holds nothing goes where it has no ticket
+  goes : (place : Place) → may_hold (doing_in x client) ≡ false → has_ticket place.doing ≡ false → ((k : ℕ) → place.doing ≡ doing.Returning k → k < n)
+      → LocksStand s (record { places = (client, place) ∷ x.places; locks = x.locks; tickets = x.tickets }) n
+  goes place free none back =
+      moved s x n L client place x.locks x.tickets n (omega arith) (omega arith)
+      (λ object e. absurd (both_bools _ (L.holders object client e) free))
+      (λ object a ne e. e)
+      (λ t. absurd (both_bools _ t none)) back
+
+  -- a client with a ticket stays at its command and keeps its ticket
+  stays : (d : Doing) (locks : List (ℕ × Option ℕ)) → has_ticket (doing_in x client) ≡ true → ticket_of d ≡ ticket_of (doing_in x client) → ((k : ℕ) → d ≡ doing.Returning k → k < n)
+      → ((object : ℕ) → read None locks object ≡ Some client → may_hold d ≡ true) → ((object a : ℕ) → (client ≡ a → ⊥) → read None locks object ≡ Some a → holder_in x object ≡ Some a)
+      → LocksStand s (record { places = (client, record { command = (place_in x client).command; doing = d }) ∷ x.places; locks = locks; tickets = x.tickets }) n
+  stays d locks t same back here there =
+      moved s x n L client (record { command = (place_in x client).command; doing = d }) locks x.tickets n (omega arith) (omega arith) here there
+      (λ td. record {
+        low = (let l = L.below client t in let e : ticket_of d ≡ ticket_of (doing_in x client) = same in omega arith);
+        own = λ a ne ta e. ne (sym (L.unique a client ta t (e ∙ same)));
+        request = (let q = L.atomic client t in record { request = q.request; at = q.at });
+      })
+      back
+
+  -- a client begins
+  begins : may_hold (doing_in x client) ≡ false → HasRequest s client (place_in x client)
+      → LocksStand s (record { places = (client, record { command = (place_in x client).command; doing = doing.Taking (record { 0 = x.tickets }) }) ∷ x.places; locks = x.locks; tickets = x.tickets + 1 }) n
+  begins free q =
+      moved s x n L client (record { command = (place_in x client).command; doing = doing.Taking (record { 0 = x.tickets }) }) x.locks (x.tickets + 1) n (omega arith) (omega arith)
+      (λ object e. absurd (both_bools _ (L.holders object client e) free))
+      (λ object a ne e. e)
+      (λ t. record { low = omega arith; own = λ a ne ta e. (let l = L.below a ta in let e2 : ticket_of (doing_in x a) ≡ x.tickets = e in absurd (omega arith)); request = record { request = q.request; at = q.at } })
+      (λ k e. absurd cc)
+
+  -- a client that may hold locks takes one more
+  takes : (object : ℕ) → may_hold (doing_in x client) ≡ true → LocksStand s (record x { locks = (object, Some client) ∷ x.locks }) n
+  takes object free = record {
+    holders = λ o a e.
+        ⊎_elim
+        (λ (same : object ≡ o).
+        let is : Some client ≡ Some a = sym (read_same None x.locks object (Some client)) ∙ ap (read None ((object, Some client) ∷ x.locks)) same ∙ e in
+        let ca : client ≡ a = cc in
+        ap (λ z. may_hold (doing_in x z)) (sym ca) ∙ free)
+        (λ ne. L.holders o a (sym (read_other None x.locks object o (Some client) ne) ∙ e))
+        (cases_eq object o);
+    unique = L.unique;
+    below = L.below;
+    atomic = L.atomic;
+    returning = L.returning;
+  }
+
+idle-free : (d : Doing) → is_idle d ≡ true → may_hold d ≡ false
+idle-free doing.Idle h = refl
+idle-free (doing.Taking ticket) h = absurd (false≢true h)
+idle-free (doing.MustBackOff ticket object) h = absurd (false≢true h)
+idle-free (doing.BackedOff ticket object) h = absurd (false≢true h)
+idle-free (doing.Returning k) h = absurd (false≢true h)
+
+returning-free : (d : Doing) → is_some (returning_of d) ≡ true → may_hold d ≡ false
+returning-free (doing.Returning k) h = refl
+returning-free doing.Idle h = absurd (false≢true h)
+returning-free (doing.Taking ticket) h = absurd (false≢true h)
+returning-free (doing.MustBackOff ticket object) h = absurd (false≢true h)
+returning-free (doing.BackedOff ticket object) h = absurd (false≢true h)
+
+taking-holds : (d : Doing) → is_taking d ≡ true → (may_hold d ≡ true) × (has_ticket d ≡ true)
+taking-holds (doing.Taking ticket) h = (refl, refl)
+taking-holds doing.Idle h = absurd (false≢true h)
+taking-holds (doing.MustBackOff ticket object) h = absurd (false≢true h)
+taking-holds (doing.BackedOff ticket object) h = absurd (false≢true h)
+taking-holds (doing.Returning k) h = absurd (false≢true h)
+
+back-facts : (d : Doing) → must_back_off d ≡ true → (has_ticket d ≡ true) × ((ticket_of (backed_off d) ≡ ticket_of d) × ((k : ℕ) → backed_off d ≡ doing.Returning k → ⊥))
+back-facts (doing.MustBackOff ticket object) h = (refl, (refl, λ k e. absurd cc))
+back-facts doing.Idle h = absurd (false≢true h)
+back-facts (doing.Taking ticket) h = absurd (false≢true h)
+back-facts (doing.BackedOff ticket object) h = absurd (false≢true h)
+back-facts (doing.Returning k) h = absurd (false≢true h)
+
+contended-ticket : (d : Doing) (object : ℕ) → contended d ≡ Some object → has_ticket d ≡ true
+contended-ticket (doing.BackedOff ticket object) o e = refl
+contended-ticket doing.Idle o e = absurd cc
+contended-ticket (doing.Taking ticket) o e = absurd cc
+contended-ticket (doing.MustBackOff ticket object) o e = absurd cc
+contended-ticket (doing.Returning k) o e = absurd cc
+
+atomic-request : (o : Option Command) (c : Command) → o ≡ Some c → is_atomic c ≡ true → (r : Request) × (request_in o ≡ Some r)
+atomic-request o (command.Atomic r) e h = (r, ap request_in e)
+atomic-request o (command.Buffer label width height format pattern) e h = absurd (false≢true h)
+atomic-request o (command.AddFb label buffer) e h = absurd (false≢true h)
+atomic-request o (command.Mode label m) e h = absurd (false≢true h)
+atomic-request o (command.Blob label bytes) e h = absurd (false≢true h)
+atomic-request o (command.Destroy label) e h = absurd (false≢true h)
+atomic-request o (command.CloseFb label) e h = absurd (false≢true h)
+atomic-request o (command.Fence label) e h = absurd (false≢true h)
+atomic-request o (command.Signal label) e h = absurd (false≢true h)
+atomic-request o command.Wait e h = absurd (false≢true h)
+
+module _ (s : Script) (m : Machine) (L : HasLocks s m) where
+  on_from : (client : ℕ) → may_hold (doing_at m client) ≡ false
+      → LocksStand s (record { places = (client, record { command = (place_at m client).command + 1; doing = doing.Idle }) ∷ m.contexts.places; locks = m.contexts.locks; tickets = m.contexts.tickets }) (length m.device.commits)
+  on_from client free = goes s m.contexts (length m.device.commits) L client (record { command = (place_at m client).command + 1; doing = doing.Idle }) free refl (λ k e. absurd cc)
+
+  decided_from : (client : ℕ)
+      → LocksStand s (record { places = (client, record { command = (place_at m client).command + 1; doing = doing.Idle }) ∷ m.contexts.places; locks = dropped client m.contexts.locks; tickets = m.contexts.tickets }) (length m.device.commits)
+  decided_from client = leaves s m.contexts (length m.device.commits) L client (record { command = (place_at m client).command + 1; doing = doing.Idle }) (length m.device.commits) (omega arith) refl (λ k e. absurd cc)
+
+  begin_locks : (client : ℕ) → idle_at s m client is_atomic ≡ true → HasLocks s (begun m client)
+  begin_locks client h = go (command_at s m client) refl
+    where
+      go : (o : Option Command) → command_at s m client ≡ o → HasLocks s (begun m client)
+      go None e = absurd (idle-none s m client is_atomic e h)
+      go (Some c) e =
+          let r = atomic-request (command_at s m client) c e (idle-some s m client is_atomic c e h) in
+          begins s m.contexts (length m.device.commits) L client (idle-free (doing_at m client) (and_parts (is_idle (doing_at m client)) _ h).0) (record { request = r.0; at = r.1 })
+
+  lock_locks : (client object : ℕ) → may_lock s m client object ≡ true → (o : Option ℕ) → HasLocks s (locked m client object o)
+  unfolding may_lock
+  lock_locks client object h o = by_holder o
+    where
+      taking : (may_hold (doing_at m client) ≡ true) × (has_ticket (doing_at m client) ≡ true)
+      taking = taking-holds (doing_at m client) (and_parts (is_taking (doing_at m client)) _ (and_parts (taking_at s m client (λ r. reaches s.topology m.device.world r object)) _ h).0).0
+
+      by_holder : (o : Option ℕ) → HasLocks s (locked m client object o)
+      by_holder None = takes s m.contexts (length m.device.commits) L client object taking.0
+      by_holder (Some holder) =
+          stays s m.contexts (length m.device.commits) L client (doing.MustBackOff (record { 0 = ticket_of (doing_at m client) }) (obj_id object)) m.contexts.locks taking.1 refl
+          (λ k e. absurd cc) (λ object2 e. refl) (λ object2 a ne e. e)
+
+  back_locks : (client : ℕ) → must_back_off (doing_at m client) ≡ true → HasLocks s (drops_locks (now_doing m client (backed_off (doing_at m client))) client)
+  back_locks client h =
+      let f = back-facts (doing_at m client) h in
+      stays s m.contexts (length m.device.commits) L client (backed_off (doing_at m client)) (dropped client m.contexts.locks) f.0 f.1.0
+      (λ k e. absurd (f.1.1 k e)) (λ object e. absurd (dropped-own client m.contexts.locks object e)) (λ object a ne e. dropped-other client m.contexts.locks object a e)
+
+  relock_locks : (client : ℕ) → (o : Option ℕ) → contended (doing_at m client) ≡ o → HasLocks s (relocked m client o)
+  relock_locks client None e = L
+  relock_locks client (Some object) e =
+      stays s m.contexts (length m.device.commits) L client (doing.Taking (record { 0 = ticket_of (doing_at m client) })) ((object, Some client) ∷ m.contexts.locks) (contended-ticket (doing_at m client) object e) refl
+      (λ k e2. absurd cc) (λ object2 e2. refl)
+      (λ object2 a ne e2.
+      ⊎_elim
+      (λ (same : object ≡ object2).
+      let is : Some client ≡ Some a = sym (read_same None m.contexts.locks object (Some client)) ∙ ap (read None ((object, Some client) ∷ m.contexts.locks)) same ∙ e2 in
+      absurd (ne cc))
+      (λ apart. sym (read_other None m.contexts.locks object object2 (Some client) apart) ∙ e2)
+      (cases_eq object object2))
+
+  refuse_locks : (client : ℕ) → HasLocks s (refused s.topology m client (request_at s m client))
+  unfolding refused
+  refuse_locks client = go (request_at s m client)
+    where
+      go : (o : Option Request) → HasLocks s (refused s.topology m client o)
+      go None = L
+      go (Some r) = decided_from client
+
+  make_locks : (client : ℕ) → idle_at s m client is_making ≡ true → HasLocks s (made_thing s.topology m client (command_at s m client))
+  unfolding made_thing
+  make_locks client h = go (command_at s m client)
+    where
+      with_reply : (c : Command) (b : Bool)
+          → HasLocks s (goes_on (record (joins_if b (answers m client (execute s.topology m.device.world client c).reply) client) { device = record (joins_if b (answers m client (execute s.topology m.device.world client c).reply) client).device { world = (execute s.topology m.device.world client c).world } }) client)
+      with_reply c true = on_from client (idle-free (doing_at m client) (and_parts (is_idle (doing_at m client)) _ h).0)
+      with_reply c false = on_from client (idle-free (doing_at m client) (and_parts (is_idle (doing_at m client)) _ h).0)
+
+      go : (o : Option Command) → HasLocks s (made_thing s.topology m client o)
+      go None = L
+      go (Some c) = with_reply c (is_accepted (execute s.topology m.device.world client c).reply)
+
+  signals_locks : (m2 : Machine) (client : ℕ) (o : Option ℕ) → HasLocks s (goes_on m2 client) → HasLocks s (goes_on (signals m2 o) client)
+  signals_locks m2 client None p = p
+  signals_locks m2 client (Some fence) p = p
+
+  fence_locks : (m2 : Machine) (client : ℕ) (o : Option Command) (r : Reply) → HasLocks s (goes_on m2 client) → HasLocks s (goes_on (fence_signalled m2 o r) client)
+  fence_locks m2 client (Some (command.Signal label)) reply.Done p = signals_locks m2 client _ p
+  fence_locks m2 client _ _ p = p
+
+  signal_locks : (client : ℕ) → idle_at s m client is_signal ≡ true → HasLocks s (signalled_by s.topology m client (command_at s m client))
+  signal_locks client h = go (command_at s m client)
+    where
+      go : (o : Option Command) → HasLocks s (signalled_by s.topology m client o)
+      go None = L
+      go (Some c) =
+          fence_locks (answers m client (execute s.topology m.device.world client c).reply) client (Some c) (execute s.topology m.device.world client c).reply
+          (on_from client (idle-free (doing_at m client) (and_parts (is_idle (doing_at m client)) _ h).0))
+
+  read_locks : (client : ℕ) → idle_at s m client is_wait ≡ true → (events : List Event) → HasLocks s (reads m client events)
+  read_locks client h [] = on_from client (idle-free (doing_at m client) (and_parts (is_idle (doing_at m client)) _ h).0)
+  read_locks client h (event ∷ events) = on_from client (idle-free (doing_at m client) (and_parts (is_idle (doing_at m client)) _ h).0)
+
+  swap_locks : (client : ℕ) → HasLocks s (swapped_state s.topology m client (request_at s m client))
+  unfolding swapped_state
+  swap_locks client = go (request_at s m client)
+    where
+      swapped : (r : Request) → HasLocks s (swapped_state s.topology m client (Some r))
+      swapped r = with_flags (wants_event r.flags) (is_nonblock r.flags)
+        where
+          answered : Machine
+          answered = joins_journal (answers m client (reply.Commit (length m.device.commits))) client
+
+          moved_on : Bool → Machine
+          moved_on b = drops_locks (sets_up s.topology (if b then record answered { events = record answered.events { reserved = (client, reserved_at answered.events client + length (named s.topology answered.device.world r)) ∷ answered.events.reserved } } else answered) client r) client
+
+          now_idle : LocksStand s (record { places = (client, record { command = (place_at m client).command + 1; doing = doing.Idle }) ∷ m.contexts.places; locks = dropped client m.contexts.locks; tickets = m.contexts.tickets }) (suc (length m.device.commits))
+          now_idle = leaves s m.contexts (length m.device.commits) L client (record { command = (place_at m client).command + 1; doing = doing.Idle }) (suc (length m.device.commits)) (omega arith) refl (λ k e. absurd cc)
+
+          now_waits : LocksStand s (record { places = (client, record { command = (place_at m client).command; doing = doing.Returning (length m.device.commits) }) ∷ m.contexts.places; locks = dropped client m.contexts.locks; tickets = m.contexts.tickets }) (suc (length m.device.commits))
+          now_waits = leaves s m.contexts (length m.device.commits) L client (record { command = (place_at m client).command; doing = doing.Returning (length m.device.commits) }) (suc (length m.device.commits)) (omega arith) refl
+              (λ k e. let nk : length m.device.commits ≡ k = cc in omega arith)
+
+          with_flags : (b w : Bool) → HasLocks s (if w then goes_on (moved_on b) client else now_doing (moved_on b) client (doing.Returning (length m.device.commits)))
+          with_flags true true = now_idle
+          with_flags true false = now_waits
+          with_flags false true = now_idle
+          with_flags false false = now_waits
+
+      go : (o : Option Request) → HasLocks s (swapped_state s.topology m client o)
+      go None = L
+      go (Some r) = swapped r
+
+  return_locks : (client : ℕ) → may s m (Return client) ≡ true → HasLocks s (goes_on m client)
+  unfolding may
+  return_locks client h = go (returning_of (doing_at m client)) refl
+    where
+      go : (o : Option ℕ) → returning_of (doing_at m client) ≡ o → HasLocks s (goes_on m client)
+      go None e = let g = rw e at h in absurd (false≢true g)
+      go (Some k) e = on_from client (returning-free (doing_at m client) (ap is_some e))
+
+  latch_locks : (m2 : Machine) (k c count : ℕ) → HasLocks s m2 → HasLocks s (latches s.topology m2 k c count)
+  unfolding latches
+  latch_locks m2 k c count p = by_fence (asks_event s.topology m2.device.commits k) (out_fence_of s.topology m2.device.commits k c)
+    where
+      by_fence : (b : Bool) (o : Option ℕ) → HasLocks s (signals (if b then delivers s.topology (latches_picture s.topology m2 k c count) k c count else latches_picture s.topology m2 k c count) o)
+      by_fence true None = p
+      by_fence true (Some fence) = p
+      by_fence false None = p
+      by_fence false (Some fence) = p
+
+  flush_locks : (k c : ℕ) → HasLocks s (flushes s.topology m k c)
+  flush_locks k c = by_active (new_crtc s.topology m.device.commits k c).active
+    where
+      flushed : Machine
+      flushed = record m { device = record m.device { marks = record m.device.marks { flushed = (k, c) ∷ m.device.marks.flushed } } }
+
+      by_active : (b : Bool) → HasLocks s (if b then record flushed { device = record flushed.device { go = (c, Some k) ∷ flushed.device.go } } else latches s.topology flushed k c (count_at m.device c))
+      by_active true = L
+      by_active false = latch_locks flushed k c (count_at m.device c) L
+
+  vblank_locks : (c : ℕ) (o : Option ℕ) → HasLocks s (blanks s.topology m c o)
+  vblank_locks c None = L
+  vblank_locks c (Some k) = latch_locks (counts_vblank m c) k c (count_at m.device c + 1) L
+
+  may_locks : (step : Step) → may s m step ≡ true → HasLocks s (next s m step)
+  unfolding may next
+  may_locks (Begin client) h = begin_locks client h
+  may_locks (Lock client kind index) h = lock_locks client (object_id kind index) (and_parts (is_lockable s.topology kind index) _ h).1 (holder_at m (object_id kind index))
+  may_locks (BackOff client) h = back_locks client h
+  may_locks (Relock client) h = relock_locks client (contended (doing_at m client)) refl
+  may_locks (Refuse client) h = refuse_locks client
+  may_locks (Test client) h = decided_from client
+  may_locks (Swap client) h = swap_locks client
+  may_locks (Make client) h = make_locks client h
+  may_locks (Signal client) h = signal_locks client h
+  may_locks (Claim k) h = L
+  may_locks (Write k kind index) h = L
+  may_locks (Flush k kind index) h = flush_locks k (object_id kind index)
+  may_locks (HwDone k) h = L
+  may_locks (Vblank kind index) h = vblank_locks (object_id kind index) (go_at m.device (object_id kind index))
+  may_locks (Cleanup k) h = L
+  may_locks (Read client) h = read_locks client (and_parts (idle_at s m client is_wait) _ h).0 (unread_at m.events client)
+  may_locks (Return client) h = return_locks client h
+  may_locks Stall h = L
+
+  stall_locks : HasLocks s (next s m Stall)
+  unfolding next
+  stall_locks = L
+
+  pub step_locks : (step : Step) → legal s m step ≡ true → HasLocks s (next s m step)
+  step_locks step h = go step (legal-cases s m step h)
+    where
+      go : (step : Step) → IsLegal s m step → HasLocks s (next s m step)
+      go step Ends = stall_locks
+      go step (May may) = may_locks step may
+
+pub first_locks : (s : Script) → HasLocks s (first_machine s.topology)
+unfolding read
+first_locks s = record {
+  holders = λ object client e. absurd cc;
+  unique = λ a b ta tb e. absurd (false≢true ta);
+  below = λ a t. absurd (false≢true t);
+  atomic = λ a t. absurd (false≢true t);
+  returning = λ a k e. absurd cc;
+}
