@@ -7,3 +7,4 @@ pub mod Rows
 pub mod SameWords
 pub mod Signed
 pub mod WordsBack
+pub mod MachineEffects

@@ -1,5 +1,5 @@
 -- The states that words were made of are read back from them.
-use Rattle.std.proofs.Common.{◌≡◌, ◌≢◌, ℕ, zero, suc, ◌+◌, ◌*◌, ◌<◌, ◌≤◌, ◌^◌, ℤ, pos, negsuc, ◌≤ℤ◌, List, [], ◌∷◌, ◌++◌, length, get_or, Option, Some, None, arith, rules, refl, sym, ap, ◌∙◌, SFits, if◌then◌else◌}
+use Rattle.std.proofs.Common.{◌≡◌, ℕ, zero, suc, ◌*◌, ◌<◌, ℤ, pos, negsuc, ◌≤ℤ◌, List, [], ◌∷◌, ◌++◌, length, get_or, Option, Some, None, arith, rules, refl, ap, ◌∙◌, SFits, if◌then◌else◌}
 use Rattle.std.specs.Prelude.{◌==◌, not, Bool, true, false}
 use Rattle.std.specs.Int.{w16, w32, cast_signed, cast_unsigned, from_le_bytes, to_le_bytes}
 use Rattle.std.proofs.lemmas.Int.{ints, to_z-of_z}
@@ -17,10 +17,9 @@ use Rattle.kms_model.specs.declared.states.PlaneState.{PlaneState}
 use Rattle.kms_model.specs.Device.Objects.{ids_of, object_id}
 use Rattle.kms_model.specs.Frames.Pictures.{layers_with, put_plane, seen_on, shown_with}
 use Rattle.kms_model.specs.Device.ModeBytes.{mode_bytes, mode_held}
-use Rattle.kms_model.specs.Device.Sound.{IsBetween, IsPlaneInRange}
+use Rattle.kms_model.specs.Device.Sound.{IsBetween}
 use Rattle.kms_model.specs.Device.States.{natural}
-use Rattle.kms_model.specs.Machine.Registers.{CrtcWords, Registers, bytes_of_words, code_of, crtc_register, crtc_words, decoded_picture, fb_number, flag_word, format_in, mode_words, plane_in, plane_register, plane_words, shown_in_words, words_of_bytes}
-use Rattle.kms_blobs.specs.Ranges.{FitsTypes}
+use Rattle.kms_model.specs.Machine.Registers.{CrtcWords, Registers, bytes_of_words, code_of, crtc_words, decoded_picture, fb_number, flag_word, format_in, mode_words, plane_in, plane_register, plane_words, shown_in_words, words_of_bytes}
 use Rattle.kms_blobs.proofs.RoundTrip.{mode_held-mode_bytes}
 use Rattle.kms_regs.specs.Written.{AreBytes, AreWritten, HasId, HasMode, IsWritable, IsWritableMode, picture_of_states}
 use Rattle.kms_regs.proofs.Rows.{other_id}

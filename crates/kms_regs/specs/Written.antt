@@ -1,5 +1,5 @@
 -- What the states of a CRTC and of planes show, and words that were written for them.
-use Rattle.std.specs.Prelude.{◌≡◌, ◌≢◌, ℕ, ◌<◌, Bool, true, false, List, length, slice_index_or, Option, Some, None, IfSome}
+use Rattle.std.specs.Prelude.{◌≡◌, ◌≢◌, ℕ, ◌<◌, Bool, true, false, List, length, slice_index_or, Option, Some, None}
 use Rattle.kms_model.specs.Device.Objects.{ids_of, object_id}
 use Rattle.kms_model.specs.Device.Sound.{IsPlaneInRange}
 use Rattle.kms_model.specs.declared.objects.Kind.TheVariants.{Crtc, Plane}
