@@ -1,6 +1,6 @@
 -- What requests reach, worked out: on a device of two CRTCs on which the first is lit, with its framebuffer and its mode
 -- closed since.
-use Rattle.std.proofs.Common.{◌≡◌, ℕ, ◌+◌, Bool, true, false, List, [], ◌∷◌, pos, refl}
+use Rattle.std.proofs.Common.{◌≡◌, ℕ, ◌+◌, Bool, true, false, List, [], ◌∷◌, ◌++◌, pos, refl}
 use Rattle.std.specs.Prelude.{map, negsuc}
 use Rattle.kms_model.specs.declared.objects.Format.TheVariants.{Xr24}
 use Rattle.kms_model.specs.declared.objects.Kind.TheVariants as kind
@@ -11,7 +11,9 @@ use Rattle.kms_model.specs.declared.worlds.Content.{Content}
 use Rattle.kms_model.specs.declared.worlds.Content.TheVariants as content
 use Rattle.kms_model.specs.declared.worlds.Thing.{Thing}
 use Rattle.kms_model.specs.declared.worlds.World.{World}
+use Rattle.kms_model.specs.Device.Objects.{object_id}
 use Rattle.kms_model.specs.Device.World.{start}
+use Rattle.kms_model.specs.Machine.Commits.{lockable}
 use Rattle.kms_model.specs.Request.Apply.{apply}
 use Rattle.kms_model.specs.Request.Reach.{reaches}
 use Rattle.kms_model.specs.Request.Refusals.{own_refusal}
@@ -33,9 +35,13 @@ things =
 abbrev lit : World
 lit = record { values = apply things (start double).values (light 0 1); things = things; next_id = 1004; commits = 1 }
 
--- which of the two CRTCs, the two planes, the two connectors and an encoder a request reaches
+-- the two CRTCs, the two planes, the two connectors and an encoder
+abbrev objects : List ℕ
+objects = lockable double ++ object_id kind.Enc 0 ∷ []
+
+-- which of them a request reaches
 abbrev reached : List Assign → List Bool
-reached assigns = map (reaches double lit (request 0 assigns)) (100 ∷ 101 ∷ 200 ∷ 201 ∷ 300 ∷ 301 ∷ 400 ∷ [])
+reached assigns = map (reaches double lit (request 0 assigns)) objects
 
 abbrev nothing : List Bool
 nothing = false ∷ false ∷ false ∷ false ∷ false ∷ false ∷ false ∷ []
