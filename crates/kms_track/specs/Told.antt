@@ -1,6 +1,6 @@
 -- What a tracker was told of the commits that were set up so far, in the words of the machine's commits. From:
 -- drm_atomic_helper_setup_commit, drm_atomic_helper_wait_for_dependencies; `struct drm_crtc_commit`.
-use Rattle.std.specs.Prelude.{◌≡◌, ℕ, ◌+◌, ◌<◌, ◌==◌, ◌&&◌, ◌||◌, not, nat_lt, Bool, true, false, List, [], ◌∷◌, length, slice_index_or, Option, Some, None, if◌then◌else◌}
+use Rattle.std.specs.Prelude.{◌≡◌, ℕ, ◌+◌, ◌<◌, ◌==◌, ◌&&◌, ◌||◌, not, nat_lt, Bool, true, false, List, [], ◌∷◌, length, map, slice_index_or, Option, Some, None, if◌then◌else◌}
 use Rattle.std.specs.List.{list_all}
 use Rattle.kms_model.specs.declared.objects.ObjId.{ObjId}
 use Rattle.kms_model.specs.declared.states.Checked.{Checked}
@@ -31,7 +31,7 @@ pub record Told : Type 0 where
 
 -- the CRTCs of the largest device
 abbrev pub crtc_ids : List ℕ
-crtc_ids = 100 ∷ (101 ∷ (102 ∷ (103 ∷ [])))
+crtc_ids = map crtc_id (0 ∷ 1 ∷ 2 ∷ 3 ∷ [])
 
 -- A commit has flipped for an object where it has latched on every CRTC that the object is, or is on before or after.
 abbrev pub has_flipped : Told → ℕ → ℕ → Bool

@@ -14,7 +14,7 @@ use Rattle.kms_signal.specs.Rooms.{Rooms}
 use Rattle.kms_track.specs.declared.commits.Pending.{Pending}
 use Rattle.kms_track.specs.declared.commits.Touched.{Touched}
 use Rattle.kms_track.specs.declared.commits.Last.{Last}
-use Rattle.kms_track.specs.Places.{object_at, mask_has, sides_at, all_below, first_below}
+use Rattle.kms_track.specs.Places.{object_at, crtc_id, mask_has, sides_at, all_below, first_below}
 
 pub record Tracking : Type 0 where
   -- how many commits were set up: the number of the next one
@@ -31,7 +31,7 @@ no_last = record { commit = None; before = None }
 
 -- it has latched at a CRTC, given by its id; any other number is no CRTC to wait for
 abbrev pub latched_at : List Bool → ℕ → Bool
-latched_at latched crtc = nat_lt crtc 100 || slice_index_or latched (crtc - 100) true
+latched_at latched crtc = nat_lt crtc (crtc_id 0) || slice_index_or latched (crtc - crtc_id 0) true
 
 abbrev pub object_flipped : List Bool → Option Touched → Bool
 object_flipped latched None = true
