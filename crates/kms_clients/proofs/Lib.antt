@@ -1,0 +1,4 @@
+mod Places
+mod Ties
+mod Held
+mod InMachine

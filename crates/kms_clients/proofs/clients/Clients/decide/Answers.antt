@@ -1,0 +1,45 @@
+use Rattle.std.proofs.Common.{◌≡◌, ℕ, ◌+◌, ◌-◌, List, Option, Some, None, refl, sym, ap, ◌∙◌, subst, set}
+use Rattle.std.specs.Prelude.{All, filter, not, ◌==◌, ◌++◌, ◌∷◌, []}
+use Rattle.kms_model.specs.declared.objects.ObjId.{ObjId}
+use Rattle.kms_model.specs.declared.objects.Ticket.{Ticket}
+use Rattle.kms_model.specs.declared.runs.Doing.{Doing}
+use Rattle.kms_model.specs.declared.runs.Doing.TheVariants as doing
+use Rattle.kms_model.specs.declared.runs.Place.{Place}
+use Rattle.kms_model.specs.Machine.Effects.{backed_off, relocked}
+use Rattle.kms_model.specs.Machine.State.{Machine, holder_at, place_at}
+use Rattle.kms_model.specs.Machine.Steps.{contended}
+use Rattle.kms_wwlock.specs.declared.contexts.Context.{Context}
+use Rattle.kms_wwlock.specs.declared.contexts.Doing.{Doing as ContextDoing}
+use Rattle.kms_wwlock.specs.declared.contexts.Doing.TheVariants as context
+use Rattle.kms_wwlock.specs.declared.table.Lock.TheVariants as lock
+use Rattle.kms_wwlock.specs.declared.table.Relock.TheVariants as relock
+use Rattle.kms_wwlock.specs.Table.{Table, must_back_off_for, backed_off_for}
+use Rattle.kms_wwlock.specs.Calls.{backed_off as table_backed_off, relocked as table_relocked}
+use Rattle.kms_clients.specs.Standing.{Standing, IsBegun, IsKnown, place_in, doing_in, ticket_in}
+use Rattle.kms_clients.specs.InStep.{AreClientsOf, after_lock, after_relock, lock_answer, relock_answer, holder_of_contended}
+use Rattle.kms_clients.proofs.Places.{Moves, moves, found_doing, same_tickets}
+use Rattle.kms_clients.proofs.Ties.{tied_on, tied_out, tied_begun, known_set, known_left}
+use Rattle.kms_clients.proofs.InMachine.{lock_answers, relock_answers, takes, does, does_taking, drops, meets_older, meets_no_older, goes}
+use Rattle.kms_clients.proofs.clients.Clients.decide.Goals as goal
+
+pub invariant_of-self : goal.invariant_of-self
+invariant_of-self c =
+    let v : Standing = record { places = c.self.inside.places; table = c.self.inside.table } in
+    let t = c.in-Taking.ticket in
+    let does_it : doing_in v.places c.args.client ≡ doing.Taking c.in-Taking.ticket = found_doing v c.args.self.now c.args.client c.place.result (doing.Taking c.in-Taking.ticket) c.self.view_is c.place.ensures c.in-Taking.is in
+    let own : ticket_in (doing_in v.places c.args.client) ≡ Some t = ap ticket_in does_it in
+    let new = c.set_next.new.places in
+    let place : Place = record { command = (place_in v.places c.args.client).command + 1; doing = doing.Idle } in
+    let m : Moves v.places new c.args.client place = moves v.places new c.args.client place c.self.invariant.size c.requires.client c.set_next.ensures in
+    tied_out v.places new v.table.contexts c.drop_all.new.self.contexts c.self.invariant c.args.client c.requires.client place m t c.drop_all.ensures.over.others own refl
+    (subst (λ (w : Table). All (IsKnown new) w.contexts) (sym c.drop_all.ensures.after) (known_left v.places new c.args.client place t v.table.contexts m own c.self.invariant.known))
+
+pub returns : goal.returns
+returns c = λ (m : Machine) stand.
+    let v : Standing = record { places = c.self.inside.places; table = c.self.inside.table } in
+    let t = c.in-Taking.ticket in
+    let does_it : doing_in v.places c.args.client ≡ doing.Taking c.in-Taking.ticket = found_doing v c.args.self.now c.args.client c.place.result (doing.Taking c.in-Taking.ticket) c.self.view_is c.place.ensures c.in-Taking.is in
+    let own : ticket_in (doing_in v.places c.args.client) ≡ Some t = ap ticket_in does_it in
+    let at : AreClientsOf m.contexts v = rw c.self.view_is stand in
+    drops m v at c.self.invariant c.args.client c.requires.client t own c.set_next.new.places c.drop_all.new.self (ap (λ (w : Table). w.drawn) c.drop_all.ensures.after)
+    (λ (p : Place). record { command = p.command + 1; doing = doing.Idle }) c.set_next.ensures c.drop_all.ensures.freed
