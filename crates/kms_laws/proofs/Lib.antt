@@ -24,7 +24,6 @@ pub mod Present
 pub mod Requests
 pub mod Stalled
 pub mod Start
-pub mod StartValues
 pub mod Steps
 pub mod Swapped
 pub mod TailProgress
