@@ -12,6 +12,7 @@ pub mod Framebuffers
 pub mod Freed
 pub mod Going
 pub mod Headlines
+pub mod HeldFrames
 pub mod Invariants
 pub mod Latching
 pub mod LockSteps

@@ -9,4 +9,6 @@ pub use headline::{
     dead_histories_name_a_fence, events_come_once, framebuffers_are_freed_once, headline_holds,
     histories_go_on, pictures_are_whole, world_is_serial,
 };
-pub use locks::{busy_has_its_cause, tests_change_nothing, waits_have_no_cycle};
+pub use locks::{
+    busy_has_its_cause, held_objects_are_framed, tests_change_nothing, waits_have_no_cycle,
+};

@@ -1,5 +1,5 @@
 //! Locks and decisions.
-ghost use Rattle.kms_model.specs.Promises.{CauseOfBusy, NoCycleOfWaits, TestChangesNothing};
+ghost use Rattle.kms_model.specs.Promises.{CauseOfBusy, FrameLaw, NoCycleOfWaits, TestChangesNothing};
 
 /// A request that is tested changes nothing but its reply, its locks and its client's place.
 pub fn tests_change_nothing()
@@ -16,4 +16,10 @@ pub fn waits_have_no_cycle()
 /// and the object is the first, by id, whose last commit has not flipped for it; and that commit is the one.
 pub fn busy_has_its_cause()
     ensures { CauseOfBusy }
+{}
+
+/// While a client holds an object's lock, no step but its own changes the object's present state: that of a CRTC has the
+/// sets of its planes and connectors in it. From: "KMS Locking".
+pub fn held_objects_are_framed()
+    ensures { FrameLaw }
 {}
