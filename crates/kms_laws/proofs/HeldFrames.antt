@@ -63,7 +63,7 @@ in_kind t k o few is of_kind =
     (in_either (ids_of t Plane) (ids_of t Conn) o rest))
     (in_either (ids_of t Crtc) _ o is)
 
-state_with : (active : Bool) (mode : Option Rattle.kms_model.specs.declared.objects.Mode.Mode) (planes conns : ℕ) → CrtcState
+abbrev pub state_with : (active : Bool) (mode : Option Rattle.kms_model.specs.declared.objects.Mode.Mode) (planes conns : ℕ) → CrtcState
 state_with active mode planes conns = record { active = active; mode = mode; planes = planes; conns = conns }
 
 -- What a request does not touch
@@ -77,7 +77,6 @@ module _ (t : Topology) (w : World) (r : Request) (at : IsRequestAt t w r) (o : 
   of_its_kind k e = ap (λ z. touches_of_kind z t w r o) (sym e) ∙ untouched
 
   crtc_state_frame : kind_of o ≡ Crtc → crtc_state_at t w.things (after w r) o ≡ crtc_state_at t w.things w.values o
-  unfolding state_with
   crtc_state_frame e =
       let parts = or_parts (sets r.assigns o) (names w.values (after w r) r.assigns o) (of_its_kind Crtc e) in
       let active : is_active (after w r) o ≡ is_active w.values o = ap (λ n. not (int_eq n (pos 0))) (value-apply_unset w.things w.values r.assigns o ACTIVE parts.0) in
@@ -98,7 +97,6 @@ module _ (t : Topology) (w : World) (r : Request) (at : IsRequestAt t w r) (o : 
 -- What a thing more or a closed thing leaves
 
 like_same : (t : Topology) (w v : World) (o : ℕ) → HasFewObjects t → IsIn o (lockable t) → IsLike t w v → HasSameState t w v o
-unfolding state_with
 like_same t w v o few is_there like = record {
   plane = λ e. plane_like t w v o like (in_kind t Plane o few is_there e);
   connector = λ e. ap (λ values. crtc_at values o) like.values;

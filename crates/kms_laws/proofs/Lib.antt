@@ -21,6 +21,8 @@ pub mod NeverStuck
 pub mod NoCycle
 pub mod Numbered
 pub mod Objects
+pub mod OldLookUps
+pub mod Opened
 pub mod Present
 pub mod Requests
 pub mod Stalled
