@@ -3,11 +3,14 @@ pub mod Basics
 pub mod ClientProgress
 pub mod Contexts
 pub mod DeadFence
+pub mod EachStep
 pub mod EventCounts
+pub mod EventRoom
 pub mod EventsKept
 pub mod EventsOnce
 pub mod Executed
 pub mod Fences
+pub mod Fitting
 pub mod Framebuffers
 pub mod Freed
 pub mod Going
@@ -26,6 +29,8 @@ pub mod Opened
 pub mod Present
 pub mod Requests
 pub mod Stalled
+pub mod Sizes
+pub mod SmallNumbers
 pub mod Start
 pub mod StartValues
 pub mod Steps

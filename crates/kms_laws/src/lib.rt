@@ -2,9 +2,11 @@
 //! contract of a function that does nothing; since no function has a body, no edit of one can say anything.
 #![tactic(auto)]
 
+mod bounds;
 mod headline;
 mod locks;
 
+pub use bounds::numbers_fit_their_types;
 pub use headline::{
     dead_histories_name_a_fence, events_come_once, framebuffers_are_freed_once, headline_holds,
     histories_go_on, pictures_are_whole, world_is_serial,
