@@ -29,6 +29,7 @@ pub mod Opened
 pub mod Present
 pub mod Requests
 pub mod Stalled
+pub mod ShorterTails
 pub mod Sizes
 pub mod SmallNumbers
 pub mod Start

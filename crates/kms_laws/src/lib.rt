@@ -6,7 +6,7 @@ mod bounds;
 mod headline;
 mod locks;
 
-pub use bounds::numbers_fit_their_types;
+pub use bounds::{numbers_fit_their_types, tails_are_short, tails_get_shorter};
 pub use headline::{
     dead_histories_name_a_fence, events_come_once, framebuffers_are_freed_once, headline_holds,
     histories_go_on, pictures_are_whole, world_is_serial,
