@@ -9,4 +9,6 @@ pub mod Lockables
 pub mod InStepLemmas
 mod OneCrtc
 pub mod MachineAnswers
+pub mod There
+pub mod StepLemmas
 pub mod NotYetAnswers

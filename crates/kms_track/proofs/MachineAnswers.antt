@@ -27,11 +27,11 @@ use Rattle.kms_track.proofs.KeptAnswers.{ready_told, busy_told}
 use Rattle.kms_track.proofs.Lockables.{crtcs_all, all_lockable, first_lockable}
 
 -- what holds of an object that is there, and of one that is not
-where_there : {A : Type 0} (b : Bool) → (b ≡ true → A) → (b ≡ false → A) → A
+pub where_there : {A : Type 0} (b : Bool) → (b ≡ true → A) → (b ≡ false → A) → A
 where_there true there gone = there refl
 where_there false there gone = gone refl
 
-flipped_machine : (t : Topology) (commits : List Commit) (marks : Marks) (latches : List Latch) (k p : ℕ) → p < 28 → is_there t p ≡ true → AreOfDevice t commits
+pub flipped_machine : (t : Topology) (commits : List Commit) (marks : Marks) (latches : List Latch) (k p : ℕ) → p < 28 → is_there t p ≡ true → AreOfDevice t commits
     → has_flipped (told_of t commits marks latches) k (object_at p) ≡ machine.has_flipped t commits latches k (object_at p)
 unfolding machine.has_flipped
 flipped_machine t commits marks latches k p place there device =

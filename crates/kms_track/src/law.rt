@@ -3,6 +3,7 @@ ghost use Rattle.kms_track.specs.Laws.{KeepsNothing, KeepsSetup, KeepsClaim, Kee
 ghost use Rattle.kms_track.specs.MachineLaws.{StandsAtFirst, StandsAfterSetup, StandsAfterClaim, StandsAfterHwDone};
 ghost use Rattle.kms_track.specs.MachineLaws.{StandsAfterLatch, StandsAfterCleanup, StandsWithRoom};
 ghost use Rattle.kms_track.specs.MachineLaws.{TellsClaim, TellsPending, TellsReady};
+ghost use Rattle.kms_track.specs.StepLaws.{FollowsSwap, FollowsClaim, FollowsHwDone, FollowsFlush, FollowsFlushOff, FollowsVblank, FollowsVblankWithGo, FollowsCleanup, FollowsTheOthers};
 
 /// After any calls on a tracker, in any order in which no commit is cleaned before it is claimed, done and flipped, its
 /// answers are those of the commits as they were set up and of what it was told of each, cleaned ones too.
@@ -34,4 +35,19 @@ pub fn answers_as_the_machine()
     ensures ready { TellsClaim }
     ensures busy { TellsPending }
     ensures not_yet { TellsReady }
+{}
+
+/// A tracker that stands for a machine stands for it after each of its steps: after a swap once the commit is set up as it
+/// was checked, after a claim, hw_done and cleanup once it is told, after a flush of a CRTC that is off and a vertical
+/// blanking with GO once it is told of the latch, and after each other step as it is.
+pub fn follows_the_machine()
+    ensures swap { FollowsSwap }
+    ensures claim { FollowsClaim }
+    ensures hw_done { FollowsHwDone }
+    ensures flush { FollowsFlush }
+    ensures flush_off { FollowsFlushOff }
+    ensures vblank { FollowsVblank }
+    ensures vblank_with_go { FollowsVblankWithGo }
+    ensures cleanup { FollowsCleanup }
+    ensures others { FollowsTheOthers }
 {}

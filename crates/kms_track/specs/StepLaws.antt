@@ -1,0 +1,110 @@
+-- That a tracker which is told of each step of a machine stands for the machine after it.
+use Rattle.std.specs.Prelude.{◌≡◌, ℕ, ◌<◌, Bool, true, false, List, length, Some, None}
+use Rattle.kms_model.specs.declared.objects.Kind.TheVariants.{Crtc}
+use Rattle.kms_model.specs.declared.objects.Topology.{Topology}
+use Rattle.kms_model.specs.declared.replies.Step.{Step}
+use Rattle.kms_model.specs.declared.replies.Step.TheVariants.{Begin, Lock, BackOff, Relock, Refuse, Test, Swap, Make, Signal, Claim, Write, Flush, HwDone, Vblank, Cleanup, Read, Return, Stall}
+use Rattle.kms_model.specs.declared.scripts.Request.{Request}
+use Rattle.kms_model.specs.declared.scripts.Script.{Script}
+use Rattle.kms_model.specs.declared.states.Checked.{Checked}
+use Rattle.kms_model.specs.Device.Objects.{object_id, ids_of}
+use Rattle.kms_model.specs.Machine.Commits.{commit_concerns, commit_names, commit_touches, is_claimed, is_hw_done, lockable, new_crtc}
+use Rattle.kms_model.specs.Machine.Effects.{next}
+use Rattle.kms_model.specs.Machine.Histories.{legal}
+use Rattle.kms_model.specs.Machine.State.{Commit, DeviceState, Machine, go_at, place_at, request_at}
+use Rattle.kms_model.specs.Stores.Tables.{without_id}
+use Rattle.kms_model.proofs.Items.{IsIn}
+use Rattle.kms_track.specs.InStep.{IsInStep, IsCheckedFor, AreOfDevice}
+use Rattle.kms_track.specs.Tracking.{Tracking, IsSetUp, changed, with_claim, with_done, with_latch}
+
+-- the commit that a swap sets up
+abbrev pub new_commit : Machine → ℕ → Request → Commit
+new_commit m client r = record { client = client; command = (place_at m client).command; request = r; world = m.device.world }
+
+abbrev pub FollowsSwap : Type 0
+FollowsSwap =
+    (s : Script) (m : Machine) (client : ℕ) (r : Request) (v w : Tracking) (checked : Checked) (fences : List ℕ)
+    → request_at s m client ≡ Some r → IsInStep s.topology m v
+    → IsCheckedFor s.topology (new_commit m client r) checked fences → IsSetUp v w checked fences
+    → IsInStep s.topology (next s m (Swap client)) w
+
+abbrev pub FollowsClaim : Type 0
+FollowsClaim =
+    (s : Script) (m : Machine) (k : ℕ) (v : Tracking)
+    → legal s m (Claim k) ≡ true → IsInStep s.topology m v
+    → IsInStep s.topology (next s m (Claim k)) (changed v k with_claim)
+
+abbrev pub FollowsHwDone : Type 0
+FollowsHwDone =
+    (s : Script) (m : Machine) (k : ℕ) (v : Tracking)
+    → legal s m (HwDone k) ≡ true → IsInStep s.topology m v
+    → IsInStep s.topology (next s m (HwDone k)) (changed v k with_done)
+
+-- A flush of a CRTC that is on after the commit tells nothing; one that is off latches.
+abbrev pub FollowsFlush : Type 0
+FollowsFlush =
+    (s : Script) (m : Machine) (k index : ℕ) (v : Tracking)
+    → (new_crtc s.topology m.device.commits k (object_id Crtc index)).active ≡ true → IsInStep s.topology m v
+    → IsInStep s.topology (next s m (Flush k Crtc index)) v
+
+abbrev pub FollowsFlushOff : Type 0
+FollowsFlushOff =
+    (s : Script) (m : Machine) (k index : ℕ) (v : Tracking)
+    → k < length m.device.commits → index < 4
+    → (new_crtc s.topology m.device.commits k (object_id Crtc index)).active ≡ false → IsInStep s.topology m v
+    → IsInStep s.topology (next s m (Flush k Crtc index)) (changed v k (with_latch index))
+
+-- A vertical blanking without GO tells nothing; one with GO latches.
+abbrev pub FollowsVblank : Type 0
+FollowsVblank =
+    (s : Script) (m : Machine) (index : ℕ) (v : Tracking)
+    → go_at m.device (object_id Crtc index) ≡ None → IsInStep s.topology m v
+    → IsInStep s.topology (next s m (Vblank Crtc index)) v
+
+abbrev pub FollowsVblankWithGo : Type 0
+FollowsVblankWithGo =
+    (s : Script) (m : Machine) (k index : ℕ) (v : Tracking)
+    → k < length m.device.commits → index < 4 → go_at m.device (object_id Crtc index) ≡ Some k → IsInStep s.topology m v
+    → IsInStep s.topology (next s m (Vblank Crtc index)) (changed v k (with_latch index))
+
+-- A commit that is done was claimed, and names each CRTC that concerns an object which it touches.
+pub record HasNames (t : Topology) (d : DeviceState) : Type 0 where
+  pub done_claimed : (k : ℕ) → is_hw_done d k ≡ true → is_claimed d k ≡ true
+  pub named :
+      (k object crtc : ℕ) → k < length d.commits → IsIn object (lockable t) → IsIn crtc (ids_of t Crtc)
+      → commit_touches t d.commits k object ≡ true → commit_concerns t d.commits k object crtc ≡ true
+      → commit_names t d.commits k crtc ≡ true
+
+abbrev pub FollowsCleanup : Type 0
+FollowsCleanup =
+    (s : Script) (m : Machine) (k : ℕ) (v w : Tracking)
+    → legal s m (Cleanup k) ≡ true → HasNames s.topology m.device → AreOfDevice s.topology m.device.commits
+    → IsInStep s.topology m v
+    → w.count ≡ v.count → w.lasts ≡ v.lasts → w.pending.slots ≡ without_id v.pending.slots k
+    → IsInStep s.topology (next s m (Cleanup k)) w
+
+-- the steps that tell a tracker nothing
+abbrev pub tells_nothing : Step → Bool
+tells_nothing (Begin client) = true
+tells_nothing (Lock client kind index) = true
+tells_nothing (BackOff client) = true
+tells_nothing (Relock client) = true
+tells_nothing (Refuse client) = true
+tells_nothing (Test client) = true
+tells_nothing (Swap client) = false
+tells_nothing (Make client) = true
+tells_nothing (Signal client) = true
+tells_nothing (Claim k) = false
+tells_nothing (Write k kind index) = true
+tells_nothing (Flush k kind index) = false
+tells_nothing (HwDone k) = false
+tells_nothing (Vblank kind index) = false
+tells_nothing (Cleanup k) = false
+tells_nothing (Read client) = true
+tells_nothing (Return client) = true
+tells_nothing Stall = true
+
+abbrev pub FollowsTheOthers : Type 0
+FollowsTheOthers =
+    (s : Script) (m : Machine) (step : Step) (v : Tracking)
+    → tells_nothing step ≡ true → IsInStep s.topology m v → IsInStep s.topology (next s m step) v
