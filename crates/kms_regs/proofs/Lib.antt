@@ -8,3 +8,4 @@ pub mod SameWords
 pub mod Signed
 pub mod WordsBack
 pub mod MachineEffects
+mod OneCrtc

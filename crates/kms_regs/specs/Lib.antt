@@ -1,5 +1,6 @@
 pub mod File
 pub mod Latches
 pub mod Layers
+pub mod StepLaws
 pub mod Words
 pub mod Written

@@ -94,7 +94,8 @@ impl Bank {
     /// Copies the words of a plane from the shadow, if it is on a CRTC here or there.
     fn latch_plane(&mut self, shadow: &Bank, index: u32, crtc: u32)
         requires { index < 16 }
-        ensures { ReadSame (latched_plane shadow.now self.old crtc (object_id Plane index)) self.new }
+        ensures { ReadSame
+            (latched_plane shadow.now self.old crtc (object_id Plane index)) self.new }
     {
         if self.is_copied(shadow, index, crtc) {
             self.planes[index as usize] = *shadow.plane(index);
