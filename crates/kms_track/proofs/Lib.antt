@@ -7,8 +7,7 @@ pub mod KeptAnswers
 pub mod KeptChanges
 pub mod Lockables
 pub mod InStepLemmas
-mod OneCrtc
-pub mod MachineAnswers
 pub mod There
+pub mod MachineAnswers
 pub mod StepLemmas
 pub mod NotYetAnswers

@@ -18,7 +18,7 @@ use Rattle.kms_model.specs.declared.states.Checked.{Checked}
 use Rattle.kms_model.specs.Device.Execution.{execute}
 use Rattle.kms_model.specs.Device.Objects.{object_id, ids_of, index_of}
 use Rattle.kms_model.specs.Device.World.{thing_labelled}
-use Rattle.kms_model.specs.Machine.Commits.{asks_event, commit_concerns, commit_names, commit_touches, has_flipped, has_latched, has_number, id_of_thing, is_all_latched, is_claimed, is_hw_done, new_crtc, out_fence_of}
+use Rattle.kms_model.specs.Machine.Commits.{asks_event, commit_concerns, commit_names, commit_touches, has_flipped, has_latched, has_number, id_of_thing, is_all_latched, is_claimed, is_hw_done, lockable, new_crtc, out_fence_of}
 use Rattle.kms_model.specs.Machine.Effects.{answers, counts_vblank, delivers, delivers_if, fence_signalled, joins_if, latches, latches_picture, locked, made_thing, next, reads, refused, relocked, signalled_by, signals, swapped_state, writes}
 use Rattle.kms_model.specs.Machine.Histories.{legal}
 use Rattle.kms_model.specs.Machine.Registers.{decoded_picture, latched_registers}
@@ -26,16 +26,16 @@ use Rattle.kms_model.specs.Machine.State.{Machine, command_at, doing_at, go_at, 
 use Rattle.kms_model.specs.Machine.Steps.{contended, may, may_claim}
 use Rattle.kms_model.specs.Request.Flags.{wants_event, is_nonblock}
 use Rattle.kms_model.specs.Stores.Tables.{without_id}
-use Rattle.kms_model.proofs.Items.{list_all-at, list_all-from}
+use Rattle.kms_model.proofs.Items.{IsIn, list_all-at, list_all-from}
 use Rattle.kms_model.proofs.KindsOfIds.{index_of-object}
-use Rattle.kms_track.specs.InStep.{IsInStep, IsTrackerOf, IsCheckedFor, AreOfDevice, is_there, told_of}
+use Rattle.kms_track.specs.InStep.{IsInStep, IsTrackerOf, IsCheckedFor, IsWithinPlaces, is_on, told_of}
 use Rattle.kms_track.specs.Places.{object_at}
 use Rattle.kms_track.specs.StepLaws.{HasNames, new_commit, tells_nothing}
 use Rattle.kms_track.specs.Told.{IsOver}
 use Rattle.kms_track.specs.Tracking.{Tracking, IsSetUp, changed, with_claim, with_done, with_latch}
 use Rattle.kms_track.proofs.InStepLemmas.{claim_in_step, cleanup_in_step, hw_done_in_step, latch_in_step, setup_in_step}
-use Rattle.kms_track.proofs.MachineAnswers.{flipped_machine, where_there}
-use Rattle.kms_track.proofs.There.{place_lockable}
+use Rattle.kms_track.proofs.MachineAnswers.{flipped_machine}
+use Rattle.kms_track.proofs.There.{on_place, place_lockable}
 
 -- Steps that tell nothing
 
@@ -207,29 +207,29 @@ vblank_with_go_follows s m k index v within crtc has stands = rw has (latch_foll
 -- Cleanups
 
 -- a commit that may be cleaned is over, as a tracker has it
-pub over_of : (t : Topology) (m : Machine) (k : ℕ) → k < length m.device.commits → is_hw_done m.device k ≡ true → is_all_latched t m.device m.records.latches k ≡ true → HasNames t m.device → AreOfDevice t m.device.commits
+pub over_of : (t : Topology) (m : Machine) (k : ℕ) → k < length m.device.commits → is_hw_done m.device k ≡ true → is_all_latched t m.device m.records.latches k ≡ true → HasNames t m.device → IsWithinPlaces t
     → IsOver (told_of t m.device.commits m.device.marks m.records.latches) k
 unfolding is_all_latched has_flipped
-over_of t m k within done latched names device = record {
+over_of t m k within done latched names limits = record {
   claimed = names.done_claimed k done;
   hw_done = done;
-  flipped = λ p place touched. where_there (is_there t p)
-      (λ there. flipped_machine t m.device.commits m.device.marks m.records.latches k p place there device ∙ flips p place there touched)
-      (λ gone. absurd (false≢true (sym (device.objects k p place gone) ∙ touched)));
+  flipped = λ p place touched. (let both = and_parts (is_on t (object_at p)) _ touched in
+      flipped_machine t m.device.commits m.device.marks m.records.latches k (object_at p) limits
+      ∙ flips p (place_lockable t p place (sym (on_place t p place) ∙ both.0)) both.1);
 } where
-  flips : (p : ℕ) → p < 28 → is_there t p ≡ true → commit_touches t m.device.commits k (object_at p) ≡ true → has_flipped t m.device.commits m.records.latches k (object_at p) ≡ true
-  flips p place there touched =
+  flips : (p : ℕ) → IsIn (object_at p) (lockable t) → commit_touches t m.device.commits k (object_at p) ≡ true → has_flipped t m.device.commits m.records.latches k (object_at p) ≡ true
+  flips p there touched =
       list_all-from (λ crtc. not (commit_concerns t m.device.commits k (object_at p) crtc) || has_latched m.records.latches k crtc) (ids_of t Crtc)
       (λ crtc is. implied (commit_concerns t m.device.commits k (object_at p) crtc) (has_latched m.records.latches k crtc)
       (λ on. of_named (commit_names t m.device.commits k crtc) (has_latched m.records.latches k crtc)
       (list_all-at (λ crtc. not (commit_names t m.device.commits k crtc) || has_latched m.records.latches k crtc) (ids_of t Crtc) crtc latched is)
-      (names.named k (object_at p) crtc within (place_lockable t p place there) is touched on)))
+      (names.named k (object_at p) crtc within there is touched on)))
 
-pub cleanup_follows : (s : Script) (m : Machine) (k : ℕ) (v w : Tracking) → legal s m (Cleanup k) ≡ true → HasNames s.topology m.device → AreOfDevice s.topology m.device.commits → IsInStep s.topology m v
+pub cleanup_follows : (s : Script) (m : Machine) (k : ℕ) (v w : Tracking) → legal s m (Cleanup k) ≡ true → HasNames s.topology m.device → IsWithinPlaces s.topology → IsInStep s.topology m v
     → w.count ≡ v.count → w.lasts ≡ v.lasts → w.pending.slots ≡ without_id v.pending.slots k → IsInStep s.topology (next s m (Cleanup k)) w
 unfolding next legal may
-cleanup_follows s m k v w is names device stands count lasts slots =
+cleanup_follows s m k v w is names limits stands count lasts slots =
     let parts = and_parts (is_hw_done m.device k) _ (and_parts (not m.stalled) _ is).1 in
     let within : k < length m.device.commits = done_numbered s.topology m k v stands parts.0 in
     cleanup_in_step s.topology m.device.commits m.device.marks m.records.latches v w k within count lasts slots
-    (over_of s.topology m k within parts.0 (and_parts (is_all_latched s.topology m.device m.records.latches k) _ parts.1).0 names device) stands
+    (over_of s.topology m k within parts.0 (and_parts (is_all_latched s.topology m.device m.records.latches k) _ parts.1).0 names limits) stands

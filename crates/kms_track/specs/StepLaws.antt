@@ -14,7 +14,7 @@ use Rattle.kms_model.specs.Machine.Histories.{legal}
 use Rattle.kms_model.specs.Machine.State.{Commit, DeviceState, Machine, go_at, place_at, request_at}
 use Rattle.kms_model.specs.Stores.Tables.{without_id}
 use Rattle.kms_model.proofs.Items.{IsIn}
-use Rattle.kms_track.specs.InStep.{IsInStep, IsCheckedFor, AreOfDevice}
+use Rattle.kms_track.specs.InStep.{IsInStep, IsCheckedFor, IsWithinPlaces}
 use Rattle.kms_track.specs.Tracking.{Tracking, IsSetUp, changed, with_claim, with_done, with_latch}
 
 -- the commit that a swap sets up
@@ -78,7 +78,7 @@ pub record HasNames (t : Topology) (d : DeviceState) : Type 0 where
 abbrev pub FollowsCleanup : Type 0
 FollowsCleanup =
     (s : Script) (m : Machine) (k : ℕ) (v w : Tracking)
-    → legal s m (Cleanup k) ≡ true → HasNames s.topology m.device → AreOfDevice s.topology m.device.commits
+    → legal s m (Cleanup k) ≡ true → HasNames s.topology m.device → IsWithinPlaces s.topology
     → IsInStep s.topology m v
     → w.count ≡ v.count → w.lasts ≡ v.lasts → w.pending.slots ≡ without_id v.pending.slots k
     → IsInStep s.topology (next s m (Cleanup k)) w

@@ -2,7 +2,7 @@
 ghost use Rattle.kms_track.specs.Laws.{KeepsNothing, KeepsSetup, KeepsClaim, KeepsHwDone, KeepsLatch, KeepsCleanup, KeepsRoom, AnswersReady, AnswersBusy, AnswersNotYet};
 ghost use Rattle.kms_track.specs.MachineLaws.{StandsAtFirst, StandsAfterSetup, StandsAfterClaim, StandsAfterHwDone};
 ghost use Rattle.kms_track.specs.MachineLaws.{StandsAfterLatch, StandsAfterCleanup, StandsWithRoom};
-ghost use Rattle.kms_track.specs.MachineLaws.{TellsClaim, TellsPending, TellsReady};
+ghost use Rattle.kms_track.specs.MachineLaws.{TellsClaim, TellsPending, TellsAwaited, TellsReady};
 ghost use Rattle.kms_track.specs.StepLaws.{FollowsSwap, FollowsClaim, FollowsHwDone, FollowsFlush, FollowsFlushOff, FollowsVblank, FollowsVblankWithGo, FollowsCleanup, FollowsTheOthers};
 
 /// After any calls on a tracker, in any order in which no commit is cleaned before it is claimed, done and flipped, its
@@ -21,9 +21,10 @@ pub fn answers_what_it_was_told()
 {}
 
 /// While a tracker is told of each commit of a machine and of each of its marks and latches, it stands for them. `ready`
-/// is then the condition of a claim, `busy` tells the first object that is pending and its last commit, and `not_yet` is
-/// none exactly where the CRTCs that a request names are ready for its swap. (Kernel: `drm_atomic_helper.c`,
-/// `drm_atomic_helper_setup_commit`, `drm_atomic_helper_wait_for_dependencies`.)
+/// is then the condition of a claim, `busy` tells the first object that is pending and its last commit, and `not_yet` the
+/// first CRTC that a request names and at which its swap waits, with the commit that it waits for; none exactly where the
+/// swap is ready. (Kernel: `drm_atomic_helper.c`, `drm_atomic_helper_setup_commit`,
+/// `drm_atomic_helper_wait_for_dependencies`.)
 pub fn answers_as_the_machine()
     ensures first { StandsAtFirst }
     ensures setup { StandsAfterSetup }
@@ -34,7 +35,8 @@ pub fn answers_as_the_machine()
     ensures make_room { StandsWithRoom }
     ensures ready { TellsClaim }
     ensures busy { TellsPending }
-    ensures not_yet { TellsReady }
+    ensures not_yet { TellsAwaited }
+    ensures is_ready { TellsReady }
 {}
 
 /// A tracker that stands for a machine stands for it after each of its steps: after a swap once the commit is set up as it
