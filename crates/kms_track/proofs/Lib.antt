@@ -11,3 +11,4 @@ pub mod There
 pub mod MachineAnswers
 pub mod StepLemmas
 pub mod NotYetAnswers
+pub mod CheckedLemmas

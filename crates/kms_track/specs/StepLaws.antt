@@ -1,5 +1,5 @@
 -- That a tracker which is told of each step of a machine stands for the machine after it.
-use Rattle.std.specs.Prelude.{◌≡◌, ℕ, ◌<◌, Bool, true, false, List, length, Some, None}
+use Rattle.std.specs.Prelude.{◌≡◌, ℕ, ◌-◌, ◌<◌, ◌&&◌, ◌||◌, nat_lt, Bool, true, false, List, length, map, is_some, slice_index_or, Some, None, if◌then◌else◌}
 use Rattle.kms_model.specs.declared.objects.Kind.TheVariants.{Crtc}
 use Rattle.kms_model.specs.declared.objects.Topology.{Topology}
 use Rattle.kms_model.specs.declared.replies.Step.{Step}
@@ -7,14 +7,23 @@ use Rattle.kms_model.specs.declared.replies.Step.TheVariants.{Begin, Lock, BackO
 use Rattle.kms_model.specs.declared.scripts.Request.{Request}
 use Rattle.kms_model.specs.declared.scripts.Script.{Script}
 use Rattle.kms_model.specs.declared.states.Checked.{Checked}
+use Rattle.kms_model.specs.declared.states.Duplicates.{Duplicates}
+use Rattle.kms_model.specs.declared.worlds.World.{World}
 use Rattle.kms_model.specs.Device.Objects.{object_id, ids_of}
+use Rattle.kms_model.specs.Device.Sound.{IsDevice, IsSound}
 use Rattle.kms_model.specs.Machine.Commits.{commit_concerns, commit_names, commit_touches, is_claimed, is_hw_done, lockable, new_crtc}
 use Rattle.kms_model.specs.Machine.Effects.{next}
 use Rattle.kms_model.specs.Machine.Histories.{legal}
 use Rattle.kms_model.specs.Machine.State.{Commit, DeviceState, Machine, go_at, place_at, request_at}
+use Rattle.kms_model.specs.Request.Deciding.{IsChecked}
+use Rattle.kms_model.specs.Request.Lookups.{look_up}
+use Rattle.kms_model.specs.Request.Sets.{in_fences}
+use Rattle.kms_model.specs.Request.Touched.{touched_by, touches}
+use Rattle.kms_model.specs.Request.Verdict.{verdict}
 use Rattle.kms_model.specs.Stores.Tables.{without_id}
 use Rattle.kms_model.proofs.Items.{IsIn}
-use Rattle.kms_track.specs.InStep.{IsInStep, IsCheckedFor, IsWithinPlaces}
+use Rattle.kms_track.specs.InStep.{IsInStep, IsCheckedFor, IsWithinPlaces, is_on}
+use Rattle.kms_track.specs.Places.{mask_has, object_at}
 use Rattle.kms_track.specs.Tracking.{Tracking, IsSetUp, changed, with_claim, with_done, with_latch}
 
 -- the commit that a swap sets up
@@ -108,3 +117,34 @@ abbrev pub FollowsTheOthers : Type 0
 FollowsTheOthers =
     (s : Script) (m : Machine) (step : Step) (v : Tracking)
     → tells_nothing step ≡ true → IsInStep s.topology m v → IsInStep s.topology (next s m step) v
+
+-- What a check gives
+
+-- the object at a place is a CRTC, or has both states
+abbrev pub has_states : Duplicates → ℕ → Bool
+has_states states p =
+    nat_lt p 4
+    || (if nat_lt p 20 then is_some (slice_index_or states.planes (p - 4) None) else is_some (slice_index_or states.conns (p - 20) None))
+
+-- what is touched has
+abbrev pub HasStates : Checked → Type 0
+HasStates checked = (p : ℕ) → p < 28 → mask_has checked.touched p ≡ true → has_states checked.states p ≡ true
+
+-- What was checked of an accepted request, in a sound world, is what a tracker is told of its commit.
+abbrev pub ChecksAreFollowed : Type 0
+ChecksAreFollowed =
+    (t : Topology) (c : Commit) (checked : Checked) (fences : List ℕ)
+    → IsDevice t → IsSound t c.world → verdict t c.world c.request ≡ None
+    → IsChecked t c.world c.request checked → HasStates checked
+    → map (λ f. f.1) (in_fences t (look_up c.world) c.request.assigns) ≡ fences
+    → IsCheckedFor t c checked fences
+
+-- `busy` is asked of the set of the objects that a request touches.
+abbrev pub TouchesAreFollowed : Type 0
+TouchesAreFollowed =
+    (t : Topology) (w : World) (r : Request) (p : ℕ)
+    → p < 28 → mask_has (touched_by t w r) p ≡ (is_on t (object_at p) && touches t w r (object_at p))
+
+-- A device that a script can have is one that a tracker can follow.
+abbrev pub DevicesAreFollowed : Type 0
+DevicesAreFollowed = (t : Topology) → IsDevice t → IsWithinPlaces t

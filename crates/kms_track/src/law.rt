@@ -4,6 +4,7 @@ ghost use Rattle.kms_track.specs.MachineLaws.{StandsAtFirst, StandsAfterSetup, S
 ghost use Rattle.kms_track.specs.MachineLaws.{StandsAfterLatch, StandsAfterCleanup, StandsWithRoom};
 ghost use Rattle.kms_track.specs.MachineLaws.{TellsClaim, TellsPending, TellsAwaited, TellsReady};
 ghost use Rattle.kms_track.specs.StepLaws.{FollowsSwap, FollowsClaim, FollowsHwDone, FollowsFlush, FollowsFlushOff, FollowsVblank, FollowsVblankWithGo, FollowsCleanup, FollowsTheOthers};
+ghost use Rattle.kms_track.specs.StepLaws.{ChecksAreFollowed, TouchesAreFollowed, DevicesAreFollowed};
 
 /// After any calls on a tracker, in any order in which no commit is cleaned before it is claimed, done and flipped, its
 /// answers are those of the commits as they were set up and of what it was told of each, cleaned ones too.
@@ -41,7 +42,8 @@ pub fn answers_as_the_machine()
 
 /// A tracker that stands for a machine stands for it after each of its steps: after a swap once the commit is set up as it
 /// was checked, after a claim, hw_done and cleanup once it is told, after a flush of a CRTC that is off and a vertical
-/// blanking with GO once it is told of the latch, and after each other step as it is.
+/// blanking with GO once it is told of the latch, and after each other step as it is. The last three clauses tell of what a
+/// check gives, of the set of touched objects and of the device that they have what the others ask for.
 pub fn follows_the_machine()
     ensures swap { FollowsSwap }
     ensures claim { FollowsClaim }
@@ -52,4 +54,7 @@ pub fn follows_the_machine()
     ensures vblank_with_go { FollowsVblankWithGo }
     ensures cleanup { FollowsCleanup }
     ensures others { FollowsTheOthers }
+    ensures checked { ChecksAreFollowed }
+    ensures touched { TouchesAreFollowed }
+    ensures device { DevicesAreFollowed }
 {}
