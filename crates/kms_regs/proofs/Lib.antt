@@ -3,6 +3,7 @@ pub mod FileLemmas
 pub mod LatchLaw
 pub mod ModeWords
 pub mod Pictured
+pub mod RewrittenWords
 pub mod Rows
 pub mod SameWords
 pub mod Signed

@@ -4,7 +4,7 @@ use Rattle.kms_model.specs.Device.Objects.{object_id}
 use Rattle.kms_model.specs.declared.objects.Kind.TheVariants.{Crtc, Plane}
 use Rattle.kms_model.specs.declared.objects.Topology.{Topology}
 use Rattle.kms_model.specs.declared.replies.Step.{Step}
-use Rattle.kms_model.specs.declared.replies.Step.TheVariants.{Begin, Lock, BackOff, Relock, Refuse, Test, Swap, Make, Signal, Claim, Write, Flush, HwDone, Vblank, Cleanup, Read, Return, Stall}
+use Rattle.kms_model.specs.declared.replies.Step.TheVariants.{Write, Flush, Vblank}
 use Rattle.kms_model.specs.declared.scripts.Script.{Script}
 use Rattle.kms_model.specs.declared.states.CrtcState.{CrtcState}
 use Rattle.kms_model.specs.declared.states.PlaneState.{PlaneState}
@@ -12,9 +12,22 @@ use Rattle.kms_model.specs.Machine.Commits.{new_connector, new_crtc, new_plane}
 use Rattle.kms_model.specs.Machine.Effects.{next}
 use Rattle.kms_model.specs.Machine.Registers.{crtc_register, crtc_words, is_on_in, plane_register, plane_words, write_crtc, write_plane}
 use Rattle.kms_model.specs.Machine.State.{DeviceState, Machine, count_at, go_at}
+use Rattle.kms_regs.specs.Rewritten.{rewrite_crtc, rewrite_plane}
 use Rattle.kms_regs.specs.File.{RegisterFile, StandsFor, blanked, flushed, latched_picture, with_shadow}
 
 -- What calls make of a register file, for each device that it stands for
+
+-- of the plane with an index the shadow words that differ between two states become those of the second, and no others
+abbrev pub RewritesPlane : RegisterFile → RegisterFile → ℕ → PlaneState → PlaneState → Type 0
+RewritesPlane old new index before state =
+    (t : Topology) (d : DeviceState) → StandsFor t d old
+    → StandsFor t (with_shadow d (rewrite_plane d.shadow (object_id Plane index) (plane_words before) (plane_words state))) new
+
+-- the same of the CRTC with an index, whose words have a connector before and after
+abbrev pub RewritesCrtc : RegisterFile → RegisterFile → ℕ → ℕ → ℕ → CrtcState → CrtcState → Type 0
+RewritesCrtc old new index conn_before conn before state =
+    (t : Topology) (d : DeviceState) → StandsFor t d old
+    → StandsFor t (with_shadow d (rewrite_crtc d.shadow (object_id Crtc index) (crtc_words conn_before before) (crtc_words conn state))) new
 
 -- the shadow words of the plane with an index are those of a state
 abbrev pub WritesPlane : RegisterFile → RegisterFile → ℕ → PlaneState → Type 0
@@ -71,24 +84,10 @@ FollowsVblank =
 
 -- the steps that leave the registers as they are
 abbrev pub keeps_registers : Step → Bool
-keeps_registers (Begin client) = true
-keeps_registers (Lock client kind index) = true
-keeps_registers (BackOff client) = true
-keeps_registers (Relock client) = true
-keeps_registers (Refuse client) = true
-keeps_registers (Test client) = true
-keeps_registers (Swap client) = true
-keeps_registers (Make client) = true
-keeps_registers (Signal client) = true
-keeps_registers (Claim k) = true
 keeps_registers (Write k kind index) = false
 keeps_registers (Flush k kind index) = false
-keeps_registers (HwDone k) = true
 keeps_registers (Vblank kind index) = false
-keeps_registers (Cleanup k) = true
-keeps_registers (Read client) = true
-keeps_registers (Return client) = true
-keeps_registers Stall = true
+keeps_registers _ = true
 
 abbrev pub FollowsTheOthers : Type 0
 FollowsTheOthers =

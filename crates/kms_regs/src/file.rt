@@ -7,7 +7,7 @@ ghost use Rattle.kms_model.specs.declared.objects.Topology.{Topology};
 ghost use Rattle.kms_model.specs.Machine.Registers.{crtc_register, crtc_words, decoded_picture, plane_register, plane_words};
 ghost use Rattle.kms_model.specs.Machine.State.{DeviceState, count_at, first_machine, go_at};
 ghost use Rattle.kms_regs.specs.File.{StandsFor, blanked_picture, count_in, flushed_picture, has_go, latched_picture};
-ghost use Rattle.kms_regs.specs.StepLaws.{Blanks, Flushes, WritesCrtc, WritesPlane};
+ghost use Rattle.kms_regs.specs.StepLaws.{Blanks, Flushes, RewritesCrtc, RewritesPlane, WritesCrtc, WritesPlane};
 
 use crate::banks::Bank;
 use crate::pictures::decoded_picture;
@@ -76,27 +76,31 @@ impl RegFile {
         *words == CrtcWords::of(words.conn, state)
     }
 
-    /// Writes the shadow words that differ of the plane with an index, from 0 to 15. They are those of the old state,
-    /// and then those of the new one; the numbers of both are in the ranges of their properties.
+    /// Writes, of the plane with an index, from 0 to 15, the shadow words that differ between the old state and the new
+    /// one, and no others. Where its words are those of the old state, they are those of the new one then. The numbers of
+    /// both states are in the ranges of their properties.
     pub fn write_plane(&mut self, index: u32, old: &PlaneState, new: &PlaneState)
         requires index { index < 16 }
         requires old_range { IsPlaneInRange old.now }
         requires new_range { IsPlaneInRange new.now }
-        requires old_words { plane_register self.old.shadow (object_id Plane index)
-            ≡ plane_words old.now }
-        ensures { WritesPlane self.old self.new index new.now }
+        ensures rewrites { RewritesPlane self.old self.new index old.now new.now }
+        ensures writes { plane_register self.old.shadow (object_id Plane index) ≡ plane_words old.now
+            → WritesPlane self.old self.new index new.now }
     {
         self.shadow
             .write_plane(index, &PlaneWords::of(old), &PlaneWords::of(new));
     }
 
-    /// Writes the shadow words that differ of the CRTC with an index, from 0 to 3. They are those of the old state, and
-    /// then those of the new one with the id of the connector whose CRTC it is, or 0.
+    /// Writes, of the CRTC with an index, from 0 to 3, the shadow words that differ between the old state with its
+    /// connector and the new one with the id of the connector whose CRTC it is, or 0; and no others. Where its words are
+    /// those of the old state, they are those of the new one then.
     pub fn write_crtc(&mut self, index: u32, conn: u32, old: &CrtcState, new: &CrtcState)
-        requires index { index < 4 }
-        requires old_words { crtc_register self.old.shadow (object_id Crtc index)
-            ≡ crtc_words (crtc_register self.old.shadow (object_id Crtc index)).conn old.now }
-        ensures { WritesCrtc self.old self.new index conn new.now }
+        requires { index < 4 }
+        ensures rewrites { RewritesCrtc self.old self.new index
+            (crtc_register self.old.shadow (object_id Crtc index)).conn conn old.now new.now }
+        ensures writes { crtc_register self.old.shadow (object_id Crtc index)
+            ≡ crtc_words (crtc_register self.old.shadow (object_id Crtc index)).conn old.now
+            → WritesCrtc self.old self.new index conn new.now }
     {
         let old = CrtcWords::of(self.shadow.crtc(index).conn, old);
         self.shadow

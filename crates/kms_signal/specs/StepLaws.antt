@@ -4,7 +4,7 @@ use Rattle.kms_model.specs.declared.objects.Kind.TheVariants.{Crtc}
 use Rattle.kms_model.specs.declared.objects.Topology.{Topology}
 use Rattle.kms_model.specs.declared.replies.Reply.TheVariants as reply
 use Rattle.kms_model.specs.declared.replies.Step.{Step}
-use Rattle.kms_model.specs.declared.replies.Step.TheVariants.{Begin, Lock, BackOff, Relock, Refuse, Test, Swap, Make, Signal, Claim, Write, Flush, HwDone, Vblank, Cleanup, Read, Return, Stall}
+use Rattle.kms_model.specs.declared.replies.Step.TheVariants.{Swap, Signal, Flush, Vblank, Read}
 use Rattle.kms_model.specs.declared.scripts.Command.TheVariants as command
 use Rattle.kms_model.specs.declared.scripts.Request.{Request}
 use Rattle.kms_model.specs.declared.scripts.Script.{Script}
@@ -34,24 +34,10 @@ latched_fences t m k crtc fences = with_signal fences (out_fence_of t m.device.c
 
 -- the steps that signal no fence
 abbrev pub signals_nothing : Step → Bool
-signals_nothing (Begin client) = true
-signals_nothing (Lock client kind index) = true
-signals_nothing (BackOff client) = true
-signals_nothing (Relock client) = true
-signals_nothing (Refuse client) = true
-signals_nothing (Test client) = true
-signals_nothing (Swap client) = true
-signals_nothing (Make client) = true
 signals_nothing (Signal client) = false
-signals_nothing (Claim k) = true
-signals_nothing (Write k kind index) = true
 signals_nothing (Flush k kind index) = false
-signals_nothing (HwDone k) = true
 signals_nothing (Vblank kind index) = false
-signals_nothing (Cleanup k) = true
-signals_nothing (Read client) = true
-signals_nothing (Return client) = true
-signals_nothing Stall = true
+signals_nothing _ = true
 
 abbrev pub FencesFollowSignal : Type 0
 FencesFollowSignal =
@@ -88,24 +74,11 @@ client_of t m k = (commit_at t m.device.commits k).client
 
 -- the steps that leave all clients' events as they are
 abbrev pub keeps_events : Step → Bool
-keeps_events (Begin client) = true
-keeps_events (Lock client kind index) = true
-keeps_events (BackOff client) = true
-keeps_events (Relock client) = true
-keeps_events (Refuse client) = true
-keeps_events (Test client) = true
 keeps_events (Swap client) = false
-keeps_events (Make client) = true
-keeps_events (Signal client) = true
-keeps_events (Claim k) = true
-keeps_events (Write k kind index) = true
 keeps_events (Flush k kind index) = false
-keeps_events (HwDone k) = true
 keeps_events (Vblank kind index) = false
-keeps_events (Cleanup k) = true
 keeps_events (Read client) = false
-keeps_events (Return client) = true
-keeps_events Stall = true
+keeps_events _ = true
 
 abbrev pub QueuesFollowSwap : Type 0
 QueuesFollowSwap =

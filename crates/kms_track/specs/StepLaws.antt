@@ -3,7 +3,7 @@ use Rattle.std.specs.Prelude.{◌≡◌, ℕ, ◌-◌, ◌<◌, ◌&&◌, ◌||�
 use Rattle.kms_model.specs.declared.objects.Kind.TheVariants.{Crtc}
 use Rattle.kms_model.specs.declared.objects.Topology.{Topology}
 use Rattle.kms_model.specs.declared.replies.Step.{Step}
-use Rattle.kms_model.specs.declared.replies.Step.TheVariants.{Begin, Lock, BackOff, Relock, Refuse, Test, Swap, Make, Signal, Claim, Write, Flush, HwDone, Vblank, Cleanup, Read, Return, Stall}
+use Rattle.kms_model.specs.declared.replies.Step.TheVariants.{Swap, Claim, Flush, HwDone, Vblank, Cleanup}
 use Rattle.kms_model.specs.declared.scripts.Request.{Request}
 use Rattle.kms_model.specs.declared.scripts.Script.{Script}
 use Rattle.kms_model.specs.declared.states.Checked.{Checked}
@@ -94,24 +94,13 @@ FollowsCleanup =
 
 -- the steps that tell a tracker nothing
 abbrev pub tells_nothing : Step → Bool
-tells_nothing (Begin client) = true
-tells_nothing (Lock client kind index) = true
-tells_nothing (BackOff client) = true
-tells_nothing (Relock client) = true
-tells_nothing (Refuse client) = true
-tells_nothing (Test client) = true
 tells_nothing (Swap client) = false
-tells_nothing (Make client) = true
-tells_nothing (Signal client) = true
 tells_nothing (Claim k) = false
-tells_nothing (Write k kind index) = true
 tells_nothing (Flush k kind index) = false
 tells_nothing (HwDone k) = false
 tells_nothing (Vblank kind index) = false
 tells_nothing (Cleanup k) = false
-tells_nothing (Read client) = true
-tells_nothing (Return client) = true
-tells_nothing Stall = true
+tells_nothing _ = true
 
 abbrev pub FollowsTheOthers : Type 0
 FollowsTheOthers =
