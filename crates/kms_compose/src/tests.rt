@@ -325,7 +325,7 @@ fn a_plane_outside_of_the_mode_shows_nothing(rt: HostRuntime) -> Result<(), Fail
 #[test]
 fn the_largest_mode_has_50331648_bytes(rt: HostRuntime) -> Result<(), Fail> {
     let picture = Picture::On(Shown {
-        mode: mode(4096, 4096),
+        mode: sized_mode(4096, 4096),
         conn: ObjId::of(Kind::Conn, 0).0,
         layers: Layers::new(),
     });

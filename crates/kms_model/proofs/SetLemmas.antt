@@ -36,7 +36,7 @@ abbrev row_takes : Kind → SetValue → Property → Bool
 row_takes kind value p = if is_of_kind kind (Some p) && has_kind p.id p.range value then takes kind p.id value else true
 
 -- what holds of each kind holds of every kind
-of_each_kind : (P : Kind → Type 0) → P Crtc → P Plane → P Conn → P Enc → (kind : Kind) → P kind
+pub of_each_kind : (P : Kind → Type 0) → P Crtc → P Plane → P Conn → P Enc → (kind : Kind) → P kind
 of_each_kind P crtc plane conn enc Crtc = crtc
 of_each_kind P crtc plane conn enc Plane = plane
 of_each_kind P crtc plane conn enc Conn = conn

@@ -61,36 +61,23 @@ pub same_mode_closed : reached (set kind.Crtc 0 MODE_ID (value.Named 1) ∷ []) 
 unfolding reaches own_refusal touches
 same_mode_closed = refl
 
--- left out: an object that the device does not have, whose number would be that of a plane; a property that the object
--- does not have; one that no request may set; a value out of range; a label that is not made; one of another kind
-pub no_object : reached (set kind.Crtc 100 ACTIVE (value.Num (pos 0)) ∷ []) ≡ nothing
-unfolding reaches own_refusal touches
-no_object = refl
+-- What no request may set: an object that the device does not have, whose number would be that of a plane; a property that
+-- the object does not have; one that no request may set; a value out of range; a label that is not made; one of another
+-- kind; and any property of an encoder, which has none.
+abbrev refused : List Assign
+refused =
+    set kind.Crtc 100 ACTIVE (value.Num (pos 0))
+    ∷ set kind.Crtc 0 ALPHA (value.Num (pos 0))
+    ∷ set kind.Plane 0 TYPE (value.Num (pos 1))
+    ∷ set kind.Plane 0 ALPHA (value.Num (pos 65536))
+    ∷ set kind.Plane 0 FB_ID (value.Named 9)
+    ∷ set kind.Plane 0 FB_ID (value.Named 1)
+    ∷ set kind.Enc 0 CRTC_ID (value.Num (pos 0))
+    ∷ []
 
-pub no_property : reached (set kind.Crtc 0 ALPHA (value.Num (pos 0)) ∷ []) ≡ nothing
+pub refused_assignments_reach_nothing : map (λ a. reached (a ∷ [])) refused ≡ map (λ a. nothing) refused
 unfolding reaches own_refusal touches
-no_property = refl
-
-pub immutable_property : reached (set kind.Plane 0 TYPE (value.Num (pos 1)) ∷ []) ≡ nothing
-unfolding reaches own_refusal touches
-immutable_property = refl
-
-pub value_out_of_range : reached (set kind.Plane 0 ALPHA (value.Num (pos 65536)) ∷ []) ≡ nothing
-unfolding reaches own_refusal touches
-value_out_of_range = refl
-
-pub label_not_made : reached (set kind.Plane 0 FB_ID (value.Named 9) ∷ []) ≡ nothing
-unfolding reaches own_refusal touches
-label_not_made = refl
-
-pub label_of_another_kind : reached (set kind.Plane 0 FB_ID (value.Named 1) ∷ []) ≡ nothing
-unfolding reaches own_refusal touches
-label_of_another_kind = refl
-
--- an encoder has no property, so that it is never set
-pub encoder : reached (set kind.Enc 0 CRTC_ID (value.Num (pos 0)) ∷ []) ≡ nothing
-unfolding reaches own_refusal touches
-encoder = refl
+refused_assignments_reach_nothing = refl
 
 -- a second fence of a plane is refused, and its assignment counts all the same
 pub second_fence : reached (set kind.Plane 1 IN_FENCE_FD (value.Named 3) ∷ set kind.Plane 1 IN_FENCE_FD (value.Num (negsuc 0)) ∷ []) ≡ false ∷ false ∷ false ∷ true ∷ false ∷ false ∷ false ∷ []

@@ -1,6 +1,6 @@
 -- The fields that readers take are written as they stood.
 use Rattle.std.proofs.Common.{◌≡◌, ℕ, zero, suc, ◌-◌, ◌<◌, ◌^◌, Bool, true, false, List, [], ◌∷◌, ◌++◌, length, replicate, cond, Option, Some, refl, ap, arith}
-use Rattle.std.specs.Prelude.{◌==◌, ◌&&◌, nat_lt}
+use Rattle.std.specs.Prelude.{◌==◌}
 use Rattle.std.specs.Fmt.{decimal}
 use Rattle.std.specs.List.{list_all}
 use Rattle.std.proofs.lemmas.Bool.{and_parts, eqb-true}
@@ -14,6 +14,7 @@ use Rattle.kms_script.proofs.Decimals.{dec_spelt}
 use Rattle.kms_script.proofs.Hexadecimals.{hex_spelt, pixel_spelt}
 use Rattle.kms_script.proofs.Inverted.{bind_some, from_bind, if_some, some_same}
 use Rattle.kms_script.proofs.LineFields.{fields_to, then_fields, field_spelt, end_spelt}
+use Rattle.kms_script.proofs.ReadParts.{Five, mode_parts, name_parts}
 use Rattle.kms_script.proofs.SpeltWords.{format_spelt}
 
 -- a field whose word stands for a value that is written as the word
@@ -77,18 +78,9 @@ name_ends (b ∷ bs) n h =
 
 -- the name of a mode
 name_at_spelt : (bytes : List ℕ) (r : List ℕ × List ℕ) → name_at bytes ≡ Some r → 32 ∷ (until 0 r.0 ++ r.1) ≡ bytes
-unfolding name_at
 name_at_spelt bytes r e =
-    let f = bind_some (field_at bytes) _ r e in
-    let word = f.value.0 in
-    let read = if_some (nat_lt 0 (length word) && (nat_lt (length word) 32 && list_all is_name_byte word)) _ r f.then in
-    let some = and_parts (nat_lt 0 (length word)) (nat_lt (length word) 32 && list_all is_name_byte word) read.0 in
-    let few = and_parts (nat_lt (length word) 32) (list_all is_name_byte word) some.1 in
-    rw (← some_same _ r read.1, name_ends word (32 - length word) few.1) (field_spelt bytes f.value f.given)
-
--- the numbers of a mode, five by five
-abbrev Five : Type 0
-Five = ℕ × ℕ × ℕ × ℕ × ℕ × List ℕ
+    let p = name_parts bytes r e in
+    rw (← p.makes, name_ends p.f.0 (32 - length p.f.0) p.plain) (field_spelt bytes p.f p.given)
 
 -- five numbers before more words
 abbrev five_words : Five → List (List ℕ) → List (List ℕ)
@@ -131,20 +123,13 @@ mode_joined clock r f k h v n bytes first across down rate flags kind name =
 
 -- a mode
 pub mode_at_spelt : (bytes : List ℕ) (m : Mode × List ℕ) → mode_fields bytes ≡ Some m → fields_to (spelt_mode m.0) m.1 ≡ bytes
-unfolding mode_fields
 mode_at_spelt bytes m e =
-    from_bind (dec_at 4294967295 bytes) _ m e (λ clock first more.
-    from_bind (five_at clock.1) _ m more (λ h across more.
-    from_bind (five_at h.5) _ m more (λ v down more.
-    from_bind (dec_at 4294967295 v.5) _ m more (λ r rate more.
-    from_bind (dec_at 4294967295 r.1) _ m more (λ f flags more.
-    from_bind (dec_at 4294967295 f.1) _ m more (λ k kind more.
-    from_bind (name_at k.1) _ m more (λ n name more.
-    rw (← some_same _ m more) (mode_joined clock r f k h v n bytes
-    (dec_at_spelt 4294967295 bytes clock (omega arith) first)
-    (five_spelt clock.1 h across)
-    (five_spelt h.5 v down)
-    (dec_at_spelt 4294967295 v.5 r (omega arith) rate)
-    (dec_at_spelt 4294967295 r.1 f (omega arith) flags)
-    (dec_at_spelt 4294967295 f.1 k (omega arith) kind)
-    (name_at_spelt k.1 n name)))))))))
+    let p = mode_parts bytes m e in
+    rw (← p.makes) (mode_joined p.clock p.r p.f p.k p.h p.v p.n bytes
+    (dec_at_spelt 4294967295 bytes p.clock (omega arith) p.first)
+    (five_spelt p.clock.1 p.h p.across)
+    (five_spelt p.h.5 p.v p.down)
+    (dec_at_spelt 4294967295 p.v.5 p.r (omega arith) p.rate)
+    (dec_at_spelt 4294967295 p.r.1 p.f (omega arith) p.flags)
+    (dec_at_spelt 4294967295 p.f.1 p.k (omega arith) p.kind)
+    (name_at_spelt p.k.1 p.n p.name))
