@@ -9,6 +9,7 @@ pub mod EventRoom
 pub mod EventsKept
 pub mod EventsOnce
 pub mod Executed
+pub mod FalseNeighbours
 pub mod Fences
 pub mod Fitting
 pub mod Framebuffers
