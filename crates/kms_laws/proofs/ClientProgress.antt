@@ -91,6 +91,29 @@ module _ (s : Script) (m : Machine) where
   unfolding may
   back_move client ic h = record { step = BackOff client; may_be = h; is_in = of_client client (BackOff client) ic (inr (inl refl)) }
 
+  locks_kind : (client : ℕ) (kind : Kind) (o : ℕ) → IsIn client (client_numbers s) → (i : IsObject s.topology kind o) → is_lockable s.topology kind i.index ≡ true → may_lock s m client o ≡ true
+      → IsIn (Lock client kind i.index) (for_each s.topology Crtc (λ kind index. Lock client kind index) ++ (for_each s.topology Plane (λ kind index. Lock client kind index) ++ for_each s.topology Conn (λ kind index. Lock client kind index))) → CanMove s m
+  unfolding may
+  locks_kind client kind o ic i lockable_is free is = record {
+    step = Lock client kind i.index;
+    may_be = and_from _ _ lockable_is (subst (λ z. may_lock s m client z ≡ true) i.same free);
+    is_in = of_client client (Lock client kind i.index) ic (inr (inr (inr (inr (inr (inr (inr (inr (inr (inr is))))))))));
+  }
+
+  -- a lock that may be taken
+  pub locks : (client o : ℕ) → IsIn client (client_numbers s) → IsIn o (lockable s.topology) → may_lock s m client o ≡ true → CanMove s m
+  locks client o ic io free =
+      ⊎_elim
+      (λ i. let x = ids-in s.topology Crtc o i in locks_kind client Crtc o ic x (lt-ltb x.index (count_of s.topology Crtc) x.within) free (in_left (for_each s.topology Crtc (λ kind index. Lock client kind index)) _ _ (each_in s m Crtc (λ kind index. Lock client kind index) x.index x.within)))
+      (λ rest.
+      ⊎_elim
+      (λ i. let x = ids-in s.topology Plane o i in locks_kind client Plane o ic x (lt-ltb x.index (count_of s.topology Plane) x.within) free
+      (in_right (for_each s.topology Crtc (λ kind index. Lock client kind index)) _ _ (in_left (for_each s.topology Plane (λ kind index. Lock client kind index)) _ _ (each_in s m Plane (λ kind index. Lock client kind index) x.index x.within))))
+      (λ i. let x = ids-in s.topology Conn o i in locks_kind client Conn o ic x (lt-ltb x.index (count_of s.topology Conn) x.within) free
+      (in_right (for_each s.topology Crtc (λ kind index. Lock client kind index)) _ _ (in_right (for_each s.topology Plane (λ kind index. Lock client kind index)) _ _ (each_in s m Conn (λ kind index. Lock client kind index) x.index x.within))))
+      (in_either (ids_of s.topology Plane) (ids_of s.topology Conn) o rest))
+      (in_either (ids_of s.topology Crtc) _ o io)
+
   module _ (H : Holds s m) (L : HasLocks s m) (E : HasEvents s m) (clean : (k : ℕ) → k < length m.device.commits → has_number m.device.marks.cleaned k ≡ true) where
     ready : (r : Request) → is_ready s.topology m r ≡ true
     unfolding is_ready previous
@@ -147,28 +170,6 @@ module _ (s : Script) (m : Machine) where
         (cases_Bool (is_test r.flags)))
         (cases_Bool (is_some (late_in s.topology m.device.world r))))
         (cases_Bool (is_some (early_in s.topology m.device.world r)))
-
-    locks_kind : (client : ℕ) (kind : Kind) (o : ℕ) → IsIn client (client_numbers s) → (i : IsObject s.topology kind o) → is_lockable s.topology kind i.index ≡ true → may_lock s m client o ≡ true
-        → IsIn (Lock client kind i.index) (for_each s.topology Crtc (λ kind index. Lock client kind index) ++ (for_each s.topology Plane (λ kind index. Lock client kind index) ++ for_each s.topology Conn (λ kind index. Lock client kind index))) → CanMove s m
-    unfolding may
-    locks_kind client kind o ic i lockable_is free is = record {
-      step = Lock client kind i.index;
-      may_be = and_from _ _ lockable_is (subst (λ z. may_lock s m client z ≡ true) i.same free);
-      is_in = of_client client (Lock client kind i.index) ic (inr (inr (inr (inr (inr (inr (inr (inr (inr (inr is))))))))));
-    }
-
-    locks : (client o : ℕ) → IsIn client (client_numbers s) → IsIn o (lockable s.topology) → may_lock s m client o ≡ true → CanMove s m
-    locks client o ic io free =
-        ⊎_elim
-        (λ i. let x = ids-in s.topology Crtc o i in locks_kind client Crtc o ic x (lt-ltb x.index (count_of s.topology Crtc) x.within) free (in_left (for_each s.topology Crtc (λ kind index. Lock client kind index)) _ _ (each_in s m Crtc (λ kind index. Lock client kind index) x.index x.within)))
-        (λ rest.
-        ⊎_elim
-        (λ i. let x = ids-in s.topology Plane o i in locks_kind client Plane o ic x (lt-ltb x.index (count_of s.topology Plane) x.within) free
-        (in_right (for_each s.topology Crtc (λ kind index. Lock client kind index)) _ _ (in_left (for_each s.topology Plane (λ kind index. Lock client kind index)) _ _ (each_in s m Plane (λ kind index. Lock client kind index) x.index x.within))))
-        (λ i. let x = ids-in s.topology Conn o i in locks_kind client Conn o ic x (lt-ltb x.index (count_of s.topology Conn) x.within) free
-        (in_right (for_each s.topology Crtc (λ kind index. Lock client kind index)) _ _ (in_right (for_each s.topology Plane (λ kind index. Lock client kind index)) _ _ (each_in s m Conn (λ kind index. Lock client kind index) x.index x.within))))
-        (in_either (ids_of s.topology Plane) (ids_of s.topology Conn) o rest))
-        (in_either (ids_of s.topology Crtc) _ o io)
 
     -- the holder of a lock must back off, or takes locks
     by_holder : (h : ℕ) → may_hold (doing_at m h) ≡ true → (must_back_off (doing_at m h) ≡ true) ⊎ (is_taking (doing_at m h) ≡ true)

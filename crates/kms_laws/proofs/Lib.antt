@@ -3,6 +3,7 @@ pub mod Basics
 pub mod ClientProgress
 pub mod Contexts
 pub mod DeadFence
+pub mod Drained
 pub mod EachStep
 pub mod EventCounts
 pub mod EventRoom
@@ -23,13 +24,16 @@ pub mod LockSteps
 pub mod Modes
 pub mod NeverStuck
 pub mod NoCycle
+pub mod NoFences
 pub mod Numbered
 pub mod Objects
 pub mod OldLookUps
 pub mod Opened
 pub mod Present
+pub mod Quiet
 pub mod Requests
 pub mod Stalled
+pub mod Resting
 pub mod ShorterTails
 pub mod Sizes
 pub mod SmallNumbers
@@ -40,6 +44,7 @@ pub mod Swapped
 pub mod TailProgress
 pub mod Tails
 pub mod Traversal
+pub mod Turning
 pub mod Whole
 pub mod Words
 pub mod Written

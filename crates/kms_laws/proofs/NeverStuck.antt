@@ -94,7 +94,7 @@ pub record IsStuck (s : Script) (m : Machine) : Type 0 where
   pub undrained : is_drained s m ≡ false
   pub unable : can_move s m ≡ false
 
-stuck-from : (s : Script) (m : Machine) → Facts s m → m.stalled ≡ false → is_dead s m ≡ true → IsStuck s m
+pub stuck-from : (s : Script) (m : Machine) → Facts s m → m.stalled ≡ false → is_dead s m ≡ true → IsStuck s m
 unfolding is_dead is_enabled
 stuck-from s m F going h =
     let g : (not (is_drained s m) && not (list_any (may s m) (steps_that_move s m))) ≡ true = sym (ap (λ b. b || (not (is_drained s m) && not (not b && list_any (may s m) (steps_that_move s m)))) going) ∙ h in
@@ -151,7 +151,7 @@ stall-next : (s : Script) (m : Machine) → next s m Stall ≡ record m { stalle
 unfolding next
 stall-next s m = refl
 
-step_along : (s : Script) (m : Machine) (step : Step) → IsPlainScript s → Along s m → legal s m step ≡ true → Along s (next s m step)
+pub step_along : (s : Script) (m : Machine) (step : Step) → IsPlainScript s → Along s m → legal s m step ≡ true → Along s (next s m step)
 step_along s m step plain A h = record { facts = step_facts s m step plain A.facts h; end = go step (ending s m step) h }
   where
     go : (step : Step) → Ending s m step → legal s m step ≡ true → ((next s m step).stalled ≡ false) ⊎ WasEnded s (next s m step)
