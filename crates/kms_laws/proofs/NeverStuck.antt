@@ -24,7 +24,6 @@ use Rattle.kms_laws.proofs.Framebuffers.{range-below}
 use Rattle.kms_laws.proofs.Going.{Going, step_go}
 use Rattle.kms_laws.proofs.LockSteps.{HasLocks, first_locks, step_locks}
 use Rattle.kms_laws.proofs.Stalled.{Ending, ending, legal-going}
-use Rattle.kms_laws.proofs.Stalled.Ending.{Ends, Goes}
 use Rattle.kms_laws.proofs.Steps.{Holds, IsPlainScript, along, first_kept, step_kept}
 use Rattle.kms_laws.proofs.TailProgress.{CanMove, first_going, goes_or_waits, oldest}
 use Rattle.kms_laws.proofs.Traversal.{step_keeps}
@@ -152,11 +151,14 @@ unfolding next
 stall-next s m = refl
 
 pub step_along : (s : Script) (m : Machine) (step : Step) → IsPlainScript s → Along s m → legal s m step ≡ true → Along s (next s m step)
-step_along s m step plain A h = record { facts = step_facts s m step plain A.facts h; end = go step (ending s m step) h }
+step_along s m step plain A h = record { facts = step_facts s m step plain A.facts h; end = go (ending s m step h) }
   where
-    go : (step : Step) → Ending s m step → legal s m step ≡ true → ((next s m step).stalled ≡ false) ⊎ WasEnded s (next s m step)
-    go step Ends h = inr (record { before = m; same = stall-next s m; stuck = stuck-from s m A.facts (legal-going s m Stall h) (stall-dead s m h) })
-    go step (Goes still) h = inl (still ∙ legal-going s m step h)
+    at_end : legal s m Stall ≡ true → ((next s m Stall).stalled ≡ false) ⊎ WasEnded s (next s m Stall)
+    at_end l = inr (record { before = m; same = stall-next s m; stuck = stuck-from s m A.facts (legal-going s m Stall l) (stall-dead s m l) })
+
+    go : Ending m step (next s m step) → ((next s m step).stalled ≡ false) ⊎ WasEnded s (next s m step)
+    go (inl e) = subst (λ z. legal s m z ≡ true → ((next s m z).stalled ≡ false) ⊎ WasEnded s (next s m z)) (sym e) at_end h
+    go (inr still) = inl (still ∙ legal-going s m step h)
 
 pub history_along : (s : Script) (h : List Step) → IsPlainScript s → is_history s h ≡ true → Along s (at s h)
 history_along s h plain is = along s (Along s) (λ m step A legal_step. step_along s m step plain A legal_step) h (first_machine s.topology) (record { facts = first_facts s plain; end = inl refl }) is

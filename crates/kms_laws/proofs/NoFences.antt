@@ -22,9 +22,8 @@ use Rattle.kms_model.specs.Device.Objects.{ids_of}
 use Rattle.kms_model.specs.Device.Serial.{Entry, command_of, from_one}
 use Rattle.kms_model.specs.Device.Sound.{HasPlaneKind, IsDevice}
 use Rattle.kms_model.specs.Device.World.{thing_labelled}
-use Rattle.kms_model.specs.Machine.Commits.{has_number, out_fence_of, waited_fences}
+use Rattle.kms_model.specs.Machine.Commits.{has_number, waited_fences}
 use Rattle.kms_model.specs.Machine.Histories.{at, is_awaited, is_dead, is_history, is_made_by_command}
-use Rattle.kms_model.specs.Machine.Registers.{latched_registers}
 use Rattle.kms_model.specs.Machine.Steps.{is_atomic}
 use Rattle.kms_model.specs.Request.Apply.{after}
 use Rattle.kms_model.specs.Request.Touched.{out_fence_label}
@@ -38,7 +37,7 @@ use Rattle.kms_laws.proofs.Executed.{KeepsModes}
 use Rattle.kms_laws.proofs.Modes.{from_one-in, keeps-from}
 use Rattle.kms_laws.proofs.NeverStuck.{dead_names_a_fence}
 use Rattle.kms_laws.proofs.Steps.{IsPlainScript, find-holds}
-use Rattle.kms_laws.proofs.Traversal.{IsKept, along_history, latch_of, latched_any}
+use Rattle.kms_laws.proofs.Traversal.{IsKept, along_history, world_kept}
 
 -- Things
 
@@ -112,20 +111,9 @@ abbrev pub HasNoFence : Script → Type 0
 HasNoFence s = (e : Entry) (c : Command) → command_of s e ≡ Some c → makes_fence c ≡ false
 
 no_fence_kept : (s : Script) → HasNoFence s → IsKept s (λ d ls. HaveNoFence d.world.things)
-no_fence_kept s none = record {
-  made = λ m client c H is other all. have-execute s.topology m.device.world client c other (none _ c is) all;
-  swapped = λ m client r H is none no_test all. have-out_fences client r.assigns (record m.device.world { values = after m.device.world r; commits = m.device.world.commits + 1 }) (ids_of s.topology Crtc) all;
-  claimed = λ m k H h all. all;
-  written = λ d ls k o T found all. all;
-  flushed = λ d ls k c all. all;
-  done = λ d ls k all. all;
-  cleaned = λ d ls k a b all. all;
-  waits = λ d ls c o all. all;
-  counted = λ d ls c n all. all;
-  latched = λ d ls k c count T found all.
-      latched_any (λ d2 ls2. HaveNoFence d2.world.things) (λ d2 ls2 fence p. p) (record d { live = latched_registers s.topology d.shadow d.live c }) (latch_of s.topology d k c count ∷ ls) (out_fence_of s.topology d.commits k c) all;
-  signalled = λ d ls fence all. all;
-}
+no_fence_kept s none =
+    world_kept s (λ w. HaveNoFence w.things) (λ m client c is other all. have-execute s.topology m.device.world client c other (none _ c is) all)
+    (λ w client r all. have-out_fences client r.assigns (record w { values = after w r; commits = w.commits + 1 }) (ids_of s.topology Crtc) all)
 
 pub never_dead : (s : Script) → IsPlainScript s → HasNoFence s → (h : List Step) → is_history s h ≡ true → is_dead s (at s h) ≡ false
 never_dead s plain none h is =
