@@ -38,7 +38,6 @@ pub mod ShorterTails
 pub mod Sizes
 pub mod SmallNumbers
 pub mod Start
-pub mod StartValues
 pub mod Steps
 pub mod Swapped
 pub mod TailProgress

@@ -21,6 +21,7 @@ use Rattle.kms_model.specs.Device.Properties.{same_kind}
 use Rattle.kms_model.specs.Request.Resolves.{HasPlace, IsSettable}
 use Rattle.kms_model.specs.Request.Sets.{obj_id}
 use Rattle.kms_model.specs.Request.Touched.{last_value, value_if}
+use Rattle.kms_model.proofs.SetLemmas.{of_each_kind}
 use Rattle.kms_request.specs.Fences.{ListsNumbers, TellLast, numbered}
 
 or_else-none : {A : Type 0} (first : Option A) → or_else first None ≡ first
@@ -40,18 +41,9 @@ last_value-push (b ∷ assigns) a object prop =
 
 -- ids of objects are the same where kinds and indices are
 same_object : (k l : Kind) (i index : ℕ) → HasPlace k i → index < 16 → (object_id k i == object_id l index) ≡ (same_kind k l && (i == index))
-same_object Crtc Crtc i index h less = grind (arith, nat_tests)
-same_object Crtc Plane i index h less = grind (arith, nat_tests)
-same_object Crtc Conn i index h less = grind (arith, nat_tests)
-same_object Crtc Enc i index h less = grind (arith, nat_tests)
-same_object Plane Crtc i index h less = grind (arith, nat_tests)
-same_object Plane Plane i index h less = grind (arith, nat_tests)
-same_object Plane Conn i index h less = grind (arith, nat_tests)
-same_object Plane Enc i index h less = grind (arith, nat_tests)
-same_object Conn Crtc i index h less = grind (arith, nat_tests)
-same_object Conn Plane i index h less = grind (arith, nat_tests)
-same_object Conn Conn i index h less = grind (arith, nat_tests)
-same_object Conn Enc i index h less = grind (arith, nat_tests)
+same_object Crtc l i index h less = of_each_kind (λ l. (object_id Crtc i == object_id l index) ≡ (same_kind Crtc l && (i == index))) (grind (arith, nat_tests)) (grind (arith, nat_tests)) (grind (arith, nat_tests)) (grind (arith, nat_tests)) l
+same_object Plane l i index h less = of_each_kind (λ l. (object_id Plane i == object_id l index) ≡ (same_kind Plane l && (i == index))) (grind (arith, nat_tests)) (grind (arith, nat_tests)) (grind (arith, nat_tests)) (grind (arith, nat_tests)) l
+same_object Conn l i index h less = of_each_kind (λ l. (object_id Conn i == object_id l index) ≡ (same_kind Conn l && (i == index))) (grind (arith, nat_tests)) (grind (arith, nat_tests)) (grind (arith, nat_tests)) (grind (arith, nat_tests)) l
 same_object Enc l i index h less = absurd h
 
 -- an assignment that sets the property of an object of the kind

@@ -25,8 +25,8 @@ use Rattle.kms_model.specs.declared.worlds.World.{World}
 use Rattle.kms_model.specs.Device.Masks.{mask_below}
 use Rattle.kms_model.specs.Device.Objects.{exists, first_id, index_of, is_id_of, most_of, object_id}
 use Rattle.kms_model.proofs.KindsOfIds.{index_of-object}
-use Rattle.kms_model.specs.Device.States.{crtc_at}
-use Rattle.kms_model.specs.Request.Agreement.{AgreesNew, AgreesOld}
+use Rattle.kms_model.specs.Device.States.{crtc_at, plane_at}
+use Rattle.kms_model.specs.Request.Agreement.{AgreesNew, AgreesOld, conn_state_at}
 use Rattle.kms_model.specs.Request.Apply.{apply, is_kept, object_of, prop_of}
 use Rattle.kms_model.specs.Request.Named.{is_routed, moves_on, names}
 use Rattle.kms_model.specs.Request.Named.{is_named_by}
@@ -95,20 +95,24 @@ numbers_routed plane conn value d Plane i numbers routes placed duplicated = num
 numbers_routed plane conn value d Conn i numbers routes placed duplicated = numbers_conn plane conn value d i numbers placed duplicated
 numbers_routed plane conn value d Enc i numbers routes placed duplicated = absurd placed
 
+-- the CRTCs of states that are those of some values
+are_numbers : (of_plane : Both PlaneState → PlaneState) (of_conn : Both ConnState → ConnState) (things : List worlds.Thing) (values : List Setting) (d : Duplicates)
+    → ((index : ℕ) (both : Both PlaneState) → slice_get d.planes index ≡ Some (Some both) → of_plane both ≡ plane_at things values (object_id Plane index))
+    → ((index : ℕ) (both : Both ConnState) → slice_get d.conns index ≡ Some (Some both) → of_conn both ≡ conn_state_at values (object_id Conn index))
+    → AreNumbers (λ both. (of_plane both).crtc) (λ both. (of_conn both).crtc) (crtc_at values) d
+are_numbers of_plane of_conn things values d planes conns = record {
+  planes = λ index both there. ap (λ (s : PlaneState). s.crtc) (planes index both there);
+  conns = λ index both there. ap (λ (s : ConnState). s.crtc) (conns index both there);
+}
+
 -- an object that is duplicated is on the CRTC that it was on before, and comes to be on the one that it is on after
 pub old_is : (t : Topology) (things : List worlds.Thing) (old : List Setting) (d : Duplicates) (k : Kind) (i : ℕ) → AgreesOld t things old d → is_routed k ≡ true → HasPlace k i → is_routed_duplicated d (object_id k i) ≡ true
     → old_crtc d (object_id k i) ≡ crtc_at old (object_id k i)
-old_is t things old d k i agrees routes placed duplicated =
-    numbers_routed (λ both. both.old.crtc) (λ both. both.old.crtc) (crtc_at old) d k i
-    (record { planes = λ index both there. ap (λ (s : PlaneState). s.crtc) (agrees.planes index both there); conns = λ index both there. ap (λ (s : ConnState). s.crtc) (agrees.conns index both there) })
-    routes placed duplicated
+old_is t things old d k i agrees = numbers_routed (λ both. both.old.crtc) (λ both. both.old.crtc) (crtc_at old) d k i (are_numbers (λ both. both.old) (λ both. both.old) things old d agrees.planes agrees.conns)
 
 pub next_is : (t : Topology) (things : List worlds.Thing) (new : List Setting) (d : Duplicates) (k : Kind) (i : ℕ) → AgreesNew t things new d → is_routed k ≡ true → HasPlace k i → is_routed_duplicated d (object_id k i) ≡ true
     → next_crtc d (object_id k i) ≡ crtc_at new (object_id k i)
-next_is t things new d k i agrees routes placed duplicated =
-    numbers_routed (λ both. both.new.crtc) (λ both. both.new.crtc) (crtc_at new) d k i
-    (record { planes = λ index both there. ap (λ (s : PlaneState). s.crtc) (agrees.planes index both there); conns = λ index both there. ap (λ (s : ConnState). s.crtc) (agrees.conns index both there) })
-    routes placed duplicated
+next_is t things new d k i agrees = numbers_routed (λ both. both.new.crtc) (λ both. both.new.crtc) (crtc_at new) d k i (are_numbers (λ both. both.new) (λ both. both.new) things new d agrees.planes agrees.conns)
 
 -- only planes and connectors have an old CRTC
 old_routes : (d : Duplicates) (k : Kind) (i crtc : ℕ) → HasPlace k i → 0 < crtc → old_crtc d (object_id k i) ≡ crtc → is_routed k ≡ true

@@ -18,7 +18,7 @@ use Rattle.kms_model.specs.Request.Apply.{apply}
 use Rattle.kms_model.specs.Request.Reach.{reaches}
 use Rattle.kms_model.specs.Request.Refusals.{own_refusal}
 use Rattle.kms_model.specs.Request.Touched.{touches}
-use Rattle.kms_samples.specs.Samples.{double, light, mode_of, request, set, tiny}
+use Rattle.kms_samples.specs.Samples.{double, light, sized_mode, request, set, tiny}
 
 abbrev made : ℕ → Bool → Content → Thing
 made label is_open content = record { label = label; id = 1000 + label; owner = 1; content = content; is_open = is_open }
@@ -28,7 +28,7 @@ abbrev things : List Thing
 things =
     made 0 false (content.Framebuffer (record { id = 1000; width = 1; height = 1; format = Xr24 }) 0)
     ∷ made 1 false (content.Mode tiny)
-    ∷ made 2 false (content.Mode (mode_of 2 2))
+    ∷ made 2 false (content.Mode (sized_mode 2 2))
     ∷ made 3 true content.Fence
     ∷ []
 
@@ -61,36 +61,23 @@ pub same_mode_closed : reached (set kind.Crtc 0 MODE_ID (value.Named 1) ∷ []) 
 unfolding reaches own_refusal touches
 same_mode_closed = refl
 
--- left out: an object that the device does not have, whose number would be that of a plane; a property that the object
--- does not have; one that no request may set; a value out of range; a label that is not made; one of another kind
-pub no_object : reached (set kind.Crtc 100 ACTIVE (value.Num (pos 0)) ∷ []) ≡ nothing
-unfolding reaches own_refusal touches
-no_object = refl
+-- What no request may set: an object that the device does not have, whose number would be that of a plane; a property that
+-- the object does not have; one that no request may set; a value out of range; a label that is not made; one of another
+-- kind; and any property of an encoder, which has none.
+abbrev refused : List Assign
+refused =
+    set kind.Crtc 100 ACTIVE (value.Num (pos 0))
+    ∷ set kind.Crtc 0 ALPHA (value.Num (pos 0))
+    ∷ set kind.Plane 0 TYPE (value.Num (pos 1))
+    ∷ set kind.Plane 0 ALPHA (value.Num (pos 65536))
+    ∷ set kind.Plane 0 FB_ID (value.Named 9)
+    ∷ set kind.Plane 0 FB_ID (value.Named 1)
+    ∷ set kind.Enc 0 CRTC_ID (value.Num (pos 0))
+    ∷ []
 
-pub no_property : reached (set kind.Crtc 0 ALPHA (value.Num (pos 0)) ∷ []) ≡ nothing
+pub refused_assignments_reach_nothing : map (λ a. reached (a ∷ [])) refused ≡ map (λ a. nothing) refused
 unfolding reaches own_refusal touches
-no_property = refl
-
-pub immutable_property : reached (set kind.Plane 0 TYPE (value.Num (pos 1)) ∷ []) ≡ nothing
-unfolding reaches own_refusal touches
-immutable_property = refl
-
-pub value_out_of_range : reached (set kind.Plane 0 ALPHA (value.Num (pos 65536)) ∷ []) ≡ nothing
-unfolding reaches own_refusal touches
-value_out_of_range = refl
-
-pub label_not_made : reached (set kind.Plane 0 FB_ID (value.Named 9) ∷ []) ≡ nothing
-unfolding reaches own_refusal touches
-label_not_made = refl
-
-pub label_of_another_kind : reached (set kind.Plane 0 FB_ID (value.Named 1) ∷ []) ≡ nothing
-unfolding reaches own_refusal touches
-label_of_another_kind = refl
-
--- an encoder has no property, so that it is never set
-pub encoder : reached (set kind.Enc 0 CRTC_ID (value.Num (pos 0)) ∷ []) ≡ nothing
-unfolding reaches own_refusal touches
-encoder = refl
+refused_assignments_reach_nothing = refl
 
 -- a second fence of a plane is refused, and its assignment counts all the same
 pub second_fence : reached (set kind.Plane 1 IN_FENCE_FD (value.Named 3) ∷ set kind.Plane 1 IN_FENCE_FD (value.Num (negsuc 0)) ∷ []) ≡ false ∷ false ∷ false ∷ true ∷ false ∷ false ∷ false ∷ []

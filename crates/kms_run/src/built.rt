@@ -6,6 +6,7 @@ ghost use Rattle.kms_model.specs.Script.Built.{is_built, is_built_assign, is_bui
 ghost use Rattle.kms_model.specs.declared.scripts.Command.TheVariants as command;
 ghost use Rattle.kms_model.specs.Request.Flags.{wants_event};
 ghost use Rattle.kms_model.specs.Script.WellFormed.{IsFitClient, IsWellFormed};
+ghost use Rattle.kms_model.specs.declared.objects.TheConstants.{MAX_CLIENTS};
 
 use kms_model::properties::IN_FENCE_FD;
 use kms_model::{Assign, Command, PropRef, Request, Script, Seq, Value};
@@ -83,7 +84,7 @@ fn unbuilt_command(line: u32, commands: &[Command]) -> Option<u32>
 /// The same of clients, of which the first stands in `line`.
 #[tactic(auto, unfolding(kms_model::specs::Script::Built::unbuilt_client))]
 fn unbuilt_client(line: u32, clients: &[Seq<Command>]) -> Option<u32>
-    requires few { length clients.now ≤ 16 }
+    requires few { length clients.now ≤ MAX_CLIENTS }
     requires line { line < 1024 }
     requires clients { AllByRecursion IsFitClient clients.now }
     ensures { result ≡ unbuilt_client line clients.now }

@@ -2,6 +2,7 @@
 ghost use Rattle.std.specs.Prelude.{◌≡◌, ◌≤◌, ◌<◌, ◌++◌, ℕ, List, [], map, length, OnOk, IfOk};
 ghost use Rattle.kms_model.specs.Report.Flat.{Done, freed_by, is_used};
 ghost use Rattle.kms_run.specs.Freed.{AreCandidates, AreUsed, IsExecuted, closing_id, freed_at, freed_from, freed_next, freed_of};
+ghost use Rattle.kms_model.specs.declared.objects.TheConstants.{MAX_PLANES};
 
 use crate::replies::is_accepted;
 use kms_model::{Command, MAX_PLANES, NoMemory, Reply, Seq};
@@ -29,7 +30,7 @@ const CLOSED: usize = MAX_PLANES as usize;
 
 /// The framebuffers that planes are set to, by plane, and 0 in all other places.
 fn used(serial: &Serial, planes: usize) -> [u32; CLOSED + 1]
-    requires few { planes ≤ 16 }
+    requires few { planes ≤ MAX_PLANES }
     requires planes { planes ≡ length serial.now.topology.planes }
     ensures { AreUsed serial.now.topology serial.now.world.values planes result }
 {
@@ -53,7 +54,7 @@ fn closing_id(serial: &Serial, command: &Command) -> u32
 
 /// The framebuffers that a command may free.
 pub fn may_free(serial: &Serial, planes: usize, command: &Command) -> Candidates
-    requires few { planes ≤ 16 }
+    requires few { planes ≤ MAX_PLANES }
     requires planes { planes ≡ length serial.now.topology.planes }
     ensures { AreCandidates serial.now.topology serial.now.world command.now result }
 {
@@ -64,7 +65,7 @@ pub fn may_free(serial: &Serial, planes: usize, command: &Command) -> Candidates
 
 /// Whether a plane is set to a framebuffer.
 fn is_used(serial: &Serial, planes: usize, fb: u32) -> bool
-    requires few { planes ≤ 16 }
+    requires few { planes ≤ MAX_PLANES }
     requires planes { planes ≡ length serial.now.topology.planes }
     ensures { result ≡ is_used serial.now.topology serial.now.world.values fb }
 {
@@ -79,7 +80,7 @@ fn is_used(serial: &Serial, planes: usize, fb: u32) -> bool
 
 /// A framebuffer that is closed and that no plane is set to.
 fn freed_at(serial: &Serial, planes: usize, id: u32) -> Option<Freed>
-    requires few { planes ≤ 16 }
+    requires few { planes ≤ MAX_PLANES }
     requires planes { planes ≡ length serial.now.topology.planes }
     ensures { result ≡ freed_at serial.now.topology serial.now.world id }
 {
@@ -101,7 +102,7 @@ fn push_next(
     last: u32,
     id: u32,
 ) -> Result<(), NoMemory>
-    requires few { planes ≤ 16 }
+    requires few { planes ≤ MAX_PLANES }
     requires planes { planes ≡ length serial.now.topology.planes }
     ensures { OnOk result (all.new
         ≡ all.old ++ freed_next serial.now.topology serial.now.world last id) }
@@ -123,7 +124,7 @@ fn push_each(
     planes: usize,
     ids: &[u32],
 ) -> Result<(), NoMemory>
-    requires few { planes ≤ 16 }
+    requires few { planes ≤ MAX_PLANES }
     requires planes { planes ≡ length serial.now.topology.planes }
     ensures { OnOk result (all.new
         ≡ all.old ++ freed_from serial.now.topology serial.now.world 0 ids.now) }
@@ -145,7 +146,7 @@ pub fn push_freed(
     planes: usize,
     reply: &Reply,
 ) -> Result<(), NoMemory>
-    requires few { planes ≤ 16 }
+    requires few { planes ≤ MAX_PLANES }
     requires planes { planes ≡ length serial.now.topology.planes }
     ensures { OnOk result ((d : Done)
         → IsExecuted serial.now.topology d serial.now.world reply.now

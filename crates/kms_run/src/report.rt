@@ -2,6 +2,7 @@
 ghost use Rattle.std.specs.Prelude.{◌≡◌, ◌<◌, ◌≤◌, ◌^◌, ◌++◌, ◌∷◌, [], IfOk, OnOk, length, slice_index_or};
 ghost use Rattle.std.specs.List.{flat_map};
 ghost use Rattle.kms_run.specs.Report.{all_latches_text, all_replies_text, count_with, freed_text, journal_text, latch_text, latches_on, replies_text, report_text};
+ghost use Rattle.kms_model.specs.declared.objects.TheConstants.{MAX_CLIENTS};
 
 use crate::freed::Freed;
 use crate::latches::Latched;
@@ -134,7 +135,7 @@ fn push_all_replies(
     clients: u32,
     answers: &[Answered],
 ) -> Result<(), NoMemory>
-    requires { clients ≤ 16 }
+    requires { clients ≤ MAX_CLIENTS }
     ensures { OnOk result (text.new.items
         ≡ text.old.items ++ all_replies_text clients answers.now) }
 {
@@ -177,7 +178,7 @@ fn push_all_freed(
 
 /// The report of a run of a script.
 pub fn text_of(alloc: Global, script: &Script, run: &Run) -> Result<Vec<u8>, NoMemory>
-    requires { length script.now.clients ≤ 16 }
+    requires { length script.now.clients ≤ MAX_CLIENTS }
     ensures { IfOk result (λ text. text.items ≡ report_text script.now run.now) }
 {
     let mut text = Vec::new(alloc);

@@ -11,11 +11,11 @@ use Rattle.kms_model.specs.declared.scripts.Command.TheVariants as command
 use Rattle.kms_model.specs.declared.scripts.Value.{Value}
 use Rattle.kms_model.specs.declared.scripts.Value.TheVariants as value
 use Rattle.kms_model.specs.Device.Properties.{name_of}
-use Rattle.kms_model.specs.Script.CommandLines.{Names, addfb_read, assign_read, assign_words, assigns_read, atomic_read, blob_read, buffer_read, command_read, label_alone, label_read, making, making_read, mode_fields, mode_read, naming_read, pattern_at, place, property_read, saying, thing_read, value_read}
-use Rattle.kms_model.specs.Script.Grammar.{blob_bytes, field_words, format_at, hex_at, int, is_property_word, known_property, object}
-use Rattle.kms_model.specs.Script.Spelling.{name_word}
-use Rattle.kms_model.specs.Script.WellFormed.{has_widths, is_assign_in, is_command_in, is_integer, is_label_in, is_mode_name, is_pattern_of, is_property_in, is_value_in, is_word32}
-use Rattle.kms_model.specs.Script.Words.{between, dec, dec_at, end_at, field_at, from, is_label, label_at, strip, until}
+use Rattle.kms_model.specs.Script.CommandLines.{Names, addfb_read, assign_read, assign_words, assigns_read, atomic_read, blob_read, buffer_read, command_read, label_alone, label_read, making, making_read, mode_fields, mode_read, naming_read, place, property_read, saying, thing_read, value_read}
+use Rattle.kms_model.specs.Script.Grammar.{blob_bytes, int, is_property_word, known_property, object}
+use Rattle.kms_model.specs.Script.WellFormed.{has_widths, is_assign_in, is_command_in, is_label_in, is_mode_name, is_pattern_of, is_property_in, is_value_in, is_word32}
+use Rattle.kms_model.specs.Script.Words.{between, dec, end_at, field_at, from, is_label, label_at, strip, until}
+use Rattle.kms_script.proofs.ReadParts.{buffer_parts, request_parts}
 use Rattle.kms_script.proofs.FitWords.{alone_fit, blob_fit, dec_at_fit, fits_both, hex_at_fit, index_fit, int_fit, label_fit, long_fit, mode_fit, object_fit, pattern_fit, word_fit}
 use Rattle.kms_script.proofs.Inverted.{bind_some, choice_some, from_bind, if_some, map_some, or_some, some_same}
 use Rattle.kms_script.proofs.NamesBegin.{Begins, before_saying, making_says, said_word}
@@ -107,28 +107,19 @@ abbrev Fits : List (List ℕ) → Command × Names → Type 0
 Fits all r = Begins r.1 all → is_command_in all r.0 ≡ true
 
 atomic_fit : (all : List (List ℕ)) (names : Names) (bytes : List ℕ) (r : Command × Names) → atomic_read names bytes ≡ Some r → Fits all r
-unfolding atomic_read
 atomic_fit all names bytes r e =
-    from_bind (hex_at bytes) _ r e (λ flags first more.
-    from_bind (dec_at 18446744073709551615 flags.1) _ r more (λ user second more.
-    from_bind (field_words user.1) _ r more (λ words rest more.
-    from_bind (assigns_read names words) _ r more (λ sets given more.
-    rw (← some_same _ r more) (λ b.
-    fits_both (is_word32 flags.0) (nat_lt user.0 (2 ^ 64) && list_all (is_assign_in all) sets.0) (hex_at_fit bytes flags first)
-    (fits_both (nat_lt user.0 (2 ^ 64)) (list_all (is_assign_in all) sets.0) (long_fit user.0 (dec_at_fit 18446744073709551615 flags.1 user second)) (assigns_fit all words names sets given b)))))))
+    let p = request_parts names bytes r e in
+    rw (← p.makes) (λ b.
+    fits_both (is_word32 p.flags.0) (nat_lt p.user.0 (2 ^ 64) && list_all (is_assign_in all) p.sets.0) (hex_at_fit bytes p.flags p.first)
+    (fits_both (nat_lt p.user.0 (2 ^ 64)) (list_all (is_assign_in all) p.sets.0) (long_fit p.user.0 (dec_at_fit 18446744073709551615 p.flags.1 p.user p.second)) (assigns_fit all p.words names p.sets p.given b)))
 
 buffer_fit : (all : List (List ℕ)) (names : Names) (bytes : List ℕ) (r : Command × Names) → buffer_read names bytes ≡ Some r → Fits all r
-unfolding buffer_read
 buffer_fit all names bytes r e =
-    from_bind (label_at bytes) _ r e (λ label first more.
-    from_bind (dec_at 4294967295 label.1) _ r more (λ w wide more.
-    from_bind (dec_at 4294967295 w.1) _ r more (λ h high more.
-    from_bind (format_at h.1) _ r more (λ format code more.
-    from_bind (pattern_at w.0 h.0 format.0 format.1) _ r more (λ pattern shown more.
-    rw (← some_same _ r more) (λ b.
-    fits_both (is_label_in all (place label.0 names)) (is_word32 w.0 && (is_word32 h.0 && is_pattern_of format.0 w.0 h.0 pattern)) (said_fit all names label.0 (label_fit bytes label first) (making_says all label.0 names b))
-    (fits_both (is_word32 w.0) (is_word32 h.0 && is_pattern_of format.0 w.0 h.0 pattern) (word_fit w.0 (dec_at_fit 4294967295 label.1 w wide))
-    (fits_both (is_word32 h.0) (is_pattern_of format.0 w.0 h.0 pattern) (word_fit h.0 (dec_at_fit 4294967295 w.1 h high)) (pattern_fit w.0 h.0 format.0 format.1 pattern shown)))))))))
+    let p = buffer_parts names bytes r e in
+    rw (← p.makes) (λ b.
+    fits_both (is_label_in all (place p.label.0 names)) (is_word32 p.w.0 && (is_word32 p.h.0 && is_pattern_of p.format.0 p.w.0 p.h.0 p.pattern)) (said_fit all names p.label.0 (label_fit bytes p.label p.first) (making_says all p.label.0 names b))
+    (fits_both (is_word32 p.w.0) (is_word32 p.h.0 && is_pattern_of p.format.0 p.w.0 p.h.0 p.pattern) (word_fit p.w.0 (dec_at_fit 4294967295 p.label.1 p.w p.wide))
+    (fits_both (is_word32 p.h.0) (is_pattern_of p.format.0 p.w.0 p.h.0 p.pattern) (word_fit p.h.0 (dec_at_fit 4294967295 p.w.1 p.h p.high)) (pattern_fit p.w.0 p.h.0 p.format.0 p.format.1 p.pattern p.shown))))
 
 addfb_fit : (all : List (List ℕ)) (names : Names) (bytes : List ℕ) (r : Command × Names) → addfb_read names bytes ≡ Some r → Fits all r
 unfolding addfb_read

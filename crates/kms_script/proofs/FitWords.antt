@@ -13,13 +13,14 @@ use Rattle.kms_model.specs.declared.objects.Kind.{Kind}
 use Rattle.kms_model.specs.declared.objects.Kind.TheVariants.{Crtc, Plane, Conn, Enc}
 use Rattle.kms_model.specs.declared.objects.Mode.{Mode}
 use Rattle.kms_model.specs.declared.scripts.Pattern.{Pattern}
-use Rattle.kms_model.specs.declared.scripts.Pattern.TheVariants.{Checker, Pixels}
+use Rattle.kms_model.specs.declared.scripts.Pattern.TheVariants.{Pixels}
 use Rattle.kms_model.specs.Script.CommandLines.{checker_at, each_pixel_at, five_at, label_alone, mode_fields, pattern_at, pixels_at, ramp_at, solid_at}
 use Rattle.kms_model.specs.Script.Grammar.{blob_bytes, digits_of, hex, hex_at, hex_bytes, hex_pair, indexed, int, is_hex_number, negative, object, pixel_at, pixel_number}
 use Rattle.kms_model.specs.Script.WellFormed.{are_words16, has_widths, is_integer, is_mode_name, is_pattern_of, is_pixel_of, is_word16, is_word32}
-use Rattle.kms_model.specs.Script.Words.{between, dec, dec_at, end_at, field_at, hex_from, hex_value, is_digit, is_hex, is_label, is_name_byte, label_at, name_at, strip, until}
+use Rattle.kms_model.specs.Script.Words.{between, dec, dec_at, end_at, field_at, hex_from, hex_value, is_digit, is_hex, is_label, is_name_byte, label_at, name_at, strip}
 use Rattle.kms_script.proofs.Decimals.{dec_at_most}
 use Rattle.kms_script.proofs.Inverted.{bind_some, choice_some, from_bind, if_some, map_some, or_some, some_same}
+use Rattle.kms_script.proofs.ReadParts.{checker_parts, mode_parts}
 use Rattle.kms_script.proofs.SpeltFields.{name_ends}
 use Rattle.kms_script.proofs.SpeltWords.{nothing_read}
 
@@ -141,16 +142,11 @@ solid_fit width height format bytes p e =
     from_bind (end_at x.1) _ p more (λ u end more. rw (← some_same _ p more) (pixel_at_fit format bytes x first)))
 
 checker_fit : (width height : ℕ) (format : Format) (bytes : List ℕ) (p : Pattern) → checker_at format bytes ≡ Some p → Fits format width height p
-unfolding checker_at
 checker_fit width height format bytes p e =
-    from_bind (pixel_at format bytes) _ p e (λ x first more.
-    from_bind (pixel_at format x.1) _ p more (λ y second more.
-    from_bind (dec_at 4096 y.1) _ p more (λ n side more.
-    from_bind (end_at n.1) _ p more (λ u end more.
-    let read = if_some (nat_lt 0 n.0) (Some (Checker x.0 y.0 n.0)) p more in
-    rw (← some_same _ p read.1)
-    (both (is_pixel_of format x.0) (is_pixel_of format y.0 && between 1 4096 n.0) (pixel_at_fit format bytes x first)
-    (both (is_pixel_of format y.0) (between 1 4096 n.0) (pixel_at_fit format x.1 y second) (sides n.0 read.0 (dec_at_fit 4096 y.1 n side))))))))
+    let c = checker_parts format bytes p e in
+    rw (← c.makes)
+    (both (is_pixel_of format c.p.0) (is_pixel_of format c.q.0 && between 1 4096 c.n.0) (pixel_at_fit format bytes c.p c.first)
+    (both (is_pixel_of format c.q.0) (between 1 4096 c.n.0) (pixel_at_fit format c.p.1 c.q c.second) (sides c.n.0 c.some (dec_at_fit 4096 c.q.1 c.n c.side))))
   where
     sides : (n : ℕ) → nat_lt 0 n ≡ true → n ≤ 4096 → between 1 4096 n ≡ true
     sides n some few = grind (arith, nat_tests)
@@ -220,22 +216,15 @@ five_fit bytes r e =
     (both (is_word16 d.0) (is_word16 n.0) (word16_fit d.0 (dec_at_fit 65535 c.1 d fourth)) (word16_fit n.0 (dec_at_fit 65535 d.1 n fifth)))))))))))
 
 pub mode_fit : (bytes : List ℕ) (m : Mode × List ℕ) → mode_fields bytes ≡ Some m → (has_widths m.0 && is_mode_name m.0.name) ≡ true
-unfolding mode_fields
 mode_fit bytes m e =
-    from_bind (dec_at 4294967295 bytes) _ m e (λ clock first more.
-    from_bind (five_at clock.1) _ m more (λ h across more.
-    from_bind (five_at h.5) _ m more (λ v down more.
-    from_bind (dec_at 4294967295 v.5) _ m more (λ r rate more.
-    from_bind (dec_at 4294967295 r.1) _ m more (λ f flags more.
-    from_bind (dec_at 4294967295 f.1) _ m more (λ k kind more.
-    from_bind (name_at k.1) _ m more (λ n name more.
-    rw (← some_same _ m more) (and_from _ (is_mode_name n.0)
-    (and_from (is_word32 clock.0) _ (word32_fit clock.0 (dec_at_fit 4294967295 bytes clock first))
-    (and_from (are_words16 h.0 h.1 h.2 h.3 h.4) _ (five_fit clock.1 h across)
-    (and_from (are_words16 v.0 v.1 v.2 v.3 v.4) _ (five_fit h.5 v down)
-    (and_from (is_word32 r.0) _ (word32_fit r.0 (dec_at_fit 4294967295 v.5 r rate))
-    (and_from (is_word32 f.0) (is_word32 k.0) (word32_fit f.0 (dec_at_fit 4294967295 r.1 f flags)) (word32_fit k.0 (dec_at_fit 4294967295 f.1 k kind)))))))
-    (name_fit k.1 n name)))))))))
+    let p = mode_parts bytes m e in
+    rw (← p.makes) (and_from _ (is_mode_name p.n.0)
+    (and_from (is_word32 p.clock.0) _ (word32_fit p.clock.0 (dec_at_fit 4294967295 bytes p.clock p.first))
+    (and_from (are_words16 p.h.0 p.h.1 p.h.2 p.h.3 p.h.4) _ (five_fit p.clock.1 p.h p.across)
+    (and_from (are_words16 p.v.0 p.v.1 p.v.2 p.v.3 p.v.4) _ (five_fit p.h.5 p.v p.down)
+    (and_from (is_word32 p.r.0) _ (word32_fit p.r.0 (dec_at_fit 4294967295 p.v.5 p.r p.rate))
+    (and_from (is_word32 p.f.0) (is_word32 p.k.0) (word32_fit p.f.0 (dec_at_fit 4294967295 p.r.1 p.f p.flags)) (word32_fit p.k.0 (dec_at_fit 4294967295 p.f.1 p.k p.kind)))))))
+    (name_fit p.k.1 p.n p.name))
 
 -- Blobs
 

@@ -28,6 +28,7 @@ pub mod Naming
 pub mod OneSpelling
 pub mod PackedNames
 pub mod Parts
+pub mod ReadParts
 pub mod Repeated
 pub mod RowsSpelt
 pub mod ScriptLines

@@ -7,9 +7,9 @@ use Rattle.kms_model.specs.declared.scripts.Command.{Command}
 use Rattle.kms_model.specs.declared.scripts.Command.TheVariants as command
 use Rattle.kms_model.specs.declared.scripts.Why.{Why}
 use Rattle.kms_model.specs.declared.scripts.Why.TheVariants.{Bytes, Cut, Form, Label, Limit, Unbuilt}
-use Rattle.kms_model.specs.Script.CommandLines.{Names, addfb_read, assigns_read, atomic_read, blob_read, buffer_read, command_read, is_over, label_alone, label_read, line_read, making_read, mode_read, mode_fields, naming_read, or_form, pattern_at, thing_read, unless, unmade, words_in}
-use Rattle.kms_model.specs.Script.Grammar.{blob_bytes, field_words, format_at, hex_at}
-use Rattle.kms_model.specs.Script.Words.{dec_at, end_at, field_at, from, label_at, until}
+use Rattle.kms_model.specs.Script.CommandLines.{Names, addfb_read, atomic_read, blob_read, buffer_read, command_read, is_over, label_alone, label_read, line_read, making_read, mode_read, mode_fields, naming_read, or_form, thing_read, unless, unmade, words_in}
+use Rattle.kms_model.specs.Script.Grammar.{blob_bytes}
+use Rattle.kms_model.specs.Script.Words.{end_at, field_at, from, label_at, until}
 use Rattle.kms_model.specs.Script.WellFormed.{IsFitCommand}
 use Rattle.kms_script.specs.Fitting.{HasFilled}
 use Rattle.kms_script.specs.Lines.{GivesLine, checked, line_of}
@@ -17,6 +17,7 @@ use Rattle.kms_script.specs.Overlong.{blanks, has_many}
 use Rattle.kms_script.specs.Stated.{GivesCommand, line_error}
 use Rattle.kms_script.specs.declared.stop.Stop.{Stop}
 use Rattle.kms_script.specs.declared.stop.Stop.TheVariants as stops
+use Rattle.kms_script.proofs.ReadParts.{buffer_parts, request_parts}
 use Rattle.kms_script.proofs.Inverted.{choice_some, from_bind, map_some, some_same}
 use Rattle.kms_script.proofs.ManyFields.{assigns_count, request_blanks, words_blanks}
 use Rattle.kms_script.proofs.SpeltWords.{nothing_read}
@@ -36,13 +37,7 @@ unfolding making_read
 making_few f few names bytes r e = from_bind (label_alone bytes) _ r e (λ label alone more. rw (← some_same _ r more) (few _))
 
 buffer_few : (names : Names) (bytes : List ℕ) (r : Command × Names) → buffer_read names bytes ≡ Some r → IsFew r
-unfolding buffer_read
-buffer_few names bytes r e =
-    from_bind (label_at bytes) _ r e (λ label a more.
-    from_bind (dec_at 4294967295 label.1) _ r more (λ w b more.
-    from_bind (dec_at 4294967295 w.1) _ r more (λ h c more.
-    from_bind (format_at h.1) _ r more (λ format d more.
-    from_bind (pattern_at w.0 h.0 format.0 format.1) _ r more (λ pattern p more. rw (← some_same _ r more) refl)))))
+buffer_few names bytes r e = rw (← (buffer_parts names bytes r e).makes) refl
 
 addfb_few : (names : Names) (bytes : List ℕ) (r : Command × Names) → addfb_read names bytes ≡ Some r → IsFew r
 unfolding addfb_read
@@ -96,14 +91,10 @@ wait_few names bytes r e = let m = map_some _ (end_at bytes) r e in rw (← m.ma
 
 -- a request with no more fields than 256 assignments take
 atomic_few : (names : Names) (bytes : List ℕ) (r : Command × Names) → has_many bytes ≡ false → atomic_read names bytes ≡ Some r → IsFew r
-unfolding atomic_read
 atomic_few names bytes r few e =
-    from_bind (hex_at bytes) _ r e (λ flags f more.
-    from_bind (dec_at 18446744073709551615 flags.1) _ r more (λ user u more.
-    from_bind (field_words user.1) _ r more (λ words w more.
-    from_bind (assigns_read names words) _ r more (λ sets s more.
-    let count : length sets.0 ≡ blanks user.1 = assigns_count words names sets s ∙ words_blanks user.1 words w in
-    rw (← some_same _ r more) (test (length sets.0) (within (length sets.0) (request_blanks bytes flags user f u) count))))))
+    let p = request_parts names bytes r e in
+    let count : length p.sets.0 ≡ blanks p.user.1 = assigns_count p.words names p.sets p.given ∙ words_blanks p.user.1 p.words p.rest in
+    rw (← p.makes) (test (length p.sets.0) (within (length p.sets.0) (request_blanks bytes p.flags p.user p.first p.second) count))
   where
     below : (n : ℕ) → nat_lt 258 n ≡ false → n ≤ 258
     below n lt = grind (arith, nat_tests)

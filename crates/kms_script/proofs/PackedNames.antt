@@ -1,8 +1,8 @@
 -- The numbers of names that lines make, one name after the other.
-use Rattle.std.proofs.Common.{◌≡◌, ℕ, ◌+◌, Bool, true, false, zero, suc, List, [], ◌∷◌, ◌++◌, take, cond, Some, append-nil, append_assoc, refl, sym, ap, ◌∙◌, arith}
+use Rattle.std.proofs.Common.{◌≡◌, ℕ, ◌+◌, Bool, true, false, zero, suc, List, [], ◌∷◌, ◌++◌, length, take, cond, Some, append-nil, append_assoc, refl, sym, ap, ◌∙◌, arith}
 use Rattle.std.specs.Prelude.{slice_get}
 use Rattle.kms_model.specs.Script.CommandLines.{Name}
-use Rattle.kms_script.specs.Named.{marked}
+use Rattle.kms_script.specs.Named.{is_in_numbers, marked}
 use Rattle.kms_script.specs.Overlong.{made_words, packed_all, packed_alone}
 
 abbrev numbers_of : List Name → List ℕ
@@ -31,3 +31,12 @@ number_after f k (v ∷ ws) (suc i) w e =
     ∙ (ap (λ (ns : List ℕ). number_where (f k) v ++ ns) (number_after f (k + 1) ws i w e)
     ∙ (sym (append_assoc (number_where (f k) v) (numbers_of (marked f (k + 1) (take i ws))) (number_where (f (k + 1 + i)) w))
     ∙ ap (λ (ns : List ℕ). ns ++ number_where (f (k + 1 + i)) w) (sym (first_number (f k) v (marked f (k + 1) (take i ws)))))))
+
+pub no_items : (xs : List ℕ) → length xs ≡ 0 → xs ≡ []
+no_items [] none = refl
+no_items (x ∷ xs) none = absurd (omega (arith, none))
+
+-- where no line makes a name
+pub none_made : (k : ℕ) (ws : List (List ℕ)) → made_words (marked (is_in_numbers []) k ws) ≡ []
+none_made k [] = refl
+none_made k (w ∷ ws) = none_made (k + 1) ws

@@ -5,15 +5,15 @@ use Rattle.std.specs.Fmt.{decimal}
 use Rattle.std.specs.Str.{bytes_eq}
 use Rattle.kms_model.specs.declared.scripts.Command.{Command}
 use Rattle.kms_model.specs.declared.scripts.Command.TheVariants as command
-use Rattle.kms_model.specs.Script.CommandLines.{Names, assigns_read, atomic_read, thing_read, label_read, command_read}
-use Rattle.kms_model.specs.Script.Grammar.{hex_at, field_words}
+use Rattle.kms_model.specs.Script.CommandLines.{Names, atomic_read, thing_read, label_read, command_read}
 use Rattle.kms_model.specs.Report.TextLines.{line}
-use Rattle.kms_model.specs.Script.Words.{until, from, dec_at, end_at}
+use Rattle.kms_model.specs.Script.Words.{until, from, end_at}
 use Rattle.kms_model.specs.Script.Spelling.{hex_word, assign_word, command_words}
-use Rattle.kms_script.proofs.Inverted.{from_bind, map_some, some_same, choice_some}
+use Rattle.kms_script.proofs.Inverted.{map_some, choice_some}
 use Rattle.kms_script.proofs.LineFields.{fields_to, fields_end, line_fields, end_spelt, words_spelt, until_from}
 use Rattle.kms_script.proofs.NamesBegin.{Begins}
 use Rattle.kms_script.proofs.SpeltAssigns.{assigns_named}
+use Rattle.kms_script.proofs.ReadParts.{request_parts}
 use Rattle.kms_script.proofs.SpeltFields.{dec_at_spelt, hex_at_spelt}
 use Rattle.kms_script.proofs.SpeltThings.{Reads, buffer_reads, addfb_reads, mode_reads, blob_reads, making_reads, naming_reads}
 use Rattle.kms_script.proofs.SpeltWords.{found, nothing_read}
@@ -24,20 +24,16 @@ atomic_joined bytes flags user sets words same first second rest = rw (same, res
 
 -- a request
 atomic_reads : (all : List (List ℕ)) (names : Names) (bytes : List ℕ) (r : Command × Names) → atomic_read names bytes ≡ Some r → Begins r.1 all → Reads all names (codes "atomic") bytes r.0
-unfolding atomic_read
 atomic_reads all names bytes r e =
-    from_bind (hex_at bytes) _ r e (λ flags first more.
-    from_bind (dec_at 18446744073709551615 flags.1) _ r more (λ user second more.
-    from_bind (field_words user.1) _ r more (λ words rest more.
-    from_bind (assigns_read names words) _ r more (λ sets given more.
-    rw (← some_same _ r more) (λ b.
-    let a = assigns_named all words names sets given b in
+    let p = request_parts names bytes r e in
+    rw (← p.makes) (λ b.
+    let a = assigns_named all p.words names p.sets p.given b in
     record {
       begins = a.begins;
       words = _;
       known = refl;
-      fields = atomic_joined bytes flags user (map (assign_word all) sets.0) words a.same (hex_at_spelt bytes flags first) (dec_at_spelt 18446744073709551615 flags.1 user (omega arith) second) (words_spelt user.1 words rest);
-    })))))
+      fields = atomic_joined bytes p.flags p.user (map (assign_word all) p.sets.0) p.words a.same (hex_at_spelt bytes p.flags p.first) (dec_at_spelt 18446744073709551615 p.flags.1 p.user (omega arith) p.second) (words_spelt p.user.1 p.words p.rest);
+    })
 
 -- a wait
 wait_reads : (all : List (List ℕ)) (names : Names) (bytes : List ℕ) (r : Command × Names) → option_map (λ u. (command.Wait, names)) (end_at bytes) ≡ Some r → Begins r.1 all → Reads all names (codes "wait") bytes r.0

@@ -14,6 +14,7 @@ use Rattle.kms_script.proofs.Decimals.{dec_spelt}
 use Rattle.kms_script.proofs.Hexadecimals.{hex_spelt, pixel_spelt}
 use Rattle.kms_script.proofs.Inverted.{bind_some, from_bind, if_some, some_same}
 use Rattle.kms_script.proofs.LineFields.{fields_to, then_fields, field_spelt, end_spelt}
+use Rattle.kms_script.proofs.ReadParts.{Five, mode_parts}
 use Rattle.kms_script.proofs.SpeltWords.{format_spelt}
 
 -- a field whose word stands for a value that is written as the word
@@ -86,10 +87,6 @@ name_at_spelt bytes r e =
     let few = and_parts (nat_lt (length word) 32) (list_all is_name_byte word) some.1 in
     rw (← some_same _ r read.1, name_ends word (32 - length word) few.1) (field_spelt bytes f.value f.given)
 
--- the numbers of a mode, five by five
-abbrev Five : Type 0
-Five = ℕ × ℕ × ℕ × ℕ × ℕ × List ℕ
-
 -- five numbers before more words
 abbrev five_words : Five → List (List ℕ) → List (List ℕ)
 five_words v ws = decimal v.0 ∷ decimal v.1 ∷ decimal v.2 ∷ decimal v.3 ∷ decimal v.4 ∷ ws
@@ -131,20 +128,13 @@ mode_joined clock r f k h v n bytes first across down rate flags kind name =
 
 -- a mode
 pub mode_at_spelt : (bytes : List ℕ) (m : Mode × List ℕ) → mode_fields bytes ≡ Some m → fields_to (spelt_mode m.0) m.1 ≡ bytes
-unfolding mode_fields
 mode_at_spelt bytes m e =
-    from_bind (dec_at 4294967295 bytes) _ m e (λ clock first more.
-    from_bind (five_at clock.1) _ m more (λ h across more.
-    from_bind (five_at h.5) _ m more (λ v down more.
-    from_bind (dec_at 4294967295 v.5) _ m more (λ r rate more.
-    from_bind (dec_at 4294967295 r.1) _ m more (λ f flags more.
-    from_bind (dec_at 4294967295 f.1) _ m more (λ k kind more.
-    from_bind (name_at k.1) _ m more (λ n name more.
-    rw (← some_same _ m more) (mode_joined clock r f k h v n bytes
-    (dec_at_spelt 4294967295 bytes clock (omega arith) first)
-    (five_spelt clock.1 h across)
-    (five_spelt h.5 v down)
-    (dec_at_spelt 4294967295 v.5 r (omega arith) rate)
-    (dec_at_spelt 4294967295 r.1 f (omega arith) flags)
-    (dec_at_spelt 4294967295 f.1 k (omega arith) kind)
-    (name_at_spelt k.1 n name)))))))))
+    let p = mode_parts bytes m e in
+    rw (← p.makes) (mode_joined p.clock p.r p.f p.k p.h p.v p.n bytes
+    (dec_at_spelt 4294967295 bytes p.clock (omega arith) p.first)
+    (five_spelt p.clock.1 p.h p.across)
+    (five_spelt p.h.5 p.v p.down)
+    (dec_at_spelt 4294967295 p.v.5 p.r (omega arith) p.rate)
+    (dec_at_spelt 4294967295 p.r.1 p.f (omega arith) p.flags)
+    (dec_at_spelt 4294967295 p.f.1 p.k (omega arith) p.kind)
+    (name_at_spelt p.k.1 p.n p.name))

@@ -1,6 +1,6 @@
 -- The pattern of a buffer is written as it was read.
 use Rattle.std.proofs.Common.{◌≡◌, ℕ, zero, suc, ◌*◌, inl, inr, List, [], ◌∷◌, ◌++◌, map, Some, ap, ◌∙◌, arith}
-use Rattle.std.specs.Prelude.{codes, nat_lt}
+use Rattle.std.specs.Prelude.{codes}
 use Rattle.std.specs.Fmt.{decimal}
 use Rattle.std.specs.Str.{bytes_eq}
 use Rattle.kms_model.specs.declared.objects.Format.{Format}
@@ -8,10 +8,11 @@ use Rattle.kms_model.specs.declared.scripts.Pattern.{Pattern}
 use Rattle.kms_model.specs.declared.scripts.Pattern.TheVariants.{Checker, Pixels}
 use Rattle.kms_model.specs.Script.CommandLines.{pixels_at, solid_at, checker_at, ramp_at, each_pixel_at, pattern_at}
 use Rattle.kms_model.specs.Script.Grammar.{pixel_at}
-use Rattle.kms_model.specs.Script.Words.{between, field_at, dec_at, end_at}
+use Rattle.kms_model.specs.Script.Words.{between, field_at, end_at}
 use Rattle.kms_model.specs.Script.Spelling.{pixel_word, pattern_words}
 use Rattle.kms_script.proofs.Inverted.{from_bind, if_some, map_some, some_same, choice_some}
 use Rattle.kms_script.proofs.LineFields.{fields_to, then_fields, field_spelt, end_spelt}
+use Rattle.kms_script.proofs.ReadParts.{checker_parts}
 use Rattle.kms_script.proofs.SpeltFields.{dec_at_spelt, pixel_at_spelt}
 use Rattle.kms_script.proofs.SpeltWords.{found}
 
@@ -45,15 +46,10 @@ checker_joined format p q n bytes first second side end = ap (after (codes "chec
 
 -- squares of two colours
 checker_spelt : (format : Format) (bytes : List ℕ) (pattern : Pattern) → checker_at format bytes ≡ Some pattern → Behind (codes "checker") format bytes pattern
-unfolding checker_at
 checker_spelt format bytes pattern e =
-    from_bind (pixel_at format bytes) _ pattern e (λ p first more.
-    from_bind (pixel_at format p.1) _ pattern more (λ q second more.
-    from_bind (dec_at 4096 q.1) _ pattern more (λ n side more.
-    from_bind (end_at n.1) _ pattern more (λ u end more.
-    let read = if_some (nat_lt 0 n.0) (Some (Checker p.0 q.0 n.0)) pattern more in
-    rw (← some_same _ pattern read.1)
-    (checker_joined format p q n bytes (pixel_at_spelt format bytes p first) (pixel_at_spelt format p.1 q second) (dec_at_spelt 4096 q.1 n (omega arith) side) (end_spelt n.1 u end))))))
+    let c = checker_parts format bytes pattern e in
+    rw (← c.makes)
+    (checker_joined format c.p c.q c.n bytes (pixel_at_spelt format bytes c.p c.first) (pixel_at_spelt format c.p.1 c.q c.second) (dec_at_spelt 4096 c.q.1 c.n (omega arith) c.side) (end_spelt c.n.1 tt c.end))
 
 -- a ramp
 ramp_spelt : (format : Format) (bytes : List ℕ) (pattern : Pattern) → ramp_at bytes ≡ Some pattern → Behind (codes "ramp") format bytes pattern

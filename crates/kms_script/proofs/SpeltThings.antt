@@ -5,14 +5,15 @@ use Rattle.std.specs.Fmt.{decimal}
 use Rattle.kms_model.specs.declared.objects.Format.{Format}
 use Rattle.kms_model.specs.declared.scripts.Command.{Command}
 use Rattle.kms_model.specs.declared.scripts.Pattern.{Pattern}
-use Rattle.kms_model.specs.Script.CommandLines.{Names, place, saying, making, label_alone, pattern_at, buffer_read, addfb_read, mode_fields, mode_read, blob_read, making_read, naming_read}
-use Rattle.kms_model.specs.Script.Grammar.{blob_bytes, format_at, hex_bytes}
-use Rattle.kms_model.specs.Script.Words.{between, field_at, dec_at, label_at, end_at}
+use Rattle.kms_model.specs.Script.CommandLines.{Names, place, saying, making, label_alone, buffer_read, addfb_read, mode_fields, mode_read, blob_read, making_read, naming_read}
+use Rattle.kms_model.specs.Script.Grammar.{blob_bytes, hex_bytes}
+use Rattle.kms_model.specs.Script.Words.{between, field_at, label_at, end_at}
 use Rattle.kms_model.specs.Script.Spelling.{name_word, blob_word, format_word, pattern_words, spelt_mode, command_words}
 use Rattle.kms_script.proofs.Hexadecimals.{bytes_spelt}
 use Rattle.kms_script.proofs.Inverted.{from_bind, if_some, some_same}
 use Rattle.kms_script.proofs.LineFields.{fields_to, field_spelt, end_spelt}
 use Rattle.kms_script.proofs.NamesBegin.{Begins, before_saying, said_word, making_says}
+use Rattle.kms_script.proofs.ReadParts.{buffer_parts}
 use Rattle.kms_script.proofs.SpeltFields.{dec_at_spelt, format_at_spelt, label_at_spelt, label_alone_spelt, mode_at_spelt}
 use Rattle.kms_script.proofs.SpeltPatterns.{pattern_spelt}
 
@@ -46,19 +47,14 @@ sized w h format pattern bytes wide high code shown = rw (shown, code, high) wid
 
 -- a buffer
 pub buffer_reads : (all : List (List ℕ)) (names : Names) (bytes : List ℕ) (r : Command × Names) → buffer_read names bytes ≡ Some r → Begins r.1 all → Reads all names (codes "buffer") bytes r.0
-unfolding buffer_read
 buffer_reads all names bytes r e =
-    from_bind (label_at bytes) _ r e (λ label first more.
-    from_bind (dec_at 4294967295 label.1) _ r more (λ w wide more.
-    from_bind (dec_at 4294967295 w.1) _ r more (λ h high more.
-    from_bind (format_at h.1) _ r more (λ format code more.
-    from_bind (pattern_at w.0 h.0 format.0 format.1) _ r more (λ pattern shown more.
-    rw (← some_same _ r more) (λ b. makes all names (codes "buffer") bytes _ label _ first b refl
-    (sized w h format pattern label.1
-    (dec_at_spelt 4294967295 label.1 w (omega arith) wide)
-    (dec_at_spelt 4294967295 w.1 h (omega arith) high)
-    (format_at_spelt h.1 format code)
-    (pattern_spelt w.0 h.0 format.0 format.1 pattern shown))))))))
+    let p = buffer_parts names bytes r e in
+    rw (← p.makes) (λ b. makes all names (codes "buffer") bytes _ p.label _ p.first b refl
+    (sized p.w p.h p.format p.pattern p.label.1
+    (dec_at_spelt 4294967295 p.label.1 p.w (omega arith) p.wide)
+    (dec_at_spelt 4294967295 p.w.1 p.h (omega arith) p.high)
+    (format_at_spelt p.h.1 p.format p.code)
+    (pattern_spelt p.w.0 p.h.0 p.format.0 p.format.1 p.pattern p.shown)))
 
 -- a framebuffer
 pub addfb_reads : (all : List (List ℕ)) (names : Names) (bytes : List ℕ) (r : Command × Names) → addfb_read names bytes ≡ Some r → Begins r.1 all → Reads all names (codes "addfb") bytes r.0

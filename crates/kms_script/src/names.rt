@@ -109,15 +109,19 @@ impl Names {
         Ok(number)
     }
 
-    /// Adds the numbers of the labels that lines make.
+    /// Adds the numbers of the labels that lines make. Where no line makes any, no name is looked at.
     pub fn push_made(&self, numbers: &mut Vec<u128>) -> Result<(), NoMemory>
         requires { HasRoomForNames self.now.names 1 }
         ensures made { OnOk result (numbers.new.items
             ≡ numbers.old.items ++ packed_all (made_words self.now.names.all)) }
         ensures differ { OnOk result (IsDistinct bytes_eq (words_in self.now.names)) }
     {
+        let words = self.numbering.words();
+        if self.made.is_empty() {
+            return Ok(());
+        }
         let mut number = 0u32;
-        for word in self.numbering.words() {
+        for word in words {
             let is_made = self.made.contains(&number);
             push_where(numbers, is_made, word.as_slice())?;
             number += 1;

@@ -1,14 +1,16 @@
 use super::*;
-use kms_model::{ObjId, Ticket};
+use kms_model::{
+    FIRST_CONNECTOR_ID, FIRST_CRTC_ID, FIRST_PLANE_ID, MAX_CONNECTORS, MAX_CRTCS, ObjId, Ticket,
+};
 use std::test::Fail;
 
-const CRTC: ObjId = ObjId(100);
+const CRTC: ObjId = ObjId(FIRST_CRTC_ID);
 
-const PLANE: ObjId = ObjId(200);
+const PLANE: ObjId = ObjId(FIRST_PLANE_ID);
 
-const LAST_CRTC: ObjId = ObjId(103);
+const LAST_CRTC: ObjId = ObjId(FIRST_CRTC_ID + MAX_CRTCS - 1);
 
-const LAST_CONNECTOR: ObjId = ObjId(307);
+const LAST_CONNECTOR: ObjId = ObjId(FIRST_CONNECTOR_ID + MAX_CONNECTORS - 1);
 
 #[test]
 fn an_older_context_waits_and_a_younger_one_backs_off(rt: HostRuntime) -> Result<(), Fail> {

@@ -13,6 +13,7 @@ use Rattle.kms_model.specs.Request.Sets.{set_of}
 use Rattle.kms_serial.proofs.Applying.{apply_more}
 use Rattle.kms_serial.proofs.Checking.{IsAllowedSet, allowed_set, nothing, set_agrees, set_duplicated, set_may, stands_between, stands_changed}
 use Rattle.kms_serial.proofs.requests.changed.Goals as goal
+use Rattle.kms_serial.proofs.requests.changed.Goals.{After-set_of}
 
 pub set_of-requires : goal.set_of-requires
 set_of-requires c =
@@ -21,28 +22,30 @@ set_of-requires c =
     let through = allowed_set c.requires.topology c.args.store.now c.args.request.now i c.requires.is.stands.device c.requires.is.early lt in
     subst (λ (all : List Assign). IsSettable (get_or all i nothing)) (sym c.as_slice-a-items.ensures.value) through.settable
 
+-- the assignment at hand
+abbrev at_hand : After-set_of → Assign
+at_hand c = get_or c.args.request.now.assigns c.loop-a.a-index nothing
+
+in_range : (c : After-set_of) → c.loop-a.a-index < length c.args.request.now.assigns
+in_range c = omega (arith, c.loop-a-test.true, c.as_slice-a-items.ensures.len)
+
+is_its_set : (c : After-set_of) → c.set_of.result ≡ set_of (look_up c.args.store.now) (at_hand c)
+is_its_set c = c.set_of.ensures.set ∙ ap (λ (all : List Assign). set_of (look_up c.args.store.now) (get_or all c.loop-a.a-index nothing)) c.as_slice-a-items.ensures.value
+
+is_let_through : (c : After-set_of) → IsAllowedSet c.requires.topology c.args.store.now (at_hand c)
+is_let_through c = allowed_set c.requires.topology c.args.store.now c.args.request.now c.loop-a.a-index c.requires.is.stands.device c.requires.is.early (in_range c)
+
 pub set-requires-clause-object : goal.set-requires-clause-object
 set-requires-clause-object c =
-    let i = c.loop-a.a-index in
-    let f = look_up c.args.store.now in
-    let t = c.requires.topology in
-    let lt : i < length c.args.request.now.assigns = omega (arith, c.loop-a-test.true, c.as_slice-a-items.ensures.len) in
-    let a = get_or c.args.request.now.assigns i nothing in
-    let is : c.set_of.result ≡ set_of f a = c.set_of.ensures.set ∙ ap (λ (all : List Assign). set_of f (get_or all i nothing)) c.as_slice-a-items.ensures.value in
-    let through : IsAllowedSet t c.args.store.now a = allowed_set t c.args.store.now c.args.request.now i c.requires.is.stands.device c.requires.is.early lt in
-    set_duplicated t c.args.store.now c.args.states.now c.loop-a.after a c.set_of.result is through c.requires.is.stands.present.whole c.loop-a.invariant.olds
+    let k = (goal.at.set-requires-clause-object c).After-set_of in
+    set_duplicated c.requires.topology c.args.store.now c.args.states.now c.loop-a.after (at_hand k) c.set_of.result (is_its_set k) (is_let_through k) c.requires.is.stands.present.whole c.loop-a.invariant.olds
 
 pub set-requires-clause-value : goal.set-requires-clause-value
 set-requires-clause-value c =
-    let i = c.loop-a.a-index in
-    let f = look_up c.args.store.now in
-    let t = c.requires.topology in
-    let lt : i < length c.args.request.now.assigns = omega (arith, c.loop-a-test.true, c.as_slice-a-items.ensures.len) in
-    let a = get_or c.args.request.now.assigns i nothing in
-    let is : c.set_of.result ≡ set_of f a = c.set_of.ensures.set ∙ ap (λ (all : List Assign). set_of f (get_or all i nothing)) c.as_slice-a-items.ensures.value in
-    let through : IsAllowedSet t c.args.store.now a = allowed_set t c.args.store.now c.args.request.now i c.requires.is.stands.device c.requires.is.early lt in
-    let may = subst (λ (all : List Assign). (u : Topology) → IsAllowed u f (get_or all i nothing) → IsTrue (may_set (get_or all i nothing).kind c.set_of.result.prop c.set_of.result.value)) c.as_slice-a-items.ensures.value c.set_of.ensures.among in
-    set_may t c.args.store.now a c.set_of.result is through (may t through.allowed)
+    let k = (goal.at.set-requires-clause-value c).After-set_of in
+    let through = is_let_through k in
+    let may = subst (λ (all : List Assign). (u : Topology) → IsAllowed u (look_up c.args.store.now) (get_or all c.loop-a.a-index nothing) → IsTrue (may_set (get_or all c.loop-a.a-index nothing).kind c.set_of.result.prop c.set_of.result.value)) c.as_slice-a-items.ensures.value c.set_of.ensures.among in
+    set_may c.requires.topology c.args.store.now (at_hand k) c.set_of.result (is_its_set k) through (may c.requires.topology through.allowed)
 
 pub loop-a-preserved : goal.loop-a-preserved
 loop-a-preserved c =
