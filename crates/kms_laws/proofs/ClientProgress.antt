@@ -33,7 +33,7 @@ use Rattle.kms_laws.proofs.EventsKept.{awaited}
 use Rattle.kms_laws.proofs.EventsOnce.{HasEvents}
 use Rattle.kms_laws.proofs.Headlines.{range-in}
 use Rattle.kms_laws.proofs.LockSteps.{HasLocks}
-use Rattle.kms_laws.proofs.Contexts.{has_ticket, may_hold}
+use Rattle.kms_laws.proofs.Contexts.{has_ticket, held-ticket, may_hold}
 use Rattle.kms_laws.proofs.Steps.{Holds, request-is}
 use Rattle.kms_laws.proofs.TailProgress.{CanMove, each_in, find-found, in_flat, not_all}
 
@@ -183,14 +183,7 @@ module _ (s : Script) (m : Machine) where
         go (doing.Returning k) e = absurd (false≢true e)
 
     ticketed : (h : ℕ) → may_hold (doing_at m h) ≡ true → has_ticket (doing_at m h) ≡ true
-    ticketed h free = go (doing_at m h) free
-      where
-        go : (d : Doing) → may_hold d ≡ true → has_ticket d ≡ true
-        go (doing.Taking ticket) e = refl
-        go (doing.MustBackOff ticket object) e = refl
-        go doing.Idle e = absurd (false≢true e)
-        go (doing.BackedOff ticket object) e = absurd (false≢true e)
-        go (doing.Returning k) e = absurd (false≢true e)
+    ticketed h free = held-ticket (doing_at m h) free
 
     taking-ticket : (h : ℕ) → is_taking (doing_at m h) ≡ true → has_ticket (doing_at m h) ≡ true
     taking-ticket h taking = go (doing_at m h) taking

@@ -2,18 +2,18 @@
 -- thread, where it ends, ends there.
 use Rattle.std.proofs.Common.{◌≡◌, ℕ, zero, suc, ◌+◌, ◌*◌, List, [], ◌∷◌, ◌++◌, length, Bool, true, false, not, Option, Some, None, refl, sym, ap, ◌∙◌, subst, arith, inl, inr, ◌⊎◌, ⊎_elim}
 use Rattle.std.specs.Prelude.{if◌then◌else◌, find, ◌↔◌}
-use Rattle.std.specs.List.{fold, list_any, range_with_len}
+use Rattle.std.specs.List.{fold, range_with_len}
 use Rattle.std.proofs.lemmas.Bool.{and_from, and_right, cases_Bool, cond-false, cond-true, eq-eqb, eqb-true, false_from_ne_true, or_left, or_right}
 use Rattle.std.proofs.lemmas.List.{reverse-reverse}
 use Rattle.kms_model.specs.declared.replies.Step.{Step}
-use Rattle.kms_model.specs.declared.replies.Step.TheVariants.{Begin, Lock, BackOff, Relock, Refuse, Test, Swap, Make, Signal, Claim, Write, Flush, HwDone, Vblank, Cleanup, Read, Return, Stall}
+use Rattle.kms_model.specs.declared.replies.Step.TheVariants.{Return, Stall}
 use Rattle.kms_model.specs.declared.scripts.Script.{Script}
 use Rattle.kms_model.specs.Firsts.{first_some}
-use Rattle.kms_model.specs.Machine.Commits.{is_all_flushed, is_all_latched, is_all_written, lockable}
+use Rattle.kms_model.specs.Machine.Commits.{lockable}
 use Rattle.kms_model.specs.Machine.Effects.{next}
-use Rattle.kms_model.specs.Machine.Histories.{are_legal, at, client_numbers, commit_numbers, is_at_end, is_dead, is_drained, is_enabled, is_history, legal, steps_of_commit, steps_that_move, steps_with_go}
+use Rattle.kms_model.specs.Machine.Histories.{are_legal, at, client_numbers, commit_numbers, is_at_end, is_dead, is_drained, is_enabled, is_history, legal, steps_of_commit, steps_with_go}
 use Rattle.kms_model.specs.Machine.State.{Machine}
-use Rattle.kms_model.specs.Machine.Steps.{first_pending, holds_touched, is_pending, is_ready, lacks_space, may, may_claim, may_lock, may_refuse, may_swap, may_test, next_flush, next_write}
+use Rattle.kms_model.specs.Machine.Steps.{may}
 use Rattle.kms_model.specs.Order.Rounds.{IsFinished, ends, is_still, round, rounds, run_of}
 use Rattle.kms_model.specs.Order.Turns.{Progress, client_goes, client_step, does, does_then, is_answering, most_of_turn, returns, settles, tail_step, tails_go, turn}
 use Rattle.kms_model.proofs.Items.{IsIn, or_else-nones}
@@ -21,7 +21,7 @@ use Rattle.kms_laws.specs.Ends.{EndsOver, IsOver}
 use Rattle.kms_laws.specs.Laws.{can_move}
 use Rattle.kms_laws.proofs.Basics.{both_bools}
 use Rattle.kms_laws.proofs.Drained.{drained-unable, no_go}
-use Rattle.kms_laws.proofs.NeverStuck.{Along, WasEnded, stuck-from}
+use Rattle.kms_laws.proofs.NeverStuck.{Along, WasEnded, can-ended, stuck-from}
 use Rattle.kms_laws.proofs.Quiet.{IsQuiet, find-none, go-no-stall, legal-may, quiet-unable, unable-quiet}
 use Rattle.kms_laws.proofs.Steps.{IsPlainScript}
 use Rattle.kms_laws.proofs.Turning.{IsRun, Later, along_run, between, client-legal, goes-later, later-length, later-run, later-still, later-steps, later-trans, returns-later, round-later, rounds-later, run-does, settles-later, tail-legal, tails-later, turn-later, turns-later}
@@ -172,30 +172,6 @@ module _ (s : Script) (plain : IsPlainScript s) where
       }
 
 -- Where a history is over
-
-may-ended : (s : Script) (m : Machine) (step : Step) → may s (record m { stalled = true }) step ≡ may s m step
-unfolding may may_lock may_refuse may_test may_swap may_claim next_write next_flush is_all_written is_all_flushed is_all_latched holds_touched lacks_space is_ready is_pending first_pending
-may-ended s m (Begin client) = refl
-may-ended s m (Lock client kind index) = refl
-may-ended s m (BackOff client) = refl
-may-ended s m (Relock client) = refl
-may-ended s m (Refuse client) = refl
-may-ended s m (Test client) = refl
-may-ended s m (Swap client) = refl
-may-ended s m (Make client) = refl
-may-ended s m (Signal client) = refl
-may-ended s m (Claim k) = refl
-may-ended s m (Write k kind index) = refl
-may-ended s m (Flush k kind index) = refl
-may-ended s m (HwDone k) = refl
-may-ended s m (Vblank kind index) = refl
-may-ended s m (Cleanup k) = refl
-may-ended s m (Read client) = refl
-may-ended s m (Return client) = refl
-may-ended s m Stall = refl
-
-can-ended : (s : Script) (m : Machine) → can_move s (record m { stalled = true }) ≡ can_move s m
-can-ended s m = (λ i. list_any (λ step. may-ended s m step i) (steps_that_move s m))
 
 pub over-unable : (s : Script) (m : Machine) → Along s m → (is_drained s m ≡ true) ⊎ (is_dead s m ≡ true) → can_move s m ≡ false
 over-unable s m A over =

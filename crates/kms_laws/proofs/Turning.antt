@@ -4,6 +4,7 @@ use Rattle.std.specs.Prelude.{if◌then◌else◌, find, reverse}
 use Rattle.std.specs.List.{fold}
 use Rattle.std.specs.Option.{option_and_then, option_map}
 use Rattle.std.proofs.lemmas.Bool.{and_from, and_parts, lt-ltb}
+use Rattle.kms_model.specs.declared.objects.Kind.{Kind}
 use Rattle.kms_model.specs.declared.objects.Kind.TheVariants.{Crtc, Plane, Conn}
 use Rattle.kms_model.specs.declared.objects.Topology.{Topology}
 use Rattle.kms_model.specs.declared.replies.Step.{Step}
@@ -22,9 +23,9 @@ use Rattle.kms_model.specs.Order.Turns.{Progress, client_goes, client_step, does
 use Rattle.kms_model.proofs.Items.{IsIn, IsObject, ids-in, list_any-has}
 use Rattle.kms_model.proofs.ThingLemmas.{find-in}
 use Rattle.kms_model.proofs.TouchedLemmas.{HasFewObjects}
-use Rattle.kms_laws.proofs.Basics.{both_bools, in_either}
+use Rattle.kms_laws.proofs.Basics.{in_either}
 use Rattle.kms_laws.proofs.ClientProgress.{locks, with_request}
-use Rattle.kms_laws.proofs.NeverStuck.{Along, WasEnded, history_along}
+use Rattle.kms_laws.proofs.NeverStuck.{Along, history_along, still-going}
 use Rattle.kms_laws.proofs.Objects.{conn_kind, crtc_kind, plane_kind}
 use Rattle.kms_laws.proofs.Present.{reverse_more}
 use Rattle.kms_laws.proofs.Quiet.{first-in, tried}
@@ -100,42 +101,28 @@ record IsLockable (t : Topology) (o : ℕ) : Type 0 where
   there : is_lockable t (kind_of o) (index_of o) ≡ true
   same : object_id (kind_of o) (index_of o) ≡ o
 
+lock-of : (t : Topology) (k : Kind) (o : ℕ) (i : IsObject t k o) → kind_of o ≡ k → o - first_id k ≡ i.index → is_lockable t k i.index ≡ true → IsLockable t o
+lock-of t k o i e f there =
+    let n : index_of o ≡ i.index = ap (λ z. o - first_id z) e ∙ f in
+    record { there = (λ j. is_lockable t (e j) (n j)) ∙ there; same = (λ j. object_id (e j) (n j)) ∙ sym i.same }
+
 lock-there : (t : Topology) (o : ℕ) → HasFewObjects t → IsIn o (lockable t) → IsLockable t o
 lock-there t o few is =
     ⊎_elim
-    (λ a.
-    let i : IsObject t Crtc o = ids-in t Crtc o a in
-    let k : kind_of o ≡ Crtc = crtc_kind t o few a in
-    let n : index_of o ≡ i.index = ap (λ z. o - first_id z) k ∙ omega (arith, i.same) in
-    record { there = (λ j. is_lockable t (k j) (n j)) ∙ lt-ltb i.index (count_of t Crtc) i.within; same = (λ j. object_id (k j) (n j)) ∙ sym i.same })
+    (λ a. let i : IsObject t Crtc o = ids-in t Crtc o a in lock-of t Crtc o i (crtc_kind t o few a) (omega (arith, i.same)) (lt-ltb i.index (count_of t Crtc) i.within))
     (λ rest.
     ⊎_elim
-    (λ b.
-    let i : IsObject t Plane o = ids-in t Plane o b in
-    let k : kind_of o ≡ Plane = plane_kind t o few b in
-    let n : index_of o ≡ i.index = ap (λ z. o - first_id z) k ∙ omega (arith, i.same) in
-    record { there = (λ j. is_lockable t (k j) (n j)) ∙ lt-ltb i.index (count_of t Plane) i.within; same = (λ j. object_id (k j) (n j)) ∙ sym i.same })
-    (λ c.
-    let i : IsObject t Conn o = ids-in t Conn o c in
-    let k : kind_of o ≡ Conn = conn_kind t o few c in
-    let n : index_of o ≡ i.index = ap (λ z. o - first_id z) k ∙ omega (arith, i.same) in
-    record { there = (λ j. is_lockable t (k j) (n j)) ∙ lt-ltb i.index (count_of t Conn) i.within; same = (λ j. object_id (k j) (n j)) ∙ sym i.same })
+    (λ b. let i : IsObject t Plane o = ids-in t Plane o b in lock-of t Plane o i (plane_kind t o few b) (omega (arith, i.same)) (lt-ltb i.index (count_of t Plane) i.within))
+    (λ c. let i : IsObject t Conn o = ids-in t Conn o c in lock-of t Conn o i (conn_kind t o few c) (omega (arith, i.same)) (lt-ltb i.index (count_of t Conn) i.within))
     (in_either (ids_of t Plane) (ids_of t Conn) o rest))
     (in_either (ids_of t Crtc) _ o is)
 
 module _ (s : Script) (m : Machine) (A : Along s m) where
   -- where a lock may be taken, the history was not ended
   unended : (client o : ℕ) (r : Request) → request_at s m client ≡ Some r → IsIn o (lockable s.topology) → may_lock s m client o ≡ true → m.stalled ≡ false
-  unfolding may_lock
   unended client o r e io h =
-      ⊎_elim
-      (λ going. going)
-      (λ (w : WasEnded s m).
-      let before_may : may_lock s w.before client o ≡ true = sym (ap (λ z. may_lock s z client o) w.same) ∙ h in
-      let before_request : request_at s w.before client ≡ Some r = sym (ap (λ z. request_at s z client) w.same) ∙ e in
-      let c = locks s w.before client o (with_request s w.before client r before_request) io before_may in
-      absurd (both_bools _ (list_any-has (may s w.before) (steps_that_move s w.before) c.step c.is_in c.may_be) w.stuck.unable))
-      A.end
+      let c = locks s m client o (with_request s m client r e) io h in
+      still-going s m A (list_any-has (may s m) (steps_that_move s m) c.step c.is_in c.may_be)
 
   lock-legal : (client o : ℕ) (r : Request) → request_at s m client ≡ Some r → IsIn o (lockable s.topology) → may_lock s m client o ≡ true → legal s m (lock_step client o) ≡ true
   unfolding legal may
