@@ -21,10 +21,9 @@ use Rattle.kms_model.specs.Request.Touched.{touches}
 use Rattle.kms_model.specs.Request.Verdict.{early_in, late_in, verdict}
 use Rattle.kms_model.proofs.Items.{list_any-has}
 use Rattle.kms_model.proofs.SoundKept.{accepted-parts}
-use Rattle.kms_laws.specs.Laws.{can_move}
 use Rattle.kms_laws.proofs.Basics.{both_bools}
 use Rattle.kms_laws.proofs.ClientProgress.{of_client, taking-from, with_request}
-use Rattle.kms_laws.proofs.NeverStuck.{Along, history_along}
+use Rattle.kms_laws.proofs.NeverStuck.{Along, history_along, still-going}
 use Rattle.kms_laws.proofs.Steps.{IsPlainScript, find-holds, taking-some}
 
 refuse-may : (s : Script) (m : Machine) (client : ℕ) → legal s m (Refuse client) ≡ true → taking_at s m client (may_refuse s.topology m client) ≡ true
@@ -113,26 +112,11 @@ busy-may : (s : Script) (m : Machine) (client : ℕ) (r : Request) (object : ℕ
 unfolding may
 busy-may s m client r object e taking B = taking-from s m client (may_refuse s.topology m client) r taking e (busy-refused s.topology m client r object B)
 
-before-end : (t : Topology) (m : Machine) (client : ℕ) (r : Request) (object : ℕ) → IsBusyFor t (record m { stalled = true }) client r object → IsBusyFor t m client r object
-unfolding holds_touched lacks_space first_pending is_pending
-before-end t m client r object B = record { held = B.held; accepted = B.accepted; no_test = B.no_test; space = B.space; nonblock = B.nonblock; first = B.first }
-
--- a history that was ended has no such request
-not-ended : (s : Script) (before : Machine) (client : ℕ) (r : Request) (object : ℕ) → request_at s before client ≡ Some r → is_taking (doing_at before client) ≡ true → IsBusyFor s.topology before client r object
-    → can_move s before ≡ true
-not-ended s before client r object e taking B =
-    list_any-has (may s before) (steps_that_move s before) (Refuse client) (of_client s before client (Refuse client) (with_request s before client r e) (inr (inr (inr (inl refl))))) (busy-may s before client r object e taking B)
-
+-- a history with such a request was not ended
 going-on : (s : Script) (m : Machine) (client : ℕ) (r : Request) (object : ℕ) → Along s m → request_at s m client ≡ Some r → is_taking (doing_at m client) ≡ true → IsBusyFor s.topology m client r object → m.stalled ≡ false
 going-on s m client r object A e taking B =
-    ⊎_elim
-    (λ going. going)
-    (λ w.
-    let e0 = subst (λ (z : Machine). request_at s z client ≡ Some r) w.same e in
-    let taking0 = subst (λ (z : Machine). is_taking (doing_at z client) ≡ true) w.same taking in
-    let B0 = before-end s.topology w.before client r object (subst (λ (z : Machine). IsBusyFor s.topology z client r object) w.same B) in
-    absurd (both_bools _ (not-ended s w.before client r object e0 taking0 B0) w.stuck.unable))
-    A.end
+    still-going s m A
+    (list_any-has (may s m) (steps_that_move s m) (Refuse client) (of_client s m client (Refuse client) (with_request s m client r e) (inr (inr (inr (inl refl))))) (busy-may s m client r object e taking B))
 
 refuse-legal : (s : Script) (m : Machine) (client : ℕ) → m.stalled ≡ false → may s m (Refuse client) ≡ true → legal s m (Refuse client) ≡ true
 unfolding legal

@@ -33,7 +33,7 @@ use Rattle.kms_laws.proofs.EventsKept.{awaited}
 use Rattle.kms_laws.proofs.EventsOnce.{HasEvents}
 use Rattle.kms_laws.proofs.Headlines.{range-in}
 use Rattle.kms_laws.proofs.LockSteps.{HasLocks}
-use Rattle.kms_laws.proofs.Contexts.{has_ticket, may_hold}
+use Rattle.kms_laws.proofs.Contexts.{has_ticket, held-ticket, may_hold}
 use Rattle.kms_laws.proofs.Steps.{Holds, request-is}
 use Rattle.kms_laws.proofs.TailProgress.{CanMove, each_in, find-found, in_flat, not_all}
 
@@ -90,6 +90,29 @@ module _ (s : Script) (m : Machine) where
   back_move : (client : ℕ) → IsIn client (client_numbers s) → must_back_off (doing_at m client) ≡ true → CanMove s m
   unfolding may
   back_move client ic h = record { step = BackOff client; may_be = h; is_in = of_client client (BackOff client) ic (inr (inl refl)) }
+
+  locks_kind : (client : ℕ) (kind : Kind) (o : ℕ) → IsIn client (client_numbers s) → (i : IsObject s.topology kind o) → is_lockable s.topology kind i.index ≡ true → may_lock s m client o ≡ true
+      → IsIn (Lock client kind i.index) (for_each s.topology Crtc (λ kind index. Lock client kind index) ++ (for_each s.topology Plane (λ kind index. Lock client kind index) ++ for_each s.topology Conn (λ kind index. Lock client kind index))) → CanMove s m
+  unfolding may
+  locks_kind client kind o ic i lockable_is free is = record {
+    step = Lock client kind i.index;
+    may_be = and_from _ _ lockable_is (subst (λ z. may_lock s m client z ≡ true) i.same free);
+    is_in = of_client client (Lock client kind i.index) ic (inr (inr (inr (inr (inr (inr (inr (inr (inr (inr is))))))))));
+  }
+
+  -- a lock that may be taken
+  pub locks : (client o : ℕ) → IsIn client (client_numbers s) → IsIn o (lockable s.topology) → may_lock s m client o ≡ true → CanMove s m
+  locks client o ic io free =
+      ⊎_elim
+      (λ i. let x = ids-in s.topology Crtc o i in locks_kind client Crtc o ic x (lt-ltb x.index (count_of s.topology Crtc) x.within) free (in_left (for_each s.topology Crtc (λ kind index. Lock client kind index)) _ _ (each_in s m Crtc (λ kind index. Lock client kind index) x.index x.within)))
+      (λ rest.
+      ⊎_elim
+      (λ i. let x = ids-in s.topology Plane o i in locks_kind client Plane o ic x (lt-ltb x.index (count_of s.topology Plane) x.within) free
+      (in_right (for_each s.topology Crtc (λ kind index. Lock client kind index)) _ _ (in_left (for_each s.topology Plane (λ kind index. Lock client kind index)) _ _ (each_in s m Plane (λ kind index. Lock client kind index) x.index x.within))))
+      (λ i. let x = ids-in s.topology Conn o i in locks_kind client Conn o ic x (lt-ltb x.index (count_of s.topology Conn) x.within) free
+      (in_right (for_each s.topology Crtc (λ kind index. Lock client kind index)) _ _ (in_right (for_each s.topology Plane (λ kind index. Lock client kind index)) _ _ (each_in s m Conn (λ kind index. Lock client kind index) x.index x.within))))
+      (in_either (ids_of s.topology Plane) (ids_of s.topology Conn) o rest))
+      (in_either (ids_of s.topology Crtc) _ o io)
 
   module _ (H : Holds s m) (L : HasLocks s m) (E : HasEvents s m) (clean : (k : ℕ) → k < length m.device.commits → has_number m.device.marks.cleaned k ≡ true) where
     ready : (r : Request) → is_ready s.topology m r ≡ true
@@ -148,28 +171,6 @@ module _ (s : Script) (m : Machine) where
         (cases_Bool (is_some (late_in s.topology m.device.world r))))
         (cases_Bool (is_some (early_in s.topology m.device.world r)))
 
-    locks_kind : (client : ℕ) (kind : Kind) (o : ℕ) → IsIn client (client_numbers s) → (i : IsObject s.topology kind o) → is_lockable s.topology kind i.index ≡ true → may_lock s m client o ≡ true
-        → IsIn (Lock client kind i.index) (for_each s.topology Crtc (λ kind index. Lock client kind index) ++ (for_each s.topology Plane (λ kind index. Lock client kind index) ++ for_each s.topology Conn (λ kind index. Lock client kind index))) → CanMove s m
-    unfolding may
-    locks_kind client kind o ic i lockable_is free is = record {
-      step = Lock client kind i.index;
-      may_be = and_from _ _ lockable_is (subst (λ z. may_lock s m client z ≡ true) i.same free);
-      is_in = of_client client (Lock client kind i.index) ic (inr (inr (inr (inr (inr (inr (inr (inr (inr (inr is))))))))));
-    }
-
-    locks : (client o : ℕ) → IsIn client (client_numbers s) → IsIn o (lockable s.topology) → may_lock s m client o ≡ true → CanMove s m
-    locks client o ic io free =
-        ⊎_elim
-        (λ i. let x = ids-in s.topology Crtc o i in locks_kind client Crtc o ic x (lt-ltb x.index (count_of s.topology Crtc) x.within) free (in_left (for_each s.topology Crtc (λ kind index. Lock client kind index)) _ _ (each_in s m Crtc (λ kind index. Lock client kind index) x.index x.within)))
-        (λ rest.
-        ⊎_elim
-        (λ i. let x = ids-in s.topology Plane o i in locks_kind client Plane o ic x (lt-ltb x.index (count_of s.topology Plane) x.within) free
-        (in_right (for_each s.topology Crtc (λ kind index. Lock client kind index)) _ _ (in_left (for_each s.topology Plane (λ kind index. Lock client kind index)) _ _ (each_in s m Plane (λ kind index. Lock client kind index) x.index x.within))))
-        (λ i. let x = ids-in s.topology Conn o i in locks_kind client Conn o ic x (lt-ltb x.index (count_of s.topology Conn) x.within) free
-        (in_right (for_each s.topology Crtc (λ kind index. Lock client kind index)) _ _ (in_right (for_each s.topology Plane (λ kind index. Lock client kind index)) _ _ (each_in s m Conn (λ kind index. Lock client kind index) x.index x.within))))
-        (in_either (ids_of s.topology Plane) (ids_of s.topology Conn) o rest))
-        (in_either (ids_of s.topology Crtc) _ o io)
-
     -- the holder of a lock must back off, or takes locks
     by_holder : (h : ℕ) → may_hold (doing_at m h) ≡ true → (must_back_off (doing_at m h) ≡ true) ⊎ (is_taking (doing_at m h) ≡ true)
     by_holder h free = go (doing_at m h) free
@@ -182,14 +183,7 @@ module _ (s : Script) (m : Machine) where
         go (doing.Returning k) e = absurd (false≢true e)
 
     ticketed : (h : ℕ) → may_hold (doing_at m h) ≡ true → has_ticket (doing_at m h) ≡ true
-    ticketed h free = go (doing_at m h) free
-      where
-        go : (d : Doing) → may_hold d ≡ true → has_ticket d ≡ true
-        go (doing.Taking ticket) e = refl
-        go (doing.MustBackOff ticket object) e = refl
-        go doing.Idle e = absurd (false≢true e)
-        go (doing.BackedOff ticket object) e = absurd (false≢true e)
-        go (doing.Returning k) e = absurd (false≢true e)
+    ticketed h free = held-ticket (doing_at m h) free
 
     taking-ticket : (h : ℕ) → is_taking (doing_at m h) ≡ true → has_ticket (doing_at m h) ≡ true
     taking-ticket h taking = go (doing_at m h) taking

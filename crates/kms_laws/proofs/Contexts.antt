@@ -1,7 +1,7 @@
 -- Contexts: who holds a lock takes locks or must back off, tickets are unique, and what is held or asked for has a lock.
 use Rattle.std.proofs.Common.{◌≡◌, ℕ, ◌<◌, ◌≤◌, List, [], ◌∷◌, Bool, true, false, ◌==◌, Option, Some, None, refl, sym, ap, ◌∙◌, subst, arith, ⊎_elim}
 use Rattle.std.specs.Prelude.{if◌then◌else◌}
-use Rattle.std.proofs.lemmas.Bool.{cases_eq, eq-eqb}
+use Rattle.std.proofs.lemmas.Bool.{cases_eq, eq-eqb, false≢true}
 use Rattle.kms_model.specs.declared.runs.Doing.{Doing}
 use Rattle.kms_model.specs.declared.runs.Doing.TheVariants as doing
 use Rattle.kms_model.specs.declared.runs.Place.{Place}
@@ -29,6 +29,14 @@ may_hold (doing.MustBackOff ticket object) = true
 may_hold (doing.BackedOff ticket object) = false
 may_hold doing.Idle = false
 may_hold (doing.Returning k) = false
+
+-- who may hold locks has a ticket
+pub held-ticket : (d : Doing) → may_hold d ≡ true → has_ticket d ≡ true
+held-ticket (doing.Taking ticket) h = refl
+held-ticket (doing.MustBackOff ticket object) h = refl
+held-ticket doing.Idle h = absurd (false≢true h)
+held-ticket (doing.BackedOff ticket object) h = absurd (false≢true h)
+held-ticket (doing.Returning k) h = absurd (false≢true h)
 
 abbrev pub place_in : Contexts → ℕ → Place
 place_in x client = read (record { command = 1; doing = doing.Idle }) x.places client

@@ -1,7 +1,7 @@
 -- One way over all steps, case by case, for what speaks of the whole machine and of the step that was done.
-use Rattle.std.proofs.Common.{◌≡◌, ℕ, ◌+◌, List, [], ◌∷◌, length, Bool, true, false, Option, Some, None, refl}
-use Rattle.std.specs.Prelude.{if◌then◌else◌}
-use Rattle.std.proofs.lemmas.Bool.{and_parts, false≢true, not-true}
+use Rattle.std.proofs.Common.{◌≡◌, ℕ, ◌+◌, List, [], ◌∷◌, length, Bool, true, false, ◌&&◌, ◌||◌, Option, Some, None, refl, sym, ap, ◌∙◌}
+use Rattle.std.specs.Prelude.{if◌then◌else◌, not}
+use Rattle.std.proofs.lemmas.Bool.{and_parts, false≢true, not-true, or_parts}
 use Rattle.kms_model.specs.declared.objects.Kind.{Kind}
 use Rattle.kms_model.specs.declared.objects.Kind.TheVariants.{Crtc}
 use Rattle.kms_model.specs.declared.objects.Topology.{Topology}
@@ -18,19 +18,75 @@ use Rattle.kms_model.specs.declared.scripts.Script.{Script}
 use Rattle.kms_model.specs.Device.Execution.{Executed, execute}
 use Rattle.kms_model.specs.Device.Objects.{exists, ids_of, object_id}
 use Rattle.kms_model.specs.Device.Serial.{is_accepted}
-use Rattle.kms_model.specs.Machine.Commits.{asks_event, has_number, is_all_flushed, is_all_latched, is_all_written, is_cleaned, is_hw_done, new_crtc, out_fence_of}
+use Rattle.kms_model.specs.Machine.Commits.{asks_event, commit_touches, has_number, has_pair, is_all_flushed, is_all_latched, is_all_written, is_cleaned, is_hw_done, new_crtc, out_fence_of, registered}
 use Rattle.kms_model.specs.Machine.Effects.{answers, backed_off, begun, blanks, claims, counts_vblank, decided, delivers, drops_locks, fence_signalled, flushes, goes_on, joins_if, joins_journal, latches, latches_picture, locked, made_thing, next, now_doing, put_lock, reads, refusal_reply, refused, relocked, sets_up, signalled_by, signals, swapped_state, writes}
 use Rattle.kms_model.specs.Machine.Histories.{legal}
-use Rattle.kms_model.specs.Machine.State.{Machine, command_at, count_at, doing_at, go_at, holder_at, request_at, reserved_at, unread_at}
-use Rattle.kms_model.specs.Machine.Steps.{contended, idle_at, is_atomic, is_crtc_of, is_idle, is_lockable, is_making, is_signal, is_taking, is_wait, may, may_claim, may_lock, may_refuse, may_swap, may_test, must_back_off, next_flush, next_write, returning_of, taking_at, ticket_of}
-use Rattle.kms_model.specs.Request.Flags.{is_nonblock, wants_event}
+use Rattle.kms_model.specs.Machine.State.{DeviceState, Machine, command_at, count_at, doing_at, go_at, holder_at, request_at, reserved_at, unread_at}
+use Rattle.kms_model.specs.Machine.Steps.{contended, holds_touched, idle_at, is_accepted_at, is_atomic, is_busy, is_crtc_of, is_idle, is_lockable, is_making, is_refused_late, is_signal, is_taking, is_wait, lacks_space, may, may_claim, may_lock, may_refuse, may_swap, may_test, must_back_off, next_flush, next_write, returning_of, taking_at, ticket_of}
+use Rattle.kms_model.specs.Request.Flags.{is_nonblock, is_test, wants_event}
 use Rattle.kms_model.specs.Request.Named.{named}
 use Rattle.kms_model.specs.Request.Sets.{obj_id}
 use Rattle.kms_model.specs.Request.Verdict.{verdict}
 use Rattle.kms_model.proofs.Items.{IsIn}
-use Rattle.kms_laws.proofs.Steps.{IsFlush, IsLegal, crtc_of_step, flush-found, flushed_at, idle-none, idle-some, legal-cases, none-is, request-is, taking-none, taking-some, value-is}
+use Rattle.kms_laws.proofs.Steps.{IsFlush, IsLegal, crtc_of_step, find-holds, flush-found, flushed_at, idle-none, idle-some, legal-cases, none-is, request-is, taking-none, taking-some, value-is}
 use Rattle.kms_laws.proofs.Steps.IsLegal.{Ends, May}
-use Rattle.kms_laws.proofs.Traversal.{IsWrite, write-found}
+use Rattle.kms_model.proofs.ThingLemmas.{find-in}
+
+-- what a write finds
+pub record IsWrite (t : Topology) (d : DeviceState) (k o : ℕ) : Type 0 where
+  pub claimed : has_number d.marks.claimed k ≡ true
+  pub is_registered : IsIn o (registered t)
+  pub touches : commit_touches t d.commits k o ≡ true
+  pub fresh : has_pair d.marks.written k o ≡ false
+
+pub write-found : (t : Topology) (d : DeviceState) (k o : ℕ) → has_number d.marks.claimed k ≡ true → next_write t d k ≡ Some o → IsWrite t d k o
+unfolding next_write
+write-found t d k o claimed e =
+    let test = λ (object : ℕ). commit_touches t d.commits k object && not (has_pair d.marks.written k object) in
+    let two = and_parts (commit_touches t d.commits k o) _ (find-holds test (registered t) o e) in
+    record { claimed = claimed; is_registered = find-in test (registered t) o e; touches = two.0; fresh = not-true (has_pair d.marks.written k o) two.1 }
+
+-- what a swap finds
+pub record IsSwap (t : Topology) (m : Machine) (client : ℕ) (r : Request) : Type 0 where
+  pub no_test : is_test r.flags ≡ false
+  pub held : holds_touched t m client r ≡ true
+  pub accepted : verdict t m.device.world r ≡ None
+  pub space : lacks_space t m client r ≡ false
+
+pub swap-found : (t : Topology) (m : Machine) (client : ℕ) (r : Request) → may_swap t m client r ≡ true → IsSwap t m client r
+unfolding may_swap
+swap-found t m client r h =
+    let a = and_parts (not (is_test r.flags)) _ h in
+    let b = and_parts (holds_touched t m client r) _ a.1 in
+    let c = and_parts (is_accepted_at t m r) _ b.1 in
+    let d = not-true (is_refused_late t m client r) (and_parts (not (is_refused_late t m client r)) _ c.1).0 in
+    record {
+      no_test = not-true (is_test r.flags) a.0;
+      held = b.0;
+      accepted = none-is (verdict t m.device.world r) c.0;
+      space = (or_parts (lacks_space t m client r) (is_busy t m r) (sym (ap (λ b. b && (lacks_space t m client r || is_busy t m r)) a.0) ∙ d)).0;
+    }
+
+-- Cases
+
+pub by_bool : (P : Bool → Type 0) → P true → P false → (b : Bool) → P b
+by_bool P t f true = t
+by_bool P t f false = f
+
+pub by_two : (P : Bool → Bool → Type 0) → P true true → P true false → P false true → P false false → (a b : Bool) → P a b
+by_two P tt_ tf ft ff true true = tt_
+by_two P tt_ tf ft ff true false = tf
+by_two P tt_ tf ft ff false true = ft
+by_two P tt_ tf ft ff false false = ff
+
+pub by_fence : (P : Option ℕ → Type 0) → P None → ((fence : ℕ) → P (Some fence)) → (o : Option ℕ) → P o
+by_fence P none some None = none
+by_fence P none some (Some fence) = some fence
+
+-- a latch with an event or without, with a fence or without
+pub by_latch : (P : Bool → Option ℕ → Type 0) → P true None → ((fence : ℕ) → P true (Some fence)) → P false None → ((fence : ℕ) → P false (Some fence)) → (b : Bool) (o : Option ℕ) → P b o
+by_latch P tn ts fn fs true o = by_fence (P true) tn ts o
+by_latch P tn ts fn fs false o = by_fence (P false) fn fs o
 
 -- the machine after a latch, by whether it delivers an event and what fence it signals
 abbrev pub latched_as : Topology → Bool → Option ℕ → Machine → ℕ → ℕ → ℕ → Machine

@@ -14,7 +14,6 @@ use Rattle.kms_model.specs.declared.worlds.Thing.{Thing}
 use Rattle.kms_model.specs.declared.worlds.World.{World}
 use Rattle.kms_model.specs.Device.Closing.{closed_if, closed_in}
 use Rattle.kms_model.specs.Device.Execution.{BufferInfo, add_fb, buffer_of, close, close_refusal, close_unless, destroy_refusal, execute, make, make_out_fence, make_out_fences, make_unless, new_buffer_refusal, signal_refusal, signal_unless}
-use Rattle.kms_model.specs.Device.Serial.{is_accepted}
 use Rattle.kms_model.specs.Device.Objects.{ids_of}
 use Rattle.kms_model.specs.Device.Sound.{IsSound}
 use Rattle.kms_model.specs.Device.States.{mode_in, plane_at}
@@ -173,37 +172,6 @@ execute_follows t w client (command.Fence label) sound kept keeps other = follow
 execute_follows t w client (command.Signal label) sound kept keeps other = follows-signal t w (signal_refusal (thing_labelled w.things label)) kept
 execute_follows t w client (command.Atomic r) sound kept keeps other = absurd (false≢true (sym other))
 execute_follows t w client command.Wait sound kept keeps other = follows-self t w kept
-
--- What is denied changes nothing
-
-denied-make : (w : World) (owner label : ℕ) (c : Content) (o : Option ℕ) → is_accepted (make_unless w owner label c o).reply ≡ false → (make_unless w owner label c o).world ≡ w
-denied-make w owner label c None denied = absurd (false≢true (sym denied))
-denied-make w owner label c (Some n) denied = refl
-
-denied-add_fb : (w : World) (client label : ℕ) (o : Option BufferInfo) → is_accepted (add_fb w client label o).reply ≡ false → (add_fb w client label o).world ≡ w
-denied-add_fb w client label None denied = refl
-denied-add_fb w client label (Some b) denied = absurd (false≢true (sym denied))
-
-denied-close : (w : World) (thing : Option Thing) (o : Option ℕ) → is_accepted (close_unless w thing o).reply ≡ false → (close_unless w thing o).world ≡ w
-denied-close w thing None denied = absurd (false≢true (sym denied))
-denied-close w thing (Some n) denied = refl
-
-denied-signal : (w : World) (o : Option ℕ) → (signal_unless w o).world ≡ w
-denied-signal w None = refl
-denied-signal w (Some n) = refl
-
-pub denied-same : (t : Topology) (w : World) (client : ℕ) (c : Command) → is_atomic c ≡ false → is_accepted (execute t w client c).reply ≡ false → (execute t w client c).world ≡ w
-unfolding execute
-denied-same t w client (command.Buffer label width height format pattern) other denied = denied-make w client label (content.Buffer width height format pattern) (new_buffer_refusal w.things width height format) denied
-denied-same t w client (command.AddFb label buffer) other denied = denied-add_fb w client label (buffer_of w.things client buffer) denied
-denied-same t w client (command.Mode label m) other denied = absurd (false≢true (sym denied))
-denied-same t w client (command.Blob label bytes) other denied = absurd (false≢true (sym denied))
-denied-same t w client (command.Destroy label) other denied = denied-close w (thing_labelled w.things label) (destroy_refusal client (thing_labelled w.things label)) denied
-denied-same t w client (command.CloseFb label) other denied = denied-close w (thing_labelled w.things label) (close_refusal client (thing_labelled w.things label)) denied
-denied-same t w client (command.Fence label) other denied = absurd (false≢true (sym denied))
-denied-same t w client (command.Signal label) other denied = denied-signal w (signal_refusal (thing_labelled w.things label))
-denied-same t w client (command.Atomic r) other denied = absurd (false≢true (sym other))
-denied-same t w client command.Wait other denied = refl
 
 -- Out-fences
 

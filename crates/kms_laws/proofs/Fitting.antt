@@ -32,7 +32,7 @@ use Rattle.kms_model.specs.Request.Sets.{obj_id}
 use Rattle.kms_model.specs.Request.Touched.{out_fence_label}
 use Rattle.kms_model.specs.Request.Verdict.{verdict}
 use Rattle.kms_laws.proofs.Basics.{read_other, read_same}
-use Rattle.kms_laws.proofs.EachStep.{Carries, latched_as, made_as, swapped_as}
+use Rattle.kms_laws.proofs.EachStep.{Carries, by_bool, by_fence, by_latch, by_two, latched_as, made_as, swapped_as}
 use Rattle.kms_laws.proofs.Sizes.{IsThere, PlacesStand, answered, begun_at, busy, command-there, draws, ended_at, ends, place_of, stays}
 use Rattle.kms_laws.proofs.Steps.{flushed_at, not_atomic}
 
@@ -211,28 +211,26 @@ module _ (s : Script) (m : Machine) (n : ℕ) (few : s.topology.crtcs ≤ 4) (S 
       let i = idle-busy (doing_at m client) idle in
       goes_next client c e (let z = i.0 in omega (arith, z)) i.1 (length m.device.commits) m.device.world.next_id (length m.records.journal) (suc (length m.records.replies)) (omega arith) (omega arith) (omega arith) (omega arith)
 
-  signal_case : (client : ℕ) (c : Command) → command_at s m client ≡ Some c → is_idle (doing_at m client) ≡ true → (answer : Reply) (o : Option ℕ) → HasSizes s (suc n) (goes_on (signals (answers m client answer) o) client)
-  signal_case client c e idle answer None = record { places_stand = act_places client c e idle; counts_few = counts_now; latches_few = latches_now }
-  signal_case client c e idle answer (Some fence) = record { places_stand = act_places client c e idle; counts_few = counts_now; latches_few = latches_now }
-
   make_case : (client : ℕ) (c : Command) → command_at s m client ≡ Some c → is_making c ≡ true → is_idle (doing_at m client) ≡ true → (b : Bool) → HasSizes s (suc n) (made_as b m client (execute s.topology m.device.world client c))
-  make_case client c e making idle b = by_case b
+  make_case client c e making idle =
+      by_bool (λ b. HasSizes s (suc n) (made_as b m client (execute s.topology m.device.world client c)))
+      (record { places_stand = made (suc (length m.records.journal)) (omega arith); counts_few = counts_now; latches_few = latches_now })
+      (record { places_stand = made (length m.records.journal) (omega arith); counts_few = counts_now; latches_few = latches_now })
     where
-      grows : (execute s.topology m.device.world client c).world.next_id ≤ m.device.world.next_id + 4
-      grows = let g = grows_one s.topology m.device.world client c (not_atomic c making) in omega (arith, g)
-
       made : (entries : ℕ) → entries ≤ length m.records.journal + 1
           → PlacesStand s ((client, record { command = (place_at m client).command + 1; doing = doing.Idle }) ∷ m.contexts.places) m.contexts.tickets (length m.device.commits) (execute s.topology m.device.world client c).world.next_id entries (suc (length m.records.replies))
       made entries l =
           let i = idle-busy (doing_at m client) idle in
-          goes_next client c e (let z = i.0 in omega (arith, z)) i.1 (length m.device.commits) (execute s.topology m.device.world client c).world.next_id entries (suc (length m.records.replies)) (omega arith) grows l (omega arith)
-
-      by_case : (b : Bool) → HasSizes s (suc n) (made_as b m client (execute s.topology m.device.world client c))
-      by_case true = record { places_stand = made (suc (length m.records.journal)) (omega arith); counts_few = counts_now; latches_few = latches_now }
-      by_case false = record { places_stand = made (length m.records.journal) (omega arith); counts_few = counts_now; latches_few = latches_now }
+          let g = grows_one s.topology m.device.world client c (not_atomic c making) in
+          goes_next client c e (let z = i.0 in omega (arith, z)) i.1 (length m.device.commits) (execute s.topology m.device.world client c).world.next_id entries (suc (length m.records.replies)) (omega arith) (omega (arith, g)) l (omega arith)
 
   swap_case : (client : ℕ) (r : Request) → command_at s m client ≡ Some (command.Atomic r) → is_taking (doing_at m client) ≡ true → (b w : Bool) → HasSizes s (suc n) (swapped_as s.topology b w m client r)
-  swap_case client r e taking = by_case
+  swap_case client r e taking =
+      let on = swapped (record { command = (place_at m client).command + 1; doing = doing.Idle }) (omega arith) (omega arith) in
+      let back = swapped (record { command = (place_at m client).command; doing = doing.Returning (length m.device.commits) }) (omega arith) (omega arith) in
+      by_two (λ b w. HasSizes s (suc n) (swapped_as s.topology b w m client r))
+      (record { places_stand = on; counts_few = counts_now; latches_few = latches_now }) (record { places_stand = back; counts_few = counts_now; latches_few = latches_now })
+      (record { places_stand = on; counts_few = counts_now; latches_few = latches_now }) (record { places_stand = back; counts_few = counts_now; latches_few = latches_now })
     where
       swapped : (p : Place) → begun_at p ≡ (place_at m client).command + 1 → ended_at p ≡ (place_at m client).command + 1
           → PlacesStand s ((client, p) ∷ m.contexts.places) m.contexts.tickets (suc (length m.device.commits)) (committed s.topology m.device.world client r).world.next_id (suc (length m.records.journal)) (suc (length m.records.replies))
@@ -241,35 +239,16 @@ module _ (s : Script) (m : Machine) (n : ℕ) (few : s.topology.crtcs ≤ 4) (S 
           goes client (command.Atomic r) e (let z = t.0 in omega (arith, z)) t.1 p bp ep (suc (length m.device.commits)) (committed s.topology m.device.world client r).world.next_id (suc (length m.records.journal)) (suc (length m.records.replies))
           (omega arith) (committed_grows s.topology m.device.world client r few) (omega arith) (omega arith)
 
-      on : PlacesStand s ((client, record { command = (place_at m client).command + 1; doing = doing.Idle }) ∷ m.contexts.places) m.contexts.tickets (suc (length m.device.commits)) (committed s.topology m.device.world client r).world.next_id (suc (length m.records.journal)) (suc (length m.records.replies))
-      on = swapped (record { command = (place_at m client).command + 1; doing = doing.Idle }) (omega arith) (omega arith)
-
-      back : PlacesStand s ((client, record { command = (place_at m client).command; doing = doing.Returning (length m.device.commits) }) ∷ m.contexts.places) m.contexts.tickets (suc (length m.device.commits)) (committed s.topology m.device.world client r).world.next_id (suc (length m.records.journal)) (suc (length m.records.replies))
-      back = swapped (record { command = (place_at m client).command; doing = doing.Returning (length m.device.commits) }) (omega arith) (omega arith)
-
-      by_case : (b w : Bool) → HasSizes s (suc n) (swapped_as s.topology b w m client r)
-      by_case true true = record { places_stand = on; counts_few = counts_now; latches_few = latches_now }
-      by_case true false = record { places_stand = back; counts_few = counts_now; latches_few = latches_now }
-      by_case false true = record { places_stand = on; counts_few = counts_now; latches_few = latches_now }
-      by_case false false = record { places_stand = back; counts_few = counts_now; latches_few = latches_now }
-
   flush_case : (k c : ℕ) (b : Bool) (o : Option ℕ) → HasSizes s (suc n) (latched_as s.topology b o (flushed_at m k c) k c (count_at m.device c))
-  flush_case k c true None = record { places_stand = S.places_stand; counts_few = counts_now; latches_few = (counts_now c, latches_now) }
-  flush_case k c true (Some fence) = record { places_stand = S.places_stand; counts_few = counts_now; latches_few = (counts_now c, latches_now) }
-  flush_case k c false None = record { places_stand = S.places_stand; counts_few = counts_now; latches_few = (counts_now c, latches_now) }
-  flush_case k c false (Some fence) = record { places_stand = S.places_stand; counts_few = counts_now; latches_few = (counts_now c, latches_now) }
+  flush_case k c =
+      let now : HasSizes s (suc n) (latched_as s.topology true None (flushed_at m k c) k c (count_at m.device c)) = record { places_stand = S.places_stand; counts_few = counts_now; latches_few = (counts_now c, latches_now) } in
+      by_latch (λ b o. HasSizes s (suc n) (latched_as s.topology b o (flushed_at m k c) k c (count_at m.device c))) now (λ fence. now) now (λ fence. now)
 
   vblank_case : (k c : ℕ) (b : Bool) (o : Option ℕ) → HasSizes s (suc n) (latched_as s.topology b o (counts_vblank m c) k c (count_at m.device c + 1))
-  vblank_case k c b o = by_case b o
-    where
-      now : count_at m.device c + 1 ≤ suc n
-      now = let a = S.counts_few c in omega (arith, a)
-
-      by_case : (b : Bool) (o : Option ℕ) → HasSizes s (suc n) (latched_as s.topology b o (counts_vblank m c) k c (count_at m.device c + 1))
-      by_case true None = record { places_stand = S.places_stand; counts_few = counted_now c; latches_few = (now, latches_now) }
-      by_case true (Some fence) = record { places_stand = S.places_stand; counts_few = counted_now c; latches_few = (now, latches_now) }
-      by_case false None = record { places_stand = S.places_stand; counts_few = counted_now c; latches_few = (now, latches_now) }
-      by_case false (Some fence) = record { places_stand = S.places_stand; counts_few = counted_now c; latches_few = (now, latches_now) }
+  vblank_case k c =
+      let one : count_at m.device c + 1 ≤ suc n = (let a = S.counts_few c in omega (arith, a)) in
+      let now : HasSizes s (suc n) (latched_as s.topology true None (counts_vblank m c) k c (count_at m.device c + 1)) = record { places_stand = S.places_stand; counts_few = counted_now c; latches_few = (one, latches_now) } in
+      by_latch (λ b o. HasSizes s (suc n) (latched_as s.topology b o (counts_vblank m c) k c (count_at m.device c + 1))) now (λ fence. now) now (λ fence. now)
 
   return_case : (client k : ℕ) → returning_of (doing_at m client) ≡ Some k → HasSizes s (suc n) (goes_on m client)
   return_case client k e =
@@ -294,7 +273,9 @@ module _ (s : Script) (m : Machine) (n : ℕ) (few : s.topology.crtcs ≤ 4) (S 
     tests = λ client r e taking may. decide_case client (command.Atomic r) e taking reply.Tested;
     swaps = λ client r e taking may b w eb ew. swap_case client r e taking b w;
     makes = λ client c e making idle b eb. make_case client c e making idle b;
-    signalled = λ client c e is_signal idle o. signal_case client c e idle (execute s.topology m.device.world client c).reply o;
+    signalled = λ client c e is_signal idle o.
+        let now : HasSizes s (suc n) (goes_on (answers m client (execute s.topology m.device.world client c).reply) client) = record { places_stand = act_places client c e idle; counts_few = counts_now; latches_few = latches_now } in
+        by_fence (λ o. HasSizes s (suc n) (goes_on (signals (answers m client (execute s.topology m.device.world client c).reply) o) client)) now (λ fence. now) o;
     read_none = λ client c e is_wait idle none. record { places_stand = act_places client c e idle; counts_few = counts_now; latches_few = latches_now };
     read_one = λ client c e is_wait idle event events some. record { places_stand = act_places client c e idle; counts_few = counts_now; latches_few = latches_now };
     claimed = λ k h. as_it_is;

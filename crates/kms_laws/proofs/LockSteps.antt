@@ -1,15 +1,11 @@
 -- What each step leaves of contexts.
-use Rattle.std.proofs.Common.{◌≡◌, ℕ, suc, ◌+◌, ◌<◌, ◌≤◌, List, [], ◌∷◌, length, Bool, true, false, Option, Some, None, refl, sym, ap, ◌∙◌, subst, arith, ⊎_elim}
-use Rattle.std.specs.Prelude.{if◌then◌else◌, is_some}
+use Rattle.std.proofs.Common.{◌≡◌, ℕ, suc, ◌+◌, ◌<◌, ◌≤◌, List, ◌∷◌, length, Bool, true, false, Option, Some, None, refl, sym, ap, ◌∙◌, subst, arith, ⊎_elim}
+use Rattle.std.specs.Prelude.{is_some}
 use Rattle.std.proofs.lemmas.Bool.{and_parts, cases_eq, false≢true, ltb-true}
 use Rattle.kms_model.specs.declared.objects.Kind.{Kind}
 use Rattle.kms_model.specs.declared.objects.Kind.TheVariants.{Crtc, Plane, Conn, Enc}
 use Rattle.kms_model.specs.declared.objects.Topology.{Topology}
-use Rattle.kms_model.specs.declared.replies.Event.{Event}
-use Rattle.kms_model.specs.declared.replies.Reply.{Reply}
-use Rattle.kms_model.specs.declared.replies.Reply.TheVariants as reply
 use Rattle.kms_model.specs.declared.replies.Step.{Step}
-use Rattle.kms_model.specs.declared.replies.Step.TheVariants.{Begin, Lock, BackOff, Relock, Refuse, Test, Swap, Make, Signal, Claim, Write, Flush, HwDone, Vblank, Cleanup, Read, Return, Stall}
 use Rattle.kms_model.specs.declared.runs.Doing.{Doing}
 use Rattle.kms_model.specs.declared.runs.Doing.TheVariants as doing
 use Rattle.kms_model.specs.declared.runs.Place.{Place}
@@ -19,22 +15,19 @@ use Rattle.kms_model.specs.declared.scripts.Request.{Request}
 use Rattle.kms_model.specs.declared.scripts.Script.{Script}
 use Rattle.kms_model.specs.Device.Execution.{execute}
 use Rattle.kms_model.specs.Device.Objects.{count_of, ids_of, object_id}
-use Rattle.kms_model.specs.Device.Serial.{is_accepted}
-use Rattle.kms_model.specs.Machine.Commits.{asks_event, lockable, new_crtc, out_fence_of}
-use Rattle.kms_model.specs.Machine.Effects.{answers, backed_off, begun, blanks, counts_vblank, delivers, dropped, drops_locks, fence_signalled, flushes, goes_on, joins_if, joins_journal, latches, latches_picture, locked, made_thing, next, now_doing, reads, refused, relocked, sets_up, signalled_by, signals, swapped_state}
+use Rattle.kms_model.specs.Machine.Commits.{lockable}
+use Rattle.kms_model.specs.Machine.Effects.{answers, backed_off, counts_vblank, dropped, drops_locks, goes_on, next, now_doing, relocked, signals}
 use Rattle.kms_model.specs.Machine.Histories.{legal}
 use Rattle.kms_model.specs.Machine.Registers.{read}
-use Rattle.kms_model.specs.Machine.State.{Contexts, Machine, command_at, count_at, doing_at, first_machine, go_at, holder_at, place_at, request_at, request_in, reserved_at, unread_at}
-use Rattle.kms_model.specs.Machine.Steps.{contended, idle_at, is_atomic, is_idle, is_lockable, is_making, is_signal, is_taking, is_wait, may, may_lock, must_back_off, returning_of, taking_at, ticket_of}
-use Rattle.kms_model.specs.Request.Flags.{is_nonblock, wants_event}
-use Rattle.kms_model.specs.Request.Named.{named}
+use Rattle.kms_model.specs.Machine.State.{Contexts, Machine, command_at, count_at, doing_at, first_machine, place_at, request_in}
+use Rattle.kms_model.specs.Machine.Steps.{contended, is_atomic, is_idle, is_lockable, is_taking, may_lock, must_back_off, returning_of, taking_at, ticket_of}
 use Rattle.kms_model.specs.Request.Reach.{reaches}
 use Rattle.kms_model.specs.Request.Sets.{obj_id}
 use Rattle.kms_model.proofs.Items.{IsIn, ids-has}
 use Rattle.kms_laws.proofs.Basics.{both_bools, in_left, in_right, read_other, read_same}
 use Rattle.kms_laws.proofs.Contexts.{asked_of, HasRequest, LocksStand, doing_in, dropped-other, dropped-own, has_ticket, holder_in, may_hold, moved, place_in}
-use Rattle.kms_laws.proofs.Steps.{IsLegal, idle-none, idle-some, legal-cases}
-use Rattle.kms_laws.proofs.Steps.IsLegal.{Ends, May}
+use Rattle.kms_laws.proofs.EachStep.{Carries, by_bool, by_fence, by_latch, by_two, each_step, latched_as, made_as, swapped_as}
+use Rattle.kms_laws.proofs.Steps.{flushed_at}
 
 abbrev pub HasLocks : Script → Machine → Type 0
 HasLocks s m = LocksStand s m.contexts (length m.device.commits)
@@ -195,29 +188,16 @@ module _ (s : Script) (m : Machine) (L : HasLocks s m) where
       → LocksStand s (record { places = (client, record { command = (place_at m client).command + 1; doing = doing.Idle }) ∷ m.contexts.places; locks = dropped client m.contexts.locks; tickets = m.contexts.tickets }) (length m.device.commits)
   decided_from client = leaves s m.contexts (length m.device.commits) L client (record { command = (place_at m client).command + 1; doing = doing.Idle }) (length m.device.commits) (omega arith) refl (λ k e. absurd cc)
 
-  begin_locks : (client : ℕ) → idle_at s m client is_atomic ≡ true → HasLocks s (begun m client)
-  begin_locks client h = go (command_at s m client) refl
-    where
-      go : (o : Option Command) → command_at s m client ≡ o → HasLocks s (begun m client)
-      go None e = absurd (idle-none s m client is_atomic e h)
-      go (Some c) e =
-          let r = atomic-request (command_at s m client) c e (idle-some s m client is_atomic c e h) in
-          begins s m.contexts (length m.device.commits) L client (idle-free (doing_at m client) (and_parts (is_idle (doing_at m client)) _ h).0) (record { request = r.0; at = r.1 })
-
-  lock_locks : (client object : ℕ) → IsIn object (lockable s.topology) → may_lock s m client object ≡ true → (o : Option ℕ) → HasLocks s (locked m client object o)
+  lock-taking : (client object : ℕ) → may_lock s m client object ≡ true → (may_hold (doing_at m client) ≡ true) × (has_ticket (doing_at m client) ≡ true)
   unfolding may_lock
-  lock_locks client object is_there h o = by_holder o
-    where
-      taking : (may_hold (doing_at m client) ≡ true) × (has_ticket (doing_at m client) ≡ true)
-      taking = taking-holds (doing_at m client) (and_parts (is_taking (doing_at m client)) _ (and_parts (taking_at s m client (λ r. reaches s.topology m.device.world r object)) _ h).0).0
+  lock-taking client object h = taking-holds (doing_at m client) (and_parts (is_taking (doing_at m client)) _ (and_parts (taking_at s m client (λ r. reaches s.topology m.device.world r object)) _ h).0).0
 
-      by_holder : (o : Option ℕ) → HasLocks s (locked m client object o)
-      by_holder None = takes s m.contexts (length m.device.commits) L client object taking.0 is_there
-      by_holder (Some holder) =
-          stays s m.contexts (length m.device.commits) L client (doing.MustBackOff (record { 0 = ticket_of (doing_at m client) }) (obj_id object)) m.contexts.locks taking.1 refl
-          (λ k e. absurd cc) (λ object2 e. refl) (λ object2 a ne e. e)
-          (λ object2 e. L.held_there object2 client e)
-          (λ object2 e. let same : object ≡ object2 = cc in subst (λ z. IsIn z (lockable s.topology)) same is_there)
+  meet_locks : (client object : ℕ) → IsIn object (lockable s.topology) → may_lock s m client object ≡ true → HasLocks s (now_doing m client (doing.MustBackOff (record { 0 = ticket_of (doing_at m client) }) (obj_id object)))
+  meet_locks client object is_there h =
+      stays s m.contexts (length m.device.commits) L client (doing.MustBackOff (record { 0 = ticket_of (doing_at m client) }) (obj_id object)) m.contexts.locks (lock-taking client object h).1 refl
+      (λ k e. absurd cc) (λ object2 e. refl) (λ object2 a ne e. e)
+      (λ object2 e. L.held_there object2 client e)
+      (λ object2 e. let same : object ≡ object2 = cc in subst (λ z. IsIn z (lockable s.topology)) same is_there)
 
   back_locks : (client : ℕ) → must_back_off (doing_at m client) ≡ true → HasLocks s (drops_locks (now_doing m client (backed_off (doing_at m client))) client)
   back_locks client h =
@@ -246,143 +226,53 @@ module _ (s : Script) (m : Machine) (L : HasLocks s m) where
       (cases_eq object object2))
       (λ object2 e2. absurd cc)
 
-  refuse_locks : (client : ℕ) → HasLocks s (refused s.topology m client (request_at s m client))
-  unfolding refused
-  refuse_locks client = go (request_at s m client)
+  -- a client that is idle goes on
+  act_locks : (client : ℕ) → is_idle (doing_at m client) ≡ true
+      → LocksStand s (record { places = (client, record { command = (place_at m client).command + 1; doing = doing.Idle }) ∷ m.contexts.places; locks = m.contexts.locks; tickets = m.contexts.tickets }) (length m.device.commits)
+  act_locks client idle = on_from client (idle-free (doing_at m client) idle)
+
+  swap_locks : (client : ℕ) (r : Request) (b w : Bool) → HasLocks s (swapped_as s.topology b w m client r)
+  swap_locks client r = by_two (λ b w. HasLocks s (swapped_as s.topology b w m client r)) idle waits idle waits
     where
-      go : (o : Option Request) → HasLocks s (refused s.topology m client o)
-      go None = L
-      go (Some r) = decided_from client
+      idle : LocksStand s (record { places = (client, record { command = (place_at m client).command + 1; doing = doing.Idle }) ∷ m.contexts.places; locks = dropped client m.contexts.locks; tickets = m.contexts.tickets }) (suc (length m.device.commits))
+      idle = leaves s m.contexts (length m.device.commits) L client (record { command = (place_at m client).command + 1; doing = doing.Idle }) (suc (length m.device.commits)) (omega arith) refl (λ k e. absurd cc)
 
-  make_locks : (client : ℕ) → idle_at s m client is_making ≡ true → HasLocks s (made_thing s.topology m client (command_at s m client))
-  unfolding made_thing
-  make_locks client h = go (command_at s m client)
-    where
-      with_reply : (c : Command) (b : Bool)
-          → HasLocks s (goes_on (record (joins_if b (answers m client (execute s.topology m.device.world client c).reply) client) { device = record (joins_if b (answers m client (execute s.topology m.device.world client c).reply) client).device { world = (execute s.topology m.device.world client c).world } }) client)
-      with_reply c true = on_from client (idle-free (doing_at m client) (and_parts (is_idle (doing_at m client)) _ h).0)
-      with_reply c false = on_from client (idle-free (doing_at m client) (and_parts (is_idle (doing_at m client)) _ h).0)
+      waits : LocksStand s (record { places = (client, record { command = (place_at m client).command; doing = doing.Returning (length m.device.commits) }) ∷ m.contexts.places; locks = dropped client m.contexts.locks; tickets = m.contexts.tickets }) (suc (length m.device.commits))
+      waits = leaves s m.contexts (length m.device.commits) L client (record { command = (place_at m client).command; doing = doing.Returning (length m.device.commits) }) (suc (length m.device.commits)) (omega arith) refl
+          (λ k e. let nk : length m.device.commits ≡ k = cc in omega arith)
 
-      go : (o : Option Command) → HasLocks s (made_thing s.topology m client o)
-      go None = L
-      go (Some c) = with_reply c (is_accepted (execute s.topology m.device.world client c).reply)
-
-  signals_locks : (m2 : Machine) (client : ℕ) (o : Option ℕ) → HasLocks s (goes_on m2 client) → HasLocks s (goes_on (signals m2 o) client)
-  signals_locks m2 client None p = p
-  signals_locks m2 client (Some fence) p = p
-
-  fence_locks : (m2 : Machine) (client : ℕ) (o : Option Command) (r : Reply) → HasLocks s (goes_on m2 client) → HasLocks s (goes_on (fence_signalled m2 o r) client)
-  fence_locks m2 client (Some (command.Signal label)) reply.Done p = signals_locks m2 client _ p
-  fence_locks m2 client _ _ p = p
-
-  signal_locks : (client : ℕ) → idle_at s m client is_signal ≡ true → HasLocks s (signalled_by s.topology m client (command_at s m client))
-  signal_locks client h = go (command_at s m client)
-    where
-      go : (o : Option Command) → HasLocks s (signalled_by s.topology m client o)
-      go None = L
-      go (Some c) =
-          fence_locks (answers m client (execute s.topology m.device.world client c).reply) client (Some c) (execute s.topology m.device.world client c).reply
-          (on_from client (idle-free (doing_at m client) (and_parts (is_idle (doing_at m client)) _ h).0))
-
-  read_locks : (client : ℕ) → idle_at s m client is_wait ≡ true → (events : List Event) → HasLocks s (reads m client events)
-  read_locks client h [] = on_from client (idle-free (doing_at m client) (and_parts (is_idle (doing_at m client)) _ h).0)
-  read_locks client h (event ∷ events) = on_from client (idle-free (doing_at m client) (and_parts (is_idle (doing_at m client)) _ h).0)
-
-  swap_locks : (client : ℕ) → HasLocks s (swapped_state s.topology m client (request_at s m client))
-  unfolding swapped_state
-  swap_locks client = go (request_at s m client)
-    where
-      swapped : (r : Request) → HasLocks s (swapped_state s.topology m client (Some r))
-      swapped r = with_flags (wants_event r.flags) (is_nonblock r.flags)
-        where
-          answered : Machine
-          answered = joins_journal (answers m client (reply.Commit (length m.device.commits))) client
-
-          moved_on : Bool → Machine
-          moved_on b = drops_locks (sets_up s.topology (if b then record answered { events = record answered.events { reserved = (client, reserved_at answered.events client + length (named s.topology answered.device.world r)) ∷ answered.events.reserved } } else answered) client r) client
-
-          now_idle : LocksStand s (record { places = (client, record { command = (place_at m client).command + 1; doing = doing.Idle }) ∷ m.contexts.places; locks = dropped client m.contexts.locks; tickets = m.contexts.tickets }) (suc (length m.device.commits))
-          now_idle = leaves s m.contexts (length m.device.commits) L client (record { command = (place_at m client).command + 1; doing = doing.Idle }) (suc (length m.device.commits)) (omega arith) refl (λ k e. absurd cc)
-
-          now_waits : LocksStand s (record { places = (client, record { command = (place_at m client).command; doing = doing.Returning (length m.device.commits) }) ∷ m.contexts.places; locks = dropped client m.contexts.locks; tickets = m.contexts.tickets }) (suc (length m.device.commits))
-          now_waits = leaves s m.contexts (length m.device.commits) L client (record { command = (place_at m client).command; doing = doing.Returning (length m.device.commits) }) (suc (length m.device.commits)) (omega arith) refl
-              (λ k e. let nk : length m.device.commits ≡ k = cc in omega arith)
-
-          with_flags : (b w : Bool) → HasLocks s (if w then goes_on (moved_on b) client else now_doing (moved_on b) client (doing.Returning (length m.device.commits)))
-          with_flags true true = now_idle
-          with_flags true false = now_waits
-          with_flags false true = now_idle
-          with_flags false false = now_waits
-
-      go : (o : Option Request) → HasLocks s (swapped_state s.topology m client o)
-      go None = L
-      go (Some r) = swapped r
-
-  return_locks : (client : ℕ) → may s m (Return client) ≡ true → HasLocks s (goes_on m client)
-  unfolding may
-  return_locks client h = go (returning_of (doing_at m client)) refl
-    where
-      go : (o : Option ℕ) → returning_of (doing_at m client) ≡ o → HasLocks s (goes_on m client)
-      go None e = let g = rw e at h in absurd (false≢true g)
-      go (Some k) e = on_from client (returning-free (doing_at m client) (ap is_some e))
-
-  latch_locks : (m2 : Machine) (k c count : ℕ) → HasLocks s m2 → HasLocks s (latches s.topology m2 k c count)
-  unfolding latches
-  latch_locks m2 k c count p = by_fence (asks_event s.topology m2.device.commits k) (out_fence_of s.topology m2.device.commits k c)
-    where
-      by_fence : (b : Bool) (o : Option ℕ) → HasLocks s (signals (if b then delivers s.topology (latches_picture s.topology m2 k c count) k c count else latches_picture s.topology m2 k c count) o)
-      by_fence true None = p
-      by_fence true (Some fence) = p
-      by_fence false None = p
-      by_fence false (Some fence) = p
-
-  flush_locks : (k c : ℕ) → HasLocks s (flushes s.topology m k c)
-  flush_locks k c = by_active (new_crtc s.topology m.device.commits k c).active
-    where
-      flushed : Machine
-      flushed = record m { device = record m.device { marks = record m.device.marks { flushed = (k, c) ∷ m.device.marks.flushed } } }
-
-      by_active : (b : Bool) → HasLocks s (if b then record flushed { device = record flushed.device { go = (c, Some k) ∷ flushed.device.go } } else latches s.topology flushed k c (count_at m.device c))
-      by_active true = L
-      by_active false = latch_locks flushed k c (count_at m.device c) L
-
-  vblank_locks : (c : ℕ) (o : Option ℕ) → HasLocks s (blanks s.topology m c o)
-  vblank_locks c None = L
-  vblank_locks c (Some k) = latch_locks (counts_vblank m c) k c (count_at m.device c + 1) L
-
-  may_locks : (step : Step) → may s m step ≡ true → HasLocks s (next s m step)
-  unfolding may next
-  may_locks (Begin client) h = begin_locks client h
-  may_locks (Lock client kind index) h =
-      let both = and_parts (is_lockable s.topology kind index) _ h in
-      lock_locks client (object_id kind index) (lockable-has s.topology kind index both.0) both.1 (holder_at m (object_id kind index))
-  may_locks (BackOff client) h = back_locks client h
-  may_locks (Relock client) h = relock_locks client (contended (doing_at m client)) refl
-  may_locks (Refuse client) h = refuse_locks client
-  may_locks (Test client) h = decided_from client
-  may_locks (Swap client) h = swap_locks client
-  may_locks (Make client) h = make_locks client h
-  may_locks (Signal client) h = signal_locks client h
-  may_locks (Claim k) h = L
-  may_locks (Write k kind index) h = L
-  may_locks (Flush k kind index) h = flush_locks k (object_id kind index)
-  may_locks (HwDone k) h = L
-  may_locks (Vblank kind index) h = vblank_locks (object_id kind index) (go_at m.device (object_id kind index))
-  may_locks (Cleanup k) h = L
-  may_locks (Read client) h = read_locks client (and_parts (idle_at s m client is_wait) _ h).0 (unread_at m.events client)
-  may_locks (Return client) h = return_locks client h
-  may_locks Stall h = L
-
-  stall_locks : HasLocks s (next s m Stall)
-  unfolding next
-  stall_locks = L
+  carries_locks : Carries s m (λ step m2. HasLocks s m2)
+  carries_locks = record {
+    begins = λ client c e atomic idle.
+        let r = atomic-request (command_at s m client) c e atomic in
+        begins s m.contexts (length m.device.commits) L client (idle-free (doing_at m client) idle) (record { request = r.0; at = r.1 });
+    takes = λ client kind index is_lock lock free. takes s m.contexts (length m.device.commits) L client (object_id kind index) (lock-taking client (object_id kind index) lock).0 (lockable-has s.topology kind index is_lock);
+    meets = λ client kind index holder is_lock lock held. meet_locks client (object_id kind index) (lockable-has s.topology kind index is_lock) lock;
+    backs = λ client back. back_locks client back;
+    relocks = λ client object asked free. relock_locks client (Some object) asked;
+    refuses = λ client r e taking may. decided_from client;
+    tests = λ client r e taking may. decided_from client;
+    swaps = λ client r e taking may b w eb ew. swap_locks client r b w;
+    makes = λ client c e making idle b eb. by_bool (λ b. HasLocks s (made_as b m client (execute s.topology m.device.world client c))) (act_locks client idle) (act_locks client idle) b;
+    signalled = λ client c e is_signal idle o. by_fence (λ o. HasLocks s (goes_on (signals (answers m client (execute s.topology m.device.world client c).reply) o) client)) (act_locks client idle) (λ fence. act_locks client idle) o;
+    read_none = λ client c e is_wait idle none. act_locks client idle;
+    read_one = λ client c e is_wait idle event events some. act_locks client idle;
+    claimed = λ k h. L;
+    written = λ k kind index found. L;
+    waits = λ k kind index written found. L;
+    flushed = λ k kind index written found b o eb eo.
+        by_latch (λ b o. HasLocks s (latched_as s.topology b o (flushed_at m k (object_id kind index)) k (object_id kind index) (count_at m.device (object_id kind index)))) L (λ fence. L) L (λ fence. L) b o;
+    done = λ k a b c d. L;
+    counted = λ kind index is none. L;
+    blanked = λ kind index k is some b o eb eo.
+        by_latch (λ b o. HasLocks s (latched_as s.topology b o (counts_vblank m (object_id kind index)) k (object_id kind index) (count_at m.device (object_id kind index) + 1))) L (λ fence. L) L (λ fence. L) b o;
+    cleaned = λ k a b c. L;
+    returned = λ client k e clean. on_from client (returning-free (doing_at m client) (ap is_some e));
+    stalled = λ h. L;
+  }
 
   pub step_locks : (step : Step) → legal s m step ≡ true → HasLocks s (next s m step)
-  step_locks step h = go step (legal-cases s m step h)
-    where
-      go : (step : Step) → IsLegal s m step → HasLocks s (next s m step)
-      go step Ends = stall_locks
-      go step (May may) = may_locks step may
+  step_locks step h = each_step s m (λ step m2. HasLocks s m2) carries_locks step h
 
 pub first_locks : (s : Script) → HasLocks s (first_machine s.topology)
 unfolding read

@@ -162,7 +162,7 @@ name-fits name h =
       subst AreBytes (sym same) (small_append word (replicate (32 - length word) 0) (small_all is_name_byte word name_byte-lt two.0) (small_zeros (32 - length word))),
     )
 
-keeps-from : (names : List (List ℕ)) (c : Command) → is_command_in names c ≡ true → KeepsModes c
+pub keeps-from : (names : List (List ℕ)) (c : Command) → is_command_in names c ≡ true → KeepsModes c
 keeps-from names (command.Mode label m) h =
     let two = and_parts (has_widths m) _ (and_parts (is_label_in names label) _ h).1 in
     let name = name-fits m.name two.1 in

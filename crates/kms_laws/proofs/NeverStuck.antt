@@ -4,14 +4,14 @@ use Rattle.std.specs.List.{list_all, list_any}
 use Rattle.std.proofs.lemmas.Bool.{and_from, and_parts, cases_Bool, cond-true, not-true}
 use Rattle.kms_model.specs.declared.objects.Topology.{Topology}
 use Rattle.kms_model.specs.declared.replies.Step.{Step}
-use Rattle.kms_model.specs.declared.replies.Step.TheVariants.{Stall}
+use Rattle.kms_model.specs.declared.replies.Step.TheVariants.{Begin, Lock, BackOff, Relock, Refuse, Test, Swap, Make, Signal, Claim, Write, Flush, HwDone, Vblank, Cleanup, Read, Return, Stall}
 use Rattle.kms_model.specs.declared.scripts.Script.{Script}
 use Rattle.kms_model.specs.Firsts.{first_some}
-use Rattle.kms_model.specs.Machine.Commits.{is_cleaned}
+use Rattle.kms_model.specs.Machine.Commits.{is_all_flushed, is_all_latched, is_all_written, is_cleaned}
 use Rattle.kms_model.specs.Machine.Effects.{next}
 use Rattle.kms_model.specs.Machine.Histories.{at, awaited_by, awaited_label, client_numbers, commit_numbers, is_at_end, is_dead, is_drained, is_enabled, is_history, legal, stalled_on, steps_that_move}
 use Rattle.kms_model.specs.Machine.State.{Machine, first_machine}
-use Rattle.kms_model.specs.Machine.Steps.{may}
+use Rattle.kms_model.specs.Machine.Steps.{first_pending, holds_touched, is_pending, is_ready, lacks_space, may, may_claim, may_lock, may_refuse, may_swap, may_test, next_flush, next_write}
 use Rattle.kms_model.specs.Promises.{WaitsForFence}
 use Rattle.kms_model.proofs.Items.{list_all-from, list_any-has}
 use Rattle.kms_laws.specs.Laws.{TellsFence, can_move}
@@ -24,7 +24,6 @@ use Rattle.kms_laws.proofs.Framebuffers.{range-below}
 use Rattle.kms_laws.proofs.Going.{Going, step_go}
 use Rattle.kms_laws.proofs.LockSteps.{HasLocks, first_locks, step_locks}
 use Rattle.kms_laws.proofs.Stalled.{Ending, ending, legal-going}
-use Rattle.kms_laws.proofs.Stalled.Ending.{Ends, Goes}
 use Rattle.kms_laws.proofs.Steps.{Holds, IsPlainScript, along, first_kept, step_kept}
 use Rattle.kms_laws.proofs.TailProgress.{CanMove, first_going, goes_or_waits, oldest}
 use Rattle.kms_laws.proofs.Traversal.{step_keeps}
@@ -94,7 +93,7 @@ pub record IsStuck (s : Script) (m : Machine) : Type 0 where
   pub undrained : is_drained s m ≡ false
   pub unable : can_move s m ≡ false
 
-stuck-from : (s : Script) (m : Machine) → Facts s m → m.stalled ≡ false → is_dead s m ≡ true → IsStuck s m
+pub stuck-from : (s : Script) (m : Machine) → Facts s m → m.stalled ≡ false → is_dead s m ≡ true → IsStuck s m
 unfolding is_dead is_enabled
 stuck-from s m F going h =
     let g : (not (is_drained s m) && not (list_any (may s m) (steps_that_move s m))) ≡ true = sym (ap (λ b. b || (not (is_drained s m) && not (not b && list_any (may s m) (steps_that_move s m)))) going) ∙ h in
@@ -151,15 +150,49 @@ stall-next : (s : Script) (m : Machine) → next s m Stall ≡ record m { stalle
 unfolding next
 stall-next s m = refl
 
-step_along : (s : Script) (m : Machine) (step : Step) → IsPlainScript s → Along s m → legal s m step ≡ true → Along s (next s m step)
-step_along s m step plain A h = record { facts = step_facts s m step plain A.facts h; end = go step (ending s m step) h }
+pub step_along : (s : Script) (m : Machine) (step : Step) → IsPlainScript s → Along s m → legal s m step ≡ true → Along s (next s m step)
+step_along s m step plain A h = record { facts = step_facts s m step plain A.facts h; end = go (ending s m step h) }
   where
-    go : (step : Step) → Ending s m step → legal s m step ≡ true → ((next s m step).stalled ≡ false) ⊎ WasEnded s (next s m step)
-    go step Ends h = inr (record { before = m; same = stall-next s m; stuck = stuck-from s m A.facts (legal-going s m Stall h) (stall-dead s m h) })
-    go step (Goes still) h = inl (still ∙ legal-going s m step h)
+    at_end : legal s m Stall ≡ true → ((next s m Stall).stalled ≡ false) ⊎ WasEnded s (next s m Stall)
+    at_end l = inr (record { before = m; same = stall-next s m; stuck = stuck-from s m A.facts (legal-going s m Stall l) (stall-dead s m l) })
+
+    go : Ending m step (next s m step) → ((next s m step).stalled ≡ false) ⊎ WasEnded s (next s m step)
+    go (inl e) = subst (λ z. legal s m z ≡ true → ((next s m z).stalled ≡ false) ⊎ WasEnded s (next s m z)) (sym e) at_end h
+    go (inr still) = inl (still ∙ legal-going s m step h)
 
 pub history_along : (s : Script) (h : List Step) → IsPlainScript s → is_history s h ≡ true → Along s (at s h)
 history_along s h plain is = along s (Along s) (λ m step A legal_step. step_along s m step plain A legal_step) h (first_machine s.topology) (record { facts = first_facts s plain; end = inl refl }) is
+
+-- What may be done does not read whether a history was ended
+
+may-ended : (s : Script) (m : Machine) (step : Step) → may s (record m { stalled = true }) step ≡ may s m step
+unfolding may may_lock may_refuse may_test may_swap may_claim next_write next_flush is_all_written is_all_flushed is_all_latched holds_touched lacks_space is_ready is_pending first_pending
+may-ended s m (Begin client) = refl
+may-ended s m (Lock client kind index) = refl
+may-ended s m (BackOff client) = refl
+may-ended s m (Relock client) = refl
+may-ended s m (Refuse client) = refl
+may-ended s m (Test client) = refl
+may-ended s m (Swap client) = refl
+may-ended s m (Make client) = refl
+may-ended s m (Signal client) = refl
+may-ended s m (Claim k) = refl
+may-ended s m (Write k kind index) = refl
+may-ended s m (Flush k kind index) = refl
+may-ended s m (HwDone k) = refl
+may-ended s m (Vblank kind index) = refl
+may-ended s m (Cleanup k) = refl
+may-ended s m (Read client) = refl
+may-ended s m (Return client) = refl
+may-ended s m Stall = refl
+
+pub can-ended : (s : Script) (m : Machine) → can_move s (record m { stalled = true }) ≡ can_move s m
+can-ended s m = (λ i. list_any (λ step. may-ended s m step i) (steps_that_move s m))
+
+-- where a step may be done, the history was not ended
+pub still-going : (s : Script) (m : Machine) → Along s m → can_move s m ≡ true → m.stalled ≡ false
+still-going s m A move =
+    ⊎_elim (λ going. going) (λ (w : WasEnded s m). absurd (both_bools _ move (ap (can_move s) w.same ∙ can-ended s w.before ∙ w.stuck.unable))) A.end
 
 pub dead_names_a_fence : (s : Script) (h : List Step) → IsPlainScript s → is_history s h ≡ true → is_dead s (at s h) ≡ true → (label : ℕ) × (stalled_on s (at s h) ≡ Some label) × WaitsForFence s (at s h) label
 dead_names_a_fence s h plain is dead =

@@ -15,20 +15,13 @@ use Rattle.kms_model.specs.Machine.Effects.{next}
 use Rattle.kms_model.specs.Promises.{TestChangesNothing}
 use Rattle.kms_laws.proofs.Basics.{both_bools}
 use Rattle.kms_laws.proofs.LockSteps.{HasLocks}
-use Rattle.kms_laws.proofs.Contexts.{has_ticket, may_hold}
+use Rattle.kms_laws.proofs.Contexts.{held-ticket, may_hold}
 use Rattle.kms_laws.proofs.NeverStuck.{history_facts}
 use Rattle.kms_laws.proofs.Steps.{IsPlainScript, value-is}
 
 module _ (s : Script) (m : Machine) (L : HasLocks s m) where
   holder-holds : (y object : ℕ) → holds m y object ≡ true → may_hold (doing_at m y) ≡ true
   holder-holds y object h = L.holders object y (value-is y (holder_at m object) h)
-
-  ticket_held : (d : Doing) → may_hold d ≡ true → has_ticket d ≡ true
-  ticket_held (doing.Taking ticket) h = refl
-  ticket_held (doing.MustBackOff ticket object) h = refl
-  ticket_held doing.Idle h = absurd (false≢true h)
-  ticket_held (doing.BackedOff ticket object) h = absurd (false≢true h)
-  ticket_held (doing.Returning k) h = absurd (false≢true h)
 
   -- who backed off holds nothing
   contended-free : (d : Doing) (object : ℕ) → has_value object (contended d) ≡ true → may_hold d ≡ true → ⊥
@@ -59,7 +52,7 @@ module _ (s : Script) (m : Machine) (L : HasLocks s m) where
       (λ (ge : ticket_of (doing_at m y) ≤ ticket_of (doing_at m x)).
       ⊎_elim
       (λ (same : ticket_of (doing_at m x) ≡ ticket_of (doing_at m y)).
-      absurd (w.others (L.unique x y (ticket_held (doing_at m x) held) (ticket_held (doing_at m y) (waited_holds x y w)) same)))
+      absurd (w.others (L.unique x y (held-ticket (doing_at m x) held) (held-ticket (doing_at m y) (waited_holds x y w)) same)))
       (λ apart.
       let older : ticket_of (doing_at m y) < ticket_of (doing_at m x) = ⊎_elim (λ (lt : ticket_of (doing_at m y) < ticket_of (doing_at m x)). lt) (λ (ge2 : ticket_of (doing_at m x) ≤ ticket_of (doing_at m y)). absurd (apart (omega arith))) (cases_lt (ticket_of (doing_at m y)) (ticket_of (doing_at m x))) in
       absurd (both_bools _ (and_from _ _ one.0 (ap (is_free_or_older m (ticket_of (doing_at m x))) holder ∙ lt-ltb (ticket_of (doing_at m y)) (ticket_of (doing_at m x)) older)) (not-true _ two.1)))

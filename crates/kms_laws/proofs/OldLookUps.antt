@@ -21,8 +21,6 @@ use Rattle.kms_model.specs.Device.Execution.{committed, execute}
 use Rattle.kms_model.specs.Device.Objects.{ids_of}
 use Rattle.kms_model.specs.Device.Properties.{Property, property}
 use Rattle.kms_model.specs.Device.World.{thing_labelled}
-use Rattle.kms_model.specs.Machine.Commits.{out_fence_of}
-use Rattle.kms_model.specs.Machine.Registers.{latched_registers}
 use Rattle.kms_model.specs.Machine.Histories.{are_legal, at, is_history, run_steps}
 use Rattle.kms_model.specs.Request.Agreement.{AgreesOld}
 use Rattle.kms_model.specs.Request.Apply.{after, prop_of}
@@ -38,7 +36,7 @@ use Rattle.kms_laws.specs.Laws.{AsksWithinReach}
 use Rattle.kms_laws.proofs.Fences.{Labelled, execute_labels, fences_labels}
 use Rattle.kms_laws.proofs.Opened.{agrees-open, all_open, look-open, open-reach, sound-open}
 use Rattle.kms_laws.proofs.Steps.{Holds, IsPlainScript, along, history_kept, step_kept}
-use Rattle.kms_laws.proofs.Traversal.{IsKept, latch_of, latched_any, step_keeps}
+use Rattle.kms_laws.proofs.Traversal.{IsKept, step_keeps, world_kept}
 
 -- Things stay
 
@@ -53,21 +51,17 @@ longer things w v forth stay label u found =
     record { thing = two.thing; found = two.found; same_id = two.same_id ∙ one.same_id; same_content = two.same_content ∙ one.same_content }
 
 stay_kept : (s : Script) (things : List worlds.Thing) → IsKept s (λ d ls. StayIn things d.world)
-stay_kept s things = record {
-  made = λ m client c H is other stay. longer things m.device.world (execute s.topology m.device.world client c).world (execute_labels s.topology m.device.world client c other).forth stay;
-  swapped = λ m client r H is none no_test stay.
-      longer things m.device.world (committed s.topology m.device.world client r).world
-      (λ label u found. record { thing = u; found = (fences_labels client r.assigns (record m.device.world { values = after m.device.world r; commits = m.device.world.commits + 1 }) (ids_of s.topology kind.Crtc)).forth label u found; same_id = refl; same_content = refl }) stay;
-  claimed = λ m k H h stay. stay;
-  written = λ d ls k o T found stay. stay;
-  flushed = λ d ls k c stay. stay;
-  done = λ d ls k stay. stay;
-  cleaned = λ d ls k a b stay. stay;
-  waits = λ d ls c o stay. stay;
-  counted = λ d ls c n stay. stay;
-  latched = λ d ls k c count T found stay. latched_any (λ d2 ls2. StayIn things d2.world) (λ d2 ls2 fence st. st) (record d { live = latched_registers s.topology d.shadow d.live c }) (latch_of s.topology d k c count ∷ ls) (out_fence_of s.topology d.commits k c) stay;
-  signalled = λ d ls fence stay. stay;
-}
+stay_kept s things =
+    world_kept s (StayIn things)
+    (λ m client c is other stay. longer things m.device.world (execute s.topology m.device.world client c).world (execute_labels s.topology m.device.world client c other).forth stay)
+    (λ w client r stay.
+    longer things w (committed s.topology w client r).world
+    (λ label u found. record {
+      thing = u;
+      found = (fences_labels client r.assigns (record w { values = after w r; commits = w.commits + 1 }) (ids_of s.topology kind.Crtc)).forth label u found;
+      same_id = refl;
+      same_content = refl;
+    }) stay)
 
 -- What an early look-up took
 

@@ -30,9 +30,10 @@ use Rattle.kms_model.specs.Request.Named.{names}
 use Rattle.kms_model.specs.Request.Verdict.{verdict}
 use Rattle.kms_model.proofs.FramedLemmas.{execution_keeps_framed}
 use Rattle.kms_model.proofs.Items.{IsIn}
+use Rattle.kms_model.proofs.RunIsSerial.{serial_last, unaccepted}
 use Rattle.kms_model.proofs.SoundKept.{execution_keeps_sound, sound-apply}
 use Rattle.kms_model.proofs.TouchedLemmas.{IsRequestAt}
-use Rattle.kms_laws.proofs.Executed.{denied-same, Follows, IsLike, KeepsModes, execute_follows, follows-out_fences, plane_like, words_like}
+use Rattle.kms_laws.proofs.Executed.{Follows, IsLike, KeepsModes, execute_follows, follows-out_fences, plane_like, words_like}
 use Rattle.kms_laws.proofs.Invariants.{CommitsStand, commit_picture, crtc_after, picture_at, picture_in_words, plane_after, shown}
 use Rattle.kms_laws.proofs.Numbered.{crtc_new, crtc_old, names_new, names_old, plane_new, plane_old, shown_old, touches_new, touches_old}
 use Rattle.kms_laws.proofs.Requests.{crtc_frame, moved_names, plane_frame, words_at}
@@ -58,11 +59,6 @@ pub record Present (s : Script) (w : World) (journal : List Entry) (cs : List Co
   pub is_shown : (c : ℕ) → IsIn c (ids_of s.topology Crtc) → map pair_of (show s (reverse journal) c) ≡ reverse (shown s.topology cs c (length cs))
 
 -- One entry more
-
-serial_last : (s : Script) (w : World) (journal : List Entry) (e : Entry) → serial_from s w (journal ++ e ∷ []) ≡ execute_in s.topology (serial_from s w journal) e.client (command_of s e)
-unfolding serial_from
-serial_last s w [] e = refl
-serial_last s w (f ∷ fs) e = serial_last s (execute_in s.topology w f.client (command_of s f)) fs e
 
 show_from-push : (s : Script) (c : ℕ) (w : World) (es : List Entry) (e : Entry) → show_from s c w (es ++ e ∷ []) ≡ show_from s c w es ++ shown_in s.topology c (serial_from s w es) e.client (command_of s e)
 unfolding show_from serial_from
@@ -134,7 +130,7 @@ made_present s w journal cs e c P is keeps other =
 
 pub denied_present : (s : Script) (w : World) (journal : List Entry) (cs : List Commit) (client : ℕ) (c : Command) → Present s w journal cs → is_atomic c ≡ false → is_accepted (execute s.topology w client c).reply ≡ false
     → Present s (execute s.topology w client c).world journal cs
-denied_present s w journal cs client c P other denied = subst (λ v. Present s v journal cs) (sym (denied-same s.topology w client c other denied)) P
+denied_present s w journal cs client c P other denied = subst (λ v. Present s v journal cs) (sym (unaccepted s.topology 0 w client c denied).0) P
 
 -- A commit more
 

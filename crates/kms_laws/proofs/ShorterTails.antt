@@ -6,13 +6,12 @@ use Rattle.std.proofs.lemmas.List.FromFn.{length-map-range_with_len}
 use Rattle.kms_model.specs.declared.objects.Kind.{Kind}
 use Rattle.kms_model.specs.declared.objects.Kind.TheVariants.{Crtc, Plane}
 use Rattle.kms_model.specs.declared.objects.Topology.{Topology}
-use Rattle.kms_model.specs.declared.replies.Reply.{Reply}
 use Rattle.kms_model.specs.declared.replies.Step.{Step}
 use Rattle.kms_model.specs.declared.replies.Step.TheVariants.{Claim, Cleanup, Flush, HwDone, Make, Signal, Swap, Vblank, Write}
 use Rattle.kms_model.specs.declared.runs.Latch.{Latch}
 use Rattle.kms_model.specs.declared.scripts.Request.{Request}
 use Rattle.kms_model.specs.declared.scripts.Script.{Script}
-use Rattle.kms_model.specs.Device.Execution.{Executed, execute}
+use Rattle.kms_model.specs.Device.Execution.{execute}
 use Rattle.kms_model.specs.Device.Objects.{ids_of, object_id}
 use Rattle.kms_model.specs.Machine.Commits.{commit_names, commit_touches, has_latched, has_number, has_pair, registered}
 use Rattle.kms_model.specs.Machine.Effects.{answers, claims, counts_vblank, goes_on, next, signals, writes}
@@ -23,12 +22,12 @@ use Rattle.kms_model.proofs.Items.{IsIn, filter-same}
 use Rattle.kms_model.proofs.TouchedLemmas.{HasFewObjects}
 use Rattle.kms_laws.specs.TailsLeft.{LeavesLess, one_if, steps_left, tail_left, unflushed, unlatched, unwritten}
 use Rattle.kms_laws.proofs.Basics.{both_bools, number_more, number_now, pair_more, pair_now}
-use Rattle.kms_laws.proofs.EachStep.{Carries, each_step, latched_as, made_as, swapped_as}
+use Rattle.kms_laws.proofs.EachStep.{Carries, IsWrite, by_bool, by_fence, by_latch, by_two, each_step, latched_as, made_as, swapped_as}
 use Rattle.kms_laws.proofs.Numbered.{names_old, touches_old}
 use Rattle.kms_laws.proofs.Objects.{crtc_index}
 use Rattle.kms_laws.proofs.Steps.{Holds, IsFlush, IsPlainScript, flushed_at, history_kept}
 use Rattle.kms_laws.proofs.Tails.{latch_more, latch_now}
-use Rattle.kms_laws.proofs.Traversal.{IsWrite, commit_of, latch_of}
+use Rattle.kms_laws.proofs.Traversal.{commit_of, latch_of}
 
 -- Lists of what passes a test
 
@@ -168,25 +167,14 @@ module _ (s : Script) (m : Machine) (H : Holds s m) where
   abbrev Lowers : Step → Machine → Type 0
   Lowers step m2 = (k : ℕ) → k < length m.device.commits → LeavesLess s.topology m m2 step k
 
-  make_case : (client : ℕ) (e : Executed) (b : Bool) → Lowers (Make client) (made_as b m client e)
-  make_case client e true k old = record { no_more = omega arith; less = λ e. absurd cc }
-  make_case client e false k old = record { no_more = omega arith; less = λ e. absurd cc }
-
-  signal_case : (client : ℕ) (answer : Reply) (o : Option ℕ) → Lowers (Signal client) (goes_on (signals (answers m client answer) o) client)
-  signal_case client answer None k old = record { no_more = omega arith; less = λ e. absurd cc }
-  signal_case client answer (Some fence) k old = record { no_more = omega arith; less = λ e. absurd cc }
-
   swap_case : (client : ℕ) (r : Request) (b w : Bool) → Lowers (Swap client) (swapped_as s.topology b w m client r)
-  swap_case client r b w k old = by_case b w
+  swap_case client r b w k old = by_two (λ b w. LeavesLess s.topology m (swapped_as s.topology b w m client r) (Swap client) k) (now true true refl) (now true false refl) (now false true refl) (now false false refl) b w
     where
-      same : steps_left s.topology (commit_of m client r ∷ m.device.commits) m.device.marks m.records.latches k ≡ steps_left s.topology m.device.commits m.device.marks m.records.latches k
-      same = swapped-same s.topology m.device.commits m.device.marks m.records.latches (commit_of m client r) k old
-
-      by_case : (b w : Bool) → LeavesLess s.topology m (swapped_as s.topology b w m client r) (Swap client) k
-      by_case true true = record { no_more = omega (arith, same); less = λ e. absurd cc }
-      by_case true false = record { no_more = omega (arith, same); less = λ e. absurd cc }
-      by_case false true = record { no_more = omega (arith, same); less = λ e. absurd cc }
-      by_case false false = record { no_more = omega (arith, same); less = λ e. absurd cc }
+      now : (b w : Bool) → tail_left s.topology (swapped_as s.topology b w m client r) k ≡ steps_left s.topology (commit_of m client r ∷ m.device.commits) m.device.marks m.records.latches k → LeavesLess s.topology m (swapped_as s.topology b w m client r) (Swap client) k
+      now b w is = record {
+        no_more = (let a = swapped-same s.topology m.device.commits m.device.marks m.records.latches (commit_of m client r) k old in omega (arith, is, a));
+        less = λ e. absurd cc;
+      }
 
   claim_case : (j : ℕ) → may_claim s.topology m j ≡ true → Lowers (Claim j) (claims m j)
   claim_case j h k old = record {
@@ -205,6 +193,12 @@ module _ (s : Script) (m : Machine) (H : Holds s m) where
         (let a = written-less s.topology m.device.commits m.device.marks m.records.latches j (object_id kind index) found.is_registered found.touches found.fresh in omega (arith, a));
   }
 
+  abbrev after_flush : ℕ → ℕ → Bool → Option ℕ → Machine
+  after_flush j c b o = latched_as s.topology b o (flushed_at m j c) j c (count_at m.device c)
+
+  abbrev after_blank : ℕ → ℕ → Bool → Option ℕ → Machine
+  after_blank j c b o = latched_as s.topology b o (counts_vblank m c) j c (count_at m.device c + 1)
+
   -- a flush, which may latch too
   flush_case : (j : ℕ) (kind : Kind) (index : ℕ) → IsFlush s.topology m j (object_id kind index) → (m2 : Machine) → m2.device.commits ≡ m.device.commits → m2.device.marks ≡ record m.device.marks { flushed = (j, object_id kind index) ∷ m.device.marks.flushed }
       → ((k : ℕ) → length (unlatched s.topology m.device.commits m2.records.latches k) ≤ length (unlatched s.topology m.device.commits m.records.latches k)) → Lowers (Flush j kind index) m2
@@ -220,16 +214,16 @@ module _ (s : Script) (m : Machine) (H : Holds s m) where
       left k = (λ i. steps_left s.topology (ec i) (em i) m2.records.latches k)
 
   flush_latch : (j : ℕ) (kind : Kind) (index : ℕ) → IsFlush s.topology m j (object_id kind index) → (b : Bool) (o : Option ℕ) → Lowers (Flush j kind index) (latched_as s.topology b o (flushed_at m j (object_id kind index)) j (object_id kind index) (count_at m.device (object_id kind index)))
-  flush_latch j kind index f b o = by_case b o
+  flush_latch j kind index f =
+      by_latch (λ b o. Lowers (Flush j kind index) (after_flush j (object_id kind index) b o)) (now (after_flush j (object_id kind index) true None) refl refl refl) (λ fence. now (after_flush j (object_id kind index) true (Some fence)) refl refl refl)
+      (now (after_flush j (object_id kind index) false None) refl refl refl) (λ fence. now (after_flush j (object_id kind index) false (Some fence)) refl refl refl)
     where
-      fewer_latches : (k : ℕ) → length (unlatched s.topology m.device.commits (latch_of s.topology m.device j (object_id kind index) (count_at m.device (object_id kind index)) ∷ m.records.latches) k) ≤ length (unlatched s.topology m.device.commits m.records.latches k)
-      fewer_latches k = latched-fewer s.topology m.device.commits m.device.marks m.records.latches (latch_of s.topology m.device j (object_id kind index) (count_at m.device (object_id kind index))) k
-
-      by_case : (b : Bool) (o : Option ℕ) → Lowers (Flush j kind index) (latched_as s.topology b o (flushed_at m j (object_id kind index)) j (object_id kind index) (count_at m.device (object_id kind index)))
-      by_case true None = flush_case j kind index f (latched_as s.topology true None (flushed_at m j (object_id kind index)) j (object_id kind index) (count_at m.device (object_id kind index))) refl refl fewer_latches
-      by_case true (Some fence) = flush_case j kind index f (latched_as s.topology true (Some fence) (flushed_at m j (object_id kind index)) j (object_id kind index) (count_at m.device (object_id kind index))) refl refl fewer_latches
-      by_case false None = flush_case j kind index f (latched_as s.topology false None (flushed_at m j (object_id kind index)) j (object_id kind index) (count_at m.device (object_id kind index))) refl refl fewer_latches
-      by_case false (Some fence) = flush_case j kind index f (latched_as s.topology false (Some fence) (flushed_at m j (object_id kind index)) j (object_id kind index) (count_at m.device (object_id kind index))) refl refl fewer_latches
+      now : (m2 : Machine) → m2.device.commits ≡ m.device.commits → m2.device.marks ≡ record m.device.marks { flushed = (j, object_id kind index) ∷ m.device.marks.flushed }
+          → m2.records.latches ≡ latch_of s.topology m.device j (object_id kind index) (count_at m.device (object_id kind index)) ∷ m.records.latches → Lowers (Flush j kind index) m2
+      now m2 ec em el =
+          flush_case j kind index f m2 ec em
+          (λ k. let a = latched-fewer s.topology m.device.commits m.device.marks m.records.latches (latch_of s.topology m.device j (object_id kind index) (count_at m.device (object_id kind index))) k in
+          let b = ap (λ ls. length (unlatched s.topology m.device.commits ls k)) el in omega (arith, a, b))
 
   -- a vertical blanking with GO
   blank_case : (kind : Kind) (index j : ℕ) → IsIn (object_id kind index) (ids_of s.topology Crtc) → go_at m.device (object_id kind index) ≡ Some j
@@ -253,10 +247,10 @@ module _ (s : Script) (m : Machine) (H : Holds s m) where
 
   blank_latch : (kind : Kind) (index j : ℕ) → IsIn (object_id kind index) (ids_of s.topology Crtc) → go_at m.device (object_id kind index) ≡ Some j → (b : Bool) (o : Option ℕ)
       → Lowers (Vblank kind index) (latched_as s.topology b o (counts_vblank m (object_id kind index)) j (object_id kind index) (count_at m.device (object_id kind index) + 1))
-  blank_latch kind index j is g true None = blank_case kind index j is g (latched_as s.topology true None (counts_vblank m (object_id kind index)) j (object_id kind index) (count_at m.device (object_id kind index) + 1)) refl refl refl
-  blank_latch kind index j is g true (Some fence) = blank_case kind index j is g (latched_as s.topology true (Some fence) (counts_vblank m (object_id kind index)) j (object_id kind index) (count_at m.device (object_id kind index) + 1)) refl refl refl
-  blank_latch kind index j is g false None = blank_case kind index j is g (latched_as s.topology false None (counts_vblank m (object_id kind index)) j (object_id kind index) (count_at m.device (object_id kind index) + 1)) refl refl refl
-  blank_latch kind index j is g false (Some fence) = blank_case kind index j is g (latched_as s.topology false (Some fence) (counts_vblank m (object_id kind index)) j (object_id kind index) (count_at m.device (object_id kind index) + 1)) refl refl refl
+  blank_latch kind index j is g =
+      let now = blank_case kind index j is g in
+      by_latch (λ b o. Lowers (Vblank kind index) (after_blank j (object_id kind index) b o)) (now (after_blank j (object_id kind index) true None) refl refl refl) (λ fence. now (after_blank j (object_id kind index) true (Some fence)) refl refl refl)
+      (now (after_blank j (object_id kind index) false None) refl refl refl) (λ fence. now (after_blank j (object_id kind index) false (Some fence)) refl refl refl)
 
   count_case : (kind : Kind) (index : ℕ) → go_at m.device (object_id kind index) ≡ None → Lowers (Vblank kind index) (counts_vblank m (object_id kind index))
   count_case kind index none k old = record { no_more = omega arith; less = λ e. let bad : None ≡ Some k = sym none ∙ e in absurd cc }
@@ -287,8 +281,11 @@ module _ (s : Script) (m : Machine) (H : Holds s m) where
     refuses = λ client r e taking may k old. record { no_more = omega arith; less = λ e. absurd cc };
     tests = λ client r e taking may k old. record { no_more = omega arith; less = λ e. absurd cc };
     swaps = λ client r e taking may b w eb ew. swap_case client r b w;
-    makes = λ client c e making idle b eb. make_case client (execute s.topology m.device.world client c) b;
-    signalled = λ client c e is_signal idle o. signal_case client (execute s.topology m.device.world client c).reply o;
+    makes = λ client c e making idle b eb k old.
+        by_bool (λ b. LeavesLess s.topology m (made_as b m client (execute s.topology m.device.world client c)) (Make client) k) (record { no_more = omega arith; less = λ e. absurd cc }) (record { no_more = omega arith; less = λ e. absurd cc }) b;
+    signalled = λ client c e is_signal idle o k old.
+        by_fence (λ o. LeavesLess s.topology m (goes_on (signals (answers m client (execute s.topology m.device.world client c).reply) o) client) (Signal client) k)
+        (record { no_more = omega arith; less = λ e. absurd cc }) (λ fence. record { no_more = omega arith; less = λ e. absurd cc }) o;
     read_none = λ client c e is_wait idle none k old. record { no_more = omega arith; less = λ e. absurd cc };
     read_one = λ client c e is_wait idle event events some k old. record { no_more = omega arith; less = λ e. absurd cc };
     claimed = λ k h. claim_case k h;

@@ -68,9 +68,9 @@ pub value-is : (n : ℕ) (o : Option ℕ) → has_value n o ≡ true → o ≡ S
 value-is n None h = absurd (false≢true h)
 value-is n (Some k) h = ap Some (eqb-true k n h)
 
-pub find-holds : (p : ℕ → Bool) (xs : List ℕ) (x : ℕ) → find p xs ≡ Some x → p x ≡ true
+pub find-holds : {A : Type 0} (p : A → Bool) (xs : List A) (x : A) → find p xs ≡ Some x → p x ≡ true
 find-holds p [] x e = absurd cc
-find-holds p (y ∷ ys) x e =
+find-holds {A} p (y ∷ ys) x e =
     elim (cases_Bool (p y)) [
       | inl is ↦ (let same : Some y ≡ Some x = sym (cond-true (p y) (Some y) (find p ys) is) ∙ e in let yx : y ≡ x = cc in ap p (sym yx) ∙ is)
       | inr other ↦ find-holds p ys x (sym (cond-false (p y) (Some y) (find p ys) other) ∙ e)

@@ -75,7 +75,7 @@ pub record CanMove (s : Script) (m : Machine) : Type 0 where
   pub is_in : IsIn step (steps_that_move s m)
 
 module _ (s : Script) (m : Machine) where
-  of_commit : (k : ℕ) (step : Step) → k < length m.device.commits → IsIn step (steps_of_commit s.topology k) → IsIn step (steps_that_move s m)
+  pub of_commit : (k : ℕ) (step : Step) → k < length m.device.commits → IsIn step (steps_of_commit s.topology k) → IsIn step (steps_that_move s m)
   of_commit k step l i =
       in_right (flat_map (steps_of_client s.topology) (client_numbers s)) _ step
       (in_left (flat_map (steps_of_commit s.topology) (commit_numbers m)) (steps_with_go s.topology m) step

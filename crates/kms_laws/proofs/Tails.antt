@@ -10,7 +10,7 @@ use Rattle.kms_model.specs.Machine.Registers.{Registers, crtc_register, plane_re
 use Rattle.kms_model.specs.Machine.State.{Commit, Marks}
 use Rattle.kms_model.proofs.Items.{IsIn, list_all-at}
 use Rattle.kms_laws.proofs.Basics.{both_bools, implied, in_either, in_left, in_right, number_cases, number_more, pair_cases, pair_more, pair_now, read_same, read_other}
-use Rattle.kms_laws.proofs.Invariants.{Edge, IsSettled, IsWritten, Shows, Tail, WasFlushed, commit_picture, crtc_after, latched_at, picture_at, plane_after, shown}
+use Rattle.kms_laws.proofs.Invariants.{Edge, IsPending, IsSettled, IsWritten, Shows, Tail, WasFlushed, commit_picture, crtc_after, latched_at, picture_at, plane_after, shown}
 use Rattle.kms_laws.proofs.Latching.{is_claimed_then, latched_before, none_after}
 use Rattle.kms_laws.proofs.Objects.{crtc_registered, names-touches}
 
@@ -345,56 +345,47 @@ flushed_kept {t} {cs} {ms} {sh} {go} {ls} T k c is_crtc written names =
       shows = T.shows;
     }
 
+-- other vertical blankings are waited for
+with_go : {t : Topology} {cs : List Commit} {ms : Marks} {sh : Registers} {go : List (ℕ × Option ℕ)} {ls : List Latch} (T : Tail t cs ms sh go ls) (now : List (ℕ × Option ℕ))
+    → ((j d : ℕ) → read None now d ≡ Some j → IsPending ms.flushed ls j d) → Tail t cs ms sh now ls
+with_go T now go_is = record {
+  few = T.few;
+  commits = T.commits;
+  marks = record {
+    claimed = T.marks.claimed;
+    written = T.marks.written;
+    flushed = T.marks.flushed;
+    done = T.marks.done;
+    latched = T.marks.latched;
+    go_is = go_is;
+    clean_done = T.marks.clean_done;
+    cleaned = T.marks.cleaned;
+  };
+  order = T.order;
+  shadow = T.shadow;
+  shows = T.shows;
+}
+
 pub go_kept : {t : Topology} {cs : List Commit} {ms : Marks} {sh : Registers} {go : List (ℕ × Option ℕ)} {ls : List Latch} (T : Tail t cs ms sh go ls) (k c : ℕ)
     → has_pair ms.flushed k c ≡ true → has_latched ls k c ≡ false → Tail t cs ms sh ((c, Some k) ∷ go) ls
 go_kept {t} {cs} {ms} {sh} {go} {ls} T k c F un =
-    record {
-      few = T.few;
-      commits = T.commits;
-      marks = record {
-        claimed = T.marks.claimed;
-        written = T.marks.written;
-        flushed = T.marks.flushed;
-        done = T.marks.done;
-        latched = T.marks.latched;
-        go_is = λ j d e.
-            ⊎_elim
-            (λ (same : c ≡ d).
-            let is : Some k ≡ Some j = sym (read_same None go c (Some k)) ∙ ap (read None ((c, Some k) ∷ go)) same ∙ e in
-            let jk : k ≡ j = cc in
-            record { flushed = (λ i. has_pair ms.flushed (sym jk i) (sym same i)) ∙ F; unlatched = (λ i. has_latched ls (sym jk i) (sym same i)) ∙ un })
-            (λ ne. T.marks.go_is j d (sym (read_other None go c d (Some k) ne) ∙ e))
-            (cases_eq c d);
-        clean_done = T.marks.clean_done;
-        cleaned = T.marks.cleaned;
-      };
-      order = T.order;
-      shadow = T.shadow;
-      shows = T.shows;
-    }
+    with_go T ((c, Some k) ∷ go)
+    (λ j d e.
+    ⊎_elim
+    (λ (same : c ≡ d).
+    let is : Some k ≡ Some j = sym (read_same None go c (Some k)) ∙ ap (read None ((c, Some k) ∷ go)) same ∙ e in
+    let jk : k ≡ j = cc in
+    record { flushed = (λ i. has_pair ms.flushed (sym jk i) (sym same i)) ∙ F; unlatched = (λ i. has_latched ls (sym jk i) (sym same i)) ∙ un })
+    (λ ne. T.marks.go_is j d (sym (read_other None go c d (Some k) ne) ∙ e))
+    (cases_eq c d))
 
 -- Vertical blankings
 
 pub go_cleared : {t : Topology} {cs : List Commit} {ms : Marks} {sh : Registers} {go : List (ℕ × Option ℕ)} {ls : List Latch} (T : Tail t cs ms sh go ls) (c : ℕ) → Tail t cs ms sh ((c, None) ∷ go) ls
 go_cleared {t} {cs} {ms} {sh} {go} {ls} T c =
-    record {
-      few = T.few;
-      commits = T.commits;
-      marks = record {
-        claimed = T.marks.claimed;
-        written = T.marks.written;
-        flushed = T.marks.flushed;
-        done = T.marks.done;
-        latched = T.marks.latched;
-        go_is = λ j d e.
-            ⊎_elim
-            (λ (same : c ≡ d). let is : None ≡ Some j = sym (read_same None go c None) ∙ ap (read None ((c, None) ∷ go)) same ∙ e in absurd cc)
-            (λ ne. T.marks.go_is j d (sym (read_other None go c d None ne) ∙ e))
-            (cases_eq c d);
-        clean_done = T.marks.clean_done;
-        cleaned = T.marks.cleaned;
-      };
-      order = T.order;
-      shadow = T.shadow;
-      shows = T.shows;
-    }
+    with_go T ((c, None) ∷ go)
+    (λ j d e.
+    ⊎_elim
+    (λ (same : c ≡ d). let is : None ≡ Some j = sym (read_same None go c None) ∙ ap (read None ((c, None) ∷ go)) same ∙ e in absurd cc)
+    (λ ne. T.marks.go_is j d (sym (read_other None go c d None ne) ∙ e))
+    (cases_eq c d))

@@ -1,52 +1,29 @@
 -- One way over all steps, for what speaks of the device and of the latches.
-use Rattle.std.proofs.Common.{subst, ◌≡◌, ℕ, ◌+◌, List, [], ◌∷◌, length, Bool, true, false, not, ◌&&◌, Option, Some, None, refl}
-use Rattle.std.specs.Prelude.{if◌then◌else◌}
-use Rattle.std.proofs.lemmas.Bool.{and_parts, not-true}
+use Rattle.std.proofs.Common.{subst, ◌≡◌, ℕ, ◌+◌, List, [], ◌∷◌, Bool, true, false, Option, Some, None}
 use Rattle.kms_model.specs.declared.objects.Kind.TheVariants.{Crtc}
 use Rattle.kms_model.specs.declared.objects.Topology.{Topology}
-use Rattle.kms_model.specs.declared.replies.Event.{Event}
-use Rattle.kms_model.specs.declared.replies.Reply.{Reply}
-use Rattle.kms_model.specs.declared.replies.Reply.TheVariants as reply
 use Rattle.kms_model.specs.declared.replies.Step.{Step}
-use Rattle.kms_model.specs.declared.replies.Step.TheVariants.{Begin, Lock, BackOff, Relock, Refuse, Test, Swap, Make, Signal, Claim, Write, Flush, HwDone, Vblank, Cleanup, Read, Return, Stall}
-use Rattle.kms_model.specs.declared.runs.Doing.TheVariants as doing
 use Rattle.kms_model.specs.declared.runs.Latch.{Latch}
 use Rattle.kms_model.specs.declared.scripts.Command.{Command}
 use Rattle.kms_model.specs.declared.scripts.Command.TheVariants as command
 use Rattle.kms_model.specs.declared.scripts.Request.{Request}
 use Rattle.kms_model.specs.declared.scripts.Script.{Script}
+use Rattle.kms_model.specs.declared.worlds.World.{World}
 use Rattle.kms_model.specs.Device.Execution.{committed, execute}
-use Rattle.kms_model.specs.Device.Objects.{exists, ids_of, index_of, object_id}
-use Rattle.kms_model.specs.Device.Serial.{is_accepted}
-use Rattle.kms_model.specs.Machine.Commits.{asks_event, commit_touches, has_latched, has_number, has_pair, is_all_latched, is_all_written, is_hw_done, new_crtc, out_fence_of, registered}
-use Rattle.kms_model.specs.Machine.Effects.{answers, blanks, counts_vblank, delivers, drops_locks, fence_signalled, flushes, goes_on, joins_if, joins_journal, latches, latches_picture, locked, made_thing, next, now_doing, reads, refused, relocked, sets_up, signalled_by, signals, swapped_state, written_registers}
+use Rattle.kms_model.specs.Device.Objects.{ids_of, index_of, object_id}
+use Rattle.kms_model.specs.Machine.Commits.{has_latched, has_pair, is_all_latched, is_all_written, is_hw_done, out_fence_of}
+use Rattle.kms_model.specs.Machine.Effects.{answers, counts_vblank, goes_on, next, signals, written_registers}
 use Rattle.kms_model.specs.Machine.Histories.{at, is_history, legal}
 use Rattle.kms_model.specs.Machine.Registers.{decoded_picture, latched_registers}
-use Rattle.kms_model.specs.Machine.State.{Commit, DeviceState, Machine, command_at, count_at, doing_at, first_machine, go_at, holder_at, place_at, request_at, reserved_at, unread_at}
-use Rattle.kms_model.specs.Machine.Steps.{contended, idle_at, is_accepted_at, is_atomic, is_crtc_of, is_making, may, may_claim, may_swap, next_flush, next_write, taking_at}
-use Rattle.kms_model.specs.Request.Flags.{is_nonblock, is_test, wants_event}
-use Rattle.kms_model.specs.Request.Named.{named}
+use Rattle.kms_model.specs.Machine.State.{Commit, DeviceState, Machine, command_at, count_at, first_machine, go_at, place_at}
+use Rattle.kms_model.specs.Machine.Steps.{is_atomic, may_claim}
+use Rattle.kms_model.specs.Request.Flags.{is_test}
 use Rattle.kms_model.specs.Request.Verdict.{verdict}
 use Rattle.kms_model.proofs.Items.{IsIn}
-use Rattle.kms_model.proofs.ThingLemmas.{find-in}
 use Rattle.kms_laws.proofs.Basics.{pair_now}
+use Rattle.kms_laws.proofs.EachStep.{Carries, IsSwap, IsWrite, by_bool, by_fence, by_latch, by_two, each_step, latched_as, made_as, swap-found, swapped_as}
 use Rattle.kms_laws.proofs.Invariants.{Tail}
-use Rattle.kms_laws.proofs.Steps.{Holds, IsFlush, IsLegal, IsPlainScript, along, counted_holds, crtc_of_step, find-holds, first_kept, flush-found, flushed_at, flushed_holds, fresh-unlatched, idle-some, legal-cases, none-is, not_atomic, request-is, step_kept, taking-some, value-is}
-use Rattle.kms_laws.proofs.Steps.IsLegal.{Ends, May}
-
--- what a write finds
-pub record IsWrite (t : Topology) (d : DeviceState) (k o : ℕ) : Type 0 where
-  pub claimed : has_number d.marks.claimed k ≡ true
-  pub is_registered : IsIn o (registered t)
-  pub touches : commit_touches t d.commits k o ≡ true
-  pub fresh : has_pair d.marks.written k o ≡ false
-
-pub write-found : (t : Topology) (d : DeviceState) (k o : ℕ) → has_number d.marks.claimed k ≡ true → next_write t d k ≡ Some o → IsWrite t d k o
-unfolding next_write
-write-found t d k o claimed e =
-    let test = λ (object : ℕ). commit_touches t d.commits k object && not (has_pair d.marks.written k object) in
-    let two = and_parts (commit_touches t d.commits k o) _ (find-holds test (registered t) o e) in
-    record { claimed = claimed; is_registered = find-in test (registered t) o e; touches = two.0; fresh = not-true (has_pair d.marks.written k o) two.1 }
+use Rattle.kms_laws.proofs.Steps.{Holds, IsFlush, IsPlainScript, along, counted_holds, first_kept, flushed_at, flushed_holds, fresh-unlatched, not_atomic, step_kept}
 
 abbrev pub TailOf : Topology → DeviceState → List Latch → Type 0
 TailOf t d ls = Tail t d.commits d.marks d.shadow d.go ls
@@ -86,169 +63,76 @@ pub record IsKept (s : Script) (P : DeviceState → List Latch → Type 0) : Typ
       → P (with_signal (record d { live = latched_registers s.topology d.shadow d.live c }) (out_fence_of s.topology d.commits k c)) (latch_of s.topology d k c count ∷ ls)
   pub signalled : (d : DeviceState) (ls : List Latch) (fence : ℕ) → P d ls → P (record d { signalled = fence ∷ d.signalled }) ls
 
-module _ (s : Script) (P : DeviceState → List Latch → Type 0) (K : IsKept s P) where
+module _ (s : Script) (P : DeviceState → List Latch → Type 0) (K : IsKept s P) (m : Machine) (H : Holds s m) (p : P m.device m.records.latches) where
   abbrev Of : Machine → Type 0
-  Of m = P m.device m.records.latches
+  Of m2 = P m2.device m2.records.latches
 
-  signals_keeps : (m : Machine) (o : Option ℕ) → Of m → Of (signals m o)
-  signals_keeps m None p = p
-  signals_keeps m (Some fence) p = K.signalled m.device m.records.latches fence p
+  swap_keeps : (client : ℕ) (r : Request) → command_at s m client ≡ Some (command.Atomic r) → IsSwap s.topology m client r → (b w : Bool) → Of (swapped_as s.topology b w m client r)
+  swap_keeps client r is found =
+      let now = K.swapped m client r H is found.accepted found.no_test p in
+      by_two (λ b w. Of (swapped_as s.topology b w m client r)) now now now now
 
-  fence_keeps : (m : Machine) (o : Option Command) (r : Reply) → Of m → Of (fence_signalled m o r)
-  fence_keeps m (Some (command.Signal label)) reply.Done p = signals_keeps m _ p
-  fence_keeps m _ _ p = p
+  -- a latch, with its event and its fence
+  latch_keeps : (d : DeviceState) (k c count : ℕ) → TailOf s.topology d m.records.latches → IsLatch s.topology d m.records.latches k c → P d m.records.latches → (o : Option ℕ) → out_fence_of s.topology d.commits k c ≡ o
+      → P (with_signal (record d { live = latched_registers s.topology d.shadow d.live c }) o) (latch_of s.topology d k c count ∷ m.records.latches)
+  latch_keeps d k c count T l q o e =
+      subst (λ f. P (with_signal (record d { live = latched_registers s.topology d.shadow d.live c }) f) (latch_of s.topology d k c count ∷ m.records.latches)) e (K.latched d m.records.latches k c count T l q)
 
-  latch_keeps : (m : Machine) (k c count : ℕ) → TailOf s.topology m.device m.records.latches → IsLatch s.topology m.device m.records.latches k c → Of m → Of (latches s.topology m k c count)
-  unfolding latches
-  latch_keeps m k c count T l p = with_event (asks_event s.topology m.device.commits k) (out_fence_of s.topology m.device.commits k c) refl
+  flush_keeps : (k c : ℕ) → is_all_written s.topology m.device k ≡ true → IsFlush s.topology m k c → (b : Bool) (o : Option ℕ) → out_fence_of s.topology m.device.commits k c ≡ o
+      → Of (latched_as s.topology b o (flushed_at m k c) k c (count_at m.device c))
+  flush_keeps k c written f =
+      by_latch (λ b o. out_fence_of s.topology m.device.commits k c ≡ o → Of (latched_as s.topology b o (flushed_at m k c) k c (count_at m.device c))) (now None) (λ fence. now (Some fence)) (now None) (λ fence. now (Some fence))
     where
-      with_event : (b : Bool) (o : Option ℕ) → out_fence_of s.topology m.device.commits k c ≡ o
-          → Of (signals (if b then delivers s.topology (latches_picture s.topology m k c count) k c count else latches_picture s.topology m k c count) o)
-      with_event b o e =
-          by_cases b o (subst (λ f. P (with_signal (record m.device { live = latched_registers s.topology m.device.shadow m.device.live c }) f) (latch_of s.topology m.device k c count ∷ m.records.latches)) e (K.latched m.device m.records.latches k c count T l p))
-        where
-          by_cases : (b : Bool) (o : Option ℕ) → P (with_signal (record m.device { live = latched_registers s.topology m.device.shadow m.device.live c }) o) (latch_of s.topology m.device k c count ∷ m.records.latches)
-              → Of (signals (if b then delivers s.topology (latches_picture s.topology m k c count) k c count else latches_picture s.topology m k c count) o)
-          by_cases true None q = q
-          by_cases true (Some fence) q = q
-          by_cases false None q = q
-          by_cases false (Some fence) q = q
+      now : (o : Option ℕ) → out_fence_of s.topology m.device.commits k c ≡ o
+          → P (with_signal (record (flushed_at m k c).device { live = latched_registers s.topology m.device.shadow m.device.live c }) o) (latch_of s.topology (flushed_at m k c).device k c (count_at m.device c) ∷ m.records.latches)
+      now =
+          latch_keeps (flushed_at m k c).device k c (count_at m.device c) (flushed_holds s m H k c written f).tail
+          (record { is_crtc = f.is_crtc; flushed = pair_now k c m.device.marks.flushed; unlatched = fresh-unlatched s m H k c f }) (K.flushed m.device m.records.latches k c p)
 
-  module _ (m : Machine) (H : Holds s m) (p : P m.device m.records.latches) where
-    refuse_keeps : (client : ℕ) → Of (refused s.topology m client (request_at s m client))
-    unfolding refused
-    refuse_keeps client = go (request_at s m client)
-      where
-        go : (o : Option Request) → Of (refused s.topology m client o)
-        go None = p
-        go (Some r) = p
+  counted_keeps : (c : ℕ) → Of (counts_vblank m c)
+  counted_keeps c = K.waits (record m.device { counts = (c, count_at m.device c + 1) ∷ m.device.counts }) m.records.latches c None (K.counted m.device m.records.latches c (count_at m.device c + 1) p)
 
-    make_keeps : (client : ℕ) → idle_at s m client is_making ≡ true → Of (made_thing s.topology m client (command_at s m client))
-    unfolding made_thing
-    make_keeps client h = go (command_at s m client) refl
-      where
-        with_reply : (c : Command) → command_at s m client ≡ Some c → is_atomic c ≡ false → (b : Bool)
-            → Of (goes_on (record (joins_if b (answers m client (execute s.topology m.device.world client c).reply) client) { device = record (joins_if b (answers m client (execute s.topology m.device.world client c).reply) client).device { world = (execute s.topology m.device.world client c).world } }) client)
-        with_reply c is other true = K.made m client c H is other p
-        with_reply c is other false = K.made m client c H is other p
+  vblank_keeps : (k c : ℕ) → IsIn c (ids_of s.topology Crtc) → go_at m.device c ≡ Some k → (b : Bool) (o : Option ℕ) → out_fence_of s.topology m.device.commits k c ≡ o
+      → Of (latched_as s.topology b o (counts_vblank m c) k c (count_at m.device c + 1))
+  vblank_keeps k c i g =
+      by_latch (λ b o. out_fence_of s.topology m.device.commits k c ≡ o → Of (latched_as s.topology b o (counts_vblank m c) k c (count_at m.device c + 1))) (now None) (λ fence. now (Some fence)) (now None) (λ fence. now (Some fence))
+    where
+      now : (o : Option ℕ) → out_fence_of s.topology m.device.commits k c ≡ o
+          → P (with_signal (record (counts_vblank m c).device { live = latched_registers s.topology m.device.shadow m.device.live c }) o) (latch_of s.topology (counts_vblank m c).device k c (count_at m.device c + 1) ∷ m.records.latches)
+      now =
+          let pending = H.tail.marks.go_is k c g in
+          latch_keeps (counts_vblank m c).device k c (count_at m.device c + 1) (counted_holds s m H c).tail (record { is_crtc = i; flushed = pending.flushed; unlatched = pending.unlatched }) (counted_keeps c)
 
-        go : (o : Option Command) → command_at s m client ≡ o → Of (made_thing s.topology m client o)
-        go None e = p
-        go (Some c) e = with_reply c e (not_atomic c (idle-some s m client is_making c e h)) (is_accepted (execute s.topology m.device.world client c).reply)
+  carries_kept : Carries s m (λ step m2. P m2.device m2.records.latches)
+  carries_kept = record {
+    begins = λ client c e atomic idle. p;
+    takes = λ client kind index is_there lock free. p;
+    meets = λ client kind index holder is_there lock held. p;
+    backs = λ client back. p;
+    relocks = λ client object asked free. p;
+    refuses = λ client r e taking may. p;
+    tests = λ client r e taking may. p;
+    swaps = λ client r e taking may b w eb ew. swap_keeps client r e (swap-found s.topology m client r may) b w;
+    makes = λ client c e making idle b eb.
+        by_bool (λ b. Of (made_as b m client (execute s.topology m.device.world client c))) (K.made m client c H e (not_atomic c making) p) (K.made m client c H e (not_atomic c making) p) b;
+    signalled = λ client c e is_signal idle o.
+        by_fence (λ o. Of (goes_on (signals (answers m client (execute s.topology m.device.world client c).reply) o) client)) p (λ fence. K.signalled m.device m.records.latches fence p) o;
+    read_none = λ client c e is_wait idle none. p;
+    read_one = λ client c e is_wait idle event events some. p;
+    claimed = λ k h. K.claimed m k H h p;
+    written = λ k kind index found. K.written m.device m.records.latches k (object_id kind index) H.tail found p;
+    waits = λ k kind index written found. K.waits (flushed_at m k (object_id kind index)).device m.records.latches (object_id kind index) (Some k) (K.flushed m.device m.records.latches k (object_id kind index) p);
+    flushed = λ k kind index written found b o eb eo. flush_keeps k (object_id kind index) written found b o eo;
+    done = λ k a b c d. K.done m.device m.records.latches k p;
+    counted = λ kind index is none. counted_keeps (object_id kind index);
+    blanked = λ kind index k is some b o eb eo. vblank_keeps k (object_id kind index) is some b o eo;
+    cleaned = λ k a b c. K.cleaned m.device m.records.latches k a b p;
+    returned = λ client k e clean. p;
+    stalled = λ h. p;
+  }
 
-    signal_keeps : (client : ℕ) → Of (signalled_by s.topology m client (command_at s m client))
-    signal_keeps client = go (command_at s m client)
-      where
-        go : (o : Option Command) → Of (signalled_by s.topology m client o)
-        go None = p
-        go (Some c) = fence_keeps (answers m client (execute s.topology m.device.world client c).reply) (Some c) (execute s.topology m.device.world client c).reply p
-
-    read_keeps : (client : ℕ) (events : List Event) → Of (reads m client events)
-    read_keeps client [] = p
-    read_keeps client (event ∷ events) = p
-
-    lock_keeps : (client object : ℕ) (o : Option ℕ) → Of (locked m client object o)
-    lock_keeps client object None = p
-    lock_keeps client object (Some holder) = p
-
-    relock_keeps : (client : ℕ) (o : Option ℕ) → Of (relocked m client o)
-    relock_keeps client None = p
-    relock_keeps client (Some object) = p
-
-    swap_keeps : (client : ℕ) → taking_at s m client (may_swap s.topology m client) ≡ true → Of (swapped_state s.topology m client (request_at s m client))
-    unfolding may_swap swapped_state
-    swap_keeps client h = go (request_at s m client) refl
-      where
-        swapped : (r : Request) → command_at s m client ≡ Some (command.Atomic r) → is_test r.flags ≡ false → verdict s.topology m.device.world r ≡ None → Of (swapped_state s.topology m client (Some r))
-        swapped r is no_test none = with_flags (wants_event r.flags) (is_nonblock r.flags)
-          where
-            answered : Machine
-            answered = joins_journal (answers m client (reply.Commit (length m.device.commits))) client
-
-            moved : Bool → Machine
-            moved b = drops_locks (sets_up s.topology (if b then record answered { events = record answered.events { reserved = (client, reserved_at answered.events client + length (named s.topology answered.device.world r)) ∷ answered.events.reserved } } else answered) client r) client
-
-            now : P (record m.device { world = (committed s.topology m.device.world client r).world; commits = commit_of m client r ∷ m.device.commits }) m.records.latches
-            now = K.swapped m client r H is none no_test p
-
-            with_flags : (b n : Bool) → Of (if n then goes_on (moved b) client else now_doing (moved b) client (doing.Returning (length m.device.commits)))
-            with_flags true true = now
-            with_flags true false = now
-            with_flags false true = now
-            with_flags false false = now
-
-        go : (o : Option Request) → request_at s m client ≡ o → Of (swapped_state s.topology m client o)
-        go None e = p
-        go (Some r) e =
-            let may = taking-some s m client (may_swap s.topology m client) r e h in
-            let first = and_parts (not (is_test r.flags)) _ may in
-            let third = and_parts (is_accepted_at s.topology m r) _ (and_parts _ _ first.1).1 in
-            swapped r (request-is (command_at s m client) r e) (not-true (is_test r.flags) first.0) (none-is (verdict s.topology m.device.world r) third.0)
-
-    flush_keeps : (k c : ℕ) → is_all_written s.topology m.device k ≡ true → IsFlush s.topology m k c → Of (flushes s.topology m k c)
-    flush_keeps k c written f = by_active (new_crtc s.topology m.device.commits k c).active
-      where
-        now : Of (flushed_at m k c)
-        now = K.flushed m.device m.records.latches k c p
-
-        by_active : (b : Bool) → Of (if b then record (flushed_at m k c) { device = record (flushed_at m k c).device { go = (c, Some k) ∷ (flushed_at m k c).device.go } } else latches s.topology (flushed_at m k c) k c (count_at m.device c))
-        by_active true = K.waits (flushed_at m k c).device m.records.latches c (Some k) now
-        by_active false =
-            latch_keeps (flushed_at m k c) k c (count_at m.device c) (flushed_holds s m H k c written f).tail
-            (record { is_crtc = f.is_crtc; flushed = pair_now k c m.device.marks.flushed; unlatched = fresh-unlatched s m H k c f }) now
-
-    vblank_keeps : (c : ℕ) → IsIn c (ids_of s.topology Crtc) → Of (blanks s.topology m c (go_at m.device c))
-    vblank_keeps c i = go (go_at m.device c) refl
-      where
-        now : Of (counts_vblank m c)
-        now = K.waits (record m.device { counts = (c, count_at m.device c + 1) ∷ m.device.counts }) m.records.latches c None (K.counted m.device m.records.latches c (count_at m.device c + 1) p)
-
-        go : (o : Option ℕ) → go_at m.device c ≡ o → Of (blanks s.topology m c o)
-        go None e = now
-        go (Some k) e =
-            let pending = H.tail.marks.go_is k c e in
-            latch_keeps (counts_vblank m c) k c (count_at m.device c + 1) (counted_holds s m H c).tail (record { is_crtc = i; flushed = pending.flushed; unlatched = pending.unlatched }) now
-
-    may_keeps : (step : Step) → may s m step ≡ true → Of (next s m step)
-    unfolding may next
-    may_keeps (Begin client) h = p
-    may_keeps (Lock client kind index) h = lock_keeps client (object_id kind index) (holder_at m (object_id kind index))
-    may_keeps (BackOff client) h = p
-    may_keeps (Relock client) h = relock_keeps client (contended (doing_at m client))
-    may_keeps (Refuse client) h = refuse_keeps client
-    may_keeps (Test client) h = p
-    may_keeps (Swap client) h = swap_keeps client h
-    may_keeps (Make client) h = make_keeps client h
-    may_keeps (Signal client) h = signal_keeps client
-    may_keeps (Claim k) h = K.claimed m k H h p
-    may_keeps (Write k kind index) h =
-        let a = and_parts (has_number m.device.marks.claimed k) _ h in
-        let b = and_parts (exists s.topology kind index) _ a.1 in
-        K.written m.device m.records.latches k (object_id kind index) H.tail (write-found s.topology m.device k (object_id kind index) a.0 (value-is (object_id kind index) (next_write s.topology m.device k) b.1)) p
-    may_keeps (Flush k kind index) h =
-        let a = and_parts (is_all_written s.topology m.device k) _ h in
-        let b = and_parts (exists s.topology kind index) _ a.1 in
-        flush_keeps k (object_id kind index) a.0 (flush-found s.topology m k (object_id kind index) (value-is (object_id kind index) (next_flush s.topology m.device k) b.1))
-    may_keeps (HwDone k) h = K.done m.device m.records.latches k p
-    may_keeps (Vblank kind index) h = vblank_keeps (object_id kind index) (crtc_of_step s.topology kind index (and_parts (is_crtc_of s.topology kind index) _ h).0)
-    may_keeps (Cleanup k) h =
-        let a = and_parts (is_hw_done m.device k) _ h in
-        let b = and_parts (is_all_latched s.topology m.device m.records.latches k) _ a.1 in
-        K.cleaned m.device m.records.latches k a.0 b.0 p
-    may_keeps (Read client) h = read_keeps client (unread_at m.events client)
-    may_keeps (Return client) h = p
-    may_keeps Stall h = p
-
-    stall_keeps : Of (next s m Stall)
-    unfolding next
-    stall_keeps = p
-
-    pub step_keeps : (step : Step) → legal s m step ≡ true → P (next s m step).device (next s m step).records.latches
-    step_keeps step h = go step (legal-cases s m step h)
-      where
-        go : (step : Step) → IsLegal s m step → Of (next s m step)
-        go step Ends = stall_keeps
-        go step (May may) = may_keeps step may
+  pub step_keeps : (step : Step) → legal s m step ≡ true → P (next s m step).device (next s m step).records.latches
+  step_keeps step h = each_step s m (λ step m2. P m2.device m2.records.latches) carries_kept step h
 
 -- so it holds along each history
 pub along_history : (s : Script) (P : DeviceState → List Latch → Type 0) → IsKept s P → (h : List Step) → IsPlainScript s → P (first_machine s.topology).device [] → is_history s h ≡ true
@@ -262,3 +146,22 @@ along_history s P K h plain first is =
 pub latched_any : (P : DeviceState → List Latch → Type 0) → ((d : DeviceState) (ls : List Latch) (fence : ℕ) → P d ls → P (record d { signalled = fence ∷ d.signalled }) ls) → (d : DeviceState) (ls : List Latch) (o : Option ℕ) → P d ls → P (with_signal d o) ls
 latched_any P keeps d ls None p = p
 latched_any P keeps d ls (Some fence) p = keeps d ls fence p
+
+-- what speaks of the present world alone
+pub world_kept : (s : Script) (Q : World → Type 0)
+    → ((m : Machine) (client : ℕ) (c : Command) → command_at s m client ≡ Some c → is_atomic c ≡ false → Q m.device.world → Q (execute s.topology m.device.world client c).world)
+    → ((w : World) (client : ℕ) (r : Request) → Q w → Q (committed s.topology w client r).world) → IsKept s (λ d ls. Q d.world)
+world_kept s Q made swapped = record {
+  made = λ m client c H is other q. made m client c is other q;
+  swapped = λ m client r H is none no_test q. swapped m.device.world client r q;
+  claimed = λ m k H h q. q;
+  written = λ d ls k o T found q. q;
+  flushed = λ d ls k c q. q;
+  done = λ d ls k q. q;
+  cleaned = λ d ls k a b q. q;
+  waits = λ d ls c o q. q;
+  counted = λ d ls c n q. q;
+  latched = λ d ls k c count T found q.
+      latched_any (λ d2 ls2. Q d2.world) (λ d2 ls2 fence q2. q2) (record d { live = latched_registers s.topology d.shadow d.live c }) (latch_of s.topology d k c count ∷ ls) (out_fence_of s.topology d.commits k c) q;
+  signalled = λ d ls fence q. q;
+}

@@ -26,7 +26,8 @@ use Rattle.kms_laws.proofs.Numbered.{concerns_old, picture_old}
 use Rattle.kms_laws.proofs.Objects.{crtc_index, plane_registered}
 use Rattle.kms_laws.proofs.Steps.{IsPlainScript}
 use Rattle.kms_laws.proofs.Tails.{latch_cases}
-use Rattle.kms_laws.proofs.Traversal.{IsKept, IsLatch, IsWrite, TailOf, along_history, commit_of, latch_of, latched_any}
+use Rattle.kms_laws.proofs.EachStep.{IsWrite}
+use Rattle.kms_laws.proofs.Traversal.{IsKept, IsLatch, TailOf, along_history, commit_of, latch_of, latched_any}
 
 -- A plane is live on one side of a commit and in the shadow on the other, one of them no CRTC.
 pub record IsPendingPlane (t : Topology) (cs : List Commit) (writes : List (ℕ × ℕ)) (ls : List Latch) (live shadow p : ℕ) : Type 0 where

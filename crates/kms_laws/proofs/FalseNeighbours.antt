@@ -1,0 +1,149 @@
+-- Why the rules are as they are: for each of three laws a neighbour that is false, shown by a history, computed.
+use Rattle.std.proofs.Common.{◌≡◌, ℕ, List, [], ◌∷◌, ◌++◌, map, length, Bool, true, false, ◌&&◌, ◌||◌, not, ◌==◌, Option, Some, None, refl, codes}
+use Rattle.std.specs.Prelude.{if◌then◌else◌, nat_lt, Ok, Err, Result}
+use Rattle.std.specs.List.{list_all}
+use Rattle.kms_model.specs.declared.objects.Kind.TheVariants.{Crtc, Plane, Conn}
+use Rattle.kms_model.specs.declared.objects.Topology.{Topology}
+use Rattle.kms_model.specs.declared.pictures.Picture.{Picture}
+use Rattle.kms_model.specs.declared.pictures.Picture.TheVariants.{Off, On}
+use Rattle.kms_model.specs.declared.replies.Step.{Step}
+use Rattle.kms_model.specs.declared.replies.Step.TheVariants.{Claim, Swap}
+use Rattle.kms_model.specs.declared.scripts.Part.TheVariants as part
+use Rattle.kms_model.specs.declared.scripts.Request.{Request}
+use Rattle.kms_model.specs.declared.scripts.Script.{Script}
+use Rattle.kms_model.specs.Device.Objects.{ids_of, object_id}
+use Rattle.kms_model.specs.Device.Serial.{show}
+use Rattle.kms_model.specs.Machine.Commits.{commit_touches, has_number, is_claimed, waited_fences}
+use Rattle.kms_model.specs.Machine.Effects.{next}
+use Rattle.kms_model.specs.Machine.Histories.{at, is_history, journal, last_latched, latched}
+use Rattle.kms_model.specs.Machine.Registers.{decoded_picture}
+use Rattle.kms_model.specs.Machine.State.{Machine, doing_at, first_machine, holder_at, holds}
+use Rattle.kms_model.specs.Machine.Steps.{holds_touched, is_ready, is_refused_late, is_settled_for, may, may_lock, taking_at, ticket_of}
+use Rattle.kms_model.specs.Request.Flags.{is_test}
+use Rattle.kms_model.specs.Request.Reach.{reaches}
+use Rattle.kms_model.specs.Request.Verdict.{verdict}
+use Rattle.kms_model.specs.Script.InputLines.{Fault}
+use Rattle.kms_model.specs.Script.Schedules.{Parts, input_of}
+use Rattle.kms_model.proofs.OnMachines.{on_machines}
+use Rattle.kms_model.proofs.Rows.{head, made}
+
+-- what is told of a script and the steps that a text spells
+abbrev told_of : {A : Type 0} → (Script → List Step → A) → A → Result Parts Fault → A
+told_of f none (Err fault) = none
+told_of f none (Ok parts) = f parts.script parts.steps
+
+abbrev told : {A : Type 0} → (Script → List Step → A) → A → List ℕ → A
+told f none bytes = told_of f none (input_of part.Schedule bytes)
+
+-- each step passes another rule
+pub keep : (Script → Machine → Step → Bool) → Script → Machine → List Step → Bool
+keep rule s m [] = true
+keep rule s m (step ∷ steps) = rule s m step && keep rule s (next s m step) steps
+
+abbrev layers : Picture → ℕ
+layers Off = 0
+layers (On shown) = length shown.layers
+
+-- two CRTCs and a plane that may go on both: both are lit, with the plane on the first
+abbrev two_crtcs : List ℕ
+two_crtcs = codes "kms 1\ncrtcs 2\nplane overlay 0,1 XR24\nconn 0\nconn 1\n" ++ made ++ codes "atomic 0x400 0 crtc0.ACTIVE=1 crtc0.MODE_ID=@m conn0.CRTC_ID=crtc0 plane0.FB_ID=@f plane0.CRTC_ID=crtc0 plane0.CRTC_W=1 plane0.CRTC_H=1 plane0.SRC_W=65536 plane0.SRC_H=65536 crtc1.ACTIVE=1 crtc1.MODE_ID=@m conn1.CRTC_ID=crtc1\n"
+
+abbrev both_lit : List ℕ
+both_lit = codes "schedule\nT make 1\nT make 1\nT make 1\nT begin 1\nT lock 1 crtc0\nT lock 1 crtc1\nT lock 1 plane0\nT lock 1 conn0\nT lock 1 conn1\nT swap 1\nT claim 0\nT write 0 crtc0\nT write 0 crtc1\nT write 0 plane0\nT flush 0 crtc0\nT flush 0 crtc1\nT hwdone 0\nT vblank crtc0\nT vblank crtc1\nT cleanup 0\nT return 1\n"
+
+-- A claim that looks at CRTCs alone
+
+-- it is legal as soon as the commits before have settled for the CRTCs that it touches, whatever they do with its planes
+pub may_claim_by_crtcs : Topology → Machine → ℕ → Bool
+may_claim_by_crtcs t m k =
+    nat_lt k (length m.device.commits)
+    && (not (is_claimed m.device k)
+    && (list_all (has_number m.device.signalled) (waited_fences t m.device.commits k)
+    && list_all (λ object. not (commit_touches t m.device.commits k object) || is_settled_for t m k object) (ids_of t Crtc)))
+
+pub by_crtcs : Script → Machine → Step → Bool
+by_crtcs s m (Claim k) = may_claim_by_crtcs s.topology m k
+by_crtcs s m step = may s m step
+
+-- One commit takes the plane off the first CRTC, and another puts it on the second. The second is claimed and written before the
+-- first is: the first commit's words for the plane come last.
+abbrev overtaken : List ℕ
+overtaken = two_crtcs ++ codes "atomic 0x200 0 plane0.FB_ID=0 plane0.CRTC_ID=0\nclient\natomic 0x0 0 plane0.FB_ID=@f plane0.CRTC_ID=crtc1\n" ++ both_lit ++ codes "T begin 1\nT lock 1 plane0\nT lock 1 crtc0\nT swap 1\nT begin 2\nT lock 2 plane0\nT lock 2 crtc1\nT swap 2\nT claim 2\nT write 2 crtc1\nT write 2 plane0\nT claim 1\nT write 1 crtc0\nT write 1 plane0\nT flush 2 crtc1\nT vblank crtc1\n"
+
+-- the steps are legal by that rule
+pub claims_by_crtcs_are_legal : told (λ s h. keep by_crtcs s (first_machine s.topology) h) false overtaken ≡ true
+unfolding on_machines keep by_crtcs may_claim_by_crtcs
+claims_by_crtcs_are_legal = refl
+
+-- The second CRTC latches no layer for the commit that puts the plane on it, where the device of one thread shows one.
+pub claims_by_crtcs_latch_another_picture : told (λ s h. map (λ l. layers l.picture) (latched (at s h) 1)) [] overtaken ≡ 0 ∷ 0 ∷ []
+unfolding on_machines
+claims_by_crtcs_latch_another_picture = refl
+
+pub one_thread_shows_the_plane : told (λ s h. map (λ p. layers p.picture) (show s (journal (at s h)) (object_id Crtc 1))) [] overtaken ≡ 0 ∷ 1 ∷ []
+unfolding on_machines
+one_thread_shows_the_plane = refl
+
+-- A plane that moves from one CRTC straight to another
+
+pub straight : Option ℕ → Bool
+straight None = true
+straight (Some n) = n == 15
+
+-- a swap is legal also where the one thing wrong is that
+pub may_swap_straight : Topology → Machine → ℕ → Request → Bool
+may_swap_straight t m client r = not (is_test r.flags) && (holds_touched t m client r && (straight (verdict t m.device.world r) && (not (is_refused_late t m client r) && is_ready t m r)))
+
+pub straight_moves : Script → Machine → Step → Bool
+straight_moves s m (Swap client) = taking_at s m client (may_swap_straight s.topology m client)
+straight_moves s m step = may s m step
+
+-- one commit moves the plane, and the second CRTC has its vertical blanking first
+abbrev moved_straight : List ℕ
+moved_straight = two_crtcs ++ codes "atomic 0x200 0 plane0.CRTC_ID=crtc1\n" ++ both_lit ++ codes "T begin 1\nT lock 1 plane0\nT lock 1 crtc0\nT lock 1 crtc1\nT swap 1\nT claim 1\nT write 1 crtc0\nT write 1 crtc1\nT write 1 plane0\nT flush 1 crtc0\nT flush 1 crtc1\nT vblank crtc1\n"
+
+pub straight_moves_are_legal : told (λ s h. keep straight_moves s (first_machine s.topology) h) false moved_straight ≡ true
+unfolding on_machines keep straight_moves may_swap_straight straight
+straight_moves_are_legal = refl
+
+-- The first CRTC shows no layer any more, while the last picture that it latched has one.
+pub straight_move_mixes_pictures : told (λ s h. layers (decoded_picture s.topology (at s h).device.live (object_id Crtc 0)) ∷ layers (last_latched (at s h).records.latches 0) ∷ []) [] moved_straight ≡ 0 ∷ 1 ∷ []
+unfolding on_machines
+straight_move_mixes_pictures = refl
+
+-- An older context that backs off at one object, while the younger one waits there
+
+pub is_free_or_younger : Machine → ℕ → Option ℕ → Bool
+is_free_or_younger m ticket None = true
+is_free_or_younger m ticket (Some holder) = nat_lt ticket (ticket_of (doing_at m holder))
+
+-- the rule is turned round at the plane alone
+pub may_lock_turned : Script → Machine → ℕ → ℕ → Bool
+may_lock_turned s m client object =
+    if object == object_id Plane 0
+    then taking_at s m client (λ r. reaches s.topology m.device.world r object) && is_free_or_younger m (ticket_of (doing_at m client)) (holder_at m object)
+    else may_lock s m client object
+
+pub waits_by : (Script → Machine → ℕ → ℕ → Bool) → Script → Machine → ℕ → ℕ → ℕ → Bool
+waits_by rule s m x y object = taking_at s m x (λ r. reaches s.topology m.device.world r object) && (holds m y object && not (rule s m x object))
+
+-- three clients, of which each holds one object and needs that of the next
+abbrev three_clients : List ℕ
+three_clients = head ++ codes "client\natomic 0x100 0 plane0.alpha=1 crtc0.ACTIVE=0\nclient\natomic 0x100 0 crtc0.ACTIVE=0 conn0.CRTC_ID=0\nclient\natomic 0x100 0 conn0.CRTC_ID=0 plane0.alpha=1\nschedule\nT begin 1\nT begin 2\nT begin 3\nT lock 1 plane0\nT lock 2 crtc0\nT lock 3 conn0\n"
+
+pub three_clients_hold_one_object_each : told (λ s h. is_history s h) false three_clients ≡ true
+unfolding on_machines
+three_clients_hold_one_object_each = refl
+
+abbrev waits_in_turn : (Script → Machine → ℕ → ℕ → Bool) → Script → List Step → List Bool
+waits_in_turn rule s h = waits_by rule s (at s h) 1 2 (object_id Crtc 0) ∷ waits_by rule s (at s h) 2 3 (object_id Conn 0) ∷ waits_by rule s (at s h) 3 1 (object_id Plane 0) ∷ []
+
+-- by that rule each of them waits for the next, and the last for the first
+pub turned_rule_has_a_cycle : told (waits_in_turn may_lock_turned) [] three_clients ≡ true ∷ true ∷ true ∷ []
+unfolding on_machines may_lock_turned is_free_or_younger waits_by
+turned_rule_has_a_cycle = refl
+
+-- by the device's rule the youngest backs off instead
+pub device_rule_has_none : told (waits_in_turn may_lock) [] three_clients ≡ true ∷ true ∷ false ∷ []
+unfolding on_machines waits_by
+device_rule_has_none = refl

@@ -1,0 +1,29 @@
+//! How the order of one thread ends.
+ghost use Rattle.kms_laws.specs.Ends.{FinishedIsOver, GeneratedDrains, GeneratedNeverDead, OneIsOver, RoundsAreStill};
+
+/// A round behind a history has no step exactly where the history is drained or dead.
+pub fn rounds_are_still_at_ends()
+    ensures { RoundsAreStill }
+{}
+
+/// A history that is continued to its end by rounds, and by `stall` where it is dead, is a history, and it is drained or
+/// dead.
+pub fn finished_histories_are_over()
+    ensures { FinishedIsOver }
+{}
+
+/// The history that one thread makes of a script, where its rounds end, is a history of the script, and it is drained or
+/// dead.
+pub fn one_is_over()
+    ensures { OneIsOver }
+{}
+
+/// No history of a generated script is dead: it has no `fence` command.
+pub fn generated_scripts_never_stall()
+    ensures { GeneratedNeverDead }
+{}
+
+/// The history that one thread makes of a generated script, where its rounds end, is drained.
+pub fn generated_scripts_drain()
+    ensures { GeneratedDrains }
+{}
