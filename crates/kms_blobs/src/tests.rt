@@ -1,5 +1,6 @@
 use crate::{BadMode, BlobStore, decode_mode, encode_mode};
-use kms_model::{Denied, Mode, NoMemory};
+use kms_model::{Denied, NoMemory};
+use kms_samples::full_hd;
 
 const FULL_HD: [u8; 68] = [
     0x14, 0x44, 0x02, 0x00, 0x80, 0x07, 0xd8, 0x07, 0x04, 0x08, 0x98, 0x08, 0x00, 0x00, 0x38, 0x04,
@@ -7,29 +8,6 @@ const FULL_HD: [u8; 68] = [
     0x40, 0x00, 0x00, 0x00, b'1', b'9', b'2', b'0', b'x', b'1', b'0', b'8', b'0', 0, 0, 0, 0, 0, 0,
     0, 0, 0, 0, 0, 0, 0, 0, 0, 0, 0, 0, 0, 0, 0, 0, 0,
 ];
-
-fn full_hd() -> Mode {
-    Mode {
-        clock: 148500,
-        hdisplay: 1920,
-        hsync_start: 2008,
-        hsync_end: 2052,
-        htotal: 2200,
-        hskew: 0,
-        vdisplay: 1080,
-        vsync_start: 1084,
-        vsync_end: 1089,
-        vtotal: 1125,
-        vscan: 0,
-        vrefresh: 60,
-        flags: 5,
-        kind: 64,
-        name: [
-            b'1', b'9', b'2', b'0', b'x', b'1', b'0', b'8', b'0', 0, 0, 0, 0, 0, 0, 0, 0, 0, 0, 0,
-            0, 0, 0, 0, 0, 0, 0, 0, 0, 0, 0, 0,
-        ],
-    }
-}
 
 #[test]
 fn the_bytes_of_1920x1080_are_read_and_written(rt: HostRuntime) {

@@ -1,5 +1,5 @@
 -- A register file that stands for a machine's device goes on standing for it, step by step of the machine.
-use Rattle.std.proofs.Common.{◌≡◌, ℕ, ◌<◌, List, [], ◌∷◌, Bool, true, false, Option, Some, None, inl, inr, arith, refl, sym, ap, ◌∙◌, subst, if◌then◌else◌}
+use Rattle.std.proofs.Common.{◌≡◌, ℕ, ◌+◌, ◌<◌, List, [], ◌∷◌, Bool, true, false, Option, Some, None, inl, inr, arith, refl, sym, ap, ◌∙◌, subst, if◌then◌else◌}
 use Rattle.std.specs.Prelude.{◌&&◌, ◌==◌, not, nat_le}
 use Rattle.std.proofs.lemmas.Bool.{cases_Bool, false≢true, le-leb}
 use borrow.Author.Tests.{le-ltb, lt-ltb}
@@ -22,11 +22,11 @@ use Rattle.kms_model.specs.Device.World.{thing_labelled}
 use Rattle.kms_model.specs.Machine.Commits.{asks_event, id_of_thing, new_connector, new_crtc, new_plane, out_fence_of}
 use Rattle.kms_model.specs.Machine.Effects.{answers, blanks, counts_vblank, delivers, delivers_if, fence_signalled, flushes, joins_if, latches, latches_picture, locked, made_thing, next, reads, refused, relocked, signalled_by, signals, swapped_state, written_registers}
 use Rattle.kms_model.specs.Machine.Registers.{CrtcWords, Registers, crtc_register, crtc_words, flag_word, is_on_in, plane_register, plane_words, write_crtc, write_plane}
-use Rattle.kms_model.specs.Machine.State.{DeviceState, Machine, command_at, doing_at, go_at, holder_at, request_at, unread_at}
+use Rattle.kms_model.specs.Machine.State.{DeviceState, Machine, command_at, count_at, doing_at, go_at, holder_at, request_at, unread_at}
 use Rattle.kms_model.specs.Machine.Steps.{contended}
 use Rattle.kms_model.specs.Request.Flags.{is_nonblock, wants_event}
 use Rattle.kms_regs.specs.File.{RegisterFile, StandsFor, blanked, flushed, latched, with_shadow}
-use Rattle.kms_regs.specs.StepLaws.{Blanks, Flushes, WritesCrtc, WritesPlane, keeps_registers}
+use Rattle.kms_regs.specs.StepLaws.{Blanks, Flushes, WritesCrtc, WritesPlane, keeps_registers, latch_of}
 
 signalled : (t : Topology) (m : Machine) (fence : Option ℕ) (f : RegisterFile) → StandsFor t m.device f → StandsFor t (signals m fence).device f
 signalled t m None f stands = stands
@@ -155,6 +155,32 @@ flush_follows s m k index old new same stands flushes = flush_stands s.topology 
 pub vblank_follows : (s : Script) (m : Machine) (index : ℕ) (old new : RegisterFile) → StandsFor s.topology m.device old → Blanks old new index → StandsFor s.topology (next s m (Vblank Crtc index)).device new
 unfolding next
 vblank_follows s m index old new stands blanks = blank_stands s.topology m (object_id Crtc index) (go_at m.device (object_id Crtc index)) new refl (blanks s.topology m.device stands)
+
+-- What is recorded of a latch
+
+recorded_signals : (m : Machine) (fence : Option ℕ) → (signals m fence).records.latches ≡ m.records.latches
+recorded_signals m None = refl
+recorded_signals m (Some id) = refl
+
+recorded_delivers : (t : Topology) (m : Machine) (k crtc count : ℕ) (asked : Bool) → (if asked then delivers t m k crtc count else m).records.latches ≡ m.records.latches
+recorded_delivers t m k crtc count true = refl
+recorded_delivers t m k crtc count false = refl
+
+latch_recorded : (t : Topology) (m : Machine) (k crtc count : ℕ) → (latches t m k crtc count).records.latches ≡ latch_of t m.device k crtc count ∷ m.records.latches
+unfolding latches
+latch_recorded t m k crtc count =
+    recorded_signals (delivers_if t (latches_picture t m k crtc count) k crtc count) (out_fence_of t m.device.commits k crtc)
+    ∙ recorded_delivers t (latches_picture t m k crtc count) k crtc count (asks_event t m.device.commits k)
+
+pub flush_recorded : (s : Script) (m : Machine) (k index : ℕ) → (new_crtc s.topology m.device.commits k (object_id Crtc index)).active ≡ false
+    → (next s m (Flush k Crtc index)).records.latches ≡ latch_of s.topology m.device k (object_id Crtc index) (count_at m.device (object_id Crtc index)) ∷ m.records.latches
+unfolding next
+flush_recorded s m k index off = rw off (latch_recorded s.topology _ k (object_id Crtc index) (count_at m.device (object_id Crtc index)))
+
+pub vblank_recorded : (s : Script) (m : Machine) (k index : ℕ) → go_at m.device (object_id Crtc index) ≡ Some k
+    → (next s m (Vblank Crtc index)).records.latches ≡ latch_of s.topology m.device k (object_id Crtc index) (count_at m.device (object_id Crtc index) + 1) ∷ m.records.latches
+unfolding next
+vblank_recorded s m k index has = rw has (latch_recorded s.topology (counts_vblank m (object_id Crtc index)) k (object_id Crtc index) (count_at m.device (object_id Crtc index) + 1))
 
 -- What the calls ask for
 

@@ -1,10 +1,11 @@
 -- What calls make of a register file, and that one which follows each step of a machine stands for the machine after it.
-use Rattle.std.specs.Prelude.{◌≡◌, ℕ, ◌<◌, Bool, true, false, ◌∷◌, Option, Some, None}
-use Rattle.kms_model.specs.Device.Objects.{object_id}
+use Rattle.std.specs.Prelude.{◌≡◌, ℕ, ◌+◌, ◌<◌, Bool, true, false, ◌∷◌, Option, Some, None}
+use Rattle.kms_model.specs.Device.Objects.{index_of, object_id}
 use Rattle.kms_model.specs.declared.objects.Kind.TheVariants.{Crtc, Plane}
 use Rattle.kms_model.specs.declared.objects.Topology.{Topology}
 use Rattle.kms_model.specs.declared.replies.Step.{Step}
 use Rattle.kms_model.specs.declared.replies.Step.TheVariants.{Write, Flush, Vblank}
+use Rattle.kms_model.specs.declared.runs.Latch.{Latch}
 use Rattle.kms_model.specs.declared.scripts.Script.{Script}
 use Rattle.kms_model.specs.declared.states.CrtcState.{CrtcState}
 use Rattle.kms_model.specs.declared.states.PlaneState.{PlaneState}
@@ -81,6 +82,26 @@ FollowsVblank =
     (s : Script) (m : Machine) (index : ℕ) (old new : RegisterFile)
     → StandsFor s.topology m.device old → Blanks old new index
     → StandsFor s.topology (next s m (Vblank Crtc index)).device new
+
+-- What a machine records of a latch: a CRTC that is off latches at its flush, and one with GO at its vertical blanking. The
+-- picture is that of the calls.
+
+abbrev pub latch_of : Topology → DeviceState → ℕ → ℕ → ℕ → Latch
+latch_of t d k crtc count = record { crtc = index_of crtc; commit = k; count = count; picture = latched_picture t d crtc }
+
+abbrev pub FlushIsRecorded : Type 0
+FlushIsRecorded =
+    (s : Script) (m : Machine) (k index : ℕ)
+    → (new_crtc s.topology m.device.commits k (object_id Crtc index)).active ≡ false
+    → (next s m (Flush k Crtc index)).records.latches
+    ≡ latch_of s.topology m.device k (object_id Crtc index) (count_at m.device (object_id Crtc index)) ∷ m.records.latches
+
+abbrev pub VblankIsRecorded : Type 0
+VblankIsRecorded =
+    (s : Script) (m : Machine) (k index : ℕ)
+    → go_at m.device (object_id Crtc index) ≡ Some k
+    → (next s m (Vblank Crtc index)).records.latches
+    ≡ latch_of s.topology m.device k (object_id Crtc index) (count_at m.device (object_id Crtc index) + 1) ∷ m.records.latches
 
 -- the steps that leave the registers as they are
 abbrev pub keeps_registers : Step → Bool

@@ -23,8 +23,7 @@ impl Model for Bank {
 
     ghost Value = { Registers };
 
-    ghost use Rattle.kms_regs.specs.Rewritten.{rewrite_crtc, rewrite_plane};
-ghost use Rattle.kms_regs.specs.Words.{bank_of};
+    ghost use Rattle.kms_regs.specs.Words.{bank_of};
 
     ghost view = { λ s. bank_of s.planes s.crtcs };
 }

@@ -4,8 +4,8 @@ ghost use Rattle.kms_model.specs.Device.Sound.{IsPlaneInRange};
 
 use crate::RegFile;
 use crate::words::{CrtcWords, PlaneWords};
-use kms_model::{CrtcState, FbInfo, Format, Mode, Picture, PlaneState, Rect};
-use kms_samples::{split, tiny};
+use kms_model::{CrtcState, FbInfo, Format, Picture, PlaneState, Rect};
+use kms_samples::{full_hd, split, tiny};
 use std::process::Abort;
 use std::test::Fail;
 
@@ -141,25 +141,7 @@ fn assert_off(rt: &impl Abort, regs: &RegFile, crtc: u32)
 /// The 1920x1080 mode of CEA-861, and the words of its 68 bytes.
 #[test]
 fn the_words_of_a_mode_are_its_bytes(rt: HostRuntime) {
-    let mut name = [0; 32];
-    name[..9].copy_from_slice(b"1920x1080");
-    let mode = Mode {
-        clock: 148500,
-        hdisplay: 1920,
-        hsync_start: 2008,
-        hsync_end: 2052,
-        htotal: 2200,
-        hskew: 0,
-        vdisplay: 1080,
-        vsync_start: 1084,
-        vsync_end: 1089,
-        vtotal: 1125,
-        vscan: 0,
-        vrefresh: 60,
-        flags: 5,
-        kind: 64,
-        name,
-    };
+    let mode = full_hd();
     let state = CrtcState {
         active: true,
         mode: Some(mode),

@@ -1,5 +1,5 @@
 -- Modes, devices and requests that tests are about.
-use Rattle.std.specs.Prelude.{ℕ, pos, List, [], ◌∷◌, replicate}
+use Rattle.std.specs.Prelude.{ℕ, pos, codes, List, [], ◌∷◌, ◌++◌, replicate}
 use Rattle.kms_model.specs.declared.objects.Kind.{Kind}
 use Rattle.kms_model.specs.declared.objects.Kind.TheVariants.{Crtc, Plane, Conn}
 use Rattle.kms_model.specs.declared.objects.Mode.{Mode}
@@ -20,6 +20,26 @@ sized_mode columns rows = plain_mode 1 columns rows (replicate 32 0)
 -- one pixel
 abbrev pub tiny : Mode
 tiny = sized_mode 1 1
+
+-- the 1920x1080 mode of CEA-861
+abbrev pub full_hd : Mode
+full_hd = record {
+  clock = 148500;
+  hdisplay = 1920;
+  hsync_start = 2008;
+  hsync_end = 2052;
+  htotal = 2200;
+  hskew = 0;
+  vdisplay = 1080;
+  vsync_start = 1084;
+  vsync_end = 1089;
+  vtotal = 1125;
+  vscan = 0;
+  vrefresh = 60;
+  flags = 5;
+  kind = 64;
+  name = codes "1920x1080" ++ replicate 23 0;
+}
 
 -- a primary plane of some CRTCs that takes XR24 alone
 abbrev pub plane_of : ℕ → PlaneInfo

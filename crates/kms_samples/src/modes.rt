@@ -1,6 +1,10 @@
 //! Modes. (Header: `drm_mode.h`, `struct drm_mode_modeinfo`.)
 ghost use Rattle.std.specs.Prelude.{◌≡◌};
+<<<<<<< HEAD
 ghost use Rattle.kms_samples.specs.Samples.{sized_mode, tiny};
+=======
+ghost use Rattle.kms_samples.specs.Samples.{full_hd, mode_of, tiny};
+>>>>>>> 5a10deccfa2fb41db2a8a5fa41327ba4d3bea736
 
 use kms_model::Mode;
 
@@ -32,4 +36,30 @@ pub fn tiny() -> Mode
     ensures { result ≡ tiny }
 {
     sized_mode(1, 1)
+}
+
+/// The 1920x1080 mode of CEA-861, at 60 Hz.
+pub fn full_hd() -> Mode
+    ensures { result ≡ full_hd }
+{
+    Mode {
+        clock: 148500,
+        hdisplay: 1920,
+        hsync_start: 2008,
+        hsync_end: 2052,
+        htotal: 2200,
+        hskew: 0,
+        vdisplay: 1080,
+        vsync_start: 1084,
+        vsync_end: 1089,
+        vtotal: 1125,
+        vscan: 0,
+        vrefresh: 60,
+        flags: 5,
+        kind: 64,
+        name: [
+            b'1', b'9', b'2', b'0', b'x', b'1', b'0', b'8', b'0', 0, 0, 0, 0, 0, 0, 0, 0, 0, 0, 0,
+            0, 0, 0, 0, 0, 0, 0, 0, 0, 0, 0, 0,
+        ],
+    }
 }

@@ -1,9 +1,9 @@
 -- What a check gives for an accepted request is what a tracker is told of its commit.
-use Rattle.std.proofs.Common.{◌≡◌, ◌≢◌, ℕ, ◌-◌, ◌<◌, ◌≤◌, List, length, map, get_or, Bool, true, false, Option, Some, None, inl, inr, arith, refl, sym, ap, ◌∙◌}
-use Rattle.std.specs.Prelude.{◌==◌, ◌&&◌, ◌||◌, nat_lt, is_some, slice_get, if◌then◌else◌}
+use Rattle.std.proofs.Common.{◌≡◌, ◌≢◌, ℕ, ◌-◌, ◌<◌, ◌≤◌, List, map, get_or, Bool, true, false, Option, Some, None, inl, inr, arith, refl, sym, ap, ◌∙◌}
+use Rattle.std.specs.Prelude.{◌==◌, ◌&&◌, ◌||◌, nat_lt, is_some, slice_get}
+use Rattle.std.specs.Option.{option_flatten}
 use Rattle.std.proofs.lemmas.Bool.{and_parts, cases_Bool, cases_eq, cases_lt, eq-eqb, false≢true, ltb-true, ne_eqb}
-use Rattle.std.proofs.Math.ListN.{get_or-eq_default}
-use Rattle.std.proofs.lemmas.Option.{slice_get-get_or}
+use Rattle.std.proofs.lemmas.Option.{get_or_from_slice_get}
 use borrow.Author.Tests.{le-ltb, lt-ltb}
 use Rattle.kms_model.specs.declared.objects.Kind.{Kind}
 use Rattle.kms_model.specs.declared.objects.Kind.TheVariants.{Crtc, Plane, Conn}
@@ -25,6 +25,7 @@ use Rattle.kms_model.specs.Machine.Commits.{is_on_before_or_after, new_values, o
 use Rattle.kms_model.specs.Machine.State.{Commit}
 use Rattle.kms_model.specs.Request.Apply.{after}
 use Rattle.kms_model.specs.Request.Deciding.{IsChecked}
+use Rattle.kms_model.specs.Request.Late.{duplicate_at}
 use Rattle.kms_model.specs.Request.Lookups.{look_up}
 use Rattle.kms_model.specs.Request.Named.{moves_on}
 use Rattle.kms_model.specs.Request.Sets.{in_fences}
@@ -38,7 +39,7 @@ use Rattle.kms_model.proofs.TouchedLemmas.{HasFewObjects, few_objects}
 use Rattle.kms_track.specs.declared.places.Sides.{Sides}
 use Rattle.kms_track.specs.InStep.{IsCheckedFor, IsWithinPlaces, is_on}
 use Rattle.kms_track.specs.Places.{connector_sides, crtc_id, is_side, mask_has, object_at, plane_sides, sides_at}
-use Rattle.kms_track.specs.StepLaws.{HasStates, has_states}
+use Rattle.kms_track.specs.StepLaws.{HasStates}
 use Rattle.kms_track.proofs.There.{crtc_off, on_index}
 
 pub device_within : (t : Topology) → IsDevice t → IsWithinPlaces t
@@ -80,16 +81,13 @@ record Stands {S : Type 0} (states : List (Option (Both S))) (i : ℕ) : Type 0 
   pub there : slice_get states i ≡ Some (Some both)
   pub read : get_or states i None ≡ Some both
 
-stands_at : {S : Type 0} (states : List (Option (Both S))) (i : ℕ) → is_some (get_or states i None) ≡ true → Stands states i
-stands_at {S} states i some =
-    elim (cases_lt i (length states)) [
-      | inl within ↦ of_slot (get_or states i None) refl (slice_get-get_or states i None within) some
-      | inr past ↦ absurd (false≢true (sym (ap (λ (o : Option (Both S)). is_some o) (get_or-eq_default states None past)) ∙ some))
-    ]
+stands_at : {S : Type 0} (states : List (Option (Both S))) (i : ℕ) → is_some (duplicate_at states i) ≡ true → Stands states i
+stands_at {S} states i some = of_slot (slice_get states i) refl some
   where
-    of_slot : (o : Option (Both S)) → get_or states i None ≡ o → slice_get states i ≡ Some (get_or states i None) → is_some o ≡ true → Stands states i
-    of_slot None is there some = absurd (false≢true some)
-    of_slot (Some both) is there some = record { both = both; there = there ∙ ap (λ (o : Option (Both S)). Some o) is; read = is }
+    of_slot : (o : Option (Option (Both S))) → slice_get states i ≡ o → is_some (option_flatten o) ≡ true → Stands states i
+    of_slot None is some = absurd (false≢true some)
+    of_slot (Some None) is some = absurd (false≢true some)
+    of_slot (Some (Some both)) is some = record { both = both; there = is; read = get_or_from_slice_get states i (Some both) None is }
 
 -- no object is on a CRTC beyond the device
 not_beyond : (t : Topology) (id i : ℕ) → IsCrtcOrNone t id → count_of t Crtc ≤ i → (id == crtc_id i) ≡ false
@@ -140,7 +138,7 @@ module _ (t : Topology) (c : Commit) (checked : Checked) (device : IsDevice t) (
       ap (λ k. is_on t (crtc_id i) && is_on_before_or_after k c (object_id Crtc p) (crtc_id i)) (kind_of-object Crtc p (omega (arith, low)))
       ∙ crtc_is_side t p i low few (on_index t Crtc p (omega (arith, low)) ∙ there)
 
-  on_plane : (j i : ℕ) → j < 16 → i < 4 → has_bit checked.touched.planes j ≡ true → is_some (get_or checked.states.planes j None) ≡ true
+  on_plane : (j i : ℕ) → j < 16 → i < 4 → has_bit checked.touched.planes j ≡ true → is_some (duplicate_at checked.states.planes j) ≡ true
       → (is_on t (crtc_id i) && is_on_before_or_after (kind_of (object_id Plane j)) c (object_id Plane j) (crtc_id i)) ≡ is_side (plane_sides (get_or checked.states.planes j None)) (crtc_id i)
   on_plane j i low few has some =
       let there : Stands checked.states.planes j = stands_at checked.states.planes j some in
@@ -152,7 +150,7 @@ module _ (t : Topology) (c : Commit) (checked : Checked) (device : IsDevice t) (
       (ap (λ (s : PlaneState). s.crtc) (is.old.planes j there.both there.there)) (ap (λ (s : PlaneState). s.crtc) (is.new.planes j there.both there.there))
       ∙ ap (λ (o : Option (Both PlaneState)). is_side (plane_sides o) (crtc_id i)) (sym there.read))
 
-  on_connector : (j i : ℕ) → j < 8 → i < 4 → has_bit checked.touched.conns j ≡ true → is_some (get_or checked.states.conns j None) ≡ true
+  on_connector : (j i : ℕ) → j < 8 → i < 4 → has_bit checked.touched.conns j ≡ true → is_some (duplicate_at checked.states.conns j) ≡ true
       → (is_on t (crtc_id i) && is_on_before_or_after (kind_of (object_id Conn j)) c (object_id Conn j) (crtc_id i)) ≡ is_side (connector_sides (get_or checked.states.conns j None)) (crtc_id i)
   on_connector j i low few has some =
       let there : Stands checked.states.conns j = stands_at checked.states.conns j some in
@@ -164,14 +162,14 @@ module _ (t : Topology) (c : Commit) (checked : Checked) (device : IsDevice t) (
       (ap (λ (s : ConnState). s.crtc) (is.old.conns j there.both there.there)) (ap (λ (s : ConnState). s.crtc) (is.new.conns j there.both there.there))
       ∙ ap (λ (o : Option (Both ConnState)). is_side (connector_sides o) (crtc_id i)) (sym there.read))
 
-  on_place_side : (p i : ℕ) → p < 28 → i < 4 → mask_has checked.touched p ≡ true → has_states checked.states p ≡ true
+  on_place_side : (p i : ℕ) → p < 28 → i < 4 → mask_has checked.touched p ≡ true
       → (is_on t (crtc_id i) && is_on_before_or_after (kind_of (object_at p)) c (object_at p) (crtc_id i)) ≡ is_side (sides_at checked.states p) (crtc_id i)
-  on_place_side p i place few has some =
+  on_place_side p i place few has =
       elim (cases_lt p 4) [
         | inl crtc ↦ rw (lt-ltb p 4 crtc) (on_crtc p i crtc few (rw (lt-ltb p 4 crtc) at has))
         | inr other ↦ elim (cases_lt p 20) [
-          | inl plane ↦ rw (le-ltb p 4 other, lt-ltb p 20 plane) (on_plane (p - 4) i (omega (arith, plane, other)) few (rw (le-ltb p 4 other, lt-ltb p 20 plane) at has) (rw (le-ltb p 4 other, lt-ltb p 20 plane) at some))
-          | inr conn ↦ rw (le-ltb p 4 other, le-ltb p 20 conn) (on_connector (p - 20) i (omega (arith, place, conn)) few (rw (le-ltb p 4 other, le-ltb p 20 conn) at has) (rw (le-ltb p 4 other, le-ltb p 20 conn) at some))
+          | inl plane ↦ rw (le-ltb p 4 other, lt-ltb p 20 plane) (on_plane (p - 4) i (omega (arith, plane, other)) few (rw (le-ltb p 4 other, lt-ltb p 20 plane) at has) (states.planes (p - 4) (omega (arith, plane, other)) (rw (le-ltb p 4 other, lt-ltb p 20 plane) at has)))
+          | inr conn ↦ rw (le-ltb p 4 other, le-ltb p 20 conn) (on_connector (p - 20) i (omega (arith, place, conn)) few (rw (le-ltb p 4 other, le-ltb p 20 conn) at has) (states.conns (p - 20) (omega (arith, place, conn)) (rw (le-ltb p 4 other, le-ltb p 20 conn) at has)))
         ]
       ]
 
@@ -179,6 +177,6 @@ module _ (t : Topology) (c : Commit) (checked : Checked) (device : IsDevice t) (
   pub checked_for : (fences : List ℕ) → map (λ f. f.1) (in_fences t (look_up c.world) c.request.assigns) ≡ fences → IsCheckedFor t c checked fences
   checked_for fences are = record {
     touched = λ p place. in_touched t c.world c.request p place ∙ sym (mask_is p);
-    on = λ p crtc place few has. on_place_side p crtc place few has (states p place has);
+    on = λ p crtc place few has. on_place_side p crtc place few has;
     fences_are = are;
   }

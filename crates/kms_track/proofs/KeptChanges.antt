@@ -105,73 +105,82 @@ same_number n b = rw (eq-eqb n n refl) refl
 other_number : (n k : ℕ) (b : Bool) → (n == k) ≡ false → ((n == k) || b) ≡ b
 other_number n k b apart = rw apart refl
 
--- Claimed
+-- Claimed, or done
 
-claimed_here : (told : Told) (n : ℕ) (o : Option Pending) → KeepsCommit told n o → KeepsCommit (told_claim told n) n (mapped with_claim o)
-claimed_here told n None kept = (kept.0, record { claimed = same_number n (told.claimed n); hw_done = kept.1.hw_done; flipped = kept.1.flipped })
-claimed_here told n (Some c) kept = (
-  kept.0,
-  record {
-    claimed = sym (same_number n (told.claimed n));
-    hw_done = kept.1.hw_done;
-    latched = kept.1.latched;
-    size = kept.1.size;
-    touched = λ p place. keeps_object told (told_claim told n) n (object_at p) (get_or c.touched p None) refl refl (λ crtc. refl) (kept.1.touched p place);
-    fences = kept.1.fences;
-  },
-)
+-- what was told with other marks of claims and of what is done
+abbrev pub told_marks : Told → (ℕ → Bool) → (ℕ → Bool) → Told
+told_marks told claimed hw_done = record told { claimed = claimed; hw_done = hw_done }
+
+-- a change of a commit's marks is that of what was told, and no mark falls back
+record IsMark (told : Told) (claimed hw_done : ℕ → Bool) (n : ℕ) (f : Pending → Pending) : Type 0 where
+  pub claimed_still : told.claimed n ≡ true → claimed n ≡ true
+  pub done_still : told.hw_done n ≡ true → hw_done n ≡ true
+  pub claimed_now : (c : Pending) → c.claimed ≡ told.claimed n → (f c).claimed ≡ claimed n
+  pub done_now : (c : Pending) → c.hw_done ≡ told.hw_done n → (f c).hw_done ≡ hw_done n
+  pub rest : (c : Pending) → (f c) ≡ record c { claimed = (f c).claimed; hw_done = (f c).hw_done }
+  pub claimed_others : (k : ℕ) → (n == k) ≡ false → claimed k ≡ told.claimed k
+  pub done_others : (k : ℕ) → (n == k) ≡ false → hw_done k ≡ told.hw_done k
+
+marked_here : (told : Told) (claimed hw_done : ℕ → Bool) (n : ℕ) (f : Pending → Pending) → IsMark told claimed hw_done n f → (o : Option Pending) → KeepsCommit told n o → KeepsCommit (told_marks told claimed hw_done) n (mapped f o)
+marked_here told claimed hw_done n f mark None kept = (kept.0, record { claimed = mark.claimed_still kept.1.claimed; hw_done = mark.done_still kept.1.hw_done; flipped = kept.1.flipped })
+marked_here told claimed hw_done n f mark (Some c) kept =
+    subst (λ (x : Pending). KeepsCommit (told_marks told claimed hw_done) n (Some x)) (sym (mark.rest c)) (
+      kept.0,
+      record {
+        claimed = mark.claimed_now c kept.1.claimed;
+        hw_done = mark.done_now c kept.1.hw_done;
+        latched = kept.1.latched;
+        size = kept.1.size;
+        touched = λ p place. keeps_object told (told_marks told claimed hw_done) n (object_at p) (get_or c.touched p None) refl refl (λ crtc. refl) (kept.1.touched p place);
+        fences = kept.1.fences;
+      },
+    )
+
+keeps_marks : (told : Told) (claimed hw_done : ℕ → Bool) (v : Tracking) (n : ℕ) (f : Pending → Pending) → IsMark told claimed hw_done n f → Keeps told v → Keeps (told_marks told claimed hw_done) (changed v n f)
+keeps_marks told claimed hw_done v n f mark keeps = record {
+  count = keeps.count;
+  below = changed_below v.pending.slots v.count n f (commit_of v n) keeps.below;
+  last = keeps.last;
+  before = keeps.before;
+  commits = commits_changed told (told_marks told claimed hw_done) v n f keeps.commits (marked_here told claimed hw_done n f mark) (λ k apart. record {
+    touches = λ object. refl;
+    previous_same = λ object. refl;
+    concerns = λ object crtc. refl;
+    fences_same = refl;
+    claimed = mark.claimed_others k apart;
+    hw_done = mark.done_others k apart;
+    latched = λ crtc. refl;
+    cleaned = refl;
+  });
+}
 
 pub keeps_claim : (told : Told) (v : Tracking) (n : ℕ) → Keeps told v → Keeps (told_claim told n) (changed v n with_claim)
-keeps_claim told v n keeps = record {
-  count = keeps.count;
-  below = changed_below v.pending.slots v.count n with_claim (commit_of v n) keeps.below;
-  last = keeps.last;
-  before = keeps.before;
-  commits = commits_changed told (told_claim told n) v n with_claim keeps.commits (claimed_here told n) (λ k apart. record {
-    touches = λ object. refl;
-    previous_same = λ object. refl;
-    concerns = λ object crtc. refl;
-    fences_same = refl;
-    claimed = other_number n k (told.claimed k) apart;
-    hw_done = refl;
-    latched = λ crtc. refl;
-    cleaned = refl;
-  });
-}
-
--- Done
-
-done_here : (told : Told) (n : ℕ) (o : Option Pending) → KeepsCommit told n o → KeepsCommit (told_hw_done told n) n (mapped with_done o)
-done_here told n None kept = (kept.0, record { claimed = kept.1.claimed; hw_done = same_number n (told.hw_done n); flipped = kept.1.flipped })
-done_here told n (Some c) kept = (
-  kept.0,
-  record {
-    claimed = kept.1.claimed;
-    hw_done = sym (same_number n (told.hw_done n));
-    latched = kept.1.latched;
-    size = kept.1.size;
-    touched = λ p place. keeps_object told (told_hw_done told n) n (object_at p) (get_or c.touched p None) refl refl (λ crtc. refl) (kept.1.touched p place);
-    fences = kept.1.fences;
-  },
-)
+keeps_claim told v n keeps = keeps_marks told (told_claim told n).claimed told.hw_done v n with_claim mark keeps
+  where
+    mark : IsMark told (told_claim told n).claimed told.hw_done n with_claim
+    mark = record {
+      claimed_still = λ is. same_number n (told.claimed n);
+      done_still = λ is. is;
+      claimed_now = λ c is. sym (same_number n (told.claimed n));
+      done_now = λ c is. is;
+      rest = λ c. refl;
+      claimed_others = λ k apart. other_number n k (told.claimed k) apart;
+      done_others = λ k apart. refl;
+    }
 
 pub keeps_hw_done : (told : Told) (v : Tracking) (n : ℕ) → Keeps told v → Keeps (told_hw_done told n) (changed v n with_done)
-keeps_hw_done told v n keeps = record {
-  count = keeps.count;
-  below = changed_below v.pending.slots v.count n with_done (commit_of v n) keeps.below;
-  last = keeps.last;
-  before = keeps.before;
-  commits = commits_changed told (told_hw_done told n) v n with_done keeps.commits (done_here told n) (λ k apart. record {
-    touches = λ object. refl;
-    previous_same = λ object. refl;
-    concerns = λ object crtc. refl;
-    fences_same = refl;
-    claimed = refl;
-    hw_done = other_number n k (told.hw_done k) apart;
-    latched = λ crtc. refl;
-    cleaned = refl;
-  });
-}
+keeps_hw_done told v n keeps = keeps_marks told told.claimed (told_hw_done told n).hw_done v n with_done mark keeps
+  where
+    mark : IsMark told told.claimed (told_hw_done told n).hw_done n with_done
+    mark = record {
+      claimed_still = λ is. is;
+      done_still = λ is. same_number n (told.hw_done n);
+      claimed_now = λ c is. is;
+      done_now = λ c is. sym (same_number n (told.hw_done n));
+      rest = λ c. refl;
+      claimed_others = λ k apart. refl;
+      done_others = λ k apart. other_number n k (told.hw_done k) apart;
+    }
 
 -- Latched
 

@@ -12,3 +12,4 @@ pub mod MachineAnswers
 pub mod StepLemmas
 pub mod NotYetAnswers
 pub mod CheckedLemmas
+mod OneCrtc

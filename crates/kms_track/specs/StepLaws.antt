@@ -1,5 +1,5 @@
 -- That a tracker which is told of each step of a machine stands for the machine after it.
-use Rattle.std.specs.Prelude.{◌≡◌, ℕ, ◌-◌, ◌<◌, ◌&&◌, ◌||◌, nat_lt, Bool, true, false, List, length, map, is_some, slice_index_or, Some, None, if◌then◌else◌}
+use Rattle.std.specs.Prelude.{◌≡◌, ℕ, ◌<◌, ◌&&◌, Bool, true, false, List, length, map, is_some, Some, None}
 use Rattle.kms_model.specs.declared.objects.Kind.TheVariants.{Crtc}
 use Rattle.kms_model.specs.declared.objects.Topology.{Topology}
 use Rattle.kms_model.specs.declared.replies.Step.{Step}
@@ -7,15 +7,16 @@ use Rattle.kms_model.specs.declared.replies.Step.TheVariants.{Swap, Claim, Flush
 use Rattle.kms_model.specs.declared.scripts.Request.{Request}
 use Rattle.kms_model.specs.declared.scripts.Script.{Script}
 use Rattle.kms_model.specs.declared.states.Checked.{Checked}
-use Rattle.kms_model.specs.declared.states.Duplicates.{Duplicates}
 use Rattle.kms_model.specs.declared.worlds.World.{World}
 use Rattle.kms_model.specs.Device.Objects.{object_id, ids_of}
+use Rattle.kms_model.specs.Device.Masks.{has_bit}
 use Rattle.kms_model.specs.Device.Sound.{IsDevice, IsSound}
 use Rattle.kms_model.specs.Machine.Commits.{commit_concerns, commit_names, commit_touches, is_claimed, is_hw_done, lockable, new_crtc}
 use Rattle.kms_model.specs.Machine.Effects.{next}
 use Rattle.kms_model.specs.Machine.Histories.{legal}
 use Rattle.kms_model.specs.Machine.State.{Commit, DeviceState, Machine, go_at, place_at, request_at}
 use Rattle.kms_model.specs.Request.Deciding.{IsChecked}
+use Rattle.kms_model.specs.Request.Late.{duplicate_at}
 use Rattle.kms_model.specs.Request.Lookups.{look_up}
 use Rattle.kms_model.specs.Request.Sets.{in_fences}
 use Rattle.kms_model.specs.Request.Touched.{touched_by, touches}
@@ -109,15 +110,10 @@ FollowsTheOthers =
 
 -- What a check gives
 
--- the object at a place is a CRTC, or has both states
-abbrev pub has_states : Duplicates → ℕ → Bool
-has_states states p =
-    nat_lt p 4
-    || (if nat_lt p 20 then is_some (slice_index_or states.planes (p - 4) None) else is_some (slice_index_or states.conns (p - 20) None))
-
--- what is touched has
-abbrev pub HasStates : Checked → Type 0
-HasStates checked = (p : ℕ) → p < 28 → mask_has checked.touched p ≡ true → has_states checked.states p ≡ true
+-- the planes and connectors that were checked as touched have both states
+pub record HasStates (checked : Checked) : Type 0 where
+  pub planes : (i : ℕ) → i < 16 → has_bit checked.touched.planes i ≡ true → is_some (duplicate_at checked.states.planes i) ≡ true
+  pub conns : (i : ℕ) → i < 8 → has_bit checked.touched.conns i ≡ true → is_some (duplicate_at checked.states.conns i) ≡ true
 
 -- What was checked of an accepted request, in a sound world, is what a tracker is told of its commit.
 abbrev pub ChecksAreFollowed : Type 0
