@@ -1,0 +1,5 @@
+pub mod Bits
+pub mod Places
+pub mod Lefts
+pub mod InStepLemmas
+pub mod Queries
