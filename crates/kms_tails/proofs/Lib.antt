@@ -3,3 +3,4 @@ pub mod Places
 pub mod Lefts
 pub mod InStepLemmas
 pub mod Queries
+pub mod StepLemmas

@@ -1,5 +1,5 @@
 -- When tails stand for the commits of a machine that are not cleaned.
-use Rattle.std.specs.Prelude.{◌≡◌, ℕ, ◌<◌, ◌≤◌, ◌||◌, Bool, IsTrue, true, false, List, length, is_some, slice_index_or, Option, Some, None}
+use Rattle.std.specs.Prelude.{◌≡◌, ℕ, ◌<◌, ◌≤◌, ◌||◌, Bool, IsTrue, true, false, List, ◌∷◌, length, is_some, slice_index_or, Option, Some, None}
 use Rattle.kms_model.specs.declared.objects.Kind.TheVariants.{Crtc, Plane}
 use Rattle.kms_model.specs.declared.objects.Topology.{Topology}
 use Rattle.kms_model.specs.declared.runs.Latch.{Latch}
@@ -80,11 +80,42 @@ pub record AreTailsOf (t : Topology) (commits : List Commit) (marks : Marks) (la
 abbrev pub IsInStep : Topology → Machine → Rooms Tail → Type 0
 IsInStep t m v = AreTailsOf t m.device.commits m.device.marks m.records.latches v
 
+-- The marks after a step of a tail
+
+abbrev pub with_claimed : ℕ → Marks → Marks
+with_claimed k marks = record marks { claimed = k ∷ marks.claimed }
+
+abbrev pub with_written : ℕ → ℕ → Marks → Marks
+with_written k object marks = record marks { written = (k, object) ∷ marks.written }
+
+abbrev pub with_flushed : ℕ → ℕ → Marks → Marks
+with_flushed k crtc marks = record marks { flushed = (k, crtc) ∷ marks.flushed }
+
+abbrev pub with_done : ℕ → Marks → Marks
+with_done k marks = record marks { done = k ∷ marks.done }
+
+abbrev pub with_cleaned : ℕ → Marks → Marks
+with_cleaned k marks = record marks { cleaned = k ∷ marks.cleaned }
+
 -- What stands for commits stands for them after a step of the commit with a number, which changes the marks.
 abbrev pub StandsAfter : ℕ → Rooms Tail → Rooms Tail → (Marks → Marks) → Type 0
 StandsAfter k old new change =
     (t : Topology) (commits : List Commit) (marks : Marks) (latches : List Latch)
     → k < length commits → AreTailsOf t commits marks latches old → AreTailsOf t commits (change marks) latches new
+
+-- It does so after a latch of this commit at the CRTC with an index.
+abbrev pub StandsAfterLatch : ℕ → ℕ → Rooms Tail → Rooms Tail → Type 0
+StandsAfterLatch k index old new =
+    (t : Topology) (commits : List Commit) (marks : Marks) (latches : List Latch) (l : Latch)
+    → k < length commits → l.commit ≡ k → l.crtc ≡ index → AreTailsOf t commits marks latches old
+    → AreTailsOf t commits marks (l ∷ latches) new
+
+-- It does so after a swap, which sets the commit with the next number up.
+abbrev pub StandsAfterSwap : ℕ → ℕ → Request → Checked → List (Option ℕ) → Rooms Tail → Rooms Tail → Type 0
+StandsAfterSwap k client r checked out_fences old new =
+    (t : Topology) (c : Commit) (commits : List Commit) (marks : Marks) (latches : List Latch)
+    → k ≡ length commits → IsTailFor t c client r checked out_fences → AreTailsOf t commits marks latches old
+    → AreTailsOf t (c ∷ commits) marks latches new
 
 -- Room that is made leaves them standing.
 abbrev pub StandsAlike : Rooms Tail → Rooms Tail → Type 0

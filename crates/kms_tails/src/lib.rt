@@ -9,12 +9,14 @@
 //! (Kernel: `drm_atomic_helper.c`, `drm_atomic_helper_commit_tail`; `struct drm_atomic_state`, `struct drm_crtc_commit`.)
 #![tactic(auto)]
 
+mod law;
 mod progress;
 mod tail;
 mod tails;
 #[cfg(test)]
 mod tests;
 
+pub use law::follow_the_machine;
 pub use progress::Progress;
 pub use tail::Tail;
 pub use tails::Tails;

@@ -8,7 +8,7 @@ ghost use Rattle.kms_model.specs.Machine.Commits.{commit_at};
 ghost use Rattle.kms_model.specs.Machine.State.{Commit, Marks, no_marks};
 ghost use Rattle.kms_model.specs.Stores.Tables.{AreBelow, IsRising, slot, slot_ids, value_with_id, without_id};
 ghost use Rattle.kms_tails.specs.declared.progress.Mark.TheVariants as mark;
-ghost use Rattle.kms_tails.specs.InStep.{AreTailsOf, HasRegisters, IsFirstFrom, IsKept, IsTailFor, StandsAfter, StandsAlike};
+ghost use Rattle.kms_tails.specs.InStep.{AreTailsOf, HasRegisters, IsFirstFrom, IsKept, StandsAfter, StandsAfterLatch, StandsAfterSwap, StandsAlike, with_claimed, with_cleaned, with_done, with_flushed, with_written};
 ghost use Rattle.kms_tails.specs.Remaining.{IsMark, first_from, first_tail, marked, no_tails};
 
 use crate::progress::{Mark, Progress};
@@ -79,9 +79,8 @@ impl Tails {
         ensures slots { OnOk result (self.new.slots ≡ self.old.slots
             ++ slot commit (first_tail client request.now checked.now out_fences) ∷ []) }
         ensures room { OnOk result (self.old.room ≤ self.new.room + 1) }
-        ensures stands { OnOk result ((t : Topology) (c : Commit) (commits : List Commit) (marks : Marks) (latches : List Latch)
-            → commit ≡ length commits → IsTailFor t c client request.now checked.now out_fences
-            → AreTailsOf t commits marks latches self.old → AreTailsOf t (c ∷ commits) marks latches self.new) }
+        ensures stands { OnOk result (StandsAfterSwap commit client request.now checked.now out_fences
+            self.old self.new) }
         ensures there { 0 < self.old.room → IsOk result }
         ensures err { OnErr result (self.new ≡ self.old) }
     {
@@ -126,8 +125,7 @@ impl Tails {
     /// A worker claims a commit, if it is not cleaned. (Kernel: `commit_work`.)
     pub fn claim(&mut self, commit: u32)
         ensures marked { self.new ≡ marked self.old commit mark.Claimed }
-        ensures stands { StandsAfter commit self.old self.new
-            (λ marks. record marks { claimed = commit ∷ marks.claimed }) }
+        ensures stands { StandsAfter commit self.old self.new (with_claimed commit) }
     {
         self.mark(commit, Mark::Claimed);
     }
@@ -137,8 +135,7 @@ impl Tails {
     pub fn wrote(&mut self, commit: u32, id: ObjId)
         requires { HasRegisters id.0 }
         ensures room { self.new.room ≡ self.old.room }
-        ensures stands { StandsAfter commit self.old self.new
-            (λ marks. record marks { written = (commit, id.0) ∷ marks.written }) }
+        ensures stands { StandsAfter commit self.old self.new (with_written commit id.0) }
     {
         let index = id.index();
         if id.is_crtc() {
@@ -152,8 +149,7 @@ impl Tails {
     pub fn flushed(&mut self, commit: u32, crtc: u32)
         requires { crtc < 4 }
         ensures marked { self.new ≡ marked self.old commit (mark.Flushed crtc) }
-        ensures stands { StandsAfter commit self.old self.new
-            (λ marks. record marks { flushed = (commit, object_id Crtc crtc) ∷ marks.flushed }) }
+        ensures stands { StandsAfter commit self.old self.new (with_flushed commit (object_id Crtc crtc)) }
     {
         self.mark(commit, Mark::Flushed(crtc));
     }
@@ -162,8 +158,7 @@ impl Tails {
     /// `drm_atomic_helper_commit_hw_done`.)
     pub fn hw_done(&mut self, commit: u32)
         ensures marked { self.new ≡ marked self.old commit mark.Done }
-        ensures stands { StandsAfter commit self.old self.new
-            (λ marks. record marks { done = commit ∷ marks.done }) }
+        ensures stands { StandsAfter commit self.old self.new (with_done commit) }
     {
         self.mark(commit, Mark::Done);
     }
@@ -173,9 +168,7 @@ impl Tails {
     pub fn latched(&mut self, commit: u32, crtc: u32)
         requires { crtc < 4 }
         ensures marked { self.new ≡ marked self.old commit (mark.Latched crtc) }
-        ensures stands { (t : Topology) (commits : List Commit) (marks : Marks) (latches : List Latch) (l : Latch)
-            → commit < length commits → l.commit ≡ commit → l.crtc ≡ crtc → AreTailsOf t commits marks latches self.old
-            → AreTailsOf t commits marks (l ∷ latches) self.new }
+        ensures stands { StandsAfterLatch commit crtc self.old self.new }
     {
         self.mark(commit, Mark::Latched(crtc));
     }
@@ -185,8 +178,7 @@ impl Tails {
     pub fn remove(&mut self, commit: u32)
         ensures slots { self.new.slots ≡ without_id self.old.slots commit }
         ensures room { self.old.room ≤ self.new.room }
-        ensures stands { StandsAfter commit self.old self.new
-            (λ marks. record marks { cleaned = commit ∷ marks.cleaned }) }
+        ensures stands { StandsAfter commit self.old self.new (with_cleaned commit) }
     {
         match place_of(self.slots.as_slice(), commit) {
             Some(i) => {
