@@ -4,3 +4,4 @@ pub mod Lefts
 pub mod InStepLemmas
 pub mod Queries
 pub mod StepLemmas
+pub mod Counts

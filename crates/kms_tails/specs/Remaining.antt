@@ -1,6 +1,6 @@
 -- What the tails of commits still need, as contracts see it. From: `drm_atomic_helper.c`, drm_atomic_helper_commit_tail: the
 -- planes and CRTCs of a commit are written, its CRTCs are flushed, it is done, and it is cleaned up.
-use Rattle.std.specs.Prelude.{ℕ, ◌+◌, ◌*◌, ◌^◌, ◌%◌, ◌<◌, ◌&&◌, not, nat_le, Bool, true, false, List, [], map, find, bit_or, Option, Some, None}
+use Rattle.std.specs.Prelude.{ℕ, zero, suc, ◌+◌, ◌*◌, ◌^◌, ◌%◌, ◌<◌, ◌&&◌, not, nat_le, Bool, true, false, List, [], ◌∷◌, map, find, slice_index_or, if◌then◌else◌, bit_or, Option, Some, None}
 use Rattle.std.specs.List.{range_with_len}
 use Rattle.std.specs.Option.{option_map, option_map_or}
 use Rattle.kms_model.specs.declared.objects.Kind.TheVariants.{Conn, Crtc, Plane}
@@ -63,6 +63,40 @@ next_flush_of x = first_left x.checked.named x.progress.flushed 4
 
 abbrev pub next_latch_of : Tail → Option ℕ
 next_latch_of x = first_left x.checked.named x.progress.latched 4
+
+-- How many steps are left: a cleanup, a claim and the end of writing, a write of each object that is touched, a flush of each
+-- CRTC that is named, and a latch at each of these that is on afterwards. One that is off latches as it is flushed.
+
+abbrev pub one_if : Bool → ℕ
+one_if b = if b then 1 else 0
+
+-- how many of the first n indices pass a test
+unfoldable pub count_below : (ℕ → Bool) → ℕ → ℕ
+count_below test zero = 0
+count_below test (suc n) = count_below test n + one_if (test n)
+
+abbrev pub is_on_after : Option (Both CrtcState) → Bool
+is_on_after None = false
+is_on_after (Some both) = both.new.active
+
+abbrev pub on_after : Tail → ℕ → Bool
+on_after x index = is_on_after (slice_index_or x.checked.states.crtcs index None)
+
+abbrev pub is_latch_left : Tail → ℕ → Bool
+is_latch_left x index = is_left x.checked.named x.progress.latched index && on_after x index
+
+abbrev pub steps_left : Tail → ℕ
+steps_left x =
+    1 + one_if (not x.progress.claimed) + one_if (not x.progress.done)
+    + count_below (is_left x.checked.touched.crtcs x.progress.crtcs) 4
+    + count_below (is_left x.checked.touched.planes x.progress.planes) 16
+    + count_below (is_left x.checked.named x.progress.flushed) 4
+    + count_below (is_latch_left x) 4
+
+-- of all commits that are not cleaned
+abbrev pub all_left : List (Slot Tail) → ℕ
+all_left [] = 0
+all_left (s ∷ slots) = steps_left s.value + all_left slots
 
 -- the id of the first connector of a mask, or 0
 abbrev pub connector_in : ℕ → ℕ

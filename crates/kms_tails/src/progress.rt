@@ -1,6 +1,6 @@
 //! How far the tail of a commit has come.
 ghost use Rattle.std.specs.Prelude.{◌≡◌, ◌<◌, ◌≤◌, IfSome};
-ghost use Rattle.kms_tails.specs.Remaining.{IsMark, first_left, no_progress, with_bit, with_mark};
+ghost use Rattle.kms_tails.specs.Remaining.{IsMark, count_below, first_left, is_left, no_progress, one_if, with_bit, with_mark};
 
 use kms_model::has_bit;
 
@@ -98,5 +98,32 @@ pub(crate) fn first_left(asked: u32, over: u32, count: u32) -> Option<u32>
     ensures first { result ≡ first_left asked over count }
     ensures bound { IfSome result (λ i. i < count) }
 {
-    (0..count).find(|index| has_bit(asked, *index) && !has_bit(over, *index))
+    (0..count).find(|index| is_left(asked, over, *index))
+}
+
+/// How many indices, of so many, are in one mask and not in another.
+pub(crate) fn count_left(asked: u32, over: u32, count: u32) -> u32
+    requires { count ≤ 32 }
+    ensures number { result ≡ count_below (is_left asked over) count }
+    ensures bound { result ≤ count }
+{
+    let mut left = 0;
+    for index in 0..count {
+        left += one_if(is_left(asked, over, index));
+    }
+    left
+}
+
+/// One, where a test says so.
+pub(crate) fn one_if(holds: bool) -> u32
+    ensures { result ≡ one_if holds }
+{
+    if holds { 1 } else { 0 }
+}
+
+/// Whether an index is in one mask and not in another.
+pub(crate) fn is_left(asked: u32, over: u32, index: u32) -> bool
+    ensures { result ≡ is_left asked over index }
+{
+    has_bit(asked, index) && !has_bit(over, index)
 }

@@ -7,9 +7,9 @@ ghost use Rattle.kms_model.specs.Device.Objects.{object_id};
 ghost use Rattle.kms_model.specs.Machine.Commits.{commit_touches, is_all_flushed, is_all_latched, is_all_written, new_connector, new_crtc, new_plane, old_plane, out_fence_of};
 ghost use Rattle.kms_model.specs.Machine.Steps.{next_flush, next_write};
 ghost use Rattle.kms_tails.specs.InStep.{AreStates, WhereverOf, old_crtc};
-ghost use Rattle.kms_tails.specs.Remaining.{connector_in, connector_of, first_tail, next_flush_of, next_latch_of, next_write_of};
+ghost use Rattle.kms_tails.specs.Remaining.{connector_in, connector_of, count_below, first_tail, is_latch_left, next_flush_of, next_latch_of, next_write_of, on_after, steps_left};
 
-use crate::progress::{Progress, first_left};
+use crate::progress::{Progress, count_left, first_left, is_left, one_if};
 use kms_model::{
     Both, Checked, CrtcState, Kind, MAX_CONNECTORS, MAX_CRTCS, MAX_PLANES, ObjId, PlaneState,
     Request,
@@ -104,6 +104,53 @@ impl Tail {
         ensures machine { WhereverOf self.now (λ t d latches k. result ≡ is_all_latched t d latches k) }
     {
         first_left(self.checked.named, self.progress.latched, MAX_CRTCS).is_none()
+    }
+
+    /// How many steps of its tail are left, at most 31: a cleanup, a claim and the end of writing, a write of each CRTC and
+    /// plane that it touches, a flush of each CRTC that it names, and a latch at each of these that is on after it.
+    pub fn left(&self) -> u32
+        ensures number { result ≡ steps_left self.now }
+        ensures bound { result ≤ 31 }
+    {
+        let touched = &self.checked.touched;
+        let progress = &self.progress;
+        1 + one_if(!progress.claimed)
+            + one_if(!progress.done)
+            + count_left(touched.crtcs, progress.crtcs, MAX_CRTCS)
+            + count_left(touched.planes, progress.planes, MAX_PLANES)
+            + count_left(self.checked.named, progress.flushed, MAX_CRTCS)
+            + self.latches_left()
+    }
+
+    /// At how many CRTCs that are on after it it has still to latch.
+    fn latches_left(&self) -> u32
+        ensures number { result ≡ count_below (is_latch_left self.now) 4 }
+        ensures bound { result ≤ 4 }
+    {
+        let mut left = 0;
+        for index in 0..MAX_CRTCS {
+            left += one_if(self.is_latch_left(index));
+        }
+        left
+    }
+
+    /// Whether it names the CRTC with an index, from 0 to 3, has not latched there, and the CRTC is on after it.
+    fn is_latch_left(&self, index: u32) -> bool
+        requires { index < 4 }
+        ensures { result ≡ is_latch_left self.now index }
+    {
+        is_left(self.checked.named, self.progress.latched, index) && self.is_on(index)
+    }
+
+    /// Whether the CRTC with an index, from 0 to 3, is on after it, where it has the CRTC's states.
+    fn is_on(&self, index: u32) -> bool
+        requires { index < 4 }
+        ensures { result ≡ on_after self.now index }
+    {
+        match self.checked.states.crtcs[index as usize] {
+            Some(both) => both.new.active,
+            None => false,
+        }
     }
 
     /// The states before and after it of the plane with an index, from 0 to 15: there where it touches the plane.
