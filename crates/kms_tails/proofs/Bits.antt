@@ -13,7 +13,7 @@ or_swap true false = refl
 or_swap false true = refl
 or_swap false false = refl
 
-bit_more : (mask i j : ℕ) → i < 32 → has_bit (with_bit mask i) j ≡ ((i == j) || has_bit mask j)
+pub bit_more : (mask i j : ℕ) → i < 32 → has_bit (with_bit mask i) j ≡ ((i == j) || has_bit mask j)
 bit_more mask i j wide = has_bit-or mask _ j ∙ ap (λ b. has_bit mask j || b) (has_bit-one i j wide) ∙ or_swap (has_bit mask j) (i == j)
 
 -- objects of a kind are as equal as their indices

@@ -44,3 +44,13 @@ one_less p q (suc n) index within was is same =
           omega (arith, rest, last)
           )
     ]
+
+pub count_same : (q p : ℕ → Bool) (n : ℕ) → ((i : ℕ) → q i ≡ p i) → count_below q n ≡ count_below p n
+unfolding count_below
+count_same q p zero same = refl
+count_same q p (suc n) same = ap (λ m. m + one_if (q n)) (count_same q p n same) ∙ ap (λ b. count_below p n + one_if b) (same n)
+
+pub count_low : (test : ℕ → Bool) (n : ℕ) → count_below test n ≤ n
+unfolding count_below
+count_low test zero = omega arith
+count_low test (suc n) = omega (arith, count_low test n, at_most_one (test n))

@@ -5,3 +5,4 @@ pub mod InStepLemmas
 pub mod Queries
 pub mod StepLemmas
 pub mod Counts
+pub mod LeftLemmas

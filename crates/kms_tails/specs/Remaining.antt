@@ -1,6 +1,6 @@
 -- What the tails of commits still need, as contracts see it. From: `drm_atomic_helper.c`, drm_atomic_helper_commit_tail: the
 -- planes and CRTCs of a commit are written, its CRTCs are flushed, it is done, and it is cleaned up.
-use Rattle.std.specs.Prelude.{ℕ, zero, suc, ◌+◌, ◌*◌, ◌^◌, ◌%◌, ◌<◌, ◌&&◌, not, nat_le, Bool, true, false, List, [], ◌∷◌, map, find, slice_index_or, if◌then◌else◌, bit_or, Option, Some, None}
+use Rattle.std.specs.Prelude.{◌≡◌, ℕ, zero, suc, ◌+◌, ◌*◌, ◌^◌, ◌%◌, ◌<◌, ◌&&◌, not, nat_le, Bool, true, false, List, [], ◌∷◌, map, find, slice_index_or, if◌then◌else◌, bit_or, Option, Some, None}
 use Rattle.std.specs.List.{range_with_len}
 use Rattle.std.specs.Option.{option_map, option_map_or}
 use Rattle.kms_model.specs.declared.objects.Kind.TheVariants.{Conn, Crtc, Plane}
@@ -10,7 +10,7 @@ use Rattle.kms_model.specs.declared.states.Checked.{Checked}
 use Rattle.kms_model.specs.declared.states.CrtcState.{CrtcState}
 use Rattle.kms_model.specs.declared.tables.Slot.{Slot}
 use Rattle.kms_model.specs.Device.Masks.{has_bit}
-use Rattle.kms_model.specs.Device.Objects.{object_id}
+use Rattle.kms_model.specs.Device.Objects.{index_of, is_id_of, object_id}
 use Rattle.kms_model.specs.Firsts.{or_else}
 use Rattle.kms_model.specs.Request.Flags.{wants_event}
 use Rattle.kms_model.specs.Stores.Tables.{slot_ids, value_with_id, with_value}
@@ -126,6 +126,10 @@ with_mark (Flushed index) p = record p { flushed = with_bit p.flushed index }
 with_mark Done p = record p { done = true }
 with_mark (Latched index) p = record p { latched = with_bit p.latched index }
 
+-- the mark of a write of a CRTC or else a plane, by its id
+abbrev pub wrote_mark : ℕ → Mark
+wrote_mark object = if is_id_of Crtc object then WroteCrtc (index_of object) else WrotePlane (index_of object)
+
 abbrev pub marked_tail : Mark → Tail → Tail
 marked_tail mark x = record x { progress = with_mark mark x.progress }
 
@@ -143,3 +147,33 @@ first_from slots from = find (λ k. nat_le from k) (slot_ids slots)
 
 abbrev pub no_tails : Rooms Tail
 no_tails = record { slots = []; room = 0 }
+
+-- What steps take of what is left
+
+-- a step is left to do
+abbrev pub is_step_left : Mark → Tail → Bool
+is_step_left Claimed x = not x.progress.claimed
+is_step_left (WroteCrtc index) x = is_left x.checked.touched.crtcs x.progress.crtcs index
+is_step_left (WrotePlane index) x = is_left x.checked.touched.planes x.progress.planes index
+is_step_left (Flushed index) x = is_left x.checked.named x.progress.flushed index
+is_step_left Done x = not x.progress.done
+is_step_left (Latched index) x = is_latch_left x index
+
+-- A step of a commit that is left leaves one less of all.
+abbrev pub TakesOne : ℕ → Mark → Rooms Tail → Rooms Tail → Type 0
+TakesOne k mark old new =
+    (x : Tail) → value_with_id old.slots k ≡ Some x → is_step_left mark x ≡ true → all_left new.slots + 1 ≡ all_left old.slots
+
+-- A latch at a CRTC that is off after the commit leaves as many.
+abbrev pub is_latch_off : Mark → Tail → Bool
+is_latch_off (Latched index) x = not (on_after x index)
+is_latch_off _ x = false
+
+abbrev pub TakesNone : ℕ → Mark → Rooms Tail → Rooms Tail → Type 0
+TakesNone k mark old new =
+    (x : Tail) → value_with_id old.slots k ≡ Some x → is_latch_off mark x ≡ true → all_left new.slots ≡ all_left old.slots
+
+-- A cleanup leaves what the others have left, which is less.
+abbrev pub TakesAll : ℕ → Rooms Tail → Rooms Tail → Type 0
+TakesAll k old new =
+    (x : Tail) → value_with_id old.slots k ≡ Some x → all_left new.slots + steps_left x ≡ all_left old.slots

@@ -9,7 +9,7 @@ ghost use Rattle.kms_model.specs.Machine.State.{Commit, Marks, no_marks};
 ghost use Rattle.kms_model.specs.Stores.Tables.{AreBelow, IsRising, slot, slot_ids, value_with_id, without_id};
 ghost use Rattle.kms_tails.specs.declared.progress.Mark.TheVariants as mark;
 ghost use Rattle.kms_tails.specs.InStep.{AreTailsOf, HasRegisters, IsFirstFrom, IsKept, StandsAfter, StandsAfterLatch, StandsAfterSwap, StandsAlike, with_claimed, with_cleaned, with_done, with_flushed, with_written};
-ghost use Rattle.kms_tails.specs.Remaining.{IsMark, first_from, first_tail, marked, no_tails};
+ghost use Rattle.kms_tails.specs.Remaining.{IsMark, TakesAll, TakesNone, TakesOne, all_left, first_from, first_tail, marked, no_tails, steps_left, wrote_mark};
 
 use crate::progress::{Mark, Progress};
 use crate::tail::Tail;
@@ -79,6 +79,7 @@ impl Tails {
         ensures slots { OnOk result (self.new.slots ≡ self.old.slots
             ++ slot commit (first_tail client request.now checked.now out_fences) ∷ []) }
         ensures room { OnOk result (self.old.room ≤ self.new.room + 1) }
+        ensures left { OnOk result (all_left self.new.slots ≤ all_left self.old.slots + 31) }
         ensures stands { OnOk result (StandsAfterSwap commit client request.now checked.now out_fences
             self.old self.new) }
         ensures there { 0 < self.old.room → IsOk result }
@@ -125,6 +126,7 @@ impl Tails {
     /// A worker claims a commit, if it is not cleaned. (Kernel: `commit_work`.)
     pub fn claim(&mut self, commit: u32)
         ensures marked { self.new ≡ marked self.old commit mark.Claimed }
+        ensures left { TakesOne commit mark.Claimed self.old self.new }
         ensures stands { StandsAfter commit self.old self.new (with_claimed commit) }
     {
         self.mark(commit, Mark::Claimed);
@@ -134,7 +136,8 @@ impl Tails {
     /// `drm_atomic_helper_commit_modeset_enables`, `drm_atomic_helper_commit_planes`.)
     pub fn wrote(&mut self, commit: u32, id: ObjId)
         requires { HasRegisters id.0 }
-        ensures room { self.new.room ≡ self.old.room }
+        ensures marked { self.new ≡ marked self.old commit (wrote_mark id.0) }
+        ensures left { TakesOne commit (wrote_mark id.0) self.old self.new }
         ensures stands { StandsAfter commit self.old self.new (with_written commit id.0) }
     {
         let index = id.index();
@@ -149,6 +152,7 @@ impl Tails {
     pub fn flushed(&mut self, commit: u32, crtc: u32)
         requires { crtc < 4 }
         ensures marked { self.new ≡ marked self.old commit (mark.Flushed crtc) }
+        ensures left { TakesOne commit (mark.Flushed crtc) self.old self.new }
         ensures stands { StandsAfter commit self.old self.new (with_flushed commit (object_id Crtc crtc)) }
     {
         self.mark(commit, Mark::Flushed(crtc));
@@ -158,6 +162,7 @@ impl Tails {
     /// `drm_atomic_helper_commit_hw_done`.)
     pub fn hw_done(&mut self, commit: u32)
         ensures marked { self.new ≡ marked self.old commit mark.Done }
+        ensures left { TakesOne commit mark.Done self.old self.new }
         ensures stands { StandsAfter commit self.old self.new (with_done commit) }
     {
         self.mark(commit, Mark::Done);
@@ -168,6 +173,8 @@ impl Tails {
     pub fn latched(&mut self, commit: u32, crtc: u32)
         requires { crtc < 4 }
         ensures marked { self.new ≡ marked self.old commit (mark.Latched crtc) }
+        ensures left { TakesOne commit (mark.Latched crtc) self.old self.new }
+        ensures left_off { TakesNone commit (mark.Latched crtc) self.old self.new }
         ensures stands { StandsAfterLatch commit crtc self.old self.new }
     {
         self.mark(commit, Mark::Latched(crtc));
@@ -178,6 +185,7 @@ impl Tails {
     pub fn remove(&mut self, commit: u32)
         ensures slots { self.new.slots ≡ without_id self.old.slots commit }
         ensures room { self.old.room ≤ self.new.room }
+        ensures left { TakesAll commit self.old self.new }
         ensures stands { StandsAfter commit self.old self.new (with_cleaned commit) }
     {
         match place_of(self.slots.as_slice(), commit) {
@@ -191,7 +199,9 @@ impl Tails {
     /// Marks a step of a commit, if it is not cleaned.
     fn mark(&mut self, commit: u32, mark: Mark)
         requires { IsMark mark }
-        ensures { self.new ≡ marked self.old commit mark }
+        ensures marked { self.new ≡ marked self.old commit mark }
+        ensures left { TakesOne commit mark self.old self.new }
+        ensures left_off { TakesNone commit mark self.old self.new }
     {
         match place_of(self.slots.as_slice(), commit) {
             Some(i) => {

@@ -1,7 +1,9 @@
-use Rattle.std.proofs.Common.{◌≡◌, ◌∙◌}
+use Rattle.std.proofs.Common.{◌≡◌, ◌+◌, ap, ◌∙◌}
 use Rattle.kms_model.specs.Stores.Tables.{without_id}
 use Rattle.kms_model.proofs.TableLemmas.{FoundAt, found, absent, without_id-absent, without_id-present, IsRising-without_id}
+use Rattle.kms_tails.specs.Remaining.{all_left, steps_left}
 use Rattle.kms_tails.proofs.InStepLemmas.{cleaned_stands}
+use Rattle.kms_tails.proofs.LeftLemmas.{left_removed}
 use Rattle.kms_tails.proofs.tails.Tails.remove.Goals as goal
 use Rattle.kms_tails.proofs.tails.Tails.remove.Goals.{After-remove, In-None}
 
@@ -30,3 +32,11 @@ returns-in-None-clause-slots c = gone c
 
 pub returns-in-None-clause-stands : goal.returns-in-None-clause-stands
 returns-in-None-clause-stands c = λ t cs marks latches within stand. cleaned_stands t cs marks latches c.args.self.now c.args.commit within stand c.args.self.now (gone c)
+
+pub returns-in-Some-clause-left : goal.returns-in-Some-clause-left
+returns-in-Some-clause-left c = λ x is.
+    ap (λ slots. all_left slots + steps_left x) (there c) ∙ left_removed c.args.self.now.slots c.args.commit x (rw (← c.self.view_is) c.self.invariant) is
+
+pub returns-in-None-clause-left : goal.returns-in-None-clause-left
+returns-in-None-clause-left c = λ x is.
+    ap (λ slots. all_left slots + steps_left x) (gone c) ∙ left_removed c.args.self.now.slots c.args.commit x (rw (← c.self.view_is) c.self.invariant) is

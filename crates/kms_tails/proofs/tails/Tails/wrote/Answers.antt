@@ -11,7 +11,7 @@ pub returns-then-is_crtc-clause-stands : goal.returns-then-is_crtc-clause-stands
 returns-then-is_crtc-clause-stands c =
     let at = crtc_indexed c.args.id.0 c.if-is_crtc.ensures in
     λ t cs marks latches within stand.
-    rw (c.mark.ensures, c.index-index.ensures)
+    rw (c.mark.ensures.marked, c.index-index.ensures)
     (subst (λ (object : ℕ). AreTailsOf t cs (record marks { written = (c.args.commit, object) ∷ marks.written }) latches (marked c.args.self.now c.args.commit (mark.WroteCrtc (index_of c.args.id.0)))) at.same
     (wrote_crtc_stands t cs marks latches c.args.self.now c.args.commit within stand (index_of c.args.id.0) at.low))
 
@@ -19,6 +19,6 @@ pub returns-else-is_crtc-clause-stands : goal.returns-else-is_crtc-clause-stands
 returns-else-is_crtc-clause-stands c =
     let at = plane_indexed c.args.id.0 c.if-is_crtc.ensures c.requires in
     λ t cs marks latches within stand.
-    rw (c.mark-else-is_crtc.ensures, c.index-index.ensures)
+    rw (c.mark-else-is_crtc.ensures.marked, c.index-index.ensures)
     (subst (λ (object : ℕ). AreTailsOf t cs (record marks { written = (c.args.commit, object) ∷ marks.written }) latches (marked c.args.self.now c.args.commit (mark.WrotePlane (index_of c.args.id.0)))) at.same
     (wrote_plane_stands t cs marks latches c.args.self.now c.args.commit within stand (index_of c.args.id.0) at.low))
