@@ -6,3 +6,4 @@ pub mod Queries
 pub mod StepLemmas
 pub mod Counts
 pub mod LeftLemmas
+pub mod LegalLeft

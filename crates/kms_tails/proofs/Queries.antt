@@ -3,7 +3,7 @@ use Rattle.std.proofs.Common.{◌≡◌, ℕ, ◌+◌, ◌<◌, ◌≤◌, lengt
 use Rattle.std.specs.Prelude.{find, is_none, is_some, IfSome, IsSome, nat_lt, not, slice_get, ◌&&◌, ◌||◌}
 use Rattle.std.specs.List.{list_all}
 use Rattle.std.specs.Option.{option_map}
-use Rattle.std.proofs.lemmas.Bool.{cases_lt}
+use Rattle.std.proofs.lemmas.Bool.{cases_lt, or_right}
 use Rattle.std.proofs.lemmas.Option.{slice_get-get_or}
 use Rattle.std.proofs.Math.ListN.{get_or-eq_default}
 use Rattle.kms_model.specs.declared.objects.Kind.{Kind}
@@ -25,7 +25,7 @@ use Rattle.kms_model.specs.Machine.State.{Commit, DeviceState}
 use Rattle.kms_model.specs.Machine.Steps.{next_flush, next_write}
 use Rattle.kms_model.specs.Request.Apply.{after}
 use Rattle.kms_model.specs.Request.Named.{names}
-use Rattle.kms_model.specs.Request.Touched.{named_by, touched_by, touches, touches_crtc, touches_of_kind, touches_routed}
+use Rattle.kms_model.specs.Request.Touched.{named_by, sets, touched_by, touches, touches_crtc, touches_of_kind, touches_routed}
 use Rattle.kms_model.proofs.KindsOfIds.{kind_of-object}
 use Rattle.kms_model.proofs.MaskLemmas.{has_bit-mask_below}
 use Rattle.kms_model.proofs.TouchedLemmas.{HasFewObjects, few_objects}
@@ -73,6 +73,11 @@ module _ (t : Topology) (d : DeviceState) (latches : List Latch) (k : ℕ) (x : 
   pub named_crtc : (i : ℕ) → i < 4 → has_bit x.checked.named i ≡ (nat_lt i (count_of t Crtc) && commit_names t d.commits k (object_id Crtc i))
   unfolding commit_names w r
   named_crtc i low = ap (λ m. has_bit m i) is.is_checked.named ∙ has_bit-mask_below (λ index. names w.values (after w r) r.assigns (object_id Crtc index)) (count_of t Crtc) i
+
+  -- a CRTC that is named is touched
+  pub named_touched : (i : ℕ) → i < 4 → commit_names t d.commits k (object_id Crtc i) ≡ true → commit_touches t d.commits k (object_id Crtc i) ≡ true
+  unfolding commit_names w r
+  named_touched i low named = of_kind Crtc i (omega (arith, low)) ∙ or_right (sets r.assigns (object_id Crtc i)) (names w.values (after w r) r.assigns (object_id Crtc i)) named
 
   pub write_is : next_write_of x ≡ next_write t d k
   unfolding next_write

@@ -16,7 +16,7 @@ mod tails;
 #[cfg(test)]
 mod tests;
 
-pub use law::follow_the_machine;
+pub use law::{follow_the_machine, legal_steps_are_left};
 pub use progress::Progress;
 pub use tail::Tail;
 pub use tails::Tails;
