@@ -1,0 +1,3 @@
+pub mod Remaining
+pub mod InStep
+pub mod StepLaws
