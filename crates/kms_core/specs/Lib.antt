@@ -1,0 +1,4 @@
+pub mod Logs
+pub mod Run
+pub mod Stands
+pub mod Locks

@@ -1,0 +1,7 @@
+//! The machine: a display device with many clients, workers and vertical blankings.
+#![tactic(auto)]
+
+mod core;
+mod logs;
+
+pub use core::Core;
