@@ -56,10 +56,12 @@ impl BlobStore {
         requires { AreBelow id self.old }
         ensures made { OnOk result (self.new ≡ self.old ++ slot id (blob owner bytes.now) ∷ []) }
         ensures unchanged { OnErr result (self.new ≡ self.old) }
-        ensures blob { OnOk result ((w : World) (label : ℕ) → blobs_of w.things ≡ self.old → w.next_id ≡ id
+        ensures blob { OnOk result ((w : World) (label : ℕ) → blobs_of w.things ≡ self.old
+            → w.next_id ≡ id
             → blobs_of (make w owner label (content.Blob bytes.now)).world.things ≡ self.new) }
-        ensures mode { OnOk result ((w : World) (label : ℕ) (m : Mode) → blobs_of w.things ≡ self.old → w.next_id ≡ id
-            → bytes.now ≡ mode_bytes m → blobs_of (make w owner label (content.Mode m)).world.things ≡ self.new) }
+        ensures mode { OnOk result ((w : World) (label : ℕ) (m : Mode)
+            → blobs_of w.things ≡ self.old → w.next_id ≡ id → bytes.now ≡ mode_bytes m
+            → blobs_of (make w owner label (content.Mode m)).world.things ≡ self.new) }
     {
         let bytes = copied(alloc, bytes)?;
         self.blobs.push(id, Blob { owner, bytes })
@@ -73,7 +75,8 @@ impl BlobStore {
         ensures blobs { self.new ≡ blobs_destroyed self.old owner id }
         ensures things { (things : List Thing) → blobs_of things ≡ self.old
             → blobs_of (things_after result things id) ≡ self.new }
-        ensures refusal { (things : List Thing) → AreNumbered 1000 things → blobs_of things ≡ self.old
+        ensures refusal { (things : List Thing) → AreNumbered 1000 things
+            → blobs_of things ≡ self.old
             → denial result ≡ destroy_refusal owner (thing_with_id things id) }
     {
         let Some(blob) = self.blobs.get(id) else {

@@ -101,10 +101,13 @@ impl Buffers {
         ensures else_made { is_bad_size width height ≡ false
             → bytes_with self.old width height format ≤ largest_bytes
             → IsOkUnless result MakeError.NoMemory }
-        ensures made { OnOk result (self.new ≡ self.old ++ slot id (buffer owner width height format pattern.now) ∷ []) }
+        ensures made { OnOk result (self.new ≡ self.old
+            ++ slot id (buffer owner width height format pattern.now) ∷ []) }
         ensures unchanged { OnErr result (self.new ≡ self.old) }
-        ensures thing { OnOk result ((w : World) (label : ℕ) → buffers_of w.things ≡ self.old → w.next_id ≡ id
-            → buffers_of (make w owner label (content.Buffer width height format pattern.now)).world.things ≡ self.new) }
+        ensures thing { OnOk result ((w : World) (label : ℕ) → buffers_of w.things ≡ self.old
+            → w.next_id ≡ id
+            → buffers_of (make w owner label
+            (content.Buffer width height format pattern.now)).world.things ≡ self.new) }
     {
         let total = self.total_with(width, height, format)?;
         let words = patterns::words(alloc, pattern, format, width, height)?;

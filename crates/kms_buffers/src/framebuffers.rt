@@ -56,10 +56,12 @@ impl FbStore {
         info: FbInfo,
     ) -> Result<(), NoMemory>
         requires { AreBelow id self.old }
-        ensures added { OnOk result (self.new ≡ self.old ++ slot id (framebuffer owner buffer info) ∷ []) }
+        ensures added { OnOk result (self.new ≡ self.old
+            ++ slot id (framebuffer owner buffer info) ∷ []) }
         ensures unchanged { OnErr result (self.new ≡ self.old) }
         ensures counted { AreCounted self.new }
-        ensures thing { OnOk result ((w : World) (label : ℕ) → open_fbs_of w.things ≡ open_fbs self.old
+        ensures thing { OnOk result ((w : World) (label : ℕ)
+            → open_fbs_of w.things ≡ open_fbs self.old
             → w.next_id ≡ id
             → open_fbs_of (make w owner label (content.Framebuffer info buffer)).world.things
             ≡ open_fbs self.new) }
@@ -87,7 +89,8 @@ impl FbStore {
         ensures counted { AreCounted self.new }
         ensures things { (things : List Thing) → open_fbs_of things ≡ open_fbs self.old
             → open_fbs_of (things_after result things id) ≡ open_fbs self.new }
-        ensures refusal { (things : List Thing) → AreNumbered 1000 things → open_fbs_of things ≡ open_fbs self.old
+        ensures refusal { (things : List Thing) → AreNumbered 1000 things
+            → open_fbs_of things ≡ open_fbs self.old
             → denial result ≡ close_refusal owner (thing_with_id things id) }
     {
         let Some(fb) = found(&self.fbs, id) else {

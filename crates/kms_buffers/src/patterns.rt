@@ -38,7 +38,8 @@ fn push_row(
     requires wide { width ≤ 4096 }
     requires low { y < 4096 }
     requires holds { HasRow pattern.now width y }
-    ensures { IfOk result (λ u. all.new.items ≡ all.old.items ++ row_words pattern.now format width y) }
+    ensures { IfOk result (λ u. all.new.items ≡ all.old.items
+        ++ row_words pattern.now format width y) }
 {
     for x in 0..width {
         all.push(word(pattern, format, width, x, y))?;

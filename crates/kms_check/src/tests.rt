@@ -82,30 +82,6 @@ const LIT: Given = Given {
 
 const DARK: Given = Given { lit: false, ..LIT };
 
-const NOWHERE: Rect = Rect {
-    x: 0,
-    y: 0,
-    w: 0,
-    h: 0,
-};
-
-const OFF_CRTC: CrtcState = CrtcState {
-    active: false,
-    mode: None,
-    planes: 0,
-    conns: 0,
-};
-
-const OFF_PLANE: PlaneState = PlaneState {
-    fb: None,
-    crtc: 0,
-    dst: NOWHERE,
-    src: NOWHERE,
-    alpha: 65535,
-    blend: 0,
-    zpos: 0,
-};
-
 /// The state of the first CRTC.
 fn first_crtc(lit: bool) -> CrtcState
     ensures { result ≡ example.crtc lit 0 }
@@ -118,7 +94,7 @@ fn first_crtc(lit: bool) -> CrtcState
             conns: 1,
         }
     } else {
-        OFF_CRTC
+        CrtcState::OFF
     }
 }
 
@@ -127,7 +103,7 @@ fn first_plane(lit: bool) -> PlaneState
     ensures { result ≡ example.plane lit 0 }
 {
     if !lit {
-        return OFF_PLANE;
+        return PlaneState::OFF;
     }
     PlaneState {
         fb: Some(row(1000, 1, Format::Xr24)),
@@ -135,14 +111,14 @@ fn first_plane(lit: bool) -> PlaneState
         dst: Rect {
             w: 1,
             h: 1,
-            ..NOWHERE
+            ..Rect::EMPTY
         },
         src: Rect {
             w: 65536,
             h: 65536,
-            ..NOWHERE
+            ..Rect::EMPTY
         },
-        ..OFF_PLANE
+        ..PlaneState::OFF
     }
 }
 
@@ -161,7 +137,7 @@ fn crtcs(given: Given) -> [Option<Both<CrtcState>>; 4]
     if !given.crtcs {
         return [None; 4];
     }
-    [alike(first_crtc(given.lit)), alike(OFF_CRTC), None, None]
+    [alike(first_crtc(given.lit)), alike(CrtcState::OFF), None, None]
 }
 
 fn planes(given: Given) -> [Option<Both<PlaneState>>; 16]
@@ -174,7 +150,7 @@ fn planes(given: Given) -> [Option<Both<PlaneState>>; 16]
     planes[0] = alike(first_plane(given.lit));
     planes[1] = alike(PlaneState {
         zpos: 1,
-        ..OFF_PLANE
+        ..PlaneState::OFF
     });
     planes
 }

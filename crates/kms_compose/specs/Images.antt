@@ -9,6 +9,7 @@ use Rattle.kms_model.specs.declared.pictures.Picture.TheVariants.{Off, On}
 use Rattle.kms_model.specs.declared.stores.Image.{Image}
 use Rattle.kms_model.specs.declared.worlds.Thing.{Thing}
 use Rattle.kms_model.specs.Stores.Kept.{Seen}
+use Rattle.kms_model.specs.Frames.Shown.{IsSeenAs}
 use Rattle.kms_model.specs.Frames.Images.{FitsMode, image_of, seen_word}
 use Rattle.kms_compose.specs.declared.images.FbImage.{FbImage}
 
@@ -26,12 +27,8 @@ abbrev pub word_under : List FbImage → ℕ → ℕ → ℕ → Option ℕ
 word_under images fb x y = option_map (λ s. seen_word s x y) (seen_under images fb)
 
 -- there is an image of a framebuffer, in its size and with a word for each pixel
-pub record HasImage (images : List FbImage) (fb : FbInfo) : Type 0 where
-  pub seen : Seen
-  pub found : seen_under images fb.id ≡ Some seen
-  pub width : seen.width ≡ fb.width
-  pub height : seen.height ≡ fb.height
-  pub words : length seen.words ≡ fb.width * fb.height
+abbrev pub HasImage : List FbImage → FbInfo → Type 0
+HasImage images fb = IsSeenAs (seen_under images fb.id) fb
 
 -- a layer that can be shown in a mode over these images
 pub record IsShowable (m : Mode) (images : List FbImage) (l : Layer) : Type 0 where

@@ -1,4 +1,4 @@
--- Contexts: who holds a lock takes locks or must back off, and tickets are unique.
+-- Contexts: who holds a lock takes locks or must back off, tickets are unique, and what is held or asked for has a lock.
 use Rattle.std.proofs.Common.{◌≡◌, ℕ, ◌<◌, ◌≤◌, List, [], ◌∷◌, Bool, true, false, ◌==◌, Option, Some, None, refl, sym, ap, ◌∙◌, subst, arith, ⊎_elim}
 use Rattle.std.specs.Prelude.{if◌then◌else◌}
 use Rattle.std.proofs.lemmas.Bool.{cases_eq, eq-eqb}
@@ -8,10 +8,12 @@ use Rattle.kms_model.specs.declared.runs.Place.{Place}
 use Rattle.kms_model.specs.declared.scripts.Request.{Request}
 use Rattle.kms_model.specs.declared.scripts.Script.{Script}
 use Rattle.kms_model.specs.Device.Serial.{command_of}
+use Rattle.kms_model.specs.Machine.Commits.{lockable}
 use Rattle.kms_model.specs.Machine.Effects.{dropped}
 use Rattle.kms_model.specs.Machine.Registers.{read}
 use Rattle.kms_model.specs.Machine.State.{Contexts, has_value, request_in}
 use Rattle.kms_model.specs.Machine.Steps.{ticket_of}
+use Rattle.kms_model.proofs.Items.{IsIn}
 use Rattle.kms_laws.proofs.Basics.{both_bools, read_other, read_same}
 
 abbrev pub has_ticket : Doing → Bool
@@ -45,12 +47,22 @@ pub record HasRequest (s : Script) (client : ℕ) (place : Place) : Type 0 where
   pub request : Request
   pub at : request_of s client place ≡ Some request
 
+-- the object that an older context was found to hold
+abbrev pub asked_of : Doing → Option ℕ
+asked_of (doing.MustBackOff ticket object) = Some object.0
+asked_of (doing.BackedOff ticket object) = Some object.0
+asked_of (doing.Taking ticket) = None
+asked_of doing.Idle = None
+asked_of (doing.Returning k) = None
+
 pub record LocksStand (s : Script) (x : Contexts) (n : ℕ) : Type 0 where
   pub holders : (object client : ℕ) → holder_in x object ≡ Some client → may_hold (doing_in x client) ≡ true
   pub unique : (a b : ℕ) → has_ticket (doing_in x a) ≡ true → has_ticket (doing_in x b) ≡ true → ticket_of (doing_in x a) ≡ ticket_of (doing_in x b) → a ≡ b
   pub below : (a : ℕ) → has_ticket (doing_in x a) ≡ true → ticket_of (doing_in x a) < x.tickets
   pub atomic : (a : ℕ) → has_ticket (doing_in x a) ≡ true → HasRequest s a (place_in x a)
   pub returning : (a k : ℕ) → doing_in x a ≡ doing.Returning k → k < n
+  pub held_there : (object client : ℕ) → holder_in x object ≡ Some client → IsIn object (lockable s.topology)
+  pub asked_there : (a object : ℕ) → asked_of (doing_in x a) ≡ Some object → IsIn object (lockable s.topology)
 
 -- what a new place of a client owes
 pub record MayGo (s : Script) (x : Contexts) (client : ℕ) (place : Place) (tickets : ℕ) : Type 0 where
@@ -62,7 +74,9 @@ module _ (s : Script) (x : Contexts) (n : ℕ) (L : LocksStand s x n) (client : 
     (here : (object : ℕ) → read None locks object ≡ Some client → may_hold place.doing ≡ true)
     (there : (object a : ℕ) → (client ≡ a → ⊥) → read None locks object ≡ Some a → holder_in x object ≡ Some a)
     (go : has_ticket place.doing ≡ true → MayGo s x client place tickets)
-    (back : (k : ℕ) → place.doing ≡ doing.Returning k → k < m) where
+    (back : (k : ℕ) → place.doing ≡ doing.Returning k → k < m)
+    (held_own : (object : ℕ) → read None locks object ≡ Some client → IsIn object (lockable s.topology))
+    (asked_own : (object : ℕ) → asked_of place.doing ≡ Some object → IsIn object (lockable s.topology)) where
   idle : Place
   idle = record { command = 1; doing = doing.Idle }
 
@@ -103,6 +117,8 @@ module _ (s : Script) (x : Contexts) (n : ℕ) (L : LocksStand s x n) (client : 
     below = λ a. by_client (λ b p. has_ticket p.doing ≡ true → ticket_of p.doing < tickets) (λ t. (go t).low) (λ b ne t. let l = L.below b t in omega arith) a;
     atomic = λ a. by_client (λ b p. has_ticket p.doing ≡ true → HasRequest s b p) (λ t. (go t).request) (λ b ne t. L.atomic b t) a;
     returning = λ a k. by_client (λ b p. p.doing ≡ doing.Returning k → k < m) (λ e. back k e) (λ b ne e. let l = L.returning b k e in omega arith) a;
+    held_there = λ object a h. by_client (λ b p. read None locks object ≡ Some b → IsIn object (lockable s.topology)) (λ e. held_own object e) (λ b ne e. L.held_there object b (there object b ne e)) a h;
+    asked_there = λ a object. by_client (λ b p. asked_of p.doing ≡ Some object → IsIn object (lockable s.topology)) (λ e. asked_own object e) (λ b ne e. L.asked_there b object e) a;
   }
     where
       apart : (b : ℕ) → (client ≡ b → ⊥) → has_ticket (P b).doing ≡ true → ticket_of (P b).doing ≡ ticket_of (P client).doing → has_ticket (P client).doing ≡ true → ⊥

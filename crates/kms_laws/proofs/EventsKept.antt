@@ -1,5 +1,5 @@
 -- Events are delivered once: what each step keeps.
-use Rattle.std.proofs.Common.{◌≡◌, ℕ, suc, ◌+◌, ◌-◌, ◌<◌, List, [], ◌∷◌, ◌++◌, length, map, Bool, true, false, not, ◌&&◌, ◌==◌, Option, Some, None, refl, sym, ap, ◌∙◌, subst, arith, inl, inr, ⊎_elim, append_assoc, append-nil}
+use Rattle.std.proofs.Common.{◌≡◌, ℕ, suc, ◌+◌, ◌-◌, ◌<◌, ◌≤◌, List, [], ◌∷◌, ◌++◌, length, map, Bool, true, false, not, ◌&&◌, ◌==◌, Option, Some, None, refl, sym, ap, ◌∙◌, subst, arith, inl, inr, ⊎_elim, append_assoc, append-nil}
 use Rattle.std.specs.Prelude.{if◌then◌else◌, filter, reverse, ◌%◌, ◌^◌}
 use Rattle.std.specs.List.{filter_map, flat_map, range_with_len}
 use Rattle.std.proofs.lemmas.Bool.{and_from, and_left, and_right, cases_Bool, cases_eq, cond-true, cond-false, eq-eqb, false_from_ne_true, ne_eqb}
@@ -181,6 +181,11 @@ module _ {t : Topology} {cs : List Commit} {ms : Marks} {sh : Registers} {go : L
   less_all : asks_event t cs k ≡ true → length (flat_map (awaited t cs ls owner) (range_with_len 0 (length cs))) ≡ length (flat_map (awaited t cs (l ∷ ls) owner) (range_with_len 0 (length cs))) + 1
   less_all e =
       counts-less (awaited t cs ls owner) (awaited t cs (l ∷ ls) owner) 0 (length cs) k (omega arith) (let w = flush_within T k c F in omega arith) (one_less e) (λ j ne. same_other owner j ne)
+
+  -- the client of a commit that asks for events has one reserved
+  pub reserved_some : (ev : Events) → EventsStand t cs ls ev → asks_event t cs k ≡ true → 1 ≤ reserved_at ev (commit_at t cs k).client
+  unfolding owner
+  reserved_some ev E e = let a = E.counted owner in let b = less_all e in omega (arith, a, b)
 
   told_none : (ev : Events) → EventsStand t cs ls ev → (client : ℕ) → (asks_event t cs k && (owner == client)) ≡ false → events_by ev client ++ unread_at ev client ≡ filter_map (event_of_latch t cs client) (reverse (l ∷ ls))
   told_none ev E client e =

@@ -1,7 +1,10 @@
 -- What each step leaves of contexts.
-use Rattle.std.proofs.Common.{◌≡◌, ℕ, suc, ◌+◌, ◌<◌, ◌≤◌, List, [], ◌∷◌, length, Bool, true, false, Option, Some, None, refl, sym, ap, ◌∙◌, arith, ⊎_elim}
+use Rattle.std.proofs.Common.{◌≡◌, ℕ, suc, ◌+◌, ◌<◌, ◌≤◌, List, [], ◌∷◌, length, Bool, true, false, Option, Some, None, refl, sym, ap, ◌∙◌, subst, arith, ⊎_elim}
 use Rattle.std.specs.Prelude.{if◌then◌else◌, is_some}
-use Rattle.std.proofs.lemmas.Bool.{and_parts, cases_eq, false≢true}
+use Rattle.std.proofs.lemmas.Bool.{and_parts, cases_eq, false≢true, ltb-true}
+use Rattle.kms_model.specs.declared.objects.Kind.{Kind}
+use Rattle.kms_model.specs.declared.objects.Kind.TheVariants.{Crtc, Plane, Conn, Enc}
+use Rattle.kms_model.specs.declared.objects.Topology.{Topology}
 use Rattle.kms_model.specs.declared.replies.Event.{Event}
 use Rattle.kms_model.specs.declared.replies.Reply.{Reply}
 use Rattle.kms_model.specs.declared.replies.Reply.TheVariants as reply
@@ -15,9 +18,9 @@ use Rattle.kms_model.specs.declared.scripts.Command.TheVariants as command
 use Rattle.kms_model.specs.declared.scripts.Request.{Request}
 use Rattle.kms_model.specs.declared.scripts.Script.{Script}
 use Rattle.kms_model.specs.Device.Execution.{execute}
-use Rattle.kms_model.specs.Device.Objects.{object_id}
+use Rattle.kms_model.specs.Device.Objects.{count_of, ids_of, object_id}
 use Rattle.kms_model.specs.Device.Serial.{is_accepted}
-use Rattle.kms_model.specs.Machine.Commits.{asks_event, new_crtc, out_fence_of}
+use Rattle.kms_model.specs.Machine.Commits.{asks_event, lockable, new_crtc, out_fence_of}
 use Rattle.kms_model.specs.Machine.Effects.{answers, backed_off, begun, blanks, counts_vblank, delivers, dropped, drops_locks, fence_signalled, flushes, goes_on, joins_if, joins_journal, latches, latches_picture, locked, made_thing, next, now_doing, reads, refused, relocked, sets_up, signalled_by, signals, swapped_state}
 use Rattle.kms_model.specs.Machine.Histories.{legal}
 use Rattle.kms_model.specs.Machine.Registers.{read}
@@ -27,13 +30,28 @@ use Rattle.kms_model.specs.Request.Flags.{is_nonblock, wants_event}
 use Rattle.kms_model.specs.Request.Named.{named}
 use Rattle.kms_model.specs.Request.Reach.{reaches}
 use Rattle.kms_model.specs.Request.Sets.{obj_id}
-use Rattle.kms_laws.proofs.Basics.{both_bools, read_other, read_same}
-use Rattle.kms_laws.proofs.Contexts.{HasRequest, LocksStand, doing_in, dropped-other, dropped-own, has_ticket, holder_in, may_hold, moved, place_in}
+use Rattle.kms_model.proofs.Items.{IsIn, ids-has}
+use Rattle.kms_laws.proofs.Basics.{both_bools, in_left, in_right, read_other, read_same}
+use Rattle.kms_laws.proofs.Contexts.{asked_of, HasRequest, LocksStand, doing_in, dropped-other, dropped-own, has_ticket, holder_in, may_hold, moved, place_in}
 use Rattle.kms_laws.proofs.Steps.{IsLegal, idle-none, idle-some, legal-cases}
 use Rattle.kms_laws.proofs.Steps.IsLegal.{Ends, May}
 
 abbrev pub HasLocks : Script → Machine → Type 0
 HasLocks s m = LocksStand s m.contexts (length m.device.commits)
+
+asked-ticket : (d : Doing) (object : ℕ) → asked_of d ≡ Some object → has_ticket d ≡ true
+asked-ticket (doing.MustBackOff ticket o) object e = refl
+asked-ticket (doing.BackedOff ticket o) object e = refl
+asked-ticket (doing.Taking ticket) object e = absurd cc
+asked-ticket doing.Idle object e = absurd cc
+asked-ticket (doing.Returning k) object e = absurd cc
+
+-- an object that a step may lock has a lock
+lockable-has : (t : Topology) (kind : Kind) (index : ℕ) → is_lockable t kind index ≡ true → IsIn (object_id kind index) (lockable t)
+lockable-has t Crtc index h = in_left (ids_of t Crtc) _ (object_id Crtc index) (ids-has t Crtc index (ltb-true index (count_of t Crtc) h))
+lockable-has t Plane index h = in_right (ids_of t Crtc) _ (object_id Plane index) (in_left (ids_of t Plane) (ids_of t Conn) (object_id Plane index) (ids-has t Plane index (ltb-true index (count_of t Plane) h)))
+lockable-has t Conn index h = in_right (ids_of t Crtc) _ (object_id Conn index) (in_right (ids_of t Plane) (ids_of t Conn) (object_id Conn index) (ids-has t Conn index (ltb-true index (count_of t Conn) h)))
+lockable-has t Enc index h = absurd (false≢true h)
 
 module _ (s : Script) (x : Contexts) (n : ℕ) (L : LocksStand s x n) (client : ℕ) where
   -- a client that drops its locks and goes where it has no ticket
@@ -44,6 +62,8 @@ module _ (s : Script) (x : Contexts) (n : ℕ) (L : LocksStand s x n) (client : 
       (λ object e. absurd (dropped-own client x.locks object e))
       (λ object a ne e. dropped-other client x.locks object a e)
       (λ t. absurd (both_bools _ t none)) back
+      (λ object e. absurd (dropped-own client x.locks object e))
+      (λ object e. absurd (both_bools _ (asked-ticket place.doing object e) none))
 
   -- a client that holds nothing goes where it has no ticket
   goes : (place : Place) → may_hold (doing_in x client) ≡ false → has_ticket place.doing ≡ false → ((k : ℕ) → place.doing ≡ doing.Returning k → k < n)
@@ -53,19 +73,22 @@ module _ (s : Script) (x : Contexts) (n : ℕ) (L : LocksStand s x n) (client : 
       (λ object e. absurd (both_bools _ (L.holders object client e) free))
       (λ object a ne e. e)
       (λ t. absurd (both_bools _ t none)) back
+      (λ object e. L.held_there object client e)
+      (λ object e. absurd (both_bools _ (asked-ticket place.doing object e) none))
 
   -- a client with a ticket stays at its command and keeps its ticket
   stays : (d : Doing) (locks : List (ℕ × Option ℕ)) → has_ticket (doing_in x client) ≡ true → ticket_of d ≡ ticket_of (doing_in x client) → ((k : ℕ) → d ≡ doing.Returning k → k < n)
       → ((object : ℕ) → read None locks object ≡ Some client → may_hold d ≡ true) → ((object a : ℕ) → (client ≡ a → ⊥) → read None locks object ≡ Some a → holder_in x object ≡ Some a)
+      → ((object : ℕ) → read None locks object ≡ Some client → IsIn object (lockable s.topology)) → ((object : ℕ) → asked_of d ≡ Some object → IsIn object (lockable s.topology))
       → LocksStand s (record { places = (client, record { command = (place_in x client).command; doing = d }) ∷ x.places; locks = locks; tickets = x.tickets }) n
-  stays d locks t same back here there =
+  stays d locks t same back here there held_own asked_own =
       moved s x n L client (record { command = (place_in x client).command; doing = d }) locks x.tickets n (omega arith) (omega arith) here there
       (λ td. record {
         low = (let l = L.below client t in let e : ticket_of d ≡ ticket_of (doing_in x client) = same in omega arith);
         own = λ a ne ta e. ne (sym (L.unique a client ta t (e ∙ same)));
         request = (let q = L.atomic client t in record { request = q.request; at = q.at });
       })
-      back
+      back held_own asked_own
 
   -- a client begins
   begins : may_hold (doing_in x client) ≡ false → HasRequest s client (place_in x client)
@@ -76,10 +99,12 @@ module _ (s : Script) (x : Contexts) (n : ℕ) (L : LocksStand s x n) (client : 
       (λ object a ne e. e)
       (λ t. record { low = omega arith; own = λ a ne ta e. (let l = L.below a ta in let e2 : ticket_of (doing_in x a) ≡ x.tickets = e in absurd (omega arith)); request = record { request = q.request; at = q.at } })
       (λ k e. absurd cc)
+      (λ object e. L.held_there object client e)
+      (λ object e. absurd cc)
 
   -- a client that may hold locks takes one more
-  takes : (object : ℕ) → may_hold (doing_in x client) ≡ true → LocksStand s (record x { locks = (object, Some client) ∷ x.locks }) n
-  takes object free = record {
+  takes : (object : ℕ) → may_hold (doing_in x client) ≡ true → IsIn object (lockable s.topology) → LocksStand s (record x { locks = (object, Some client) ∷ x.locks }) n
+  takes object free is_there = record {
     holders = λ o a e.
         ⊎_elim
         (λ (same : object ≡ o).
@@ -92,6 +117,12 @@ module _ (s : Script) (x : Contexts) (n : ℕ) (L : LocksStand s x n) (client : 
     below = L.below;
     atomic = L.atomic;
     returning = L.returning;
+    held_there = λ o a e.
+        ⊎_elim
+        (λ (same : object ≡ o). subst (λ z. IsIn z (lockable s.topology)) same is_there)
+        (λ ne. L.held_there o a (sym (read_other None x.locks object o (Some client) ne) ∙ e))
+        (cases_eq object o);
+    asked_there = L.asked_there;
   }
 
 idle-free : (d : Doing) → is_idle d ≡ true → may_hold d ≡ false
@@ -114,6 +145,20 @@ taking-holds doing.Idle h = absurd (false≢true h)
 taking-holds (doing.MustBackOff ticket object) h = absurd (false≢true h)
 taking-holds (doing.BackedOff ticket object) h = absurd (false≢true h)
 taking-holds (doing.Returning k) h = absurd (false≢true h)
+
+back-asked : (d : Doing) → must_back_off d ≡ true → asked_of (backed_off d) ≡ asked_of d
+back-asked (doing.MustBackOff ticket object) h = refl
+back-asked doing.Idle h = absurd (false≢true h)
+back-asked (doing.Taking ticket) h = absurd (false≢true h)
+back-asked (doing.BackedOff ticket object) h = absurd (false≢true h)
+back-asked (doing.Returning k) h = absurd (false≢true h)
+
+contended-asked : (d : Doing) (object : ℕ) → contended d ≡ Some object → asked_of d ≡ Some object
+contended-asked (doing.BackedOff ticket o) object e = e
+contended-asked doing.Idle object e = absurd cc
+contended-asked (doing.Taking ticket) object e = absurd cc
+contended-asked (doing.MustBackOff ticket o) object e = absurd cc
+contended-asked (doing.Returning k) object e = absurd cc
 
 back-facts : (d : Doing) → must_back_off d ≡ true → (has_ticket d ≡ true) × ((ticket_of (backed_off d) ≡ ticket_of d) × ((k : ℕ) → backed_off d ≡ doing.Returning k → ⊥))
 back-facts (doing.MustBackOff ticket object) h = (refl, (refl, λ k e. absurd cc))
@@ -159,24 +204,28 @@ module _ (s : Script) (m : Machine) (L : HasLocks s m) where
           let r = atomic-request (command_at s m client) c e (idle-some s m client is_atomic c e h) in
           begins s m.contexts (length m.device.commits) L client (idle-free (doing_at m client) (and_parts (is_idle (doing_at m client)) _ h).0) (record { request = r.0; at = r.1 })
 
-  lock_locks : (client object : ℕ) → may_lock s m client object ≡ true → (o : Option ℕ) → HasLocks s (locked m client object o)
+  lock_locks : (client object : ℕ) → IsIn object (lockable s.topology) → may_lock s m client object ≡ true → (o : Option ℕ) → HasLocks s (locked m client object o)
   unfolding may_lock
-  lock_locks client object h o = by_holder o
+  lock_locks client object is_there h o = by_holder o
     where
       taking : (may_hold (doing_at m client) ≡ true) × (has_ticket (doing_at m client) ≡ true)
       taking = taking-holds (doing_at m client) (and_parts (is_taking (doing_at m client)) _ (and_parts (taking_at s m client (λ r. reaches s.topology m.device.world r object)) _ h).0).0
 
       by_holder : (o : Option ℕ) → HasLocks s (locked m client object o)
-      by_holder None = takes s m.contexts (length m.device.commits) L client object taking.0
+      by_holder None = takes s m.contexts (length m.device.commits) L client object taking.0 is_there
       by_holder (Some holder) =
           stays s m.contexts (length m.device.commits) L client (doing.MustBackOff (record { 0 = ticket_of (doing_at m client) }) (obj_id object)) m.contexts.locks taking.1 refl
           (λ k e. absurd cc) (λ object2 e. refl) (λ object2 a ne e. e)
+          (λ object2 e. L.held_there object2 client e)
+          (λ object2 e. let same : object ≡ object2 = cc in subst (λ z. IsIn z (lockable s.topology)) same is_there)
 
   back_locks : (client : ℕ) → must_back_off (doing_at m client) ≡ true → HasLocks s (drops_locks (now_doing m client (backed_off (doing_at m client))) client)
   back_locks client h =
       let f = back-facts (doing_at m client) h in
       stays s m.contexts (length m.device.commits) L client (backed_off (doing_at m client)) (dropped client m.contexts.locks) f.0 f.1.0
       (λ k e. absurd (f.1.1 k e)) (λ object e. absurd (dropped-own client m.contexts.locks object e)) (λ object a ne e. dropped-other client m.contexts.locks object a e)
+      (λ object e. absurd (dropped-own client m.contexts.locks object e))
+      (λ object e. L.asked_there client object (sym (back-asked (doing_at m client) h) ∙ e))
 
   relock_locks : (client : ℕ) → (o : Option ℕ) → contended (doing_at m client) ≡ o → HasLocks s (relocked m client o)
   relock_locks client None e = L
@@ -190,6 +239,12 @@ module _ (s : Script) (m : Machine) (L : HasLocks s m) where
       absurd (ne cc))
       (λ apart. sym (read_other None m.contexts.locks object object2 (Some client) apart) ∙ e2)
       (cases_eq object object2))
+      (λ object2 e2.
+      ⊎_elim
+      (λ (same : object ≡ object2). subst (λ z. IsIn z (lockable s.topology)) same (L.asked_there client object (contended-asked (doing_at m client) object e)))
+      (λ apart. L.held_there object2 client (sym (read_other None m.contexts.locks object object2 (Some client) apart) ∙ e2))
+      (cases_eq object object2))
+      (λ object2 e2. absurd cc)
 
   refuse_locks : (client : ℕ) → HasLocks s (refused s.topology m client (request_at s m client))
   unfolding refused
@@ -298,7 +353,9 @@ module _ (s : Script) (m : Machine) (L : HasLocks s m) where
   may_locks : (step : Step) → may s m step ≡ true → HasLocks s (next s m step)
   unfolding may next
   may_locks (Begin client) h = begin_locks client h
-  may_locks (Lock client kind index) h = lock_locks client (object_id kind index) (and_parts (is_lockable s.topology kind index) _ h).1 (holder_at m (object_id kind index))
+  may_locks (Lock client kind index) h =
+      let both = and_parts (is_lockable s.topology kind index) _ h in
+      lock_locks client (object_id kind index) (lockable-has s.topology kind index both.0) both.1 (holder_at m (object_id kind index))
   may_locks (BackOff client) h = back_locks client h
   may_locks (Relock client) h = relock_locks client (contended (doing_at m client)) refl
   may_locks (Refuse client) h = refuse_locks client
@@ -335,4 +392,6 @@ first_locks s = record {
   below = λ a t. absurd (false≢true t);
   atomic = λ a t. absurd (false≢true t);
   returning = λ a k e. absurd cc;
+  held_there = λ object client e. absurd cc;
+  asked_there = λ a object e. absurd cc;
 }

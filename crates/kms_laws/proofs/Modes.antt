@@ -184,7 +184,7 @@ slice_get-in [] n x e = absurd cc
 slice_get-in (y ∷ ys) zero x e = inl cc
 slice_get-in (y ∷ ys) (suc n) x e = inr (slice_get-in ys n x e)
 
-from_one-in : {A : Type 0} (xs : List A) (n : ℕ) (x : A) → from_one xs n ≡ Some x → IsIn x xs
+pub from_one-in : {A : Type 0} (xs : List A) (n : ℕ) (x : A) → from_one xs n ≡ Some x → IsIn x xs
 from_one-in xs zero x e = absurd cc
 from_one-in xs (suc n) x e = slice_get-in xs n x e
 

@@ -39,7 +39,7 @@ pub record Facts (s : Script) (m : Machine) : Type 0 where
   pub whole : Whole s.topology m.device m.records.latches
   pub fences : FencesStand s.topology m.device m.records.latches
 
-first_facts : (s : Script) → IsPlainScript s → Facts s (first_machine s.topology)
+pub first_facts : (s : Script) → IsPlainScript s → Facts s (first_machine s.topology)
 first_facts s plain = record {
   holds = first_kept s plain;
   locks = first_locks s;
@@ -49,7 +49,7 @@ first_facts s plain = record {
   fences = first_fences s.topology;
 }
 
-step_facts : (s : Script) (m : Machine) (step : Step) → IsPlainScript s → Facts s m → legal s m step ≡ true → Facts s (next s m step)
+pub step_facts : (s : Script) (m : Machine) (step : Step) → IsPlainScript s → Facts s m → legal s m step ≡ true → Facts s (next s m step)
 step_facts s m step plain F h = record {
   holds = step_kept s m step plain F.holds h;
   locks = step_locks s m F.locks step h;

@@ -18,7 +18,7 @@ use Rattle.kms_model.specs.Machine.Registers.{crtc_words, first_crtc_words, firs
 use Rattle.kms_model.specs.Machine.State.{no_marks}
 use Rattle.kms_model.proofs.Items.{IsIn, IsObject, ids-in}
 use Rattle.kms_model.proofs.SoundStart.{start-crtc, start-zero, start_is_sound}
-use Rattle.kms_laws.proofs.StartValues.{has_number, plane_numbers, plane_value}
+use Rattle.kms_model.proofs.StartValues.{has_number, plane_numbers, plane_value}
 use Rattle.kms_model.proofs.TouchedLemmas.{few_objects}
 use Rattle.kms_laws.proofs.Invariants.{IsPending, Tail, crtc_after, latched_at, plane_after, shown}
 use Rattle.kms_laws.proofs.Objects.{plane_kind}

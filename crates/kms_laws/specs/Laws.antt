@@ -1,15 +1,26 @@
--- What the laws say beside the promises: the world of a machine, and that histories go on.
+-- What the laws say beside the promises: the world of a machine, that histories go on, and look-ups that grew old.
 use Rattle.std.specs.Prelude.{◌≡◌, ◌⊎◌, ℕ, Bool, true, List, Some}
 use Rattle.std.specs.List.{list_any}
 use Rattle.kms_model.specs.declared.replies.Step.{Step}
+use Rattle.kms_model.specs.declared.objects.Topology.{Topology}
+use Rattle.kms_model.specs.declared.scripts.Request.{Request}
 use Rattle.kms_model.specs.declared.scripts.Script.{Script}
+use Rattle.kms_model.specs.declared.sets.Resolved.{Resolved}
+use Rattle.kms_model.specs.declared.states.Duplicates.{Duplicates}
+use Rattle.kms_model.specs.declared.worlds.World.{World}
 use Rattle.kms_model.specs.Device.Serial.{serial}
 use Rattle.kms_model.specs.Device.Sound.{IsSound}
 use Rattle.kms_model.specs.Headline.{history_journal}
-use Rattle.kms_model.specs.Machine.Histories.{at, awaited_label, is_drained, steps_that_move}
+use Rattle.kms_model.specs.Machine.Histories.{are_legal, at, awaited_label, is_drained, run_steps, steps_that_move}
 use Rattle.kms_model.specs.Machine.State.{Machine}
 use Rattle.kms_model.specs.Machine.Steps.{may}
 use Rattle.kms_model.specs.Promises.{InEachHistory, WaitsForFence}
+use Rattle.kms_model.specs.Request.Agreement.{AgreesOld}
+use Rattle.kms_model.specs.Request.Deciding.{IsOfRequest}
+use Rattle.kms_model.specs.Request.Lookups.{look_up}
+use Rattle.kms_model.specs.Request.Reach.{reaches}
+use Rattle.kms_model.specs.Request.Resolves.{IsResolved}
+use Rattle.kms_model.specs.Request.Touched.{touches}
 
 -- The world of the machine is that of the device of one thread after the journal, and it is sound.
 pub record HasSerialWorld (s : Script) (h : List Step) : Type 0 where
@@ -31,3 +42,21 @@ pub record TellsFence (s : Script) (m : Machine) : Type 0 where
 -- A history is drained, or a step may be done in it, or a commit waits for a fence whose label is told.
 abbrev pub HistoriesGoOn : Type 0
 HistoriesGoOn = InEachHistory (λ s h. (is_drained s (at s h) ≡ true) ⊎ ((can_move s (at s h) ≡ true) ⊎ TellsFence s (at s h)))
+
+-- Look-ups that grew old
+
+-- What a request asks for, and duplicates: there is a sound world that both are of. So what a check of them answers is right
+-- there; and all that the request touches there is in its reach in the present world.
+pub record AsksWithinReach (t : Topology) (now : World) (r : Request) (resolved : Resolved) (d : Duplicates) : Type 0 where
+  pub world : World
+  pub of_request : IsOfRequest t world r resolved d
+  pub same_values : world.values ≡ now.values
+  pub within : (object : ℕ) → touches t world r object ≡ true → reaches t now r object ≡ true
+
+-- Where a request was resolved with what its labels named after a history, and states were duplicated after more steps, a check
+-- asks for objects within the reach of the request then.
+abbrev pub OldLookUpsAskWithinReach : Type 0
+OldLookUpsAskWithinReach = InEachHistory (λ s h. (steps : List Step) → are_legal s (at s h) steps ≡ true → (r : Request) (resolved : Resolved) (d : Duplicates)
+    → IsResolved s.topology (look_up (at s h).device.world) r resolved
+    → AgreesOld s.topology (run_steps s (at s h) steps).device.world.things (run_steps s (at s h) steps).device.world.values d
+    → AsksWithinReach s.topology (run_steps s (at s h) steps).device.world r resolved d)

@@ -2,11 +2,16 @@
 //! contract of a function that does nothing; since no function has a body, no edit of one can say anything.
 #![tactic(auto)]
 
+mod bounds;
 mod headline;
 mod locks;
 
+pub use bounds::{numbers_fit_their_types, tails_are_short, tails_get_shorter};
 pub use headline::{
     dead_histories_name_a_fence, events_come_once, framebuffers_are_freed_once, headline_holds,
     histories_go_on, pictures_are_whole, world_is_serial,
 };
-pub use locks::{busy_has_its_cause, tests_change_nothing, waits_have_no_cycle};
+pub use locks::{
+    busy_has_its_cause, held_objects_are_framed, old_look_ups_ask_within_reach,
+    tests_change_nothing, waits_have_no_cycle,
+};

@@ -1,5 +1,6 @@
 //! Locks and decisions.
-ghost use Rattle.kms_model.specs.Promises.{CauseOfBusy, NoCycleOfWaits, TestChangesNothing};
+ghost use Rattle.kms_model.specs.Promises.{CauseOfBusy, FrameLaw, NoCycleOfWaits, TestChangesNothing};
+ghost use Rattle.kms_laws.specs.Laws.{OldLookUpsAskWithinReach};
 
 /// A request that is tested changes nothing but its reply, its locks and its client's place.
 pub fn tests_change_nothing()
@@ -16,4 +17,17 @@ pub fn waits_have_no_cycle()
 /// and the object is the first, by id, whose last commit has not flipped for it; and that commit is the one.
 pub fn busy_has_its_cause()
     ensures { CauseOfBusy }
+{}
+
+/// While a client holds an object's lock, no step but its own changes the object's present state: that of a CRTC has the
+/// sets of its planes and connectors in it. From: "KMS Locking".
+pub fn held_objects_are_framed()
+    ensures { FrameLaw }
+{}
+
+/// Look-ups may be older than the states that are checked with them: a check of what a request asked for with what its
+/// labels named earlier in the history answers what is right in some sound world, and all that the request touches in
+/// that world is in the reach of the request now. So the objects that the check still asks for may be locked.
+pub fn old_look_ups_ask_within_reach()
+    ensures { OldLookUpsAskWithinReach }
 {}

@@ -30,6 +30,7 @@ pub mod SoundKept
 pub mod SoundStart
 pub mod Spans
 pub mod StandsLemmas
+pub mod StartValues
 pub mod StateLemmas
 pub mod TableLemmas
 pub mod ThingLemmas

@@ -1,5 +1,6 @@
 -- Worked examples of the definitions, computed: what the scripts spell and what their reports are.
 use Rattle.std.proofs.Common.{◌≡◌, ℕ, List, [], ◌∷◌, ◌++◌, refl, codes, pos, Some, None, replicate, Ok, false}
+use Rattle.kms_model.specs.Device.Modes.{plain_mode}
 use Rattle.kms_model.specs.declared.objects.Kind.TheVariants as kind
 use Rattle.kms_model.specs.declared.objects.Format.TheVariants.{Xr24, Rg16}
 use Rattle.kms_model.specs.declared.objects.Mode.{Mode}
@@ -25,23 +26,7 @@ abbrev pub device : Topology
 device = record { crtcs = 1; planes = record { kind = 1; crtcs = 1; formats = 1 } ∷ []; conns = 1 ∷ [] }
 
 abbrev pub tiny : Mode
-tiny = record {
-  clock = 1;
-  hdisplay = 1;
-  hsync_start = 1;
-  hsync_end = 1;
-  htotal = 1;
-  hskew = 0;
-  vdisplay = 1;
-  vsync_start = 1;
-  vsync_end = 1;
-  vtotal = 1;
-  vscan = 0;
-  vrefresh = 60;
-  flags = 0;
-  kind = 0;
-  name = codes "tiny" ++ replicate 28 0;
-}
+tiny = plain_mode 1 1 1 (codes "tiny" ++ replicate 28 0)
 
 abbrev sets : ℕ → List Assign
 sets plane =

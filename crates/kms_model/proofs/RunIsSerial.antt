@@ -28,7 +28,7 @@ use Rattle.kms_model.specs.Report.Headline.{StandsAtItsPlace, EachStandsAtItsPla
 
 -- What is not accepted changes nothing and shows nothing.
 
-abbrev ChangesNothing : Topology → ℕ → World → Command → Executed → Type 0
+abbrev pub ChangesNothing : Topology → ℕ → World → Command → Executed → Type 0
 ChangesNothing t crtc w c e = (e.world ≡ w) × (shown_by t crtc w.values c e ≡ None)
 
 tested_request : (t : Topology) (crtc : ℕ) (w : World) (client : ℕ) (r : Request) (b : Bool)
@@ -62,7 +62,7 @@ signalled : (t : Topology) (crtc : ℕ) (w : World) (label : ℕ) (o : Option �
 signalled t crtc w label None = (refl, refl)
 signalled t crtc w label (Some n) = (refl, refl)
 
-unaccepted : (t : Topology) (crtc : ℕ) (w : World) (client : ℕ) (c : Command) → is_accepted (execute t w client c).reply ≡ false → ChangesNothing t crtc w c (execute t w client c)
+pub unaccepted : (t : Topology) (crtc : ℕ) (w : World) (client : ℕ) (c : Command) → is_accepted (execute t w client c).reply ≡ false → ChangesNothing t crtc w c (execute t w client c)
 unfolding execute
 unaccepted t crtc w client (command.Buffer label width height format pattern) e = denied_thing t crtc w client label width height format pattern (new_buffer_refusal w.things width height format) e
 unaccepted t crtc w client (command.AddFb label buffer) e = denied_framebuffer t crtc w client label buffer (buffer_of w.things client buffer) e
@@ -158,7 +158,7 @@ latches_are_shown s crtc = latches_shown s crtc (start s.topology) 0 (turns_of s
 
 -- Each command stands at its place in the journal.
 
-serial_last : (s : Script) (w : World) (journal : List Entry) (e : Entry) → serial_from s w (journal ++ e ∷ []) ≡ execute_in s.topology (serial_from s w journal) e.client (command_of s e)
+pub serial_last : (s : Script) (w : World) (journal : List Entry) (e : Entry) → serial_from s w (journal ++ e ∷ []) ≡ execute_in s.topology (serial_from s w journal) e.client (command_of s e)
 unfolding serial_from
 serial_last s w [] e = refl
 serial_last s w (f ∷ fs) e = serial_last s (execute_in s.topology w f.client (command_of s f)) fs e

@@ -1,5 +1,5 @@
 -- Worked examples of the whole grammar, computed: what texts spell, and their first faults.
-use Rattle.std.proofs.Common.{◌≡◌, ℕ, List, [], ◌∷◌, ◌++◌, refl, codes, pos, negsuc, Some, None, replicate, Ok, Err}
+use Rattle.std.proofs.Common.{◌≡◌, ℕ, List, [], ◌∷◌, ◌++◌, map, refl, codes, pos, negsuc, Some, None, replicate, Ok, Err}
 use Rattle.kms_model.specs.declared.objects.Format.TheVariants.{Xr24, Ar24, Rg16}
 use Rattle.kms_model.specs.declared.objects.Kind.{Kind}
 use Rattle.kms_model.specs.declared.objects.Kind.TheVariants as kind
@@ -18,6 +18,7 @@ use Rattle.kms_model.specs.declared.scripts.Value.TheVariants as value
 use Rattle.kms_model.specs.declared.scripts.Why.{Why}
 use Rattle.kms_model.specs.declared.scripts.Why.TheVariants.{Bytes, Cut, Form, Label, Limit}
 use Rattle.kms_model.specs.Script.Grammar.{int, hex}
+use Rattle.kms_model.specs.Script.InputLines.{Fault}
 use Rattle.kms_model.specs.Script.WholeInput.{input, device_of}
 use Rattle.kms_model.proofs.OnScripts.{on_scripts}
 
@@ -115,141 +116,87 @@ device_is_read = refl
 
 -- Faults
 
-abbrev Faulty : List ℕ → ℕ → Why → Type 0
-Faulty bytes line why = input bytes ≡ Err (record { line = line; why = why })
-
 abbrev lit : List ℕ
 lit = codes "kms 1\ncrtcs 1\nplane primary 0 XR24\nconn 0\nclient\n"
 
 abbrev then : List ℕ → List ℕ
 then line = lit ++ codes "fence x\n" ++ line ++ 10 ∷ []
 
-pub empty_input_lacks_its_first_line : Faulty [] 1 Form
-unfolding on_scripts
-empty_input_lacks_its_first_line = refl
+-- a text, and its first fault
+record Faulty : Type 0 where
+  text : List ℕ
+  fault : Fault
 
-pub device_lacks_a_connector : Faulty (codes "kms 1\ncrtcs 1\nplane primary 0 XR24\n") 4 Form
-unfolding on_scripts
-device_lacks_a_connector = refl
+abbrev faulty : List ℕ → ℕ → Why → Faulty
+faulty text line why = record { text = text; fault = record { line = line; why = why } }
 
-pub another_version : Faulty (codes "kms 2\n") 1 Form
-unfolding on_scripts
-another_version = refl
+abbrev faults : List Faulty
+faults =
+    -- empty input lacks its first line
+    faulty [] 1 Form
+    -- device lacks a connector
+    ∷ faulty (codes "kms 1\ncrtcs 1\nplane primary 0 XR24\n") 4 Form
+    -- another version
+    ∷ faulty (codes "kms 2\n") 1 Form
+    -- five crtcs
+    ∷ faulty (codes "kms 1\ncrtcs 5\n") 2 Form
+    -- second spelling of a count
+    ∷ faulty (codes "kms 1\ncrtcs 01\n") 2 Form
+    -- carriage return
+    ∷ faulty (codes "kms 1\ncrtcs 1\nplane primary 0 XR24" ++ 13 ∷ 10 ∷ []) 3 Bytes
+    -- tab
+    ∷ faulty (codes "kms 1\ncrtcs 1\nplane primary" ++ 9 ∷ codes "0 XR24\n") 3 Bytes
+    -- delete
+    ∷ faulty (codes "kms 1\ncrtcs 1\nplane primary 0 XR24" ++ 0x7f ∷ []) 3 Bytes
+    -- empty line
+    ∷ faulty (codes "kms 1\ncrtcs 1\n\nplane primary 0 XR24\n") 3 Form
+    -- two blanks
+    ∷ faulty (codes "kms 1\ncrtcs 1\nplane primary  0 XR24\n") 3 Form
+    -- no line feed
+    ∷ faulty (lit ++ codes "fence x") 6 Cut
+    -- unknown crtc in a list
+    ∷ faulty (codes "kms 1\ncrtcs 2\nplane primary 0,2 XR24\n") 3 Form
+    -- falling list
+    ∷ faulty (codes "kms 1\ncrtcs 2\nplane primary 1,0 XR24\n") 3 Form
+    -- falling formats
+    ∷ faulty (codes "kms 1\ncrtcs 2\nplane primary 0 AR24,XR24\n") 3 Form
+    -- plane behind a connector
+    ∷ faulty (codes "kms 1\ncrtcs 1\nplane primary 0 XR24\nconn 0\nplane overlay 0 XR24\n") 5 Form
+    -- connector behind a client
+    ∷ faulty (lit ++ codes "conn 0\n") 6 Form
+    -- schedule behind a script
+    ∷ faulty (lit ++ codes "schedule\n") 6 Form
+    -- number that is too large
+    ∷ faulty (then (codes "atomic 0x0 0 crtc0.ACTIVE=18446744073709551616")) 7 Form
+    -- number that is too low
+    ∷ faulty (then (codes "atomic 0x0 0 crtc0.ACTIVE=-9223372036854775809")) 7 Form
+    -- label of 17 letters
+    ∷ faulty (then (codes "fence abcdefghijklmnopq")) 7 Form
+    -- label of an earlier line
+    ∷ faulty (then (codes "fence x")) 7 Label
+    -- label of an earlier word
+    ∷ faulty (then (codes "atomic 0x0 0 crtc0.OUT_FENCE_PTR=+o crtc1.OUT_FENCE_PTR=+o")) 7 Label
+    -- form is told before label
+    ∷ faulty (then (codes "fence x x")) 7 Form
+    -- form of a later word is told before label
+    ∷ faulty (then (codes "atomic 0x0 0 crtc0.OUT_FENCE_PTR=+x crtc0.ACTIVE=01")) 7 Form
+    -- bytes are told before cut
+    ∷ faulty (lit ++ 9 ∷ []) 6 Bytes
+    -- ninth connector
+    ∷ faulty (codes "kms 1\ncrtcs 1\nplane primary 0 XR24\nconn 0\nconn 0\nconn 0\nconn 0\nconn 0\nconn 0\nconn 0\nconn 0\nconn 0\n") 12 Limit
+    ∷ []
 
-pub five_crtcs : Faulty (codes "kms 1\ncrtcs 5\n") 2 Form
+pub each_text_has_its_first_fault : map (λ f. input f.text) faults ≡ map (λ f. Err f.fault) faults
 unfolding on_scripts
-five_crtcs = refl
-
-pub second_spelling_of_a_count : Faulty (codes "kms 1\ncrtcs 01\n") 2 Form
-unfolding on_scripts
-second_spelling_of_a_count = refl
-
-pub carriage_return : Faulty (codes "kms 1\ncrtcs 1\nplane primary 0 XR24" ++ 13 ∷ 10 ∷ []) 3 Bytes
-unfolding on_scripts
-carriage_return = refl
-
-pub tab : Faulty (codes "kms 1\ncrtcs 1\nplane primary" ++ 9 ∷ codes "0 XR24\n") 3 Bytes
-unfolding on_scripts
-tab = refl
-
-pub delete : Faulty (codes "kms 1\ncrtcs 1\nplane primary 0 XR24" ++ 0x7f ∷ []) 3 Bytes
-unfolding on_scripts
-delete = refl
-
-pub empty_line : Faulty (codes "kms 1\ncrtcs 1\n\nplane primary 0 XR24\n") 3 Form
-unfolding on_scripts
-empty_line = refl
-
-pub two_blanks : Faulty (codes "kms 1\ncrtcs 1\nplane primary  0 XR24\n") 3 Form
-unfolding on_scripts
-two_blanks = refl
-
-pub no_line_feed : Faulty (lit ++ codes "fence x") 6 Cut
-unfolding on_scripts
-no_line_feed = refl
-
-pub unknown_crtc_in_a_list : Faulty (codes "kms 1\ncrtcs 2\nplane primary 0,2 XR24\n") 3 Form
-unfolding on_scripts
-unknown_crtc_in_a_list = refl
-
-pub falling_list : Faulty (codes "kms 1\ncrtcs 2\nplane primary 1,0 XR24\n") 3 Form
-unfolding on_scripts
-falling_list = refl
-
-pub falling_formats : Faulty (codes "kms 1\ncrtcs 2\nplane primary 0 AR24,XR24\n") 3 Form
-unfolding on_scripts
-falling_formats = refl
-
-pub plane_behind_a_connector : Faulty (codes "kms 1\ncrtcs 1\nplane primary 0 XR24\nconn 0\nplane overlay 0 XR24\n") 5 Form
-unfolding on_scripts
-plane_behind_a_connector = refl
-
-pub connector_behind_a_client : Faulty (lit ++ codes "conn 0\n") 6 Form
-unfolding on_scripts
-connector_behind_a_client = refl
-
-pub schedule_behind_a_script : Faulty (lit ++ codes "schedule\n") 6 Form
-unfolding on_scripts
-schedule_behind_a_script = refl
-
-pub number_that_is_too_large : Faulty (then (codes "atomic 0x0 0 crtc0.ACTIVE=18446744073709551616")) 7 Form
-unfolding on_scripts
-number_that_is_too_large = refl
-
-pub number_that_is_too_low : Faulty (then (codes "atomic 0x0 0 crtc0.ACTIVE=-9223372036854775809")) 7 Form
-unfolding on_scripts
-number_that_is_too_low = refl
-
-pub label_of_17_letters : Faulty (then (codes "fence abcdefghijklmnopq")) 7 Form
-unfolding on_scripts
-label_of_17_letters = refl
-
-pub label_of_an_earlier_line : Faulty (then (codes "fence x")) 7 Label
-unfolding on_scripts
-label_of_an_earlier_line = refl
-
-pub label_of_an_earlier_word : Faulty (then (codes "atomic 0x0 0 crtc0.OUT_FENCE_PTR=+o crtc1.OUT_FENCE_PTR=+o")) 7 Label
-unfolding on_scripts
-label_of_an_earlier_word = refl
-
-pub form_is_told_before_label : Faulty (then (codes "fence x x")) 7 Form
-unfolding on_scripts
-form_is_told_before_label = refl
-
-pub form_of_a_later_word_is_told_before_label : Faulty (then (codes "atomic 0x0 0 crtc0.OUT_FENCE_PTR=+x crtc0.ACTIVE=01")) 7 Form
-unfolding on_scripts
-form_of_a_later_word_is_told_before_label = refl
-
-pub bytes_are_told_before_cut : Faulty (lit ++ 9 ∷ []) 6 Bytes
-unfolding on_scripts
-bytes_are_told_before_cut = refl
-
-pub ninth_connector : Faulty (codes "kms 1\ncrtcs 1\nplane primary 0 XR24\nconn 0\nconn 0\nconn 0\nconn 0\nconn 0\nconn 0\nconn 0\nconn 0\nconn 0\n") 12 Limit
-unfolding on_scripts
-ninth_connector = refl
+each_text_has_its_first_fault = refl
 
 -- Numbers have one spelling
 
-pub second_spellings_of_integers : int (codes "-0") ≡ None
+pub each_integer_has_one_spelling : map int (codes "-0" ∷ codes "+1" ∷ []) ≡ None ∷ None ∷ []
 unfolding on_scripts
-second_spellings_of_integers = refl
+each_integer_has_one_spelling = refl
 
-pub plus_is_no_sign : int (codes "+1") ≡ None
+-- no capital digit, no zero in front, and at most eight digits
+pub flags_have_one_spelling : map hex (codes "0x0F" ∷ codes "0x00" ∷ codes "0x100000000" ∷ codes "0xffffffff" ∷ []) ≡ None ∷ None ∷ None ∷ Some 4294967295 ∷ []
 unfolding on_scripts
-plus_is_no_sign = refl
-
-pub capital_digits_are_none : hex (codes "0x0F") ≡ None
-unfolding on_scripts
-capital_digits_are_none = refl
-
-pub leading_zero_is_no_digit : hex (codes "0x00") ≡ None
-unfolding on_scripts
-leading_zero_is_no_digit = refl
-
-pub nine_digits_are_too_many : hex (codes "0x100000000") ≡ None
-unfolding on_scripts
-nine_digits_are_too_many = refl
-
-pub greatest_flags : hex (codes "0xffffffff") ≡ Some 4294967295
-unfolding on_scripts
-greatest_flags = refl
+flags_have_one_spelling = refl

@@ -8,15 +8,14 @@ use Rattle.kms_model.specs.declared.objects.Kind.TheVariants as kind
 use Rattle.kms_model.specs.declared.objects.Mode.{Mode}
 use Rattle.kms_model.specs.declared.objects.PlaneInfo.{PlaneInfo}
 use Rattle.kms_model.specs.declared.objects.Topology.{Topology}
-use Rattle.kms_model.specs.declared.pictures.FbInfo.{FbInfo}
-use Rattle.kms_model.specs.declared.properties.TheConstants.{FB_ID, CRTC_ID, CRTC_X, CRTC_Y, CRTC_W, CRTC_H, SRC_X, SRC_Y, SRC_W, SRC_H, ALPHA, BLEND, ZPOS, MODE_ID}
+use Rattle.kms_model.specs.declared.properties.TheConstants.{FB_ID, CRTC_ID, MODE_ID}
 use Rattle.kms_model.specs.declared.scripts.Request.{Request}
 use Rattle.kms_model.specs.declared.states.PlaneState.{PlaneState}
 use Rattle.kms_model.specs.declared.worlds.Setting.{Setting}
 use Rattle.kms_model.specs.declared.worlds.Thing.{Thing}
 use Rattle.kms_model.specs.Device.Objects.{first_id, ids_of}
 use Rattle.kms_model.specs.Device.World.{value}
-use Rattle.kms_model.specs.Device.States.{natural, mode_at, crtc_at, plane_at}
+use Rattle.kms_model.specs.Device.States.{natural, mode_at, crtc_at, plane_at, plane_with}
 use Rattle.kms_model.specs.Request.Named.{needs_modeset}
 use Rattle.kms_model.specs.Device.Properties.{Property}
 use Rattle.kms_model.specs.Device.Sound.IsCrtcOrNone.{IsNone, IsCrtc}
@@ -84,20 +83,8 @@ alike-closed t things id values = record {
   crtcs = λ crtc is. seen-closed things id (value values crtc MODE_ID);
 }
 
--- the state of a plane with another framebuffer
-abbrev with_fb : (ℕ → ℤ) → Option FbInfo → PlaneState
-with_fb v fb = record {
-  fb = fb;
-  crtc = natural (v CRTC_ID);
-  dst = record { x = v CRTC_X; y = v CRTC_Y; w = v CRTC_W; h = v CRTC_H };
-  src = record { x = v SRC_X; y = v SRC_Y; w = v SRC_W; h = v SRC_H };
-  alpha = natural (v ALPHA);
-  blend = natural (v BLEND);
-  zpos = natural (v ZPOS);
-}
-
 pub plane-seen : (t : Topology) (xs ys : List Thing) (values : List Setting) (plane : ℕ) → AreSeenAlike t xs ys values → IsIn plane (ids_of t kind.Plane) → plane_at xs values plane ≡ plane_at ys values plane
-plane-seen t xs ys values plane alike is = ap (with_fb (value values plane)) (alike.planes plane is).fb
+plane-seen t xs ys values plane alike is = ap (plane_with (value values plane)) (alike.planes plane is).fb
 
 pub mode-seen : (t : Topology) (xs ys : List Thing) (values : List Setting) (crtc : ℕ) → AreSeenAlike t xs ys values → IsIn crtc (ids_of t kind.Crtc) → mode_at xs values crtc ≡ mode_at ys values crtc
 mode-seen t xs ys values crtc alike is = (alike.crtcs crtc is).mode

@@ -35,27 +35,19 @@ has_kind prop range value = range_takes prop range value
 abbrev row_takes : Kind → SetValue → Property → Bool
 row_takes kind value p = if is_of_kind kind (Some p) && has_kind p.id p.range value then takes kind p.id value else true
 
+-- what holds of each kind holds of every kind
+of_each_kind : (P : Kind → Type 0) → P Crtc → P Plane → P Conn → P Enc → (kind : Kind) → P kind
+of_each_kind P crtc plane conn enc Crtc = crtc
+of_each_kind P crtc plane conn enc Plane = plane
+of_each_kind P crtc plane conn enc Conn = conn
+of_each_kind P crtc plane conn enc Enc = enc
+
 rows_take : (kind : Kind) (value : SetValue) → list_all (row_takes kind value) properties ≡ true
-rows_take Crtc (to.Num n) = refl
-rows_take Crtc (to.Fb fb) = refl
-rows_take Crtc (to.Mode mode) = refl
-rows_take Crtc (to.Crtc id) = refl
-rows_take Crtc to.Fence = refl
-rows_take Plane (to.Num n) = refl
-rows_take Plane (to.Fb fb) = refl
-rows_take Plane (to.Mode mode) = refl
-rows_take Plane (to.Crtc id) = refl
-rows_take Plane to.Fence = refl
-rows_take Conn (to.Num n) = refl
-rows_take Conn (to.Fb fb) = refl
-rows_take Conn (to.Mode mode) = refl
-rows_take Conn (to.Crtc id) = refl
-rows_take Conn to.Fence = refl
-rows_take Enc (to.Num n) = refl
-rows_take Enc (to.Fb fb) = refl
-rows_take Enc (to.Mode mode) = refl
-rows_take Enc (to.Crtc id) = refl
-rows_take Enc to.Fence = refl
+rows_take kind (to.Num n) = of_each_kind (λ k. list_all (row_takes k (to.Num n)) properties ≡ true) refl refl refl refl kind
+rows_take kind (to.Fb fb) = of_each_kind (λ k. list_all (row_takes k (to.Fb fb)) properties ≡ true) refl refl refl refl kind
+rows_take kind (to.Mode mode) = of_each_kind (λ k. list_all (row_takes k (to.Mode mode)) properties ≡ true) refl refl refl refl kind
+rows_take kind (to.Crtc id) = of_each_kind (λ k. list_all (row_takes k (to.Crtc id)) properties ≡ true) refl refl refl refl kind
+rows_take kind to.Fence = of_each_kind (λ k. list_all (row_takes k to.Fence) properties ≡ true) refl refl refl refl kind
 
 has_kind-among : (prop : ℕ) (range : Range) (value : SetValue) → range_takes prop range value ≡ true → has_kind prop range value ≡ true
 has_kind-among prop (Numbers low high) (to.Num n) h = refl

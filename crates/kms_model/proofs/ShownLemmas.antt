@@ -23,20 +23,21 @@ use Rattle.kms_model.specs.declared.worlds.Content.TheVariants as content
 use Rattle.kms_model.specs.declared.worlds.Setting.{Setting}
 use Rattle.kms_model.specs.declared.worlds.Thing.{Thing}
 use Rattle.kms_model.specs.declared.worlds.World.{World}
-use Rattle.kms_model.specs.Request.Checks.{with_ids, is_unscaled, placed_refusal, plane_refusal_with, plane_refusal, plane_refusal_at, shown_refusal, shown_refusal_at, event_refusal, crtc_refusal_at, conn_refusal_at, clone_refusal_at, route_refusal_at, late_refusal, has_crtc, is_beyond, is_whole}
+use Rattle.kms_model.specs.Request.Checks.{is_unscaled, placed_refusal, plane_refusal_with, plane_refusal, shown_refusal, has_crtc, is_beyond, is_whole}
 use Rattle.kms_model.specs.Device.Execution.{BufferInfo, buffer_info}
-use Rattle.kms_model.specs.Firsts.{first_some, or_else, number_if}
+use Rattle.kms_model.specs.Firsts.{or_else, number_if}
 use Rattle.kms_model.specs.Script.Grammar.{format_bit}
 use Rattle.kms_model.specs.Frames.Images.{FitsMode, image_of, seen_in}
 use Rattle.kms_model.specs.Device.Masks.{has_bit}
-use Rattle.kms_model.specs.Device.Objects.{ids_of, first_id}
+use Rattle.kms_model.specs.Device.Objects.{ids_of}
 use Rattle.kms_model.specs.Frames.Pictures.{layer_of, seen_on, put_layer, put_plane, layers_of, picture_in, picture}
 use Rattle.kms_model.specs.Frames.Rectangles.{fits_source}
-use Rattle.kms_model.specs.Device.Sound.{AreNumbered, IsSound, IsPlaneInRange, empty_request}
+use Rattle.kms_model.specs.Device.Sound.{AreNumbered, IsSound, IsPlaneInRange}
 use Rattle.kms_model.specs.Device.States.{natural, framebuffer_in, framebuffer_of, mode_at, plane_at}
 use Rattle.kms_model.specs.Stores.Kept.{Seen, row_words, buffer_words}
 use Rattle.kms_model.specs.Device.World.{value, thing_numbered, thing_with_id}
-use Rattle.kms_model.proofs.Items.{IsIn, or_else-none, number_if-none, first_some-at, ids-in, with_ids-has}
+use Rattle.kms_model.proofs.TouchedLemmas.{accepts}
+use Rattle.kms_model.proofs.Items.{IsIn, or_else-none, number_if-none, ids-in, with_ids-has}
 use Rattle.kms_model.proofs.ThingLemmas.{find-in, ids-numbered}
 use Rattle.kms_model.proofs.StateLemmas.{sound-plane_in_range}
 use Rattle.kms_model.specs.Frames.Shown.{AreFramed, IsFramed, FramesIn, shown_buffer, HasWords, CanBeShown, EachCanBeShown}
@@ -134,24 +135,6 @@ sixteenth (pos a) (pos b) low low' e = ap pos (eqb-true a (65536 * b) e)
 sixteenth (negsuc a) b low low' e = absurd low.le
 sixteenth (pos a) (negsuc b) low low' e = absurd low'.le
 
--- Of all refusals of a sound world
-
-record ArePassed (t : Topology) (w : World) : Type 0 where
-  planes : first_some (plane_refusal_at w.things w.values w.values) (with_ids (first_id kind.Plane) t.planes) ≡ None
-  shown : first_some (shown_refusal_at w.things w.values) (ids_of t kind.Plane) ≡ None
-
-are_passed : (t : Topology) (w : World) → IsSound t w → ArePassed t w
-unfolding late_refusal
-are_passed t w sound =
-    let a = or_else-none (event_refusal t w.values w.values empty_request) _ sound.accepted in
-    let b = or_else-none (first_some (plane_refusal_at w.things w.values w.values) (with_ids (first_id kind.Plane) t.planes)) _ a.second_none in
-    let c = or_else-none (first_some (crtc_refusal_at w.things w.values w.values empty_request) (ids_of t kind.Crtc)) _ b.second_none in
-    let d = or_else-none (first_some (conn_refusal_at w.values) (with_ids (first_id kind.Conn) t.conns)) _ c.second_none in
-    let e = or_else-none (first_some (clone_refusal_at t w.values) (ids_of t kind.Crtc)) _ d.second_none in
-    let f = or_else-none (first_some (route_refusal_at t w.things w.values) (ids_of t kind.Crtc)) _ e.second_none in
-    let g = or_else-none (first_some (shown_refusal_at w.things w.values) (ids_of t kind.Plane)) _ f.second_none in
-    record { planes = b.first_none; shown = g.first_none }
-
 item-at : {A : Type 0} (xs : List A) (i : ℕ) → i < length xs → (x : A) × (slice_get xs i ≡ Some x)
 item-at [] i less = absurd (omega arith)
 item-at (x ∷ xs) zero less = (x, refl)
@@ -160,15 +143,15 @@ item-at (x ∷ xs) (suc i) less = item-at xs i (omega arith)
 placed : (t : Topology) (w : World) (m : Mode) (crtc plane : ℕ) (fb : FbInfo) → IsSound t w → IsIn plane (ids_of t kind.Plane)
     → seen_on crtc (plane_at w.things w.values plane) ≡ Some fb → FitsMode m (layer_of m plane (plane_at w.things w.values plane) fb)
 placed t w m crtc plane fb sound is seen =
-    let all = are_passed t w sound in
+    let all = accepts t w sound in
     let o = ids-in t kind.Plane plane is in
     let s = plane_at w.things w.values plane in
     let on = is-on s crtc fb seen in
     let at = item-at t.planes o.index o.within in
-    let here = first_some-at (plane_refusal_at w.things w.values w.values) (with_ids (first_id kind.Plane) t.planes) (200 + o.index, at.0) all.planes (with_ids-has 200 t.planes o.index at.0 at.1) in
+    let here = all.planes (200 + o.index, at.0) (with_ids-has 200 t.planes o.index at.0 at.1) in
     let none : plane_refusal at.0 s s ≡ None = subst (λ id. plane_refusal at.0 (plane_at w.things w.values id) (plane_at w.things w.values id) ≡ None) (sym o.same) here in
     let p = passes at.0 s fb on.has none in
-    let flat = unscaled (mode_at w.things w.values s.crtc) s p.apart (first_some-at (shown_refusal_at w.things w.values) (ids_of t kind.Plane) plane all.shown is) in
+    let flat = unscaled (mode_at w.things w.values s.crtc) s p.apart (all.shown plane is) in
     let sides = and_parts (natural s.src.w == 65536 * natural s.dst.w) _ flat in
     let range : IsPlaneInRange s = subst (λ id. IsPlaneInRange (plane_at w.things w.values id)) (sym o.same) (sound-plane_in_range t w o.index sound o.within) in
     record {

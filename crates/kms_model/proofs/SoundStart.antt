@@ -3,7 +3,7 @@ use Rattle.std.proofs.Common.{◌≡◌, ℕ, ◌+◌, ◌<◌, ◌≤◌, ◌�
 use Rattle.std.specs.Prelude.{◌||◌, ◌==◌, not, ℤ, pos, int_le, filter}
 use Rattle.std.specs.List.{list_all, flat_map, range_with_len, All}
 use Rattle.std.specs.Ordering.{int_eq}
-use Rattle.std.proofs.lemmas.Bool.{eq-eqb, ne_eqb, leb-true, and_parts, and_from}
+use Rattle.std.proofs.lemmas.Bool.{eq-eqb, ne_eqb, and_from}
 use Rattle.std.proofs.lemmas.Bool.Decides.{Decides-int_eq, nat_tests}
 use Rattle.std.proofs.lemmas.List.Elements.{All-head, All-tail}
 use Rattle.std.proofs.lemmas.List.Folds.{list_all-append}
@@ -14,9 +14,8 @@ use Rattle.kms_model.specs.declared.objects.Topology.{Topology}
 use Rattle.kms_model.specs.declared.properties.TheConstants.{FB_ID, CRTC_ID, ACTIVE, MODE_ID}
 use Rattle.kms_model.specs.declared.states.PlaneState.{PlaneState}
 use Rattle.kms_model.specs.declared.worlds.Setting.{Setting}
-use Rattle.kms_model.specs.Script.Words.{between}
 use Rattle.kms_model.specs.Device.Objects.{first_id, count_of, ids_of}
-use Rattle.kms_model.specs.Device.Properties.{Property, properties, keeps_limits}
+use Rattle.kms_model.specs.Device.Properties.{Property, properties}
 use Rattle.kms_model.specs.Device.World.{value, start_crtc, start_plane, start_planes, start_conn, start}
 use Rattle.kms_model.specs.Device.States.{natural, mode_at, crtc_at, plane_at}
 use Rattle.kms_model.specs.Request.Apply.{is_kept}
@@ -27,6 +26,7 @@ use Rattle.kms_model.proofs.Items.{IsIn, IsObject, ids-in, list_all-at, list_any
 use Rattle.kms_model.proofs.AppliedValues.{ComesFrom, value-cases}
 use Rattle.kms_model.proofs.HeldValues.{IsKeptRow, HoldsAll, kept_row, are_held-from}
 use Rattle.kms_model.proofs.SoundKept.{needs_modeset-self}
+use Rattle.kms_model.proofs.TouchedLemmas.{few_objects}
 
 -- All settings pass a test
 
@@ -42,12 +42,6 @@ planes-pass test index (info ∷ infos) few kinds each =
     ∙ and_from (list_all test (start_plane index info)) (list_all test (start_planes (index + 1) infos)) (each index info (omega arith) (All-head HasPlaneKind info infos kinds))
     (planes-pass test (index + 1) infos (omega arith) (All-tail HasPlaneKind info infos kinds) each)
 
-pub few_planes : (t : Topology) → IsDevice t → length t.planes ≤ 16
-few_planes t device =
-    let limits = (and_parts (keeps_limits t) _ device.legal).0 in
-    let planes = (and_parts (between 1 16 (length t.planes)) (between 1 8 (length t.conns)) (and_parts (between 1 4 t.crtcs) _ limits).1).0 in
-    leb-true (length t.planes) 16 (and_parts _ _ planes).1
-
 start-passes : (test : Setting → Bool) (t : Topology) → IsDevice t
     → ((i : ℕ) → list_all test (start_crtc i) ≡ true) → ((i : ℕ) (info : PlaneInfo) → i ≤ 255 → info.kind ≤ 2 → list_all test (start_plane i info) ≡ true) → ((i : ℕ) → list_all test (start_conn i) ≡ true)
     → list_all test (start t).values ≡ true
@@ -57,7 +51,7 @@ start-passes test t device crtcs planes conns =
     let n : List Setting = flat_map start_conn (range_with_len 0 (count_of t kind.Conn)) in
     list_all-append test (c ++ p) n
     ∙ and_from (list_all test (c ++ p)) (list_all test n)
-    (list_all-append test c p ∙ and_from (list_all test c) (list_all test p) (list_all-flat_map test start_crtc (range_with_len 0 (count_of t kind.Crtc)) crtcs) (planes-pass test 0 t.planes (omega (arith, few_planes t device)) device.kinds planes))
+    (list_all-append test c p ∙ and_from (list_all test c) (list_all test p) (list_all-flat_map test start_crtc (range_with_len 0 (count_of t kind.Crtc)) crtcs) (planes-pass test 0 t.planes (omega (arith, (few_objects t device).planes)) device.kinds planes))
     (list_all-flat_map test start_conn (range_with_len 0 (count_of t kind.Conn)) conns)
 
 -- Each value is held

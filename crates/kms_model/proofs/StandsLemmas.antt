@@ -17,6 +17,7 @@ use Rattle.kms_model.specs.declared.scripts.Value.TheVariants.{Num, Named, New, 
 use Rattle.kms_model.specs.declared.sets.SetValue.TheVariants as to
 use Rattle.kms_model.specs.declared.worlds.Content.{Content}
 use Rattle.kms_model.specs.declared.worlds.Content.TheVariants as content
+use Rattle.kms_model.specs.declared.worlds.Look.{Look}
 use Rattle.kms_model.specs.declared.worlds.Look.TheVariants as look
 use Rattle.kms_model.specs.declared.worlds.Thing as worlds
 use Rattle.kms_model.specs.declared.worlds.World.{World}
@@ -74,33 +75,28 @@ mode_content id (content.Blob bytes) taken = go (result_ok (decoded bytes)) take
 mode_content id content.Fence taken = absurd cc
 mode_content id content.OutFence taken = absurd cc
 
-fb_thing : (things : List worlds.Thing) (o : Option worlds.Thing) → ((u : worlds.Thing) → o ≡ Some u → thing_numbered things (pos u.id) ≡ Some u) → takes FB_ID (look_of o) ≡ true
-    → framebuffer_of (thing_numbered things (id_in o)) ≡ fb_of_look (look_of o)
-fb_thing things None found taken = absurd cc
-fb_thing things (Some u) found taken = ap framebuffer_of (found u refl) ∙ go u.is_open taken
+-- What a thing under a label has stands for what its look tells, where it holds of each content that the property takes.
+thing_stands : {A : Type 0} (prop : ℕ) (of_thing : Option worlds.Thing → Option A) (of_content : Content → Option A) (of_look : Look → Option A)
+    → ((u : worlds.Thing) → of_thing (Some u) ≡ of_content u.content) → ((id : ℕ) (c : Content) → takes prop (look_of_content id c) ≡ true → of_content c ≡ of_look (look_of_content id c))
+    → takes prop (look_of None) ≡ false → takes prop look.Closed ≡ false
+    → (things : List worlds.Thing) (o : Option worlds.Thing) → ((u : worlds.Thing) → o ≡ Some u → thing_numbered things (pos u.id) ≡ Some u) → takes prop (look_of o) ≡ true
+    → of_thing (thing_numbered things (id_in o)) ≡ of_look (look_of o)
+thing_stands prop of_thing of_content of_look has stands none closed things None found taken = absurd cc
+thing_stands prop of_thing of_content of_look has stands none closed things (Some u) found taken = ap of_thing (found u refl) ∙ (has u ∙ go u.is_open taken)
   where
-    go : (opened : Bool) → takes FB_ID (if opened then look_of_content u.id u.content else look.Closed) ≡ true → framebuffer_in u.content ≡ fb_of_look (if opened then look_of_content u.id u.content else look.Closed)
-    go true is = fb_content u.id u.content is
-    go false is = absurd cc
-
-mode_thing : (things : List worlds.Thing) (o : Option worlds.Thing) → ((u : worlds.Thing) → o ≡ Some u → thing_numbered things (pos u.id) ≡ Some u) → takes MODE_ID (look_of o) ≡ true
-    → mode_of (thing_numbered things (id_in o)) ≡ mode_of_look (look_of o)
-mode_thing things None found taken = absurd cc
-mode_thing things (Some u) found taken = ap mode_of (found u refl) ∙ go u.is_open taken
-  where
-    go : (opened : Bool) → takes MODE_ID (if opened then look_of_content u.id u.content else look.Closed) ≡ true → mode_in u.content ≡ mode_of_look (if opened then look_of_content u.id u.content else look.Closed)
-    go true is = mode_content u.id u.content is
+    go : (opened : Bool) → takes prop (if opened then look_of_content u.id u.content else look.Closed) ≡ true → of_content u.content ≡ of_look (if opened then look_of_content u.id u.content else look.Closed)
+    go true is = stands u.id u.content is
     go false is = absurd cc
 
 fb-stands : (t : Topology) (w : World) (v : Value) → AreNumbered 1000 w.things → is_in_range t (look_up w) FB_ID (Thing (pos 0)) v ≡ true → framebuffer_of (thing_numbered w.things (number_of w.things v)) ≡ fb_value (look_up w) v
 fb-stands t w (Num n) numbered is = ap (λ z. framebuffer_of (thing_numbered w.things z)) ((Decides-int_eq n (pos 0)).0 is) ∙ ap framebuffer_of (thing_numbered-zero 1000 w.things (omega arith) numbered)
-fb-stands t w (Named label) numbered is = fb_thing w.things (thing_labelled w.things label) (λ u found. thing_numbered-labelled w.things label u numbered found) is
+fb-stands t w (Named label) numbered is = thing_stands FB_ID framebuffer_of framebuffer_in fb_of_look (λ u. refl) fb_content refl refl w.things (thing_labelled w.things label) (λ u found. thing_numbered-labelled w.things label u numbered found) is
 fb-stands t w (New label) numbered is = absurd cc
 fb-stands t w (Crtc index) numbered is = absurd cc
 
 mode-stands : (t : Topology) (w : World) (v : Value) → AreNumbered 1000 w.things → is_in_range t (look_up w) MODE_ID (Thing (pos 0)) v ≡ true → mode_of (thing_numbered w.things (number_of w.things v)) ≡ mode_value (look_up w) v
 mode-stands t w (Num n) numbered is = ap (λ z. mode_of (thing_numbered w.things z)) ((Decides-int_eq n (pos 0)).0 is) ∙ ap mode_of (thing_numbered-zero 1000 w.things (omega arith) numbered)
-mode-stands t w (Named label) numbered is = mode_thing w.things (thing_labelled w.things label) (λ u found. thing_numbered-labelled w.things label u numbered found) is
+mode-stands t w (Named label) numbered is = thing_stands MODE_ID mode_of mode_in mode_of_look (λ u. refl) mode_content refl refl w.things (thing_labelled w.things label) (λ u found. thing_numbered-labelled w.things label u numbered found) is
 mode-stands t w (New label) numbered is = absurd cc
 mode-stands t w (Crtc index) numbered is = absurd cc
 

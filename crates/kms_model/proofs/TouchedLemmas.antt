@@ -1,6 +1,6 @@
 -- Objects that a request does not touch keep passing what they passed in a sound world.
-use Rattle.std.proofs.Common.{◌≡◌, ℕ, ◌<◌, ◌≤◌, Bool, true, false, List, [], ◌∷◌, length, Option, Some, None, inl, inr, arith, refl, sym, ap, ◌∙◌, subst}
-use Rattle.std.specs.Prelude.{◌&&◌, ◌==◌, not, pos, is_none, is_some, nat_lt}
+use Rattle.std.proofs.Common.{◌≡◌, ℕ, ◌+◌, ◌*◌, ◌<◌, ◌≤◌, Bool, true, false, List, [], ◌∷◌, length, Option, Some, None, inl, inr, arith, refl, sym, ap, ◌∙◌, subst}
+use Rattle.std.specs.Prelude.{◌&&◌, ◌==◌, not, pos, is_none, is_some, nat_lt, if◌then◌else◌}
 use Rattle.std.specs.Ordering.{int_eq}
 use Rattle.std.proofs.lemmas.Bool.{eqb-true, eq-eqb, and_parts, and_from, or_parts, or_from, or_left, cases_Bool, leb-true, ltb-true, not-false, not_from_true, both_ways, false_from_ne_true}
 use Rattle.std.proofs.lemmas.Bool.Decides.{Decides-int_eq}
@@ -66,23 +66,32 @@ few_of t kind.Plane few = few.planes
 few_of t kind.Conn few = omega (arith, few.conns)
 few_of t kind.Enc few = omega (arith, few.conns)
 
+-- the place of a kind among the hundreds of ids
+abbrev place_of : Kind → ℕ
+place_of kind.Crtc = 0
+place_of kind.Plane = 1
+place_of kind.Conn = 2
+place_of kind.Enc = 3
+
+abbrev kind_at : ℕ → Kind
+kind_at place = if place == 0 then kind.Crtc else (if place == 1 then kind.Plane else (if place == 2 then kind.Conn else kind.Enc))
+
+kind_at-place : (k : Kind) → kind_at (place_of k) ≡ k
+kind_at-place kind.Crtc = refl
+kind_at-place kind.Plane = refl
+kind_at-place kind.Conn = refl
+kind_at-place kind.Enc = refl
+
+first_id-place : (k : Kind) → first_id k ≡ 100 + 100 * place_of k
+first_id-place kind.Crtc = refl
+first_id-place kind.Plane = refl
+first_id-place kind.Conn = refl
+first_id-place kind.Enc = refl
+
 pub first_id-apart : (j k : Kind) (m n : ℕ) → m < 16 → n < 16 → object_id j m ≡ object_id k n → j ≡ k
-first_id-apart kind.Crtc kind.Crtc m n a b same = refl
-first_id-apart kind.Plane kind.Plane m n a b same = refl
-first_id-apart kind.Conn kind.Conn m n a b same = refl
-first_id-apart kind.Enc kind.Enc m n a b same = refl
-first_id-apart kind.Crtc kind.Plane m n a b same = absurd (omega arith)
-first_id-apart kind.Crtc kind.Conn m n a b same = absurd (omega arith)
-first_id-apart kind.Crtc kind.Enc m n a b same = absurd (omega arith)
-first_id-apart kind.Plane kind.Crtc m n a b same = absurd (omega arith)
-first_id-apart kind.Plane kind.Conn m n a b same = absurd (omega arith)
-first_id-apart kind.Plane kind.Enc m n a b same = absurd (omega arith)
-first_id-apart kind.Conn kind.Crtc m n a b same = absurd (omega arith)
-first_id-apart kind.Conn kind.Plane m n a b same = absurd (omega arith)
-first_id-apart kind.Conn kind.Enc m n a b same = absurd (omega arith)
-first_id-apart kind.Enc kind.Crtc m n a b same = absurd (omega arith)
-first_id-apart kind.Enc kind.Plane m n a b same = absurd (omega arith)
-first_id-apart kind.Enc kind.Conn m n a b same = absurd (omega arith)
+first_id-apart j k m n a b same =
+    let places : place_of j ≡ place_of k = omega (arith, first_id-place j, first_id-place k) in
+    sym (kind_at-place j) ∙ (ap kind_at places ∙ kind_at-place k)
 
 -- the object of an accepted assignment is of one kind
 pub kind_of_object : (t : Topology) (w : World) (a : Assign) (k : Kind) (object : ℕ) → IsDevice t → IsAccepted t w a → IsIn object (ids_of t k) → object_of a ≡ object → a.kind ≡ k

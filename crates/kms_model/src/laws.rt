@@ -16,7 +16,8 @@ ghost use Rattle.kms_model.specs.Device.Execution.{execute};
 /// device at its place in the journal. So the report's lines of latches are all of what the device of one
 /// thread shows for the journal that its first lines tell.
 pub fn rounds_are_the_journal()
-    ensures latches { (s : Script) (crtc : ℕ) → latches_of s.topology crtc (run s) ≡ show s (journal_of (run s)) crtc }
+    ensures latches { (s : Script) (crtc : ℕ) → latches_of s.topology crtc (run s)
+        ≡ show s (journal_of (run s)) crtc }
     ensures report { (frames : Bool) (s : Script) → TellsJournal frames s (flat frames s) }
     ensures places { (s : Script) → EachStandsAtItsPlace s (journal_of (run s)) (run s) }
 {}
@@ -29,5 +30,6 @@ pub fn start_is_sound()
 
 /// Each command leaves a sound device sound, whatever is answered to it.
 pub fn execution_keeps_sound()
-    ensures { (t : Topology) (w : World) (client : ℕ) (c : Command) → IsSound t w → IsSound t (execute t w client c).world }
+    ensures { (t : Topology) (w : World) (client : ℕ) (c : Command) → IsSound t w
+        → IsSound t (execute t w client c).world }
 {}

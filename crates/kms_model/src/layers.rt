@@ -1,8 +1,7 @@
 //! The layers of a picture, in place.
 ghost use Rattle.std.specs.Prelude.{◌≡◌, ◌<◌, [], ◌∷◌, ◌++◌, List, length};
 
-use crate::objects::Format;
-use crate::pictures::{FbInfo, Layer, Rect};
+use crate::pictures::Layer;
 use std::marker::Model;
 
 /// The layers of a picture from the lowest to the highest, at most 16, in place. Contracts see the list of
@@ -29,31 +28,9 @@ impl Model for Layers {
 
     ghost inverse = { λ ls. record { items = in_place ls; count = length ls } };
 
-    ghost inverse_ok = { λ s h. Prim.rw (count_again s.items s.count h, items_again s.items s.count h) refl };
+    ghost inverse_ok = { λ s h.
+        Prim.rw (count_again s.items s.count h, items_again s.items s.count h) refl };
 }
-
-const NOWHERE: Rect = Rect {
-    x: 0,
-    y: 0,
-    w: 0,
-    h: 0,
-};
-
-/// What an unused place holds, so that equal lists are kept as equal structs.
-const BLANK: Layer = Layer {
-    plane: 0,
-    fb: FbInfo {
-        id: 0,
-        width: 0,
-        height: 0,
-        format: Format::Xr24,
-    },
-    dst: NOWHERE,
-    src: NOWHERE,
-    visible: None,
-    alpha: 0,
-    blend: 0,
-};
 
 impl Layers {
     /// No layer.
@@ -61,7 +38,7 @@ impl Layers {
         ensures { result ≡ [] }
     {
         Layers {
-            items: [BLANK; 16],
+            items: [Layer::BLANK; 16],
             count: 0,
         }
     }

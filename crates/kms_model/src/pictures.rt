@@ -15,6 +15,16 @@ pub struct Rect {
     pub h: i64,
 }
 
+impl Rect {
+    /// No pixel: the empty rectangle at the upper left corner.
+    pub const EMPTY: Rect = Rect {
+        x: 0,
+        y: 0,
+        w: 0,
+        h: 0,
+    };
+}
+
 /// A framebuffer.
 #[derive(Clone, Copy, Debug, PartialEq, Eq)]
 pub struct FbInfo {
@@ -45,6 +55,24 @@ pub struct Layer {
     pub alpha: u32,
     /// The blend mode: 0 Pre-multiplied, 1 Coverage, 2 None.
     pub blend: u32,
+}
+
+impl Layer {
+    /// What an unused place of a list of layers holds.
+    pub const BLANK: Layer = Layer {
+        plane: 0,
+        fb: FbInfo {
+            id: 0,
+            width: 0,
+            height: 0,
+            format: Format::Xr24,
+        },
+        dst: Rect::EMPTY,
+        src: Rect::EMPTY,
+        visible: None,
+        alpha: 0,
+        blend: 0,
+    };
 }
 
 /// What a CRTC that is on shows.

@@ -5,6 +5,7 @@
 //! table of `rule_of`.
 ghost use Rattle.std.specs.Prelude.{◌≡◌, IfSome, Some, ◌++◌, ◌∷◌, is_some};
 ghost use Rattle.kms_model.specs.Report.Replies.{errno_of, is_rule, refusal_text};
+ghost use Rattle.kms_model.specs.Report.Rules.{rule_name, rule_source, rule_text};
 
 use crate::replies::{Denied, Refusal};
 use std::fmt;
@@ -144,39 +145,70 @@ pub fn rule_of(number: u32) -> Option<Rule>
     ensures exists { is_some result ≡ is_rule number }
     ensures number { IfSome result (λ r. r.number ≡ number) }
     ensures errno { IfSome result (λ r. r.errno.now ≡ errno_of number) }
+    ensures name { IfSome result (λ r. r.name.now ≡ rule_name number) }
+    ensures rule { IfSome result (λ r. r.rule.now ≡ rule_text number) }
+    ensures source { IfSome result (λ r. r.source.now ≡ rule_source number) }
 {
     rules! { number,
-        1 UNKNOWN_FLAG "EINVAL" "a flag outside of those that there are is set" "drm_mode_atomic_ioctl"
+        1 UNKNOWN_FLAG "EINVAL" "a flag outside of those that there are is set"
+            "drm_mode_atomic_ioctl"
         2 ASYNC_FLIP "EINVAL" "PAGE_FLIP_ASYNC is set" "drm_mode_atomic_ioctl"
         3 TEST_WITH_EVENT "EINVAL" "TEST_ONLY and PAGE_FLIP_EVENT are set" "drm_mode_atomic_ioctl"
         4 NO_OBJECT "ENOENT" "the object does not exist" "drm_mode_object_find"
         5 NO_PROPERTY "ENOENT" "the object does not have the property" "drm_mode_obj_find_prop_id"
         6 IMMUTABLE_PROPERTY "EINVAL" "the property is immutable" "drm_property_change_valid_get"
-        7 INVALID_VALUE "EINVAL" "the value is not among those of the property" "drm_property_change_valid_get"
-        8 SECOND_IN_FENCE "EINVAL" "an earlier assignment named a fence for this plane" "drm_atomic_plane_set_property"
-        9 EVENT_WITHOUT_CRTC "EINVAL" "PAGE_FLIP_EVENT is set and no CRTC is named" "prepare_signaling"
-        10 FRAMEBUFFER_XOR_CRTC "EINVAL" "a plane has a framebuffer without a CRTC, or a CRTC without a framebuffer" "drm_atomic_plane_check"
-        11 CRTC_NOT_POSSIBLE "EINVAL" "the CRTC of a plane is not among its possible CRTCs" "drm_atomic_plane_check"
-        12 FORMAT_NOT_SUPPORTED "EINVAL" "the format of the framebuffer is not among those of the plane" "drm_plane_has_format"
-        13 DESTINATION_TOO_FAR "ERANGE" "the destination of a plane ends beyond 2147483647" "drm_atomic_plane_check"
-        14 SOURCE_OUTSIDE_FRAMEBUFFER "ENOSPC" "the source of a plane ends outside of its framebuffer" "drm_framebuffer_check_src_coords"
-        15 SWITCHES_CRTC "EINVAL" "a plane goes from one CRTC straight to another" "plane_switching_crtc"
+        7 INVALID_VALUE "EINVAL" "the value is not among those of the property"
+            "drm_property_change_valid_get"
+        8 SECOND_IN_FENCE "EINVAL" "an earlier assignment named a fence for this plane"
+            "drm_atomic_plane_set_property"
+        9 EVENT_WITHOUT_CRTC "EINVAL" "PAGE_FLIP_EVENT is set and no CRTC is named"
+            "prepare_signaling"
+        10 FRAMEBUFFER_XOR_CRTC "EINVAL"
+            "a plane has a framebuffer without a CRTC, or a CRTC without a framebuffer"
+            "drm_atomic_plane_check"
+        11 CRTC_NOT_POSSIBLE "EINVAL" "the CRTC of a plane is not among its possible CRTCs"
+            "drm_atomic_plane_check"
+        12 FORMAT_NOT_SUPPORTED "EINVAL"
+            "the format of the framebuffer is not among those of the plane"
+            "drm_plane_has_format"
+        13 DESTINATION_TOO_FAR "ERANGE" "the destination of a plane ends beyond 2147483647"
+            "drm_atomic_plane_check"
+        14 SOURCE_OUTSIDE_FRAMEBUFFER "ENOSPC"
+            "the source of a plane ends outside of its framebuffer"
+            "drm_framebuffer_check_src_coords"
+        15 SWITCHES_CRTC "EINVAL" "a plane goes from one CRTC straight to another"
+            "plane_switching_crtc"
         16 ACTIVE_WITHOUT_MODE "EINVAL" "a CRTC is active and has no mode" "drm_atomic_crtc_check"
-        17 SIGNAL_WHILE_OFF "EINVAL" "an event or an out-fence is asked of a CRTC that was off and stays off" "drm_atomic_crtc_check"
-        18 CONNECTOR_NOT_POSSIBLE "EINVAL" "the CRTC of a connector is not among its possible CRTCs" "update_connector_routing"
-        19 CLONED_CONNECTORS "EINVAL" "two or more connectors have the same CRTC" "drm_atomic_helper_check_modeset"
-        20 MODE_XOR_CONNECTOR "EINVAL" "a CRTC has a mode and no connector, or a connector and no mode" "drm_atomic_helper_check_modeset"
-        21 CRTC_NOT_ENABLED "EINVAL" "the CRTC of a plane is not enabled" "drm_atomic_helper_check_plane_state"
-        22 SCALED "ERANGE" "source and destination of a plane differ in size" "drm_atomic_helper_check_plane_state"
-        23 FRACTIONAL_SOURCE "EINVAL" "the source of a plane begins between pixels" "drm_atomic_helper_check_plane_state"
-        24 MODESET_NOT_ALLOWED "EINVAL" "a CRTC needs a modeset and ALLOW_MODESET is not set" "drm_atomic_check_only"
+        17 SIGNAL_WHILE_OFF "EINVAL"
+            "an event or an out-fence is asked of a CRTC that was off and stays off"
+            "drm_atomic_crtc_check"
+        18 CONNECTOR_NOT_POSSIBLE "EINVAL" "the CRTC of a connector is not among its possible CRTCs"
+            "update_connector_routing"
+        19 CLONED_CONNECTORS "EINVAL" "two or more connectors have the same CRTC"
+            "drm_atomic_helper_check_modeset"
+        20 MODE_XOR_CONNECTOR "EINVAL"
+            "a CRTC has a mode and no connector, or a connector and no mode"
+            "drm_atomic_helper_check_modeset"
+        21 CRTC_NOT_ENABLED "EINVAL" "the CRTC of a plane is not enabled"
+            "drm_atomic_helper_check_plane_state"
+        22 SCALED "ERANGE" "source and destination of a plane differ in size"
+            "drm_atomic_helper_check_plane_state"
+        23 FRACTIONAL_SOURCE "EINVAL" "the source of a plane begins between pixels"
+            "drm_atomic_helper_check_plane_state"
+        24 MODESET_NOT_ALLOWED "EINVAL" "a CRTC needs a modeset and ALLOW_MODESET is not set"
+            "drm_atomic_check_only"
         25 NO_EVENT_SPACE "ENOMEM" "there is no space for the events" "drm_event_reserve_init"
-        26 BUSY "EBUSY" "NONBLOCK is set and the commit before has not flipped" "drm_atomic_helper_setup_commit"
-        31 INVALID_SIZE "EINVAL" "a side of the buffer is 0 or above 4096 pixels" "drm_mode_create_dumb"
-        32 NO_BUFFER_SPACE "ENOSPC" "all buffers would have more than 268435456 bytes" "drm_mode_create_dumb"
-        33 NOT_FOUND "ENOENT" "the label is no open thing of this kind that the command may name" "drm_mode_addfb2, drm_mode_closefb_ioctl, drm_mode_destroyblob_ioctl"
+        26 BUSY "EBUSY" "NONBLOCK is set and the commit before has not flipped"
+            "drm_atomic_helper_setup_commit"
+        31 INVALID_SIZE "EINVAL" "a side of the buffer is 0 or above 4096 pixels"
+            "drm_mode_create_dumb"
+        32 NO_BUFFER_SPACE "ENOSPC" "all buffers would have more than 268435456 bytes"
+            "drm_mode_create_dumb"
+        33 NOT_FOUND "ENOENT" "the label is no open thing of this kind that the command may name"
+            "drm_mode_addfb2, drm_mode_closefb_ioctl, drm_mode_destroyblob_ioctl"
         34 NOT_OWNER "EPERM" "the blob is the blob of another client" "drm_mode_destroyblob_ioctl"
-        35 NOT_SIGNALLABLE "EINVAL" "the label is no fence that a `fence` command made" "sw_sync_ioctl"
+        35 NOT_SIGNALLABLE "EINVAL" "the label is no fence that a `fence` command made"
+            "sw_sync_ioctl"
     }
 }
 

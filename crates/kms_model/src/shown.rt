@@ -19,6 +19,6 @@ pub fn what_is_shown_can_be_composed()
 /// Framebuffers have buffers of their sizes and formats before the first command, and each command leaves them so.
 pub fn framebuffers_have_their_buffers()
     ensures start { (t : Topology) → AreFramed (start t).things }
-    ensures kept { (t : Topology) (w : World) (client : ℕ) (c : Command) → IsSound t w → AreFramed w.things
-        → AreFramed (execute t w client c).world.things }
+    ensures kept { (t : Topology) (w : World) (client : ℕ) (c : Command)
+        → IsSound t w → AreFramed w.things → AreFramed (execute t w client c).world.things }
 {}

@@ -21,6 +21,19 @@ pub struct PlaneState {
     pub zpos: u32,
 }
 
+impl PlaneState {
+    /// The lowest plane of a device before its first command: on no CRTC, and opaque.
+    pub const OFF: PlaneState = PlaneState {
+        fb: None,
+        crtc: 0,
+        dst: Rect::EMPTY,
+        src: Rect::EMPTY,
+        alpha: 65535,
+        blend: 0,
+        zpos: 0,
+    };
+}
+
 /// A CRTC's state. (Kernel: `struct drm_crtc_state`.)
 #[derive(Clone, Copy, Debug, PartialEq, Eq)]
 pub struct CrtcState {
@@ -34,11 +47,26 @@ pub struct CrtcState {
     pub conns: u32,
 }
 
+impl CrtcState {
+    /// A CRTC that is off, without a mode, a plane or a connector.
+    pub const OFF: CrtcState = CrtcState {
+        active: false,
+        mode: None,
+        planes: 0,
+        conns: 0,
+    };
+}
+
 /// A connector's state. (Kernel: `struct drm_connector_state`.)
 #[derive(Clone, Copy, Debug, PartialEq, Eq)]
 pub struct ConnState {
     /// The id of its CRTC, or 0.
     pub crtc: u32,
+}
+
+impl ConnState {
+    /// A connector that is on no CRTC.
+    pub const OFF: ConnState = ConnState { crtc: 0 };
 }
 
 /// The state of an object with a lock.

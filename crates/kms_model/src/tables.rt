@@ -94,7 +94,8 @@ fn place_in<T>(slots: &[Slot<T>], id: u32) -> Option<usize>
     requires { IsRising slots.now }
     ensures in_range { IfSome result (λ i. i < length slots.now) }
     ensures at { IfSome result (λ i. slice_index (slot_ids slots.now) i ≡ id) }
-    ensures absent { IfNone result ((k : ℕ) → k < length slots.now → slice_index (slot_ids slots.now) k ≢ id) }
+    ensures absent { IfNone result ((k : ℕ) → k < length slots.now
+        → slice_index (slot_ids slots.now) k ≢ id) }
 {
     let mut low: usize = 0;
     let mut high = slots.len();

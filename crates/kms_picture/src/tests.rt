@@ -3,7 +3,7 @@ use kms_model::{
     Both, CrtcState, Duplicates, FIRST_CONNECTOR_ID, FIRST_CRTC_ID, FIRST_PLANE_ID, FbInfo, Format,
     Picture, PlaneState, Rect, Shown,
 };
-use kms_samples::mode_of;
+use kms_samples::sized_mode;
 use kms_state::Duplicating;
 use std::process::Abort;
 
@@ -51,7 +51,7 @@ fn device() -> Duplicates {
     };
     let on = CrtcState {
         active: true,
-        mode: Some(mode_of(10, 8)),
+        mode: Some(sized_mode(10, 8)),
         ..off
     };
     states.crtcs[1] = Some(Both { old: off, new: on });
@@ -89,7 +89,7 @@ fn layers_stand_by_zpos_and_then_by_plane(rt: HostRuntime) {
         assert!(rt; false);
         return;
     };
-    assert_eq!(rt; shown.mode, mode_of(10, 8));
+    assert_eq!(rt; shown.mode, sized_mode(10, 8));
     assert_eq!(rt; shown.conn, FIRST_CONNECTOR_ID + 6);
     let layers = shown.layers.as_slice();
     assert_eq!(rt; layers.len(), 4);
@@ -155,7 +155,7 @@ fn a_crtc_that_is_off_or_has_no_mode_shows_nothing(rt: HostRuntime) {
     assert_eq!(rt; shown(&rt, &states, 0), None);
     let state = CrtcState {
         active: false,
-        mode: Some(mode_of(10, 8)),
+        mode: Some(sized_mode(10, 8)),
         ..state
     };
     states.crtcs[0] = Some(Both {
@@ -184,7 +184,7 @@ fn a_crtc_without_planes_and_connectors_is_black(rt: HostRuntime) {
     let mut states = Duplicates::empty();
     let state = CrtcState {
         active: true,
-        mode: Some(mode_of(10, 8)),
+        mode: Some(sized_mode(10, 8)),
         planes: 0,
         conns: 0,
     };
@@ -195,6 +195,6 @@ fn a_crtc_without_planes_and_connectors_is_black(rt: HostRuntime) {
     let seen = shown(&rt, &states, 3);
     assert_eq!(rt;
         seen.map(|s| (s.mode, s.conn, s.layers.len())),
-        Some((mode_of(10, 8), 0, 0))
+        Some((sized_mode(10, 8), 0, 0))
     );
 }

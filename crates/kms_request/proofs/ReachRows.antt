@@ -18,7 +18,7 @@ use Rattle.kms_model.specs.Request.Apply.{apply}
 use Rattle.kms_model.specs.Request.Reach.{reaches}
 use Rattle.kms_model.specs.Request.Refusals.{own_refusal}
 use Rattle.kms_model.specs.Request.Touched.{touches}
-use Rattle.kms_samples.specs.Samples.{double, light, mode_of, request, set, tiny}
+use Rattle.kms_samples.specs.Samples.{double, light, sized_mode, request, set, tiny}
 
 abbrev made : ℕ → Bool → Content → Thing
 made label is_open content = record { label = label; id = 1000 + label; owner = 1; content = content; is_open = is_open }
@@ -28,7 +28,7 @@ abbrev things : List Thing
 things =
     made 0 false (content.Framebuffer (record { id = 1000; width = 1; height = 1; format = Xr24 }) 0)
     ∷ made 1 false (content.Mode tiny)
-    ∷ made 2 false (content.Mode (mode_of 2 2))
+    ∷ made 2 false (content.Mode (sized_mode 2 2))
     ∷ made 3 true content.Fence
     ∷ []
 

@@ -63,7 +63,7 @@ fn members(mask: u32, count: usize) -> usize
 }
 
 /// What is wrong with a plane of a set, from 10 to 15.
-fn plane_at(
+fn check_plane(
     topology: &Topology,
     states: &Duplicates,
     objects: &Mask,
@@ -79,7 +79,7 @@ fn plane_at(
 }
 
 /// What is wrong with a CRTC of a set, 16 or 17.
-fn crtc_at(states: &Duplicates, objects: &Mask, asked: Asked, index: usize) -> Option<Refusal>
+fn check_crtc(states: &Duplicates, objects: &Mask, asked: Asked, index: usize) -> Option<Refusal>
     ensures { refusal_number result
         ≡ option_and_then (crtc_refusal_of (bits_of asked.flags) asked.named asked.fenced index)
         (crtc_in states.now objects.now index) }
@@ -91,7 +91,7 @@ fn crtc_at(states: &Duplicates, objects: &Mask, asked: Asked, index: usize) -> O
 }
 
 /// What is wrong with a connector of a set, 18.
-fn conn_at(
+fn check_conn(
     topology: &Topology,
     states: &Duplicates,
     objects: &Mask,
@@ -106,7 +106,7 @@ fn conn_at(
 }
 
 /// 19, where two or more connectors are on a CRTC of a set.
-fn clones_at(
+fn check_clones(
     topology: &Topology,
     states: &Duplicates,
     objects: &Mask,
@@ -124,7 +124,7 @@ fn clones_at(
 }
 
 /// 20, where a CRTC of a set has a mode and no connector, or a connector and no mode.
-fn route_at(states: &Duplicates, objects: &Mask, index: usize) -> Option<Refusal>
+fn check_route(states: &Duplicates, objects: &Mask, index: usize) -> Option<Refusal>
     ensures { refusal_number result ≡ option_and_then (λ both. route_refusal_of both)
         (crtc_in states.now objects.now index) }
 {
@@ -137,9 +137,10 @@ fn route_at(states: &Duplicates, objects: &Mask, index: usize) -> Option<Refusal
 }
 
 /// What is wrong with a plane of a set on its CRTC, from 21 to 23.
-fn shown_at(states: &Duplicates, objects: &Mask, index: usize) -> Option<Refusal>
+fn check_shown(states: &Duplicates, objects: &Mask, index: usize) -> Option<Refusal>
     requires { IfSome (plane_in states.now objects.now index) (λ both. IsPlaneInRange both.new) }
-    ensures { refusal_number result ≡ option_and_then (λ both. shown_refusal_of states.now.crtcs both)
+    ensures { refusal_number result
+        ≡ option_and_then (λ both. shown_refusal_of states.now.crtcs both)
         (plane_in states.now objects.now index) }
 {
     let both = duplicate_in(objects.planes, &states.planes, index)?;
@@ -160,12 +161,12 @@ fn refusal_at(
         ≡ refusal_at topology.now states.now objects.now asked step index }
 {
     match step {
-        Step::Planes => plane_at(topology, states, objects, index),
-        Step::Crtcs => crtc_at(states, objects, asked, index),
-        Step::Conns => conn_at(topology, states, objects, index),
-        Step::Clones => clones_at(topology, states, objects, index),
-        Step::Routes => route_at(states, objects, index),
-        Step::Shown => shown_at(states, objects, index),
+        Step::Planes => check_plane(topology, states, objects, index),
+        Step::Crtcs => check_crtc(states, objects, asked, index),
+        Step::Conns => check_conn(topology, states, objects, index),
+        Step::Clones => check_clones(topology, states, objects, index),
+        Step::Routes => check_route(states, objects, index),
+        Step::Shown => check_shown(states, objects, index),
     }
 }
 

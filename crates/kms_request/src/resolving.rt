@@ -25,7 +25,8 @@ pub fn resolve(
 ) -> Result<Resolved, RequestError>
     requires { IsTrue (keeps_limits topology.now) }
     ensures resolved { IfOk result (IsResolved topology.now (look_in found.now) request.now) }
-    ensures refused { IfErr result (ComesFrom (early_refusal topology.now (look_in found.now) request.now)) }
+    ensures refused { IfErr result
+        (ComesFrom (early_refusal topology.now (look_in found.now) request.now)) }
 
     // The same of every other way to look labels up, as in a world, that tells of the labels of the request what `found`
     // tells.

@@ -659,13 +659,6 @@ fn a_refused_request_is_not_resolved(rt: HostRuntime) {
     assert_eq!(rt; refused, Some(RequestError::Of(Refusal::INVALID_VALUE)));
 }
 
-const NOWHERE: Rect = Rect {
-    x: 0,
-    y: 0,
-    w: 0,
-    h: 0,
-};
-
 /// Two planes and a connector on these CRTCs.
 fn states(first: u32, second: u32, conn: u32) -> Duplicates {
     let mut states = Duplicates {
@@ -685,13 +678,8 @@ fn states(first: u32, second: u32, conn: u32) -> Duplicates {
 
 fn plane_on(crtc: u32) -> Both<PlaneState> {
     let plane = PlaneState {
-        fb: None,
         crtc,
-        dst: NOWHERE,
-        src: NOWHERE,
-        alpha: 65535,
-        blend: 0,
-        zpos: 0,
+        ..PlaneState::OFF
     };
     Both {
         old: plane,

@@ -11,53 +11,38 @@ use Rattle.kms_model.specs.declared.scripts.PropRef.TheVariants.{Known}
 use Rattle.kms_model.specs.declared.scripts.Request.{Request}
 use Rattle.kms_model.specs.declared.scripts.Value.{Value}
 use Rattle.kms_model.specs.declared.scripts.Value.TheVariants as value
+use Rattle.kms_model.specs.Device.Modes.{plain_mode}
 
 -- so many pixels in a row, and so many rows, with nothing around them
-abbrev pub mode_of : ℕ → ℕ → Mode
-mode_of columns rows = record {
-  clock = 1;
-  hdisplay = columns;
-  hsync_start = columns;
-  hsync_end = columns;
-  htotal = columns;
-  hskew = 0;
-  vdisplay = rows;
-  vsync_start = rows;
-  vsync_end = rows;
-  vtotal = rows;
-  vscan = 0;
-  vrefresh = 60;
-  flags = 0;
-  kind = 0;
-  name = replicate 32 0;
-}
+abbrev pub sized_mode : ℕ → ℕ → Mode
+sized_mode columns rows = plain_mode 1 columns rows (replicate 32 0)
 
 -- one pixel
 abbrev pub tiny : Mode
-tiny = mode_of 1 1
+tiny = sized_mode 1 1
 
 -- a primary plane of some CRTCs that takes XR24 alone
 abbrev pub plane_of : ℕ → PlaneInfo
 plane_of crtcs = record { kind = 1; crtcs = crtcs; formats = 1 }
 
-abbrev pub device_of : ℕ → List PlaneInfo → List ℕ → Topology
-device_of crtcs planes conns = record { crtcs = crtcs; planes = planes; conns = conns }
+abbrev pub device_with : ℕ → List PlaneInfo → List ℕ → Topology
+device_with crtcs planes conns = record { crtcs = crtcs; planes = planes; conns = conns }
 
 -- one CRTC, a plane of it and a connector of it
 abbrev pub single : Topology
-single = device_of 1 (plane_of 1 ∷ []) (1 ∷ [])
+single = device_with 1 (plane_of 1 ∷ []) (1 ∷ [])
 
 -- one CRTC, a plane and two connectors of it
 abbrev pub cloned : Topology
-cloned = device_of 1 (plane_of 1 ∷ []) (1 ∷ 1 ∷ [])
+cloned = device_with 1 (plane_of 1 ∷ []) (1 ∷ 1 ∷ [])
 
 -- two CRTCs, a plane of both, one of the first alone and a connector of the first alone
 abbrev pub pair : Topology
-pair = device_of 2 (plane_of 3 ∷ plane_of 1 ∷ []) (1 ∷ [])
+pair = device_with 2 (plane_of 3 ∷ plane_of 1 ∷ []) (1 ∷ [])
 
 -- the same with a second connector of the first CRTC alone
 abbrev pub double : Topology
-double = device_of 2 (plane_of 3 ∷ plane_of 1 ∷ []) (1 ∷ 1 ∷ [])
+double = device_with 2 (plane_of 3 ∷ plane_of 1 ∷ []) (1 ∷ 1 ∷ [])
 
 -- a plane of two CRTCs that takes every format
 abbrev pub plane_of_both : PlaneInfo
@@ -65,7 +50,7 @@ plane_of_both = record { kind = 1; crtcs = 3; formats = 7 }
 
 -- two CRTCs, and two planes and a connector that go on each of them
 abbrev pub split : Topology
-split = device_of 2 (plane_of_both ∷ plane_of_both ∷ []) (3 ∷ [])
+split = device_with 2 (plane_of_both ∷ plane_of_both ∷ []) (3 ∷ [])
 
 -- sets a property of the object of a kind with an index
 abbrev pub set : Kind → ℕ → ℕ → Value → Assign

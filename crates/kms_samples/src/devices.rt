@@ -1,7 +1,7 @@
 //! Devices.
 ghost use Rattle.std.specs.Prelude.{◌≡◌, IfOk};
 ghost use Rattle.kms_model.specs.Device.Sound.{IsDevice};
-ghost use Rattle.kms_samples.specs.Samples.{cloned, device_of, double, pair, plane_of, single, split};
+ghost use Rattle.kms_samples.specs.Samples.{cloned, device_with, double, pair, plane_of, single, split};
 
 use kms_model::{NoMemory, PlaneInfo, Seq, Topology};
 use std::alloc::Global;
@@ -18,13 +18,13 @@ pub fn plane_of(crtcs: u32) -> PlaneInfo
 }
 
 /// A device of this many CRTCs, these planes and connectors, each of which is the mask of its possible CRTCs.
-fn device_of(
+fn device_with(
     alloc: Global,
     crtcs: u32,
     planes: &[PlaneInfo],
     conns: &[u32],
 ) -> Result<Topology, NoMemory>
-    ensures { IfOk result (λ t. t ≡ device_of crtcs planes.now conns.now) }
+    ensures { IfOk result (λ t. t ≡ device_with crtcs planes.now conns.now) }
 {
     Ok(Topology {
         crtcs,
@@ -38,7 +38,7 @@ pub fn single(alloc: Global) -> Result<Topology, NoMemory>
     ensures value { IfOk result (λ t. t ≡ single) }
     ensures device { IfOk result IsDevice }
 {
-    device_of(alloc, 1, &[plane_of(1)], &[1])
+    device_with(alloc, 1, &[plane_of(1)], &[1])
 }
 
 /// One CRTC, a plane and two connectors of it.
@@ -46,7 +46,7 @@ pub fn cloned(alloc: Global) -> Result<Topology, NoMemory>
     ensures value { IfOk result (λ t. t ≡ cloned) }
     ensures device { IfOk result IsDevice }
 {
-    device_of(alloc, 1, &[plane_of(1)], &[1, 1])
+    device_with(alloc, 1, &[plane_of(1)], &[1, 1])
 }
 
 /// Two CRTCs, a plane of both, one of the first alone and a connector of the first alone.
@@ -54,7 +54,7 @@ pub fn pair(alloc: Global) -> Result<Topology, NoMemory>
     ensures value { IfOk result (λ t. t ≡ pair) }
     ensures device { IfOk result IsDevice }
 {
-    device_of(alloc, 2, &[plane_of(3), plane_of(1)], &[1])
+    device_with(alloc, 2, &[plane_of(3), plane_of(1)], &[1])
 }
 
 /// As [`pair`], with a second connector of the first CRTC alone.
@@ -62,7 +62,7 @@ pub fn double(alloc: Global) -> Result<Topology, NoMemory>
     ensures value { IfOk result (λ t. t ≡ double) }
     ensures device { IfOk result IsDevice }
 {
-    device_of(alloc, 2, &[plane_of(3), plane_of(1)], &[1, 1])
+    device_with(alloc, 2, &[plane_of(3), plane_of(1)], &[1, 1])
 }
 
 /// Two CRTCs, and two planes and a connector that go on each of them; the planes take every format.
@@ -74,5 +74,5 @@ pub fn split(alloc: Global) -> Result<Topology, NoMemory>
         formats: 7,
         ..plane_of(3)
     };
-    device_of(alloc, 2, &[plane, plane], &[3])
+    device_with(alloc, 2, &[plane, plane], &[3])
 }

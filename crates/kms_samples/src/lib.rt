@@ -7,5 +7,5 @@ mod modes;
 mod requests;
 
 pub use devices::{cloned, double, pair, plane_of, single, split};
-pub use modes::{mode_of, tiny};
+pub use modes::{sized_mode, tiny};
 pub use requests::{ALLOW_MODESET, light, on_crtc, on_plane, request, set};

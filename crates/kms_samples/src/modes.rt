@@ -1,12 +1,12 @@
 //! Modes. (Header: `drm_mode.h`, `struct drm_mode_modeinfo`.)
 ghost use Rattle.std.specs.Prelude.{◌≡◌};
-ghost use Rattle.kms_samples.specs.Samples.{mode_of, tiny};
+ghost use Rattle.kms_samples.specs.Samples.{sized_mode, tiny};
 
 use kms_model::Mode;
 
 /// A mode of this many pixels in a row, and of this many rows, with nothing around them.
-pub fn mode_of(columns: u16, rows: u16) -> Mode
-    ensures { result ≡ mode_of columns rows }
+pub fn sized_mode(columns: u16, rows: u16) -> Mode
+    ensures { result ≡ sized_mode columns rows }
 {
     Mode {
         clock: 1,
@@ -31,5 +31,5 @@ pub fn mode_of(columns: u16, rows: u16) -> Mode
 pub fn tiny() -> Mode
     ensures { result ≡ tiny }
 {
-    mode_of(1, 1)
+    sized_mode(1, 1)
 }

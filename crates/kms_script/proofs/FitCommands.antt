@@ -13,8 +13,7 @@ use Rattle.kms_model.specs.declared.scripts.Value.TheVariants as value
 use Rattle.kms_model.specs.Device.Properties.{name_of}
 use Rattle.kms_model.specs.Script.CommandLines.{Names, addfb_read, assign_read, assign_words, assigns_read, atomic_read, blob_read, buffer_read, command_read, label_alone, label_read, making, making_read, mode_fields, mode_read, naming_read, pattern_at, place, property_read, saying, thing_read, value_read}
 use Rattle.kms_model.specs.Script.Grammar.{blob_bytes, field_words, format_at, hex_at, int, is_property_word, known_property, object}
-use Rattle.kms_model.specs.Script.Spelling.{name_word}
-use Rattle.kms_model.specs.Script.WellFormed.{has_widths, is_assign_in, is_command_in, is_integer, is_label_in, is_mode_name, is_pattern_of, is_property_in, is_value_in, is_word32}
+use Rattle.kms_model.specs.Script.WellFormed.{has_widths, is_assign_in, is_command_in, is_label_in, is_mode_name, is_pattern_of, is_property_in, is_value_in, is_word32}
 use Rattle.kms_model.specs.Script.Words.{between, dec, dec_at, end_at, field_at, from, is_label, label_at, strip, until}
 use Rattle.kms_script.proofs.FitWords.{alone_fit, blob_fit, dec_at_fit, fits_both, hex_at_fit, index_fit, int_fit, label_fit, long_fit, mode_fit, object_fit, pattern_fit, word_fit}
 use Rattle.kms_script.proofs.Inverted.{bind_some, choice_some, from_bind, if_some, map_some, or_some, some_same}

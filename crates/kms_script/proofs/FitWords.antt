@@ -17,7 +17,7 @@ use Rattle.kms_model.specs.declared.scripts.Pattern.TheVariants.{Checker, Pixels
 use Rattle.kms_model.specs.Script.CommandLines.{checker_at, each_pixel_at, five_at, label_alone, mode_fields, pattern_at, pixels_at, ramp_at, solid_at}
 use Rattle.kms_model.specs.Script.Grammar.{blob_bytes, digits_of, hex, hex_at, hex_bytes, hex_pair, indexed, int, is_hex_number, negative, object, pixel_at, pixel_number}
 use Rattle.kms_model.specs.Script.WellFormed.{are_words16, has_widths, is_integer, is_mode_name, is_pattern_of, is_pixel_of, is_word16, is_word32}
-use Rattle.kms_model.specs.Script.Words.{between, dec, dec_at, end_at, field_at, hex_from, hex_value, is_digit, is_hex, is_label, is_name_byte, label_at, name_at, strip, until}
+use Rattle.kms_model.specs.Script.Words.{between, dec, dec_at, end_at, field_at, hex_from, hex_value, is_digit, is_hex, is_label, is_name_byte, label_at, name_at, strip}
 use Rattle.kms_script.proofs.Decimals.{dec_at_most}
 use Rattle.kms_script.proofs.Inverted.{bind_some, choice_some, from_bind, if_some, map_some, or_some, some_same}
 use Rattle.kms_script.proofs.SpeltFields.{name_ends}

@@ -8,10 +8,11 @@ use Rattle.kms_model.specs.declared.objects.PlaneInfo.{PlaneInfo}
 use Rattle.kms_model.specs.declared.scripts.Command.{Command}
 use Rattle.kms_model.specs.declared.scripts.Script.{Script}
 use Rattle.kms_model.specs.Device.Properties.{has_legal_masks, is_legal_device, is_mask_below}
+use Rattle.kms_model.specs.Script.Spelling.{Spells}
 use Rattle.kms_model.specs.Script.WellFormed.{IsFitClient, IsWellFormed}
 use Rattle.kms_model.specs.Script.WholeInput.{Draft, topology_in}
 use Rattle.kms_model.specs.Script.Words.{between}
-use Rattle.kms_script.proofs.FitScripts.{IsSpelt}
+use Rattle.kms_script.proofs.FitScripts.{IsSpelt, spelt_fits}
 use Rattle.kms_script.specs.Drafted.{ended}
 use Rattle.kms_script.specs.Fitting.{KeepsLimits, IsFitCount, IsFitDevice, IsFitMask, IsFitPlane}
 
@@ -74,14 +75,18 @@ keeps_limits d names clients fit some each few differ = record {
 }
 
 -- a script that bytes spell, and that keeps the limits, is well formed
-pub well_formed : (s : Script) → KeepsLimits s → IsSpelt s → IsWellFormed s
-well_formed s limits spelt = record {
-  device = limits.device;
-  few = limits.few;
-  clients = limits.clients;
-  version = limits.version;
-  planes = spelt.planes;
-  conns = spelt.conns;
-  differ = limits.differ;
-  commands = spelt.commands;
-}
+pub well_formed : (bytes : List ℕ) (s : Script) → KeepsLimits s → Spells bytes s → IsWellFormed s
+well_formed bytes s limits spells =
+    let spelt : IsSpelt s = spelt_fits bytes s spells in
+    record {
+      device = limits.device;
+      few = limits.few;
+      clients = limits.clients;
+      version = limits.version;
+      planes = spelt.planes;
+      conns = spelt.conns;
+      differ = limits.differ;
+      commands = spelt.commands;
+      bytes = bytes;
+      spells = spells;
+    }

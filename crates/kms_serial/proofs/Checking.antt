@@ -27,7 +27,6 @@ use Rattle.kms_model.specs.Request.SetRanges.{may_set}
 use Rattle.kms_model.specs.Request.Sets.{set_of}
 use Rattle.kms_model.specs.Device.Sound.{AreNumbered, IsDevice, IsSound}
 use Rattle.kms_model.proofs.RequestLemmas.{accepted_allowed, all_settable}
-use Rattle.kms_model.proofs.SoundStart.{few_planes}
 use Rattle.kms_model.proofs.StandsLemmas.{stands-accepted}
 use Rattle.std.proofs.Math.ListN.{get_or}
 use Rattle.std.proofs.lemmas.List.{take_all}
@@ -39,7 +38,7 @@ use Rattle.kms_model.specs.Request.Verdict.{verdict}
 use Rattle.kms_model.proofs.Items.{or_else-none}
 use Rattle.kms_serial.specs.Device.{IsLetThrough, Stands}
 use Rattle.kms_things.specs.Present.{AreWhole, IsAfter, IsPresent, IsWhole}
-use Rattle.kms_things.proofs.StartStates.{few_conns}
+use Rattle.kms_model.proofs.TouchedLemmas.{few_objects}
 
 -- an object's state stands at its index
 state_there : {S : Type 0} (k : Kind) (states : List (Option (Both S))) (index count : ℕ) → AreWhole count states → index < count → is_some (state_of k states (object_id k index)) ≡ true
@@ -124,7 +123,7 @@ pub set_agrees : (t : Topology) (w : World) (values : List Setting) (before afte
 set_agrees t w values before after a s is device numbered through sets new =
     let P : Set → Type 0 = λ x. Sets before x after in
     subst P is sets t w.things values (number_of w.things a.value)
-    (has_object t a.kind a.index (few_planes t device) (few_conns t device) through.settable.place through.allowed.exists)
+    (has_object t a.kind a.index (few_objects t device).planes (few_objects t device).conns through.settable.place through.allowed.exists)
     new
     (stands-accepted t w a numbered (record { object_exists = through.allowed.exists; has = through.allowed.has; mutable = through.allowed.mutable; is_value = through.allowed.value }))
 

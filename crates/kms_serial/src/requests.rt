@@ -46,7 +46,8 @@ pub fn check(
     request: &Request,
 ) -> Result<Duplicates, Refusal>
     requires { Stands topology.now store.now states.now }
-    ensures refused { IfErr result (λ refusal. verdict topology.now store.now request.now ≡ Some refusal.0) }
+    ensures refused { IfErr result (λ refusal. verdict topology.now store.now request.now
+        ≡ Some refusal.0) }
     ensures accepted { OnOk result (verdict topology.now store.now request.now ≡ None) }
     ensures between { IfOk result (StandBetween topology.now store.now request.now) }
     ensures settable { OnOk result (All IsSettable request.now.assigns) }

@@ -91,7 +91,8 @@ impl Serial {
         requires fit { IsFitCommand command.now }
         requires room { HasRoom self.old.world }
         requires other { IsNoRequest command.now }
-        ensures executed { IfOk result (λ r. execute self.old.topology self.old.world client command.now
+        ensures executed { IfOk result (λ r.
+            execute self.old.topology self.old.world client command.now
             ≡ record { world = self.new.world; reply = r }) }
         ensures topology { self.new.topology ≡ self.old.topology }
         ensures grows { OnOk result (Grows self.old.world self.new.world) }
@@ -108,7 +109,8 @@ impl Serial {
             execute self.old.topology self.old.world client (command.Atomic request.now)
             ≡ record { world = self.new.world; reply = x.0 }) }
         ensures named { IfOk result (λ x.
-            NamesWhereCommitted self.old.topology self.old.world self.new.world request.now x.0 x.1) }
+            NamesWhereCommitted self.old.topology self.old.world self.new.world
+            request.now x.0 x.1) }
         ensures empty { IfOk result (λ x. IsEmptyUnlessCommitted x.0 x.1) }
         ensures topology { self.new.topology ≡ self.old.topology }
         ensures grows { OnOk result (Grows self.old.world self.new.world) }
@@ -137,7 +139,8 @@ impl Serial {
     ) -> Result<Reply, NoMemory>
         requires fit { IsFitCommand command.now }
         requires room { HasRoom self.old.world }
-        ensures executed { IfOk result (λ r. execute self.old.topology self.old.world client command.now
+        ensures executed { IfOk result (λ r.
+            execute self.old.topology self.old.world client command.now
             ≡ record { world = self.new.world; reply = r }) }
         ensures topology { self.new.topology ≡ self.old.topology }
         ensures grows { OnOk result (Grows self.old.world self.new.world) }
@@ -167,7 +170,8 @@ impl Serial {
     #[tactic(auto, unfolding(kms_model::specs::Device::Execution::execute))]
     fn preview_request(&self, request: &Request) -> Reply
         ensures { (client : ℕ)
-            → (execute self.now.topology self.now.world client (command.Atomic request.now)).reply ≡ result }
+            → (execute self.now.topology self.now.world client (command.Atomic request.now)).reply
+            ≡ result }
     {
         match check(&self.topology, &self.store, &self.states, request) {
             Err(refusal) => Reply::Refused(refusal),
@@ -181,7 +185,8 @@ impl Serial {
     /// Whether a request is accepted now. Nothing changes, and no memory is taken.
     pub fn accepts(&self, request: &Request) -> bool
         ensures is { result ≡ is_none (verdict self.now.topology self.now.world request.now) }
-        ensures accepted { IsTrue result → verdict self.now.topology self.now.world request.now ≡ None }
+        ensures accepted { IsTrue result → verdict self.now.topology self.now.world request.now
+            ≡ None }
     {
         matches!(
             check(&self.topology, &self.store, &self.states, request),
@@ -204,7 +209,8 @@ impl Serial {
     pub fn picture(&self, crtc: u32) -> Picture
         requires { crtc < self.now.topology.crtcs }
         ensures picture { result
-            ≡ picture self.now.topology self.now.world.things self.now.world.values (object_id kind.Crtc crtc) }
+            ≡ picture self.now.topology self.now.world.things self.now.world.values
+            (object_id kind.Crtc crtc) }
         ensures shown { EachCanBeShown self.now.world.things result }
     {
         picture(&self.states, crtc)
@@ -234,7 +240,8 @@ impl Serial {
           format = image.format;
           words = image.words.now;
         })) }
-        ensures none { IfNone result (framebuffer_of (thing_with_id self.now.world.things fb) ≡ None) }
+        ensures none { IfNone result (framebuffer_of (thing_with_id self.now.world.things fb)
+            ≡ None) }
         ensures unseen { IfNone result (image_of self.now.world.things fb ≡ None) }
     {
         self.store.things().image(fb)

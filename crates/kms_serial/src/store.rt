@@ -121,7 +121,8 @@ impl WorldStore {
         requires few { topology.now.crtcs ≤ 4 }
         requires settable { All IsSettable request.now.assigns }
         requires room { HasRoom self.old }
-        ensures world { OnOk result (self.new ≡ (committed topology.now self.old client request.now).world) }
+        ensures world { OnOk result (self.new
+            ≡ (committed topology.now self.old client request.now).world) }
         ensures number { IfOk result (λ k. k ≡ self.old.commits) }
         ensures unchanged { OnErr result (self.new ≡ self.old) }
     {

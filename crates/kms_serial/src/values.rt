@@ -30,7 +30,8 @@ impl Values {
 
     /// Those after a request, whose labels name things.
     pub fn after(_before: &Values, _things: &Things, _request: &Request) -> Values
-        ensures { result.settings ≡ apply _things.now.things _before.now.settings _request.now.assigns }
+        ensures { result.settings
+            ≡ apply _things.now.things _before.now.settings _request.now.assigns }
     {
         Values {}
     }

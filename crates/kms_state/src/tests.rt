@@ -22,13 +22,6 @@ const CONN: u32 = FIRST_CONNECTOR_ID;
 
 const ENC: u32 = FIRST_ENCODER_ID;
 
-const NOWHERE: Rect = Rect {
-    x: 0,
-    y: 0,
-    w: 0,
-    h: 0,
-};
-
 const FB: FbInfo = FbInfo {
     id: 1001,
     width: 3,
@@ -38,13 +31,9 @@ const FB: FbInfo = FbInfo {
 
 fn a_plane(crtc: u32) -> ObjState {
     ObjState::Plane(PlaneState {
-        fb: None,
         crtc,
-        dst: NOWHERE,
-        src: NOWHERE,
-        alpha: 65535,
-        blend: 0,
         zpos: 1,
+        ..PlaneState::OFF
     })
 }
 

@@ -20,7 +20,9 @@ use Rattle.kms_model.specs.Device.Sound.{IsDevice}
 use Rattle.kms_model.specs.Device.States.{crtc_at, plane_at}
 use Rattle.kms_model.specs.Script.Words.{between}
 use Rattle.kms_model.specs.Device.World.{settings, start, start_conn, start_crtc, start_planes, value}
-use Rattle.kms_model.proofs.SoundStart.{few_planes, start-crtc, start-zero}
+use Rattle.kms_model.proofs.SoundStart.{start-crtc, start-zero}
+use Rattle.kms_model.proofs.StartValues.{has_number, plane_numbers, plane_value}
+use Rattle.kms_model.proofs.TouchedLemmas.{few_objects}
 use Rattle.kms_things.specs.Present.{AreWhole, IsPresent}
 use Rattle.kms_things.specs.Starting.{alike, off_conn, off_crtc, off_plane, start_states, states_below}
 
@@ -32,83 +34,6 @@ mask_none : (test : ℕ → Bool) (n : ℕ) → ((index : ℕ) → test index �
 unfolding mask_below
 mask_none test zero none = refl
 mask_none test (suc n) none = rw (none n, mask_none test n none) refl
-
--- Values of a plane
-
--- the number of a property among some
-abbrev number_in : List (ℕ × ℤ) → ℕ → ℤ
-number_in [] q = pos 0
-number_in (p ∷ ps) q = cond (eqb p.0 q) p.1 (number_in ps q)
-
-abbrev has_number : List (ℕ × ℤ) → ℕ → Bool
-has_number ps q = list_any (λ p. eqb p.0 q) ps
-
-same : (a : ℕ) → eqb a a ≡ true
-same a = grind (arith, nat_tests)
-
--- an object's own settings
-own_value : (o q : ℕ) (ps : List (ℕ × ℤ)) (rest : List Setting) → has_number ps q ≡ true → value (settings o ps ++ rest) o q ≡ number_in ps q
-own_value o q [] rest has = absurd cc
-own_value o q (p ∷ ps) rest has =
-    elim (eqb_tells p.0 q) [
-      | inl here ↦ rw (same o, here.0) refl
-      | inr away ↦ (let left : has_number ps q ≡ true = rw away.0 at has in rw (same o, away.0) (own_value o q ps rest left))
-    ]
-
--- another object's settings
-other_value : (o p q : ℕ) (ps : List (ℕ × ℤ)) (rest : List Setting) → eqb p o ≡ false → value (settings p ps ++ rest) o q ≡ value rest o q
-other_value o p q [] rest apart = refl
-other_value o p q (n ∷ ps) rest apart = rw apart (other_value o p q ps rest apart)
-
-apart_plus : (a b c : ℕ) → a < b → eqb (c + a) (c + b) ≡ false
-apart_plus a b c lt = grind (arith, nat_tests)
-
-crtc_apart : (i j : ℕ) → j < 100 → eqb (100 + j) (200 + i) ≡ false
-crtc_apart i j lt = grind (arith, nat_tests)
-
--- a plane has no setting of a CRTC
-behind_crtcs : (i q a n : ℕ) (rest : List Setting) → a + n ≤ 100 → value (flat_map start_crtc (range_with_len a n) ++ rest) (200 + i) q ≡ value rest (200 + i) q
-behind_crtcs i q a zero rest few = refl
-behind_crtcs i q a (suc n) rest few =
-    let apart = crtc_apart i a (omega arith) in
-    rw apart (behind_crtcs i q (a + 1) n rest (omega arith))
-
--- the numbers of a plane's settings
-abbrev plane_numbers : ℕ → PlaneInfo → List (ℕ × ℤ)
-plane_numbers index info = (TYPE, pos info.kind) ∷ (FB_ID, pos 0) ∷ (CRTC_ID, pos 0)
-    ∷ (CRTC_X, pos 0) ∷ (CRTC_Y, pos 0) ∷ (CRTC_W, pos 0) ∷ (CRTC_H, pos 0) ∷ (SRC_X, pos 0) ∷ (SRC_Y, pos 0) ∷ (SRC_W, pos 0) ∷ (SRC_H, pos 0)
-    ∷ (ALPHA, pos 65535) ∷ (BLEND, pos 0) ∷ (ZPOS, pos index) ∷ []
-
-among_planes : (first i n q : ℕ) (infos : List PlaneInfo) (info : PlaneInfo) (rest : List Setting) → n ≡ first + i → slice_get infos i ≡ Some info → has_number (plane_numbers n info) q ≡ true
-    → value (start_planes first infos ++ rest) (200 + n) q ≡ number_in (plane_numbers n info) q
-among_planes first i n q [] info rest is at has = absurd (let e : slice_get {X = PlaneInfo} [] i ≡ None = slice_get_past [] i (omega arith) in cc)
-among_planes first zero n q (x ∷ infos) info rest is at has =
-    let f : n ≡ first = is ∙ omega arith in
-    let v : x ≡ info = cc at in
-    rw f (own_value (200 + first) q (plane_numbers first x) (start_planes (first + 1) infos ++ rest) has ∙ ap (λ y. number_in (plane_numbers first y) q) v)
-among_planes first (suc i) n q (x ∷ infos) info rest is at has =
-    let apart : eqb (200 + first) (200 + n) ≡ false = apart_plus first n 200 (omega (arith, is)) in
-    other_value (200 + n) (200 + first) q (plane_numbers first x) (start_planes (first + 1) infos ++ rest) apart ∙ among_planes (first + 1) i n q infos info rest (is ∙ omega arith) at has
-
-pub few_crtcs : (t : Topology) → IsDevice t → t.crtcs ≤ 4
-few_crtcs t device =
-    let limits = (and_parts (keeps_limits t) _ device.legal).0 in
-    let crtcs = (and_parts (between 1 4 t.crtcs) _ limits).0 in
-    leb-true t.crtcs 4 (and_parts _ _ crtcs).1
-
-pub few_conns : (t : Topology) → IsDevice t → length t.conns ≤ 8
-few_conns t device =
-    let limits = (and_parts (keeps_limits t) _ device.legal).0 in
-    let conns = (and_parts (between 1 16 (length t.planes)) (between 1 8 (length t.conns)) (and_parts (between 1 4 t.crtcs) _ limits).1).1 in
-    leb-true (length t.conns) 8 (and_parts _ _ conns).1
-
--- a property of a plane
-plane_value : (t : Topology) (i q : ℕ) (info : PlaneInfo) → IsDevice t → slice_get t.planes i ≡ Some info → has_number (plane_numbers i info) q ≡ true → value (start t).values (200 + i) q ≡ number_in (plane_numbers i info) q
-plane_value t i q info device at has =
-    let conns : List Setting = flat_map start_conn (range_with_len 0 (length t.conns)) in
-    ap (λ ss. value ss (200 + i) q) (append_assoc (flat_map start_crtc (range_with_len 0 t.crtcs)) (start_planes 0 t.planes) conns)
-    ∙ behind_crtcs i q 0 t.crtcs (start_planes 0 t.planes ++ conns) (omega (arith, few_crtcs t device))
-    ∙ among_planes 0 i i q t.planes info conns (omega arith) at has
 
 -- The states of objects
 
@@ -188,20 +113,18 @@ plane_there (p ∷ planes) (suc i) lt = plane_there planes i (omega arith)
 -- the states of the objects before the first command are present
 pub start_present : (t : Topology) → IsDevice t → IsPresent t (start t) (start_states t)
 start_present t device =
-    let crtcs = few_crtcs t device in
-    let planes = few_planes t device in
-    let conns = few_conns t device in
+    let few = few_objects t device in
     let plane : (i : ℕ) → i < length t.planes → off_plane i ≡ plane_at [] (start t).values (object_id kind.Plane i) = λ i lt. (let p = plane_there t.planes i lt in plane_off t i p.0 device p.1) in
     record {
-      whole = record { crtcs = below_whole 4 (λ index. off_crtc) t.crtcs crtcs; planes = below_whole 16 off_plane (length t.planes) planes; conns = below_whole 8 (λ index. off_conn) (length t.conns) conns };
+      whole = record { crtcs = below_whole 4 (λ index. off_crtc) t.crtcs few.crtcs; planes = below_whole 16 off_plane (length t.planes) few.planes; conns = below_whole 8 (λ index. off_conn) (length t.conns) few.conns };
       old = record {
-        crtcs = below_old 4 (λ index. off_crtc) (λ index. crtc_state_at t [] (start t).values (object_id kind.Crtc index)) t.crtcs crtcs (λ i lt. crtc_off t i device);
-        planes = below_old 16 off_plane (λ index. plane_at [] (start t).values (object_id kind.Plane index)) (length t.planes) planes plane;
-        conns = below_old 8 (λ index. off_conn) (λ index. conn_state_at (start t).values (object_id kind.Conn index)) (length t.conns) conns (λ i lt. conn_off t i device);
+        crtcs = below_old 4 (λ index. off_crtc) (λ index. crtc_state_at t [] (start t).values (object_id kind.Crtc index)) t.crtcs few.crtcs (λ i lt. crtc_off t i device);
+        planes = below_old 16 off_plane (λ index. plane_at [] (start t).values (object_id kind.Plane index)) (length t.planes) few.planes plane;
+        conns = below_old 8 (λ index. off_conn) (λ index. conn_state_at (start t).values (object_id kind.Conn index)) (length t.conns) few.conns (λ i lt. conn_off t i device);
       };
       new = record {
-        crtcs = below_new 4 (λ index. off_crtc) (λ index. crtc_state_at t [] (start t).values (object_id kind.Crtc index)) t.crtcs crtcs (λ i lt. crtc_off t i device);
-        planes = below_new 16 off_plane (λ index. plane_at [] (start t).values (object_id kind.Plane index)) (length t.planes) planes plane;
-        conns = below_new 8 (λ index. off_conn) (λ index. conn_state_at (start t).values (object_id kind.Conn index)) (length t.conns) conns (λ i lt. conn_off t i device);
+        crtcs = below_new 4 (λ index. off_crtc) (λ index. crtc_state_at t [] (start t).values (object_id kind.Crtc index)) t.crtcs few.crtcs (λ i lt. crtc_off t i device);
+        planes = below_new 16 off_plane (λ index. plane_at [] (start t).values (object_id kind.Plane index)) (length t.planes) few.planes plane;
+        conns = below_new 8 (λ index. off_conn) (λ index. conn_state_at (start t).values (object_id kind.Conn index)) (length t.conns) few.conns (λ i lt. conn_off t i device);
       };
     }

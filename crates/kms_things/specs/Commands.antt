@@ -10,15 +10,7 @@ use Rattle.kms_model.specs.Device.Execution.{BufferInfo}
 -- any command but an atomic request
 abbrev pub IsNoRequest : Command → Type 0
 IsNoRequest (command.Atomic r) = ⊥
-IsNoRequest (command.Buffer label width height format pattern) = ⊤
-IsNoRequest (command.AddFb label buffer) = ⊤
-IsNoRequest (command.Mode label m) = ⊤
-IsNoRequest (command.Blob label bytes) = ⊤
-IsNoRequest (command.Destroy label) = ⊤
-IsNoRequest (command.CloseFb label) = ⊤
-IsNoRequest (command.Fence label) = ⊤
-IsNoRequest (command.Signal label) = ⊤
-IsNoRequest command.Wait = ⊤
+IsNoRequest _ = ⊤
 
 -- what is answered where a thing with an id is made, or something is done, unless a number refuses it
 abbrev pub made_unless : ℕ → Option ℕ → Reply

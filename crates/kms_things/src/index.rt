@@ -141,7 +141,8 @@ pub fn put_fences(
     requires spare { length labels.now ≤ spare ids.old }
     requires indexed { IsIndex ids.old things.old.items }
     ensures made { (w : World) → w.things ≡ things.old.items → w.next_id ≡ first
-        → fences_made client w labels.now ≡ record w { things = things.new.items; next_id = result } }
+        → fences_made client w labels.now
+        ≡ record w { things = things.new.items; next_id = result } }
     ensures kept { (buffers : List (Slot Buffer)) → AreKept things.old.items first ids.old buffers
         → AreKept things.new.items result ids.new buffers }
     ensures referred { (fbs : List (Slot Framebuffer)) → AreReferred things.old.items first fbs

@@ -54,8 +54,10 @@ fn add_fb(
 ) -> Result<Reply, NoMemory>
     requires { things.old.next_id < 4294967295 }
     ensures made { IfOk result (λ r. (w : World) → add_fb (with_made w things.old) client label
-        (buffer_of things.old.things client buffer) ≡ record { world = with_made w things.new; reply = r }) }
-    ensures counted { OnOk result (things.new.fbs ≡ fbs_added things.old client (buffer_of things.old.things client buffer)) }
+        (buffer_of things.old.things client buffer)
+        ≡ record { world = with_made w things.new; reply = r }) }
+    ensures counted { OnOk result (things.new.fbs
+        ≡ fbs_added things.old client (buffer_of things.old.things client buffer)) }
     ensures unchanged { OnErr result (things.new ≡ things.old) }
 {
     match new_framebuffer(things, client, buffer) {
@@ -67,7 +69,8 @@ fn add_fb(
 /// Destroys a client's blob.
 fn destroy(things: &mut Things, client: u32, label: u32) -> Reply
     ensures counted { things.new.fbs ≡ things.old.fbs }
-    ensures done { (w : World) → destroy (with_made w things.old) client (thing_labelled things.old.things label)
+    ensures done { (w : World)
+        → destroy (with_made w things.old) client (thing_labelled things.old.things label)
         ≡ record { world = with_made w things.new; reply = result } }
 {
     let Some(thing) = things.labelled(label) else {
@@ -83,9 +86,11 @@ fn destroy(things: &mut Things, client: u32, label: u32) -> Reply
 
 /// Closes a client's framebuffer.
 fn close_fb(things: &mut Things, client: u32, label: u32) -> Reply
-    ensures counted { things.new.fbs ≡ fbs_without things.old client (thing_labelled things.old.things label)
+    ensures counted { things.new.fbs
+        ≡ fbs_without things.old client (thing_labelled things.old.things label)
         (close_refusal client (thing_labelled things.old.things label)) }
-    ensures done { (w : World) → close_fb (with_made w things.old) client (thing_labelled things.old.things label)
+    ensures done { (w : World)
+        → close_fb (with_made w things.old) client (thing_labelled things.old.things label)
         ≡ record { world = with_made w things.new; reply = result } }
 {
     let Some(thing) = things.labelled(label) else {
@@ -101,7 +106,9 @@ fn close_fb(things: &mut Things, client: u32, label: u32) -> Reply
 
 /// Signals a fence that a `fence` command made, which changes nothing.
 pub fn signal(things: &Things, label: u32) -> Reply
-    ensures { (w : World) → signal_unless (with_made w things.now) (signal_refusal (thing_labelled things.now.things label))
+    ensures { (w : World)
+        → signal_unless (with_made w things.now)
+        (signal_refusal (thing_labelled things.now.things label))
         ≡ record { world = with_made w things.now; reply = result } }
 {
     match signal_refusal(things.labelled(label)) {
@@ -124,7 +131,8 @@ impl Things {
         requires fit { IsFitCommand command.now }
         requires ids { HasIds self.old }
         requires other { IsNoRequest command.now }
-        ensures executed { IfOk result (λ r. (t : Topology) (w : World) → execute t (with_made w self.old) client command.now
+        ensures executed { IfOk result (λ r. (t : Topology) (w : World)
+            → execute t (with_made w self.old) client command.now
             ≡ record { world = with_made w self.new; reply = r }) }
         ensures counted { OnOk result (self.new.fbs ≡ fbs_after self.old client command.now) }
         ensures unchanged { OnErr result (self.new ≡ self.old) }

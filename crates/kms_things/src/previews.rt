@@ -46,7 +46,8 @@ impl Things {
     #[tactic(auto, unfolding(kms_model::specs::Device::Execution::execute))]
     pub fn preview(&self, client: u32, command: &Command) -> Reply
         requires { IsNoRequest command.now }
-        ensures { (t : Topology) (w : World) → (execute t (with_made w self.now) client command.now).reply ≡ result }
+        ensures { (t : Topology) (w : World)
+            → (execute t (with_made w self.now) client command.now).reply ≡ result }
     {
         let id = self.next_id();
         match command {

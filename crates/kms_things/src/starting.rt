@@ -5,39 +5,15 @@ ghost use Rattle.kms_model.specs.Device.World.{start};
 ghost use Rattle.kms_things.specs.Present.{IsPresent};
 ghost use Rattle.kms_things.specs.Starting.{alike, off_conn, off_crtc, off_plane, start_states, states_below};
 
-use kms_model::{Both, ConnState, CrtcState, Duplicates, PlaneState, Rect, Topology};
-
-/// The empty rectangle.
-const NOWHERE: Rect = Rect {
-    x: 0,
-    y: 0,
-    w: 0,
-    h: 0,
-};
-
-/// A CRTC before the first command.
-const OFF_CRTC: CrtcState = CrtcState {
-    active: false,
-    mode: None,
-    planes: 0,
-    conns: 0,
-};
-
-/// A connector before the first command.
-const OFF_CONN: ConnState = ConnState { crtc: 0 };
+use kms_model::{Both, ConnState, CrtcState, Duplicates, PlaneState, Topology};
 
 /// A plane before the first command.
 fn off_plane(index: u32) -> PlaneState
     ensures { result ≡ off_plane index }
 {
     PlaneState {
-        fb: None,
-        crtc: 0,
-        dst: NOWHERE,
-        src: NOWHERE,
-        alpha: 65535,
-        blend: 0,
         zpos: index,
+        ..PlaneState::OFF
     }
 }
 
@@ -48,7 +24,7 @@ fn start_crtcs(count: usize) -> [Option<Both<CrtcState>>; 4]
 {
     let mut states = [None; 4];
     for index in 0..count {
-        states[index] = Some(alike(OFF_CRTC));
+        states[index] = Some(alike(CrtcState::OFF));
     }
     states
 }
@@ -72,7 +48,7 @@ fn start_conns(count: usize) -> [Option<Both<ConnState>>; 8]
 {
     let mut states = [None; 8];
     for index in 0..count {
-        states[index] = Some(alike(OFF_CONN));
+        states[index] = Some(alike(ConnState::OFF));
     }
     states
 }

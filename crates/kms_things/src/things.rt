@@ -104,7 +104,8 @@ impl Things {
     ) -> Result<Reply, NoMemory>
         requires room { self.old.next_id < 4294967295 }
         requires plain { IsPlain content }
-        ensures made { IfOk result (λ r. (w : World) → make (with_made w self.old) owner label content
+        ensures made { IfOk result (λ r. (w : World)
+            → make (with_made w self.old) owner label content
             ≡ record { world = with_made w self.new; reply = r }) }
         ensures counted { self.new.fbs ≡ self.old.fbs }
         ensures unchanged { OnErr result (self.new ≡ self.old) }
@@ -138,9 +139,11 @@ impl Things {
     ) -> Result<Reply, NoMemory>
         requires room { self.old.next_id < 4294967295 }
         requires framed { IsFramed self.old.things self.old.next_id info buffer }
-        ensures made { IfOk result (λ r. (w : World) → make (with_made w self.old) owner label (content.Framebuffer info buffer)
+        ensures made { IfOk result (λ r. (w : World)
+            → make (with_made w self.old) owner label (content.Framebuffer info buffer)
             ≡ record { world = with_made w self.new; reply = r }) }
-        ensures counted { OnOk result (self.new.fbs ≡ self.old.fbs ++ slot self.old.next_id (framebuffer owner buffer info) ∷ []) }
+        ensures counted { OnOk result (self.new.fbs ≡ self.old.fbs
+            ++ slot self.old.next_id (framebuffer owner buffer info) ∷ []) }
         ensures unchanged { OnErr result (self.new ≡ self.old) }
     {
         self.made.reserve(1)?;
@@ -183,8 +186,10 @@ impl Things {
     ) -> Result<Reply, NoMemory>
         requires room { self.old.next_id < 4294967295 }
         requires fills { Fills pattern width height }
-        ensures made { IfOk result (λ r. (w : World) → make_unless (with_made w self.old) owner label
-            (content.Buffer width height format pattern) (new_buffer_refusal self.old.things width height format)
+        ensures made { IfOk result (λ r. (w : World)
+            → make_unless (with_made w self.old) owner label
+            (content.Buffer width height format pattern)
+            (new_buffer_refusal self.old.things width height format)
             ≡ record { world = with_made w self.new; reply = r }) }
         ensures counted { self.new.fbs ≡ self.old.fbs }
         ensures unchanged { OnErr result (self.new ≡ self.old) }

@@ -56,11 +56,7 @@ pub record BufferInfo : Type 0 where
 
 abbrev pub buffer_info : ℕ → Content → Option BufferInfo
 buffer_info id (content.Buffer width height format pattern) = Some (record { id = id; width = width; height = height; format = format })
-buffer_info id (content.Framebuffer info buffer) = None
-buffer_info id (content.Mode m) = None
-buffer_info id (content.Blob bytes) = None
-buffer_info id content.Fence = None
-buffer_info id content.OutFence = None
+buffer_info id _ = None
 
 -- the buffer of a client with a label
 abbrev pub buffer_of : List Thing → ℕ → ℕ → Option BufferInfo

@@ -15,6 +15,26 @@ is_legal_mode m =
     && (nat_lt 0 m.clock
     && (nat_le m.hdisplay 4096 && nat_le m.vdisplay 4096)))
 
+-- a mode of a clock, this many pixels in a row and this many rows, with nothing around them
+abbrev pub plain_mode : ℕ → ℕ → ℕ → List ℕ → Mode
+plain_mode clock columns rows name = record {
+  clock = clock;
+  hdisplay = columns;
+  hsync_start = columns;
+  hsync_end = columns;
+  htotal = columns;
+  hskew = 0;
+  vdisplay = rows;
+  vsync_start = rows;
+  vsync_end = rows;
+  vtotal = rows;
+  vscan = 0;
+  vrefresh = 60;
+  flags = 0;
+  kind = 0;
+  name = name;
+}
+
 -- all contents of a mode
 abbrev pub mode_numbers : Mode → List ℕ
 mode_numbers m = m.clock ∷ m.hdisplay ∷ m.hsync_start ∷ m.hsync_end ∷ m.htotal ∷ m.hskew ∷ m.vdisplay ∷ m.vsync_start ∷ m.vsync_end ∷ m.vtotal ∷ m.vscan ∷ m.vrefresh ∷ m.flags ∷ m.kind ∷ []

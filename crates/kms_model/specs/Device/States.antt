@@ -19,11 +19,7 @@ natural (negsuc n) = 0
 
 abbrev pub framebuffer_in : Content → Option FbInfo
 framebuffer_in (content.Framebuffer info buffer) = Some info
-framebuffer_in (content.Buffer width height format pattern) = None
-framebuffer_in (content.Mode m) = None
-framebuffer_in (content.Blob bytes) = None
-framebuffer_in content.Fence = None
-framebuffer_in content.OutFence = None
+framebuffer_in _ = None
 
 abbrev pub framebuffer_of : Option Thing → Option FbInfo
 framebuffer_of (Some t) = framebuffer_in t.content
@@ -32,11 +28,8 @@ framebuffer_of None = None
 -- the mode that a blob holds, if any
 abbrev pub mode_in : Content → Option Mode
 mode_in (content.Mode m) = Some m
-mode_in (content.Framebuffer info buffer) = None
-mode_in (content.Buffer width height format pattern) = None
 mode_in (content.Blob bytes) = result_ok (decoded bytes)
-mode_in content.Fence = None
-mode_in content.OutFence = None
+mode_in _ = None
 
 abbrev pub mode_of : Option Thing → Option Mode
 mode_of (Some t) = mode_in t.content
@@ -50,10 +43,10 @@ mode_at things values crtc = mode_of (thing_numbered things (value values crtc M
 abbrev pub crtc_at : List Setting → ℕ → ℕ
 crtc_at values object = natural (value values object CRTC_ID)
 
--- the state of a plane whose property q has the value v q
-abbrev pub plane_from : (ℕ → ℤ) → List Thing → PlaneState
-plane_from v things = record {
-  fb = framebuffer_of (thing_numbered things (v FB_ID));
+-- the state of a plane with a framebuffer, where property q has the value v q
+abbrev pub plane_with : (ℕ → ℤ) → Option FbInfo → PlaneState
+plane_with v fb = record {
+  fb = fb;
   crtc = natural (v CRTC_ID);
   dst = record { x = v CRTC_X; y = v CRTC_Y; w = v CRTC_W; h = v CRTC_H };
   src = record { x = v SRC_X; y = v SRC_Y; w = v SRC_W; h = v SRC_H };
@@ -61,6 +54,10 @@ plane_from v things = record {
   blend = natural (v BLEND);
   zpos = natural (v ZPOS);
 }
+
+-- the state of a plane where property q has the value v q
+abbrev pub plane_from : (ℕ → ℤ) → List Thing → PlaneState
+plane_from v things = plane_with v (framebuffer_of (thing_numbered things (v FB_ID)))
 
 -- the state of a plane
 abbrev pub plane_at : List Thing → List Setting → ℕ → PlaneState

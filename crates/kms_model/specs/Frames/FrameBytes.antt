@@ -70,19 +70,11 @@ source_at src dst at = natural ((int_div src (pos 65536) +ℤ pos at) -ℤ dst)
 
 abbrev pub buffer_id_in : Content → Option ℕ
 buffer_id_in (content.Framebuffer info buffer) = Some buffer
-buffer_id_in (content.Buffer width height format pattern) = None
-buffer_id_in (content.Mode m) = None
-buffer_id_in (content.Blob bytes) = None
-buffer_id_in content.Fence = None
-buffer_id_in content.OutFence = None
+buffer_id_in _ = None
 
 abbrev pub pattern_word : ℕ → ℕ → Content → Option ℕ
 pattern_word x y (content.Buffer width height format pattern) = Some (word_in pattern format width x y)
-pattern_word x y (content.Framebuffer info buffer) = None
-pattern_word x y (content.Mode m) = None
-pattern_word x y (content.Blob bytes) = None
-pattern_word x y content.Fence = None
-pattern_word x y content.OutFence = None
+pattern_word x y _ = None
 
 -- the word of a framebuffer at (x, y): its buffer's
 abbrev pub word_of : List Thing → ℕ → ℕ → ℕ → Option ℕ

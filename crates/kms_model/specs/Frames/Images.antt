@@ -20,11 +20,7 @@ seen_word s x y = slice_index s.words (y * s.width + x)
 -- what is read of a thing that is a buffer: the words of its pattern
 abbrev pub seen_in : Content → Option Seen
 seen_in (content.Buffer width height format pattern) = Some (record { width = width; height = height; format = format; words = buffer_words pattern format width height })
-seen_in (content.Framebuffer info buffer) = None
-seen_in (content.Mode m) = None
-seen_in (content.Blob bytes) = None
-seen_in content.Fence = None
-seen_in content.OutFence = None
+seen_in _ = None
 
 -- what is read of a framebuffer: its buffer
 abbrev pub image_of : List Thing → ℕ → Option Seen

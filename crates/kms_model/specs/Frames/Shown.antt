@@ -1,5 +1,5 @@
 -- What a CRTC shows, as it can be composed. From: "Frame Buffer Abstraction"; "Plane Composition Properties".
-use Rattle.std.specs.Prelude.{◌≡◌, ℕ, ◌*◌, List, All, length, Some, ⊤}
+use Rattle.std.specs.Prelude.{◌≡◌, ℕ, ◌*◌, List, All, length, Option, Some, ⊤}
 use Rattle.std.specs.List.{AllByRecursion}
 use Rattle.kms_model.specs.declared.objects.Mode.{Mode}
 use Rattle.kms_model.specs.declared.pictures.FbInfo.{FbInfo}
@@ -28,11 +28,7 @@ pub record IsFramed (things : List Thing) (id : ℕ) (info : FbInfo) (buffer : �
 -- the same of a thing, where it is a framebuffer
 abbrev pub FramesIn : List Thing → ℕ → Content → Type 0
 FramesIn things id (content.Framebuffer info buffer) = IsFramed things id info buffer
-FramesIn things id (content.Buffer width height format pattern) = ⊤
-FramesIn things id (content.Mode m) = ⊤
-FramesIn things id (content.Blob bytes) = ⊤
-FramesIn things id content.Fence = ⊤
-FramesIn things id content.OutFence = ⊤
+FramesIn things id _ = ⊤
 
 -- each framebuffer has its own id, and a buffer of its size and format
 abbrev pub AreFramed : List Thing → Type 0
@@ -40,13 +36,17 @@ AreFramed things = AllByRecursion (λ t. FramesIn things t.id t.content) things
 
 -- Layers
 
--- a framebuffer of the things, with a word for each pixel of its buffer
-pub record HasWords (things : List Thing) (fb : FbInfo) : Type 0 where
+-- what is seen is there, in a framebuffer's size and with a word for each of its pixels
+pub record IsSeenAs (found_seen : Option Seen) (fb : FbInfo) : Type 0 where
   pub seen : Seen
-  pub found : image_of things fb.id ≡ Some seen
+  pub found : found_seen ≡ Some seen
   pub width : seen.width ≡ fb.width
   pub height : seen.height ≡ fb.height
   pub words : length seen.words ≡ fb.width * fb.height
+
+-- a framebuffer of the things, with a word for each pixel of its buffer
+abbrev pub HasWords : List Thing → FbInfo → Type 0
+HasWords things fb = IsSeenAs (image_of things fb.id) fb
 
 -- a layer that can be shown in a mode
 pub record CanBeShown (things : List Thing) (m : Mode) (l : Layer) : Type 0 where

@@ -16,6 +16,7 @@ use Rattle.kms_model.specs.declared.scripts.PropRef.TheVariants.{Known}
 use Rattle.kms_model.specs.declared.scripts.Script.{Script}
 use Rattle.kms_model.specs.declared.scripts.Value.{Value}
 use Rattle.kms_model.specs.declared.scripts.Value.TheVariants as value
+use Rattle.kms_model.specs.Device.Modes.{plain_mode}
 
 -- the next number of the generator, modulo 2^64
 abbrev pub next_number : ℕ → ℕ
@@ -56,23 +57,7 @@ names_of_client digit = map (λ letter. letter ++ digit) (codes "b" ∷ codes "f
 
 -- 64 by 64 pixels
 abbrev pub generated_mode : Mode
-generated_mode = record {
-  clock = 1000;
-  hdisplay = 64;
-  hsync_start = 64;
-  hsync_end = 64;
-  htotal = 64;
-  hskew = 0;
-  vdisplay = 64;
-  vsync_start = 64;
-  vsync_end = 64;
-  vtotal = 64;
-  vscan = 0;
-  vrefresh = 60;
-  flags = 0;
-  kind = 0;
-  name = codes "gen" ++ replicate 29 0;
-}
+generated_mode = plain_mode 1000 64 64 (codes "gen" ++ replicate 29 0)
 
 abbrev pub assigns_to : Kind → ℕ → ℕ → Value → Assign
 assigns_to kind index prop v = record { kind = kind; index = index; prop = Known prop; value = v }

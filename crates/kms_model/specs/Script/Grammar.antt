@@ -10,7 +10,7 @@ use Rattle.kms_model.specs.declared.objects.Format.{Format}
 use Rattle.kms_model.specs.declared.objects.Format.TheVariants.{Xr24, Ar24, Rg16}
 use Rattle.kms_model.specs.Firsts.{or_else}
 use Rattle.kms_model.specs.Device.Properties.{property_id}
-use Rattle.kms_model.specs.Script.Words.{◌>>=◌, between, dec, is_hex, hex_value, hex_from, is_digit, is_letter, field_at, strip}
+use Rattle.kms_model.specs.Script.Words.{◌>>=◌, between, dec, is_hex, hex_value, hex_from, is_digit, is_letter, read_at, strip}
 
 -- the parts of a word or a line that a byte parts
 abbrev pub parted : ℕ → List ℕ → List (List ℕ)
@@ -47,10 +47,7 @@ hex word = do
   if nat_le (length digits) 8 && is_hex_number digits then Some (hex_from 0 digits) else None
 
 abbrev pub hex_at : List ℕ → Option (ℕ × List ℕ)
-hex_at bytes = do
-  f ← field_at bytes
-  n ← hex f.0
-  Some (n, f.1)
+hex_at bytes = read_at hex bytes
 
 -- how many hexadecimal digits a word of a format has
 abbrev pub digits_of : Format → ℕ
@@ -63,10 +60,7 @@ unfoldable pub pixel_number : Format → List ℕ → Option ℕ
 pixel_number format word = if (length word == digits_of format) && list_all is_hex word then Some (hex_from 0 word) else None
 
 unfoldable pub pixel_at : Format → List ℕ → Option (ℕ × List ℕ)
-pixel_at format bytes = do
-  f ← field_at bytes
-  p ← pixel_number format f.0
-  Some (p, f.1)
+pixel_at format bytes = read_at (pixel_number format) bytes
 
 -- the byte of two hexadecimal digits
 unfoldable pub hex_pair : ℕ → ℕ → Option ℕ
@@ -90,10 +84,7 @@ abbrev pub format_named : List ℕ → Option Format
 format_named word = if bytes_eq word (codes "XR24") then Some Xr24 else (if bytes_eq word (codes "AR24") then Some Ar24 else (if bytes_eq word (codes "RG16") then Some Rg16 else None))
 
 unfoldable pub format_at : List ℕ → Option (Format × List ℕ)
-format_at bytes = do
-  f ← field_at bytes
-  format ← format_named f.0
-  Some (format, f.1)
+format_at bytes = read_at format_named bytes
 
 -- the bit of a format in a plane's mask
 abbrev pub format_bit : Format → ℕ

@@ -18,7 +18,7 @@ use Rattle.kms_model.specs.declared.scripts.Value.TheVariants as value
 use Rattle.kms_model.specs.Device.Properties.{name_of}
 use Rattle.kms_model.specs.Device.Sound.{IsDevice}
 use Rattle.kms_model.specs.Script.Grammar.{digits_of, is_property_word, known_property}
-use Rattle.kms_model.specs.Script.Spelling.{name_word}
+use Rattle.kms_model.specs.Script.Spelling.{Spells, name_word}
 use Rattle.kms_model.specs.Script.Words.{between, is_label, is_name_byte, until}
 use Rattle.kms_model.specs.Stores.Kept.{Fills}
 
@@ -26,14 +26,7 @@ use Rattle.kms_model.specs.Stores.Kept.{Fills}
 abbrev pub IsFitCommand : Command → Type 0
 IsFitCommand (command.Buffer label width height format pattern) = Fills pattern width height
 IsFitCommand (command.Atomic r) = length r.assigns ≤ 256
-IsFitCommand (command.AddFb label buffer) = ⊤
-IsFitCommand (command.Mode label m) = ⊤
-IsFitCommand (command.Blob label bytes) = ⊤
-IsFitCommand (command.Destroy label) = ⊤
-IsFitCommand (command.CloseFb label) = ⊤
-IsFitCommand (command.Fence label) = ⊤
-IsFitCommand (command.Signal label) = ⊤
-IsFitCommand command.Wait = ⊤
+IsFitCommand _ = ⊤
 
 -- at most 4096 commands of a client
 pub record IsFitClient (commands : List Command) : Type 0 where
@@ -120,7 +113,8 @@ abbrev pub has_choice : PlaneInfo → Bool
 has_choice p = not (p.crtcs == 0) && not (p.formats == 0)
 
 -- What every script that bytes spell is: a device whose planes and connectors have a CRTC and whose planes have a
--- format, at most 16 clients, and commands that words spell with the script's names, which differ.
+-- format, at most 16 clients, and commands that words spell with the script's names, which differ. The bytes themselves
+-- are a part of it, so that the names stand in the order in which they are first said, and each label is made once.
 pub record IsWellFormed (s : Script) : Type 0 where
   pub device : IsDevice s.topology
   pub few : length s.clients ≤ 16
@@ -130,3 +124,5 @@ pub record IsWellFormed (s : Script) : Type 0 where
   pub conns : list_all (λ mask. not (mask == 0)) s.topology.conns ≡ true
   pub differ : IsDistinct bytes_eq s.names
   pub commands : list_all (list_all (is_command_in s.names)) s.clients ≡ true
+  pub bytes : List ℕ
+  pub spells : Spells bytes s

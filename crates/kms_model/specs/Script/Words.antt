@@ -80,12 +80,16 @@ unfoldable pub field_at : List ℕ → Option (List ℕ × List ℕ)
 field_at [] = None
 field_at (b ∷ bs) = if b == 32 then Some (until 32 bs, from 32 bs) else None
 
+-- a field whose word stands for something
+abbrev pub read_at : {A : Type 0} → (List ℕ → Option A) → List ℕ → Option (A × List ℕ)
+read_at read bytes = do
+  f ← field_at bytes
+  x ← read f.0
+  Some (x, f.1)
+
 -- a number at most `most`
 unfoldable pub dec_at : ℕ → List ℕ → Option (ℕ × List ℕ)
-dec_at most bytes = do
-  f ← field_at bytes
-  n ← dec most f.0
-  Some (n, f.1)
+dec_at most bytes = read_at (dec most) bytes
 
 -- a label
 unfoldable pub label_at : List ℕ → Option (List ℕ × List ℕ)

@@ -5,6 +5,7 @@ use Rattle.std.specs.List.{flat_map, range_with_len, AllByRecursion}
 use Rattle.kms_model.specs.declared.objects.Format.{Format}
 use Rattle.kms_model.specs.declared.objects.Format.TheVariants.{Xr24, Ar24, Rg16}
 use Rattle.kms_model.specs.declared.replies.Denied.{Denied}
+use Rattle.kms_model.specs.declared.replies.TheConstants.Denied.{NOT_FOUND, NOT_OWNER}
 use Rattle.kms_model.specs.declared.scripts.Pattern.{Pattern}
 use Rattle.kms_model.specs.declared.scripts.Pattern.TheVariants.{Solid, Checker, Ramp, Pixels}
 use Rattle.kms_model.specs.declared.pictures.FbInfo.{FbInfo}
@@ -15,9 +16,6 @@ use Rattle.kms_model.specs.Frames.FrameBytes.{word_in}
 use Rattle.kms_model.specs.declared.tables.Slot.{Slot}
 use Rattle.kms_model.specs.Stores.Tables.{value_with_id, with_value, without_id}
 
-abbrev pub denied : ℕ → Denied
-denied n = record { 0 = n }
-
 -- a client's blob with these bytes
 abbrev pub blob : ℕ → List ℕ → Blob
 blob owner bytes = record { owner = owner; bytes = bytes }
@@ -26,11 +24,11 @@ blob owner bytes = record { owner = owner; bytes = bytes }
 abbrev pub bytes_with_id : List (Slot Blob) → ℕ → Option (List ℕ)
 bytes_with_id blobs id = option_map (λ b. b.bytes) (value_with_id blobs id)
 
--- what a client is answered that destroys a blob: 33 (ENOENT) where it is no open blob, 34 (EPERM) where it is
--- another client's. From: `drm_property.c`, drm_mode_destroyblob_ioctl.
+-- what a client is answered that destroys a blob: NOT_FOUND where it is no open blob, NOT_OWNER where it is another
+-- client's. From: `drm_property.c`, drm_mode_destroyblob_ioctl.
 abbrev pub destroy_answer : ℕ → Option Blob → Result (Unit {0}) Denied
-destroy_answer owner None = Err (denied 33)
-destroy_answer owner (Some b) = if b.owner == owner then Ok tt else Err (denied 34)
+destroy_answer owner None = Err NOT_FOUND
+destroy_answer owner (Some b) = if b.owner == owner then Ok tt else Err NOT_OWNER
 
 -- the blobs after that answer
 abbrev pub after_destroy : Result (Unit {0}) Denied → List (Slot Blob) → ℕ → List (Slot Blob)
@@ -57,7 +55,7 @@ pixel_bytes Rg16 = 2
 abbrev pub is_bad_side : ℕ → Bool
 is_bad_side side = (side == 0) || nat_lt largest_side side
 
--- 31 (EINVAL): a side is 0 or above 4096
+-- INVALID_SIZE: a side is 0 or above 4096
 abbrev pub is_bad_size : ℕ → ℕ → Bool
 is_bad_size width height = is_bad_side width || is_bad_side height
 
@@ -125,11 +123,11 @@ with_fewer fbs id fb = if fb.references == 0 then without_id fbs id else with_va
 abbrev pub may_close : ℕ → Framebuffer → Bool
 may_close owner fb = fb.is_open && (fb.owner == owner)
 
--- What a client is answered that closes a framebuffer: 33 (ENOENT) where it is no open one of this client, else whether
--- the last reference fell. From: `drm_mode.h`, struct drm_mode_closefb.
+-- What a client is answered that closes a framebuffer: NOT_FOUND where it is no open one of this client, else whether the
+-- last reference fell. From: `drm_mode.h`, struct drm_mode_closefb.
 abbrev pub close_answer : ℕ → Option Framebuffer → Result Bool Denied
-close_answer owner None = Err (denied 33)
-close_answer owner (Some fb) = if may_close owner fb then Ok (is_last fb) else Err (denied 33)
+close_answer owner None = Err NOT_FOUND
+close_answer owner (Some fb) = if may_close owner fb then Ok (is_last fb) else Err NOT_FOUND
 
 -- the store after that
 abbrev pub after_close : List (Slot Framebuffer) → ℕ → ℕ → Option Framebuffer → List (Slot Framebuffer)

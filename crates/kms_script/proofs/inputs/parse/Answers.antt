@@ -1,7 +1,6 @@
 use Rattle.std.proofs.Common.{rules}
 use Rattle.kms_model.specs.Script.WholeInput.{input}
 use Rattle.kms_model.specs.Script.Spelling.{Spells}
-use Rattle.kms_script.proofs.FitScripts.{spelt_fits}
 use Rattle.kms_script.proofs.Formed.{well_formed}
 use Rattle.kms_script.proofs.OneSpelling.{spelt_where_read}
 use Rattle.kms_script.proofs.inputs.parse.Goals as goal
@@ -10,7 +9,7 @@ pub returns-clause-formed : goal.returns-clause-formed
 unfolding input
 returns-clause-formed c =
     let spells : Spells c.args.bytes.now c.in_ok-into_script.field-0 = spelt_where_read c.args.bytes.now _ (search rules) in
-    well_formed _ (search rules) (spelt_fits c.args.bytes.now _ spells)
+    well_formed c.args.bytes.now _ (search rules) spells
 
 pub returns-clause-spells : goal.returns-clause-spells
 unfolding input

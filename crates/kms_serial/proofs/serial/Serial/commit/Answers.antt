@@ -1,6 +1,6 @@
 use Rattle.std.proofs.Common.{◌≡◌, ◌∙◌, sym, ap, subst, refl, arith}
 use Rattle.kms_serial.proofs.Committing.{executes, grows_committed, refuses, stands_committed, tests, values_committed}
-use Rattle.kms_things.proofs.StartStates.{few_crtcs}
+use Rattle.kms_model.proofs.TouchedLemmas.{few_objects}
 use Rattle.kms_serial.proofs.serial.Serial.commit.Goals as goal
 
 pub returns-in-Err-clause-executed : goal.returns-in-Err-clause-executed
@@ -27,4 +27,4 @@ returns-clause-named c =
 pub returns-clause-grows : goal.returns-clause-grows
 returns-clause-grows c =
     rw (← c.self.view_is, c.in_ok-commit.ensures.world)
-    (grows_committed c.self.inside.topology c.self.inside.store c.args.client c.args.request.now c.self.invariant.sound (few_crtcs c.self.inside.topology c.self.invariant.device) c.in-Ok.ensures.accepted)
+    (grows_committed c.self.inside.topology c.self.inside.store c.args.client c.args.request.now c.self.invariant.sound (few_objects c.self.inside.topology c.self.invariant.device).crtcs c.in-Ok.ensures.accepted)

@@ -1,0 +1,21 @@
+//! How large the numbers of a history become, and how much of a commit is left to do.
+ghost use Rattle.kms_laws.specs.Numbers.{AllNumbersFit};
+ghost use Rattle.kms_laws.specs.TailsLeft.{TailsAreShort, TailsGetShorter};
+
+/// The numbers of each history fit their types: there are at most 65536 commits, tickets, accepted commands and replies,
+/// each command makes at most 4 things, a vertical blanking's count is at most the number of steps, and a client has at
+/// most 128 events that are reserved or unread.
+pub fn numbers_fit_their_types()
+    ensures { AllNumbersFit }
+{}
+
+/// At most 31 steps are left of the tail of a commit: a claim, 20 writes, 4 flushes, an hw_done, 4 latches and a cleanup.
+pub fn tails_are_short()
+    ensures { TailsAreShort }
+{}
+
+/// A step of a commit's tail, or the vertical blanking for which a CRTC has GO for the commit, leaves fewer steps of that
+/// tail to do, and no step makes more of any.
+pub fn tails_get_shorter()
+    ensures { TailsGetShorter }
+{}
