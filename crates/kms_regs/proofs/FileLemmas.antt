@@ -3,18 +3,23 @@ use Rattle.std.proofs.Common.{◌≡◌, ◌≢◌, ℕ, ◌+◌, ◌<◌, Bool,
 use Rattle.std.specs.Prelude.{not, slice_set}
 use Rattle.std.proofs.lemmas.Bool.{cases_eq}
 use Rattle.kms_model.specs.Device.Objects.{object_id}
-use Rattle.kms_model.specs.declared.objects.Kind.TheVariants.{Crtc}
+use Rattle.kms_model.specs.declared.objects.Kind.TheVariants.{Crtc, Plane}
 use Rattle.kms_model.specs.declared.objects.Topology.{Topology}
 use Rattle.kms_model.specs.declared.pictures.Picture.{Picture}
 use Rattle.kms_model.specs.declared.pictures.Picture.TheVariants.{Off}
-use Rattle.kms_model.specs.Machine.Registers.{CrtcWords, Registers, crtc_register, decoded_picture, first_crtc_words, is_on_in, latched_registers, read}
+use Rattle.kms_model.specs.declared.states.CrtcState.{CrtcState}
+use Rattle.kms_model.specs.declared.states.PlaneState.{PlaneState}
+use Rattle.kms_model.specs.Machine.Registers.{CrtcWords, PlaneWords, Registers, crtc_register, crtc_words, decoded_picture, first_crtc_words, is_on_in, latched_registers, plane_register, plane_words, read, write_crtc, write_plane}
 use Rattle.kms_model.specs.Machine.State.{DeviceState, count_at, go_at}
 use Rattle.kms_model.specs.Request.Checks.{with_ids}
 use Rattle.kms_regs.specs.Words.{ReadSame}
 use Rattle.kms_regs.specs.File.{Holds, RegisterFile, StandsFor, blanked, blanked_picture, count_in, counted, file_of, flushed, has_go, latched, latched_picture, with_shadow}
+use Rattle.kms_regs.specs.Rewritten.{rewrite_crtc, rewrite_plane, rewritten_crtc, rewritten_plane}
+use Rattle.kms_regs.specs.StepLaws.{RewritesCrtc, RewritesPlane, WritesCrtc, WritesPlane}
 use Rattle.kms_regs.proofs.Pictured.{decoded_off}
+use Rattle.kms_regs.proofs.RewrittenWords.{crtc_old, plane_old}
 use Rattle.kms_regs.proofs.Rows.{other_id, read-set, read-with_ids, read_here, read_past, same_id}
-use Rattle.kms_regs.proofs.SameWords.{same_after, same_decoded, same_latched}
+use Rattle.kms_regs.proofs.SameWords.{same_after, same_decoded, same_latched, same_write_crtc, same_write_plane}
 
 -- a register file that is opened
 pub opened : (t : Topology) (d : DeviceState) (f g : RegisterFile) → f ≡ g → StandsFor t d g → StandsFor t d f
@@ -85,6 +90,40 @@ started t planes s l first of_device shadow live = record {
 pub wrote : (t : Topology) (d : DeviceState) (planes : ℕ) (s l : Registers) (go : List Bool) (counts : List ℕ) (shadow s' : Registers) → StandsFor t d (file_of planes s l go counts) → ReadSame shadow s'
     → StandsFor t (with_shadow d shadow) (file_of planes s' l go counts)
 wrote t d planes s l go counts shadow s' h same = record { planes = h.planes; shadow_words = same; live_words = h.live_words; goes = h.goes; counted = h.counted }
+
+-- what a write makes of the words is what it makes of the device's
+same_rewrite_plane : (a b : Registers) (index : ℕ) (o n : PlaneWords) → ReadSame a b → ReadSame (rewrite_plane a (object_id Plane index) o n) (rewrite_plane b (object_id Plane index) o n)
+same_rewrite_plane a b index o n same =
+    subst (λ (w : PlaneWords). ReadSame (rewrite_plane a (object_id Plane index) o n) (write_plane b (object_id Plane index) (rewritten_plane w o n))) (same.planes index)
+    (same_write_plane a b (object_id Plane index) (rewritten_plane (plane_register a (object_id Plane index)) o n) same)
+
+same_rewrite_crtc : (a b : Registers) (index : ℕ) (o n : CrtcWords) → ReadSame a b → ReadSame (rewrite_crtc a (object_id Crtc index) o n) (rewrite_crtc b (object_id Crtc index) o n)
+same_rewrite_crtc a b index o n same =
+    subst (λ (w : CrtcWords). ReadSame (rewrite_crtc a (object_id Crtc index) o n) (write_crtc b (object_id Crtc index) (rewritten_crtc w o n))) (same.crtcs index)
+    (same_write_crtc a b (object_id Crtc index) (rewritten_crtc (crtc_register a (object_id Crtc index)) o n) same)
+
+pub rewrote_plane : (t : Topology) (d : DeviceState) (planes : ℕ) (s l : Registers) (go : List Bool) (counts : List ℕ) (index : ℕ) (o n old new : PlaneWords) (s' : Registers) → StandsFor t d (file_of planes s l go counts) → o ≡ old → n ≡ new
+    → ReadSame (rewrite_plane s (object_id Plane index) o n) s' → StandsFor t (with_shadow d (rewrite_plane d.shadow (object_id Plane index) old new)) (file_of planes s' l go counts)
+rewrote_plane t d planes s l go counts index o n old new s' h before after same =
+    wrote t d planes s l go counts _ s' h
+    (same_after _ _ _ (same_rewrite_plane d.shadow s index old new h.shadow_words) (subst (λ (w : PlaneWords). ReadSame (rewrite_plane s (object_id Plane index) old w) s') after (subst (λ (w : PlaneWords). ReadSame (rewrite_plane s (object_id Plane index) w n) s') before same)))
+
+pub rewrote_crtc : (t : Topology) (d : DeviceState) (planes : ℕ) (s l : Registers) (go : List Bool) (counts : List ℕ) (index : ℕ) (o n old new : CrtcWords) (s' : Registers) → StandsFor t d (file_of planes s l go counts) → o ≡ old → n ≡ new
+    → ReadSame (rewrite_crtc s (object_id Crtc index) o n) s' → StandsFor t (with_shadow d (rewrite_crtc d.shadow (object_id Crtc index) old new)) (file_of planes s' l go counts)
+rewrote_crtc t d planes s l go counts index o n old new s' h before after same =
+    wrote t d planes s l go counts _ s' h
+    (same_after _ _ _ (same_rewrite_crtc d.shadow s index old new h.shadow_words) (subst (λ (w : CrtcWords). ReadSame (rewrite_crtc s (object_id Crtc index) old w) s') after (subst (λ (w : CrtcWords). ReadSame (rewrite_crtc s (object_id Crtc index) w n) s') before same)))
+
+-- where the words are those of the old state, they are those of the new one then
+pub writes_plane : (f g : RegisterFile) (index : ℕ) (before state : PlaneState) → RewritesPlane f g index before state → plane_register f.shadow (object_id Plane index) ≡ plane_words before → WritesPlane f g index state
+writes_plane f g index before state rewrites is t d stands =
+    subst (λ (w : PlaneWords). StandsFor t (with_shadow d (write_plane d.shadow (object_id Plane index) w)) g)
+    (ap (λ (w : PlaneWords). rewritten_plane w (plane_words before) (plane_words state)) (stands.shadow_words.planes index ∙ is) ∙ plane_old (plane_words before) (plane_words state)) (rewrites t d stands)
+
+pub writes_crtc : (f g : RegisterFile) (index conn_before conn : ℕ) (before state : CrtcState) → RewritesCrtc f g index conn_before conn before state → crtc_register f.shadow (object_id Crtc index) ≡ crtc_words conn_before before → WritesCrtc f g index conn state
+writes_crtc f g index conn_before conn before state rewrites is t d stands =
+    subst (λ (w : CrtcWords). StandsFor t (with_shadow d (write_crtc d.shadow (object_id Crtc index) w)) g)
+    (ap (λ (w : CrtcWords). rewritten_crtc w (crtc_words conn_before before) (crtc_words conn state)) (stands.shadow_words.crtcs index ∙ is) ∙ crtc_old (crtc_words conn_before before) (crtc_words conn state)) (rewrites t d stands)
 
 pub raised : (t : Topology) (d : DeviceState) (planes : ℕ) (s l : Registers) (go : List Bool) (counts : List ℕ) (index k : ℕ) → StandsFor t d (file_of planes s l go counts) → index < length go
     → StandsFor t (record d { go = (object_id Crtc index, Some k) ∷ d.go }) (file_of planes s l (slice_set go index true) counts)

@@ -3,8 +3,10 @@ pub mod FileLemmas
 pub mod LatchLaw
 pub mod ModeWords
 pub mod Pictured
+pub mod RewrittenWords
 pub mod Rows
 pub mod SameWords
 pub mod Signed
 pub mod WordsBack
 pub mod MachineEffects
+mod OneCrtc

@@ -33,3 +33,15 @@ ShowsWhatWasWritten t shadow live crtc =
 abbrev pub LeavesTheOthers : Topology → Registers → Registers → ℕ → Type 0
 LeavesTheOthers t shadow live crtc =
     (other : ℕ) → other ≢ crtc → decoded_picture t (latched_registers t shadow live (object_id Crtc crtc)) (object_id Crtc other) ≡ decoded_picture t live (object_id Crtc other)
+
+-- The law, for all registers
+
+abbrev pub LatchShowsTheShadow : Type 0
+LatchShowsTheShadow = (t : Topology) (shadow live : Registers) (crtc : ℕ) → ShowsTheShadow t shadow live crtc
+
+abbrev pub LatchShowsWhatWasWritten : Type 0
+LatchShowsWhatWasWritten = (t : Topology) (shadow live : Registers) (crtc : ℕ) → ShowsWhatWasWritten t shadow live crtc
+
+abbrev pub LatchLeavesTheOthers : Type 0
+LatchLeavesTheOthers =
+    (t : Topology) (shadow live : Registers) (crtc : ℕ) → NoPlaneMoves t shadow live → LeavesTheOthers t shadow live crtc

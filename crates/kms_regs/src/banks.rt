@@ -3,7 +3,8 @@ ghost use Rattle.std.specs.Prelude.{◌≡◌, ◌<◌, ◌≤◌, ◌==◌, ◌
 ghost use Rattle.kms_model.specs.Device.Objects.{object_id};
 ghost use Rattle.kms_model.specs.declared.objects.Kind.TheVariants.{Crtc, Plane};
 ghost use Rattle.kms_model.specs.declared.objects.Topology.{Topology};
-ghost use Rattle.kms_model.specs.Machine.Registers.{crtc_register, first_registers, is_copied, latched_registers, plane_register, write_crtc, write_plane};
+ghost use Rattle.kms_model.specs.Machine.Registers.{crtc_register, first_registers, is_copied, latched_registers, plane_register};
+ghost use Rattle.kms_regs.specs.Rewritten.{rewrite_crtc, rewrite_plane};
 ghost use Rattle.kms_regs.specs.Words.{ReadSame, latched_plane};
 
 use crate::words::{CrtcWords, PlaneWords};
@@ -22,7 +23,8 @@ impl Model for Bank {
 
     ghost Value = { Registers };
 
-    ghost use Rattle.kms_regs.specs.Words.{bank_of};
+    ghost use Rattle.kms_regs.specs.Rewritten.{rewrite_crtc, rewrite_plane};
+ghost use Rattle.kms_regs.specs.Words.{bank_of};
 
     ghost view = { λ s. bank_of s.planes s.crtcs };
 }
@@ -58,20 +60,20 @@ impl Bank {
         &self.crtcs[index as usize]
     }
 
-    /// Writes the words that differ of the plane with an index, from 0 to 15, whose words are those of the old state.
+    /// Writes, of the plane with an index, from 0 to 15, the new words that differ from the old ones, and no others.
     pub fn write_plane(&mut self, index: u32, old: &PlaneWords, new: &PlaneWords)
-        requires index { index < 16 }
-        requires old { plane_register self.old (object_id Plane index) ≡ old.now }
-        ensures { ReadSame (write_plane self.old (object_id Plane index) new.now) self.new }
+        requires { index < 16 }
+        ensures { ReadSame
+            (rewrite_plane self.old (object_id Plane index) old.now new.now) self.new }
     {
         self.planes[index as usize].write(old, new);
     }
 
-    /// Writes the words that differ of the CRTC with an index, from 0 to 3, whose words are those of the old state.
+    /// Writes, of the CRTC with an index, from 0 to 3, the new words that differ from the old ones, and no others.
     pub fn write_crtc(&mut self, index: u32, old: &CrtcWords, new: &CrtcWords)
-        requires index { index < 4 }
-        requires old { crtc_register self.old (object_id Crtc index) ≡ old.now }
-        ensures { ReadSame (write_crtc self.old (object_id Crtc index) new.now) self.new }
+        requires { index < 4 }
+        ensures { ReadSame
+            (rewrite_crtc self.old (object_id Crtc index) old.now new.now) self.new }
     {
         self.crtcs[index as usize].write(old, new);
     }
@@ -94,7 +96,8 @@ impl Bank {
     /// Copies the words of a plane from the shadow, if it is on a CRTC here or there.
     fn latch_plane(&mut self, shadow: &Bank, index: u32, crtc: u32)
         requires { index < 16 }
-        ensures { ReadSame (latched_plane shadow.now self.old crtc (object_id Plane index)) self.new }
+        ensures { ReadSame
+            (latched_plane shadow.now self.old crtc (object_id Plane index)) self.new }
     {
         if self.is_copied(shadow, index, crtc) {
             self.planes[index as usize] = *shadow.plane(index);

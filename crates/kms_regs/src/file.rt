@@ -4,9 +4,10 @@ ghost use Rattle.kms_model.specs.Device.Objects.{object_id};
 ghost use Rattle.kms_model.specs.Device.Sound.{IsPlaneInRange};
 ghost use Rattle.kms_model.specs.declared.objects.Kind.TheVariants.{Crtc, Plane};
 ghost use Rattle.kms_model.specs.declared.objects.Topology.{Topology};
-ghost use Rattle.kms_model.specs.Machine.Registers.{crtc_register, crtc_words, decoded_picture, plane_register, plane_words, write_crtc, write_plane};
+ghost use Rattle.kms_model.specs.Machine.Registers.{crtc_register, crtc_words, decoded_picture, plane_register, plane_words};
 ghost use Rattle.kms_model.specs.Machine.State.{DeviceState, count_at, first_machine, go_at};
-ghost use Rattle.kms_regs.specs.File.{StandsFor, blanked, blanked_picture, count_in, flushed, flushed_picture, has_go, latched_picture, with_shadow};
+ghost use Rattle.kms_regs.specs.File.{StandsFor, blanked_picture, count_in, flushed_picture, has_go, latched_picture};
+ghost use Rattle.kms_regs.specs.StepLaws.{Blanks, Flushes, RewritesCrtc, RewritesPlane, WritesCrtc, WritesPlane};
 
 use crate::banks::Bank;
 use crate::pictures::decoded_picture;
@@ -59,7 +60,8 @@ impl RegFile {
     pub fn has_plane(&self, index: u32, state: &PlaneState) -> bool
         requires index { index < 16 }
         requires range { IsPlaneInRange state.now }
-        ensures { IsTrue result ↔ (plane_register self.now.shadow (object_id Plane index) ≡ plane_words state.now) }
+        ensures { IsTrue result
+            ↔ (plane_register self.now.shadow (object_id Plane index) ≡ plane_words state.now) }
     {
         *self.shadow.plane(index) == PlaneWords::of(state)
     }
@@ -74,28 +76,31 @@ impl RegFile {
         *words == CrtcWords::of(words.conn, state)
     }
 
-    /// Writes the shadow words that differ of the plane with an index, from 0 to 15. They are those of the old state,
-    /// and then those of the new one; the numbers of both are in the ranges of their properties.
+    /// Writes, of the plane with an index, from 0 to 15, the shadow words that differ between the old state and the new
+    /// one, and no others. Where its words are those of the old state, they are those of the new one then. The numbers of
+    /// both states are in the ranges of their properties.
     pub fn write_plane(&mut self, index: u32, old: &PlaneState, new: &PlaneState)
         requires index { index < 16 }
         requires old_range { IsPlaneInRange old.now }
         requires new_range { IsPlaneInRange new.now }
-        requires old_words { plane_register self.old.shadow (object_id Plane index) ≡ plane_words old.now }
-        ensures { (t : Topology) (d : DeviceState) → StandsFor t d self.old
-            → StandsFor t (with_shadow d (write_plane d.shadow (object_id Plane index) (plane_words new.now))) self.new }
+        ensures rewrites { RewritesPlane self.old self.new index old.now new.now }
+        ensures writes { plane_register self.old.shadow (object_id Plane index) ≡ plane_words old.now
+            → WritesPlane self.old self.new index new.now }
     {
         self.shadow
             .write_plane(index, &PlaneWords::of(old), &PlaneWords::of(new));
     }
 
-    /// Writes the shadow words that differ of the CRTC with an index, from 0 to 3. They are those of the old state, and
-    /// then those of the new one with the id of the connector whose CRTC it is, or 0.
+    /// Writes, of the CRTC with an index, from 0 to 3, the shadow words that differ between the old state with its
+    /// connector and the new one with the id of the connector whose CRTC it is, or 0; and no others. Where its words are
+    /// those of the old state, they are those of the new one then.
     pub fn write_crtc(&mut self, index: u32, conn: u32, old: &CrtcState, new: &CrtcState)
-        requires index { index < 4 }
-        requires old_words { crtc_register self.old.shadow (object_id Crtc index)
-            ≡ crtc_words (crtc_register self.old.shadow (object_id Crtc index)).conn old.now }
-        ensures { (t : Topology) (d : DeviceState) → StandsFor t d self.old
-            → StandsFor t (with_shadow d (write_crtc d.shadow (object_id Crtc index) (crtc_words conn new.now))) self.new }
+        requires { index < 4 }
+        ensures rewrites { RewritesCrtc self.old self.new index
+            (crtc_register self.old.shadow (object_id Crtc index)).conn conn old.now new.now }
+        ensures writes { crtc_register self.old.shadow (object_id Crtc index)
+            ≡ crtc_words (crtc_register self.old.shadow (object_id Crtc index)).conn old.now
+            → WritesCrtc self.old self.new index conn new.now }
     {
         let old = CrtcWords::of(self.shadow.crtc(index).conn, old);
         self.shadow
@@ -106,8 +111,7 @@ impl RegFile {
     /// blanking. One that is off latches at once: it shows nothing, and that is its picture.
     pub fn flush(&mut self, crtc: u32) -> Option<Picture>
         requires { crtc < 4 }
-        ensures stands { (t : Topology) (d : DeviceState) (k : ℕ) → StandsFor t d self.old
-            → StandsFor t (flushed t d k (object_id Crtc crtc)) self.new }
+        ensures stands { Flushes self.old self.new crtc }
         ensures picture { (t : Topology) (d : DeviceState) → StandsFor t d self.old
             → result ≡ flushed_picture d (object_id Crtc crtc) }
         ensures latched { (t : Topology) (d : DeviceState) → StandsFor t d self.old
@@ -126,8 +130,7 @@ impl RegFile {
     pub fn vblank(&mut self, crtc: u32) -> Option<Picture>
         requires crtc { crtc < 4 }
         requires count { count_in self.old (object_id Crtc crtc) < 18446744073709551615 }
-        ensures stands { (t : Topology) (d : DeviceState) → StandsFor t d self.old
-            → StandsFor t (blanked t d (object_id Crtc crtc)) self.new }
+        ensures stands { Blanks self.old self.new crtc }
         ensures picture { (t : Topology) (d : DeviceState) → StandsFor t d self.old
             → result ≡ blanked_picture t d (object_id Crtc crtc) }
     {

@@ -1,15 +1,31 @@
-//! The law of the registers.
-ghost use Rattle.std.specs.Prelude.{◌≡◌, ◌≢◌, ℕ};
+//! The laws of the registers.
+ghost use Rattle.std.specs.Prelude.{ℕ};
 ghost use Rattle.kms_model.specs.declared.objects.Topology.{Topology};
 ghost use Rattle.kms_model.specs.Machine.Registers.{Registers};
-ghost use Rattle.kms_regs.specs.Latches.{LeavesTheOthers, NoPlaneMoves, ShowsTheShadow, ShowsWhatWasWritten};
+ghost use Rattle.kms_regs.specs.Latches.{LatchLeavesTheOthers, LatchShowsTheShadow, LatchShowsWhatWasWritten};
+ghost use Rattle.kms_regs.specs.StepLaws.{FollowsCrtcWrite, FollowsFlush, FollowsPlaneWrite, FollowsTheOthers, FollowsVblank};
+ghost use Rattle.kms_regs.specs.StepLaws.{HoldsOldCrtc, HoldsOldPlane, IsOnInWords};
 
 /// A latch shows what was written for its CRTC: the picture of its shadow words, which is that of the states whose words
-/// they are. It changes no other CRTC's live picture where no plane is live on one
-/// CRTC and in the shadow on another. This function does nothing; its contract is the law.
+/// they are. It changes no other CRTC's live picture where no plane is live on one CRTC and in the shadow on another.
+/// This function does nothing; its contract is the law.
 pub fn latch_shows_what_was_written()
-    ensures shows { (t : Topology) (shadow live : Registers) (crtc : ℕ) → ShowsTheShadow t shadow live crtc }
-    ensures written { (t : Topology) (shadow live : Registers) (crtc : ℕ) → ShowsWhatWasWritten t shadow live crtc }
-    ensures others { (t : Topology) (shadow live : Registers) (crtc : ℕ) → NoPlaneMoves t shadow live
-        → LeavesTheOthers t shadow live crtc }
+    ensures shows { LatchShowsTheShadow }
+    ensures written { LatchShowsWhatWasWritten }
+    ensures others { LatchLeavesTheOthers }
+{}
+
+/// A register file that stands for a machine's registers stands for them after each of its steps: after a write of the
+/// new state of a plane or a CRTC that a commit touches, after a flush of a CRTC that the commit names and whose words
+/// are written, after a vertical blanking, and after each other step as it is. The last three clauses tell, of the
+/// machine's words, what these calls and that of a flush ask for.
+pub fn follows_the_machine()
+    ensures write_plane { FollowsPlaneWrite }
+    ensures write_crtc { FollowsCrtcWrite }
+    ensures flush { FollowsFlush }
+    ensures vblank { FollowsVblank }
+    ensures others { FollowsTheOthers }
+    ensures old_plane { HoldsOldPlane }
+    ensures old_crtc { HoldsOldCrtc }
+    ensures is_on { IsOnInWords }
 {}

@@ -12,7 +12,7 @@ mod pictures;
 mod words;
 
 pub use file::RegFile;
-pub use law::latch_shows_what_was_written;
+pub use law::{follows_the_machine, latch_shows_what_was_written};
 
 #[cfg(test)]
 mod tests;

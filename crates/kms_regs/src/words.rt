@@ -8,6 +8,7 @@ ghost use Rattle.kms_model.specs.Device.States.{natural};
 ghost use Rattle.kms_model.specs.declared.objects.Kind.TheVariants.{Plane};
 ghost use Rattle.kms_model.specs.Frames.Rectangles.{IsNearRect};
 ghost use Rattle.kms_model.specs.Machine.Registers.{bytes_of_words, code_of, crtc_words, fb_in, fb_number, flag_word, first_crtc_words, first_plane_words, mode_in_words, mode_words, plane_in, plane_words, words_of_bytes};
+ghost use Rattle.kms_regs.specs.Rewritten.{rewritten, rewritten_crtc, rewritten_plane, rewritten_words};
 
 use kms_blobs::{encode_mode, mode_of};
 use kms_model::{CrtcState, FbInfo, Format, Mode, PlaneState, Rect};
@@ -85,10 +86,9 @@ impl Model for CrtcWords {
     ghost inverse = { λ s. record { active = s.active; conn = s.conn; mode = s.mode } };
 }
 
-/// Writes a word where it differs.
+/// Writes a word where the new one differs from the old one.
 fn write(word: &mut u32, old: u32, new: u32)
-    requires { word.old ≡ old }
-    ensures { word.new ≡ new }
+    ensures { word.new ≡ rewritten word.old old new }
 {
     if old != new {
         *word = new;
@@ -185,10 +185,9 @@ impl PlaneWords {
         }
     }
 
-    /// Writes the words of a new state that differ from those of the old one, which they are.
+    /// Writes the words of a new state that differ from those of the old one, and no others.
     pub fn write(&mut self, old: &PlaneWords, new: &PlaneWords)
-        requires { self.old ≡ old.now }
-        ensures { self.new ≡ new.now }
+        ensures { self.new ≡ rewritten_plane self.old old.now new.now }
     {
         write(&mut self.crtc, old.crtc, new.crtc);
         write(&mut self.fb, old.fb, new.fb);
@@ -288,10 +287,9 @@ impl CrtcWords {
         }
     }
 
-    /// Writes the words of a new state that differ from those of the old one, which they are.
+    /// Writes the words of a new state that differ from those of the old one, and no others.
     pub fn write(&mut self, old: &CrtcWords, new: &CrtcWords)
-        requires { self.old ≡ old.now }
-        ensures { self.new ≡ new.now }
+        ensures { self.new ≡ rewritten_crtc self.old old.now new.now }
     {
         write(&mut self.active, old.active, new.active);
         write(&mut self.conn, old.conn, new.conn);
@@ -308,8 +306,7 @@ impl CrtcWords {
 
 /// Writes the words of a mode that differ.
 fn write_mode(words: &mut [u32; 17], old: &[u32; 17], new: &[u32; 17])
-    requires { words.old ≡ old.now }
-    ensures { words.new ≡ new.now }
+    ensures { words.new ≡ rewritten_words words.old old.now new.now }
 {
     for i in 0..MODE_WORDS {
         write(&mut words[i], old[i], new[i]);

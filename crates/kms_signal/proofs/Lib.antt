@@ -3,3 +3,4 @@ pub mod Turns
 pub mod SlotLemmas
 pub mod FenceLemmas
 pub mod InStepLemmas
+pub mod StepLemmas

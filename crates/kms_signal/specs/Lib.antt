@@ -3,3 +3,4 @@ pub mod FenceSets
 pub mod Queues
 pub mod InStep
 pub mod MachineLaws
+pub mod StepLaws

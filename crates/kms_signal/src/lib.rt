@@ -18,6 +18,6 @@ mod tests;
 
 pub use bytes::{EVENT_BYTES, event_bytes, flip_event};
 pub use fences::Fences;
-pub use law::{delivered_is_read_then_unread, stands_for_the_machine};
+pub use law::{delivered_is_read_then_unread, follow_the_machine, stands_for_the_machine};
 pub use queues::{EVENT_SPACE, EventQueue, ReserveError};
 pub use tables::RoomTable;

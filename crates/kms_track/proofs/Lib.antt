@@ -7,6 +7,8 @@ pub mod KeptAnswers
 pub mod KeptChanges
 pub mod Lockables
 pub mod InStepLemmas
-mod OneCrtc
+pub mod There
 pub mod MachineAnswers
+pub mod StepLemmas
 pub mod NotYetAnswers
+pub mod CheckedLemmas

@@ -1,6 +1,6 @@
 -- The objects of a device, by their places and by their ids.
 use Rattle.std.proofs.Common.{◌≡◌, ℕ, zero, suc, ◌+◌, ◌-◌, ◌<◌, ◌≤◌, List, [], ◌∷◌, ◌++◌, map, Bool, true, false, Some, None, arith, refl, sym, ap, ◌∙◌, add-one, add-zero, zero-add}
-use Rattle.std.specs.Prelude.{◌&&◌, is_none, Option}
+use Rattle.std.specs.Prelude.{◌&&◌, is_none, nat_lt, Option}
 use Rattle.std.specs.List.{list_all, range_with_len}
 use borrow.Author.Tests.{le-ltb, lt-ltb}
 use Rattle.kms_model.specs.declared.objects.Kind.TheVariants.{Crtc, Plane, Conn}
@@ -79,14 +79,20 @@ of_kind f g h a b (suc n) (suc m) few present absent =
     let here : f a ≡ g (h b) = rw (add-zero a, add-zero b) at (present 0 (omega arith)) in
     rw here (ap (λ r. or_else (g (h b)) r) (of_kind f g h (a + 1) (b + 1) n m (omega arith) (λ i within. rw (shift a i, shift b i) (present (suc i) (omega arith))) (λ i low high. rw (shift a i) (absent (suc i) (omega arith) (omega arith)))))
 
-pub first_lockable : {A : Type 0} (t : Topology) (f g : ℕ → Option A) → IsWithinPlaces t → ((p : ℕ) → p < 28 → f p ≡ g (object_at p)) → ((p : ℕ) → p < 28 → is_there t p ≡ false → f p ≡ None) → first_below f 28 ≡ first_some g (lockable t)
+-- the first of the CRTCs
+pub first_crtc : {A : Type 0} (t : Topology) (f g : ℕ → Option A) → IsWithinPlaces t → ((i : ℕ) → i < count_of t Crtc → f i ≡ g (object_id Crtc i)) → ((i : ℕ) → count_of t Crtc ≤ i → i < 4 → f i ≡ None) → first_below f 4 ≡ first_some g (ids_of t Crtc)
+first_crtc t f g limits same off =
+    further f 0 4 ∙ ap (λ r. or_else r (first_some f (range_with_len 0 4))) (none_yet f)
+    ∙ of_kind f g (object_id Crtc) 0 0 (count_of t Crtc) 4 limits.crtcs (λ i within. rw zero-add (same i within)) (λ i low high. rw zero-add (off i low high))
+
+pub first_lockable : {A : Type 0} (t : Topology) (f g : ℕ → Option A) → IsWithinPlaces t → ((p : ℕ) → p < 28 → is_there t p ≡ true → f p ≡ g (object_at p)) → ((p : ℕ) → p < 28 → is_there t p ≡ false → f p ≡ None) → first_below f 28 ≡ first_some g (lockable t)
 first_lockable {A} t f g limits same off =
     let crtcs : first_some f (range_with_len 0 4) ≡ first_some g (ids_of t Crtc) =
-    of_kind f g (object_id Crtc) 0 0 (count_of t Crtc) 4 limits.crtcs (λ i within. rw zero-add (crtc_same i (omega (arith, limits.crtcs)))) (λ i low high. rw zero-add (off i (omega arith) (crtc_off i high low))) in
+    of_kind f g (object_id Crtc) 0 0 (count_of t Crtc) 4 limits.crtcs (λ i within. rw zero-add (crtc_same i within)) (λ i low high. rw zero-add (off i (omega arith) (crtc_off i high low))) in
     let planes : first_some f (range_with_len 4 16) ≡ first_some g (ids_of t Plane) =
-    of_kind f g (object_id Plane) 4 0 (count_of t Plane) 16 limits.planes (λ i within. plane_same i (omega (arith, limits.planes))) (λ i low high. off (4 + i) (omega arith) (plane_off i high low)) in
+    of_kind f g (object_id Plane) 4 0 (count_of t Plane) 16 limits.planes plane_same (λ i low high. off (4 + i) (omega arith) (plane_off i high low)) in
     let conns : first_some f (range_with_len 20 8) ≡ first_some g (ids_of t Conn) =
-    of_kind f g (object_id Conn) 20 0 (count_of t Conn) 8 limits.conns (λ i within. conn_same i (omega (arith, limits.conns))) (λ i low high. off (20 + i) (omega arith) (conn_off i high low)) in
+    of_kind f g (object_id Conn) 20 0 (count_of t Conn) 8 limits.conns conn_same (λ i low high. off (20 + i) (omega arith) (conn_off i high low)) in
     let first : first_below f 28 ≡ or_else (or_else (first_some f (range_with_len 0 4)) (first_some f (range_with_len 4 16))) (first_some f (range_with_len 20 8)) =
     further f 20 8 ∙ ap (λ r. or_else r (first_some f (range_with_len 20 8))) (further f 4 16 ∙ ap (λ r. or_else r (first_some f (range_with_len 4 16))) (further f 0 4 ∙ ap (λ r. or_else r (first_some f (range_with_len 0 4))) (none_yet f))) in
     first
@@ -96,14 +102,27 @@ first_lockable {A} t f g limits same off =
     ∙ (or_assoc (first_some g (ids_of t Crtc)) (first_some g (ids_of t Plane)) (first_some g (ids_of t Conn))
     ∙ sym (first_append g (ids_of t Crtc) (ids_of t Plane ++ ids_of t Conn) ∙ ap (λ r. or_else (first_some g (ids_of t Crtc)) r) (first_append g (ids_of t Plane) (ids_of t Conn)))))))
   where
-    crtc_same : (i : ℕ) → i < 4 → f i ≡ g (object_id Crtc i)
-    crtc_same i within = rw (lt-ltb i 4 within) at (same i (omega arith))
+    crtc_same : (i : ℕ) → i < count_of t Crtc → f i ≡ g (object_id Crtc i)
+    crtc_same i within =
+        (let low : nat_lt i 4 ≡ true = lt-ltb i 4 (omega (arith, within, limits.crtcs)) in
+        let there : is_there t i ≡ true = rw low (lt-ltb i (count_of t Crtc) within) in
+        rw low at (same i (omega (arith, within, limits.crtcs)) there))
 
-    plane_same : (i : ℕ) → i < 16 → f (4 + i) ≡ g (object_id Plane (0 + i))
-    plane_same i within = (let e : (4 + i) - 4 ≡ i = omega arith in rw (zero-add i) (rw (le-ltb (4 + i) 4 (omega arith), lt-ltb (4 + i) 20 (omega arith), e) at (same (4 + i) (omega arith))))
+    plane_same : (i : ℕ) → i < count_of t Plane → f (4 + i) ≡ g (object_id Plane (0 + i))
+    plane_same i within =
+        (let e : (4 + i) - 4 ≡ i = omega arith in
+        let high : nat_lt (4 + i) 4 ≡ false = le-ltb (4 + i) 4 (omega arith) in
+        let low : nat_lt (4 + i) 20 ≡ true = lt-ltb (4 + i) 20 (omega (arith, within, limits.planes)) in
+        let there : is_there t (4 + i) ≡ true = rw (high, low, e) (lt-ltb i (count_of t Plane) within) in
+        rw (zero-add i) (rw (high, low, e) at (same (4 + i) (omega (arith, within, limits.planes)) there)))
 
-    conn_same : (i : ℕ) → i < 8 → f (20 + i) ≡ g (object_id Conn (0 + i))
-    conn_same i within = (let e : (20 + i) - 20 ≡ i = omega arith in rw (zero-add i) (rw (le-ltb (20 + i) 4 (omega arith), le-ltb (20 + i) 20 (omega arith), e) at (same (20 + i) (omega arith))))
+    conn_same : (i : ℕ) → i < count_of t Conn → f (20 + i) ≡ g (object_id Conn (0 + i))
+    conn_same i within =
+        (let e : (20 + i) - 20 ≡ i = omega arith in
+        let high : nat_lt (20 + i) 4 ≡ false = le-ltb (20 + i) 4 (omega arith) in
+        let higher : nat_lt (20 + i) 20 ≡ false = le-ltb (20 + i) 20 (omega arith) in
+        let there : is_there t (20 + i) ≡ true = rw (high, higher, e) (lt-ltb i (count_of t Conn) within) in
+        rw (zero-add i) (rw (high, higher, e) at (same (20 + i) (omega (arith, within, limits.conns)) there)))
 
     crtc_off : (i : ℕ) → i < 4 → count_of t Crtc ≤ i → is_there t i ≡ false
     crtc_off i within beyond = rw (lt-ltb i 4 within) (le-ltb i (count_of t Crtc) beyond)
@@ -135,8 +154,8 @@ list_as_first g [] = refl
 list_as_first g (x ∷ xs) =
     elim (g x) as (λ b. (b && list_all g xs) ≡ is_none (or_else (failing b) (first_some (λ o. failing (g o)) xs))) [ true ↦ list_as_first g xs | false ↦ refl ]
 
-pub all_lockable : (t : Topology) (f g : ℕ → Bool) → IsWithinPlaces t → ((p : ℕ) → p < 28 → f p ≡ g (object_at p)) → ((p : ℕ) → p < 28 → is_there t p ≡ false → f p ≡ true) → all_below f 28 ≡ list_all g (lockable t)
+pub all_lockable : (t : Topology) (f g : ℕ → Bool) → IsWithinPlaces t → ((p : ℕ) → p < 28 → is_there t p ≡ true → f p ≡ g (object_at p)) → ((p : ℕ) → p < 28 → is_there t p ≡ false → f p ≡ true) → all_below f 28 ≡ list_all g (lockable t)
 all_lockable t f g limits same off =
     all_as_first f 28
-    ∙ (ap (λ (o : Option ℕ). is_none o) (first_lockable t (λ p. failing (f p)) (λ o. failing (g o)) limits (λ p within. ap (λ b. failing b) (same p within)) (λ p within gone. ap (λ b. failing b) (off p within gone)))
+    ∙ (ap (λ (o : Option ℕ). is_none o) (first_lockable t (λ p. failing (f p)) (λ o. failing (g o)) limits (λ p within there. ap (λ b. failing b) (same p within there)) (λ p within gone. ap (λ b. failing b) (off p within gone)))
     ∙ sym (list_as_first g (lockable t)))

@@ -1,13 +1,13 @@
--- `not_yet` of a tracker in step with the machine tells whether a swap is ready.
-use Rattle.std.proofs.Common.{◌≡◌, ℕ, zero, suc, ◌+◌, ◌-◌, ◌<◌, ◌≤◌, List, [], ◌∷◌, length, Bool, true, false, Some, None, cond, arith, refl, sym, ap, ◌∙◌}
-use Rattle.std.specs.Prelude.{◌&&◌, ◌||◌, not, nat_lt, is_none, filter, Option, if◌then◌else◌}
+-- What `not_yet` of a tracker in step with the machine answers, in the machine's words.
+use Rattle.std.proofs.Common.{◌≡◌, ℕ, ◌<◌, ◌≤◌, List, [], ◌∷◌, length, Bool, true, false, Some, None, cond, arith, refl, sym, ap, ◌∙◌}
+use Rattle.std.specs.Prelude.{◌&&◌, nat_lt, is_none, filter, Option, if◌then◌else◌}
 use Rattle.std.specs.List.{list_all}
 use borrow.Author.Tests.{lt-ltb, le-ltb}
 use Rattle.kms_model.specs.declared.objects.Kind.TheVariants.{Crtc}
 use Rattle.kms_model.specs.declared.objects.ObjId.{ObjId}
 use Rattle.kms_model.specs.declared.objects.Topology.{Topology}
 use Rattle.kms_model.specs.declared.scripts.Request.{Request}
-use Rattle.kms_model.specs.Firsts.{or_else}
+use Rattle.kms_model.specs.Firsts.{or_else, first_some}
 use Rattle.kms_model.specs.Device.Masks.{has_bit}
 use Rattle.kms_model.specs.Device.Objects.{object_id, ids_of, count_of}
 use Rattle.kms_model.specs.Machine.Commits as machine
@@ -15,45 +15,69 @@ use Rattle.kms_model.specs.Machine.Commits.{if_there, is_hw_done, is_cleaned}
 use Rattle.kms_model.specs.Machine.State.{Machine}
 use Rattle.kms_model.specs.Machine.Steps as steps
 use Rattle.kms_model.specs.Request.Apply.{after}
-use Rattle.kms_model.specs.Request.Named.{names}
+use Rattle.kms_model.specs.Request.Named.{named, names}
 use Rattle.kms_model.specs.Request.Touched.{named_by}
-use Rattle.kms_model.proofs.Items.{IsIn, IsObject, ids-in}
 use Rattle.kms_model.proofs.MaskLemmas.{has_bit-mask_below}
-use Rattle.kms_track.specs.InStep.{told_of, IsInStep, IsWithinPlaces}
-use Rattle.kms_track.specs.Places.{object_at, all_below, first_below}
-use Rattle.kms_track.specs.Told.{Told, previous_of, not_marked, awaited_at, crtc_ids}
+use Rattle.kms_track.specs.InStep.{told_of, IsInStep, IsWithinPlaces, awaited_answer, awaited_commit, is_on, pending_pair}
+use Rattle.kms_track.specs.Places.{object_at}
+use Rattle.kms_track.specs.Told.{Told, previous_of, not_marked, awaited_at}
 use Rattle.kms_track.specs.Tracking.{Tracking, not_yet_of, with_object, unless, or_other}
 use Rattle.kms_track.proofs.KeptAnswers.{not_yet_told}
-use Rattle.kms_track.proofs.Lockables.{crtcs_all}
-use Rattle.kms_track.proofs.MachineAnswers.{all_alike}
+use Rattle.kms_track.proofs.Lockables.{first_crtc}
+use Rattle.kms_track.proofs.MachineAnswers.{chosen, previous_machine}
+use Rattle.kms_track.proofs.There.{on_index}
 
-none_of_both : {A : Type 0} (x y : Option A) → is_none (or_else x y) ≡ (is_none x && is_none y)
-none_of_both None y = refl
-none_of_both (Some a) y = refl
+-- the commit that is waited for at a CRTC
 
-none_below : {A : Type 0} (f : ℕ → Option A) (n : ℕ) → is_none (first_below f n) ≡ all_below (λ i. is_none (f i)) n
-unfolding first_below all_below
-none_below f zero = refl
-none_below f (suc n) = none_of_both (first_below f n) (f n) ∙ ap (λ b. b && is_none (f n)) (none_below f n)
+second_machine : (t : Topology) (m : Machine) (o : Option ℕ) (crtc : ℕ) → is_on t crtc ≡ true → previous_of (told_of t m.device.commits m.device.marks m.records.latches) o crtc ≡ machine.previous_of t m.device.commits o crtc
+second_machine t m None crtc on = refl
+second_machine t m (Some k) crtc on = previous_machine t m.device.commits m.device.marks m.records.latches k crtc on
 
-in_order : (a b c d : Bool) → ((((true && a) && b) && c) && d) ≡ (a && (b && (c && (d && true))))
-in_order true true true true = refl
-in_order true true true false = refl
-in_order true true false d = refl
-in_order true false c d = refl
-in_order false b c d = refl
+awaited_machine : (t : Topology) (m : Machine) (crtc : ℕ) → is_on t crtc ≡ true → awaited_at (told_of t m.device.commits m.device.marks m.records.latches) crtc ≡ awaited_commit t m crtc
+awaited_machine t m crtc on =
+    let told : Told = told_of t m.device.commits m.device.marks m.records.latches in
+    let last : Option ℕ = machine.previous t m.device.commits (length m.device.commits) crtc in
+    ap (λ o. or_other (not_marked told.hw_done o) (not_marked told.cleaned (previous_of told o crtc))) (previous_machine t m.device.commits m.device.marks m.records.latches (length m.device.commits) crtc on)
+    ∙ ap (λ o. or_other (not_marked told.hw_done last) (not_marked told.cleaned o)) (second_machine t m last crtc on)
 
-four_below : (f h : ℕ → Bool) → f 0 ≡ h 100 → f 1 ≡ h 101 → f 2 ≡ h 102 → f 3 ≡ h 103 → all_below f 4 ≡ list_all h crtc_ids
-unfolding all_below
-four_below f h e0 e1 e2 e3 = rw (e0, e1, e2, e3) (in_order (h 100) (h 101) (h 102) (h 103))
+first_filtered : {A : Type 0} (p : ℕ → Bool) (g : ℕ → Option A) (xs : List ℕ) → first_some (λ x. if p x then g x else None) xs ≡ first_some g (filter p xs)
+first_filtered p g [] = refl
+first_filtered p g (x ∷ xs) =
+    elim (p x) as (λ b. or_else (if b then g x else None) (first_some (λ x. if p x then g x else None) xs) ≡ first_some g (cond b (x ∷ filter p xs) (filter p xs))) [
+      | true ↦ ap (λ rest. or_else (g x) rest) (first_filtered p g xs)
+      | false ↦ first_filtered p g xs
+    ]
 
-none_with : (p : ℕ) (o : Option ℕ) → is_none (with_object p o) ≡ is_none o
-none_with p None = refl
-none_with p (Some k) = refl
+-- `not_yet`, of the CRTCs that a request names, tells the first at which its swap waits, with the commit.
+pub awaited_told : (t : Topology) (m : Machine) (v : Tracking) (r : Request) → IsInStep t m v → IsWithinPlaces t → not_yet_of v (named_by t m.device.world r) ≡ awaited_answer t m r
+awaited_told t m v r step limits =
+    let told : Told = told_of t m.device.commits m.device.marks m.records.latches in
+    not_yet_told told v (named_by t m.device.world r) step.keeps
+    ∙ (first_crtc t (λ i. with_object i (if has_bit (named_by t m.device.world r) i then awaited_at told (object_at i) else None)) (λ crtc. if is_named crtc then pending_pair crtc (awaited_commit t m crtc) else None) limits here beyond
+    ∙ first_filtered is_named (λ crtc. pending_pair crtc (awaited_commit t m crtc)) (ids_of t Crtc))
+  where
+    is_named : ℕ → Bool
+    is_named crtc = names m.device.world.values (after m.device.world r) r.assigns crtc
 
-none_chosen : (b : Bool) (o : Option ℕ) → is_none (if b then o else None) ≡ (not b || is_none o)
-none_chosen true o = refl
-none_chosen false o = refl
+    has : (i : ℕ) → has_bit (named_by t m.device.world r) i ≡ (nat_lt i (count_of t Crtc) && is_named (object_id Crtc i))
+    has i = has_bit-mask_below (λ index. is_named (object_id Crtc index)) (count_of t Crtc) i
+
+    here : (i : ℕ) → i < count_of t Crtc → with_object i (if has_bit (named_by t m.device.world r) i then awaited_at (told_of t m.device.commits m.device.marks m.records.latches) (object_at i) else None)
+        ≡ (if is_named (object_id Crtc i) then pending_pair (object_id Crtc i) (awaited_commit t m (object_id Crtc i)) else None)
+    here i within =
+        (let few : i < 4 = omega (arith, within, limits.crtcs) in
+        let there : nat_lt i (count_of t Crtc) ≡ true = lt-ltb i (count_of t Crtc) within in
+        let on : is_on t (object_id Crtc i) ≡ true = on_index t Crtc i (omega (arith, few)) ∙ there in
+        let at : object_at i ≡ object_id Crtc i = rw (lt-ltb i 4 few) refl in
+        chosen i (has_bit (named_by t m.device.world r) i) (awaited_at (told_of t m.device.commits m.device.marks m.records.latches) (object_at i))
+        ∙ (ap (λ b. if b then pending_pair (object_at i) (awaited_at (told_of t m.device.commits m.device.marks m.records.latches) (object_at i)) else None) (has i ∙ ap (λ b. b && is_named (object_id Crtc i)) there)
+        ∙ (ap (λ o. if is_named (object_id Crtc i) then pending_pair o (awaited_at (told_of t m.device.commits m.device.marks m.records.latches) o) else None) at
+        ∙ ap (λ k. if is_named (object_id Crtc i) then pending_pair (object_id Crtc i) k else None) (awaited_machine t m (object_id Crtc i) on))))
+
+    beyond : (i : ℕ) → count_of t Crtc ≤ i → i < 4 → with_object i (if has_bit (named_by t m.device.world r) i then awaited_at (told_of t m.device.commits m.device.marks m.records.latches) (object_at i) else None) ≡ None
+    beyond i high low = rw (has i, le-ltb i (count_of t Crtc) high) refl
+
+-- Whether it is none
 
 none_unless : (b : Bool) (k : ℕ) → is_none (unless b k) ≡ b
 none_unless true k = refl
@@ -67,60 +91,37 @@ none_other : (x y : Option ℕ) → is_none (or_other x y) ≡ (is_none x && is_
 none_other None y = refl
 none_other (Some k) y = refl
 
-all_filtered : (p r : ℕ → Bool) (xs : List ℕ) → list_all r (filter p xs) ≡ list_all (λ x. not (p x) || r x) xs
-all_filtered p r [] = refl
-all_filtered p r (x ∷ xs) =
-    elim (p x) as (λ b. list_all r (cond b (x ∷ filter p xs) (filter p xs)) ≡ ((not b || r x) && list_all (λ x. not (p x) || r x) xs)) [
-      | true ↦ ap (λ rest. r x && rest) (all_filtered p r xs)
-      | false ↦ all_filtered p r xs
-    ]
+none_pair : (object : ℕ) (o : Option ℕ) → is_none (pending_pair object o) ≡ is_none o
+none_pair object None = refl
+none_pair object (Some k) = refl
 
--- a commit that the request names is ready at a CRTC
+none_either : (x y : Option (ObjId × ℕ)) → is_none (or_else x y) ≡ (is_none x && is_none y)
+none_either None y = refl
+none_either (Some a) y = refl
+
+-- the swap of a request is ready at a CRTC
 abbrev pub is_ready_at : Topology → Machine → ℕ → Bool
 is_ready_at t m crtc =
     if_there (is_hw_done m.device) (machine.previous t m.device.commits (length m.device.commits) crtc)
     && if_there (is_cleaned m.device) (machine.second_previous t m.device.commits (length m.device.commits) crtc)
 
-same_previous : (t : Topology) (m : Machine) (o : Option ℕ) (crtc : ℕ) → previous_of (told_of t m.device.commits m.device.marks m.records.latches) o crtc ≡ machine.previous_of t m.device.commits o crtc
-unfolding machine.previous
-same_previous t m None crtc = refl
-same_previous t m (Some k) crtc = refl
-
-ready_at : (t : Topology) (m : Machine) (crtc : ℕ) → is_none (awaited_at (told_of t m.device.commits m.device.marks m.records.latches) crtc) ≡ is_ready_at t m crtc
-unfolding machine.previous
-ready_at t m crtc =
-    let told : Told = told_of t m.device.commits m.device.marks m.records.latches in
+none_awaited : (t : Topology) (m : Machine) (crtc : ℕ) → is_none (pending_pair crtc (awaited_commit t m crtc)) ≡ is_ready_at t m crtc
+none_awaited t m crtc =
     let last : Option ℕ = machine.previous t m.device.commits (length m.device.commits) crtc in
-    none_other (not_marked told.hw_done last) (not_marked told.cleaned (previous_of told last crtc))
-    ∙ (ap (λ b. b && is_none (not_marked told.cleaned (previous_of told last crtc))) (none_marked told.hw_done last)
-    ∙ ap (λ b. if_there told.hw_done last && b) (none_marked told.cleaned (previous_of told last crtc) ∙ ap (λ o. if_there told.cleaned o) (same_previous t m last crtc)))
+    let second : Option ℕ = machine.second_previous t m.device.commits (length m.device.commits) crtc in
+    none_pair crtc (awaited_commit t m crtc)
+    ∙ (none_other (not_marked (is_hw_done m.device) last) (not_marked (is_cleaned m.device) second)
+    ∙ (ap (λ b. b && is_none (not_marked (is_cleaned m.device) second)) (none_marked (is_hw_done m.device) last)
+    ∙ ap (λ b. if_there (is_hw_done m.device) last && b) (none_marked (is_cleaned m.device) second)))
 
-at_index : (t : Topology) (m : Machine) (crtcs p crtc : ℕ) → object_at p ≡ crtc
-    → is_none (with_object p (if has_bit crtcs p then awaited_at (told_of t m.device.commits m.device.marks m.records.latches) (object_at p) else None)) ≡ (not (has_bit crtcs p) || is_ready_at t m crtc)
-at_index t m crtcs p crtc is =
-    none_with p _ ∙ (none_chosen (has_bit crtcs p) _ ∙ ap (λ b. not (has_bit crtcs p) || b) (rw is (ready_at t m crtc)))
+none_first : (t : Topology) (m : Machine) (xs : List ℕ) → is_none (first_some (λ crtc. pending_pair crtc (awaited_commit t m crtc)) xs) ≡ list_all (is_ready_at t m) xs
+none_first t m [] = refl
+none_first t m (x ∷ xs) =
+    none_either (pending_pair x (awaited_commit t m x)) (first_some (λ crtc. pending_pair crtc (awaited_commit t m crtc)) xs)
+    ∙ (ap (λ b. b && is_none (first_some (λ crtc. pending_pair crtc (awaited_commit t m crtc)) xs)) (none_awaited t m x) ∙ ap (λ b. is_ready_at t m x && b) (none_first t m xs))
 
 -- `not_yet` answers none exactly where the CRTCs that a request names are ready for its swap.
 pub not_yet_machine : (t : Topology) (m : Machine) (v : Tracking) (r : Request) → IsInStep t m v → IsWithinPlaces t → is_none (not_yet_of v (named_by t m.device.world r)) ≡ steps.is_ready t m r
 unfolding steps.is_ready
 not_yet_machine t m v r step limits =
-    let told : Told = told_of t m.device.commits m.device.marks m.records.latches in
-    ap (λ (o : Option (ObjId × ℕ)). is_none o) (not_yet_told told v (named_by t m.device.world r) step.keeps)
-    ∙ (none_below (λ i. with_object i (if has_bit (named_by t m.device.world r) i then awaited_at told (object_at i) else None)) 4
-    ∙ (four_below _ (λ o. not (has_bit (named_by t m.device.world r) (o - 100)) || is_ready_at t m o) (at_index t m (named_by t m.device.world r) 0 100 refl) (at_index t m (named_by t m.device.world r) 1 101 refl)
-    (at_index t m (named_by t m.device.world r) 2 102 refl) (at_index t m (named_by t m.device.world r) 3 103 refl)
-    ∙ (sym (crtcs_all (λ o. not (has_bit (named_by t m.device.world r) (o - 100)) || is_ready_at t m o) (count_of t Crtc) limits.crtcs off)
-    ∙ (all_alike (λ o. not (has_bit (named_by t m.device.world r) (o - 100)) || is_ready_at t m o) (λ o. not (names m.device.world.values (after m.device.world r) r.assigns o) || is_ready_at t m o) (ids_of t Crtc) alike
-    ∙ sym (all_filtered (names m.device.world.values (after m.device.world r) r.assigns) (is_ready_at t m) (ids_of t Crtc))))))
-  where
-    has : (i : ℕ) → has_bit (named_by t m.device.world r) i ≡ (nat_lt i (count_of t Crtc) && names m.device.world.values (after m.device.world r) r.assigns (object_id Crtc i))
-    has i = has_bit-mask_below (λ index. names m.device.world.values (after m.device.world r) r.assigns (object_id Crtc index)) (count_of t Crtc) i
-
-    off : (i : ℕ) → count_of t Crtc ≤ i → i < 4 → (not (has_bit (named_by t m.device.world r) (object_id Crtc i - 100)) || is_ready_at t m (object_id Crtc i)) ≡ true
-    off i beyond within = (let e : (100 + i) - 100 ≡ i = omega arith in rw (e, has i, le-ltb i (count_of t Crtc) beyond) refl)
-
-    alike : (x : ℕ) → IsIn x (ids_of t Crtc) → (not (has_bit (named_by t m.device.world r) (x - 100)) || is_ready_at t m x) ≡ (not (names m.device.world.values (after m.device.world r) r.assigns x) || is_ready_at t m x)
-    alike x there =
-        (let o : IsObject t Crtc x = ids-in t Crtc x there in
-        let e : (100 + o.index) - 100 ≡ o.index = omega arith in
-        rw (o.same, e, has o.index, lt-ltb o.index (count_of t Crtc) o.within) refl)
+    ap (λ (o : Option (ObjId × ℕ)). is_none o) (awaited_told t m v r step limits) ∙ none_first t m (named t m.device.world r)

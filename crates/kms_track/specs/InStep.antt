@@ -1,27 +1,34 @@
 -- When a tracker stands for what the machine has of its commits.
-use Rattle.std.specs.Prelude.{◌≡◌, ℕ, ◌-◌, ◌<◌, ◌≤◌, nat_lt, Bool, true, false, List, length, map, Option, Some, None, if◌then◌else◌}
+use Rattle.std.specs.Prelude.{◌≡◌, ℕ, ◌-◌, ◌<◌, ◌≤◌, ◌&&◌, nat_lt, Bool, true, false, List, length, map, Option, Some, None, if◌then◌else◌}
 use Rattle.kms_model.specs.declared.objects.Kind.TheVariants.{Crtc, Plane, Conn}
 use Rattle.kms_model.specs.declared.objects.ObjId.{ObjId}
 use Rattle.kms_model.specs.declared.objects.Topology.{Topology}
 use Rattle.kms_model.specs.declared.runs.Latch.{Latch}
+use Rattle.kms_model.specs.declared.scripts.Request.{Request}
 use Rattle.kms_model.specs.declared.states.Checked.{Checked}
-use Rattle.kms_model.specs.Device.Objects.{count_of, kind_of}
-use Rattle.kms_model.specs.Machine.Commits.{has_number, has_latched, previous, commit_touches, commit_concerns, is_on_before_or_after, waited_fences}
+use Rattle.kms_model.specs.Device.Objects.{count_of, exists, index_of, kind_of}
+use Rattle.kms_model.specs.Firsts.{first_some}
+use Rattle.kms_model.specs.Machine.Commits.{has_number, has_latched, is_cleaned, is_hw_done, previous, second_previous, commit_touches, commit_concerns, is_on_before_or_after, waited_fences}
 use Rattle.kms_model.specs.Machine.State.{Commit, Marks, Machine}
 use Rattle.kms_model.specs.Request.Lookups.{look_up}
 use Rattle.kms_model.specs.Machine.Effects.{commit_numbered}
+use Rattle.kms_model.specs.Request.Named.{named}
 use Rattle.kms_model.specs.Request.Sets.{in_fences, obj_id}
 use Rattle.kms_model.specs.Request.Touched.{touches}
 use Rattle.kms_track.specs.Places.{object_at, crtc_id, mask_has, sides_at, is_side}
-use Rattle.kms_track.specs.Told.{Told, Keeps}
-use Rattle.kms_track.specs.Tracking.{Tracking}
+use Rattle.kms_track.specs.Told.{Told, Keeps, not_marked}
+use Rattle.kms_track.specs.Tracking.{Tracking, or_other}
 
--- commits, their marks and latches, as a tracker is told of them
+-- an object is on the device, by its id
+abbrev pub is_on : Topology → ℕ → Bool
+is_on t object = exists t (kind_of object) (index_of object)
+
+-- commits, their marks and latches, as a tracker is told of them: of the objects of the device alone
 abbrev pub told_of : Topology → List Commit → Marks → List Latch → Told
 told_of t commits marks latches = record {
   count = length commits;
-  touches = λ k object. commit_touches t commits k object;
-  concerns = λ k object crtc. commit_concerns t commits k object crtc;
+  touches = λ k object. is_on t object && commit_touches t commits k object;
+  concerns = λ k object crtc. is_on t crtc && commit_concerns t commits k object crtc;
   fences = λ k. waited_fences t commits k;
   claimed = λ k. has_number marks.claimed k;
   hw_done = λ k. has_number marks.done k;
@@ -46,9 +53,9 @@ IsInStep t m v = IsTrackerOf t m.device.commits m.device.marks m.records.latches
 
 -- What was checked, and the fences, are those of a commit.
 pub record IsCheckedFor (t : Topology) (c : Commit) (checked : Checked) (fences : List ℕ) : Type 0 where
-  pub touched : (p : ℕ) → p < 28 → touches t c.world c.request (object_at p) ≡ mask_has checked.touched p
+  pub touched : (p : ℕ) → p < 28 → (is_on t (object_at p) && touches t c.world c.request (object_at p)) ≡ mask_has checked.touched p
   pub on : (p crtc : ℕ) → p < 28 → crtc < 4 → mask_has checked.touched p ≡ true
-      → is_on_before_or_after (kind_of (object_at p)) c (object_at p) (crtc_id crtc) ≡ is_side (sides_at checked.states p) (crtc_id crtc)
+      → (is_on t (crtc_id crtc) && is_on_before_or_after (kind_of (object_at p)) c (object_at p) (crtc_id crtc)) ≡ is_side (sides_at checked.states p) (crtc_id crtc)
   pub fences_are : map (λ f. f.1) (in_fences t (look_up c.world) c.request.assigns) ≡ fences
 
 -- the device is one that a tracker can follow: at most 4 CRTCs, 16 planes and 8 connectors
@@ -63,14 +70,6 @@ is_there t p =
     if nat_lt p 4 then nat_lt p (count_of t Crtc)
     else (if nat_lt p 20 then nat_lt (p - 4) (count_of t Plane) else nat_lt (p - 20) (count_of t Conn))
 
--- Commits touch objects of the device alone, and these are on its CRTCs alone.
-pub record AreOfDevice (t : Topology) (commits : List Commit) : Type 0 where
-  pub within : IsWithinPlaces t
-  pub crtcs :
-      (k p i : ℕ) → p < 28 → is_there t p ≡ true → count_of t Crtc ≤ i → i < 4
-      → commit_concerns t commits k (object_at p) (crtc_id i) ≡ false
-  pub objects : (k p : ℕ) → p < 28 → is_there t p ≡ false → commit_touches t commits k (object_at p) ≡ false
-
 -- an object with a commit, where there is one
 abbrev pub pending_pair : ℕ → Option ℕ → Option (ObjId × ℕ)
 pending_pair object None = None
@@ -80,3 +79,14 @@ pending_pair object (Some k) = Some (obj_id object, k)
 abbrev pub busy_answer : Topology → List Commit → Option ℕ → Option (ObjId × ℕ)
 busy_answer t commits None = None
 busy_answer t commits (Some object) = Some (obj_id object, commit_numbered (previous t commits (length commits) object))
+
+-- the commit that a swap waits for at a CRTC: its last one where that is not done, else its last but one where that is
+-- not cleaned
+abbrev pub awaited_commit : Topology → Machine → ℕ → Option ℕ
+awaited_commit t m crtc =
+    or_other (not_marked (is_hw_done m.device) (previous t m.device.commits (length m.device.commits) crtc))
+    (not_marked (is_cleaned m.device) (second_previous t m.device.commits (length m.device.commits) crtc))
+
+-- the first CRTC that a request names and at which its swap waits, with the commit
+abbrev pub awaited_answer : Topology → Machine → Request → Option (ObjId × ℕ)
+awaited_answer t m r = first_some (λ crtc. pending_pair crtc (awaited_commit t m crtc)) (named t m.device.world r)

@@ -1,5 +1,5 @@
 -- That calls keep a tracker in step with the machine, and that its answers are the machine's, after any steps.
-use Rattle.std.specs.Prelude.{◌≡◌, ℕ, ◌<◌, [], ◌∷◌, List, length, true, false, is_none}
+use Rattle.std.specs.Prelude.{◌≡◌, ℕ, ◌<◌, ◌&&◌, [], ◌∷◌, List, length, true, is_none}
 use Rattle.std.specs.List.{list_all}
 use Rattle.kms_model.specs.declared.objects.Topology.{Topology}
 use Rattle.kms_model.specs.declared.runs.Latch.{Latch}
@@ -13,7 +13,7 @@ use Rattle.kms_model.specs.Request.Touched.{touches, named_by}
 use Rattle.kms_model.specs.Stores.Tables.{without_id}
 use Rattle.kms_signal.specs.FenceSets.{FenceSet, is_made}
 use Rattle.kms_signal.specs.InStep.{AreFencesOf}
-use Rattle.kms_track.specs.InStep.{told_of, IsTrackerOf, IsInStep, IsCheckedFor, IsWithinPlaces, AreOfDevice, is_there, busy_answer}
+use Rattle.kms_track.specs.InStep.{told_of, IsTrackerOf, IsInStep, IsCheckedFor, IsWithinPlaces, is_on, awaited_answer, busy_answer}
 use Rattle.kms_track.specs.Laws.{no_tracking}
 use Rattle.kms_track.specs.Places.{object_at, mask_has}
 use Rattle.kms_track.specs.Told.{IsOver}
@@ -66,7 +66,7 @@ StandsWithRoom =
 abbrev pub TellsClaim : Type 0
 TellsClaim =
     (t : Topology) (m : Machine) (v : Tracking) (fences : FenceSet) (k : ℕ)
-    → IsInStep t m v → AreOfDevice t m.device.commits → AreFencesOf fences m.device.signalled
+    → IsInStep t m v → IsWithinPlaces t → AreFencesOf fences m.device.signalled
     → list_all (is_made fences) (waited_fences t m.device.commits k) ≡ true
     → ready_of v fences k ≡ steps.may_claim t m k
 
@@ -74,12 +74,17 @@ TellsClaim =
 abbrev pub TellsPending : Type 0
 TellsPending =
     (t : Topology) (m : Machine) (v : Tracking) (mask : Mask) (r : Request)
-    → IsInStep t m v → AreOfDevice t m.device.commits
-    → ((p : ℕ) → p < 28 → mask_has mask p ≡ touches t m.device.world r (object_at p))
-    → ((p : ℕ) → p < 28 → is_there t p ≡ false → mask_has mask p ≡ false)
+    → IsInStep t m v → IsWithinPlaces t
+    → ((p : ℕ) → p < 28 → mask_has mask p ≡ (is_on t (object_at p) && touches t m.device.world r (object_at p)))
     → busy_of v mask ≡ busy_answer t m.device.commits (steps.first_pending t m r)
 
--- `not_yet`, of the CRTCs that a request names, is none exactly where its swap is ready.
+-- `not_yet`, of the CRTCs that a request names, tells the first at which its swap waits, with the commit that it waits for.
+abbrev pub TellsAwaited : Type 0
+TellsAwaited =
+    (t : Topology) (m : Machine) (v : Tracking) (r : Request)
+    → IsInStep t m v → IsWithinPlaces t → not_yet_of v (named_by t m.device.world r) ≡ awaited_answer t m r
+
+-- It is none exactly where the swap is ready.
 abbrev pub TellsReady : Type 0
 TellsReady =
     (t : Topology) (m : Machine) (v : Tracking) (r : Request)

@@ -18,6 +18,6 @@ mod tests;
 mod tracker;
 
 pub use commits::{Last, Pending, Touched};
-pub use law::{answers_as_the_machine, answers_what_it_was_told};
+pub use law::{answers_as_the_machine, answers_what_it_was_told, follows_the_machine};
 pub use places::{OBJECTS, Sides};
 pub use tracker::Tracker;

@@ -1,0 +1,14 @@
+use Rattle.std.proofs.Common.{arith, refl, rules, sym, ◌∙◌}
+use Rattle.kms_regs.proofs.RewrittenWords.{written_all, written_next}
+use Rattle.kms_regs.proofs.words.write_mode.Goals as goal
+
+pub loop-i-init : goal.loop-i-init
+loop-i-init c = record { long = refl; below = λ p low. absurd (omega (arith, low)); behind = λ p from. refl }
+
+pub loop-i-preserved : goal.loop-i-preserved
+loop-i-preserved c =
+    written_next c.args.words.now c.args.old.now c.args.new.now c.loop-i.words c.loop-i.i _ c.loop-i.invariant (omega (arith, c.loop-i.invariant.long, c.told-words, c.loop-i-test.true)) c.write.ensures
+
+pub returns : goal.returns
+returns c =
+    written_all c.args.words.now c.args.old.now c.args.new.now c.loop-i.words c.loop-i.i c.loop-i.invariant (omega (arith, c.told-words, c.loop-i-test.false)) (c.told-words ∙ sym c.told-old) (c.told-words ∙ sym c.told-new)
