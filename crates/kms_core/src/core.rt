@@ -1,26 +1,36 @@
 //! The core.
 ghost use Rattle.std.specs.Prelude.{◌≡◌, IfOk, OnErr, [], ◌∷◌};
-ghost use Rattle.kms_model.specs.declared.replies.Step.TheVariants as step;
 ghost use Rattle.kms_core.specs.Run.{Run, machine, gains, if_ok};
-ghost use Rattle.kms_core.specs.Locks.{MayBegin};
 
 use crate::logs::Log;
 use kms_clients::Clients;
-use kms_model::{Duplicates, NoMemory, Script, Step, Ticket};
+use kms_model::{Answered, Duplicates, Latch, Script, Step};
+use kms_regs::RegFile;
+use kms_signal::{EventQueue, Fences};
 use kms_things::Things;
-use std::alloc::Global;
+use kms_track::Tracker;
 use std::marker::Model;
 
 /// The machine. Contracts see its script and its history.
 #[derive(Drop)]
 pub struct Core {
-    script: Script,
-    steps: Log<Step>,
-    clients: Clients,
-    things: Things,
+    pub(crate) script: Script,
+    pub(crate) steps: Log<Step>,
+    pub(crate) clients: Clients,
+    pub(crate) journal: Log<(u32, u32)>,
+    pub(crate) replies: Log<Answered>,
+    pub(crate) latches: Log<Latch>,
+    pub(crate) things: Things,
     // The present states of all objects, old and new alike.
-    present: Duplicates,
-    stalled: bool,
+    pub(crate) present: Duplicates,
+    pub(crate) fences: Fences,
+    // The events of each client of the script.
+    pub(crate) queues: Vec<EventQueue>,
+    pub(crate) tracker: Tracker,
+    pub(crate) registers: RegFile,
+    // The commit that each CRTC latches at its next vertical blanking.
+    pub(crate) goes: [Option<u32>; 4],
+    pub(crate) stalled: bool,
 }
 
 impl Model for Core {
@@ -33,23 +43,16 @@ impl Model for Core {
 
     ghost invariant = { λ c. Stands (record { script = c.script; steps = c.steps.items }) (record {
       clients = c.clients;
+      journal = c.journal;
+      replies = c.replies;
+      latches = c.latches;
       made = c.things;
       present = c.present;
+      fences = c.fences;
+      queues = c.queues.items;
+      tracker = c.tracker;
+      registers = c.registers;
+      goes = c.goes;
       stalled = c.stalled;
     }) };
-}
-
-impl Core {
-    /// Begins an acquire context for a client that is idle at an atomic request, and gives its ticket. Want of memory
-    /// leaves all as it was. (Kernel: "KMS Locking", `drm_modeset_acquire_init`.)
-    pub fn begin(&mut self, alloc: Global, client: u32) -> Result<Ticket, NoMemory>
-        requires { MayBegin self.old client }
-        ensures ticket { IfOk result (λ t. t.0 ≡ (machine self.old).contexts.tickets) }
-        ensures history { self.new ≡ gains self.old (if_ok result (λ t. step.Begin client ∷ [])) }
-    {
-        self.steps.make_room(1)?;
-        let ticket = self.clients.begin(alloc, client)?;
-        self.steps.push(Step::Begin { client });
-        Ok(ticket)
-    }
 }

@@ -1,6 +1,7 @@
 //! The machine: a display device with many clients, workers and vertical blankings.
 #![tactic(auto)]
 
+mod contexts;
 mod core;
 mod logs;
 
