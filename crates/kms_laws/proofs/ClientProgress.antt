@@ -26,7 +26,7 @@ use Rattle.kms_model.specs.Request.Reach.{reaches}
 use Rattle.kms_model.specs.Request.Touched.{touches}
 use Rattle.kms_model.specs.Request.Verdict.{early_in, late_in, verdict}
 use Rattle.kms_model.proofs.Items.{IsIn, IsObject, ids-in, list_all-from, or_else-nones}
-use Rattle.kms_request.proofs.ReachLaw.{reach-is}
+use Rattle.kms_model.proofs.ReachLaw.{reach-is}
 use Rattle.kms_laws.proofs.Basics.{both_bools, in_either, in_left, in_right}
 use Rattle.kms_laws.proofs.EventCounts.{counts-same}
 use Rattle.kms_laws.proofs.EventsKept.{awaited}

@@ -32,8 +32,8 @@ use Rattle.kms_model.specs.Request.Resolves.{IsAllowed, IsResolved}
 use Rattle.kms_model.proofs.CrtcLemmas.{all_in}
 use Rattle.kms_model.proofs.Items.{IsIn}
 use Rattle.kms_model.proofs.RequestLemmas.{accepted_allowed}
-use Rattle.kms_request.proofs.SameLooks.{resolved-same}
-use Rattle.kms_request.specs.SameLooks.{TellsLabel, TellsLabels}
+use Rattle.kms_model.proofs.SameLooks.{resolved-same}
+use Rattle.kms_model.specs.Request.SameLooks.{TellsLabel, TellsLabels}
 use Rattle.kms_laws.specs.Laws.{AsksWithinReach}
 use Rattle.kms_laws.proofs.Fences.{Labelled, execute_labels, fences_labels}
 use Rattle.kms_laws.proofs.Opened.{agrees-open, all_open, look-open, open-reach, sound-open}

@@ -35,7 +35,7 @@ use Rattle.kms_model.proofs.HeldValues.{all_held-from, are_held-kept, held-seen}
 use Rattle.kms_model.proofs.Items.{list_any-same}
 use Rattle.kms_model.proofs.SeenLemmas.{AreSeenAlike, late-seen}
 use Rattle.kms_model.proofs.ThingLemmas.{IsSeenAlike}
-use Rattle.kms_request.proofs.ReachLaw.{reach-is}
+use Rattle.kms_model.proofs.ReachLaw.{reach-is}
 use Rattle.kms_laws.proofs.HeldFrames.{state_with}
 
 abbrev pub opened : Thing → Thing

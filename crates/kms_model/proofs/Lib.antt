@@ -18,9 +18,11 @@ pub mod OnMachines
 pub mod OnScripts
 pub mod OpenLemmas
 pub mod PropertyTable
+pub mod ReachLaw
 pub mod RequestLemmas
 pub mod Rows
 pub mod RunIsSerial
+pub mod SameLooks
 pub mod ScriptRows
 pub mod SeenLemmas
 pub mod SetLemmas

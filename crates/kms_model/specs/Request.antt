@@ -8,6 +8,7 @@ pub mod Checks
 pub mod Late
 pub mod Verdict
 pub mod Sets
+pub mod SameLooks
 pub mod SetRanges
 pub mod Resolves
 pub mod Agreement

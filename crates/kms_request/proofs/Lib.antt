@@ -4,9 +4,8 @@ pub mod IndexLemmas
 pub mod NamedLemmas
 pub mod NamingLemmas
 pub mod WholeLemmas
-pub mod SameLooks
+pub mod SameAnswers
 pub mod GroupLemmas
 pub mod AffectedLemmas
 pub mod SetGroups
-pub mod ReachLaw
 mod ReachRows

@@ -4,5 +4,4 @@ pub mod Naming
 pub mod Targets
 pub mod Whole
 pub mod Order
-pub mod SameLooks
 pub mod Groups

@@ -6,7 +6,7 @@ ghost use Rattle.kms_model.specs.Request.Refusals.{early_refusal};
 ghost use Rattle.kms_model.specs.Request.Resolves.{IsResolved};
 ghost use Rattle.kms_model.specs.Request.Sets.{look_in};
 ghost use Rattle.kms_request.specs.Answers.{ComesFrom};
-ghost use Rattle.kms_request.specs.SameLooks.{TellsLabels};
+ghost use Rattle.kms_model.specs.Request.SameLooks.{TellsLabels};
 
 use crate::errors::RequestError;
 use crate::fences::{in_fences, out_fences};

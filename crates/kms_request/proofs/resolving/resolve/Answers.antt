@@ -1,6 +1,7 @@
 use Rattle.std.proofs.Common.{rules, ◌∙◌, sym}
 use Rattle.kms_model.specs.Request.Sets.{look_in}
-use Rattle.kms_request.proofs.SameLooks.{answer-refused, early-same, resolved-same}
+use Rattle.kms_request.proofs.SameAnswers.{answer-refused}
+use Rattle.kms_model.proofs.SameLooks.{early-same, resolved-same}
 use Rattle.kms_request.proofs.resolving.resolve.Goals as goal
 
 pub returns-in-Some-clause-refused_by : goal.returns-in-Some-clause-refused_by

@@ -1,6 +1,6 @@
 -- Requests whose labels name the same things by two look-ups.
 use Rattle.std.proofs.Common.{◌≡◌, ◌∙◌, ℕ, List, [], ◌∷◌, Bool, true, false, Option, Some, None, map, refl, sym, ap, inl, inr}
-use Rattle.std.specs.Prelude.{All, IfSome, IfOk, IfErr, Result, Ok, Err, option_and_then}
+use Rattle.std.specs.Prelude.{All, IfSome, option_and_then}
 use Rattle.std.specs.List.{cons_option, filter_map}
 use Rattle.std.proofs.lemmas.Bool.Decides.{eqb_tells}
 use Rattle.std.specs.Option.{option_map}
@@ -26,13 +26,9 @@ use Rattle.kms_model.specs.Device.Objects.{ids_of}
 use Rattle.kms_model.specs.Device.Properties.{Property, property}
 use Rattle.kms_model.specs.Request.Refusals.{own_refusal, assign_refusal, assigns_refusal, early_refusal, is_in_range, is_in_range_of, takes}
 use Rattle.kms_model.specs.Request.Resolves.{IsResolved}
+use Rattle.kms_model.specs.Request.SameLooks.{TellsLabel, TellsLabels}
 use Rattle.kms_model.specs.Request.Sets.{fb_of_look, fb_value, fence_of_look, in_fence, in_fences, last_sets, look_in, mode_of_look, mode_value, obj_id, set_of}
 use Rattle.kms_model.specs.Request.Touched.{last_value, value_if}
-use Rattle.kms_request.specs.declared.errors.RequestError.{RequestError}
-use Rattle.kms_request.specs.declared.errors.RequestError.TheVariants.{Of, NoMemory}
-use Rattle.kms_request.specs.Answers.{ComesFrom}
-use Rattle.kms_request.specs.Fences.{fence_value}
-use Rattle.kms_request.specs.SameLooks.{TellsLabel, TellsLabels}
 
 range-same : (t : Topology) (f g : ℕ → Look) (prop : ℕ) (range : Range) (v : Value) → TellsLabel f g v → is_in_range t f prop range v ≡ is_in_range t g prop range v
 range-same t f g prop (Numbers low high) (Num n) same = refl
@@ -106,6 +102,10 @@ last-has P [] object prop all = tt
 last-has P (a ∷ assigns) object prop all =
     first-has P (last_value assigns object prop) _ (last-has P assigns object prop (All-tail (λ b. P b.value) a assigns all)) (if-has P _ a.value (All-head (λ b. P b.value) a assigns all))
 
+-- the fence that a value names
+abbrev fence_value : (ℕ → Look) → Value → Option ℕ
+fence_value f v = option_and_then (λ label. fence_of_look (f label)) (label_of v)
+
 fence-same : (f g : ℕ → Look) (v : Value) → TellsLabel f g v → fence_value f v ≡ fence_value g v
 fence-same f g (Num n) same = refl
 fence-same f g (Named label) same = ap fence_of_look same
@@ -136,20 +136,6 @@ resolved-same t f g r resolved same is = record {
   in_fences = is.in_fences ∙ in_fences-same t f g r.assigns same;
   out_fences = is.out_fences;
 }
-
-pub answer-resolved : (t : Topology) (f g : ℕ → Look) (r : Request) (answer : Result Resolved RequestError) → TellsLabels f g r.assigns
-    → IfOk answer (IsResolved t f r) → IfOk answer (IsResolved t g r)
-answer-resolved t f g r (Ok resolved) same is = resolved-same t f g r resolved same is
-answer-resolved t f g r (Err e) same is = is
-
-error-same : (first second : Option ℕ) (e : RequestError) → first ≡ second → ComesFrom first e → ComesFrom second e
-error-same first second (Of refusal) same is = sym same ∙ is
-error-same first second NoMemory same is = sym same ∙ is
-
-pub answer-refused : (t : Topology) (f g : ℕ → Look) (r : Request) (answer : Result Resolved RequestError) → TellsLabels f g r.assigns
-    → IfErr answer (ComesFrom (early_refusal t f r)) → IfErr answer (ComesFrom (early_refusal t g r))
-answer-refused t f g r (Ok resolved) same is = is
-answer-refused t f g r (Err e) same is = error-same (early_refusal t f r) (early_refusal t g r) e (early-same t f g r same) is
 
 -- The list of what a request's labels name in a world tells of these labels what the world does.
 
