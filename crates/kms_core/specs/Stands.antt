@@ -1,6 +1,5 @@
 -- How the stores of a core stand for its machine: one part for each store.
 use Rattle.std.specs.Prelude.{ℕ, ◌≡◌, ◌≤◌, ◌<◌, ◌-◌, Bool, true, List, length, map, reverse, Option, None, slice_index_or}
-
 use Rattle.kms_model.specs.declared.objects.Kind.TheVariants.{Crtc}
 use Rattle.kms_model.specs.declared.objects.Topology.{Topology}
 use Rattle.kms_model.specs.declared.replies.Answered.{Answered}
@@ -50,15 +49,15 @@ entry_pair e = (e.client, e.command)
 
 -- what was recorded, the oldest first
 pub record AreRecords (r : Records) (journal : List (ℕ × ℕ)) (replies : List Answered) (latches : List Latch) : Type 0 where
-  pub journal : journal ≡ map entry_pair (reverse r.journal)
-  pub replies : replies ≡ reverse r.replies
-  pub latches : latches ≡ reverse r.latches
+  pub accepted : journal ≡ map entry_pair (reverse r.journal)
+  pub answered : replies ≡ reverse r.replies
+  pub latched : latches ≡ reverse r.latches
 
 -- the things of a world are those that were made, and the present states are those of its values
 pub record IsWorldOf (t : Topology) (w : World) (made : Made) (present : Duplicates) : Type 0 where
   pub things : w.things ≡ made.things
   pub next_id : w.next_id ≡ made.next_id
-  pub present : IsPresent t w present
+  pub states : IsPresent t w present
 
 -- each client of a script has a queue of its events
 abbrev pub queue_of : List Queue → ℕ → Queue

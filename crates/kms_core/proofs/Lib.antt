@@ -1,0 +1,6 @@
+mod Insides
+mod Histories
+mod Beside
+mod Places
+mod Locking
+mod First
