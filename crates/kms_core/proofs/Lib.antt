@@ -2,5 +2,6 @@ mod Insides
 mod Histories
 mod Beside
 mod Places
+mod Stored
 mod Locking
 mod First

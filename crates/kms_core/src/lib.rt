@@ -4,5 +4,7 @@
 mod contexts;
 mod core;
 mod logs;
+mod states;
 
+pub use contexts::Locked;
 pub use core::Core;
