@@ -4,4 +4,5 @@ mod Beside
 mod Places
 mod Stored
 mod Locking
+mod BackingOff
 mod First

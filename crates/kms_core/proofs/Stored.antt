@@ -2,7 +2,14 @@
 use Rattle.std.proofs.Common.{◌≡◌, ℕ, ◌≤◌, ◌<◌, ◌-◌, ◌+◌, Bool, true, false, List, length, Option, Some, None, refl, sym, ap, ◌∙◌, arith}
 use Rattle.std.specs.Prelude.{is_some, slice_get}
 use Rattle.std.specs.Option.{option_map}
-use Rattle.std.proofs.lemmas.Bool.{ltb-true}
+use Rattle.std.proofs.lemmas.Bool.{ltb-true, lt-ltb}
+use Rattle.std.proofs.Common.{◌++◌, inl, inr}
+use Rattle.std.specs.Prelude.{nat_lt}
+use Rattle.kms_model.proofs.Items.{IsIn, IsObject, ids-in}
+use Rattle.kms_model.proofs.TouchedLemmas.{HasFewObjects}
+use Rattle.kms_model.specs.Machine.Commits.{lockable}
+use Rattle.kms_laws.proofs.Basics.{in_either}
+use Rattle.kms_laws.proofs.Objects.{crtc_kind, plane_kind, conn_kind}
 use Rattle.kms_model.specs.declared.objects.Kind.{Kind}
 use Rattle.kms_model.specs.declared.objects.Kind.TheVariants.{Crtc, Plane, Conn, Enc}
 use Rattle.kms_model.specs.declared.objects.Topology.{Topology}
@@ -11,7 +18,7 @@ use Rattle.kms_model.specs.declared.states.Duplicates.{Duplicates}
 use Rattle.kms_model.specs.declared.states.ObjState.{ObjState}
 use Rattle.kms_model.specs.declared.states.ObjState.TheVariants as state
 use Rattle.kms_model.specs.declared.worlds.World.{World}
-use Rattle.kms_model.specs.Device.Objects.{first_id, index_of, kind_of, object_id}
+use Rattle.kms_model.specs.Device.Objects.{count_of, exists, ids_of, first_id, index_of, kind_of, object_id}
 use Rattle.kms_model.specs.Device.States.{plane_at}
 use Rattle.kms_model.specs.Machine.Steps.{is_lockable}
 use Rattle.kms_model.specs.Request.Agreement.{conn_state_at, crtc_state_at}
@@ -44,3 +51,29 @@ stored t w d id present low lockable = of_kind (kind_of id) low lockable where
       in_slot d.conns (id - 300) (λ s. state.Conn s) (conn_state_at w.values id) (present.whole.conns.there (id - 300) (ltb-true (id - 300) (length t.conns) is))
       (λ both at. present.new.conns (id - 300) both at ∙ ap (λ n. conn_state_at w.values n) own)
   of_kind Enc low is = absurd cc
+
+-- an object that has a lock is on the device
+pub record IsOnDevice (t : Topology) (id : ℕ) : Type 0 where
+  pub is_id : first_id (kind_of id) ≤ id
+  pub lockable : is_lockable t (kind_of id) (index_of id) ≡ true
+
+of_its_kind : (t : Topology) (kind : Kind) (id : ℕ) → (kind ≡ Enc → ⊥) → kind_of id ≡ kind → IsObject t kind id → IsOnDevice t id
+of_its_kind t kind id not_enc e is = record {
+  is_id = rw e (omega (arith, is.same));
+  lockable = rw e (no_encoder kind not_enc (rw (is.same) (ap (λ n. nat_lt n (count_of t kind)) (omega arith) ∙ lt-ltb is.index (count_of t kind) is.within)));
+} where
+  no_encoder : (k : Kind) → (k ≡ Enc → ⊥) → exists t k (id - first_id k) ≡ true → is_lockable t k (id - first_id k) ≡ true
+  no_encoder Crtc not_it e = e
+  no_encoder Plane not_it e = e
+  no_encoder Conn not_it e = e
+  no_encoder Enc not_it e = absurd (not_it refl)
+
+pub on_device : (t : Topology) (id : ℕ) → HasFewObjects t → IsIn id (lockable t) → IsOnDevice t id
+on_device t id few is =
+    elim (in_either (ids_of t Crtc) (ids_of t Plane ++ ids_of t Conn) id is) [
+      | inl crtc ↦ of_its_kind t Crtc id (λ e. cc) (crtc_kind t id few crtc) (ids-in t Crtc id crtc)
+      | inr rest ↦ elim (in_either (ids_of t Plane) (ids_of t Conn) id rest) [
+        | inl plane ↦ of_its_kind t Plane id (λ e. cc) (plane_kind t id few plane) (ids-in t Plane id plane)
+        | inr conn ↦ of_its_kind t Conn id (λ e. cc) (conn_kind t id few conn) (ids-in t Conn id conn)
+      ]
+    ]

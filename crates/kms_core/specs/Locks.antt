@@ -1,5 +1,5 @@
 -- What calls on locks ask for and answer. From: "KMS Locking", `drm_modeset_lock.c`.
-use Rattle.std.specs.Prelude.{ℕ, ◌≡◌, ◌≤◌, Bool, true, false, List, [], ◌∷◌}
+use Rattle.std.specs.Prelude.{Option, Some, None, ℕ, ◌≡◌, ◌≤◌, Bool, true, false, List, [], ◌∷◌}
 use Rattle.kms_model.specs.declared.objects.ObjId.{ObjId}
 use Rattle.kms_model.specs.declared.objects.Ticket.{Ticket}
 use Rattle.kms_model.specs.declared.replies.Step.{Step}
@@ -12,6 +12,7 @@ use Rattle.kms_model.specs.Machine.State.{doing_at, holder_at}
 use Rattle.kms_model.specs.Machine.Steps.{contended, is_lockable, taking_at}
 use Rattle.kms_model.specs.Request.Reach.{reaches}
 use Rattle.kms_clients.specs.InStep.{lock_answer, relock_answer, holder_of_contended}
+use Rattle.kms_clients.specs.Standing.{ticket_in}
 use Rattle.kms_wwlock.specs.declared.table.Lock.{Lock as TableLock}
 use Rattle.kms_wwlock.specs.declared.table.Lock.TheVariants as table
 use Rattle.kms_wwlock.specs.declared.table.Relock.{Relock as TableRelock}
@@ -72,3 +73,46 @@ lock_steps client id (locked.Older holder) = lock_step client id ∷ []
 lock_steps client id (locked.Own s) = []
 lock_steps client id (locked.Younger holder) = []
 lock_steps client id (locked.Held holder) = []
+
+-- backoff and relock
+
+-- the context of a client has a ticket
+abbrev pub HasContext : Run → ℕ → Ticket → Type 0
+HasContext r client t = ticket_in (doing_at (machine r) client) ≡ Some t
+
+-- The context must back off, and the history was not ended.
+pub record MayBackOff (r : Run) (t : Ticket) : Type 0 where
+  pub client : ℕ
+  pub object : ObjId
+  pub must : doing_at (machine r) client ≡ doing.MustBackOff t object
+  pub goes_on : (machine r).stalled ≡ false
+
+-- The context backed off, and the history was not ended.
+pub record MayRelock (r : Run) (t : Ticket) : Type 0 where
+  pub client : ℕ
+  pub object : ObjId
+  pub off : doing_at (machine r) client ≡ doing.BackedOff t object
+  pub goes_on : (machine r).stalled ≡ false
+
+abbrev pub relocked_as : ObjState → TableRelock → Locked
+relocked_as s again.Got = locked.Got s
+relocked_as s (again.Held holder) = locked.Held holder
+
+-- the object that a client backed off for, by a number that stands for none
+abbrev pub object_of : Option ℕ → ObjId
+object_of None = record { 0 = 0 }
+object_of (Some object) = record { 0 = object }
+
+-- what a client is told that asks again for the object that it backed off for
+abbrev pub relocked_answer : Run → ℕ → Locked
+relocked_answer r client =
+    let asked = contended (doing_at (machine r) client) in
+    relocked_as (present_state r (object_of asked)) (relock_answer (machine r) (holder_of_contended (machine r) asked))
+
+-- the step that the answer tells: the object was taken
+abbrev pub relock_steps : ℕ → Locked → List Step
+relock_steps client (locked.Got s) = Relock client ∷ []
+relock_steps client (locked.Held holder) = []
+relock_steps client (locked.Own s) = []
+relock_steps client (locked.Older holder) = []
+relock_steps client (locked.Younger holder) = []

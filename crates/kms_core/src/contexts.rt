@@ -5,12 +5,12 @@ ghost use Rattle.kms_model.specs.declared.replies.Step.TheVariants as step;
 ghost use Rattle.kms_model.specs.declared.worlds.World.{World};
 ghost use Rattle.kms_model.specs.Device.Objects.{kind_of};
 ghost use Rattle.kms_core.specs.Run.{Run, machine, gains, if_ok};
-ghost use Rattle.kms_core.specs.Locks.{MayBegin, MayLock, IsTaking, locked_answer, locked_as, lock_step, lock_steps, is_step};
+ghost use Rattle.kms_core.specs.Locks.{MayBegin, MayLock, IsTaking, locked_answer, locked_as, lock_step, lock_steps, is_step, HasContext, MayBackOff, MayRelock, relocked_answer, relock_steps};
 
 use crate::core::Core;
 use crate::states::present_state;
-use kms_model::{NoMemory, ObjId, ObjState, Step, Ticket};
-use kms_wwlock::Lock;
+use kms_model::{Doing, NoMemory, ObjId, ObjState, Step, Ticket};
+use kms_wwlock::{Lock, Relock};
 use std::alloc::Global;
 
 /// What is answered where a lock is asked for.
@@ -81,6 +81,53 @@ impl Core {
         }
         self.steps.push(lock_step(client, id));
         Ok(locked_as(state, answer))
+    }
+
+    /// Drops all locks of the context of a ticket, which must back off. Want of memory leaves all as it was. (Kernel:
+    /// `drm_modeset_backoff`.)
+    pub fn backoff(&mut self, t: Ticket) -> Result<(), NoMemory>
+        requires { MayBackOff self.old t }
+        ensures history { (client : ℕ) → HasContext self.old client t
+            → self.new ≡ gains self.old (if_ok result (λ u. step.BackOff client ∷ [])) }
+        ensures unchanged { OnErr result (self.new ≡ self.old) }
+    {
+        self.steps.make_room(1)?;
+        let Some(client) = self.clients.with_ticket(t) else {
+            unreachable!();
+        };
+        self.clients.backoff(client);
+        self.steps.push(Step::BackOff { client });
+        Ok(())
+    }
+
+    /// Asks, in the context of a ticket, which backed off, for the object that it backed off for. `Got` tells the object's
+    /// present state, and the context takes locks again. `Held` changes nothing. No other answer comes. Want of memory
+    /// leaves all as it was. (Kernel: `drm_modeset_backoff`, which waits for the object.)
+    pub fn relock(&mut self, t: Ticket) -> Result<Locked, NoMemory>
+        requires { MayRelock self.old t }
+        ensures answer { (client : ℕ) → HasContext self.old client t
+            → IfOk result (λ a. a ≡ relocked_answer self.old client) }
+        ensures history { (client : ℕ) → HasContext self.old client t
+            → self.new ≡ gains self.old (if_ok result (relock_steps client)) }
+        ensures unchanged { OnErr result (self.new ≡ self.old) }
+    {
+        self.steps.make_room(1)?;
+        let Some(client) = self.clients.with_ticket(t) else {
+            unreachable!();
+        };
+        let Doing::BackedOff(_ticket, id) = self.clients.place(client).doing else {
+            unreachable!();
+        };
+        let Some(state) = present_state(&self.present, id) else {
+            unreachable!();
+        };
+        match self.clients.relock(client) {
+            Relock::Held { holder } => Ok(Locked::Held { holder }),
+            Relock::Got => {
+                self.steps.push(Step::Relock { client });
+                Ok(Locked::Got { state })
+            }
+        }
     }
 }
 
