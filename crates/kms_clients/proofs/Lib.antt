@@ -1,4 +1,4 @@
 mod Places
 mod Ties
-mod Held
+pub mod Held
 mod InMachine

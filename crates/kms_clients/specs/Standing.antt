@@ -56,6 +56,11 @@ ticket_in (doing.MustBackOff t object) = Some t
 ticket_in (doing.BackedOff t object) = Some t
 ticket_in (doing.Returning k) = None
 
+-- a client's context has a ticket
+pub record HasTicket (v : Standing) (t : Ticket) (client : ℕ) : Type 0 where
+  pub is_client : IsClient client
+  pub ticket : ticket_in (place_of v client).doing ≡ Some t
+
 -- How places and table tell the same
 
 -- a client's context does what the client does

@@ -1,12 +1,12 @@
 //! The clients with the table of locks.
-ghost use Rattle.std.specs.Prelude.{◌≡◌, ◌<◌, IfOk, OnErr, OnOk, length};
+ghost use Rattle.std.specs.Prelude.{ℕ, ◌≡◌, ◌≢◌, ◌<◌, IfNone, IfOk, IfSome, OnErr, OnOk, Some, length};
 ghost use Rattle.kms_model.specs.declared.objects.Topology.{Topology};
 ghost use Rattle.kms_model.specs.declared.runs.Doing.TheVariants as doing;
 ghost use Rattle.kms_model.specs.Machine.Effects.{begun, goes_on};
 ghost use Rattle.kms_model.specs.Machine.State.{Machine, holder_at, doing_at, first_machine};
 ghost use Rattle.kms_model.specs.Machine.Steps.{contended};
 ghost use Rattle.kms_wwlock.specs.Objects.{IsLockable};
-ghost use Rattle.kms_clients.specs.Standing.{Standing, IsClient, no_clients, place_of, place_in, put_doing, put_next};
+ghost use Rattle.kms_clients.specs.Standing.{Standing, IsClient, no_clients, place_of, place_in, put_doing, put_next, ticket_in, HasTicket};
 ghost use Rattle.kms_clients.specs.InStep.{AreClientsOf, IsTaking, MustBackOff, HasBackedOff, HasNoContext, lock_answer, relock_answer, holder_of_contended};
 ghost use Rattle.kms_clients.specs.InStep.{after_lock, after_backoff, after_relock, after_decision, after_swap};
 
@@ -54,6 +54,20 @@ impl Clients {
         ensures { result ≡ place_of self.now client }
     {
         self.places[(client - 1) as usize]
+    }
+
+    /// The client whose context has a ticket; none where no context of these clients has it.
+    pub fn with_ticket(&self, t: Ticket) -> Option<u32>
+        ensures some { IfSome result (HasTicket self.now t) }
+        ensures none { IfNone result ((client : ℕ) → IsClient client
+            → ticket_in (place_of self.now client).doing ≢ Some t) }
+    {
+        for client in 1..=MAX_CLIENTS {
+            if ticket_in(self.place(client).doing) == Some(t) {
+                return Some(client);
+            }
+        }
+        None
     }
 
     /// Begins a context for an idle client, and gives its ticket, which counts the contexts before. Fewer than 4294967295
@@ -163,6 +177,16 @@ impl Clients {
         ensures { (m : Machine) → AreClientsOf m.contexts self.old → AreClientsOf (goes_on m client).contexts self.new }
     {
         set_next(&mut self.places, client);
+    }
+}
+
+/// The ticket of the context of a client that does this, where it has one.
+fn ticket_in(doing: Doing) -> Option<Ticket>
+    ensures { result ≡ ticket_in doing }
+{
+    match doing {
+        Doing::Idle | Doing::Returning(_) => None,
+        Doing::Taking(t) | Doing::MustBackOff(t, _) | Doing::BackedOff(t, _) => Some(t),
     }
 }
 

@@ -1,0 +1,24 @@
+-- The stores that a core has.
+use Rattle.std.proofs.Common.{◌≡◌}
+use Rattle.kms_core.specs.declared.core.Core.TheInside.{Inside}
+use Rattle.kms_core.specs.Run.{Run}
+use Rattle.kms_core.specs.Stands.{Stores}
+
+abbrev pub run_of : Inside → Run
+run_of c = record { script = c.script; steps = c.steps.items }
+
+abbrev pub stores_of : Inside → Stores
+stores_of c = record {
+  clients = c.clients;
+  journal = c.journal;
+  replies = c.replies;
+  latches = c.latches;
+  made = c.things;
+  present = c.present;
+  fences = c.fences;
+  queues = c.queues.items;
+  tracker = c.tracker;
+  registers = c.registers;
+  goes = c.goes;
+  stalled = c.stalled;
+}

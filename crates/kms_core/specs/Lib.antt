@@ -1,0 +1,5 @@
+pub mod Logs
+pub mod Run
+pub mod Stands
+pub mod States
+pub mod Locks
