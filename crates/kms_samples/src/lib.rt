@@ -7,9 +7,5 @@ mod modes;
 mod requests;
 
 pub use devices::{cloned, double, pair, plane_of, single, split};
-<<<<<<< HEAD
-pub use modes::{sized_mode, tiny};
-=======
-pub use modes::{full_hd, mode_of, tiny};
->>>>>>> 5a10deccfa2fb41db2a8a5fa41327ba4d3bea736
+pub use modes::{full_hd, sized_mode, tiny};
 pub use requests::{ALLOW_MODESET, light, on_crtc, on_plane, request, set};

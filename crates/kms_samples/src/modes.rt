@@ -1,10 +1,6 @@
 //! Modes. (Header: `drm_mode.h`, `struct drm_mode_modeinfo`.)
 ghost use Rattle.std.specs.Prelude.{◌≡◌};
-<<<<<<< HEAD
-ghost use Rattle.kms_samples.specs.Samples.{sized_mode, tiny};
-=======
-ghost use Rattle.kms_samples.specs.Samples.{full_hd, mode_of, tiny};
->>>>>>> 5a10deccfa2fb41db2a8a5fa41327ba4d3bea736
+ghost use Rattle.kms_samples.specs.Samples.{full_hd, sized_mode, tiny};
 
 use kms_model::Mode;
 
