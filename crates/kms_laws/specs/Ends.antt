@@ -3,7 +3,7 @@ use Rattle.std.specs.Prelude.{◌≡◌, ◌↔◌, ◌⊎◌, ℕ, true, false,
 use Rattle.kms_model.specs.declared.replies.Step.{Step}
 use Rattle.kms_model.specs.declared.scripts.Script.{Script}
 use Rattle.kms_model.specs.Machine.Histories.{at, is_dead, is_drained, is_history}
-use Rattle.kms_model.specs.Order.Rounds.{IsFinished, IsOne, is_still, run_of}
+use Rattle.kms_model.specs.Order.Rounds.{IsFinished, IsOne, is_still, rounds, run_of}
 use Rattle.kms_model.specs.Promises.{InEachHistory}
 use Rattle.kms_model.specs.Script.Generated.{generated}
 use Rattle.kms_model.specs.Script.WellFormed.{IsWellFormed}
@@ -15,6 +15,10 @@ IsOver s h = (is_drained s (at s h) ≡ true) ⊎ (is_dead s (at s h) ≡ true)
 -- A round behind a history has no step exactly where the history is over.
 abbrev pub RoundsAreStill : Type 0
 RoundsAreStill = InEachHistory (λ s h. (is_still s (run_of s h) ≡ true) ↔ IsOver s h)
+
+-- Rounds behind a history end: after so many of them the next has no step.
+abbrev pub RoundsEnd : Type 0
+RoundsEnd = InEachHistory (λ s h. (most : ℕ) × (is_still s (rounds s most (run_of s h)) ≡ true))
 
 -- a history that goes on behind another, and is over
 pub record EndsOver (s : Script) (h finished : List Step) : Type 0 where
