@@ -17,12 +17,13 @@ use Rattle.kms_model.specs.Device.Objects.{object_id}
 use Rattle.kms_model.specs.Device.Serial.{from_one}
 use Rattle.kms_model.specs.Machine.Effects.{answers, backed_off, counts_vblank, goes_on, next, signals}
 use Rattle.kms_model.specs.Machine.Histories.{client_numbers, legal}
-use Rattle.kms_model.specs.Machine.State.{Contexts, Machine, command_at, count_at, doing_at, entry_at, go_at, holder_at, place_at, request_at}
+use Rattle.kms_model.specs.Machine.State.{Contexts, Machine, command_at, count_at, doing_at, entry_at, holder_at, place_at, request_at}
 use Rattle.kms_model.specs.Machine.Steps.{is_free_or_older, is_idle, is_taking, may_claim, may_lock, returning_of, taking_at, ticket_of}
 use Rattle.kms_model.specs.Request.Reach.{reaches}
 use Rattle.kms_model.specs.Request.Sets.{obj_id}
 use Rattle.kms_model.specs.Script.WellFormed.{IsWellFormed}
 use Rattle.kms_model.proofs.Items.{IsIn}
+use Rattle.kms_laws.specs.Ends.{is_moving}
 use Rattle.kms_laws.specs.TailsLeft.{LeavesLess, commit_of_step, steps_left, tail_left}
 use Rattle.kms_laws.proofs.Basics.{pair_now, read_other, read_same}
 use Rattle.kms_laws.proofs.ClientProgress.{with_request}
@@ -38,11 +39,6 @@ use Rattle.kms_laws.proofs.SmallNumbers.{Counted, answered-busy, few_commands}
 use Rattle.kms_laws.proofs.Stalled.{legal-going}
 use Rattle.kms_laws.proofs.Steps.{flushed_at, flushed_holds, taking-none}
 use Rattle.kms_laws.proofs.Swapped.{flush_within}
-
--- a step that is no vertical blanking without GO
-abbrev pub is_moving : Machine → Step → Bool
-is_moving m (Vblank kind index) = is_some (go_at m.device (object_id kind index))
-is_moving m _ = true
 
 -- What clients have done
 
@@ -299,3 +295,34 @@ module _ (s : Script) (formed : IsWellFormed s) (m : Machine) (n : ℕ) (C : Cou
       let b : one_unless m2.stalled ≡ 0 = ap (λ (z : Machine). one_unless z.stalled) same in
       let c : one_unless m.stalled ≡ 1 = ap one_unless going in
       omega (arith, a, b, c)
+
+-- a vertical blanking without GO leaves as much
+module _ (s : Script) (m : Machine) where
+  carries_left : Carries s m (λ step m2. is_moving m step ≡ false → left s m2 ≡ left s m)
+  carries_left = record {
+    begins = λ client c e atomic idle mv. absurd (false≢true (sym mv));
+    takes = λ client kind index is_lock lock free mv. absurd (false≢true (sym mv));
+    meets = λ client kind index holder is_lock lock held mv. absurd (false≢true (sym mv));
+    backs = λ client back mv. absurd (false≢true (sym mv));
+    relocks = λ client object asked free mv. absurd (false≢true (sym mv));
+    refuses = λ client r e taking may mv. absurd (false≢true (sym mv));
+    tests = λ client r e taking may mv. absurd (false≢true (sym mv));
+    swaps = λ client r e taking may b w eb ew mv. absurd (false≢true (sym mv));
+    makes = λ client c e making idle b eb mv. absurd (false≢true (sym mv));
+    signalled = λ client c e is_signal idle o mv. absurd (false≢true (sym mv));
+    read_none = λ client c e is_wait idle none mv. absurd (false≢true (sym mv));
+    read_one = λ client c e is_wait idle event events some mv. absurd (false≢true (sym mv));
+    claimed = λ k h mv. absurd (false≢true (sym mv));
+    written = λ k kind index found mv. absurd (false≢true (sym mv));
+    waits = λ k kind index written found mv. absurd (false≢true (sym mv));
+    flushed = λ k kind index written found b o eb eo mv. absurd (false≢true (sym mv));
+    done = λ k a b c d mv. absurd (false≢true (sym mv));
+    counted = λ kind index is none mv. refl;
+    blanked = λ kind index k is some b o eb eo mv. absurd (false≢true (sym mv ∙ ap is_some some));
+    cleaned = λ k a b c mv. absurd (false≢true (sym mv));
+    returned = λ client k e clean mv. absurd (false≢true (sym mv));
+    stalled = λ h mv. absurd (false≢true (sym mv));
+  }
+
+  pub idle-same : (step : Step) → legal s m step ≡ true → is_moving m step ≡ false → left s (next s m step) ≡ left s m
+  idle-same step h = each_step s m (λ step m2. is_moving m step ≡ false → left s m2 ≡ left s m) carries_left step h

@@ -1,17 +1,19 @@
--- Rounds end: each step of one leaves less to do.
-use Rattle.std.proofs.Common.{◌≡◌, ℕ, zero, suc, ◌+◌, ◌<◌, ◌≤◌, List, length, true, false, refl, sym, ap, ◌∙◌, subst, arith, ⊎_elim}
+-- Rounds end, and in each history few steps move: each of them leaves less to do.
+use Rattle.std.proofs.Common.{◌≡◌, ℕ, zero, suc, ◌+◌, ◌<◌, ◌≤◌, List, [], ◌∷◌, length, Bool, true, false, refl, sym, ap, ◌∙◌, subst, arith, ⊎_elim}
 use Rattle.std.specs.Prelude.{reverse}
-use Rattle.std.proofs.lemmas.Bool.{cases_Bool, cases_lt, cond-false, cond-true, eq-eqb}
+use Rattle.std.proofs.lemmas.Bool.{and_parts, cases_Bool, cases_lt, cond-false, cond-true, eq-eqb}
 use Rattle.kms_model.specs.declared.replies.Step.{Step}
 use Rattle.kms_model.specs.declared.scripts.Script.{Script}
 use Rattle.kms_model.specs.Machine.Effects.{next}
-use Rattle.kms_model.specs.Machine.Histories.{at, is_history}
-use Rattle.kms_model.specs.Machine.State.{first_machine}
+use Rattle.kms_model.specs.Machine.Histories.{are_legal, at, is_history, legal}
+use Rattle.kms_model.specs.Machine.State.{Machine, first_machine}
 use Rattle.kms_model.specs.Order.Rounds.{is_still, round, rounds, run_of}
 use Rattle.kms_model.specs.Order.Turns.{Progress, does}
 use Rattle.kms_model.specs.Script.WellFormed.{IsWellFormed}
+use Rattle.kms_laws.specs.Ends.{is_moving, moves_in}
+use Rattle.kms_laws.specs.TailsLeft.{one_if}
 use Rattle.kms_laws.proofs.Basics.{both_bools}
-use Rattle.kms_laws.proofs.Finite.{falls, falls-lower, left}
+use Rattle.kms_laws.proofs.Finite.{falls, falls-lower, idle-same, left}
 use Rattle.kms_laws.proofs.Modes.{plain-from}
 use Rattle.kms_laws.proofs.Resting.{run-of}
 use Rattle.kms_laws.proofs.SmallNumbers.{Counted, along_counted, first_counted, step_counted}
@@ -62,3 +64,25 @@ module _ (s : Script) (formed : IsWellFormed s) where
 
   pub rounds-end : (h : List Step) → is_history s h ≡ true → (most : ℕ) × (is_still s (rounds s most (run_of s h)) ≡ true)
   rounds-end h is = (left s (at s h), rounds-rest (left s (at s h)) (run_of s h) (run-of s h is) (omega arith))
+
+  -- each history has few steps that move
+  step-left : (n : ℕ) (m : Machine) (step : Step) → Counted s n m → legal s m step ≡ true → one_if (is_moving m step) + left s (next s m step) ≤ left s m
+  step-left n m step C l = by_case (is_moving m step) refl
+    where
+      by_case : (b : Bool) → is_moving m step ≡ b → one_if b + left s (next s m step) ≤ left s m
+      by_case true mv =
+          let less = falls-lower s formed m n C step l (next s m step) refl (suc n) (step_counted s (plain-from s formed) n m step C l) (falls s m n C step l mv) in
+          omega (arith, less)
+      by_case false mv = let same = idle-same s m step l mv in omega (arith, same)
+
+  moves-few : (h : List Step) (n : ℕ) (m : Machine) → Counted s n m → are_legal s m h ≡ true → moves_in s m h ≤ left s m
+  unfolding moves_in are_legal
+  moves-few [] n m C is = omega arith
+  moves-few (step ∷ steps) n m C is =
+      let both = and_parts (legal s m step) _ is in
+      let a = step-left n m step C both.0 in
+      let b = moves-few steps (suc n) (next s m step) (step_counted s (plain-from s formed) n m step C both.0) both.1 in
+      omega (arith, a, b)
+
+  pub few-moves : (most : ℕ) × ((h : List Step) → is_history s h ≡ true → moves_in s (first_machine s.topology) h ≤ most)
+  few-moves = (left s (first_machine s.topology), λ h is. moves-few h 0 (first_machine s.topology) (first_counted s (plain-from s formed)) is)

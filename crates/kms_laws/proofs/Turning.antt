@@ -23,9 +23,9 @@ use Rattle.kms_model.specs.Order.Turns.{Progress, client_goes, client_step, does
 use Rattle.kms_model.proofs.Items.{IsIn, IsObject, ids-in, list_any-has}
 use Rattle.kms_model.proofs.ThingLemmas.{find-in}
 use Rattle.kms_model.proofs.TouchedLemmas.{HasFewObjects}
+use Rattle.kms_laws.specs.Ends.{is_moving}
 use Rattle.kms_laws.proofs.Basics.{in_either}
 use Rattle.kms_laws.proofs.ClientProgress.{locks, with_request}
-use Rattle.kms_laws.proofs.Finite.{is_moving}
 use Rattle.kms_laws.proofs.NeverStuck.{Along, history_along, still-going}
 use Rattle.kms_laws.proofs.Objects.{conn_kind, crtc_kind, plane_kind}
 use Rattle.kms_laws.proofs.Present.{reverse_more}

@@ -3,6 +3,7 @@ ghost use Rattle.kms_laws.specs.Ends.{
   FinishedIsOver,
   GeneratedDrains,
   GeneratedNeverDead,
+  MovesAreFew,
   OneIsOver,
   RoundsAreStill,
   RoundsEnd,
@@ -11,6 +12,12 @@ ghost use Rattle.kms_laws.specs.Ends.{
 /// A round behind a history has no step exactly where the history is drained or dead.
 pub fn rounds_are_still_at_ends()
     ensures { RoundsAreStill }
+{}
+
+/// Whatever the order of steps, no history goes on for ever: of each script there is a number of steps that no history has
+/// more of, but for vertical blankings without GO. So contexts do not back off for ever.
+pub fn histories_have_few_moves()
+    ensures { MovesAreFew }
 {}
 
 /// Rounds end: behind each history there is a round without a step.
