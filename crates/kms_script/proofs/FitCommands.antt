@@ -11,11 +11,11 @@ use Rattle.kms_model.specs.declared.scripts.Command.TheVariants as command
 use Rattle.kms_model.specs.declared.scripts.Value.{Value}
 use Rattle.kms_model.specs.declared.scripts.Value.TheVariants as value
 use Rattle.kms_model.specs.Device.Properties.{name_of}
-use Rattle.kms_model.specs.Script.CommandLines.{Names, addfb_read, assign_read, assign_words, assigns_read, atomic_read, blob_read, buffer_read, command_read, label_alone, label_read, making, making_read, mode_fields, mode_read, naming_read, place, property_read, saying, thing_read, value_read}
-use Rattle.kms_model.specs.Script.Grammar.{blob_bytes, int, is_property_word, known_property, object}
+use Rattle.kms_model.specs.Script.CommandLines.{Names, addfb_read, assign_read, assign_words, assigns_read, atomic_read, blob_read, buffer_read, command_read, label_alone, label_read, making, making_read, mode_read, naming_read, place, property_read, saying, thing_read, value_read}
+use Rattle.kms_model.specs.Script.Grammar.{int, is_property_word, known_property, object}
 use Rattle.kms_model.specs.Script.WellFormed.{has_widths, is_assign_in, is_command_in, is_label_in, is_mode_name, is_pattern_of, is_property_in, is_value_in, is_word32}
-use Rattle.kms_model.specs.Script.Words.{between, dec, end_at, field_at, from, is_label, label_at, strip, until}
-use Rattle.kms_script.proofs.ReadParts.{buffer_parts, request_parts}
+use Rattle.kms_model.specs.Script.Words.{between, dec, end_at, from, is_label, label_at, strip, until}
+use Rattle.kms_script.proofs.ReadParts.{blob_line_parts, buffer_parts, mode_line_parts, request_parts}
 use Rattle.kms_script.proofs.FitWords.{alone_fit, blob_fit, dec_at_fit, fits_both, hex_at_fit, index_fit, int_fit, label_fit, long_fit, mode_fit, object_fit, pattern_fit, word_fit}
 use Rattle.kms_script.proofs.Inverted.{bind_some, choice_some, from_bind, if_some, map_some, or_some, some_same}
 use Rattle.kms_script.proofs.NamesBegin.{Begins, before_saying, making_says, said_word}
@@ -132,23 +132,16 @@ addfb_fit all names bytes r e =
     (said_fit all (making label.0 names) buffer (alone_fit label.1 buffer last) b))))
 
 mode_read_fit : (all : List (List ℕ)) (names : Names) (bytes : List ℕ) (r : Command × Names) → mode_read names bytes ≡ Some r → Fits all r
-unfolding mode_read
 mode_read_fit all names bytes r e =
-    from_bind (label_at bytes) _ r e (λ label first more.
-    from_bind (mode_fields label.1) _ r more (λ mode shown more.
-    from_bind (end_at mode.1) _ r more (λ u end more.
-    rw (← some_same _ r more) (λ b.
-    fits_both (is_label_in all (place label.0 names)) (has_widths mode.0 && is_mode_name mode.0.name) (said_fit all names label.0 (label_fit bytes label first) (making_says all label.0 names b)) (mode_fit label.1 mode shown)))))
+    let p = mode_line_parts names bytes r e in
+    rw (← p.makes) (λ b.
+    fits_both (is_label_in all (place p.label.0 names)) (has_widths p.mode.0 && is_mode_name p.mode.0.name) (said_fit all names p.label.0 (label_fit bytes p.label p.first) (making_says all p.label.0 names b)) (mode_fit p.label.1 p.mode p.shown))
 
 blob_read_fit : (all : List (List ℕ)) (names : Names) (bytes : List ℕ) (r : Command × Names) → blob_read names bytes ≡ Some r → Fits all r
-unfolding blob_read
 blob_read_fit all names bytes r e =
-    from_bind (label_at bytes) _ r e (λ label first more.
-    from_bind (field_at label.1) _ r more (λ f shown more.
-    from_bind (end_at f.1) _ r more (λ u end more.
-    from_bind (blob_bytes f.0) _ r more (λ blob given more.
-    rw (← some_same _ r more) (λ b.
-    fits_both (is_label_in all (place label.0 names)) (between 1 2048 (length blob) && list_all (λ b. nat_lt b 256) blob) (said_fit all names label.0 (label_fit bytes label first) (making_says all label.0 names b)) (blob_fit f.0 blob given))))))
+    let p = blob_line_parts names bytes r e in
+    rw (← p.makes) (λ b.
+    fits_both (is_label_in all (place p.label.0 names)) (between 1 2048 (length p.blob) && list_all (λ b. nat_lt b 256) p.blob) (said_fit all names p.label.0 (label_fit bytes p.label p.first) (making_says all p.label.0 names b)) (blob_fit p.f.0 p.blob p.given))
 
 -- a command of one label
 abbrev OfLabel : List (List ℕ) → (ℕ → Command) → Type 0

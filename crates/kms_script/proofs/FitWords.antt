@@ -20,7 +20,7 @@ use Rattle.kms_model.specs.Script.WellFormed.{are_words16, has_widths, is_intege
 use Rattle.kms_model.specs.Script.Words.{between, dec, dec_at, end_at, field_at, hex_from, hex_value, is_digit, is_hex, is_label, is_name_byte, label_at, name_at, strip}
 use Rattle.kms_script.proofs.Decimals.{dec_at_most}
 use Rattle.kms_script.proofs.Inverted.{bind_some, choice_some, from_bind, if_some, map_some, or_some, some_same}
-use Rattle.kms_script.proofs.ReadParts.{checker_parts, mode_parts}
+use Rattle.kms_script.proofs.ReadParts.{checker_parts, hex_parts, mode_parts, name_parts}
 use Rattle.kms_script.proofs.SpeltFields.{name_ends}
 use Rattle.kms_script.proofs.SpeltWords.{nothing_read}
 
@@ -83,14 +83,11 @@ plain_digits (d ∷ ds) e = step (d == 48) refl e
     step false is e = e
 
 pub hex_fit : (n : ℕ) (word : List ℕ) → hex word ≡ Some n → is_word32 n ≡ true
-unfolding hex
 hex_fit n word e =
-    let b = bind_some (strip (codes "0x") word) _ n e in
-    let read = if_some (nat_le (length b.value) 8 && is_hex_number b.value) (Some (hex_from 0 b.value)) n b.then in
-    let parts = and_parts (nat_le (length b.value) 8) (is_hex_number b.value) read.0 in
-    let most : 16 ^ length b.value ≤ 16 ^ 8 = pow-le-pow_right (omega arith) (leb-true (length b.value) 8 parts.0) in
-    let small : hex_from 0 b.value < 2 ^ 32 = omega (arith, hex_of_length b.value (plain_digits b.value parts.1), most) in
-    rw (← some_same (hex_from 0 b.value) n read.1) (lt_test (hex_from 0 b.value) (2 ^ 32) small)
+    let p = hex_parts word n e in
+    let most : 16 ^ length p.digits ≤ 16 ^ 8 = pow-le-pow_right (omega arith) (leb-true (length p.digits) 8 p.few) in
+    let small : hex_from 0 p.digits < 2 ^ 32 = omega (arith, hex_of_length p.digits (plain_digits p.digits p.number), most) in
+    rw (← p.makes) (lt_test (hex_from 0 p.digits) (2 ^ 32) small)
 
 pub hex_at_fit : (bytes : List ℕ) (r : ℕ × List ℕ) → hex_at bytes ≡ Some r → is_word32 r.0 ≡ true
 hex_at_fit bytes r e =
@@ -181,16 +178,12 @@ pattern_fit width height format bytes p e = from_bind (field_at bytes) _ p e (λ
 -- Modes
 
 name_fit : (bytes : List ℕ) (r : List ℕ × List ℕ) → name_at bytes ≡ Some r → is_mode_name r.0 ≡ true
-unfolding name_at
 name_fit bytes r e =
-    let f = bind_some (field_at bytes) _ r e in
-    let word = f.value.0 in
-    let read = if_some (nat_lt 0 (length word) && (nat_lt (length word) 32 && list_all is_name_byte word)) _ r f.then in
-    let some = and_parts (nat_lt 0 (length word)) (nat_lt (length word) 32 && list_all is_name_byte word) read.0 in
-    let few = and_parts (nat_lt (length word) 32) (list_all is_name_byte word) some.1 in
-    rw (← some_same _ r read.1, name_ends word (32 - length word) few.1)
-    (both (between 1 31 (length word)) (list_all is_name_byte word && bytes_eq (word ++ replicate (32 - length word) 0) (word ++ replicate (32 - length word) 0)) (sides (length word) some.0 few.0)
-    (both (list_all is_name_byte word) (bytes_eq (word ++ replicate (32 - length word) 0) (word ++ replicate (32 - length word) 0)) few.1 ((bytes_eq-Decides (word ++ replicate (32 - length word) 0) (word ++ replicate (32 - length word) 0)).1 refl)))
+    let p = name_parts bytes r e in
+    let filled = p.f.0 ++ replicate (32 - length p.f.0) 0 in
+    rw (← p.makes, name_ends p.f.0 (32 - length p.f.0) p.plain)
+    (both (between 1 31 (length p.f.0)) (list_all is_name_byte p.f.0 && bytes_eq filled filled) (sides (length p.f.0) p.some p.short)
+    (both (list_all is_name_byte p.f.0) (bytes_eq filled filled) p.plain ((bytes_eq-Decides filled filled).1 refl)))
   where
     sides : (n : ℕ) → nat_lt 0 n ≡ true → nat_lt n 32 ≡ true → between 1 31 n ≡ true
     sides n some few = grind (arith, nat_tests)

@@ -8,10 +8,11 @@ use Rattle.std.proofs.lemmas.Fmt.{hex_one_digit}
 use Rattle.std.proofs.lemmas.List.{nil_from_length}
 use Rattle.kms_model.specs.declared.objects.Format.{Format}
 use Rattle.kms_model.specs.Script.Grammar.{digits_of, is_hex_number, hex, pixel_number, hex_pair, hex_bytes}
-use Rattle.kms_model.specs.Script.Words.{is_digit, is_hex, hex_value, hex_from, strip}
+use Rattle.kms_model.specs.Script.Words.{is_digit, is_hex, hex_value, hex_from}
 use Rattle.kms_model.specs.Script.Spelling.{hex_word, hex_digits, pixel_word, blob_word}
 use Rattle.kms_script.proofs.Inverted.{bind_some, if_some, some_same}
 use Rattle.kms_script.proofs.LineFields.{strip_spelt}
+use Rattle.kms_script.proofs.ReadParts.{hex_parts}
 
 -- a digit is written as it was read
 record IsGlyph (b value : ℕ) : Type 0 where
@@ -98,12 +99,9 @@ number_spelt (d ∷ ds) h few = number_step (d == 48) d ds refl h (omega arith)
 
 -- `0x` and a number
 pub hex_spelt : (n : ℕ) (word : List ℕ) → hex word ≡ Some n → hex_word n ≡ word
-unfolding hex
 hex_spelt n word e =
-    let b = bind_some (strip (codes "0x") word) _ n e in
-    let read = if_some (nat_le (length b.value) 8 && is_hex_number b.value) (Some (hex_from 0 b.value)) n b.then in
-    let parts = and_parts (nat_le (length b.value) 8) (is_hex_number b.value) read.0 in
-    rw (← some_same (hex_from 0 b.value) n read.1, number_spelt b.value parts.1 (leb-true (length b.value) 8 parts.0)) (strip_spelt (codes "0x") word b.value b.given)
+    let p = hex_parts word n e in
+    rw (← p.makes, number_spelt p.digits p.number (leb-true (length p.digits) 8 p.few)) (strip_spelt (codes "0x") word p.digits p.given)
 
 -- the word of a pixel_number
 pub pixel_spelt : (format : Format) (n : ℕ) (word : List ℕ) → pixel_number format word ≡ Some n → pixel_word format n ≡ word

@@ -7,9 +7,8 @@ use Rattle.kms_model.specs.declared.scripts.Command.{Command}
 use Rattle.kms_model.specs.declared.scripts.Command.TheVariants as command
 use Rattle.kms_model.specs.declared.scripts.Why.{Why}
 use Rattle.kms_model.specs.declared.scripts.Why.TheVariants.{Bytes, Cut, Form, Label, Limit, Unbuilt}
-use Rattle.kms_model.specs.Script.CommandLines.{Names, addfb_read, atomic_read, blob_read, buffer_read, command_read, is_over, label_alone, label_read, line_read, making_read, mode_read, mode_fields, naming_read, or_form, thing_read, unless, unmade, words_in}
-use Rattle.kms_model.specs.Script.Grammar.{blob_bytes}
-use Rattle.kms_model.specs.Script.Words.{end_at, field_at, from, label_at, until}
+use Rattle.kms_model.specs.Script.CommandLines.{Names, addfb_read, atomic_read, blob_read, buffer_read, command_read, is_over, label_alone, label_read, line_read, making_read, mode_read, naming_read, or_form, thing_read, unless, unmade, words_in}
+use Rattle.kms_model.specs.Script.Words.{end_at, from, label_at, until}
 use Rattle.kms_model.specs.Script.WellFormed.{IsFitCommand}
 use Rattle.kms_script.specs.Fitting.{HasFilled}
 use Rattle.kms_script.specs.Lines.{GivesLine, checked, line_of}
@@ -17,7 +16,7 @@ use Rattle.kms_script.specs.Overlong.{blanks, has_many}
 use Rattle.kms_script.specs.Stated.{GivesCommand, line_error}
 use Rattle.kms_script.specs.declared.stop.Stop.{Stop}
 use Rattle.kms_script.specs.declared.stop.Stop.TheVariants as stops
-use Rattle.kms_script.proofs.ReadParts.{buffer_parts, request_parts}
+use Rattle.kms_script.proofs.ReadParts.{blob_line_parts, buffer_parts, mode_line_parts, request_parts}
 use Rattle.kms_script.proofs.Inverted.{choice_some, from_bind, map_some, some_same}
 use Rattle.kms_script.proofs.ManyFields.{assigns_count, request_blanks, words_blanks}
 use Rattle.kms_script.proofs.SpeltWords.{nothing_read}
@@ -46,19 +45,10 @@ addfb_few names bytes r e =
     from_bind (label_alone label.1) _ r more (λ buffer b more. rw (← some_same _ r more) refl))
 
 mode_few : (names : Names) (bytes : List ℕ) (r : Command × Names) → mode_read names bytes ≡ Some r → IsFew r
-unfolding mode_read
-mode_few names bytes r e =
-    from_bind (label_at bytes) _ r e (λ label a more.
-    from_bind (mode_fields label.1) _ r more (λ mode b more.
-    from_bind (end_at mode.1) _ r more (λ u c more. rw (← some_same _ r more) refl)))
+mode_few names bytes r e = rw (← (mode_line_parts names bytes r e).makes) refl
 
 blob_few : (names : Names) (bytes : List ℕ) (r : Command × Names) → blob_read names bytes ≡ Some r → IsFew r
-unfolding blob_read
-blob_few names bytes r e =
-    from_bind (label_at bytes) _ r e (λ label a more.
-    from_bind (field_at label.1) _ r more (λ f b more.
-    from_bind (end_at f.1) _ r more (λ u c more.
-    from_bind (blob_bytes f.0) _ r more (λ blob d more. rw (← some_same _ r more) refl))))
+blob_few names bytes r e = rw (← (blob_line_parts names bytes r e).makes) refl
 
 -- by a first word that is one of several
 by_word : (t : Bool) (r : Command × Names) (one other : Option (Command × Names)) → (one ≡ Some r → IsFew r) → (other ≡ Some r → IsFew r) → cond t one other ≡ Some r → IsFew r

@@ -1,6 +1,8 @@
 -- What readers of several fields have read, taken apart once for all that is said of it.
-use Rattle.std.proofs.Common.{◌≡◌, ℕ, true, List, Some}
-use Rattle.std.specs.Prelude.{nat_lt}
+use Rattle.std.proofs.Common.{◌≡◌, ℕ, ◌-◌, ◌++◌, true, List, Some, length, replicate}
+use Rattle.std.specs.Prelude.{◌&&◌, codes, nat_le, nat_lt}
+use Rattle.std.specs.List.{list_all}
+use Rattle.std.proofs.lemmas.Bool.{and_parts}
 use Rattle.kms_model.specs.declared.objects.Format.{Format}
 use Rattle.kms_model.specs.declared.objects.Mode.{Mode}
 use Rattle.kms_model.specs.declared.scripts.Assign.{Assign}
@@ -8,10 +10,10 @@ use Rattle.kms_model.specs.declared.scripts.Command.{Command}
 use Rattle.kms_model.specs.declared.scripts.Command.TheVariants as command
 use Rattle.kms_model.specs.declared.scripts.Pattern.{Pattern}
 use Rattle.kms_model.specs.declared.scripts.Pattern.TheVariants.{Checker}
-use Rattle.kms_model.specs.Script.CommandLines.{Names, assigns_read, atomic_read, buffer_read, checker_at, five_at, making, mode_fields, pattern_at, place}
-use Rattle.kms_model.specs.Script.Grammar.{field_words, format_at, hex_at, pixel_at}
-use Rattle.kms_model.specs.Script.Words.{dec_at, end_at, label_at, name_at}
-use Rattle.kms_script.proofs.Inverted.{from_bind, if_some, some_same}
+use Rattle.kms_model.specs.Script.CommandLines.{Names, assigns_read, atomic_read, blob_read, buffer_read, checker_at, five_at, making, mode_fields, mode_read, pattern_at, place}
+use Rattle.kms_model.specs.Script.Grammar.{blob_bytes, field_words, format_at, hex, hex_at, is_hex_number, pixel_at}
+use Rattle.kms_model.specs.Script.Words.{dec_at, end_at, field_at, hex_from, is_name_byte, label_at, name_at, strip}
+use Rattle.kms_script.proofs.Inverted.{bind_some, from_bind, if_some, some_same}
 
 -- five numbers, and the bytes behind them
 abbrev pub Five : Type 0
@@ -113,3 +115,75 @@ checker_parts format bytes pattern e =
     from_bind (end_at n.1) _ pattern more (λ u end more.
     let read = if_some (nat_lt 0 n.0) (Some (Checker p.0 q.0 n.0)) pattern more in
     record { p = p; q = q; n = n; first = first; second = second; side = side; end = end; some = read.0; makes = some_same _ pattern read.1 }))))
+
+-- a number of hexadecimal digits
+pub record IsHex (word : List ℕ) (n : ℕ) : Type 0 where
+  pub digits : List ℕ
+  pub given : strip (codes "0x") word ≡ Some digits
+  pub few : nat_le (length digits) 8 ≡ true
+  pub number : is_hex_number digits ≡ true
+  pub makes : hex_from 0 digits ≡ n
+
+pub hex_parts : (word : List ℕ) (n : ℕ) → hex word ≡ Some n → IsHex word n
+unfolding hex
+hex_parts word n e =
+    let b = bind_some (strip (codes "0x") word) _ n e in
+    let read = if_some (nat_le (length b.value) 8 && is_hex_number b.value) (Some (hex_from 0 b.value)) n b.then in
+    let parts = and_parts (nat_le (length b.value) 8) (is_hex_number b.value) read.0 in
+    record { digits = b.value; given = b.given; few = parts.0; number = parts.1; makes = some_same (hex_from 0 b.value) n read.1 }
+
+-- a mode's name
+pub record IsName (bytes : List ℕ) (r : List ℕ × List ℕ) : Type 0 where
+  pub f : List ℕ × List ℕ
+  pub given : field_at bytes ≡ Some f
+  pub some : nat_lt 0 (length f.0) ≡ true
+  pub short : nat_lt (length f.0) 32 ≡ true
+  pub plain : list_all is_name_byte f.0 ≡ true
+  pub makes : (f.0 ++ replicate (32 - length f.0) 0, f.1) ≡ r
+
+pub name_parts : (bytes : List ℕ) (r : List ℕ × List ℕ) → name_at bytes ≡ Some r → IsName bytes r
+unfolding name_at
+name_parts bytes r e =
+    let f = bind_some (field_at bytes) _ r e in
+    let word = f.value.0 in
+    let read = if_some (nat_lt 0 (length word) && (nat_lt (length word) 32 && list_all is_name_byte word)) _ r f.then in
+    let some = and_parts (nat_lt 0 (length word)) (nat_lt (length word) 32 && list_all is_name_byte word) read.0 in
+    let few = and_parts (nat_lt (length word) 32) (list_all is_name_byte word) some.1 in
+    record { f = f.value; given = f.given; some = some.0; short = few.0; plain = few.1; makes = some_same _ r read.1 }
+
+-- the line of a mode
+pub record IsModeLine (names : Names) (bytes : List ℕ) (c : Command × Names) : Type 0 where
+  pub label : List ℕ × List ℕ
+  pub mode : Mode × List ℕ
+  pub first : label_at bytes ≡ Some label
+  pub shown : mode_fields label.1 ≡ Some mode
+  pub end : end_at mode.1 ≡ Some tt
+  pub makes : (command.Mode (place label.0 names) mode.0, making label.0 names) ≡ c
+
+pub mode_line_parts : (names : Names) (bytes : List ℕ) (c : Command × Names) → mode_read names bytes ≡ Some c → IsModeLine names bytes c
+unfolding mode_read
+mode_line_parts names bytes c e =
+    from_bind (label_at bytes) _ c e (λ label first more.
+    from_bind (mode_fields label.1) _ c more (λ mode shown more.
+    from_bind (end_at mode.1) _ c more (λ u end more.
+    record { label = label; mode = mode; first = first; shown = shown; end = end; makes = some_same _ c more })))
+
+-- the line of a blob
+pub record IsBlobLine (names : Names) (bytes : List ℕ) (c : Command × Names) : Type 0 where
+  pub label : List ℕ × List ℕ
+  pub f : List ℕ × List ℕ
+  pub blob : List ℕ
+  pub first : label_at bytes ≡ Some label
+  pub shown : field_at label.1 ≡ Some f
+  pub end : end_at f.1 ≡ Some tt
+  pub given : blob_bytes f.0 ≡ Some blob
+  pub makes : (command.Blob (place label.0 names) blob, making label.0 names) ≡ c
+
+pub blob_line_parts : (names : Names) (bytes : List ℕ) (c : Command × Names) → blob_read names bytes ≡ Some c → IsBlobLine names bytes c
+unfolding blob_read
+blob_line_parts names bytes c e =
+    from_bind (label_at bytes) _ c e (λ label first more.
+    from_bind (field_at label.1) _ c more (λ f shown more.
+    from_bind (end_at f.1) _ c more (λ u end more.
+    from_bind (blob_bytes f.0) _ c more (λ blob given more.
+    record { label = label; f = f; blob = blob; first = first; shown = shown; end = end; given = given; makes = some_same _ c more }))))

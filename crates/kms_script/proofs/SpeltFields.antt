@@ -1,6 +1,6 @@
 -- The fields that readers take are written as they stood.
 use Rattle.std.proofs.Common.{◌≡◌, ℕ, zero, suc, ◌-◌, ◌<◌, ◌^◌, Bool, true, false, List, [], ◌∷◌, ◌++◌, length, replicate, cond, Option, Some, refl, ap, arith}
-use Rattle.std.specs.Prelude.{◌==◌, ◌&&◌, nat_lt}
+use Rattle.std.specs.Prelude.{◌==◌}
 use Rattle.std.specs.Fmt.{decimal}
 use Rattle.std.specs.List.{list_all}
 use Rattle.std.proofs.lemmas.Bool.{and_parts, eqb-true}
@@ -14,7 +14,7 @@ use Rattle.kms_script.proofs.Decimals.{dec_spelt}
 use Rattle.kms_script.proofs.Hexadecimals.{hex_spelt, pixel_spelt}
 use Rattle.kms_script.proofs.Inverted.{bind_some, from_bind, if_some, some_same}
 use Rattle.kms_script.proofs.LineFields.{fields_to, then_fields, field_spelt, end_spelt}
-use Rattle.kms_script.proofs.ReadParts.{Five, mode_parts}
+use Rattle.kms_script.proofs.ReadParts.{Five, mode_parts, name_parts}
 use Rattle.kms_script.proofs.SpeltWords.{format_spelt}
 
 -- a field whose word stands for a value that is written as the word
@@ -78,14 +78,9 @@ name_ends (b ∷ bs) n h =
 
 -- the name of a mode
 name_at_spelt : (bytes : List ℕ) (r : List ℕ × List ℕ) → name_at bytes ≡ Some r → 32 ∷ (until 0 r.0 ++ r.1) ≡ bytes
-unfolding name_at
 name_at_spelt bytes r e =
-    let f = bind_some (field_at bytes) _ r e in
-    let word = f.value.0 in
-    let read = if_some (nat_lt 0 (length word) && (nat_lt (length word) 32 && list_all is_name_byte word)) _ r f.then in
-    let some = and_parts (nat_lt 0 (length word)) (nat_lt (length word) 32 && list_all is_name_byte word) read.0 in
-    let few = and_parts (nat_lt (length word) 32) (list_all is_name_byte word) some.1 in
-    rw (← some_same _ r read.1, name_ends word (32 - length word) few.1) (field_spelt bytes f.value f.given)
+    let p = name_parts bytes r e in
+    rw (← p.makes, name_ends p.f.0 (32 - length p.f.0) p.plain) (field_spelt bytes p.f p.given)
 
 -- five numbers before more words
 abbrev five_words : Five → List (List ℕ) → List (List ℕ)

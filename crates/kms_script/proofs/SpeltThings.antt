@@ -5,15 +5,15 @@ use Rattle.std.specs.Fmt.{decimal}
 use Rattle.kms_model.specs.declared.objects.Format.{Format}
 use Rattle.kms_model.specs.declared.scripts.Command.{Command}
 use Rattle.kms_model.specs.declared.scripts.Pattern.{Pattern}
-use Rattle.kms_model.specs.Script.CommandLines.{Names, place, saying, making, label_alone, buffer_read, addfb_read, mode_fields, mode_read, blob_read, making_read, naming_read}
-use Rattle.kms_model.specs.Script.Grammar.{blob_bytes, hex_bytes}
-use Rattle.kms_model.specs.Script.Words.{between, field_at, label_at, end_at}
+use Rattle.kms_model.specs.Script.CommandLines.{Names, place, saying, making, label_alone, buffer_read, addfb_read, mode_read, blob_read, making_read, naming_read}
+use Rattle.kms_model.specs.Script.Grammar.{hex_bytes}
+use Rattle.kms_model.specs.Script.Words.{between, label_at}
 use Rattle.kms_model.specs.Script.Spelling.{name_word, blob_word, format_word, pattern_words, spelt_mode, command_words}
 use Rattle.kms_script.proofs.Hexadecimals.{bytes_spelt}
 use Rattle.kms_script.proofs.Inverted.{from_bind, if_some, some_same}
 use Rattle.kms_script.proofs.LineFields.{fields_to, field_spelt, end_spelt}
 use Rattle.kms_script.proofs.NamesBegin.{Begins, before_saying, said_word, making_says}
-use Rattle.kms_script.proofs.ReadParts.{buffer_parts}
+use Rattle.kms_script.proofs.ReadParts.{blob_line_parts, buffer_parts, mode_line_parts}
 use Rattle.kms_script.proofs.SpeltFields.{dec_at_spelt, format_at_spelt, label_at_spelt, label_alone_spelt, mode_at_spelt}
 use Rattle.kms_script.proofs.SpeltPatterns.{pattern_spelt}
 
@@ -67,13 +67,10 @@ addfb_reads all names bytes r e =
 
 -- a mode
 pub mode_reads : (all : List (List ℕ)) (names : Names) (bytes : List ℕ) (r : Command × Names) → mode_read names bytes ≡ Some r → Begins r.1 all → Reads all names (codes "mode") bytes r.0
-unfolding mode_read
 mode_reads all names bytes r e =
-    from_bind (label_at bytes) _ r e (λ label first more.
-    from_bind (mode_fields label.1) _ r more (λ mode shown more.
-    from_bind (end_at mode.1) _ r more (λ u end more.
-    rw (← some_same _ r more) (λ b. makes all names (codes "mode") bytes _ label (spelt_mode mode.0) first b refl
-    (rw (end_spelt mode.1 u end) (mode_at_spelt label.1 mode shown))))))
+    let p = mode_line_parts names bytes r e in
+    rw (← p.makes) (λ b. makes all names (codes "mode") bytes _ p.label (spelt_mode p.mode.0) p.first b refl
+    (rw (end_spelt p.mode.1 tt p.end) (mode_at_spelt p.label.1 p.mode p.shown)))
 
 -- the bytes of a blob up to the end of the line
 bytes_alone : (blob bytes : List ℕ) (f : List ℕ × List ℕ) → blob_word blob ≡ f.0 → [] ≡ f.1 → 32 ∷ (f.0 ++ f.1) ≡ bytes → fields_to (blob_word blob ∷ []) [] ≡ bytes
@@ -81,16 +78,11 @@ bytes_alone blob bytes f same end first = rw (same, end) first
 
 -- a blob
 pub blob_reads : (all : List (List ℕ)) (names : Names) (bytes : List ℕ) (r : Command × Names) → blob_read names bytes ≡ Some r → Begins r.1 all → Reads all names (codes "blob") bytes r.0
-unfolding blob_read
 blob_reads all names bytes r e =
-    from_bind (label_at bytes) _ r e (λ label first more.
-    from_bind (field_at label.1) _ r more (λ f shown more.
-    from_bind (end_at f.1) _ r more (λ u end more.
-    from_bind (blob_bytes f.0) _ r more (λ blob given more.
-    rw (← some_same _ r more) (λ b.
-    let read = if_some (between 2 4096 (length f.0)) (hex_bytes f.0) blob given in
-    makes all names (codes "blob") bytes _ label _ first b refl
-    (bytes_alone blob label.1 f (bytes_spelt blob f.0 read.1) (end_spelt f.1 u end) (field_spelt label.1 f shown)))))))
+    let p = blob_line_parts names bytes r e in
+    let read = if_some (between 2 4096 (length p.f.0)) (hex_bytes p.f.0) p.blob p.given in
+    rw (← p.makes) (λ b. makes all names (codes "blob") bytes _ p.label _ p.first b refl
+    (bytes_alone p.blob p.label.1 p.f (bytes_spelt p.blob p.f.0 read.1) (end_spelt p.f.1 tt p.end) (field_spelt p.label.1 p.f p.shown)))
 
 -- a command of one word and a label
 abbrev pub Labels : List (List ℕ) → List ℕ → (ℕ → Command) → Type 0

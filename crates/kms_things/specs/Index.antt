@@ -70,3 +70,7 @@ number_told (Ok total) = None
 number_told (Err error.BadSize) = Some INVALID_SIZE.0
 number_told (Err (error.Space total)) = Some NO_BUFFER_SPACE.0
 number_told (Err error.NoMemory) = None
+
+-- an open thing of a client
+abbrev pub open_thing : ℕ → ℕ → ℕ → Content → Thing
+open_thing label id owner content = record { label = label; id = id; owner = owner; content = content; is_open = true }

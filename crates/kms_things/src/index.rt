@@ -9,7 +9,7 @@ ghost use Rattle.kms_model.specs.declared.stores.Buffer.{Buffer};
 ghost use Rattle.kms_model.specs.declared.stores.Framebuffer.{Framebuffer};
 ghost use Rattle.kms_model.specs.declared.tables.Slot.{Slot};
 ghost use Rattle.kms_model.specs.declared.worlds.World.{World};
-ghost use Rattle.kms_things.specs.Index.{AreKept, AreReferred, IsIndex, id_under};
+ghost use Rattle.kms_things.specs.Index.{AreKept, AreReferred, IsIndex, id_under, open_thing};
 ghost use Rattle.kms_things.specs.OutFences.{fences_made};
 ghost use Rattle.kms_model.specs.Device.Execution.{make_out_fence};
 
@@ -56,19 +56,33 @@ fn note(ids: &mut HashMap<u32, u32>, label: u32, id: u32)
     let _ = ids.insert(label, id);
 }
 
-/// Puts a thing behind the others, where there is room for it.
-pub fn put(things: &mut Vec<Thing>, ids: &mut HashMap<u32, u32>, thing: Thing)
+/// Puts an open thing behind the others, where there is room for it.
+pub fn put(
+    things: &mut Vec<Thing>,
+    ids: &mut HashMap<u32, u32>,
+    label: u32,
+    id: u32,
+    owner: u32,
+    content: Content,
+)
     requires room { vec_len things.old < vec_capacity things.old }
     requires spare { 0 < spare ids.old }
     requires indexed { IsIndex ids.old things.old.items }
-    ensures things { things.new.items ≡ things.old.items ++ thing ∷ [] }
+    ensures things { things.new.items
+        ≡ things.old.items ++ open_thing label id owner content ∷ [] }
     ensures indexed { IsIndex ids.new things.new.items }
     ensures length { vec_len things.new ≡ vec_len things.old + 1 }
     ensures capacity { vec_capacity things.old ≤ vec_capacity things.new }
     ensures spare { spare ids.old ≤ spare ids.new + 1 }
 {
-    note(ids, thing.label, thing.id);
-    let _ = things.push(thing);
+    note(ids, label, id);
+    let _ = things.push(Thing {
+        label,
+        id,
+        owner,
+        content,
+        is_open: true,
+    });
 }
 
 /// Closes the thing with an id.
@@ -112,17 +126,7 @@ fn put_fence(
     let Some(label) = label else {
         return next;
     };
-    put(
-        things,
-        ids,
-        Thing {
-            label,
-            id: next,
-            owner: client,
-            content: Content::OutFence,
-            is_open: true,
-        },
-    );
+    put(things, ids, label, next, client, Content::OutFence);
     next + 1
 }
 

@@ -113,17 +113,7 @@ impl Things {
         self.made.reserve(1)?;
         self.ids.reserve(1)?;
         let id = self.next_id;
-        index::put(
-            &mut self.made,
-            &mut self.ids,
-            Thing {
-                label,
-                id,
-                owner,
-                content,
-                is_open: true,
-            },
-        );
+        index::put(&mut self.made, &mut self.ids, label, id, owner, content);
         self.next_id = id + 1;
         Ok(Reply::Made { id })
     }
@@ -150,17 +140,8 @@ impl Things {
         self.ids.reserve(1)?;
         let id = self.next_id;
         self.fbs.add(alloc, owner, id, buffer, info)?;
-        index::put(
-            &mut self.made,
-            &mut self.ids,
-            Thing {
-                label,
-                id,
-                owner,
-                content: Content::Framebuffer { info, buffer },
-                is_open: true,
-            },
-        );
+        let content = Content::Framebuffer { info, buffer };
+        index::put(&mut self.made, &mut self.ids, label, id, owner, content);
         self.next_id = id + 1;
         Ok(Reply::Made { id })
     }
@@ -207,22 +188,13 @@ impl Things {
             Ok(()) => {}
             Err(_) => return Err(NoMemory),
         }
-        index::put(
-            &mut self.made,
-            &mut self.ids,
-            Thing {
-                label,
-                id,
-                owner,
-                content: Content::Buffer {
-                    width,
-                    height,
-                    format,
-                    pattern,
-                },
-                is_open: true,
-            },
-        );
+        let content = Content::Buffer {
+            width,
+            height,
+            format,
+            pattern,
+        };
+        index::put(&mut self.made, &mut self.ids, label, id, owner, content);
         self.next_id = id + 1;
         Ok(Reply::Made { id })
     }

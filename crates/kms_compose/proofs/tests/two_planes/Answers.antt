@@ -48,7 +48,7 @@ frame-requires c =
     let images : c.push-4.new.self ≡ c.image.result ∷ c.image-2.result ∷ [] = search rules in
     let lower : length c.args.lower.now.words.now ≡ c.args.lower.now.fb_width * c.args.lower.now.fb_height = search rules in
     let upper : length c.args.upper.now.words.now ≡ c.args.upper.now.fb_width * c.args.upper.now.fb_height = search rules in
-    both_shown c.sized_mode.result c.layer.result c.layer-2.result c.image.result c.image-2.result _ _ layers images c.layer.ensures.placed c.layer-2.ensures.placed
+    both_shown c.mode-mode.result c.layer.result c.layer-2.result c.image.result c.image-2.result _ _ layers images c.layer.ensures.placed c.layer-2.ensures.placed
     (rw (c.layer.ensures.fb, c.image.ensures) (record { id = refl; width = refl; height = refl; words = lower }))
     (rw (c.layer-2.ensures.fb, c.image-2.ensures) (record { id = refl; width = refl; height = refl; words = upper }))
     (rw (c.layer-2.ensures.fb, c.image.ensures) refl)
