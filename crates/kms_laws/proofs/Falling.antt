@@ -57,9 +57,6 @@ backed-is (doing.MustBackOff ticket o) object e = absurd cc
 backed-is (doing.Returning k) object e = absurd cc
 
 module _ (s : Script) (m : Machine) (client : ℕ) where
-  abbrev idle : Place
-  idle = record { command = 1; doing = doing.Idle }
-
   -- the contexts with another place of the client, and other locks
   abbrev pub placed : Doing → List (ℕ × Option ℕ) → Contexts
   placed d locks = record { places = (client, record { command = (place_at m client).command; doing = d }) ∷ m.contexts.places; locks = locks; tickets = m.contexts.tickets }

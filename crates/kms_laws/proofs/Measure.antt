@@ -217,9 +217,6 @@ module _ (s : Script) (x y : Contexts) (n client : ℕ) (L : LocksStand s x n) (
   found_client : find (has_this x (ticket_of (doing_in x client))) (client_numbers s) ≡ Some client
   found_client = go (find (has_this x (ticket_of (doing_in x client))) (client_numbers s)) refl
     where
-      t : ℕ
-      t = ticket_of (doing_in x client)
-
       own : has_this x (ticket_of (doing_in x client)) client ≡ true
       own = and_from _ _ S.ticket (eq-eqb (ticket_of (doing_in x client)) (ticket_of (doing_in x client)) refl)
 

@@ -134,7 +134,6 @@ module _ (s : Script) (plain : IsPlainScript s) where
   turn-still : (client : ℕ) (run : Progress) → IsRun s run → turn s run client ≡ run → is_at_end s run.machine client ≡ false → IsTurnStill client run
   unfolding turn
   turn-still client run R e running =
-      let gone : Progress = client_goes s (most_of_turn s.topology) client run in
       let whole : returns s client (settles s (client_goes s (most_of_turn s.topology) client run)) ≡ run =
       sym (cond-false (is_at_end s run.machine client) run (returns s client (settles s (client_goes s (most_of_turn s.topology) client run))) running) ∙ e in
       let one = goes-later s plain (most_of_turn s.topology) client run R in

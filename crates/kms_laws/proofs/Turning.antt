@@ -264,9 +264,6 @@ module _ (s : Script) (plain : IsPlainScript s) where
   unfolding turn
   turn-later client run R = by_end (is_at_end s run.machine client)
     where
-      gone : Progress
-      gone = client_goes s (most_of_turn s.topology) client run
-
       one : Later s run (client_goes s (most_of_turn s.topology) client run)
       one = goes-later (most_of_turn s.topology) client run R
 
