@@ -1,7 +1,7 @@
 -- Contexts: who holds a lock takes locks or must back off, tickets are unique, and what is held or asked for has a lock.
 use Rattle.std.proofs.Common.{◌≡◌, ℕ, ◌<◌, ◌≤◌, List, [], ◌∷◌, Bool, true, false, ◌==◌, Option, Some, None, refl, sym, ap, ◌∙◌, subst, arith, ⊎_elim}
 use Rattle.std.specs.Prelude.{if◌then◌else◌}
-use Rattle.std.proofs.lemmas.Bool.{cases_eq, eq-eqb, false≢true}
+use Rattle.std.proofs.lemmas.Bool.{cases_eq, eq-eqb, eqb-true, false≢true}
 use Rattle.kms_model.specs.declared.runs.Doing.{Doing}
 use Rattle.kms_model.specs.declared.runs.Doing.TheVariants as doing
 use Rattle.kms_model.specs.declared.runs.Place.{Place}
@@ -165,3 +165,23 @@ dropped-other client (row ∷ rows) object a e = by_row (λ f. dropped-other cli
     by_row : (read None (dropped client rows) object ≡ Some a → read None rows object ≡ Some a) → (b : Bool) → (if (if b then (row.0, None) else row).0 == object then (if b then (row.0, None) else row).1 else read None (dropped client rows) object) ≡ Some a → (if row.0 == object then row.1 else read None rows object) ≡ Some a
     by_row ih true e = at_row ih (row.0 == object) e
     by_row ih false e = same_row ih (row.0 == object) e
+
+pub dropped-keeps : (client : ℕ) (locks : List (ℕ × Option ℕ)) (object a : ℕ) → (client ≡ a → ⊥) → read None locks object ≡ Some a → read None (dropped client locks) object ≡ Some a
+unfolding dropped read
+dropped-keeps client [] object a ne e = e
+dropped-keeps client (row ∷ rows) object a ne e = by_row (has_value client row.1) refl e (λ f. dropped-keeps client rows object a ne f)
+  where
+    same_row : (here : Bool) → (if here then row.1 else read None rows object) ≡ Some a → (read None rows object ≡ Some a → read None (dropped client rows) object ≡ Some a)
+        → (if here then row.1 else read None (dropped client rows) object) ≡ Some a
+    same_row true e ih = e
+    same_row false e ih = ih e
+
+    own_row : (here : Bool) → has_value client row.1 ≡ true → (if here then row.1 else read None rows object) ≡ Some a → (read None rows object ≡ Some a → read None (dropped client rows) object ≡ Some a)
+        → (if here then None else read None (dropped client rows) object) ≡ Some a
+    own_row false h e ih = ih e
+    own_row true h e ih = absurd (ne (sym (eqb-true a client (sym (ap (has_value client) e) ∙ h))))
+
+    by_row : (own : Bool) → has_value client row.1 ≡ own → (if row.0 == object then row.1 else read None rows object) ≡ Some a → (read None rows object ≡ Some a → read None (dropped client rows) object ≡ Some a)
+        → (if (if own then (row.0, None) else row).0 == object then (if own then (row.0, None) else row).1 else read None (dropped client rows) object) ≡ Some a
+    by_row true h e ih = own_row (row.0 == object) h e ih
+    by_row false h e ih = same_row (row.0 == object) e ih

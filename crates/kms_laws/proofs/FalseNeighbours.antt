@@ -1,4 +1,4 @@
--- Why the rules are as they are: for each of three laws a neighbour that is false, shown by a history, computed.
+-- Why the rules are as they are: neighbours of the laws that are false, each shown by a history, computed.
 use Rattle.std.proofs.Common.{◌≡◌, ℕ, List, [], ◌∷◌, ◌++◌, map, length, Bool, true, false, ◌&&◌, ◌||◌, not, ◌==◌, Option, Some, None, refl, codes}
 use Rattle.std.specs.Prelude.{if◌then◌else◌, nat_lt, Ok, Err, Result}
 use Rattle.std.specs.List.{list_all}
@@ -7,18 +7,19 @@ use Rattle.kms_model.specs.declared.objects.Topology.{Topology}
 use Rattle.kms_model.specs.declared.pictures.Picture.{Picture}
 use Rattle.kms_model.specs.declared.pictures.Picture.TheVariants.{Off, On}
 use Rattle.kms_model.specs.declared.replies.Step.{Step}
-use Rattle.kms_model.specs.declared.replies.Step.TheVariants.{Claim, Swap}
+use Rattle.kms_model.specs.declared.replies.Step.TheVariants.{BackOff, Claim, Swap}
 use Rattle.kms_model.specs.declared.scripts.Part.TheVariants as part
 use Rattle.kms_model.specs.declared.scripts.Request.{Request}
 use Rattle.kms_model.specs.declared.scripts.Script.{Script}
 use Rattle.kms_model.specs.Device.Objects.{ids_of, object_id}
 use Rattle.kms_model.specs.Device.Serial.{show}
 use Rattle.kms_model.specs.Machine.Commits.{commit_touches, has_number, is_claimed, waited_fences}
-use Rattle.kms_model.specs.Machine.Effects.{next}
+use Rattle.kms_model.specs.Machine.Effects.{backed_off, next, now_doing}
 use Rattle.kms_model.specs.Machine.Histories.{at, is_history, journal, last_latched, latched}
 use Rattle.kms_model.specs.Machine.Registers.{decoded_picture}
 use Rattle.kms_model.specs.Machine.State.{Machine, doing_at, first_machine, holder_at, holds}
 use Rattle.kms_model.specs.Machine.Steps.{holds_touched, is_ready, is_refused_late, is_settled_for, may, may_lock, taking_at, ticket_of}
+use Rattle.kms_model.specs.Machine.Waits.{waits_at_lock, waits_at_relock}
 use Rattle.kms_model.specs.Request.Flags.{is_test}
 use Rattle.kms_model.specs.Request.Reach.{reaches}
 use Rattle.kms_model.specs.Request.Verdict.{verdict}
@@ -147,3 +148,30 @@ turned_rule_has_a_cycle = refl
 pub device_rule_has_none : told (waits_in_turn may_lock) [] three_clients ≡ true ∷ true ∷ false ∷ []
 unfolding on_machines waits_by
 device_rule_has_none = refl
+
+-- A context that backs off and keeps a lock
+
+-- two clients of which each holds one object and needs that of the other: the younger one must back off
+abbrev two_clients : List ℕ
+two_clients = head ++ codes "client\natomic 0x100 0 plane0.alpha=1 crtc0.ACTIVE=0\nclient\natomic 0x100 0 crtc0.ACTIVE=0 plane0.alpha=1\nschedule\nT begin 1\nT begin 2\nT lock 1 plane0\nT lock 2 crtc0\nT lock 2 plane0\n"
+
+pub the_younger_must_back_off : told (λ s h. is_history s h && may s (at s h) (BackOff 2)) false two_clients ≡ true
+unfolding on_machines
+the_younger_must_back_off = refl
+
+-- it backs off, with its locks or without
+abbrev kept_locks : Script → List Step → Machine
+kept_locks s h = now_doing (at s h) 2 (backed_off (doing_at (at s h) 2))
+
+abbrev waits_both : (Script → List Step → Machine) → Script → List Step → List Bool
+waits_both after s h = waits_at_lock s (after s h) 1 2 (object_id Crtc 0) ∷ waits_at_relock (after s h) 2 1 (object_id Plane 0) ∷ []
+
+-- each waits for the other where it keeps its lock
+pub kept_lock_has_a_cycle : told (waits_both kept_locks) [] two_clients ≡ true ∷ true ∷ []
+unfolding on_machines
+kept_lock_has_a_cycle = refl
+
+-- and not where it drops it
+pub dropped_locks_have_none : told (waits_both (λ s h. next s (at s h) (BackOff 2))) [] two_clients ≡ false ∷ true ∷ []
+unfolding on_machines
+dropped_locks_have_none = refl

@@ -87,35 +87,35 @@ committed_grows t w client r few =
 
 -- What a client is doing
 
-idle-busy : (d : Doing) → is_idle d ≡ true → (busy d ≡ 0) × (answered d ≡ 0)
+pub idle-busy : (d : Doing) → is_idle d ≡ true → (busy d ≡ 0) × (answered d ≡ 0)
 idle-busy doing.Idle h = (refl, refl)
 idle-busy (doing.Taking ticket) h = absurd (false≢true h)
 idle-busy (doing.MustBackOff ticket object) h = absurd (false≢true h)
 idle-busy (doing.BackedOff ticket object) h = absurd (false≢true h)
 idle-busy (doing.Returning k) h = absurd (false≢true h)
 
-taking-busy : (d : Doing) → is_taking d ≡ true → (busy d ≡ 1) × (answered d ≡ 0)
+pub taking-busy : (d : Doing) → is_taking d ≡ true → (busy d ≡ 1) × (answered d ≡ 0)
 taking-busy (doing.Taking ticket) h = (refl, refl)
 taking-busy doing.Idle h = absurd (false≢true h)
 taking-busy (doing.MustBackOff ticket object) h = absurd (false≢true h)
 taking-busy (doing.BackedOff ticket object) h = absurd (false≢true h)
 taking-busy (doing.Returning k) h = absurd (false≢true h)
 
-back-busy : (d : Doing) → must_back_off d ≡ true → ((busy d ≡ 1) × (answered d ≡ 0)) × ((busy (backed_off d) ≡ 1) × (answered (backed_off d) ≡ 0))
+pub back-busy : (d : Doing) → must_back_off d ≡ true → ((busy d ≡ 1) × (answered d ≡ 0)) × ((busy (backed_off d) ≡ 1) × (answered (backed_off d) ≡ 0))
 back-busy (doing.MustBackOff ticket object) h = ((refl, refl), (refl, refl))
 back-busy doing.Idle h = absurd (false≢true h)
 back-busy (doing.Taking ticket) h = absurd (false≢true h)
 back-busy (doing.BackedOff ticket object) h = absurd (false≢true h)
 back-busy (doing.Returning k) h = absurd (false≢true h)
 
-contended-busy : (d : Doing) (object : ℕ) → contended d ≡ Some object → (busy d ≡ 1) × (answered d ≡ 0)
+pub contended-busy : (d : Doing) (object : ℕ) → contended d ≡ Some object → (busy d ≡ 1) × (answered d ≡ 0)
 contended-busy (doing.BackedOff ticket o) object e = (refl, refl)
 contended-busy doing.Idle object e = absurd cc
 contended-busy (doing.Taking ticket) object e = absurd cc
 contended-busy (doing.MustBackOff ticket o) object e = absurd cc
 contended-busy (doing.Returning k) object e = absurd cc
 
-returning-busy : (d : Doing) (k : ℕ) → returning_of d ≡ Some k → (busy d ≡ 1) × (answered d ≡ 1)
+pub returning-busy : (d : Doing) (k : ℕ) → returning_of d ≡ Some k → (busy d ≡ 1) × (answered d ≡ 1)
 returning-busy (doing.Returning k) n e = (refl, refl)
 returning-busy doing.Idle n e = absurd cc
 returning-busy (doing.Taking ticket) n e = absurd cc
@@ -164,22 +164,22 @@ module _ (s : Script) (m : Machine) (n : ℕ) (few : s.topology.crtcs ≤ 4) (S 
   keeps_on : (client : ℕ) (d : Doing) → (busy (doing_at m client) ≡ 1) × (answered (doing_at m client) ≡ 0) → (busy d ≡ 1) × (answered d ≡ 0)
       → PlacesStand s ((client, record { command = (place_at m client).command; doing = d }) ∷ m.contexts.places) m.contexts.tickets (length m.device.commits) m.device.world.next_id (length m.records.journal) (length m.records.replies)
   keeps_on client d old new =
-      stays s m.contexts.places m.contexts.tickets (length m.device.commits) m.device.world.next_id (length m.records.journal) (length m.records.replies) S.places_stand client (record { command = (place_at m client).command; doing = d })
+      stays s m.contexts.places m.contexts.tickets (length m.device.commits) m.device.world.next_id (length m.records.journal) (length m.records.replies) S.places_stand client (record { command = (place_at m client).command; doing = d }) (S.places_stand.low client)
       (ap (λ z. (place_at m client).command + z) (old.0 ∙ sym new.0)) (ap (λ z. (place_at m client).command + z) (old.1 ∙ sym new.1))
 
   -- a client has its answer
-  goes : (client : ℕ) (c : Command) → command_at s m client ≡ Some c → busy (doing_at m client) ≤ 1 → answered (doing_at m client) ≡ 0 → (p : Place) → begun_at p ≡ (place_at m client).command + 1 → ended_at p ≡ (place_at m client).command + 1
+  goes : (client : ℕ) (c : Command) → command_at s m client ≡ Some c → busy (doing_at m client) ≤ 1 → answered (doing_at m client) ≡ 0 → (p : Place) → 1 ≤ p.command → begun_at p ≡ (place_at m client).command + 1 → ended_at p ≡ (place_at m client).command + 1
       → (commits ids entries replies : ℕ) → commits ≤ length m.device.commits + 1 → ids ≤ m.device.world.next_id + 4 → entries ≤ length m.records.journal + 1 → replies ≤ length m.records.replies + 1
       → PlacesStand s ((client, p) ∷ m.contexts.places) m.contexts.tickets commits ids entries replies
-  goes client c e b a p bp ep =
-      ends s m.contexts.places m.contexts.tickets (length m.device.commits) m.device.world.next_id (length m.records.journal) (length m.records.replies) S.places_stand client p
+  goes client c e b a p lo bp ep =
+      ends s m.contexts.places m.contexts.tickets (length m.device.commits) m.device.world.next_id (length m.records.journal) (length m.records.replies) S.places_stand client p lo
       (there client c e) bp (omega (arith, b, bp)) (omega (arith, a, ep))
 
   -- it goes on to its next command
   goes_next : (client : ℕ) (c : Command) → command_at s m client ≡ Some c → busy (doing_at m client) ≤ 1 → answered (doing_at m client) ≡ 0
       → (commits ids entries replies : ℕ) → commits ≤ length m.device.commits + 1 → ids ≤ m.device.world.next_id + 4 → entries ≤ length m.records.journal + 1 → replies ≤ length m.records.replies + 1
       → PlacesStand s ((client, record { command = (place_at m client).command + 1; doing = doing.Idle }) ∷ m.contexts.places) m.contexts.tickets commits ids entries replies
-  goes_next client c e b a = goes client c e b a (record { command = (place_at m client).command + 1; doing = doing.Idle }) (omega arith) (omega arith)
+  goes_next client c e b a = goes client c e b a (record { command = (place_at m client).command + 1; doing = doing.Idle }) (omega arith) (omega arith) (omega arith)
 
   lock-taking : (client object : ℕ) → may_lock s m client object ≡ true → is_taking (doing_at m client) ≡ true
   unfolding may_lock
@@ -190,7 +190,7 @@ module _ (s : Script) (m : Machine) (n : ℕ) (few : s.topology.crtcs ≤ 4) (S 
       let i = idle-busy (doing_at m client) idle in
       record {
         places_stand = draws s m.contexts.places m.contexts.tickets (length m.device.commits) m.device.world.next_id (length m.records.journal) (length m.records.replies) S.places_stand client
-            (record { command = (place_at m client).command; doing = doing.Taking (record { 0 = m.contexts.tickets }) }) (there client c e) refl (let z = i.0 in omega (arith, z)) (let z = i.1 in omega (arith, z));
+            (record { command = (place_at m client).command; doing = doing.Taking (record { 0 = m.contexts.tickets }) }) (S.places_stand.low client) (there client c e) refl (let z = i.0 in omega (arith, z)) (let z = i.1 in omega (arith, z));
         counts_few = counts_now;
         latches_few = latches_now;
       }
@@ -226,17 +226,17 @@ module _ (s : Script) (m : Machine) (n : ℕ) (few : s.topology.crtcs ≤ 4) (S 
 
   swap_case : (client : ℕ) (r : Request) → command_at s m client ≡ Some (command.Atomic r) → is_taking (doing_at m client) ≡ true → (b w : Bool) → HasSizes s (suc n) (swapped_as s.topology b w m client r)
   swap_case client r e taking =
-      let on = swapped (record { command = (place_at m client).command + 1; doing = doing.Idle }) (omega arith) (omega arith) in
-      let back = swapped (record { command = (place_at m client).command; doing = doing.Returning (length m.device.commits) }) (omega arith) (omega arith) in
+      let on = swapped (record { command = (place_at m client).command + 1; doing = doing.Idle }) (omega arith) (omega arith) (omega arith) in
+      let back = swapped (record { command = (place_at m client).command; doing = doing.Returning (length m.device.commits) }) (S.places_stand.low client) (omega arith) (omega arith) in
       by_two (λ b w. HasSizes s (suc n) (swapped_as s.topology b w m client r))
       (record { places_stand = on; counts_few = counts_now; latches_few = latches_now }) (record { places_stand = back; counts_few = counts_now; latches_few = latches_now })
       (record { places_stand = on; counts_few = counts_now; latches_few = latches_now }) (record { places_stand = back; counts_few = counts_now; latches_few = latches_now })
     where
-      swapped : (p : Place) → begun_at p ≡ (place_at m client).command + 1 → ended_at p ≡ (place_at m client).command + 1
+      swapped : (p : Place) → 1 ≤ p.command → begun_at p ≡ (place_at m client).command + 1 → ended_at p ≡ (place_at m client).command + 1
           → PlacesStand s ((client, p) ∷ m.contexts.places) m.contexts.tickets (suc (length m.device.commits)) (committed s.topology m.device.world client r).world.next_id (suc (length m.records.journal)) (suc (length m.records.replies))
-      swapped p bp ep =
+      swapped p lo bp ep =
           let t = taking-busy (doing_at m client) taking in
-          goes client (command.Atomic r) e (let z = t.0 in omega (arith, z)) t.1 p bp ep (suc (length m.device.commits)) (committed s.topology m.device.world client r).world.next_id (suc (length m.records.journal)) (suc (length m.records.replies))
+          goes client (command.Atomic r) e (let z = t.0 in omega (arith, z)) t.1 p lo bp ep (suc (length m.device.commits)) (committed s.topology m.device.world client r).world.next_id (suc (length m.records.journal)) (suc (length m.records.replies))
           (omega arith) (committed_grows s.topology m.device.world client r few) (omega arith) (omega arith)
 
   flush_case : (k c : ℕ) (b : Bool) (o : Option ℕ) → HasSizes s (suc n) (latched_as s.topology b o (flushed_at m k c) k c (count_at m.device c))
@@ -255,7 +255,7 @@ module _ (s : Script) (m : Machine) (n : ℕ) (few : s.topology.crtcs ≤ 4) (S 
       let r = returning-busy (doing_at m client) k e in
       record {
         places_stand = stays s m.contexts.places m.contexts.tickets (length m.device.commits) m.device.world.next_id (length m.records.journal) (length m.records.replies) S.places_stand client
-            (record { command = (place_at m client).command + 1; doing = doing.Idle }) (let z = r.0 in omega (arith, z)) (let z = r.1 in omega (arith, z));
+            (record { command = (place_at m client).command + 1; doing = doing.Idle }) (omega arith) (let z = r.0 in omega (arith, z)) (let z = r.1 in omega (arith, z));
         counts_few = counts_now;
         latches_few = latches_now;
       }

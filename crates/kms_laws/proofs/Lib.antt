@@ -10,8 +10,10 @@ pub mod EventRoom
 pub mod EventsKept
 pub mod EventsOnce
 pub mod Executed
+pub mod Falling
 pub mod FalseNeighbours
 pub mod Fences
+pub mod Finite
 pub mod Fitting
 pub mod Framebuffers
 pub mod Freed
@@ -21,6 +23,7 @@ pub mod HeldFrames
 pub mod Invariants
 pub mod Latching
 pub mod LockSteps
+pub mod Measure
 pub mod Modes
 pub mod NeverStuck
 pub mod NoCycle
@@ -34,6 +37,7 @@ pub mod Quiet
 pub mod Requests
 pub mod Stalled
 pub mod Resting
+pub mod RoundsEnd
 pub mod ShorterTails
 pub mod Sizes
 pub mod SmallNumbers

@@ -40,7 +40,7 @@ asked-ticket doing.Idle object e = absurd cc
 asked-ticket (doing.Returning k) object e = absurd cc
 
 -- an object that a step may lock has a lock
-lockable-has : (t : Topology) (kind : Kind) (index : ℕ) → is_lockable t kind index ≡ true → IsIn (object_id kind index) (lockable t)
+pub lockable-has : (t : Topology) (kind : Kind) (index : ℕ) → is_lockable t kind index ≡ true → IsIn (object_id kind index) (lockable t)
 lockable-has t Crtc index h = in_left (ids_of t Crtc) _ (object_id Crtc index) (ids-has t Crtc index (ltb-true index (count_of t Crtc) h))
 lockable-has t Plane index h = in_right (ids_of t Crtc) _ (object_id Plane index) (in_left (ids_of t Plane) (ids_of t Conn) (object_id Plane index) (ids-has t Plane index (ltb-true index (count_of t Plane) h)))
 lockable-has t Conn index h = in_right (ids_of t Crtc) _ (object_id Conn index) (in_right (ids_of t Plane) (ids_of t Conn) (object_id Conn index) (ids-has t Conn index (ltb-true index (count_of t Conn) h)))
@@ -188,7 +188,7 @@ module _ (s : Script) (m : Machine) (L : HasLocks s m) where
       → LocksStand s (record { places = (client, record { command = (place_at m client).command + 1; doing = doing.Idle }) ∷ m.contexts.places; locks = dropped client m.contexts.locks; tickets = m.contexts.tickets }) (length m.device.commits)
   decided_from client = leaves s m.contexts (length m.device.commits) L client (record { command = (place_at m client).command + 1; doing = doing.Idle }) (length m.device.commits) (omega arith) refl (λ k e. absurd cc)
 
-  lock-taking : (client object : ℕ) → may_lock s m client object ≡ true → (may_hold (doing_at m client) ≡ true) × (has_ticket (doing_at m client) ≡ true)
+  pub lock-taking : (client object : ℕ) → may_lock s m client object ≡ true → (may_hold (doing_at m client) ≡ true) × (has_ticket (doing_at m client) ≡ true)
   unfolding may_lock
   lock-taking client object h = taking-holds (doing_at m client) (and_parts (is_taking (doing_at m client)) _ (and_parts (taking_at s m client (λ r. reaches s.topology m.device.world r object)) _ h).0).0
 

@@ -134,7 +134,6 @@ module _ (s : Script) (plain : IsPlainScript s) where
   turn-still : (client : ℕ) (run : Progress) → IsRun s run → turn s run client ≡ run → is_at_end s run.machine client ≡ false → IsTurnStill client run
   unfolding turn
   turn-still client run R e running =
-      let gone : Progress = client_goes s (most_of_turn s.topology) client run in
       let whole : returns s client (settles s (client_goes s (most_of_turn s.topology) client run)) ≡ run =
       sym (cond-false (is_at_end s run.machine client) run (returns s client (settles s (client_goes s (most_of_turn s.topology) client run))) running) ∙ e in
       let one = goes-later s plain (most_of_turn s.topology) client run R in
@@ -200,7 +199,7 @@ pub empty-history : (s : Script) → is_history s [] ≡ true
 unfolding are_legal
 empty-history s = refl
 
-run-of : (s : Script) (h : List Step) → is_history s h ≡ true → IsRun s (run_of s h)
+pub run-of : (s : Script) (h : List Step) → is_history s h ≡ true → IsRun s (run_of s h)
 run-of s h is = record { same = ap (at s) (sym (reverse-reverse h)); is = ap (is_history s) (reverse-reverse h) ∙ is }
 
 module _ (s : Script) (plain : IsPlainScript s) where
@@ -222,7 +221,7 @@ module _ (s : Script) (plain : IsPlainScript s) where
   ends-later run = by_test (legal s run.machine Stall) refl
     where
       by_test : (b : Bool) → legal s run.machine Stall ≡ b → Later s run (if b then does s run Stall else run)
-      by_test true l = More Stall l (Same refl)
+      by_test true l = More Stall l refl (Same refl)
       by_test false l = Same refl
 
   ended-over : (m : Machine) → is_dead s (next s m Stall) ≡ true

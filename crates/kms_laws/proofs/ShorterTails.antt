@@ -31,7 +31,7 @@ use Rattle.kms_laws.proofs.Traversal.{commit_of, latch_of}
 
 -- Lists of what passes a test
 
-filter-most : {A : Type 0} (p : A → Bool) (xs : List A) → length (filter p xs) ≤ length xs
+pub filter-most : {A : Type 0} (p : A → Bool) (xs : List A) → length (filter p xs) ≤ length xs
 filter-most p [] = omega arith
 filter-most {A} p (x ∷ xs) = by_test (p x) (filter-most p xs)
   where
@@ -39,7 +39,7 @@ filter-most {A} p (x ∷ xs) = by_test (p x) (filter-most p xs)
     by_test true l = omega (arith, l)
     by_test false l = omega (arith, l)
 
-fewer : {A : Type 0} (p q : A → Bool) (xs : List A) → ((x : A) → q x ≡ true → p x ≡ true) → length (filter q xs) ≤ length (filter p xs)
+pub fewer : {A : Type 0} (p q : A → Bool) (xs : List A) → ((x : A) → q x ≡ true → p x ≡ true) → length (filter q xs) ≤ length (filter p xs)
 fewer p q [] h = omega arith
 fewer {A} p q (x ∷ xs) h = by_test (p x) (q x) (h x) (fewer p q xs h)
   where
@@ -49,7 +49,7 @@ fewer {A} p q (x ∷ xs) h = by_test (p x) (q x) (h x) (fewer p q xs h)
     by_test false true e l = absurd (false≢true (e refl))
     by_test false false e l = l
 
-one-fewer : {A : Type 0} (p q : A → Bool) (xs : List A) (y : A) → IsIn y xs → p y ≡ true → q y ≡ false → ((x : A) → q x ≡ true → p x ≡ true) → length (filter q xs) + 1 ≤ length (filter p xs)
+pub one-fewer : {A : Type 0} (p q : A → Bool) (xs : List A) (y : A) → IsIn y xs → p y ≡ true → q y ≡ false → ((x : A) → q x ≡ true → p x ≡ true) → length (filter q xs) + 1 ≤ length (filter p xs)
 one-fewer p q [] y is yes_p no_q h = absurd is
 one-fewer {A} p q (x ∷ xs) y (inl same) yes_p no_q h = by_test (p x) (q x) (ap p same ∙ yes_p) (ap q same ∙ no_q) (fewer p q xs h)
   where

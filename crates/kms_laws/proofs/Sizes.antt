@@ -17,24 +17,32 @@ abbrev pub sum : (ℕ → ℕ) → ℕ → ℕ → ℕ
 sum f from zero = 0
 sum f from (suc n) = f from + sum f (from + 1) n
 
-sum-more : (f g : ℕ → ℕ) (from n : ℕ) → ((c : ℕ) → f c ≤ g c) → sum f from n ≤ sum g from n
+pub sum-more : (f g : ℕ → ℕ) (from n : ℕ) → ((c : ℕ) → from ≤ c → c < from + n → f c ≤ g c) → sum f from n ≤ sum g from n
 sum-more f g from zero h = omega arith
-sum-more f g from (suc n) h = let a = h from in let b = sum-more f g (from + 1) n h in omega (arith, a, b)
+sum-more f g from (suc n) h = let a = h from (omega arith) (omega arith) in let b = sum-more f g (from + 1) n (λ c l m. h c (omega arith) (omega arith)) in omega (arith, a, b)
 
-sum-one : (f g : ℕ → ℕ) (x from n : ℕ) → ((c : ℕ) → f c ≤ g c) → f x + 1 ≤ g x → from ≤ x → x < from + n → sum f from n + 1 ≤ sum g from n
+pub sum-one : (f g : ℕ → ℕ) (x from n : ℕ) → ((c : ℕ) → from ≤ c → c < from + n → f c ≤ g c) → f x + 1 ≤ g x → from ≤ x → x < from + n → sum f from n + 1 ≤ sum g from n
 sum-one f g x from zero h one l m = absurd (omega arith)
 sum-one f g x from (suc n) h one l m =
     ⊎_elim
     (λ (same : from ≡ x).
     let here : f from + 1 ≤ g from = subst (λ z. f z + 1 ≤ g z) (sym same) one in
-    let rest = sum-more f g (from + 1) n h in
+    let rest = sum-more f g (from + 1) n (λ c a b. h c (omega arith) (omega arith)) in
     omega (arith, here, rest))
     (λ (ne : from ≡ x → ⊥).
-    let here = h from in
+    let here = h from (omega arith) (omega arith) in
     let above : from + 1 ≤ x = ⊎_elim (λ (lt : from < x). omega arith) (λ (ge : x ≤ from). absurd (ne (omega arith))) (cases_lt from x) in
-    let rest = sum-one f g x (from + 1) n h one above (omega arith) in
+    let rest = sum-one f g x (from + 1) n (λ c a b. h c (omega arith) (omega arith)) one above (omega arith) in
     omega (arith, here, rest))
     (cases_eq from x)
+
+pub sum-last : (f : ℕ → ℕ) (from n : ℕ) → sum f from (suc n) ≡ sum f from n + f (from + n)
+sum-last f from zero = let e : from + 0 ≡ from = omega arith in let g = ap f e in omega (arith, g)
+sum-last f from (suc n) =
+    let a = sum-last f (from + 1) n in
+    let e : from + 1 + n ≡ from + suc n = omega arith in
+    let g = ap f e in
+    omega (arith, a, g)
 
 pub sum-most : (f : ℕ → ℕ) (most from n : ℕ) → ((c : ℕ) → f c ≤ most) → sum f from n ≤ n * most
 sum-most f most from zero h = omega arith
@@ -88,6 +96,7 @@ all_ended s places = sum (λ c. ended_at (place_of places c)) 1 (length s.client
 
 -- the tickets, commits, next id, entries and replies by the places
 pub record PlacesStand (s : Script) (places : List (ℕ × Place)) (tickets commits ids entries replies : ℕ) : Type 0 where
+  pub low : (c : ℕ) → 1 ≤ (place_of places c).command
   pub bound : (c : ℕ) → begun_at (place_of places c) ≤ has_commands s c + 1
   pub tickets_few : tickets + length s.clients ≤ all_begun s places
   pub commits_few : commits + length s.clients ≤ all_ended s places
@@ -100,6 +109,7 @@ unfolding read
 first_places s =
     let e : sum (λ c. 1) 1 (length s.clients) ≡ length s.clients = sum-ones 1 (length s.clients) in
     record {
+      low = λ c. omega arith;
       bound = λ c. omega arith;
       tickets_few = omega (arith, e);
       commits_few = omega (arith, e);
@@ -110,7 +120,7 @@ first_places s =
 
 -- Commands that are there
 
-from_one-within : {A : Type 0} (xs : List A) (n : ℕ) (x : A) → from_one xs n ≡ Some x → (1 ≤ n) × (n ≤ length xs)
+pub from_one-within : {A : Type 0} (xs : List A) (n : ℕ) (x : A) → from_one xs n ≡ Some x → (1 ≤ n) × (n ≤ length xs)
 from_one-within xs zero x e = absurd cc
 from_one-within [] (suc n) x e = absurd cc
 from_one-within (y ∷ ys) (suc zero) x e = (omega arith, omega arith)
@@ -134,7 +144,7 @@ command-there s e c is = go (from_one s.clients e.client) refl is
 
 -- A new place
 
-module _ (s : Script) (places : List (ℕ × Place)) (tickets commits ids entries replies : ℕ) (S : PlacesStand s places tickets commits ids entries replies) (x : ℕ) (p : Place) where
+module _ (s : Script) (places : List (ℕ × Place)) (tickets commits ids entries replies : ℕ) (S : PlacesStand s places tickets commits ids entries replies) (x : ℕ) (p : Place) (is_low : 1 ≤ p.command) where
   by_client : (F : Place → ℕ) (R : ℕ → ℕ → ℕ → Type 0) → ((c : ℕ) → R c (F (place_of places c)) (F (place_of places c))) → R x (F (place_of places x)) (F p) → (c : ℕ) → R c (F (place_of places c)) (F (place_of ((x, p) ∷ places) c))
   by_client F R other own c =
       ⊎_elim
@@ -151,11 +161,14 @@ module _ (s : Script) (places : List (ℕ × Place)) (tickets commits ids entrie
   bound_now : begun_at p ≤ has_commands s x + 1 → (c : ℕ) → begun_at (place_of ((x, p) ∷ places) c) ≤ has_commands s c + 1
   bound_now own c = by_client begun_at (λ c old new. new ≤ has_commands s c + 1) S.bound own c
 
+  low_now : (c : ℕ) → 1 ≤ (place_of ((x, p) ∷ places) c).command
+  low_now c = by_client (λ (q : Place). q.command) (λ c old new. 1 ≤ new) S.low is_low c
+
   begun_more : begun_at (place_of places x) ≤ begun_at p → all_begun s places ≤ all_begun s ((x, p) ∷ places)
-  begun_more le = sum-more (λ c. begun_at (place_of places c)) (λ c. begun_at (place_of ((x, p) ∷ places) c)) 1 (length s.clients) (rises begun_at le)
+  begun_more le = sum-more (λ c. begun_at (place_of places c)) (λ c. begun_at (place_of ((x, p) ∷ places) c)) 1 (length s.clients) (λ c a b. rises begun_at le c)
 
   ended_more : ended_at (place_of places x) ≤ ended_at p → all_ended s places ≤ all_ended s ((x, p) ∷ places)
-  ended_more le = sum-more (λ c. ended_at (place_of places c)) (λ c. ended_at (place_of ((x, p) ∷ places) c)) 1 (length s.clients) (rises ended_at le)
+  ended_more le = sum-more (λ c. ended_at (place_of places c)) (λ c. ended_at (place_of ((x, p) ∷ places) c)) 1 (length s.clients) (λ c a b. rises ended_at le c)
 
   -- a client stays at its command
   pub stays : begun_at (place_of places x) ≡ begun_at p → ended_at (place_of places x) ≡ ended_at p → PlacesStand s ((x, p) ∷ places) tickets commits ids entries replies
@@ -163,6 +176,7 @@ module _ (s : Script) (places : List (ℕ × Place)) (tickets commits ids entrie
       let begun = begun_more (omega (arith, b)) in
       let ended = ended_more (omega (arith, e)) in
       record {
+        low = low_now;
         bound = bound_now (let l = S.bound x in omega (arith, b, l));
         tickets_few = (let l = S.tickets_few in omega (arith, l, begun));
         commits_few = (let l = S.commits_few in omega (arith, l, ended));
@@ -176,9 +190,10 @@ module _ (s : Script) (places : List (ℕ × Place)) (tickets commits ids entrie
       → PlacesStand s ((x, p) ∷ places) (tickets + 1) commits ids entries replies
   draws there is b e =
       let one : begun_at (place_of places x) + 1 ≤ begun_at (place_of ((x, p) ∷ places) x) = let y = at_x begun_at in omega (arith, y, b) in
-      let begun = sum-one (λ c. begun_at (place_of places c)) (λ c. begun_at (place_of ((x, p) ∷ places) c)) x 1 (length s.clients) (rises begun_at (omega (arith, b))) one there.low there.high in
+      let begun = sum-one (λ c. begun_at (place_of places c)) (λ c. begun_at (place_of ((x, p) ∷ places) c)) x 1 (length s.clients) (λ c l m. rises begun_at (omega (arith, b)) c) one there.low there.high in
       let ended = ended_more (omega (arith, e)) in
       record {
+        low = low_now;
         bound = bound_now (let l = there.within in omega (arith, is, l));
         tickets_few = (let l = S.tickets_few in omega (arith, l, begun));
         commits_few = (let l = S.commits_few in omega (arith, l, ended));
@@ -193,9 +208,10 @@ module _ (s : Script) (places : List (ℕ × Place)) (tickets commits ids entrie
       → PlacesStand s ((x, p) ∷ places) tickets commits2 ids2 entries2 replies2
   ends there is b e commits2 ids2 entries2 replies2 c i n r =
       let one : ended_at (place_of places x) + 1 ≤ ended_at (place_of ((x, p) ∷ places) x) = let y = at_x ended_at in omega (arith, y, e) in
-      let ended = sum-one (λ c. ended_at (place_of places c)) (λ c. ended_at (place_of ((x, p) ∷ places) c)) x 1 (length s.clients) (rises ended_at (omega (arith, e))) one there.low there.high in
+      let ended = sum-one (λ c. ended_at (place_of places c)) (λ c. ended_at (place_of ((x, p) ∷ places) c)) x 1 (length s.clients) (λ c l m. rises ended_at (omega (arith, e)) c) one there.low there.high in
       let begun = begun_more b in
       record {
+        low = low_now;
         bound = bound_now (let l = there.within in omega (arith, is, l));
         tickets_few = (let l = S.tickets_few in omega (arith, l, begun));
         commits_few = (let l = S.commits_few in omega (arith, l, ended, c));

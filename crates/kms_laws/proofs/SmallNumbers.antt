@@ -74,7 +74,7 @@ latches-fit s h n (l ∷ ls) is e all = (record { commit = is.0.0; crtc = is.0.1
 -- Along a history
 
 -- what is kept by each step, with the number of steps so far
-along_counted : (s : Script) (P : ℕ → Machine → Type 0) → ((n : ℕ) (m : Machine) (step : Step) → P n m → legal s m step ≡ true → P (suc n) (next s m step)) → (h : List Step) (n total : ℕ) (m : Machine) → n + length h ≡ total → P n m → are_legal s m h ≡ true
+pub along_counted : (s : Script) (P : ℕ → Machine → Type 0) → ((n : ℕ) (m : Machine) (step : Step) → P n m → legal s m step ≡ true → P (suc n) (next s m step)) → (h : List Step) (n total : ℕ) (m : Machine) → n + length h ≡ total → P n m → are_legal s m h ≡ true
     → P total (run_steps s m h)
 unfolding run_steps are_legal
 along_counted s P keeps [] n total m e p h = let same : n ≡ total = omega (arith, e) in subst (λ z. P z m) same p
@@ -82,16 +82,16 @@ along_counted s P keeps (step ∷ steps) n total m e p h =
     let both = and_parts (legal s m step) _ h in
     along_counted s P keeps steps (suc n) total (next s m step) (omega (arith, e)) (keeps n m step p both.0) both.1
 
-record Counted (s : Script) (n : ℕ) (m : Machine) : Type 0 where
-  facts : Facts s m
-  sizes : HasSizes s n m
-  room : HasRoom m.events
+pub record Counted (s : Script) (n : ℕ) (m : Machine) : Type 0 where
+  pub facts : Facts s m
+  pub sizes : HasSizes s n m
+  pub room : HasRoom m.events
 
 first_room : (t : Topology) → HasRoom (first_machine t).events
 unfolding read
 first_room t client = omega arith
 
-first_counted : (s : Script) → IsPlainScript s → Counted s 0 (first_machine s.topology)
+pub first_counted : (s : Script) → IsPlainScript s → Counted s 0 (first_machine s.topology)
 unfolding read
 first_counted s plain = record {
   facts = first_facts s plain;
@@ -99,7 +99,7 @@ first_counted s plain = record {
   room = first_room s.topology;
 }
 
-step_counted : (s : Script) → IsPlainScript s → (n : ℕ) (m : Machine) (step : Step) → Counted s n m → legal s m step ≡ true → Counted s (suc n) (next s m step)
+pub step_counted : (s : Script) → IsPlainScript s → (n : ℕ) (m : Machine) (step : Step) → Counted s n m → legal s m step ≡ true → Counted s (suc n) (next s m step)
 step_counted s plain n m step C h = record {
   facts = step_facts s m step plain C.facts h;
   sizes = each_step s m (λ step m2. HasSizes s (suc n) m2) (carries_sizes s m n (few_objects s.topology plain.device).crtcs C.sizes) step h;
@@ -108,14 +108,14 @@ step_counted s plain n m step C h = record {
 
 -- Limits
 
-answered-busy : (d : Doing) → answered d ≤ busy d
+pub answered-busy : (d : Doing) → answered d ≤ busy d
 answered-busy doing.Idle = omega arith
 answered-busy (doing.Taking ticket) = omega arith
 answered-busy (doing.MustBackOff ticket object) = omega arith
 answered-busy (doing.BackedOff ticket object) = omega arith
 answered-busy (doing.Returning k) = omega arith
 
-few_commands : (s : Script) (client : ℕ) → AllByRecursion IsFitClient s.clients → has_commands s client ≤ 4096
+pub few_commands : (s : Script) (client : ℕ) → AllByRecursion IsFitClient s.clients → has_commands s client ≤ 4096
 few_commands s client fit = go (from_one s.clients client) refl
   where
     go : (o : Option (List Command)) → from_one s.clients client ≡ o → length_of o ≤ 4096

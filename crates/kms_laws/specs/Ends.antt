@@ -1,12 +1,17 @@
 -- How the order of one thread ends: where nothing more can be done, the history is drained or dead.
-use Rattle.std.specs.Prelude.{◌≡◌, ◌↔◌, ◌⊎◌, ℕ, true, false, List, ◌++◌}
+use Rattle.std.specs.Prelude.{◌≡◌, ◌↔◌, ◌⊎◌, ◌≤◌, ℕ, ◌+◌, Bool, true, false, List, [], ◌∷◌, ◌++◌, is_some}
 use Rattle.kms_model.specs.declared.replies.Step.{Step}
+use Rattle.kms_model.specs.declared.replies.Step.TheVariants.{Vblank}
 use Rattle.kms_model.specs.declared.scripts.Script.{Script}
+use Rattle.kms_model.specs.Device.Objects.{object_id}
+use Rattle.kms_model.specs.Machine.Effects.{next}
 use Rattle.kms_model.specs.Machine.Histories.{at, is_dead, is_drained, is_history}
-use Rattle.kms_model.specs.Order.Rounds.{IsFinished, IsOne, is_still, run_of}
+use Rattle.kms_model.specs.Machine.State.{Machine, first_machine, go_at}
+use Rattle.kms_model.specs.Order.Rounds.{IsFinished, IsOne, is_still, rounds, run_of}
 use Rattle.kms_model.specs.Promises.{InEachHistory}
 use Rattle.kms_model.specs.Script.Generated.{generated}
 use Rattle.kms_model.specs.Script.WellFormed.{IsWellFormed}
+use Rattle.kms_laws.specs.TailsLeft.{one_if}
 
 -- the history is drained, or it is dead
 abbrev pub IsOver : Script → List Step → Type 0
@@ -15,6 +20,24 @@ IsOver s h = (is_drained s (at s h) ≡ true) ⊎ (is_dead s (at s h) ≡ true)
 -- A round behind a history has no step exactly where the history is over.
 abbrev pub RoundsAreStill : Type 0
 RoundsAreStill = InEachHistory (λ s h. (is_still s (run_of s h) ≡ true) ↔ IsOver s h)
+
+-- Rounds behind a history end: after so many of them the next has no step.
+abbrev pub RoundsEnd : Type 0
+RoundsEnd = InEachHistory (λ s h. (most : ℕ) × (is_still s (rounds s most (run_of s h)) ≡ true))
+
+-- a step that is no vertical blanking without GO
+abbrev pub is_moving : Machine → Step → Bool
+is_moving m (Vblank kind index) = is_some (go_at m.device (object_id kind index))
+is_moving m _ = true
+
+-- how many such steps there are
+unfoldable pub moves_in : Script → Machine → List Step → ℕ
+moves_in s m [] = 0
+moves_in s m (step ∷ steps) = one_if (is_moving m step) + moves_in s (next s m step) steps
+
+-- Of each script there is a number of such steps that no history has more of, whatever the order of its steps.
+abbrev pub MovesAreFew : Type 0
+MovesAreFew = (s : Script) → IsWellFormed s → (most : ℕ) × ((h : List Step) → is_history s h ≡ true → moves_in s (first_machine s.topology) h ≤ most)
 
 -- a history that goes on behind another, and is over
 pub record EndsOver (s : Script) (h finished : List Step) : Type 0 where

@@ -1,9 +1,28 @@
 //! How the order of one thread ends.
-ghost use Rattle.kms_laws.specs.Ends.{FinishedIsOver, GeneratedDrains, GeneratedNeverDead, OneIsOver, RoundsAreStill};
+ghost use Rattle.kms_laws.specs.Ends.{
+  FinishedIsOver,
+  GeneratedDrains,
+  GeneratedNeverDead,
+  MovesAreFew,
+  OneIsOver,
+  RoundsAreStill,
+  RoundsEnd,
+};
 
 /// A round behind a history has no step exactly where the history is drained or dead.
 pub fn rounds_are_still_at_ends()
     ensures { RoundsAreStill }
+{}
+
+/// Whatever the order of steps, no history goes on for ever: of each script there is a number of steps that no history has
+/// more of, but for vertical blankings without GO. So contexts do not back off for ever.
+pub fn histories_have_few_moves()
+    ensures { MovesAreFew }
+{}
+
+/// Rounds end: behind each history there is a round without a step.
+pub fn rounds_end()
+    ensures { RoundsEnd }
 {}
 
 /// A history that is continued to its end by rounds, and by `stall` where it is dead, is a history, and it is drained or

@@ -10,7 +10,7 @@ mod locks;
 pub use bounds::{numbers_fit_their_types, tails_are_short, tails_get_shorter};
 pub use ends::{
     finished_histories_are_over, generated_scripts_drain, generated_scripts_never_stall,
-    one_is_over, rounds_are_still_at_ends,
+    histories_have_few_moves, one_is_over, rounds_are_still_at_ends, rounds_end,
 };
 pub use headline::{
     dead_histories_name_a_fence, events_come_once, framebuffers_are_freed_once, headline_holds,

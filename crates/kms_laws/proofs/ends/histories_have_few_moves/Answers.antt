@@ -1,0 +1,5 @@
+use Rattle.kms_laws.proofs.RoundsEnd.{few-moves}
+use Rattle.kms_laws.proofs.ends.histories_have_few_moves.Goals as goal
+
+pub returns : goal.returns
+returns c = λ s formed. few-moves s formed
