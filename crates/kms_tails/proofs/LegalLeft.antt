@@ -1,6 +1,6 @@
 -- A step of a tail that is legal is left to do.
-use Rattle.std.proofs.Common.{◌≡◌, ℕ, ◌<◌, ◌≤◌, List, get_or, Bool, true, false, Option, Some, None, arith, refl, sym, ap, ◌∙◌}
-use Rattle.std.specs.Prelude.{◌==◌, ◌&&◌, ◌||◌, find, is_some, not, nat_lt, IfSome}
+use Rattle.std.proofs.Common.{◌≡◌, ℕ, ◌<◌, List, get_or, Bool, true, false, Option, Some, None, arith, refl, sym, ap, ◌∙◌}
+use Rattle.std.specs.Prelude.{◌&&◌, find, is_some, not, nat_lt, IfSome}
 use Rattle.std.proofs.lemmas.Bool.{and_from, and_parts, eqb-true, false≢true, ltb-true}
 use Rattle.kms_model.specs.declared.objects.Kind.TheVariants.{Conn, Crtc, Enc, Plane}
 use Rattle.kms_model.specs.declared.objects.Topology.{Topology}
@@ -23,7 +23,7 @@ use Rattle.kms_tails.specs.declared.progress.Mark.{Mark}
 use Rattle.kms_tails.specs.declared.progress.Mark.TheVariants as mark
 use Rattle.kms_tails.specs.declared.tail.Tail.{Tail}
 use Rattle.kms_tails.specs.InStep.{AreStates, IsTailOf, old_crtc}
-use Rattle.kms_tails.specs.Remaining.{is_latch_left, is_latch_off, is_left, is_on_after, is_step_left, on_after}
+use Rattle.kms_tails.specs.Remaining.{is_latch_left, is_left, is_on_after, is_step_left, on_after}
 use Rattle.kms_tails.specs.StepLaws.{commit_of, mark_of}
 use Rattle.kms_tails.proofs.Queries.{crtc_is, named_crtc, named_touched, touched_crtc, touched_plane}
 

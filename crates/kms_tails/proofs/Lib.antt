@@ -7,3 +7,4 @@ pub mod StepLemmas
 pub mod Counts
 pub mod LeftLemmas
 pub mod LegalLeft
+pub mod OneCrtc

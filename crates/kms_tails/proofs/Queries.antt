@@ -1,13 +1,12 @@
 -- What a tail answers is what the machine has of its commit.
-use Rattle.std.proofs.Common.{◌≡◌, ℕ, ◌+◌, ◌<◌, ◌≤◌, length, List, get_or, Bool, true, false, Option, Some, None, inl, inr, arith, refl, sym, ap, ◌∙◌}
-use Rattle.std.specs.Prelude.{find, is_none, is_some, IfSome, IsSome, nat_lt, not, slice_get, ◌&&◌, ◌||◌}
-use Rattle.std.specs.List.{list_all}
+use Rattle.std.proofs.Common.{◌≡◌, ℕ, ◌<◌, length, List, get_or, true, Option, Some, None, inl, inr, arith, sym, ap, ◌∙◌}
+use Rattle.std.specs.Prelude.{find, is_none, is_some, IfSome, nat_lt, not, slice_get, ◌&&◌}
 use Rattle.std.specs.Option.{option_map}
 use Rattle.std.proofs.lemmas.Bool.{cases_lt, or_right}
 use Rattle.std.proofs.lemmas.Option.{slice_get-get_or}
 use Rattle.std.proofs.Math.ListN.{get_or-eq_default}
 use Rattle.kms_model.specs.declared.objects.Kind.{Kind}
-use Rattle.kms_model.specs.declared.objects.Kind.TheVariants.{Conn, Crtc, Plane}
+use Rattle.kms_model.specs.declared.objects.Kind.TheVariants.{Crtc, Plane}
 use Rattle.kms_model.specs.declared.objects.Topology.{Topology}
 use Rattle.kms_model.specs.declared.runs.Latch.{Latch}
 use Rattle.kms_model.specs.declared.scripts.Request.{Request}
@@ -17,20 +16,20 @@ use Rattle.kms_model.specs.declared.states.Mask.{Mask}
 use Rattle.kms_model.specs.declared.states.PlaneState.{PlaneState}
 use Rattle.kms_model.specs.declared.worlds.World.{World}
 use Rattle.kms_model.specs.Device.Masks.{has_bit}
-use Rattle.kms_model.specs.Device.Objects.{count_of, ids_of, kind_of, object_id}
+use Rattle.kms_model.specs.Device.Objects.{count_of, ids_of, object_id}
 use Rattle.kms_model.specs.Device.Sound.{IsDevice}
 use Rattle.kms_model.specs.Firsts.{or_else}
-use Rattle.kms_model.specs.Machine.Commits.{commit_at, commit_names, commit_touches, has_latched, has_pair, is_all_flushed, is_all_latched, is_all_written, new_connector, new_crtc, new_plane, new_values, old_plane, old_values, out_fence_of, registered}
-use Rattle.kms_model.specs.Machine.State.{Commit, DeviceState}
+use Rattle.kms_model.specs.Machine.Commits.{commit_at, commit_names, commit_touches, has_latched, has_pair, is_all_flushed, is_all_latched, is_all_written, new_connector, new_crtc, new_plane, new_values, old_plane, out_fence_of, registered}
+use Rattle.kms_model.specs.Machine.State.{DeviceState}
 use Rattle.kms_model.specs.Machine.Steps.{next_flush, next_write}
 use Rattle.kms_model.specs.Request.Apply.{after}
 use Rattle.kms_model.specs.Request.Named.{names}
-use Rattle.kms_model.specs.Request.Touched.{named_by, sets, touched_by, touches, touches_crtc, touches_of_kind, touches_routed}
+use Rattle.kms_model.specs.Request.Touched.{sets, touches, touches_crtc, touches_of_kind, touches_routed}
 use Rattle.kms_model.proofs.KindsOfIds.{kind_of-object}
 use Rattle.kms_model.proofs.MaskLemmas.{has_bit-mask_below}
 use Rattle.kms_model.proofs.TouchedLemmas.{HasFewObjects, few_objects}
 use Rattle.kms_tails.specs.declared.tail.Tail.{Tail}
-use Rattle.kms_tails.specs.InStep.{AreStates, IsTailOf, old_crtc, out_fence_at}
+use Rattle.kms_tails.specs.InStep.{AreStates, IsTailOf, old_crtc}
 use Rattle.kms_tails.specs.Remaining.{connector_of, first_left, next_flush_of, next_latch_of, next_write_of}
 use Rattle.kms_tails.proofs.Lefts.{all_over, connector_is, find_both, is_none_mapped, left_of}
 

@@ -1,5 +1,5 @@
 -- When tails stand for the commits of a machine that are not cleaned.
-use Rattle.std.specs.Prelude.{◌≡◌, ℕ, ◌<◌, ◌≤◌, ◌||◌, Bool, IsTrue, true, false, List, ◌∷◌, length, is_some, slice_index_or, Option, Some, None}
+use Rattle.std.specs.Prelude.{◌≡◌, ℕ, ◌<◌, ◌≤◌, ◌||◌, IsTrue, true, false, List, ◌∷◌, length, is_some, slice_index_or, Option, Some, None}
 use Rattle.kms_model.specs.declared.objects.Kind.TheVariants.{Crtc, Plane}
 use Rattle.kms_model.specs.declared.objects.Topology.{Topology}
 use Rattle.kms_model.specs.declared.runs.Latch.{Latch}
@@ -7,10 +7,11 @@ use Rattle.kms_model.specs.declared.scripts.Request.{Request}
 use Rattle.kms_model.specs.declared.states.Both.{Both}
 use Rattle.kms_model.specs.declared.states.Checked.{Checked}
 use Rattle.kms_model.specs.declared.states.CrtcState.{CrtcState}
+use Rattle.kms_model.specs.declared.states.PlaneState.{PlaneState}
 use Rattle.kms_model.specs.Device.Masks.{has_bit}
 use Rattle.kms_model.specs.Device.Objects.{is_id_of, object_id}
 use Rattle.kms_model.specs.Device.Sound.{IsDevice}
-use Rattle.kms_model.specs.Machine.Commits.{commit_at, has_latched, has_number, has_pair, old_values, thing_made}
+use Rattle.kms_model.specs.Machine.Commits.{commit_at, has_latched, has_number, has_pair, new_crtc, new_plane, old_plane, old_values, thing_made}
 use Rattle.kms_model.specs.Machine.State.{Commit, DeviceState, Machine, Marks}
 use Rattle.kms_model.specs.Request.Agreement.{crtc_state_at}
 use Rattle.kms_model.specs.Request.Deciding.{IsChecked}
@@ -134,6 +135,12 @@ IsFirstFrom marks count from (Some k) =
     (from ≤ k) × (k < count) × (has_number marks.cleaned k ≡ false)
     × ((j : ℕ) → from ≤ j → j < k → has_number marks.cleaned j ≡ true)
 
+-- A number is that of the first commit, from a number on, that is not cleaned, of all commits that tails stand for.
+abbrev pub FindsFirst : Rooms Tail → ℕ → Option ℕ → Type 0
+FindsFirst v from first =
+    (t : Topology) (commits : List Commit) (marks : Marks) (latches : List Latch)
+    → AreTailsOf t commits marks latches v → IsFirstFrom marks (length commits) from first
+
 -- what holds of a tail wherever it is that of a commit of a device
 abbrev pub WhereverOf : Tail → (Topology → DeviceState → List Latch → ℕ → Type 0) → Type 0
 WhereverOf x holds =
@@ -148,3 +155,12 @@ old_crtc t cs k crtc = let c = commit_at t cs k in crtc_state_at t c.world.thing
 pub record AreStates {S : Type 0} (old new : S) (both : Both S) : Type 0 where
   pub old_is : both.old ≡ old
   pub new_is : both.new ≡ new
+
+-- those of the plane, and of the CRTC, with an index
+abbrev pub ArePlaneStates : Topology → DeviceState → ℕ → ℕ → Both PlaneState → Type 0
+ArePlaneStates t d k index =
+    AreStates (old_plane t d.commits k (object_id Plane index)) (new_plane t d.commits k (object_id Plane index))
+
+abbrev pub AreCrtcStates : Topology → DeviceState → ℕ → ℕ → Both CrtcState → Type 0
+AreCrtcStates t d k index =
+    AreStates (old_crtc t d.commits k (object_id Crtc index)) (new_crtc t d.commits k (object_id Crtc index))

@@ -1,6 +1,6 @@
 -- What the tails of commits still need, as contracts see it. From: `drm_atomic_helper.c`, drm_atomic_helper_commit_tail: the
 -- planes and CRTCs of a commit are written, its CRTCs are flushed, it is done, and it is cleaned up.
-use Rattle.std.specs.Prelude.{◌≡◌, ℕ, zero, suc, ◌+◌, ◌*◌, ◌^◌, ◌%◌, ◌<◌, ◌&&◌, not, nat_le, Bool, true, false, List, [], ◌∷◌, map, find, slice_index_or, if◌then◌else◌, bit_or, Option, Some, None}
+use Rattle.std.specs.Prelude.{◌≡◌, ℕ, zero, suc, ◌+◌, ◌*◌, ◌^◌, ◌%◌, ◌<◌, ◌&&◌, not, nat_le, Bool, true, false, List, [], ◌∷◌, find, slice_index_or, if◌then◌else◌, bit_or, Option, Some, None}
 use Rattle.std.specs.List.{range_with_len}
 use Rattle.std.specs.Option.{option_map, option_map_or}
 use Rattle.kms_model.specs.declared.objects.Kind.TheVariants.{Conn, Crtc, Plane}

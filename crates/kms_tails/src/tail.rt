@@ -4,9 +4,9 @@ ghost use Rattle.std.specs.Option.{option_map};
 ghost use Rattle.kms_model.specs.declared.objects.Kind.TheVariants.{Crtc, Plane};
 ghost use Rattle.kms_model.specs.Device.Masks.{has_bit};
 ghost use Rattle.kms_model.specs.Device.Objects.{object_id};
-ghost use Rattle.kms_model.specs.Machine.Commits.{commit_touches, is_all_flushed, is_all_latched, is_all_written, new_connector, new_crtc, new_plane, old_plane, out_fence_of};
+ghost use Rattle.kms_model.specs.Machine.Commits.{commit_touches, is_all_flushed, is_all_latched, is_all_written, new_connector, out_fence_of};
 ghost use Rattle.kms_model.specs.Machine.Steps.{next_flush, next_write};
-ghost use Rattle.kms_tails.specs.InStep.{AreStates, WhereverOf, old_crtc};
+ghost use Rattle.kms_tails.specs.InStep.{AreCrtcStates, ArePlaneStates, WhereverOf};
 ghost use Rattle.kms_tails.specs.Remaining.{connector_in, connector_of, count_below, first_tail, is_latch_left, next_flush_of, next_latch_of, next_write_of, on_after, steps_left};
 
 use crate::progress::{Progress, count_left, first_left, is_left, one_if};
@@ -101,7 +101,8 @@ impl Tail {
     /// Whether it has latched at all CRTCs that it names. (Kernel: `drm_atomic_helper_wait_for_flip_done`.)
     pub fn is_latched(&self) -> bool
         ensures left { result ≡ is_none (next_latch_of self.now) }
-        ensures machine { WhereverOf self.now (λ t d latches k. result ≡ is_all_latched t d latches k) }
+        ensures machine { WhereverOf self.now (λ t d latches k.
+            result ≡ is_all_latched t d latches k) }
     {
         first_left(self.checked.named, self.progress.latched, MAX_CRTCS).is_none()
     }
@@ -159,8 +160,8 @@ impl Tail {
         ensures state { result ≡ slice_index_or self.now.checked.states.planes index None }
         ensures there { has_bit self.now.checked.touched.planes index ≡ true
             → WhereverOf self.now (λ t d latches k. IsSome result) }
-        ensures machine { WhereverOf self.now (λ t d latches k. IfSome result (AreStates
-            (old_plane t d.commits k (object_id Plane index)) (new_plane t d.commits k (object_id Plane index)))) }
+        ensures machine { WhereverOf self.now (λ t d latches k.
+            IfSome result (ArePlaneStates t d k index)) }
     {
         self.checked.states.planes[index as usize]
     }
@@ -171,8 +172,8 @@ impl Tail {
         ensures state { result ≡ slice_index_or self.now.checked.states.crtcs index None }
         ensures there { has_bit self.now.checked.touched.crtcs index ≡ true
             → WhereverOf self.now (λ t d latches k. IsSome result) }
-        ensures machine { WhereverOf self.now (λ t d latches k. IfSome result (AreStates
-            (old_crtc t d.commits k (object_id Crtc index)) (new_crtc t d.commits k (object_id Crtc index)))) }
+        ensures machine { WhereverOf self.now (λ t d latches k.
+            IfSome result (AreCrtcStates t d k index)) }
     {
         self.checked.states.crtcs[index as usize]
     }
@@ -181,8 +182,10 @@ impl Tail {
     /// (Kernel: `struct drm_crtc_state`, `connector_mask`.)
     pub fn connector(&self, index: u32) -> u32
         requires { index < 4 }
-        ensures id { result ≡ connector_of (slice_index_or self.now.checked.states.crtcs index None) }
-        ensures machine { has_bit self.now.checked.touched.crtcs index ≡ true → WhereverOf self.now (λ t d latches k.
+        ensures id { result
+            ≡ connector_of (slice_index_or self.now.checked.states.crtcs index None) }
+        ensures machine { has_bit self.now.checked.touched.crtcs index ≡ true
+            → WhereverOf self.now (λ t d latches k.
             result ≡ new_connector t d.commits k (object_id Crtc index)) }
     {
         match self.checked.states.crtcs[index as usize] {
@@ -196,7 +199,8 @@ impl Tail {
     pub fn out_fence(&self, index: u32) -> Option<u32>
         requires { index < 4 }
         ensures id { result ≡ slice_index_or self.now.out_fences index None }
-        ensures machine { WhereverOf self.now (λ t d latches k. result ≡ out_fence_of t d.commits k (object_id Crtc index)) }
+        ensures machine { WhereverOf self.now (λ t d latches k.
+            result ≡ out_fence_of t d.commits k (object_id Crtc index)) }
     {
         self.out_fences[index as usize]
     }

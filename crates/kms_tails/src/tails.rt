@@ -8,7 +8,7 @@ ghost use Rattle.kms_model.specs.Machine.Commits.{commit_at};
 ghost use Rattle.kms_model.specs.Machine.State.{Commit, Marks, no_marks};
 ghost use Rattle.kms_model.specs.Stores.Tables.{AreBelow, IsRising, slot, slot_ids, value_with_id, without_id};
 ghost use Rattle.kms_tails.specs.declared.progress.Mark.TheVariants as mark;
-ghost use Rattle.kms_tails.specs.InStep.{AreTailsOf, HasRegisters, IsFirstFrom, IsKept, StandsAfter, StandsAfterLatch, StandsAfterSwap, StandsAlike, with_claimed, with_cleaned, with_done, with_flushed, with_written};
+ghost use Rattle.kms_tails.specs.InStep.{AreTailsOf, FindsFirst, HasRegisters, IsKept, StandsAfter, StandsAfterLatch, StandsAfterSwap, StandsAlike, with_claimed, with_cleaned, with_done, with_flushed, with_written};
 ghost use Rattle.kms_tails.specs.Remaining.{IsMark, TakesAll, TakesNone, TakesOne, all_left, first_from, first_tail, marked, no_tails, steps_left, wrote_mark};
 
 use crate::progress::{Mark, Progress};
@@ -33,7 +33,10 @@ impl Model for Tails {
 
     ghost Value = { Rooms Tail };
 
-    ghost view = { λ s. record { slots = s.slots.items; room = vec_capacity s.slots - vec_len s.slots } };
+    ghost view = { λ s. record {
+      slots = s.slots.items;
+      room = vec_capacity s.slots - vec_len s.slots;
+    } };
 
     ghost invariant = { λ s. IsRising s.slots.items };
 }
@@ -80,8 +83,8 @@ impl Tails {
             ++ slot commit (first_tail client request.now checked.now out_fences) ∷ []) }
         ensures room { OnOk result (self.old.room ≤ self.new.room + 1) }
         ensures left { OnOk result (all_left self.new.slots ≤ all_left self.old.slots + 31) }
-        ensures stands { OnOk result (StandsAfterSwap commit client request.now checked.now out_fences
-            self.old self.new) }
+        ensures stands { OnOk result
+            (StandsAfterSwap commit client request.now checked.now out_fences self.old self.new) }
         ensures there { 0 < self.old.room → IsOk result }
         ensures err { OnErr result (self.new ≡ self.old) }
     {
@@ -113,8 +116,7 @@ impl Tails {
     /// The least number, from one on, of a commit that is not cleaned.
     pub fn first_from(&self, from: u32) -> Option<u32>
         ensures number { result ≡ first_from self.now.slots from }
-        ensures machine { (t : Topology) (commits : List Commit) (marks : Marks) (latches : List Latch)
-            → AreTailsOf t commits marks latches self.now → IsFirstFrom marks (length commits) from result }
+        ensures machine { FindsFirst self.now from result }
     {
         let place = place_from(self.slots.as_slice(), from);
         match self.slots.get(place) {
@@ -153,7 +155,8 @@ impl Tails {
         requires { crtc < 4 }
         ensures marked { self.new ≡ marked self.old commit (mark.Flushed crtc) }
         ensures left { TakesOne commit (mark.Flushed crtc) self.old self.new }
-        ensures stands { StandsAfter commit self.old self.new (with_flushed commit (object_id Crtc crtc)) }
+        ensures stands { StandsAfter commit self.old self.new
+            (with_flushed commit (object_id Crtc crtc)) }
     {
         self.mark(commit, Mark::Flushed(crtc));
     }
@@ -218,7 +221,8 @@ fn place_from(slots: &[Slot<Tail>], id: u32) -> usize
     requires { IsRising slots.now }
     ensures bound { result ≤ length slots.now }
     ensures below { (k : ℕ) → k < result → slice_index (slot_ids slots.now) k < id }
-    ensures above { (k : ℕ) → result ≤ k → k < length slots.now → id ≤ slice_index (slot_ids slots.now) k }
+    ensures above { (k : ℕ) → result ≤ k → k < length slots.now
+        → id ≤ slice_index (slot_ids slots.now) k }
 {
     slots.partition_point(|slot| slot.id < id)
 }

@@ -10,19 +10,25 @@ const SECOND_CRTC: ObjId = ObjId(101);
 
 const PLANE: ObjId = ObjId(202);
 
-/// What was checked of a request that touches these CRTCs and planes, masks, and names these CRTCs. CRTC 0 has connector 3
-/// after it.
+/// What was checked of a request that touches these CRTCs and planes, masks, and names these CRTCs, which are off after it.
+/// CRTC 0 has connector 3 then.
 fn checked(crtcs: u32, planes: u32, named: u32) -> Checked {
+    checked_on(false, crtcs, planes, named)
+}
+
+/// The same of CRTCs that are all on, or all off, after it.
+fn checked_on(active: bool, crtcs: u32, planes: u32, named: u32) -> Checked {
     let off = CrtcState {
         active: false,
         mode: None,
         planes: 0,
         conns: 0,
     };
-    let mut states = [Some(Both { old: off, new: off }); 4];
+    let new = CrtcState { active, ..off };
+    let mut states = [Some(Both { old: off, new }); 4];
     states[0] = Some(Both {
         old: off,
-        new: CrtcState { conns: 0x28, ..off },
+        new: CrtcState { conns: 0x28, ..new },
     });
     let nothing = Rect {
         x: 0,
@@ -70,8 +76,8 @@ fn request(rt: &impl AllocGlobal) -> Request {
     }
 }
 
-/// What is left of a commit: its next write and its next flush, and whether it has latched everywhere.
-fn left(tails: &Tails, commit: u32) -> Option<(Option<ObjId>, Option<u32>, bool)> {
+/// What is next of a commit: its write and its flush, and whether it has latched everywhere.
+fn next(tails: &Tails, commit: u32) -> Option<(Option<ObjId>, Option<u32>, bool)> {
     let tail = tails.get(commit)?;
     Some((tail.next_write(), tail.next_flush(), tail.is_latched()))
 }
@@ -88,27 +94,27 @@ fn a_tail_goes_by_rising_ids(rt: HostRuntime) -> Result<(), Fail> {
         &checked(3, 4, 3),
         [None; 4],
     )?;
-    assert_eq!(rt; left(&tails, 4), Some((Some(CRTC), Some(0), false)));
+    assert_eq!(rt; next(&tails, 4), Some((Some(CRTC), Some(0), false)));
     tails.claim(4);
     tails.wrote(4, CRTC);
-    assert_eq!(rt; left(&tails, 4), Some((Some(SECOND_CRTC), Some(0), false)));
+    assert_eq!(rt; next(&tails, 4), Some((Some(SECOND_CRTC), Some(0), false)));
     tails.wrote(4, SECOND_CRTC);
-    assert_eq!(rt; left(&tails, 4), Some((Some(PLANE), Some(0), false)));
+    assert_eq!(rt; next(&tails, 4), Some((Some(PLANE), Some(0), false)));
     tails.wrote(4, PLANE);
     tails.flushed(4, 0);
-    assert_eq!(rt; left(&tails, 4), Some((None, Some(1), false)));
+    assert_eq!(rt; next(&tails, 4), Some((None, Some(1), false)));
     tails.latched(4, 0);
     tails.flushed(4, 1);
     tails.hw_done(4);
     assert_eq!(rt;
-        left(&tails, 4),
+        next(&tails, 4),
         Some((None, None, false)),
         "done is not latched"
     );
     tails.latched(4, 1);
-    assert_eq!(rt; left(&tails, 4), Some((None, None, true)));
+    assert_eq!(rt; next(&tails, 4), Some((None, None, true)));
     tails.remove(4);
-    assert_eq!(rt; left(&tails, 4), None);
+    assert_eq!(rt; next(&tails, 4), None);
     Ok(())
 }
 
@@ -171,5 +177,31 @@ fn a_tail_keeps_what_its_latches_need(rt: HostRuntime) -> Result<(), Fail> {
             latched: 0,
         }
     );
+    Ok(())
+}
+
+#[test]
+fn at_most_31_steps_are_left(rt: HostRuntime) -> Result<(), Fail> {
+    let mut tails = Tails::new(rt.alloc());
+    let all = checked_on(true, 15, 65535, 15);
+    tails.push(rt.alloc(), 0, 1, &request(&rt), &all, [None; 4])?;
+    tails.push(
+        rt.alloc(),
+        1,
+        1,
+        &request(&rt),
+        &checked(1, 4, 1),
+        [None; 4],
+    )?;
+    assert_eq!(rt; tails.get(0).ok_or("a tail")?.left(), 31);
+    assert_eq!(rt;
+        tails.get(1).ok_or("a tail")?.left(),
+        6,
+        "a CRTC that is off needs no latch"
+    );
+    tails.claim(0);
+    tails.claim(0);
+    tails.wrote(0, PLANE);
+    assert_eq!(rt; tails.get(0).ok_or("a tail")?.left(), 29);
     Ok(())
 }

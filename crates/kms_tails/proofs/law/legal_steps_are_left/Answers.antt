@@ -1,4 +1,3 @@
-use Rattle.std.proofs.Common.{◌<◌}
 use borrow.Author.Tests.{lt-ltb}
 use Rattle.kms_model.specs.declared.objects.Kind.TheVariants.{Crtc}
 use Rattle.kms_model.specs.Device.Objects.{count_of}

@@ -1,4 +1,4 @@
-use Rattle.std.proofs.Common.{arith, sym, rules}
+use Rattle.std.proofs.Common.{arith, sym}
 use Rattle.kms_tails.specs.Remaining.{is_left}
 use Rattle.kms_tails.proofs.Counts.{none_counted, one_counted, one_more_low}
 use Rattle.kms_tails.proofs.progress.count_left.Goals as goal

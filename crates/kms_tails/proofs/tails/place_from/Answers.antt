@@ -1,4 +1,4 @@
-use Rattle.std.proofs.Common.{rules, ltb, arith}
+use Rattle.std.proofs.Common.{rules, ltb}
 use Rattle.std.proofs.lemmas.List.Sorted.{IsPartitionPoint-from_clause, IsPartitionedBy-ltb}
 use Rattle.kms_tails.proofs.Places.{IsPlaceOf, below_place, from_place_on, ids_rise}
 use Rattle.kms_tails.proofs.tails.place_from.Goals as goal

@@ -1,4 +1,4 @@
-use Rattle.std.proofs.Common.{rules, ◌≡◌, ◌∙◌, Some, None}
+use Rattle.std.proofs.Common.{rules, ◌≡◌, ◌∙◌, Some}
 use Rattle.std.specs.Option.{option_map}
 use Rattle.kms_tails.specs.Remaining.{next_write_of}
 use Rattle.kms_tails.proofs.Queries.{write_is}

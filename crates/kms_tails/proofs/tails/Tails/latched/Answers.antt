@@ -1,4 +1,3 @@
-use Rattle.std.proofs.Common.{◌<◌, sym, subst}
 use Rattle.kms_model.specs.declared.runs.Latch.{Latch}
 use Rattle.kms_tails.proofs.InStepLemmas.{latched_stands}
 use Rattle.kms_tails.proofs.tails.Tails.latched.Goals as goal
