@@ -20,6 +20,7 @@ stands_beside s old new st clients same now stands = record {
   recorded = rw same.records stands.recorded;
   world = rw same.device stands.world;
   fences = rw same.device stands.fences;
+  fenced = rw same.device stands.fenced;
   queues = rw same.events stands.queues;
   tracker = rw (same.device, same.records) stands.tracker;
   registers = rw same.device stands.registers;

@@ -4,3 +4,4 @@ mod Beside
 mod Places
 mod Locking
 mod First
+mod Returned

@@ -1,8 +1,11 @@
 //! The machine: a display device with many clients, workers and vertical blankings.
 #![tactic(auto)]
 
+mod commands;
 mod contexts;
 mod core;
 mod logs;
+mod reading;
+mod records;
 
 pub use core::Core;
