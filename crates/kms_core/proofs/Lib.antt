@@ -5,3 +5,5 @@ mod Places
 mod Locking
 mod First
 mod Returned
+mod Recorded
+mod Delivered
