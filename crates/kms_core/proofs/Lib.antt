@@ -7,3 +7,6 @@ mod First
 mod Returned
 mod Recorded
 mod Delivered
+mod Fencing
+mod Executed
+mod Signalled

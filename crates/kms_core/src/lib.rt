@@ -5,6 +5,7 @@ mod commands;
 mod contexts;
 mod core;
 mod logs;
+mod making;
 mod reading;
 mod records;
 
