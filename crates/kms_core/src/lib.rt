@@ -6,6 +6,7 @@ mod contexts;
 mod core;
 mod logs;
 mod making;
+mod queries;
 mod reading;
 mod records;
 
