@@ -6,3 +6,9 @@ mod Stored
 mod Locking
 mod BackingOff
 mod First
+mod Returned
+mod Recorded
+mod Delivered
+mod Fencing
+mod Executed
+mod Signalled

@@ -3,3 +3,4 @@ pub mod Run
 pub mod Stands
 pub mod States
 pub mod Locks
+pub mod Calls
