@@ -2,3 +2,4 @@ pub mod Logs
 pub mod Run
 pub mod Stands
 pub mod Locks
+pub mod Decisions

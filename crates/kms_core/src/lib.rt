@@ -3,6 +3,8 @@
 
 mod contexts;
 mod core;
+mod deciding;
 mod logs;
 
 pub use core::Core;
+pub use deciding::Decided;
