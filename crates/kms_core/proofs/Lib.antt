@@ -4,3 +4,8 @@ mod Beside
 mod Places
 mod Locking
 mod First
+mod Answering
+mod Takers
+mod Fresh
+mod Verdicts
+mod Accepted

@@ -1,15 +1,20 @@
 //! Decisions on requests.
-ghost use Rattle.std.specs.Prelude.{◌≡◌, ◌<◌, ◌↔◌, IfOk, IsTrue};
+ghost use Rattle.std.specs.Prelude.{◌≡◌, ◌<◌, ◌↔◌, [], ◌∷◌, IfOk, IsTrue};
 ghost use Rattle.kms_model.specs.Device.World.{thing_labelled};
-ghost use Rattle.kms_model.specs.Request.Lookups.{look_of, lookups};
-ghost use Rattle.kms_core.specs.Decisions.{IsFirstStale, labels_of, looks_at, taker_at, taker_in};
-ghost use Rattle.kms_core.specs.Run.{machine};
+ghost use Rattle.kms_model.specs.Request.Lookups.{look_of, look_up, lookups};
+ghost use Rattle.kms_model.specs.declared.replies.Reply.TheVariants as reply;
+ghost use Rattle.kms_model.specs.declared.replies.Step.TheVariants as step;
+ghost use Rattle.kms_core.specs.declared.deciding.Decided.TheVariants as decided;
+ghost use Rattle.kms_core.specs.Decisions.{Decides, IsDecided, IsFirstStale, MayRefuse, MayTest};
+ghost use Rattle.kms_core.specs.Decisions.{labels_of, looks_at, steps_of, taker, taker_at, taker_in, world};
+ghost use Rattle.kms_core.specs.Run.{gains, if_ok, machine};
 ghost use Rattle.kms_clients.specs.Standing.{doing_in};
 
 use crate::core::Core;
 use kms_clients::Clients;
 use kms_model::{
-    Assign, Doing, Look, Lookups, MAX_CLIENTS, NoMemory, ObjId, Reply, Request, Ticket, Value,
+    Answered, Assign, Checked, Doing, Look, Lookups, MAX_CLIENTS, NoMemory, ObjId, Refusal, Reply,
+    Request, Step, Ticket, Value,
 };
 use kms_things::Things;
 use std::alloc::Global;
@@ -18,9 +23,13 @@ use std::alloc::Global;
 #[derive(Clone, Copy, Debug, PartialEq, Eq)]
 pub enum Decided {
     /// The request is decided, with this reply.
-    Done { reply: Reply },
+    Done {
+        reply: Reply,
+    },
     /// An accepted request is refused: there is no space for its events, or it does not wait and is busy.
-    Refused { reply: Reply },
+    Refused {
+        reply: Reply,
+    },
     /// A commit has to wait for one before it on a CRTC. Nothing changed.
     NotYet {
         /// The CRTC.
@@ -40,6 +49,7 @@ pub enum Decided {
 }
 
 /// A label that names something else than it did.
+#[derive(Clone, Copy, Debug)]
 pub(crate) struct Stale {
     pub(crate) label: u32,
     pub(crate) was: Look,
@@ -50,9 +60,91 @@ impl Core {
     /// For each label that a request names, what it names now. The only error is want of memory.
     pub fn lookups(&self, alloc: Global, request: &Request) -> Result<Lookups, NoMemory>
         ensures { IfOk result (λ found.
-            found ≡ lookups (machine self.now).device.world request.now) }
+            found ≡ lookups (world self.now) request.now) }
     {
         look_ups(alloc, &self.things, request.assigns.as_slice())
+    }
+
+    /// Refuses the request of the client whose context has a ticket and takes locks. `used` tells what the request's labels
+    /// named. `why` is the first of refusals 1 to 8 with that; or the first of refusals 9 to 24, as a check of present
+    /// states gives it, and then the context holds what the request touches. `Again` comes exactly where a label names
+    /// something else now, with the first. Want of memory leaves all as it was. (Kernel: `drm_atomic_check_only`.)
+    pub fn refuse(&mut self, t: Ticket, used: &Lookups, why: Refusal) -> Result<Decided, NoMemory>
+        requires { MayRefuse self.old t.0 used.now why }
+        ensures answer { IfOk result (IsDecided (look_up (world self.old)) used.now
+            (decided.Done (reply.Refused why))) }
+        ensures history { self.new ≡ gains self.old (if_ok result
+            (steps_of (taker (machine self.old) t.0)
+            (step.Refuse (taker (machine self.old) t.0)))) }
+    {
+        if let Some(stale) = first_stale(&self.things, used) {
+            return Ok(stale.again());
+        }
+        let client = taker(&self.clients, t);
+        let reply = Reply::Refused(why);
+        self.decide(client, Step::Refuse { client }, reply)?;
+        Ok(Decided::Done { reply })
+    }
+
+    /// Tells that the request of the client whose context has a ticket and takes locks would be accepted. It is tested
+    /// only. `used` tells what the request's labels named, `checked` is what a check gives with that and with present
+    /// states, and the context holds what the request touches. `Again` comes exactly where a label names something else
+    /// now, with the first. Nothing of the device changes. Want of memory leaves all as it was. (Kernel:
+    /// `drm_mode_atomic_ioctl`, `DRM_MODE_ATOMIC_TEST_ONLY`.)
+    pub fn test(
+        &mut self,
+        t: Ticket,
+        used: &Lookups,
+        checked: &Checked,
+    ) -> Result<Decided, NoMemory>
+        requires { MayTest self.old t.0 used.now checked.now }
+        ensures answer { IfOk result (IsDecided (look_up (world self.old)) used.now
+            (decided.Done reply.Tested)) }
+        ensures history { self.new ≡ gains self.old (if_ok result
+            (steps_of (taker (machine self.old) t.0)
+            (step.Test (taker (machine self.old) t.0)))) }
+    {
+        if let Some(stale) = first_stale(&self.things, used) {
+            return Ok(stale.again());
+        }
+        let client = taker(&self.clients, t);
+        self.decide(client, Step::Test { client }, Reply::Tested)?;
+        Ok(Decided::Done {
+            reply: Reply::Tested,
+        })
+    }
+
+    /// Decides a client's request by a step with a reply: it drops its locks and goes on to its next command.
+    fn decide(&mut self, client: u32, step: Step, reply: Reply) -> Result<(), NoMemory>
+        requires { Decides self.old client step reply }
+        ensures { self.new ≡ gains self.old (if_ok result (λ done. step ∷ [])) }
+    {
+        self.steps.make_room(1)?;
+        self.replies.make_room(1)?;
+        let command = self.clients.place(client).command;
+        let place = self.journal.as_slice().len() as u64;
+        self.steps.push(step);
+        self.replies.push(Answered {
+            client,
+            command,
+            place,
+            reply,
+        });
+        self.clients.decide(client);
+        Ok(())
+    }
+}
+
+impl Stale {
+    /// What is answered where it is the first.
+    fn again(self) -> Decided
+        ensures { result ≡ decided.Again self.label self.was self.now }
+    {
+        Decided::Again {
+            label: self.label,
+            was: self.was,
+            now: self.now,
+        }
     }
 }
 
