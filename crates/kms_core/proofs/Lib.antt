@@ -9,3 +9,4 @@ mod Takers
 mod Fresh
 mod Verdicts
 mod Accepted
+mod Lates

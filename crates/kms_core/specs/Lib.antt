@@ -3,3 +3,4 @@ pub mod Run
 pub mod Stands
 pub mod Locks
 pub mod Decisions
+pub mod Swaps

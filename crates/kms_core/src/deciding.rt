@@ -115,7 +115,7 @@ impl Core {
     }
 
     /// Decides a client's request by a step with a reply: it drops its locks and goes on to its next command.
-    fn decide(&mut self, client: u32, step: Step, reply: Reply) -> Result<(), NoMemory>
+    pub(crate) fn decide(&mut self, client: u32, step: Step, reply: Reply) -> Result<(), NoMemory>
         requires { Decides self.old client step reply }
         ensures { self.new ≡ gains self.old (if_ok result (λ done. step ∷ [])) }
     {

@@ -5,6 +5,7 @@ mod contexts;
 mod core;
 mod deciding;
 mod logs;
+mod swapping;
 
 pub use core::Core;
 pub use deciding::Decided;
