@@ -12,3 +12,9 @@ mod Delivered
 mod Fencing
 mod Executed
 mod Signalled
+mod Answering
+mod Takers
+mod Fresh
+mod Verdicts
+mod Accepted
+mod Lates

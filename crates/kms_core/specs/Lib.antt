@@ -4,3 +4,5 @@ pub mod Stands
 pub mod States
 pub mod Locks
 pub mod Calls
+pub mod Decisions
+pub mod Swaps

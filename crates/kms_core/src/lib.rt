@@ -4,12 +4,15 @@
 mod commands;
 mod contexts;
 mod core;
+mod deciding;
 mod logs;
 mod making;
 mod queries;
 mod reading;
 mod records;
 mod states;
+mod swapping;
 
 pub use contexts::Locked;
 pub use core::Core;
+pub use deciding::Decided;

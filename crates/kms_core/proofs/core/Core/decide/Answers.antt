@@ -1,0 +1,17 @@
+use Rattle.std.proofs.Common.{ap, length}
+use Rattle.kms_core.specs.Run.{machine}
+use Rattle.kms_core.proofs.Answering.{decided_stands, may_decide_as}
+use Rattle.kms_core.proofs.Insides.{run_of, stores_of}
+use Rattle.kms_core.proofs.core.Core.decide.Goals as goal
+
+pub decide-requires-clause-command : goal.decide-requires-clause-command
+decide-requires-clause-command c =
+    (may_decide_as (run_of c.self.inside) c.args.self.now (stores_of c.self.inside) c.args.client c.args.step c.args.reply c.self.invariant c.self.view_is c.requires).command_fits
+
+pub invariant_of-self-2 : goal.invariant_of-self-2
+invariant_of-self-2 c =
+    decided_stands (run_of c.self.inside) c.args.self.now (stores_of c.self.inside) c.args.client c.place-command.result.command (length c.as_slice.result.now) c.args.step c.args.reply
+    c.decide.new.self c.make_room-2.new.self c.push-2.new.self c.make_room.new.self.items c.push.new.self.items c.self.invariant c.self.view_is c.requires
+    (ap (λ p. p.command) c.place-command.ensures) (ap length c.as_slice.ensures)
+    c.in_ok-make_room.ensures.items c.push.ensures.items c.in_ok-make_room-2.ensures.items c.push-2.ensures.items
+    (c.decide.ensures (machine (run_of c.self.inside)) c.self.invariant.stores.clients)

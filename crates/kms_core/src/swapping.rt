@@ -1,0 +1,118 @@
+//! Requests that are committed.
+ghost use Rattle.std.specs.Prelude.{◌≡◌, ◌+◌, ◌*◌, ◌≤◌, ◌&&◌, nat_lt, length, IfOk, None, Some, if◌then◌else◌};
+ghost use Rattle.kms_laws.specs.TailsLeft.{one_if};
+ghost use Rattle.kms_model.specs.declared.replies.Reply.TheVariants as reply;
+ghost use Rattle.kms_model.specs.Request.Flags.{is_nonblock, wants_event};
+ghost use Rattle.kms_signal.specs.Queues.{space_used};
+ghost use Rattle.kms_track.specs.Tracking.{busy_of};
+ghost use Rattle.kms_core.specs.declared.deciding.Decided.TheVariants as decided;
+ghost use Rattle.kms_core.specs.Run.{gains, if_ok, machine};
+ghost use Rattle.kms_core.specs.Swaps.{busy_as, count_in, hindered_steps, late_told, or_answer};
+ghost use Rattle.kms_core.specs.Swaps.{IsReadyToCommit, MaySwapUnless, swap_answer};
+
+use crate::core::Core;
+use crate::deciding::Decided;
+use kms_model::{Checked, Mask, NoMemory, Reply, Step, has_bit};
+use kms_props::AtomicFlags;
+use kms_signal::{EVENT_BYTES, EVENT_SPACE, EventQueue};
+use kms_track::Tracker;
+
+impl Core {
+    /// Refuses an accepted request of a client, for want of space for its events or for being busy, or tells the first CRTC
+    /// at which its commit has to wait for another. None exactly where it may be committed. Nothing changes but where it is
+    /// refused.
+    fn hindered(
+        &mut self,
+        client: u32,
+        checked: &Checked,
+        flags: u32,
+    ) -> Result<Option<Decided>, NoMemory>
+        requires { IsReadyToCommit self.old client checked.now flags }
+        ensures answer { IfOk result (λ d. or_answer d
+            (decided.Done (reply.Commit (length (machine self.old).device.commits)))
+            ≡ swap_answer self.old client) }
+        ensures may { IfOk result (MaySwapUnless self.old client) }
+        ensures history { self.new ≡ gains self.old (if_ok result (hindered_steps client)) }
+    {
+        let queue = &self.queues[(client - 1) as usize];
+        if let Some(reply) = late_reply(queue, &self.tracker, checked, flags) {
+            self.decide(client, Step::Refuse { client }, reply)?;
+            return Ok(Some(Decided::Refused { reply }));
+        }
+        if let Some((object, commit)) = self.tracker.not_yet(checked.named) {
+            return Ok(Some(Decided::NotYet { object, commit }));
+        }
+        Ok(None)
+    }
+}
+
+/// Whether a request asks for events.
+fn wants_event(flags: u32) -> bool
+    ensures { result ≡ wants_event flags }
+{
+    AtomicFlags::of_request(flags).contains(AtomicFlags::PAGE_FLIP_EVENT)
+}
+
+/// Whether a request does not wait.
+fn is_nonblock(flags: u32) -> bool
+    ensures { result ≡ is_nonblock flags }
+{
+    AtomicFlags::of_request(flags).contains(AtomicFlags::NONBLOCK)
+}
+
+fn one_if(b: bool) -> u32
+    ensures one { result ≡ one_if b }
+    ensures most { result ≤ 1 }
+{
+    if b { 1 } else { 0 }
+}
+
+/// How many of the first four objects are in a set.
+fn count_in(mask: u32) -> u32
+    ensures count { result ≡ count_in mask }
+    ensures most { result ≤ 4 }
+{
+    one_if(has_bit(mask, 0))
+        + (one_if(has_bit(mask, 1)) + (one_if(has_bit(mask, 2)) + one_if(has_bit(mask, 3))))
+}
+
+/// The refusal for want of space for the events of a request that names so many CRTCs.
+fn space_reply(queue: &EventQueue, flags: u32, events: u32) -> Option<Reply>
+    requires events { events ≤ 4 }
+    requires few { queue.now.reserved + length queue.now.unread ≤ 128 }
+    ensures { result ≡ (if wants_event flags && nat_lt 4096 (space_used queue.now + 32 * events)
+        then Some (reply.Space (space_used queue.now)) else None) }
+{
+    let used = EVENT_BYTES * (queue.reserved() + queue.unread());
+    if wants_event(flags) && used + EVENT_BYTES * events > EVENT_SPACE {
+        Some(Reply::Space { used })
+    } else {
+        None
+    }
+}
+
+/// The refusal of a request that does not wait and touches an object that is busy.
+fn busy_reply(tracker: &Tracker, flags: u32, touched: &Mask) -> Option<Reply>
+    ensures { result ≡ (if is_nonblock flags then busy_as (busy_of tracker.now touched.now)
+        else None) }
+{
+    if !is_nonblock(flags) {
+        return None;
+    }
+    match tracker.busy(touched) {
+        Some((object, commit)) => Some(Reply::Busy { object, commit }),
+        None => None,
+    }
+}
+
+/// The refusal of an accepted request, if any: there is no space for its events in its client's queue, or it does not wait
+/// and is busy. (Kernel: `drm_event_reserve_init`, `drm_atomic_helper_setup_commit`.)
+fn late_reply(queue: &EventQueue, tracker: &Tracker, checked: &Checked, flags: u32) -> Option<Reply>
+    requires { queue.now.reserved + length queue.now.unread ≤ 128 }
+    ensures { result ≡ late_told queue.now tracker.now checked.now flags }
+{
+    match space_reply(queue, flags, count_in(checked.named)) {
+        Some(reply) => Some(reply),
+        None => busy_reply(tracker, flags, &checked.touched),
+    }
+}
