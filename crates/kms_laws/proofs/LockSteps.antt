@@ -146,7 +146,7 @@ back-asked (doing.Taking ticket) h = absurd (false≢true h)
 back-asked (doing.BackedOff ticket object) h = absurd (false≢true h)
 back-asked (doing.Returning k) h = absurd (false≢true h)
 
-contended-asked : (d : Doing) (object : ℕ) → contended d ≡ Some object → asked_of d ≡ Some object
+pub contended-asked : (d : Doing) (object : ℕ) → contended d ≡ Some object → asked_of d ≡ Some object
 contended-asked (doing.BackedOff ticket o) object e = e
 contended-asked doing.Idle object e = absurd cc
 contended-asked (doing.Taking ticket) object e = absurd cc
