@@ -269,7 +269,7 @@ module _ (s : Script) (formed : IsWellFormed s) (m : Machine) (n : ℕ) (C : Cou
       let d = one_unless-most m.stalled in
       omega (arith, commits, tails, weighed, c, d)
 
-module _ (s : Script) (formed : IsWellFormed s) (m : Machine) (n : ℕ) (C : Counted s n m) (step : Step) (l : legal s m step ≡ true) (m2 : Machine) (after : m2 ≡ next s m step) (n2 : ℕ) (C2 : Counted s n2 m2) where
+module _ (s : Script) (formed : IsWellFormed s) (m : Machine) (n : ℕ) (C : Counted s n m) (step : Step) (l : legal s m step ≡ true) (m2 : Machine) (after : m2 ≡ next s m step) (n2 : ℕ) (counted-after : Counted s n2 m2) where
   client-low : (client : ℕ) → IsIn client (client_numbers s) → 1 ≤ client
   client-low client is = range-above 1 (length s.clients) client is
 
@@ -288,7 +288,7 @@ module _ (s : Script) (formed : IsWellFormed s) (m : Machine) (n : ℕ) (C : Cou
       let a = ap (sum (tail_left s.topology m2) 0) e in
       let b = old_tails in
       let c = sum-last (tail_left s.topology m2) 0 (length m.device.commits) in
-      let d = tails_short s.topology m2 (0 + length m.device.commits) C2.facts.holds.tail.few in
+      let d = tails_short s.topology m2 (0 + length m.device.commits) counted-after.facts.holds.tail.few in
       omega (arith, a, b, c, d)
 
   tails-less : (k : ℕ) → k < length m.device.commits → commit_of_step m step ≡ Some k → length m2.device.commits ≡ length m.device.commits → all_tails s m2 + 1 ≤ all_tails s m
@@ -299,11 +299,11 @@ module _ (s : Script) (formed : IsWellFormed s) (m : Machine) (n : ℕ) (C : Cou
 
   pub falls-lower : Falls s m step m2 → left s m2 + 1 ≤ left s m
   falls-lower (Answers more commits) =
-      let a = done-bound s formed m2 n2 C2 in
+      let a = done-bound s formed m2 n2 counted-after in
       let less : done_left s m2 + 1 ≤ done_left s m = omega (arith, a, more) in
       let b = times-less (done_left s m2) (done_left s m) weight less in
       let c = tails-any commits in
-      let d = contexts-bound s formed m2 n2 C2 in
+      let d = contexts-bound s formed m2 n2 counted-after in
       let e = one_unless-most m2.stalled in
       omega (arith, b, c, d, e)
   falls-lower (Locks client more device records stalled own is_client) =

@@ -30,12 +30,12 @@ module _ (s : Script) (formed : IsWellFormed s) where
   later-lower : {a b : Progress} → Later s a b → IsRun s a → left s b.machine + length b.steps ≤ left s a.machine + length a.steps
   later-lower (Same e) R = let same = ap (λ (z : Progress). left s z.machine + length z.steps) e in omega (arith, same)
   later-lower {a} (More step l mv rest) R =
-      let R2 = run-does s a step R l in
+      let next-later = run-does s a step R l in
       let C = counted-run a R in
-      let C2 = counted-run (does s a step) R2 in
+      let counted-after = counted-run (does s a step) next-later in
       let less : left s (next s a.machine step) + 1 ≤ left s a.machine =
-      falls-lower s formed a.machine (length (reverse a.steps)) C step l (next s a.machine step) refl (length (reverse (does s a step).steps)) C2 (falls s a.machine (length (reverse a.steps)) C step l mv) in
-      let later = later-lower rest R2 in
+      falls-lower s formed a.machine (length (reverse a.steps)) C step l (next s a.machine step) refl (length (reverse (does s a step).steps)) counted-after (falls s a.machine (length (reverse a.steps)) C step l mv) in
+      let later = later-lower rest next-later in
       omega (arith, less, later)
 
   -- a round with a step leaves less to do
