@@ -10,8 +10,8 @@ use Rattle.kms_model.specs.Machine.Histories.{at, is_history}
 use Rattle.kms_model.specs.Machine.State.{doing_at, holder_at}
 use Rattle.kms_model.specs.Machine.Steps.{is_taking, must_back_off, returning_of}
 use Rattle.kms_model.proofs.Items.{IsIn, list_any-has}
-use Rattle.kms_laws.specs.Laws.{ContextsStand, has_context}
-use Rattle.kms_laws.proofs.Contexts.{has_ticket, may_hold}
+use Rattle.kms_laws.specs.Laws.{ContextsStand}
+use Rattle.kms_laws.proofs.Contexts.{may_hold}
 use Rattle.kms_laws.proofs.LockSteps.{contended-asked}
 use Rattle.kms_laws.proofs.NeverStuck.{history_facts}
 use Rattle.kms_laws.proofs.Steps.{IsPlainScript, value-is}
@@ -25,13 +25,6 @@ holder-is (doing.MustBackOff ticket object) h = refl
 holder-is doing.Idle h = absurd (false≢true h)
 holder-is (doing.BackedOff ticket object) h = absurd (false≢true h)
 holder-is (doing.Returning k) h = absurd (false≢true h)
-
-ticket-is : (d : Doing) → has_context d ≡ true → has_ticket d ≡ true
-ticket-is (doing.Taking ticket) h = refl
-ticket-is (doing.MustBackOff ticket object) h = refl
-ticket-is (doing.BackedOff ticket object) h = refl
-ticket-is doing.Idle h = absurd (false≢true h)
-ticket-is (doing.Returning k) h = absurd (false≢true h)
 
 returning-is : (d : Doing) (k : ℕ) → returning_of d ≡ Some k → d ≡ doing.Returning k
 returning-is (doing.Returning j) k e = (let same : j ≡ k = cc in ap doing.Returning same)
@@ -48,6 +41,6 @@ contexts-stand s h plain is =
       held = λ client object held. in-number (lockable s.topology) object (L.held_there object client (value-is client (holder_at m object) held));
       holders = λ client object held. holder-is (doing_at m client) (L.holders object client (value-is client (holder_at m object) held));
       taken_first = λ client object e. in-number (lockable s.topology) object (L.asked_there client object (contended-asked (doing_at m client) object e));
-      tickets = λ a b ta tb e. L.unique a b (ticket-is (doing_at m a) ta) (ticket-is (doing_at m b) tb) e;
+      tickets = λ a b ta tb e. L.unique a b ta tb e;
       commits = λ client k e. L.returning client k (returning-is (doing_at m client) k e);
     }

@@ -15,8 +15,9 @@ use Rattle.kms_model.specs.Machine.State.{Contexts, Machine, doing_at, has_value
 use Rattle.kms_model.specs.Machine.Steps.{contended, is_taking, must_back_off, ticket_of}
 use Rattle.kms_model.specs.Request.Sets.{obj_id}
 use Rattle.kms_model.proofs.Items.{IsIn}
+use Rattle.kms_laws.specs.Laws.{has_context}
 use Rattle.kms_laws.proofs.Basics.{read_other, read_same}
-use Rattle.kms_laws.proofs.Contexts.{doing_in, dropped-keeps, dropped-other, has_ticket, holder_in}
+use Rattle.kms_laws.proofs.Contexts.{doing_in, dropped-keeps, dropped-other, holder_in}
 use Rattle.kms_laws.proofs.Measure.{IsFreeOr, IsOwnStep, backoffs, is_blocked, is_older, phase, unheld}
 use Rattle.kms_laws.proofs.ShorterTails.{filter-most, one-fewer}
 
@@ -100,8 +101,8 @@ module _ (s : Script) (m : Machine) (client : ℕ) where
   take_step object io taking free =
       let t = taking-is (doing_at m client) taking in
       record {
-        ticket = ap has_ticket t.1;
-        still = ap has_ticket t.1;
+        ticket = ap has_context t.1;
+        still = ap has_context t.1;
         same_ticket = refl;
         others = λ a ne. refl;
         holders = λ o. locked_holders object free o;
@@ -125,8 +126,8 @@ module _ (s : Script) (m : Machine) (client : ℕ) where
       let blocked : is_blocked y (ticket_of (doing_at m client)) object ≡ true =
       ap (is_older y (ticket_of (doing_at m client))) held ∙ ap (λ z. nat_lt (ticket_of z) (ticket_of (doing_at m client))) (other d m.contexts.locks holder apart) ∙ older in
       record {
-        ticket = ap has_ticket t.1;
-        still = ap has_ticket (own d m.contexts.locks);
+        ticket = ap has_context t.1;
+        still = ap has_context (own d m.contexts.locks);
         same_ticket = ap ticket_of (own d m.contexts.locks);
         others = λ a ne. other d m.contexts.locks a ne;
         holders = λ o. inl refl;
@@ -169,8 +170,8 @@ module _ (s : Script) (m : Machine) (client : ℕ) where
       (λ a. ⊎_elim (λ same. subst (λ z. ticket_of (doing_in y z) ≡ ticket_of (doing_in m.contexts z)) same (ap ticket_of now ∙ sym own_ticket)) (λ ne. ap ticket_of (other (backed_off (doing_at m client)) locks a ne)) (cases_eq client a)) in
       let b = blocked_still y q.ticket.0 q.object.0 tickets own_ticket (dropped_holders q.object.0) in
       record {
-        ticket = ap has_ticket q.is;
-        still = ap has_ticket now;
+        ticket = ap has_context q.is;
+        still = ap has_context now;
         same_ticket = tickets client;
         others = λ a ne. other (backed_off (doing_at m client)) locks a ne;
         holders = dropped_holders;
@@ -223,8 +224,8 @@ module _ (s : Script) (m : Machine) (client : ℕ) where
       let d : Doing = doing.Taking (record { 0 = ticket_of (doing_at m client) }) in
       let y : Contexts = placed d ((object, Some client) ∷ m.contexts.locks) in
       record {
-        ticket = ap has_ticket q.is;
-        still = ap has_ticket (own d locks);
+        ticket = ap has_context q.is;
+        still = ap has_context (own d locks);
         same_ticket = ap ticket_of (own d locks);
         others = λ a ne. other d locks a ne;
         holders = λ o. locked_holders object free o;

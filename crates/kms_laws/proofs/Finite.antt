@@ -25,11 +25,11 @@ use Rattle.kms_model.specs.Request.Sets.{obj_id}
 use Rattle.kms_model.specs.Script.WellFormed.{IsWellFormed}
 use Rattle.kms_model.proofs.Items.{IsIn}
 use Rattle.kms_model.proofs.TouchedLemmas.{few_objects}
+use Rattle.kms_laws.specs.Laws.{has_context}
 use Rattle.kms_laws.specs.Ends.{is_moving}
 use Rattle.kms_laws.specs.TailsLeft.{LeavesLess, commit_of_step, steps_left, tail_left}
 use Rattle.kms_laws.proofs.Basics.{pair_now, read_other, read_same}
 use Rattle.kms_laws.proofs.ClientProgress.{with_request}
-use Rattle.kms_laws.proofs.Contexts.{has_ticket}
 use Rattle.kms_laws.proofs.EachStep.{Carries, by_bool, by_fence, by_latch, by_two, each_step, latched_as, made_as, swapped_as}
 use Rattle.kms_laws.proofs.Falling.{back_step, meet_step, relock_step, take_step}
 use Rattle.kms_laws.proofs.Fitting.{back-busy, contended-busy, idle-busy, returning-busy, taking-busy}
@@ -101,7 +101,7 @@ module _ (s : Script) (m : Machine) (n : ℕ) (C : Counted s n m) where
   unfolding may_lock
   lock-older client object holder h held = sym (ap (is_free_or_older m (ticket_of (doing_at m client))) held) ∙ (and_parts (taking_at s m client (λ r. reaches s.topology m.device.world r object)) _ h).1
 
-  ticket-client : (client : ℕ) → has_ticket (doing_at m client) ≡ true → IsIn client (client_numbers s)
+  ticket-client : (client : ℕ) → has_context (doing_at m client) ≡ true → IsIn client (client_numbers s)
   ticket-client client t = let q = C.facts.locks.atomic client t in with_request s m client q.request q.at
 
   -- a client that goes on with its context
@@ -243,7 +243,7 @@ module _ (s : Script) (formed : IsWellFormed s) (m : Machine) (n : ℕ) (C : Cou
       sum-most (λ c. done_at (place_of m.contexts.places c)) 12291 1 (length s.clients)
       (λ c. let a = begun-bound c in let b = answered-busy (place_of m.contexts.places c).doing in omega (arith, a, b))
 
-  ticket-bound : (client : ℕ) → has_ticket (doing_at m client) ≡ true → ticket_of (doing_at m client) < most_tickets s
+  ticket-bound : (client : ℕ) → has_context (doing_at m client) ≡ true → ticket_of (doing_at m client) < most_tickets s
   ticket-bound client t =
       let a = C.facts.locks.below client t in
       let b = C.sizes.places_stand.tickets_few in

@@ -17,9 +17,10 @@ use Rattle.kms_model.specs.Machine.State.{Contexts, has_value}
 use Rattle.kms_model.specs.Machine.Steps.{ticket_of}
 use Rattle.kms_model.proofs.Items.{IsIn, filter-same}
 use Rattle.kms_model.proofs.TouchedLemmas.{HasFewObjects}
+use Rattle.kms_laws.specs.Laws.{has_context}
 use Rattle.kms_laws.specs.TailsLeft.{one_if}
 use Rattle.kms_laws.proofs.Basics.{both_bools}
-use Rattle.kms_laws.proofs.Contexts.{LocksStand, doing_in, has_ticket, holder_in}
+use Rattle.kms_laws.proofs.Contexts.{LocksStand, doing_in, holder_in}
 use Rattle.kms_laws.proofs.Quiet.{find-fails}
 use Rattle.kms_laws.proofs.ShorterTails.{filter-most}
 use Rattle.kms_laws.proofs.Sizes.{sum, sum-most, sum-one}
@@ -113,7 +114,7 @@ backoffs-small x doing.Idle = omega arith
 backoffs-small x (doing.Returning k) = omega arith
 
 abbrev pub has_this : Contexts → ℕ → ℕ → Bool
-has_this x ticket client = has_ticket (doing_in x client) && (ticket_of (doing_in x client) == ticket)
+has_this x ticket client = has_context (doing_in x client) && (ticket_of (doing_in x client) == ticket)
 
 -- the client that has a ticket
 abbrev pub with_ticket : Script → Contexts → ℕ → Option ℕ
@@ -192,7 +193,7 @@ hits-found x [] n = none n
     none (suc n) = let a = none n in omega (arith, a)
 hits-found x (c ∷ cs) n =
     let a = hits-or (λ k. has_this x k c) (λ k. is_some (find (has_this x k) cs)) (λ k. is_some (find (has_this x k) (c ∷ cs))) n (λ k. by_test (has_this x k c) (find (has_this x k) cs)) in
-    let b = hits-and (has_ticket (doing_in x c)) (λ k. ticket_of (doing_in x c) == k) n in
+    let b = hits-and (has_context (doing_in x c)) (λ k. ticket_of (doing_in x c) == k) n in
     let d = hits-once (ticket_of (doing_in x c)) n in
     let e = hits-found x cs n in
     omega (arith, a, b, d, e)
@@ -243,8 +244,8 @@ pub record IsTaking (x y : Contexts) (client : ℕ) : Type 0 where
 
 -- what a step of one client's context leaves of all contexts
 pub record IsOwnStep (s : Script) (x y : Contexts) (client : ℕ) : Type 0 where
-  pub ticket : has_ticket (doing_in x client) ≡ true
-  pub still : has_ticket (doing_in y client) ≡ true
+  pub ticket : has_context (doing_in x client) ≡ true
+  pub still : has_context (doing_in y client) ≡ true
   pub same_ticket : ticket_of (doing_in y client) ≡ ticket_of (doing_in x client)
   pub others : (a : ℕ) → (client ≡ a → ⊥) → doing_in y a ≡ doing_in x a
   pub holders : (o : ℕ) → (holder_in y o ≡ holder_in x o) ⊎ (IsFreeOr client (holder_in x o) × IsFreeOr client (holder_in y o))
@@ -255,8 +256,8 @@ module _ (s : Script) (x y : Contexts) (n client : ℕ) (L : LocksStand s x n) (
   all_tickets : (a : ℕ) → ticket_of (doing_in y a) ≡ ticket_of (doing_in x a)
   all_tickets a = ⊎_elim (λ same. subst (λ z. ticket_of (doing_in y z) ≡ ticket_of (doing_in x z)) same S.same_ticket) (λ ne. ap ticket_of (S.others a ne)) (cases_eq client a)
 
-  all_have : (a : ℕ) → has_ticket (doing_in y a) ≡ has_ticket (doing_in x a)
-  all_have a = ⊎_elim (λ same. subst (λ z. has_ticket (doing_in y z) ≡ has_ticket (doing_in x z)) same (S.still ∙ sym S.ticket)) (λ ne. ap has_ticket (S.others a ne)) (cases_eq client a)
+  all_have : (a : ℕ) → has_context (doing_in y a) ≡ has_context (doing_in x a)
+  all_have a = ⊎_elim (λ same. subst (λ z. has_context (doing_in y z) ≡ has_context (doing_in x z)) same (S.still ∙ sym S.ticket)) (λ ne. ap has_context (S.others a ne)) (cases_eq client a)
 
   found_same : (ticket : ℕ) → find (has_this y ticket) (client_numbers s) ≡ find (has_this x ticket) (client_numbers s)
   found_same ticket = find-same (has_this y ticket) (has_this x ticket) (client_numbers s) (λ a. (λ i. all_have a i && (all_tickets a i == ticket)))
@@ -304,7 +305,7 @@ module _ (s : Script) (x y : Contexts) (n client : ℕ) (L : LocksStand s x n) (
       go None e = refl
       go (Some a) e =
           let has = find-holds (has_this x ticket) (client_numbers s) a e in
-          let is : ticket_of (doing_in x a) ≡ ticket = eqb-true (ticket_of (doing_in x a)) ticket (and_parts (has_ticket (doing_in x a)) _ has).1 in
+          let is : ticket_of (doing_in x a) ≡ ticket = eqb-true (ticket_of (doing_in x a)) ticket (and_parts (has_context (doing_in x a)) _ has).1 in
           let ne : client ≡ a → ⊥ = (λ same. let z = ap (λ b. ticket_of (doing_in x b)) same in absurd (omega (arith, z, is, older))) in
           ap (λ z. n * 3 + z) (ap (backoffs y) (S.others a ne) ∙ backoffs_same a (doing_in x a) refl (omega (arith, is, older)))
 
@@ -317,7 +318,7 @@ module _ (s : Script) (x y : Contexts) (n client : ℕ) (L : LocksStand s x n) (
       go : (o : Option ℕ) → find (has_this x (ticket_of (doing_in x client))) (client_numbers s) ≡ o → o ≡ Some client
       go None e = absurd (both_bools _ own (find-fails (has_this x (ticket_of (doing_in x client))) (client_numbers s) client e is_client))
       go (Some a) e =
-          let has = and_parts (has_ticket (doing_in x a)) _ (find-holds (has_this x (ticket_of (doing_in x client))) (client_numbers s) a e) in
+          let has = and_parts (has_context (doing_in x a)) _ (find-holds (has_this x (ticket_of (doing_in x client))) (client_numbers s) a e) in
           ap Some (L.unique a client has.0 S.ticket (eqb-true (ticket_of (doing_in x a)) (ticket_of (doing_in x client)) has.1))
 
   -- A backoff: the client's digit is less, those of older ones are the same.
