@@ -26,14 +26,19 @@ use Rattle.kms_model.specs.Request.Reach.{reaches}
 use Rattle.kms_model.specs.Request.Touched.{touches}
 use Rattle.kms_model.specs.Request.Verdict.{early_in, late_in, verdict}
 use Rattle.kms_model.proofs.Items.{IsIn, IsObject, ids-in, list_all-from, or_else-nones}
+<<<<<<< HEAD
 use Rattle.kms_model.proofs.ReachLaw.{reach-is}
+=======
+use Rattle.kms_laws.specs.Laws.{has_context}
+use Rattle.kms_request.proofs.ReachLaw.{reach-is}
+>>>>>>> ed08cc838cca104bffdbe66a5f11f87cd05b7763
 use Rattle.kms_laws.proofs.Basics.{both_bools, in_either, in_left, in_right}
 use Rattle.kms_laws.proofs.EventCounts.{counts-same}
 use Rattle.kms_laws.proofs.EventsKept.{awaited}
 use Rattle.kms_laws.proofs.EventsOnce.{HasEvents}
 use Rattle.kms_laws.proofs.Headlines.{range-in}
 use Rattle.kms_laws.proofs.LockSteps.{HasLocks}
-use Rattle.kms_laws.proofs.Contexts.{has_ticket, held-ticket, may_hold}
+use Rattle.kms_laws.proofs.Contexts.{held-ticket, may_hold}
 use Rattle.kms_laws.proofs.Steps.{Holds, request-is}
 use Rattle.kms_laws.proofs.TailProgress.{CanMove, each_in, find-found, in_flat, not_all}
 
@@ -182,13 +187,13 @@ module _ (s : Script) (m : Machine) where
         go (doing.BackedOff ticket object) e = absurd (false≢true e)
         go (doing.Returning k) e = absurd (false≢true e)
 
-    ticketed : (h : ℕ) → may_hold (doing_at m h) ≡ true → has_ticket (doing_at m h) ≡ true
+    ticketed : (h : ℕ) → may_hold (doing_at m h) ≡ true → has_context (doing_at m h) ≡ true
     ticketed h free = held-ticket (doing_at m h) free
 
-    taking-ticket : (h : ℕ) → is_taking (doing_at m h) ≡ true → has_ticket (doing_at m h) ≡ true
+    taking-ticket : (h : ℕ) → is_taking (doing_at m h) ≡ true → has_context (doing_at m h) ≡ true
     taking-ticket h taking = go (doing_at m h) taking
       where
-        go : (d : Doing) → is_taking d ≡ true → has_ticket d ≡ true
+        go : (d : Doing) → is_taking d ≡ true → has_context d ≡ true
         go (doing.Taking ticket) e = refl
         go (doing.MustBackOff ticket object) e = refl
         go doing.Idle e = absurd (false≢true e)

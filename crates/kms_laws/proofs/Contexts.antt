@@ -14,14 +14,8 @@ use Rattle.kms_model.specs.Machine.Registers.{read}
 use Rattle.kms_model.specs.Machine.State.{Contexts, has_value, request_in}
 use Rattle.kms_model.specs.Machine.Steps.{ticket_of}
 use Rattle.kms_model.proofs.Items.{IsIn}
+use Rattle.kms_laws.specs.Laws.{has_context}
 use Rattle.kms_laws.proofs.Basics.{both_bools, read_other, read_same}
-
-abbrev pub has_ticket : Doing → Bool
-has_ticket (doing.Taking ticket) = true
-has_ticket (doing.MustBackOff ticket object) = true
-has_ticket (doing.BackedOff ticket object) = true
-has_ticket doing.Idle = false
-has_ticket (doing.Returning k) = false
 
 abbrev pub may_hold : Doing → Bool
 may_hold (doing.Taking ticket) = true
@@ -31,7 +25,7 @@ may_hold doing.Idle = false
 may_hold (doing.Returning k) = false
 
 -- who may hold locks has a ticket
-pub held-ticket : (d : Doing) → may_hold d ≡ true → has_ticket d ≡ true
+pub held-ticket : (d : Doing) → may_hold d ≡ true → has_context d ≡ true
 held-ticket (doing.Taking ticket) h = refl
 held-ticket (doing.MustBackOff ticket object) h = refl
 held-ticket doing.Idle h = absurd (false≢true h)
@@ -65,9 +59,9 @@ asked_of (doing.Returning k) = None
 
 pub record LocksStand (s : Script) (x : Contexts) (n : ℕ) : Type 0 where
   pub holders : (object client : ℕ) → holder_in x object ≡ Some client → may_hold (doing_in x client) ≡ true
-  pub unique : (a b : ℕ) → has_ticket (doing_in x a) ≡ true → has_ticket (doing_in x b) ≡ true → ticket_of (doing_in x a) ≡ ticket_of (doing_in x b) → a ≡ b
-  pub below : (a : ℕ) → has_ticket (doing_in x a) ≡ true → ticket_of (doing_in x a) < x.tickets
-  pub atomic : (a : ℕ) → has_ticket (doing_in x a) ≡ true → HasRequest s a (place_in x a)
+  pub unique : (a b : ℕ) → has_context (doing_in x a) ≡ true → has_context (doing_in x b) ≡ true → ticket_of (doing_in x a) ≡ ticket_of (doing_in x b) → a ≡ b
+  pub below : (a : ℕ) → has_context (doing_in x a) ≡ true → ticket_of (doing_in x a) < x.tickets
+  pub atomic : (a : ℕ) → has_context (doing_in x a) ≡ true → HasRequest s a (place_in x a)
   pub returning : (a k : ℕ) → doing_in x a ≡ doing.Returning k → k < n
   pub held_there : (object client : ℕ) → holder_in x object ≡ Some client → IsIn object (lockable s.topology)
   pub asked_there : (a object : ℕ) → asked_of (doing_in x a) ≡ Some object → IsIn object (lockable s.topology)
@@ -75,13 +69,13 @@ pub record LocksStand (s : Script) (x : Contexts) (n : ℕ) : Type 0 where
 -- what a new place of a client owes
 pub record MayGo (s : Script) (x : Contexts) (client : ℕ) (place : Place) (tickets : ℕ) : Type 0 where
   pub low : ticket_of place.doing < tickets
-  pub own : (a : ℕ) → (client ≡ a → ⊥) → has_ticket (doing_in x a) ≡ true → ticket_of (doing_in x a) ≡ ticket_of place.doing → ⊥
+  pub own : (a : ℕ) → (client ≡ a → ⊥) → has_context (doing_in x a) ≡ true → ticket_of (doing_in x a) ≡ ticket_of place.doing → ⊥
   pub request : HasRequest s client place
 
 module _ (s : Script) (x : Contexts) (n : ℕ) (L : LocksStand s x n) (client : ℕ) (place : Place) (locks : List (ℕ × Option ℕ)) (tickets m : ℕ) (le_tickets : x.tickets ≤ tickets) (le_n : n ≤ m)
     (here : (object : ℕ) → read None locks object ≡ Some client → may_hold place.doing ≡ true)
     (there : (object a : ℕ) → (client ≡ a → ⊥) → read None locks object ≡ Some a → holder_in x object ≡ Some a)
-    (go : has_ticket place.doing ≡ true → MayGo s x client place tickets)
+    (go : has_context place.doing ≡ true → MayGo s x client place tickets)
     (back : (k : ℕ) → place.doing ≡ doing.Returning k → k < m)
     (held_own : (object : ℕ) → read None locks object ≡ Some client → IsIn object (lockable s.topology))
     (asked_own : (object : ℕ) → asked_of place.doing ≡ Some object → IsIn object (lockable s.topology)) where
@@ -113,25 +107,25 @@ module _ (s : Script) (x : Contexts) (n : ℕ) (L : LocksStand s x n) (client : 
     holders = λ object a h. by_client (λ b p. read None locks object ≡ Some b → may_hold p.doing ≡ true) (λ e. here object e) (λ b ne e. L.holders object b (there object b ne e)) a h;
     unique = λ a b ta tb e.
         ⊎_elim
-        (λ (sa : client ≡ a). ⊎_elim (λ (sb : client ≡ b). sym sa ∙ sb) (λ nb. absurd (apart b nb tb (sym (ap (λ z. ticket_of (P z).doing) sa ∙ e)) (ap (λ z. has_ticket (P z).doing) sa ∙ ta))) (cases_eq client b))
+        (λ (sa : client ≡ a). ⊎_elim (λ (sb : client ≡ b). sym sa ∙ sb) (λ nb. absurd (apart b nb tb (sym (ap (λ z. ticket_of (P z).doing) sa ∙ e)) (ap (λ z. has_context (P z).doing) sa ∙ ta))) (cases_eq client b))
         (λ na.
         ⊎_elim
-        (λ (sb : client ≡ b). absurd (apart a na ta (e ∙ ap (λ z. ticket_of (P z).doing) (sym sb)) (ap (λ z. has_ticket (P z).doing) sb ∙ tb)))
+        (λ (sb : client ≡ b). absurd (apart a na ta (e ∙ ap (λ z. ticket_of (P z).doing) (sym sb)) (ap (λ z. has_context (P z).doing) sb ∙ tb)))
         (λ nb.
-        L.unique a b (ap (λ (z : Place). has_ticket z.doing) (sym (at_other a na)) ∙ ta) (ap (λ (z : Place). has_ticket z.doing) (sym (at_other b nb)) ∙ tb)
+        L.unique a b (ap (λ (z : Place). has_context z.doing) (sym (at_other a na)) ∙ ta) (ap (λ (z : Place). has_context z.doing) (sym (at_other b nb)) ∙ tb)
         (ap (λ (z : Place). ticket_of z.doing) (sym (at_other a na)) ∙ e ∙ ap (λ (z : Place). ticket_of z.doing) (at_other b nb)))
         (cases_eq client b))
         (cases_eq client a);
-    below = λ a. by_client (λ b p. has_ticket p.doing ≡ true → ticket_of p.doing < tickets) (λ t. (go t).low) (λ b ne t. let l = L.below b t in omega arith) a;
-    atomic = λ a. by_client (λ b p. has_ticket p.doing ≡ true → HasRequest s b p) (λ t. (go t).request) (λ b ne t. L.atomic b t) a;
+    below = λ a. by_client (λ b p. has_context p.doing ≡ true → ticket_of p.doing < tickets) (λ t. (go t).low) (λ b ne t. let l = L.below b t in omega arith) a;
+    atomic = λ a. by_client (λ b p. has_context p.doing ≡ true → HasRequest s b p) (λ t. (go t).request) (λ b ne t. L.atomic b t) a;
     returning = λ a k. by_client (λ b p. p.doing ≡ doing.Returning k → k < m) (λ e. back k e) (λ b ne e. let l = L.returning b k e in omega arith) a;
     held_there = λ object a h. by_client (λ b p. read None locks object ≡ Some b → IsIn object (lockable s.topology)) (λ e. held_own object e) (λ b ne e. L.held_there object b (there object b ne e)) a h;
     asked_there = λ a object. by_client (λ b p. asked_of p.doing ≡ Some object → IsIn object (lockable s.topology)) (λ e. asked_own object e) (λ b ne e. L.asked_there b object e) a;
   }
     where
-      apart : (b : ℕ) → (client ≡ b → ⊥) → has_ticket (P b).doing ≡ true → ticket_of (P b).doing ≡ ticket_of (P client).doing → has_ticket (P client).doing ≡ true → ⊥
+      apart : (b : ℕ) → (client ≡ b → ⊥) → has_context (P b).doing ≡ true → ticket_of (P b).doing ≡ ticket_of (P client).doing → has_context (P client).doing ≡ true → ⊥
       apart b ne t e own =
-          (go (ap (λ (z : Place). has_ticket z.doing) (sym at_own) ∙ own)).own b ne (ap (λ (z : Place). has_ticket z.doing) (sym (at_other b ne)) ∙ t)
+          (go (ap (λ (z : Place). has_context z.doing) (sym at_own) ∙ own)).own b ne (ap (λ (z : Place). has_context z.doing) (sym (at_other b ne)) ∙ t)
           (ap (λ (z : Place). ticket_of z.doing) (sym (at_other b ne)) ∙ e ∙ ap (λ (z : Place). ticket_of z.doing) at_own)
 
 -- Locks that are dropped

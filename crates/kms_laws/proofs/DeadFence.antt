@@ -2,11 +2,13 @@
 use Rattle.std.proofs.Common.{◌≡◌, ℕ, zero, suc, ◌+◌, ◌<◌, ◌≤◌, List, [], ◌∷◌, length, Bool, true, false, not, Option, Some, None, refl, sym, ap, ◌∙◌, arith, inl, inr, ⊎_elim}
 use Rattle.std.specs.List.{list_all, range_with_len}
 use Rattle.std.proofs.lemmas.Bool.{and_cases, and_from, and_parts, cases_eq, cases_lt, cond-true, cond-false, false_from_ne_true, false≢true}
+use Rattle.kms_model.specs.declared.objects.Kind.TheVariants.{Crtc}
 use Rattle.kms_model.specs.declared.objects.Topology.{Topology}
 use Rattle.kms_model.specs.declared.runs.Latch.{Latch}
 use Rattle.kms_model.specs.declared.scripts.Script.{Script}
 use Rattle.kms_model.specs.declared.worlds.Thing.{Thing}
 use Rattle.kms_model.specs.Device.Execution.{is_made_fence}
+use Rattle.kms_model.specs.Device.Objects.{index_of, object_id}
 use Rattle.kms_model.specs.Device.World.{thing_with_id}
 use Rattle.kms_model.specs.Firsts.{first_some, or_else}
 use Rattle.kms_model.specs.Machine.Commits.{has_number, is_claimed, out_fence_of, waited_fences}
@@ -27,6 +29,13 @@ use Rattle.kms_laws.proofs.Traversal.{IsKept, IsLatch, TailOf, commit_of, latch_
 
 -- A latch signals its out-fence
 
+-- the out-fence of the latch itself
+own_fence : (t : Topology) (d : DeviceState) (ls : List Latch) (k c : ℕ) → TailOf t d ls → IsLatch t d ls k c → (o : Option ℕ) → out_fence_of t d.commits k c ≡ o
+    → (j f id : ℕ) → out_fence_of t d.commits j f ≡ Some id → (k ≡ j) × (object_id Crtc (index_of c) ≡ f) → o ≡ Some id
+own_fence t d ls k c T found o e j f id out same =
+    let at_c = sym (crtc_index t c T.few found.is_crtc) ∙ same.1 in
+    sym e ∙ (λ i. out_fence_of t d.commits (same.0 i) (at_c i)) ∙ out
+
 latched_fences : (t : Topology) (d : DeviceState) (ls : List Latch) (k c count : ℕ) → TailOf t d ls → IsLatch t d ls k c → FencesStand t d ls → (o : Option ℕ) → out_fence_of t d.commits k c ≡ o
     → FencesStand t (with_signal (record d { live = latched_registers t d.shadow d.live c }) o) (latch_of t d k c count ∷ ls)
 latched_fences t d ls k c count T found F None e = record {
@@ -35,8 +44,7 @@ latched_fences t d ls k c count T found F None e = record {
   signalled = λ j f id l out y.
       ⊎_elim
       (λ same.
-      let at_c = sym (crtc_index t c T.few found.is_crtc) ∙ same.1 in
-      let none : None ≡ Some id = sym e ∙ (λ i. out_fence_of t d.commits (same.0 i) (at_c i)) ∙ out in
+      let none = own_fence t d ls k c T found None e j f id out same in
       absurd cc)
       (λ old. F.signalled j f id l out old)
       (latch_cases (latch_of t d k c count) ls j f y);
@@ -47,8 +55,7 @@ latched_fences t d ls k c count T found F (Some fence) e = record {
   signalled = λ j f id l out y.
       ⊎_elim
       (λ same.
-      let at_c = sym (crtc_index t c T.few found.is_crtc) ∙ same.1 in
-      let is : Some fence ≡ Some id = sym e ∙ (λ i. out_fence_of t d.commits (same.0 i) (at_c i)) ∙ out in
+      let is = own_fence t d ls k c T found (Some fence) e j f id out same in
       let fi : fence ≡ id = cc in
       ap (has_number (fence ∷ d.signalled)) (sym fi) ∙ number_now fence d.signalled)
       (λ old. number_more fence d.signalled id (F.signalled j f id l out old))

@@ -15,9 +15,10 @@ use Rattle.kms_model.specs.Machine.State.{Contexts, Machine, doing_at, has_value
 use Rattle.kms_model.specs.Machine.Steps.{contended, is_taking, must_back_off, ticket_of}
 use Rattle.kms_model.specs.Request.Sets.{obj_id}
 use Rattle.kms_model.proofs.Items.{IsIn}
+use Rattle.kms_laws.specs.Laws.{has_context}
 use Rattle.kms_laws.proofs.Basics.{read_other, read_same}
-use Rattle.kms_laws.proofs.Contexts.{doing_in, dropped-keeps, dropped-other, has_ticket, holder_in}
-use Rattle.kms_laws.proofs.Measure.{IsFreeOr, IsOwnStep, is_blocked, is_older, phase, unheld}
+use Rattle.kms_laws.proofs.Contexts.{doing_in, dropped-keeps, dropped-other, holder_in}
+use Rattle.kms_laws.proofs.Measure.{IsFreeOr, IsOwnStep, backoffs, is_blocked, is_older, phase, unheld}
 use Rattle.kms_laws.proofs.ShorterTails.{filter-most, one-fewer}
 
 -- What a client does
@@ -77,6 +78,15 @@ module _ (s : Script) (m : Machine) (client : ℕ) where
       (λ ne. inl (read_other None m.contexts.locks object o (Some client) ne))
       (cases_eq object o)
 
+  locked_taken : (object : ℕ) → holder_at m object ≡ None → (o : ℕ) → (read None ((object, Some client) ∷ m.contexts.locks) o ≡ holder_in m.contexts o) ⊎ ((holder_in m.contexts o ≡ None) × (read None ((object, Some client) ∷ m.contexts.locks) o ≡ Some client))
+  locked_taken object free o =
+      ⊎_elim
+      (λ (same : object ≡ o).
+      subst (λ z. (read None ((object, Some client) ∷ m.contexts.locks) z ≡ holder_in m.contexts z) ⊎ ((holder_in m.contexts z ≡ None) × (read None ((object, Some client) ∷ m.contexts.locks) z ≡ Some client))) same
+      (inr (free, read_same None m.contexts.locks object (Some client))))
+      (λ ne. inl (read_other None m.contexts.locks object o (Some client) ne))
+      (cases_eq object o)
+
   fewer_unheld : (y : Contexts) (object : ℕ) → IsIn object (lockable s.topology) → holder_at m object ≡ None → ((o : ℕ) → holder_in y o ≡ read None ((object, Some client) ∷ m.contexts.locks) o) → unheld s.topology y client + 1 ≤ unheld s.topology m.contexts client
   fewer_unheld y object io free is =
       one-fewer (λ o. not (has_value client (holder_in m.contexts o))) (λ o. not (has_value client (holder_in y o))) (lockable s.topology) object io
@@ -91,8 +101,8 @@ module _ (s : Script) (m : Machine) (client : ℕ) where
   take_step object io taking free =
       let t = taking-is (doing_at m client) taking in
       record {
-        ticket = ap has_ticket t.1;
-        still = ap has_ticket t.1;
+        ticket = ap has_context t.1;
+        still = ap has_context t.1;
         same_ticket = refl;
         others = λ a ne. refl;
         holders = λ o. locked_holders object free o;
@@ -102,6 +112,7 @@ module _ (s : Script) (m : Machine) (client : ℕ) where
             let b : phase s.topology m.contexts client (doing_at m client) ≡ unheld s.topology m.contexts client + 2 = ap (phase s.topology m.contexts client) t.1 in
             let c = fewer_unheld y object io free (λ o. refl) in
             omega (arith, a, b, c));
+        kind = inr (record { no_more = (let y : Contexts = record m.contexts { locks = (object, Some client) ∷ m.contexts.locks } in let a = ap (backoffs y) t.1 in let b = ap (backoffs m.contexts) t.1 in omega (arith, a, b)); taken = λ o. locked_taken object free o });
       }
 
   pub meet_step : (object holder : ℕ) → is_taking (doing_at m client) ≡ true → holder_at m object ≡ Some holder → nat_lt (ticket_of (doing_at m holder)) (ticket_of (doing_at m client)) ≡ true
@@ -115,8 +126,8 @@ module _ (s : Script) (m : Machine) (client : ℕ) where
       let blocked : is_blocked y (ticket_of (doing_at m client)) object ≡ true =
       ap (is_older y (ticket_of (doing_at m client))) held ∙ ap (λ z. nat_lt (ticket_of z) (ticket_of (doing_at m client))) (other d m.contexts.locks holder apart) ∙ older in
       record {
-        ticket = ap has_ticket t.1;
-        still = ap has_ticket (own d m.contexts.locks);
+        ticket = ap has_context t.1;
+        still = ap has_context (own d m.contexts.locks);
         same_ticket = ap ticket_of (own d m.contexts.locks);
         others = λ a ne. other d m.contexts.locks a ne;
         holders = λ o. inl refl;
@@ -125,6 +136,14 @@ module _ (s : Script) (m : Machine) (client : ℕ) where
             ap (phase s.topology y client) (own d m.contexts.locks) ∙ cond-true (is_blocked y (ticket_of (doing_at m client)) object) 1 (length (lockable s.topology) + 4) blocked in
             let b : phase s.topology m.contexts client (doing_at m client) ≡ unheld s.topology m.contexts client + 2 = ap (phase s.topology m.contexts client) t.1 in
             omega (arith, a, b));
+        kind =
+            inr (record {
+              no_more =
+                  (let a : backoffs y (doing_in y client) ≡ 1 = ap (backoffs y) (own d m.contexts.locks) ∙ cond-true (is_blocked y (ticket_of (doing_at m client)) object) 1 2 blocked in
+                  let b : backoffs m.contexts (doing_at m client) ≡ 1 = ap (backoffs m.contexts) t.1 in
+                  omega (arith, a, b));
+              taken = λ o. inl refl;
+            });
       }
 
   dropped_holders : (o : ℕ) → (read None (dropped client m.contexts.locks) o ≡ holder_in m.contexts o) ⊎ (IsFreeOr client (holder_in m.contexts o) × IsFreeOr client (read None (dropped client m.contexts.locks) o))
@@ -151,8 +170,8 @@ module _ (s : Script) (m : Machine) (client : ℕ) where
       (λ a. ⊎_elim (λ same. subst (λ z. ticket_of (doing_in y z) ≡ ticket_of (doing_in m.contexts z)) same (ap ticket_of now ∙ sym own_ticket)) (λ ne. ap ticket_of (other (backed_off (doing_at m client)) locks a ne)) (cases_eq client a)) in
       let b = blocked_still y q.ticket.0 q.object.0 tickets own_ticket (dropped_holders q.object.0) in
       record {
-        ticket = ap has_ticket q.is;
-        still = ap has_ticket now;
+        ticket = ap has_context q.is;
+        still = ap has_context now;
         same_ticket = tickets client;
         others = λ a ne. other (backed_off (doing_at m client)) locks a ne;
         holders = dropped_holders;
@@ -161,6 +180,12 @@ module _ (s : Script) (m : Machine) (client : ℕ) where
             let d : phase s.topology m.contexts client (doing_at m client) ≡ (if is_blocked m.contexts q.ticket.0 q.object.0 then 1 else length (lockable s.topology) + 4) = ap (phase s.topology m.contexts client) q.is in
             let e = one_less (is_blocked y q.ticket.0 q.object.0) (is_blocked m.contexts q.ticket.0 q.object.0) b in
             omega (arith, c, d, e));
+        kind =
+            inl
+            (let c : backoffs y (doing_in y client) ≡ (if is_blocked y q.ticket.0 q.object.0 then 0 else 1) = ap (backoffs y) now in
+            let d : backoffs m.contexts (doing_at m client) ≡ (if is_blocked m.contexts q.ticket.0 q.object.0 then 1 else 2) = ap (backoffs m.contexts) q.is in
+            let e = one_backoff (is_blocked y q.ticket.0 q.object.0) (is_blocked m.contexts q.ticket.0 q.object.0) b in
+            omega (arith, c, d, e));
       }
     where
       one_less : (a b : Bool) → a ≡ b → (if a then 0 else length (lockable s.topology) + 3) + 1 ≤ (if b then 1 else length (lockable s.topology) + 4)
@@ -168,6 +193,12 @@ module _ (s : Script) (m : Machine) (client : ℕ) where
       one_less false false e = omega arith
       one_less true false e = absurd (false≢true (sym e))
       one_less false true e = absurd (false≢true e)
+
+      one_backoff : (a b : Bool) → a ≡ b → (if a then 0 else 1) + 1 ≤ (if b then 1 else 2)
+      one_backoff true true e = omega arith
+      one_backoff false false e = omega arith
+      one_backoff true false e = absurd (false≢true (sym e))
+      one_backoff false true e = absurd (false≢true e)
 
       blocked_still : (y : Contexts) (ticket object : ℕ) → ((a : ℕ) → ticket_of (doing_in y a) ≡ ticket_of (doing_in m.contexts a)) → ticket_of (doing_at m client) ≡ ticket
           → (holder_in y object ≡ holder_in m.contexts object) ⊎ (IsFreeOr client (holder_in m.contexts object) × IsFreeOr client (holder_in y object)) → is_blocked y ticket object ≡ is_blocked m.contexts ticket object
@@ -193,8 +224,8 @@ module _ (s : Script) (m : Machine) (client : ℕ) where
       let d : Doing = doing.Taking (record { 0 = ticket_of (doing_at m client) }) in
       let y : Contexts = placed d ((object, Some client) ∷ m.contexts.locks) in
       record {
-        ticket = ap has_ticket q.is;
-        still = ap has_ticket (own d locks);
+        ticket = ap has_context q.is;
+        still = ap has_context (own d locks);
         same_ticket = ap ticket_of (own d locks);
         others = λ a ne. other d locks a ne;
         holders = λ o. locked_holders object free o;
@@ -205,4 +236,13 @@ module _ (s : Script) (m : Machine) (client : ℕ) where
             ap (phase s.topology m.contexts client) q.is ∙ cond-false (is_blocked m.contexts q.ticket.0 q.asked.0) 0 (length (lockable s.topology) + 3) free_asked in
             let c = filter-most (λ o. not (has_value client (holder_in y o))) (lockable s.topology) in
             omega (arith, a, b, c));
+        kind =
+            inr (record {
+              no_more =
+                  (let a : backoffs y (doing_in y client) ≡ 1 = ap (backoffs y) (own d locks) in
+                  let free_asked : is_blocked m.contexts q.ticket.0 q.asked.0 ≡ false = ap (λ z. is_older m.contexts q.ticket.0 (holder_in m.contexts z)) q.same ∙ ap (is_older m.contexts q.ticket.0) free in
+                  let b : backoffs m.contexts (doing_at m client) ≡ 1 = ap (backoffs m.contexts) q.is ∙ cond-false (is_blocked m.contexts q.ticket.0 q.asked.0) 0 1 free_asked in
+                  omega (arith, a, b));
+              taken = λ o. locked_taken object free o;
+            });
       }

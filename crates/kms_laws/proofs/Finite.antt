@@ -1,6 +1,7 @@
 -- What is left to do in all, as one number, and that each step but a vertical blanking without GO lowers it.
-use Rattle.std.proofs.Common.{◌≡◌, ℕ, suc, ◌+◌, ◌*◌, ◌-◌, ◌<◌, ◌≤◌, List, ◌∷◌, length, Bool, true, false, Option, Some, None, refl, sym, ap, ◌∙◌, subst, arith, inl, inr, ◌⊎◌, ⊎_elim}
+use Rattle.std.proofs.Common.{◌≡◌, ℕ, zero, suc, ◌+◌, ◌*◌, ◌-◌, ◌<◌, ◌^◌, ◌≤◌, List, ◌∷◌, length, Bool, true, false, Option, Some, None, refl, sym, ap, ◌∙◌, subst, arith, inl, inr, ◌⊎◌, ⊎_elim}
 use Rattle.std.specs.Prelude.{if◌then◌else◌, is_some, nat_lt}
+use Rattle.std.specs.List.{range_with_len}
 use Rattle.std.proofs.Math.Nat.{mul-le-mul_right}
 use Rattle.std.proofs.lemmas.Bool.{and_parts, cases_eq, false≢true, ltb-true}
 use Rattle.kms_model.specs.declared.replies.Step.{Step}
@@ -23,16 +24,18 @@ use Rattle.kms_model.specs.Request.Reach.{reaches}
 use Rattle.kms_model.specs.Request.Sets.{obj_id}
 use Rattle.kms_model.specs.Script.WellFormed.{IsWellFormed}
 use Rattle.kms_model.proofs.Items.{IsIn}
+use Rattle.kms_model.proofs.TouchedLemmas.{few_objects}
+use Rattle.kms_laws.specs.Laws.{has_context}
 use Rattle.kms_laws.specs.Ends.{is_moving}
 use Rattle.kms_laws.specs.TailsLeft.{LeavesLess, commit_of_step, steps_left, tail_left}
 use Rattle.kms_laws.proofs.Basics.{pair_now, read_other, read_same}
 use Rattle.kms_laws.proofs.ClientProgress.{with_request}
-use Rattle.kms_laws.proofs.Contexts.{has_ticket}
 use Rattle.kms_laws.proofs.EachStep.{Carries, by_bool, by_fence, by_latch, by_two, each_step, latched_as, made_as, swapped_as}
 use Rattle.kms_laws.proofs.Falling.{back_step, meet_step, relock_step, take_step}
 use Rattle.kms_laws.proofs.Fitting.{back-busy, contended-busy, idle-busy, returning-busy, taking-busy}
+use Rattle.kms_laws.proofs.Framebuffers.{range-below}
 use Rattle.kms_laws.proofs.LockSteps.{lockable-has}
-use Rattle.kms_laws.proofs.Measure.{IsOwnStep, base_of, contexts_left, digit, digit-small, number-below, own_step_less, power, times-less}
+use Rattle.kms_laws.proofs.Measure.{IsOwnStep, backoffs-below, contexts_left, own_step_less, phases-below, times-less}
 use Rattle.kms_laws.proofs.ShorterTails.{step_lowers, tails_short}
 use Rattle.kms_laws.proofs.Sizes.{IsThere, answered, begun_at, busy, command-there, ended_at, from_one-within, has_commands, length_of, place_of, sum, sum-last, sum-more, sum-most, sum-one}
 use Rattle.kms_laws.proofs.SmallNumbers.{Counted, answered-busy, few_commands}
@@ -98,7 +101,7 @@ module _ (s : Script) (m : Machine) (n : ℕ) (C : Counted s n m) where
   unfolding may_lock
   lock-older client object holder h held = sym (ap (is_free_or_older m (ticket_of (doing_at m client))) held) ∙ (and_parts (taking_at s m client (λ r. reaches s.topology m.device.world r object)) _ h).1
 
-  ticket-client : (client : ℕ) → has_ticket (doing_at m client) ≡ true → IsIn client (client_numbers s)
+  ticket-client : (client : ℕ) → has_context (doing_at m client) ≡ true → IsIn client (client_numbers s)
   ticket-client client t = let q = C.facts.locks.atomic client t in with_request s m client q.request q.at
 
   -- a client that goes on with its context
@@ -199,6 +202,11 @@ module _ (s : Script) (m : Machine) (n : ℕ) (C : Counted s n m) where
 
 -- What is left in all
 
+range-above : (from n k : ℕ) → IsIn k (range_with_len from n) → from ≤ k
+range-above from zero k is = absurd is
+range-above from (suc n) k (inl same) = omega (arith, same)
+range-above from (suc n) k (inr rest) = let a = range-above (from + 1) n k rest in omega (arith, a)
+
 abbrev pub all_tails : Script → Machine → ℕ
 all_tails s m = sum (tail_left s.topology m) 0 (length m.device.commits)
 
@@ -210,8 +218,8 @@ abbrev pub done_left : Script → Machine → ℕ
 done_left s m = length s.clients * 12291 - all_done s m.contexts.places
 
 -- more than what a step of a client can add to the tails and the contexts
-abbrev pub weight : Script → ℕ
-weight s = power (base_of s.topology) (most_tickets s) + 32
+abbrev pub weight : ℕ
+weight = 22771715425
 
 abbrev pub one_unless : Bool → ℕ
 one_unless b = if b then 0 else 1
@@ -220,7 +228,7 @@ abbrev pub rest_left : Script → Machine → ℕ
 rest_left s m = all_tails s m + (contexts_left s (most_tickets s) m.contexts + one_unless m.stalled)
 
 abbrev pub left : Script → Machine → ℕ
-left s m = done_left s m * weight s + rest_left s m
+left s m = done_left s m * weight + rest_left s m
 
 one_unless-most : (b : Bool) → one_unless b ≤ 1
 one_unless-most true = omega arith
@@ -235,17 +243,39 @@ module _ (s : Script) (formed : IsWellFormed s) (m : Machine) (n : ℕ) (C : Cou
       sum-most (λ c. done_at (place_of m.contexts.places c)) 12291 1 (length s.clients)
       (λ c. let a = begun-bound c in let b = answered-busy (place_of m.contexts.places c).doing in omega (arith, a, b))
 
-  ticket-bound : (client : ℕ) → has_ticket (doing_at m client) ≡ true → ticket_of (doing_at m client) < most_tickets s
+  ticket-bound : (client : ℕ) → has_context (doing_at m client) ≡ true → ticket_of (doing_at m client) < most_tickets s
   ticket-bound client t =
       let a = C.facts.locks.below client t in
       let b = C.sizes.places_stand.tickets_few in
       let c = sum-most (λ c. begun_at (place_of m.contexts.places c)) 4097 1 (length s.clients) begun-bound in
       omega (arith, a, b, c)
 
-  contexts-bound : contexts_left s (most_tickets s) m.contexts + 1 ≤ power (base_of s.topology) (most_tickets s)
-  contexts-bound = number-below (digit s m.contexts) (base_of s.topology) (most_tickets s) (digit-small s m.contexts)
+  contexts-bound : contexts_left s (most_tickets s) m.contexts ≤ 22771715392
+  contexts-bound =
+      let a = backoffs-below s m.contexts (most_tickets s) formed.few in
+      let b = phases-below s m.contexts (few_objects s.topology formed.device) formed.few in
+      omega (arith, a, b)
 
-module _ (s : Script) (formed : IsWellFormed s) (m : Machine) (n : ℕ) (C : Counted s n m) (step : Step) (l : legal s m step ≡ true) (m2 : Machine) (after : m2 ≡ next s m step) (n2 : ℕ) (C2 : Counted s n2 m2) where
+  pub left-bound : left s m < 2 ^ 53
+  left-bound =
+      let few = formed.few in
+      let ended =
+      sum-most (λ c. ended_at (place_of m.contexts.places c)) 4097 1 (length s.clients) (λ c. let a = begun-bound c in let b = answered-busy (place_of m.contexts.places c).doing in omega (arith, a, b)) in
+      let commits : length m.device.commits ≤ 65536 = (let a = C.sizes.places_stand.commits_few in omega (arith, a, ended, few)) in
+      let tails = sum-most (tail_left s.topology m) 31 0 (length m.device.commits) (λ k. tails_short s.topology m k (few_objects s.topology formed.device)) in
+      let done : done_left s m ≤ 196656 = omega (arith, few) in
+      let weighed = mul-le-mul_right weight done in
+      let c = contexts-bound in
+      let d = one_unless-most m.stalled in
+      omega (arith, commits, tails, weighed, c, d)
+
+module _ (s : Script) (formed : IsWellFormed s) (m : Machine) (n : ℕ) (C : Counted s n m) (step : Step) (l : legal s m step ≡ true) (m2 : Machine) (after : m2 ≡ next s m step) (n2 : ℕ) (counted-after : Counted s n2 m2) where
+  client-low : (client : ℕ) → IsIn client (client_numbers s) → 1 ≤ client
+  client-low client is = range-above 1 (length s.clients) client is
+
+  client-high : (client : ℕ) → IsIn client (client_numbers s) → client < 1 + length s.clients
+  client-high client is = range-below 1 (length s.clients) client is
+
   lowers : (k : ℕ) → k < length m.device.commits → LeavesLess s.topology m m2 step k
   lowers k lt = subst (λ z. LeavesLess s.topology m z step k) (sym after) (step_lowers s m C.facts.holds step l k lt)
 
@@ -258,7 +288,7 @@ module _ (s : Script) (formed : IsWellFormed s) (m : Machine) (n : ℕ) (C : Cou
       let a = ap (sum (tail_left s.topology m2) 0) e in
       let b = old_tails in
       let c = sum-last (tail_left s.topology m2) 0 (length m.device.commits) in
-      let d = tails_short s.topology m2 (0 + length m.device.commits) C2.facts.holds.tail.few in
+      let d = tails_short s.topology m2 (0 + length m.device.commits) counted-after.facts.holds.tail.few in
       omega (arith, a, b, c, d)
 
   tails-less : (k : ℕ) → k < length m.device.commits → commit_of_step m step ≡ Some k → length m2.device.commits ≡ length m.device.commits → all_tails s m2 + 1 ≤ all_tails s m
@@ -269,29 +299,29 @@ module _ (s : Script) (formed : IsWellFormed s) (m : Machine) (n : ℕ) (C : Cou
 
   pub falls-lower : Falls s m step m2 → left s m2 + 1 ≤ left s m
   falls-lower (Answers more commits) =
-      let a = done-bound s formed m2 n2 C2 in
+      let a = done-bound s formed m2 n2 counted-after in
       let less : done_left s m2 + 1 ≤ done_left s m = omega (arith, a, more) in
-      let b = times-less (done_left s m2) (done_left s m) (weight s) less in
+      let b = times-less (done_left s m2) (done_left s m) weight less in
       let c = tails-any commits in
-      let d = contexts-bound s formed m2 n2 C2 in
+      let d = contexts-bound s formed m2 n2 counted-after in
       let e = one_unless-most m2.stalled in
       omega (arith, b, c, d, e)
   falls-lower (Locks client more device records stalled own is_client) =
       let le : done_left s m2 ≤ done_left s m = omega (arith, more) in
-      let a = mul-le-mul_right (weight s) le in
+      let a = mul-le-mul_right weight le in
       let b : all_tails s m2 ≡ all_tails s m = (λ i. sum (steps_left s.topology (device i).commits (device i).marks (records i).latches) 0 (length (device i).commits)) in
-      let c = own_step_less s m.contexts m2.contexts (length m.device.commits) client C.facts.locks own is_client (most_tickets s) (ticket-bound s formed m n C client own.ticket) in
+      let c = own_step_less s m.contexts m2.contexts (length m.device.commits) client C.facts.locks own is_client (most_tickets s) (ticket-bound s formed m n C client own.ticket) (few_objects s.topology formed.device) formed.few (client-low client is_client) (client-high client is_client) in
       let d = ap one_unless stalled in
       omega (arith, a, b, c, d)
   falls-lower (Tails k lt of_k contexts commits stalled) =
-      let a : done_left s m2 * weight s ≡ done_left s m * weight s = ap (λ (x : Contexts). (length s.clients * 12291 - all_done s x.places) * weight s) contexts in
+      let a : done_left s m2 * weight ≡ done_left s m * weight = ap (λ (x : Contexts). (length s.clients * 12291 - all_done s x.places) * weight) contexts in
       let b = tails-less k lt of_k (ap length commits) in
       let c = ap (contexts_left s (most_tickets s)) contexts in
       let d = ap one_unless stalled in
       omega (arith, a, b, c, d)
   falls-lower (Ends going same) =
-      let a : done_left s m2 * weight s + (all_tails s m2 + contexts_left s (most_tickets s) m2.contexts) ≡ done_left s m * weight s + (all_tails s m + contexts_left s (most_tickets s) m.contexts) =
-      ap (λ (z : Machine). done_left s z * weight s + (all_tails s z + contexts_left s (most_tickets s) z.contexts)) same in
+      let a : done_left s m2 * weight + (all_tails s m2 + contexts_left s (most_tickets s) m2.contexts) ≡ done_left s m * weight + (all_tails s m + contexts_left s (most_tickets s) m.contexts) =
+      ap (λ (z : Machine). done_left s z * weight + (all_tails s z + contexts_left s (most_tickets s) z.contexts)) same in
       let b : one_unless m2.stalled ≡ 0 = ap (λ (z : Machine). one_unless z.stalled) same in
       let c : one_unless m.stalled ≡ 1 = ap one_unless going in
       omega (arith, a, b, c)

@@ -2,6 +2,7 @@ pub mod Apart
 pub mod Basics
 pub mod ClientProgress
 pub mod Contexts
+pub mod ContextsAtAll
 pub mod DeadFence
 pub mod Drained
 pub mod EachStep

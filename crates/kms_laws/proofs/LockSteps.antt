@@ -24,15 +24,16 @@ use Rattle.kms_model.specs.Machine.Steps.{contended, is_atomic, is_idle, is_lock
 use Rattle.kms_model.specs.Request.Reach.{reaches}
 use Rattle.kms_model.specs.Request.Sets.{obj_id}
 use Rattle.kms_model.proofs.Items.{IsIn, ids-has}
+use Rattle.kms_laws.specs.Laws.{has_context}
 use Rattle.kms_laws.proofs.Basics.{both_bools, in_left, in_right, read_other, read_same}
-use Rattle.kms_laws.proofs.Contexts.{asked_of, HasRequest, LocksStand, doing_in, dropped-other, dropped-own, has_ticket, holder_in, may_hold, moved, place_in}
+use Rattle.kms_laws.proofs.Contexts.{asked_of, HasRequest, LocksStand, doing_in, dropped-other, dropped-own, holder_in, may_hold, moved, place_in}
 use Rattle.kms_laws.proofs.EachStep.{Carries, by_bool, by_fence, by_latch, by_two, each_step, latched_as, made_as, swapped_as}
 use Rattle.kms_laws.proofs.Steps.{flushed_at}
 
 abbrev pub HasLocks : Script → Machine → Type 0
 HasLocks s m = LocksStand s m.contexts (length m.device.commits)
 
-asked-ticket : (d : Doing) (object : ℕ) → asked_of d ≡ Some object → has_ticket d ≡ true
+asked-ticket : (d : Doing) (object : ℕ) → asked_of d ≡ Some object → has_context d ≡ true
 asked-ticket (doing.MustBackOff ticket o) object e = refl
 asked-ticket (doing.BackedOff ticket o) object e = refl
 asked-ticket (doing.Taking ticket) object e = absurd cc
@@ -48,7 +49,7 @@ lockable-has t Enc index h = absurd (false≢true h)
 
 module _ (s : Script) (x : Contexts) (n : ℕ) (L : LocksStand s x n) (client : ℕ) where
   -- a client that drops its locks and goes where it has no ticket
-  leaves : (place : Place) (m : ℕ) → n ≤ m → has_ticket place.doing ≡ false → ((k : ℕ) → place.doing ≡ doing.Returning k → k < m)
+  leaves : (place : Place) (m : ℕ) → n ≤ m → has_context place.doing ≡ false → ((k : ℕ) → place.doing ≡ doing.Returning k → k < m)
       → LocksStand s (record { places = (client, place) ∷ x.places; locks = dropped client x.locks; tickets = x.tickets }) m
   leaves place m l none back =
       moved s x n L client place (dropped client x.locks) x.tickets m (omega arith) l
@@ -59,7 +60,7 @@ module _ (s : Script) (x : Contexts) (n : ℕ) (L : LocksStand s x n) (client : 
       (λ object e. absurd (both_bools _ (asked-ticket place.doing object e) none))
 
   -- a client that holds nothing goes where it has no ticket
-  goes : (place : Place) → may_hold (doing_in x client) ≡ false → has_ticket place.doing ≡ false → ((k : ℕ) → place.doing ≡ doing.Returning k → k < n)
+  goes : (place : Place) → may_hold (doing_in x client) ≡ false → has_context place.doing ≡ false → ((k : ℕ) → place.doing ≡ doing.Returning k → k < n)
       → LocksStand s (record { places = (client, place) ∷ x.places; locks = x.locks; tickets = x.tickets }) n
   goes place free none back =
       moved s x n L client place x.locks x.tickets n (omega arith) (omega arith)
@@ -70,7 +71,7 @@ module _ (s : Script) (x : Contexts) (n : ℕ) (L : LocksStand s x n) (client : 
       (λ object e. absurd (both_bools _ (asked-ticket place.doing object e) none))
 
   -- a client with a ticket stays at its command and keeps its ticket
-  stays : (d : Doing) (locks : List (ℕ × Option ℕ)) → has_ticket (doing_in x client) ≡ true → ticket_of d ≡ ticket_of (doing_in x client) → ((k : ℕ) → d ≡ doing.Returning k → k < n)
+  stays : (d : Doing) (locks : List (ℕ × Option ℕ)) → has_context (doing_in x client) ≡ true → ticket_of d ≡ ticket_of (doing_in x client) → ((k : ℕ) → d ≡ doing.Returning k → k < n)
       → ((object : ℕ) → read None locks object ≡ Some client → may_hold d ≡ true) → ((object a : ℕ) → (client ≡ a → ⊥) → read None locks object ≡ Some a → holder_in x object ≡ Some a)
       → ((object : ℕ) → read None locks object ≡ Some client → IsIn object (lockable s.topology)) → ((object : ℕ) → asked_of d ≡ Some object → IsIn object (lockable s.topology))
       → LocksStand s (record { places = (client, record { command = (place_in x client).command; doing = d }) ∷ x.places; locks = locks; tickets = x.tickets }) n
@@ -132,7 +133,7 @@ returning-free (doing.Taking ticket) h = absurd (false≢true h)
 returning-free (doing.MustBackOff ticket object) h = absurd (false≢true h)
 returning-free (doing.BackedOff ticket object) h = absurd (false≢true h)
 
-taking-holds : (d : Doing) → is_taking d ≡ true → (may_hold d ≡ true) × (has_ticket d ≡ true)
+taking-holds : (d : Doing) → is_taking d ≡ true → (may_hold d ≡ true) × (has_context d ≡ true)
 taking-holds (doing.Taking ticket) h = (refl, refl)
 taking-holds doing.Idle h = absurd (false≢true h)
 taking-holds (doing.MustBackOff ticket object) h = absurd (false≢true h)
@@ -146,21 +147,21 @@ back-asked (doing.Taking ticket) h = absurd (false≢true h)
 back-asked (doing.BackedOff ticket object) h = absurd (false≢true h)
 back-asked (doing.Returning k) h = absurd (false≢true h)
 
-contended-asked : (d : Doing) (object : ℕ) → contended d ≡ Some object → asked_of d ≡ Some object
+pub contended-asked : (d : Doing) (object : ℕ) → contended d ≡ Some object → asked_of d ≡ Some object
 contended-asked (doing.BackedOff ticket o) object e = e
 contended-asked doing.Idle object e = absurd cc
 contended-asked (doing.Taking ticket) object e = absurd cc
 contended-asked (doing.MustBackOff ticket o) object e = absurd cc
 contended-asked (doing.Returning k) object e = absurd cc
 
-back-facts : (d : Doing) → must_back_off d ≡ true → (has_ticket d ≡ true) × ((ticket_of (backed_off d) ≡ ticket_of d) × ((k : ℕ) → backed_off d ≡ doing.Returning k → ⊥))
+back-facts : (d : Doing) → must_back_off d ≡ true → (has_context d ≡ true) × ((ticket_of (backed_off d) ≡ ticket_of d) × ((k : ℕ) → backed_off d ≡ doing.Returning k → ⊥))
 back-facts (doing.MustBackOff ticket object) h = (refl, (refl, λ k e. absurd cc))
 back-facts doing.Idle h = absurd (false≢true h)
 back-facts (doing.Taking ticket) h = absurd (false≢true h)
 back-facts (doing.BackedOff ticket object) h = absurd (false≢true h)
 back-facts (doing.Returning k) h = absurd (false≢true h)
 
-contended-ticket : (d : Doing) (object : ℕ) → contended d ≡ Some object → has_ticket d ≡ true
+contended-ticket : (d : Doing) (object : ℕ) → contended d ≡ Some object → has_context d ≡ true
 contended-ticket (doing.BackedOff ticket object) o e = refl
 contended-ticket doing.Idle o e = absurd cc
 contended-ticket (doing.Taking ticket) o e = absurd cc
@@ -188,7 +189,7 @@ module _ (s : Script) (m : Machine) (L : HasLocks s m) where
       → LocksStand s (record { places = (client, record { command = (place_at m client).command + 1; doing = doing.Idle }) ∷ m.contexts.places; locks = dropped client m.contexts.locks; tickets = m.contexts.tickets }) (length m.device.commits)
   decided_from client = leaves s m.contexts (length m.device.commits) L client (record { command = (place_at m client).command + 1; doing = doing.Idle }) (length m.device.commits) (omega arith) refl (λ k e. absurd cc)
 
-  pub lock-taking : (client object : ℕ) → may_lock s m client object ≡ true → (may_hold (doing_at m client) ≡ true) × (has_ticket (doing_at m client) ≡ true)
+  pub lock-taking : (client object : ℕ) → may_lock s m client object ≡ true → (may_hold (doing_at m client) ≡ true) × (has_context (doing_at m client) ≡ true)
   unfolding may_lock
   lock-taking client object h = taking-holds (doing_at m client) (and_parts (is_taking (doing_at m client)) _ (and_parts (taking_at s m client (λ r. reaches s.topology m.device.world r object)) _ h).0).0
 

@@ -242,12 +242,12 @@ module _ (s : Script) (plain : IsPlainScript s) where
       let to_before = rounds-later s plain F.most (run_of s h) (run-of s h is) in
       let R = later-run s to_before (run-of s h is) in
       let all = later-trans s to_before (ends-later before) in
-      let R2 = later-run s (ends-later before) R in
+      let next-later = later-run s (ends-later before) R in
       let over = ends-over before (still-over before R F.still) in
       let more = later-steps s all in
       record {
         more = more.0;
         goes_on = F.steps ∙ more.1 ∙ ap (λ z. z ++ more.0) (reverse-reverse h);
-        is_history = ap (is_history s) F.steps ∙ R2.is;
-        is_over = subst (λ m. (is_drained s m ≡ true) ⊎ (is_dead s m ≡ true)) (R2.same ∙ ap (at s) (sym F.steps)) over;
+        is_history = ap (is_history s) F.steps ∙ next-later.is;
+        is_over = subst (λ m. (is_drained s m ≡ true) ⊎ (is_dead s m ≡ true)) (next-later.same ∙ ap (at s) (sym F.steps)) over;
       }

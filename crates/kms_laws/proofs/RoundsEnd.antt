@@ -1,5 +1,5 @@
 -- Rounds end, and in each history few steps move: each of them leaves less to do.
-use Rattle.std.proofs.Common.{◌≡◌, ℕ, zero, suc, ◌+◌, ◌<◌, ◌≤◌, List, [], ◌∷◌, length, Bool, true, false, refl, sym, ap, ◌∙◌, subst, arith, ⊎_elim}
+use Rattle.std.proofs.Common.{◌≡◌, ℕ, zero, suc, ◌+◌, ◌<◌, ◌≤◌, ◌^◌, List, [], ◌∷◌, length, Bool, true, false, refl, sym, ap, ◌∙◌, subst, arith, ⊎_elim}
 use Rattle.std.specs.Prelude.{reverse}
 use Rattle.std.proofs.lemmas.Bool.{and_parts, cases_Bool, cases_lt, cond-false, cond-true, eq-eqb}
 use Rattle.kms_model.specs.declared.replies.Step.{Step}
@@ -13,7 +13,7 @@ use Rattle.kms_model.specs.Script.WellFormed.{IsWellFormed}
 use Rattle.kms_laws.specs.Ends.{is_moving, moves_in}
 use Rattle.kms_laws.specs.TailsLeft.{one_if}
 use Rattle.kms_laws.proofs.Basics.{both_bools}
-use Rattle.kms_laws.proofs.Finite.{falls, falls-lower, idle-same, left}
+use Rattle.kms_laws.proofs.Finite.{falls, falls-lower, idle-same, left, left-bound}
 use Rattle.kms_laws.proofs.Modes.{plain-from}
 use Rattle.kms_laws.proofs.Resting.{run-of}
 use Rattle.kms_laws.proofs.SmallNumbers.{Counted, along_counted, first_counted, step_counted}
@@ -30,12 +30,12 @@ module _ (s : Script) (formed : IsWellFormed s) where
   later-lower : {a b : Progress} → Later s a b → IsRun s a → left s b.machine + length b.steps ≤ left s a.machine + length a.steps
   later-lower (Same e) R = let same = ap (λ (z : Progress). left s z.machine + length z.steps) e in omega (arith, same)
   later-lower {a} (More step l mv rest) R =
-      let R2 = run-does s a step R l in
+      let next-later = run-does s a step R l in
       let C = counted-run a R in
-      let C2 = counted-run (does s a step) R2 in
+      let counted-after = counted-run (does s a step) next-later in
       let less : left s (next s a.machine step) + 1 ≤ left s a.machine =
-      falls-lower s formed a.machine (length (reverse a.steps)) C step l (next s a.machine step) refl (length (reverse (does s a step).steps)) C2 (falls s a.machine (length (reverse a.steps)) C step l mv) in
-      let later = later-lower rest R2 in
+      falls-lower s formed a.machine (length (reverse a.steps)) C step l (next s a.machine step) refl (length (reverse (does s a step).steps)) counted-after (falls s a.machine (length (reverse a.steps)) C step l mv) in
+      let later = later-lower rest next-later in
       omega (arith, less, later)
 
   -- a round with a step leaves less to do
@@ -62,8 +62,11 @@ module _ (s : Script) (formed : IsWellFormed s) where
       ∙ rounds-rest most (round s run) (later-run s (round-later s (plain-from s formed) run R) R) (omega (arith, less, l)))
       (cases_Bool (is_still s run))
 
-  pub rounds-end : (h : List Step) → is_history s h ≡ true → (most : ℕ) × (is_still s (rounds s most (run_of s h)) ≡ true)
-  rounds-end h is = (left s (at s h), rounds-rest (left s (at s h)) (run_of s h) (run-of s h is) (omega arith))
+  pub rounds-end : (h : List Step) → is_history s h ≡ true → (most : ℕ) → 2 ^ 53 ≤ most → is_still s (rounds s most (run_of s h)) ≡ true
+  rounds-end h is most l =
+      let R = run-of s h is in
+      let bound = left-bound s formed (at s h) (length (reverse (reverse h))) (counted-run (run_of s h) R) in
+      rounds-rest most (run_of s h) R (omega (arith, bound, l))
 
   -- each history has few steps that move
   step-left : (n : ℕ) (m : Machine) (step : Step) → Counted s n m → legal s m step ≡ true → one_if (is_moving m step) + left s (next s m step) ≤ left s m
@@ -84,5 +87,9 @@ module _ (s : Script) (formed : IsWellFormed s) where
       let b = moves-few steps (suc n) (next s m step) (step_counted s (plain-from s formed) n m step C both.0) both.1 in
       omega (arith, a, b)
 
-  pub few-moves : (most : ℕ) × ((h : List Step) → is_history s h ≡ true → moves_in s (first_machine s.topology) h ≤ most)
-  few-moves = (left s (first_machine s.topology), λ h is. moves-few h 0 (first_machine s.topology) (first_counted s (plain-from s formed)) is)
+  pub few-moves : (h : List Step) → is_history s h ≡ true → moves_in s (first_machine s.topology) h < 2 ^ 53
+  few-moves h is =
+      let C = first_counted s (plain-from s formed) in
+      let a = moves-few h 0 (first_machine s.topology) C is in
+      let b = left-bound s formed (first_machine s.topology) 0 C in
+      omega (arith, a, b)

@@ -22,11 +22,11 @@ use Rattle.kms_model.specs.Script.WellFormed.{IsFitClient, IsWellFormed}
 use Rattle.kms_model.proofs.CrtcLemmas.{all_in}
 use Rattle.kms_model.proofs.Items.{IsObject, ids-in}
 use Rattle.kms_model.proofs.TouchedLemmas.{few_objects}
+use Rattle.kms_laws.specs.Laws.{has_context}
 use Rattle.kms_laws.specs.Numbers.{LatchFits, NumbersFit}
 use Rattle.kms_laws.proofs.EachStep.{each_step}
 use Rattle.kms_laws.proofs.EventRoom.{HasRoom, carries_room}
 use Rattle.kms_laws.proofs.Fitting.{HasSizes, carries_sizes}
-use Rattle.kms_laws.proofs.Contexts.{has_ticket}
 use Rattle.kms_laws.proofs.LockSteps.{HasLocks}
 use Rattle.kms_laws.proofs.Modes.{from_one-in, plain-from}
 use Rattle.kms_laws.proofs.NeverStuck.{Facts, first_facts, step_facts}
@@ -125,9 +125,9 @@ few_commands s client fit = go (from_one s.clients client) refl
 own_ticket : (s : Script) (m : Machine) → HasLocks s m → m.contexts.tickets ≤ 65536 → (client : ℕ) → ticket_of (doing_at m client) ≤ 65536
 own_ticket s m L few client = go (doing_at m client) refl
   where
-    below : (d : Doing) → doing_at m client ≡ d → has_ticket d ≡ true → ticket_of d ≤ 65536
+    below : (d : Doing) → doing_at m client ≡ d → has_context d ≡ true → ticket_of d ≤ 65536
     below d e t =
-        let l = L.below client (ap has_ticket e ∙ t) in
+        let l = L.below client (ap has_context e ∙ t) in
         let same : ticket_of (doing_at m client) ≡ ticket_of d = ap ticket_of e in
         omega (arith, l, few, same)
 

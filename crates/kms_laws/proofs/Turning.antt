@@ -229,7 +229,7 @@ module _ (s : Script) (plain : IsPlainScript s) where
   pub goes-later : (most client : ℕ) (run : Progress) → IsRun s run → Later s run (client_goes s most client run)
   unfolding client_goes
   goes-later zero client run R = Same refl
-  goes-later (suc most) client run R = by_step (client_step s run.machine client) refl (λ next_run R2. goes-later most client next_run R2)
+  goes-later (suc most) client run R = by_step (client_step s run.machine client) refl (λ next_run next-later. goes-later most client next_run next-later)
     where
       by_answer : (b : Bool) (step : Step) → legal s run.machine step ≡ true → is_moving run.machine step ≡ true → ((next_run : Progress) → IsRun s next_run → Later s next_run (client_goes s most client next_run))
           → Later s run (if b then does s run step else client_goes s most client (does s run step))
@@ -244,7 +244,7 @@ module _ (s : Script) (plain : IsPlainScript s) where
   pub tails-later : (most : ℕ) (run : Progress) → IsRun s run → Later s run (tails_go s most run)
   unfolding tails_go
   tails-later zero run R = Same refl
-  tails-later (suc most) run R = by_step (tail_step s run.machine) refl (λ next_run R2. tails-later most next_run R2)
+  tails-later (suc most) run R = by_step (tail_step s run.machine) refl (λ next_run next-later. tails-later most next_run next-later)
     where
       by_step : (o : Option Step) → tail_step s run.machine ≡ o → ((next_run : Progress) → IsRun s next_run → Later s next_run (tails_go s most next_run)) → Later s run (does_then s (λ step done. tails_go s most done) run o)
       by_step None e later = Same refl
@@ -285,7 +285,7 @@ module _ (s : Script) (plain : IsPlainScript s) where
   pub rounds-later : (most : ℕ) (run : Progress) → IsRun s run → Later s run (rounds s most run)
   unfolding rounds
   rounds-later zero run R = Same refl
-  rounds-later (suc most) run R = by_test (is_still s run) (λ next_run R2. rounds-later most next_run R2)
+  rounds-later (suc most) run R = by_test (is_still s run) (λ next_run next-later. rounds-later most next_run next-later)
     where
       by_test : (b : Bool) → ((next_run : Progress) → IsRun s next_run → Later s next_run (rounds s most next_run)) → Later s run (if b then run else rounds s most (round s run))
       by_test true later = Same refl

@@ -1,5 +1,5 @@
 -- How the order of one thread ends: where nothing more can be done, the history is drained or dead.
-use Rattle.std.specs.Prelude.{◌≡◌, ◌↔◌, ◌⊎◌, ◌≤◌, ℕ, ◌+◌, Bool, true, false, List, [], ◌∷◌, ◌++◌, is_some}
+use Rattle.std.specs.Prelude.{◌≡◌, ◌↔◌, ◌⊎◌, ◌≤◌, ◌<◌, ℕ, ◌+◌, ◌^◌, Bool, true, false, List, [], ◌∷◌, ◌++◌, is_some}
 use Rattle.kms_model.specs.declared.replies.Step.{Step}
 use Rattle.kms_model.specs.declared.replies.Step.TheVariants.{Vblank}
 use Rattle.kms_model.specs.declared.scripts.Script.{Script}
@@ -21,9 +21,9 @@ IsOver s h = (is_drained s (at s h) ≡ true) ⊎ (is_dead s (at s h) ≡ true)
 abbrev pub RoundsAreStill : Type 0
 RoundsAreStill = InEachHistory (λ s h. (is_still s (run_of s h) ≡ true) ↔ IsOver s h)
 
--- Rounds behind a history end: after so many of them the next has no step.
+-- Rounds behind a history end: after so many of them, or any more, the next has no step.
 abbrev pub RoundsEnd : Type 0
-RoundsEnd = InEachHistory (λ s h. (most : ℕ) × (is_still s (rounds s most (run_of s h)) ≡ true))
+RoundsEnd = InEachHistory (λ s h. (most : ℕ) → 2 ^ 53 ≤ most → is_still s (rounds s most (run_of s h)) ≡ true)
 
 -- a step that is no vertical blanking without GO
 abbrev pub is_moving : Machine → Step → Bool
@@ -35,9 +35,9 @@ unfoldable pub moves_in : Script → Machine → List Step → ℕ
 moves_in s m [] = 0
 moves_in s m (step ∷ steps) = one_if (is_moving m step) + moves_in s (next s m step) steps
 
--- Of each script there is a number of such steps that no history has more of, whatever the order of its steps.
+-- No history has so many such steps, whatever their order.
 abbrev pub MovesAreFew : Type 0
-MovesAreFew = (s : Script) → IsWellFormed s → (most : ℕ) × ((h : List Step) → is_history s h ≡ true → moves_in s (first_machine s.topology) h ≤ most)
+MovesAreFew = InEachHistory (λ s h. moves_in s (first_machine s.topology) h < 2 ^ 53)
 
 -- a history that goes on behind another, and is over
 pub record EndsOver (s : Script) (h finished : List Step) : Type 0 where

@@ -1,8 +1,10 @@
--- What the laws say beside the promises: the world of a machine, that histories go on, and look-ups that grew old.
-use Rattle.std.specs.Prelude.{◌≡◌, ◌⊎◌, ℕ, Bool, true, List, Some}
+-- What the laws say beside the promises: the world of a machine, that histories go on, contexts, and look-ups that grew old.
+use Rattle.std.specs.Prelude.{◌≡◌, ◌⊎◌, ◌<◌, ◌||◌, ℕ, Bool, true, false, List, length, Some}
 use Rattle.std.specs.List.{list_any}
 use Rattle.kms_model.specs.declared.replies.Step.{Step}
 use Rattle.kms_model.specs.declared.objects.Topology.{Topology}
+use Rattle.kms_model.specs.declared.runs.Doing.{Doing}
+use Rattle.kms_model.specs.declared.runs.Doing.TheVariants as doing
 use Rattle.kms_model.specs.declared.scripts.Request.{Request}
 use Rattle.kms_model.specs.declared.scripts.Script.{Script}
 use Rattle.kms_model.specs.declared.sets.Resolved.{Resolved}
@@ -11,9 +13,10 @@ use Rattle.kms_model.specs.declared.worlds.World.{World}
 use Rattle.kms_model.specs.Device.Serial.{serial}
 use Rattle.kms_model.specs.Device.Sound.{IsSound}
 use Rattle.kms_model.specs.Headline.{history_journal}
+use Rattle.kms_model.specs.Machine.Commits.{has_number, lockable}
 use Rattle.kms_model.specs.Machine.Histories.{are_legal, at, awaited_label, is_drained, run_steps, steps_that_move}
-use Rattle.kms_model.specs.Machine.State.{Machine}
-use Rattle.kms_model.specs.Machine.Steps.{may}
+use Rattle.kms_model.specs.Machine.State.{Machine, doing_at, holds}
+use Rattle.kms_model.specs.Machine.Steps.{contended, is_taking, may, must_back_off, returning_of, ticket_of}
 use Rattle.kms_model.specs.Promises.{InEachHistory, WaitsForFence}
 use Rattle.kms_model.specs.Request.Agreement.{AgreesOld}
 use Rattle.kms_model.specs.Request.Deciding.{IsOfRequest}
@@ -42,6 +45,25 @@ pub record TellsFence (s : Script) (m : Machine) : Type 0 where
 -- A history is drained, or a step may be done in it, or a commit waits for a fence whose label is told.
 abbrev pub HistoriesGoOn : Type 0
 HistoriesGoOn = InEachHistory (λ s h. (is_drained s (at s h) ≡ true) ⊎ ((can_move s (at s h) ≡ true) ⊎ TellsFence s (at s h)))
+
+-- Contexts
+
+-- a client has a context
+abbrev pub has_context : Doing → Bool
+has_context (doing.Taking ticket) = true
+has_context (doing.MustBackOff ticket object) = true
+has_context (doing.BackedOff ticket object) = true
+has_context doing.Idle = false
+has_context (doing.Returning k) = false
+
+-- What is held, and what a context that backed off takes first, is an object of the device that has a lock. Who holds one takes
+-- locks or must back off. No two contexts have one ticket. A client that returns waits for a commit that is there.
+pub record ContextsStand (s : Script) (m : Machine) : Type 0 where
+  pub held : (client object : ℕ) → holds m client object ≡ true → has_number (lockable s.topology) object ≡ true
+  pub holders : (client object : ℕ) → holds m client object ≡ true → (is_taking (doing_at m client) || must_back_off (doing_at m client)) ≡ true
+  pub taken_first : (client object : ℕ) → contended (doing_at m client) ≡ Some object → has_number (lockable s.topology) object ≡ true
+  pub tickets : (a b : ℕ) → has_context (doing_at m a) ≡ true → has_context (doing_at m b) ≡ true → ticket_of (doing_at m a) ≡ ticket_of (doing_at m b) → a ≡ b
+  pub commits : (client k : ℕ) → returning_of (doing_at m client) ≡ Some k → k < length m.device.commits
 
 -- Look-ups that grew old
 

@@ -14,13 +14,13 @@ pub fn rounds_are_still_at_ends()
     ensures { RoundsAreStill }
 {}
 
-/// Whatever the order of steps, no history goes on for ever: of each script there is a number of steps that no history has
-/// more of, but for vertical blankings without GO. So contexts do not back off for ever.
+/// Whatever the order of steps, no history goes on for ever: none has 2^53 steps but for vertical blankings without GO.
+/// So contexts do not back off for ever.
 pub fn histories_have_few_moves()
     ensures { MovesAreFew }
 {}
 
-/// Rounds end: behind each history there is a round without a step.
+/// Rounds end: behind each history, after fewer than 2^53 rounds the next has no step.
 pub fn rounds_end()
     ensures { RoundsEnd }
 {}
@@ -31,8 +31,7 @@ pub fn finished_histories_are_over()
     ensures { FinishedIsOver }
 {}
 
-/// The history that one thread makes of a script, where its rounds end, is a history of the script, and it is drained or
-/// dead.
+/// The history that one thread makes of a script is a history of the script, and it is drained or dead.
 pub fn one_is_over()
     ensures { OneIsOver }
 {}
@@ -42,7 +41,7 @@ pub fn generated_scripts_never_stall()
     ensures { GeneratedNeverDead }
 {}
 
-/// The history that one thread makes of a generated script, where its rounds end, is drained.
+/// The history that one thread makes of a generated script is drained.
 pub fn generated_scripts_drain()
     ensures { GeneratedDrains }
 {}

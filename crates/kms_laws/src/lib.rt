@@ -17,6 +17,6 @@ pub use headline::{
     histories_go_on, pictures_are_whole, world_is_serial,
 };
 pub use locks::{
-    busy_has_its_cause, held_objects_are_framed, old_look_ups_ask_within_reach,
+    busy_has_its_cause, contexts_stand, held_objects_are_framed, old_look_ups_ask_within_reach,
     tests_change_nothing, waits_have_no_cycle,
 };

@@ -1,6 +1,7 @@
 //! Locks and decisions.
-ghost use Rattle.kms_model.specs.Promises.{CauseOfBusy, FrameLaw, NoCycleOfWaits, TestChangesNothing};
-ghost use Rattle.kms_laws.specs.Laws.{OldLookUpsAskWithinReach};
+ghost use Rattle.kms_model.specs.Promises.{CauseOfBusy, FrameLaw, InEachHistory, NoCycleOfWaits, TestChangesNothing};
+ghost use Rattle.kms_model.specs.Machine.Histories.{at};
+ghost use Rattle.kms_laws.specs.Laws.{ContextsStand, OldLookUpsAskWithinReach};
 
 /// A request that is tested changes nothing but its reply, its locks and its client's place.
 pub fn tests_change_nothing()
@@ -30,4 +31,10 @@ pub fn held_objects_are_framed()
 /// that world is in the reach of the request now. So the objects that the check still asks for may be locked.
 pub fn old_look_ups_ask_within_reach()
     ensures { OldLookUpsAskWithinReach }
+{}
+
+/// Locks that are held are those of objects of the device; who holds one takes locks or must back off; no two contexts
+/// have one ticket; a client that returns waits for a commit that is there.
+pub fn contexts_stand()
+    ensures { InEachHistory (λ s h. ContextsStand s (at s h)) }
 {}

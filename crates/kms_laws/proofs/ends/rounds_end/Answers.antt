@@ -2,4 +2,4 @@ use Rattle.kms_laws.proofs.RoundsEnd.{rounds-end}
 use Rattle.kms_laws.proofs.ends.rounds_end.Goals as goal
 
 pub returns : goal.returns
-returns c = λ s h formed is. rounds-end s formed h is
+returns c = λ s h formed is most l. rounds-end s formed h is most l
