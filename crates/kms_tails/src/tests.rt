@@ -30,21 +30,7 @@ fn checked_on(active: bool, crtcs: u32, planes: u32, named: u32) -> Checked {
         old: off,
         new: CrtcState { conns: 0x28, ..new },
     });
-    let nothing = Rect {
-        x: 0,
-        y: 0,
-        w: 0,
-        h: 0,
-    };
-    let plane = PlaneState {
-        fb: None,
-        crtc: 0,
-        dst: nothing,
-        src: nothing,
-        alpha: 65535,
-        blend: 0,
-        zpos: 0,
-    };
+    let plane = plane_off();
     let conn = ConnState { crtc: 0 };
     Checked {
         states: Duplicates {
@@ -64,6 +50,25 @@ fn checked_on(active: bool, crtcs: u32, planes: u32, named: u32) -> Checked {
             planes,
             conns: 0,
         },
+    }
+}
+
+/// The state of a plane that is on no CRTC.
+fn plane_off() -> PlaneState {
+    let nothing = Rect {
+        x: 0,
+        y: 0,
+        w: 0,
+        h: 0,
+    };
+    PlaneState {
+        fb: None,
+        crtc: 0,
+        dst: nothing,
+        src: nothing,
+        alpha: 65535,
+        blend: 0,
+        zpos: 0,
     }
 }
 
