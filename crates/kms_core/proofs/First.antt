@@ -1,5 +1,6 @@
 -- Before the first step every store stands.
 use Rattle.std.proofs.Common.{◌≡◌, ℕ, zero, suc, ◌≤◌, ◌<◌, ◌-◌, List, [], replicate, get_or, length, None, Option, false, refl, sym, ap, ◌∙◌, arith}
+use Rattle.std.proofs.lemmas.Bool.{false≢true}
 use Rattle.std.proofs.lemmas.List.{get_or-replicate, length-replicate}
 use Rattle.kms_model.specs.declared.scripts.Script.{Script}
 use Rattle.kms_model.specs.declared.states.Duplicates.{Duplicates}
@@ -47,6 +48,7 @@ stands_first s clients present queues registers formed clients_stand present_sta
     recorded = record { accepted = refl; answered = refl; latched = refl };
     world = record { things = refl; next_id = refl; states = present_stand };
     fences = no_fences 0;
+    fenced = record { made = tt; made_before = λ id signalled. absurd (false≢true signalled); below = tt };
     queues = record {
       size = ap length queues_are ∙ length-replicate (length s.clients) empty_queue;
       queue = λ client low high. rw (queues_are, get_or-replicate (length s.clients) (client - 1) empty_queue empty_queue (omega arith)) (no_events client);

@@ -10,3 +10,6 @@ mod Fresh
 mod Verdicts
 mod Accepted
 mod Lates
+mod Returned
+mod Recorded
+mod Delivered

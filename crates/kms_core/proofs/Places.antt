@@ -12,11 +12,13 @@ use Rattle.kms_model.specs.Machine.Histories.{at, is_history}
 use Rattle.kms_model.specs.Machine.State.{Machine, doing_at, command_at, entry_at, place_at}
 use Rattle.kms_model.specs.Machine.Steps.{idle_at, is_idle}
 use Rattle.kms_model.specs.Script.WellFormed.{IsWellFormed}
-use Rattle.kms_clients.specs.Standing.{Standing, IsClient, place_of}
-use Rattle.kms_clients.specs.InStep.{AreClientsOf}
+use Rattle.kms_clients.specs.Standing.{Standing, IsClient, place_of, ticket_in}
+use Rattle.kms_clients.specs.InStep.{AreClientsOf, HasNoContext}
 use Rattle.kms_laws.proofs.Steps.{idle-none, idle-some}
 use Rattle.kms_laws.proofs.SmallNumbers.{numbers_fit}
 use Rattle.kms_laws.proofs.Sizes.{command-there, IsThere}
+use Rattle.kms_core.specs.Run.{Run, machine}
+use Rattle.kms_core.specs.Stands.{Stores, Stands}
 
 pub idle_is : (d : Doing) → is_idle d ≡ true → d ≡ doing.Idle
 idle_is doing.Idle e = refl
@@ -66,3 +68,32 @@ may_idle s h client test st formed history stands asked =
 pub not_ended : (stalled may : Bool) → (not stalled && may) ≡ true → may ≡ true
 not_ended true may e = absurd cc
 not_ended false may e = e
+
+-- what the store has of a client that is idle at a command which passes a test
+pub record IsIdleAt (r : Run) (st : Stores) (client : ℕ) (test : Command → Bool) : Type 0 where
+  pub low : 1 ≤ client
+  pub high : client ≤ length r.script.clients
+  pub is_client : IsClient client
+  pub no_context : HasNoContext (place_of st.clients client).doing
+  pub command_fits : (place_of st.clients client).command < 4294967295
+  pub number : (place_of st.clients client).command ≡ (place_at (machine r) client).command
+  pub command : Command
+  pub at : command_at r.script (machine r) client ≡ Some command
+  pub passes : test command ≡ true
+
+pub idle_there : (r : Run) (st : Stores) (client : ℕ) (test : Command → Bool) → Stands r st → idle_at r.script (machine r) client test ≡ true → IsIdleAt r st client test
+idle_there r st client test stands idle =
+    let parts = idle_parts r.script (machine r) client test idle in
+    let there = client_there r.script (machine r) client parts.command parts.at in
+    let may = may_idle r.script r.steps client test st.clients stands.formed stands.history stands.stores.clients idle in
+    record {
+      low = there.0;
+      high = there.1;
+      is_client = may.is_client;
+      no_context = ap ticket_in may.idle;
+      command_fits = may.command_fits;
+      number = ap (λ (p : Place). p.command) (stands.stores.clients.places client may.is_client);
+      command = parts.command;
+      at = parts.at;
+      passes = parts.passes;
+    }

@@ -4,3 +4,4 @@ pub mod Stands
 pub mod Locks
 pub mod Decisions
 pub mod Swaps
+pub mod Calls

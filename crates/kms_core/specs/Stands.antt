@@ -1,21 +1,27 @@
 -- How the stores of a core stand for its machine: one part for each store.
-use Rattle.std.specs.Prelude.{ℕ, ◌≡◌, ◌≤◌, ◌<◌, ◌-◌, Bool, true, List, length, map, reverse, Option, None, slice_index_or}
+use Rattle.std.specs.Prelude.{ℕ, ◌≡◌, ◌≤◌, ◌<◌, ◌-◌, Bool, true, false, List, length, map, reverse, Option, None, slice_index_or}
+use Rattle.std.specs.List.{AllByRecursion}
 use Rattle.kms_model.specs.declared.objects.Kind.TheVariants.{Crtc}
 use Rattle.kms_model.specs.declared.objects.Topology.{Topology}
 use Rattle.kms_model.specs.declared.replies.Answered.{Answered}
 use Rattle.kms_model.specs.declared.runs.Latch.{Latch}
 use Rattle.kms_model.specs.declared.scripts.Script.{Script}
 use Rattle.kms_model.specs.declared.states.Duplicates.{Duplicates}
+use Rattle.kms_model.specs.declared.worlds.Content.{Content}
+use Rattle.kms_model.specs.declared.worlds.Content.TheVariants as content
+use Rattle.kms_model.specs.declared.worlds.Thing.{Thing}
 use Rattle.kms_model.specs.declared.worlds.World.{World}
 use Rattle.kms_model.specs.Device.Objects.{object_id}
 use Rattle.kms_model.specs.Device.Serial.{Entry}
+use Rattle.kms_model.specs.Machine.Commits.{has_number}
 use Rattle.kms_model.specs.Machine.Histories.{is_history}
 use Rattle.kms_model.specs.Machine.State.{Machine, DeviceState, Records, Events, go_at}
 use Rattle.kms_model.specs.Script.WellFormed.{IsWellFormed}
+use Rattle.kms_model.specs.Stores.Tables.{AreBelow}
 use Rattle.kms_clients.specs.InStep.{AreClientsOf}
 use Rattle.kms_clients.specs.Standing.{Standing}
 use Rattle.kms_regs.specs.File.{RegisterFile, StandsFor}
-use Rattle.kms_signal.specs.FenceSets.{FenceSet}
+use Rattle.kms_signal.specs.FenceSets.{FenceSet, is_made}
 use Rattle.kms_signal.specs.InStep.{AreFencesOf, IsQueueOf}
 use Rattle.kms_signal.specs.Queues.{Queue, empty_queue}
 use Rattle.kms_things.specs.Made.{Made}
@@ -59,6 +65,25 @@ pub record IsWorldOf (t : Topology) (w : World) (made : Made) (present : Duplica
   pub next_id : w.next_id ≡ made.next_id
   pub states : IsPresent t w present
 
+-- a thing that is a fence
+abbrev pub is_fence : Content → Bool
+is_fence content.Fence = true
+is_fence content.OutFence = true
+is_fence (content.Buffer width height format pattern) = false
+is_fence (content.Framebuffer info buffer) = false
+is_fence (content.Mode m) = false
+is_fence (content.Blob bytes) = false
+
+-- a thing that is a fence is one of those that were made
+abbrev pub IsMadeFence : FenceSet → Thing → Type 0
+IsMadeFence fences thing = is_fence thing.content ≡ true → is_made fences thing.id ≡ true
+
+-- the fences among a world's things were made, and those that are signalled; the next thing has an id above theirs
+pub record AreMadeFences (w : World) (signalled : List ℕ) (fences : FenceSet) : Type 0 where
+  pub made : AllByRecursion (IsMadeFence fences) w.things
+  pub made_before : (id : ℕ) → has_number signalled id ≡ true → is_made fences id ≡ true
+  pub below : AreBelow w.next_id fences.slots
+
 -- each client of a script has a queue of its events
 abbrev pub queue_of : List Queue → ℕ → Queue
 queue_of queues client = slice_index_or queues (client - 1) empty_queue
@@ -80,6 +105,7 @@ pub record StandsAt (s : Script) (m : Machine) (st : Stores) : Type 0 where
   pub recorded : AreRecords m.records st.journal.items st.replies.items st.latches.items
   pub world : IsWorldOf s.topology m.device.world st.made st.present
   pub fences : AreFencesOf st.fences m.device.signalled
+  pub fenced : AreMadeFences m.device.world m.device.signalled st.fences
   pub queues : AreQueues (length s.clients) m.events st.queues
   pub tracker : IsTrackerOf s.topology m.device.commits m.device.marks m.records.latches st.tracker
   pub registers : StandsFor s.topology m.device st.registers

@@ -41,7 +41,8 @@ use Rattle.kms_things.specs.Present.{IsAfter, IsPresent}
 use Rattle.kms_things.specs.Swapping.{swapped}
 use Rattle.kms_things.proofs.SwappedStates.{swapped_present}
 use Rattle.kms_model.proofs.FramedLemmas.{execution_keeps_framed}
-use Rattle.kms_serial.proofs.Executing.{IsSeenAfter, present_seen, seen_made, seen_same}
+use Rattle.kms_serial.proofs.Executing.{IsSeenAfter, seen_made, seen_same}
+use Rattle.kms_things.proofs.SeenStates.{present_seen}
 
 -- Out-fences
 

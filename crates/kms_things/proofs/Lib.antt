@@ -6,3 +6,4 @@ pub mod Images
 pub mod StatesBelow
 pub mod StartStates
 pub mod SwappedStates
+pub mod SeenStates

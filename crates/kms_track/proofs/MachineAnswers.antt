@@ -1,7 +1,8 @@
 -- What a tracker in step with the machine answers, in the machine's words.
-use Rattle.std.proofs.Common.{◌≡◌, ℕ, ◌<◌, List, [], ◌∷◌, length, Bool, true, false, Some, None, cond, inl, inr, refl, sym, ap, ◌∙◌}
+use Rattle.std.proofs.Common.{◌≡◌, ℕ, ◌<◌, List, [], ◌∷◌, length, Bool, true, false, Some, None, cond, inl, inr, arith, refl, sym, ap, ◌∙◌}
 use Rattle.std.specs.Prelude.{◌&&◌, ◌||◌, not, nat_lt, find, Option, if◌then◌else◌}
 use Rattle.std.specs.List.{list_all}
+use Rattle.std.proofs.lemmas.Bool.{cases_Bool, ltb-false, ltb-true}
 use Rattle.kms_model.specs.declared.objects.Kind.TheVariants.{Crtc}
 use Rattle.kms_model.specs.declared.objects.ObjId.{ObjId}
 use Rattle.kms_model.specs.declared.objects.Topology.{Topology}
@@ -21,8 +22,9 @@ use Rattle.kms_model.proofs.Items.{IsIn}
 use Rattle.kms_signal.specs.FenceSets.{FenceSet, is_signalled}
 use Rattle.kms_track.specs.InStep.{told_of, IsInStep, IsWithinPlaces, is_on, is_there, pending_pair, busy_answer}
 use Rattle.kms_track.specs.Places.{object_at, mask_has, all_below}
-use Rattle.kms_track.specs.Told.{Told, has_flipped, previous, is_settled_for, pending_at, pending_of}
-use Rattle.kms_track.specs.Tracking.{Tracking, ready_of, busy_of, with_object, unless}
+use Rattle.kms_track.specs.Told.{Told, KeepsCommit, has_flipped, previous, is_settled_for, pending_at, pending_of}
+use Rattle.kms_track.specs.Tracking.{Tracking, cleaned_of, commit_of, is_gone, ready_of, busy_of, with_object, unless}
+use Rattle.kms_track.specs.declared.commits.Pending.{Pending}
 use Rattle.kms_track.proofs.KeptAnswers.{ready_told, busy_told}
 use Rattle.kms_track.proofs.Lockables.{crtcs_all, all_lockable, first_lockable}
 use Rattle.kms_track.proofs.There.{crtc_off, crtc_on, on_place}
@@ -71,6 +73,20 @@ ready_machine t m v fences k step limits signals =
     ready_told told v fences k step.keeps
     ∙ (ap (λ b. nat_lt k (length m.device.commits) && (not (has_number m.device.marks.claimed k) && (b && all_below (λ p. not (is_on t (object_at p) && commit_touches t m.device.commits k (object_at p)) || is_settled_for told k (object_at p)) 28))) waited
     ∙ ap (λ b. nat_lt k (length m.device.commits) && (not (has_number m.device.marks.claimed k) && (list_all (has_number m.device.signalled) (waited_fences t m.device.commits k) && b))) settled)
+
+-- `is_cleaned` tells whether a commit is cleaned
+
+pub cleaned_machine : (t : Topology) (m : Machine) (v : Tracking) (k : ℕ) → IsInStep t m v → cleaned_of v k ≡ machine.is_cleaned m.device k
+cleaned_machine t m v k step =
+    let same = step.keeps.count in
+    elim (cases_Bool (nat_lt k v.count)) [
+      | inl low ↦ (let below = ltb-true k v.count low in rw low (kept (commit_of v k) (step.keeps.commits k (omega (arith, below, same)))))
+      | inr high ↦ (let above = ltb-false k v.count high in rw high (sym (step.untouched k (omega (arith, above, same))).cleaned))
+    ]
+  where
+    kept : (o : Option Pending) → KeepsCommit (told_of t m.device.commits m.device.marks m.records.latches) k o → is_gone o ≡ has_number m.device.marks.cleaned k
+    kept None keeps = sym keeps.0
+    kept (Some c) keeps = sym keeps.0
 
 -- Busy objects
 

@@ -6,7 +6,7 @@ use Rattle.kms_model.specs.declared.runs.Latch.{Latch}
 use Rattle.kms_model.specs.declared.scripts.Request.{Request}
 use Rattle.kms_model.specs.declared.states.Checked.{Checked}
 use Rattle.kms_model.specs.declared.states.Mask.{Mask}
-use Rattle.kms_model.specs.Machine.Commits.{waited_fences}
+use Rattle.kms_model.specs.Machine.Commits.{is_cleaned, waited_fences}
 use Rattle.kms_model.specs.Machine.State.{Commit, Marks, Machine, no_marks}
 use Rattle.kms_model.specs.Machine.Steps as steps
 use Rattle.kms_model.specs.Request.Touched.{touches, named_by}
@@ -17,7 +17,7 @@ use Rattle.kms_track.specs.InStep.{told_of, IsTrackerOf, IsInStep, IsCheckedFor,
 use Rattle.kms_track.specs.Laws.{no_tracking}
 use Rattle.kms_track.specs.Places.{object_at, mask_has}
 use Rattle.kms_track.specs.Told.{IsOver}
-use Rattle.kms_track.specs.Tracking.{Tracking, IsSetUp, changed, with_claim, with_done, with_latch, ready_of, busy_of, not_yet_of}
+use Rattle.kms_track.specs.Tracking.{Tracking, IsSetUp, changed, with_claim, with_done, with_latch, cleaned_of, ready_of, busy_of, not_yet_of}
 
 -- before the first step
 abbrev pub StandsAtFirst : Type 0
@@ -69,6 +69,10 @@ TellsClaim =
     → IsInStep t m v → IsWithinPlaces t → AreFencesOf fences m.device.signalled
     → list_all (is_made fences) (waited_fences t m.device.commits k) ≡ true
     → ready_of v fences k ≡ steps.may_claim t m k
+
+-- `is_cleaned` tells whether a commit is cleaned; one that is not set up is not.
+abbrev pub TellsCleaned : Type 0
+TellsCleaned = (t : Topology) (m : Machine) (v : Tracking) (k : ℕ) → IsInStep t m v → cleaned_of v k ≡ is_cleaned m.device k
 
 -- `busy`, of the objects that a request touches, tells the first that is pending, with the last commit that touched it.
 abbrev pub TellsPending : Type 0

@@ -117,6 +117,10 @@ abbrev pub is_gone : Option Pending → Bool
 is_gone None = true
 is_gone (Some c) = false
 
+-- a commit was set up and is cleaned
+abbrev pub cleaned_of : Tracking → ℕ → Bool
+cleaned_of v k = nat_lt k v.count && is_gone (commit_of v k)
+
 abbrev pub uncleaned : Tracking → Option ℕ → Option ℕ
 uncleaned v None = None
 uncleaned v (Some k) = unless (is_gone (commit_of v k)) k

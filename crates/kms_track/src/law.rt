@@ -2,7 +2,7 @@
 ghost use Rattle.kms_track.specs.Laws.{KeepsNothing, KeepsSetup, KeepsClaim, KeepsHwDone, KeepsLatch, KeepsCleanup, KeepsRoom, AnswersReady, AnswersBusy, AnswersNotYet};
 ghost use Rattle.kms_track.specs.MachineLaws.{StandsAtFirst, StandsAfterSetup, StandsAfterClaim, StandsAfterHwDone};
 ghost use Rattle.kms_track.specs.MachineLaws.{StandsAfterLatch, StandsAfterCleanup, StandsWithRoom};
-ghost use Rattle.kms_track.specs.MachineLaws.{TellsClaim, TellsPending, TellsAwaited, TellsReady};
+ghost use Rattle.kms_track.specs.MachineLaws.{TellsClaim, TellsCleaned, TellsPending, TellsAwaited, TellsReady};
 ghost use Rattle.kms_track.specs.StepLaws.{FollowsSwap, FollowsClaim, FollowsHwDone, FollowsFlush, FollowsFlushOff, FollowsVblank, FollowsVblankWithGo, FollowsCleanup, FollowsTheOthers};
 ghost use Rattle.kms_track.specs.StepLaws.{ChecksAreFollowed, TouchesAreFollowed, DevicesAreFollowed};
 
@@ -22,7 +22,7 @@ pub fn answers_what_it_was_told()
 {}
 
 /// While a tracker is told of each commit of a machine and of each of its marks and latches, it stands for them. `ready`
-/// is then the condition of a claim, `busy` tells the first object that is pending and its last commit, and `not_yet` the
+/// is then the condition of a claim, `is_cleaned` that of a return, `busy` tells the first object that is pending and its last commit, and `not_yet` the
 /// first CRTC that a request names and at which its swap waits, with the commit that it waits for; none exactly where the
 /// swap is ready. (Kernel: `drm_atomic_helper.c`, `drm_atomic_helper_setup_commit`,
 /// `drm_atomic_helper_wait_for_dependencies`.)
@@ -35,6 +35,7 @@ pub fn answers_as_the_machine()
     ensures cleanup { StandsAfterCleanup }
     ensures make_room { StandsWithRoom }
     ensures ready { TellsClaim }
+    ensures is_cleaned { TellsCleaned }
     ensures busy { TellsPending }
     ensures not_yet { TellsAwaited }
     ensures is_ready { TellsReady }

@@ -31,7 +31,7 @@ impl Model for Tracker {
 
 impl Tracker {
     ghost use Rattle.kms_track.specs.Laws.{no_tracking};
-    ghost use Rattle.kms_track.specs.Tracking.{ready_of, busy_of, busy_at, not_yet_of, not_yet_at, done_of, flipped_of, commit_of, is_settled, all_settled, no_last, changed, with_claim, with_done, with_latch, IsSetUp, unfinished, uncleaned, raised, last_at};
+    ghost use Rattle.kms_track.specs.Tracking.{cleaned_of, ready_of, busy_of, busy_at, not_yet_of, not_yet_at, done_of, flipped_of, commit_of, is_settled, all_settled, no_last, changed, with_claim, with_done, with_latch, IsSetUp, unfinished, uncleaned, raised, last_at};
 
     /// The tracker of no commit. It takes no memory.
     pub fn new(alloc: Global) -> Tracker
@@ -167,6 +167,13 @@ impl Tracker {
         ensures room { self.old.pending.room ≤ self.new.pending.room }
     {
         self.pending.remove(commit);
+    }
+
+    /// Whether a commit was set up and is cleaned.
+    pub fn is_cleaned(&self, commit: u32) -> bool
+        ensures { result ≡ cleaned_of self.now commit }
+    {
+        commit < self.count && self.pending.get(commit).is_none()
     }
 
     /// The first of these objects, by id, whose last commit has not flipped for it, with that commit. (Kernel:

@@ -2,7 +2,7 @@ use Rattle.kms_model.specs.Machine.Commits.{waited_fences}
 use Rattle.kms_model.proofs.Items.{list_all-at}
 use Rattle.kms_signal.specs.FenceSets.{is_made}
 use Rattle.kms_track.proofs.InStepLemmas.{first_in_step, setup_in_step, claim_in_step, hw_done_in_step, latch_in_step, cleanup_in_step, room_in_step}
-use Rattle.kms_track.proofs.MachineAnswers.{ready_machine, busy_machine}
+use Rattle.kms_track.proofs.MachineAnswers.{ready_machine, busy_machine, cleaned_machine}
 use Rattle.kms_track.proofs.NotYetAnswers.{awaited_told, not_yet_machine}
 use Rattle.kms_track.proofs.law.answers_as_the_machine.Goals as goal
 
@@ -17,6 +17,7 @@ returns c = record {
   make_room = λ t cs marks latches v w step count lasts slots. room_in_step t cs marks latches v w count lasts slots step;
   ready = λ t m v fences k step limits stand made.
       ready_machine t m v fences k step limits (λ id there. stand.same id (list_all-at (is_made fences) (waited_fences t m.device.commits k) id made there));
+  is_cleaned = λ t m v k step. cleaned_machine t m v k step;
   busy = λ t m v mask r step limits named. busy_machine t m v mask r step limits named;
   not_yet = λ t m v r step limits. awaited_told t m v r step limits;
   is_ready = λ t m v r step limits. not_yet_machine t m v r step limits;

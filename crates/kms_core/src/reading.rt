@@ -1,0 +1,62 @@
+//! Events that clients read, and commits that they wait for.
+ghost use Rattle.std.specs.Prelude.{◌≡◌, IfOk};
+ghost use Rattle.kms_core.specs.Calls.{MayRead, MayReturn, is_over_at, read_at, read_reply, read_step, return_step};
+ghost use Rattle.kms_core.specs.Run.{Run, machine, gains, if_ok};
+
+use crate::core::Core;
+use crate::records::{answer, make_room};
+use kms_model::{Doing, NoMemory, Reply, Step};
+use kms_signal::EventQueue;
+
+impl Core {
+    /// Reads the oldest unread event for a client that is idle at a `wait`, or answers that none will come where none is
+    /// reserved, and lets the client go on. None exactly where nothing is unread and something is reserved: then nothing
+    /// changes. Want of memory leaves all as it was. (Kernel: `drm_file.c`, `drm_read`.)
+    pub fn read(&mut self, client: u32) -> Result<Option<Reply>, NoMemory>
+        requires { MayRead self.old client }
+        ensures reply { IfOk result (λ reply. reply ≡ read_at self.old client) }
+        ensures history { self.new ≡ gains self.old (if_ok result (read_step client)) }
+    {
+        let Some(reply) = next_reply(&self.queues[(client - 1) as usize]) else {
+            return Ok(None);
+        };
+        make_room(&mut self.steps, &mut self.journal, &mut self.replies)?;
+        let number = self.clients.place(client).command;
+        let _ = self.queues[(client - 1) as usize].read();
+        answer(&self.journal, &mut self.replies, client, number, reply);
+        self.clients.go_on(client);
+        self.steps.push(Step::Read { client });
+        Ok(Some(reply))
+    }
+
+    /// Lets a client that waits for its commit go on, where the commit is cleaned; else nothing changes. The client has a
+    /// number from 1 to that of the clients. Want of memory leaves all as it was. (Kernel: `drm_atomic_helper_commit` of a
+    /// commit that blocks, which returns after its commit tail.)
+    pub fn return_from(&mut self, client: u32) -> Result<bool, NoMemory>
+        requires { MayReturn self.old client }
+        ensures answer { IfOk result (λ over. over ≡ is_over_at self.old client) }
+        ensures history { self.new ≡ gains self.old (if_ok result (return_step client)) }
+    {
+        let Doing::Returning(commit) = self.clients.place(client).doing else {
+            unreachable!();
+        };
+        if !self.tracker.is_cleaned(commit) {
+            return Ok(false);
+        }
+        self.steps.make_room(1)?;
+        self.clients.go_on(client);
+        self.steps.push(Step::Return { client });
+        Ok(true)
+    }
+}
+
+/// What a `wait` is answered by a queue of events, where it does not have to wait.
+fn next_reply(queue: &EventQueue) -> Option<Reply>
+    ensures { result ≡ read_reply queue.now.unread queue.now.reserved }
+{
+    match queue.oldest() {
+        Some(event) => Some(Reply::Event(event)),
+        None if queue.reserved() == 0 => Some(Reply::NoEvent),
+        None => None,
+    }
+}
