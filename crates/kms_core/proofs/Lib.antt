@@ -13,3 +13,4 @@ mod Lates
 mod Returned
 mod Recorded
 mod Delivered
+mod States

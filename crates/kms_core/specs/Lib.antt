@@ -5,3 +5,4 @@ pub mod Locks
 pub mod Decisions
 pub mod Swaps
 pub mod Calls
+pub mod Settled

@@ -6,6 +6,7 @@ mod contexts;
 mod core;
 mod deciding;
 mod logs;
+mod present;
 mod reading;
 mod records;
 mod swapping;
