@@ -14,3 +14,4 @@ mod Returned
 mod Recorded
 mod Delivered
 mod States
+mod Committed
