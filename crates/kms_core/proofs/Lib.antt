@@ -15,3 +15,6 @@ mod Recorded
 mod Delivered
 mod States
 mod Committed
+mod Fencing
+mod Executed
+mod Signalled

@@ -46,10 +46,14 @@ abbrev pub with_fence_of : Command → ℕ → List (Slot Bool) → List (Slot B
 with_fence_of (command.Fence label) id slots = slots ++ slot id false ∷ []
 with_fence_of _ id slots = slots
 
+abbrev pub fence_if_done : Reply → Option Thing → Option ℕ
+fence_if_done reply.Done thing = id_of_thing thing
+fence_if_done _ thing = None
+
 -- the fence that a `signal` signals, where that is done
 abbrev pub fence_of : List Thing → Command → Reply → Option ℕ
-fence_of things (command.Signal label) reply.Done = id_of_thing (thing_labelled things label)
-fence_of things _ _ = None
+fence_of things (command.Signal label) r = fence_if_done r (thing_labelled things label)
+fence_of things _ r = None
 
 -- Events
 

@@ -6,10 +6,14 @@ mod contexts;
 mod core;
 mod deciding;
 mod logs;
+mod making;
 mod present;
+mod queries;
 mod reading;
 mod records;
 mod swapping;
+#[cfg(test)]
+mod tests;
 
 pub use core::Core;
 pub use deciding::Decided;

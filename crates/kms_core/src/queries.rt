@@ -1,0 +1,93 @@
+//! What a machine tells of itself. None of these calls takes memory.
+ghost use Rattle.std.specs.Prelude.{◌≡◌, ◌≤◌, ◌<◌, IfNone, IfSome, None, Some, is_some, length, map, reverse, true};
+ghost use Rattle.kms_model.specs.declared.objects.Kind.TheVariants.{Crtc};
+ghost use Rattle.kms_model.specs.Device.Objects.{object_id};
+ghost use Rattle.kms_model.specs.Device.States.{framebuffer_of};
+ghost use Rattle.kms_model.specs.Device.World.{thing_with_id};
+ghost use Rattle.kms_model.specs.Frames.Images.{image_of};
+ghost use Rattle.kms_model.specs.Machine.Histories as told;
+ghost use Rattle.kms_model.specs.Machine.Histories.{is_history};
+ghost use Rattle.kms_model.specs.Machine.State.{go_at, place_at};
+ghost use Rattle.kms_core.specs.Run.{machine};
+ghost use Rattle.kms_core.specs.Stands.{entry_pair};
+
+use crate::core::Core;
+use kms_model::{Answered, Image, Latch, Place, Script, Step};
+
+impl Core {
+    /// The script.
+    pub fn script(&self) -> &Script
+        ensures { result.now ≡ self.now.script }
+    {
+        &self.script
+    }
+
+    /// The steps so far, the oldest first.
+    pub fn history(&self) -> &[Step]
+        ensures { result.now ≡ self.now.steps }
+    {
+        self.steps.as_slice()
+    }
+
+    /// The steps so far are a history of the script: each was legal after those before it.
+    pub fn is_a_history(&self)
+        ensures { is_history self.now.script self.now.steps ≡ true }
+    {
+        let _ = &self.script;
+    }
+
+    /// The accepted commands in order of time, each by its client and its number, both counted from 1.
+    pub fn journal(&self) -> &[(u32, u32)]
+        ensures { result.now ≡ map entry_pair (told.journal (machine self.now)) }
+    {
+        self.journal.as_slice()
+    }
+
+    /// The replies in order of time.
+    pub fn replies(&self) -> &[Answered]
+        ensures { result.now ≡ told.replies (machine self.now) }
+    {
+        self.replies.as_slice()
+    }
+
+    /// The latches in order of time.
+    pub fn latched(&self) -> &[Latch]
+        ensures { result.now ≡ reverse (machine self.now).records.latches }
+    {
+        self.latches.as_slice()
+    }
+
+    /// Where a client stands, given by its number from 1 to that of the clients. At its end it is idle at the number after
+    /// its last command.
+    pub fn place(&self, client: u32) -> Place
+        requires low { 1 ≤ client }
+        requires high { client ≤ length self.now.script.clients }
+        ensures { result ≡ place_at (machine self.now) client }
+    {
+        self.clients.place(client)
+    }
+
+    /// Whether the CRTC with an index, from 0 to 3, latches a commit at its next vertical blanking.
+    pub fn has_go(&self, crtc: u32) -> bool
+        requires { crtc < 4 }
+        ensures { result ≡ is_some (go_at (machine self.now).device (object_id Crtc crtc)) }
+    {
+        self.goes[crtc as usize].is_some()
+    }
+
+    /// The words of a framebuffer's buffer, also after the framebuffer was closed; none exactly where no framebuffer ever
+    /// had the id.
+    pub fn image(&self, fb: u32) -> Option<Image<'_>>
+        ensures some { IfSome result (λ image.
+            image_of (machine self.now).device.world.things fb ≡ Some (record {
+              width = image.width;
+              height = image.height;
+              format = image.format;
+              words = image.words.now;
+            })) }
+        ensures none { IfNone result
+            (framebuffer_of (thing_with_id (machine self.now).device.world.things fb) ≡ None) }
+    {
+        self.things.image(fb)
+    }
+}
