@@ -85,6 +85,7 @@ decided_stands r v st client command place step reply clients replies more befor
       };
       world = stands.stores.world;
       fences = stands.stores.fences;
+      fenced = stands.stores.fenced;
       queues = stands.stores.queues;
       tracker = stands.stores.tracker;
       registers = stands.stores.registers;

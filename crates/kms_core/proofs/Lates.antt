@@ -3,6 +3,7 @@ use Rattle.std.proofs.Common.{◌≡◌, ℕ, zero, suc, ◌+◌, ◌*◌, ◌-�
 use Rattle.std.specs.Prelude.{Option, filter, slice_index_or, ◌&&◌, ◌||◌, not, is_none, is_some, nat_lt, if◌then◌else◌}
 use Rattle.std.specs.List.{range_with_len}
 use Rattle.std.proofs.lemmas.Bool.{and_from, or_right}
+use Rattle.std.proofs.lemmas.List.{get_or_default}
 use Rattle.kms_model.specs.declared.objects.Kind.TheVariants.{Crtc}
 use Rattle.kms_model.specs.declared.objects.ObjId.{ObjId}
 use Rattle.kms_model.specs.declared.objects.Topology.{Topology}
@@ -227,16 +228,11 @@ swap_may r v st client checked flags q stands same asked q_is is awaited_is =
     ∙ ap (λ (o : Option (ObjId × ℕ)). is_none o) (sym (awaited_is ∙ ap (not_yet_of st.tracker) now.checked_as.named)) in
     subst (λ (x : Run). legal x.script (machine x) (step.Swap client) ≡ true) same (swap_is_legal r client checked flags now late_is ready)
 
--- an item that an index finds, whatever stands for one that is not there
-either_default : {A : Type 0} (xs : List A) (i : ℕ) (d e : A) → i < length xs → slice_index_or xs i d ≡ slice_index_or xs i e
-either_default [] i d e low = absurd (omega (arith, low))
-either_default (x ∷ xs) zero d e low = refl
-either_default (x ∷ xs) (suc i) d e low = either_default xs i d e (omega (arith, low))
-
+-- the queue at a client's index
 pub indexed_queue : (r v : Run) (st : Stores) (client : ℕ) (checked : Checked) (flags : ℕ) (q : Queue) → Stands r st → r ≡ v → IsReadyToCommit v client checked flags → q ≡ slice_index_or st.queues (client - 1) q → q ≡ queue_of st.queues client
 indexed_queue r v st client checked flags q stands same asked is =
     let queue = own_queue r st client checked flags (subst (λ (x : Run). IsReadyToCommit x client checked flags) (sym same) asked) stands in
-    is ∙ either_default st.queues (client - 1) q empty_queue queue.within
+    is ∙ get_or_default st.queues (client - 1) q empty_queue queue.within
 
 pub few_events : (r v : Run) (st : Stores) (client : ℕ) (checked : Checked) (flags : ℕ) (q : Queue) → Stands r st → r ≡ v → IsReadyToCommit v client checked flags → q ≡ slice_index_or st.queues (client - 1) q → q.reserved + length q.unread ≤ 128
 few_events r v st client checked flags q stands same asked is =

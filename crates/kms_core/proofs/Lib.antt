@@ -6,15 +6,29 @@ mod Stored
 mod Locking
 mod BackingOff
 mod First
-mod Returned
-mod Recorded
-mod Delivered
-mod Fencing
-mod Executed
-mod Signalled
+<<<<<<< HEAD
+=======
 mod Answering
 mod Takers
 mod Fresh
 mod Verdicts
 mod Accepted
 mod Lates
+>>>>>>> 3d9da2f32f77fc679c79a33b53b36d9ab4f89642
+mod Returned
+mod Recorded
+mod Delivered
+mod States
+mod Committed
+mod Fencing
+mod Executed
+mod Signalled
+<<<<<<< HEAD
+mod Answering
+mod Takers
+mod Fresh
+mod Verdicts
+mod Accepted
+mod Lates
+=======
+>>>>>>> 3d9da2f32f77fc679c79a33b53b36d9ab4f89642

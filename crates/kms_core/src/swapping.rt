@@ -68,7 +68,7 @@ fn one_if(b: bool) -> u32
 }
 
 /// How many of the first four objects are in a set.
-fn count_in(mask: u32) -> u32
+pub(crate) fn count_in(mask: u32) -> u32
     ensures count { result ≡ count_in mask }
     ensures most { result ≤ 4 }
 {
@@ -107,7 +107,12 @@ fn busy_reply(tracker: &Tracker, flags: u32, touched: &Mask) -> Option<Reply>
 
 /// The refusal of an accepted request, if any: there is no space for its events in its client's queue, or it does not wait
 /// and is busy. (Kernel: `drm_event_reserve_init`, `drm_atomic_helper_setup_commit`.)
-fn late_reply(queue: &EventQueue, tracker: &Tracker, checked: &Checked, flags: u32) -> Option<Reply>
+pub(crate) fn late_reply(
+    queue: &EventQueue,
+    tracker: &Tracker,
+    checked: &Checked,
+    flags: u32,
+) -> Option<Reply>
     requires { queue.now.reserved + length queue.now.unread ≤ 128 }
     ensures { result ≡ late_told queue.now tracker.now checked.now flags }
 {

@@ -78,7 +78,7 @@ module _ (t : Topology) (w : World) (r : Request) (at : IsRequestAt t w r) (o : 
       (λ i within. routed-unnamed t w r Conn o (object_id Conn i) at refl (ids-has t Conn i within) parts.1) in
       λ i. state_with (active i) (mode i) (planes i) (conns i)
 
-  untouched_same : (n : ℕ) → HasSameState t w (record w { values = after w r; commits = n }) o
+  pub untouched_same : (n : ℕ) → HasSameState t w (record w { values = after w r; commits = n }) o
   untouched_same n = record {
     plane = λ e. plane_frame t w r at o (in_kind t Plane o few is_there e) untouched;
     connector = λ e. crtc_at-unset w r o (or_parts (sets r.assigns o) (is_affected t w.things w.values (after w r) o) (of_its_kind Conn e)).0;

@@ -1,0 +1,21 @@
+-- The present states of a device's objects after a commit. From: drm_atomic_helper_swap_state.
+use Rattle.std.specs.Prelude.{◌≡◌, ℕ, List, length, Option, Some, None, slice_index_or}
+use Rattle.kms_model.specs.declared.states.Both.{Both}
+use Rattle.kms_model.specs.declared.states.Duplicates.{Duplicates}
+use Rattle.kms_things.specs.Starting.{alike}
+
+-- the state of an object of the device: the new one where it was checked, else as it was
+abbrev pub settled : {S : Type 0} → Option (Both S) → Option (Both S) → Option (Both S)
+settled None checked = None
+settled (Some present) None = Some present
+settled (Some present) (Some checked) = Some (alike checked.new)
+
+-- the states of all objects of a kind are so
+pub record AreSettled (S : Type 0) (present checked after : List (Option (Both S))) : Type 0 where
+  pub size : length after ≡ length present
+  pub at : (index : ℕ) → slice_index_or after index None ≡ settled (slice_index_or present index None) (slice_index_or checked index None)
+
+pub record IsSettled (present checked after : Duplicates) : Type 0 where
+  pub crtcs : AreSettled _ present.crtcs checked.crtcs after.crtcs
+  pub planes : AreSettled _ present.planes checked.planes after.planes
+  pub conns : AreSettled _ present.conns checked.conns after.conns

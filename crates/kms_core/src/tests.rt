@@ -1,0 +1,126 @@
+use crate::deciding::{Stale, first_stale, taker};
+use crate::present::present_after;
+use crate::swapping::{count_in, late_reply};
+use kms_clients::Clients;
+use kms_model::{
+    Both, Checked, CrtcState, Duplicates, Look, Lookups, Mask, NoMemory, Reply, Ticket,
+};
+use kms_signal::EventQueue;
+use kms_things::Things;
+use kms_track::Tracker;
+use std::test::Fail;
+
+fn no_states() -> Duplicates {
+    Duplicates {
+        crtcs: [None; 4],
+        planes: [None; 16],
+        conns: [None; 8],
+    }
+}
+
+fn checked(named: u32) -> Checked {
+    Checked {
+        states: no_states(),
+        named,
+        touched: Mask {
+            crtcs: named,
+            planes: 0,
+            conns: 0,
+        },
+    }
+}
+
+#[test]
+fn the_first_look_up_that_differs_is_told(rt: HostRuntime) -> Result<(), NoMemory> {
+    let things = Things::new(rt.alloc());
+    let mut used = Lookups::new(rt.alloc());
+    used.push((3, Look::Missing))?;
+    assert!(rt; first_stale(&things, &used).is_none(), "nothing was made");
+    used.push((4, Look::Fence(1000)))?;
+    used.push((5, Look::Closed))?;
+    let Some(Stale { label, was, now }) = first_stale(&things, &used) else {
+        panic!(rt; "label 4 names nothing now");
+    };
+    assert_eq!(rt; label, 4);
+    assert_eq!(rt; was, Look::Fence(1000));
+    assert_eq!(rt; now, Look::Missing);
+    Ok(())
+}
+
+#[test]
+fn no_client_takes_locks_before_one_begins(rt: HostRuntime) -> Result<(), Fail> {
+    let clients = Clients::new(rt.alloc());
+    assert_eq!(rt; taker(&clients, Ticket(0)), 0);
+    Ok(())
+}
+
+#[test]
+fn named_crtcs_are_counted(rt: HostRuntime) -> Result<(), Fail> {
+    assert_eq!(rt; count_in(0), 0);
+    assert_eq!(rt; count_in(0b1010), 2);
+    assert_eq!(rt; count_in(0b1111), 4);
+    Ok(())
+}
+
+#[test]
+fn an_empty_queue_has_space_and_nothing_is_busy(rt: HostRuntime) -> Result<(), Fail> {
+    let queue = EventQueue::new(rt.alloc());
+    let tracker = Tracker::new(rt.alloc());
+    assert_eq!(rt;
+        late_reply(&queue, &tracker, &checked(0b1111), 0x201),
+        None::<Reply>
+    );
+    Ok(())
+}
+
+#[test]
+fn a_full_queue_has_no_space(rt: HostRuntime) -> Result<(), Fail> {
+    let mut queue = EventQueue::new(rt.alloc());
+    let tracker = Tracker::new(rt.alloc());
+    assert_eq!(rt; queue.reserve(rt.alloc(), 127), Ok(()));
+    let full = Some(Reply::Space { used: 4064 });
+    assert_eq!(rt; late_reply(&queue, &tracker, &checked(0b11), 0x1), full);
+    assert_eq!(rt;
+        late_reply(&queue, &tracker, &checked(0b1), 0x1),
+        None::<Reply>,
+        "one fits"
+    );
+    assert_eq!(rt;
+        late_reply(&queue, &tracker, &checked(0b11), 0),
+        None::<Reply>,
+        "no events"
+    );
+    Ok(())
+}
+
+#[test]
+fn states_that_were_checked_become_present(rt: HostRuntime) -> Result<(), Fail> {
+    let on = CrtcState {
+        active: true,
+        ..CrtcState::OFF
+    };
+    let off = Both {
+        old: CrtcState::OFF,
+        new: CrtcState::OFF,
+    };
+    let mut present = no_states();
+    present.crtcs = [Some(off), Some(off), None, None];
+    let mut states = no_states();
+    states.crtcs = [
+        None,
+        Some(Both {
+            old: CrtcState::OFF,
+            new: on,
+        }),
+        Some(off),
+        None,
+    ];
+    let after = present_after(&present, &states);
+    let first = after.crtcs[0].ok_or("the first stays")?;
+    assert_eq!(rt; first.new, CrtcState::OFF);
+    let second = after.crtcs[1].ok_or("the second changes")?;
+    assert_eq!(rt; second.old, on);
+    assert_eq!(rt; second.new, on);
+    assert!(rt; after.crtcs[2].is_none(), "not on the device");
+    Ok(())
+}
