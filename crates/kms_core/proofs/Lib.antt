@@ -6,15 +6,12 @@ mod Stored
 mod Locking
 mod BackingOff
 mod First
-<<<<<<< HEAD
-=======
 mod Answering
 mod Takers
 mod Fresh
 mod Verdicts
 mod Accepted
 mod Lates
->>>>>>> 3d9da2f32f77fc679c79a33b53b36d9ab4f89642
 mod Returned
 mod Recorded
 mod Delivered
@@ -23,12 +20,3 @@ mod Committed
 mod Fencing
 mod Executed
 mod Signalled
-<<<<<<< HEAD
-mod Answering
-mod Takers
-mod Fresh
-mod Verdicts
-mod Accepted
-mod Lates
-=======
->>>>>>> 3d9da2f32f77fc679c79a33b53b36d9ab4f89642

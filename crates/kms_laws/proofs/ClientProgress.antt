@@ -26,12 +26,8 @@ use Rattle.kms_model.specs.Request.Reach.{reaches}
 use Rattle.kms_model.specs.Request.Touched.{touches}
 use Rattle.kms_model.specs.Request.Verdict.{early_in, late_in, verdict}
 use Rattle.kms_model.proofs.Items.{IsIn, IsObject, ids-in, list_all-from, or_else-nones}
-<<<<<<< HEAD
 use Rattle.kms_model.proofs.ReachLaw.{reach-is}
-=======
 use Rattle.kms_laws.specs.Laws.{has_context}
-use Rattle.kms_request.proofs.ReachLaw.{reach-is}
->>>>>>> ed08cc838cca104bffdbe66a5f11f87cd05b7763
 use Rattle.kms_laws.proofs.Basics.{both_bools, in_either, in_left, in_right}
 use Rattle.kms_laws.proofs.EventCounts.{counts-same}
 use Rattle.kms_laws.proofs.EventsKept.{awaited}
