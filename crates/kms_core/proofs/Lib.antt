@@ -10,3 +10,4 @@ mod Delivered
 mod Fencing
 mod Executed
 mod Signalled
+mod IdleAt
