@@ -119,7 +119,7 @@ reads_event r v st client answer clients journal replies queues before steps sta
     let there = idle_reader r v st client stands same now in
     let queue = stands.stores.queues.queue client there.low there.high in
     let told : read_reply (unread_at m.events client) (reserved_at m.events client) ≡ Some answer =
-        sym (ap (λ events. read_reply events (queue_of st.queues client).reserved) queue.unread ∙ ap (λ n. read_reply (unread_at m.events client) n) queue.reserved) ∙ has.told in
+    sym (ap (λ events. read_reply events (queue_of st.queues client).reserved) queue.unread ∙ ap (λ n. read_reply (unread_at m.events client) n) queue.reserved) ∙ has.told in
     goes_on r st (record st { clients = clients; journal = journal; replies = replies; queues = queues }) (step.Read client) steps (more ∙ ap (λ (xs : List Step). xs ++ step.Read client ∷ []) is) stands
     (and_from (not m.stalled) _ (ap not asked.going) (and_from _ _ asked.idle (may_read (unread_at m.events client) (reserved_at m.events client) answer told)))
     (read_stands r.script m client (unread_at m.events client) answer st clients journal replies queues told has.clients_stand

@@ -69,7 +69,7 @@ ready_machine t m v fences k step limits signals =
     let settled : all_below (λ p. not (is_on t (object_at p) && commit_touches t m.device.commits k (object_at p)) || is_settled_for told k (object_at p)) 28
     ≡ list_all (λ object. not (commit_touches t m.device.commits k object) || steps.is_settled_for t m k object) (lockable t) =
     all_lockable t _ _ limits (λ p within there. (let on : is_on t (object_at p) ≡ true = on_place t p within ∙ there in
-        ap (λ b. not (b && commit_touches t m.device.commits k (object_at p)) || is_settled_for told k (object_at p)) on ∙ ap (λ b. not (commit_touches t m.device.commits k (object_at p)) || b) (settled_machine t m k p on limits))) (λ p within gone. rw (on_place t p within ∙ gone) refl) in
+    ap (λ b. not (b && commit_touches t m.device.commits k (object_at p)) || is_settled_for told k (object_at p)) on ∙ ap (λ b. not (commit_touches t m.device.commits k (object_at p)) || b) (settled_machine t m k p on limits))) (λ p within gone. rw (on_place t p within ∙ gone) refl) in
     ready_told told v fences k step.keeps
     ∙ (ap (λ b. nat_lt k (length m.device.commits) && (not (has_number m.device.marks.claimed k) && (b && all_below (λ p. not (is_on t (object_at p) && commit_touches t m.device.commits k (object_at p)) || is_settled_for told k (object_at p)) 28))) waited
     ∙ ap (λ b. nat_lt k (length m.device.commits) && (not (has_number m.device.marks.claimed k) && (list_all (has_number m.device.signalled) (waited_fences t m.device.commits k) && b))) settled)
