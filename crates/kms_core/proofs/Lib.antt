@@ -20,3 +20,4 @@ mod Committed
 mod Fencing
 mod Executed
 mod Signalled
+mod IdleAt

@@ -18,7 +18,7 @@ use Rattle.kms_model.specs.Device.World.{thing_labelled}
 use Rattle.kms_model.specs.Machine.Commits.{id_of_thing, is_cleaned}
 use Rattle.kms_model.specs.Machine.Histories.{legal}
 use Rattle.kms_model.specs.Machine.State.{Machine, command_at, doing_at, reserved_at, unread_at}
-use Rattle.kms_model.specs.Machine.Steps.{idle_at, is_wait, returning_of}
+use Rattle.kms_model.specs.Machine.Steps.{idle_at, is_idle, is_wait, returning_of}
 use Rattle.kms_model.specs.Stores.Tables.{slot}
 use Rattle.kms_core.specs.Run.{Run, machine}
 
@@ -54,6 +54,14 @@ fence_if_done _ thing = None
 abbrev pub fence_of : List Thing → Command → Reply → Option ℕ
 fence_of things (command.Signal label) r = fence_if_done r (thing_labelled things label)
 fence_of things _ r = None
+
+abbrev pub only_if : Bool → Option Command → Option Command
+only_if false c = None
+only_if true c = c
+
+-- the command at which a client is idle
+abbrev pub idle_command_at : Run → ℕ → Option Command
+idle_command_at r client = only_if (is_idle (doing_at (machine r) client)) (command_at r.script (machine r) client)
 
 -- Events
 

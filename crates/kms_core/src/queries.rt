@@ -1,5 +1,5 @@
 //! What a machine tells of itself. None of these calls takes memory.
-ghost use Rattle.std.specs.Prelude.{◌≡◌, ◌≤◌, ◌<◌, IfNone, IfSome, None, Some, is_some, length, map, reverse, true};
+ghost use Rattle.std.specs.Prelude.{◌≡◌, ◌≤◌, ◌<◌, IfNone, IfSome, None, Some, is_some, length, map, option_copied, reverse, true};
 ghost use Rattle.kms_model.specs.declared.objects.Kind.TheVariants.{Crtc};
 ghost use Rattle.kms_model.specs.Device.Objects.{object_id};
 ghost use Rattle.kms_model.specs.Device.States.{framebuffer_of};
@@ -8,11 +8,13 @@ ghost use Rattle.kms_model.specs.Frames.Images.{image_of};
 ghost use Rattle.kms_model.specs.Machine.Histories as told;
 ghost use Rattle.kms_model.specs.Machine.Histories.{is_history};
 ghost use Rattle.kms_model.specs.Machine.State.{go_at, place_at};
+ghost use Rattle.kms_core.specs.Calls.{idle_command_at};
 ghost use Rattle.kms_core.specs.Run.{machine};
 ghost use Rattle.kms_core.specs.Stands.{entry_pair};
 
+use crate::commands::command_of;
 use crate::core::Core;
-use kms_model::{Answered, Image, Latch, Place, Script, Step};
+use kms_model::{Answered, Command, Doing, Image, Latch, Place, Script, Step};
 
 impl Core {
     /// The script.
@@ -65,6 +67,28 @@ impl Core {
         ensures { result ≡ place_at (machine self.now) client }
     {
         self.clients.place(client)
+    }
+
+    /// The command at which a client is idle; none where it is at its end, has an acquire context or returns, and where
+    /// there is no such client.
+    pub fn idle_command(&self, client: u32) -> Option<&Command>
+        ensures { option_copied result ≡ idle_command_at self.now client }
+    {
+        if client == 0 || client as usize > self.script.clients.len() {
+            return None;
+        }
+        let place = self.clients.place(client);
+        match place.doing {
+            Doing::Idle => command_of(&self.script, client, place.command),
+            _ => None,
+        }
+    }
+
+    /// Whether the history was ended: no step is legal any more.
+    pub fn is_stalled(&self) -> bool
+        ensures { result ≡ (machine self.now).stalled }
+    {
+        self.stalled
     }
 
     /// Whether the CRTC with an index, from 0 to 3, latches a commit at its next vertical blanking.
