@@ -1,9 +1,9 @@
 -- Steps that leave parts of the machine as they are.
-use Rattle.std.proofs.Common.{◌≡◌, ℕ, Bool, List, length, Option, Some, None, refl}
+use Rattle.std.proofs.Common.{◌≡◌, ℕ, List, length, Option, Some, None, refl}
 use Rattle.kms_model.specs.declared.replies.Answered.{Answered}
 use Rattle.kms_model.specs.declared.scripts.Script.{Script}
 use Rattle.kms_model.specs.declared.worlds.World.{World}
-use Rattle.kms_model.specs.Machine.Effects.{goes_on, next, locked, relocked}
+use Rattle.kms_model.specs.Machine.Effects.{goes_on, locked, relocked}
 use Rattle.kms_model.specs.Machine.State.{Events, Machine, Records}
 use Rattle.kms_clients.specs.InStep.{AreClientsOf}
 use Rattle.kms_clients.specs.Standing.{Standing}

@@ -1,8 +1,6 @@
 -- Commands that are executed at once, and what they leave.
-use Rattle.std.proofs.Common.{◌≡◌, ℕ, ◌<◌, Bool, true, false, List, [], ◌∷◌, ◌++◌, length, Option, Some, None, refl, sym, ap, ◌∙◌, subst, arith}
-use Rattle.std.specs.Prelude.{◌&&◌, not}
+use Rattle.std.proofs.Common.{◌≡◌, ℕ, Bool, true, false, List, [], ◌∷◌, ◌++◌, length, Option, Some, None, refl, sym, ap, ◌∙◌, subst, arith}
 use Rattle.std.specs.Option.{option_and_then}
-use Rattle.std.proofs.lemmas.Bool.{and_parts}
 use Rattle.kms_model.specs.declared.objects.Topology.{Topology}
 use Rattle.kms_model.specs.declared.replies.Answered.{Answered}
 use Rattle.kms_model.specs.declared.replies.Reply.{Reply}
@@ -18,7 +16,7 @@ use Rattle.kms_model.specs.Device.Serial.{Entry, command_of, from_one, is_accept
 use Rattle.kms_model.specs.Machine.Effects.{answers, executed, joins_if, made_thing, next, goes_on as client_goes_on}
 use Rattle.kms_model.specs.Machine.Histories.{legal}
 use Rattle.kms_model.specs.Machine.State.{Machine, Records, command_at, place_at}
-use Rattle.kms_model.specs.Machine.Steps.{idle_at, is_atomic, is_making, is_signal, may}
+use Rattle.kms_model.specs.Machine.Steps.{is_atomic, is_making, may}
 use Rattle.kms_model.specs.Script.WellFormed.{IsFitClient, IsFitCommand, IsWellFormed}
 use Rattle.kms_clients.specs.InStep.{AreClientsOf}
 use Rattle.kms_clients.specs.Standing.{Standing, place_of}
@@ -35,7 +33,7 @@ use Rattle.kms_things.specs.Present.{IsPresent}
 use Rattle.kms_core.specs.Calls.{MayMake, answered, joined, reply_at, reply_to_command, with_fence_of}
 use Rattle.kms_core.specs.Logs.{Logged}
 use Rattle.kms_core.specs.Run.{Run, machine}
-use Rattle.kms_core.specs.Stands.{AreMadeFences, AreRecords, IsWorldOf, Stores, Stands, StandsAt}
+use Rattle.kms_core.specs.Stands.{AreMadeFences, IsWorldOf, Stores, Stands, StandsAt}
 use Rattle.kms_core.proofs.Beside.{moved, stands_moved}
 use Rattle.kms_core.proofs.Fencing.{executed_fenced, made_stand, same_fences, same_slots}
 use Rattle.kms_core.proofs.Histories.{goes_on}

@@ -1,10 +1,9 @@
 -- The fences among the things, after commands that make, close and signal.
-use Rattle.std.proofs.Common.{◌≡◌, ℕ, ◌+◌, ◌≤◌, ◌<◌, Bool, true, false, List, [], ◌∷◌, ◌++◌, Option, Some, None, inl, inr, refl, sym, ap, ◌∙◌, subst, arith}
-use Rattle.std.specs.Prelude.{◌==◌, not, is_some, if◌then◌else◌}
+use Rattle.std.proofs.Common.{◌≡◌, ℕ, ◌+◌, ◌≤◌, Bool, true, false, List, [], ◌∷◌, ◌++◌, Option, Some, None, inl, inr, refl, sym, ap, ◌∙◌, subst, arith}
+use Rattle.std.specs.Prelude.{◌==◌, is_some}
 use Rattle.std.specs.List.{AllByRecursion}
 use Rattle.std.proofs.lemmas.Bool.{cases_Bool, eq-eqb, eqb-true, false≢true}
 use Rattle.kms_model.specs.declared.objects.Topology.{Topology}
-use Rattle.kms_model.specs.declared.replies.Reply.TheVariants as reply
 use Rattle.kms_model.specs.declared.scripts.Command.{Command}
 use Rattle.kms_model.specs.declared.scripts.Command.TheVariants as command
 use Rattle.kms_model.specs.declared.tables.Slot.{Slot}
@@ -12,16 +11,16 @@ use Rattle.kms_model.specs.declared.worlds.Content.{Content}
 use Rattle.kms_model.specs.declared.worlds.Content.TheVariants as content
 use Rattle.kms_model.specs.declared.worlds.Thing.{Thing}
 use Rattle.kms_model.specs.declared.worlds.World.{World}
-use Rattle.kms_model.specs.Device.Closing.{closed_if, closed_in}
-use Rattle.kms_model.specs.Device.Execution.{BufferInfo, add_fb, buffer_of, close, close_refusal, close_unless, destroy_refusal, execute, is_made_fence, make, make_unless, new_buffer_refusal, signal_refusal, signal_unless}
+use Rattle.kms_model.specs.Device.Closing.{closed_in}
+use Rattle.kms_model.specs.Device.Execution.{BufferInfo, add_fb, buffer_of, close_refusal, close_unless, destroy_refusal, execute, is_made_fence, make, make_unless, new_buffer_refusal, signal_refusal, signal_unless}
 use Rattle.kms_model.specs.Device.World.{thing_labelled}
 use Rattle.kms_model.specs.Firsts.{or_else}
-use Rattle.kms_model.specs.Machine.Commits.{has_number, id_of_thing}
+use Rattle.kms_model.specs.Machine.Commits.{has_number}
 use Rattle.kms_model.specs.Machine.Steps.{is_atomic}
 use Rattle.kms_model.specs.Stores.Tables.{AreBelow, slot, value_with_id}
 use Rattle.kms_model.proofs.FramedLemmas.{closed_same}
 use Rattle.kms_signal.proofs.FenceLemmas.{still_made}
-use Rattle.kms_signal.proofs.InStepLemmas.{fence_made, fence_signalled}
+use Rattle.kms_signal.proofs.InStepLemmas.{fence_made}
 use Rattle.kms_signal.proofs.SlotLemmas.{below-push, below-with_value, value_above, value_pushed}
 use Rattle.kms_signal.specs.FenceSets.{FenceSet, is_made}
 use Rattle.kms_signal.specs.InStep.{AreFencesOf}

@@ -1,5 +1,5 @@
 -- Before the first step every store stands.
-use Rattle.std.proofs.Common.{◌≡◌, ℕ, zero, suc, ◌≤◌, ◌<◌, ◌-◌, List, [], replicate, get_or, length, None, Option, false, refl, sym, ap, ◌∙◌, arith}
+use Rattle.std.proofs.Common.{◌≡◌, ◌-◌, List, [], replicate, length, None, false, refl, sym, ap, ◌∙◌, arith}
 use Rattle.std.proofs.lemmas.Bool.{false≢true}
 use Rattle.std.proofs.lemmas.List.{get_or-replicate, length-replicate}
 use Rattle.kms_model.specs.declared.scripts.Script.{Script}
@@ -17,7 +17,7 @@ use Rattle.kms_signal.specs.Queues.{Queue, empty_queue}
 use Rattle.kms_things.specs.Present.{IsPresent}
 use Rattle.kms_track.proofs.InStepLemmas.{first_in_step}
 use Rattle.kms_track.specs.Laws.{no_tracking}
-use Rattle.kms_core.specs.Stands.{Stores, StandsAt, Stands}
+use Rattle.kms_core.specs.Stands.{Stores, Stands}
 
 -- the stores before the first step, but for those whose making says that they stand
 abbrev pub first_stores : Standing → Duplicates → List Queue → RegisterFile → Stores

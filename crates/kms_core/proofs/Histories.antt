@@ -1,13 +1,12 @@
 -- A history that goes on by a step.
-use Rattle.std.proofs.Common.{◌≡◌, Bool, true, List, [], ◌∷◌, ◌++◌, refl, sym, ap, ◌∙◌}
-use Rattle.std.specs.Prelude.{◌&&◌}
+use Rattle.std.proofs.Common.{◌≡◌, true, List, [], ◌∷◌, ◌++◌, refl}
 use Rattle.std.proofs.lemmas.Bool.{and_parts, and_from}
 use Rattle.kms_model.specs.declared.replies.Step.{Step}
 use Rattle.kms_model.specs.declared.scripts.Script.{Script}
 use Rattle.kms_model.specs.Machine.Effects.{next}
-use Rattle.kms_model.specs.Machine.Histories.{at, legal, run_steps, are_legal, is_history}
+use Rattle.kms_model.specs.Machine.Histories.{legal, run_steps, are_legal}
 use Rattle.kms_model.specs.Machine.State.{Machine, first_machine}
-use Rattle.kms_core.specs.Run.{Run, machine, gains}
+use Rattle.kms_core.specs.Run.{Run, machine}
 use Rattle.kms_core.specs.Stands.{Stores, StandsAt, Stands}
 
 run_more : (s : Script) (m : Machine) (h : List Step) (step : Step) → run_steps s m (h ++ step ∷ []) ≡ next s (run_steps s m h) step

@@ -1,5 +1,4 @@
 -- The stores that a core has.
-use Rattle.std.proofs.Common.{◌≡◌}
 use Rattle.kms_core.specs.declared.core.Core.TheInside.{Inside}
 use Rattle.kms_core.specs.Run.{Run}
 use Rattle.kms_core.specs.Stands.{Stores}

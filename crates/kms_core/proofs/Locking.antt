@@ -1,5 +1,5 @@
 -- What calls on contexts ask for, and what they leave.
-use Rattle.std.proofs.Common.{◌≡◌, ℕ, ◌<◌, Bool, true, List, [], ◌∷◌, ◌++◌, refl, sym, ap, ◌∙◌, subst, arith}
+use Rattle.std.proofs.Common.{◌≡◌, ℕ, ◌<◌, List, [], ◌∷◌, ◌++◌, refl, sym, ap, ◌∙◌, subst, arith}
 use Rattle.kms_model.specs.declared.replies.Step.{Step}
 use Rattle.kms_model.specs.declared.replies.Step.TheVariants as step
 use Rattle.kms_model.specs.Machine.Effects.{next, begun}
@@ -11,7 +11,7 @@ use Rattle.kms_laws.proofs.SmallNumbers.{numbers_fit}
 use Rattle.kms_core.specs.Locks.{MayBegin}
 use Rattle.kms_core.specs.Run.{Run, machine}
 use Rattle.kms_core.specs.Stands.{Stores, Stands}
-use Rattle.kms_core.proofs.Beside.{SameBeside, stands_beside}
+use Rattle.kms_core.proofs.Beside.{stands_beside}
 use Rattle.kms_core.proofs.Histories.{goes_on}
 use Rattle.kms_core.proofs.Places.{may_idle, MayIdle, not_ended}
 

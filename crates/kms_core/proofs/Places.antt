@@ -1,5 +1,5 @@
 -- What a client's command and what it does tell.
-use Rattle.std.proofs.Common.{◌≡◌, ℕ, ◌≤◌, ◌<◌, Bool, true, false, List, length, Option, Some, None, refl, sym, ap, ◌∙◌, arith}
+use Rattle.std.proofs.Common.{◌≡◌, ℕ, ◌≤◌, ◌<◌, Bool, true, false, List, length, Option, Some, None, refl, ap, ◌∙◌, arith}
 use Rattle.std.specs.Prelude.{◌&&◌, not}
 use Rattle.std.proofs.lemmas.Bool.{and_parts}
 use Rattle.kms_model.specs.declared.runs.Doing.{Doing}
@@ -16,7 +16,7 @@ use Rattle.kms_clients.specs.Standing.{Standing, IsClient, place_of, ticket_in}
 use Rattle.kms_clients.specs.InStep.{AreClientsOf, HasNoContext}
 use Rattle.kms_laws.proofs.Steps.{idle-none, idle-some}
 use Rattle.kms_laws.proofs.SmallNumbers.{numbers_fit}
-use Rattle.kms_laws.proofs.Sizes.{command-there, IsThere}
+use Rattle.kms_laws.proofs.Sizes.{command-there}
 use Rattle.kms_core.specs.Run.{Run, machine}
 use Rattle.kms_core.specs.Stands.{Stores, Stands}
 

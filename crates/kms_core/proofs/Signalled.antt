@@ -1,5 +1,5 @@
 -- A client that signals a fence.
-use Rattle.std.proofs.Common.{◌≡◌, ℕ, ◌<◌, Bool, true, false, List, [], ◌∷◌, ◌++◌, length, Option, Some, None, refl, sym, ap, ◌∙◌, subst}
+use Rattle.std.proofs.Common.{◌≡◌, ℕ, true, List, [], ◌∷◌, ◌++◌, length, Option, Some, None, refl, sym, ap, ◌∙◌, subst}
 use Rattle.std.proofs.lemmas.Bool.{false≢true}
 use Rattle.kms_model.specs.declared.objects.Topology.{Topology}
 use Rattle.kms_model.specs.declared.replies.Answered.{Answered}
@@ -12,9 +12,9 @@ use Rattle.kms_model.specs.declared.scripts.Command.TheVariants as command
 use Rattle.kms_model.specs.declared.scripts.Script.{Script}
 use Rattle.kms_model.specs.declared.worlds.World.{World}
 use Rattle.kms_model.specs.Device.Execution.{execute}
-use Rattle.kms_model.specs.Machine.Effects.{answers, fence_signalled, next, signalled_by, signals, goes_on as client_goes_on}
+use Rattle.kms_model.specs.Machine.Effects.{answers, fence_signalled, next, signals, goes_on as client_goes_on}
 use Rattle.kms_model.specs.Machine.Histories.{legal}
-use Rattle.kms_model.specs.Machine.State.{Machine, Records, command_at, place_at}
+use Rattle.kms_model.specs.Machine.State.{Machine, command_at, place_at}
 use Rattle.kms_model.specs.Machine.Steps.{is_signal, may}
 use Rattle.kms_clients.specs.InStep.{AreClientsOf}
 use Rattle.kms_clients.specs.Standing.{Standing, place_of}

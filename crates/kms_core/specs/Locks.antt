@@ -1,5 +1,5 @@
 -- What calls on locks ask for and answer. From: "KMS Locking", `drm_modeset_lock.c`.
-use Rattle.std.specs.Prelude.{ℕ, ◌≡◌, Bool, true, false}
+use Rattle.std.specs.Prelude.{ℕ, ◌≡◌, true}
 use Rattle.kms_model.specs.declared.replies.Step.TheVariants.{Begin}
 use Rattle.kms_model.specs.Machine.Histories.{legal}
 use Rattle.kms_core.specs.Run.{Run, machine}

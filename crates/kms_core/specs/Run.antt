@@ -1,5 +1,5 @@
 -- What contracts see of a core: its script and its history.
-use Rattle.std.specs.Prelude.{ℕ, ◌≡◌, Bool, true, List, [], ◌∷◌, ◌++◌, Result, Ok, Err, Option, Some, None}
+use Rattle.std.specs.Prelude.{List, [], ◌++◌, Result, Ok, Err}
 use Rattle.kms_model.specs.declared.replies.Step.{Step}
 use Rattle.kms_model.specs.declared.scripts.Script.{Script}
 use Rattle.kms_model.specs.Machine.Histories.{at}

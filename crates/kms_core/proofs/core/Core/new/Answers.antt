@@ -1,4 +1,4 @@
-use Rattle.std.proofs.Common.{◌≡◌, ◌∙◌, ap, replicate}
+use Rattle.std.proofs.Common.{◌∙◌, ap, replicate}
 use Rattle.kms_signal.specs.Queues.{empty_queue}
 use Rattle.kms_core.proofs.First.{stands_first}
 use Rattle.kms_core.proofs.core.Core.new.Goals as goal

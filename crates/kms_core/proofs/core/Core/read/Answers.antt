@@ -1,4 +1,4 @@
-use Rattle.std.proofs.Common.{rules, ◌≡◌, ◌∙◌, ◌-◌, ap, sym, refl}
+use Rattle.std.proofs.Common.{rules, ◌∙◌, ◌-◌, ap, sym, refl}
 use Rattle.std.specs.Prelude.{slice_set}
 use Rattle.kms_signal.specs.Queues.{Queue, after_read}
 use Rattle.kms_core.specs.Calls.{read_reply}

@@ -1,4 +1,4 @@
-use Rattle.std.proofs.Common.{◌≡◌, ◌∙◌, ap, sym}
+use Rattle.std.proofs.Common.{◌∙◌, ap, sym}
 use Rattle.kms_model.specs.declared.runs.Place.{Place}
 use Rattle.kms_core.specs.Run.{machine}
 use Rattle.kms_core.proofs.Insides.{run_of, stores_of}
