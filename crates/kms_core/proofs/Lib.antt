@@ -18,3 +18,4 @@ mod Committed
 mod Fencing
 mod Executed
 mod Signalled
+mod Swaps
