@@ -19,3 +19,4 @@ mod Fencing
 mod Executed
 mod Signalled
 mod Swaps
+mod OutFences
