@@ -11,11 +11,10 @@ use Rattle.kms_model.specs.declared.states.Checked.{Checked}
 use Rattle.kms_model.specs.declared.states.Mask.{Mask}
 use Rattle.kms_model.specs.declared.worlds.Look.{Look}
 use Rattle.kms_model.specs.Device.Sound.{IsDevice}
-use Rattle.kms_model.specs.Machine.Commits.{lockable}
 use Rattle.kms_model.specs.Machine.Effects.{next}
 use Rattle.kms_model.specs.Machine.Histories.{legal}
 use Rattle.kms_model.specs.Machine.State.{Machine, holds}
-use Rattle.kms_model.specs.Machine.Steps.{holds_touched, is_accepted_at, may, may_test}
+use Rattle.kms_model.specs.Machine.Steps.{holds_touched, may, may_test}
 use Rattle.kms_model.specs.Request.Deciding.{IsChecked, IsOfRequest}
 use Rattle.kms_model.specs.Request.Flags.{is_test}
 use Rattle.kms_model.specs.Request.Lookups.{look_up}

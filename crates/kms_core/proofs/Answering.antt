@@ -1,5 +1,5 @@
 -- A client's request is decided: it is answered, its locks are dropped, and the client goes on.
-use Rattle.std.proofs.Common.{◌≡◌, ℕ, ◌≤◌, ◌<◌, Bool, true, false, List, [], ◌∷◌, ◌++◌, length, map, refl, sym, ap, ◌∙◌, subst, arith}
+use Rattle.std.proofs.Common.{◌≡◌, ℕ, ◌<◌, true, List, [], ◌∷◌, ◌++◌, length, map, sym, ap, ◌∙◌, subst, arith}
 use Rattle.std.specs.Prelude.{reverse}
 use Rattle.std.proofs.lemmas.List.{length-map, length-reverse}
 use Rattle.kms_model.specs.declared.replies.Answered.{Answered}
@@ -8,7 +8,6 @@ use Rattle.kms_model.specs.declared.replies.Step.{Step}
 use Rattle.kms_model.specs.declared.runs.Doing.{Doing}
 use Rattle.kms_model.specs.declared.runs.Doing.TheVariants as doing
 use Rattle.kms_model.specs.declared.runs.Place.{Place}
-use Rattle.kms_model.specs.declared.scripts.Script.{Script}
 use Rattle.kms_model.specs.Machine.Effects.{decided}
 use Rattle.kms_model.specs.Machine.State.{Machine, Records, doing_at, place_at}
 use Rattle.kms_model.specs.Machine.Steps.{is_taking}
@@ -19,7 +18,7 @@ use Rattle.kms_laws.proofs.SmallNumbers.{numbers_fit}
 use Rattle.kms_core.specs.Decisions.{Decides}
 use Rattle.kms_core.specs.Logs.{Logged}
 use Rattle.kms_core.specs.Run.{Run, machine}
-use Rattle.kms_core.specs.Stands.{AreRecords, Stores, StandsAt, Stands, entry_pair}
+use Rattle.kms_core.specs.Stands.{Stores, StandsAt, Stands, entry_pair}
 use Rattle.kms_core.proofs.Histories.{goes_on}
 
 taking_is : (d : Doing) → is_taking d ≡ true → IsTaking d

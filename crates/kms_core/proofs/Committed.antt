@@ -1,21 +1,19 @@
 -- The present states after a commit are those of the world that it leaves.
-use Rattle.std.proofs.Common.{◌≡◌, ℕ, ◌+◌, ◌-◌, ◌<◌, ◌≤◌, Bool, true, false, List, None, inl, inr, arith, refl, sym, ap, ◌∙◌, subst}
-use Rattle.std.specs.Prelude.{Option, is_some, nat_lt, ◌&&◌, slice_index_or}
+use Rattle.std.proofs.Common.{◌≡◌, ℕ, ◌+◌, ◌-◌, ◌<◌, Bool, true, false, None, arith, refl, sym, ap, ◌∙◌}
+use Rattle.std.specs.Prelude.{Option, is_some, nat_lt, slice_index_or}
 use Rattle.std.proofs.lemmas.Bool.{and_from, false≢true, le-ltb, lt-ltb}
 use Rattle.kms_model.specs.declared.objects.Kind.{Kind}
 use Rattle.kms_model.specs.declared.objects.Kind.TheVariants.{Crtc, Plane, Conn}
 use Rattle.kms_model.specs.declared.objects.Topology.{Topology}
 use Rattle.kms_model.specs.declared.scripts.Request.{Request}
 use Rattle.kms_model.specs.declared.states.Checked.{Checked}
-use Rattle.kms_model.specs.declared.states.ConnState.{ConnState}
 use Rattle.kms_model.specs.declared.states.Duplicates.{Duplicates}
 use Rattle.kms_model.specs.declared.states.Mask.{Mask}
 use Rattle.kms_model.specs.declared.worlds.World.{World}
 use Rattle.kms_model.specs.Device.Execution.{committed}
 use Rattle.kms_model.specs.Device.Masks.{has_bit}
-use Rattle.kms_model.specs.Device.Objects.{count_of, ids_of, kind_of, object_id}
-use Rattle.kms_model.specs.Device.Sound.{IsDevice, IsSound}
-use Rattle.kms_model.specs.Device.States.{crtc_at, plane_at}
+use Rattle.kms_model.specs.Device.Objects.{count_of, ids_of, object_id}
+use Rattle.kms_model.specs.Device.States.{plane_at}
 use Rattle.kms_model.specs.Machine.Commits.{lockable}
 use Rattle.kms_model.specs.Request.Agreement.{conn_state_at, crtc_state_at}
 use Rattle.kms_model.specs.Request.Apply.{after}

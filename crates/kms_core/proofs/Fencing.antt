@@ -101,11 +101,11 @@ signal_fenced : (w : World) (o : Option ℕ) (signalled : List ℕ) (fences : Fe
 signal_fenced w None signalled fences fenced = fenced
 signal_fenced w (Some n) signalled fences fenced = fenced
 
-fence_fenced : (w : World) (owner label : ℕ) (signalled : List ℕ) (old new : FenceSet) → new.slots ≡ old.slots ++ slot w.next_id false ∷ [] → AreMadeFences w signalled old → AreMadeFences (make w owner label content.Fence).world signalled new
-fence_fenced w owner label signalled old new is fenced =
+pub fence_fenced : (w : World) (owner label : ℕ) (c : Content) (signalled : List ℕ) (old new : FenceSet) → new.slots ≡ old.slots ++ slot w.next_id false ∷ [] → AreMadeFences w signalled old → AreMadeFences (make w owner label c).world signalled new
+fence_fenced w owner label c signalled old new is fenced =
     let more = pushed_more old new w.next_id is in
     record {
-      made = things_push new w.things (record { label = label; id = w.next_id; owner = owner; content = content.Fence; is_open = true }) (things_more old new more w.things fenced.made) (λ fence. pushed_here old new w.next_id is fenced.below);
+      made = things_push new w.things (record { label = label; id = w.next_id; owner = owner; content = c; is_open = true }) (things_more old new more w.things fenced.made) (λ fence. pushed_here old new w.next_id is fenced.below);
       made_before = λ id signal. more id (fenced.made_before id signal);
       below = rw is (below-push old.slots w.next_id (w.next_id + 1) w.next_id false fenced.below (omega arith) (omega arith));
     }
@@ -123,7 +123,7 @@ executed_fenced t w client (command.Destroy label) signalled old new other is fe
     close_fenced w (thing_labelled w.things label) (destroy_refusal client (thing_labelled w.things label)) signalled new (same_slots w signalled old new is fenced)
 executed_fenced t w client (command.CloseFb label) signalled old new other is fenced =
     close_fenced w (thing_labelled w.things label) (close_refusal client (thing_labelled w.things label)) signalled new (same_slots w signalled old new is fenced)
-executed_fenced t w client (command.Fence label) signalled old new other is fenced = fence_fenced w client label signalled old new is fenced
+executed_fenced t w client (command.Fence label) signalled old new other is fenced = fence_fenced w client label content.Fence signalled old new is fenced
 executed_fenced t w client (command.Signal label) signalled old new other is fenced = signal_fenced w (signal_refusal (thing_labelled w.things label)) signalled new (same_slots w signalled old new is fenced)
 executed_fenced t w client (command.Atomic r) signalled old new other is fenced = absurd (false≢true (sym other))
 executed_fenced t w client command.Wait signalled old new other is fenced = same_slots w signalled old new is fenced
@@ -134,7 +134,7 @@ pub same_fences : (signalled : List ℕ) (old new : FenceSet) → new.slots ≡ 
 same_fences signalled old new same stand = record { same = λ id made. rw same (stand.same id (rw same at made)) }
 
 -- the next id is not among those of the fences that are signalled
-fresh : (w : World) (signalled : List ℕ) (fences : FenceSet) → AreMadeFences w signalled fences → has_number signalled w.next_id ≡ false
+pub fresh : (w : World) (signalled : List ℕ) (fences : FenceSet) → AreMadeFences w signalled fences → has_number signalled w.next_id ≡ false
 fresh w signalled fences fenced =
     elim (cases_Bool (has_number signalled w.next_id)) [
       | inl there ↦ absurd (false≢true (ap (λ (o : Option Bool). is_some o) (sym (value_above fences.slots w.next_id w.next_id fenced.below (omega arith))) ∙ fenced.made_before w.next_id there))

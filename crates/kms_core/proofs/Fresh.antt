@@ -13,7 +13,7 @@ use Rattle.kms_core.specs.declared.deciding.Decided.{Decided}
 use Rattle.kms_core.specs.declared.deciding.Decided.TheVariants as answer
 use Rattle.kms_core.specs.declared.deciding.Stale.{Stale}
 use Rattle.kms_core.specs.Decisions.{IsDecided, IsFirstStale, labels_of, world}
-use Rattle.kms_core.specs.Run.{Run, machine}
+use Rattle.kms_core.specs.Run.{Run}
 use Rattle.kms_core.specs.Stands.{Stores, Stands}
 
 -- what a label names among things

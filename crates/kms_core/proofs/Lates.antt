@@ -14,9 +14,8 @@ use Rattle.kms_model.specs.declared.replies.Event.{Event}
 use Rattle.kms_model.specs.declared.scripts.Command.TheVariants as command
 use Rattle.kms_model.specs.declared.scripts.Request.{Request}
 use Rattle.kms_model.specs.declared.states.Checked.{Checked}
-use Rattle.kms_model.specs.Device.Masks.{has_bit}
 use Rattle.kms_model.specs.Device.Objects.{count_of, ids_of, object_id}
-use Rattle.kms_model.specs.Machine.Effects.{busy_reply, decided, next, refusal_reply, refused}
+use Rattle.kms_model.specs.Machine.Effects.{busy_reply, decided, next, refused}
 use Rattle.kms_model.specs.Machine.Histories.{legal}
 use Rattle.kms_model.specs.Machine.State.{Machine, command_at, request_at, reserved_at}
 use Rattle.kms_model.specs.Machine.Steps as steps
@@ -24,7 +23,7 @@ use Rattle.kms_model.specs.Request.Apply.{after}
 use Rattle.kms_model.specs.Request.Flags.{is_nonblock, is_test, wants_event}
 use Rattle.kms_model.specs.Request.Named.{named, names}
 use Rattle.kms_model.specs.Request.Touched.{named_by, set_where, touched_by}
-use Rattle.kms_model.specs.Request.Verdict.{early_in, late_in, verdict}
+use Rattle.kms_model.specs.Request.Verdict.{early_in, late_in}
 use Rattle.kms_model.proofs.MaskLemmas.{has_bit-mask_below}
 use Rattle.kms_laws.proofs.ClientProgress.{taking-from}
 use Rattle.kms_laws.proofs.Steps.{request-is}
@@ -33,17 +32,15 @@ use Rattle.kms_laws.specs.TailsLeft.{one_if}
 use Rattle.kms_signal.specs.InStep.{IsQueueOf}
 use Rattle.kms_signal.specs.Queues.{Queue, empty_queue, space_used}
 use Rattle.kms_track.specs.InStep.{awaited_answer, busy_answer}
-use Rattle.kms_track.specs.Tracking.{Tracking, busy_of, not_yet_of}
+use Rattle.kms_track.specs.Tracking.{busy_of, not_yet_of}
 use Rattle.kms_track.proofs.CheckedLemmas.{device_within, in_touched}
 use Rattle.kms_track.proofs.MachineAnswers.{busy_machine}
 use Rattle.kms_track.proofs.NotYetAnswers.{awaited_told, not_yet_machine}
 use Rattle.kms_track.specs.Places.{mask_has}
-use Rattle.kms_core.specs.declared.deciding.Decided.{Decided}
-use Rattle.kms_core.specs.declared.deciding.Decided.TheVariants as answer
 use Rattle.kms_core.specs.Decisions.{Decides, world}
 use Rattle.kms_core.specs.Run.{Run, machine}
 use Rattle.kms_core.specs.Stands.{Stores, Stands, queue_of}
-use Rattle.kms_core.specs.Swaps.{IsReadyToCommit, MaySwapUnless, busy_as, count_in, late_reply, late_told, refused_or, swap_answer, swap_answer_of, waits_or_commits}
+use Rattle.kms_core.specs.Swaps.{IsReadyToCommit, busy_as, count_in, late_reply, late_told, refused_or, swap_answer, swap_answer_of, waits_or_commits}
 use Rattle.kms_core.proofs.Places.{client_there}
 
 -- a client's queue

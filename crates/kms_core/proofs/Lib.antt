@@ -21,3 +21,5 @@ mod Fencing
 mod Executed
 mod Signalled
 mod IdleAt
+mod Swaps
+mod OutFences

@@ -1,6 +1,6 @@
 -- What a request's refusals, and its acceptance, are in the present world.
-use Rattle.std.proofs.Common.{◌≡◌, ℕ, ◌<◌, Bool, true, false, List, Some, None, inl, inr, refl, sym, ap, ◌∙◌, ◌⊎◌, subst}
-use Rattle.std.specs.Prelude.{◌&&◌, ◌||◌, not, is_some}
+use Rattle.std.proofs.Common.{◌≡◌, ℕ, Bool, true, false, List, Some, None, inl, inr, refl, sym, ap, ◌∙◌, ◌⊎◌, subst}
+use Rattle.std.specs.Prelude.{◌||◌, not, is_some}
 use Rattle.std.proofs.lemmas.Bool.{and_from, or_left, or_right}
 use Rattle.kms_model.specs.declared.objects.Topology.{Topology}
 use Rattle.kms_model.specs.declared.replies.Refusal.{Refusal}
@@ -10,12 +10,11 @@ use Rattle.kms_model.specs.declared.scripts.Request.{Request}
 use Rattle.kms_model.specs.declared.sets.Resolved.{Resolved}
 use Rattle.kms_model.specs.declared.states.Duplicates.{Duplicates}
 use Rattle.kms_model.specs.declared.worlds.Look.{Look}
-use Rattle.kms_model.specs.declared.worlds.World.{World}
 use Rattle.kms_model.specs.Machine.Commits.{lockable}
 use Rattle.kms_model.specs.Machine.Effects.{next, refused}
 use Rattle.kms_model.specs.Machine.Histories.{legal}
 use Rattle.kms_model.specs.Machine.State.{Machine, doing_at, holds, request_at}
-use Rattle.kms_model.specs.Machine.Steps.{holds_touched, is_refused_late, is_taking, may, may_refuse}
+use Rattle.kms_model.specs.Machine.Steps.{holds_touched, may, may_refuse}
 use Rattle.kms_model.specs.Request.Deciding.{IsOfRequest}
 use Rattle.kms_model.specs.Request.Lookups.{look_up}
 use Rattle.kms_model.specs.Request.SameLooks.{TellsLabels}

@@ -3,7 +3,6 @@
 -- tried again at its decision is this device's own.
 use Rattle.std.specs.Prelude.{◌≡◌, ◌≢◌, ◌⊎◌, ℕ, ◌+◌, ◌<◌, ◌≤◌, true, false, List, [], ◌∷◌, map, Option, Some, None, if◌then◌else◌}
 use Rattle.std.specs.List.{filter_map}
-use Rattle.kms_model.specs.declared.objects.Topology.{Topology}
 use Rattle.kms_model.specs.declared.replies.Refusal.{Refusal}
 use Rattle.kms_model.specs.declared.replies.Reply.{Reply}
 use Rattle.kms_model.specs.declared.replies.Step.{Step}
@@ -22,11 +21,11 @@ use Rattle.kms_model.specs.Device.World.{thing_labelled}
 use Rattle.kms_model.specs.Machine.Effects.{decided, next}
 use Rattle.kms_model.specs.Machine.Histories.{legal}
 use Rattle.kms_model.specs.Machine.State.{Machine, doing_at, has_value, holds, request_at}
-use Rattle.kms_model.specs.Machine.Steps.{holds_touched, is_taking, ticket_taking}
+use Rattle.kms_model.specs.Machine.Steps.{is_taking, ticket_taking}
 use Rattle.kms_model.specs.Request.Agreement.{AgreesOld}
 use Rattle.kms_model.specs.Request.Deciding.{GivesChecked, GivesRefusal, IsOfRequest}
 use Rattle.kms_model.specs.Request.Flags.{is_test}
-use Rattle.kms_model.specs.Request.Lookups.{label_of, look_of, look_up}
+use Rattle.kms_model.specs.Request.Lookups.{label_of, look_of}
 use Rattle.kms_model.specs.Request.Refusals.{early_refusal}
 use Rattle.kms_model.specs.Request.Resolves.{IsResolved}
 use Rattle.kms_model.specs.Request.Sets.{look_in}

@@ -1,7 +1,9 @@
 -- The present states of a device's objects after a commit. From: drm_atomic_helper_swap_state.
-use Rattle.std.specs.Prelude.{◌≡◌, ℕ, List, length, Option, Some, None, slice_index_or}
+use Rattle.std.specs.Prelude.{◌≡◌, ℕ, ◌+◌, Bool, false, List, [], ◌∷◌, length, Option, Some, None, slice_index_or}
 use Rattle.kms_model.specs.declared.states.Both.{Both}
 use Rattle.kms_model.specs.declared.states.Duplicates.{Duplicates}
+use Rattle.kms_model.specs.declared.tables.Slot.{Slot}
+use Rattle.kms_model.specs.Stores.Tables.{slot}
 use Rattle.kms_things.specs.Starting.{alike}
 
 -- the state of an object of the device: the new one where it was checked, else as it was
@@ -19,3 +21,9 @@ pub record IsSettled (present checked after : Duplicates) : Type 0 where
   pub crtcs : AreSettled _ present.crtcs checked.crtcs after.crtcs
   pub planes : AreSettled _ present.planes checked.planes after.planes
   pub conns : AreSettled _ present.conns checked.conns after.conns
+
+-- the fences that are made under the labels that are asked for, with the next ids
+abbrev pub fences_for : ℕ → List (Option ℕ) → List (Slot Bool)
+fences_for next [] = []
+fences_for next (None ∷ labels) = fences_for next labels
+fences_for next (Some label ∷ labels) = slot next false ∷ fences_for (next + 1) labels

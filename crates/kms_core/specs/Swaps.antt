@@ -1,6 +1,6 @@
 -- What a swap answers and does. From: "Atomic Mode Setting"; `drm_file.c`, drm_event_reserve_init; `drm_atomic_helper.c`,
 -- drm_atomic_helper_setup_commit, drm_atomic_helper_swap_state.
-use Rattle.std.specs.Prelude.{◌≡◌, ℕ, ◌+◌, ◌*◌, ◌<◌, ◌≤◌, nat_lt, is_some, slice_index_or, ◌&&◌, List, [], length, true, ⊤, Option, Some, None, false, if◌then◌else◌}
+use Rattle.std.specs.Prelude.{◌≡◌, ℕ, ◌+◌, ◌*◌, ◌<◌, nat_lt, is_some, slice_index_or, ◌&&◌, List, [], length, true, ⊤, Option, Some, None, false, if◌then◌else◌}
 use Rattle.kms_model.specs.declared.objects.ObjId.{ObjId}
 use Rattle.kms_model.specs.declared.objects.Topology.{Topology}
 use Rattle.kms_model.specs.declared.replies.Reply.{Reply}

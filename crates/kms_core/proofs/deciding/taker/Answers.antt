@@ -1,4 +1,4 @@
-use Rattle.std.proofs.Common.{◌≡◌, None, Some, arith, refl, sym, ap, ◌∙◌, rules}
+use Rattle.std.proofs.Common.{arith, refl, sym, ap, rules}
 use Rattle.kms_clients.specs.Standing.{doing_in}
 use Rattle.kms_track.specs.Places.{first_below}
 use Rattle.kms_track.proofs.PlaceLemmas.{none_more, first_found}
