@@ -16,7 +16,7 @@ use Rattle.kms_model.specs.Machine.Steps.{may, must_back_off, ticket_of}
 use Rattle.kms_clients.proofs.Held.{ticket_is}
 use Rattle.kms_clients.specs.InStep as Clients
 use Rattle.kms_clients.specs.Standing.{HasTicket, IsClient, Standing, place_of, ticket_in}
-use Rattle.kms_laws.proofs.Contexts.{has_ticket}
+use Rattle.kms_laws.specs.Laws.{has_context}
 use Rattle.kms_laws.proofs.Modes.{plain-from}
 use Rattle.kms_laws.proofs.NeverStuck.{history_facts}
 use Rattle.kms_laws.proofs.Steps.{request-is}
@@ -38,7 +38,7 @@ use Rattle.kms_core.specs.Stands.{Stores, Stands}
 use Rattle.kms_core.proofs.Beside.{SameBeside, stands_beside, same_relocked}
 use Rattle.kms_core.proofs.Histories.{goes_on}
 
-pub with_ticket : (d : Doing) (t : Ticket) → ticket_in d ≡ Some t → has_ticket d ≡ true
+pub with_ticket : (d : Doing) (t : Ticket) → ticket_in d ≡ Some t → has_context d ≡ true
 with_ticket doing.Idle t e = absurd cc
 with_ticket (doing.Taking u) t e = refl
 with_ticket (doing.MustBackOff u object) t e = refl

@@ -1,6 +1,10 @@
 -- The present states after a commit are those of the world that it leaves.
-use Rattle.std.proofs.Common.{◌≡◌, ℕ, ◌+◌, ◌-◌, ◌<◌, Bool, true, false, None, arith, refl, sym, ap, ◌∙◌}
-use Rattle.std.specs.Prelude.{Option, is_some, nat_lt, slice_index_or}
+use Rattle.std.proofs.Common.{◌≡◌, ℕ, ◌+◌, ◌-◌, ◌<◌, Bool, List, Some, true, false, None, arith, refl, sym, ap, ◌∙◌}
+use Rattle.std.specs.Prelude.{Option, is_some, nat_lt, slice_get, slice_index_or}
+use Rattle.std.specs.Option.{option_flatten}
+use Rattle.std.proofs.lemmas.Option.{get_or_from_slice_get}
+use Rattle.kms_model.specs.declared.states.Both.{Both}
+use Rattle.kms_model.specs.Request.Late.{duplicate_at}
 use Rattle.std.proofs.lemmas.Bool.{and_from, false≢true, le-ltb, lt-ltb}
 use Rattle.kms_model.specs.declared.objects.Kind.{Kind}
 use Rattle.kms_model.specs.declared.objects.Kind.TheVariants.{Crtc, Plane, Conn}
@@ -35,23 +39,23 @@ use Rattle.kms_track.proofs.There.{in_left, in_right}
 use Rattle.kms_track.specs.StepLaws.{HasStates}
 use Rattle.kms_core.specs.Settled.{IsSettled}
 use Rattle.kms_core.specs.Swaps.{HasAllStates}
-use Rattle.kms_core.proofs.States.{settled_agree, settled_whole}
+use Rattle.kms_core.proofs.AfterCommit.{settled_agree, settled_whole}
 
 -- What is touched was duplicated
 
+-- what is there in a list is there by its place
+there_at : {S : Type 0} (states : List (Option (Both S))) (i : ℕ) → is_some (duplicate_at states i) ≡ true → is_some (slice_index_or states i None) ≡ true
+there_at {S} states i some = of_slot (slice_get states i) refl some where
+  of_slot : (o : Option (Option (Both S))) → slice_get states i ≡ o → is_some (option_flatten o) ≡ true → is_some (slice_index_or states i None) ≡ true
+  of_slot None is some = absurd cc
+  of_slot (Some None) is some = absurd cc
+  of_slot (Some (Some both)) is some = ap is_some (get_or_from_slice_get states i (Some both) None is)
+
 has_plane : (checked : Checked) (i : ℕ) → HasStates checked → i < 16 → has_bit checked.touched.planes i ≡ true → is_some (slice_index_or checked.states.planes i None) ≡ true
-has_plane checked i states few has =
-    let e : (4 + i) - 4 ≡ i = omega arith in
-    let high : nat_lt (4 + i) 4 ≡ false = le-ltb (4 + i) 4 (omega arith) in
-    let low : nat_lt (4 + i) 20 ≡ true = lt-ltb (4 + i) 20 (omega (arith, few)) in
-    rw (high, low, e) at (states (4 + i) (omega (arith, few)) (rw (high, low, e) has))
+has_plane checked i states few has = there_at checked.states.planes i (states.planes i few has)
 
 has_conn : (checked : Checked) (i : ℕ) → HasStates checked → i < 8 → has_bit checked.touched.conns i ≡ true → is_some (slice_index_or checked.states.conns i None) ≡ true
-has_conn checked i states few has =
-    let e : (20 + i) - 20 ≡ i = omega arith in
-    let high : nat_lt (20 + i) 4 ≡ false = le-ltb (20 + i) 4 (omega arith) in
-    let higher : nat_lt (20 + i) 20 ≡ false = le-ltb (20 + i) 20 (omega arith) in
-    rw (high, higher, e) at (states (20 + i) (omega (arith, few)) (rw (high, higher, e) has))
+has_conn checked i states few has = there_at checked.states.conns i (states.conns i few has)
 
 -- What was not duplicated is as it was
 

@@ -1,5 +1,5 @@
 -- The stores that a core has.
-use Rattle.kms_core.specs.declared.core.Core.TheInside.{Inside}
+use Rattle.kms_core.specs.declared.machine.Core.TheInside.{Inside}
 use Rattle.kms_core.specs.Run.{Run}
 use Rattle.kms_core.specs.Stands.{Stores}
 

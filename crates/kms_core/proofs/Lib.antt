@@ -15,7 +15,7 @@ mod Lates
 mod Returned
 mod Recorded
 mod Delivered
-mod States
+mod AfterCommit
 mod Committed
 mod Fencing
 mod Executed

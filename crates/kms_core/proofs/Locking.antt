@@ -24,7 +24,7 @@ use Rattle.kms_clients.specs.InStep as Clients
 use Rattle.kms_clients.specs.Standing.{HasTicket, ticket_in, place_of}
 use Rattle.kms_wwlock.specs.Objects.{IsLockable}
 use Rattle.kms_clients.proofs.Held.{ticket_is}
-use Rattle.kms_laws.proofs.Contexts.{has_ticket}
+use Rattle.kms_laws.specs.Laws.{has_context}
 use Rattle.kms_laws.proofs.Modes.{plain-from}
 use Rattle.kms_laws.proofs.NeverStuck.{history_facts}
 use Rattle.std.specs.Prelude.{nat_lt, ◌==◌, if◌then◌else◌}
@@ -74,8 +74,8 @@ only_client r st t client found stands has taking =
     let L = (history_facts r.script r.steps (plain-from r.script stands.formed) stands.history).locks in
     let at = stands.stores.clients.places found has.is_client in
     let own : ticket_in (doing_at (machine r) found) ≡ Some t = ap (λ (p : Place). ticket_in p.doing) (sym at) ∙ has.ticket in
-    L.unique found client (with_ticket (doing_at (machine r) found) t own) (ap has_ticket taking) (ticket_is (doing_at (machine r) found) t own ∙ sym (ap ticket_of taking)) where
-      with_ticket : (d : Doing) (t : Ticket) → ticket_in d ≡ Some t → has_ticket d ≡ true
+    L.unique found client (with_ticket (doing_at (machine r) found) t own) (ap has_context taking) (ticket_is (doing_at (machine r) found) t own ∙ sym (ap ticket_of taking)) where
+      with_ticket : (d : Doing) (t : Ticket) → ticket_in d ≡ Some t → has_context d ≡ true
       with_ticket doing.Idle t e = absurd cc
       with_ticket (doing.Taking u) t e = refl
       with_ticket (doing.MustBackOff u object) t e = refl

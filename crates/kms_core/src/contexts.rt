@@ -7,7 +7,7 @@ ghost use Rattle.kms_model.specs.Device.Objects.{kind_of};
 ghost use Rattle.kms_core.specs.Run.{Run, machine, gains, if_ok};
 ghost use Rattle.kms_core.specs.Locks.{MayBegin, MayLock, IsTaking, locked_answer, locked_as, lock_step, lock_steps, is_step, HasContext, MayBackOff, MayRelock, relocked_answer, relock_steps};
 
-use crate::core::Core;
+use crate::machine::Core;
 use crate::states::present_state;
 use kms_model::{Doing, NoMemory, ObjId, ObjState, Step, Ticket};
 use kms_wwlock::{Lock, Relock};

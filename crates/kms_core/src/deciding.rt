@@ -10,7 +10,7 @@ ghost use Rattle.kms_core.specs.Decisions.{labels_of, looks_at, steps_of, taker,
 ghost use Rattle.kms_core.specs.Run.{gains, if_ok, machine};
 ghost use Rattle.kms_clients.specs.Standing.{doing_in};
 
-use crate::core::Core;
+use crate::machine::Core;
 use kms_clients::Clients;
 use kms_model::{
     Answered, Assign, Checked, Doing, Look, Lookups, MAX_CLIENTS, NoMemory, ObjId, Refusal, Reply,

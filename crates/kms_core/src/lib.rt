@@ -3,9 +3,9 @@
 
 mod commands;
 mod contexts;
-mod core;
 mod deciding;
 mod logs;
+mod machine;
 mod making;
 mod present;
 mod queries;
@@ -17,5 +17,5 @@ mod swapping;
 mod tests;
 
 pub use contexts::Locked;
-pub use core::Core;
 pub use deciding::Decided;
+pub use machine::Core;

@@ -12,7 +12,7 @@ ghost use Rattle.kms_core.specs.Calls.{MayMake, MaySignal, fence_of, reply_at, w
 ghost use Rattle.kms_core.specs.Run.{Run, machine, gains, if_ok};
 
 use crate::commands::command_of;
-use crate::core::Core;
+use crate::machine::Core;
 use crate::records::{answer, join, make_room};
 use kms_model::{Command, NoMemory, Reply, Step};
 use kms_signal::Fences;

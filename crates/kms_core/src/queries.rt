@@ -13,7 +13,7 @@ ghost use Rattle.kms_core.specs.Run.{machine};
 ghost use Rattle.kms_core.specs.Stands.{entry_pair};
 
 use crate::commands::command_of;
-use crate::core::Core;
+use crate::machine::Core;
 use kms_model::{Answered, Command, Doing, Image, Latch, Place, Script, Step};
 
 impl Core {

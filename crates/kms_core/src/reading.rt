@@ -3,7 +3,7 @@ ghost use Rattle.std.specs.Prelude.{◌≡◌, IfOk};
 ghost use Rattle.kms_core.specs.Calls.{MayRead, MayReturn, is_over_at, read_at, read_reply, read_step, return_step};
 ghost use Rattle.kms_core.specs.Run.{Run, machine, gains, if_ok};
 
-use crate::core::Core;
+use crate::machine::Core;
 use crate::records::{answer, make_room};
 use kms_model::{Doing, NoMemory, Reply, Step};
 use kms_signal::EventQueue;

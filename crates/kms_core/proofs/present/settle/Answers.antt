@@ -1,7 +1,7 @@
 use Rattle.std.proofs.Common.{◌<◌, None, get_or, length, arith, refl, ◌∙◌, length-set}
 use Rattle.kms_track.proofs.Writes.{each_below, each_behind}
 use Rattle.kms_core.specs.Settled.{settled}
-use Rattle.kms_core.proofs.States.{settled_all, settled_here}
+use Rattle.kms_core.proofs.AfterCommit.{settled_all, settled_here}
 use Rattle.kms_core.proofs.present.settle.Goals as goal
 
 pub loop-index-init : goal.loop-index-init

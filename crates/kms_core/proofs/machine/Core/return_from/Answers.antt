@@ -3,7 +3,7 @@ use Rattle.kms_model.specs.declared.runs.Place.{Place}
 use Rattle.kms_core.specs.Run.{machine}
 use Rattle.kms_core.proofs.Insides.{run_of, stores_of}
 use Rattle.kms_core.proofs.Returned.{returns, tells_over, waits_for}
-use Rattle.kms_core.proofs.core.Core.return_from.Goals as goal
+use Rattle.kms_core.proofs.machine.Core.return_from.Goals as goal
 
 pub go_on-requires-clause-command : goal.go_on-requires-clause-command
 go_on-requires-clause-command c = (waits_for (run_of c.self.inside) c.args.self.now (stores_of c.self.inside) c.args.client c.self.invariant c.self.view_is c.requires).command_fits

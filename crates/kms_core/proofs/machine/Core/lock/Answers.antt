@@ -3,7 +3,7 @@ use Rattle.kms_model.specs.declared.replies.Step.{Step}
 use Rattle.kms_core.specs.Run.{machine}
 use Rattle.kms_core.proofs.Locking.{Asks, asks, Locks, locks_of, lock_answered, lock_goes_on, lock_history, lock_stays, steps_of_lock}
 use Rattle.kms_core.proofs.Insides.{run_of, stores_of}
-use Rattle.kms_core.proofs.core.Core.lock.Goals as goal
+use Rattle.kms_core.proofs.machine.Core.lock.Goals as goal
 
 pub lock-answer-requires-clause-taking : goal.lock-answer-requires-clause-taking
 lock-answer-requires-clause-taking c = (asks (run_of c.self.inside) c.args.self.now (stores_of c.self.inside) c.args.t c.args.id c.in-Some.client c.self.invariant c.self.view_is c.requires c.in-Some.ensures.some).place

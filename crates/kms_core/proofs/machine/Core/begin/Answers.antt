@@ -1,7 +1,7 @@
 use Rattle.kms_core.specs.Run.{machine}
 use Rattle.kms_core.proofs.Locking.{begins, begins_idle, tickets_fit}
 use Rattle.kms_core.proofs.Insides.{run_of, stores_of}
-use Rattle.kms_core.proofs.core.Core.begin.Goals as goal
+use Rattle.kms_core.proofs.machine.Core.begin.Goals as goal
 
 pub begin-requires-clause-client : goal.begin-requires-clause-client
 begin-requires-clause-client c = (begins_idle (run_of c.self.inside) c.args.self.now (stores_of c.self.inside) c.args.client c.self.invariant c.self.view_is c.requires).is_client

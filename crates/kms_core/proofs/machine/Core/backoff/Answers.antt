@@ -4,7 +4,7 @@ use Rattle.kms_model.specs.declared.replies.Step.TheVariants as step
 use Rattle.kms_core.specs.Run.{machine}
 use Rattle.kms_core.proofs.BackingOff.{client_of_context, is_found, must_place, backoff_goes_on, gains_step}
 use Rattle.kms_core.proofs.Insides.{run_of, stores_of}
-use Rattle.kms_core.proofs.core.Core.backoff.Goals as goal
+use Rattle.kms_core.proofs.machine.Core.backoff.Goals as goal
 
 pub unreachable-requires : goal.unreachable-requires
 unreachable-requires c =

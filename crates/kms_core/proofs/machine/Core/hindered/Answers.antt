@@ -1,7 +1,7 @@
 use Rattle.std.proofs.Common.{Some, None}
 use Rattle.kms_core.proofs.Insides.{run_of, stores_of}
 use Rattle.kms_core.proofs.Lates.{few_events, indexed_queue, late_decides, swap_answers, swap_may}
-use Rattle.kms_core.proofs.core.Core.hindered.Goals as goal
+use Rattle.kms_core.proofs.machine.Core.hindered.Goals as goal
 
 pub late_reply-requires : goal.late_reply-requires
 late_reply-requires c =

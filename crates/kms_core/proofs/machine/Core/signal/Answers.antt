@@ -7,7 +7,7 @@ use Rattle.kms_core.specs.Run.{machine}
 use Rattle.kms_core.proofs.Executed.{is_found, never_absent, no_request}
 use Rattle.kms_core.proofs.Insides.{run_of, stores_of}
 use Rattle.kms_core.proofs.Signalled.{idle_signaller, signals_one, tells_signal}
-use Rattle.kms_core.proofs.core.Core.signal.Goals as goal
+use Rattle.kms_core.proofs.machine.Core.signal.Goals as goal
 
 pub place-number-requires : goal.place-number-requires
 place-number-requires c = (idle_signaller (run_of c.self.inside) c.args.self.now (stores_of c.self.inside) c.args.client c.self.invariant c.self.view_is c.requires).is_client

@@ -2,7 +2,7 @@ use Rattle.std.proofs.Common.{ap, length}
 use Rattle.kms_core.specs.Run.{machine}
 use Rattle.kms_core.proofs.Answering.{decided_stands, may_decide_as}
 use Rattle.kms_core.proofs.Insides.{run_of, stores_of}
-use Rattle.kms_core.proofs.core.Core.decide.Goals as goal
+use Rattle.kms_core.proofs.machine.Core.decide.Goals as goal
 
 pub decide-requires-clause-command : goal.decide-requires-clause-command
 decide-requires-clause-command c =

@@ -15,7 +15,7 @@ use Rattle.kms_core.specs.States.{stored_state}
 use Rattle.kms_core.specs.Run.{Run, machine}
 use Rattle.kms_core.proofs.BackingOff.{client_of_context, is_found, off_place, off_stored, off_there, relock_answered, relock_goes_on, relock_stays, gains_step}
 use Rattle.kms_core.proofs.Insides.{run_of, stores_of}
-use Rattle.kms_core.proofs.core.Core.relock.Goals as goal
+use Rattle.kms_core.proofs.machine.Core.relock.Goals as goal
 
 pub unreachable-requires : goal.unreachable-requires
 unreachable-requires c =

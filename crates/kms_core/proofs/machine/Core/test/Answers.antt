@@ -7,7 +7,7 @@ use Rattle.kms_core.proofs.Fresh.{answers_again, fresh_now}
 use Rattle.kms_core.proofs.Insides.{run_of, stores_of}
 use Rattle.kms_core.proofs.Takers.{taker_as}
 use Rattle.kms_core.proofs.Accepted.{tests_as}
-use Rattle.kms_core.proofs.core.Core.test.Goals as goal
+use Rattle.kms_core.proofs.machine.Core.test.Goals as goal
 
 pub returns-in-Some-clause-answer : goal.returns-in-Some-clause-answer
 returns-in-Some-clause-answer c =

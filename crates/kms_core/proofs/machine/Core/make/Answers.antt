@@ -6,7 +6,7 @@ use Rattle.kms_laws.proofs.Steps.{not_atomic}
 use Rattle.kms_core.specs.Run.{machine}
 use Rattle.kms_core.proofs.Executed.{has_ids, idle_maker, is_found, makes, never_absent, no_request, stands_with_room, tells_reply}
 use Rattle.kms_core.proofs.Insides.{run_of, stores_of}
-use Rattle.kms_core.proofs.core.Core.make.Goals as goal
+use Rattle.kms_core.proofs.machine.Core.make.Goals as goal
 
 pub place-number-requires : goal.place-number-requires
 place-number-requires c = (idle_maker (run_of c.self.inside) c.args.self.now (stores_of c.self.inside) c.args.client c.self.invariant c.self.view_is c.requires).is_client

@@ -5,7 +5,7 @@ use Rattle.kms_core.specs.Calls.{read_reply}
 use Rattle.kms_core.specs.Run.{machine}
 use Rattle.kms_core.proofs.Delivered.{found_queue, has_queue, idle_reader, reads_event, told_reply}
 use Rattle.kms_core.proofs.Insides.{run_of, stores_of}
-use Rattle.kms_core.proofs.core.Core.read.Goals as goal
+use Rattle.kms_core.proofs.machine.Core.read.Goals as goal
 
 pub go_on-requires-clause-client : goal.go_on-requires-clause-client
 go_on-requires-clause-client c = (idle_reader (run_of c.self.inside) c.args.self.now (stores_of c.self.inside) c.args.client c.self.invariant c.self.view_is c.requires).is_client
