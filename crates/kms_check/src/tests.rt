@@ -137,7 +137,12 @@ fn crtcs(given: Given) -> [Option<Both<CrtcState>>; 4]
     if !given.crtcs {
         return [None; 4];
     }
-    [alike(first_crtc(given.lit)), alike(CrtcState::OFF), None, None]
+    [
+        alike(first_crtc(given.lit)),
+        alike(CrtcState::OFF),
+        None,
+        None,
+    ]
 }
 
 fn planes(given: Given) -> [Option<Both<PlaneState>>; 16]

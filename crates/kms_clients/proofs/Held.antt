@@ -97,14 +97,14 @@ module _ (m : Machine) (places : List Place) (contexts : List Context) (tied : A
       at (u.0 == t.0) (holder == client) refl refl
       ∙ ap (λ (w : Ticket). if holder == client then lock.Own else if nat_lt w.0 t.0 then lock.Older w else lock.Younger w) (sym (number holder u held.0 held.1))
       ∙ ap (λ (w : Ticket). if holder == client then lock.Own else if nat_lt (ticket_at m holder).0 w.0 then lock.Older (ticket_at m holder) else lock.Younger (ticket_at m holder)) (sym (number client t is own)) where
-    at : (b c : Bool) → (u.0 == t.0) ≡ b → (holder == client) ≡ c
-        → (if b then lock.Own else if nat_lt u.0 t.0 then lock.Older u else lock.Younger u) ≡ (if c then lock.Own else if nat_lt u.0 t.0 then lock.Older u else lock.Younger u)
-    at true true eb ec = refl
-    at false false eb ec = refl
-    at true false eb ec = let yes = eq-eqb holder client (tied.apart holder client t held.0 is (held.1 ∙ ap (λ (n : ℕ). let w : Ticket = record { 0 = n } in Some w) (eqb-true u.0 t.0 eb)) own) in absurd cc
-    at false true eb ec = absurd (false≢true (sym eb ∙ yes)) where
-      yes : (u.0 == t.0) ≡ true
-      yes = let e : Some u ≡ Some t = sym held.1 ∙ ap (λ a. ticket_in (doing_in places a)) (eqb-true holder client ec) ∙ own in let w : u ≡ t = cc in eq-eqb u.0 t.0 (ap (λ (x : Ticket). x.0) w)
+        at : (b c : Bool) → (u.0 == t.0) ≡ b → (holder == client) ≡ c
+            → (if b then lock.Own else if nat_lt u.0 t.0 then lock.Older u else lock.Younger u) ≡ (if c then lock.Own else if nat_lt u.0 t.0 then lock.Older u else lock.Younger u)
+        at true true eb ec = refl
+        at false false eb ec = refl
+        at true false eb ec = let yes = eq-eqb holder client (tied.apart holder client t held.0 is (held.1 ∙ ap (λ (n : ℕ). let w : Ticket = record { 0 = n } in Some w) (eqb-true u.0 t.0 eb)) own) in absurd cc
+        at false true eb ec = absurd (false≢true (sym eb ∙ yes)) where
+          yes : (u.0 == t.0) ≡ true
+          yes = let e : Some u ≡ Some t = sym held.1 ∙ ap (λ a. ticket_in (doing_in places a)) (eqb-true holder client ec) ∙ own in let w : u ≡ t = cc in eq-eqb u.0 t.0 (ap (λ (x : Ticket). x.0) w)
 
   pub answered_again : (o : Option Ticket) (h : Option ℕ) → IsHeldAs places o h → relock_from o ≡ relock_answer m h
   answered_again None None held = refl

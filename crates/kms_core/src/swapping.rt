@@ -10,8 +10,8 @@ ghost use Rattle.kms_core.specs.Run.{gains, if_ok, machine};
 ghost use Rattle.kms_core.specs.Swaps.{busy_as, count_in, hindered_steps, late_told, or_answer};
 ghost use Rattle.kms_core.specs.Swaps.{IsReadyToCommit, MaySwapUnless, swap_answer};
 
-use crate::machine::Core;
 use crate::deciding::Decided;
+use crate::machine::Core;
 use kms_model::{Checked, Mask, NoMemory, Reply, Step, has_bit};
 use kms_props::AtomicFlags;
 use kms_signal::{EVENT_BYTES, EVENT_SPACE, EventQueue};
