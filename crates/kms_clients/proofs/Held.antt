@@ -1,7 +1,6 @@
 -- Who holds an object, by tickets in the table and by clients in the machine.
-use Rattle.std.proofs.Common.{◌≡◌, ◌≢◌, ℕ, ◌==◌, Bool, true, false, List, [], ◌∷◌, Some, None, Option, refl, sym, ap, ◌∙◌, inl, inr}
-use Rattle.std.proofs.lemmas.Bool.{cases_eq, eq-eqb, ne_eqb, eqb-true}
-use Rattle.std.proofs.lemmas.Bool.Decides.{eqb_tells}
+use Rattle.std.proofs.Common.{◌≡◌, ◌≢◌, ℕ, ◌==◌, Bool, true, false, List, [], ◌∷◌, Some, None, Option, refl, sym, ap, ◌∙◌}
+use Rattle.std.proofs.lemmas.Bool.{eq-eqb, eqb-true}
 use Rattle.std.proofs.lemmas.Bool.{false≢true}
 use Rattle.std.specs.Prelude.{nat_lt, if◌then◌else◌}
 use Rattle.kms_model.specs.declared.objects.Ticket.{Ticket}
@@ -10,15 +9,13 @@ use Rattle.kms_model.specs.declared.runs.Doing.TheVariants as doing
 use Rattle.kms_model.specs.declared.runs.Place.{Place}
 use Rattle.kms_model.specs.Machine.Effects.{dropped}
 use Rattle.kms_model.specs.Machine.Registers.{read}
-use Rattle.kms_model.specs.Machine.State.{Machine, Contexts, has_value, doing_at}
+use Rattle.kms_model.specs.Machine.State.{Machine, has_value, doing_at}
 use Rattle.kms_model.specs.Machine.Steps.{ticket_of}
 use Rattle.kms_wwlock.specs.declared.contexts.Context.{Context}
-use Rattle.kms_wwlock.specs.declared.table.Lock.{Lock}
 use Rattle.kms_wwlock.specs.declared.table.Lock.TheVariants as lock
-use Rattle.kms_wwlock.specs.declared.table.Relock.{Relock}
 use Rattle.kms_wwlock.specs.declared.table.Relock.TheVariants as relock
 use Rattle.kms_wwlock.specs.Calls.{holder_without, lock_answer as table_answer, relock_from}
-use Rattle.kms_clients.specs.Standing.{IsClient, first_place, doing_in, ticket_in, AreTied}
+use Rattle.kms_clients.specs.Standing.{IsClient, doing_in, ticket_in, AreTied}
 use Rattle.kms_clients.specs.InStep.{IsHeldAs, ticket_at, lock_answer, relock_answer}
 use Rattle.kms_clients.proofs.Places.{SameTickets}
 

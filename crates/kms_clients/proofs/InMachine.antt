@@ -1,5 +1,5 @@
 -- Clients that stand for a machine's go on standing for them.
-use Rattle.std.proofs.Common.{◌≡◌, ◌≢◌, ℕ, zero, suc, get_or, replicate, arith, ◌+◌, ◌-◌, ◌==◌, Bool, true, false, List, ◌∷◌, length, set, Some, None, Option, refl, sym, ap, ◌∙◌, inl, inr, subst}
+use Rattle.std.proofs.Common.{◌≡◌, ◌≢◌, ℕ, zero, suc, get_or, replicate, arith, ◌-◌, ◌==◌, Bool, true, false, List, ◌∷◌, length, set, Some, None, Option, refl, sym, ap, ◌∙◌, inl, inr, subst}
 use Rattle.std.proofs.lemmas.Bool.{cases_eq, eq-eqb, ne_eqb}
 use Rattle.std.specs.Prelude.{if◌then◌else◌}
 use Rattle.std.proofs.lemmas.List.{get_or-replicate}

@@ -1,8 +1,7 @@
 -- What a change of one client's place does to the places of all.
-use Rattle.std.proofs.Common.{◌≡◌, ◌≢◌, ℕ, ◌-◌, ◌≤◌, List, length, set, Some, None, Option, refl, sym, ap, ◌∙◌, inl, inr, arith}
+use Rattle.std.proofs.Common.{◌≡◌, ◌≢◌, ℕ, ◌-◌, List, length, set, refl, sym, ap, ◌∙◌, inl, inr, arith}
 use Rattle.std.proofs.lemmas.Bool.{cases_eq}
 use Rattle.std.proofs.lemmas.List.{get_or-set_same, get_or-set_other, length-set}
-use Rattle.kms_model.specs.declared.objects.Ticket.{Ticket}
 use Rattle.kms_model.specs.declared.runs.Doing.{Doing}
 use Rattle.kms_model.specs.declared.runs.Place.{Place}
 use Rattle.kms_clients.specs.Standing.{Standing, place_of, IsClient, no_place, place_in, doing_in, ticket_in}

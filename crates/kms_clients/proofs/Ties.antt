@@ -1,6 +1,6 @@
 -- Places and the table of locks go on telling the same.
-use Rattle.std.proofs.Common.{◌≡◌, ◌≢◌, ℕ, zero, suc, ◌-◌, get_or, replicate, ◌==◌, Bool, true, false, not, List, [], ◌∷◌, ◌++◌, length, map, Some, None, Option, refl, sym, ap, ◌∙◌, subst, inl, inr, rules}
-use Rattle.std.proofs.lemmas.Bool.{cases_eq, eq-eqb, eqb-true}
+use Rattle.std.proofs.Common.{◌≡◌, ◌≢◌, ℕ, zero, suc, ◌-◌, get_or, replicate, ◌==◌, Bool, true, false, not, List, [], ◌∷◌, ◌++◌, map, Some, None, Option, refl, sym, ap, ◌∙◌, subst, inl, inr}
+use Rattle.std.proofs.lemmas.Bool.{cases_eq, eq-eqb}
 use Rattle.std.proofs.lemmas.List.Elements.{All-nil, All-cons, All-head, All-tail, All-push, All-weaker}
 use Rattle.std.specs.Prelude.{All, filter, if◌then◌else◌}
 use Rattle.kms_model.specs.declared.objects.Ticket.{Ticket}
@@ -10,9 +10,9 @@ use Rattle.kms_model.specs.declared.runs.Place.{Place}
 use Rattle.kms_wwlock.specs.declared.contexts.Context.{Context}
 use Rattle.kms_wwlock.specs.declared.contexts.Doing.{Doing as ContextDoing}
 use Rattle.kms_wwlock.specs.declared.contexts.Doing.TheVariants as context
-use Rattle.kms_wwlock.specs.Table.{Table, doing_in as doing_in_context}
-use Rattle.kms_wwlock.specs.Calls.{IsDoing, with_doing}
-use Rattle.kms_clients.specs.Standing.{IsClient, place_in, doing_in, ticket_in, IsBegun, NamesLockable, IsKnown, AreTied, first_place, no_place}
+use Rattle.kms_wwlock.specs.Table.{doing_in as doing_in_context}
+use Rattle.kms_wwlock.specs.Calls.{with_doing}
+use Rattle.kms_clients.specs.Standing.{IsClient, doing_in, ticket_in, IsBegun, NamesLockable, IsKnown, AreTied, first_place, no_place}
 use Rattle.kms_clients.proofs.Places.{Moves, each, SameTickets, same_tickets}
 
 -- each context goes on, but that of one ticket

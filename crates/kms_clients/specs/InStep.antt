@@ -1,6 +1,6 @@
 -- When clients and their locks stand for those of a machine, and what is answered where a lock is asked for.
 -- From: Documentation/locking/ww-mutex-design.rst, wait-die: an older context waits, a younger one backs off.
-use Rattle.std.specs.Prelude.{ℕ, ◌≡◌, ◌==◌, nat_lt, Bool, true, false, List, Option, Some, None, if◌then◌else◌}
+use Rattle.std.specs.Prelude.{ℕ, ◌≡◌, ◌==◌, nat_lt, List, Option, Some, None, if◌then◌else◌}
 use Rattle.kms_model.specs.declared.objects.ObjId.{ObjId}
 use Rattle.kms_model.specs.declared.objects.Ticket.{Ticket}
 use Rattle.kms_model.specs.declared.runs.Doing.{Doing}

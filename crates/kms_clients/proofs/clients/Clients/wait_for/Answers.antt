@@ -1,25 +1,14 @@
-use Rattle.std.proofs.Common.{◌≡◌, ℕ, ◌+◌, ◌-◌, List, Option, Some, None, refl, sym, ap, ◌∙◌, subst, set}
-use Rattle.std.specs.Prelude.{All, filter, not, ◌==◌, ◌++◌, ◌∷◌, []}
-use Rattle.kms_model.specs.declared.objects.ObjId.{ObjId}
-use Rattle.kms_model.specs.declared.objects.Ticket.{Ticket}
-use Rattle.kms_model.specs.declared.runs.Doing.{Doing}
+use Rattle.std.proofs.Common.{◌≡◌, Some, refl, sym, ap, subst}
+use Rattle.std.specs.Prelude.{All}
 use Rattle.kms_model.specs.declared.runs.Doing.TheVariants as doing
 use Rattle.kms_model.specs.declared.runs.Place.{Place}
-use Rattle.kms_model.specs.Machine.Effects.{backed_off, relocked}
-use Rattle.kms_model.specs.Machine.State.{Machine, holder_at, place_at}
-use Rattle.kms_model.specs.Machine.Steps.{contended}
-use Rattle.kms_wwlock.specs.declared.contexts.Context.{Context}
-use Rattle.kms_wwlock.specs.declared.contexts.Doing.{Doing as ContextDoing}
-use Rattle.kms_wwlock.specs.declared.contexts.Doing.TheVariants as context
-use Rattle.kms_wwlock.specs.declared.table.Lock.TheVariants as lock
-use Rattle.kms_wwlock.specs.declared.table.Relock.TheVariants as relock
-use Rattle.kms_wwlock.specs.Table.{Table, must_back_off_for, backed_off_for}
-use Rattle.kms_wwlock.specs.Calls.{backed_off as table_backed_off, relocked as table_relocked}
-use Rattle.kms_clients.specs.Standing.{Standing, IsBegun, IsKnown, place_in, doing_in, ticket_in}
-use Rattle.kms_clients.specs.InStep.{AreClientsOf, after_lock, after_relock, lock_answer, relock_answer, holder_of_contended}
-use Rattle.kms_clients.proofs.Places.{Moves, moves, found_doing, same_tickets}
-use Rattle.kms_clients.proofs.Ties.{tied_on, tied_out, tied_begun, known_set, known_left}
-use Rattle.kms_clients.proofs.InMachine.{lock_answers, relock_answers, takes, does, does_taking, drops, meets_older, meets_no_older, goes}
+use Rattle.kms_model.specs.Machine.State.{Machine}
+use Rattle.kms_wwlock.specs.Table.{Table}
+use Rattle.kms_clients.specs.Standing.{Standing, IsKnown, place_in, doing_in, ticket_in}
+use Rattle.kms_clients.specs.InStep.{AreClientsOf}
+use Rattle.kms_clients.proofs.Places.{Moves, moves, found_doing}
+use Rattle.kms_clients.proofs.Ties.{tied_out, known_left}
+use Rattle.kms_clients.proofs.InMachine.{drops}
 use Rattle.kms_clients.proofs.clients.Clients.wait_for.Goals as goal
 
 pub invariant_of-self : goal.invariant_of-self

@@ -1,5 +1,5 @@
 use Rattle.std.proofs.Common.{ℕ, ◌≢◌, ◌≤◌, ◌<◌, Some}
-use Rattle.kms_clients.specs.Standing.{IsClient, place_of, ticket_in}
+use Rattle.kms_clients.specs.Standing.{place_of, ticket_in}
 use Rattle.kms_clients.proofs.clients.Clients.with_ticket.Given as goal
 
 -- none of the clients before has the ticket
