@@ -7,10 +7,11 @@ use Rattle.kms_model.specs.declared.objects.Topology.{Topology}
 use Rattle.kms_model.specs.declared.pictures.Picture.{Picture}
 use Rattle.kms_model.specs.declared.pictures.Picture.TheVariants.{Off, On}
 use Rattle.kms_model.specs.declared.replies.Step.{Step}
-use Rattle.kms_model.specs.declared.replies.Step.TheVariants.{BackOff, Claim, Swap}
+use Rattle.kms_model.specs.declared.replies.Step.TheVariants.{BackOff, Claim, Lock, Swap}
 use Rattle.kms_model.specs.declared.scripts.Part.TheVariants as part
 use Rattle.kms_model.specs.declared.scripts.Request.{Request}
 use Rattle.kms_model.specs.declared.scripts.Script.{Script}
+use Rattle.kms_model.specs.declared.replies.TheConstants.Refusal.{SWITCHES_CRTC}
 use Rattle.kms_model.specs.Device.Objects.{ids_of, object_id}
 use Rattle.kms_model.specs.Device.Serial.{show}
 use Rattle.kms_model.specs.Machine.Commits.{commit_touches, has_number, is_claimed, waited_fences}
@@ -18,7 +19,7 @@ use Rattle.kms_model.specs.Machine.Effects.{backed_off, next, now_doing}
 use Rattle.kms_model.specs.Machine.Histories.{at, is_history, journal, last_latched, latched}
 use Rattle.kms_model.specs.Machine.Registers.{decoded_picture}
 use Rattle.kms_model.specs.Machine.State.{Machine, doing_at, first_machine, holder_at, holds}
-use Rattle.kms_model.specs.Machine.Steps.{holds_touched, is_ready, is_refused_late, is_settled_for, may, may_lock, taking_at, ticket_of}
+use Rattle.kms_model.specs.Machine.Steps.{holds_touched, is_lockable, is_ready, is_refused_late, is_settled_for, may, may_lock, taking_at, ticket_of}
 use Rattle.kms_model.specs.Machine.Waits.{waits_at_lock, waits_at_relock}
 use Rattle.kms_model.specs.Request.Flags.{is_test}
 use Rattle.kms_model.specs.Request.Reach.{reaches}
@@ -89,9 +90,9 @@ one_thread_shows_the_plane = refl
 
 pub straight : Option ℕ → Bool
 straight None = true
-straight (Some n) = n == 15
+straight (Some n) = n == SWITCHES_CRTC.0
 
--- a swap is legal also where the one thing wrong is that
+-- a swap is legal also where the first refusal is that
 pub may_swap_straight : Topology → Machine → ℕ → Request → Bool
 may_swap_straight t m client r = not (is_test r.flags) && (holds_touched t m client r && (straight (verdict t m.device.world r) && (not (is_refused_late t m client r) && is_ready t m r)))
 
@@ -118,7 +119,8 @@ pub is_free_or_younger : Machine → ℕ → Option ℕ → Bool
 is_free_or_younger m ticket None = true
 is_free_or_younger m ticket (Some holder) = nat_lt ticket (ticket_of (doing_at m holder))
 
--- the rule is turned round at the plane alone
+-- The rule is turned round at the plane alone: turned round everywhere, it would have no cycle either, since tickets would fall
+-- along each chain.
 pub may_lock_turned : Script → Machine → ℕ → ℕ → Bool
 may_lock_turned s m client object =
     if object == object_id Plane 0
@@ -131,6 +133,15 @@ waits_by rule s m x y object = taking_at s m x (λ r. reaches s.topology m.devic
 -- three clients, of which each holds one object and needs that of the next
 abbrev three_clients : List ℕ
 three_clients = head ++ codes "client\natomic 0x100 0 plane0.alpha=1 crtc0.ACTIVE=0\nclient\natomic 0x100 0 crtc0.ACTIVE=0 conn0.CRTC_ID=0\nclient\natomic 0x100 0 conn0.CRTC_ID=0 plane0.alpha=1\nschedule\nT begin 1\nT begin 2\nT begin 3\nT lock 1 plane0\nT lock 2 crtc0\nT lock 3 conn0\n"
+
+-- each step is legal by that rule
+pub locks_turned : Script → Machine → Step → Bool
+locks_turned s m (Lock client kind index) = is_lockable s.topology kind index && may_lock_turned s m client (object_id kind index)
+locks_turned s m step = may s m step
+
+pub turned_locks_are_legal : told (λ s h. keep locks_turned s (first_machine s.topology) h) false three_clients ≡ true
+unfolding on_machines keep locks_turned may_lock_turned is_free_or_younger
+turned_locks_are_legal = refl
 
 pub three_clients_hold_one_object_each : told (λ s h. is_history s h) false three_clients ≡ true
 unfolding on_machines

@@ -26,7 +26,7 @@ use Rattle.kms_model.specs.Device.World.{thing_labelled, thing_numbered, thing_w
 use Rattle.kms_model.specs.Frames.Shown.{AreFramed, FramesIn}
 use Rattle.kms_model.specs.Machine.Commits.{commit_touches, is_cleaned, new_plane, old_plane, out_fence_of}
 use Rattle.kms_model.specs.Machine.Framebuffers.{commit_keeps, commits_keep, is_fb, is_needed, live_names, picture_names, values_name}
-use Rattle.kms_model.specs.Machine.Histories.{at, commit_numbers, is_history, legal}
+use Rattle.kms_model.specs.Machine.Histories.{are_legal, at, commit_numbers, is_history, legal, run_steps}
 use Rattle.kms_model.specs.Machine.Effects.{next}
 use Rattle.kms_model.specs.Machine.Registers.{PlaneWords, decoded_picture, fb_number, latched_registers, plane_words}
 use Rattle.kms_model.specs.Machine.State.{Commit, DeviceState, Machine, command_at, entry_at}
@@ -46,11 +46,12 @@ use Rattle.kms_model.proofs.TouchedLemmas.{IsRequestAt, accepted-each}
 use Rattle.kms_laws.proofs.Basics.{both_bools, number_more}
 use Rattle.kms_laws.proofs.Executed.{Follows, IsShut, execute_follows, plane_like}
 use Rattle.kms_laws.proofs.Freed.{Gone, unlive_after}
+use Rattle.kms_laws.specs.Laws as Laws
 use Rattle.kms_laws.proofs.Headlines.{range-in}
 use Rattle.kms_laws.proofs.Invariants.{plane_after}
 use Rattle.kms_laws.proofs.Numbered.{plane_new, plane_old, touches_old}
 use Rattle.kms_laws.proofs.Present.{StatesStand, follows, states_like, swap_present}
-use Rattle.kms_laws.proofs.Steps.{Holds, IsPlainScript, history_kept}
+use Rattle.kms_laws.proofs.Steps.{Holds, IsPlainScript, along, history_kept, step_kept}
 use Rattle.kms_laws.proofs.Traversal.{IsKept, commit_of, latch_of, latched_any, step_keeps}
 use Rattle.kms_laws.proofs.Whole.{Whole, history_whole, whole_kept, whole_latched}
 use Rattle.kms_laws.proofs.Words.{by_recursion-at}
@@ -380,3 +381,16 @@ pub framebuffers_once : (s : Script) (h : List Step) → IsPlainScript s → is_
 framebuffers_once s h plain is step legal_step =
     all_in-from (StaysFree s (at s h) step) (at s h).device.world.things
     (stays_free s (at s h) step plain (history_kept s h plain is) (history_whole s h plain is) legal_step)
+
+stays_free_along : (s : Script) (m : Machine) (steps : List Step) → IsPlainScript s → Holds s m → Whole s.topology m.device m.records.latches → are_legal s m steps ≡ true → (thing : Thing) → IsIn thing m.device.world.things → Laws.StaysFree s m (run_steps s m steps) thing
+stays_free_along s m steps plain H W legal_steps thing i framebuffer unneeded later found =
+    let F : Freeing s.topology thing.id m.device m.records.latches = record { whole = W; states = H.present.states; gone = gone-from s m H W thing i framebuffer unneeded } in
+    let after_steps = along s (λ m. Holds s m × Freeing s.topology thing.id m.device m.records.latches)
+    (λ m step both l. (step_kept s m step plain both.0 l, step_keeps s (Freeing s.topology thing.id) (freeing_kept s plain thing.id) m both.0 both.1 step l))
+    steps m (H, F) legal_steps in
+    unneeded-from s (run_steps s m steps) thing.id after_steps.1.whole after_steps.1.gone later found (find-same (run_steps s m steps).device.world.things thing.id later found)
+
+pub framebuffers_once_along : (s : Script) (h : List Step) → IsPlainScript s → is_history s h ≡ true → (steps : List Step) → are_legal s (at s h) steps ≡ true → All (Laws.StaysFree s (at s h) (run_steps s (at s h) steps)) (at s h).device.world.things
+framebuffers_once_along s h plain is steps legal_steps =
+    all_in-from (Laws.StaysFree s (at s h) (run_steps s (at s h) steps)) (at s h).device.world.things
+    (stays_free_along s (at s h) steps plain (history_kept s h plain is) (history_whole s h plain is) legal_steps)

@@ -12,7 +12,7 @@ use Rattle.kms_model.specs.declared.runs.Latch.{Latch}
 use Rattle.kms_model.specs.declared.scripts.Script.{Script}
 use Rattle.kms_model.specs.Device.Objects.{ids_of, object_id}
 use Rattle.kms_model.specs.Device.Serial.{show}
-use Rattle.kms_model.specs.Headline.{CommitPicture, Headline, IsPrefixOf, StandsAtPlace, history_journal}
+use Rattle.kms_model.specs.Headline.{CommitPicture, Headline, IsPrefixOf, StandsAtPlace, history_journal, latched_pictures, shown_pictures}
 use Rattle.kms_model.specs.Machine.Commits.{commit_names, has_number, is_cleaned}
 use Rattle.kms_model.specs.Machine.Histories.{at, client_numbers, commit_numbers, is_at_end, is_drained, is_history}
 use Rattle.kms_model.specs.Machine.State.{Commit, Machine}
@@ -93,21 +93,24 @@ range-in from (suc n) k l m =
     (λ ge. inl (omega arith))
     (cases_lt from k)
 
-all_clean : (s : Script) (m : Machine) → is_drained s m ≡ true → (k : ℕ) → k < length m.device.commits → has_number m.device.marks.cleaned k ≡ true
-unfolding is_drained
-all_clean s m drained k l =
-    list_all-at (is_cleaned m.device) (commit_numbers m) k (and_parts (list_all (is_at_end s m) (client_numbers s)) _ drained).1 (range-in 0 (length m.device.commits) k (omega arith) (omega arith))
+all_clean : (m : Machine) → list_all (is_cleaned m.device) (commit_numbers m) ≡ true → (k : ℕ) → k < length m.device.commits → has_number m.device.marks.cleaned k ≡ true
+all_clean m clean k l =
+    list_all-at (is_cleaned m.device) (commit_numbers m) k clean (range-in 0 (length m.device.commits) k (omega arith) (omega arith))
 
-all_of_them : (s : Script) (m : Machine) → Holds s m → is_drained s m ≡ true → (crtc : ℕ) → crtc < s.topology.crtcs
+drained_clean : (s : Script) (m : Machine) → is_drained s m ≡ true → list_all (is_cleaned m.device) (commit_numbers m) ≡ true
+unfolding is_drained
+drained_clean s m drained = (and_parts (list_all (is_at_end s m) (client_numbers s)) _ drained).1
+
+all_of_them : (s : Script) (m : Machine) → Holds s m → list_all (is_cleaned m.device) (commit_numbers m) ≡ true → (crtc : ℕ) → crtc < s.topology.crtcs
     → map pair_of_latch (filter (λ l. l.crtc == crtc) (reverse m.records.latches)) ≡ map pair_of (show s (reverse m.records.journal) (object_id Crtc crtc))
-all_of_them s m H drained crtc l =
+all_of_them s m H clean crtc l =
     let c = object_id Crtc crtc in
     let i : IsIn c (ids_of s.topology Crtc) = ids-has s.topology Crtc crtc l in
     let e = H.tail.shows c in
     latched-at m.records.latches crtc
     ∙ ap reverse (e.says ∙ sym (shown_same s.topology m.device.commits c e.at (length m.device.commits) e.within
     (λ j l2 m2. false_from_ne_true (commit_names s.topology m.device.commits j c) (λ named.
-    absurd (let lt = e.above j (H.tail.marks.cleaned j c (all_clean s m drained j m2) i named) in omega arith)))))
+    absurd (let lt = e.above j (H.tail.marks.cleaned j c (all_clean m clean j m2) i named) in omega arith)))))
     ∙ sym (H.present.is_shown c i)
 
 all_reversed : {A : Type 0} (P : A → Type 0) (xs : List A) → AllByRecursion P xs → All P (reverse xs)
@@ -124,9 +127,14 @@ headline s h plain is =
     let H = history_kept s h plain is in
     record {
       in_order = λ crtc l. in_order s (at s h) H crtc l;
-      all_of_them = λ drained crtc l. all_of_them s (at s h) H drained crtc l;
+      all_of_them = λ drained crtc l. all_of_them s (at s h) H (drained_clean s (at s h) drained) crtc l;
       verdicts = all_reversed (StandsAtPlace s (history_journal s h)) (at s h).records.replies H.replies;
     }
 
 pub serial_world : (s : Script) (h : List Step) → IsPlainScript s → is_history s h ≡ true → HasSerialWorld s h
 serial_world s h plain is = let H = history_kept s h plain is in record { is_serial = H.present.is_serial; is_sound = H.present.sound }
+
+pub all_shown : (s : Script) (h : List Step) → IsPlainScript s → is_history s h ≡ true → list_all (is_cleaned (at s h).device) (commit_numbers (at s h)) ≡ true
+    → (crtc : ℕ) → crtc < s.topology.crtcs → latched_pictures s h crtc ≡ shown_pictures s (history_journal s h) crtc
+unfolding pair_of_latch
+all_shown s h plain is clean crtc l = all_of_them s (at s h) (history_kept s h plain is) clean crtc l

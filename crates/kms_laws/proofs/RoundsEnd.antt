@@ -93,3 +93,9 @@ module _ (s : Script) (formed : IsWellFormed s) where
       let a = moves-few h 0 (first_machine s.topology) C is in
       let b = left-bound s formed (first_machine s.topology) 0 C in
       omega (arith, a, b)
+
+  pub rounds-end-below : (h : List Step) → is_history s h ≡ true → (most : ℕ) → 2 ^ 53 ≤ suc most → is_still s (rounds s most (run_of s h)) ≡ true
+  rounds-end-below h is most l =
+      let R = run-of s h is in
+      let bound = left-bound s formed (at s h) (length (reverse (reverse h))) (counted-run (run_of s h) R) in
+      rounds-rest most (run_of s h) R (omega (arith, bound, l))

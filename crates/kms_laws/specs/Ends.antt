@@ -1,5 +1,5 @@
 -- How the order of one thread ends: where nothing more can be done, the history is drained or dead.
-use Rattle.std.specs.Prelude.{◌≡◌, ◌↔◌, ◌⊎◌, ◌≤◌, ◌<◌, ℕ, ◌+◌, ◌^◌, Bool, true, false, List, [], ◌∷◌, ◌++◌, is_some}
+use Rattle.std.specs.Prelude.{suc, ◌≡◌, ◌↔◌, ◌⊎◌, ◌≤◌, ◌<◌, ℕ, ◌+◌, ◌^◌, Bool, true, false, List, [], ◌∷◌, ◌++◌, is_some}
 use Rattle.kms_model.specs.declared.replies.Step.{Step}
 use Rattle.kms_model.specs.declared.replies.Step.TheVariants.{Vblank}
 use Rattle.kms_model.specs.declared.scripts.Script.{Script}
@@ -21,11 +21,11 @@ IsOver s h = (is_drained s (at s h) ≡ true) ⊎ (is_dead s (at s h) ≡ true)
 abbrev pub RoundsAreStill : Type 0
 RoundsAreStill = InEachHistory (λ s h. (is_still s (run_of s h) ≡ true) ↔ IsOver s h)
 
--- Rounds behind a history end: after so many of them, or any more, the next has no step.
+-- Rounds behind a history end: after 2^53 - 1 of them, or any more, the next has no step.
 abbrev pub RoundsEnd : Type 0
-RoundsEnd = InEachHistory (λ s h. (most : ℕ) → 2 ^ 53 ≤ most → is_still s (rounds s most (run_of s h)) ≡ true)
+RoundsEnd = InEachHistory (λ s h. (most : ℕ) → 2 ^ 53 ≤ suc most → is_still s (rounds s most (run_of s h)) ≡ true)
 
--- a step that is no vertical blanking without GO
+-- a step that is no vertical blanking without GO; `stall` is one
 abbrev pub is_moving : Machine → Step → Bool
 is_moving m (Vblank kind index) = is_some (go_at m.device (object_id kind index))
 is_moving m _ = true

@@ -1,6 +1,6 @@
 -- What the laws say beside the promises: the world of a machine, that histories go on, contexts, and look-ups that grew old.
 use Rattle.std.specs.Prelude.{◌≡◌, ◌⊎◌, ◌<◌, ◌||◌, ℕ, Bool, true, false, List, length, Some}
-use Rattle.std.specs.List.{list_any}
+use Rattle.std.specs.List.{All, list_all, list_any}
 use Rattle.kms_model.specs.declared.replies.Step.{Step}
 use Rattle.kms_model.specs.declared.objects.Topology.{Topology}
 use Rattle.kms_model.specs.declared.runs.Doing.{Doing}
@@ -12,9 +12,13 @@ use Rattle.kms_model.specs.declared.states.Duplicates.{Duplicates}
 use Rattle.kms_model.specs.declared.worlds.World.{World}
 use Rattle.kms_model.specs.Device.Serial.{serial}
 use Rattle.kms_model.specs.Device.Sound.{IsSound}
-use Rattle.kms_model.specs.Headline.{history_journal}
-use Rattle.kms_model.specs.Machine.Commits.{has_number, lockable}
-use Rattle.kms_model.specs.Machine.Histories.{are_legal, at, awaited_label, is_drained, run_steps, steps_that_move}
+use Rattle.kms_model.specs.declared.worlds.Thing.{Thing}
+use Rattle.kms_model.specs.Device.Execution.{is_framebuffer}
+use Rattle.kms_model.specs.Device.World.{thing_with_id}
+use Rattle.kms_model.specs.Headline.{history_journal, latched_pictures, shown_pictures}
+use Rattle.kms_model.specs.Machine.Commits.{has_number, is_cleaned, lockable}
+use Rattle.kms_model.specs.Machine.Framebuffers.{is_needed}
+use Rattle.kms_model.specs.Machine.Histories.{are_legal, at, awaited_label, commit_numbers, is_drained, run_steps, steps_that_move}
 use Rattle.kms_model.specs.Machine.State.{Machine, doing_at, holds}
 use Rattle.kms_model.specs.Machine.Steps.{contended, is_taking, may, must_back_off, returning_of, ticket_of}
 use Rattle.kms_model.specs.Promises.{InEachHistory, WaitsForFence}
@@ -29,6 +33,21 @@ use Rattle.kms_model.specs.Request.Touched.{touches}
 pub record HasSerialWorld (s : Script) (h : List Step) : Type 0 where
   pub is_serial : serial s (history_journal s h) ≡ (at s h).device.world
   pub is_sound : IsSound s.topology (at s h).device.world
+
+-- Where every commit is cleaned, each CRTC has latched all that the device of one thread shows for the journal, also where clients
+-- have commands left.
+abbrev pub AllShownOnceCleaned : Type 0
+AllShownOnceCleaned = InEachHistory (λ s h. list_all (is_cleaned (at s h).device) (commit_numbers (at s h)) ≡ true
+    → (crtc : ℕ) → crtc < s.topology.crtcs → latched_pictures s h crtc ≡ shown_pictures s (history_journal s h) crtc)
+
+-- A framebuffer that is there and is not needed is not needed after any further steps either.
+abbrev pub StaysFree : Script → Machine → Machine → Thing → Type 0
+StaysFree s now later thing = is_framebuffer thing.content ≡ true → is_needed s.topology now thing ≡ false
+    → (one : Thing) → thing_with_id later.device.world.things thing.id ≡ Some one → is_needed s.topology later one ≡ false
+
+abbrev pub FramebuffersStayFree : Type 0
+FramebuffersStayFree = InEachHistory (λ s h. (steps : List Step) → are_legal s (at s h) steps ≡ true
+    → All (StaysFree s (at s h) (run_steps s (at s h) steps)) (at s h).device.world.things)
 
 -- Ways on
 

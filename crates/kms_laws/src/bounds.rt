@@ -2,9 +2,9 @@
 ghost use Rattle.kms_laws.specs.Numbers.{AllNumbersFit};
 ghost use Rattle.kms_laws.specs.TailsLeft.{TailsAreShort, TailsGetShorter};
 
-/// The numbers of each history fit their types: there are at most 65536 commits, tickets, accepted commands and replies,
-/// each command makes at most 4 things, a vertical blanking's count is at most the number of steps, and a client has at
-/// most 128 events that are reserved or unread.
+/// The numbers of each history fit their types: there are at most 65536 commits, tickets, accepted commands and replies; ids
+/// are at most 1000 + 4 * 65536; a CRTC's count is at most the number of steps, so it fits where that does; and a client
+/// has at most 128 events that are reserved or unread.
 pub fn numbers_fit_their_types()
     ensures { AllNumbersFit }
 {}
@@ -14,8 +14,8 @@ pub fn tails_are_short()
     ensures { TailsAreShort }
 {}
 
-/// A step of a commit's tail, or the vertical blanking for which a CRTC has GO for the commit, leaves fewer steps of that
-/// tail to do, and no step makes more of any.
+/// A step of a commit's tail, or the vertical blanking of a CRTC that has GO for the commit, leaves fewer steps of that
+/// tail to do, and no step makes more of any tail of a commit that is there.
 pub fn tails_get_shorter()
     ensures { TailsGetShorter }
 {}

@@ -14,13 +14,13 @@ pub fn rounds_are_still_at_ends()
     ensures { RoundsAreStill }
 {}
 
-/// Whatever the order of steps, no history goes on for ever: none has 2^53 steps but for vertical blankings without GO.
-/// So contexts do not back off for ever.
+/// Whatever the order of steps, no history has 2^53 steps but for vertical blankings without GO. So contexts do not back
+/// off for ever.
 pub fn histories_have_few_moves()
     ensures { MovesAreFew }
 {}
 
-/// Rounds end: behind each history, after fewer than 2^53 rounds the next has no step.
+/// Rounds end: behind each history, after 2^53 - 1 rounds, or any more, the next has no step.
 pub fn rounds_end()
     ensures { RoundsEnd }
 {}

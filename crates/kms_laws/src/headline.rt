@@ -1,7 +1,7 @@
 //! The headline: every interleaving shows what one thread shows.
 ghost use Rattle.kms_model.specs.Headline.{HeadlineHolds};
 ghost use Rattle.kms_model.specs.Promises.{DeadNamesAFence, EventsOnce, FramebuffersOnce, InEachHistory, WholePictures};
-ghost use Rattle.kms_laws.specs.Laws.{HasSerialWorld, HistoriesGoOn};
+ghost use Rattle.kms_laws.specs.Laws.{AllShownOnceCleaned, FramebuffersStayFree, HasSerialWorld, HistoriesGoOn};
 
 /// For every script and every interleaving of clients, workers, fences and vertical blankings: the pictures that each CRTC
 /// latches are, in order, a prefix of those that the device of one thread shows when it executes the journal's commands
@@ -11,21 +11,28 @@ pub fn headline_holds()
     ensures { HeadlineHolds }
 {}
 
+/// Where every commit is cleaned, each CRTC has latched all that the device of one thread shows for the journal, also where
+/// clients have commands left.
+pub fn all_is_shown_once_cleaned()
+    ensures { AllShownOnceCleaned }
+{}
+
 /// The world of the machine is that of the device of one thread after the journal, and that device is sound.
 pub fn world_is_serial()
     ensures { InEachHistory HasSerialWorld }
 {}
 
 /// Pictures are whole: at each moment the live picture of a CRTC is the last that it latched, Off before the first, and each
-/// that it latched is what it shows in the new values of one commit.
+/// that it latched is what it shows in the new values of one commit, which is there (`numbers_fit_their_types`).
 pub fn pictures_are_whole()
     ensures { WholePictures }
 {}
 
-/// A framebuffer that was made and is not needed is never needed again. So each is freed at most once, by the step after
-/// which it is first not needed.
+/// A framebuffer that was made and is not needed is not needed after the next step, nor after any further steps. That each
+/// is freed at most once, by the step after which it is first not needed, follows.
 pub fn framebuffers_are_freed_once()
-    ensures { FramebuffersOnce }
+    ensures next { FramebuffersOnce }
+    ensures ever { FramebuffersStayFree }
 {}
 
 /// Events come once: what a client has read, and then its unread events, are those delivered, one for each latch of its
@@ -34,7 +41,7 @@ pub fn events_come_once()
     ensures { EventsOnce }
 {}
 
-/// Each history is drained, or a step may be done in it that is no vertical blanking without GO; or else the least commit
+/// Each history is drained, or a step other than `stall` and a vertical blanking without GO may be done in it; or else the least commit
 /// that is not cleaned is not claimed and waits for a fence that a `fence` command made and that is not signalled, and
 /// that fence's label is the one that a dead history tells.
 pub fn histories_go_on()

@@ -13,8 +13,9 @@ pub use ends::{
     histories_have_few_moves, one_is_over, rounds_are_still_at_ends, rounds_end,
 };
 pub use headline::{
-    dead_histories_name_a_fence, events_come_once, framebuffers_are_freed_once, headline_holds,
-    histories_go_on, pictures_are_whole, world_is_serial,
+    all_is_shown_once_cleaned, dead_histories_name_a_fence, events_come_once,
+    framebuffers_are_freed_once, headline_holds, histories_go_on, pictures_are_whole,
+    world_is_serial,
 };
 pub use locks::{
     busy_has_its_cause, contexts_stand, held_objects_are_framed, old_look_ups_ask_within_reach,
