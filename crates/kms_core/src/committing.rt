@@ -177,7 +177,7 @@ pub(crate) fn reserve_events(alloc: Global, queue: &mut EventQueue, events: u32)
     };
 }
 
-/// Sets a commit up, for which there is room.
+/// Sets a commit up, for which there is room, and gives its number. (Kernel: `drm_atomic_helper_setup_commit`.)
 pub(crate) fn set_up(
     alloc: Global,
     tracker: &mut Tracker,
