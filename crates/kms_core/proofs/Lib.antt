@@ -23,3 +23,6 @@ mod Signalled
 mod IdleAt
 mod Swaps
 mod OutFences
+mod OutLabels
+mod Commits
+mod Swapped

@@ -4,13 +4,14 @@ use Rattle.std.specs.Prelude.{Option}
 use Rattle.kms_model.specs.declared.scripts.Assign.{Assign}
 use Rattle.kms_model.specs.declared.worlds.Content.TheVariants as content
 use Rattle.kms_model.specs.declared.worlds.World.{World}
-use Rattle.kms_model.specs.Device.Execution.{make, make_out_fence, make_out_fences}
+use Rattle.kms_model.specs.Device.Execution.{make_out_fence, make_out_fences}
 use Rattle.kms_model.specs.Request.Touched.{out_fence_label}
+use Rattle.kms_model.specs.declared.tables.Slot.{Slot}
 use Rattle.kms_model.specs.Stores.Tables.{slot}
 use Rattle.kms_signal.proofs.InStepLemmas.{fence_made}
 use Rattle.kms_signal.specs.FenceSets.{FenceSet}
 use Rattle.kms_signal.specs.InStep.{AreFencesOf}
-use Rattle.kms_core.specs.Settled.{fences_for}
+use Rattle.kms_core.specs.Settled.{fences_for, next_after}
 use Rattle.kms_core.specs.Stands.{AreMadeFences}
 use Rattle.kms_core.proofs.Fencing.{fence_fenced, fresh, same_fences, same_slots}
 
@@ -41,3 +42,13 @@ out_fences_made client assigns w (crtc ∷ crtcs) signalled old new is was =
           rw some (rest (make_out_fence client w (Some label)) middle
           ((rw some at is) ∙ sym (append_assoc old.slots (slot w.next_id false ∷ []) (fences_for (w.next_id + 1) (map (out_fence_label assigns) crtcs))))
           (out_fence_made client w label signalled old middle refl was))
+
+-- the fences of one label, and then those of the rest
+fences_split : (next : ℕ) (label : Option ℕ) (labels : List (Option ℕ)) → fences_for next (label ∷ labels) ≡ fences_for next (label ∷ []) ++ fences_for (next_after next label) labels
+fences_split next None labels = refl
+fences_split next (Some label) labels = refl
+
+pub one_made : (slots : List (Slot Bool)) (next : ℕ) (label : Option ℕ) (labels : List (Option ℕ))
+    → (slots ++ fences_for next (label ∷ [])) ++ fences_for (next_after next label) labels ≡ slots ++ fences_for next (label ∷ labels)
+one_made slots next label labels =
+    append_assoc slots (fences_for next (label ∷ [])) (fences_for (next_after next label) labels) ∙ ap (λ xs. slots ++ xs) (sym (fences_split next label labels))

@@ -1,9 +1,7 @@
 -- What a swap leaves of a machine, part by part.
-use Rattle.std.proofs.Common.{◌≡◌, ℕ, ◌≤◌, ◌-◌, Bool, true, false, List, ◌∷◌, length, inl, inr, refl, sym, ◌∙◌, subst, arith}
-use Rattle.std.specs.Prelude.{◌==◌, slice_set, if◌then◌else◌}
+use Rattle.std.proofs.Common.{◌≡◌, ℕ, Bool, true, false, ◌∷◌, length, inl, inr, refl}
+use Rattle.std.specs.Prelude.{if◌then◌else◌}
 use Rattle.std.proofs.lemmas.Bool.{cases_Bool}
-use Rattle.std.proofs.lemmas.Bool.Decides.{eqb_tells}
-use Rattle.std.proofs.lemmas.List.{get_or-set_same, get_or-set_other, length-set}
 use Rattle.kms_model.specs.declared.replies.Reply.TheVariants as reply
 use Rattle.kms_model.specs.declared.replies.Step.TheVariants as step
 use Rattle.kms_model.specs.declared.scripts.Request.{Request}
@@ -14,13 +12,8 @@ use Rattle.kms_model.specs.Machine.State.{Machine, entry_at, place_at, request_a
 use Rattle.kms_model.specs.Request.Flags.{is_nonblock, wants_event}
 use Rattle.kms_clients.specs.InStep.{AreClientsOf, after_decision, after_swap}
 use Rattle.kms_clients.specs.Standing.{Standing}
-use Rattle.kms_signal.proofs.StepLemmas.{queues_follow_others_swap, queues_follow_swap}
-use Rattle.kms_signal.specs.InStep.{IsQueueOf}
-use Rattle.kms_signal.specs.Queues.{Queue, empty_queue}
-use Rattle.kms_signal.specs.StepLaws.{swapped_queue}
 use Rattle.kms_core.specs.Calls.{answered}
-use Rattle.kms_core.specs.Stands.{AreQueues, queue_of}
-use Rattle.std.specs.Prelude.{Option, Some}
+use Rattle.std.specs.Prelude.{Some}
 
 either_machine : (P : Machine → Type 0) (b : Bool) (x y : Machine) → P x → P y → P (if b then x else y)
 either_machine P true x y one other = one
@@ -61,23 +54,3 @@ clients_swapped s m client r clients is goes waits =
       | inl event ↦ rw event (elim (cases_Bool (is_nonblock r.flags)) [ inl nonblock ↦ rw nonblock (goes nonblock) | inr blocks ↦ rw blocks (waits blocks) ])
       | inr none ↦ rw none (elim (cases_Bool (is_nonblock r.flags)) [ inl nonblock ↦ rw nonblock (goes nonblock) | inr blocks ↦ rw blocks (waits blocks) ])
     ])
-
--- the client's queue has its events reserved, and the others are as they were
-pub queues_swapped : (s : Script) (m : Machine) (client : ℕ) (r : Request) (room : ℕ) (queues : List Queue) → request_at s m client ≡ Some r → 1 ≤ client → client ≤ length s.clients → AreQueues (length s.clients) m.events queues
-    → AreQueues (length s.clients) (next s m (step.Swap client)).events (slice_set queues (client - 1) (swapped_queue s.topology m r room (queue_of queues client)))
-queues_swapped s m client r room queues is low high stand =
-    let q : Queue = swapped_queue s.topology m r room (queue_of queues client) in
-    record {
-      size = length-set queues (client - 1) q ∙ stand.size;
-      queue = λ other from to.
-          elim (eqb_tells client other) [
-            | inl same ↦ (let size = stand.size in
-                subst (λ n. IsQueueOf (queue_of (slice_set queues (client - 1) q) n) (next s m (step.Swap client)).events n) same.1
-                (subst (λ x. IsQueueOf x (next s m (step.Swap client)).events client) (sym (get_or-set_same queues (client - 1) q empty_queue (omega (arith, size, low, high))))
-                (queues_follow_swap s m client r (queue_of queues client) room is (stand.queue client low high))))
-            | inr different ↦
-                subst (λ x. IsQueueOf x (next s m (step.Swap client)).events other)
-                (sym (get_or-set_other queues (client - 1) (other - 1) q empty_queue (λ e. different.1 (omega (arith, e, low, from)))))
-                (queues_follow_others_swap s m client other (queue_of queues other) different.0 (stand.queue other from to))
-          ];
-    }

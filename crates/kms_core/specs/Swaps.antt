@@ -18,6 +18,8 @@ use Rattle.kms_model.specs.Machine.State.{Machine, doing_at, request_at}
 use Rattle.kms_model.specs.Machine.Steps as steps
 use Rattle.kms_model.specs.Request.Deciding.{IsChecked}
 use Rattle.kms_model.specs.Request.Flags.{is_nonblock, is_test, wants_event}
+use Rattle.kms_model.specs.Request.Lookups.{look_up}
+use Rattle.kms_model.specs.Request.Resolves.{IsResolved}
 use Rattle.kms_model.specs.Request.Verdict.{verdict}
 use Rattle.kms_clients.specs.Standing.{IsClient}
 use Rattle.kms_laws.specs.TailsLeft.{one_if}
@@ -58,6 +60,13 @@ pub record IsReadyToCommit (r : Run) (client : ℕ) (checked : Checked) (flags :
   pub checked_as : IsChecked r.script.topology (world r) request checked
   pub flags_are : flags ≡ request.flags
   pub no_test : is_test request.flags ≡ false
+
+-- Such a request, with what it asks for in the present world, and with what it touches duplicated; nothing hinders its swap.
+pub record MayCommit (r : Run) (client : ℕ) (checked : Checked) (resolved : Resolved) : Type 0 where
+  pub ready : IsReadyToCommit r client checked resolved.flags
+  pub states : HasAllStates checked
+  pub asks : IsResolved r.script.topology (look_up (world r)) ready.request resolved
+  pub legal : legal r.script (machine r) (step.Swap client) ≡ true
 
 -- Answers in the machine's words
 

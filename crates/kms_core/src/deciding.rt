@@ -137,7 +137,7 @@ impl Core {
 
 impl Stale {
     /// What is answered where it is the first.
-    fn again(self) -> Decided
+    pub(crate) fn again(self) -> Decided
         ensures { result ≡ decided.Again self.label self.was self.now }
     {
         Decided::Again {

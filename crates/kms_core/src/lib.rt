@@ -2,6 +2,7 @@
 #![tactic(auto)]
 
 mod commands;
+mod committing;
 mod contexts;
 mod deciding;
 mod logs;

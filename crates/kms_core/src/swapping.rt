@@ -2,22 +2,60 @@
 ghost use Rattle.std.specs.Prelude.{◌≡◌, ◌+◌, ◌*◌, ◌≤◌, ◌&&◌, nat_lt, length, IfOk, None, Some, if◌then◌else◌};
 ghost use Rattle.kms_laws.specs.TailsLeft.{one_if};
 ghost use Rattle.kms_model.specs.declared.replies.Reply.TheVariants as reply;
+ghost use Rattle.kms_model.specs.declared.replies.Step.TheVariants as step;
 ghost use Rattle.kms_model.specs.Request.Flags.{is_nonblock, wants_event};
+ghost use Rattle.kms_model.specs.Request.Lookups.{look_up};
 ghost use Rattle.kms_signal.specs.Queues.{space_used};
 ghost use Rattle.kms_track.specs.Tracking.{busy_of};
 ghost use Rattle.kms_core.specs.declared.deciding.Decided.TheVariants as decided;
+ghost use Rattle.kms_core.specs.Decisions.{IsDecided, steps_of, taker, world};
 ghost use Rattle.kms_core.specs.Run.{gains, if_ok, machine};
 ghost use Rattle.kms_core.specs.Swaps.{busy_as, count_in, hindered_steps, late_told, or_answer};
-ghost use Rattle.kms_core.specs.Swaps.{IsReadyToCommit, MaySwapUnless, swap_answer};
+ghost use Rattle.kms_core.specs.Swaps.{IsReadyToCommit, MaySwap, MaySwapUnless, swap_answer};
 
-use crate::deciding::Decided;
+use crate::deciding::{Decided, first_stale, taker};
 use crate::machine::Core;
-use kms_model::{Checked, Mask, NoMemory, Reply, Step, has_bit};
+use kms_model::{Checked, Lookups, Mask, NoMemory, Reply, Resolved, Step, Ticket, has_bit};
 use kms_props::AtomicFlags;
 use kms_signal::{EVENT_BYTES, EVENT_SPACE, EventQueue};
 use kms_track::Tracker;
+use std::alloc::Global;
 
 impl Core {
+    /// Commits the request of the client whose context has a ticket and takes locks, or refuses it for want of space for its
+    /// events or for being busy. `used` tells what the request's labels named; `resolved` is what it asks for with that,
+    /// and `checked` what a check gives with that and with present states, with the objects that it touches duplicated; the
+    /// context holds them. `Again` comes exactly where a label names something else now, with the first. `NotYet` comes
+    /// where the commit has to wait for another at a CRTC, with the first. A commit that blocks makes its client wait until
+    /// its tail is over; the other goes on. Want of memory leaves all as it was. (Kernel: `drm_atomic_helper_commit`.)
+    pub fn swap(
+        &mut self,
+        alloc: Global,
+        t: Ticket,
+        used: &Lookups,
+        checked: &Checked,
+        resolved: &Resolved,
+    ) -> Result<Decided, NoMemory>
+        requires { MaySwap self.old t.0 used.now checked.now resolved.now }
+        ensures answer { IfOk result (IsDecided (look_up (world self.old)) used.now
+            (swap_answer self.old (taker (machine self.old) t.0))) }
+        ensures history { self.new ≡ gains self.old (if_ok result
+            (steps_of (taker (machine self.old) t.0)
+            (step.Swap (taker (machine self.old) t.0)))) }
+    {
+        if let Some(stale) = first_stale(&self.things, used) {
+            return Ok(stale.again());
+        }
+        let client = taker(&self.clients, t);
+        if let Some(decided) = self.hindered(client, checked, resolved.flags)? {
+            return Ok(decided);
+        }
+        let commit = self.commit(alloc, client, checked, resolved)?;
+        Ok(Decided::Done {
+            reply: Reply::Commit { commit },
+        })
+    }
+
     /// Refuses an accepted request of a client, for want of space for its events or for being busy, or tells the first CRTC
     /// at which its commit has to wait for another. None exactly where it may be committed. Nothing changes but where it is
     /// refused.
@@ -47,14 +85,14 @@ impl Core {
 }
 
 /// Whether a request asks for events.
-fn wants_event(flags: u32) -> bool
+pub(crate) fn wants_event(flags: u32) -> bool
     ensures { result ≡ wants_event flags }
 {
     AtomicFlags::of_request(flags).contains(AtomicFlags::PAGE_FLIP_EVENT)
 }
 
 /// Whether a request does not wait.
-fn is_nonblock(flags: u32) -> bool
+pub(crate) fn is_nonblock(flags: u32) -> bool
     ensures { result ≡ is_nonblock flags }
 {
     AtomicFlags::of_request(flags).contains(AtomicFlags::NONBLOCK)

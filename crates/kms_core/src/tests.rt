@@ -1,11 +1,13 @@
+use crate::committing::{events_of, make_fences, out_labels, reserve_events};
 use crate::deciding::{Stale, first_stale, taker};
 use crate::present::present_after;
 use crate::swapping::{count_in, late_reply};
 use kms_clients::Clients;
 use kms_model::{
-    Both, Checked, CrtcState, Duplicates, Look, Lookups, Mask, NoMemory, Reply, Ticket,
+    Both, Checked, CrtcState, Duplicates, FIRST_CRTC_ID, Look, Lookups, Mask, NoMemory, ObjId,
+    Reply, Ticket,
 };
-use kms_signal::EventQueue;
+use kms_signal::{EventQueue, Fences};
 use kms_things::Things;
 use kms_track::Tracker;
 use std::test::Fail;
@@ -122,5 +124,36 @@ fn states_that_were_checked_become_present(rt: HostRuntime) -> Result<(), Fail> 
     assert_eq!(rt; second.old, on);
     assert_eq!(rt; second.new, on);
     assert!(rt; after.crtcs[2].is_none(), "not on the device");
+    Ok(())
+}
+
+#[test]
+fn out_fences_are_asked_for_by_crtc(rt: HostRuntime) -> Result<(), Fail> {
+    let asked = [(ObjId(FIRST_CRTC_ID), 9), (ObjId(FIRST_CRTC_ID + 2), 7)];
+    assert_eq!(rt; out_labels(&asked), [Some(9), None, Some(7), None]);
+    Ok(())
+}
+
+#[test]
+fn out_fences_have_the_next_ids(rt: HostRuntime) -> Result<(), NoMemory> {
+    let mut fences = Fences::new(rt.alloc());
+    fences.make_room(rt.alloc(), 4)?;
+    make_fences(rt.alloc(), &mut fences, 1000, &[Some(3), None, Some(4)]);
+    fences.signal(1001);
+    fences.signal(1002);
+    assert!(rt; fences.is_signalled(1001), "the second is made");
+    assert!(rt; !fences.is_signalled(1000), "the first is not signalled");
+    assert!(rt; !fences.is_signalled(1002), "there is no third");
+    Ok(())
+}
+
+#[test]
+fn each_named_crtc_reserves_an_event(rt: HostRuntime) -> Result<(), NoMemory> {
+    assert_eq!(rt; events_of(0x1, 0b1010), 2);
+    assert_eq!(rt; events_of(0, 0b1010), 0, "none is asked for");
+    let mut queue = EventQueue::new(rt.alloc());
+    queue.make_room(rt.alloc(), 2)?;
+    reserve_events(rt.alloc(), &mut queue, 2);
+    assert_eq!(rt; queue.reserved(), 2);
     Ok(())
 }

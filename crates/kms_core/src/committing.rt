@@ -1,0 +1,215 @@
+//! What a commit leaves in the stores.
+ghost use Rattle.std.specs.Prelude.{◌≡◌, ◌<◌, ◌≤◌, ◌+◌, ◌++◌, [], ◌∷◌, length, map, IfOk, OnOk, true, false};
+ghost use Rattle.kms_model.specs.declared.replies.Step.TheVariants as step;
+ghost use Rattle.kms_model.specs.Machine.State.{Machine};
+ghost use Rattle.kms_model.specs.Request.Flags.{is_nonblock};
+ghost use Rattle.kms_model.specs.Stores.Tables.{AreBelow};
+ghost use Rattle.kms_clients.specs.InStep.{AreClientsOf, IsTaking, after_decision, after_swap};
+ghost use Rattle.kms_clients.specs.Standing.{IsClient, place_of};
+ghost use Rattle.kms_signal.specs.Queues.{HasSpace};
+ghost use Rattle.kms_track.specs.Tracking.{IsSetUp};
+ghost use Rattle.kms_core.specs.Run.{gains, if_ok, machine};
+ghost use Rattle.kms_core.specs.Swaps.{MayCommit};
+ghost use Rattle.kms_core.specs.Settled.{events_of, fences_for, label_in, labels_in, next_after};
+
+use crate::machine::Core;
+use crate::present::present_after;
+use crate::records::{answer, join, make_room};
+use crate::swapping::{count_in, is_nonblock, wants_event};
+use kms_clients::Clients;
+use kms_model::{Checked, FIRST_CRTC_ID, MAX_CRTCS, NoMemory, ObjId, Reply, Resolved, Seq, Step};
+use kms_signal::{EventQueue, Fences};
+use kms_track::Tracker;
+use std::alloc::Global;
+
+impl Core {
+    /// Commits the request of a client, whose swap nothing hinders, and gives the commit's number. What was checked becomes
+    /// present, the request's out-fences are made, its events are reserved, and its tail is to do. Want of memory leaves all
+    /// as it was. (Kernel: `drm_atomic_helper_commit`, `drm_atomic_helper_swap_state`.)
+    pub(crate) fn commit(
+        &mut self,
+        alloc: Global,
+        client: u32,
+        checked: &Checked,
+        resolved: &Resolved,
+    ) -> Result<u32, NoMemory>
+        requires { MayCommit self.old client checked.now resolved.now }
+        ensures number { IfOk result (λ k. k ≡ length (machine self.old).device.commits) }
+        ensures history { self.new ≡ gains self.old (if_ok result (λ k. step.Swap client ∷ [])) }
+    {
+        let events = events_of(resolved.flags, checked.named);
+        let labels = out_labels(resolved.out_fences.as_slice());
+        make_room(&mut self.steps, &mut self.journal, &mut self.replies)?;
+        make_tail_room(
+            alloc,
+            &mut self.fences,
+            &mut self.queues[(client - 1) as usize],
+            &mut self.tracker,
+            checked,
+            &resolved.in_fences,
+            events,
+        )?;
+        let first = self.things.next_id();
+        let asked = &labels[..self.script.topology.crtcs as usize];
+        self.things.make_out_fences(client, asked)?;
+        make_fences(alloc, &mut self.fences, first, asked);
+        self.present = present_after(&self.present, &checked.states);
+        reserve_events(alloc, &mut self.queues[(client - 1) as usize], events);
+        let commit = set_up(alloc, &mut self.tracker, checked, &resolved.in_fences);
+        let number = self.clients.place(client).command;
+        let reply = Reply::Commit { commit };
+        answer(&self.journal, &mut self.replies, client, number, reply);
+        join(&mut self.journal, client, number, &reply);
+        leave(&mut self.clients, client, resolved.flags, commit);
+        self.steps.push(Step::Swap { client });
+        Ok(commit)
+    }
+}
+
+/// The label that is asked for at a CRTC, given by its id, where there is one.
+fn label_at(asked: &[(ObjId, u32)], crtc: u32) -> Option<u32>
+    ensures { result ≡ label_in asked.now crtc }
+{
+    for (object, label) in asked {
+        if object.0 == crtc {
+            return Some(*label);
+        }
+    }
+    None
+}
+
+/// The labels of the out-fences that are asked for, one place for each CRTC, in order. (Kernel: "Explicit Fencing
+/// Properties", `OUT_FENCE_PTR`.)
+pub(crate) fn out_labels(asked: &[(ObjId, u32)]) -> [Option<u32>; 4]
+    ensures { result ≡ labels_in asked.now }
+{
+    [
+        label_at(asked, FIRST_CRTC_ID),
+        label_at(asked, FIRST_CRTC_ID + 1),
+        label_at(asked, FIRST_CRTC_ID + 2),
+        label_at(asked, FIRST_CRTC_ID + 3),
+    ]
+}
+
+/// Makes the fence of an out-fence with the next id, for which there is room, where one is asked for. Gives the id of the
+/// next thing.
+fn make_one(alloc: Global, fences: &mut Fences, next: u32, label: Option<u32>) -> u32
+    requires below { AreBelow next fences.old.slots }
+    requires room { 0 < fences.old.room }
+    requires small { next < 4294967295 }
+    ensures made { fences.new.slots ≡ fences.old.slots ++ fences_for next (label ∷ []) }
+    ensures next { result ≡ next_after next label }
+    ensures most { result ≤ next + 1 }
+    ensures below { AreBelow result fences.new.slots }
+    ensures room { fences.old.room ≤ fences.new.room + 1 }
+{
+    if label.is_none() {
+        return next;
+    }
+    let Ok(()) = fences.make(alloc, next) else {
+        unreachable!();
+    };
+    next + 1
+}
+
+/// Makes the fences of a commit's out-fences with the next ids, for which there is room. (Kernel: "DMA Fences",
+/// `dma_fence_init`.)
+pub(crate) fn make_fences(alloc: Global, fences: &mut Fences, first: u32, labels: &[Option<u32>])
+    requires below { AreBelow first fences.old.slots }
+    requires few { length labels.now ≤ 4 }
+    requires room { length labels.now ≤ fences.old.room }
+    requires small { first < 4294967000 }
+    ensures { fences.new.slots ≡ fences.old.slots ++ fences_for first labels.now }
+{
+    let mut next = first;
+    for label in labels {
+        next = make_one(alloc, fences, next, *label);
+    }
+}
+
+/// How many events a request asks for: one for each CRTC that it names, or none.
+pub(crate) fn events_of(flags: u32, named: u32) -> u32
+    ensures count { result ≡ events_of flags named }
+    ensures most { result ≤ 4 }
+{
+    if wants_event(flags) {
+        count_in(named)
+    } else {
+        0
+    }
+}
+
+/// Takes memory for the fences of a commit, for so many events, and for its tail. What is stored stays.
+pub(crate) fn make_tail_room(
+    alloc: Global,
+    fences: &mut Fences,
+    queue: &mut EventQueue,
+    tracker: &mut Tracker,
+    checked: &Checked,
+    in_fences: &Seq<(ObjId, u32)>,
+    events: u32,
+) -> Result<(), NoMemory>
+    ensures fences { fences.new.slots ≡ fences.old.slots }
+    ensures reserved { queue.new.reserved ≡ queue.old.reserved }
+    ensures unread { queue.new.unread ≡ queue.old.unread }
+    ensures count { tracker.new.count ≡ tracker.old.count }
+    ensures lasts { tracker.new.lasts ≡ tracker.old.lasts }
+    ensures pending { tracker.new.pending.slots ≡ tracker.old.pending.slots }
+    ensures fences_room { OnOk result (4 ≤ fences.new.room) }
+    ensures events_room { OnOk result (events ≤ queue.new.room) }
+    ensures tail_room { OnOk result (0 < tracker.new.pending.room) }
+{
+    fences.make_room(alloc, MAX_CRTCS)?;
+    queue.make_room(alloc, events)?;
+    tracker.make_room(alloc, checked, in_fences)?;
+    Ok(())
+}
+
+/// Reserves events, for which there are space and room. (Kernel: `drm_event_reserve_init`.)
+pub(crate) fn reserve_events(alloc: Global, queue: &mut EventQueue, events: u32)
+    requires space { HasSpace queue.old events }
+    requires room { events ≤ queue.old.room }
+    ensures reserved { queue.new.reserved ≡ queue.old.reserved + events }
+    ensures unread { queue.new.unread ≡ queue.old.unread }
+{
+    let Ok(()) = queue.reserve(alloc, events) else {
+        unreachable!();
+    };
+}
+
+/// Sets a commit up, for which there is room, and gives its number. (Kernel: `drm_atomic_helper_setup_commit`.)
+pub(crate) fn set_up(
+    alloc: Global,
+    tracker: &mut Tracker,
+    checked: &Checked,
+    in_fences: &Seq<(ObjId, u32)>,
+) -> u32
+    requires count { tracker.old.count < 4294967295 }
+    requires fences { length in_fences.now ≤ 16 }
+    requires room { 0 < tracker.old.pending.room }
+    ensures number { result ≡ tracker.old.count }
+    ensures set_up { IsSetUp tracker.old tracker.new checked.now (map (λ f. f.1) in_fences.now) }
+{
+    let Ok(commit) = tracker.setup(alloc, checked, in_fences) else {
+        unreachable!();
+    };
+    commit
+}
+
+/// A client whose request is committed drops its locks, and goes on, or waits for the commit. (Kernel:
+/// `drm_atomic_helper_commit`.)
+pub(crate) fn leave(clients: &mut Clients, client: u32, flags: u32, commit: u32)
+    requires client { IsClient client }
+    requires taking { IsTaking (place_of clients.old client).doing }
+    requires command { (place_of clients.old client).command < 4294967295 }
+    ensures goes { is_nonblock flags ≡ true → (m : Machine) → AreClientsOf m.contexts clients.old
+        → AreClientsOf (after_decision m client) clients.new }
+    ensures waits { is_nonblock flags ≡ false → (m : Machine) → AreClientsOf m.contexts clients.old
+        → AreClientsOf (after_swap m client commit) clients.new }
+{
+    if is_nonblock(flags) {
+        clients.decide(client);
+    } else {
+        clients.wait_for(client, commit);
+    }
+}
