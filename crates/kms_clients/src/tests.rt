@@ -1,67 +1,75 @@
+ghost use Rattle.kms_wwlock.specs.Objects.{IsLockable};
+ghost use Rattle.kms_clients.specs.Standing.{IsClient};
+
 use super::*;
 use kms_model::{Doing, FIRST_CRTC_ID, FIRST_PLANE_ID, ObjId, Place, Ticket};
-use kms_wwlock::{Lock, Relock};
+use kms_wwlock::Lock;
+use std::process::Abort;
 use std::test::Fail;
 
 const CRTC: ObjId = ObjId(FIRST_CRTC_ID);
 
 const PLANE: ObjId = ObjId(FIRST_PLANE_ID);
 
-#[test]
-fn two_clients_contend_for_two_objects(rt: HostRuntime) -> Result<(), Fail> {
-    let mut clients = Clients::new(rt.alloc());
-    assert_eq!(rt; clients.begin(rt.alloc(), 1)?, Ticket(0));
-    assert_eq!(rt; clients.begin(rt.alloc(), 2)?, Ticket(1));
-    assert_eq!(rt; clients.lock(1, PLANE), Lock::Got);
-    assert_eq!(rt; clients.lock(2, CRTC), Lock::Got);
-    assert_eq!(rt; clients.lock(2, CRTC), Lock::Own);
-    assert_eq!(rt; clients.lock(1, CRTC), Lock::Younger { holder: Ticket(1) });
-    assert_eq!(rt; clients.lock(2, PLANE), Lock::Older { holder: Ticket(0) });
-    assert_eq!(rt;
-        clients.place(2),
-        at_first(Doing::MustBackOff(Ticket(1), PLANE))
-    );
-    clients.backoff(2);
-    assert_eq!(rt;
-        clients.place(2),
-        at_first(Doing::BackedOff(Ticket(1), PLANE))
-    );
-    assert_eq!(rt; clients.relock(2), Relock::Held { holder: Ticket(0) });
-    assert_eq!(rt; clients.lock(1, CRTC), Lock::Got, "backing off freed it");
-    clients.wait_for(1, 7);
-    assert_eq!(rt; clients.place(1), at_first(Doing::Returning(7)));
-    assert_eq!(rt; clients.relock(2), Relock::Got);
-    assert_eq!(rt; clients.place(2), at_first(Doing::Taking(Ticket(1))));
-    Ok(())
+fn at_first(doing: Doing) -> Place {
+    Place { command: 1, doing }
+}
+
+/// Asks for an object for a client, which takes locks.
+fn lock(rt: &impl Abort, clients: &mut Clients, client: u32, id: ObjId) -> Lock
+    requires client { IsClient client }
+    requires lockable { IsLockable id }
+{
+    let Doing::Taking(_ticket) = clients.place(client).doing else {
+        panic!(rt; "the client takes no locks");
+    };
+    clients.lock(client, id)
+}
+
+/// Decides the request of a client, which takes locks.
+fn decide(rt: &impl Abort, clients: &mut Clients, client: u32)
+    requires { IsClient client }
+{
+    let place = clients.place(client);
+    let Doing::Taking(_ticket) = place.doing else {
+        panic!(rt; "the client takes no locks");
+    };
+    assert!(rt; place.command < u32::MAX);
+    clients.decide(client);
 }
 
 #[test]
-fn a_decision_frees_all_and_goes_on(rt: HostRuntime) -> Result<(), Fail> {
+fn a_client_takes_locks_and_goes_on(rt: HostRuntime) -> Result<(), Fail> {
     let mut clients = Clients::new(rt.alloc());
-    clients.begin(rt.alloc(), 16)?;
-    assert_eq!(rt; clients.lock(16, CRTC), Lock::Got);
-    clients.decide(16);
+    assert_eq!(rt; clients.begin(rt.alloc(), 16)?, Ticket(0));
+    assert_eq!(rt; lock(&rt, &mut clients, 16, PLANE), Lock::Got);
+    assert_eq!(rt; lock(&rt, &mut clients, 16, PLANE), Lock::Own);
+    assert_eq!(rt; lock(&rt, &mut clients, 16, CRTC), Lock::Got);
+    assert_eq!(rt; clients.with_ticket(Ticket(0)), Some(16));
+    decide(&rt, &mut clients, 16);
     assert_eq!(rt;
         clients.place(16),
         Place {
             command: 2,
-            doing: Doing::Idle
+            doing: Doing::Idle,
         }
     );
-    assert_eq!(rt; clients.begin(rt.alloc(), 3)?, Ticket(1));
-    assert_eq!(rt; clients.lock(3, CRTC), Lock::Got);
+    assert_eq!(rt; clients.with_ticket(Ticket(0)), None);
     assert_eq!(rt; clients.place(1), at_first(Doing::Idle));
-    clients.go_on(1);
-    assert_eq!(rt;
-        clients.place(1),
-        Place {
-            command: 2,
-            doing: Doing::Idle
-        }
-    );
     Ok(())
 }
 
-fn at_first(doing: Doing) -> Place {
-    Place { command: 1, doing }
+#[test]
+fn a_client_without_a_context_goes_on(rt: HostRuntime) -> Result<(), Fail> {
+    let mut clients = Clients::new(rt.alloc());
+    clients.go_on(3);
+    assert_eq!(rt;
+        clients.place(3),
+        Place {
+            command: 2,
+            doing: Doing::Idle,
+        }
+    );
+    assert_eq!(rt; clients.place(4), at_first(Doing::Idle));
+    Ok(())
 }
