@@ -1,20 +1,23 @@
 -- The worlds of the examples are sound, and their states agree with them.
-use Rattle.std.proofs.Common.{◌≡◌, ℕ, zero, suc, Bool, true, false, List, [], ◌∷◌, Option, Some, None, inl, inr, refl, ap, replicate, rules, ◌+◌}
-use Rattle.std.specs.Prelude.{◌==◌, find, map, not, pos, slice_get}
-use Rattle.std.proofs.lemmas.Bool.{cases_Bool}
+use Rattle.std.proofs.Common.{◌≡◌, ◌∙◌, ◌<◌, arith, ℕ, zero, suc, Bool, true, false, List, [], ◌∷◌, Option, Some, None, inl, inr, refl, ap, replicate, rules, ◌+◌}
+use Rattle.std.specs.Prelude.{◌==◌, find, is_some, map, not, pos, slice_get}
+use Rattle.std.specs.List.{list_all}
+use Rattle.std.proofs.lemmas.Bool.{and_parts, cases_Bool}
 use Rattle.kms_model.specs.declared.states.Both.{Both}
 use Rattle.kms_model.specs.declared.worlds.Look.{Look}
 use Rattle.kms_model.specs.declared.worlds.Thing.{Thing}
 use Rattle.kms_model.specs.Request.Agreement.{AgreesOld, AreOld}
 use Rattle.kms_model.specs.Request.Checks.{late_refusal, plane_refusal, shown_refusal}
-use Rattle.kms_model.specs.Request.Lookups.{look_of, look_up}
+use Rattle.kms_model.specs.Request.Late.{duplicate_at}
+use Rattle.kms_model.specs.Request.Lookups.{look_of, look_of_any, look_up, look_up_any}
 use Rattle.kms_model.specs.declared.pictures.Rect.{Rect}
 use Rattle.kms_model.specs.Device.Masks.{mask_below}
 use Rattle.kms_model.specs.Request.Sets.{look_in}
 use Rattle.kms_model.specs.Device.Sound.{IsSound}
 use Rattle.kms_model.specs.Request.Deciding.{AreFresh, AreFreshIn}
 use Rattle.kms_samples.specs.Samples.{double}
-use Rattle.kms_check.specs.Example.{alike, conn, crtc, if_given, plane, states, things, world_of}
+use Rattle.kms_request.specs.Whole.{ArePresent}
+use Rattle.kms_check.specs.Example.{alike, conn, crtc, if_given, lit_world, plane, states, things, two, world_of}
 
 -- what the labels of some things name, as a list
 abbrev pub seen : Thing → ℕ × Look
@@ -76,3 +79,38 @@ states_old lit a b c = record { crtcs = given_old a 2 (crtc lit); planes = given
 
 pub states_fresh : (lit a b c : Bool) → AreFresh (states lit a b c)
 states_fresh lit a b c = record { crtcs = given_fresh a 2 (crtc lit); planes = given_fresh b 14 (plane lit); conns = given_fresh c 6 (conn lit) }
+
+-- The states of all objects, where nothing is closed
+
+all_looks : (ts : List Thing) (label : ℕ) → list_all (λ t. t.is_open) ts ≡ true → look_of (find (λ t. t.label == label) ts) ≡ look_of_any (find (λ t. t.label == label) ts)
+all_looks [] label still = refl
+all_looks (t ∷ ts) label still =
+    let parts = and_parts t.is_open (list_all (λ u. u.is_open) ts) still in
+    elim (cases_Bool (t.label == label)) [
+      | inl is ↦ rw (is, parts.0) refl
+      | inr other ↦ rw other (all_looks ts label parts.1)
+    ]
+
+pub found_ever : (label : ℕ) → look_up lit_world label ≡ look_up_any lit_world label
+found_ever label = all_looks things label refl
+
+two_there : {S : Type 0} (n : ℕ) (state : ℕ → S) (index : ℕ) → index < 2 → is_some (duplicate_at (two n state) index) ≡ true
+two_there n state zero less = refl
+two_there n state (suc zero) less = refl
+two_there n state (suc (suc index)) less = absurd (omega (arith, less))
+
+pub all_present : ArePresent double lit_world (states true true true true)
+all_present =
+    let old = states_old true true true true in
+    let fresh = states_fresh true true true true in
+    record {
+      device = record { legal = refl; kinds = search rules };
+      sound = is_sound true;
+      old = old;
+      new = record {
+        crtcs = λ i both e. fresh.crtcs i both e ∙ old.crtcs i both e;
+        planes = λ i both e. fresh.planes i both e ∙ old.planes i both e;
+        conns = λ i both e. fresh.conns i both e ∙ old.conns i both e;
+      };
+      all = record { crtcs = two_there 2 (crtc true); planes = two_there 14 (plane true); conns = two_there 6 (conn true) };
+    }

@@ -11,7 +11,7 @@ use kms_model::{
     Assign, Both, Checked, ConnState, CrtcState, Duplicates, FbInfo, Format, Kind, Look, Lookups,
     Mask, NoMemory, ObjId, PlaneState, Rect, Refusal, Seq, Value,
 };
-use kms_request::resolve;
+use kms_request::{reach, resolve};
 use kms_samples::{ALLOW_MODESET, double, light, on_crtc, on_plane, request, set, tiny};
 use std::alloc::Global;
 use std::test::Fail;
@@ -408,5 +408,60 @@ fn a_modeset_touches_what_is_on_its_crtc(rt: HostRuntime) -> Result<(), Fail> {
             Err(_) => assert!(rt; false),
         }
     }
+    Ok(())
+}
+
+/// The objects that assignments reach on the device whose first CRTC is lit.
+fn reached(alloc: Global, assigns: &[Assign]) -> Result<Mask, Fail> {
+    let topology = double(alloc)?;
+    let found = found(alloc)?;
+    let request = request(alloc, 0, assigns, &[])?;
+    Ok(reach(&topology, &request, &found, &states(LIT)))
+}
+
+/// A set of objects by its masks.
+fn objects(crtcs: u32, planes: u32, conns: u32) -> Mask {
+    Mask {
+        crtcs,
+        planes,
+        conns,
+    }
+}
+
+#[test]
+fn one_assignment_reaches_what_it_touches(rt: HostRuntime) -> Result<(), Fail> {
+    let off = Value::Num(0);
+    for (assign, want) in [
+        (
+            set(Kind::Plane, 1, FB_ID, Value::Named(FB)),
+            objects(0, 0b10, 0),
+        ),
+        (on_plane(CRTC_ID, Value::Crtc(1)), objects(0b11, 0b1, 0)),
+        (
+            on_crtc(MODE_ID, Value::Named(SAME_MODE)),
+            objects(0b1, 0, 0),
+        ),
+        (on_crtc(ACTIVE, off), objects(0b1, 0b1, 0b1)),
+        (
+            set(Kind::Conn, 1, CRTC_ID, Value::Crtc(0)),
+            objects(0b1, 0b1, 0b11),
+        ),
+        (set(Kind::Crtc, 2, ACTIVE, off), objects(0, 0, 0)),
+        (on_crtc(ALPHA, off), objects(0, 0, 0)),
+        (on_plane(FB_ID, Value::Named(MODE)), objects(0, 0, 0)),
+    ] {
+        assert_eq!(rt; reached(rt.alloc(), &[assign])?, want);
+    }
+    Ok(())
+}
+
+#[test]
+fn refused_assignments_reach_nothing_among_others(rt: HostRuntime) -> Result<(), Fail> {
+    let assigns = [
+        on_plane(ALPHA, Value::Num(65536)),
+        set(Kind::Conn, 1, CRTC_ID, Value::Crtc(1)),
+        on_crtc(ACTIVE, Value::Num(2)),
+    ];
+    assert_eq!(rt; reached(rt.alloc(), &assigns)?, objects(0b10, 0, 0b10));
     Ok(())
 }

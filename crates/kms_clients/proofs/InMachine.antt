@@ -21,7 +21,7 @@ use Rattle.kms_wwlock.specs.declared.table.Relock.{Relock}
 use Rattle.kms_wwlock.specs.Calls.{AreFreed, IsTakenBy, lock_answer as table_answer, after_lock as table_after, relock_from}
 use Rattle.kms_clients.specs.Standing.{Standing, IsClient, first_place, no_place, no_clients, place_in, doing_in, ticket_in, put_doing, AreTied}
 use Rattle.kms_clients.specs.InStep.{AreClientsOf, IsHeldAs, ticket_at, lock_answer, relock_answer, holder_of_contended, after_lock, after_backoff}
-use Rattle.kms_clients.proofs.Places.{Moves, moves, each, SameTickets, same_tickets}
+use Rattle.kms_clients.proofs.Places.{HasContext, Moves, moves, each, SameTickets, same_tickets}
 use Rattle.kms_clients.proofs.Held.{held_still, held_freed, held_beside, free_of, read_dropped, number, answered, answered_again}
 
 -- the machine's places after one client's is new
@@ -82,19 +82,18 @@ module _ (x : Contexts) (v : Standing) (stand : AreClientsOf x v) (size : length
   }
 
 -- What each call does, where a client has a context with a ticket
-module _ (m : Machine) (v : Standing) (stand : AreClientsOf m.contexts v) (tied : AreTied v.places v.table.contexts) (client : ℕ) (client_is : IsClient client) (t : Ticket)
-    (own : ticket_in (doing_in v.places client) ≡ Some t) where
+module _ (m : Machine) (v : Standing) (stand : AreClientsOf m.contexts v) (client : ℕ) (t : Ticket) (now : Doing) (found : HasContext v client t now) where
   at_places : (a : ℕ) → IsClient a → doing_in v.places a ≡ doing_at m a
   at_places a is = ap (λ (p : Place). p.doing) (stand.places a is)
 
   its_ticket : ticket_at m client ≡ t
-  its_ticket = number m v.places v.table.contexts tied at_places client t client_is own
+  its_ticket = number m v.places v.table.contexts found.tied at_places client t found.client_is found.own
 
   pub lock_answers : (id : ObjId) → IsLockable id → table_answer t (holder_of v.table id) ≡ lock_answer m client (holder_at m id.0)
-  lock_answers id lockable = answered m v.places v.table.contexts tied at_places client t (holder_of v.table id) (holder_at m id.0) client_is own (stand.holders id lockable)
+  lock_answers id lockable = answered m v.places v.table.contexts found.tied at_places client t (holder_of v.table id) (holder_at m id.0) found.client_is found.own (stand.holders id lockable)
 
   pub relock_answers : (id : ObjId) → IsLockable id → relock_from (holder_of v.table id) ≡ relock_answer m (holder_at m id.0)
-  relock_answers id lockable = answered_again m v.places v.table.contexts tied at_places (holder_of v.table id) (holder_at m id.0) (stand.holders id lockable)
+  relock_answers id lockable = answered_again m v.places v.table.contexts found.tied at_places (holder_of v.table id) (holder_at m id.0) (stand.holders id lockable)
 
   -- an object is taken
   pub takes : (id : ObjId) (table : Table) → IsTakenBy v.table table t id → table.drawn ≡ v.table.drawn
@@ -102,7 +101,7 @@ module _ (m : Machine) (v : Standing) (stand : AreClientsOf m.contexts v) (tied 
   takes id table taken drawn = record {
     places = stand.places;
     tickets = drawn ∙ stand.tickets;
-    holders = held_taken v.places v.places v.table table m.contexts.locks client t id client_is (λ a is. refl) own taken stand.holders;
+    holders = held_taken v.places v.places v.table table m.contexts.locks client t id found.client_is (λ a is. refl) found.own taken stand.holders;
   }
 
   module _ (new : List Place) (table : Table) (drawn : table.drawn ≡ v.table.drawn) where
@@ -110,26 +109,26 @@ module _ (m : Machine) (v : Standing) (stand : AreClientsOf m.contexts v) (tied 
     pub does : (d : Doing) → new ≡ put_doing v.places client d → ticket_in d ≡ Some t → table.holders ≡ v.table.holders
         → AreClientsOf (record { places = (client, record { command = (place_at m client).command; doing = d }) ∷ m.contexts.places; locks = m.contexts.locks; tickets = m.contexts.tickets }) (record { places = new; table = table })
     does d is keeps holders =
-        let at = moved_in m.contexts v stand tied.size client client_is new (λ p. record p { doing = d }) is in
-        stands m.contexts v stand tied.size client client_is new (record { command = (place_at m client).command; doing = d }) table m.contexts.locks m.contexts.tickets at (drawn ∙ stand.tickets)
-        (held_all v.places new v.table table m.contexts.locks (same_tickets v.places new client (record { command = (place_at m client).command; doing = d }) at (keeps ∙ sym own)) holders stand.holders)
+        let at = moved_in m.contexts v stand found.tied.size client found.client_is new (λ p. record p { doing = d }) is in
+        stands m.contexts v stand found.tied.size client found.client_is new (record { command = (place_at m client).command; doing = d }) table m.contexts.locks m.contexts.tickets at (drawn ∙ stand.tickets)
+        (held_all v.places new v.table table m.contexts.locks (same_tickets v.places new client (record { command = (place_at m client).command; doing = d }) at (keeps ∙ sym found.own)) holders stand.holders)
 
     -- it does, and takes an object
     pub does_taking : (d : Doing) (id : ObjId) → new ≡ put_doing v.places client d → ticket_in d ≡ Some t → IsTakenBy v.table table t id
         → AreClientsOf (record { places = (client, record { command = (place_at m client).command; doing = d }) ∷ m.contexts.places; locks = (id.0, Some client) ∷ m.contexts.locks; tickets = m.contexts.tickets }) (record { places = new; table = table })
     does_taking d id is keeps taken =
         let place : Place = record { command = (place_at m client).command; doing = d } in
-        let at = moved_in m.contexts v stand tied.size client client_is new (λ p. record p { doing = d }) is in
-        stands m.contexts v stand tied.size client client_is new place table ((id.0, Some client) ∷ m.contexts.locks) m.contexts.tickets at (drawn ∙ stand.tickets)
-        (held_taken v.places new v.table table m.contexts.locks client t id client_is (same_tickets v.places new client place at (keeps ∙ sym own)) (ap (λ (p : Place). ticket_in p.doing) at.here ∙ keeps) taken stand.holders)
+        let at = moved_in m.contexts v stand found.tied.size client found.client_is new (λ p. record p { doing = d }) is in
+        stands m.contexts v stand found.tied.size client found.client_is new place table ((id.0, Some client) ∷ m.contexts.locks) m.contexts.tickets at (drawn ∙ stand.tickets)
+        (held_taken v.places new v.table table m.contexts.locks client t id found.client_is (same_tickets v.places new client place at (keeps ∙ sym found.own)) (ap (λ (p : Place). ticket_in p.doing) at.here ∙ keeps) taken stand.holders)
 
     -- its place is new, and its locks are dropped
     pub drops : (change : Place → Place) → new ≡ set v.places (client - 1) (change (place_in v.places client)) → AreFreed v.table table t
         → AreClientsOf (record { places = (client, change (place_at m client)) ∷ m.contexts.places; locks = dropped client m.contexts.locks; tickets = m.contexts.tickets }) (record { places = new; table = table })
     drops change is freed =
-        let at = moved_in m.contexts v stand tied.size client client_is new change is in
-        stands m.contexts v stand tied.size client client_is new (change (place_at m client)) table (dropped client m.contexts.locks) m.contexts.tickets at (drawn ∙ stand.tickets)
-        (held_dropped v.places new v.table table m.contexts.locks client t tied client_is own (λ a is ne. ap (λ (p : Place). ticket_in p.doing) (at.there a is ne)) freed stand.holders)
+        let at = moved_in m.contexts v stand found.tied.size client found.client_is new change is in
+        stands m.contexts v stand found.tied.size client found.client_is new (change (place_at m client)) table (dropped client m.contexts.locks) m.contexts.tickets at (drawn ∙ stand.tickets)
+        (held_dropped v.places new v.table table m.contexts.locks client t found.tied found.client_is found.own (λ a is ne. ap (λ (p : Place). ticket_in p.doing) (at.there a is ne)) freed stand.holders)
 
   -- an older context holds the object
   pub meets_older : (new : List Place) (table : Table) (id : ObjId) (holder : Ticket) (h : Option ℕ) → table.drawn ≡ v.table.drawn → new ≡ put_doing v.places client (doing.MustBackOff t id) → table.holders ≡ v.table.holders
@@ -156,16 +155,16 @@ module _ (m : Machine) (v : Standing) (stand : AreClientsOf m.contexts v) (tied 
   meets_no_older id (lock.Younger holder) table not_older taken is answer = subst (λ (w : Table). AreClientsOf m.contexts (record { places = v.places; table = w })) (sym is) stand
 
   -- it backs off
-  pub backs_off : (object : ObjId) (new : List Place) (table : Table) → doing_in v.places client ≡ doing.MustBackOff t object → table.drawn ≡ v.table.drawn → new ≡ put_doing v.places client (doing.BackedOff t object)
+  pub backs_off : (object : ObjId) (new : List Place) (table : Table) → now ≡ doing.MustBackOff t object → table.drawn ≡ v.table.drawn → new ≡ put_doing v.places client (doing.BackedOff t object)
       → AreFreed v.table table t → AreClientsOf (after_backoff m client) (record { places = new; table = table })
   backs_off object new table is drawn put freed =
       subst (λ (d : Doing). AreClientsOf (record { places = (client, record { command = (place_at m client).command; doing = backed_off d }) ∷ m.contexts.places; locks = dropped client m.contexts.locks; tickets = m.contexts.tickets }) (record { places = new; table = table }))
-      (sym is ∙ at_places client client_is) (drops new table drawn (λ (p : Place). record p { doing = doing.BackedOff t object }) put freed)
+      (sym (found.does ∙ is) ∙ at_places client found.client_is) (drops new table drawn (λ (p : Place). record p { doing = doing.BackedOff t object }) put freed)
 
   -- it asks again for the object that it backed off for
-  module _ (object : ObjId) (is : doing_in v.places client ≡ doing.BackedOff t object) (lockable : IsLockable object) where
+  module _ (object : ObjId) (is : now ≡ doing.BackedOff t object) (lockable : IsLockable object) where
     off : doing_at m client ≡ doing.BackedOff t object
-    off = sym (at_places client client_is) ∙ is
+    off = sym (at_places client found.client_is) ∙ found.does ∙ is
 
     pub again_answers : (answer : Relock) → answer ≡ relock_from (holder_of v.table object) → answer ≡ relock_answer m (holder_of_contended m (contended (doing_at m client)))
     again_answers answer e = e ∙ relock_answers object lockable ∙ ap (λ d. relock_answer m (holder_of_contended m (contended d))) (sym off)

@@ -1,10 +1,11 @@
 -- What a change of one client's place does to the places of all.
-use Rattle.std.proofs.Common.{◌≡◌, ◌≢◌, ℕ, ◌-◌, List, length, set, refl, sym, ap, ◌∙◌, inl, inr, arith}
+use Rattle.std.proofs.Common.{◌≡◌, ◌≢◌, ℕ, ◌-◌, List, length, set, Some, refl, sym, ap, ◌∙◌, inl, inr, arith}
 use Rattle.std.proofs.lemmas.Bool.{cases_eq}
 use Rattle.std.proofs.lemmas.List.{get_or-set_same, get_or-set_other, length-set}
+use Rattle.kms_model.specs.declared.objects.Ticket.{Ticket}
 use Rattle.kms_model.specs.declared.runs.Doing.{Doing}
 use Rattle.kms_model.specs.declared.runs.Place.{Place}
-use Rattle.kms_clients.specs.Standing.{Standing, place_of, IsClient, no_place, place_in, doing_in, ticket_in}
+use Rattle.kms_clients.specs.Standing.{Standing, AreTied, place_of, IsClient, no_place, place_in, doing_in, ticket_in}
 
 -- one client's place is new, and the others' are as they were
 pub record Moves (old new : List Place) (client : ℕ) (place : Place) : Type 0 where
@@ -35,6 +36,16 @@ SameTickets old new = (a : ℕ) → IsClient a → ticket_in (doing_in new a) �
 pub same_tickets : (old new : List Place) (client : ℕ) (place : Place) → Moves old new client place → ticket_in place.doing ≡ ticket_in (doing_in old client) → SameTickets old new
 same_tickets old new client place m e = each old new client place (λ a p. ticket_in p.doing ≡ ticket_in (doing_in old a)) m e (λ a is ne. refl)
 
--- what a client does, by what its place was found to be
-pub found_doing : (v w : Standing) (client : ℕ) (found : Place) (d : Doing) → v ≡ w → found ≡ place_of w client → found.doing ≡ d → doing_in v.places client ≡ d
-found_doing v w client found d same is does = ap (λ (u : Standing). (place_of u client).doing) same ∙ ap (λ (p : Place). p.doing) (sym is) ∙ does
+-- what a call finds of a client: it does this, with the ticket of its context
+pub record HasContext (v : Standing) (client : ℕ) (t : Ticket) (d : Doing) : Type 0 where
+  pub tied : AreTied v.places v.table.contexts
+  pub client_is : IsClient client
+  pub does : doing_in v.places client ≡ d
+  pub own : ticket_in (doing_in v.places client) ≡ Some t
+
+-- by what its place was found to be
+pub has_context : (v w : Standing) (client : ℕ) (found : Place) (t : Ticket) (d : Doing) → AreTied v.places v.table.contexts → IsClient client → v ≡ w → found ≡ place_of w client → found.doing ≡ d → ticket_in d ≡ Some t
+    → HasContext v client t d
+has_context v w client found t d tied client_is same is does ticket =
+    let doing_is : doing_in v.places client ≡ d = ap (λ (u : Standing). (place_of u client).doing) same ∙ ap (λ (p : Place). p.doing) (sym is) ∙ does in
+    record { tied = tied; client_is = client_is; does = doing_is; own = ap ticket_in doing_is ∙ ticket }

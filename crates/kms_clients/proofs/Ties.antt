@@ -1,5 +1,5 @@
 -- Places and the table of locks go on telling the same.
-use Rattle.std.proofs.Common.{◌≡◌, ◌≢◌, ℕ, zero, suc, ◌-◌, get_or, replicate, ◌==◌, Bool, true, false, not, List, [], ◌∷◌, ◌++◌, map, Some, None, Option, refl, sym, ap, ◌∙◌, subst, inl, inr}
+use Rattle.std.proofs.Common.{◌≡◌, ◌≢◌, ℕ, zero, suc, ◌-◌, get_or, set, replicate, ◌==◌, Bool, true, false, not, List, [], ◌∷◌, ◌++◌, map, Some, None, Option, refl, sym, ap, ◌∙◌, subst, inl, inr}
 use Rattle.std.proofs.lemmas.Bool.{cases_eq, eq-eqb}
 use Rattle.std.proofs.lemmas.List.Elements.{All-nil, All-cons, All-head, All-tail, All-push, All-weaker}
 use Rattle.std.specs.Prelude.{All, filter, if◌then◌else◌}
@@ -10,10 +10,10 @@ use Rattle.kms_model.specs.declared.runs.Place.{Place}
 use Rattle.kms_wwlock.specs.declared.contexts.Context.{Context}
 use Rattle.kms_wwlock.specs.declared.contexts.Doing.{Doing as ContextDoing}
 use Rattle.kms_wwlock.specs.declared.contexts.Doing.TheVariants as context
-use Rattle.kms_wwlock.specs.Table.{doing_in as doing_in_context}
-use Rattle.kms_wwlock.specs.Calls.{with_doing}
-use Rattle.kms_clients.specs.Standing.{IsClient, doing_in, ticket_in, IsBegun, NamesLockable, IsKnown, AreTied, first_place, no_place}
-use Rattle.kms_clients.proofs.Places.{Moves, each, SameTickets, same_tickets}
+use Rattle.kms_wwlock.specs.Table.{Table, doing_in as doing_in_context}
+use Rattle.kms_wwlock.specs.Calls.{after_drop_all, with_doing}
+use Rattle.kms_clients.specs.Standing.{Standing, IsClient, doing_in, ticket_in, IsBegun, NamesLockable, IsKnown, AreTied, first_place, no_place}
+use Rattle.kms_clients.proofs.Places.{HasContext, Moves, moves, each, SameTickets, same_tickets}
 
 -- each context goes on, but that of one ticket
 abbrev pub OthersGoOn : List Context → List Context → Ticket → Type 0
@@ -118,6 +118,23 @@ known_left old new client place t (c ∷ cs) moves own all = step (c.ticket.0 ==
 
       other : c.client ≢ client
       other = λ same. let yes = eq-eqb c.ticket.0 t.0 (tickets k.ticket same) in cc
+
+-- A client that was found with a context: it goes on and does something else, or is over
+
+module _ (v : Standing) (new : List Place) (table : Table) (client : ℕ) (place : Place) (t : Ticket) (now : Doing) (found : HasContext v client t now) (is : new ≡ set v.places (client - 1) place) where
+  moved : Moves v.places new client place
+  moved = moves v.places new client place found.tied.size found.client_is is
+
+  pub tied_still : (does : ContextDoing) → ticket_in place.doing ≡ Some t → NamesLockable place.doing → IsBegun table.contexts place.doing
+      → OthersGoOn v.table.contexts table.contexts t → table.contexts ≡ map (with_doing t does) v.table.contexts → AreTied new table.contexts
+  tied_still does keeps names begun on after =
+      tied_on v.places new v.table.contexts table.contexts found.tied client found.client_is place moved t on found.own keeps begun names
+      (subst (All (IsKnown new)) (sym after) (known_set v.places new t does v.table.contexts (same_tickets v.places new client place moved (keeps ∙ sym found.own)) found.tied.known))
+
+  pub tied_over : ticket_in place.doing ≡ None → table ≡ after_drop_all v.table t → OthersGoOn v.table.contexts table.contexts t → AreTied new table.contexts
+  tied_over out after on =
+      tied_out v.places new v.table.contexts table.contexts found.tied client found.client_is place moved t on found.own out
+      (subst (λ (w : Table). All (IsKnown new) w.contexts) (sym after) (known_left v.places new client place t v.table.contexts moved found.own found.tied.known))
 
 -- A context begins
 

@@ -4,7 +4,7 @@ ghost use Rattle.kms_model.specs.declared.objects.Topology.{Topology};
 ghost use Rattle.kms_model.specs.declared.runs.Doing.TheVariants as doing;
 ghost use Rattle.kms_model.specs.Machine.Effects.{begun, goes_on};
 ghost use Rattle.kms_model.specs.Machine.State.{Machine, holder_at, doing_at, first_machine};
-ghost use Rattle.kms_model.specs.Machine.Steps.{contended};
+ghost use Rattle.kms_model.specs.Machine.Steps.{contended, is_free_for, is_free_or_older, ticket_of};
 ghost use Rattle.kms_wwlock.specs.Objects.{IsLockable};
 ghost use Rattle.kms_clients.specs.Standing.{Standing, IsClient, no_clients, place_of, place_in, put_doing, put_next, ticket_in, HasTicket};
 ghost use Rattle.kms_clients.specs.InStep.{AreClientsOf, IsTaking, MustBackOff, HasBackedOff, HasNoContext, lock_answer, relock_answer, holder_of_contended};
@@ -68,6 +68,43 @@ impl Clients {
             }
         }
         None
+    }
+
+    /// The client that holds the lock of an object, a CRTC, a plane or a connector; none where the object is free.
+    pub fn holder(&self, id: ObjId) -> Option<u32>
+        requires { IsLockable id }
+        ensures holder { (m : Machine) → AreClientsOf m.contexts self.now → result ≡ holder_at m id.0 }
+        ensures client { IfSome result IsClient }
+    {
+        let ticket = self.table.holder(id)?;
+        self.with_ticket(ticket)
+    }
+
+    /// Whether the lock of an object, a CRTC, a plane or a connector, is free, or an older context than that of a client
+    /// holds it.
+    pub fn is_free_or_older(&self, client: u32, id: ObjId) -> bool
+        requires client { IsClient client }
+        requires lockable { IsLockable id }
+        ensures { (m : Machine) → AreClientsOf m.contexts self.now
+            → result ≡ is_free_or_older m (ticket_of (doing_at m client)) (holder_at m id.0) }
+    {
+        match self.holder(id) {
+            None => true,
+            Some(holder) => ticket_of(self.place(holder).doing)
+                < ticket_of(self.place(client).doing),
+        }
+    }
+
+    /// Whether a client backed off and the object that it backed off for is free.
+    pub fn may_relock(&self, client: u32) -> bool
+        requires { IsClient client }
+        ensures { (m : Machine) → AreClientsOf m.contexts self.now
+            → result ≡ is_free_for m (contended (doing_at m client)) }
+    {
+        match self.place(client).doing {
+            Doing::BackedOff(_, object) => self.table.holder(object).is_none(),
+            _ => false,
+        }
     }
 
     /// Begins a context for an idle client, and gives its ticket, which counts the contexts before. Fewer than 4294967295
@@ -178,6 +215,13 @@ impl Clients {
     {
         set_next(&mut self.places, client);
     }
+}
+
+/// The number of the ticket of the context of a client that does this; 0 where it has none.
+fn ticket_of(doing: Doing) -> u32
+    ensures { result ≡ ticket_of doing }
+{
+    ticket_in(doing).map_or(0, |t| t.0)
 }
 
 /// The ticket of the context of a client that does this, where it has one.

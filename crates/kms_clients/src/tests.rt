@@ -44,6 +44,13 @@ fn a_client_takes_locks_and_goes_on(rt: HostRuntime) -> Result<(), Fail> {
     assert_eq!(rt; clients.begin(rt.alloc(), 16)?, Ticket(0));
     assert_eq!(rt; lock(&rt, &mut clients, 16, PLANE), Lock::Got);
     assert_eq!(rt; lock(&rt, &mut clients, 16, PLANE), Lock::Own);
+    assert_eq!(rt; clients.holder(PLANE), Some(16));
+    assert_eq!(rt; clients.holder(CRTC), None::<u32>);
+    assert!(rt; clients.is_free_or_older(16, CRTC), "no one holds it");
+    assert!(rt;
+        !clients.is_free_or_older(16, PLANE),
+        "its own lock is no older one"
+    );
     assert_eq!(rt; lock(&rt, &mut clients, 16, CRTC), Lock::Got);
     assert_eq!(rt; clients.with_ticket(Ticket(0)), Some(16));
     decide(&rt, &mut clients, 16);
@@ -56,6 +63,7 @@ fn a_client_takes_locks_and_goes_on(rt: HostRuntime) -> Result<(), Fail> {
     );
     assert_eq!(rt; clients.with_ticket(Ticket(0)), None);
     assert_eq!(rt; clients.place(1), at_first(Doing::Idle));
+    assert!(rt; !clients.may_relock(16), "it did not back off");
     Ok(())
 }
 

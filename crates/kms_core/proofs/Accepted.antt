@@ -30,6 +30,7 @@ use Rattle.kms_track.proofs.CheckedLemmas.{device_within, in_touched}
 use Rattle.kms_track.proofs.Lockables.{all_lockable}
 use Rattle.kms_track.proofs.PlaceLemmas.{all_same}
 use Rattle.kms_track.proofs.There.{on_place}
+use Rattle.kms_core.specs.Judging.{held_at}
 use Rattle.kms_core.specs.Decisions.{Decides, HoldsAll, IsAccepted, IsDeciding, IsFirstStale, MayTest, taker, world}
 use Rattle.kms_core.specs.Run.{Run, machine}
 use Rattle.kms_core.specs.Stands.{Stores, Stands}
@@ -51,24 +52,24 @@ if_on on in_mask touched b is e = rw (sym e, is) refl
 if_off : (on in_mask touched b : Bool) → on ≡ false → (on && touched) ≡ in_mask → (not in_mask || b) ≡ true
 if_off on in_mask touched b is e = rw (sym e, is) refl
 
--- a context that holds the objects of the set that a request touches holds what it touches
-pub mask_held : (t : Topology) (m : Machine) (client : ℕ) (request : Request) (mask : Mask) → IsDevice t → mask ≡ touched_by t m.device.world request → HoldsAll m client mask → holds_touched t m client request ≡ true
+-- a context holds the objects of the set that a request touches where it holds what the request touches
+pub mask_holds : (t : Topology) (m : Machine) (client : ℕ) (request : Request) (mask : Mask) → IsDevice t → mask ≡ touched_by t m.device.world request → all_below (held_at m client mask) 28 ≡ holds_touched t m client request
 unfolding holds_touched
-mask_held t m client request mask device is held =
-    sym (all_lockable t tested (λ object. not (touches t m.device.world request object) || holds m client object) (device_within t device) there elsewhere)
-    ∙ each_true tested (λ p below. implied (mask_has mask p) (holds m client (object_at p)) (held p below))
+mask_holds t m client request mask device is =
+    all_lockable t (held_at m client mask) (λ object. not (touches t m.device.world request object) || holds m client object) (device_within t device) there elsewhere
   where
-    tested : ℕ → Bool
-    tested p = not (mask_has mask p) || holds m client (object_at p)
-
     has : (p : ℕ) → p < 28 → (is_on t (object_at p) && touches t m.device.world request (object_at p)) ≡ mask_has mask p
     has p below = in_touched t m.device.world request p below ∙ ap (λ (x : Mask). mask_has x p) (sym is)
 
-    there : (p : ℕ) → p < 28 → is_there t p ≡ true → tested p ≡ (not (touches t m.device.world request (object_at p)) || holds m client (object_at p))
+    there : (p : ℕ) → p < 28 → is_there t p ≡ true → held_at m client mask p ≡ (not (touches t m.device.world request (object_at p)) || holds m client (object_at p))
     there p below on = if_on (is_on t (object_at p)) (mask_has mask p) _ (holds m client (object_at p)) (on_place t p below ∙ on) (has p below)
 
-    elsewhere : (p : ℕ) → p < 28 → is_there t p ≡ false → tested p ≡ true
+    elsewhere : (p : ℕ) → p < 28 → is_there t p ≡ false → held_at m client mask p ≡ true
     elsewhere p below off = if_off (is_on t (object_at p)) (mask_has mask p) _ (holds m client (object_at p)) (on_place t p below ∙ off) (has p below)
+
+pub mask_held : (t : Topology) (m : Machine) (client : ℕ) (request : Request) (mask : Mask) → IsDevice t → mask ≡ touched_by t m.device.world request → HoldsAll m client mask → holds_touched t m client request ≡ true
+mask_held t m client request mask device is held =
+    sym (mask_holds t m client request mask device is) ∙ each_true (held_at m client mask) (λ p below. implied (mask_has mask p) (holds m client (object_at p)) (held p below))
 
 -- Acceptance
 

@@ -1,5 +1,5 @@
 -- A client's request is decided: it is answered, its locks are dropped, and the client goes on.
-use Rattle.std.proofs.Common.{◌≡◌, ℕ, ◌<◌, true, List, [], ◌∷◌, ◌++◌, length, map, sym, ap, ◌∙◌, subst, arith}
+use Rattle.std.proofs.Common.{◌≡◌, ℕ, ◌<◌, true, List, [], ◌∷◌, ◌++◌, length, map, refl, sym, ap, ◌∙◌, subst, arith}
 use Rattle.std.specs.Prelude.{reverse}
 use Rattle.std.proofs.lemmas.List.{length-map, length-reverse}
 use Rattle.kms_model.specs.declared.replies.Answered.{Answered}
@@ -19,7 +19,7 @@ use Rattle.kms_core.specs.Decisions.{Decides}
 use Rattle.kms_core.specs.Logs.{Logged}
 use Rattle.kms_core.specs.Run.{Run, machine}
 use Rattle.kms_core.specs.Stands.{Stores, StandsAt, Stands, entry_pair}
-use Rattle.kms_core.proofs.Histories.{goes_on}
+use Rattle.kms_core.proofs.Histories.{goes_same}
 
 taking_is : (d : Doing) → is_taking d ≡ true → IsTaking d
 taking_is doing.Idle e = absurd cc
@@ -85,10 +85,12 @@ decided_stands r v st client command place step reply clients replies more befor
       world = stands.stores.world;
       fences = stands.stores.fences;
       fenced = stands.stores.fenced;
+      out_fenced = stands.stores.out_fenced;
       queues = stands.stores.queues;
       tracker = stands.stores.tracker;
+      tails = stands.stores.tails;
       registers = stands.stores.registers;
       going = stands.stores.going;
       ended = stands.stores.ended;
     } in
-    goes_on r st (record st { clients = clients; replies = more }) step steps (steps_more ∙ ap (λ (xs : List Step). xs ++ step ∷ []) steps_are) stands decides.legal (rw decides.does after)
+    goes_same r st (record st { clients = clients; replies = more }) step (rw decides.does (record { world = refl; commits = refl; cleaned = refl; live = refl })) refl steps (steps_more ∙ ap (λ (xs : List Step). xs ++ step ∷ []) steps_are) stands decides.legal (rw decides.does after)

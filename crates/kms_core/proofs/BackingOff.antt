@@ -1,6 +1,5 @@
 -- Contexts that back off, and take their object again.
-use Rattle.std.proofs.Common.{◌≡◌, ◌≢◌, ◌≤◌, ℕ, ◌<◌, Bool, true, false, Some, None, Option, List, length, [], ◌∷◌, ◌++◌, refl, sym, ap, ◌∙◌, subst, arith}
-use Rattle.std.proofs.lemmas.Bool.{and_from}
+use Rattle.std.proofs.Common.{◌≡◌, ℕ, Bool, true, false, Some, None, Option, List, [], ◌∷◌, ◌++◌, refl, sym, ap, ◌∙◌, subst, arith}
 use Rattle.kms_model.specs.declared.objects.ObjId.{ObjId}
 use Rattle.kms_model.specs.declared.objects.Ticket.{Ticket}
 use Rattle.kms_model.specs.declared.replies.Step.{Step}
@@ -10,9 +9,9 @@ use Rattle.kms_model.specs.declared.runs.Doing.TheVariants as doing
 use Rattle.kms_model.specs.declared.runs.Place.{Place}
 use Rattle.kms_model.specs.Machine.Effects.{next, backed_off, drops_locks, now_doing}
 use Rattle.kms_model.specs.Machine.Histories.{legal}
-use Rattle.kms_model.specs.Machine.State.{Machine, doing_at, holder_at, entry_at, command_at}
+use Rattle.kms_model.specs.Machine.State.{doing_at, holder_at, entry_at, command_at}
 use Rattle.kms_model.specs.declared.scripts.Command.TheVariants as command
-use Rattle.kms_model.specs.Machine.Steps.{may, must_back_off, ticket_of}
+use Rattle.kms_model.specs.Machine.Steps.{may}
 use Rattle.kms_clients.proofs.Held.{ticket_is}
 use Rattle.kms_clients.specs.InStep as Clients
 use Rattle.kms_clients.specs.Standing.{HasTicket, IsClient, Standing, place_of, ticket_in}
@@ -35,7 +34,7 @@ use Rattle.kms_model.proofs.TouchedLemmas.{few_objects}
 use Rattle.kms_core.specs.Locks.{MayBackOff, MayRelock, HasContext, present_state, relocked_as, relocked_answer, object_of}
 use Rattle.kms_core.specs.Run.{Run, machine, gains}
 use Rattle.kms_core.specs.Stands.{Stores, Stands}
-use Rattle.kms_core.proofs.Beside.{SameBeside, stands_beside, same_relocked}
+use Rattle.kms_core.proofs.Beside.{stands_beside, same_relocked}
 use Rattle.kms_core.proofs.Histories.{goes_on}
 
 pub with_ticket : (d : Doing) (t : Ticket) → ticket_in d ≡ Some t → has_context d ≡ true
@@ -89,7 +88,7 @@ module _ (r v : Run) (st : Stores) (t : Ticket) (stands : Stands r st) (same : r
       → Stands (record { script = r.script; steps = steps }) (record st { clients = clients })
   unfolding next
   backoff_goes_on clients before steps may is more now =
-      goes_on r st (record st { clients = clients }) (step.BackOff found) steps (more ∙ ap (λ (xs : List Step). xs ++ step.BackOff found ∷ []) is) stands (backoff_legal may)
+      goes_on r st (record st { clients = clients }) (step.BackOff found) refl refl steps (more ∙ ap (λ (xs : List Step). xs ++ step.BackOff found ∷ []) is) stands (backoff_legal may)
       (stands_beside r.script (machine r) (drops_locks (now_doing (machine r) found (backed_off (doing_at (machine r) found))) found) st clients (record { device = refl; records = refl; events = refl; stalled = refl }) now stands.stores)
 
   -- the history gains a step of the client that was found, and no other has the ticket
@@ -143,7 +142,7 @@ module _ (r v : Run) (st : Stores) (t : Ticket) (stands : Stands r st) (same : r
       → steps ≡ before ++ step.Relock found ∷ [] → Clients.AreClientsOf (Clients.after_relock (machine r) found again.Got) clients → Stands (record { script = r.script; steps = steps }) (record st { clients = clients })
   unfolding next legal may
   relock_goes_on clients before steps may told is more now =
-      goes_on r st (record st { clients = clients }) (step.Relock found) steps (more ∙ ap (λ (xs : List Step). xs ++ step.Relock found ∷ []) is) stands (relock_legal may told)
+      goes_on r st (record st { clients = clients }) (step.Relock found) refl refl steps (more ∙ ap (λ (xs : List Step). xs ++ step.Relock found ∷ []) is) stands (relock_legal may told)
       (stands_beside r.script (machine r) (relocked (machine r) found (contended (doing_at (machine r) found))) st clients (same_relocked (machine r) found (contended (doing_at (machine r) found))) now stands.stores) where
         free : (h : Option ℕ) → again.Got ≡ Clients.relock_answer (machine r) h → is_none h ≡ true
         free None e = refl

@@ -1,11 +1,11 @@
 -- The present states after a commit are those of the world that it leaves.
-use Rattle.std.proofs.Common.{◌≡◌, ℕ, ◌+◌, ◌-◌, ◌<◌, Bool, List, Some, true, false, None, arith, refl, sym, ap, ◌∙◌}
-use Rattle.std.specs.Prelude.{Option, is_some, nat_lt, slice_get, slice_index_or}
+use Rattle.std.proofs.Common.{◌≡◌, ℕ, ◌+◌, ◌<◌, Bool, List, Some, true, false, None, arith, refl, sym, ap, ◌∙◌}
+use Rattle.std.specs.Prelude.{Option, is_some, slice_get, slice_index_or}
 use Rattle.std.specs.Option.{option_flatten}
 use Rattle.std.proofs.lemmas.Option.{get_or_from_slice_get}
 use Rattle.kms_model.specs.declared.states.Both.{Both}
 use Rattle.kms_model.specs.Request.Late.{duplicate_at}
-use Rattle.std.proofs.lemmas.Bool.{and_from, false≢true, le-ltb, lt-ltb}
+use Rattle.std.proofs.lemmas.Bool.{and_from, false≢true, lt-ltb}
 use Rattle.kms_model.specs.declared.objects.Kind.{Kind}
 use Rattle.kms_model.specs.declared.objects.Kind.TheVariants.{Crtc, Plane, Conn}
 use Rattle.kms_model.specs.declared.objects.Topology.{Topology}
@@ -44,14 +44,14 @@ use Rattle.kms_core.proofs.AfterCommit.{settled_agree, settled_whole}
 -- What is touched was duplicated
 
 -- what is there in a list is there by its place
-there_at : {S : Type 0} (states : List (Option (Both S))) (i : ℕ) → is_some (duplicate_at states i) ≡ true → is_some (slice_index_or states i None) ≡ true
+pub there_at : {S : Type 0} (states : List (Option (Both S))) (i : ℕ) → is_some (duplicate_at states i) ≡ true → is_some (slice_index_or states i None) ≡ true
 there_at {S} states i some = of_slot (slice_get states i) refl some where
   of_slot : (o : Option (Option (Both S))) → slice_get states i ≡ o → is_some (option_flatten o) ≡ true → is_some (slice_index_or states i None) ≡ true
   of_slot None is some = absurd cc
   of_slot (Some None) is some = absurd cc
   of_slot (Some (Some both)) is some = ap is_some (get_or_from_slice_get states i (Some both) None is)
 
-has_plane : (checked : Checked) (i : ℕ) → HasStates checked → i < 16 → has_bit checked.touched.planes i ≡ true → is_some (slice_index_or checked.states.planes i None) ≡ true
+pub has_plane : (checked : Checked) (i : ℕ) → HasStates checked → i < 16 → has_bit checked.touched.planes i ≡ true → is_some (slice_index_or checked.states.planes i None) ≡ true
 has_plane checked i states few has = there_at checked.states.planes i (states.planes i few has)
 
 has_conn : (checked : Checked) (i : ℕ) → HasStates checked → i < 8 → has_bit checked.touched.conns i ≡ true → is_some (slice_index_or checked.states.conns i None) ≡ true

@@ -89,7 +89,7 @@ read_stands : (s : Script) (m : Machine) (client : ℕ) (unread : List Event) (a
 read_stands s m client [] answer st clients journal replies queues is clients_stand recorded queues_stand stands =
     stands_moved s m client (record m.records { replies = answered client (place_at m client).command (length m.records.journal) reply.NoEvent ∷ m.records.replies }) m.device.world m.device.signalled m.events st clients journal replies st.made st.fences queues refl
     clients_stand (subst (λ a. AreRecords (record m.records { replies = answered client (place_at m client).command (length m.records.journal) a ∷ m.records.replies }) journal.items replies.items st.latches.items) (no_event (reserved_at m.events client) is) recorded)
-    stands.world stands.fences stands.fenced queues_stand stands
+    stands.world stands.fences stands.fenced (λ id made. made) queues_stand stands
   where
     no_event : (reserved : ℕ) → read_reply [] reserved ≡ Some answer → answer ≡ reply.NoEvent
     no_event zero e = cc
@@ -99,7 +99,7 @@ read_stands s m client (event ∷ events) answer st clients journal replies queu
     stands_moved s m client (record m.records { replies = answered client (place_at m client).command (length m.records.journal) (reply.Event event) ∷ m.records.replies }) m.device.world m.device.signalled
     (record m.events { unread = (client, events) ∷ m.events.unread; events_read = (client, event) ∷ m.events.events_read }) st clients journal replies st.made st.fences queues refl
     clients_stand (subst (λ a. AreRecords (record m.records { replies = answered client (place_at m client).command (length m.records.journal) a ∷ m.records.replies }) journal.items replies.items st.latches.items) same recorded)
-    stands.world stands.fences stands.fenced queues_stand stands
+    stands.world stands.fences stands.fenced (λ id made. made) queues_stand stands
 
 -- what the call leaves of the stores
 pub record HasRead (r : Run) (st : Stores) (client : ℕ) (answer : Reply) (clients : Standing) (journal : Logged (ℕ × ℕ)) (replies : Logged Answered) (queues : List Queue) : Type 0 where
@@ -120,7 +120,7 @@ reads_event r v st client answer clients journal replies queues before steps sta
     let queue = stands.stores.queues.queue client there.low there.high in
     let told : read_reply (unread_at m.events client) (reserved_at m.events client) ≡ Some answer =
     sym (ap (λ events. read_reply events (queue_of st.queues client).reserved) queue.unread ∙ ap (λ n. read_reply (unread_at m.events client) n) queue.reserved) ∙ has.told in
-    goes_on r st (record st { clients = clients; journal = journal; replies = replies; queues = queues }) (step.Read client) steps (more ∙ ap (λ (xs : List Step). xs ++ step.Read client ∷ []) is) stands
+    goes_on r st (record st { clients = clients; journal = journal; replies = replies; queues = queues }) (step.Read client) refl refl steps (more ∙ ap (λ (xs : List Step). xs ++ step.Read client ∷ []) is) stands
     (and_from (not m.stalled) _ (ap not asked.going) (and_from _ _ asked.idle (may_read (unread_at m.events client) (reserved_at m.events client) answer told)))
     (read_stands r.script m client (unread_at m.events client) answer st clients journal replies queues told has.clients_stand
     (records_answered m st client (place_of st.clients client).command answer journal.items replies.items has.journal_kept has.replies_more there.number stands.stores.recorded)

@@ -31,12 +31,15 @@ use Rattle.kms_things.specs.Commands.{IsNoRequest}
 use Rattle.kms_things.specs.Made.{HasIds, Made, with_made}
 use Rattle.kms_things.specs.Present.{IsPresent}
 use Rattle.kms_core.specs.Calls.{MayMake, answered, joined, reply_at, reply_to_command, with_fence_of}
+use Rattle.kms_core.specs.Freeing.{Reserved}
+use Rattle.kms_core.specs.Needs.{Accounts, HasPlaceFor}
 use Rattle.kms_core.specs.Logs.{Logged}
 use Rattle.kms_core.specs.Run.{Run, machine}
 use Rattle.kms_core.specs.Stands.{AreMadeFences, IsWorldOf, Stores, Stands, StandsAt}
 use Rattle.kms_core.proofs.Beside.{moved, stands_moved}
-use Rattle.kms_core.proofs.Fencing.{executed_fenced, made_stand, same_fences, same_slots}
-use Rattle.kms_core.proofs.Histories.{goes_on}
+use Rattle.kms_core.proofs.Fencing.{executed_fenced, executed_more, made_stand, same_fences, same_slots}
+use Rattle.kms_core.proofs.FreedCalls.{closed_place, made_freed, world_after}
+use Rattle.kms_core.proofs.Histories.{goes_freeing, same_freed, with_freed}
 use Rattle.kms_core.proofs.Places.{IsIdleAt, idle_there, not_ended}
 use Rattle.kms_core.proofs.Recorded.{joined_if, joined_more, records_answered}
 
@@ -97,18 +100,22 @@ has_ids r st stands =
 
 -- stores with other room stand as well
 pub stands_with_room : (r : Run) (st : Stores) (journal : Logged (ℕ × ℕ)) (replies : Logged Answered) (made : Made) (fences : FenceSet) (steps : List Step) → Stands r st → steps ≡ r.steps → journal.items ≡ st.journal.items → replies.items ≡ st.replies.items
-    → made ≡ st.made → fences.slots ≡ st.fences.slots → Stands (record { script = r.script; steps = steps }) (record st { journal = journal; replies = replies; made = made; fences = fences })
-stands_with_room r st journal replies made fences steps stands is same_journal same_replies same_made same_set = record {
+    → made ≡ st.made → fences.slots ≡ st.fences.slots → (freed : Reserved (ℕ × ℕ)) → freed.items ≡ st.freed.items → freed.places ≡ st.freed.places
+    → Stands (record { script = r.script; steps = steps }) (record st { journal = journal; replies = replies; made = made; fences = fences; freed = freed })
+stands_with_room r st journal replies made fences steps stands is same_journal same_replies same_made same_set freed same_freed_items same_places = record {
   formed = stands.formed;
   history = rw is stands.history;
+  freed = same_freed r.script r.steps steps st.freed freed is same_freed_items same_places stands.freed;
   stores = rw is (record {
     clients = stands.stores.clients;
     recorded = rw (same_journal, same_replies) stands.stores.recorded;
     world = rw same_made stands.stores.world;
     fences = same_fences (machine r).device.signalled st.fences fences same_set stands.stores.fences;
     fenced = same_slots (machine r).device.world (machine r).device.signalled st.fences fences same_set stands.stores.fenced;
+    out_fenced = λ k index id low few is. rw same_set (stands.stores.out_fenced k index id low few is);
     queues = stands.stores.queues;
     tracker = stands.stores.tracker;
+    tails = stands.stores.tails;
     registers = stands.stores.registers;
     going = stands.stores.going;
     ended = stands.stores.ended;
@@ -177,12 +184,31 @@ made_stands r st client c reply clients journal replies made fences stands there
     (record { things = refl; next_id = refl; states = subst (λ (e : Executed). IsPresent t e.world st.present) is (present_seen t w (execute t w client c).world st.present follows.like.values follows.like.alike stands.stores.world.states) })
     (made_stand w c m.device.signalled st.fences fences slots stands.stores.fenced stands.stores.fences)
     (subst (λ (e : Executed). AreMadeFences e.world m.device.signalled fences) is (executed_fenced t w client c m.device.signalled st.fences fences other slots stands.stores.fenced))
-    stands.stores.queues stands.stores)))
+    (executed_more w.next_id c st.fences fences slots) stands.stores.queues stands.stores)))
 
 pub makes : (r v : Run) (st : Stores) (client : ℕ) (c : Command) (reply : Reply) (clients : Standing) (journal : Logged (ℕ × ℕ)) (replies : Logged Answered) (made : Made) (fences : FenceSet) (before steps : List Step) → Stands r st → r ≡ v → MayMake v client
     → HasMade r st client c reply clients journal replies made fences → before ≡ r.steps → steps ≡ before ++ step.Make client ∷ []
-    → Stands (record { script = r.script; steps = steps }) (record st { clients = clients; journal = journal; replies = replies; made = made; fences = fences })
-makes r v st client c reply clients journal replies made fences before steps stands same now has is more =
-    goes_on r st (record st { clients = clients; journal = journal; replies = replies; made = made; fences = fences }) (step.Make client) steps (more ∙ ap (λ (xs : List Step). xs ++ step.Make client ∷ []) is) stands
-    (subst (λ (w : Run). MayMake w client) (sym same) now)
-    (made_stands r st client c reply clients journal replies made fences stands (idle_maker r v st client stands same now) has)
+    → (roomy freed : Reserved (ℕ × ℕ)) → roomy.items ≡ st.freed.items → roomy.places ≡ st.freed.places → Accounts made st.present st.registers st.tails r.script.topology.crtcs c reply roomy freed
+    → Stands (record { script = r.script; steps = steps }) (record st { clients = clients; journal = journal; replies = replies; made = made; fences = fences; freed = freed })
+makes r v st client c reply clients journal replies made fences before steps stands same now has is more roomy freed same_items same_places accounts =
+    let new : Stores = record st { clients = clients; journal = journal; replies = replies; made = made; fences = fences } in
+    let may = subst (λ (w : Run). MayMake w client) (sym same) now in
+    let told = ap (λ (e : Executed). e.reply) (execution_is r.script.topology (machine r).device.world st.made made st.present client c reply stands.stores.world has.executed_as) in
+    let after = made_stands r st client c reply clients journal replies made fences stands (idle_maker r v st client stands same now) has in
+    let with_room : Stands r (record st { freed = roomy }) = record {
+      formed = stands.formed;
+      history = stands.history;
+      stores = with_freed r.script (machine r) st roomy stands.stores;
+      freed = same_freed r.script r.steps r.steps st.freed roomy refl same_items same_places stands.freed;
+    } in
+    goes_freeing r st (record new { freed = freed }) (step.Make client) steps (more ∙ ap (λ (xs : List Step). xs ++ step.Make client ∷ []) is) stands may
+    (with_freed r.script (next r.script (machine r) (step.Make client)) new freed after) (made_freed r (record st { freed = roomy }) client c reply with_room may has.found.at told new freed after accounts)
+
+-- there is a place for a framebuffer that was closed
+pub place_for : (r v : Run) (st : Stores) (client : ℕ) (c : Command) (reply : Reply) (made : Made) → Stands r st → r ≡ v → MayMake v client → command_at r.script (machine r) client ≡ Some c
+    → ((t : Topology) (w : World) → execute t (with_made w st.made) client c ≡ record { world = with_made w made; reply = reply }) → HasPlaceFor made c reply st.freed.places
+place_for r v st client c reply made stands same now at executed_as =
+    let may = subst (λ (w : Run). MayMake w client) (sym same) now in
+    let executed_is = execution_is r.script.topology (machine r).device.world st.made made st.present client c reply stands.stores.world executed_as in
+    closed_place r st client c reply stands may at (ap (λ (e : Executed). e.reply) executed_is) made
+    (ap (λ (w : World). w.things) (world_after r st client c reply stands may at (ap (λ (e : Executed). e.reply) executed_is)) ∙ ap (λ (e : Executed). e.world.things) executed_is)

@@ -44,7 +44,7 @@ things_closed fences (u ∷ us) id made =
     let same = closed_same id u in
     (λ fence. subst (λ n. is_made fences n ≡ true) (sym same.id) (made.0 (subst (λ c. is_fence c ≡ true) same.content fence)), things_closed fences us id made.1)
 
-thing_made : (fences : FenceSet) (things : List Thing) (label : ℕ) (u : Thing) → AllByRecursion (IsMadeFence fences) things → thing_labelled things label ≡ Some u → IsMadeFence fences u
+pub thing_made : (fences : FenceSet) (things : List Thing) (label : ℕ) (u : Thing) → AllByRecursion (IsMadeFence fences) things → thing_labelled things label ≡ Some u → IsMadeFence fences u
 thing_made fences [] label u made found = absurd cc
 thing_made fences (x ∷ xs) label u made found =
     elim (cases_Bool (x.label == label)) [
@@ -62,7 +62,7 @@ some_first : (o other : Option Bool) → is_some o ≡ true → is_some (or_else
 some_first (Some b) other there = refl
 some_first None other there = absurd (false≢true there)
 
-pushed_more : (old new : FenceSet) (id : ℕ) → new.slots ≡ old.slots ++ slot id false ∷ [] → (other : ℕ) → is_made old other ≡ true → is_made new other ≡ true
+pub pushed_more : (old new : FenceSet) (id : ℕ) → new.slots ≡ old.slots ++ slot id false ∷ [] → (other : ℕ) → is_made old other ≡ true → is_made new other ≡ true
 pushed_more old new id is other made = rw (is, value_pushed old.slots id other false) (some_first (value_with_id old.slots other) (value_with_id (slot id false ∷ []) other) made)
 
 pushed_here : (old new : FenceSet) (id : ℕ) → new.slots ≡ old.slots ++ slot id false ∷ [] → AreBelow id old.slots → is_made new id ≡ true
@@ -127,6 +127,19 @@ executed_fenced t w client (command.Fence label) signalled old new other is fenc
 executed_fenced t w client (command.Signal label) signalled old new other is fenced = signal_fenced w (signal_refusal (thing_labelled w.things label)) signalled new (same_slots w signalled old new is fenced)
 executed_fenced t w client (command.Atomic r) signalled old new other is fenced = absurd (false≢true (sym other))
 executed_fenced t w client command.Wait signalled old new other is fenced = same_slots w signalled old new is fenced
+
+-- fences that were made stay so
+pub executed_more : (next : ℕ) (c : Command) (old new : FenceSet) → new.slots ≡ with_fence_of c next old.slots → (id : ℕ) → is_made old id ≡ true → is_made new id ≡ true
+executed_more next (command.Fence label) old new is id made = pushed_more old new next is id made
+executed_more next (command.Buffer label width height format pattern) old new is id made = rw is made
+executed_more next (command.AddFb label buffer) old new is id made = rw is made
+executed_more next (command.Mode label m) old new is id made = rw is made
+executed_more next (command.Blob label bytes) old new is id made = rw is made
+executed_more next (command.Destroy label) old new is id made = rw is made
+executed_more next (command.CloseFb label) old new is id made = rw is made
+executed_more next (command.Signal label) old new is id made = rw is made
+executed_more next (command.Atomic r) old new is id made = rw is made
+executed_more next command.Wait old new is id made = rw is made
 
 -- Fences of the machine
 

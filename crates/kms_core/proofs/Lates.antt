@@ -14,6 +14,7 @@ use Rattle.kms_model.specs.declared.replies.Event.{Event}
 use Rattle.kms_model.specs.declared.scripts.Command.TheVariants as command
 use Rattle.kms_model.specs.declared.scripts.Request.{Request}
 use Rattle.kms_model.specs.declared.states.Checked.{Checked}
+use Rattle.kms_model.specs.declared.states.Mask.{Mask}
 use Rattle.kms_model.specs.Device.Objects.{count_of, ids_of, object_id}
 use Rattle.kms_model.specs.Machine.Effects.{busy_reply, decided, next, refused}
 use Rattle.kms_model.specs.Machine.Histories.{legal}
@@ -97,15 +98,15 @@ late_plain t m client r flags used events busy flags_are used_is events_are busy
     (busy_same t m (is_nonblock r.flags) (steps.first_pending t m r)))
 
 -- the stores tell what the machine does
-pub late_same : (r : Run) (st : Stores) (client : ℕ) (request : Request) (checked : Checked) (flags : ℕ) → Stands r st → IsQueueOf (queue_of st.queues client) (machine r).events client → flags ≡ request.flags
-    → checked.named ≡ named_by r.script.topology (world r) request → checked.touched ≡ touched_by r.script.topology (world r) request
-    → late_told (queue_of st.queues client) st.tracker checked flags ≡ late_reply r.script.topology (machine r) client request
-late_same r st client request checked flags stands queue flags_are named_are touched_are =
+pub late_same : (r : Run) (st : Stores) (client : ℕ) (request : Request) (named : ℕ) (touched : Mask) (flags : ℕ) → Stands r st → IsQueueOf (queue_of st.queues client) (machine r).events client → flags ≡ request.flags
+    → named ≡ named_by r.script.topology (world r) request → touched ≡ touched_by r.script.topology (world r) request
+    → late_told (queue_of st.queues client) st.tracker named touched flags ≡ late_reply r.script.topology (machine r) client request
+late_same r st client request named touched flags stands queue flags_are named_are touched_are =
     let limits = device_within r.script.topology stands.formed.device in
-    late_plain r.script.topology (machine r) client request flags (space_used (queue_of st.queues client)) (count_in checked.named) (busy_of st.tracker checked.touched) flags_are
+    late_plain r.script.topology (machine r) client request flags (space_used (queue_of st.queues client)) (count_in named) (busy_of st.tracker touched) flags_are
     (ap (λ n. 32 * (n + length (queue_of st.queues client).unread)) queue.reserved ∙ ap (λ events. 32 * (reserved_at (machine r).events client + length events)) queue.unread)
     (ap count_in named_are ∙ count_named r.script.topology (names (world r).values (after (world r) request) request.assigns) limits.crtcs)
-    (busy_machine r.script.topology (machine r) st.tracker checked.touched request stands.stores.tracker limits
+    (busy_machine r.script.topology (machine r) st.tracker touched request stands.stores.tracker limits
     (λ p below. ap (λ mask. mask_has mask p) touched_are ∙ sym (in_touched r.script.topology (world r) request p below)))
 
 -- What a refusal decides
@@ -114,7 +115,7 @@ abbrev reply_or : Reply → Option Reply → Reply
 reply_or other None = other
 reply_or other (Some reply) = reply
 
-late_parts : (lacks busy : Bool) (x y given : Reply) → (if lacks then Some x else (if busy then Some y else None)) ≡ Some given → ((lacks || busy) ≡ true) × ((if lacks then x else y) ≡ given)
+pub late_parts : (lacks busy : Bool) (x y given : Reply) → (if lacks then Some x else (if busy then Some y else None)) ≡ Some given → ((lacks || busy) ≡ true) × ((if lacks then x else y) ≡ given)
 late_parts true busy x y given e = (refl, ap (reply_or x) e)
 late_parts false true x y given e = (refl, ap (reply_or y) e)
 late_parts false false x y given e = absurd cc
@@ -161,14 +162,14 @@ swap_is_legal r client checked flags asked is ready =
 -- What a swap answers, as the call finds it
 
 late_of : (r : Run) (st : Stores) (client : ℕ) (checked : Checked) (flags : ℕ) (asked : IsReadyToCommit r client checked flags) → Stands r st → IsQueueOf (queue_of st.queues client) (machine r).events client
-    → late_told (queue_of st.queues client) st.tracker checked flags ≡ late_reply r.script.topology (machine r) client asked.request
+    → late_told (queue_of st.queues client) st.tracker checked.named checked.touched flags ≡ late_reply r.script.topology (machine r) client asked.request
 late_of r st client checked flags asked stands queue =
-    late_same r st client asked.request checked flags stands queue asked.flags_are asked.checked_as.named asked.checked_as.touched
+    late_same r st client asked.request checked.named checked.touched flags stands queue asked.flags_are asked.checked_as.named asked.checked_as.touched
 
 -- the client's queue
-pub own_queue : (r : Run) (st : Stores) (client : ℕ) (checked : Checked) (flags : ℕ) → IsReadyToCommit r client checked flags → Stands r st → OwnQueue r st client
-own_queue r st client checked flags asked stands =
-    let there = client_there r.script (machine r) client (command.Atomic asked.request) (request-is (command_at r.script (machine r) client) asked.request asked.at) in
+pub queue_there : (r : Run) (st : Stores) (client : ℕ) (request : Request) → request_at r.script (machine r) client ≡ Some request → Stands r st → OwnQueue r st client
+queue_there r st client request at stands =
+    let there = client_there r.script (machine r) client (command.Atomic request) (request-is (command_at r.script (machine r) client) request at) in
     let is = stands.stores.queues.queue client there.0 there.1 in
     let fit = (numbers_fit r.script r.steps stands.formed stands.history).events client in
     record {
@@ -178,13 +179,16 @@ own_queue r st client checked flags asked stands =
       few = (let unread = ap (λ (events : List Event). length events) is.unread in omega (arith, fit, is.reserved, unread));
     }
 
+pub own_queue : (r : Run) (st : Stores) (client : ℕ) (checked : Checked) (flags : ℕ) → IsReadyToCommit r client checked flags → Stands r st → OwnQueue r st client
+own_queue r st client checked flags asked stands = queue_there r st client asked.request asked.at stands
+
 pub late_decides : (r v : Run) (st : Stores) (client : ℕ) (checked : Checked) (flags : ℕ) (q : Queue) (given : Reply) → Stands r st → r ≡ v → IsReadyToCommit v client checked flags → q ≡ queue_of st.queues client
-    → Some given ≡ late_told q st.tracker checked flags → Decides v client (step.Refuse client) given
+    → Some given ≡ late_told q st.tracker checked.named checked.touched flags → Decides v client (step.Refuse client) given
 late_decides r v st client checked flags q given stands same asked q_is is =
     let now = subst (λ (x : Run). IsReadyToCommit x client checked flags) (sym same) asked in
     let queue = own_queue r st client checked flags now stands in
     subst (λ (x : Run). Decides x client (step.Refuse client) given) same
-    (late_refuses r client checked flags given now (sym (late_of r st client checked flags now stands queue.is) ∙ sym (is ∙ ap (λ (x : Queue). late_told x st.tracker checked flags) q_is)))
+    (late_refuses r client checked flags given now (sym (late_of r st client checked flags now stands queue.is) ∙ sym (is ∙ ap (λ (x : Queue). late_told x st.tracker checked.named checked.touched flags) q_is)))
 
 answer_at : (r : Run) (client : ℕ) (request : Request) (late : Option Reply) (awaited : Option (ObjId × ℕ)) → request_at r.script (machine r) client ≡ Some request
     → late_reply r.script.topology (machine r) client request ≡ late → awaited_answer r.script.topology (machine r) request ≡ awaited
@@ -195,14 +199,14 @@ answer_at r client request late awaited at late_is awaited_is =
     ∙ ap (λ (x : Option (ObjId × ℕ)). refused_or late (waits_or_commits x (length (machine r).device.commits))) awaited_is)
 
 pub swap_answers : (r v : Run) (st : Stores) (client : ℕ) (checked : Checked) (flags : ℕ) (q : Queue) (late : Option Reply) (awaited : Option (ObjId × ℕ)) → Stands r st → r ≡ v → IsReadyToCommit v client checked flags
-    → q ≡ queue_of st.queues client → late ≡ late_told q st.tracker checked flags → (late ≡ None → awaited ≡ not_yet_of st.tracker checked.named)
+    → q ≡ queue_of st.queues client → late ≡ late_told q st.tracker checked.named checked.touched flags → (late ≡ None → awaited ≡ not_yet_of st.tracker checked.named)
     → refused_or late (waits_or_commits awaited (length (machine v).device.commits)) ≡ swap_answer v client
 swap_answers r v st client checked flags q late awaited stands same asked q_is is awaited_is =
     let now = subst (λ (x : Run). IsReadyToCommit x client checked flags) (sym same) asked in
     let queue = own_queue r st client checked flags now stands in
     let limits = device_within r.script.topology stands.formed.device in
     let late_is : late_reply r.script.topology (machine r) client now.request ≡ late =
-    sym (late_of r st client checked flags now stands queue.is) ∙ sym (is ∙ ap (λ (x : Queue). late_told x st.tracker checked flags) q_is) in
+    sym (late_of r st client checked flags now stands queue.is) ∙ sym (is ∙ ap (λ (x : Queue). late_told x st.tracker checked.named checked.touched flags) q_is) in
     subst (λ (x : Run). refused_or late (waits_or_commits awaited (length (machine x).device.commits)) ≡ swap_answer x client) same
     (by_late r client now late late_is (λ none. sym (awaited_is none ∙ ap (not_yet_of st.tracker) now.checked_as.named ∙ awaited_told r.script.topology (machine r) st.tracker now.request stands.stores.tracker limits)))
   where
@@ -213,25 +217,32 @@ swap_answers r v st client checked flags q late awaited stands same asked q_is i
     by_late r client now (Some given) late_is rest = answer_at r client now.request (Some given) (awaited_answer r.script.topology (machine r) now.request) now.at late_is refl
 
 pub swap_may : (r v : Run) (st : Stores) (client : ℕ) (checked : Checked) (flags : ℕ) (q : Queue) → Stands r st → r ≡ v → IsReadyToCommit v client checked flags
-    → q ≡ queue_of st.queues client → None ≡ late_told q st.tracker checked flags → None ≡ not_yet_of st.tracker checked.named → legal v.script (machine v) (step.Swap client) ≡ true
+    → q ≡ queue_of st.queues client → None ≡ late_told q st.tracker checked.named checked.touched flags → None ≡ not_yet_of st.tracker checked.named → legal v.script (machine v) (step.Swap client) ≡ true
 swap_may r v st client checked flags q stands same asked q_is is awaited_is =
     let now = subst (λ (x : Run). IsReadyToCommit x client checked flags) (sym same) asked in
     let queue = own_queue r st client checked flags now stands in
     let limits = device_within r.script.topology stands.formed.device in
     let late_is : late_reply r.script.topology (machine r) client now.request ≡ None =
-    sym (late_of r st client checked flags now stands queue.is) ∙ sym (is ∙ ap (λ (x : Queue). late_told x st.tracker checked flags) q_is) in
+    sym (late_of r st client checked flags now stands queue.is) ∙ sym (is ∙ ap (λ (x : Queue). late_told x st.tracker checked.named checked.touched flags) q_is) in
     let ready : steps.is_ready r.script.topology (machine r) now.request ≡ true =
     sym (not_yet_machine r.script.topology (machine r) st.tracker now.request stands.stores.tracker limits)
     ∙ ap (λ (o : Option (ObjId × ℕ)). is_none o) (sym (awaited_is ∙ ap (not_yet_of st.tracker) now.checked_as.named)) in
     subst (λ (x : Run). legal x.script (machine x) (step.Swap client) ≡ true) same (swap_is_legal r client checked flags now late_is ready)
 
 -- the queue at a client's index
+pub queue_at : (r : Run) (st : Stores) (client : ℕ) (request : Request) (q : Queue) → request_at r.script (machine r) client ≡ Some request → Stands r st → q ≡ slice_index_or st.queues (client - 1) q → q ≡ queue_of st.queues client
+queue_at r st client request q at stands is = is ∙ get_or_default st.queues (client - 1) q empty_queue (queue_there r st client request at stands).within
+
+pub few_at : (r : Run) (st : Stores) (client : ℕ) (request : Request) (q : Queue) → request_at r.script (machine r) client ≡ Some request → Stands r st → q ≡ slice_index_or st.queues (client - 1) q → q.reserved + length q.unread ≤ 128
+few_at r st client request q at stands is =
+    subst (λ (x : Queue). x.reserved + length x.unread ≤ 128) (sym (queue_at r st client request q at stands is)) (queue_there r st client request at stands).few
+
 pub indexed_queue : (r v : Run) (st : Stores) (client : ℕ) (checked : Checked) (flags : ℕ) (q : Queue) → Stands r st → r ≡ v → IsReadyToCommit v client checked flags → q ≡ slice_index_or st.queues (client - 1) q → q ≡ queue_of st.queues client
 indexed_queue r v st client checked flags q stands same asked is =
-    let queue = own_queue r st client checked flags (subst (λ (x : Run). IsReadyToCommit x client checked flags) (sym same) asked) stands in
-    is ∙ get_or_default st.queues (client - 1) q empty_queue queue.within
+    let now = subst (λ (x : Run). IsReadyToCommit x client checked flags) (sym same) asked in
+    queue_at r st client now.request q now.at stands is
 
 pub few_events : (r v : Run) (st : Stores) (client : ℕ) (checked : Checked) (flags : ℕ) (q : Queue) → Stands r st → r ≡ v → IsReadyToCommit v client checked flags → q ≡ slice_index_or st.queues (client - 1) q → q.reserved + length q.unread ≤ 128
 few_events r v st client checked flags q stands same asked is =
-    let queue = own_queue r st client checked flags (subst (λ (x : Run). IsReadyToCommit x client checked flags) (sym same) asked) stands in
-    subst (λ (x : Queue). x.reserved + length x.unread ≤ 128) (sym (indexed_queue r v st client checked flags q stands same asked is)) queue.few
+    let now = subst (λ (x : Run). IsReadyToCommit x client checked flags) (sym same) asked in
+    few_at r st client now.request q now.at stands is

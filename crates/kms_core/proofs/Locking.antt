@@ -1,5 +1,5 @@
 -- What calls on contexts ask for, and what they leave.
-use Rattle.std.proofs.Common.{◌≡◌, ◌≤◌, ◌-◌, ◌+◌, Some, ℕ, ◌<◌, Bool, true, List, [], ◌∷◌, ◌++◌, refl, sym, ap, ◌∙◌, subst, arith}
+use Rattle.std.proofs.Common.{◌≡◌, ◌≤◌, ◌-◌, Some, ℕ, ◌<◌, Bool, true, List, [], ◌∷◌, ◌++◌, refl, sym, ap, ◌∙◌, subst, arith}
 use Rattle.kms_model.specs.declared.replies.Step.{Step}
 use Rattle.kms_model.specs.declared.replies.Step.TheVariants as step
 use Rattle.kms_model.specs.Machine.Effects.{next, begun}
@@ -19,7 +19,7 @@ use Rattle.kms_model.specs.declared.objects.Kind.{Kind}
 use Rattle.kms_model.specs.declared.objects.Kind.TheVariants.{Crtc, Plane, Conn, Enc}
 use Rattle.kms_model.specs.declared.objects.ObjId.{ObjId}
 use Rattle.kms_model.specs.declared.objects.Topology.{Topology}
-use Rattle.kms_model.proofs.TouchedLemmas.{HasFewObjects, few_objects}
+use Rattle.kms_model.proofs.TouchedLemmas.{HasFewObjects}
 use Rattle.kms_clients.specs.InStep as Clients
 use Rattle.kms_clients.specs.Standing.{HasTicket, ticket_in, place_of}
 use Rattle.kms_wwlock.specs.Objects.{IsLockable}
@@ -28,7 +28,7 @@ use Rattle.kms_laws.specs.Laws.{has_context}
 use Rattle.kms_laws.proofs.Modes.{plain-from}
 use Rattle.kms_laws.proofs.NeverStuck.{history_facts}
 use Rattle.std.specs.Prelude.{nat_lt, ◌==◌, if◌then◌else◌}
-use Rattle.std.proofs.Common.{false, length, None, Option, inl, inr, ◌⊎◌}
+use Rattle.std.proofs.Common.{false, length, None, Option, inl, inr}
 use Rattle.std.proofs.lemmas.Bool.{ltb-true, and_from}
 use Rattle.kms_model.specs.Machine.Effects.{locked}
 use Rattle.kms_model.specs.Machine.State.{Machine, holder_at}
@@ -44,7 +44,7 @@ use Rattle.kms_core.proofs.Stored.{stored}
 use Rattle.kms_core.specs.declared.contexts.Locked.{Locked}
 use Rattle.kms_core.specs.Run.{Run, machine, gains}
 use Rattle.kms_core.specs.Stands.{Stores, Stands}
-use Rattle.kms_core.proofs.Beside.{SameBeside, stands_beside, same_locked}
+use Rattle.kms_core.proofs.Beside.{stands_beside, same_locked}
 use Rattle.kms_core.proofs.Histories.{goes_on}
 use Rattle.kms_core.proofs.Places.{may_idle, MayIdle, not_ended}
 
@@ -63,7 +63,7 @@ pub begins : (r v : Run) (st : Stores) (client : ℕ) (clients : Standing) (befo
     → AreClientsOf (begun (machine r) client).contexts clients → Stands (record { script = r.script; steps = steps }) (record st { clients = clients })
 unfolding next
 begins r v st client clients before steps stands same asked is more now =
-    goes_on r st (record st { clients = clients }) (step.Begin client) steps (more ∙ ap (λ (xs : List Step). xs ++ step.Begin client ∷ []) is) stands (subst (λ (w : Run). MayBegin w client) (sym same) asked)
+    goes_on r st (record st { clients = clients }) (step.Begin client) refl refl steps (more ∙ ap (λ (xs : List Step). xs ++ step.Begin client ∷ []) is) stands (subst (λ (w : Run). MayBegin w client) (sym same) asked)
     (stands_beside r.script (machine r) (begun (machine r) client) st clients (record { device = refl; records = refl; events = refl; stalled = refl }) now stands.stores)
 
 -- lock
@@ -137,6 +137,7 @@ pub stays : (r : Run) (st : Stores) (clients : Standing) (steps : List Step) →
 stays r st clients steps is stands now = rw is (record {
   formed = stands.formed;
   history = stands.history;
+  freed = stands.freed;
   stores = stands_beside r.script (machine r) (machine r) st clients (record { device = refl; records = refl; events = refl; stalled = refl }) now stands.stores;
 })
 
@@ -168,7 +169,7 @@ pub lock_goes_on : (r : Run) (st : Stores) (id : ObjId) (client : ℕ) (answer :
     → AreClientsOf (after_lock (machine r) client id.0 answer) clients → Stands (record { script = r.script; steps = steps }) (record st { clients = clients })
 unfolding next
 lock_goes_on r st id client answer clients before steps stands L told event is more now =
-    goes_on r st (record st { clients = clients }) (lock_step client id) steps (more ∙ ap (λ (xs : List Step). xs ++ lock_step client id ∷ []) is) stands (lock_legal r id client L (ap is_step (sym told) ∙ event))
+    goes_on r st (record st { clients = clients }) (lock_step client id) refl refl steps (more ∙ ap (λ (xs : List Step). xs ++ lock_step client id ∷ []) is) stands (lock_legal r id client L (ap is_step (sym told) ∙ event))
     (rw (object_is id.0 L.is_id)
     (stands_beside r.script (machine r) (locked (machine r) client id.0 (holder_at (machine r) id.0)) st clients (same_locked (machine r) client id.0 (holder_at (machine r) id.0)) (rw (an_event (machine r) client id.0 answer event) at now) stands.stores))
 

@@ -1,18 +1,25 @@
 -- The labels of a commit's out-fences, and the planes that it waits for.
-use Rattle.std.proofs.Common.{◌≡◌, ℕ, zero, suc, ◌≤◌, List, [], ◌∷◌, length, map, take, Option, Some, None, inl, inr, refl, sym, ap, ◌∙◌, arith}
+use Rattle.std.proofs.Common.{◌≡◌, ℕ, zero, suc, ◌≤◌, ◌<◌, List, [], ◌∷◌, length, map, take, Option, Some, None, inl, inr, refl, sym, ap, ◌∙◌, subst, arith}
 use Rattle.std.specs.List.{filter_map, range_with_len}
 use Rattle.std.specs.Option.{option_map}
-use Rattle.std.proofs.lemmas.Bool.{cases_eq, eq-eqb, ne_eqb}
+use Rattle.std.proofs.lemmas.Bool.{cases_eq, cases_lt, eq-eqb, ltb-true, ne_eqb}
 use Rattle.std.proofs.lemmas.List.FromFn.{length-map-range_with_len}
+use Rattle.kms_model.specs.declared.objects.Kind.{Kind}
 use Rattle.kms_model.specs.declared.objects.Kind.TheVariants.{Crtc, Plane}
 use Rattle.kms_model.specs.declared.objects.ObjId.{ObjId}
 use Rattle.kms_model.specs.declared.objects.Topology.{Topology}
+use Rattle.kms_model.specs.declared.properties.TheConstants.{OUT_FENCE_PTR}
 use Rattle.kms_model.specs.declared.scripts.Assign.{Assign}
+use Rattle.kms_model.specs.declared.scripts.Request.{Request}
+use Rattle.kms_model.specs.declared.scripts.Value.{Value}
 use Rattle.kms_model.specs.declared.worlds.Look.{Look}
+use Rattle.kms_model.specs.declared.worlds.World.{World}
 use Rattle.kms_model.specs.Device.Objects.{count_of, ids_of, object_id}
 use Rattle.kms_model.specs.Request.Sets.{in_fence, in_fences, obj_id, out_fences}
-use Rattle.kms_model.specs.Request.Touched.{out_fence_label}
-use Rattle.kms_model.proofs.Items.{IsIn}
+use Rattle.kms_model.specs.Request.Touched.{last_value, new_label, out_fence_label}
+use Rattle.kms_model.proofs.Items.{IsIn, ids-has}
+use Rattle.kms_model.proofs.LastLemmas.{SetBy, set_by}
+use Rattle.kms_model.proofs.TouchedLemmas.{IsRequestAt, accepted-each, few_objects, few_of, first_id-apart}
 use Rattle.kms_core.specs.Settled.{label_in, labels_in}
 
 -- Lists without what is not there
@@ -86,3 +93,29 @@ first_labels f (suc (suc (suc (suc (suc n))))) few = absurd (omega (arith, few))
 pub labels_of_crtcs : (t : Topology) (assigns : List Assign) → t.crtcs ≤ 4 → take t.crtcs (labels_in (out_fences t assigns)) ≡ map (out_fence_label assigns) (ids_of t Crtc)
 unfolding out_fences
 labels_of_crtcs t assigns few = first_labels (out_fence_label assigns) t.crtcs few
+
+-- A label at any place
+
+-- an accepted request asks for an out-fence of a CRTC of the device alone
+no_label : (t : Topology) (w : World) (r : Request) (i : ℕ) → IsRequestAt t w r → i < 4 → t.crtcs ≤ i → out_fence_label r.assigns (object_id Crtc i) ≡ None
+no_label t w r i at low above = go (last_value r.assigns (object_id Crtc i) OUT_FENCE_PTR) refl where
+  go : (o : Option Value) → last_value r.assigns (object_id Crtc i) OUT_FENCE_PTR ≡ o → new_label o ≡ None
+  go None is = refl
+  go (Some v) is =
+      let by : SetBy r.assigns (object_id Crtc i) OUT_FENCE_PTR v = set_by r.assigns (object_id Crtc i) OUT_FENCE_PTR v is in
+      let ok = accepted-each t w r by.item at by.member in
+      let few = few_objects t at.device in
+      let below : by.item.index < count_of t by.item.kind = ltb-true by.item.index (count_of t by.item.kind) ok.object_exists in
+      let few_kind : count_of t by.item.kind ≤ 16 = few_of t by.item.kind few in
+      let kind : by.item.kind ≡ Crtc = first_id-apart by.item.kind Crtc by.item.index i (omega (arith, below, few_kind)) (omega (arith, low)) by.object_is in
+      let place : object_id Crtc by.item.index ≡ object_id Crtc i = subst (λ (k : Kind). object_id k by.item.index ≡ object_id Crtc i) kind by.object_is in
+      let within : by.item.index < t.crtcs = subst (λ (k : Kind). by.item.index < count_of t k) kind below in
+      absurd (omega (arith, place, within, above))
+
+pub label_at_crtc : (t : Topology) (w : World) (r : Request) (i : ℕ) → IsRequestAt t w r → i < 4 → label_in (out_fences t r.assigns) (object_id Crtc i) ≡ out_fence_label r.assigns (object_id Crtc i)
+unfolding out_fences
+label_at_crtc t w r i at low =
+    elim (cases_lt i t.crtcs) [
+      | inl within ↦ found_in (out_fence_label r.assigns) (ids_of t Crtc) (object_id Crtc i) (ids-has t Crtc i within)
+      | inr above ↦ (let none = no_label t w r i at low above in none_in (out_fence_label r.assigns) (ids_of t Crtc) (object_id Crtc i) none ∙ sym none)
+    ]

@@ -68,6 +68,6 @@ unfolding next legal may
 returns r v st client clients before steps stands same now over is more after =
     let asked = subst (λ (w : Run). MayReturn w client) (sym same) now in
     let over_now : is_over_at r client ≡ true = ap (λ (w : Run). is_over_at w client) same ∙ over in
-    goes_on r st (record st { clients = clients }) (step.Return client) steps (more ∙ ap (λ (xs : List Step). xs ++ step.Return client ∷ []) is) stands
+    goes_on r st (record st { clients = clients }) (step.Return client) refl refl steps (more ∙ ap (λ (xs : List Step). xs ++ step.Return client ∷ []) is) stands
     (and_from (not (machine r).stalled) _ (ap not asked.going) (rw asked.returning (ap (is_over (machine r)) (sym asked.returning) ∙ over_now)))
     (stands_beside r.script (machine r) (client_goes_on (machine r) client) st clients (record { device = refl; records = refl; events = refl; stalled = refl }) after stands.stores)

@@ -26,6 +26,7 @@ use Rattle.kms_core.specs.Calls.{MaySignal, answered, fence_of, reply_at, reply_
 use Rattle.kms_core.specs.Logs.{Logged}
 use Rattle.kms_core.specs.Run.{Run, machine}
 use Rattle.kms_core.specs.Stands.{AreRecords, Stores, Stands, StandsAt}
+use Rattle.kms_signal.proofs.FenceLemmas.{still_made}
 use Rattle.kms_core.proofs.Beside.{stands_moved}
 use Rattle.kms_core.proofs.Executed.{IsFound, world_of}
 use Rattle.kms_core.proofs.Fencing.{signalled_fenced, signals_made}
@@ -77,11 +78,11 @@ signal_stands : (s : Script) (m : Machine) (client : ℕ) (r : Reply) (o : Optio
     → StandsAt s (client_goes_on (signals (answers m client r) o) client) (record st { clients = clients; journal = journal; replies = replies; fences = with_signal st.fences o })
 signal_stands s m client r None st clients journal replies made clients_stand recorded stands =
     stands_moved s m client (record m.records { replies = answered client (place_at m client).command (length m.records.journal) r ∷ m.records.replies }) m.device.world m.device.signalled m.events st clients journal replies st.made st.fences st.queues refl
-    clients_stand recorded stands.world stands.fences stands.fenced stands.queues stands
+    clients_stand recorded stands.world stands.fences stands.fenced (λ other there. there) stands.queues stands
 signal_stands s m client r (Some id) st clients journal replies made clients_stand recorded stands =
     stands_moved s m client (record m.records { replies = answered client (place_at m client).command (length m.records.journal) r ∷ m.records.replies }) m.device.world (id ∷ m.device.signalled) m.events st clients journal replies st.made
     (with_signal st.fences (Some id)) st.queues refl clients_stand recorded stands.world (fences.fence_signalled st.fences m.device.signalled id stands.fences)
-    (signalled_fenced m.device.world m.device.signalled st.fences id (made id refl) stands.fenced) stands.queues stands
+    (signalled_fenced m.device.world m.device.signalled st.fences id (made id refl) stands.fenced) (λ other there. still_made st.fences id other ∙ there) stands.queues stands
 
 -- a command that passes is a `signal`
 pub record IsSignal (c : Command) : Type 0 where
@@ -121,7 +122,7 @@ pub signals_one : (r v : Run) (st : Stores) (client : ℕ) (c : Command) (reply 
     → Stands (record { script = r.script; steps = steps }) (record st { clients = clients; journal = journal; replies = replies; fences = set })
 signals_one r v st client c reply clients journal replies set before steps stands same now has is more =
     let one = signal_is c has.found.passes in
-    goes_on r st (record st { clients = clients; journal = journal; replies = replies; fences = set }) (step.Signal client) steps (more ∙ ap (λ (xs : List Step). xs ++ step.Signal client ∷ []) is) stands
+    goes_on r st (record st { clients = clients; journal = journal; replies = replies; fences = set }) (step.Signal client) refl refl steps (more ∙ ap (λ (xs : List Step). xs ++ step.Signal client ∷ []) is) stands
     (subst (λ (w : Run). MaySignal w client) (sym same) now)
     (signalled_stands r st client one.label reply clients journal replies set stands (idle_signaller r v st client stands same now)
     (subst (λ x. HasSignalled r st client x reply clients journal replies set) one.is has))

@@ -12,6 +12,7 @@ use Rattle.kms_model.specs.Machine.State.{Machine, entry_at, place_at, request_a
 use Rattle.kms_model.specs.Request.Flags.{is_nonblock, wants_event}
 use Rattle.kms_clients.specs.InStep.{AreClientsOf, after_decision, after_swap}
 use Rattle.kms_clients.specs.Standing.{Standing}
+use Rattle.kms_tails.specs.StepLaws.{new_commit}
 use Rattle.kms_core.specs.Calls.{answered}
 use Rattle.std.specs.Prelude.{Some}
 
@@ -22,6 +23,7 @@ either_machine P false x y one other = other
 -- the parts that stay, the world, and what is recorded
 pub record SwapLeaves (s : Script) (old : Machine) (client : ℕ) (r : Request) (new : Machine) : Type 0 where
   pub world : new.device.world ≡ (committed s.topology old.device.world client r).world
+  pub commits : new.device.commits ≡ new_commit old client r ∷ old.device.commits
   pub go : new.device.go ≡ old.device.go
   pub signalled : new.device.signalled ≡ old.device.signalled
   pub marks : new.device.marks ≡ old.device.marks
@@ -36,12 +38,12 @@ swap_leaves s m client r is =
     rw is (elim (cases_Bool (wants_event r.flags)) [
       | inl event ↦ rw event (
           either_machine (SwapLeaves s m client r) (is_nonblock r.flags) _ _
-          (record { world = refl; go = refl; signalled = refl; marks = refl; latches = refl; journal = refl; replies = refl; stalled = refl })
-          (record { world = refl; go = refl; signalled = refl; marks = refl; latches = refl; journal = refl; replies = refl; stalled = refl }))
+          (record { world = refl; commits = refl; go = refl; signalled = refl; marks = refl; latches = refl; journal = refl; replies = refl; stalled = refl })
+          (record { world = refl; commits = refl; go = refl; signalled = refl; marks = refl; latches = refl; journal = refl; replies = refl; stalled = refl }))
       | inr none ↦ rw none (
           either_machine (SwapLeaves s m client r) (is_nonblock r.flags) _ _
-          (record { world = refl; go = refl; signalled = refl; marks = refl; latches = refl; journal = refl; replies = refl; stalled = refl })
-          (record { world = refl; go = refl; signalled = refl; marks = refl; latches = refl; journal = refl; replies = refl; stalled = refl }))
+          (record { world = refl; commits = refl; go = refl; signalled = refl; marks = refl; latches = refl; journal = refl; replies = refl; stalled = refl })
+          (record { world = refl; commits = refl; go = refl; signalled = refl; marks = refl; latches = refl; journal = refl; replies = refl; stalled = refl }))
     ])
 
 -- the client goes on, or waits for its commit

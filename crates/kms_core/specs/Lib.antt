@@ -7,3 +7,10 @@ pub mod Calls
 pub mod Decisions
 pub mod Swaps
 pub mod Settled
+pub mod Work
+pub mod Latching
+pub mod Judging
+pub mod Promises
+pub mod Next
+pub mod Freeing
+pub mod Needs

@@ -4,6 +4,9 @@ use Rattle.kms_model.specs.declared.objects.ObjId.{ObjId}
 use Rattle.kms_model.specs.declared.states.Both.{Both}
 use Rattle.kms_model.specs.declared.states.Duplicates.{Duplicates}
 use Rattle.kms_model.specs.declared.tables.Slot.{Slot}
+use Rattle.kms_model.specs.declared.worlds.Thing.{Thing}
+use Rattle.kms_model.specs.Device.World.{thing_labelled}
+use Rattle.kms_model.specs.Machine.Commits.{id_of_thing}
 use Rattle.kms_model.specs.Request.Flags.{wants_event}
 use Rattle.kms_model.specs.Stores.Tables.{slot}
 use Rattle.kms_things.specs.Starting.{alike}
@@ -44,6 +47,17 @@ label_in (f ∷ asked) crtc = if f.0.0 == crtc then Some f.1 else label_in asked
 -- those at each CRTC that a device can have, in order
 abbrev pub labels_in : List (ObjId × ℕ) → List (Option ℕ)
 labels_in asked = label_in asked 100 ∷ label_in asked 101 ∷ label_in asked 102 ∷ label_in asked 103 ∷ []
+
+-- the id of the thing that was made under a label, where one is asked for
+abbrev pub id_under : List Thing → Option ℕ → Option ℕ
+id_under things None = None
+id_under things (Some label) = id_of_thing (thing_labelled things label)
+
+-- the ids of those that were made under labels, one place for each CRTC that a device can have
+abbrev pub fences_under : List Thing → List (Option ℕ) → List (Option ℕ)
+fences_under things labels =
+    id_under things (slice_index_or labels 0 None) ∷ id_under things (slice_index_or labels 1 None)
+    ∷ id_under things (slice_index_or labels 2 None) ∷ id_under things (slice_index_or labels 3 None) ∷ []
 
 -- how many events a request with these flags, which names these CRTCs, asks for
 abbrev pub events_of : ℕ → ℕ → ℕ

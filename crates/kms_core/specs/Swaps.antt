@@ -10,6 +10,7 @@ use Rattle.kms_model.specs.declared.replies.Step.TheVariants as step
 use Rattle.kms_model.specs.declared.scripts.Request.{Request}
 use Rattle.kms_model.specs.declared.sets.Resolved.{Resolved}
 use Rattle.kms_model.specs.declared.states.Checked.{Checked}
+use Rattle.kms_model.specs.declared.states.Mask.{Mask}
 use Rattle.kms_model.specs.declared.worlds.Look.{Look}
 use Rattle.kms_model.specs.Device.Masks.{has_bit}
 use Rattle.kms_model.specs.Machine.Effects.{busy_reply}
@@ -104,10 +105,10 @@ abbrev pub busy_as : Option (ObjId × ℕ) → Option Reply
 busy_as None = None
 busy_as (Some p) = Some (reply.Busy p.0 p.1)
 
-abbrev pub late_told : Queue → Tracking → Checked → ℕ → Option Reply
-late_told q v checked flags =
-    if wants_event flags && nat_lt 4096 (space_used q + 32 * count_in checked.named) then Some (reply.Space (space_used q))
-    else (if is_nonblock flags then busy_as (busy_of v checked.touched) else None)
+abbrev pub late_told : Queue → Tracking → ℕ → Mask → ℕ → Option Reply
+late_told q v named touched flags =
+    if wants_event flags && nat_lt 4096 (space_used q + 32 * count_in named) then Some (reply.Space (space_used q))
+    else (if is_nonblock flags then busy_as (busy_of v touched) else None)
 
 -- an answer that is there, or another
 abbrev pub or_answer : Option Decided → Decided → Decided

@@ -1,24 +1,33 @@
 //! What a commit leaves in the stores.
-ghost use Rattle.std.specs.Prelude.{◌≡◌, ◌<◌, ◌≤◌, ◌+◌, ◌++◌, [], ◌∷◌, length, map, IfOk, OnOk, true, false};
+ghost use Rattle.std.specs.Prelude.{◌≡◌, ◌<◌, ◌≤◌, ◌+◌, ◌++◌, [], ◌∷◌, length, map, IfOk, IsSome, OnOk, Some, option_copied, true, false};
 ghost use Rattle.kms_model.specs.declared.replies.Step.TheVariants as step;
-ghost use Rattle.kms_model.specs.Machine.State.{Machine};
+ghost use Rattle.kms_model.specs.declared.scripts.Request.{Request};
+ghost use Rattle.kms_model.specs.Device.Serial.{command_of};
+ghost use Rattle.kms_model.specs.Machine.State.{Machine, request_in};
 ghost use Rattle.kms_model.specs.Request.Flags.{is_nonblock};
 ghost use Rattle.kms_model.specs.Stores.Tables.{AreBelow};
 ghost use Rattle.kms_clients.specs.InStep.{AreClientsOf, IsTaking, after_decision, after_swap};
 ghost use Rattle.kms_clients.specs.Standing.{IsClient, place_of};
 ghost use Rattle.kms_signal.specs.Queues.{HasSpace};
+ghost use Rattle.kms_tails.specs.InStep.{StandsAfterSwap, StandsAlike};
 ghost use Rattle.kms_track.specs.Tracking.{IsSetUp};
 ghost use Rattle.kms_core.specs.Run.{gains, if_ok, machine};
 ghost use Rattle.kms_core.specs.Swaps.{MayCommit};
-ghost use Rattle.kms_core.specs.Settled.{events_of, fences_for, label_in, labels_in, next_after};
+ghost use Rattle.kms_core.specs.Settled.{events_of, fences_for, fences_under, id_under, label_in, labels_in, next_after};
 
+use crate::commands::command_of;
 use crate::machine::Core;
 use crate::present::present_after;
-use crate::records::{answer, join, make_room};
+use crate::records::{answer, join, make_room, make_spare};
 use crate::swapping::{count_in, is_nonblock, wants_event};
 use kms_clients::Clients;
-use kms_model::{Checked, FIRST_CRTC_ID, MAX_CRTCS, NoMemory, ObjId, Reply, Resolved, Seq, Step};
+use kms_model::{
+    Checked, Command, FIRST_CRTC_ID, MAX_CRTCS, NoMemory, ObjId, Reply, Request, Resolved, Script,
+    Seq, Step,
+};
 use kms_signal::{EventQueue, Fences};
+use kms_tails::Tails;
+use kms_things::Things;
 use kms_track::Tracker;
 use std::alloc::Global;
 
@@ -39,12 +48,19 @@ impl Core {
     {
         let events = events_of(resolved.flags, checked.named);
         let labels = out_labels(resolved.out_fences.as_slice());
-        make_room(&mut self.steps, &mut self.journal, &mut self.replies)?;
+        make_room(
+            &mut self.steps,
+            &mut self.journal,
+            &mut self.replies,
+            &self.tails,
+        )?;
+        make_spare(&mut self.steps, &mut self.latches, &self.tails)?;
         make_tail_room(
             alloc,
             &mut self.fences,
             &mut self.queues[(client - 1) as usize],
             &mut self.tracker,
+            &mut self.tails,
             checked,
             &resolved.in_fences,
             events,
@@ -57,6 +73,17 @@ impl Core {
         reserve_events(alloc, &mut self.queues[(client - 1) as usize], events);
         let commit = set_up(alloc, &mut self.tracker, checked, &resolved.in_fences);
         let number = self.clients.place(client).command;
+        let out_fences = made_fences(&self.things, &labels);
+        keep_tail(
+            alloc,
+            &mut self.tails,
+            &self.script,
+            client,
+            number,
+            commit,
+            checked,
+            out_fences,
+        );
         let reply = Reply::Commit { commit };
         answer(&self.journal, &mut self.replies, client, number, reply);
         join(&mut self.journal, client, number, &reply);
@@ -64,6 +91,65 @@ impl Core {
         self.steps.push(Step::Swap { client });
         Ok(commit)
     }
+}
+
+/// The request that is the command of a client with a number, both counted from 1, where there is one.
+fn request_of(script: &Script, client: u32, command: u32) -> Option<&Request>
+    ensures { option_copied result
+        ≡ request_in (command_of script.now (record { client = client; command = command })) }
+{
+    match command_of(script, client, command) {
+        Some(Command::Atomic(request)) => Some(request),
+        _ => None,
+    }
+}
+
+/// The id of the thing that was made under a label, where there is one.
+fn made_fence(things: &Things, label: Option<u32>) -> Option<u32>
+    ensures { result ≡ id_under things.now.things label }
+{
+    Some(things.labelled(label?)?.id)
+}
+
+/// The ids of the out-fences that were made under labels, by place. (Kernel: "Explicit Fencing Properties",
+/// `OUT_FENCE_PTR`.)
+fn made_fences(things: &Things, labels: &[Option<u32>; 4]) -> [Option<u32>; 4]
+    ensures { result ≡ fences_under things.now.things labels.now }
+{
+    [
+        made_fence(things, labels[0]),
+        made_fence(things, labels[1]),
+        made_fence(things, labels[2]),
+        made_fence(things, labels[3]),
+    ]
+}
+
+/// Keeps the tail of a commit, for which there is room, of the request that is a client's command with a number. (Kernel:
+/// `drm_atomic_helper_swap_state`.)
+fn keep_tail(
+    alloc: Global,
+    tails: &mut Tails,
+    script: &Script,
+    client: u32,
+    number: u32,
+    commit: u32,
+    checked: &Checked,
+    out_fences: [Option<u32>; 4],
+)
+    requires there { IsSome (request_in
+        (command_of script.now (record { client = client; command = number }))) }
+    requires below { AreBelow commit tails.old.slots }
+    requires room { 0 < tails.old.room }
+    ensures { (r : Request)
+        → request_in (command_of script.now (record { client = client; command = number })) ≡ Some r
+        → StandsAfterSwap commit client r checked.now out_fences tails.old tails.new }
+{
+    let Some(request) = request_of(script, client, number) else {
+        unreachable!();
+    };
+    let Ok(()) = tails.push(alloc, commit, client, request, checked, out_fences) else {
+        unreachable!();
+    };
 }
 
 /// The label that is asked for at a CRTC, given by its id, where there is one.
@@ -145,6 +231,7 @@ pub(crate) fn make_tail_room(
     fences: &mut Fences,
     queue: &mut EventQueue,
     tracker: &mut Tracker,
+    tails: &mut Tails,
     checked: &Checked,
     in_fences: &Seq<(ObjId, u32)>,
     events: u32,
@@ -155,13 +242,16 @@ pub(crate) fn make_tail_room(
     ensures count { tracker.new.count ≡ tracker.old.count }
     ensures lasts { tracker.new.lasts ≡ tracker.old.lasts }
     ensures pending { tracker.new.pending.slots ≡ tracker.old.pending.slots }
+    ensures tails { StandsAlike tails.old tails.new }
     ensures fences_room { OnOk result (4 ≤ fences.new.room) }
     ensures events_room { OnOk result (events ≤ queue.new.room) }
-    ensures tail_room { OnOk result (0 < tracker.new.pending.room) }
+    ensures commit_room { OnOk result (0 < tracker.new.pending.room) }
+    ensures tail_room { OnOk result (0 < tails.new.room) }
 {
     fences.make_room(alloc, MAX_CRTCS)?;
     queue.make_room(alloc, events)?;
     tracker.make_room(alloc, checked, in_fences)?;
+    tails.make_room(alloc)?;
     Ok(())
 }
 

@@ -8,6 +8,7 @@ ghost use Rattle.kms_core.specs.Run.{Run, machine, gains, if_ok};
 ghost use Rattle.kms_core.specs.Locks.{MayBegin, MayLock, IsTaking, locked_answer, locked_as, lock_step, lock_steps, is_step, HasContext, MayBackOff, MayRelock, relocked_answer, relock_steps};
 
 use crate::machine::Core;
+use crate::records::make_step_room;
 use crate::states::present_state;
 use kms_model::{Doing, NoMemory, ObjId, ObjState, Step, Ticket};
 use kms_wwlock::{Lock, Relock};
@@ -51,7 +52,7 @@ impl Core {
         ensures ticket { IfOk result (λ t. t.0 ≡ (machine self.old).contexts.tickets) }
         ensures history { self.new ≡ gains self.old (if_ok result (λ t. step.Begin client ∷ [])) }
     {
-        self.steps.make_room(1)?;
+        make_step_room(&mut self.steps, &self.tails)?;
         let ticket = self.clients.begin(alloc, client)?;
         self.steps.push(Step::Begin { client });
         Ok(ticket)
@@ -68,7 +69,7 @@ impl Core {
             → self.new ≡ gains self.old (if_ok result (lock_steps client id)) }
         ensures unchanged { OnErr result (self.new ≡ self.old) }
     {
-        self.steps.make_room(1)?;
+        make_step_room(&mut self.steps, &self.tails)?;
         let Some(client) = self.clients.with_ticket(t) else {
             unreachable!();
         };
@@ -91,7 +92,7 @@ impl Core {
             → self.new ≡ gains self.old (if_ok result (λ u. step.BackOff client ∷ [])) }
         ensures unchanged { OnErr result (self.new ≡ self.old) }
     {
-        self.steps.make_room(1)?;
+        make_step_room(&mut self.steps, &self.tails)?;
         let Some(client) = self.clients.with_ticket(t) else {
             unreachable!();
         };
@@ -111,7 +112,7 @@ impl Core {
             → self.new ≡ gains self.old (if_ok result (relock_steps client)) }
         ensures unchanged { OnErr result (self.new ≡ self.old) }
     {
-        self.steps.make_room(1)?;
+        make_step_room(&mut self.steps, &self.tails)?;
         let Some(client) = self.clients.with_ticket(t) else {
             unreachable!();
         };

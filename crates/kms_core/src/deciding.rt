@@ -11,6 +11,7 @@ ghost use Rattle.kms_core.specs.Run.{gains, if_ok, machine};
 ghost use Rattle.kms_clients.specs.Standing.{doing_in};
 
 use crate::machine::Core;
+use crate::records::make_step_room;
 use kms_clients::Clients;
 use kms_model::{
     Answered, Assign, Checked, Doing, Look, Lookups, MAX_CLIENTS, NoMemory, ObjId, Refusal, Reply,
@@ -22,12 +23,14 @@ use std::alloc::Global;
 /// What a call that decides about a request answers.
 #[derive(Clone, Copy, Debug, PartialEq, Eq)]
 pub enum Decided {
-    /// The request is decided, with this reply.
+    /// The request is decided.
     Done {
+        /// The reply: tested, or the commit's number, or a refusal.
         reply: Reply,
     },
     /// An accepted request is refused: there is no space for its events, or it does not wait and is busy.
     Refused {
+        /// The reply: the space that is used, or the object and the commit that it is busy for.
         reply: Reply,
     },
     /// A commit has to wait for one before it on a CRTC. Nothing changed.
@@ -119,7 +122,7 @@ impl Core {
         requires { Decides self.old client step reply }
         ensures { self.new ≡ gains self.old (if_ok result (λ done. step ∷ [])) }
     {
-        self.steps.make_room(1)?;
+        make_step_room(&mut self.steps, &self.tails)?;
         self.replies.make_room(1)?;
         let command = self.clients.place(client).command;
         let place = self.journal.as_slice().len() as u64;

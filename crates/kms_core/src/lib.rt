@@ -1,21 +1,38 @@
 //! The machine: a display device with many clients, workers and vertical blankings.
 #![tactic(auto)]
 
+mod applying;
+mod client_steps;
 mod commands;
 mod committing;
 mod contexts;
 mod deciding;
+mod freeing;
+#[cfg(test)]
+mod freeing_tests;
+mod judging;
+mod latching;
+mod ledgers;
+mod legality;
 mod logs;
+mod lookers;
 mod machine;
 mod making;
+mod moving;
 mod present;
+mod promises;
 mod queries;
 mod reading;
 mod records;
+#[cfg(test)]
+mod request_tests;
+mod stalling;
 mod states;
 mod swapping;
+mod tail_steps;
 #[cfg(test)]
 mod tests;
+mod workers;
 
 pub use contexts::Locked;
 pub use deciding::Decided;

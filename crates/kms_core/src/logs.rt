@@ -1,5 +1,5 @@
 //! A list that grows into memory taken beforehand.
-ghost use Rattle.std.specs.Prelude.{◌≡◌, ◌<◌, ◌≤◌, ◌+◌, ◌∷◌, ◌++◌, [], OnOk, OnErr, IsOk};
+ghost use Rattle.std.specs.Prelude.{◌≡◌, ◌<◌, ◌≤◌, ◌+◌, ◌∷◌, ◌++◌, [], length, OnOk, OnErr, IsOk};
 
 use kms_model::NoMemory;
 use std::alloc::Global;
@@ -36,10 +36,18 @@ impl<T> Log<T> {
         ensures room { OnOk result (n ≤ self.new.room) }
         ensures kept { self.old.room ≤ self.new.room }
         ensures there { n ≤ self.old.room → IsOk result }
+        ensures fits { OnOk result (length self.new.items + n ≤ 18446744073709551615) }
         ensures err { OnErr result (self.new ≡ self.old) }
     {
         self.items.reserve(n)?;
         Ok(())
+    }
+
+    /// For how many further items there is memory.
+    pub fn room(&self) -> usize
+        ensures { result ≡ self.now.room }
+    {
+        self.items.capacity() - self.items.len()
     }
 
     /// The items, the oldest first.
@@ -56,6 +64,7 @@ impl<T: Drop> Log<T> {
         requires { 0 < self.old.room }
         ensures items { self.new.items ≡ self.old.items ++ item ∷ [] }
         ensures room { self.old.room ≤ self.new.room + 1 }
+        ensures fits { length self.new.items ≤ 18446744073709551615 }
     {
         let Ok(()) = self.items.push(item) else {
             unreachable!();

@@ -3,11 +3,13 @@ ghost use Rattle.std.specs.Prelude.{◌≡◌, ◌≤◌, IfOk, [], replicate};
 ghost use Rattle.kms_model.specs.Script.WellFormed.{IsWellFormed};
 ghost use Rattle.kms_signal.specs.Queues.{empty_queue};
 
+use crate::ledgers::Ledger;
 use crate::logs::Log;
 use kms_clients::Clients;
 use kms_model::{Answered, Duplicates, Latch, NoMemory, Script, Step};
 use kms_regs::RegFile;
 use kms_signal::{EventQueue, Fences};
+use kms_tails::Tails;
 use kms_things::{Things, start_states};
 use kms_track::Tracker;
 use std::alloc::Global;
@@ -29,21 +31,25 @@ pub struct Core {
     // The events of each client of the script.
     pub(crate) queues: Vec<EventQueue>,
     pub(crate) tracker: Tracker,
+    // What the tails of commits that are not cleaned still need.
+    pub(crate) tails: Tails,
     pub(crate) registers: RegFile,
     // The commit that each CRTC latches at its next vertical blanking.
     pub(crate) goes: [Option<u32>; 4],
     pub(crate) stalled: bool,
+    // The framebuffers that were freed, with a place for each that is needed.
+    pub(crate) freed: Ledger<(u32, u32)>,
 }
 
 impl Model for Core {
     ghost use Rattle.kms_core.specs.Run.{Run};
-    ghost use Rattle.kms_core.specs.Stands.{Stands};
+    ghost use Rattle.kms_core.specs.Stands.{Holds};
 
     ghost Value = { Run };
 
     ghost view = { λ c. record { script = c.script; steps = c.steps.items } };
 
-    ghost invariant = { λ c. Stands (record { script = c.script; steps = c.steps.items }) (record {
+    ghost invariant = { λ c. Holds (record { script = c.script; steps = c.steps.items }) (record {
       clients = c.clients;
       journal = c.journal;
       replies = c.replies;
@@ -53,10 +59,12 @@ impl Model for Core {
       fences = c.fences;
       queues = c.queues.items;
       tracker = c.tracker;
+      tails = c.tails;
       registers = c.registers;
       goes = c.goes;
       stalled = c.stalled;
-    }) };
+      freed = c.freed;
+    }) c.steps.room };
 }
 
 impl Core {
@@ -80,9 +88,11 @@ impl Core {
             fences: Fences::new(alloc),
             queues,
             tracker: Tracker::new(alloc),
+            tails: Tails::new(alloc),
             registers,
             goes: [None; 4],
             stalled: false,
+            freed: Ledger::new(alloc),
         })
     }
 }

@@ -12,6 +12,7 @@ ghost use Rattle.kms_core.specs.Calls.{MayMake, MaySignal, fence_of, reply_at, w
 ghost use Rattle.kms_core.specs.Run.{Run, machine, gains, if_ok};
 
 use crate::commands::command_of;
+use crate::freeing::account;
 use crate::machine::Core;
 use crate::records::{answer, join, make_room};
 use kms_model::{Command, NoMemory, Reply, Step};
@@ -28,8 +29,15 @@ impl Core {
         ensures reply { IfOk result (λ reply. reply ≡ reply_at self.old client) }
         ensures history { self.new ≡ gains self.old (if_ok result (λ reply. step.Make client ∷ [])) }
     {
-        make_room(&mut self.steps, &mut self.journal, &mut self.replies)?;
+        make_room(
+            &mut self.steps,
+            &mut self.journal,
+            &mut self.replies,
+            &self.tails,
+        )?;
         self.fences.make_room(alloc, 1)?;
+        self.freed.make_room()?;
+        let crtcs = self.script.topology.crtcs;
         let number = self.clients.place(client).command;
         let Some(command) = command_of(&self.script, client, number) else {
             unreachable!();
@@ -37,6 +45,16 @@ impl Core {
         let id = self.things.next_id();
         let reply = self.things.execute(alloc, client, command)?;
         make_fence(alloc, &mut self.fences, command, id);
+        account(
+            &mut self.freed,
+            &self.things,
+            &self.present,
+            &self.registers,
+            &self.tails,
+            crtcs,
+            command,
+            &reply,
+        );
         answer(&self.journal, &mut self.replies, client, number, reply);
         join(&mut self.journal, client, number, &reply);
         self.clients.go_on(client);
@@ -51,7 +69,12 @@ impl Core {
         ensures reply { IfOk result (λ reply. reply ≡ reply_at self.old client) }
         ensures history { self.new ≡ gains self.old (if_ok result (λ reply. step.Signal client ∷ [])) }
     {
-        make_room(&mut self.steps, &mut self.journal, &mut self.replies)?;
+        make_room(
+            &mut self.steps,
+            &mut self.journal,
+            &mut self.replies,
+            &self.tails,
+        )?;
         let number = self.clients.place(client).command;
         let Some(command) = command_of(&self.script, client, number) else {
             unreachable!();
@@ -90,7 +113,7 @@ fn fence_of(things: &Things, command: &Command, reply: &Reply) -> Option<u32>
 }
 
 /// Signals a fence, where there is one.
-fn signal_fence(fences: &mut Fences, id: Option<u32>)
+pub(crate) fn signal_fence(fences: &mut Fences, id: Option<u32>)
     ensures { fences.new ≡ with_signal fences.old id }
 {
     if let Some(id) = id {

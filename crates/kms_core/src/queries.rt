@@ -5,10 +5,14 @@ ghost use Rattle.kms_model.specs.Device.Objects.{object_id};
 ghost use Rattle.kms_model.specs.Device.States.{framebuffer_of};
 ghost use Rattle.kms_model.specs.Device.World.{thing_with_id};
 ghost use Rattle.kms_model.specs.Frames.Images.{image_of};
+ghost use Rattle.kms_model.specs.Machine.Framebuffers as framebuffers;
 ghost use Rattle.kms_model.specs.Machine.Histories as told;
 ghost use Rattle.kms_model.specs.Machine.Histories.{is_history};
 ghost use Rattle.kms_model.specs.Machine.State.{go_at, place_at};
+ghost use Rattle.kms_model.specs.Script.WellFormed.{IsWellFormed};
+ghost use Rattle.kms_laws.specs.TailsLeft.{all_left};
 ghost use Rattle.kms_core.specs.Calls.{idle_command_at};
+ghost use Rattle.kms_core.specs.Freeing.{label_and_id};
 ghost use Rattle.kms_core.specs.Run.{machine};
 ghost use Rattle.kms_core.specs.Stands.{entry_pair};
 
@@ -31,9 +35,10 @@ impl Core {
         self.steps.as_slice()
     }
 
-    /// The steps so far are a history of the script: each was legal after those before it.
+    /// The script is well formed, and the steps so far are a history of it: each was legal after those before it.
     pub fn is_a_history(&self)
-        ensures { is_history self.now.script self.now.steps ≡ true }
+        ensures formed { IsWellFormed self.now.script }
+        ensures history { is_history self.now.script self.now.steps ≡ true }
     {
         let _ = &self.script;
     }
@@ -59,6 +64,15 @@ impl Core {
         self.latches.as_slice()
     }
 
+    /// The framebuffers that were freed, in order of time, each by its label and its id; those of one step in order of id.
+    /// A framebuffer is freed by the step after which nothing needs it any more: it is closed, and no plane, no picture that
+    /// a CRTC shows and no commit that is not cleaned up names it. (Kernel: `drm_framebuffer_put`.)
+    pub fn freed(&self) -> &[(u32, u32)]
+        ensures { result.now ≡ map label_and_id (framebuffers.freed self.now.script self.now.steps) }
+    {
+        self.freed.as_slice()
+    }
+
     /// Where a client stands, given by its number from 1 to that of the clients. At its end it is idle at the number after
     /// its last command.
     pub fn place(&self, client: u32) -> Place
@@ -82,6 +96,14 @@ impl Core {
             Doing::Idle => command_of(&self.script, client, place.command),
             _ => None,
         }
+    }
+
+    /// For how many further steps, and latches, memory was taken: at least for all that the tails of commits which are not
+    /// cleaned have left, so that these take none.
+    pub fn spare(&self) -> usize
+        ensures { all_left self.now.script.topology (machine self.now) ≤ result }
+    {
+        self.steps.room().min(self.latches.room())
     }
 
     /// Whether the history was ended: no step is legal any more.

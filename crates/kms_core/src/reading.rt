@@ -4,7 +4,7 @@ ghost use Rattle.kms_core.specs.Calls.{MayRead, MayReturn, is_over_at, read_at, 
 ghost use Rattle.kms_core.specs.Run.{Run, machine, gains, if_ok};
 
 use crate::machine::Core;
-use crate::records::{answer, make_room};
+use crate::records::{answer, make_room, make_step_room};
 use kms_model::{Doing, NoMemory, Reply, Step};
 use kms_signal::EventQueue;
 
@@ -20,7 +20,12 @@ impl Core {
         let Some(reply) = next_reply(&self.queues[(client - 1) as usize]) else {
             return Ok(None);
         };
-        make_room(&mut self.steps, &mut self.journal, &mut self.replies)?;
+        make_room(
+            &mut self.steps,
+            &mut self.journal,
+            &mut self.replies,
+            &self.tails,
+        )?;
         let number = self.clients.place(client).command;
         let _ = self.queues[(client - 1) as usize].read();
         answer(&self.journal, &mut self.replies, client, number, reply);
@@ -43,7 +48,7 @@ impl Core {
         if !self.tracker.is_cleaned(commit) {
             return Ok(false);
         }
-        self.steps.make_room(1)?;
+        make_step_room(&mut self.steps, &self.tails)?;
         self.clients.go_on(client);
         self.steps.push(Step::Return { client });
         Ok(true)
@@ -51,7 +56,7 @@ impl Core {
 }
 
 /// What a `wait` is answered by a queue of events, where it does not have to wait.
-fn next_reply(queue: &EventQueue) -> Option<Reply>
+pub(crate) fn next_reply(queue: &EventQueue) -> Option<Reply>
     ensures { result ≡ read_reply queue.now.unread queue.now.reserved }
 {
     match queue.oldest() {

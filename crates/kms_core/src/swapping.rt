@@ -73,7 +73,13 @@ impl Core {
         ensures history { self.new ≡ gains self.old (if_ok result (hindered_steps client)) }
     {
         let queue = &self.queues[(client - 1) as usize];
-        if let Some(reply) = late_reply(queue, &self.tracker, checked, flags) {
+        if let Some(reply) = late_reply(
+            queue,
+            &self.tracker,
+            checked.named,
+            &checked.touched,
+            flags,
+        ) {
             self.decide(client, Step::Refuse { client }, reply)?;
             return Ok(Some(Decided::Refused { reply }));
         }
@@ -148,14 +154,15 @@ fn busy_reply(tracker: &Tracker, flags: u32, touched: &Mask) -> Option<Reply>
 pub(crate) fn late_reply(
     queue: &EventQueue,
     tracker: &Tracker,
-    checked: &Checked,
+    named: u32,
+    touched: &Mask,
     flags: u32,
 ) -> Option<Reply>
     requires { queue.now.reserved + length queue.now.unread ≤ 128 }
-    ensures { result ≡ late_told queue.now tracker.now checked.now flags }
+    ensures { result ≡ late_told queue.now tracker.now named touched.now flags }
 {
-    match space_reply(queue, flags, count_in(checked.named)) {
+    match space_reply(queue, flags, count_in(named)) {
         Some(reply) => Some(reply),
-        None => busy_reply(tracker, flags, &checked.touched),
+        None => busy_reply(tracker, flags, touched),
     }
 }

@@ -1,18 +1,25 @@
+ghost use Rattle.std.specs.Prelude.{IfOk};
+ghost use Rattle.kms_model.specs.Script.WellFormed.{IsWellFormed};
+
 use crate::committing::{events_of, make_fences, out_labels, reserve_events};
 use crate::deciding::{Stale, first_stale, taker};
+use crate::machine::Core;
 use crate::present::present_after;
 use crate::swapping::{count_in, late_reply};
 use kms_clients::Clients;
 use kms_model::{
-    Both, Checked, CrtcState, Duplicates, FIRST_CRTC_ID, Look, Lookups, Mask, NoMemory, ObjId,
-    Reply, Ticket,
+    Both, Command, CrtcState, Duplicates, FIRST_CRTC_ID, Kind, Look, Lookups, Mask, NoMemory,
+    ObjId, Reply, Script, Seq, Step, Ticket,
 };
+use kms_samples::single;
 use kms_signal::{EventQueue, Fences};
 use kms_things::Things;
 use kms_track::Tracker;
+use std::alloc::Global;
+use std::process::Abort;
 use std::test::Fail;
 
-fn no_states() -> Duplicates {
+pub(crate) fn no_states() -> Duplicates {
     Duplicates {
         crtcs: [None; 4],
         planes: [None; 16],
@@ -20,15 +27,11 @@ fn no_states() -> Duplicates {
     }
 }
 
-fn checked(named: u32) -> Checked {
-    Checked {
-        states: no_states(),
-        named,
-        touched: Mask {
-            crtcs: named,
-            planes: 0,
-            conns: 0,
-        },
+fn only_crtcs(crtcs: u32) -> Mask {
+    Mask {
+        crtcs,
+        planes: 0,
+        conns: 0,
     }
 }
 
@@ -69,7 +72,7 @@ fn an_empty_queue_has_space_and_nothing_is_busy(rt: HostRuntime) -> Result<(), F
     let queue = EventQueue::new(rt.alloc());
     let tracker = Tracker::new(rt.alloc());
     assert_eq!(rt;
-        late_reply(&queue, &tracker, &checked(0b1111), 0x201),
+        late_reply(&queue, &tracker, 0b1111, &only_crtcs(0b1111), 0x201),
         None::<Reply>
     );
     Ok(())
@@ -81,14 +84,17 @@ fn a_full_queue_has_no_space(rt: HostRuntime) -> Result<(), Fail> {
     let tracker = Tracker::new(rt.alloc());
     assert_eq!(rt; queue.reserve(rt.alloc(), 127), Ok(()));
     let full = Some(Reply::Space { used: 4064 });
-    assert_eq!(rt; late_reply(&queue, &tracker, &checked(0b11), 0x1), full);
     assert_eq!(rt;
-        late_reply(&queue, &tracker, &checked(0b1), 0x1),
+        late_reply(&queue, &tracker, 0b11, &only_crtcs(0b11), 0x1),
+        full
+    );
+    assert_eq!(rt;
+        late_reply(&queue, &tracker, 0b1, &only_crtcs(0b1), 0x1),
         None::<Reply>,
         "one fits"
     );
     assert_eq!(rt;
-        late_reply(&queue, &tracker, &checked(0b11), 0),
+        late_reply(&queue, &tracker, 0b11, &only_crtcs(0b11), 0),
         None::<Reply>,
         "no events"
     );
@@ -155,5 +161,109 @@ fn each_named_crtc_reserves_an_event(rt: HostRuntime) -> Result<(), NoMemory> {
     queue.make_room(rt.alloc(), 2)?;
     reserve_events(rt.alloc(), &mut queue, 2);
     assert_eq!(rt; queue.reserved(), 2);
+    Ok(())
+}
+
+/// A script of one client, which makes a fence, signals it and reads an event.
+fn fence_script(alloc: Global) -> Result<Script, NoMemory>
+    ensures { IfOk result IsWellFormed }
+{
+    let name = Seq::from_vec(Vec::from_array(alloc, [b'f'])?);
+    let commands = Vec::from_array(
+        alloc,
+        [
+            Command::Fence { label: 0 },
+            Command::Signal { label: 0 },
+            Command::Wait,
+        ],
+    )?;
+    Ok(Script {
+        version: 1,
+        topology: single(alloc)?,
+        names: Seq::from_vec(Vec::from_array(alloc, [name])?),
+        clients: Seq::from_vec(Vec::from_array(alloc, [Seq::from_vec(commands)])?),
+    })
+}
+
+/// Does steps one after the other, each of which is legal then.
+pub(crate) fn apply_all(
+    rt: &(impl Abort + AllocGlobal),
+    core: &mut Core,
+    steps: &[Step],
+) -> Result<(), NoMemory> {
+    for step in steps {
+        assert!(rt; core.legal(step), "it is legal");
+        core.apply(rt.alloc(), step)?;
+    }
+    Ok(())
+}
+
+/// Each kind of step where it is not legal at the start, of clients, objects and commits that are there and that are not.
+/// The one client is at a `make`.
+fn forbidden_first() -> [Step; 20] {
+    let kind = Kind::Crtc;
+    let (client, commit, index) = (1, 0, 0);
+    [
+        Step::Begin { client },
+        Step::Lock {
+            client,
+            kind,
+            index,
+        },
+        Step::BackOff { client },
+        Step::Relock { client },
+        Step::Refuse { client },
+        Step::Test { client },
+        Step::Swap { client },
+        Step::Make { client: 2 },
+        Step::Signal { client },
+        Step::Claim { commit },
+        Step::Write {
+            commit,
+            kind,
+            index,
+        },
+        Step::Flush {
+            commit,
+            kind,
+            index,
+        },
+        Step::HwDone { commit },
+        Step::Vblank { kind, index },
+        Step::Vblank { kind, index: 1 },
+        Step::Cleanup { commit },
+        Step::Read { client },
+        Step::Return { client },
+        Step::Return { client: 0 },
+        Step::Stall,
+    ]
+}
+
+#[test]
+fn steps_are_refused_where_they_do_not_belong(rt: HostRuntime) -> Result<(), NoMemory> {
+    let core = Core::new(rt.alloc(), fence_script(rt.alloc())?)?;
+    for step in &forbidden_first() {
+        assert!(rt; !core.legal(step), "{step:?}");
+    }
+    assert!(rt; core.legal(&Step::Make { client: 1 }));
+    assert!(rt; core.enabled());
+    assert!(rt; !core.drained());
+    assert_eq!(rt; core.stalled_on(), None);
+    Ok(())
+}
+
+#[test]
+fn a_history_goes_on_to_its_end(rt: HostRuntime) -> Result<(), NoMemory> {
+    let client = 1;
+    let mut core = Core::new(rt.alloc(), fence_script(rt.alloc())?)?;
+    let steps = [
+        Step::Make { client },
+        Step::Signal { client },
+        Step::Read { client },
+    ];
+    apply_all(&rt, &mut core, &steps)?;
+    assert_eq!(rt; core.history().len(), 3);
+    assert!(rt; core.drained());
+    assert!(rt; !core.enabled());
     Ok(())
 }

@@ -31,11 +31,11 @@ module _ (s : Script) (m : Machine) (H : Holds s m) where
     claimed : has_number m.device.marks.claimed k ≡ true
     claimed = (H.tail.marks.done k done).0
 
-    no_claim : may s m (Claim k) ≡ false
+    pub no_claim : may s m (Claim k) ≡ false
     unfolding may may_claim
     no_claim = and_right (nat_lt k (length m.device.commits)) _ (and_left _ _ (ap not claimed))
 
-    written-test : (o : ℕ) → IsIn o (registered s.topology) → (commit_touches s.topology m.device.commits k o && not (has_pair m.device.marks.written k o)) ≡ false
+    pub written-test : (o : ℕ) → IsIn o (registered s.topology) → (commit_touches s.topology m.device.commits k o && not (has_pair m.device.marks.written k o)) ≡ false
     written-test o io =
         false_from_ne_true (commit_touches s.topology m.device.commits k o && not (has_pair m.device.marks.written k o))
         (λ h. let two = and_parts (commit_touches s.topology m.device.commits k o) _ h in both_bools _ two.1 (ap not ((H.tail.marks.done k done).1 o io two.0)))
@@ -44,11 +44,11 @@ module _ (s : Script) (m : Machine) (H : Holds s m) where
     unfolding next_write
     none_to_write = find-none (λ object. commit_touches s.topology m.device.commits k object && not (has_pair m.device.marks.written k object)) (registered s.topology) written-test
 
-    no_write : (kind : Kind) (index : ℕ) → may s m (Write k kind index) ≡ false
+    pub no_write : (kind : Kind) (index : ℕ) → may s m (Write k kind index) ≡ false
     unfolding may
     no_write kind index = and_right (is_claimed m.device k) _ (and_right (exists s.topology kind index) _ (ap (has_value (object_id kind index)) none_to_write))
 
-    flushed-test : (c : ℕ) → IsIn c (ids_of s.topology Crtc) → (commit_names s.topology m.device.commits k c && not (has_pair m.device.marks.flushed k c)) ≡ false
+    pub flushed-test : (c : ℕ) → IsIn c (ids_of s.topology Crtc) → (commit_names s.topology m.device.commits k c && not (has_pair m.device.marks.flushed k c)) ≡ false
     flushed-test c ic =
         false_from_ne_true (commit_names s.topology m.device.commits k c && not (has_pair m.device.marks.flushed k c))
         (λ h. let two = and_parts (commit_names s.topology m.device.commits k c) _ h in both_bools _ two.1 (ap not (H.tail.marks.latched k c (H.tail.marks.cleaned k c clean ic two.0))))
@@ -57,19 +57,19 @@ module _ (s : Script) (m : Machine) (H : Holds s m) where
     unfolding next_flush
     none_to_flush = find-none (λ crtc. commit_names s.topology m.device.commits k crtc && not (has_pair m.device.marks.flushed k crtc)) (ids_of s.topology Crtc) flushed-test
 
-    no_flush : (kind : Kind) (index : ℕ) → may s m (Flush k kind index) ≡ false
+    pub no_flush : (kind : Kind) (index : ℕ) → may s m (Flush k kind index) ≡ false
     unfolding may
     no_flush kind index = and_right (is_all_written s.topology m.device k) _ (and_right (exists s.topology kind index) _ (ap (has_value (object_id kind index)) none_to_flush))
 
-    no_done : may s m (HwDone k) ≡ false
+    pub no_done : may s m (HwDone k) ≡ false
     unfolding may
     no_done = and_right (is_claimed m.device k) _ (and_right (is_all_written s.topology m.device k) _ (and_right (is_all_flushed s.topology m.device k) _ (ap not done)))
 
-    no_cleanup : may s m (Cleanup k) ≡ false
+    pub no_cleanup : may s m (Cleanup k) ≡ false
     unfolding may
     no_cleanup = and_right (is_hw_done m.device k) _ (and_right (is_all_latched s.topology m.device m.records.latches k) _ (ap not clean))
 
-    no_step : (step : Step) → IsIn step (steps_of_commit s.topology k) → may s m step ≡ false
+    pub no_step : (step : Step) → IsIn step (steps_of_commit s.topology k) → may s m step ≡ false
     no_step step (inl same) = subst (λ z. may s m z ≡ false) same no_claim
     no_step step (inr rest) =
         ⊎_elim

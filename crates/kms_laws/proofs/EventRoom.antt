@@ -7,10 +7,9 @@ use Rattle.kms_model.specs.declared.replies.Event.{Event}
 use Rattle.kms_model.specs.declared.scripts.Request.{Request}
 use Rattle.kms_model.specs.declared.scripts.Script.{Script}
 use Rattle.kms_model.specs.declared.objects.Kind.TheVariants.{Crtc}
-use Rattle.kms_model.specs.Device.Execution.{execute}
-use Rattle.kms_model.specs.Device.Objects.{ids_of, object_id}
+use Rattle.kms_model.specs.Device.Objects.{ids_of}
 use Rattle.kms_model.specs.Machine.Commits.{asks_event, commit_at, is_all_written}
-use Rattle.kms_model.specs.Machine.Effects.{answers, counts_vblank, event_of, goes_on, signals}
+use Rattle.kms_model.specs.Machine.Effects.{counts_vblank, event_of}
 use Rattle.kms_model.specs.Machine.Registers.{read}
 use Rattle.kms_model.specs.Machine.State.{Events, Machine, count_at, go_at, reserved_at, unread_at}
 use Rattle.kms_model.specs.Machine.Steps.{lacks_space, may_swap, space_used}
@@ -18,9 +17,9 @@ use Rattle.kms_model.specs.Request.Flags.{wants_event}
 use Rattle.kms_model.specs.Request.Named.{named}
 use Rattle.kms_model.proofs.Items.{IsIn}
 use Rattle.kms_laws.proofs.Basics.{both_bools, pair_now, read_other, read_same}
-use Rattle.kms_laws.proofs.EachStep.{Carries, by_bool, by_fence, by_latch, by_two, latched_as, made_as, swap-found, swapped_as}
+use Rattle.kms_laws.proofs.EachStep.{Carries, by_latch, by_two, latched_as, swap-found, swapped_as}
 use Rattle.kms_laws.proofs.EventsKept.{reserved_some}
-use Rattle.kms_laws.proofs.EventsOnce.{HasEvents}
+use Rattle.kms_laws.proofs.EventsOnce.{HasEvents, events_carried}
 use Rattle.kms_laws.proofs.Objects.{crtc_index}
 use Rattle.kms_laws.proofs.Steps.{Holds, IsFlush, flushed_at, flushed_holds, fresh-unlatched}
 use Rattle.kms_laws.proofs.Traversal.{latch_of}
@@ -105,27 +104,4 @@ module _ (s : Script) (m : Machine) (H : Holds s m) (E : HasEvents s m) (room : 
           (reserved_some H.tail k c (count_at m.device c + 1) (latch_of s.topology m.device k c (count_at m.device c + 1)) is pending.flushed pending.unlatched refl (crtc_index s.topology c H.tail.few is) refl m.events E asks)
 
   pub carries_room : Carries s m (λ step m2. HasRoom m2.events)
-  carries_room = record {
-    begins = λ client c e atomic idle. room;
-    takes = λ client kind index is_there lock free. room;
-    meets = λ client kind index holder is_there lock held. room;
-    backs = λ client back. room;
-    relocks = λ client object asked free. room;
-    refuses = λ client r e taking may. room;
-    tests = λ client r e taking may. room;
-    swaps = λ client r e taking may b w eb ew. swap_room client r may b w eb;
-    makes = λ client c e making idle b eb. by_bool (λ b. HasRoom (made_as b m client (execute s.topology m.device.world client c)).events) room room b;
-    signalled = λ client c e is_signal idle o. by_fence (λ o. HasRoom (goes_on (signals (answers m client (execute s.topology m.device.world client c).reply) o) client).events) room (λ fence. room) o;
-    read_none = λ client c e is_wait idle none. room;
-    read_one = λ client c e is_wait idle event events some. room_read m.events client event events some room;
-    claimed = λ k h. room;
-    written = λ k kind index found. room;
-    waits = λ k kind index written found. room;
-    flushed = λ k kind index written found b o eb eo. flush_room k (object_id kind index) written found b o eb;
-    done = λ k a b c d. room;
-    counted = λ kind index is none. room;
-    blanked = λ kind index k is some b o eb eo. vblank_room k (object_id kind index) is some b o eb;
-    cleaned = λ k a b c. room;
-    returned = λ client k e clean. room;
-    stalled = λ h. room;
-  }
+  carries_room = events_carried s m (λ cs ls ev. HasRoom ev) room swap_room (λ client event events some. room_read m.events client event events some room) flush_room vblank_room

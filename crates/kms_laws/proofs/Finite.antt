@@ -27,17 +27,18 @@ use Rattle.kms_model.proofs.Items.{IsIn}
 use Rattle.kms_model.proofs.TouchedLemmas.{few_objects}
 use Rattle.kms_laws.specs.Laws.{has_context}
 use Rattle.kms_laws.specs.Ends.{is_moving}
-use Rattle.kms_laws.specs.TailsLeft.{LeavesLess, commit_of_step, steps_left, tail_left}
+use Rattle.kms_laws.specs.TailsLeft.{LeavesLess, all_left, commit_of_step, steps_left, sum, tail_left}
 use Rattle.kms_laws.proofs.Basics.{pair_now, read_other, read_same}
 use Rattle.kms_laws.proofs.ClientProgress.{with_request}
 use Rattle.kms_laws.proofs.EachStep.{Carries, by_bool, by_fence, by_latch, by_two, each_step, latched_as, made_as, swapped_as}
 use Rattle.kms_laws.proofs.Falling.{back_step, meet_step, relock_step, take_step}
 use Rattle.kms_laws.proofs.Fitting.{back-busy, contended-busy, idle-busy, returning-busy, taking-busy}
 use Rattle.kms_laws.proofs.Framebuffers.{range-below}
+use Rattle.kms_laws.proofs.LeftInAll.{left_any, left_less}
 use Rattle.kms_laws.proofs.LockSteps.{lockable-has}
 use Rattle.kms_laws.proofs.Measure.{IsOwnStep, backoffs-below, contexts_left, own_step_less, phases-below, times-less}
 use Rattle.kms_laws.proofs.ShorterTails.{step_lowers, tails_short}
-use Rattle.kms_laws.proofs.Sizes.{IsThere, answered, begun_at, busy, command-there, ended_at, from_one-within, has_commands, length_of, place_of, sum, sum-last, sum-more, sum-most, sum-one}
+use Rattle.kms_laws.proofs.Sizes.{IsThere, answered, begun_at, busy, command-there, ended_at, from_one-within, has_commands, length_of, place_of, sum-last, sum-more, sum-most, sum-one}
 use Rattle.kms_laws.proofs.SmallNumbers.{Counted, answered-busy, few_commands}
 use Rattle.kms_laws.proofs.Stalled.{legal-going}
 use Rattle.kms_laws.proofs.Steps.{flushed_at, flushed_holds, taking-none}
@@ -207,9 +208,6 @@ range-above from zero k is = absurd is
 range-above from (suc n) k (inl same) = omega (arith, same)
 range-above from (suc n) k (inr rest) = let a = range-above (from + 1) n k rest in omega (arith, a)
 
-abbrev pub all_tails : Script → Machine → ℕ
-all_tails s m = sum (tail_left s.topology m) 0 (length m.device.commits)
-
 -- there are at most so many tickets
 abbrev pub most_tickets : Script → ℕ
 most_tickets s = length s.clients * 4097
@@ -225,7 +223,7 @@ abbrev pub one_unless : Bool → ℕ
 one_unless b = if b then 0 else 1
 
 abbrev pub rest_left : Script → Machine → ℕ
-rest_left s m = all_tails s m + (contexts_left s (most_tickets s) m.contexts + one_unless m.stalled)
+rest_left s m = all_left s.topology m + (contexts_left s (most_tickets s) m.contexts + one_unless m.stalled)
 
 abbrev pub left : Script → Machine → ℕ
 left s m = done_left s m * weight + rest_left s m
@@ -279,49 +277,31 @@ module _ (s : Script) (formed : IsWellFormed s) (m : Machine) (n : ℕ) (C : Cou
   lowers : (k : ℕ) → k < length m.device.commits → LeavesLess s.topology m m2 step k
   lowers k lt = subst (λ z. LeavesLess s.topology m z step k) (sym after) (step_lowers s m C.facts.holds step l k lt)
 
-  old_tails : sum (tail_left s.topology m2) 0 (length m.device.commits) ≤ all_tails s m
-  old_tails = sum-more (tail_left s.topology m2) (tail_left s.topology m) 0 (length m.device.commits) (λ k a b. (lowers k (omega (arith, b))).no_more)
-
-  tails-any : (length m2.device.commits ≡ length m.device.commits) ⊎ (length m2.device.commits ≡ suc (length m.device.commits)) → all_tails s m2 ≤ all_tails s m + 31
-  tails-any (inl e) = let a = ap (sum (tail_left s.topology m2) 0) e in let b = old_tails in omega (arith, a, b)
-  tails-any (inr e) =
-      let a = ap (sum (tail_left s.topology m2) 0) e in
-      let b = old_tails in
-      let c = sum-last (tail_left s.topology m2) 0 (length m.device.commits) in
-      let d = tails_short s.topology m2 (0 + length m.device.commits) counted-after.facts.holds.tail.few in
-      omega (arith, a, b, c, d)
-
-  tails-less : (k : ℕ) → k < length m.device.commits → commit_of_step m step ≡ Some k → length m2.device.commits ≡ length m.device.commits → all_tails s m2 + 1 ≤ all_tails s m
-  tails-less k lt of_k e =
-      let a = ap (sum (tail_left s.topology m2) 0) e in
-      let b = sum-one (tail_left s.topology m2) (tail_left s.topology m) k 0 (length m.device.commits) (λ j x y. (lowers j (omega (arith, y))).no_more) (let z = (lowers k lt).less of_k in omega (arith, z)) (omega arith) (omega (arith, lt)) in
-      omega (arith, a, b)
-
   pub falls-lower : Falls s m step m2 → left s m2 + 1 ≤ left s m
   falls-lower (Answers more commits) =
       let a = done-bound s formed m2 n2 counted-after in
       let less : done_left s m2 + 1 ≤ done_left s m = omega (arith, a, more) in
       let b = times-less (done_left s m2) (done_left s m) weight less in
-      let c = tails-any commits in
+      let c = left_any s m step m2 lowers C.facts.holds.tail.few commits in
       let d = contexts-bound s formed m2 n2 counted-after in
       let e = one_unless-most m2.stalled in
       omega (arith, b, c, d, e)
   falls-lower (Locks client more device records stalled own is_client) =
       let le : done_left s m2 ≤ done_left s m = omega (arith, more) in
       let a = mul-le-mul_right weight le in
-      let b : all_tails s m2 ≡ all_tails s m = (λ i. sum (steps_left s.topology (device i).commits (device i).marks (records i).latches) 0 (length (device i).commits)) in
+      let b : all_left s.topology m2 ≡ all_left s.topology m = (λ i. sum (steps_left s.topology (device i).commits (device i).marks (records i).latches) 0 (length (device i).commits)) in
       let c = own_step_less s m.contexts m2.contexts (length m.device.commits) client C.facts.locks own is_client (most_tickets s) (ticket-bound s formed m n C client own.ticket) (few_objects s.topology formed.device) formed.few (client-low client is_client) (client-high client is_client) in
       let d = ap one_unless stalled in
       omega (arith, a, b, c, d)
   falls-lower (Tails k lt of_k contexts commits stalled) =
       let a : done_left s m2 * weight ≡ done_left s m * weight = ap (λ (x : Contexts). (length s.clients * 12291 - all_done s x.places) * weight) contexts in
-      let b = tails-less k lt of_k (ap length commits) in
+      let b = left_less s m step m2 lowers k lt of_k (ap length commits) in
       let c = ap (contexts_left s (most_tickets s)) contexts in
       let d = ap one_unless stalled in
       omega (arith, a, b, c, d)
   falls-lower (Ends going same) =
-      let a : done_left s m2 * weight + (all_tails s m2 + contexts_left s (most_tickets s) m2.contexts) ≡ done_left s m * weight + (all_tails s m + contexts_left s (most_tickets s) m.contexts) =
-      ap (λ (z : Machine). done_left s z * weight + (all_tails s z + contexts_left s (most_tickets s) z.contexts)) same in
+      let a : done_left s m2 * weight + (all_left s.topology m2 + contexts_left s (most_tickets s) m2.contexts) ≡ done_left s m * weight + (all_left s.topology m + contexts_left s (most_tickets s) m.contexts) =
+      ap (λ (z : Machine). done_left s z * weight + (all_left s.topology z + contexts_left s (most_tickets s) z.contexts)) same in
       let b : one_unless m2.stalled ≡ 0 = ap (λ (z : Machine). one_unless z.stalled) same in
       let c : one_unless m.stalled ≡ 1 = ap one_unless going in
       omega (arith, a, b, c)

@@ -40,6 +40,7 @@ pub mod Stalled
 pub mod Resting
 pub mod RoundsEnd
 pub mod ShorterTails
+pub mod LeftInAll
 pub mod Sizes
 pub mod SmallNumbers
 pub mod Start

@@ -18,12 +18,12 @@ use Rattle.kms_model.specs.Machine.Steps.{ticket_of}
 use Rattle.kms_model.proofs.Items.{IsIn, filter-same}
 use Rattle.kms_model.proofs.TouchedLemmas.{HasFewObjects}
 use Rattle.kms_laws.specs.Laws.{has_context}
-use Rattle.kms_laws.specs.TailsLeft.{one_if}
+use Rattle.kms_laws.specs.TailsLeft.{one_if, sum}
 use Rattle.kms_laws.proofs.Basics.{both_bools}
 use Rattle.kms_laws.proofs.Contexts.{LocksStand, doing_in, holder_in}
 use Rattle.kms_laws.proofs.Quiet.{find-fails}
 use Rattle.kms_laws.proofs.ShorterTails.{filter-most}
-use Rattle.kms_laws.proofs.Sizes.{sum, sum-most, sum-one}
+use Rattle.kms_laws.proofs.Sizes.{sum-most, sum-one}
 use Rattle.kms_laws.proofs.Steps.{find-holds}
 
 pub times-less : (a b base : ℕ) → a + 1 ≤ b → a * base + base ≤ b * base

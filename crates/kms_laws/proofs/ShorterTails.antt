@@ -20,7 +20,7 @@ use Rattle.kms_model.specs.Machine.State.{Commit, Machine, Marks, count_at, go_a
 use Rattle.kms_model.specs.Machine.Steps.{may_claim}
 use Rattle.kms_model.proofs.Items.{IsIn, filter-same}
 use Rattle.kms_model.proofs.TouchedLemmas.{HasFewObjects}
-use Rattle.kms_laws.specs.TailsLeft.{LeavesLess, one_if, steps_left, tail_left, unflushed, unlatched, unwritten}
+use Rattle.kms_laws.specs.TailsLeft.{LeavesLess, commit_of_step, one_if, steps_left, tail_left, unflushed, unlatched, unwritten}
 use Rattle.kms_laws.proofs.Basics.{both_bools, number_more, number_now, pair_more, pair_now}
 use Rattle.kms_laws.proofs.EachStep.{Carries, IsWrite, by_bool, by_fence, by_latch, by_two, each_step, latched_as, made_as, swapped_as}
 use Rattle.kms_laws.proofs.Numbered.{names_old, touches_old}
@@ -167,6 +167,13 @@ module _ (s : Script) (m : Machine) (H : Holds s m) where
   abbrev Lowers : Step → Machine → Type 0
   Lowers step m2 = (k : ℕ) → k < length m.device.commits → LeavesLess s.topology m m2 step k
 
+  -- a step of a commit's tail makes nothing more to do, and takes one of its own
+  takes_one : (j : ℕ) (step : Step) (m2 : Machine) → commit_of_step m step ≡ Some j → ((k : ℕ) → tail_left s.topology m2 k ≤ tail_left s.topology m k) → tail_left s.topology m2 j < tail_left s.topology m j → Lowers step m2
+  takes_one j step m2 of no_more less k old = record {
+    no_more = no_more k;
+    less = λ e. let is : Some j ≡ Some k = sym of ∙ e in let same : j ≡ k = cc in subst (λ z. tail_left s.topology m2 z < tail_left s.topology m z) same less;
+  }
+
   swap_case : (client : ℕ) (r : Request) (b w : Bool) → Lowers (Swap client) (swapped_as s.topology b w m client r)
   swap_case client r b w k old = by_two (λ b w. LeavesLess s.topology m (swapped_as s.topology b w m client r) (Swap client) k) (now true true refl) (now true false refl) (now false true refl) (now false false refl) b w
     where
@@ -177,21 +184,15 @@ module _ (s : Script) (m : Machine) (H : Holds s m) where
       }
 
   claim_case : (j : ℕ) → may_claim s.topology m j ≡ true → Lowers (Claim j) (claims m j)
-  claim_case j h k old = record {
-    no_more = (let a = number-fewer j m.device.marks.claimed k in omega (arith, a));
-    less = λ e.
-        let same : j ≡ k = cc in
-        subst (λ z. tail_left s.topology (claims m j) z < tail_left s.topology m z) same (let a = number-less j m.device.marks.claimed (claim-fresh s.topology m j h) in omega (arith, a));
-  }
+  claim_case j h =
+      takes_one j (Claim j) (claims m j) refl (λ k. (let a = number-fewer j m.device.marks.claimed k in omega (arith, a)))
+      (let a = number-less j m.device.marks.claimed (claim-fresh s.topology m j h) in omega (arith, a))
 
   write_case : (j : ℕ) (kind : Kind) (index : ℕ) → IsWrite s.topology m.device j (object_id kind index) → Lowers (Write j kind index) (writes s.topology m j (object_id kind index))
-  write_case j kind index found k old = record {
-    no_more = (let a = written-fewer s.topology m.device.commits m.device.marks m.records.latches j (object_id kind index) k in omega (arith, a));
-    less = λ e.
-        let same : j ≡ k = cc in
-        subst (λ z. tail_left s.topology (writes s.topology m j (object_id kind index)) z < tail_left s.topology m z) same
-        (let a = written-less s.topology m.device.commits m.device.marks m.records.latches j (object_id kind index) found.is_registered found.touches found.fresh in omega (arith, a));
-  }
+  write_case j kind index found =
+      takes_one j (Write j kind index) (writes s.topology m j (object_id kind index)) refl
+      (λ k. (let a = written-fewer s.topology m.device.commits m.device.marks m.records.latches j (object_id kind index) k in omega (arith, a)))
+      (let a = written-less s.topology m.device.commits m.device.marks m.records.latches j (object_id kind index) found.is_registered found.touches found.fresh in omega (arith, a))
 
   abbrev after_flush : ℕ → ℕ → Bool → Option ℕ → Machine
   after_flush j c b o = latched_as s.topology b o (flushed_at m j c) j c (count_at m.device c)
@@ -256,20 +257,14 @@ module _ (s : Script) (m : Machine) (H : Holds s m) where
   count_case kind index none k old = record { no_more = omega arith; less = λ e. let bad : None ≡ Some k = sym none ∙ e in absurd cc }
 
   done_case : (j : ℕ) → has_number m.device.marks.done j ≡ false → Lowers (HwDone j) (record m { device = record m.device { marks = record m.device.marks { done = j ∷ m.device.marks.done } } })
-  done_case j fresh k old = record {
-    no_more = (let a = number-fewer j m.device.marks.done k in omega (arith, a));
-    less = λ e.
-        let same : j ≡ k = cc in
-        subst (λ z. tail_left s.topology (record m { device = record m.device { marks = record m.device.marks { done = j ∷ m.device.marks.done } } }) z < tail_left s.topology m z) same (let a = number-less j m.device.marks.done fresh in omega (arith, a));
-  }
+  done_case j fresh =
+      takes_one j (HwDone j) (record m { device = record m.device { marks = record m.device.marks { done = j ∷ m.device.marks.done } } }) refl
+      (λ k. (let a = number-fewer j m.device.marks.done k in omega (arith, a))) (let a = number-less j m.device.marks.done fresh in omega (arith, a))
 
   clean_case : (j : ℕ) → has_number m.device.marks.cleaned j ≡ false → Lowers (Cleanup j) (record m { device = record m.device { marks = record m.device.marks { cleaned = j ∷ m.device.marks.cleaned } } })
-  clean_case j fresh k old = record {
-    no_more = (let a = number-fewer j m.device.marks.cleaned k in omega (arith, a));
-    less = λ e.
-        let same : j ≡ k = cc in
-        subst (λ z. tail_left s.topology (record m { device = record m.device { marks = record m.device.marks { cleaned = j ∷ m.device.marks.cleaned } } }) z < tail_left s.topology m z) same (let a = number-less j m.device.marks.cleaned fresh in omega (arith, a));
-  }
+  clean_case j fresh =
+      takes_one j (Cleanup j) (record m { device = record m.device { marks = record m.device.marks { cleaned = j ∷ m.device.marks.cleaned } } }) refl
+      (λ k. (let a = number-fewer j m.device.marks.cleaned k in omega (arith, a))) (let a = number-less j m.device.marks.cleaned fresh in omega (arith, a))
 
   carries_lower : Carries s m (λ step m2. Lowers step m2)
   carries_lower = record {

@@ -9,13 +9,10 @@ use Rattle.kms_model.specs.declared.scripts.Command.{Command}
 use Rattle.kms_model.specs.declared.scripts.Script.{Script}
 use Rattle.kms_model.specs.Device.Serial.{Entry, command_of, from_one}
 use Rattle.kms_model.specs.Machine.Registers.{read}
+use Rattle.kms_laws.specs.TailsLeft.{sum}
 use Rattle.kms_laws.proofs.Basics.{read_other, read_same}
 
 -- Sums over clients
-
-abbrev pub sum : (ℕ → ℕ) → ℕ → ℕ → ℕ
-sum f from zero = 0
-sum f from (suc n) = f from + sum f (from + 1) n
 
 pub sum-more : (f g : ℕ → ℕ) (from n : ℕ) → ((c : ℕ) → from ≤ c → c < from + n → f c ≤ g c) → sum f from n ≤ sum g from n
 sum-more f g from zero h = omega arith

@@ -1,5 +1,5 @@
 -- What each step of a commit's tail keeps.
-use Rattle.std.proofs.Common.{◌≡◌, ℕ, zero, suc, ◌<◌, ◌≤◌, List, ◌∷◌, length, Bool, true, false, not, ◌&&◌, ◌||◌, ◌==◌, Option, Some, None, sym, ap, ◌∙◌, subst, arith, inl, inr, ◌⊎◌, ⊎_elim}
+use Rattle.std.proofs.Common.{◌≡◌, ℕ, zero, suc, ◌<◌, ◌≤◌, List, ◌∷◌, length, Bool, true, false, not, ◌&&◌, ◌||◌, ◌==◌, Option, Some, None, refl, sym, ap, ◌∙◌, subst, arith, inl, inr, ◌⊎◌, ⊎_elim}
 use Rattle.std.proofs.lemmas.Bool.{and_parts, or_cases, or_left, or_right, and_from, eqb-true, eq-eqb, ne_eqb, cases_Bool, cond-true, cond-false, cases_eq, cases_lt, false_from_ne_true}
 use Rattle.kms_model.specs.declared.objects.Kind.TheVariants.{Crtc, Plane, Conn}
 use Rattle.kms_model.specs.declared.objects.Topology.{Topology}
@@ -10,9 +10,16 @@ use Rattle.kms_model.specs.Machine.Registers.{Registers, crtc_register, plane_re
 use Rattle.kms_model.specs.Machine.State.{Commit, Marks}
 use Rattle.kms_model.proofs.Items.{IsIn, list_all-at}
 use Rattle.kms_laws.proofs.Basics.{both_bools, implied, in_either, in_left, in_right, number_cases, number_more, pair_cases, pair_more, pair_now, read_same, read_other}
-use Rattle.kms_laws.proofs.Invariants.{Edge, IsPending, IsSettled, IsWritten, Shows, Tail, WasFlushed, commit_picture, crtc_after, latched_at, picture_at, plane_after, shown}
+use Rattle.kms_laws.proofs.Invariants.{Edge, IsPending, IsSettled, IsWritten, MarksStand, OrderStands, ShadowStands, Shows, Tail, WasFlushed, commit_picture, crtc_after, latched_at, picture_at, plane_after, shown}
 use Rattle.kms_laws.proofs.Latching.{is_claimed_then, latched_before, none_after}
 use Rattle.kms_laws.proofs.Objects.{crtc_registered, names-touches}
+
+-- A step that writes nothing to registers
+
+tail_with : {t : Topology} {cs : List Commit} {ms : Marks} {sh : Registers} {go : List (ℕ × Option ℕ)} {ls : List Latch} (T : Tail t cs ms sh go ls) (more : Marks) (now : List (ℕ × Option ℕ)) (latches : List Latch)
+    → more.written ≡ ms.written → MarksStand t cs more now latches → OrderStands t cs more latches → ((c : ℕ) → Shows t cs latches c) → Tail t cs more sh now latches
+tail_with {t} {cs} {ms} {sh} {go} {ls} T more now latches same marks order shows =
+    record { few = T.few; commits = T.commits; marks = marks; order = order; shadow = subst (λ w. ShadowStands t cs w sh) (sym same) T.shadow; shows = shows }
 
 -- Claim
 
@@ -53,29 +60,25 @@ pub claim_kept : {t : Topology} {cs : List Commit} {ms : Marks} {sh : Registers}
     → ((o : ℕ) → IsIn o (lockable t) → commit_touches t cs k o ≡ true → is_settled t cs ms.done ls o (last_below (λ j. commit_touches t cs j o) k) ≡ true)
     → Tail t cs (record ms { claimed = k ∷ ms.claimed }) sh go ls
 claim_kept {t} {cs} {ms} {sh} {go} {ls} T k within settled =
-    record {
-      few = T.few;
-      commits = T.commits;
-      marks = record {
-        claimed = λ j e. ⊎_elim (λ (same : k ≡ j). subst (λ z. z < length cs) same within) (λ old. T.marks.claimed j old) (number_cases k ms.claimed j e);
-        written = λ j o e. let p = T.marks.written j o e in (number_more k ms.claimed j p.0, p.1);
-        flushed = T.marks.flushed;
-        done = λ j e. let p = T.marks.done j e in (number_more k ms.claimed j p.0, p.1);
-        latched = T.marks.latched;
-        go_is = T.marks.go_is;
-        clean_done = T.marks.clean_done;
-        cleaned = T.marks.cleaned;
-      };
-      order = record {
-        settled = λ i j o e l ob ti tj.
-            ⊎_elim
-            (λ (same : k ≡ i). settled_below T o ob k (settled o ob (ap (λ z. commit_touches t cs z o) same ∙ ti)) j (omega arith) tj)
-            (λ old. T.order.settled i j o old l ob ti tj)
-            (number_cases k ms.claimed i e);
-      };
-      shadow = T.shadow;
-      shows = T.shows;
-    }
+    tail_with T _ go ls refl
+    (record {
+      claimed = λ j e. ⊎_elim (λ (same : k ≡ j). subst (λ z. z < length cs) same within) (λ old. T.marks.claimed j old) (number_cases k ms.claimed j e);
+      written = λ j o e. let p = T.marks.written j o e in (number_more k ms.claimed j p.0, p.1);
+      flushed = T.marks.flushed;
+      done = λ j e. let p = T.marks.done j e in (number_more k ms.claimed j p.0, p.1);
+      latched = T.marks.latched;
+      go_is = T.marks.go_is;
+      clean_done = T.marks.clean_done;
+      cleaned = T.marks.cleaned;
+    })
+    (record {
+      settled = λ i j o e l ob ti tj.
+          ⊎_elim
+          (λ (same : k ≡ i). settled_below T o ob k (settled o ob (ap (λ z. commit_touches t cs z o) same ∙ ti)) j (omega arith) tj)
+          (λ old. T.order.settled i j o old l ob ti tj)
+          (number_cases k ms.claimed i e);
+    })
+    T.shows
 
 -- Write
 
@@ -166,48 +169,38 @@ module _ {t : Topology} {cs : List Commit} {ms : Marks} {sh : Registers} {go : L
 pub hw_done_kept : {t : Topology} {cs : List Commit} {ms : Marks} {sh : Registers} {go : List (ℕ × Option ℕ)} {ls : List Latch} (T : Tail t cs ms sh go ls) (k : ℕ)
     → has_number ms.claimed k ≡ true → IsWritten t cs ms.written k → Tail t cs (record ms { done = k ∷ ms.done }) sh go ls
 hw_done_kept {t} {cs} {ms} {sh} {go} {ls} T k claimed written =
-    record {
-      few = T.few;
-      commits = T.commits;
-      marks = record {
-        claimed = T.marks.claimed;
-        written = T.marks.written;
-        flushed = T.marks.flushed;
-        done = λ j e. ⊎_elim (λ (same : k ≡ j). subst (λ z. (has_number ms.claimed z ≡ true) × IsWritten t cs ms.written z) same (claimed, written)) (λ old. T.marks.done j old) (number_cases k ms.done j e);
-        latched = T.marks.latched;
-        go_is = T.marks.go_is;
-        clean_done = λ j e. number_more k ms.done j (T.marks.clean_done j e);
-        cleaned = T.marks.cleaned;
-      };
-      order = record { settled = λ i j o e l ob ti tj. let s = T.order.settled i j o e l ob ti tj in record { done = number_more k ms.done j s.done; flipped = s.flipped } };
-      shadow = T.shadow;
-      shows = T.shows;
-    }
+    tail_with T _ go ls refl
+    (record {
+      claimed = T.marks.claimed;
+      written = T.marks.written;
+      flushed = T.marks.flushed;
+      done = λ j e. ⊎_elim (λ (same : k ≡ j). subst (λ z. (has_number ms.claimed z ≡ true) × IsWritten t cs ms.written z) same (claimed, written)) (λ old. T.marks.done j old) (number_cases k ms.done j e);
+      latched = T.marks.latched;
+      go_is = T.marks.go_is;
+      clean_done = λ j e. number_more k ms.done j (T.marks.clean_done j e);
+      cleaned = T.marks.cleaned;
+    })
+    (record { settled = λ i j o e l ob ti tj. let s = T.order.settled i j o e l ob ti tj in record { done = number_more k ms.done j s.done; flipped = s.flipped } }) T.shows
 
 pub cleanup_kept : {t : Topology} {cs : List Commit} {ms : Marks} {sh : Registers} {go : List (ℕ × Option ℕ)} {ls : List Latch} (T : Tail t cs ms sh go ls) (k : ℕ)
     → has_number ms.done k ≡ true → ((c : ℕ) → IsIn c (ids_of t Crtc) → commit_names t cs k c ≡ true → has_latched ls k c ≡ true) → Tail t cs (record ms { cleaned = k ∷ ms.cleaned }) sh go ls
 cleanup_kept {t} {cs} {ms} {sh} {go} {ls} T k done all =
-    record {
-      few = T.few;
-      commits = T.commits;
-      marks = record {
-        claimed = T.marks.claimed;
-        written = T.marks.written;
-        flushed = T.marks.flushed;
-        done = T.marks.done;
-        latched = T.marks.latched;
-        go_is = T.marks.go_is;
-        clean_done = λ j e. ⊎_elim (λ (same : k ≡ j). ap (has_number ms.done) (sym same) ∙ done) (λ old. T.marks.clean_done j old) (number_cases k ms.cleaned j e);
-        cleaned = λ j c e i nm.
-            ⊎_elim
-            (λ (same : k ≡ j). ap (λ z. has_latched ls z c) (sym same) ∙ all c i (ap (λ z. commit_names t cs z c) same ∙ nm))
-            (λ old. T.marks.cleaned j c old i nm)
-            (number_cases k ms.cleaned j e);
-      };
-      order = record { settled = T.order.settled };
-      shadow = T.shadow;
-      shows = T.shows;
-    }
+    tail_with T _ go ls refl
+    (record {
+      claimed = T.marks.claimed;
+      written = T.marks.written;
+      flushed = T.marks.flushed;
+      done = T.marks.done;
+      latched = T.marks.latched;
+      go_is = T.marks.go_is;
+      clean_done = λ j e. ⊎_elim (λ (same : k ≡ j). ap (has_number ms.done) (sym same) ∙ done) (λ old. T.marks.clean_done j old) (number_cases k ms.cleaned j e);
+      cleaned = λ j c e i nm.
+          ⊎_elim
+          (λ (same : k ≡ j). ap (λ z. has_latched ls z c) (sym same) ∙ all c i (ap (λ z. commit_names t cs z c) same ∙ nm))
+          (λ old. T.marks.cleaned j c old i nm)
+          (number_cases k ms.cleaned j e);
+    })
+    (record { settled = T.order.settled }) T.shows
 
 -- A latch
 
@@ -289,82 +282,60 @@ module _ {t : Topology} {cs : List Commit} {ms : Marks} {sh : Registers} {go : L
 
   pub latch_kept : (read None go c ≡ Some k → ⊥) → Tail t cs ms sh go (l ∷ ls)
   latch_kept waits =
-      record {
-        few = T.few;
-        commits = T.commits;
-        marks = record {
-          claimed = T.marks.claimed;
-          written = T.marks.written;
-          flushed = T.marks.flushed;
-          done = T.marks.done;
-          latched = λ j d e.
-              ⊎_elim (λ (same : (l.commit ≡ j) × (object_id Crtc l.crtc ≡ d)). (λ i. has_pair ms.flushed ((sym same.0 ∙ of_k) i) ((sym same.1 ∙ at_c) i)) ∙ F) (λ old. T.marks.latched j d old) (latch_cases l ls j d e);
-          go_is = λ j d e.
-              let p = T.marks.go_is j d e in
-              record {
-                flushed = p.flushed;
-                unlatched = false_from_ne_true _ (λ y.
-                    ⊎_elim
-                    (λ (same : (l.commit ≡ j) × (object_id Crtc l.crtc ≡ d)). waits (ap (read None go) (sym at_c ∙ same.1) ∙ e ∙ ap Some (sym same.0 ∙ of_k)))
-                    (λ old. both_bools _ old p.unlatched)
-                    (latch_cases l ls j d y));
-              };
-          clean_done = T.marks.clean_done;
-          cleaned = λ j d e id nm. latch_more l ls j d (T.marks.cleaned j d e id nm);
-        };
-        order = record { settled = λ a j o e m ob ta tj. more_latched t cs ms.done l ls j o (T.order.settled a j o e m ob ta tj) };
-        shadow = T.shadow;
-        shows = λ d. ⊎_elim (λ (same : c ≡ d). subst (Shows t cs (l ∷ ls)) same shows_now) (λ ne. shows_other d ne) (cases_eq c d);
-      }
+      tail_with T ms go (l ∷ ls) refl
+      (record {
+        claimed = T.marks.claimed;
+        written = T.marks.written;
+        flushed = T.marks.flushed;
+        done = T.marks.done;
+        latched = λ j d e.
+            ⊎_elim (λ (same : (l.commit ≡ j) × (object_id Crtc l.crtc ≡ d)). (λ i. has_pair ms.flushed ((sym same.0 ∙ of_k) i) ((sym same.1 ∙ at_c) i)) ∙ F) (λ old. T.marks.latched j d old) (latch_cases l ls j d e);
+        go_is = λ j d e.
+            let p = T.marks.go_is j d e in
+            record {
+              flushed = p.flushed;
+              unlatched = false_from_ne_true _ (λ y.
+                  ⊎_elim
+                  (λ (same : (l.commit ≡ j) × (object_id Crtc l.crtc ≡ d)). waits (ap (read None go) (sym at_c ∙ same.1) ∙ e ∙ ap Some (sym same.0 ∙ of_k)))
+                  (λ old. both_bools _ old p.unlatched)
+                  (latch_cases l ls j d y));
+            };
+        clean_done = T.marks.clean_done;
+        cleaned = λ j d e id nm. latch_more l ls j d (T.marks.cleaned j d e id nm);
+      })
+      (record { settled = λ a j o e m ob ta tj. more_latched t cs ms.done l ls j o (T.order.settled a j o e m ob ta tj) })
+      (λ d. ⊎_elim (λ (same : c ≡ d). subst (Shows t cs (l ∷ ls)) same shows_now) (λ ne. shows_other d ne) (cases_eq c d))
 
 -- Flush
 
 pub flushed_kept : {t : Topology} {cs : List Commit} {ms : Marks} {sh : Registers} {go : List (ℕ × Option ℕ)} {ls : List Latch} (T : Tail t cs ms sh go ls) (k c : ℕ)
     → IsIn c (ids_of t Crtc) → IsWritten t cs ms.written k → commit_names t cs k c ≡ true → Tail t cs (record ms { flushed = (k, c) ∷ ms.flushed }) sh go ls
 flushed_kept {t} {cs} {ms} {sh} {go} {ls} T k c is_crtc written names =
-    record {
-      few = T.few;
-      commits = T.commits;
-      marks = record {
-        claimed = T.marks.claimed;
-        written = T.marks.written;
-        flushed = λ j d e.
-            ⊎_elim
-            (λ (same : (k ≡ j) × (c ≡ d)).
-            subst (λ z. WasFlushed t cs ms.written z d) same.0 (subst (λ z. WasFlushed t cs ms.written k z) same.1 (record { is_crtc = is_crtc; names = names; written = written })))
-            (λ old. T.marks.flushed j d old)
-            (pair_cases k c ms.flushed j d e);
-        done = T.marks.done;
-        latched = λ j d e. pair_more k c ms.flushed j d (T.marks.latched j d e);
-        go_is = λ j d e. let p = T.marks.go_is j d e in record { flushed = pair_more k c ms.flushed j d p.flushed; unlatched = p.unlatched };
-        clean_done = T.marks.clean_done;
-        cleaned = T.marks.cleaned;
-      };
-      order = record { settled = T.order.settled };
-      shadow = T.shadow;
-      shows = T.shows;
-    }
+    tail_with T _ go ls refl
+    (record {
+      claimed = T.marks.claimed;
+      written = T.marks.written;
+      flushed = λ j d e.
+          ⊎_elim
+          (λ (same : (k ≡ j) × (c ≡ d)).
+          subst (λ z. WasFlushed t cs ms.written z d) same.0 (subst (λ z. WasFlushed t cs ms.written k z) same.1 (record { is_crtc = is_crtc; names = names; written = written })))
+          (λ old. T.marks.flushed j d old)
+          (pair_cases k c ms.flushed j d e);
+      done = T.marks.done;
+      latched = λ j d e. pair_more k c ms.flushed j d (T.marks.latched j d e);
+      go_is = λ j d e. let p = T.marks.go_is j d e in record { flushed = pair_more k c ms.flushed j d p.flushed; unlatched = p.unlatched };
+      clean_done = T.marks.clean_done;
+      cleaned = T.marks.cleaned;
+    })
+    (record { settled = T.order.settled }) T.shows
 
 -- other vertical blankings are waited for
 with_go : {t : Topology} {cs : List Commit} {ms : Marks} {sh : Registers} {go : List (ℕ × Option ℕ)} {ls : List Latch} (T : Tail t cs ms sh go ls) (now : List (ℕ × Option ℕ))
     → ((j d : ℕ) → read None now d ≡ Some j → IsPending ms.flushed ls j d) → Tail t cs ms sh now ls
-with_go T now go_is = record {
-  few = T.few;
-  commits = T.commits;
-  marks = record {
-    claimed = T.marks.claimed;
-    written = T.marks.written;
-    flushed = T.marks.flushed;
-    done = T.marks.done;
-    latched = T.marks.latched;
-    go_is = go_is;
-    clean_done = T.marks.clean_done;
-    cleaned = T.marks.cleaned;
-  };
-  order = T.order;
-  shadow = T.shadow;
-  shows = T.shows;
-}
+with_go {t} {cs} {ms} {sh} {go} {ls} T now go_is =
+    let was = T.marks in
+    tail_with T ms now ls refl
+    (record { claimed = was.claimed; written = was.written; flushed = was.flushed; done = was.done; latched = was.latched; go_is = go_is; clean_done = was.clean_done; cleaned = was.cleaned }) T.order T.shows
 
 pub go_kept : {t : Topology} {cs : List Commit} {ms : Marks} {sh : Registers} {go : List (ℕ × Option ℕ)} {ls : List Latch} (T : Tail t cs ms sh go ls) (k c : ℕ)
     → has_pair ms.flushed k c ≡ true → has_latched ls k c ≡ false → Tail t cs ms sh ((c, Some k) ∷ go) ls

@@ -1,6 +1,6 @@
 //! How large the numbers of a history become, and how much of a commit is left to do.
 ghost use Rattle.kms_laws.specs.Numbers.{AllNumbersFit};
-ghost use Rattle.kms_laws.specs.TailsLeft.{TailsAreShort, TailsGetShorter};
+ghost use Rattle.kms_laws.specs.TailsLeft.{AllTailsGetShorter, CleanedTailsAreOver, TailsAreShort, TailsGetShorter};
 
 /// The numbers of each history fit their types: there are at most 65536 commits, tickets, accepted commands and replies; ids
 /// are at most 1000 + 4 * 65536; a CRTC's count is at most the number of steps, so it fits where that does; and a client
@@ -18,4 +18,11 @@ pub fn tails_are_short()
 /// tail to do, and no step makes more of any tail of a commit that is there.
 pub fn tails_get_shorter()
     ensures { TailsGetShorter }
+{}
+
+/// Of what is left of all tails each step of a tail, and each vertical blanking of a CRTC that has GO, leaves less; a swap
+/// makes at most 31 steps more, and no other step makes more. Nothing is left of a commit that is cleaned.
+pub fn all_tails_get_shorter()
+    ensures all { AllTailsGetShorter }
+    ensures cleaned { CleanedTailsAreOver }
 {}

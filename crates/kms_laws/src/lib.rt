@@ -1,5 +1,6 @@
 //! The laws of the machine: what holds of every history of every script, proved over the definitions alone. Each is the
-//! contract of a function that does nothing; since no function has a body, no edit of one can say anything.
+//! contract of a function that does nothing. So the edits that must be refused are not of bodies, but of the statements and
+//! of the rules beside which they are false (must-fail/).
 #![tactic(auto)]
 
 mod bounds;
@@ -7,7 +8,9 @@ mod ends;
 mod headline;
 mod locks;
 
-pub use bounds::{numbers_fit_their_types, tails_are_short, tails_get_shorter};
+pub use bounds::{
+    all_tails_get_shorter, numbers_fit_their_types, tails_are_short, tails_get_shorter,
+};
 pub use ends::{
     finished_histories_are_over, generated_scripts_drain, generated_scripts_never_stall,
     histories_have_few_moves, one_is_over, rounds_are_still_at_ends, rounds_end,

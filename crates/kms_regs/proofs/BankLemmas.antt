@@ -11,7 +11,7 @@ use Rattle.kms_model.specs.declared.objects.Kind.TheVariants.{Crtc, Plane}
 use Rattle.kms_model.specs.declared.objects.Topology.{Topology}
 use Rattle.kms_model.specs.Machine.Registers.{CrtcWords, PlaneWords, Registers, copied_planes, crtc_register, first_crtc_words, first_plane_words, first_registers, is_copied, latched_registers, plane_register, read, write_crtc, write_plane}
 use Rattle.kms_regs.specs.Words.{ReadSame, bank_of, latched_plane}
-use Rattle.kms_regs.proofs.Rows.{read-set, read-with_ids, read_here, read_past}
+use Rattle.kms_regs.proofs.Rows.{four_alike, read-set, read-with_ids, read_here, read_past}
 
 -- what stands at an index is what is read
 pub plane_at : (planes : List PlaneWords) (crtcs : List CrtcWords) (r : Registers) (index : ℕ) (d : PlaneWords) → bank_of planes crtcs ≡ r → index < length planes
@@ -102,31 +102,29 @@ latched_next shadow live now new crtc n h same =
 abbrev planes_from : ℕ → ℕ → List ℕ
 planes_from from n = map (object_id Plane) (range_with_len from n)
 
--- what the definition's latch copies
-pub kept-copied : (shadow live : Registers) (crtc from n i : ℕ) (d : PlaneWords) → is_copied shadow live crtc (object_id Plane i) ≡ false
+-- what the definition's latch copies: it leaves alone a plane that is none of those which it copies
+copied_apart : (shadow live : Registers) (crtc from n i : ℕ) (d : PlaneWords) → ((j : ℕ) → from ≤ j → j < from + n → is_copied shadow live crtc (object_id Plane j) ≡ true → j ≡ i → ⊥)
     → read d (copied_planes shadow live crtc (planes_from from n)) (object_id Plane i) ≡ read d live.planes (object_id Plane i)
 unfolding copied_planes
-kept-copied shadow live crtc from zero i d not = refl
-kept-copied shadow live crtc from (suc n) i d not =
+copied_apart shadow live crtc from zero i d apart = refl
+copied_apart shadow live crtc from (suc n) i d apart =
+    let rest = copied_apart shadow live crtc (from + 1) n i d (λ j low high on same. apart j (omega (arith, low)) (omega (arith, high)) on same) in
     elim (cases_Bool (is_copied shadow live crtc (object_id Plane from))) [
       | inl on_it ↦ rw on_it (
           read_past d (plane_register shadow (object_id Plane from)) (copied_planes shadow live crtc (planes_from (from + 1) n)) (object_id Plane from) (object_id Plane i)
-          (λ e. (let same : from ≡ i = omega (arith, e) in absurd (false≢true (sym not ∙ ap (λ (k : ℕ). is_copied shadow live crtc (object_id Plane k)) (sym same) ∙ on_it))))
-          ∙ kept-copied shadow live crtc (from + 1) n i d not)
-      | inr off_it ↦ rw off_it (kept-copied shadow live crtc (from + 1) n i d not)
+          (λ e. apart from (omega arith) (omega arith) on_it (omega (arith, e)))
+          ∙ rest)
+      | inr off_it ↦ rw off_it rest
     ]
+
+pub kept-copied : (shadow live : Registers) (crtc from n i : ℕ) (d : PlaneWords) → is_copied shadow live crtc (object_id Plane i) ≡ false
+    → read d (copied_planes shadow live crtc (planes_from from n)) (object_id Plane i) ≡ read d live.planes (object_id Plane i)
+kept-copied shadow live crtc from n i d not =
+    copied_apart shadow live crtc from n i d (λ j low high on same. absurd (false≢true (sym not ∙ ap (λ (k : ℕ). is_copied shadow live crtc (object_id Plane k)) (sym same) ∙ on)))
 
 pub later-copied : (shadow live : Registers) (crtc from n i : ℕ) (d : PlaneWords) → from + n ≤ i
     → read d (copied_planes shadow live crtc (planes_from from n)) (object_id Plane i) ≡ read d live.planes (object_id Plane i)
-unfolding copied_planes
-later-copied shadow live crtc from zero i d past = refl
-later-copied shadow live crtc from (suc n) i d past =
-    elim (cases_Bool (is_copied shadow live crtc (object_id Plane from))) [
-      | inl on_it ↦ rw on_it (
-          read_past d (plane_register shadow (object_id Plane from)) (copied_planes shadow live crtc (planes_from (from + 1) n)) (object_id Plane from) (object_id Plane i) (λ e. absurd (omega (arith, e, past)))
-          ∙ later-copied shadow live crtc (from + 1) n i d (omega (arith, past)))
-      | inr off_it ↦ rw off_it (later-copied shadow live crtc (from + 1) n i d (omega (arith, past)))
-    ]
+later-copied shadow live crtc from n i d past = copied_apart shadow live crtc from n i d (λ j low high on same. absurd (omega (arith, high, same, past)))
 
 pub copied-copied : (shadow live : Registers) (crtc from n i : ℕ) (d : PlaneWords) → from ≤ i → i < from + n → is_copied shadow live crtc (object_id Plane i) ≡ true
     → read d (copied_planes shadow live crtc (planes_from from n)) (object_id Plane i) ≡ plane_register shadow (object_id Plane i)
@@ -189,13 +187,6 @@ pub record AreFirst (planes : List PlaneWords) (n : ℕ) : Type 0 where
   pub long : length planes ≡ 16
   pub first : (i : ℕ) → i < n → get_or planes i (first_plane_words (object_id Plane i)) ≡ first_plane_words (object_id Plane i)
 
-first_crtc : (i : ℕ) → get_or (first_crtc_words ∷ first_crtc_words ∷ first_crtc_words ∷ first_crtc_words ∷ []) i first_crtc_words ≡ first_crtc_words
-first_crtc zero = refl
-first_crtc (suc zero) = refl
-first_crtc (suc (suc zero)) = refl
-first_crtc (suc (suc (suc zero))) = refl
-first_crtc (suc (suc (suc (suc i)))) = refl
-
 -- one plane more
 pub first_next : (planes : List PlaneWords) (n : ℕ) (x : PlaneWords) → AreFirst planes n → n < 16 → x ≡ first_plane_words (object_id Plane n) → AreFirst (slice_set planes n x) (n + 1)
 first_next planes n x h low is = record {
@@ -215,5 +206,5 @@ first_all planes n x h all is = record {
     | inr past ↦ get_or-eq_default planes (first_plane_words (object_id Plane i)) (omega (arith, h.long, past))
   ]);
   crtcs = λ i. sym (ap (λ (w : CrtcWords). crtc_register (bank_of planes (w ∷ w ∷ w ∷ w ∷ [])) (object_id Crtc i)) is
-      ∙ read-with_ids first_crtc_words (first_crtc_words ∷ first_crtc_words ∷ first_crtc_words ∷ first_crtc_words ∷ []) (object_id Crtc 0) i (object_id Crtc i) refl ∙ first_crtc i);
+      ∙ read-with_ids first_crtc_words (first_crtc_words ∷ first_crtc_words ∷ first_crtc_words ∷ first_crtc_words ∷ []) (object_id Crtc 0) i (object_id Crtc i) refl ∙ four_alike first_crtc_words i);
 }

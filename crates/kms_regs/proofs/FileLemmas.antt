@@ -1,5 +1,5 @@
 -- A register file goes on standing for the device, call by call.
-use Rattle.std.proofs.Common.{◌≡◌, ◌≢◌, ℕ, ◌+◌, ◌<◌, Bool, true, false, List, [], ◌∷◌, length, get_or, Some, None, is_some, arith, refl, sym, ap, ◌∙◌, subst, inl, inr, zero, suc, if◌then◌else◌}
+use Rattle.std.proofs.Common.{◌≡◌, ◌≢◌, ℕ, ◌+◌, ◌<◌, Bool, true, false, List, [], ◌∷◌, length, get_or, Some, None, is_some, arith, refl, sym, ap, ◌∙◌, subst, inl, inr, if◌then◌else◌}
 use Rattle.std.specs.Prelude.{not, slice_set}
 use Rattle.std.proofs.lemmas.Bool.{cases_eq}
 use Rattle.kms_model.specs.Device.Objects.{object_id}
@@ -18,7 +18,7 @@ use Rattle.kms_regs.specs.Rewritten.{rewrite_crtc, rewrite_plane, rewritten_crtc
 use Rattle.kms_regs.specs.StepLaws.{RewritesCrtc, RewritesPlane, WritesCrtc, WritesPlane}
 use Rattle.kms_regs.proofs.Pictured.{decoded_off}
 use Rattle.kms_regs.proofs.RewrittenWords.{crtc_old, plane_old}
-use Rattle.kms_regs.proofs.Rows.{other_id, read-set, read-with_ids, read_here, read_past, same_id}
+use Rattle.kms_regs.proofs.Rows.{four_alike, other_id, read-set, read-with_ids, read_here, read_past, same_id}
 use Rattle.kms_regs.proofs.SameWords.{same_after, same_decoded, same_latched, same_write_crtc, same_write_plane}
 
 -- a register file that is opened
@@ -70,22 +70,9 @@ started t planes s l first of_device shadow live = record {
   planes = of_device;
   shadow_words = shadow;
   live_words = live;
-  goes = λ i. sym (read-with_ids false (false ∷ false ∷ false ∷ false ∷ []) (object_id Crtc 0) i (object_id Crtc i) refl ∙ no_go i);
-  counted = λ i. sym (read-with_ids 0 no_counts (object_id Crtc 0) i (object_id Crtc i) refl ∙ no_count i);
-} where
-  no_go : (i : ℕ) → get_or (false ∷ false ∷ false ∷ false ∷ []) i false ≡ false
-  no_go zero = refl
-  no_go (suc zero) = refl
-  no_go (suc (suc zero)) = refl
-  no_go (suc (suc (suc zero))) = refl
-  no_go (suc (suc (suc (suc i)))) = refl
-
-  no_count : (i : ℕ) → get_or no_counts i 0 ≡ 0
-  no_count zero = refl
-  no_count (suc zero) = refl
-  no_count (suc (suc zero)) = refl
-  no_count (suc (suc (suc zero))) = refl
-  no_count (suc (suc (suc (suc i)))) = refl
+  goes = λ i. sym (read-with_ids false (false ∷ false ∷ false ∷ false ∷ []) (object_id Crtc 0) i (object_id Crtc i) refl ∙ four_alike false i);
+  counted = λ i. sym (read-with_ids 0 no_counts (object_id Crtc 0) i (object_id Crtc i) refl ∙ four_alike 0 i);
+}
 
 pub wrote : (t : Topology) (d : DeviceState) (planes : ℕ) (s l : Registers) (go : List Bool) (counts : List ℕ) (shadow s' : Registers) → StandsFor t d (file_of planes s l go counts) → ReadSame shadow s'
     → StandsFor t (with_shadow d shadow) (file_of planes s' l go counts)

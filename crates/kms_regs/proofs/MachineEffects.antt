@@ -1,5 +1,5 @@
 -- A register file that stands for a machine's device goes on standing for it, step by step of the machine.
-use Rattle.std.proofs.Common.{◌≡◌, ℕ, ◌+◌, ◌<◌, List, [], ◌∷◌, Bool, true, false, Option, Some, None, inl, inr, arith, refl, sym, ap, ◌∙◌, subst, if◌then◌else◌}
+use Rattle.std.proofs.Common.{◌≡◌, ℕ, ◌+◌, ◌<◌, List, [], ◌∷◌, Bool, true, false, Option, Some, None, inl, inr, arith, refl, sym, ap, ◌∙◌, if◌then◌else◌}
 use Rattle.std.specs.Prelude.{◌&&◌, ◌==◌, not, nat_le}
 use Rattle.std.proofs.lemmas.Bool.{cases_Bool, false≢true, le-leb}
 use borrow.Author.Tests.{le-ltb, lt-ltb}
@@ -20,12 +20,12 @@ use Rattle.kms_model.specs.Device.Execution.{execute}
 use Rattle.kms_model.specs.Device.Objects.{object_id, is_id_of}
 use Rattle.kms_model.specs.Device.World.{thing_labelled}
 use Rattle.kms_model.specs.Machine.Commits.{asks_event, id_of_thing, new_connector, new_crtc, new_plane, out_fence_of}
-use Rattle.kms_model.specs.Machine.Effects.{answers, blanks, counts_vblank, delivers, delivers_if, fence_signalled, flushes, joins_if, latches, latches_picture, locked, made_thing, next, reads, refused, relocked, signalled_by, signals, swapped_state, written_registers}
-use Rattle.kms_model.specs.Machine.Registers.{CrtcWords, Registers, crtc_register, crtc_words, flag_word, is_on_in, plane_register, plane_words, write_crtc, write_plane}
+use Rattle.kms_model.specs.Machine.Effects.{answers, blanks, counts_vblank, delivers, delivers_if, fence_signalled, flushes, joins_if, latches, latches_picture, locked, made_thing, next, reads, refused, relocked, signalled_by, signals, swapped_state}
+use Rattle.kms_model.specs.Machine.Registers.{CrtcWords, crtc_register, crtc_words, flag_word, is_on_in, plane_register, plane_words}
 use Rattle.kms_model.specs.Machine.State.{DeviceState, Machine, command_at, count_at, doing_at, go_at, holder_at, request_at, unread_at}
 use Rattle.kms_model.specs.Machine.Steps.{contended}
 use Rattle.kms_model.specs.Request.Flags.{is_nonblock, wants_event}
-use Rattle.kms_regs.specs.File.{RegisterFile, StandsFor, blanked, flushed, latched, with_shadow}
+use Rattle.kms_regs.specs.File.{RegisterFile, StandsFor, blanked, flushed, latched}
 use Rattle.kms_regs.specs.StepLaws.{Blanks, Flushes, WritesCrtc, WritesPlane, keeps_registers, latch_of}
 
 signalled : (t : Topology) (m : Machine) (fence : Option ℕ) (f : RegisterFile) → StandsFor t m.device f → StandsFor t (signals m fence).device f

@@ -1,13 +1,13 @@
 -- A device of one CRTC has what the calls of a register file ask for: of a machine whose commit lights the CRTC, its shadow
 -- words are those of the old states, and at the flush the CRTC is on in them as it is in the new state.
-use Rattle.std.proofs.Common.{◌≡◌, ℕ, List, [], ◌∷◌, ◌++◌, Bool, true, refl}
+use Rattle.std.proofs.Common.{◌≡◌, ℕ, List, ◌++◌, true, refl}
 use Rattle.std.specs.Prelude.{codes, Result, Ok, Err}
 use Rattle.kms_model.specs.declared.scripts.Part.TheVariants as part
 use Rattle.kms_model.specs.Device.Objects.{object_id}
 use Rattle.kms_model.specs.declared.objects.Kind.TheVariants.{Crtc, Plane}
 use Rattle.kms_model.specs.Machine.Commits.{commit_at, new_crtc, old_plane, old_values}
 use Rattle.kms_model.specs.Machine.Histories.{at, is_history}
-use Rattle.kms_model.specs.Machine.Registers.{CrtcWords, PlaneWords, crtc_register, crtc_words, is_on_in, plane_register, plane_words}
+use Rattle.kms_model.specs.Machine.Registers.{crtc_register, crtc_words, is_on_in, plane_register, plane_words}
 use Rattle.kms_model.specs.Request.Agreement.{crtc_state_at}
 use Rattle.kms_model.specs.Script.InputLines.{Fault}
 use Rattle.kms_model.specs.Script.Schedules.{Parts, input_of}

@@ -42,3 +42,11 @@ read-set d x xs from place index within =
           ∙ (read-with_ids d xs from index (from + index) refl
           ∙ sym (read-with_ids d (slice_set xs place x) from index (from + index) refl ∙ get_or-set_other xs place index x d (λ same. absurd (other (sym same)))))
     ]
+
+-- what stands at each of four places, and is meant behind them
+pub four_alike : {A : Type 0} (x : A) (i : ℕ) → get_or (x ∷ x ∷ x ∷ x ∷ []) i x ≡ x
+four_alike x zero = refl
+four_alike x (suc zero) = refl
+four_alike x (suc (suc zero)) = refl
+four_alike x (suc (suc (suc zero))) = refl
+four_alike x (suc (suc (suc (suc i)))) = refl

@@ -85,21 +85,20 @@ append_small xs ys first second = record { small = go xs first.small } where
   go (x ∷ xs) small zero = small 0
   go (x ∷ xs) small (suc i) = go xs (λ j. small (suc j)) i
 
+none_small : AreBytes []
+none_small = record { small = λ i. omega arith }
+
+byte_small : (x : ℕ) (xs : List ℕ) → x < 256 → AreBytes xs → AreBytes (x ∷ xs)
+byte_small x xs low rest = record { small = go } where
+  go : (i : ℕ) → get_or (x ∷ xs) i 0 < 256
+  go zero = low
+  go (suc i) = rest.small i
+
 half_small : (n : ℕ) → AreBytes (to_le_bytes w16 n)
-half_small n = record { small = go } where
-  go : (i : ℕ) → get_or (to_le_bytes w16 n) i 0 < 256
-  go zero = omega arith
-  go (suc zero) = omega arith
-  go (suc (suc i)) = omega arith
+half_small n = byte_small _ _ (omega arith) (byte_small _ _ (omega arith) none_small)
 
 word_small : (n : ℕ) → AreBytes (to_le_bytes w32 n)
-word_small n = record { small = go } where
-  go : (i : ℕ) → get_or (to_le_bytes w32 n) i 0 < 256
-  go zero = omega arith
-  go (suc zero) = omega arith
-  go (suc (suc zero)) = omega arith
-  go (suc (suc (suc zero))) = omega arith
-  go (suc (suc (suc (suc i)))) = omega arith
+word_small n = byte_small _ _ (omega arith) (byte_small _ _ (omega arith) (byte_small _ _ (omega arith) (byte_small _ _ (omega arith) none_small)))
 
 mode_small : (m : Mode) → AreBytes m.name → AreBytes (mode_bytes m)
 mode_small m name =

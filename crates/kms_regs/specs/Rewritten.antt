@@ -1,5 +1,5 @@
 -- What a write makes of words: it writes those that differ between an old and a new state, and no others.
-use Rattle.std.specs.Prelude.{◌≡◌, ℕ, ◌==◌, List, [], ◌∷◌, if◌then◌else◌}
+use Rattle.std.specs.Prelude.{ℕ, ◌==◌, List, [], ◌∷◌, if◌then◌else◌}
 use Rattle.kms_model.specs.Machine.Registers.{CrtcWords, PlaneWords, Registers, crtc_register, plane_register, write_crtc, write_plane}
 
 abbrev pub rewritten : ℕ → ℕ → ℕ → ℕ

@@ -4,7 +4,7 @@ ghost use Rattle.kms_model.specs.Device.Objects.{object_id};
 ghost use Rattle.kms_model.specs.Device.Sound.{IsPlaneInRange};
 ghost use Rattle.kms_model.specs.declared.objects.Kind.TheVariants.{Crtc, Plane};
 ghost use Rattle.kms_model.specs.declared.objects.Topology.{Topology};
-ghost use Rattle.kms_model.specs.Machine.Registers.{crtc_register, crtc_words, decoded_picture, plane_register, plane_words};
+ghost use Rattle.kms_model.specs.Machine.Registers.{crtc_register, crtc_words, decoded_picture, is_on_in, plane_register, plane_words};
 ghost use Rattle.kms_model.specs.Machine.State.{DeviceState, count_at, first_machine, go_at};
 ghost use Rattle.kms_regs.specs.File.{StandsFor, blanked_picture, count_in, flushed_picture, has_go, latched_picture};
 ghost use Rattle.kms_regs.specs.StepLaws.{Blanks, Flushes, RewritesCrtc, RewritesPlane, WritesCrtc, WritesPlane};
@@ -150,6 +150,15 @@ impl RegFile {
             → result ≡ decoded_picture t d.live (object_id Crtc crtc) }
     {
         decoded_picture(&self.live, self.planes, crtc)
+    }
+
+    /// Whether the CRTC with an index, from 0 to 3, is on in its live words: what it shows is no `Off`.
+    pub fn is_on(&self, crtc: u32) -> bool
+        requires { crtc < 4 }
+        ensures { (t : Topology) (d : DeviceState) → StandsFor t d self.now
+            → result ≡ is_on_in d.live (object_id Crtc crtc) }
+    {
+        self.live.crtc(crtc).active != 0
     }
 
     /// How many vertical blankings the CRTC with an index, from 0 to 3, has had.

@@ -9,26 +9,12 @@ use kms_samples::{full_hd, split, tiny};
 use std::process::Abort;
 use std::test::Fail;
 
-const NOWHERE: Rect = Rect {
-    x: 0,
-    y: 0,
-    w: 0,
-    h: 0,
-};
-
-const OFF: CrtcState = CrtcState {
-    active: false,
-    mode: None,
-    planes: 0,
-    conns: 0,
-};
-
 /// A CRTC that is on.
 fn lit() -> CrtcState {
     CrtcState {
         active: true,
         mode: Some(tiny()),
-        ..OFF
+        ..CrtcState::OFF
     }
 }
 
@@ -37,13 +23,8 @@ fn no_plane(zpos: u8) -> PlaneState
     ensures { IsPlaneInRange result }
 {
     PlaneState {
-        fb: None,
-        crtc: 0,
-        dst: NOWHERE,
-        src: NOWHERE,
-        alpha: 65535,
-        blend: 0,
         zpos: u32::from(zpos),
+        ..PlaneState::OFF
     }
 }
 
@@ -119,6 +100,7 @@ fn assert_shows(rt: &impl Abort, regs: &RegFile, crtc: u32, conn: u32, planes: &
     match regs.decode_live(crtc) {
         Picture::Off => assert!(rt; false, "CRTC {crtc} is off"),
         Picture::On(shown) => {
+            assert!(rt; regs.is_on(crtc));
             assert_eq!(rt; shown.mode, tiny());
             assert_eq!(rt; shown.conn, conn);
             let layers = shown.layers.as_slice();
@@ -136,6 +118,7 @@ fn assert_off(rt: &impl Abort, regs: &RegFile, crtc: u32)
     requires { crtc < 4 }
 {
     assert_eq!(rt; regs.decode_live(crtc), Picture::Off);
+    assert!(rt; !regs.is_on(crtc));
 }
 
 /// The 1920x1080 mode of CEA-861, and the words of its 68 bytes.
@@ -145,7 +128,7 @@ fn the_words_of_a_mode_are_its_bytes(rt: HostRuntime) {
     let state = CrtcState {
         active: true,
         mode: Some(mode),
-        ..OFF
+        ..CrtcState::OFF
     };
     let words = CrtcWords::of(300, &state);
     assert_eq!(rt; words.active, 1);
@@ -173,7 +156,7 @@ fn the_words_of_a_mode_are_its_bytes(rt: HostRuntime) {
         ]
     );
     assert_eq!(rt; words.mode(), mode);
-    assert_eq!(rt; CrtcWords::of(0, &OFF).mode, [0; 17]);
+    assert_eq!(rt; CrtcWords::of(0, &CrtcState::OFF).mode, [0; 17]);
 }
 
 #[test]
@@ -192,7 +175,7 @@ fn negative_places_stand_in_twos_complement(rt: HostRuntime) {
 #[test]
 fn a_crtc_latches_at_its_vertical_blanking_alone(rt: HostRuntime) -> Result<(), Fail> {
     let mut regs = RegFile::new(&split(rt.alloc())?);
-    write_crtc(&rt, &mut regs, 0, 300, &OFF, &lit());
+    write_crtc(&rt, &mut regs, 0, 300, &CrtcState::OFF, &lit());
     write_plane(&rt, &mut regs, 1, &no_plane(1), &a_plane(100, 1000, 0, 0));
     assert!(rt; blank(&rt, &mut regs, 0).is_none());
     assert_off(&rt, &regs, 0);
@@ -214,8 +197,8 @@ fn a_crtc_latches_at_its_vertical_blanking_alone(rt: HostRuntime) -> Result<(), 
 #[test]
 fn a_plane_moves_over_two_latches(rt: HostRuntime) -> Result<(), Fail> {
     let mut regs = RegFile::new(&split(rt.alloc())?);
-    write_crtc(&rt, &mut regs, 0, 300, &OFF, &lit());
-    write_crtc(&rt, &mut regs, 1, 0, &OFF, &lit());
+    write_crtc(&rt, &mut regs, 0, 300, &CrtcState::OFF, &lit());
+    write_crtc(&rt, &mut regs, 1, 0, &CrtcState::OFF, &lit());
     let first = a_plane(100, 1000, 0, 0);
     let second = a_plane(101, 1000, 0, 0);
     write_plane(&rt, &mut regs, 0, &no_plane(0), &first);
@@ -241,7 +224,7 @@ fn a_plane_moves_over_two_latches(rt: HostRuntime) -> Result<(), Fail> {
 #[test]
 fn layers_stand_by_zpos_and_then_by_plane(rt: HostRuntime) -> Result<(), Fail> {
     let mut regs = RegFile::new(&split(rt.alloc())?);
-    write_crtc(&rt, &mut regs, 0, 300, &OFF, &lit());
+    write_crtc(&rt, &mut regs, 0, 300, &CrtcState::OFF, &lit());
     let plane = a_plane(100, 1000, 0, 0);
     write_plane(&rt, &mut regs, 0, &no_plane(0), &plane);
     write_plane(&rt, &mut regs, 1, &no_plane(1), &plane);
@@ -254,17 +237,17 @@ fn layers_stand_by_zpos_and_then_by_plane(rt: HostRuntime) -> Result<(), Fail> {
 #[test]
 fn a_crtc_that_is_off_latches_at_once_and_its_count_goes_on(rt: HostRuntime) -> Result<(), Fail> {
     let mut regs = RegFile::new(&split(rt.alloc())?);
-    write_crtc(&rt, &mut regs, 1, 300, &OFF, &lit());
+    write_crtc(&rt, &mut regs, 1, 300, &CrtcState::OFF, &lit());
     assert!(rt; regs.flush(1).is_none());
     assert!(rt; blank(&rt, &mut regs, 1).is_some());
     assert!(rt; blank(&rt, &mut regs, 1).is_none());
-    write_crtc(&rt, &mut regs, 1, 0, &lit(), &OFF);
+    write_crtc(&rt, &mut regs, 1, 0, &lit(), &CrtcState::OFF);
     assert_shows(&rt, &regs, 1, 300, &[]);
     assert_eq!(rt; regs.flush(1), Some(Picture::Off));
     assert_off(&rt, &regs, 1);
     assert!(rt; !regs.has_go(1));
     assert_eq!(rt; regs.count(1), 2);
-    write_crtc(&rt, &mut regs, 1, 300, &OFF, &lit());
+    write_crtc(&rt, &mut regs, 1, 300, &CrtcState::OFF, &lit());
     assert!(rt; regs.flush(1).is_none());
     assert!(rt; blank(&rt, &mut regs, 1).is_some());
     assert_eq!(rt; regs.count(1), 3);

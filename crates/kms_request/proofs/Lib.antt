@@ -9,3 +9,6 @@ pub mod GroupLemmas
 pub mod AffectedLemmas
 pub mod SetGroups
 mod ReachRows
+pub mod Reached
+pub mod Picked
+pub mod ChangedLemmas

@@ -1,13 +1,15 @@
 //! The groups of objects that a request needs locked, as sets, requests and states tell them. (Kernel:
 //! `drm_atomic_helper_check_modeset`, `drm_atomic_add_affected_planes`, `drm_atomic_add_affected_connectors`.)
-ghost use Rattle.std.specs.Prelude.{◌≡◌, ◌≤◌, ◌==◌, All};
+ghost use Rattle.std.specs.Prelude.{◌≡◌, ◌≤◌, ◌==◌, ◌&&◌, All, filter};
 ghost use Rattle.kms_model.specs.Device.Masks.{mask_below};
 ghost use Rattle.kms_model.specs.Device.Objects.{most_of, object_id};
 ghost use Rattle.kms_model.specs.Request.Groups.{no_objects, union};
-ghost use Rattle.kms_model.specs.Request.Resolves.{IsSettable};
+ghost use Rattle.kms_model.specs.Request.Apply.{object_of};
+ghost use Rattle.kms_request.specs.Whole.{IsSettableIf};
 ghost use Rattle.kms_request.specs.Groups.{affected_below, affected_with, assigned_of, crtcs_fenced, objects_assigned, objects_set, only_of, set_of_kind};
 
 use crate::duplicated::duplicate_in;
+use crate::picking::Picker;
 use crate::sets::object_of;
 use crate::states::needs_modeset;
 use kms_model::{
@@ -94,27 +96,40 @@ pub fn objects_set(sets: &[Set]) -> Mask
     }
 }
 
-/// The mask of the objects of a kind that assignments set.
-fn assigned_of(assigns: &[Assign], kind: Kind) -> u32
-    requires { All IsSettable assigns.now }
-    ensures { result ≡ assigned_of assigns.now kind }
+/// The mask of the object of a kind that an assignment sets, where it counts.
+fn assigned_if<P: Picker>(picks: &P, a: &Assign, kind: Kind) -> u32
+    requires { IsSettableIf (P.picked picks.now a.now) a.now }
+    ensures { result ≡ mask_below
+        (λ index. P.picked picks.now a.now && (object_of a.now == object_id kind index))
+        (most_of kind) }
+{
+    if !picks.picks(a) {
+        return 0;
+    }
+    only_of(kind, object_of(a))
+}
+
+/// The mask of the objects of a kind that those of some assignments set that count.
+fn assigned_of<P: Picker>(picks: &P, assigns: &[Assign], kind: Kind) -> u32
+    requires { All (λ a. IsSettableIf (P.picked picks.now a) a) assigns.now }
+    ensures { result ≡ assigned_of (filter (P.picked picks.now) assigns.now) kind }
 {
     let mut assigned = 0;
     for a in assigns {
-        assigned |= only_of(kind, object_of(a));
+        assigned |= assigned_if(picks, a, kind);
     }
     assigned
 }
 
-/// The objects that assignments set.
-pub(crate) fn objects_assigned(assigns: &[Assign]) -> Mask
-    requires { All IsSettable assigns.now }
-    ensures { result ≡ objects_assigned assigns.now }
+/// The objects that those of some assignments set that count.
+pub(crate) fn objects_assigned<P: Picker>(picks: &P, assigns: &[Assign]) -> Mask
+    requires { All (λ a. IsSettableIf (P.picked picks.now a) a) assigns.now }
+    ensures { result ≡ objects_assigned (filter (P.picked picks.now) assigns.now) }
 {
     Mask {
-        crtcs: assigned_of(assigns, Kind::Crtc),
-        planes: assigned_of(assigns, Kind::Plane),
-        conns: assigned_of(assigns, Kind::Conn),
+        crtcs: assigned_of(picks, assigns, Kind::Crtc),
+        planes: assigned_of(picks, assigns, Kind::Plane),
+        conns: assigned_of(picks, assigns, Kind::Conn),
     }
 }
 

@@ -33,7 +33,7 @@ fn flags_refusal(flags: u32) -> Option<Refusal>
 }
 
 /// How many objects of a kind a device has.
-fn count_of(topology: &Topology, kind: Kind) -> usize
+pub fn count_of(topology: &Topology, kind: Kind) -> usize
     ensures { result ≡ count_of topology.now kind }
 {
     match kind {
@@ -43,8 +43,8 @@ fn count_of(topology: &Topology, kind: Kind) -> usize
     }
 }
 
-/// Whether an object is on a device.
-fn exists(topology: &Topology, kind: Kind, index: u32) -> bool
+/// Whether the object of a kind with an index is on a device.
+pub fn exists(topology: &Topology, kind: Kind, index: u32) -> bool
     ensures { result ≡ exists topology.now kind index }
 {
     (index as usize) < count_of(topology, kind)
@@ -96,7 +96,7 @@ fn is_in_range<L: Looker>(
 /// What is wrong with an assignment by itself, whatever comes before it: 4, its object does not exist; 5, the object
 /// does not have the property; 6, the property is immutable; 7, the value is not among the property's.
 #[tactic(auto, unfolding(kms_model::specs::Request::Refusals::own_refusal))]
-fn own_refusal<L: Looker>(topology: &Topology, found: &L, a: &Assign) -> Option<Refusal>
+pub(crate) fn own_refusal<L: Looker>(topology: &Topology, found: &L, a: &Assign) -> Option<Refusal>
     ensures refusal { refusal_number result ≡ own_refusal topology.now (L.meaning found.now) a.now }
     ensures allowed { IsNone result → IsAllowed topology.now (L.meaning found.now) a.now }
 {

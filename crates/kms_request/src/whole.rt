@@ -1,5 +1,5 @@
 //! The plain check of the whole device. (Kernel: `drm_atomic_check_only`.)
-ghost use Rattle.std.specs.Prelude.{◌≡◌, ◌≤◌, ◌<◌, ℕ, All, IsTrue};
+ghost use Rattle.std.specs.Prelude.{◌≡◌, ◌≤◌, ◌<◌, ◌&&◌, ℕ, All, IsTrue, filter};
 ghost use Rattle.std.specs.List.{list_any};
 ghost use Rattle.kms_model.specs.declared.worlds.World.{World};
 ghost use Rattle.kms_model.specs.Request.Verdict.{late_in};
@@ -9,12 +9,13 @@ ghost use Rattle.kms_model.specs.Request.Touched.{named_by};
 ghost use Rattle.kms_model.specs.Request.Resolves.{IsSettable};
 ghost use Rattle.kms_request.specs.Answers.{refusal_number};
 ghost use Rattle.kms_request.specs.Naming.{AreCrtcs};
-ghost use Rattle.kms_request.specs.Whole.{StandBetween, StandSomewhere, is_named_between};
+ghost use Rattle.kms_request.specs.Whole.{IsSettableIf, StandBetween, StandSomewhere, is_named_between};
 ghost use Rattle.kms_request.specs.Fences.{has_number};
 
 use crate::fences::{Numbers, out_fence_numbers};
 use crate::late::{Asked, late_refusal};
 use crate::naming::{crtcs_of, only_crtc};
+use crate::picking::{Every, Picker};
 use crate::sets::object_of;
 use kms_model::{Assign, Duplicates, Mask, Refusal, Request, Topology};
 use kms_props::AtomicFlags;
@@ -36,17 +37,38 @@ fn named_between(states: &Duplicates, a: &Assign) -> u32
     only_crtc(object) | only_crtc(old) | only_crtc(new)
 }
 
+/// The same of an assignment that may count or not.
+fn named_if<P: Picker>(states: &Duplicates, picks: &P, a: &Assign) -> u32
+    requires { IsSettableIf (P.picked picks.now a.now) a.now }
+    ensures { AreCrtcs (λ crtc. P.picked picks.now a.now && is_named_between states.now a.now crtc)
+        result }
+{
+    if !picks.picks(a) {
+        return 0;
+    }
+    named_between(states, a)
+}
+
+/// The CRTCs that those of some assignments name that count.
+pub(crate) fn named_by_picked<P: Picker>(states: &Duplicates, picks: &P, assigns: &[Assign]) -> u32
+    requires { All (λ a. IsSettableIf (P.picked picks.now a) a) assigns.now }
+    ensures { AreCrtcs (λ crtc. list_any (λ a. is_named_between states.now a crtc)
+        (filter (P.picked picks.now) assigns.now)) result }
+{
+    let mut named = 0;
+    for a in assigns {
+        named |= named_if(states, picks, a);
+    }
+    named
+}
+
 /// The CRTCs that assignments name.
 fn all_named_between(states: &Duplicates, assigns: &[Assign]) -> u32
     requires { All IsSettable assigns.now }
     ensures { AreCrtcs (λ crtc. list_any (λ a. is_named_between states.now a crtc) assigns.now)
         result }
 {
-    let mut named = 0;
-    for a in assigns {
-        named |= named_between(states, a);
-    }
-    named
+    named_by_picked(states, &Every, assigns)
 }
 
 /// The mask of the CRTCs that an accepted request names: bit i stands for CRTC index i. Every object of the device is

@@ -1,10 +1,7 @@
 -- What a commit leaves of a device.
-use Rattle.std.proofs.Common.{◌≡◌, ℕ, zero, suc, ◌+◌, ◌<◌, ◌≤◌, Bool, true, false, List, [], ◌∷◌, ◌++◌, length, take, Option, Some, None, refl, sym, ap, ◌∙◌, subst, arith, drop, set}
+use Rattle.std.proofs.Common.{◌≡◌, ℕ, zero, suc, ◌+◌, ◌<◌, ◌≤◌, true, false, List, [], ◌∷◌, length, take, Option, Some, None, refl, sym, ap, ◌∙◌, subst, arith}
 use Rattle.std.proofs.Math.ListN.{get_or}
-use Rattle.std.proofs.lemmas.Grind.{common_steps}
-use Rattle.std.proofs.lemmas.List.Edits.{map_over_more}
-use Rattle.std.specs.Prelude.{map, is_some, slice_get, slice_index_or}
-use Rattle.std.specs.Option.{option_flatten, option_map}
+use Rattle.std.specs.Prelude.{map, slice_index_or}
 use Rattle.std.specs.List.{range_with_len}
 use Rattle.kms_model.specs.declared.objects.Kind.TheVariants as kind
 use Rattle.kms_model.specs.declared.objects.Topology.{Topology}
@@ -13,18 +10,14 @@ use Rattle.kms_model.specs.declared.replies.Reply.TheVariants as reply
 use Rattle.kms_model.specs.declared.scripts.Assign.{Assign}
 use Rattle.kms_model.specs.declared.scripts.Command.TheVariants as command
 use Rattle.kms_model.specs.declared.scripts.Request.{Request}
-use Rattle.kms_model.specs.declared.states.Both.{Both}
 use Rattle.kms_model.specs.declared.states.Duplicates.{Duplicates}
 use Rattle.kms_model.specs.declared.worlds.Content.TheVariants as content
-use Rattle.kms_model.specs.declared.worlds.Setting.{Setting}
 use Rattle.kms_model.specs.declared.worlds.Thing.{Thing}
 use Rattle.kms_model.specs.declared.worlds.World.{World}
-use Rattle.kms_model.specs.Request.Agreement.{AgreesNew, AgreesOld, AreNew, AreOld}
 use Rattle.kms_model.specs.Request.Apply.{after}
 use Rattle.kms_model.specs.Device.Execution.{committed, execute, make_out_fence, make_out_fences}
 use Rattle.kms_model.specs.Request.Flags.{is_test}
-use Rattle.kms_model.specs.Request.Late.{duplicate_at}
-use Rattle.kms_model.specs.Device.Objects.{ids_of, object_id}
+use Rattle.kms_model.specs.Device.Objects.{object_id}
 use Rattle.kms_model.specs.Device.Execution.{Executed}
 use Rattle.kms_model.specs.Device.Sound.{IsSound}
 use Rattle.std.proofs.lemmas.List.FromFn.{length-map-range_with_len}
@@ -37,11 +30,11 @@ use Rattle.kms_request.specs.Fences.{TellOutFences}
 use Rattle.kms_serial.specs.Commands.{Grows}
 use Rattle.kms_serial.specs.Device.{Stands}
 use Rattle.kms_model.specs.Frames.Shown.{AreFramed}
-use Rattle.kms_things.specs.Present.{IsAfter, IsPresent}
+use Rattle.kms_things.specs.Present.{IsAfter}
 use Rattle.kms_things.specs.Swapping.{swapped}
 use Rattle.kms_things.proofs.SwappedStates.{swapped_present}
 use Rattle.kms_model.proofs.FramedLemmas.{execution_keeps_framed}
-use Rattle.kms_serial.proofs.Executing.{IsSeenAfter, seen_made, seen_same}
+use Rattle.kms_serial.proofs.Executing.{seen_made, seen_same}
 use Rattle.kms_things.proofs.SeenStates.{present_seen}
 
 -- Out-fences

@@ -1,32 +1,22 @@
 -- What commands leave of a device's present states.
-use Rattle.std.proofs.Common.{◌≡◌, ℕ, ◌+◌, ◌<◌, ◌≤◌, Bool, true, false, List, [], ◌∷◌, ◌++◌, Option, Some, None, Result, Ok, Err, refl, sym, ap, ◌∙◌, subst, arith}
-use Rattle.std.specs.Prelude.{IfOk, OnOk, OnErr, is_some, slice_get}
-use Rattle.std.specs.Option.{option_flatten}
+use Rattle.std.proofs.Common.{◌≡◌, ℕ, true, List, Option, Some, None, Result, Ok, Err, refl, sym, ap, subst, arith}
+use Rattle.std.specs.Prelude.{IfOk, OnOk, OnErr}
 use Rattle.kms_model.specs.declared.copying.NoMemory.{NoMemory}
-use Rattle.kms_model.specs.declared.objects.Kind.TheVariants as kind
 use Rattle.kms_model.specs.declared.objects.Topology.{Topology}
 use Rattle.kms_model.specs.declared.replies.Reply.{Reply}
-use Rattle.kms_model.specs.declared.replies.Reply.TheVariants as reply
 use Rattle.kms_model.specs.declared.scripts.Command.{Command}
 use Rattle.kms_model.specs.declared.scripts.Command.TheVariants as command
-use Rattle.kms_model.specs.declared.states.Both.{Both}
 use Rattle.kms_model.specs.declared.states.Duplicates.{Duplicates}
 use Rattle.kms_model.specs.declared.worlds.Content.{Content}
 use Rattle.kms_model.specs.declared.worlds.Content.TheVariants as content
 use Rattle.kms_model.specs.declared.worlds.Setting.{Setting}
 use Rattle.kms_model.specs.declared.worlds.Thing.{Thing}
 use Rattle.kms_model.specs.declared.worlds.World.{World}
-use Rattle.kms_model.specs.Request.Agreement.{AgreesNew, AgreesOld, AreNew, AreOld, conn_state_at, crtc_state_at}
-use Rattle.kms_model.specs.Device.Closing.{closed_in}
 use Rattle.kms_model.specs.Device.Execution.{close, close_refusal, close_unless, destroy_refusal, execute, new_buffer_refusal, signal_refusal, signal_unless}
-use Rattle.kms_model.specs.Request.Late.{duplicate_at}
-use Rattle.kms_model.specs.Device.Objects.{count_of, ids_of, object_id}
-use Rattle.kms_model.specs.Device.Execution.{BufferInfo, Executed, add_fb, answer, buffer_of, make, make_unless}
+use Rattle.kms_model.specs.Device.Execution.{BufferInfo, Executed, add_fb, buffer_of, make, make_unless}
 use Rattle.kms_model.specs.Device.Sound.{IsSound}
-use Rattle.kms_model.specs.Device.States.{mode_at, plane_at}
 use Rattle.kms_model.specs.Device.World.{thing_labelled, value}
-use Rattle.kms_model.proofs.Items.{ids-has}
-use Rattle.kms_model.proofs.SeenLemmas.{AreSeenAlike, alike-closed, alike-push, mode-seen, plane-seen}
+use Rattle.kms_model.proofs.SeenLemmas.{AreSeenAlike, alike-closed, alike-push}
 use Rattle.kms_model.proofs.SoundKept.{execution_keeps_sound}
 use Rattle.kms_model.proofs.ThingLemmas.{seen-same}
 use Rattle.kms_serial.specs.Commands.{Grows}

@@ -1,6 +1,5 @@
 pub mod Starting
 pub mod Executing
-pub mod Applying
 pub mod Checking
 pub mod Committing
 pub mod Shown

@@ -1,6 +1,6 @@
 -- What planes are set to, as ids; and framebuffers that are not there have no image.
-use Rattle.std.proofs.Common.{◌≡◌, ℕ, ◌+◌, ◌<◌, ◌≤◌, ◌⊎◌, Bool, true, false, cond, List, [], ◌∷◌, length, Option, Some, None, inl, inr, arith, refl, sym, ap, ◌∙◌, subst}
-use Rattle.std.specs.Prelude.{◌&&◌, ◌||◌, ◌==◌, ℤ, pos, is_some, slice_get}
+use Rattle.std.proofs.Common.{◌≡◌, ℕ, ◌<◌, Bool, true, false, cond, List, [], ◌∷◌, length, Option, Some, None, inl, inr, arith, refl, sym, ap, ◌∙◌, subst}
+use Rattle.std.specs.Prelude.{◌&&◌, ◌||◌, ℤ, pos, is_some, slice_get}
 use Rattle.std.specs.List.{AllByRecursion}
 use Rattle.std.specs.Option.{option_map}
 use Rattle.std.specs.Ordering.{int_eq}
@@ -8,7 +8,7 @@ use Rattle.std.proofs.lemmas.Bool.{or_cases, false≢true}
 use Rattle.std.proofs.lemmas.Bool.Decides.{Decides-int_eq}
 use Rattle.kms_model.specs.declared.objects.Kind.TheVariants as kind
 use Rattle.kms_model.specs.declared.objects.Topology.{Topology}
-use Rattle.kms_model.specs.declared.properties.TheConstants.{FB_ID, MODE_ID}
+use Rattle.kms_model.specs.declared.properties.TheConstants.{FB_ID}
 use Rattle.kms_model.specs.declared.states.Both.{Both}
 use Rattle.kms_model.specs.declared.states.Duplicates.{Duplicates}
 use Rattle.kms_model.specs.declared.states.PlaneState.{PlaneState}
@@ -19,7 +19,7 @@ use Rattle.kms_model.specs.declared.worlds.World.{World}
 use Rattle.kms_model.specs.Frames.FrameBytes.{buffer_id_in}
 use Rattle.kms_model.specs.Frames.Images.{image_of, seen_in}
 use Rattle.kms_model.specs.Device.Objects.{object_id, count_of}
-use Rattle.kms_model.specs.Device.Sound.{AreNumbered, has_legal_mode, is_thing, IsSound}
+use Rattle.kms_model.specs.Device.Sound.{AreNumbered, has_legal_mode, IsSound}
 use Rattle.kms_model.specs.Request.Late.{duplicate_at}
 use Rattle.kms_model.specs.Device.States.{framebuffer_in, framebuffer_of, mode_of, plane_at}
 use Rattle.kms_model.specs.Script.Words.{◌>>=◌}

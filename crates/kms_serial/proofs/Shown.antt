@@ -1,9 +1,8 @@
 -- The pictures of a device.
-use Rattle.std.proofs.Common.{◌≡◌, ℕ, zero, suc, ◌+◌, ◌<◌, ◌≤◌, Bool, true, false, List, [], ◌∷◌, length, Option, Some, None, refl, sym, ap, ◌∙◌, subst, inl, inr, arith}
-use Rattle.std.specs.Prelude.{map, is_some, slice_get, nat_lt, not, ◌&&◌, ◌||◌, ◌==◌, ℤ, pos, negsuc, int_le, ◌≤ℤ◌}
-use Rattle.std.specs.Option.{option_flatten}
+use Rattle.std.proofs.Common.{◌≡◌, ℕ, zero, suc, ◌+◌, ◌<◌, Bool, true, false, length, Option, Some, None, refl, sym, ap, ◌∙◌, subst, arith}
+use Rattle.std.specs.Prelude.{is_some, slice_get, nat_lt, not, ◌||◌, ◌==◌, ℤ, pos, negsuc, int_le, ◌≤ℤ◌}
 use Rattle.std.specs.List.{list_all, range_with_len}
-use Rattle.std.proofs.lemmas.Bool.{and_from, and_parts, cases_lt}
+use Rattle.std.proofs.lemmas.Bool.{and_from, and_parts}
 use Rattle.std.proofs.lemmas.Bool.Decides.{nat_tests}
 use Rattle.std.proofs.lemmas.Int.{ints}
 use Rattle.kms_model.specs.declared.objects.Kind.TheVariants as kind
@@ -15,16 +14,15 @@ use Rattle.kms_model.specs.declared.states.PlaneState.{PlaneState}
 use Rattle.kms_model.specs.declared.worlds.World.{World}
 use Rattle.kms_model.specs.Request.Agreement.{on_crtc}
 use Rattle.kms_model.specs.Request.Late.{duplicate_at}
-use Rattle.kms_model.specs.Device.Masks.{has_bit, mask_below}
-use Rattle.kms_model.specs.Device.Objects.{count_of, object_id}
-use Rattle.kms_model.specs.Device.Sound.{IsBetween, IsPlaneInRange, IsSound}
+use Rattle.kms_model.specs.Device.Masks.{has_bit}
+use Rattle.kms_model.specs.Device.Objects.{object_id}
+use Rattle.kms_model.specs.Device.Sound.{IsBetween, IsPlaneInRange}
 use Rattle.kms_model.specs.Device.States.{crtc_at, plane_at}
 use Rattle.kms_model.proofs.LateLemmas.{flatten-some}
 use Rattle.kms_model.proofs.MaskLemmas.{has_bit-mask_below}
 use Rattle.kms_model.proofs.StateLemmas.{sound-plane_in_range}
 use Rattle.kms_picture.specs.Covered.{are_placeable, is_placeable, is_near, is_near_rect, is_ready, may_picture}
 use Rattle.kms_serial.specs.Device.{Stands}
-use Rattle.kms_things.specs.Present.{IsPresent}
 
 le-int_le : (a b : ℤ) → a ≤ℤ b → int_le a b ≡ true
 le-int_le a b le = grind (arith, nat_tests, ints)

@@ -1,11 +1,7 @@
 -- The device of one thread as contracts see it, and what stands beside it.
-use Rattle.std.specs.Prelude.{◌≡◌, None}
 use Rattle.kms_model.specs.declared.objects.Topology.{Topology}
 use Rattle.kms_model.specs.declared.states.Duplicates.{Duplicates}
 use Rattle.kms_model.specs.declared.worlds.World.{World}
-use Rattle.kms_model.specs.declared.scripts.Request.{Request}
-use Rattle.kms_model.specs.Request.Lookups.{look_up}
-use Rattle.kms_model.specs.Request.Refusals.{early_refusal}
 use Rattle.kms_model.specs.Device.Sound.{IsDevice, IsSound}
 use Rattle.kms_model.specs.Frames.Shown.{AreFramed}
 use Rattle.kms_things.specs.Present.{IsPresent}
@@ -21,13 +17,3 @@ pub record Stands (t : Topology) (w : World) (d : Duplicates) : Type 0 where
   pub sound : IsSound t w
   pub framed : AreFramed w.things
   pub present : IsPresent t w d
-
--- a request for which none of refusals 1 to 8 is due, on a device with its present states
-pub record IsLetThrough (t : Topology) (w : World) (d : Duplicates) (r : Request) : Type 0 where
-  pub stands : Stands t w d
-  pub early : early_refusal t (look_up w) r ≡ None
-
--- the same, on some device
-pub record IsLetThroughSomewhere (w : World) (d : Duplicates) (r : Request) : Type 0 where
-  pub topology : Topology
-  pub is : IsLetThrough topology w d r

@@ -1,40 +1,22 @@
 //! Whether a request is accepted, and what it leaves.
 ghost use Rattle.std.specs.Prelude.{◌≡◌, All, IfErr, IfOk, OnOk, None, Some};
-ghost use Rattle.kms_model.specs.declared.objects.Topology.{Topology};
 ghost use Rattle.kms_model.specs.Request.Flags.{is_test};
 ghost use Rattle.kms_model.specs.Request.Verdict.{verdict};
 ghost use Rattle.kms_model.specs.Request.Resolves.{IsSettable};
 ghost use Rattle.kms_request.specs.Whole.{StandBetween};
-ghost use Rattle.kms_serial.specs.Device.{IsLetThrough, IsLetThroughSomewhere, Stands};
+ghost use Rattle.kms_serial.specs.Device.{Stands};
 ghost use Rattle.kms_things.specs.Present.{IsAfter};
 
 use crate::store::WorldStore;
 use kms_model::{Duplicates, Refusal, Request, Topology};
 use kms_props::AtomicFlags;
-use kms_request::{early, full_check, set_of};
-use kms_state::Duplicating;
+use kms_request::{changed, early, full_check};
 
 /// Whether a request is only tested.
 pub fn is_test(flags: u32) -> bool
     ensures { result ≡ is_test flags }
 {
     AtomicFlags::of_request(flags).contains(AtomicFlags::TEST_ONLY)
-}
-
-/// The states of all objects after a request for which none of refusals 1 to 8 is due. They are the device's present
-/// states before.
-pub fn changed(store: &WorldStore, states: &Duplicates, request: &Request) -> Duplicates
-    requires { IsLetThroughSomewhere store.now states.now request.now }
-    ensures between { (t : Topology) → IsLetThrough t store.now states.now request.now
-        → StandBetween t store.now request.now result }
-    ensures after { (t : Topology) → IsLetThrough t store.now states.now request.now
-        → IsAfter t store.now request.now result }
-{
-    let mut after = *states;
-    for a in request.assigns.as_slice() {
-        after.set(&set_of(store, a));
-    }
-    after
 }
 
 /// The states of all objects after a request, or its first refusal. They are the device's present states before.
@@ -56,7 +38,7 @@ pub fn check(
     if let Some(refusal) = early(topology, request, store) {
         return Err(refusal);
     }
-    let after = changed(store, states, request);
+    let after = changed(topology, request, store, states);
     match full_check(topology, &after, request) {
         Some(refusal) => Err(refusal),
         None => Ok(after),

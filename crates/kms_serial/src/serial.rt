@@ -21,13 +21,13 @@ ghost use Rattle.kms_things.specs.Commands.{IsNoRequest};
 ghost use Rattle.kms_things.specs.Framebuffers.{framebuffer_entry};
 ghost use Rattle.kms_things.specs.Present.{IsPresent};
 
-use crate::requests::{changed, check, is_test};
+use crate::requests::{check, is_test};
 use crate::store::WorldStore;
 use kms_model::{
     Command, Duplicates, Image, Look, Mask, NoMemory, Picture, PlaneState, Reply, Request, Topology,
 };
 use kms_picture::picture;
-use kms_request::{Looker, named_in, spans};
+use kms_request::{Looker, changed, named_in, spans};
 use kms_state::Duplicating;
 use kms_things::{start_states, swapped};
 use std::alloc::Global;
@@ -202,7 +202,8 @@ impl Serial {
         ensures named { result.0 ≡ named_by self.now.topology self.now.world request.now }
         ensures touched { result.1 ≡ touched_by self.now.topology self.now.world request.now }
     {
-        spans(&changed(&self.store, &self.states, request), request)
+        let after = changed(&self.topology, request, &self.store, &self.states);
+        spans(&after, request)
     }
 
     /// What a CRTC of the device, by its index, shows.

@@ -4,3 +4,4 @@ pub mod SlotLemmas
 pub mod FenceLemmas
 pub mod InStepLemmas
 pub mod StepLemmas
+pub mod CommitsLeft

@@ -1,9 +1,10 @@
 -- What a search by halves says of a table of rising ids.
-use Rattle.std.proofs.Common.{◌≡◌, ◌≢◌, ℕ, zero, suc, ◌<◌, ◌≤◌, length, List, [], ◌∷◌, get_or, arith, sym, ap, subst, inl, inr}
+use Rattle.std.proofs.Common.{◌≡◌, ◌≢◌, ℕ, zero, suc, ◌<◌, ◌≤◌, length, List, [], ◌∷◌, get_or, set, Some, arith, sym, ap, subst, inl, inr}
 use Rattle.std.specs.Prelude.{Result, Ok, Err, Option, IfSome, IfNone}
 use Rattle.std.specs.Result.{result_ok}
 use Rattle.std.specs.declared.cmp.Ordering.{Ordering}
 use Rattle.std.specs.declared.cmp.Ordering.TheVariants.{Less, Equal, Greater}
+use Rattle.std.specs.List.{remove}
 use Rattle.std.specs.List.Sorted.{IsBinarySearchResult, IsNonDecreasingBy, IsSearchInRange}
 use Rattle.std.specs.Cmp.{ranks}
 use Rattle.std.specs.Ordering.{nat_cmp, ordering_index, MatchOrdering}
@@ -11,8 +12,8 @@ use Rattle.std.proofs.lemmas.Bool.{cases_lt}
 use borrow.Author.Tests.{tests}
 use Rattle.std.proofs.lemmas.List.{get_or-map}
 use Rattle.kms_model.specs.declared.tables.Slot.{Slot}
-use Rattle.kms_model.specs.Stores.Tables.{slot_ids, IsRising}
-use Rattle.kms_model.proofs.TableLemmas.{rising_at}
+use Rattle.kms_model.specs.Stores.Tables.{IsRising, slot, slot_ids, value_with_id, with_value, without_id}
+use Rattle.kms_model.proofs.TableLemmas.{FoundAt, found, rising_at, value-present, with_value-present, without_id-present}
 use Rattle.kms_signal.specs.Rooms.{Rooms}
 
 -- the item at a place
@@ -64,6 +65,20 @@ absent_from {T} slots id i rising position k within =
 pub absent_place : {T : Type 0} (slots : List (Slot T)) (id : ℕ) (r : Result ℕ ℕ) (o : Option ℕ) → o ≡ result_ok r → IsRising slots → IsBinarySearchResult (λ s. nat_cmp s.id id) slots r → IfNone o ((k : ℕ) → k < length slots → get_or (slot_ids slots) k 0 ≢ id)
 absent_place slots id (Ok i) o is rising position = rw is tt
 absent_place slots id (Err i) o is rising position = rw is (absent_from slots id i rising position)
+
+-- a value at the place that was found for its id: what it is, and what is left once it is another or is taken out
+module _ {T : Type 0} (slice slots : List (Slot T)) (i id : ℕ) (is : slice ≡ slots) (rising : IsRising slots) (within : i < length slice) (same : get_or (slot_ids slice) i 0 ≡ id) where
+  at : FoundAt slots i id
+  at = found slice slots i id is rising within same
+
+  pub value_there : (s : Slot T) → s ≡ get_or slots i s → Some s.value ≡ value_with_id slots id
+  value_there s read = value-present slots i id s at.rising at.within at.same read
+
+  pub set_there : (value : T) → set slots i (slot id value) ≡ with_value slots id value
+  set_there value = with_value-present slots i id value at.rising at.within at.same
+
+  pub removed_there : remove slots i ≡ without_id slots id
+  removed_there = without_id-present slots i id at.rising at.within at.same
 
 -- equal slots with equal room
 pub in_room : {T : Type 0} {slots others : List (Slot T)} {room : ℕ} → slots ≡ others → (let a : Rooms T = record { slots = slots; room = room } in a) ≡ record { slots = others; room = room }

@@ -1,5 +1,5 @@
 -- Fences and queues that are told of each step of a machine stay in step with it.
-use Rattle.std.proofs.Common.{◌≡◌, ◌≢◌, ℕ, ◌+◌, List, [], ◌∷◌, length, Bool, true, false, Option, Some, None, inl, inr, refl, sym, ap, ◌∙◌, subst}
+use Rattle.std.proofs.Common.{◌≡◌, ◌≢◌, ℕ, ◌+◌, List, [], ◌∷◌, length, Bool, true, false, Option, Some, None, inl, inr, refl, sym, ◌∙◌, subst}
 use Rattle.std.specs.Prelude.{◌==◌, if◌then◌else◌}
 use Rattle.std.proofs.lemmas.Bool.{cases_Bool, false≢true}
 use Rattle.kms_model.specs.declared.objects.Kind.TheVariants.{Crtc}
@@ -19,14 +19,14 @@ use Rattle.kms_model.specs.Device.Objects.{object_id}
 use Rattle.kms_model.specs.Device.World.{thing_labelled}
 use Rattle.kms_model.specs.Machine.Commits.{asks_event, id_of_thing, new_crtc, out_fence_of}
 use Rattle.kms_model.specs.Machine.Effects.{answers, counts_vblank, delivers_if, event_of, fence_signalled, joins_if, latches, latches_picture, locked, made_thing, next, reads, refused, relocked, signalled_by, signals, swapped_state}
-use Rattle.kms_model.specs.Machine.State.{Events, Machine, command_at, count_at, doing_at, go_at, holder_at, request_at, reserved_at, unread_at}
+use Rattle.kms_model.specs.Machine.State.{Machine, command_at, count_at, doing_at, go_at, holder_at, request_at, reserved_at, unread_at}
 use Rattle.kms_model.specs.Machine.Steps.{contended}
 use Rattle.kms_model.specs.Request.Flags.{is_nonblock, wants_event}
 use Rattle.kms_model.specs.Request.Named.{named}
 use Rattle.kms_signal.specs.FenceSets.{FenceSet}
 use Rattle.kms_signal.specs.InStep.{AreFencesOf, IsQueueOf}
-use Rattle.kms_signal.specs.Queues.{Queue, after_read, after_read_of, delivers, reserves}
-use Rattle.kms_signal.specs.StepLaws.{LatchesSignals, LeavesSignals, client_of, keeps_events, latched_fences, latched_queue, signals_nothing, swapped_queue, with_signal}
+use Rattle.kms_signal.specs.Queues.{Queue, after_read, after_read_of, reserves}
+use Rattle.kms_signal.specs.StepLaws.{LatchesSignals, LeavesSignals, client_of, keeps_events, latched_queue, signals_nothing, swapped_queue, with_signal}
 use Rattle.kms_signal.proofs.InStepLemmas as steps
 use Rattle.kms_signal.proofs.InStepLemmas.{event_delivered, event_read, events_reserved, others_reserved, others_unread}
 

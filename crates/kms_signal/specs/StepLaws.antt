@@ -4,7 +4,7 @@ use Rattle.kms_model.specs.declared.objects.Kind.TheVariants.{Crtc}
 use Rattle.kms_model.specs.declared.objects.Topology.{Topology}
 use Rattle.kms_model.specs.declared.replies.Reply.TheVariants as reply
 use Rattle.kms_model.specs.declared.replies.Step.{Step}
-use Rattle.kms_model.specs.declared.replies.Step.TheVariants.{Swap, Signal, Flush, Vblank, Read}
+use Rattle.kms_model.specs.declared.replies.Step.TheVariants.{Swap, Signal, Claim, Write, Flush, HwDone, Vblank, Cleanup, Read}
 use Rattle.kms_model.specs.declared.scripts.Command.TheVariants as command
 use Rattle.kms_model.specs.declared.scripts.Request.{Request}
 use Rattle.kms_model.specs.declared.scripts.Script.{Script}
@@ -143,3 +143,16 @@ FollowVblankWithGo =
     (s : Script) (m : Machine) (k index : ℕ)
     → go_at m.device (object_id Crtc index) ≡ Some k
     → LatchesSignals s.topology m (next s m (Vblank Crtc index)) k (object_id Crtc index) (count_at m.device (object_id Crtc index) + 1)
+
+-- Commits
+
+-- the steps of clients, but swaps, and `stall`: they leave commits and what was done of them as they are
+abbrev pub leaves_commits : Step → Bool
+leaves_commits (Swap client) = false
+leaves_commits (Claim k) = false
+leaves_commits (Write k kind index) = false
+leaves_commits (Flush k kind index) = false
+leaves_commits (HwDone k) = false
+leaves_commits (Vblank kind index) = false
+leaves_commits (Cleanup k) = false
+leaves_commits _ = true

@@ -141,35 +141,37 @@ module _ (t : Topology) (cs : List Commit) (marks : Marks) (latches : List Latch
         apart = λ k apart. record { claimed = refl; written = λ object. refl; flushed = λ crtc. refl; done = other_number n k (has_number marks.done k) apart; latched = λ crtc. refl; cleaned = refl };
       }) within stand
 
-  pub wrote_crtc_stands : (index : ℕ) → index < 4 → AreTailsOf t cs (record marks { written = (n, 100 + index) ∷ marks.written }) latches (marked v n (WroteCrtc index))
-  wrote_crtc_stands index low = marked_stands t cs marks _ latches latches v n (WroteCrtc index)
+  -- an object is written
+  wrote_stands : (object : ℕ) (mark : Mark) → ((p : Progress) → IsProgressOf marks latches n p → IsProgressOf (record marks { written = (n, object) ∷ marks.written }) latches n (with_mark mark p))
+      → AreTailsOf t cs (record marks { written = (n, object) ∷ marks.written }) latches (marked v n mark)
+  wrote_stands object mark this = marked_stands t cs marks _ latches latches v n mark
       (record {
-        this = λ p is. record {
-          claimed = is.claimed;
-          crtcs = λ i few. bit_marked p.crtcs n 100 index i (has_pair marks.written n (100 + i)) (omega (arith, low)) (is.crtcs i few);
-          planes = λ i few. is.planes i few ∙ other_marked n (100 + index) (200 + i) (has_pair marks.written n (200 + i)) (λ e. absurd (omega (arith, low, e)));
-          flushed = is.flushed;
-          done = is.done;
-          latched = is.latched;
-        };
+        this = this;
         cleaned = refl;
-        apart = λ k apart. record { claimed = refl; written = λ object. other_pair n k (100 + index) object (has_pair marks.written k object) apart; flushed = λ crtc. refl; done = refl; latched = λ crtc. refl; cleaned = refl };
+        apart = λ k apart. record { claimed = refl; written = λ other. other_pair n k object other (has_pair marks.written k other) apart; flushed = λ crtc. refl; done = refl; latched = λ crtc. refl; cleaned = refl };
       }) within stand
 
+  pub wrote_crtc_stands : (index : ℕ) → index < 4 → AreTailsOf t cs (record marks { written = (n, 100 + index) ∷ marks.written }) latches (marked v n (WroteCrtc index))
+  wrote_crtc_stands index low = wrote_stands (100 + index) (WroteCrtc index)
+      (λ p is. record {
+        claimed = is.claimed;
+        crtcs = λ i few. bit_marked p.crtcs n 100 index i (has_pair marks.written n (100 + i)) (omega (arith, low)) (is.crtcs i few);
+        planes = λ i few. is.planes i few ∙ other_marked n (100 + index) (200 + i) (has_pair marks.written n (200 + i)) (λ e. absurd (omega (arith, low, e)));
+        flushed = is.flushed;
+        done = is.done;
+        latched = is.latched;
+      })
+
   pub wrote_plane_stands : (index : ℕ) → index < 16 → AreTailsOf t cs (record marks { written = (n, 200 + index) ∷ marks.written }) latches (marked v n (WrotePlane index))
-  wrote_plane_stands index low = marked_stands t cs marks _ latches latches v n (WrotePlane index)
-      (record {
-        this = λ p is. record {
-          claimed = is.claimed;
-          crtcs = λ i few. is.crtcs i few ∙ other_marked n (200 + index) (100 + i) (has_pair marks.written n (100 + i)) (λ e. absurd (omega (arith, few, e)));
-          planes = λ i few. bit_marked p.planes n 200 index i (has_pair marks.written n (200 + i)) (omega (arith, low)) (is.planes i few);
-          flushed = is.flushed;
-          done = is.done;
-          latched = is.latched;
-        };
-        cleaned = refl;
-        apart = λ k apart. record { claimed = refl; written = λ object. other_pair n k (200 + index) object (has_pair marks.written k object) apart; flushed = λ crtc. refl; done = refl; latched = λ crtc. refl; cleaned = refl };
-      }) within stand
+  wrote_plane_stands index low = wrote_stands (200 + index) (WrotePlane index)
+      (λ p is. record {
+        claimed = is.claimed;
+        crtcs = λ i few. is.crtcs i few ∙ other_marked n (200 + index) (100 + i) (has_pair marks.written n (100 + i)) (λ e. absurd (omega (arith, few, e)));
+        planes = λ i few. bit_marked p.planes n 200 index i (has_pair marks.written n (200 + i)) (omega (arith, low)) (is.planes i few);
+        flushed = is.flushed;
+        done = is.done;
+        latched = is.latched;
+      })
 
   pub flushed_stands : (index : ℕ) → index < 4 → AreTailsOf t cs (record marks { flushed = (n, 100 + index) ∷ marks.flushed }) latches (marked v n (Flushed index))
   flushed_stands index low = marked_stands t cs marks _ latches latches v n (Flushed index)

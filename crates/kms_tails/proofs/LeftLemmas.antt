@@ -1,5 +1,6 @@
 -- What a step takes of what is left.
-use Rattle.std.proofs.Common.{◌≡◌, ◌≢◌, ℕ, ◌+◌, ◌<◌, ◌≤◌, List, [], ◌∷◌, ◌++◌, Bool, true, false, Some, inl, inr, arith, refl, sym, ap, ◌∙◌}
+use Rattle.std.proofs.Common.{◌≡◌, ◌≢◌, ℕ, ◌+◌, ◌<◌, ◌≤◌, List, [], length, ◌∷◌, ◌++◌, ◌*◌, Bool, true, false, Option, None, Some, inl, inr, arith, refl, sym, ap, ◌∙◌}
+use Rattle.std.specs.Option.{IfSome, SomeIff}
 use Rattle.std.specs.Prelude.{◌&&◌, ◌||◌, not}
 use Rattle.std.proofs.lemmas.Bool.{eq-eqb, ne_eqb, false≢true}
 use Rattle.std.proofs.lemmas.Bool.Decides.{eqb_tells}
@@ -146,3 +147,12 @@ marked_off slots k Done rising allowed x is off = absurd (false≢true off)
 marked_off slots k (WroteCrtc index) rising allowed x is off = absurd (false≢true off)
 marked_off slots k (WrotePlane index) rising allowed x is off = absurd (false≢true off)
 marked_off slots k (Flushed index) rising allowed x is off = absurd (false≢true off)
+
+pub left_most : (slots : List (Slot Tail)) → all_left slots ≤ 31 * length slots
+left_most [] = omega arith
+left_most (s ∷ slots) = omega (arith, steps_few s.value, left_most slots)
+
+-- 31 for each tail, where there is a place for that number
+pub most_kept : (slots : List (Slot Tail)) (o : Option ℕ) (n : ℕ) (P : Type 0) → SomeIff o P (n * 31) → n ≡ length slots → IfSome o (λ most. all_left slots ≤ most)
+most_kept slots None n P is same = tt
+most_kept slots (Some most) n P is same = let left = left_most slots in let all = is.1 in omega (arith, left, all, same)

@@ -1,114 +1,38 @@
 -- Tails that follow each step of a machine stay in step with it.
 use Rattle.std.proofs.Common.{◌≡◌, ℕ, ◌<◌, ◌≤◌, List, [], ◌∷◌, length, Bool, true, false, Option, Some, None, inl, inr, arith, refl, sym, ap, ◌∙◌}
-use Rattle.std.specs.Prelude.{◌&&◌, find, not, nat_lt, if◌then◌else◌}
-use Rattle.std.proofs.lemmas.Bool.{and_parts, cases_Bool, cases_lt, false≢true, ltb-true, ne_eqb}
+use Rattle.std.specs.Prelude.{◌&&◌, find, not, nat_lt}
+use Rattle.std.proofs.lemmas.Bool.{and_parts, cases_lt, false≢true, ltb-true, ne_eqb}
 use Rattle.kms_model.specs.declared.objects.Kind.{Kind}
 use Rattle.kms_model.specs.declared.objects.Kind.TheVariants.{Crtc}
 use Rattle.kms_model.specs.declared.objects.Topology.{Topology}
-use Rattle.kms_model.specs.declared.replies.Event.{Event}
-use Rattle.kms_model.specs.declared.replies.Reply.{Reply}
-use Rattle.kms_model.specs.declared.replies.Reply.TheVariants as reply
 use Rattle.kms_model.specs.declared.replies.Step.{Step}
 use Rattle.kms_model.specs.declared.replies.Step.TheVariants.{Begin, Lock, BackOff, Relock, Refuse, Test, Swap, Make, Signal, Claim, Write, Flush, HwDone, Vblank, Cleanup, Read, Return, Stall}
 use Rattle.kms_model.specs.declared.runs.Latch.{Latch}
-use Rattle.kms_model.specs.declared.scripts.Command.{Command}
-use Rattle.kms_model.specs.declared.scripts.Command.TheVariants as command
 use Rattle.kms_model.specs.declared.scripts.Request.{Request}
 use Rattle.kms_model.specs.declared.scripts.Script.{Script}
 use Rattle.kms_model.specs.declared.states.Checked.{Checked}
-use Rattle.kms_model.specs.Device.Execution.{execute}
 use Rattle.kms_model.specs.Device.Objects.{exists, ids_of, index_of, object_id}
-use Rattle.kms_model.specs.Device.World.{thing_labelled}
-use Rattle.kms_model.specs.Machine.Commits.{asks_event, commit_at, commit_names, has_pair, id_of_thing, is_all_written, is_claimed, is_hw_done, new_crtc, no_commit, out_fence_of}
-use Rattle.kms_model.specs.Machine.Effects.{answers, counts_vblank, delivers, delivers_if, fence_signalled, joins_if, latches, latches_picture, locked, made_thing, next, reads, refused, relocked, signalled_by, signals, swapped_state}
+use Rattle.kms_model.specs.Machine.Commits.{commit_at, commit_names, has_pair, is_all_written, is_claimed, is_hw_done, new_crtc, no_commit}
+use Rattle.kms_model.specs.Machine.Effects.{counts_vblank, latches, next}
 use Rattle.kms_model.specs.Machine.Histories.{legal}
 use Rattle.kms_model.specs.Machine.Registers.{decoded_picture, latched_registers}
-use Rattle.kms_model.specs.Machine.State.{Commit, DeviceState, Machine, command_at, doing_at, go_at, has_value, holder_at, request_at, unread_at}
-use Rattle.kms_model.specs.Machine.Steps.{contended, may, may_claim, next_flush}
-use Rattle.kms_model.specs.Request.Flags.{is_nonblock, wants_event}
+use Rattle.kms_model.specs.Machine.State.{Commit, DeviceState, Machine, go_at, has_value, request_at}
+use Rattle.kms_model.specs.Machine.Steps.{may, may_claim, next_flush}
 use Rattle.kms_model.proofs.KindsOfIds.{index_of-object}
 use Rattle.kms_signal.specs.Rooms.{Rooms}
+use Rattle.kms_signal.specs.StepLaws.{leaves_commits}
+use Rattle.kms_signal.proofs.CommitsLeft.{commits_left, latch_leaves, swap_adds}
 use Rattle.kms_tails.specs.declared.tail.Tail.{Tail}
 use Rattle.kms_tails.specs.InStep.{AreTailsOf, IsInStep, IsTailFor, StandsAfter, StandsAfterLatch, StandsAfterSwap, with_claimed, with_cleaned, with_done, with_flushed, with_written}
-use Rattle.kms_tails.specs.StepLaws.{commit_of, leaves_tails, new_commit}
+use Rattle.kms_tails.specs.StepLaws.{commit_of, new_commit}
 
--- Steps that leave commits and their marks alone
-
-on_either : (t : Topology) (b : Bool) (x y : Machine) (v : Rooms Tail) → IsInStep t x v → IsInStep t y v → IsInStep t (if b then x else y) v
-on_either t true x y v first second = first
-on_either t false x y v first second = second
-
-signals_step : (t : Topology) (m : Machine) (fence : Option ℕ) (v : Rooms Tail) → IsInStep t m v → IsInStep t (signals m fence) v
-signals_step t m None v step = step
-signals_step t m (Some id) v step = step
-
-lock_step : (t : Topology) (m : Machine) (client object : ℕ) (holder : Option ℕ) (v : Rooms Tail) → IsInStep t m v → IsInStep t (locked m client object holder) v
-lock_step t m client object None v step = step
-lock_step t m client object (Some other) v step = step
-
-relock_step : (t : Topology) (m : Machine) (client : ℕ) (object : Option ℕ) (v : Rooms Tail) → IsInStep t m v → IsInStep t (relocked m client object) v
-relock_step t m client None v step = step
-relock_step t m client (Some object) v step = step
-
-refuse_step : (t : Topology) (m : Machine) (client : ℕ) (r : Option Request) (v : Rooms Tail) → IsInStep t m v → IsInStep t (refused t m client r) v
-unfolding refused
-refuse_step t m client None v step = step
-refuse_step t m client (Some r) v step = step
-
-joins_step : (t : Topology) (m : Machine) (client : ℕ) (b : Bool) (v : Rooms Tail) → IsInStep t m v → IsInStep t (joins_if b m client) v
-joins_step t m client true v step = step
-joins_step t m client false v step = step
-
-make_step : (t : Topology) (m : Machine) (client : ℕ) (c : Option Command) (v : Rooms Tail) → IsInStep t m v → IsInStep t (made_thing t m client c) v
-unfolding made_thing
-make_step t m client None v step = step
-make_step t m client (Some c) v step = joins_step t _ client _ v step
-
-fence_step : (t : Topology) (m : Machine) (c : Command) (r : Reply) (v : Rooms Tail) → IsInStep t m v → IsInStep t (fence_signalled m (Some c) r) v
-fence_step t m (command.Signal label) reply.Done v step = signals_step t m (id_of_thing (thing_labelled m.device.world.things label)) v step
-fence_step t m c r v step = step
-
-signal_step : (t : Topology) (m : Machine) (client : ℕ) (c : Option Command) (v : Rooms Tail) → IsInStep t m v → IsInStep t (signalled_by t m client c) v
-signal_step t m client None v step = step
-signal_step t m client (Some c) v step = fence_step t (answers m client (execute t m.device.world client c).reply) c (execute t m.device.world client c).reply v step
-
-read_step : (t : Topology) (m : Machine) (client : ℕ) (events : List Event) (v : Rooms Tail) → IsInStep t m v → IsInStep t (reads m client events) v
-read_step t m client [] v step = step
-read_step t m client (event ∷ events) v step = step
-
-pub others_follow : (s : Script) (m : Machine) (step : Step) (v : Rooms Tail) → leaves_tails step ≡ true → IsInStep s.topology m v → IsInStep s.topology (next s m step) v
-unfolding next
-others_follow s m (Begin client) v leaves stands = stands
-others_follow s m (Lock client kind index) v leaves stands = lock_step s.topology m client (object_id kind index) (holder_at m (object_id kind index)) v stands
-others_follow s m (BackOff client) v leaves stands = stands
-others_follow s m (Relock client) v leaves stands = relock_step s.topology m client (contended (doing_at m client)) v stands
-others_follow s m (Refuse client) v leaves stands = refuse_step s.topology m client (request_at s m client) v stands
-others_follow s m (Test client) v leaves stands = stands
-others_follow s m (Swap client) v leaves stands = absurd (false≢true leaves)
-others_follow s m (Make client) v leaves stands = make_step s.topology m client (command_at s m client) v stands
-others_follow s m (Signal client) v leaves stands = signal_step s.topology m client (command_at s m client) v stands
-others_follow s m (Claim k) v leaves stands = absurd (false≢true leaves)
-others_follow s m (Write k kind index) v leaves stands = absurd (false≢true leaves)
-others_follow s m (Flush k kind index) v leaves stands = absurd (false≢true leaves)
-others_follow s m (HwDone k) v leaves stands = absurd (false≢true leaves)
-others_follow s m (Vblank kind index) v leaves stands = absurd (false≢true leaves)
-others_follow s m (Cleanup k) v leaves stands = absurd (false≢true leaves)
-others_follow s m (Read client) v leaves stands = read_step s.topology m client (unread_at m.events client) v stands
-others_follow s m (Return client) v leaves stands = stands
-others_follow s m Stall v leaves stands = stands
-
--- Swaps
+pub others_follow : (s : Script) (m : Machine) (step : Step) (v : Rooms Tail) → leaves_commits step ≡ true → IsInStep s.topology m v → IsInStep s.topology (next s m step) v
+others_follow s m step v leaves stands = commits_left (λ cs marks latches. AreTailsOf s.topology cs marks latches v) s m step leaves stands
 
 pub swap_follows : (s : Script) (m : Machine) (client : ℕ) (r : Request) (checked : Checked) (out_fences : List (Option ℕ)) (v w : Rooms Tail) → request_at s m client ≡ Some r → IsInStep s.topology m v
     → IsTailFor s.topology (new_commit m client r) client r checked out_fences → StandsAfterSwap (length m.device.commits) client r checked out_fences v w → IsInStep s.topology (next s m (Swap client)) w
-unfolding next swapped_state
 swap_follows s m client r checked out_fences v w is stands for pushed =
-    let now : AreTailsOf s.topology (new_commit m client r ∷ m.device.commits) m.device.marks m.records.latches w =
-    pushed s.topology (new_commit m client r) m.device.commits m.device.marks m.records.latches refl for stands in
-    rw is (elim (cases_Bool (wants_event r.flags)) [
-      | inl event ↦ rw event (on_either s.topology (is_nonblock r.flags) _ _ w now now)
-      | inr none ↦ rw none (on_either s.topology (is_nonblock r.flags) _ _ w now now)
-    ])
+    swap_adds (λ cs marks latches. AreTailsOf s.topology cs marks latches w) s m client r is (pushed s.topology (new_commit m client r) m.device.commits m.device.marks m.records.latches refl for stands)
 
 -- A commit whose step is legal was set up
 
@@ -200,13 +124,10 @@ cleanup_follows s m k v w is stands after = after s.topology m.device.commits m.
 -- Latches
 
 latch_follows : (t : Topology) (m : Machine) (k index count : ℕ) (v w : Rooms Tail) → k < length m.device.commits → index < 4 → IsInStep t m v → StandsAfterLatch k index v w → IsInStep t (latches t m k (object_id Crtc index) count) w
-unfolding latches
 latch_follows t m k index count v w within low stands after =
-    let shown : Machine = latches_picture t m k (object_id Crtc index) count in
     let latch : Latch = record { crtc = index_of (object_id Crtc index); commit = k; count = count; picture = decoded_picture t (latched_registers t m.device.shadow m.device.live (object_id Crtc index)) (object_id Crtc index) } in
-    let now : IsInStep t shown w = after t m.device.commits m.device.marks m.records.latches latch within refl (index_of-object Crtc index (omega (arith, low))) stands in
-    signals_step t (delivers_if t shown k (object_id Crtc index) count) (out_fence_of t m.device.commits k (object_id Crtc index)) w
-    (on_either t (asks_event t m.device.commits k) (delivers t shown k (object_id Crtc index) count) shown w now now)
+    latch_leaves (λ cs marks shown. AreTailsOf t cs marks shown w) t m k (object_id Crtc index) count
+    (after t m.device.commits m.device.marks m.records.latches latch within refl (index_of-object Crtc index (omega (arith, low))) stands)
 
 pub flush_follows : (s : Script) (m : Machine) (k index : ℕ) (v w : Rooms Tail) → legal s m (Flush k Crtc index) ≡ true → IsInStep s.topology m v → (new_crtc s.topology m.device.commits k (object_id Crtc index)).active ≡ true
     → StandsAfter k v w (with_flushed k (object_id Crtc index)) → IsInStep s.topology (next s m (Flush k Crtc index)) w

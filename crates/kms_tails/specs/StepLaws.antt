@@ -1,5 +1,5 @@
 -- That tails which follow each step of a machine stand for its commits after it.
-use Rattle.std.specs.Prelude.{◌≡◌, ℕ, ◌<◌, ◌≤◌, Bool, true, false, List, length, Option, Some, None}
+use Rattle.std.specs.Prelude.{◌≡◌, ℕ, ◌<◌, ◌≤◌, true, false, List, length, Option, Some, None}
 use Rattle.kms_model.specs.declared.objects.Kind.{Kind}
 use Rattle.kms_model.specs.declared.objects.Kind.TheVariants.{Crtc, Plane}
 use Rattle.kms_model.specs.declared.objects.Topology.{Topology}
@@ -14,8 +14,9 @@ use Rattle.kms_model.specs.Device.Sound.{IsDevice}
 use Rattle.kms_model.specs.Machine.Commits.{commit_at, commit_names, has_latched, new_crtc}
 use Rattle.kms_model.specs.Machine.Effects.{next}
 use Rattle.kms_model.specs.Machine.Histories.{legal}
-use Rattle.kms_model.specs.Machine.State.{Commit, DeviceState, Machine, go_at, place_at, request_at}
+use Rattle.kms_model.specs.Machine.State.{Commit, DeviceState, Machine, Marks, go_at, place_at, request_at}
 use Rattle.kms_signal.specs.Rooms.{Rooms}
+use Rattle.kms_signal.specs.StepLaws.{leaves_commits}
 use Rattle.kms_tails.specs.declared.progress.Mark.{Mark}
 use Rattle.kms_tails.specs.declared.progress.Mark.TheVariants as mark
 use Rattle.kms_tails.specs.declared.tail.Tail.{Tail}
@@ -34,19 +35,19 @@ FollowsSwap =
     → StandsAfterSwap (length m.device.commits) client r checked out_fences v w
     → IsInStep s.topology (next s m (Swap client)) w
 
+-- tails follow a legal step of a commit's tail, once they stand after what it changes of the marks
+abbrev pub Follows : Script → Machine → Step → ℕ → Rooms Tail → Rooms Tail → (Marks → Marks) → Type 0
+Follows s m step k v w change =
+    legal s m step ≡ true → IsInStep s.topology m v → StandsAfter k v w change → IsInStep s.topology (next s m step) w
+
 abbrev pub FollowsClaim : Type 0
-FollowsClaim =
-    (s : Script) (m : Machine) (k : ℕ) (v w : Rooms Tail)
-    → legal s m (Claim k) ≡ true → IsInStep s.topology m v → StandsAfter k v w (with_claimed k)
-    → IsInStep s.topology (next s m (Claim k)) w
+FollowsClaim = (s : Script) (m : Machine) (k : ℕ) (v w : Rooms Tail) → Follows s m (Claim k) k v w (with_claimed k)
 
 -- an object is written, a CRTC or a plane
 abbrev pub FollowsWrite : Type 0
 FollowsWrite =
     (s : Script) (m : Machine) (k index : ℕ) (kind : Kind) (v w : Rooms Tail)
-    → legal s m (Write k kind index) ≡ true → IsInStep s.topology m v
-    → StandsAfter k v w (with_written k (object_id kind index))
-    → IsInStep s.topology (next s m (Write k kind index)) w
+    → Follows s m (Write k kind index) k v w (with_written k (object_id kind index))
 
 -- A CRTC that is on after the commit is flushed, and then waits; one that is off latches.
 abbrev pub FollowsFlush : Type 0
@@ -66,10 +67,7 @@ FollowsFlushOff =
     → IsInStep s.topology (next s m (Flush k Crtc index)) w
 
 abbrev pub FollowsHwDone : Type 0
-FollowsHwDone =
-    (s : Script) (m : Machine) (k : ℕ) (v w : Rooms Tail)
-    → legal s m (HwDone k) ≡ true → IsInStep s.topology m v → StandsAfter k v w (with_done k)
-    → IsInStep s.topology (next s m (HwDone k)) w
+FollowsHwDone = (s : Script) (m : Machine) (k : ℕ) (v w : Rooms Tail) → Follows s m (HwDone k) k v w (with_done k)
 
 -- A vertical blanking without GO tells nothing; one with GO latches.
 abbrev pub FollowsVblank : Type 0
@@ -86,26 +84,12 @@ FollowsVblankWithGo =
     → IsInStep s.topology (next s m (Vblank Crtc index)) w
 
 abbrev pub FollowsCleanup : Type 0
-FollowsCleanup =
-    (s : Script) (m : Machine) (k : ℕ) (v w : Rooms Tail)
-    → legal s m (Cleanup k) ≡ true → IsInStep s.topology m v → StandsAfter k v w (with_cleaned k)
-    → IsInStep s.topology (next s m (Cleanup k)) w
-
--- the steps of clients, but swaps, and `stall`: they leave commits and their marks alone
-abbrev pub leaves_tails : Step → Bool
-leaves_tails (Swap client) = false
-leaves_tails (Claim k) = false
-leaves_tails (Write k kind index) = false
-leaves_tails (Flush k kind index) = false
-leaves_tails (HwDone k) = false
-leaves_tails (Vblank kind index) = false
-leaves_tails (Cleanup k) = false
-leaves_tails _ = true
+FollowsCleanup = (s : Script) (m : Machine) (k : ℕ) (v w : Rooms Tail) → Follows s m (Cleanup k) k v w (with_cleaned k)
 
 abbrev pub FollowsTheOthers : Type 0
 FollowsTheOthers =
     (s : Script) (m : Machine) (step : Step) (v : Rooms Tail)
-    → leaves_tails step ≡ true → IsInStep s.topology m v → IsInStep s.topology (next s m step) v
+    → leaves_commits step ≡ true → IsInStep s.topology m v → IsInStep s.topology (next s m step) v
 
 -- the commit of a step of a tail
 abbrev pub commit_of : Step → Option ℕ

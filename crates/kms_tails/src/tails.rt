@@ -1,5 +1,5 @@
 //! The tails of all commits that are not cleaned.
-ghost use Rattle.std.specs.Prelude.{◌≡◌, ◌≢◌, ℕ, ◌<◌, ◌≤◌, ◌+◌, [], ◌∷◌, ◌++◌, List, length, slice_index, OnOk, OnErr, IsOk, IfSome, IfNone, option_copied};
+ghost use Rattle.std.specs.Prelude.{◌≡◌, ◌≢◌, ℕ, ◌<◌, ◌≤◌, ◌+◌, ◌*◌, [], ◌∷◌, ◌++◌, List, length, slice_index, OnOk, OnErr, IsOk, IfSome, IfNone, option_copied};
 ghost use Rattle.kms_model.specs.declared.objects.Kind.TheVariants.{Crtc};
 ghost use Rattle.kms_model.specs.declared.objects.Topology.{Topology};
 ghost use Rattle.kms_model.specs.declared.runs.Latch.{Latch};
@@ -16,6 +16,10 @@ use crate::tail::Tail;
 use kms_model::{Checked, Kind, NoMemory, ObjId, Request, Slot};
 use std::alloc::Global;
 use std::marker::Model;
+
+/// The most steps that a commit has: its claim, the writes of 4 CRTCs and 16 planes, 4 flushes, the end of writing, 4 latches
+/// and its cleanup.
+const MOST_STEPS: usize = 31;
 
 /// The tails of the commits that are swapped in and not cleaned, by the numbers of the commits. Contracts see them with the
 /// room that there is for further ones, a count, and tell, for each list of commits with marks and latches that they stand
@@ -123,6 +127,16 @@ impl Tails {
             Some(slot) => Some(slot.id),
             None => None,
         }
+    }
+
+    /// At most how many steps are left of all commits that are not cleaned, a count: 31 of each. None where a `usize` has no
+    /// place for that number.
+    pub fn most_left(&self) -> Option<usize>
+        ensures bound { IfSome result (λ n. all_left self.now.slots ≤ n) }
+        ensures number { IfSome result (λ n. n ≡ 31 * length self.now.slots) }
+        ensures none { IfNone result (18446744073709551615 < 31 * length self.now.slots) }
+    {
+        self.slots.len().checked_mul(MOST_STEPS)
     }
 
     /// A worker claims a commit, if it is not cleaned. (Kernel: `commit_work`.)

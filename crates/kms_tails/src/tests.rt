@@ -1,6 +1,6 @@
 use super::*;
 use kms_model::{
-    Both, Checked, ConnState, CrtcState, Duplicates, Mask, ObjId, PlaneState, Rect, Request, Seq,
+    Both, Checked, ConnState, CrtcState, Duplicates, Mask, ObjId, PlaneState, Request, Seq,
 };
 use std::test::Fail;
 
@@ -10,6 +10,8 @@ const SECOND_CRTC: ObjId = ObjId(101);
 
 const PLANE: ObjId = ObjId(202);
 
+const NO_FENCES: [Option<u32>; 4] = [None; 4];
+
 /// What was checked of a request that touches these CRTCs and planes, masks, and names these CRTCs, which are off after it.
 /// CRTC 0 has connector 3 then.
 fn checked(crtcs: u32, planes: u32, named: u32) -> Checked {
@@ -18,30 +20,28 @@ fn checked(crtcs: u32, planes: u32, named: u32) -> Checked {
 
 /// The same of CRTCs that are all on, or all off, after it.
 fn checked_on(active: bool, crtcs: u32, planes: u32, named: u32) -> Checked {
-    let off = CrtcState {
-        active: false,
-        mode: None,
-        planes: 0,
-        conns: 0,
+    let new = CrtcState {
+        active,
+        ..CrtcState::OFF
     };
-    let new = CrtcState { active, ..off };
-    let mut states = [Some(Both { old: off, new }); 4];
+    let mut states = [Some(Both {
+        old: CrtcState::OFF,
+        new,
+    }); 4];
     states[0] = Some(Both {
-        old: off,
+        old: CrtcState::OFF,
         new: CrtcState { conns: 0x28, ..new },
     });
-    let plane = plane_off();
-    let conn = ConnState { crtc: 0 };
     Checked {
         states: Duplicates {
             crtcs: states,
             planes: [Some(Both {
-                old: plane,
-                new: plane,
+                old: PlaneState::OFF,
+                new: PlaneState::OFF,
             }); 16],
             conns: [Some(Both {
-                old: conn,
-                new: conn,
+                old: ConnState::OFF,
+                new: ConnState::OFF,
             }); 8],
         },
         named,
@@ -50,25 +50,6 @@ fn checked_on(active: bool, crtcs: u32, planes: u32, named: u32) -> Checked {
             planes,
             conns: 0,
         },
-    }
-}
-
-/// The state of a plane that is on no CRTC.
-fn plane_off() -> PlaneState {
-    let nothing = Rect {
-        x: 0,
-        y: 0,
-        w: 0,
-        h: 0,
-    };
-    PlaneState {
-        fb: None,
-        crtc: 0,
-        dst: nothing,
-        src: nothing,
-        alpha: 65535,
-        blend: 0,
-        zpos: 0,
     }
 }
 
@@ -90,15 +71,9 @@ fn next(tails: &Tails, commit: u32) -> Option<(Option<ObjId>, Option<u32>, bool)
 #[test]
 fn a_tail_goes_by_rising_ids(rt: HostRuntime) -> Result<(), Fail> {
     let mut tails = Tails::new(rt.alloc());
+    let request = request(&rt);
     tails.make_room(rt.alloc())?;
-    tails.push(
-        rt.alloc(),
-        4,
-        1,
-        &request(&rt),
-        &checked(3, 4, 3),
-        [None; 4],
-    )?;
+    tails.push(rt.alloc(), 4, 1, &request, &checked(3, 4, 3), NO_FENCES)?;
     assert_eq!(rt; next(&tails, 4), Some((Some(CRTC), Some(0), false)));
     tails.claim(4);
     tails.wrote(4, CRTC);
@@ -126,30 +101,10 @@ fn a_tail_goes_by_rising_ids(rt: HostRuntime) -> Result<(), Fail> {
 #[test]
 fn commits_are_found_in_rising_order(rt: HostRuntime) -> Result<(), Fail> {
     let mut tails = Tails::new(rt.alloc());
-    tails.push(
-        rt.alloc(),
-        2,
-        1,
-        &request(&rt),
-        &checked(1, 0, 1),
-        [None; 4],
-    )?;
-    tails.push(
-        rt.alloc(),
-        5,
-        2,
-        &request(&rt),
-        &checked(2, 0, 2),
-        [None; 4],
-    )?;
-    tails.push(
-        rt.alloc(),
-        9,
-        1,
-        &request(&rt),
-        &checked(1, 0, 1),
-        [None; 4],
-    )?;
+    let request = request(&rt);
+    tails.push(rt.alloc(), 2, 1, &request, &checked(1, 0, 1), NO_FENCES)?;
+    tails.push(rt.alloc(), 5, 2, &request, &checked(2, 0, 2), NO_FENCES)?;
+    tails.push(rt.alloc(), 9, 1, &request, &checked(1, 0, 1), NO_FENCES)?;
     assert_eq!(rt; tails.first_from(0), Some(2));
     assert_eq!(rt; tails.first_from(2), Some(2));
     assert_eq!(rt; tails.first_from(3), Some(5));
@@ -171,33 +126,17 @@ fn a_tail_keeps_what_its_latches_need(rt: HostRuntime) -> Result<(), Fail> {
     );
     assert_eq!(rt; (tail.out_fence(0), tail.out_fence(1)), (None, Some(1007)));
     assert_eq!(rt; (tail.connector(0), tail.connector(1)), (303, 0));
-    assert_eq!(rt;
-        tail.progress,
-        Progress {
-            claimed: false,
-            crtcs: 0,
-            planes: 0,
-            flushed: 0,
-            done: false,
-            latched: 0,
-        }
-    );
+    assert_eq!(rt; tail.progress, Progress::none());
     Ok(())
 }
 
 #[test]
 fn at_most_31_steps_are_left(rt: HostRuntime) -> Result<(), Fail> {
     let mut tails = Tails::new(rt.alloc());
+    let request = request(&rt);
     let all = checked_on(true, 15, 65535, 15);
-    tails.push(rt.alloc(), 0, 1, &request(&rt), &all, [None; 4])?;
-    tails.push(
-        rt.alloc(),
-        1,
-        1,
-        &request(&rt),
-        &checked(1, 4, 1),
-        [None; 4],
-    )?;
+    tails.push(rt.alloc(), 0, 1, &request, &all, NO_FENCES)?;
+    tails.push(rt.alloc(), 1, 1, &request, &checked(1, 4, 1), NO_FENCES)?;
     assert_eq!(rt; tails.get(0).ok_or("a tail")?.left(), 31);
     assert_eq!(rt;
         tails.get(1).ok_or("a tail")?.left(),

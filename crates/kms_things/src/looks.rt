@@ -1,7 +1,7 @@
 //! What labels and ids name.
 ghost use Rattle.std.specs.Prelude.{◌≡◌};
 ghost use Rattle.kms_model.specs.Device.World.{thing_labelled, thing_with_id};
-ghost use Rattle.kms_model.specs.Request.Lookups.{look_of, look_of_content, look_of_mode};
+ghost use Rattle.kms_model.specs.Request.Lookups.{look_of, look_of_any, look_of_content, look_of_mode};
 ghost use Rattle.kms_things.specs.Framebuffers.{framebuffer_entry};
 
 use crate::refusals::is_framebuffer;
@@ -42,6 +42,16 @@ impl Things {
             None => Look::Missing,
             Some(thing) if thing.is_open => look_of_content(thing.id, &thing.content),
             Some(_) => Look::Closed,
+        }
+    }
+
+    /// What a label names, where a closed thing counts as it was while it was open.
+    pub fn look_any(&self, label: u32) -> Look
+        ensures { result ≡ look_of_any (thing_labelled self.now.things label) }
+    {
+        match self.labelled(label) {
+            None => Look::Missing,
+            Some(thing) => look_of_content(thing.id, &thing.content),
         }
     }
 

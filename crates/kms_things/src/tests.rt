@@ -67,6 +67,7 @@ fn a_closed_framebuffer_has_its_image(rt: HostRuntime) -> Result<(), Fail> {
     };
     assert!(rt; things.look(FB) == Look::Fb(info));
     assert!(rt; things.look(3) == Look::Missing);
+    assert!(rt; things.look_any(3) == Look::Missing);
     assert!(rt; things.is_referred(1001));
     let closed = [
         (
@@ -94,6 +95,7 @@ fn a_closed_framebuffer_has_its_image(rt: HostRuntime) -> Result<(), Fail> {
     ];
     assert_replies(&rt, a, &mut things, &closed)?;
     assert!(rt; things.look(FB) == Look::Closed);
+    assert!(rt; things.look_any(FB) == Look::Fb(info));
     assert!(rt; things.framebuffer(1001) == Some((FB, false)));
     assert!(rt; !things.is_referred(1001));
     assert!(rt; things.image(1001).is_some());

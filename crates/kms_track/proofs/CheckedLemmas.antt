@@ -1,8 +1,8 @@
 -- What a check gives for an accepted request is what a tracker is told of its commit.
-use Rattle.std.proofs.Common.{◌≡◌, ◌≢◌, ℕ, ◌-◌, ◌<◌, ◌≤◌, List, map, get_or, Bool, true, false, Option, Some, None, inl, inr, arith, refl, sym, ap, ◌∙◌}
+use Rattle.std.proofs.Common.{◌≡◌, ℕ, ◌-◌, ◌<◌, ◌≤◌, List, map, get_or, Bool, true, false, Option, Some, None, inl, inr, arith, refl, sym, ap, ◌∙◌}
 use Rattle.std.specs.Prelude.{◌==◌, ◌&&◌, ◌||◌, nat_lt, is_some, slice_get}
 use Rattle.std.specs.Option.{option_flatten}
-use Rattle.std.proofs.lemmas.Bool.{and_parts, cases_Bool, cases_eq, cases_lt, eq-eqb, false≢true, ltb-true, ne_eqb}
+use Rattle.std.proofs.lemmas.Bool.{and_parts, cases_eq, cases_lt, eq-eqb, false≢true, ltb-true, ne_eqb}
 use Rattle.std.proofs.lemmas.Option.{get_or_from_slice_get}
 use borrow.Author.Tests.{le-ltb, lt-ltb}
 use Rattle.kms_model.specs.declared.objects.Kind.{Kind}
@@ -16,7 +16,7 @@ use Rattle.kms_model.specs.declared.states.Mask.{Mask}
 use Rattle.kms_model.specs.declared.states.PlaneState.{PlaneState}
 use Rattle.kms_model.specs.declared.worlds.Setting.{Setting}
 use Rattle.kms_model.specs.declared.worlds.World.{World}
-use Rattle.kms_model.specs.Device.Masks.{has_bit}
+use Rattle.kms_model.specs.Device.Masks.{has_bit, mask_below}
 use Rattle.kms_model.specs.Device.Objects.{count_of, kind_of, object_id}
 use Rattle.kms_model.specs.Device.Sound.IsCrtcOrNone.{IsCrtc, IsNone}
 use Rattle.kms_model.specs.Device.Sound.{IsCrtcOrNone, IsDevice, IsSound}
@@ -138,29 +138,42 @@ module _ (t : Topology) (c : Commit) (checked : Checked) (device : IsDevice t) (
       ap (λ k. is_on t (crtc_id i) && is_on_before_or_after k c (object_id Crtc p) (crtc_id i)) (kind_of-object Crtc p (omega (arith, low)))
       ∙ crtc_is_side t p i low few (on_index t Crtc p (omega (arith, low)) ∙ there)
 
+  -- a member of the objects of a kind that were touched is on the device
+  touched_there : (kind : Kind) (j mask : ℕ) → mask ≡ mask_below (λ index. touches_routed t c.world.things c.world.values (after c.world c.request) c.request.assigns (object_id kind index)) (count_of t kind)
+      → has_bit mask j ≡ true → j < count_of t kind
+  touched_there kind j mask is has =
+      let test : ℕ → Bool = λ index. touches_routed t c.world.things c.world.values (after c.world c.request) c.request.assigns (object_id kind index) in
+      member_there test (count_of t kind) j mask (ap (λ m. has_bit m j) is ∙ has_bit-mask_below test (count_of t kind) j) has
+
+  -- an object that is on a CRTC or on none is, before and after, on those that its duplicates say
+  on_routed : {S : Type 0} (kind : Kind) (j i mask : ℕ) (states : List (Option (Both S))) (crtc_of : S → ℕ) (sides : Option (Both S) → Sides) → is_some (duplicate_at states j) ≡ true → j < 100 → i < 4
+      → mask ≡ mask_below (λ index. touches_routed t c.world.things c.world.values (after c.world c.request) c.request.assigns (object_id kind index)) (count_of t kind) → has_bit mask j ≡ true
+      → ((both : Both S) → sides (Some both) ≡ record { old = crtc_of both.old; new = crtc_of both.new })
+      → ((object crtc : ℕ) → is_on_before_or_after kind c object crtc ≡ moves_on (old_values c) (new_values c) crtc object)
+      → (j < count_of t kind → IsCrtcOrNone t (crtc_at (old_values c) (object_id kind j))) → (j < count_of t kind → IsCrtcOrNone t (crtc_at (new_values c) (object_id kind j)))
+      → ((both : Both S) → slice_get states j ≡ Some (Some both) → (crtc_of both.old ≡ crtc_at (old_values c) (object_id kind j)) × (crtc_of both.new ≡ crtc_at (new_values c) (object_id kind j)))
+      → (is_on t (crtc_id i) && is_on_before_or_after (kind_of (object_id kind j)) c (object_id kind j) (crtc_id i)) ≡ is_side (sides (get_or states j None)) (crtc_id i)
+  on_routed kind j i mask states crtc_of sides some low few is_mask has sides_are routed on_old on_new say =
+      let there : Stands states j = stands_at states j some in
+      let within = touched_there kind j mask is_mask has in
+      let says = say there.both there.there in
+      ap (λ k. is_on t (crtc_id i) && is_on_before_or_after k c (object_id kind j) (crtc_id i)) (kind_of-object kind j low)
+      ∙ ap (λ b. is_on t (crtc_id i) && b) (routed (object_id kind j) (crtc_id i))
+      ∙ sides_same t (old_values c) (new_values c) (object_id kind j) i (record { old = crtc_of there.both.old; new = crtc_of there.both.new }) few limits (on_old within) (on_new within) says.0 says.1
+      ∙ ap (λ (s : Sides). is_side s (crtc_id i)) (sym (sides_are there.both))
+      ∙ ap (λ (o : Option (Both _)). is_side (sides o) (crtc_id i)) (sym there.read)
+
   on_plane : (j i : ℕ) → j < 16 → i < 4 → has_bit checked.touched.planes j ≡ true → is_some (duplicate_at checked.states.planes j) ≡ true
       → (is_on t (crtc_id i) && is_on_before_or_after (kind_of (object_id Plane j)) c (object_id Plane j) (crtc_id i)) ≡ is_side (plane_sides (get_or checked.states.planes j None)) (crtc_id i)
-  on_plane j i low few has some =
-      let there : Stands checked.states.planes j = stands_at checked.states.planes j some in
-      let within : j < count_of t Plane = member_there (λ index. touches_routed t c.world.things c.world.values (after c.world c.request) c.request.assigns (object_id Plane index)) (count_of t Plane) j checked.touched.planes
-      (ap (λ (m : Mask). has_bit m.planes j) is.touched ∙ has_bit-mask_below (λ index. touches_routed t c.world.things c.world.values (after c.world c.request) c.request.assigns (object_id Plane index)) (count_of t Plane) j) has in
-      ap (λ k. is_on t (crtc_id i) && is_on_before_or_after k c (object_id Plane j) (crtc_id i)) (kind_of-object Plane j (omega (arith, low)))
-      ∙ (sides_same t (old_values c) (new_values c) (object_id Plane j) i (record { old = there.both.old.crtc; new = there.both.new.crtc }) few limits
-      (sound-plane_crtc t c.world j sound within) (sound-plane_crtc t (record c.world { values = new_values c; commits = c.world.commits }) j next within)
-      (ap (λ (s : PlaneState). s.crtc) (is.old.planes j there.both there.there)) (ap (λ (s : PlaneState). s.crtc) (is.new.planes j there.both there.there))
-      ∙ ap (λ (o : Option (Both PlaneState)). is_side (plane_sides o) (crtc_id i)) (sym there.read))
+  on_plane j i low few has some = on_routed Plane j i checked.touched.planes checked.states.planes (λ (s : PlaneState). s.crtc) plane_sides some (omega (arith, low)) few (ap (λ (m : Mask). m.planes) is.touched) has
+      (λ both. refl) (λ object crtc. refl) (sound-plane_crtc t c.world j sound) (sound-plane_crtc t _ j next)
+      (λ both there. (ap (λ (s : PlaneState). s.crtc) (is.old.planes j both there), ap (λ (s : PlaneState). s.crtc) (is.new.planes j both there)))
 
   on_connector : (j i : ℕ) → j < 8 → i < 4 → has_bit checked.touched.conns j ≡ true → is_some (duplicate_at checked.states.conns j) ≡ true
       → (is_on t (crtc_id i) && is_on_before_or_after (kind_of (object_id Conn j)) c (object_id Conn j) (crtc_id i)) ≡ is_side (connector_sides (get_or checked.states.conns j None)) (crtc_id i)
-  on_connector j i low few has some =
-      let there : Stands checked.states.conns j = stands_at checked.states.conns j some in
-      let within : j < count_of t Conn = member_there (λ index. touches_routed t c.world.things c.world.values (after c.world c.request) c.request.assigns (object_id Conn index)) (count_of t Conn) j checked.touched.conns
-      (ap (λ (m : Mask). has_bit m.conns j) is.touched ∙ has_bit-mask_below (λ index. touches_routed t c.world.things c.world.values (after c.world c.request) c.request.assigns (object_id Conn index)) (count_of t Conn) j) has in
-      ap (λ k. is_on t (crtc_id i) && is_on_before_or_after k c (object_id Conn j) (crtc_id i)) (kind_of-object Conn j (omega (arith, low)))
-      ∙ (sides_same t (old_values c) (new_values c) (object_id Conn j) i (record { old = there.both.old.crtc; new = there.both.new.crtc }) few limits
-      (sound-conn_crtc t c.world j sound within) (sound-conn_crtc t (record c.world { values = new_values c; commits = c.world.commits }) j next within)
-      (ap (λ (s : ConnState). s.crtc) (is.old.conns j there.both there.there)) (ap (λ (s : ConnState). s.crtc) (is.new.conns j there.both there.there))
-      ∙ ap (λ (o : Option (Both ConnState)). is_side (connector_sides o) (crtc_id i)) (sym there.read))
+  on_connector j i low few has some = on_routed Conn j i checked.touched.conns checked.states.conns (λ (s : ConnState). s.crtc) connector_sides some (omega (arith, low)) few (ap (λ (m : Mask). m.conns) is.touched) has
+      (λ both. refl) (λ object crtc. refl) (sound-conn_crtc t c.world j sound) (sound-conn_crtc t _ j next)
+      (λ both there. (ap (λ (s : ConnState). s.crtc) (is.old.conns j both there), ap (λ (s : ConnState). s.crtc) (is.new.conns j both there)))
 
   on_place_side : (p i : ℕ) → p < 28 → i < 4 → mask_has checked.touched p ≡ true
       → (is_on t (crtc_id i) && is_on_before_or_after (kind_of (object_at p)) c (object_at p) (crtc_id i)) ≡ is_side (sides_at checked.states p) (crtc_id i)

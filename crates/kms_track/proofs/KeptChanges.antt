@@ -230,22 +230,28 @@ latched_here told n crtc within (Some c) kept = (
   },
 )
 
+-- a commit that latches and is cleaned as before is told of as before
+same_marked : (told : Told) (latched : ℕ → ℕ → Bool) (cleaned : ℕ → Bool) (k : ℕ) → ((crtc : ℕ) → latched k crtc ≡ told.latched k crtc) → cleaned k ≡ told.cleaned k
+    → SameCommit told (record told { latched = latched; cleaned = cleaned }) k
+same_marked told latched cleaned k same_latched same_cleaned = record {
+  touches = λ object. refl;
+  previous_same = λ object. refl;
+  concerns = λ object crtc. refl;
+  fences_same = refl;
+  claimed = refl;
+  hw_done = refl;
+  latched = same_latched;
+  cleaned = same_cleaned;
+}
+
 pub keeps_latch : (told : Told) (v : Tracking) (n crtc : ℕ) → crtc < 4 → Keeps told v → Keeps (told_latch told n (100 + crtc)) (changed v n (with_latch crtc))
 keeps_latch told v n crtc within keeps = record {
   count = keeps.count;
   below = changed_below v.pending.slots v.count n (with_latch crtc) (commit_of v n) keeps.below;
   last = keeps.last;
   before = keeps.before;
-  commits = commits_changed told (told_latch told n (100 + crtc)) v n (with_latch crtc) keeps.commits (latched_here told n crtc within) (λ k apart. record {
-    touches = λ object. refl;
-    previous_same = λ object. refl;
-    concerns = λ object other. refl;
-    fences_same = refl;
-    claimed = refl;
-    hw_done = refl;
-    latched = λ other. rw apart refl;
-    cleaned = refl;
-  });
+  commits = commits_changed told (told_latch told n (100 + crtc)) v n (with_latch crtc) keeps.commits (latched_here told n crtc within)
+      (λ k apart. same_marked told (told_latch told n (100 + crtc)).latched told.cleaned k (λ other. rw apart refl) refl);
 }
 
 -- Cleaned
@@ -260,16 +266,7 @@ cleaned_commit told v w n k is over kept =
           )
       | inr apart ↦ (
           let left : commit_of w k ≡ commit_of v k = rw is (value_left v.pending.slots n k apart.0) in
-          rw left (keeps_same told (told_cleanup told n) k (commit_of v k) (record {
-            touches = λ object. refl;
-            previous_same = λ object. refl;
-            concerns = λ object other. refl;
-            fences_same = refl;
-            claimed = refl;
-            hw_done = refl;
-            latched = λ other. refl;
-            cleaned = other_number n k (told.cleaned k) apart.0;
-          }) kept)
+          rw left (keeps_same told (told_cleanup told n) k (commit_of v k) (same_marked told told.latched (told_cleanup told n).cleaned k (λ other. refl) (other_number n k (told.cleaned k) apart.0)) kept)
           )
     ]
 

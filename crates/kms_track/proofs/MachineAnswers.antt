@@ -20,7 +20,7 @@ use Rattle.kms_model.specs.Request.Sets.{obj_id}
 use Rattle.kms_model.specs.Request.Touched.{touches}
 use Rattle.kms_model.proofs.Items.{IsIn}
 use Rattle.kms_signal.specs.FenceSets.{FenceSet, is_signalled}
-use Rattle.kms_track.specs.InStep.{told_of, IsInStep, IsWithinPlaces, is_on, is_there, pending_pair, busy_answer}
+use Rattle.kms_track.specs.InStep.{told_of, IsInStep, IsWithinPlaces, is_on, pending_pair, busy_answer}
 use Rattle.kms_track.specs.Places.{object_at, mask_has, all_below}
 use Rattle.kms_track.specs.Told.{Told, KeepsCommit, has_flipped, previous, is_settled_for, pending_at, pending_of}
 use Rattle.kms_track.specs.Tracking.{Tracking, cleaned_of, commit_of, is_gone, ready_of, busy_of, with_object, unless}

@@ -1,5 +1,5 @@
 -- What `not_yet` of a tracker in step with the machine answers, in the machine's words.
-use Rattle.std.proofs.Common.{◌≡◌, ℕ, ◌<◌, ◌≤◌, List, [], ◌∷◌, length, Bool, true, false, Some, None, cond, arith, refl, sym, ap, ◌∙◌}
+use Rattle.std.proofs.Common.{◌≡◌, ℕ, ◌<◌, ◌≤◌, List, [], ◌∷◌, length, Bool, true, false, Some, None, cond, arith, refl, ap, ◌∙◌}
 use Rattle.std.specs.Prelude.{◌&&◌, nat_lt, is_none, filter, Option, if◌then◌else◌}
 use Rattle.std.specs.List.{list_all}
 use borrow.Author.Tests.{lt-ltb, le-ltb}

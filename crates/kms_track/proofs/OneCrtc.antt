@@ -1,6 +1,6 @@
 -- A device of one CRTC has what a tracker asks for of its machine: a commit that lights the CRTC names each CRTC that concerns
 -- what it touches, and was claimed before it was done.
-use Rattle.std.proofs.Common.{◌≡◌, ℕ, ◌<◌, List, [], ◌∷◌, ◌++◌, length, Bool, true, false, refl, sym, ap, ◌∙◌, subst, arith, inl, inr}
+use Rattle.std.proofs.Common.{◌≡◌, ℕ, List, ◌++◌, length, Bool, true, false, refl, sym, subst, arith}
 use Rattle.std.specs.Prelude.{◌&&◌, ◌||◌, ◌==◌, codes, not, Result, Ok, Err}
 use Rattle.std.specs.List.{list_all}
 use Rattle.std.proofs.lemmas.Bool.{and_parts, eqb-true, false≢true}
@@ -8,12 +8,12 @@ use Rattle.kms_model.specs.declared.objects.Kind.TheVariants.{Crtc}
 use Rattle.kms_model.specs.declared.objects.Topology.{Topology}
 use Rattle.kms_model.specs.declared.scripts.Part.TheVariants as part
 use Rattle.kms_model.specs.Device.Objects.{ids_of}
-use Rattle.kms_model.specs.Machine.Commits.{commit_concerns, commit_names, commit_touches, has_number, is_claimed, is_hw_done, lockable}
+use Rattle.kms_model.specs.Machine.Commits.{commit_concerns, commit_names, commit_touches, is_claimed, lockable}
 use Rattle.kms_model.specs.Machine.Histories.{at, is_history}
 use Rattle.kms_model.specs.Machine.State.{DeviceState}
 use Rattle.kms_model.specs.Script.InputLines.{Fault}
 use Rattle.kms_model.specs.Script.Schedules.{Parts, input_of}
-use Rattle.kms_model.proofs.Items.{IsIn, Passes, list_all-at, list_any-some}
+use Rattle.kms_model.proofs.Items.{Passes, list_all-at, list_any-some}
 use Rattle.kms_model.proofs.OnMachines.{on_machines}
 use Rattle.kms_model.proofs.Rows.{head, made}
 use Rattle.kms_track.specs.StepLaws.{HasNames}

@@ -3,7 +3,7 @@ use Rattle.std.specs.Prelude.{◌≡◌, ℕ, ◌<◌, ◌&&◌, Bool, true, fal
 use Rattle.kms_model.specs.declared.objects.Kind.TheVariants.{Crtc}
 use Rattle.kms_model.specs.declared.objects.Topology.{Topology}
 use Rattle.kms_model.specs.declared.replies.Step.{Step}
-use Rattle.kms_model.specs.declared.replies.Step.TheVariants.{Swap, Claim, Flush, HwDone, Vblank, Cleanup}
+use Rattle.kms_model.specs.declared.replies.Step.TheVariants.{Swap, Claim, Write, Flush, HwDone, Vblank, Cleanup}
 use Rattle.kms_model.specs.declared.scripts.Request.{Request}
 use Rattle.kms_model.specs.declared.scripts.Script.{Script}
 use Rattle.kms_model.specs.declared.states.Checked.{Checked}
@@ -23,6 +23,7 @@ use Rattle.kms_model.specs.Request.Touched.{touched_by, touches}
 use Rattle.kms_model.specs.Request.Verdict.{verdict}
 use Rattle.kms_model.specs.Stores.Tables.{without_id}
 use Rattle.kms_model.proofs.Items.{IsIn}
+use Rattle.kms_signal.specs.StepLaws.{leaves_commits}
 use Rattle.kms_track.specs.InStep.{IsInStep, IsCheckedFor, IsWithinPlaces, is_on}
 use Rattle.kms_track.specs.Places.{mask_has, object_at}
 use Rattle.kms_track.specs.Tracking.{Tracking, IsSetUp, changed, with_claim, with_done, with_latch}
@@ -95,13 +96,8 @@ FollowsCleanup =
 
 -- the steps that tell a tracker nothing
 abbrev pub tells_nothing : Step → Bool
-tells_nothing (Swap client) = false
-tells_nothing (Claim k) = false
-tells_nothing (Flush k kind index) = false
-tells_nothing (HwDone k) = false
-tells_nothing (Vblank kind index) = false
-tells_nothing (Cleanup k) = false
-tells_nothing _ = true
+tells_nothing (Write k kind index) = true
+tells_nothing step = leaves_commits step
 
 abbrev pub FollowsTheOthers : Type 0
 FollowsTheOthers =

@@ -4,7 +4,8 @@
 //! writes and flushes registers, tells that this is done, and cleans it up; at each CRTC it flips once. The tracker answers
 //! which object is busy, which commit a new one on some CRTCs has to wait for, and whether a commit may be claimed. The
 //! last commits of each object stand in an array by object, and a commit that is cleaned leaves nothing behind, so no
-//! answer takes longer for the commits that are over.
+//! answer takes longer for the commits that are over; a claim asks for fences in the table of all that were made, by
+//! halving.
 //!
 //! (Kernel: `drm_atomic_helper.c`, `drm_atomic_helper_setup_commit`, `drm_atomic_helper_wait_for_dependencies`,
 //! `drm_atomic_helper_commit_hw_done` and `drm_atomic_helper_commit_cleanup_done`; `struct drm_crtc_commit`.)
@@ -19,5 +20,5 @@ mod tracker;
 
 pub use commits::{Last, Pending, Touched};
 pub use law::{answers_as_the_machine, answers_what_it_was_told, follows_the_machine};
-pub use places::{OBJECTS, Sides};
+pub use places::{OBJECTS, Sides, has_object, object_at};
 pub use tracker::Tracker;

@@ -20,7 +20,7 @@ pub struct Sides {
 }
 
 /// The object at a place.
-pub(crate) fn object_at(place: u32) -> ObjId
+pub fn object_at(place: u32) -> ObjId
     requires { place < 28 }
     ensures { result.0 ≡ object_at place }
 {
@@ -34,7 +34,7 @@ pub(crate) fn object_at(place: u32) -> ObjId
 }
 
 /// Whether the object at a place is in a set.
-pub(crate) fn has_object(mask: &Mask, place: u32) -> bool
+pub fn has_object(mask: &Mask, place: u32) -> bool
     requires { place < 28 }
     ensures { result ≡ mask_has mask.now place }
 {

@@ -1,6 +1,6 @@
 use super::*;
 use kms_model::{
-    Both, Checked, ConnState, CrtcState, Duplicates, Mask, NoMemory, ObjId, PlaneState, Rect, Seq,
+    Both, Checked, ConnState, CrtcState, Duplicates, Mask, NoMemory, ObjId, PlaneState, Seq,
 };
 use kms_signal::Fences;
 use std::process::Abort;
@@ -20,28 +20,21 @@ const PLANE: ObjId = ObjId(200);
 /// A commit that touches these objects and names these CRTCs, a mask; plane 0 is on one CRTC before it and on one
 /// after it, each an id or 0.
 fn commit_of(touched: Mask, named: u32, old: u32, new: u32) -> Checked {
-    let crtc = CrtcState {
-        active: true,
-        mode: None,
-        planes: 0,
-        conns: 0,
-    };
     let mut planes = [None; 16];
     planes[0] = Some(Both {
         old: plane_on(old),
         new: plane_on(new),
     });
-    let conn = ConnState { crtc: 0 };
     Checked {
         states: Duplicates {
             crtcs: [Some(Both {
-                old: crtc,
-                new: crtc,
+                old: CrtcState::OFF,
+                new: CrtcState::OFF,
             }); 4],
             planes,
             conns: [Some(Both {
-                old: conn,
-                new: conn,
+                old: ConnState::OFF,
+                new: ConnState::OFF,
             }); 8],
         },
         named,
@@ -50,20 +43,9 @@ fn commit_of(touched: Mask, named: u32, old: u32, new: u32) -> Checked {
 }
 
 fn plane_on(crtc: u32) -> PlaneState {
-    let nothing = Rect {
-        x: 0,
-        y: 0,
-        w: 0,
-        h: 0,
-    };
     PlaneState {
-        fb: None,
         crtc,
-        dst: nothing,
-        src: nothing,
-        alpha: 65535,
-        blend: 0,
-        zpos: 0,
+        ..PlaneState::OFF
     }
 }
 
@@ -91,6 +73,31 @@ fn set_up(
     assert!(rt; fences.len() <= 16);
     tracker.make_room(rt.alloc(), checked, fences)?;
     tracker.setup(rt.alloc(), checked, fences)
+}
+
+/// A commit of CRTC 0 that is over before another begins: it is set up, claimed, done, flipped and cleaned.
+fn in_turn(
+    rt: &(impl Abort + AllocGlobal),
+    tracker: &mut Tracker,
+    checked: &Checked,
+) -> Result<u32, NoMemory> {
+    let none = Seq::new(rt.alloc());
+    let commit = set_up(rt, tracker, checked, &none)?;
+    tracker.claim(commit);
+    tracker.hw_done(commit);
+    tracker.flip_done(commit, 0);
+    tracker.cleanup(commit);
+    Ok(commit)
+}
+
+/// A commit that brings plane 0 to CRTC 0.
+fn of_plane() -> Checked {
+    let objects = Mask {
+        crtcs: 1,
+        planes: 1,
+        conns: 0,
+    };
+    commit_of(objects, 1, 0, 100)
 }
 
 #[test]
@@ -122,16 +129,20 @@ fn a_crtc_is_busy_until_its_flip(rt: HostRuntime) -> Result<(), NoMemory> {
 fn a_plane_that_moves_waits_for_both_crtcs(rt: HostRuntime) -> Result<(), NoMemory> {
     let mut tracker = Tracker::new(rt.alloc());
     let none = Seq::new(rt.alloc());
+    in_turn(&rt, &mut tracker, &of_plane())?;
     let both = Mask {
         crtcs: 3,
         planes: 1,
         conns: 0,
     };
     let commit = set_up(&rt, &mut tracker, &commit_of(both, 3, 100, 101), &none)?;
+    assert_eq!(rt; commit, 1);
     let plane = Mask {
         planes: 1,
         ..NO_OBJECTS
     };
+    tracker.claim(commit);
+    tracker.hw_done(commit);
     tracker.flip_done(commit, 1);
     assert_eq!(rt; tracker.busy(&plane), Some((PLANE, commit)));
     assert_eq!(rt;
@@ -141,19 +152,26 @@ fn a_plane_that_moves_waits_for_both_crtcs(rt: HostRuntime) -> Result<(), NoMemo
     );
     tracker.flip_done(commit, 0);
     assert_eq!(rt; tracker.busy(&both), None);
-    let off = set_up(&rt, &mut tracker, &commit_of(plane, 0, 0, 0), &none)?;
-    assert_eq!(rt; off, 1);
-    assert_eq!(rt;
-        tracker.busy(&plane),
-        None,
-        "on no CRTC it has flipped at once"
-    );
+    Ok(())
+}
+
+#[test]
+fn a_plane_on_no_crtc_is_never_busy(rt: HostRuntime) -> Result<(), NoMemory> {
+    let mut tracker = Tracker::new(rt.alloc());
+    let none = Seq::new(rt.alloc());
+    let plane = Mask {
+        planes: 1,
+        ..NO_OBJECTS
+    };
+    set_up(&rt, &mut tracker, &commit_of(plane, 0, 0, 0), &none)?;
+    assert_eq!(rt; tracker.busy(&plane), None, "it has flipped at once");
     Ok(())
 }
 
 #[test]
 fn a_swap_waits_for_the_last_and_for_the_one_before(rt: HostRuntime) -> Result<(), NoMemory> {
     let mut tracker = Tracker::new(rt.alloc());
+    let fences = Fences::new(rt.alloc());
     let none = Seq::new(rt.alloc());
     let first = set_up(&rt, &mut tracker, &of_crtc(), &none)?;
     assert_eq!(rt; tracker.not_yet(1), Some((CRTC, first)));
@@ -162,6 +180,9 @@ fn a_swap_waits_for_the_last_and_for_the_one_before(rt: HostRuntime) -> Result<(
     tracker.hw_done(first);
     assert_eq!(rt; tracker.not_yet(1), None);
     let second = set_up(&rt, &mut tracker, &of_crtc(), &none)?;
+    assert!(rt; !tracker.ready(second, &fences), "done is not flipped");
+    tracker.flip_done(first, 0);
+    assert!(rt; tracker.ready(second, &fences));
     assert_eq!(rt;
         tracker.not_yet(1),
         Some((CRTC, second)),
@@ -181,7 +202,6 @@ fn a_swap_waits_for_the_last_and_for_the_one_before(rt: HostRuntime) -> Result<(
         Some((CRTC, first)),
         "nor after the last one is"
     );
-    tracker.flip_done(first, 0);
     tracker.cleanup(first);
     assert_eq!(rt; tracker.not_yet(1), None);
     Ok(())
@@ -193,6 +213,7 @@ fn a_claim_waits_for_planes_and_fences(rt: HostRuntime) -> Result<(), NoMemory> 
     let mut fences = Fences::new(rt.alloc());
     fences.make(rt.alloc(), 1000)?;
     let none = Seq::new(rt.alloc());
+    in_turn(&rt, &mut tracker, &of_plane())?;
     let plane = Mask {
         crtcs: 1,
         planes: 1,
@@ -200,7 +221,7 @@ fn a_claim_waits_for_planes_and_fences(rt: HostRuntime) -> Result<(), NoMemory> 
     };
     let first = set_up(&rt, &mut tracker, &commit_of(plane, 1, 100, 0), &none)?;
     assert!(rt; tracker.ready(first, &fences));
-    assert!(rt; !tracker.ready(1, &fences), "not set up");
+    assert!(rt; !tracker.ready(2, &fences), "not set up");
     let mut waits = Seq::new(rt.alloc());
     waits.push((PLANE, 1000))?;
     let other = Mask {
@@ -230,7 +251,7 @@ fn a_fence_may_be_signalled_late(rt: HostRuntime) -> Result<(), NoMemory> {
     fences.make(rt.alloc(), 1000)?;
     let mut waits = Seq::new(rt.alloc());
     waits.push((PLANE, 1000))?;
-    let commit = set_up(&rt, &mut tracker, &of_crtc(), &waits)?;
+    let commit = set_up(&rt, &mut tracker, &of_plane(), &waits)?;
     assert!(rt; !tracker.ready(commit, &fences));
     fences.signal(1000);
     assert!(rt; tracker.ready(commit, &fences));
@@ -240,17 +261,13 @@ fn a_fence_may_be_signalled_late(rt: HostRuntime) -> Result<(), NoMemory> {
 #[test]
 fn ten_thousand_commits_leave_nothing_behind(rt: HostRuntime) -> Result<(), NoMemory> {
     let mut tracker = Tracker::new(rt.alloc());
-    let none = Seq::new(rt.alloc());
     let objects = Mask {
         crtcs: 1,
         ..NO_OBJECTS
     };
+    let checked = of_crtc();
     for _turn in 0..10_000 {
-        let commit = set_up(&rt, &mut tracker, &of_crtc(), &none)?;
-        tracker.claim(commit);
-        tracker.hw_done(commit);
-        tracker.flip_done(commit, 0);
-        tracker.cleanup(commit);
+        in_turn(&rt, &mut tracker, &checked)?;
         assert_eq!(rt; tracker.busy(&objects), None);
     }
     assert_eq!(rt; tracker.count(), 10_000);

@@ -1,5 +1,5 @@
 //! The tracker of commits.
-ghost use Rattle.std.specs.Prelude.{◌≡◌, ℕ, ◌<◌, ◌≤◌, ◌+◌, [], map, replicate, OnOk, OnErr, IfOk, IsOk, length};
+ghost use Rattle.std.specs.Prelude.{◌≡◌, ℕ, ◌<◌, ◌≤◌, ◌+◌, [], map, replicate, OnOk, OnErr, IfOk, IsOk, length, option_copied};
 ghost use Rattle.kms_model.specs.Stores.Tables.{without_id};
 
 use crate::commits::{Last, Pending, Touched, all_fences, raise, touched_objects};
@@ -105,6 +105,13 @@ impl Tracker {
         raise(&mut self.last, &checked.touched, commit);
         self.count += 1;
         Ok(commit)
+    }
+
+    /// What is kept of a commit that is set up and not cleaned; none of any other.
+    pub fn get(&self, commit: u32) -> Option<&Pending>
+        ensures { option_copied result ≡ commit_of self.now commit }
+    {
+        self.pending.get(commit)
     }
 
     /// Whether a commit may be claimed: it is set up and not claimed, the fences that it waits for are signalled, and the

@@ -1,4 +1,4 @@
-use Rattle.std.proofs.Common.{arith, refl, rules, sym, ◌∙◌}
+use Rattle.std.proofs.Common.{arith, refl, sym, ◌∙◌}
 use Rattle.kms_regs.proofs.RewrittenWords.{written_all, written_next}
 use Rattle.kms_regs.proofs.words.write_mode.Goals as goal
 

@@ -1,26 +1,23 @@
-use Rattle.std.proofs.Common.{◌≡◌, ◌∙◌, List, ap, sym, subst}
-use Rattle.std.specs.Prelude.{All}
+use Rattle.std.proofs.Common.{◌≡◌, ◌∙◌, List, subst}
+use Rattle.std.specs.List.{list_any}
 use Rattle.kms_model.specs.declared.scripts.Assign.{Assign}
-use Rattle.kms_model.specs.Request.Lookups.{look_up}
-use Rattle.kms_model.specs.Request.Resolves.{IsSettable}
-use Rattle.kms_model.proofs.LateLemmas.{StandAt}
-use Rattle.kms_model.proofs.TouchedLemmas.{IsRequestAt}
-use Rattle.kms_model.specs.Request.Groups.{affected_group, set_group}
+use Rattle.kms_model.specs.Request.Groups.{union}
 use Rattle.kms_request.specs.Groups.{affected_below, objects_assigned}
-use Rattle.kms_request.proofs.AffectedLemmas.{affected-is, touched-known}
-use Rattle.kms_request.proofs.SetGroups.{objects_assigned-is}
+use Rattle.kms_request.specs.Naming.{AreCrtcs}
+use Rattle.kms_request.specs.Whole.{is_named_between}
+use Rattle.kms_request.proofs.Picked.{filter_every}
+use Rattle.kms_request.proofs.Reached.{spans-touched}
+use Rattle.kms_request.proofs.WholeLemmas.{named_between-is}
 use Rattle.kms_request.proofs.spanning.spans.Goals as goal
 
-pub objects_assigned-assigned-requires : goal.objects_assigned-assigned-requires
-objects_assigned-assigned-requires c = let Settable : List Assign → Type 0 = λ xs. All IsSettable xs in subst Settable (sym c.as_slice.ensures.value) c.requires
+pub returns-clause-named : goal.returns-clause-named
+returns-clause-named c = λ t w stand.
+    let Named : List Assign → Type 0 = λ xs. AreCrtcs (λ crtc. list_any (λ a. is_named_between c.args.states.now a crtc) xs) c.spans_of_picked.result.0 in
+    named_between-is t w c.args.request.now c.args.states.now c.spans_of_picked.result.0 stand (subst Named (filter_every c.as_slice.result.now ∙ c.as_slice.ensures.value) c.spans_of_picked.ensures.named)
 
 pub returns-clause-touched : goal.returns-clause-touched
 returns-clause-touched c = λ t w stand.
-    let r = c.args.request.now in
     let d = c.args.states.now in
-    let at : IsRequestAt t w r = record { device = stand.device; sound = stand.sound; early = stand.early } in
-    let stands : StandAt t w r d = record { at = at; old = stand.old; new = stand.new } in
-    let named = c.named_in-named.ensures t w stand in
-    let set : c.objects_assigned-assigned.result ≡ set_group t r = c.objects_assigned-assigned.ensures ∙ ap objects_assigned c.as_slice.ensures.value ∙ objects_assigned-is t (look_up w) r at.device at.early in
-    let affected : c.affected-affected.result ≡ affected_group t w r = c.affected-affected.ensures ∙ ap (λ n. affected_below d.crtcs n 4) named ∙ affected-is t w r d stands (λ i there is. stand.all.crtcs i there) in
-    touched-known t w r _ _ _ _ _ _ set named c.only_crtcs.ensures affected c.union.ensures c.union-touched.ensures
+    let named = c.spans_of_picked.result.0 in
+    let Touched : List Assign → Type 0 = λ xs. c.spans_of_picked.result.1 ≡ union (union (objects_assigned xs) (record { crtcs = named; planes = 0; conns = 0 })) (affected_below d.crtcs named 4) in
+    spans-touched t w c.args.request.now d named c.spans_of_picked.result.1 stand (returns-clause-named c t w stand) (subst Touched (filter_every c.as_slice.result.now ∙ c.as_slice.ensures.value) c.spans_of_picked.ensures.touched)

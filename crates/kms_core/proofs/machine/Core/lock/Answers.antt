@@ -1,51 +1,56 @@
-use Rattle.std.proofs.Common.{◌≡◌, ℕ, ◌∙◌, sym, ap, List, ◌++◌, ◌∷◌, []}
+use Rattle.std.proofs.Common.{◌∙◌, sym, ap, ◌++◌, ◌∷◌, [], refl}
 use Rattle.kms_model.specs.declared.replies.Step.{Step}
 use Rattle.kms_core.specs.Run.{machine}
-use Rattle.kms_core.proofs.Locking.{Asks, asks, Locks, locks_of, lock_answered, lock_goes_on, lock_history, lock_stays, steps_of_lock}
+use Rattle.kms_core.proofs.Locking.{asks, locks_of, lock_answered, lock_goes_on, lock_history, lock_stays}
 use Rattle.kms_core.proofs.Insides.{run_of, stores_of}
+use Rattle.kms_core.proofs.Spared.{other_spared, same_le, still_spared}
 use Rattle.kms_core.proofs.machine.Core.lock.Goals as goal
 
 pub lock-answer-requires-clause-taking : goal.lock-answer-requires-clause-taking
-lock-answer-requires-clause-taking c = (asks (run_of c.self.inside) c.args.self.now (stores_of c.self.inside) c.args.t c.args.id c.in-Some.client c.self.invariant c.self.view_is c.requires c.in-Some.ensures.some).place
+lock-answer-requires-clause-taking c = (asks (run_of c.self.inside) c.args.self.now (stores_of c.self.inside) c.args.t c.args.id c.in-Some.client c.self.invariant.stands c.self.view_is c.requires c.in-Some.ensures.some).place
 
 pub invariant_of-self-then-not-is_step : goal.invariant_of-self-then-not-is_step
 invariant_of-self-then-not-is_step c =
-    lock_stays (run_of c.self.inside) (stores_of c.self.inside) c.args.id c.in-Some.client c.lock-answer.result c.lock-answer.new.self c.make_room.new.self.items c.self.invariant
-    (sym c.is_step.ensures ∙ c.if-not-is_step.true) c.in_ok-make_room.ensures.items (c.lock-answer.ensures.stands (machine (run_of c.self.inside)) c.self.invariant.stores.clients)
+    let stands =
+    lock_stays (run_of c.self.inside) (stores_of c.self.inside) c.args.id c.in-Some.client c.lock-answer.result c.lock-answer.new.self c.make_step_room.new.steps.items c.self.invariant.stands
+    (sym c.is_step.ensures ∙ c.if-not-is_step.true) c.in_ok-make_step_room.ensures.items (c.lock-answer.ensures.stands (machine (run_of c.self.inside)) c.self.invariant.stands.stores.clients) in
+    record { stands = stands; spare = still_spared _ _ _ _ _ _ c.in_ok-make_step_room.ensures.items c.self.invariant.spare c.in_ok-make_step_room.ensures.kept (same_le _) }
 
 pub returns-then-not-is_step-clause-answer : goal.returns-then-not-is_step-clause-answer
 returns-then-not-is_step-clause-answer c = λ client taking.
     let r = run_of c.self.inside in
     let st = stores_of c.self.inside in
     c.locked_as.ensures
-    ∙ lock_answered r c.args.self.now st c.args.t c.args.id c.in-Some.client c.in-Some-present_state.state c.lock-answer.result c.self.invariant c.self.view_is
-    (asks r c.args.self.now st c.args.t c.args.id c.in-Some.client c.self.invariant c.self.view_is c.requires c.in-Some.ensures.some)
-    (locks_of r c.args.self.now st c.args.t c.args.id c.in-Some.client c.self.invariant c.self.view_is c.requires c.in-Some.ensures.some)
-    (sym c.present_state.ensures ∙ c.in-Some-present_state.is) (c.lock-answer.ensures.answer (machine r) c.self.invariant.stores.clients) client taking
+    ∙ lock_answered r c.args.self.now st c.args.t c.args.id c.in-Some.client c.in-Some-present_state.state c.lock-answer.result c.self.invariant.stands c.self.view_is
+    (asks r c.args.self.now st c.args.t c.args.id c.in-Some.client c.self.invariant.stands c.self.view_is c.requires c.in-Some.ensures.some)
+    (locks_of r c.args.self.now st c.args.t c.args.id c.in-Some.client c.self.invariant.stands c.self.view_is c.requires c.in-Some.ensures.some)
+    (sym c.present_state.ensures ∙ c.in-Some-present_state.is) (c.lock-answer.ensures.answer (machine r) c.self.invariant.stands.stores.clients) client taking
 
 pub invariant_of-self-2 : goal.invariant_of-self-2
 invariant_of-self-2 c =
     let r = run_of c.self.inside in
     let st = stores_of c.self.inside in
-    lock_goes_on r st c.args.id c.in-Some.client c.lock-answer.result c.lock-answer.new.self c.make_room.new.self.items c.push.new.self.items c.self.invariant
-    (locks_of r c.args.self.now st c.args.t c.args.id c.in-Some.client c.self.invariant c.self.view_is c.requires c.in-Some.ensures.some)
-    (c.lock-answer.ensures.answer (machine r) c.self.invariant.stores.clients) (sym c.is_step.ensures ∙ c.if-not-is_step.false) c.in_ok-make_room.ensures.items (c.push.ensures.items ∙ ap (λ (x : Step). c.make_room.new.self.items ++ x ∷ []) c.lock_step.ensures)
-    (c.lock-answer.ensures.stands (machine r) c.self.invariant.stores.clients)
+    let stands =
+    lock_goes_on r st c.args.id c.in-Some.client c.lock-answer.result c.lock-answer.new.self c.make_step_room.new.steps.items c.push.new.self.items c.self.invariant.stands
+    (locks_of r c.args.self.now st c.args.t c.args.id c.in-Some.client c.self.invariant.stands c.self.view_is c.requires c.in-Some.ensures.some)
+    (c.lock-answer.ensures.answer (machine r) c.self.invariant.stands.stores.clients) (sym c.is_step.ensures ∙ c.if-not-is_step.false) c.in_ok-make_step_room.ensures.items (c.push.ensures.items ∙ ap (λ (x : Step). c.make_step_room.new.steps.items ++ x ∷ []) c.lock_step.ensures)
+    (c.lock-answer.ensures.stands (machine r) c.self.invariant.stands.stores.clients) in
+    record { stands = stands; spare = other_spared _ _ _ _ _ _ _ _ _ _ c.self.invariant.stands stands c.in_ok-make_step_room.ensures.items (c.push.ensures.items ∙ ap (λ (x : Step). c.make_step_room.new.steps.items ++ x ∷ []) c.lock_step.ensures) refl c.self.invariant.spare c.in_ok-make_step_room.ensures.room c.push.ensures.room }
 
 pub returns-clause-answer : goal.returns-clause-answer
 returns-clause-answer c = λ client taking.
     let r = run_of c.self.inside in
     let st = stores_of c.self.inside in
     c.locked_as-2.ensures
-    ∙ lock_answered r c.args.self.now st c.args.t c.args.id c.in-Some.client c.in-Some-present_state.state c.lock-answer.result c.self.invariant c.self.view_is
-    (asks r c.args.self.now st c.args.t c.args.id c.in-Some.client c.self.invariant c.self.view_is c.requires c.in-Some.ensures.some)
-    (locks_of r c.args.self.now st c.args.t c.args.id c.in-Some.client c.self.invariant c.self.view_is c.requires c.in-Some.ensures.some)
-    (sym c.present_state.ensures ∙ c.in-Some-present_state.is) (c.lock-answer.ensures.answer (machine r) c.self.invariant.stores.clients) client taking
+    ∙ lock_answered r c.args.self.now st c.args.t c.args.id c.in-Some.client c.in-Some-present_state.state c.lock-answer.result c.self.invariant.stands c.self.view_is
+    (asks r c.args.self.now st c.args.t c.args.id c.in-Some.client c.self.invariant.stands c.self.view_is c.requires c.in-Some.ensures.some)
+    (locks_of r c.args.self.now st c.args.t c.args.id c.in-Some.client c.self.invariant.stands c.self.view_is c.requires c.in-Some.ensures.some)
+    (sym c.present_state.ensures ∙ c.in-Some-present_state.is) (c.lock-answer.ensures.answer (machine r) c.self.invariant.stands.stores.clients) client taking
 
 pub returns-clause-history : goal.returns-clause-history
 returns-clause-history c = λ client taking.
     let r = run_of c.self.inside in
     let st = stores_of c.self.inside in
-    lock_history r c.args.self.now st c.args.t c.args.id c.in-Some.client c.in-Some-present_state.state c.lock-answer.result c.locked_as-2.result c.make_room.new.self.items c.push.new.self.items c.self.view_is
-    (asks r c.args.self.now st c.args.t c.args.id c.in-Some.client c.self.invariant c.self.view_is c.requires c.in-Some.ensures.some) c.locked_as-2.ensures (sym c.is_step.ensures ∙ c.if-not-is_step.false)
-    c.in_ok-make_room.ensures.items (c.push.ensures.items ∙ ap (λ (x : Step). c.make_room.new.self.items ++ x ∷ []) c.lock_step.ensures) client taking
+    lock_history r c.args.self.now st c.args.t c.args.id c.in-Some.client c.in-Some-present_state.state c.lock-answer.result c.locked_as-2.result c.make_step_room.new.steps.items c.push.new.self.items c.self.view_is
+    (asks r c.args.self.now st c.args.t c.args.id c.in-Some.client c.self.invariant.stands c.self.view_is c.requires c.in-Some.ensures.some) c.locked_as-2.ensures (sym c.is_step.ensures ∙ c.if-not-is_step.false)
+    c.in_ok-make_step_room.ensures.items (c.push.ensures.items ∙ ap (λ (x : Step). c.make_step_room.new.steps.items ++ x ∷ []) c.lock_step.ensures) client taking

@@ -5,32 +5,35 @@ use Rattle.kms_core.specs.Calls.{read_reply}
 use Rattle.kms_core.specs.Run.{machine}
 use Rattle.kms_core.proofs.Delivered.{found_queue, has_queue, idle_reader, reads_event, told_reply}
 use Rattle.kms_core.proofs.Insides.{run_of, stores_of}
+use Rattle.kms_core.proofs.Spared.{other_spared}
 use Rattle.kms_core.proofs.machine.Core.read.Goals as goal
 
 pub go_on-requires-clause-client : goal.go_on-requires-clause-client
-go_on-requires-clause-client c = (idle_reader (run_of c.self.inside) c.args.self.now (stores_of c.self.inside) c.args.client c.self.invariant c.self.view_is c.requires).is_client
+go_on-requires-clause-client c = (idle_reader (run_of c.self.inside) c.args.self.now (stores_of c.self.inside) c.args.client c.self.invariant.stands c.self.view_is c.requires).is_client
 
 pub go_on-requires-clause-no_context : goal.go_on-requires-clause-no_context
-go_on-requires-clause-no_context c = (idle_reader (run_of c.self.inside) c.args.self.now (stores_of c.self.inside) c.args.client c.self.invariant c.self.view_is c.requires).no_context
+go_on-requires-clause-no_context c = (idle_reader (run_of c.self.inside) c.args.self.now (stores_of c.self.inside) c.args.client c.self.invariant.stands c.self.view_is c.requires).no_context
 
 pub go_on-requires-clause-command : goal.go_on-requires-clause-command
-go_on-requires-clause-command c = (idle_reader (run_of c.self.inside) c.args.self.now (stores_of c.self.inside) c.args.client c.self.invariant c.self.view_is c.requires).command_fits
+go_on-requires-clause-command c = (idle_reader (run_of c.self.inside) c.args.self.now (stores_of c.self.inside) c.args.client c.self.invariant.stands c.self.view_is c.requires).command_fits
 
 pub index_mut-requires : goal.index_mut-requires
-index_mut-requires c = let fits = has_queue (run_of c.self.inside) c.args.self.now (stores_of c.self.inside) c.args.client c.self.invariant c.self.view_is c.requires in search rules
+index_mut-requires c = let fits = has_queue (run_of c.self.inside) c.args.self.now (stores_of c.self.inside) c.args.client c.self.invariant.stands c.self.view_is c.requires in search rules
 
 pub returns-clause-reply : goal.returns-clause-reply
-returns-clause-reply c = sym c.in-Some.is ∙ c.next_reply.ensures ∙ told_reply (run_of c.self.inside) c.args.self.now (stores_of c.self.inside) c.args.client _ _ c.self.invariant c.self.view_is c.requires c.index.ensures
+returns-clause-reply c = sym c.in-Some.is ∙ c.next_reply.ensures ∙ told_reply (run_of c.self.inside) c.args.self.now (stores_of c.self.inside) c.args.client _ _ c.self.invariant.stands c.self.view_is c.requires c.index.ensures
 
 pub invariant_of-self-2 : goal.invariant_of-self-2
 invariant_of-self-2 c =
+    let stands =
     reads_event (run_of c.self.inside) c.args.self.now (stores_of c.self.inside) c.args.client c.in-Some.reply c.go_on.new.self c.make_room.new.journal c.answer.new.replies (slice_set c.self.inside.queues.items (c.args.client - 1) c.read.new.self) c.make_room.new.steps.items c.push.new.self.items
-    c.self.invariant c.self.view_is c.requires
+    c.self.invariant.stands c.self.view_is c.requires
     (record {
-      told = ap (λ (q : Queue). read_reply q.unread q.reserved) (sym (found_queue (run_of c.self.inside) c.args.self.now (stores_of c.self.inside) c.args.client _ _ c.self.invariant c.self.view_is c.requires c.index.ensures)) ∙ sym c.next_reply.ensures ∙ c.in-Some.is;
-      clients_stand = c.go_on.ensures (machine (run_of c.self.inside)) c.self.invariant.stores.clients;
+      told = ap (λ (q : Queue). read_reply q.unread q.reserved) (sym (found_queue (run_of c.self.inside) c.args.self.now (stores_of c.self.inside) c.args.client _ _ c.self.invariant.stands c.self.view_is c.requires c.index.ensures)) ∙ sym c.next_reply.ensures ∙ c.in-Some.is;
+      clients_stand = c.go_on.ensures (machine (run_of c.self.inside)) c.self.invariant.stands.stores.clients;
       journal_kept = c.in_ok-make_room.ensures.journal;
       replies_more = c.answer.ensures ∙ rw (c.in_ok-make_room.ensures.replies, c.place-number.ensures) refl;
-      queues_after = ap (λ (q : Queue). slice_set c.self.inside.queues.items (c.args.client - 1) q) (c.read.ensures.after ∙ ap after_read (found_queue (run_of c.self.inside) c.args.self.now (stores_of c.self.inside) c.args.client _ _ c.self.invariant c.self.view_is c.requires c.index_mut.ensures.value));
+      queues_after = ap (λ (q : Queue). slice_set c.self.inside.queues.items (c.args.client - 1) q) (c.read.ensures.after ∙ ap after_read (found_queue (run_of c.self.inside) c.args.self.now (stores_of c.self.inside) c.args.client _ _ c.self.invariant.stands c.self.view_is c.requires c.index_mut.ensures.value));
     })
-    c.in_ok-make_room.ensures.steps c.push.ensures.items
+    c.in_ok-make_room.ensures.steps c.push.ensures.items in
+    record { stands = stands; spare = other_spared _ _ _ _ _ _ _ _ _ _ c.self.invariant.stands stands c.in_ok-make_room.ensures.steps c.push.ensures.items refl c.self.invariant.spare c.in_ok-make_room.ensures.steps_room c.push.ensures.room }

@@ -1,16 +1,19 @@
-use Rattle.std.proofs.Common.{◌∙◌, ap, sym}
+use Rattle.std.proofs.Common.{◌∙◌, ap, sym, refl}
 use Rattle.kms_model.specs.declared.runs.Place.{Place}
 use Rattle.kms_core.specs.Run.{machine}
 use Rattle.kms_core.proofs.Insides.{run_of, stores_of}
 use Rattle.kms_core.proofs.Returned.{returns, tells_over, waits_for}
+use Rattle.kms_core.proofs.Spared.{other_spared}
 use Rattle.kms_core.proofs.machine.Core.return_from.Goals as goal
 
 pub go_on-requires-clause-command : goal.go_on-requires-clause-command
-go_on-requires-clause-command c = (waits_for (run_of c.self.inside) c.args.self.now (stores_of c.self.inside) c.args.client c.self.invariant c.self.view_is c.requires).command_fits
+go_on-requires-clause-command c = (waits_for (run_of c.self.inside) c.args.self.now (stores_of c.self.inside) c.args.client c.self.invariant.stands c.self.view_is c.requires).command_fits
 
 pub invariant_of-self-2 : goal.invariant_of-self-2
 invariant_of-self-2 c =
-    returns (run_of c.self.inside) c.args.self.now (stores_of c.self.inside) c.args.client c.go_on.new.self c.make_room.new.self.items c.push.new.self.items c.self.invariant c.self.view_is c.requires
-    (sym (tells_over (run_of c.self.inside) c.args.self.now (stores_of c.self.inside) c.args.client c.in-Returning.commit c.self.invariant c.self.view_is c.requires (ap (λ (p : Place). p.doing) (sym c.place.ensures) ∙ c.in-Returning.is))
+    let stands =
+    returns (run_of c.self.inside) c.args.self.now (stores_of c.self.inside) c.args.client c.go_on.new.self c.make_step_room.new.steps.items c.push.new.self.items c.self.invariant.stands c.self.view_is c.requires
+    (sym (tells_over (run_of c.self.inside) c.args.self.now (stores_of c.self.inside) c.args.client c.in-Returning.commit c.self.invariant.stands c.self.view_is c.requires (ap (λ (p : Place). p.doing) (sym c.place.ensures) ∙ c.in-Returning.is))
     ∙ sym c.is_cleaned.ensures ∙ c.if-not-is_cleaned.false)
-    c.in_ok-make_room.ensures.items c.push.ensures.items (c.go_on.ensures (machine (run_of c.self.inside)) c.self.invariant.stores.clients)
+    c.in_ok-make_step_room.ensures.items c.push.ensures.items (c.go_on.ensures (machine (run_of c.self.inside)) c.self.invariant.stands.stores.clients) in
+    record { stands = stands; spare = other_spared _ _ _ _ _ _ _ _ _ _ c.self.invariant.stands stands c.in_ok-make_step_room.ensures.items c.push.ensures.items refl c.self.invariant.spare c.in_ok-make_step_room.ensures.room c.push.ensures.room }

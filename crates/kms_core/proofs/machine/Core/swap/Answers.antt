@@ -9,37 +9,37 @@ use Rattle.kms_core.proofs.machine.Core.swap.Goals as goal
 
 pub returns-in-Some-clause-answer : goal.returns-in-Some-clause-answer
 returns-in-Some-clause-answer c =
-    answers_again (run_of c.self.inside) c.args.self.now (stores_of c.self.inside) c.args.used.now c.in-Some.stale (swap_answer c.args.self.now (taker (machine c.args.self.now) c.args.t.0)) c.again.result c.self.invariant c.self.view_is
+    answers_again (run_of c.self.inside) c.args.self.now (stores_of c.self.inside) c.args.used.now c.in-Some.stale (swap_answer c.args.self.now (taker (machine c.args.self.now) c.args.t.0)) c.again.result c.self.invariant.stands c.self.view_is
     c.in-Some.ensures c.again.ensures
 
 pub hindered-requires : goal.hindered-requires
 hindered-requires c =
-    ready_as (run_of c.self.inside) c.args.self.now (stores_of c.self.inside) c.args.t.0 c.args.used.now c.args.checked.now c.args.resolved.now c.taker-client.result c.self.invariant c.self.view_is c.in_default.ensures c.requires
+    ready_as (run_of c.self.inside) c.args.self.now (stores_of c.self.inside) c.args.t.0 c.args.used.now c.args.checked.now c.args.resolved.now c.taker-client.result c.self.invariant.stands c.self.view_is c.in_default.ensures c.requires
     c.taker-client.ensures
 
 pub returns-in-Some-2-clause-answer : goal.returns-in-Some-2-clause-answer
 returns-in-Some-2-clause-answer c =
-    hindered_as (run_of c.self.inside) c.args.self.now (stores_of c.self.inside) c.args.t.0 c.args.used.now c.taker-client.result _ c.in-Some-2.decided _ c.self.invariant c.self.view_is c.in_default.ensures
+    hindered_as (run_of c.self.inside) c.args.self.now (stores_of c.self.inside) c.args.t.0 c.args.used.now c.taker-client.result _ c.in-Some-2.decided _ c.self.invariant.stands c.self.view_is c.in_default.ensures
     c.taker-client.ensures (sym c.in-Some-2.is) c.in_ok-decided.ensures.answer
 
 pub returns-in-Some-2-clause-history : goal.returns-in-Some-2-clause-history
 returns-in-Some-2-clause-history c =
-    steps_as (run_of c.self.inside) c.args.self.now c.hindered.new.self (stores_of c.self.inside) c.args.t.0 c.taker-client.result _ c.in-Some-2.decided c.self.invariant c.self.view_is
+    steps_as (run_of c.self.inside) c.args.self.now c.hindered.new.self (stores_of c.self.inside) c.args.t.0 c.taker-client.result _ c.in-Some-2.decided c.self.invariant.stands c.self.view_is
     c.taker-client.ensures (sym c.in-Some-2.is) c.in_ok-decided.ensures.history
 
 pub commit-requires : goal.commit-requires
 commit-requires c =
-    commit_as (run_of c.self.inside) c.args.self.now c.hindered.new.self (stores_of c.self.inside) c.args.t.0 c.args.used.now c.args.checked.now c.args.resolved.now c.taker-client.result _ c.self.invariant c.self.view_is c.in_default.ensures c.requires
+    commit_as (run_of c.self.inside) c.args.self.now c.hindered.new.self (stores_of c.self.inside) c.args.t.0 c.args.used.now c.args.checked.now c.args.resolved.now c.taker-client.result _ c.self.invariant.stands c.self.view_is c.in_default.ensures c.requires
     c.taker-client.ensures (sym c.in_default-2.is) c.in_ok-decided.ensures.history c.in_ok-decided.ensures.may
 
 pub returns-clause-answer : goal.returns-clause-answer
 returns-clause-answer c = (
-  fresh_now (run_of c.self.inside) c.args.self.now (stores_of c.self.inside) c.args.used.now c.self.invariant c.self.view_is c.in_default.ensures,
-  committed_as (run_of c.self.inside) c.args.self.now c.hindered.new.self (stores_of c.self.inside) c.args.t.0 c.taker-client.result c.in_ok-commit.commit _ c.self.invariant c.self.view_is
+  fresh_now (run_of c.self.inside) c.args.self.now (stores_of c.self.inside) c.args.used.now c.self.invariant.stands c.self.view_is c.in_default.ensures,
+  committed_as (run_of c.self.inside) c.args.self.now c.hindered.new.self (stores_of c.self.inside) c.args.t.0 c.taker-client.result c.in_ok-commit.commit _ c.self.invariant.stands c.self.view_is
       c.taker-client.ensures (sym c.in_default-2.is) c.in_ok-decided.ensures.history c.in_ok-decided.ensures.answer c.in_ok-commit.ensures.number,
 )
 
 pub returns-clause-history : goal.returns-clause-history
 returns-clause-history c =
-    gained_as (run_of c.self.inside) c.args.self.now c.hindered.new.self c.commit.new.self (stores_of c.self.inside) c.args.t.0 c.taker-client.result _ c.self.invariant c.self.view_is
+    gained_as (run_of c.self.inside) c.args.self.now c.hindered.new.self c.commit.new.self (stores_of c.self.inside) c.args.t.0 c.taker-client.result _ c.self.invariant.stands c.self.view_is
     c.taker-client.ensures (sym c.in_default-2.is) c.in_ok-decided.ensures.history c.in_ok-commit.ensures.history

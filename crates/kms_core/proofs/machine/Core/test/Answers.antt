@@ -11,18 +11,18 @@ use Rattle.kms_core.proofs.machine.Core.test.Goals as goal
 
 pub returns-in-Some-clause-answer : goal.returns-in-Some-clause-answer
 returns-in-Some-clause-answer c =
-    answers_again (run_of c.self.inside) c.args.self.now (stores_of c.self.inside) c.args.used.now c.in-Some.stale (answer.Done reply.Tested) c.again.result c.self.invariant c.self.view_is
+    answers_again (run_of c.self.inside) c.args.self.now (stores_of c.self.inside) c.args.used.now c.in-Some.stale (answer.Done reply.Tested) c.again.result c.self.invariant.stands c.self.view_is
     c.in-Some.ensures c.again.ensures
 
 pub decide-requires : goal.decide-requires
 decide-requires c =
-    tests_as (run_of c.self.inside) c.args.self.now (stores_of c.self.inside) c.args.t.0 c.args.used.now c.args.checked.now c.taker-client.result c.self.invariant c.self.view_is c.in_default.ensures c.requires
+    tests_as (run_of c.self.inside) c.args.self.now (stores_of c.self.inside) c.args.t.0 c.args.used.now c.args.checked.now c.taker-client.result c.self.invariant.stands c.self.view_is c.in_default.ensures c.requires
     c.taker-client.ensures
 
 pub returns-clause-answer : goal.returns-clause-answer
-returns-clause-answer c = (fresh_now (run_of c.self.inside) c.args.self.now (stores_of c.self.inside) c.args.used.now c.self.invariant c.self.view_is c.in_default.ensures, refl)
+returns-clause-answer c = (fresh_now (run_of c.self.inside) c.args.self.now (stores_of c.self.inside) c.args.used.now c.self.invariant.stands c.self.view_is c.in_default.ensures, refl)
 
 pub returns-clause-history : goal.returns-clause-history
 returns-clause-history c =
     c.in_ok-decide.ensures
-    ∙ ap (λ n. gains c.args.self.now (step.Test n ∷ [])) (taker_as (run_of c.self.inside) c.args.self.now (stores_of c.self.inside) c.args.t.0 c.taker-client.result c.self.invariant c.self.view_is c.taker-client.ensures)
+    ∙ ap (λ n. gains c.args.self.now (step.Test n ∷ [])) (taker_as (run_of c.self.inside) c.args.self.now (stores_of c.self.inside) c.args.t.0 c.taker-client.result c.self.invariant.stands c.self.view_is c.taker-client.ensures)

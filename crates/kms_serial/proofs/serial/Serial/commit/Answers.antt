@@ -1,4 +1,4 @@
-use Rattle.std.proofs.Common.{◌≡◌, ◌∙◌, sym, ap, subst, refl, arith}
+use Rattle.std.proofs.Common.{◌∙◌, sym}
 use Rattle.kms_serial.proofs.Committing.{executes, grows_committed, refuses, stands_committed, tests, values_committed}
 use Rattle.kms_model.proofs.TouchedLemmas.{few_objects}
 use Rattle.kms_serial.proofs.serial.Serial.commit.Goals as goal

@@ -1,4 +1,4 @@
-use Rattle.std.proofs.Common.{◌≡◌, ◌<◌, subst, sym, rules}
+use Rattle.std.proofs.Common.{◌≡◌, ◌<◌, subst, sym}
 use Rattle.kms_serial.specs.Device.{Device}
 use Rattle.kms_model.specs.declared.objects.Kind.TheVariants as kind
 use Rattle.kms_model.specs.Device.Objects.{object_id}

@@ -1,4 +1,4 @@
-use Rattle.std.proofs.Common.{◌≡◌, ◌+◌, ℕ, List, [], length, sym, subst, rules}
+use Rattle.std.proofs.Common.{◌≡◌, ◌+◌, List, [], length, sym, subst, rules}
 use Rattle.kms_model.specs.declared.objects.Kind.TheVariants as kind
 use Rattle.kms_model.specs.declared.scripts.Assign.{Assign}
 use Rattle.kms_model.specs.declared.worlds.World.{World}

@@ -1,17 +1,16 @@
 use Rattle.std.proofs.Common.{◌∙◌}
-use Rattle.kms_model.proofs.TableLemmas.{FoundAt, found, absent, without_id-absent, without_id-present, IsRising-without_id}
+use Rattle.kms_model.proofs.TableLemmas.{absent, without_id-absent, IsRising-without_id}
+use Rattle.kms_signal.proofs.Places.{removed_there}
 use Rattle.kms_signal.proofs.tables.RoomTable.remove.Goals as goal
 
 pub invariant_of-self : goal.invariant_of-self
 invariant_of-self g c =
-    let at : FoundAt c.self.inside.slots.items c.in-Some.i c.args.id = found c.as_slice.result.now c.self.inside.slots.items c.in-Some.i c.args.id c.as_slice.ensures.value c.self.invariant c.in-Some.ensures.in_range c.in-Some.ensures.at in
-    rw (c.remove.ensures.items, without_id-present c.self.inside.slots.items c.in-Some.i c.args.id at.rising at.within at.same)
+    rw (c.remove.ensures.items, removed_there _ _ c.in-Some.i c.args.id c.as_slice.ensures.value c.self.invariant c.in-Some.ensures.in_range c.in-Some.ensures.at)
     (IsRising-without_id c.self.inside.slots.items c.args.id c.self.invariant)
 
 pub returns-in-Some-clause-slots : goal.returns-in-Some-clause-slots
 returns-in-Some-clause-slots g c =
-    let at : FoundAt c.self.inside.slots.items c.in-Some.i c.args.id = found c.as_slice.result.now c.self.inside.slots.items c.in-Some.i c.args.id c.as_slice.ensures.value c.self.invariant c.in-Some.ensures.in_range c.in-Some.ensures.at in
-    rw (← c.self.view_is) (c.remove.ensures.items ∙ without_id-present c.self.inside.slots.items c.in-Some.i c.args.id at.rising at.within at.same)
+    rw (← c.self.view_is) (c.remove.ensures.items ∙ removed_there _ _ c.in-Some.i c.args.id c.as_slice.ensures.value c.self.invariant c.in-Some.ensures.in_range c.in-Some.ensures.at)
 
 pub returns-in-None-clause-slots : goal.returns-in-None-clause-slots
 returns-in-None-clause-slots g c =

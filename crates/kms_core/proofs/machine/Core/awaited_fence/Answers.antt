@@ -1,0 +1,30 @@
+use Rattle.std.proofs.Common.{arith, sym, ◌∙◌}
+use Rattle.kms_core.proofs.Insides.{run_of, stores_of}
+use Rattle.kms_core.proofs.Seeking.{few_tails, goes_up}
+use Rattle.kms_core.proofs.Stalls.{awaits_found, awaits_further, awaits_none, tail_within}
+use Rattle.kms_core.proofs.machine.Core.awaited_fence.Goals as goal
+
+pub awaited_by-requires : goal.awaited_by-requires
+awaited_by-requires c = tail_within (run_of c.self.inside) c.args.self.now (stores_of c.self.inside) c.self.invariant.stands c.self.view_is c.seeking.from c.in-Some.commit c.in-Some.ensures.machine
+
+pub returns-in-Some-awaited_by : goal.returns-in-Some-awaited_by
+returns-in-Some-awaited_by c =
+    awaits_found (run_of c.self.inside) c.args.self.now (stores_of c.self.inside) c.self.invariant.stands c.self.view_is c.seeking.from c.in-Some.commit c.in-Some-awaited_by.fence c.in-Some.ensures.machine (sym c.in-Some-awaited_by.is ∙ c.awaited_by.ensures) c.seeking.invariant
+
+pub overflow_add-from : goal.overflow_add-from
+overflow_add-from c =
+    let l = (goes_up c.self.inside.tails c.seeking.from c.in-Some.commit (few_tails (run_of c.self.inside) (stores_of c.self.inside) c.self.invariant.stands) c.in-Some.ensures.machine).fits in
+    omega (arith, l)
+
+pub seeking-smaller : goal.seeking-smaller
+seeking-smaller c =
+    let up = goes_up c.self.inside.tails c.seeking.from c.in-Some.commit (few_tails (run_of c.self.inside) (stores_of c.self.inside) c.self.invariant.stands) c.in-Some.ensures.machine in
+    let low = up.up in
+    let fits = up.fits in
+    omega (arith, low, fits)
+
+pub seeking-preserved : goal.seeking-preserved
+seeking-preserved c = awaits_further (run_of c.self.inside) c.args.self.now (stores_of c.self.inside) c.self.invariant.stands c.self.view_is c.seeking.from c.in-Some.commit c.in-Some.ensures.machine (sym c.in_default-awaited_by.is ∙ c.awaited_by.ensures) c.seeking.invariant
+
+pub returns : goal.returns
+returns c = awaits_none (run_of c.self.inside) c.args.self.now (stores_of c.self.inside) c.self.invariant.stands c.self.view_is c.seeking.from c.in_default.ensures.machine c.seeking.invariant

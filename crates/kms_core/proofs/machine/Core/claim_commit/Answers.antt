@@ -1,0 +1,26 @@
+use Rattle.std.proofs.Common.{refl, subst, sym}
+use Rattle.kms_model.specs.declared.replies.Step.TheVariants.{Claim}
+use Rattle.kms_core.specs.Run.{Run}
+use Rattle.kms_core.specs.Work.{MayClaim}
+use Rattle.kms_core.proofs.Insides.{run_of, stores_of}
+use Rattle.kms_core.proofs.Marking.{claims}
+use Rattle.kms_core.proofs.Spared.{own_room, own_spared, own_step}
+use Rattle.kms_core.proofs.machine.Core.claim_commit.Goals as goal
+
+pub push-requires : goal.push-requires
+push-requires c =
+    let r = run_of c.self.inside in
+    let st = stores_of c.self.inside in
+    let k = c.args.commit in
+    let own = own_step r st (Claim k) k c.self.invariant.stands refl refl (subst (λ (w : Run). MayClaim w k) (sym c.self.view_is) c.requires) in
+    (own_room r st (Claim k) k _ _ c.self.invariant.stands own c.self.invariant.spare).step
+
+pub invariant_of-self : goal.invariant_of-self
+invariant_of-self c =
+    let r = run_of c.self.inside in
+    let st = stores_of c.self.inside in
+    let k = c.args.commit in
+    let allowed = subst (λ (w : Run). MayClaim w k) (sym c.self.view_is) c.requires in
+    let own = own_step r st (Claim k) k c.self.invariant.stands refl refl allowed in
+    let stands = claims r st k c.claim.new.self c.claim-2.new.self r.steps c.push.new.self.items c.self.invariant.stands allowed refl c.push.ensures.items c.claim.ensures c.claim-2.ensures.stands in
+    record { stands = stands; spare = own_spared r st _ (Claim k) k c.push.new.self.items _ _ _ c.self.invariant.stands stands c.push.ensures.items own c.self.invariant.spare c.push.ensures.room }

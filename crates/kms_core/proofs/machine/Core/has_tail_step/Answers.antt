@@ -1,0 +1,28 @@
+use Rattle.std.proofs.Common.{arith, sym, ◌∙◌}
+use Rattle.kms_core.proofs.Insides.{run_of, stores_of}
+use Rattle.kms_core.proofs.Movers.{no_tail_step, rests_further, some_tail, tail_moved}
+use Rattle.kms_core.proofs.Seeking.{few_tails, goes_up}
+use Rattle.kms_core.proofs.machine.Core.has_tail_step.Goals as goal
+
+pub returns-then-tail_moves : goal.returns-then-tail_moves
+returns-then-tail_moves c =
+    some_tail (run_of c.self.inside) c.args.self.now (stores_of c.self.inside) c.self.invariant.stands c.self.view_is c.seeking.from c.in-Some.commit c.in-Some.ensures.machine (sym (tail_moved c.args.self.now c.in-Some.commit) ∙ sym c.tail_moves.ensures ∙ c.if-tail_moves.true)
+
+pub overflow_add-from : goal.overflow_add-from
+overflow_add-from c =
+    let l = (goes_up c.self.inside.tails c.seeking.from c.in-Some.commit (few_tails (run_of c.self.inside) (stores_of c.self.inside) c.self.invariant.stands) c.in-Some.ensures.machine).fits in
+    omega (arith, l)
+
+pub seeking-smaller : goal.seeking-smaller
+seeking-smaller c =
+    let up = goes_up c.self.inside.tails c.seeking.from c.in-Some.commit (few_tails (run_of c.self.inside) (stores_of c.self.inside) c.self.invariant.stands) c.in-Some.ensures.machine in
+    let low = up.up in
+    let fits = up.fits in
+    omega (arith, low, fits)
+
+pub seeking-preserved : goal.seeking-preserved
+seeking-preserved c =
+    rests_further (run_of c.self.inside) c.args.self.now (stores_of c.self.inside) c.self.invariant.stands c.self.view_is c.seeking.from c.in-Some.commit c.in-Some.ensures.machine (sym (tail_moved c.args.self.now c.in-Some.commit) ∙ sym c.tail_moves.ensures ∙ c.if-tail_moves.false) c.seeking.invariant
+
+pub returns : goal.returns
+returns c = no_tail_step (run_of c.self.inside) c.args.self.now (stores_of c.self.inside) c.self.invariant.stands c.self.view_is c.seeking.from c.in_default.ensures.machine c.seeking.invariant

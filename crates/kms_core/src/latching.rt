@@ -1,0 +1,167 @@
+//! Flushes and vertical blankings, at which commits latch.
+ghost use Rattle.std.specs.Prelude.{◌≡◌, ◌<◌, ◌≤◌, IfOk, IsOk, [], ◌∷◌, None, Some, length, slice_index_or, true};
+ghost use Rattle.kms_model.specs.declared.objects.Kind.TheVariants.{Crtc};
+ghost use Rattle.kms_model.specs.declared.replies.Step.TheVariants as step;
+ghost use Rattle.kms_model.specs.Stores.Tables.{value_with_id};
+ghost use Rattle.kms_signal.specs.StepLaws.{with_signal};
+ghost use Rattle.kms_tails.specs.declared.tail.Tail.{Tail as CommitTail};
+ghost use Rattle.kms_tails.specs.InStep.{StandsAfterLatch};
+ghost use Rattle.kms_track.specs.Tracking.{changed, with_latch};
+ghost use Rattle.kms_core.specs.Latching.{IsLatching, MayBlank, MayFlush, event_told, goes_at, told_if};
+ghost use Rattle.kms_core.specs.Run.{Run, machine, gains, if_ok};
+ghost use Rattle.kms_core.specs.Stands.{queue_of};
+
+use crate::freeing::{free, shown_ids};
+use crate::machine::Core;
+use crate::making::signal_fence;
+use crate::records::make_step_room;
+use kms_model::{Kind, Latch, NoMemory, ObjId, Step};
+use kms_signal::{EventQueue, Fences, flip_event};
+use kms_tails::{Tail, Tails};
+use kms_track::Tracker;
+
+impl Core {
+    /// Flushes the CRTC with an index for the commit that flushes it next. A CRTC that is on after the commit then
+    /// goes: it latches at its next vertical blanking. One that is off latches at once. It takes no memory. (Kernel:
+    /// `drm_atomic_helper.c`, `drm_atomic_helper_commit_planes`, `atomic_flush`.)
+    pub fn flush(&mut self, commit: u32, crtc: u32)
+        requires { MayFlush self.old commit crtc }
+        ensures history { self.new ≡ gains self.old (step.Flush commit Crtc crtc ∷ []) }
+    {
+        self.steps.push(Step::Flush {
+            commit,
+            kind: Kind::Crtc,
+            index: crtc,
+        });
+        self.tails.flushed(commit, crtc);
+        let shown_ids = shown_ids(&self.registers.decode_live(crtc));
+        let Some(picture) = self.registers.flush(crtc) else {
+            self.goes[crtc as usize] = Some(commit);
+            return;
+        };
+        let count = self.registers.count(crtc);
+        let shown = Latch {
+            crtc,
+            commit,
+            count,
+            picture,
+        };
+        latch(
+            &mut self.tails,
+            &mut self.tracker,
+            &mut self.fences,
+            &mut self.queues,
+            &shown,
+        );
+        self.latches.push(shown);
+        free(
+            &mut self.freed,
+            &self.things,
+            &self.present,
+            &self.registers,
+            &self.tails,
+            self.script.topology.crtcs,
+            shown_ids.as_slice(),
+        );
+    }
+
+    /// The CRTC with an index has a vertical blanking, which is counted. True exactly where it goes: the commit that
+    /// flushed it last then latches, which takes no memory. Want of memory comes only where it does not go, and leaves all
+    /// as it was. (Kernel: `drm_vblank.c`, `drm_crtc_handle_vblank`.)
+    pub fn vblank(&mut self, crtc: u32) -> Result<bool, NoMemory>
+        requires { MayBlank self.old crtc }
+        ensures answer { IfOk result (λ went. went ≡ goes_at self.old crtc) }
+        ensures history { self.new ≡ gains self.old
+            (if_ok result (λ went. step.Vblank Crtc crtc ∷ [])) }
+        ensures no_memory { goes_at self.old crtc ≡ true → IsOk result }
+    {
+        let step = Step::Vblank {
+            kind: Kind::Crtc,
+            index: crtc,
+        };
+        let Some(commit) = self.goes[crtc as usize] else {
+            make_step_room(&mut self.steps, &self.tails)?;
+            self.steps.push(step);
+            let _none = self.registers.vblank(crtc);
+            return Ok(false);
+        };
+        self.steps.push(step);
+        let ids_before = shown_ids(&self.registers.decode_live(crtc));
+        let Some(picture) = self.registers.vblank(crtc) else {
+            unreachable!();
+        };
+        self.goes[crtc as usize] = None;
+        let count = self.registers.count(crtc);
+        let shown = Latch {
+            crtc,
+            commit,
+            count,
+            picture,
+        };
+        latch(
+            &mut self.tails,
+            &mut self.tracker,
+            &mut self.fences,
+            &mut self.queues,
+            &shown,
+        );
+        self.latches.push(shown);
+        free(
+            &mut self.freed,
+            &self.things,
+            &self.present,
+            &self.registers,
+            &self.tails,
+            self.script.topology.crtcs,
+            ids_before.as_slice(),
+        );
+        Ok(true)
+    }
+}
+
+/// A commit latches at a CRTC: its event for the CRTC is delivered if it asks for one, and its out-fence there is
+/// signalled if it has one. (Kernel: `drm_vblank.c`, `drm_crtc_send_vblank_event`.)
+fn latch(
+    tails: &mut Tails,
+    tracker: &mut Tracker,
+    fences: &mut Fences,
+    queues: &mut Vec<EventQueue>,
+    shown: &Latch,
+)
+    requires crtc { shown.now.crtc < 4 }
+    requires there { IsLatching tails.old queues.old.items shown.now }
+    ensures tails { StandsAfterLatch shown.now.commit shown.now.crtc tails.old tails.new }
+    ensures tracker { tracker.new
+        ≡ changed tracker.old shown.now.commit (with_latch shown.now.crtc) }
+    ensures fences { (x : CommitTail) → value_with_id tails.old.slots shown.now.commit ≡ Some x
+        → fences.new ≡ with_signal fences.old (slice_index_or x.out_fences shown.now.crtc None) }
+    ensures queues { (x : CommitTail) → value_with_id tails.old.slots shown.now.commit ≡ Some x
+        → queues.new.items
+        ≡ told_if x.wants_event x.client (event_told x shown.now) queues.old.items }
+{
+    let Some(tail) = tails.get(shown.commit) else {
+        unreachable!();
+    };
+    deliver(queues, tail, shown);
+    signal_fence(fences, tail.out_fence(shown.crtc));
+    tracker.flip_done(shown.commit, shown.crtc);
+    tails.latched(shown.commit, shown.crtc);
+}
+
+/// Delivers the event of a commit that latches to its client, if it asks for one.
+fn deliver(queues: &mut Vec<EventQueue>, tail: &Tail, shown: &Latch)
+    requires low { 1 ≤ tail.now.client }
+    requires high { tail.now.client ≤ length queues.old.items }
+    requires reserved { tail.now.wants_event ≡ true
+        → 0 < (queue_of queues.old.items tail.now.client).reserved }
+    requires crtc { shown.now.crtc < 4 }
+    ensures { queues.new.items ≡ told_if tail.now.wants_event tail.now.client
+        (event_told tail.now shown.now) queues.old.items }
+{
+    if !tail.wants_event {
+        return;
+    }
+    let crtc = ObjId::of(Kind::Crtc, shown.crtc).0;
+    let event = flip_event(tail.user_data, shown.count, crtc);
+    queues[(tail.client - 1) as usize].deliver(event);
+}
