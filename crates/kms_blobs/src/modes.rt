@@ -2,7 +2,7 @@
 ghost use Rattle.std.specs.Prelude.{◌≡◌, ◌+◌, ◌≤◌, ◌++◌, length, IfOk, IsTrue, Ok, take, drop, slice_range};
 ghost use Rattle.kms_model.specs.Device.Modes.{is_axis, is_legal_mode};
 ghost use Rattle.kms_model.specs.Device.ModeBytes.{mode_bytes, mode_held, two_at, four_at, if_legal, decoded};
-ghost use Rattle.kms_blobs.specs.Ranges.{FitsBack, FitsFront, FitsMiddle, FitsTypes};
+ghost use Rattle.kms_model.specs.Device.ModeRanges.{FitsBack, FitsFront, FitsMiddle, FitsTypes};
 ghost use Rattle.kms_blobs.specs.Parts.{back_bytes, front_bytes, middle_bytes};
 
 use kms_model::{BadMode, Mode};

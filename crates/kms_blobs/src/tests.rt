@@ -1,7 +1,7 @@
-use crate::{BadMode, BlobStore, decode_mode, encode_mode};
-use kms_model::{Denied, NoMemory};
-use kms_samples::full_hd;
+use crate::{BadMode, BlobStore, decode_mode, encode_mode, mode_of};
+use kms_model::{Denied, Mode, NoMemory};
 
+/// The bytes of the 1920x1080 mode of CEA-861, at 60 Hz.
 const FULL_HD: [u8; 68] = [
     0x14, 0x44, 0x02, 0x00, 0x80, 0x07, 0xd8, 0x07, 0x04, 0x08, 0x98, 0x08, 0x00, 0x00, 0x38, 0x04,
     0x3c, 0x04, 0x41, 0x04, 0x65, 0x04, 0x00, 0x00, 0x3c, 0x00, 0x00, 0x00, 0x05, 0x00, 0x00, 0x00,
@@ -9,10 +9,23 @@ const FULL_HD: [u8; 68] = [
     0, 0, 0, 0, 0, 0, 0, 0, 0, 0, 0, 0, 0, 0, 0, 0, 0,
 ];
 
+fn full_hd() -> Mode {
+    mode_of(&FULL_HD)
+}
+
 #[test]
 fn the_bytes_of_1920x1080_are_read_and_written(rt: HostRuntime) {
-    assert!(rt; decode_mode(&FULL_HD) == Ok(full_hd()));
-    assert!(rt; encode_mode(&full_hd()) == FULL_HD);
+    let mode = full_hd();
+    assert!(rt; decode_mode(&FULL_HD) == Ok(mode));
+    assert!(rt; encode_mode(&mode) == FULL_HD);
+    assert_eq!(rt; mode.clock, 148500);
+    let row = [mode.hdisplay, mode.hsync_start, mode.hsync_end, mode.htotal];
+    assert_eq!(rt; row, [1920, 2008, 2052, 2200]);
+    let column = [mode.vdisplay, mode.vsync_start, mode.vsync_end, mode.vtotal];
+    assert_eq!(rt; column, [1080, 1084, 1089, 1125]);
+    assert_eq!(rt; [mode.hskew, mode.vscan], [0, 0]);
+    assert_eq!(rt; [mode.vrefresh, mode.flags, mode.kind], [60, 5, 64]);
+    assert!(rt; mode.name[..10] == *b"1920x1080\0");
 }
 
 #[test]

@@ -9,8 +9,8 @@ use Rattle.std.specs.Option.{option_and_then}
 use Rattle.std.specs.Result.{result_ok}
 use Rattle.std.proofs.lemmas.Bool.{eqb-true, and_parts, leb-true, ltb-true, or_cases}
 use Rattle.std.proofs.lemmas.Nat.{le_bytes_4}
-use Rattle.kms_blobs.proofs.RoundTrip.{mode_bytes-mode_held, mode_held-mode_bytes}
-use Rattle.kms_blobs.specs.Ranges.{FitsTypes}
+use Rattle.kms_model.proofs.ModeRoundTrip.{mode_bytes-mode_held, mode_held-mode_bytes}
+use Rattle.kms_model.specs.Device.ModeRanges.{FitsTypes}
 use Rattle.kms_model.specs.declared.objects.Mode.{Mode}
 use Rattle.kms_model.specs.declared.scripts.Command.{Command}
 use Rattle.kms_model.specs.declared.scripts.Command.TheVariants as command

@@ -12,6 +12,7 @@ pub mod LateLemmas
 pub mod MachineInputs
 pub mod MachineRows
 pub mod MaskLemmas
+pub mod ModeRoundTrip
 pub mod ObjectLemmas
 pub mod OnLiterals
 pub mod OnMachines

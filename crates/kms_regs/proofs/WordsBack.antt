@@ -20,7 +20,7 @@ use Rattle.kms_model.specs.Device.ModeBytes.{mode_bytes, mode_held}
 use Rattle.kms_model.specs.Device.Sound.{IsBetween}
 use Rattle.kms_model.specs.Device.States.{natural}
 use Rattle.kms_model.specs.Machine.Registers.{CrtcWords, Registers, bytes_of_words, code_of, crtc_words, decoded_picture, fb_number, flag_word, format_in, mode_words, plane_in, plane_register, plane_words, shown_in_words, words_of_bytes}
-use Rattle.kms_blobs.proofs.RoundTrip.{mode_held-mode_bytes}
+use Rattle.kms_model.proofs.ModeRoundTrip.{mode_held-mode_bytes}
 use Rattle.kms_regs.specs.Written.{AreBytes, AreWritten, HasId, HasMode, IsWritable, IsWritableMode, picture_of_states}
 use Rattle.kms_regs.proofs.Rows.{other_id}
 use Rattle.kms_regs.proofs.SameWords.{same_layers}

@@ -12,7 +12,7 @@ use Rattle.kms_model.specs.declared.states.CrtcState.{CrtcState}
 use Rattle.kms_model.specs.declared.states.PlaneState.{PlaneState}
 use Rattle.kms_model.specs.Frames.Pictures.{layers_with, shown_with}
 use Rattle.kms_model.specs.Machine.Registers.{Registers, crtc_register, crtc_words, plane_register, plane_words}
-use Rattle.kms_blobs.specs.Ranges.{FitsTypes}
+use Rattle.kms_model.specs.Device.ModeRanges.{FitsTypes}
 
 -- a framebuffer, if there is one, has an id
 abbrev pub HasId : Option FbInfo → Type 0

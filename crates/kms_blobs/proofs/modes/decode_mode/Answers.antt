@@ -1,5 +1,5 @@
 use Rattle.std.proofs.Common.{rules}
-use Rattle.kms_blobs.proofs.RoundTrip.{AreBytes, mode_bytes-if_legal}
+use Rattle.kms_model.proofs.ModeRoundTrip.{AreBytes, mode_bytes-if_legal}
 use Rattle.kms_blobs.proofs.modes.decode_mode.Goals as goal
 
 pub returns-clause-written_back : goal.returns-clause-written_back

@@ -1,5 +1,5 @@
 use Rattle.std.proofs.Common.{rules}
-use Rattle.kms_blobs.proofs.RoundTrip.{decoded-mode_bytes}
+use Rattle.kms_model.proofs.ModeRoundTrip.{decoded-mode_bytes}
 use Rattle.kms_blobs.proofs.modes.encode_mode.Goals as goal
 
 pub returns-clause-read_back : goal.returns-clause-read_back

@@ -10,7 +10,7 @@ use Rattle.std.proofs.lemmas.Nat.{le_bytes_2, le_bytes_4, from_le_bytes-to_le_by
 use Rattle.kms_model.specs.declared.objects.Mode.{Mode}
 use Rattle.kms_model.specs.declared.stores.BadMode.TheVariants.{Horizontal, Vertical, Clock, Size}
 use Rattle.kms_model.specs.Device.Modes.{is_axis, is_legal_mode}
-use Rattle.kms_blobs.specs.Ranges.{FitsTypes}
+use Rattle.kms_model.specs.Device.ModeRanges.{FitsTypes}
 use Rattle.kms_model.specs.Device.ModeBytes.{mode_bytes, mode_held, if_legal, decoded}
 
 -- bytes are below 256

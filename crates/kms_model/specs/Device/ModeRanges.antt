@@ -1,4 +1,4 @@
--- Ranges of a mode's fields.
+-- A mode whose fields are within the widths that they have in its bytes. From: `drm_mode.h`, struct drm_mode_modeinfo.
 use Rattle.std.specs.Prelude.{◌≡◌, ◌<◌, ◌^◌, length}
 use Rattle.kms_model.specs.declared.objects.Mode.{Mode}
 
