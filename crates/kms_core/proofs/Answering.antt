@@ -16,7 +16,7 @@ use Rattle.kms_clients.specs.Standing.{Standing, IsClient, place_of}
 use Rattle.kms_laws.proofs.Present.{reverse_more}
 use Rattle.kms_laws.proofs.SmallNumbers.{numbers_fit}
 use Rattle.kms_core.specs.Decisions.{Decides}
-use Rattle.kms_core.specs.Logs.{Logged}
+use Rattle.kms_logs.specs.Logs.{Logged}
 use Rattle.kms_core.specs.Run.{Run, machine}
 use Rattle.kms_core.specs.Stands.{Stores, StandsAt, Stands, entry_pair}
 use Rattle.kms_core.proofs.Histories.{goes_same}

@@ -42,16 +42,17 @@ use Rattle.kms_tails.proofs.StepLemmas as tails_follow
 use Rattle.kms_track.specs.Tracking.{Tracking, changed, with_latch}
 use Rattle.kms_track.proofs.StepLemmas as tracker_follows
 use Rattle.kms_core.specs.Latching.{IsLatching, MayBlank, event_told, goes_at, told_if}
-use Rattle.kms_core.specs.Logs.{Logged}
+use Rattle.kms_logs.specs.Logs.{Logged}
 use Rattle.kms_core.specs.Run.{Run, machine}
 use Rattle.kms_core.specs.Stands.{AreGoing, Stores, Stands, queue_of}
 use Rattle.kms_core.proofs.CommitStates.{commits_sound, facts}
-use Rattle.kms_core.specs.Freeing.{AreAllOf, Reserved}
+use Rattle.kms_freeing.specs.Freeing.{AreAllOf}
+use Rattle.kms_logs.specs.Logs.{Reserved}
 use Rattle.kms_core.specs.Needs.{Frees}
 use Rattle.kms_core.specs.Work.{AreFewTails}
 use Rattle.kms_core.proofs.FreedCalls.{goes_latching, latches_by}
-use Rattle.kms_core.proofs.FreedHistories.{changes}
-use Rattle.kms_core.proofs.FreedSteps.{SameNeeds}
+use Rattle.kms_freeing.proofs.FreedHistories.{changes}
+use Rattle.kms_freeing.proofs.FreedSteps.{SameNeeds}
 use Rattle.kms_core.proofs.Histories.{goes_same}
 use Rattle.kms_laws.proofs.SmallNumbers.{numbers_fit}
 use Rattle.kms_model.specs.Machine.Framebuffers.{picture_names}

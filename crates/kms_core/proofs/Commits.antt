@@ -64,7 +64,7 @@ use Rattle.kms_track.specs.InStep.{IsInStep}
 use Rattle.kms_track.specs.StepLaws.{new_commit}
 use Rattle.kms_track.specs.Tracking.{IsSetUp, Tracking}
 use Rattle.kms_core.specs.Calls.{answered}
-use Rattle.kms_core.specs.Logs.{Logged}
+use Rattle.kms_logs.specs.Logs.{Logged}
 use Rattle.kms_core.specs.Run.{Run, machine}
 use Rattle.kms_core.specs.Decisions.{world}
 use Rattle.kms_core.specs.Settled.{IsSettled, events_of, fences_for, fences_under, id_under, label_in, labels_in}
@@ -72,11 +72,12 @@ use Rattle.kms_core.specs.Stands.{AreOutFencesMade, AreQueues, AreRecords, IsWor
 use Rattle.kms_core.specs.Swaps.{MayCommit}
 use Rattle.kms_core.proofs.Answering.{MayDecide, may_decide}
 use Rattle.kms_core.proofs.Committed.{committed_present, has_plane}
-use Rattle.kms_core.proofs.Ended.{history_ended}
+use Rattle.kms_once.proofs.Ended.{history_ended}
 use Rattle.kms_core.proofs.Fencing.{same_fences, same_slots, thing_made as thing_under}
 use Rattle.kms_core.proofs.Histories.{goes_on}
-use Rattle.kms_core.proofs.Labels.{asks_made, makes, serial_absent}
-use Rattle.kms_core.proofs.MadeOnce.{made_once}
+use Rattle.kms_once.proofs.Labels.{asks_made, serial_absent}
+use Rattle.kms_once.specs.Once.{makes}
+use Rattle.kms_once.proofs.MadeOnce.{made_once}
 use Rattle.kms_core.proofs.Lates.{OwnQueue, count_named, own_queue}
 use Rattle.kms_core.proofs.OutFences.{FencesStand, fences_more, found_or_made, out_fences_made}
 use Rattle.kms_core.proofs.OutLabels.{few_in_fences, label_at_crtc, labels_of_crtcs}

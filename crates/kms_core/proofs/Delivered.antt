@@ -21,7 +21,7 @@ use Rattle.kms_signal.proofs.StepLemmas.{queues_follow_others_read, queues_follo
 use Rattle.kms_signal.specs.InStep.{IsQueueOf}
 use Rattle.kms_signal.specs.Queues.{Queue, after_read, empty_queue}
 use Rattle.kms_core.specs.Calls.{MayRead, answered, read_at, read_reply}
-use Rattle.kms_core.specs.Logs.{Logged}
+use Rattle.kms_logs.specs.Logs.{Logged}
 use Rattle.kms_core.specs.Run.{Run, machine}
 use Rattle.kms_core.specs.Stands.{Stores, Stands, StandsAt, AreQueues, AreRecords, queue_of}
 use Rattle.kms_core.proofs.Beside.{stands_moved}

@@ -31,9 +31,9 @@ use Rattle.kms_things.specs.Commands.{IsNoRequest}
 use Rattle.kms_things.specs.Made.{HasIds, Made, with_made}
 use Rattle.kms_things.specs.Present.{IsPresent}
 use Rattle.kms_core.specs.Calls.{MayMake, answered, joined, reply_at, reply_to_command, with_fence_of}
-use Rattle.kms_core.specs.Freeing.{Reserved}
+use Rattle.kms_logs.specs.Logs.{Reserved}
 use Rattle.kms_core.specs.Needs.{Accounts, HasPlaceFor}
-use Rattle.kms_core.specs.Logs.{Logged}
+use Rattle.kms_logs.specs.Logs.{Logged}
 use Rattle.kms_core.specs.Run.{Run, machine}
 use Rattle.kms_core.specs.Stands.{AreMadeFences, IsWorldOf, Stores, Stands, StandsAt}
 use Rattle.kms_core.proofs.Beside.{moved, stands_moved}

@@ -29,17 +29,18 @@ use Rattle.kms_model.proofs.Items.{IsIn}
 use Rattle.kms_laws.proofs.Headlines.{range-in}
 use Rattle.kms_laws.proofs.Modes.{plain-from}
 use Rattle.kms_laws.proofs.Steps.{IsPlainScript, history_kept}
-use Rattle.kms_core.specs.Freeing.{AreAllOf, AreFreed, AreRising, Reserved, framebuffers_in, freed_among, is_framebuffer_in, layers_of}
+use Rattle.kms_freeing.specs.Freeing.{AreAllOf, AreFreed, AreRising, framebuffers_in, freed_among, is_framebuffer_in, layers_of}
+use Rattle.kms_logs.specs.Logs.{Reserved}
 use Rattle.kms_core.specs.Needs.{Accounts, Frees, HasPlaceFor, TellNeeds}
 use Rattle.kms_core.specs.Run.{Run, machine}
 use Rattle.kms_core.specs.Stands.{Stores, Stands, StandsAt}
-use Rattle.kms_core.proofs.FreedBetween.{found_same}
-use Rattle.kms_core.proofs.FreedHistories.{Executes, Latches, added_freed, changes, latch_frees, make_frees, quiet_freed, told_freed}
-use Rattle.kms_core.proofs.FreedIds.{shown_few}
-use Rattle.kms_core.proofs.FreedLatches.{live_by}
-use Rattle.kms_core.proofs.FreedLists.{as_many, filter-in, passes, rising_filter}
-use Rattle.kms_core.proofs.FreedMakes.{MadeFrees}
-use Rattle.kms_core.proofs.FreedSteps.{IsTold, SameNeeds, cleanup_told, each_of, keeps_by, needed_by}
+use Rattle.kms_freeing.proofs.FreedBetween.{found_same}
+use Rattle.kms_freeing.proofs.FreedHistories.{Executes, Latches, added_freed, changes, latch_frees, make_frees, quiet_freed, told_freed}
+use Rattle.kms_freeing.proofs.Candidates.{shown_few}
+use Rattle.kms_freeing.proofs.FreedLatches.{live_by}
+use Rattle.kms_freeing.proofs.FreedLists.{as_many, filter-in, passes, rising_filter}
+use Rattle.kms_freeing.proofs.FreedMakes.{MadeFrees}
+use Rattle.kms_freeing.proofs.FreedSteps.{IsTold, SameNeeds, cleanup_told, each_of, keeps_by, needed_by}
 use Rattle.kms_core.proofs.Histories.{goes_freeing, with_freed}
 
 -- the stores that stand for a machine tell what it needs

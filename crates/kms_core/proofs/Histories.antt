@@ -7,11 +7,12 @@ use Rattle.kms_model.specs.Machine.Effects.{next}
 use Rattle.kms_model.specs.Machine.Histories.{are_legal, at, is_history, legal, run_steps}
 use Rattle.kms_model.specs.Machine.State.{Machine, first_machine}
 use Rattle.kms_laws.proofs.Modes.{plain-from}
-use Rattle.kms_core.specs.Freeing.{AreFreed, Reserved, may_free}
+use Rattle.kms_freeing.specs.Freeing.{AreFreed, may_free}
+use Rattle.kms_logs.specs.Logs.{Reserved}
 use Rattle.kms_core.specs.Run.{Run, machine}
 use Rattle.kms_core.specs.Stands.{Stores, StandsAt, Stands}
-use Rattle.kms_core.proofs.FreedHistories.{kind_freed, quiet_freed, quiet_needs}
-use Rattle.kms_core.proofs.FreedSteps.{SameNeeds}
+use Rattle.kms_freeing.proofs.FreedHistories.{kind_freed, quiet_freed, quiet_needs}
+use Rattle.kms_freeing.proofs.FreedSteps.{SameNeeds}
 
 pub run_more : (s : Script) (m : Machine) (h : List Step) (step : Step) → run_steps s m (h ++ step ∷ []) ≡ next s (run_steps s m h) step
 unfolding run_steps

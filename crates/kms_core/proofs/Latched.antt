@@ -34,7 +34,7 @@ use Rattle.kms_tails.specs.InStep.{AreTailsOf, IsKept, IsTailOf, out_fence_at}
 use Rattle.kms_track.specs.InStep.{IsTrackerOf}
 use Rattle.kms_track.specs.Tracking.{Tracking}
 use Rattle.kms_core.specs.Latching.{IsLatching, event_told, told_if}
-use Rattle.kms_core.specs.Logs.{Logged}
+use Rattle.kms_logs.specs.Logs.{Logged}
 use Rattle.kms_core.specs.Stands.{AreGoing, AreMadeFences, AreQueues, Stores, StandsAt, queue_of}
 use Rattle.kms_core.proofs.Fencing.{signalled_fenced}
 

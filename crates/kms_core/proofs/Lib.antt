@@ -29,11 +29,6 @@ mod JudgedRequests
 mod Swaps
 mod OutFences
 mod OutLabels
-mod Labels
-mod Ended
-mod MadeNames
-mod MadeCommands
-mod MadeOnce
 mod Commits
 mod Swapped
 mod CommitStates
@@ -51,14 +46,6 @@ mod Movers
 mod Legals
 mod Stalls
 mod Applied
-mod FadeScript
-mod FenceScript
 mod ClientSteps
-mod FreedLists
-mod FreedBetween
-mod FreedSteps
-mod FreedLatches
-mod FreedMakes
-mod FreedHistories
 mod FreedIds
 mod FreedCalls

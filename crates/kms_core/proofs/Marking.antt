@@ -24,7 +24,8 @@ use Rattle.kms_track.specs.StepLaws.{HasNames}
 use Rattle.kms_track.specs.Tracking.{Tracking, changed, with_claim, with_done}
 use Rattle.kms_track.proofs.CheckedLemmas.{device_within}
 use Rattle.kms_track.proofs.StepLemmas as tracker_follows
-use Rattle.kms_core.specs.Freeing.{AreAllOf, Reserved, framebuffers_in}
+use Rattle.kms_freeing.specs.Freeing.{AreAllOf, framebuffers_in}
+use Rattle.kms_logs.specs.Logs.{Reserved}
 use Rattle.kms_core.specs.Needs.{Frees}
 use Rattle.kms_core.specs.Run.{Run, machine}
 use Rattle.kms_core.specs.Stands.{Stores, Stands, StandsAt}

@@ -23,7 +23,7 @@ use Rattle.kms_signal.specs.FenceSets.{FenceSet, is_made}
 use Rattle.kms_signal.specs.StepLaws.{with_signal}
 use Rattle.kms_things.specs.Made.{with_made}
 use Rattle.kms_core.specs.Calls.{MaySignal, answered, fence_of, reply_at, reply_to_command}
-use Rattle.kms_core.specs.Logs.{Logged}
+use Rattle.kms_logs.specs.Logs.{Logged}
 use Rattle.kms_core.specs.Run.{Run, machine}
 use Rattle.kms_core.specs.Stands.{AreRecords, Stores, Stands, StandsAt}
 use Rattle.kms_signal.proofs.FenceLemmas.{still_made}

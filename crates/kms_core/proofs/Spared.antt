@@ -20,7 +20,7 @@ use Rattle.kms_tails.specs.InStep.{IsKept}
 use Rattle.kms_tails.specs.StepLaws.{commit_of}
 use Rattle.kms_tails.proofs.StepLemmas.{legal_below}
 use Rattle.kms_core.specs.Decisions.{Decides}
-use Rattle.kms_core.specs.Logs.{Logged}
+use Rattle.kms_logs.specs.Logs.{Logged}
 use Rattle.kms_core.specs.Run.{Run, machine}
 use Rattle.kms_core.specs.Stands.{HasSpare, Holds, Stands, Stores}
 use Rattle.kms_core.proofs.CommitStates.{facts}

@@ -1,4 +1,3 @@
-pub mod Logs
 pub mod Run
 pub mod Stands
 pub mod States

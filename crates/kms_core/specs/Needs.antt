@@ -15,7 +15,8 @@ use Rattle.kms_signal.specs.Rooms.{Rooms}
 use Rattle.kms_tails.specs.declared.tail.Tail.{Tail}
 use Rattle.kms_tails.specs.InStep.{AreTailsOf}
 use Rattle.kms_things.specs.Made.{Made}
-use Rattle.kms_core.specs.Freeing.{Reserved, framebuffers_in, freed_among}
+use Rattle.kms_freeing.specs.Freeing.{framebuffers_in, freed_among}
+use Rattle.kms_logs.specs.Logs.{Reserved}
 use Rattle.kms_core.specs.Stands.{IsWorldOf}
 
 -- these stores stand for their parts of a machine, whose device has so many CRTCs

@@ -11,10 +11,11 @@ ghost use Rattle.kms_core.specs.Latching.{IsLatching, MayBlank, MayFlush, event_
 ghost use Rattle.kms_core.specs.Run.{Run, machine, gains, if_ok};
 ghost use Rattle.kms_core.specs.Stands.{queue_of};
 
-use crate::freeing::{free, shown_ids};
+use crate::freeing::free;
 use crate::machine::Core;
 use crate::making::signal_fence;
 use crate::records::make_step_room;
+use kms_freeing::shown_ids;
 use kms_model::{Kind, Latch, NoMemory, ObjId, Step};
 use kms_signal::{EventQueue, Fences, flip_event};
 use kms_tails::{Tail, Tails};

@@ -8,13 +8,9 @@ mod committing;
 mod contexts;
 mod deciding;
 mod freeing;
-#[cfg(test)]
-mod freeing_tests;
 mod judging;
 mod latching;
-mod ledgers;
 mod legality;
-mod logs;
 mod lookers;
 mod machine;
 mod making;
@@ -24,14 +20,10 @@ mod promises;
 mod queries;
 mod reading;
 mod records;
-#[cfg(test)]
-mod request_tests;
 mod stalling;
 mod states;
 mod swapping;
 mod tail_steps;
-#[cfg(test)]
-mod tests;
 mod workers;
 
 pub use contexts::Locked;

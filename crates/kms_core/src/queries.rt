@@ -12,7 +12,7 @@ ghost use Rattle.kms_model.specs.Machine.State.{go_at, place_at};
 ghost use Rattle.kms_model.specs.Script.WellFormed.{IsWellFormed};
 ghost use Rattle.kms_laws.specs.TailsLeft.{all_left};
 ghost use Rattle.kms_core.specs.Calls.{idle_command_at};
-ghost use Rattle.kms_core.specs.Freeing.{label_and_id};
+ghost use Rattle.kms_freeing.specs.Freeing.{label_and_id};
 ghost use Rattle.kms_core.specs.Run.{machine};
 ghost use Rattle.kms_core.specs.Stands.{entry_pair};
 

@@ -3,7 +3,7 @@ ghost use Rattle.std.specs.Prelude.{◌≡◌, ◌<◌, ◌≤◌, ◌+◌, ◌*
 ghost use Rattle.kms_model.specs.Device.Serial.{is_accepted};
 ghost use Rattle.kms_core.specs.Calls.{answered, joined};
 
-use crate::logs::Log;
+use kms_logs::Log;
 use kms_model::{Answered, Latch, NoMemory, Reply, Step};
 use kms_tails::Tails;
 

@@ -1,7 +1,7 @@
 use Rattle.std.proofs.Common.{◌≡◌, ◌≤◌, ◌+◌, ◌++◌, drop, length}
 use Rattle.kms_model.specs.declared.objects.Topology.{Topology}
 use Rattle.kms_model.specs.Machine.State.{Machine}
-use Rattle.kms_core.specs.Freeing.{framebuffers_in, freed_among}
+use Rattle.kms_freeing.specs.Freeing.{framebuffers_in, freed_among}
 use Rattle.kms_core.specs.Needs.{TellNeeds}
 use Rattle.kms_core.proofs.freeing.free.Given as goal
 

@@ -1,6 +1,6 @@
 use Rattle.std.proofs.Common.{◌≡◌, ◌∙◌, ap, arith, refl, sym, subst, length}
 use Rattle.arrayvec.specs.ArrayVec.{array_vec_len}
-use Rattle.kms_core.specs.Freeing.{AreAllOf, put_ids}
+use Rattle.kms_freeing.specs.Freeing.{AreAllOf, put_ids}
 use Rattle.kms_model.specs.Machine.Framebuffers.{commit_keeps}
 use Rattle.kms_core.proofs.FreedIds.{first_ids, kept_all, put_end, put_on}
 use Rattle.kms_core.proofs.freeing.kept_ids.Goals as goal

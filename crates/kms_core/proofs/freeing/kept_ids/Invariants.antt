@@ -1,6 +1,7 @@
 use Rattle.std.proofs.Common.{◌≡◌, ◌≤◌, ◌-◌, ◌*◌, []}
 use Rattle.arrayvec.specs.ArrayVec.{array_vec_len}
-use Rattle.kms_core.specs.Freeing.{all_ids, put_ids, tail_ids}
+use Rattle.kms_freeing.specs.Freeing.{put_ids}
+use Rattle.kms_core.specs.Freeing.{all_ids, tail_ids}
 use Rattle.kms_core.proofs.freeing.kept_ids.Given as goal
 
 -- the rest put to those so far are all

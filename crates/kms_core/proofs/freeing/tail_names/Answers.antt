@@ -1,6 +1,6 @@
 use Rattle.std.proofs.Common.{◌∙◌, ap}
 use Rattle.kms_model.specs.Machine.Commits.{has_number}
-use Rattle.kms_core.specs.Freeing.{both_ids}
+use Rattle.kms_freeing.specs.Freeing.{both_ids}
 use Rattle.kms_core.proofs.FreedIds.{first_ids, tail_end, tail_here, tail_on}
 use Rattle.kms_core.proofs.freeing.tail_names.Goals as goal
 

@@ -1,0 +1,10 @@
+//! Lists that are written at their ends alone, into memory that was taken beforehand: the records of a machine.
+#![tactic(auto)]
+
+mod ledgers;
+mod logs;
+#[cfg(test)]
+mod tests;
+
+pub use ledgers::Ledger;
+pub use logs::Log;

@@ -1,0 +1,5 @@
+pub mod Labels
+pub mod MadeNames
+pub mod MadeCommands
+pub mod MadeOnce
+pub mod Ended
