@@ -28,7 +28,7 @@ use Rattle.kms_laws.proofs.Stalled.{legal-going}
 use Rattle.kms_laws.proofs.Steps.{flush-found, value-is}
 use Rattle.kms_wwlock.specs.declared.table.Lock.TheVariants as table
 use Rattle.kms_wwlock.specs.declared.table.Relock.TheVariants as again
-use Rattle.kms_core.specs.Calls.{MayRead, MayReturn, is_over_at, read_at, read_step}
+use Rattle.kms_core.specs.Calls.{MayRead, MayReturn, is_over_at, read_at, read_reply, read_step, unless_ended}
 use Rattle.kms_core.specs.Locks.{MayBackOff, MayLock, MayRelock, is_step, lock_steps, locked_answer, object_of, present_state, relock_steps, relocked_answer, relocked_as}
 use Rattle.kms_core.specs.declared.contexts.Locked.{Locked}
 use Rattle.kms_core.specs.Next.{IsLegal}
@@ -114,7 +114,7 @@ module _ (v : Run) where
 
   pub read_asked : (client : ℕ) → IsLegal v (step.Read client) → MayRead v client
   unfolding legal may
-  read_asked client asked = record { idle = (and_parts (idle_at v.script (machine v) client is_wait) _ (not_ended (machine v).stalled _ asked)).0; going = legal-going v.script (machine v) (step.Read client) asked }
+  read_asked client asked = (and_parts (idle_at v.script (machine v) client is_wait) _ (not_ended (machine v).stalled _ asked)).0
 
   stepped : (client : ℕ) (o : Option Reply) → is_some o ≡ true → read_step client o ≡ step.Read client ∷ []
   stepped client None e = absurd (false≢true e)
@@ -124,7 +124,7 @@ module _ (v : Run) where
   unfolding legal may
   read_done client o asked is =
       stepped client o
-      (ap (λ (x : Option Reply). is_some x) is ∙ answered_is (unread_at (machine v).events client) (reserved_at (machine v).events client)
+      (ap (λ (x : Option Reply). is_some x) (is ∙ ap (λ b. unless_ended b (read_reply (unread_at (machine v).events client) (reserved_at (machine v).events client))) (legal-going v.script (machine v) (step.Read client) asked)) ∙ answered_is (unread_at (machine v).events client) (reserved_at (machine v).events client)
       ∙ (and_parts (idle_at v.script (machine v) client is_wait) _ (not_ended (machine v).stalled _ asked)).1)
 
   -- CRTCs
@@ -206,7 +206,7 @@ module _ (v : Run) where
   return_done client asked = over (returning_of (doing_at (machine v) client)) refl where
     over : (o : Option ℕ) → returning_of (doing_at (machine v) client) ≡ o → is_over_at v client ≡ true
     over None is = absurd (false≢true (rw is at (not_ended (machine v).stalled _ asked)))
-    over (Some k) is = rw is (rw is at (not_ended (machine v).stalled _ asked))
+    over (Some k) is = and_from (not (machine v).stalled) _ (ap not (legal-going v.script (machine v) (step.Return client) asked)) (rw is (rw is at (not_ended (machine v).stalled _ asked)))
 
 -- What the stores tell besides
 
@@ -290,4 +290,4 @@ module _ (r v : Run) (st : Stores) (stands : Stands r st) (same : r ≡ v) where
     returns None is = absurd (false≢true (rw is at (not_ended (machine r).stalled _ now)))
     returns (Some k) is =
         let there = inside client (λ idle. (let none : None ≡ Some k = ap returning_of (sym idle) ∙ is in cc)) in
-        subst (λ (w : Run). MayReturn w client) same (record { low = there.0; high = there.1; commit = k; returning = is; going = legal-going r.script (machine r) (step.Return client) now })
+        subst (λ (w : Run). MayReturn w client) same (record { low = there.0; high = there.1; commit = k; returning = is })

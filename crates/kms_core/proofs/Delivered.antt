@@ -1,5 +1,5 @@
 -- A client that reads its oldest event, or is told that none will come.
-use Rattle.std.proofs.Common.{◌≡◌, ℕ, zero, suc, ◌≤◌, ◌<◌, ◌-◌, true, List, [], ◌∷◌, ◌++◌, length, get_or, Some, inl, inr, refl, sym, ap, ◌∙◌, subst, arith}
+use Rattle.std.proofs.Common.{◌≡◌, ℕ, zero, suc, ◌≤◌, ◌<◌, ◌-◌, true, false, List, [], ◌∷◌, ◌++◌, length, get_or, Some, None, inl, inr, refl, sym, ap, ◌∙◌, subst, arith}
 use Rattle.std.specs.Prelude.{◌||◌, ◌==◌, not, nat_lt, slice_set}
 use Rattle.std.proofs.lemmas.Bool.{and_from, lt-ltb}
 use Rattle.std.proofs.lemmas.Bool.Decides.{eqb_tells}
@@ -20,7 +20,7 @@ use Rattle.kms_clients.specs.Standing.{Standing, place_of}
 use Rattle.kms_signal.proofs.StepLemmas.{queues_follow_others_read, queues_follow_read}
 use Rattle.kms_signal.specs.InStep.{IsQueueOf}
 use Rattle.kms_signal.specs.Queues.{Queue, after_read, empty_queue}
-use Rattle.kms_core.specs.Calls.{MayRead, answered, read_at, read_reply}
+use Rattle.kms_core.specs.Calls.{MayRead, answered, read_at, read_reply, unless_ended}
 use Rattle.kms_logs.specs.Logs.{Logged}
 use Rattle.kms_core.specs.Run.{Run, machine}
 use Rattle.kms_core.specs.Stands.{Stores, Stands, StandsAt, AreQueues, AreRecords, queue_of}
@@ -30,7 +30,7 @@ use Rattle.kms_core.proofs.Places.{IsIdleAt, idle_there}
 use Rattle.kms_core.proofs.Recorded.{records_answered}
 
 pub idle_reader : (r v : Run) (st : Stores) (client : ℕ) → Stands r st → r ≡ v → MayRead v client → IsIdleAt r st client is_wait
-idle_reader r v st client stands same now = idle_there r st client is_wait stands (subst (λ (w : Run). MayRead w client) (sym same) now).idle
+idle_reader r v st client stands same now = idle_there r st client is_wait stands (subst (λ (w : Run). MayRead w client) (sym same) now)
 
 pub has_queue : (r v : Run) (st : Stores) (client : ℕ) → Stands r st → r ≡ v → MayRead v client → client - 1 < length st.queues
 has_queue r v st client stands same now =
@@ -40,21 +40,28 @@ has_queue r v st client stands same now =
     let size = stands.stores.queues.size in
     omega (arith, low, high, size)
 
--- what the client's queue tells is what the machine does
-pub reply_told : (r v : Run) (st : Stores) (client : ℕ) → Stands r st → r ≡ v → MayRead v client → read_reply (queue_of st.queues client).unread (queue_of st.queues client).reserved ≡ read_at v client
-reply_told r v st client stands same now =
+-- what the client's queue tells is what the machine does while the history goes on
+pub reply_told : (r v : Run) (st : Stores) (client : ℕ) → Stands r st → r ≡ v → MayRead v client → st.stalled ≡ false → read_reply (queue_of st.queues client).unread (queue_of st.queues client).reserved ≡ read_at v client
+reply_told r v st client stands same now going =
     let there = idle_reader r v st client stands same now in
     let queue = stands.stores.queues.queue client there.low there.high in
     ap (λ events. read_reply events (queue_of st.queues client).reserved) queue.unread
     ∙ ap (λ n. read_reply (unread_at (machine r).events client) n) queue.reserved
+    ∙ ap (λ b. unless_ended b (read_reply (unread_at (machine r).events client) (reserved_at (machine r).events client))) (sym (stands.stores.ended ∙ going))
+    ∙ ap (λ (w : Run). read_at w client) same
+
+-- nothing is answered after its end
+pub none_told : (r v : Run) (st : Stores) (client : ℕ) → Stands r st → r ≡ v → st.stalled ≡ true → None ≡ read_at v client
+none_told r v st client stands same ended =
+    ap (λ b. unless_ended b (read_reply (unread_at (machine r).events client) (reserved_at (machine r).events client))) (sym (stands.stores.ended ∙ ended))
     ∙ ap (λ (w : Run). read_at w client) same
 
 -- the queue that is found at the client's place
 pub found_queue : (r v : Run) (st : Stores) (client : ℕ) (q d : Queue) → Stands r st → r ≡ v → MayRead v client → q ≡ get_or st.queues (client - 1) d → q ≡ queue_of st.queues client
 found_queue r v st client q d stands same now is = is ∙ get_or_default st.queues (client - 1) d empty_queue (has_queue r v st client stands same now)
 
-pub told_reply : (r v : Run) (st : Stores) (client : ℕ) (q d : Queue) → Stands r st → r ≡ v → MayRead v client → q ≡ get_or st.queues (client - 1) d → read_reply q.unread q.reserved ≡ read_at v client
-told_reply r v st client q d stands same now is = ap (λ (x : Queue). read_reply x.unread x.reserved) (found_queue r v st client q d stands same now is) ∙ reply_told r v st client stands same now
+pub told_reply : (r v : Run) (st : Stores) (client : ℕ) (q d : Queue) → Stands r st → r ≡ v → MayRead v client → q ≡ get_or st.queues (client - 1) d → st.stalled ≡ false → read_reply q.unread q.reserved ≡ read_at v client
+told_reply r v st client q d stands same now is going = ap (λ (x : Queue). read_reply x.unread x.reserved) (found_queue r v st client q d stands same now is) ∙ reply_told r v st client stands same now going
 
 -- a wait that is answered may be read
 may_read : (unread : List Event) (reserved : ℕ) (answer : Reply) → read_reply unread reserved ≡ Some answer → (nat_lt 0 (length unread) || (reserved == 0)) ≡ true
@@ -109,11 +116,11 @@ pub record HasRead (r : Run) (st : Stores) (client : ℕ) (answer : Reply) (clie
   pub replies_more : replies.items ≡ st.replies.items ++ answered client (place_of st.clients client).command (length journal.items) answer ∷ []
   pub queues_after : queues ≡ slice_set st.queues (client - 1) (after_read (queue_of st.queues client))
 
-pub reads_event : (r v : Run) (st : Stores) (client : ℕ) (answer : Reply) (clients : Standing) (journal : Logged (ℕ × ℕ)) (replies : Logged Answered) (queues : List Queue) (before steps : List Step) → Stands r st → r ≡ v → MayRead v client
+pub reads_event : (r v : Run) (st : Stores) (client : ℕ) (answer : Reply) (clients : Standing) (journal : Logged (ℕ × ℕ)) (replies : Logged Answered) (queues : List Queue) (before steps : List Step) → Stands r st → r ≡ v → MayRead v client → st.stalled ≡ false
     → HasRead r st client answer clients journal replies queues → before ≡ r.steps → steps ≡ before ++ step.Read client ∷ []
     → Stands (record { script = r.script; steps = steps }) (record st { clients = clients; journal = journal; replies = replies; queues = queues })
 unfolding next legal may
-reads_event r v st client answer clients journal replies queues before steps stands same now has is more =
+reads_event r v st client answer clients journal replies queues before steps stands same now going has is more =
     let m = machine r in
     let asked = subst (λ (w : Run). MayRead w client) (sym same) now in
     let there = idle_reader r v st client stands same now in
@@ -121,7 +128,7 @@ reads_event r v st client answer clients journal replies queues before steps sta
     let told : read_reply (unread_at m.events client) (reserved_at m.events client) ≡ Some answer =
     sym (ap (λ events. read_reply events (queue_of st.queues client).reserved) queue.unread ∙ ap (λ n. read_reply (unread_at m.events client) n) queue.reserved) ∙ has.told in
     goes_on r st (record st { clients = clients; journal = journal; replies = replies; queues = queues }) (step.Read client) refl refl steps (more ∙ ap (λ (xs : List Step). xs ++ step.Read client ∷ []) is) stands
-    (and_from (not m.stalled) _ (ap not asked.going) (and_from _ _ asked.idle (may_read (unread_at m.events client) (reserved_at m.events client) answer told)))
+    (and_from (not m.stalled) _ (ap not (stands.stores.ended ∙ going)) (and_from _ _ asked (may_read (unread_at m.events client) (reserved_at m.events client) answer told)))
     (read_stands r.script m client (unread_at m.events client) answer st clients journal replies queues told has.clients_stand
     (records_answered m st client (place_of st.clients client).command answer journal.items replies.items has.journal_kept has.replies_more there.number stands.stores.recorded)
     (subst (λ qs. AreQueues (length r.script.clients) (next r.script m (step.Read client)).events qs) (sym has.queues_after) (queues_read r.script m client st.queues there.low there.high stands.stores.queues)) stands.stores)

@@ -53,5 +53,5 @@ pub may_signal_from : (r : Run) (client : ℕ) (c : Command) → (machine r).sta
 unfolding legal may
 may_signal_from r client c going is pass = and_from (not (machine r).stalled) _ (ap not going) (idle_from r client is_signal c is pass)
 
-pub may_read_from : (r : Run) (client : ℕ) (c : Command) → (machine r).stalled ≡ false → Some c ≡ idle_command_at r client → is_wait c ≡ true → MayRead r client
-may_read_from r client c going is pass = record { idle = idle_from r client is_wait c is pass; going = going }
+pub may_read_from : (r : Run) (client : ℕ) (c : Command) → Some c ≡ idle_command_at r client → is_wait c ≡ true → MayRead r client
+may_read_from r client c is pass = idle_from r client is_wait c is pass

@@ -1,7 +1,7 @@
 -- A client that waits for its commit, and goes on after it.
-use Rattle.std.proofs.Common.{◌≡◌, ℕ, ◌<◌, true, List, [], ◌∷◌, ◌++◌, Some, refl, sym, ap, ◌∙◌, subst, arith}
-use Rattle.std.specs.Prelude.{not}
-use Rattle.std.proofs.lemmas.Bool.{and_from}
+use Rattle.std.proofs.Common.{◌≡◌, ℕ, ◌<◌, true, false, List, [], ◌∷◌, ◌++◌, Some, refl, sym, ap, ◌∙◌, subst, arith}
+use Rattle.std.specs.Prelude.{not, ◌&&◌}
+use Rattle.std.proofs.lemmas.Bool.{and_from, and_parts}
 use Rattle.kms_model.specs.declared.runs.Doing.{Doing}
 use Rattle.kms_model.specs.declared.runs.Doing.TheVariants as doing
 use Rattle.kms_model.specs.declared.runs.Place.{Place}
@@ -53,13 +53,20 @@ waits_for r v st client stands same now =
       command_fits = omega (arith, fit, ap (λ (p : Place). p.command) place);
     }
 
--- the tracker tells whether the commit is over
-pub tells_over : (r v : Run) (st : Stores) (client commit : ℕ) → Stands r st → r ≡ v → MayReturn v client → (place_of st.clients client).doing ≡ doing.Returning commit → cleaned_of st.tracker commit ≡ is_over_at v client
+-- the tracker tells whether the commit is over, while the history goes on
+pub tells_over : (r v : Run) (st : Stores) (client commit : ℕ) → Stands r st → r ≡ v → MayReturn v client → (place_of st.clients client).doing ≡ doing.Returning commit → (not st.stalled && cleaned_of st.tracker commit) ≡ is_over_at v client
 tells_over r v st client commit stands same now place =
     let waits = waits_for r v st client stands same now in
     let does : doing_at (machine r) client ≡ doing.Returning commit = waits.doing_is ∙ sym waits.waits ∙ place in
-    cleaned_machine r.script.topology (machine r) st.tracker commit stands.stores.tracker
-    ∙ ap (λ d. is_over (machine r) (returning_of d)) (sym does)
+    ap (λ b. not b && cleaned_of st.tracker commit) (sym stands.stores.ended)
+    ∙ ap (λ b. not (machine r).stalled && b)
+    (cleaned_machine r.script.topology (machine r) st.tracker commit stands.stores.tracker ∙ ap (λ d. is_over (machine r) (returning_of d)) (sym does))
+    ∙ ap (λ (w : Run). is_over_at w client) same
+
+-- no commit is told to be over after the end of the history
+pub ended_over : (r v : Run) (st : Stores) (client : ℕ) → Stands r st → r ≡ v → st.stalled ≡ true → false ≡ is_over_at v client
+ended_over r v st client stands same ended =
+    ap (λ b. not b && is_over (machine r) (returning_of (doing_at (machine r) client))) (sym (stands.stores.ended ∙ ended))
     ∙ ap (λ (w : Run). is_over_at w client) same
 
 pub returns : (r v : Run) (st : Stores) (client : ℕ) (clients : Standing) (before steps : List Step) → Stands r st → r ≡ v → MayReturn v client → is_over_at v client ≡ true → before ≡ r.steps → steps ≡ before ++ step.Return client ∷ []
@@ -69,5 +76,6 @@ returns r v st client clients before steps stands same now over is more after =
     let asked = subst (λ (w : Run). MayReturn w client) (sym same) now in
     let over_now : is_over_at r client ≡ true = ap (λ (w : Run). is_over_at w client) same ∙ over in
     goes_on r st (record st { clients = clients }) (step.Return client) refl refl steps (more ∙ ap (λ (xs : List Step). xs ++ step.Return client ∷ []) is) stands
-    (and_from (not (machine r).stalled) _ (ap not asked.going) (rw asked.returning (ap (is_over (machine r)) (sym asked.returning) ∙ over_now)))
+    (let parts = and_parts (not (machine r).stalled) _ over_now in
+    and_from (not (machine r).stalled) _ parts.0 (rw asked.returning (ap (is_over (machine r)) (sym asked.returning) ∙ parts.1)))
     (stands_beside r.script (machine r) (client_goes_on (machine r) client) st clients (record { device = refl; records = refl; events = refl; stalled = refl }) after stands.stores)

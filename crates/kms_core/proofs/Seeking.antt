@@ -161,11 +161,18 @@ answered r st (Some k) stands going first =
     sym (find_first (λ k. legal r.script (machine r) (step.Claim k)) 0 (length (machine r).device.commits) k (omega arith) (omega (arith, within)) (claim_is r st k stands going within ∙ first.1)
     (λ j low before. passed_by r st j stands going (omega (arith, before, within)) (first.2 j before)))
 
-pub claim_found : (r v : Run) (st : Stores) (found : Option ℕ) → Stands r st → r ≡ v → IsGoing v → FindsFirst st.tails (ready_of st.tracker st.fences) found → found ≡ first_claim v
+pub claim_found : (r v : Run) (st : Stores) (found : Option ℕ) → Stands r st → r ≡ v → st.stalled ≡ false → FindsFirst st.tails (ready_of st.tracker st.fences) found → found ≡ first_claim v
 claim_found r v st found stands same going first =
-    answered r st found stands (subst IsGoing (sym same) going) (first r.script.topology (machine r).device.commits (machine r).device.marks (machine r).records.latches stands.stores.tails) ∙ ap first_claim same
+    answered r st found stands (stands.stores.ended ∙ going) (first r.script.topology (machine r).device.commits (machine r).device.marks (machine r).records.latches stands.stores.tails) ∙ ap first_claim same
 
-pub claim_legal : (r v : Run) (st : Stores) (k : ℕ) → Stands r st → r ≡ v → IsGoing v → FindsFirst st.tails (ready_of st.tracker st.fences) (Some k) → legal r.script (machine r) (step.Claim k) ≡ true
+pub claim_legal : (r v : Run) (st : Stores) (k : ℕ) → Stands r st → r ≡ v → st.stalled ≡ false → FindsFirst st.tails (ready_of st.tracker st.fences) (Some k) → legal r.script (machine r) (step.Claim k) ≡ true
 claim_legal r v st k stands same going first =
     let found = first r.script.topology (machine r).device.commits (machine r).device.marks (machine r).records.latches stands.stores.tails in
-    claim_is r st k stands (subst IsGoing (sym same) going) found.0 ∙ found.1
+    claim_is r st k stands (stands.stores.ended ∙ going) found.0 ∙ found.1
+
+-- none is after the end of the history
+pub claim_none : (r v : Run) (st : Stores) → Stands r st → r ≡ v → st.stalled ≡ true → None ≡ first_claim v
+unfolding legal
+claim_none r v st stands same ended =
+    sym (find_none (λ k. legal r.script (machine r) (step.Claim k)) 0 (length (machine r).device.commits) (λ j low high. ap (λ b. not b && may r.script (machine r) (step.Claim j)) (stands.stores.ended ∙ ended)))
+    ∙ ap first_claim same

@@ -1,6 +1,6 @@
 -- What calls that clients make where they are idle, or returning, ask for and answer. From: `drm_file.c`, drm_read;
 -- "Atomic Mode Setting", a commit that blocks.
-use Rattle.std.specs.Prelude.{ℕ, ◌≡◌, ◌≤◌, Bool, true, false, zero, suc, List, [], ◌∷◌, ◌++◌, length, Option, Some, None}
+use Rattle.std.specs.Prelude.{ℕ, ◌≡◌, ◌≤◌, not, ◌&&◌, Bool, true, false, zero, suc, List, [], ◌∷◌, ◌++◌, length, Option, Some, None}
 use Rattle.kms_model.specs.declared.objects.Topology.{Topology}
 use Rattle.kms_model.specs.declared.replies.Answered.{Answered}
 use Rattle.kms_model.specs.declared.replies.Event.{Event}
@@ -65,10 +65,9 @@ idle_command_at r client = only_if (is_idle (doing_at (machine r) client)) (comm
 
 -- Events
 
--- the client is idle at a `wait`, and the history was not ended
-pub record MayRead (r : Run) (client : ℕ) : Type 0 where
-  pub idle : idle_at r.script (machine r) client is_wait ≡ true
-  pub going : (machine r).stalled ≡ false
+-- the client is idle at a `wait`
+abbrev pub MayRead : Run → ℕ → Type 0
+MayRead r client = idle_at r.script (machine r) client is_wait ≡ true
 
 abbrev pub no_event_unless : ℕ → Option Reply
 no_event_unless zero = Some reply.NoEvent
@@ -79,8 +78,13 @@ abbrev pub read_reply : List Event → ℕ → Option Reply
 read_reply [] reserved = no_event_unless reserved
 read_reply (event ∷ events) reserved = Some (reply.Event event)
 
+-- nothing is answered after the end of the history
+abbrev pub unless_ended : Bool → Option Reply → Option Reply
+unless_ended true answer = None
+unless_ended false answer = answer
+
 abbrev pub read_at : Run → ℕ → Option Reply
-read_at r client = read_reply (unread_at (machine r).events client) (reserved_at (machine r).events client)
+read_at r client = unless_ended (machine r).stalled (read_reply (unread_at (machine r).events client) (reserved_at (machine r).events client))
 
 abbrev pub read_step : ℕ → Option Reply → List Step
 read_step client None = []
@@ -88,21 +92,20 @@ read_step client (Some r) = Read client ∷ []
 
 -- Commits that are waited for
 
--- the client is one of the script's and returns from a commit, and the history was not ended
+-- the client is one of the script's and returns from a commit
 pub record MayReturn (r : Run) (client : ℕ) : Type 0 where
   pub low : 1 ≤ client
   pub high : client ≤ length r.script.clients
   pub commit : ℕ
   pub returning : returning_of (doing_at (machine r) client) ≡ Some commit
-  pub going : (machine r).stalled ≡ false
 
 abbrev pub is_over : Machine → Option ℕ → Bool
 is_over m None = false
 is_over m (Some k) = is_cleaned m.device k
 
--- the commit that a client waits for is cleaned
+-- the commit that a client waits for is cleaned, and the history was not ended
 abbrev pub is_over_at : Run → ℕ → Bool
-is_over_at r client = is_over (machine r) (returning_of (doing_at (machine r) client))
+is_over_at r client = not (machine r).stalled && is_over (machine r) (returning_of (doing_at (machine r) client))
 
 abbrev pub return_step : ℕ → Bool → List Step
 return_step client false = []

@@ -1,8 +1,9 @@
 //! Steps that are legal are done.
-ghost use Rattle.std.specs.Prelude.{◌≡◌, ◌∷◌, []};
+ghost use Rattle.std.specs.Prelude.{ℕ, ◌≡◌, ◌∷◌, [], IsOk, Some};
+ghost use Rattle.kms_laws.specs.TailsLeft.{commit_of_step};
 ghost use Rattle.kms_model.specs.declared.replies.Step.TheVariants as step;
 ghost use Rattle.kms_core.specs.Next.{IsLegal};
-ghost use Rattle.kms_core.specs.Run.{Run, gains, if_ok};
+ghost use Rattle.kms_core.specs.Run.{Run, gains, if_ok, machine};
 
 use crate::machine::Core;
 use kms_model::{Doing, Kind, NoMemory, ObjId, Reply, Step};
@@ -10,10 +11,12 @@ use std::alloc::Global;
 
 impl Core {
     /// Does a step that is legal next, as `legal` tells. A request is decided by the plain check of the whole device. Want of
-    /// memory leaves all as it was.
+    /// memory leaves all as it was. A step of a commit's tail takes none: a claim, a write, a flush, a commit that is done or
+    /// cleaned up, and the vertical blanking of a CRTC that goes.
     pub fn apply(&mut self, alloc: Global, step: &Step) -> Result<(), NoMemory>
         requires { IsLegal self.old step.now }
         ensures history { self.new ≡ gains self.old (if_ok result (λ u. step.now ∷ [])) }
+        ensures no_memory { (k : ℕ) → commit_of_step (machine self.old) step.now ≡ Some k → IsOk result }
     {
         match *step {
             Step::Begin { client } => self.do_begin(alloc, client),
@@ -189,6 +192,8 @@ impl Core {
     fn do_vblank(&mut self, kind: Kind, index: u32) -> Result<(), NoMemory>
         requires { IsLegal self.old (step.Vblank kind index) }
         ensures history { self.new ≡ gains self.old (if_ok result (λ u. step.Vblank kind index ∷ [])) }
+        ensures no_memory { (k : ℕ) → commit_of_step (machine self.old) (step.Vblank kind index) ≡ Some k
+            → IsOk result }
     {
         let Kind::Crtc = kind else {
             unreachable!();

@@ -10,13 +10,16 @@ use kms_signal::EventQueue;
 
 impl Core {
     /// Reads the oldest unread event for a client that is idle at a `wait`, or answers that none will come where none is
-    /// reserved, and lets the client go on. None exactly where nothing is unread and something is reserved: then nothing
-    /// changes. Want of memory leaves all as it was. (Kernel: `drm_file.c`, `drm_read`.)
+    /// reserved, and lets the client go on. None exactly where nothing is unread and something is reserved, or the history
+    /// was ended: then nothing changes. Want of memory leaves all as it was. (Kernel: `drm_file.c`, `drm_read`.)
     pub fn read(&mut self, client: u32) -> Result<Option<Reply>, NoMemory>
         requires { MayRead self.old client }
         ensures reply { IfOk result (λ reply. reply ≡ read_at self.old client) }
         ensures history { self.new ≡ gains self.old (if_ok result (read_step client)) }
     {
+        if self.stalled {
+            return Ok(None);
+        }
         let Some(reply) = next_reply(&self.queues[(client - 1) as usize]) else {
             return Ok(None);
         };
@@ -34,14 +37,17 @@ impl Core {
         Ok(Some(reply))
     }
 
-    /// Lets a client that waits for its commit go on, where the commit is cleaned; else nothing changes. The client has a
-    /// number from 1 to that of the clients. Want of memory leaves all as it was. (Kernel: `drm_atomic_helper_commit` of a
-    /// commit that blocks, which returns after its commit tail.)
+    /// Lets a client that waits for its commit go on, where the commit is cleaned and the history was not ended; else nothing
+    /// changes. The client has a number from 1 to that of the clients. Want of memory leaves all as it was. (Kernel:
+    /// `drm_atomic_helper_commit` of a commit that blocks, which returns after its commit tail.)
     pub fn return_from(&mut self, client: u32) -> Result<bool, NoMemory>
         requires { MayReturn self.old client }
         ensures answer { IfOk result (λ over. over ≡ is_over_at self.old client) }
         ensures history { self.new ≡ gains self.old (if_ok result (return_step client)) }
     {
+        if self.stalled {
+            return Ok(false);
+        }
         let Doing::Returning(commit) = self.clients.place(client).doing else {
             unreachable!();
         };

@@ -4,7 +4,7 @@ ghost use Rattle.kms_model.specs.declared.replies.Step.TheVariants as step;
 ghost use Rattle.kms_model.specs.Device.Objects.{index_of, kind_of};
 ghost use Rattle.kms_track.specs.Tracking.{ready_of};
 ghost use Rattle.kms_core.specs.Run.{Run, machine, gains};
-ghost use Rattle.kms_core.specs.Work.{AreFewTails, FindsFirst, HoldsCrtc, HoldsOld, HoldsPlane, IsCrtcWritten, IsGoing, IsPlaneWritten, IsWritten, MayBeDone, MayClaim, MayCleanUp, MayWrite, TellsOver, claim_steps, cleanup_steps, first_claim, is_over, write_step};
+ghost use Rattle.kms_core.specs.Work.{AreFewTails, FindsFirst, HoldsCrtc, HoldsOld, HoldsPlane, IsCrtcWritten, IsPlaneWritten, IsWritten, MayBeDone, MayClaim, MayCleanUp, MayWrite, TellsOver, claim_steps, cleanup_steps, first_claim, is_over, write_step};
 
 use crate::freeing::{free, kept_ids};
 use crate::machine::Core;
@@ -16,14 +16,16 @@ use kms_track::Tracker;
 
 impl Core {
     /// Claims the least commit whose tail may begin: the fences that it waits for are signalled, and the commit before
-    /// it on each object that it touches is done and has flipped there. None exactly where there is no such commit.
-    /// (Kernel: `drm_atomic_helper.c`, `commit_work`, `drm_atomic_helper_wait_for_fences`,
+    /// it on each object that it touches is done and has flipped there. None exactly where there is no such commit, as
+    /// after the end of the history. (Kernel: `drm_atomic_helper.c`, `commit_work`, `drm_atomic_helper_wait_for_fences`,
     /// `drm_atomic_helper_wait_for_dependencies`.)
     pub fn claim(&mut self) -> Option<u32>
-        requires { IsGoing self.old }
         ensures answer { result ≡ first_claim self.old }
         ensures history { self.new ≡ gains self.old (claim_steps result) }
     {
+        if self.stalled {
+            return None;
+        }
         let Some(commit) = first_ready(&self.tails, &self.tracker, &self.fences) else {
             return None;
         };

@@ -3,7 +3,7 @@ use Rattle.std.specs.Prelude.{slice_set}
 use Rattle.kms_signal.specs.Queues.{Queue, after_read}
 use Rattle.kms_core.specs.Calls.{read_reply}
 use Rattle.kms_core.specs.Run.{machine}
-use Rattle.kms_core.proofs.Delivered.{found_queue, has_queue, idle_reader, reads_event, told_reply}
+use Rattle.kms_core.proofs.Delivered.{found_queue, has_queue, idle_reader, none_told, reads_event, told_reply}
 use Rattle.kms_core.proofs.Insides.{run_of, stores_of}
 use Rattle.kms_core.proofs.Spared.{other_spared}
 use Rattle.kms_core.proofs.machine.Core.read.Goals as goal
@@ -20,14 +20,20 @@ go_on-requires-clause-command c = (idle_reader (run_of c.self.inside) c.args.sel
 pub index_mut-requires : goal.index_mut-requires
 index_mut-requires c = let fits = has_queue (run_of c.self.inside) c.args.self.now (stores_of c.self.inside) c.args.client c.self.invariant.stands c.self.view_is c.requires in search rules
 
+pub returns-then-self-clause-reply : goal.returns-then-self-clause-reply
+returns-then-self-clause-reply c = none_told (run_of c.self.inside) c.args.self.now (stores_of c.self.inside) c.args.client c.self.invariant.stands c.self.view_is c.if-self.true
+
+pub returns-in_default-clause-reply : goal.returns-in_default-clause-reply
+returns-in_default-clause-reply c = sym c.in_default.is ∙ c.next_reply.ensures ∙ told_reply (run_of c.self.inside) c.args.self.now (stores_of c.self.inside) c.args.client _ _ c.self.invariant.stands c.self.view_is c.requires c.index.ensures c.if-self.false
+
 pub returns-clause-reply : goal.returns-clause-reply
-returns-clause-reply c = sym c.in-Some.is ∙ c.next_reply.ensures ∙ told_reply (run_of c.self.inside) c.args.self.now (stores_of c.self.inside) c.args.client _ _ c.self.invariant.stands c.self.view_is c.requires c.index.ensures
+returns-clause-reply c = sym c.in-Some.is ∙ c.next_reply.ensures ∙ told_reply (run_of c.self.inside) c.args.self.now (stores_of c.self.inside) c.args.client _ _ c.self.invariant.stands c.self.view_is c.requires c.index.ensures c.if-self.false
 
 pub invariant_of-self-2 : goal.invariant_of-self-2
 invariant_of-self-2 c =
     let stands =
     reads_event (run_of c.self.inside) c.args.self.now (stores_of c.self.inside) c.args.client c.in-Some.reply c.go_on.new.self c.make_room.new.journal c.answer.new.replies (slice_set c.self.inside.queues.items (c.args.client - 1) c.read.new.self) c.make_room.new.steps.items c.push.new.self.items
-    c.self.invariant.stands c.self.view_is c.requires
+    c.self.invariant.stands c.self.view_is c.requires c.if-self.false
     (record {
       told = ap (λ (q : Queue). read_reply q.unread q.reserved) (sym (found_queue (run_of c.self.inside) c.args.self.now (stores_of c.self.inside) c.args.client _ _ c.self.invariant.stands c.self.view_is c.requires c.index.ensures)) ∙ sym c.next_reply.ensures ∙ c.in-Some.is;
       clients_stand = c.go_on.ensures (machine (run_of c.self.inside)) c.self.invariant.stands.stores.clients;
