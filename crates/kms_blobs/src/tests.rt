@@ -25,7 +25,7 @@ fn the_bytes_of_1920x1080_are_read_and_written(rt: HostRuntime) {
     assert_eq!(rt; column, [1080, 1084, 1089, 1125]);
     assert_eq!(rt; [mode.hskew, mode.vscan], [0, 0]);
     assert_eq!(rt; [mode.vrefresh, mode.flags, mode.kind], [60, 5, 64]);
-    assert!(rt; mode.name[..10] == *b"1920x1080\0");
+    assert!(rt; &mode.name[..10] == b"1920x1080\0".as_slice());
 }
 
 #[test]
