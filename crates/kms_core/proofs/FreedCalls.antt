@@ -36,7 +36,7 @@ use Rattle.kms_core.specs.Run.{Run, machine}
 use Rattle.kms_core.specs.Stands.{Stores, Stands, StandsAt}
 use Rattle.kms_freeing.proofs.FreedBetween.{found_same}
 use Rattle.kms_freeing.proofs.FreedHistories.{Executes, Latches, added_freed, changes, latch_frees, make_frees, quiet_freed, told_freed}
-use Rattle.kms_freeing.proofs.Candidates.{shown_few}
+use Rattle.kms_freeing.proofs.PutIds.{shown_few}
 use Rattle.kms_freeing.proofs.FreedLatches.{live_by}
 use Rattle.kms_freeing.proofs.FreedLists.{as_many, filter-in, passes, rising_filter}
 use Rattle.kms_freeing.proofs.FreedMakes.{MadeFrees}

@@ -4,4 +4,4 @@ pub mod FreedSteps
 pub mod FreedLatches
 pub mod FreedMakes
 pub mod FreedHistories
-pub mod Candidates
+pub mod PutIds

@@ -1,7 +1,7 @@
 use Rattle.std.proofs.Common.{◌∙◌, ◌+◌, ◌++◌, ap, sym, arith, drop, get_or, length}
 use Rattle.std.proofs.lemmas.List.{at_drop_more, drop_all}
 use Rattle.kms_freeing.specs.Freeing.{freed_among}
-use Rattle.kms_freeing.proofs.Candidates.{among_ends, among_items, among_needs, among_places, among_room}
+use Rattle.kms_freeing.proofs.PutIds.{among_ends, among_items, among_needs, among_places, among_room}
 use Rattle.kms_core.proofs.freeing.free.Goals as goal
 
 pub record-requires : goal.record-requires

@@ -1,6 +1,6 @@
 use Rattle.std.proofs.Common.{◌∙◌, ap, sym, arith}
 use Rattle.kms_model.specs.Machine.Framebuffers.{picture_names}
-use Rattle.kms_freeing.proofs.Candidates.{live_found, live_none, live_on}
+use Rattle.kms_freeing.proofs.PutIds.{live_found, live_none, live_on}
 use Rattle.kms_core.proofs.freeing.live_names.Goals as goal
 
 pub returns-then-picture_names : goal.returns-then-picture_names
