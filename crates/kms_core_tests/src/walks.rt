@@ -1,0 +1,269 @@
+//! Random walks of many clients, each of which is done again.
+use crate::checks::{goes, place};
+use crate::steps::{
+    Object, apply, apply_all, back_off, begin, claim, cleanup, conn, crtc, encoder, flush, hw_done,
+    lock, make, plane, read, refuse, relock, return_from, signal, swap, test, vblank, write,
+};
+use crate::texts::started;
+use kms_core::Core;
+use kms_model::{Kind, Step};
+use std::process::Abort;
+use std::test::Fail;
+
+/// A device of four CRTCs, with a plane and a connector for each, and a plane for all.
+const DEVICE: &str =
+    "kms 1\ncrtcs 4\nplane primary 0 XR24\nplane primary 1 XR24\nplane primary 2 XR24\nplane primary 3 XR24\nplane overlay 0,1,2,3 XR24\nconn 0\nconn 1\nconn 2\nconn 3\n";
+
+/// Numbers that look random.
+#[derive(Drop)]
+struct Dice {
+    state: u64,
+}
+
+impl Dice {
+    /// A number below the sides, 0 where there are none.
+    fn roll(&mut self, sides: usize) -> usize {
+        self.state = self
+            .state
+            .wrapping_mul(6364136223846793005)
+            .wrapping_add(1442695040888963407);
+        ((self.state >> 33) as usize).checked_rem(sides).unwrap_or(0)
+    }
+}
+
+/// A client's things, and the request that lights its CRTC with its plane.
+fn lighting_lines(rt: &impl AllocGlobal, own: u32) -> Result<String, Fail> {
+    Ok(format!(in rt.alloc();
+        "client\nbuffer b{own} 2 2 XR24 ramp\naddfb f{own} b{own}\nbuffer c{own} 2 2 XR24 solid 00204060\naddfb g{own} c{own}\nmode m{own} 1 2 2 2 2 0 2 2 2 2 0 60 0 0 small\natomic 0x400 0 crtc{own}.ACTIVE=1 crtc{own}.MODE_ID=@m{own} conn{own}.CRTC_ID=crtc{own} plane{own}.FB_ID=@f{own} plane{own}.CRTC_ID=crtc{own} plane{own}.CRTC_W=2 plane{own}.CRTC_H=2 plane{own}.SRC_W=131072 plane{own}.SRC_H=131072\n"
+    )?)
+}
+
+/// A client's flips, fences and tests, with its own plane and another client's. `after` stands after the commit that waits
+/// for its fence.
+fn changing_lines(
+    rt: &impl AllocGlobal,
+    own: u32,
+    next: u32,
+    after: &str,
+) -> Result<String, Fail> {
+    Ok(format!(in rt.alloc();
+        "atomic 0x1 1 plane{own}.FB_ID=@g{own}\nwait\nfence n{own}\natomic 0x200 0 plane{own}.alpha=9 plane{own}.IN_FENCE_FD=@n{own} crtc{own}.OUT_FENCE_PTR=+o{own}\n{after} n{own}\natomic 0x100 0 plane{own}.alpha=1 plane{next}.alpha=2\natomic 0x101 0\natomic 0x201 2 plane{own}.alpha=3 plane{next}.alpha=4\natomic 0x1 3 plane{next}.alpha=7 plane{own}.alpha=6\nwait\nwait\nwait\n"
+    )?)
+}
+
+/// What a client does with the plane for all and with its things, which it closes, and how it ends.
+fn closing_lines(rt: &impl AllocGlobal, own: u32, next: u32) -> Result<String, Fail> {
+    Ok(format!(in rt.alloc();
+        "atomic 0x0 0 plane4.FB_ID=@f{next} plane4.CRTC_ID=crtc{own} plane4.CRTC_W=2 plane4.CRTC_H=2 plane4.SRC_W=131072 plane4.SRC_H=131072\nclosefb f{own}\ndestroy m{own}\ndestroy m{next}\natomic 0x0 0 plane4.FB_ID=0 plane4.CRTC_ID=0\natomic 0x0 0 plane{own}.FB_ID=@f{own}\natomic 0x0 0 plane{own}.alpha=65536\natomic 0x401 4 crtc{own}.ACTIVE=0 crtc{own}.MODE_ID=0 conn{own}.CRTC_ID=0 plane{own}.FB_ID=0 plane{own}.CRTC_ID=0\nwait\n"
+    )?)
+}
+
+/// The script of four clients, each of which lights a CRTC, changes what is shown, and ends. `after` stands before the name
+/// of the fence that each client's commit waits for.
+fn many(rt: &impl AllocGlobal, after: &str) -> Result<String, Fail> {
+    let mut text = String::from_str(rt.alloc(), DEVICE)?;
+    for (own, next) in [(0, 1), (1, 2), (2, 3), (3, 0)] {
+        text.push_str(lighting_lines(rt, own)?.as_str())?;
+        text.push_str(changing_lines(rt, own, next, after)?.as_str())?;
+        text.push_str(closing_lines(rt, own, next)?.as_str())?;
+    }
+    Ok(text)
+}
+
+/// Each object of the device, and one more of each kind.
+fn objects() -> [Object; 18] {
+    [
+        crtc(0),
+        crtc(1),
+        crtc(2),
+        crtc(3),
+        crtc(4),
+        plane(0),
+        plane(1),
+        plane(2),
+        plane(3),
+        plane(4),
+        plane(5),
+        conn(0),
+        conn(1),
+        conn(2),
+        conn(3),
+        conn(4),
+        encoder(0),
+        crtc(100),
+    ]
+}
+
+fn steps_of_client(client: u32) -> [Step; 10] {
+    [
+        begin(client),
+        back_off(client),
+        relock(client),
+        refuse(client),
+        test(client),
+        swap(client),
+        make(client),
+        signal(client),
+        read(client),
+        return_from(client),
+    ]
+}
+
+/// Keeps a step where it is legal.
+fn keep(core: &Core, legal: &mut Vec<Step>, step: Step) -> Result<(), Fail> {
+    if core.legal(&step) {
+        legal.push(step)?;
+    }
+    Ok(())
+}
+
+/// Keeps those steps that are legal of so many clients, and of one more on each side.
+fn keep_clients(core: &Core, legal: &mut Vec<Step>, clients: u32) -> Result<(), Fail> {
+    for client in 0..clients.saturating_add(2) {
+        for step in &steps_of_client(client) {
+            keep(core, legal, *step)?;
+        }
+        for object in &objects() {
+            keep(core, legal, lock(client, *object))?;
+        }
+    }
+    Ok(())
+}
+
+/// Keeps those steps that are legal of so many commits, and of one more.
+fn keep_commits(core: &Core, legal: &mut Vec<Step>, commits: u32) -> Result<(), Fail> {
+    for commit in 0..commits.saturating_add(1) {
+        for step in [claim(commit), hw_done(commit), cleanup(commit)] {
+            keep(core, legal, step)?;
+        }
+        for object in &objects() {
+            keep(core, legal, write(commit, *object))?;
+            keep(core, legal, flush(commit, *object))?;
+        }
+    }
+    Ok(())
+}
+
+/// All steps that are legal after a history with so many commits.
+fn legal_steps(rt: &impl AllocGlobal, core: &Core, commits: u32) -> Result<Vec<Step>, Fail> {
+    let mut legal = Vec::new(rt.alloc());
+    keep_clients(core, &mut legal, 4)?;
+    keep_commits(core, &mut legal, commits)?;
+    for object in &objects() {
+        keep(core, &mut legal, vblank(*object))?;
+    }
+    keep(core, &mut legal, Step::Stall)?;
+    Ok(legal)
+}
+
+/// Whether some step is there other than the end of a history and a vertical blanking of a CRTC that does not go.
+fn has_move(rt: &impl Abort, core: &Core, legal: &[Step]) -> bool {
+    for step in legal {
+        let moves = match *step {
+            Step::Stall => false,
+            Step::Vblank { index, .. } => goes(rt, core, index),
+            _ => true,
+        };
+        if moves {
+            return true;
+        }
+    }
+    false
+}
+
+/// Does legal steps, at most so many, by the dice, until nothing moves any more, and ends a dead history.
+fn walk(
+    rt: &(impl Abort + AllocGlobal),
+    core: &mut Core,
+    dice: &mut Dice,
+    most: usize,
+) -> Result<(), Fail> {
+    let mut commits = 0u32;
+    for _step in 0..most {
+        let (length, answered) = (core.history().len(), core.replies().len());
+        let legal = legal_steps(rt, core, commits)?;
+        assert_eq!(rt; core.history().len(), length);
+        assert_eq!(rt; core.replies().len(), answered);
+        assert_eq!(rt; core.enabled(), has_move(rt, core, &legal), "after {length} steps");
+        if !core.enabled() {
+            return end(rt, core, commits);
+        }
+        let step = *legal.get(dice.roll(legal.len())).ok_or("a step is legal")?;
+        apply(rt, core, step)?;
+        if let Step::Swap { .. } = step {
+            commits = commits.saturating_add(1);
+        }
+    }
+    Ok(())
+}
+
+/// Asserts that a history in which nothing moves is drained, or is dead for a fence, and then ends it.
+fn end(rt: &(impl Abort + AllocGlobal), core: &mut Core, commits: u32) -> Result<(), Fail> {
+    assert_eq!(rt; core.legal(&Step::Stall), !core.drained());
+    assert_eq!(rt; core.stalled_on().is_some(), !core.drained());
+    if core.drained() {
+        return Ok(());
+    }
+    apply(rt, core, Step::Stall)?;
+    assert!(rt; legal_steps(rt, core, commits)?.is_empty());
+    assert!(rt; !core.enabled());
+    Ok(())
+}
+
+/// Asserts that two machines tell the same of themselves.
+fn assert_same(rt: &impl Abort, one: &Core, other: &Core) {
+    assert!(rt; one.history() == other.history());
+    assert!(rt; one.journal() == other.journal());
+    assert!(rt; one.replies() == other.replies());
+    assert!(rt; one.latched() == other.latched());
+    assert!(rt; one.freed() == other.freed());
+    assert_eq!(rt; one.drained(), other.drained());
+    assert_eq!(rt; one.enabled(), other.enabled());
+    assert_eq!(rt; one.is_stalled(), other.is_stalled());
+    assert_eq!(rt; one.stalled_on(), other.stalled_on());
+    for index in 0..4 {
+        let client = index + 1;
+        assert_eq!(rt; place(rt, one, client), place(rt, other, client));
+        assert!(rt; one.idle_command(client) == other.idle_command(client));
+        assert_eq!(rt; goes(rt, one, index), goes(rt, other, index));
+    }
+}
+
+/// Walks from the start of a script, again and again, until there were so many steps, and does each walk again.
+fn assert_walks(
+    rt: &(impl Abort + AllocGlobal),
+    text: &str,
+    seed: u64,
+    steps: usize,
+) -> Result<(), Fail> {
+    let mut dice = Dice { state: seed };
+    let mut left = steps;
+    for _walk in 0..steps {
+        if left == 0 {
+            return Ok(());
+        }
+        let mut core = started(rt, text)?;
+        walk(rt, &mut core, &mut dice, left)?;
+        let mut again = started(rt, text)?;
+        apply_all(rt, &mut again, core.history())?;
+        assert_same(rt, &core, &again);
+        left = left.saturating_sub(core.history().len());
+    }
+    Ok(())
+}
+
+#[test]
+fn walks_can_be_done_again(rt: HostRuntime) -> Result<(), Fail> {
+    let text = many(&rt, "signal")?;
+    for seed in [1, 2] {
+        assert_walks(&rt, text.as_str(), seed, 2000)?;
+    }
+    Ok(())
+}
+
+/// Where no client signals its fence, walks end in dead histories.
+#[test]
+fn walks_stall(rt: HostRuntime) -> Result<(), Fail> {
+    let text = many(&rt, "destroy")?;
+    assert_walks(&rt, text.as_str(), 3, 2000)
+}
