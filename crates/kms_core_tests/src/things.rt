@@ -7,7 +7,6 @@ use crate::steps::{
     apply, apply_all, begin, claim, cleanup, crtc, make, make_all, plane, read, refuse, return_from, signal, swap,
     take, vblank, write_out,
 };
-use crate::texts::{SINGLE, started};
 use kms_core::Core;
 use kms_model::{NoMemory, Reply, Step};
 use std::process::Abort;
@@ -172,19 +171,5 @@ fn a_destroyed_mode_stays_in_use(rt: HostRuntime) -> Result<(), Fail> {
     assert_replies(&rt, &core, 4, &want);
     let want = [shows(0, 0, 1, &[1001]), shows(0, 1, 2, &[1001])];
     assert_latched(&rt, &core, &want);
-    Ok(())
-}
-
-/// Four buffers take all the space that there is.
-#[test]
-fn buffers_fill_their_space(rt: HostRuntime) -> Result<(), Fail> {
-    let size = "4096 4096 XR24 solid 00000000";
-    let text = format!(in rt.alloc();
-        "{SINGLE}client\nbuffer a {size}\nbuffer b {size}\nbuffer c {size}\nbuffer d {size}\nbuffer e 1 1 XR24 solid 00000000\n"
-    )?;
-    let mut core = started(&rt, text.as_str())?;
-    make_all(&rt, &mut core, 1, 5)?;
-    assert_drained(&rt, &core);
-    assert_replies(&rt, &core, 4, &[told(1, 5, 4, Reply::Denied(32))]);
     Ok(())
 }

@@ -109,6 +109,31 @@ fn steps_of_client(client: u32) -> [Step; 10] {
     ]
 }
 
+/// The commits of a walk.
+#[derive(Drop)]
+struct Commits {
+    // How many were made.
+    count: u32,
+    // All before it are cleaned.
+    first: u32,
+    cleaned: Vec<u32>,
+}
+
+impl Commits {
+    /// Tells that a step was done.
+    fn did(&mut self, step: Step) -> Result<(), Fail> {
+        match step {
+            Step::Swap { .. } => self.count = self.count.saturating_add(1),
+            Step::Cleanup { commit } => self.cleaned.push(commit)?,
+            _ => {}
+        }
+        if self.cleaned.contains(&self.first) {
+            self.first = self.first.saturating_add(1);
+        }
+        Ok(())
+    }
+}
+
 /// Keeps a step where it is legal.
 fn keep(core: &Core, legal: &mut Vec<Step>, step: Step) -> Result<(), Fail> {
     if core.legal(&step) {
@@ -130,9 +155,9 @@ fn keep_clients(core: &Core, legal: &mut Vec<Step>, clients: u32) -> Result<(), 
     Ok(())
 }
 
-/// Keeps those steps that are legal of so many commits, and of one more.
-fn keep_commits(core: &Core, legal: &mut Vec<Step>, commits: u32) -> Result<(), Fail> {
-    for commit in 0..commits.saturating_add(1) {
+/// Keeps those steps that are legal of commits, from the last that is cleaned like all before it to one that is not made.
+fn keep_commits(core: &Core, legal: &mut Vec<Step>, commits: &Commits) -> Result<(), Fail> {
+    for commit in commits.first.saturating_sub(1)..commits.count.saturating_add(1) {
         for step in [claim(commit), hw_done(commit), cleanup(commit)] {
             keep(core, legal, step)?;
         }
@@ -144,8 +169,12 @@ fn keep_commits(core: &Core, legal: &mut Vec<Step>, commits: u32) -> Result<(), 
     Ok(())
 }
 
-/// All steps that are legal after a history with so many commits.
-fn legal_steps(rt: &impl AllocGlobal, core: &Core, commits: u32) -> Result<Vec<Step>, Fail> {
+/// All steps that are legal after a history with these commits.
+fn legal_steps(
+    rt: &impl AllocGlobal,
+    core: &Core,
+    commits: &Commits,
+) -> Result<Vec<Step>, Fail> {
     let mut legal = Vec::new(rt.alloc());
     keep_clients(core, &mut legal, 4)?;
     keep_commits(core, &mut legal, commits)?;
@@ -178,27 +207,30 @@ fn walk(
     dice: &mut Dice,
     most: usize,
 ) -> Result<(), Fail> {
-    let mut commits = 0u32;
+    let mut commits = Commits {
+        count: 0,
+        first: 0,
+        cleaned: Vec::new(rt.alloc()),
+    };
     for _step in 0..most {
         let (length, answered) = (core.history().len(), core.replies().len());
-        let legal = legal_steps(rt, core, commits)?;
+        let legal = legal_steps(rt, core, &commits)?;
         assert_eq!(rt; core.history().len(), length);
         assert_eq!(rt; core.replies().len(), answered);
-        assert_eq!(rt; core.enabled(), has_move(rt, core, &legal), "after {length} steps");
-        if !core.enabled() {
-            return end(rt, core, commits);
+        let moves = has_move(rt, core, &legal);
+        assert_eq!(rt; core.enabled(), moves, "after {length} steps");
+        if !moves {
+            return end(rt, core, &commits);
         }
         let step = *legal.get(dice.roll(legal.len())).ok_or("a step is legal")?;
         apply(rt, core, step)?;
-        if let Step::Swap { .. } = step {
-            commits = commits.saturating_add(1);
-        }
+        commits.did(step)?;
     }
     Ok(())
 }
 
 /// Asserts that a history in which nothing moves is drained, or is dead for a fence, and then ends it.
-fn end(rt: &(impl Abort + AllocGlobal), core: &mut Core, commits: u32) -> Result<(), Fail> {
+fn end(rt: &(impl Abort + AllocGlobal), core: &mut Core, commits: &Commits) -> Result<(), Fail> {
     assert_eq!(rt; core.legal(&Step::Stall), !core.drained());
     assert_eq!(rt; core.stalled_on().is_some(), !core.drained());
     if core.drained() {
@@ -255,10 +287,13 @@ fn assert_walks(
 #[test]
 fn walks_can_be_done_again(rt: HostRuntime) -> Result<(), Fail> {
     let text = many(&rt, "signal")?;
-    for seed in [1, 2] {
-        assert_walks(&rt, text.as_str(), seed, 2000)?;
-    }
-    Ok(())
+    assert_walks(&rt, text.as_str(), 1, 2000)
+}
+
+#[test]
+fn other_walks_can_be_done_again(rt: HostRuntime) -> Result<(), Fail> {
+    let text = many(&rt, "signal")?;
+    assert_walks(&rt, text.as_str(), 2, 2000)
 }
 
 /// Where no client signals its fence, walks end in dead histories.
