@@ -117,7 +117,10 @@ pub(crate) fn assert_drained(rt: &impl Abort, core: &Core) {
 /// Where a client of the script stands.
 pub(crate) fn place(rt: &impl Abort, core: &Core, client: u32) -> Place {
     assert!(rt; client >= 1, "clients are counted from 1");
-    assert!(rt; client as usize <= core.script().clients.len(), "it is a client");
+    assert!(rt;
+        client as usize <= core.script().clients.len(),
+        "it is a client"
+    );
     core.place(client)
 }
 

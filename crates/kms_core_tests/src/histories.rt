@@ -7,8 +7,8 @@ use crate::lights::{
     all, both, change, finish, light, light_up, lighting, lit_replies, write_both,
 };
 use crate::steps::{
-    Object, apply, apply_all, begin, claim, cleanup, crtc, flush, hw_done, lock, make, read, refuse,
-    return_from, swap, take, vblank, write, write_out,
+    apply, apply_all, begin, claim, cleanup, crtc, hw_done, lock, make, read, refuse, return_from,
+    swap, take, vblank, write_out,
 };
 use crate::texts::{SINGLE, UNSET, started};
 use kms_core::Core;
@@ -83,10 +83,7 @@ fn a_crtc_goes_off_at_its_flush(rt: HostRuntime) -> Result<(), Fail> {
     assert!(rt; !core.legal(&vblank(crtc(0))), "it is off");
     apply_all(&rt, &mut core, &[cleanup(1), return_from(1), read(1)])?;
     assert_drained(&rt, &core);
-    let want = [
-        told(1, 5, 4, committed(1)),
-        told(1, 6, 5, event(9, 1, 100)),
-    ];
+    let want = [told(1, 5, 4, committed(1)), told(1, 6, 5, event(9, 1, 100))];
     assert_replies(&rt, &core, 4, &want);
     assert_latched(&rt, &core, &[shows(0, 0, 1, &[1001]), goes_off(0, 1, 1)]);
     Ok(())

@@ -6,6 +6,8 @@ mod calls;
 #[cfg(test)]
 mod checks;
 #[cfg(test)]
+mod crowds;
+#[cfg(test)]
 mod histories;
 #[cfg(test)]
 mod lights;

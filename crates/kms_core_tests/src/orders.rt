@@ -1,10 +1,9 @@
 //! Histories of commits and clients that meet, worked out by hand.
 use crate::checks::{
-    Wanted,
-        assert_drained, assert_latched, assert_replies, at, committed, made, place, refused, shows,
-    told,
+    Wanted, assert_drained, assert_latched, assert_replies, at, committed, made, place, refused,
+    shows, told,
 };
-use crate::lights::{all, both, change, light, lighting, write_both};
+use crate::lights::{all, both, light, lighting, write_both};
 use crate::steps::{
     Object, apply, apply_all, back_off, begin, claim, cleanup, conn, crtc, lock, make, make_all,
     plane, refuse, relock, return_from, swap, take, test, vblank, write_out,
@@ -163,12 +162,7 @@ fn the_younger_context_backs_off(rt: HostRuntime) -> Result<(), Fail> {
     let line = "client\natomic 0x100 0 plane0.alpha=1 crtc0.ACTIVE=0\n";
     let text = format!(in rt.alloc(); "{SINGLE}{line}{line}")?;
     let mut core = started(&rt, text.as_str())?;
-    let first = [
-        begin(1),
-        begin(2),
-        lock(1, plane(0)),
-        lock(2, crtc(0)),
-    ];
+    let first = [begin(1), begin(2), lock(1, plane(0)), lock(2, crtc(0))];
     apply_all(&rt, &mut core, &first)?;
     assert!(rt; !core.legal(&lock(1, crtc(0))), "a younger one holds it");
     apply(&rt, &mut core, lock(2, plane(0)))?;
@@ -182,10 +176,7 @@ fn the_younger_context_backs_off(rt: HostRuntime) -> Result<(), Fail> {
     assert_eq!(rt; place(&rt, &core, 2), at(1, Doing::Taking(Ticket(1))));
     apply_all(&rt, &mut core, &[lock(2, crtc(0)), test(2)])?;
     assert_drained(&rt, &core);
-    let want = [
-        told(1, 1, 0, Reply::Tested),
-        told(2, 1, 0, Reply::Tested),
-    ];
+    let want = [told(1, 1, 0, Reply::Tested), told(2, 1, 0, Reply::Tested)];
     assert_replies(&rt, &core, 0, &want);
     assert!(rt; core.journal().is_empty());
     Ok(())

@@ -1,13 +1,13 @@
 //! Steps that are not legal, by the condition that fails: requests, contexts and the commands of clients.
-use crate::lights::{all, both, change, light, light_up, lighting, write_both};
+use crate::lights::{light_up, lighting};
 use crate::steps::{
-    Object, apply, apply_all, back_off, begin, claim, cleanup, conn, crtc, encoder, flush, hw_done,
-    lock, make, make_all, plane, read, refuse, relock, return_from, signal, swap, take, test,
-    vblank, write,
+    apply, apply_all, back_off, begin, claim, cleanup, conn, crtc, encoder, flush, hw_done, lock,
+    make, make_all, plane, read, refuse, relock, return_from, signal, swap, take, test, vblank,
+    write,
 };
-use crate::texts::{SINGLE, UNSET, started};
+use crate::texts::{SINGLE, started};
 use kms_core::Core;
-use kms_model::{NoMemory, Step};
+use kms_model::Step;
 use std::process::Abort;
 use std::test::Fail;
 
@@ -105,8 +105,7 @@ fn steps_are_refused_at_the_start(rt: HostRuntime) -> Result<(), Fail> {
 /// At each command of a client one step alone is legal of those that begin or do a command, and at its end none.
 #[test]
 fn each_command_has_its_step(rt: HostRuntime) -> Result<(), Fail> {
-    let text =
-        format!(in rt.alloc(); "{SINGLE}client\nfence n\nsignal n\nwait\natomic 0x0 0\n")?;
+    let text = format!(in rt.alloc(); "{SINGLE}client\nfence n\nsignal n\nwait\natomic 0x0 0\n")?;
     let mut core = started(&rt, text.as_str())?;
     let steps = [make(1), signal(1), read(1), begin(1)];
     for own in &steps {

@@ -3,9 +3,8 @@ use crate::lights::{all, both, change, light, light_up, lighting, write_both};
 use crate::orders::{commit, light_pair, moving};
 use crate::refusals::assert_refused;
 use crate::steps::{
-    apply, apply_all, back_off, begin, claim, cleanup, conn, crtc, encoder, flush, hw_done, lock,
-    make, make_all, plane, read, refuse, relock, return_from, signal, swap, take, test, vblank,
-    write, write_out,
+    apply, apply_all, back_off, begin, claim, cleanup, conn, crtc, flush, hw_done, lock, make,
+    make_all, plane, read, refuse, relock, return_from, signal, swap, take, test, vblank, write,
 };
 use kms_core::Core;
 use kms_model::{NoMemory, Step};

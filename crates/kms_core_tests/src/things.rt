@@ -4,11 +4,11 @@ use crate::checks::{
 };
 use crate::lights::{both, change, finish, light_up, lighting};
 use crate::steps::{
-    apply, apply_all, begin, claim, cleanup, crtc, make, make_all, plane, read, refuse, return_from, signal, swap,
-    take, vblank, write_out,
+    apply, apply_all, begin, claim, cleanup, crtc, make, make_all, read, refuse, signal, vblank,
+    write_out,
 };
 use kms_core::Core;
-use kms_model::{NoMemory, Reply, Step};
+use kms_model::{Reply, Step};
 use std::process::Abort;
 use std::test::Fail;
 
@@ -158,11 +158,7 @@ fn a_destroyed_mode_stays_in_use(rt: HostRuntime) -> Result<(), Fail> {
     change(&rt, &mut core)?;
     finish(&rt, &mut core, 1, &both())?;
     assert!(rt; core.legal(&begin(1)));
-    apply_all(
-        &rt,
-        &mut core,
-        &[begin(1), refuse(1)],
-    )?;
+    apply_all(&rt, &mut core, &[begin(1), refuse(1)])?;
     let want = [
         told(1, 5, 4, Reply::Done),
         told(1, 6, 5, committed(1)),

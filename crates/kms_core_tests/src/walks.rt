@@ -1,18 +1,21 @@
 //! Random walks of many clients, each of which is done again.
 use crate::checks::{goes, place};
+use crate::crowds::many;
 use crate::steps::{
     Object, apply, apply_all, back_off, begin, claim, cleanup, conn, crtc, encoder, flush, hw_done,
     lock, make, plane, read, refuse, relock, return_from, signal, swap, test, vblank, write,
 };
 use crate::texts::started;
 use kms_core::Core;
-use kms_model::{Kind, Step};
+use kms_model::Step;
 use std::process::Abort;
 use std::test::Fail;
 
-/// A device of four CRTCs, with a plane and a connector for each, and a plane for all.
-const DEVICE: &str =
-    "kms 1\ncrtcs 4\nplane primary 0 XR24\nplane primary 1 XR24\nplane primary 2 XR24\nplane primary 3 XR24\nplane overlay 0,1,2,3 XR24\nconn 0\nconn 1\nconn 2\nconn 3\n";
+/// The bit of the step that ends a history.
+const STALL: u32 = 0x20000;
+
+/// The bits of all other kinds of steps.
+const BUT_STALL: u32 = 0x1ffff;
 
 /// Numbers that look random.
 #[derive(Drop)]
@@ -27,47 +30,10 @@ impl Dice {
             .state
             .wrapping_mul(6364136223846793005)
             .wrapping_add(1442695040888963407);
-        ((self.state >> 33) as usize).checked_rem(sides).unwrap_or(0)
+        ((self.state >> 33) as usize)
+            .checked_rem(sides)
+            .unwrap_or(0)
     }
-}
-
-/// A client's things, and the request that lights its CRTC with its plane.
-fn lighting_lines(rt: &impl AllocGlobal, own: u32) -> Result<String, Fail> {
-    Ok(format!(in rt.alloc();
-        "client\nbuffer b{own} 2 2 XR24 ramp\naddfb f{own} b{own}\nbuffer c{own} 2 2 XR24 solid 00204060\naddfb g{own} c{own}\nmode m{own} 1 2 2 2 2 0 2 2 2 2 0 60 0 0 small\natomic 0x400 0 crtc{own}.ACTIVE=1 crtc{own}.MODE_ID=@m{own} conn{own}.CRTC_ID=crtc{own} plane{own}.FB_ID=@f{own} plane{own}.CRTC_ID=crtc{own} plane{own}.CRTC_W=2 plane{own}.CRTC_H=2 plane{own}.SRC_W=131072 plane{own}.SRC_H=131072\n"
-    )?)
-}
-
-/// A client's flips, fences and tests, with its own plane and another client's. `after` stands after the commit that waits
-/// for its fence.
-fn changing_lines(
-    rt: &impl AllocGlobal,
-    own: u32,
-    next: u32,
-    after: &str,
-) -> Result<String, Fail> {
-    Ok(format!(in rt.alloc();
-        "atomic 0x1 1 plane{own}.FB_ID=@g{own}\nwait\nfence n{own}\natomic 0x200 0 plane{own}.alpha=9 plane{own}.IN_FENCE_FD=@n{own} crtc{own}.OUT_FENCE_PTR=+o{own}\n{after} n{own}\natomic 0x100 0 plane{own}.alpha=1 plane{next}.alpha=2\natomic 0x101 0\natomic 0x201 2 plane{own}.alpha=3 plane{next}.alpha=4\natomic 0x1 3 plane{next}.alpha=7 plane{own}.alpha=6\nwait\nwait\nwait\n"
-    )?)
-}
-
-/// What a client does with the plane for all and with its things, which it closes, and how it ends.
-fn closing_lines(rt: &impl AllocGlobal, own: u32, next: u32) -> Result<String, Fail> {
-    Ok(format!(in rt.alloc();
-        "atomic 0x0 0 plane4.FB_ID=@f{next} plane4.CRTC_ID=crtc{own} plane4.CRTC_W=2 plane4.CRTC_H=2 plane4.SRC_W=131072 plane4.SRC_H=131072\nclosefb f{own}\ndestroy m{own}\ndestroy m{next}\natomic 0x0 0 plane4.FB_ID=0 plane4.CRTC_ID=0\natomic 0x0 0 plane{own}.FB_ID=@f{own}\natomic 0x0 0 plane{own}.alpha=65536\natomic 0x401 4 crtc{own}.ACTIVE=0 crtc{own}.MODE_ID=0 conn{own}.CRTC_ID=0 plane{own}.FB_ID=0 plane{own}.CRTC_ID=0\nwait\n"
-    )?)
-}
-
-/// The script of four clients, each of which lights a CRTC, changes what is shown, and ends. `after` stands before the name
-/// of the fence that each client's commit waits for.
-fn many(rt: &impl AllocGlobal, after: &str) -> Result<String, Fail> {
-    let mut text = String::from_str(rt.alloc(), DEVICE)?;
-    for (own, next) in [(0, 1), (1, 2), (2, 3), (3, 0)] {
-        text.push_str(lighting_lines(rt, own)?.as_str())?;
-        text.push_str(changing_lines(rt, own, next, after)?.as_str())?;
-        text.push_str(closing_lines(rt, own, next)?.as_str())?;
-    }
-    Ok(text)
 }
 
 /// Each object of the device, and one more of each kind.
@@ -170,11 +136,7 @@ fn keep_commits(core: &Core, legal: &mut Vec<Step>, commits: &Commits) -> Result
 }
 
 /// All steps that are legal after a history with these commits.
-fn legal_steps(
-    rt: &impl AllocGlobal,
-    core: &Core,
-    commits: &Commits,
-) -> Result<Vec<Step>, Fail> {
+fn legal_steps(rt: &impl AllocGlobal, core: &Core, commits: &Commits) -> Result<Vec<Step>, Fail> {
     let mut legal = Vec::new(rt.alloc());
     keep_clients(core, &mut legal, 4)?;
     keep_commits(core, &mut legal, commits)?;
@@ -261,18 +223,53 @@ fn assert_same(rt: &impl Abort, one: &Core, other: &Core) {
     }
 }
 
-/// Walks from the start of a script, again and again, until there were so many steps, and does each walk again.
+/// The bit of a step's kind.
+fn kind_bit(step: &Step) -> u32 {
+    match step {
+        Step::Begin { .. } => 0x1,
+        Step::Lock { .. } => 0x2,
+        Step::BackOff { .. } => 0x4,
+        Step::Relock { .. } => 0x8,
+        Step::Refuse { .. } => 0x10,
+        Step::Test { .. } => 0x20,
+        Step::Swap { .. } => 0x40,
+        Step::Make { .. } => 0x80,
+        Step::Signal { .. } => 0x100,
+        Step::Claim { .. } => 0x200,
+        Step::Write { .. } => 0x400,
+        Step::Flush { .. } => 0x800,
+        Step::HwDone { .. } => 0x1000,
+        Step::Vblank { .. } => 0x2000,
+        Step::Cleanup { .. } => 0x4000,
+        Step::Read { .. } => 0x8000,
+        Step::Return { .. } => 0x10000,
+        Step::Stall => STALL,
+    }
+}
+
+/// The kinds of the steps of a history.
+fn kinds_in(steps: &[Step]) -> u32 {
+    let mut kinds = 0;
+    for step in steps {
+        kinds |= kind_bit(step);
+    }
+    kinds
+}
+
+/// Walks from the start of a script, again and again, until there were so many steps, and does each walk again. It gives
+/// the kinds of steps that were done.
 fn assert_walks(
     rt: &(impl Abort + AllocGlobal),
     text: &str,
     seed: u64,
     steps: usize,
-) -> Result<(), Fail> {
+) -> Result<u32, Fail> {
+    let mut kinds = 0;
     let mut dice = Dice { state: seed };
     let mut left = steps;
     for _walk in 0..steps {
         if left == 0 {
-            return Ok(());
+            break;
         }
         let mut core = started(rt, text)?;
         walk(rt, &mut core, &mut dice, left)?;
@@ -280,25 +277,30 @@ fn assert_walks(
         apply_all(rt, &mut again, core.history())?;
         assert_same(rt, &core, &again);
         left = left.saturating_sub(core.history().len());
+        kinds |= kinds_in(core.history());
     }
-    Ok(())
+    Ok(kinds)
 }
 
 #[test]
 fn walks_can_be_done_again(rt: HostRuntime) -> Result<(), Fail> {
     let text = many(&rt, "signal")?;
-    assert_walks(&rt, text.as_str(), 1, 2000)
+    assert_eq!(rt; assert_walks(&rt, text.as_str(), 1, 2000)?, BUT_STALL);
+    Ok(())
 }
 
 #[test]
 fn other_walks_can_be_done_again(rt: HostRuntime) -> Result<(), Fail> {
     let text = many(&rt, "signal")?;
-    assert_walks(&rt, text.as_str(), 2, 2000)
+    assert_eq!(rt; assert_walks(&rt, text.as_str(), 2, 2000)?, BUT_STALL);
+    Ok(())
 }
 
 /// Where no client signals its fence, walks end in dead histories.
 #[test]
 fn walks_stall(rt: HostRuntime) -> Result<(), Fail> {
     let text = many(&rt, "destroy")?;
-    assert_walks(&rt, text.as_str(), 3, 2000)
+    let kinds = assert_walks(&rt, text.as_str(), 3, 2000)?;
+    assert!(rt; kinds & STALL != 0, "a walk stalls");
+    Ok(())
 }
