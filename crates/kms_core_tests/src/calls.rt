@@ -1,14 +1,16 @@
 //! Histories by the single calls, as clients and workers make them, and what these answer.
-use crate::checks::{assert_drained, assert_latched, assert_replies, committed, refused, shows};
-use crate::lights::{lighting, lit_replies};
+use crate::checks::{
+    assert_drained, assert_latched, assert_replies, committed, place, refused, shows,
+};
+use crate::lights::{all, lighting, lit_replies};
 use crate::steps::{
-    begin, claim, crtc, flush, hw_done, lock, make, plane, return_from, swap, vblank, write,
+    Object, begin, claim, crtc, flush, hw_done, lock, make, plane, return_from, swap, vblank, write,
 };
 use crate::texts::{SET, SINGLE, started};
 use kms_check::check;
 use kms_core::{Core, Decided, Locked};
 use kms_model::{
-    Checked, Command, Duplicate, Duplicates, Look, Lookups, NoMemory, ObjId, Refusal, Reply,
+    Checked, Command, Doing, Duplicate, Duplicates, Look, Lookups, NoMemory, ObjId, Refusal, Reply,
     Request, Resolved, Ticket,
 };
 use kms_request::{RequestError, resolve};
@@ -16,12 +18,10 @@ use kms_state::Duplicating;
 use std::process::Abort;
 use std::test::Fail;
 
-/// The ids of the CRTC, the plane and the connector.
+/// The ids of the first CRTC and the first plane.
 const CRTC: ObjId = ObjId(100);
 
 const PLANE: ObjId = ObjId(200);
-
-const CONN: ObjId = ObjId(300);
 
 /// The request of a client at an index that is its command at an index.
 fn request_at(
@@ -37,15 +37,21 @@ fn request_at(
     }
 }
 
-/// Takes an object that is free, and duplicates its state.
+/// A client takes an object that is free, and duplicates its state.
 fn get(
     rt: &impl Abort,
     core: &mut Core,
-    t: Ticket,
-    id: ObjId,
+    client: u32,
+    object: Object,
     states: &mut Duplicates,
 ) -> Result<(), NoMemory> {
     let length = core.history().len();
+    let Doing::Taking(t) = place(rt, core, client).doing else {
+        panic!(rt; "the client takes locks");
+    };
+    assert!(rt; core.legal(&lock(client, object)));
+    assert!(rt; object.index <= 255);
+    let id = ObjId::of(object.kind, object.index);
     let Locked::Got { state } = core.lock(t, id)? else {
         panic!(rt; "the object is free");
     };
@@ -98,6 +104,7 @@ fn tail_by_calls(rt: &(impl Abort + AllocGlobal), core: &mut Core) -> Result<(),
     assert!(rt; !core.is_stalled());
     assert_eq!(rt; core.claim(), Some(0));
     assert_eq!(rt; core.claim(), None, "it is claimed");
+    assert_eq!(rt; place(rt, core, 1).doing, Doing::Returning(0));
     assert!(rt; !core.cleanup(0), "nothing is written");
     assert!(rt; core.legal(&write(0, crtc(0))));
     core.write(0, CRTC);
@@ -127,8 +134,8 @@ fn a_client_lights_the_crtc_by_calls(rt: HostRuntime) -> Result<(), Fail> {
     assert_eq!(rt; t, Ticket(0));
     let used = core.lookups(rt.alloc(), &request)?;
     let mut states = Duplicates::empty();
-    for id in [CRTC, PLANE, CONN] {
-        get(&rt, &mut core, t, id, &mut states)?;
+    for object in &all() {
+        get(&rt, &mut core, 1, *object, &mut states)?;
     }
     let (resolved, checked) = judged(&rt, &core, &request, &used, states)?;
     assert!(rt; core.legal(&swap(1)));
@@ -162,8 +169,8 @@ fn look_ups_that_grew_old_are_told(rt: HostRuntime) -> Result<(), Fail> {
     let t = begun(&rt, &mut core, 1)?;
     let used = core.lookups(rt.alloc(), &request)?;
     let mut states = Duplicates::empty();
-    for id in [CRTC, PLANE, CONN] {
-        get(&rt, &mut core, t, id, &mut states)?;
+    for object in &all() {
+        get(&rt, &mut core, 1, *object, &mut states)?;
     }
     let (resolved, checked) = judged(&rt, &core, &request, &used, states)?;
     make_things(&rt, &mut core, 2, 1)?;
@@ -198,19 +205,27 @@ fn locks_have_their_answers(rt: HostRuntime) -> Result<(), Fail> {
     let (older, younger) = (begun(&rt, &mut core, 1)?, begun(&rt, &mut core, 2)?);
     let used = core.lookups(rt.alloc(), &request)?;
     let mut states = Duplicates::empty();
-    get(&rt, &mut core, older, PLANE, &mut states)?;
+    get(&rt, &mut core, 1, plane(0), &mut states)?;
     let own = core.lock(older, PLANE)?;
     assert!(rt; matches!(own, Locked::Own { .. }), "{own:?}");
-    get(&rt, &mut core, younger, CRTC, &mut Duplicates::empty())?;
+    get(&rt, &mut core, 2, crtc(0), &mut Duplicates::empty())?;
     let holder = younger;
     assert_eq!(rt; core.lock(older, CRTC)?, Locked::Younger { holder });
     assert_eq!(rt; core.history().len(), 4, "neither is a step");
     let holder = older;
     assert_eq!(rt; core.lock(younger, PLANE)?, Locked::Older { holder });
+    assert_eq!(rt;
+        place(&rt, &core, 2).doing,
+        Doing::MustBackOff(younger, PLANE)
+    );
     core.backoff(younger)?;
+    assert_eq!(rt;
+        place(&rt, &core, 2).doing,
+        Doing::BackedOff(younger, PLANE)
+    );
     assert_eq!(rt; core.relock(younger)?, Locked::Held { holder });
     assert_eq!(rt; core.history().len(), 6, "it is no step");
-    get(&rt, &mut core, older, CRTC, &mut states)?;
+    get(&rt, &mut core, 1, crtc(0), &mut states)?;
     let (_resolved, checked) = judged(&rt, &core, &request, &used, states)?;
     let reply = Reply::Tested;
     assert_eq!(rt; core.test(older, &used, &checked)?, Decided::Done { reply });

@@ -10,6 +10,8 @@ mod crowds;
 #[cfg(test)]
 mod histories;
 #[cfg(test)]
+mod kinds;
+#[cfg(test)]
 mod lights;
 #[cfg(test)]
 mod orders;

@@ -1,6 +1,7 @@
 //! Random walks of many clients, each of which is done again.
 use crate::checks::{goes, place};
 use crate::crowds::many;
+use crate::kinds::{BUT_STALL, STALL, kinds_in};
 use crate::steps::{
     Object, apply, apply_all, back_off, begin, claim, cleanup, conn, crtc, encoder, flush, hw_done,
     lock, make, plane, read, refuse, relock, return_from, signal, swap, test, vblank, write,
@@ -10,12 +11,6 @@ use kms_core::Core;
 use kms_model::Step;
 use std::process::Abort;
 use std::test::Fail;
-
-/// The bit of the step that ends a history.
-const STALL: u32 = 0x20000;
-
-/// The bits of all other kinds of steps.
-const BUT_STALL: u32 = 0x1ffff;
 
 /// Numbers that look random.
 #[derive(Drop)]
@@ -221,39 +216,6 @@ fn assert_same(rt: &impl Abort, one: &Core, other: &Core) {
         assert!(rt; one.idle_command(client) == other.idle_command(client));
         assert_eq!(rt; goes(rt, one, index), goes(rt, other, index));
     }
-}
-
-/// The bit of a step's kind.
-fn kind_bit(step: &Step) -> u32 {
-    match step {
-        Step::Begin { .. } => 0x1,
-        Step::Lock { .. } => 0x2,
-        Step::BackOff { .. } => 0x4,
-        Step::Relock { .. } => 0x8,
-        Step::Refuse { .. } => 0x10,
-        Step::Test { .. } => 0x20,
-        Step::Swap { .. } => 0x40,
-        Step::Make { .. } => 0x80,
-        Step::Signal { .. } => 0x100,
-        Step::Claim { .. } => 0x200,
-        Step::Write { .. } => 0x400,
-        Step::Flush { .. } => 0x800,
-        Step::HwDone { .. } => 0x1000,
-        Step::Vblank { .. } => 0x2000,
-        Step::Cleanup { .. } => 0x4000,
-        Step::Read { .. } => 0x8000,
-        Step::Return { .. } => 0x10000,
-        Step::Stall => STALL,
-    }
-}
-
-/// The kinds of the steps of a history.
-fn kinds_in(steps: &[Step]) -> u32 {
-    let mut kinds = 0;
-    for step in steps {
-        kinds |= kind_bit(step);
-    }
-    kinds
 }
 
 /// Walks from the start of a script, again and again, until there were so many steps, and does each walk again. It gives
