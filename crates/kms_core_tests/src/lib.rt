@@ -1,0 +1,29 @@
+//! Tests of the machine through its public calls: worked histories, steps that are refused, and random walks.
+#![tactic(auto)]
+
+#[cfg(test)]
+mod calls;
+#[cfg(test)]
+mod checks;
+#[cfg(test)]
+mod crowds;
+#[cfg(test)]
+mod histories;
+#[cfg(test)]
+mod kinds;
+#[cfg(test)]
+mod lights;
+#[cfg(test)]
+mod orders;
+#[cfg(test)]
+mod refusals;
+#[cfg(test)]
+mod steps;
+#[cfg(test)]
+mod tails;
+#[cfg(test)]
+mod texts;
+#[cfg(test)]
+mod things;
+#[cfg(test)]
+mod walks;

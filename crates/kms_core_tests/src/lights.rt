@@ -1,0 +1,82 @@
+//! A client that lights the one CRTC of a device, with which most histories begin.
+use crate::checks::{committed, made, told};
+use crate::steps::{
+    Object, apply, apply_all, cleanup, conn, crtc, make_all, plane, return_from, swap, take,
+    vblank, write_out,
+};
+use crate::texts::{MADE, SET, SINGLE, started};
+use kms_core::Core;
+use kms_model::{Answered, NoMemory};
+use std::process::Abort;
+use std::test::Fail;
+
+/// The machine of a client that lights the one CRTC by a request with these flags as its fourth command, and of what
+/// follows.
+pub(crate) fn lighting(
+    rt: &(impl Abort + AllocGlobal),
+    flags: &str,
+    more: &str,
+) -> Result<Core, Fail> {
+    let text = format!(in rt.alloc(); "{SINGLE}client\n{MADE}atomic {flags} 0 {SET}\n{more}")?;
+    started(rt, text.as_str())
+}
+
+/// The objects that a request takes which lights the CRTC or turns it off.
+pub(crate) fn all() -> [Object; 3] {
+    [crtc(0), plane(0), conn(0)]
+}
+
+/// The objects that its commit writes.
+pub(crate) fn both() -> [Object; 2] {
+    [crtc(0), plane(0)]
+}
+
+/// A client makes its things and commits what lights the CRTC.
+pub(crate) fn light(rt: &(impl Abort + AllocGlobal), core: &mut Core) -> Result<(), NoMemory> {
+    make_all(rt, core, 1, 3)?;
+    take(rt, core, 1, &all())?;
+    apply(rt, core, swap(1))
+}
+
+/// A commit writes the CRTC and the plane, flushes the CRTC and is done.
+pub(crate) fn write_both(
+    rt: &(impl Abort + AllocGlobal),
+    core: &mut Core,
+    commit: u32,
+) -> Result<(), NoMemory> {
+    write_out(rt, core, commit, &both(), &[0])
+}
+
+/// The whole tail of a commit that writes these objects, and the return of its client.
+pub(crate) fn finish(
+    rt: &(impl Abort + AllocGlobal),
+    core: &mut Core,
+    commit: u32,
+    written: &[Object],
+) -> Result<(), NoMemory> {
+    write_out(rt, core, commit, written, &[0])?;
+    let rest = [vblank(crtc(0)), cleanup(commit), return_from(1)];
+    apply_all(rt, core, &rest)
+}
+
+/// The client lights the CRTC, and the tail of its commit is over.
+pub(crate) fn light_up(rt: &(impl Abort + AllocGlobal), core: &mut Core) -> Result<(), NoMemory> {
+    light(rt, core)?;
+    finish(rt, core, 0, &both())
+}
+
+/// The client commits a request that changes the plane alone.
+pub(crate) fn change(rt: &(impl Abort + AllocGlobal), core: &mut Core) -> Result<(), NoMemory> {
+    take(rt, core, 1, &both())?;
+    apply(rt, core, swap(1))
+}
+
+/// What the client is told while it lights the CRTC.
+pub(crate) fn lit_replies() -> [Answered; 4] {
+    [
+        told(1, 1, 0, made(1000)),
+        told(1, 2, 1, made(1001)),
+        told(1, 3, 2, made(1002)),
+        told(1, 4, 3, committed(0)),
+    ]
+}

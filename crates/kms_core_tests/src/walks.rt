@@ -1,0 +1,268 @@
+//! Random walks of many clients, each of which is done again.
+use crate::checks::{goes, place};
+use crate::crowds::many;
+use crate::kinds::{BUT_STALL, STALL, kinds_in};
+use crate::steps::{
+    Object, apply, apply_all, back_off, begin, claim, cleanup, conn, crtc, encoder, flush, hw_done,
+    lock, make, plane, read, refuse, relock, return_from, signal, swap, test, vblank, write,
+};
+use crate::texts::started;
+use kms_core::Core;
+use kms_model::Step;
+use std::process::Abort;
+use std::test::Fail;
+
+/// Numbers that look random.
+#[derive(Drop)]
+struct Dice {
+    state: u64,
+}
+
+impl Dice {
+    /// A number below the sides, 0 where there are none.
+    fn roll(&mut self, sides: usize) -> usize {
+        self.state = self
+            .state
+            .wrapping_mul(6364136223846793005)
+            .wrapping_add(1442695040888963407);
+        ((self.state >> 33) as usize)
+            .checked_rem(sides)
+            .unwrap_or(0)
+    }
+}
+
+/// Each object of the device, and one more of each kind.
+fn objects() -> [Object; 18] {
+    [
+        crtc(0),
+        crtc(1),
+        crtc(2),
+        crtc(3),
+        crtc(4),
+        plane(0),
+        plane(1),
+        plane(2),
+        plane(3),
+        plane(4),
+        plane(5),
+        conn(0),
+        conn(1),
+        conn(2),
+        conn(3),
+        conn(4),
+        encoder(0),
+        crtc(100),
+    ]
+}
+
+fn steps_of_client(client: u32) -> [Step; 10] {
+    [
+        begin(client),
+        back_off(client),
+        relock(client),
+        refuse(client),
+        test(client),
+        swap(client),
+        make(client),
+        signal(client),
+        read(client),
+        return_from(client),
+    ]
+}
+
+/// The commits of a walk.
+#[derive(Drop)]
+struct Commits {
+    // How many were made.
+    count: u32,
+    // All before it are cleaned.
+    first: u32,
+    cleaned: Vec<u32>,
+}
+
+impl Commits {
+    /// Tells that a step was done.
+    fn did(&mut self, step: Step) -> Result<(), Fail> {
+        match step {
+            Step::Swap { .. } => self.count = self.count.saturating_add(1),
+            Step::Cleanup { commit } => self.cleaned.push(commit)?,
+            _ => {}
+        }
+        if self.cleaned.contains(&self.first) {
+            self.first = self.first.saturating_add(1);
+        }
+        Ok(())
+    }
+}
+
+/// Keeps a step where it is legal.
+fn keep(core: &Core, legal: &mut Vec<Step>, step: Step) -> Result<(), Fail> {
+    if core.legal(&step) {
+        legal.push(step)?;
+    }
+    Ok(())
+}
+
+/// Keeps those steps that are legal of so many clients, and of one more on each side.
+fn keep_clients(core: &Core, legal: &mut Vec<Step>, clients: u32) -> Result<(), Fail> {
+    for client in 0..clients.saturating_add(2) {
+        for step in &steps_of_client(client) {
+            keep(core, legal, *step)?;
+        }
+        for object in &objects() {
+            keep(core, legal, lock(client, *object))?;
+        }
+    }
+    Ok(())
+}
+
+/// Keeps those steps that are legal of commits, from the last that is cleaned like all before it to one that is not made.
+fn keep_commits(core: &Core, legal: &mut Vec<Step>, commits: &Commits) -> Result<(), Fail> {
+    for commit in commits.first.saturating_sub(1)..commits.count.saturating_add(1) {
+        for step in [claim(commit), hw_done(commit), cleanup(commit)] {
+            keep(core, legal, step)?;
+        }
+        for object in &objects() {
+            keep(core, legal, write(commit, *object))?;
+            keep(core, legal, flush(commit, *object))?;
+        }
+    }
+    Ok(())
+}
+
+/// All steps that are legal after a history with these commits.
+fn legal_steps(rt: &impl AllocGlobal, core: &Core, commits: &Commits) -> Result<Vec<Step>, Fail> {
+    let mut legal = Vec::new(rt.alloc());
+    keep_clients(core, &mut legal, 4)?;
+    keep_commits(core, &mut legal, commits)?;
+    for object in &objects() {
+        keep(core, &mut legal, vblank(*object))?;
+    }
+    keep(core, &mut legal, Step::Stall)?;
+    Ok(legal)
+}
+
+/// Whether some step is there other than the end of a history and a vertical blanking of a CRTC that does not go.
+fn has_move(rt: &impl Abort, core: &Core, legal: &[Step]) -> bool {
+    for step in legal {
+        let moves = match *step {
+            Step::Stall => false,
+            Step::Vblank { index, .. } => goes(rt, core, index),
+            _ => true,
+        };
+        if moves {
+            return true;
+        }
+    }
+    false
+}
+
+/// Does legal steps, at most so many, by the dice, until nothing moves any more, and ends a dead history.
+fn walk(
+    rt: &(impl Abort + AllocGlobal),
+    core: &mut Core,
+    dice: &mut Dice,
+    most: usize,
+) -> Result<(), Fail> {
+    let mut commits = Commits {
+        count: 0,
+        first: 0,
+        cleaned: Vec::new(rt.alloc()),
+    };
+    for _step in 0..most {
+        let (length, answered) = (core.history().len(), core.replies().len());
+        let legal = legal_steps(rt, core, &commits)?;
+        assert_eq!(rt; core.history().len(), length);
+        assert_eq!(rt; core.replies().len(), answered);
+        let moves = has_move(rt, core, &legal);
+        assert_eq!(rt; core.enabled(), moves, "after {length} steps");
+        if !moves {
+            return end(rt, core, &commits);
+        }
+        let step = *legal.get(dice.roll(legal.len())).ok_or("a step is legal")?;
+        apply(rt, core, step)?;
+        commits.did(step)?;
+    }
+    Ok(())
+}
+
+/// Asserts that a history in which nothing moves is drained, or is dead for a fence, and then ends it.
+fn end(rt: &(impl Abort + AllocGlobal), core: &mut Core, commits: &Commits) -> Result<(), Fail> {
+    assert_eq!(rt; core.legal(&Step::Stall), !core.drained());
+    assert_eq!(rt; core.stalled_on().is_some(), !core.drained());
+    if core.drained() {
+        return Ok(());
+    }
+    apply(rt, core, Step::Stall)?;
+    assert!(rt; legal_steps(rt, core, commits)?.is_empty());
+    assert!(rt; !core.enabled());
+    Ok(())
+}
+
+/// Asserts that two machines tell the same of themselves.
+fn assert_same(rt: &impl Abort, one: &Core, other: &Core) {
+    assert!(rt; one.history() == other.history());
+    assert!(rt; one.journal() == other.journal());
+    assert!(rt; one.replies() == other.replies());
+    assert!(rt; one.latched() == other.latched());
+    assert!(rt; one.freed() == other.freed());
+    assert_eq!(rt; one.drained(), other.drained());
+    assert_eq!(rt; one.enabled(), other.enabled());
+    assert_eq!(rt; one.is_stalled(), other.is_stalled());
+    assert_eq!(rt; one.stalled_on(), other.stalled_on());
+    for index in 0..4 {
+        let client = index + 1;
+        assert_eq!(rt; place(rt, one, client), place(rt, other, client));
+        assert!(rt; one.idle_command(client) == other.idle_command(client));
+        assert_eq!(rt; goes(rt, one, index), goes(rt, other, index));
+    }
+}
+
+/// Walks from the start of a script, again and again, until there were so many steps, and does each walk again. It gives
+/// the kinds of steps that were done.
+fn assert_walks(
+    rt: &(impl Abort + AllocGlobal),
+    text: &str,
+    seed: u64,
+    steps: usize,
+) -> Result<u32, Fail> {
+    let mut kinds = 0;
+    let mut dice = Dice { state: seed };
+    let mut left = steps;
+    for _walk in 0..steps {
+        if left == 0 {
+            break;
+        }
+        let mut core = started(rt, text)?;
+        walk(rt, &mut core, &mut dice, left)?;
+        let mut again = started(rt, text)?;
+        apply_all(rt, &mut again, core.history())?;
+        assert_same(rt, &core, &again);
+        left = left.saturating_sub(core.history().len());
+        kinds |= kinds_in(core.history());
+    }
+    Ok(kinds)
+}
+
+#[test]
+fn walks_can_be_done_again(rt: HostRuntime) -> Result<(), Fail> {
+    let text = many(&rt, "signal")?;
+    assert_eq!(rt; assert_walks(&rt, text.as_str(), 1, 2000)?, BUT_STALL);
+    Ok(())
+}
+
+#[test]
+fn other_walks_can_be_done_again(rt: HostRuntime) -> Result<(), Fail> {
+    let text = many(&rt, "signal")?;
+    assert_eq!(rt; assert_walks(&rt, text.as_str(), 2, 2000)?, BUT_STALL);
+    Ok(())
+}
+
+/// Where no client signals its fence, walks end in dead histories.
+#[test]
+fn walks_stall(rt: HostRuntime) -> Result<(), Fail> {
+    let text = many(&rt, "destroy")?;
+    let kinds = assert_walks(&rt, text.as_str(), 3, 2000)?;
+    assert!(rt; kinds & STALL != 0, "a walk stalls");
+    Ok(())
+}
