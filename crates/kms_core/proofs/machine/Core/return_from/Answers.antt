@@ -1,4 +1,4 @@
-use Rattle.std.proofs.Common.{◌∙◌, ap, sym, refl}
+use Rattle.std.proofs.Common.{◌∙◌, ◌&&◌, ap, not, sym, refl}
 use Rattle.kms_model.specs.declared.runs.Place.{Place}
 use Rattle.kms_core.specs.Run.{machine}
 use Rattle.kms_core.proofs.Insides.{run_of, stores_of}
@@ -14,6 +14,6 @@ invariant_of-self-2 c =
     let stands =
     returns (run_of c.self.inside) c.args.self.now (stores_of c.self.inside) c.args.client c.go_on.new.self c.make_step_room.new.steps.items c.push.new.self.items c.self.invariant.stands c.self.view_is c.requires
     (sym (tells_over (run_of c.self.inside) c.args.self.now (stores_of c.self.inside) c.args.client c.in-Returning.commit c.self.invariant.stands c.self.view_is c.requires (ap (λ (p : Place). p.doing) (sym c.place.ensures) ∙ c.in-Returning.is))
-    ∙ sym (ap (λ b. not b && c.is_cleaned.result) (sym c.if-self.false)) ∙ c.if-not-is_cleaned.false)
+    ∙ ap (λ b. not c.self.inside.stalled && b) (sym c.is_cleaned.ensures) ∙ ap (λ b. not b && c.is_cleaned.result) c.if-self.false ∙ c.if-not-is_cleaned.false)
     c.in_ok-make_step_room.ensures.items c.push.ensures.items (c.go_on.ensures (machine (run_of c.self.inside)) c.self.invariant.stands.stores.clients) in
     record { stands = stands; spare = other_spared _ _ _ _ _ _ _ _ _ _ c.self.invariant.stands stands c.in_ok-make_step_room.ensures.items c.push.ensures.items refl c.self.invariant.spare c.in_ok-make_step_room.ensures.room c.push.ensures.room }
