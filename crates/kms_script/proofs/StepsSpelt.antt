@@ -1,5 +1,5 @@
 -- A step that was read of a line is written as the line.
-use Rattle.std.proofs.Common.{◌≡◌, ℕ, inl, inr, List, [], ◌∷◌, ◌++◌, cond, Option, Some, None, refl, sym, ap, ◌∙◌, arith}
+use Rattle.std.proofs.Common.{◌≡◌, ℕ, inl, inr, List, [], ◌∷◌, ◌++◌, cond, Option, Some, None, refl, arith}
 use Rattle.std.specs.Prelude.{codes}
 use Rattle.std.specs.Fmt.{decimal}
 use Rattle.std.specs.Str.{bytes_eq}
@@ -8,13 +8,12 @@ use Rattle.kms_model.specs.declared.objects.Kind.{Kind}
 use Rattle.kms_model.specs.declared.replies.Step.{Step}
 use Rattle.kms_model.specs.declared.replies.Step.TheVariants.{Begin, Lock, BackOff, Relock, Refuse, Test, Swap, Make, Signal, Claim, Write, Flush, HwDone, Vblank, Cleanup, Read, Return, Stall}
 use Rattle.kms_model.specs.Report.History.{named_object, step_words}
-use Rattle.kms_model.specs.Script.Grammar.{object}
 use Rattle.kms_model.specs.Script.Schedules.{IsFitIndex, IsFitNumber, IsFitStep, greatest_number, lone_step, numbered_step, object_at, step_of_word, step_on_object, step_read, step_with_object}
 use Rattle.kms_model.specs.Script.Words.{dec_at, end_at, field_at, strip}
 use Rattle.kms_script.specs.Printed.{fields}
-use Rattle.kms_script.specs.Scheduled.{IsStepLine, step_text}
+use Rattle.kms_script.specs.Scheduled.{IsStepLine}
 use Rattle.kms_script.proofs.FitWords.{dec_at_fit, object_fit}
-use Rattle.kms_script.proofs.Inverted.{bind_some, choice_some, from_bind, some_same}
+use Rattle.kms_script.proofs.Inverted.{choice_some, from_bind, some_same}
 use Rattle.kms_script.proofs.LineFields.{end_spelt, field_spelt, strip_spelt}
 use Rattle.kms_script.proofs.SpeltFields.{dec_at_spelt}
 use Rattle.kms_script.proofs.SpeltWords.{found, nothing_read, object_spelt}

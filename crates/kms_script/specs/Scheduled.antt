@@ -3,7 +3,7 @@ use Rattle.std.specs.Prelude.{◌≡◌, ℕ, List, ◌++◌, Option, Some, None
 use Rattle.std.specs.Str.{bytes_eq}
 use Rattle.kms_model.specs.declared.objects.Kind.{Kind}
 use Rattle.kms_model.specs.declared.replies.Step.{Step}
-use Rattle.kms_model.specs.declared.replies.Step.TheVariants.{Begin, Lock, BackOff, Relock, Refuse, Test, Swap, Make, Signal, Claim, Write, Flush, HwDone, Vblank, Cleanup, Read, Return, Stall}
+use Rattle.kms_model.specs.declared.replies.Step.TheVariants.{Lock, Claim, Write, Flush, HwDone, Vblank, Cleanup, Read, Return, Stall}
 use Rattle.kms_model.specs.Report.History.{step_words}
 use Rattle.kms_model.specs.Script.Schedules.{IsFitStep, greatest_number, lone_step, numbered_step, object_at, step_on_object, step_with_object}
 use Rattle.kms_model.specs.Script.Words.{◌>>=◌, dec_at, end_at}

@@ -1,7 +1,7 @@
 //! The grammar of scripts: the script that a text spells, or the first line of it that may not stand.
 //!
 //! `parse` reads every script, and `print` writes its text; `read_topology` reads the device at the front of a script
-//! alone, and `read_command` one line of a client. `read_step` and `print_step` are those of a schedule's line.
+//! alone, and `read_command` one line of a client. `read_step` and `print_step` read and write a line of a schedule.
 #![tactic(auto)]
 
 mod commands;

@@ -1,4 +1,4 @@
-use Rattle.std.proofs.Common.{◌≡◌, None, rules}
+use Rattle.std.proofs.Common.{◌≡◌, rules}
 use Rattle.kms_model.specs.Script.Schedules.{step_read}
 use Rattle.kms_script.proofs.StepLines.{found_line, found_none, found_small}
 use Rattle.kms_script.proofs.steps.read_step.Goals as goal
