@@ -41,6 +41,10 @@ pub mod SpeltFields
 pub mod SpeltPatterns
 pub mod SpeltThings
 pub mod SpeltWords
+pub mod StepFields
+pub mod StepLines
+pub mod StepsRead
+pub mod StepsSpelt
 pub mod Texts
 pub mod WithinLimit
 pub mod WordsNumbered

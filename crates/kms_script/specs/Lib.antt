@@ -6,4 +6,5 @@ pub mod Named
 pub mod Numbered
 pub mod Overlong
 pub mod Printed
+pub mod Scheduled
 pub mod Stated

@@ -1,7 +1,7 @@
 //! The grammar of scripts: the script that a text spells, or the first line of it that may not stand.
 //!
 //! `parse` reads every script, and `print` writes its text; `read_topology` reads the device at the front of a script
-//! alone, and `read_command` one line of a client.
+//! alone, and `read_command` one line of a client. `read_step` and `print_step` read and write a line of a schedule.
 #![tactic(auto)]
 
 mod commands;
@@ -22,11 +22,15 @@ mod overlong;
 mod patterns;
 mod printing;
 mod printing_commands;
+mod printing_steps;
 #[cfg(test)]
 mod printing_tests;
 mod printing_words;
 mod requests;
 mod rows;
+#[cfg(test)]
+mod step_tests;
+mod steps;
 mod stop;
 #[cfg(test)]
 mod tests;
@@ -39,4 +43,6 @@ pub use kms_model::Why;
 pub use numbers::read_int;
 pub use one_line::{LineError, NameIndex, read_command};
 pub use printing::print;
+pub use printing_steps::print_step;
+pub use steps::{read_step, steps_have_one_line};
 pub use words::{is_label, read_dec};

@@ -16,7 +16,7 @@ fn indexed(kind: Kind, digits: &[u8]) -> Option<(Kind, u32)>
 
 /// The kind and the index of an object: `crtc`, `plane`, `conn` or `enc` with an index to 255.
 #[tactic(auto, unfolding(kms_model::specs::Script::Grammar::object))]
-fn read_object(word: &[u8]) -> Option<(Kind, u32)>
+pub fn read_object(word: &[u8]) -> Option<(Kind, u32)>
     ensures { result ≡ object word.now }
 {
     if let Some(digits) = strip(b"crtc", word) {

@@ -20,7 +20,7 @@ pub fn format_word(format: Format) -> &'static [u8]
     }
 }
 
-fn kind_word(kind: Kind) -> &'static [u8]
+pub fn kind_word(kind: Kind) -> &'static [u8]
     ensures { result.now ≡ kind_name kind }
 {
     match kind {

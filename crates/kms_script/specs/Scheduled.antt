@@ -1,0 +1,55 @@
+-- The line of a step in the schedule of a script, and the parts that a reader takes of it.
+use Rattle.std.specs.Prelude.{◌≡◌, ℕ, List, ◌++◌, Option, Some, None, codes, if◌then◌else◌}
+use Rattle.std.specs.Str.{bytes_eq}
+use Rattle.kms_model.specs.declared.objects.Kind.{Kind}
+use Rattle.kms_model.specs.declared.replies.Step.{Step}
+use Rattle.kms_model.specs.declared.replies.Step.TheVariants.{Lock, Claim, Write, Flush, HwDone, Vblank, Cleanup, Read, Return, Stall}
+use Rattle.kms_model.specs.Report.History.{step_words}
+use Rattle.kms_model.specs.Script.Schedules.{IsFitStep, greatest_number, lone_step, numbered_step, object_at, step_on_object, step_with_object}
+use Rattle.kms_model.specs.Script.Words.{◌>>=◌, dec_at, end_at}
+use Rattle.kms_script.specs.Printed.{fields}
+
+-- the line of a step, without its line feed: `T`, and the step's words with one blank before each
+abbrev pub step_text : Step → List ℕ
+step_text step = codes "T" ++ fields (step_words step)
+
+-- bytes are the line of a step, whose numbers are such as a line may have
+pub record IsStepLine (bytes : List ℕ) (step : Step) : Type 0 where
+  pub fits : IsFitStep step
+  pub text : bytes ≡ step_text step
+
+-- the index of the object that a step names
+abbrev pub index_of : Step → Option ℕ
+index_of (Lock client kind index) = Some index
+index_of (Write k kind index) = Some index
+index_of (Flush k kind index) = Some index
+index_of (Vblank kind index) = Some index
+index_of step = None
+
+-- the number of a client or a commit, at the end of a line
+unfoldable pub last_number : List ℕ → Option ℕ
+last_number bytes = do
+  n ← dec_at greatest_number bytes
+  _ ← end_at n.1
+  Some n.0
+
+-- that number with an object behind it
+unfoldable pub number_and_object : List ℕ → Option (ℕ × Kind × ℕ)
+number_and_object bytes = do
+  n ← dec_at greatest_number bytes
+  o ← object_at n.1
+  Some (n.0, o.0, o.1)
+
+-- a step from `claim` on, by its word and the fields behind it
+abbrev pub worker_step : List ℕ → List ℕ → Option Step
+worker_step word fields =
+    if bytes_eq word (codes "claim") then numbered_step (λ n. Claim n) fields
+    else (if bytes_eq word (codes "write") then step_with_object (λ n kind index. Write n kind index) fields
+    else (if bytes_eq word (codes "flush") then step_with_object (λ n kind index. Flush n kind index) fields
+    else (if bytes_eq word (codes "hwdone") then numbered_step (λ n. HwDone n) fields
+    else (if bytes_eq word (codes "vblank") then step_on_object (λ kind index. Vblank kind index) fields
+    else (if bytes_eq word (codes "cleanup") then numbered_step (λ n. Cleanup n) fields
+    else (if bytes_eq word (codes "read") then numbered_step (λ n. Read n) fields
+    else (if bytes_eq word (codes "return") then numbered_step (λ n. Return n) fields
+    else (if bytes_eq word (codes "stall") then lone_step Stall fields
+    else None))))))))
