@@ -200,7 +200,7 @@ fn end(rt: &(impl Abort + AllocGlobal), core: &mut Core, commits: &Commits) -> R
 }
 
 /// Asserts that two machines tell the same of themselves.
-fn assert_same(rt: &impl Abort, one: &Core, other: &Core) {
+pub(crate) fn assert_same(rt: &impl Abort, one: &Core, other: &Core) {
     assert!(rt; one.history() == other.history());
     assert!(rt; one.journal() == other.journal());
     assert!(rt; one.replies() == other.replies());
@@ -212,8 +212,10 @@ fn assert_same(rt: &impl Abort, one: &Core, other: &Core) {
     assert_eq!(rt; one.stalled_on(), other.stalled_on());
     for index in 0..4 {
         let client = index + 1;
-        assert_eq!(rt; place(rt, one, client), place(rt, other, client));
         assert!(rt; one.idle_command(client) == other.idle_command(client));
+        if index < one.script().clients.len() as u32 {
+            assert_eq!(rt; place(rt, one, client), place(rt, other, client));
+        }
         assert_eq!(rt; goes(rt, one, index), goes(rt, other, index));
     }
 }
