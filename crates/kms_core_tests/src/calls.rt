@@ -3,7 +3,8 @@
 use crate::checks::{assert_drained, assert_latched, assert_replies, shows};
 use crate::lights::{all, lighting, lit_replies};
 use crate::steps::{
-    apply, begin, cleanup, crtc, flush, hw_done, lock, make, plane, return_from, swap, vblank, write,
+    apply, begin, cleanup, crtc, flush, hw_done, lock, make, plane, return_from, swap, vblank,
+    write,
 };
 use kms_core::Core;
 use kms_model::{NoMemory, ObjId, Ticket};
@@ -66,19 +67,26 @@ fn blank_by_calls(rt: &(impl Abort + AllocGlobal), core: &mut Core) -> Result<()
 #[test]
 fn a_client_lights_the_crtc_by_calls(rt: HostRuntime) -> Result<(), Fail> {
     let mut core = lighting(&rt, "0x400", "")?;
-    make_things(&rt, &mut core, 1, 3)?;
-    assert_eq!(rt; begun(&rt, &mut core, 1)?, Ticket(0));
+    a_client_lights_the_crtc_by_calls_with(&rt, &mut core)
+}
+
+fn a_client_lights_the_crtc_by_calls_with(
+    rt: &(impl Abort + AllocGlobal),
+    core: &mut Core,
+) -> Result<(), Fail> {
+    make_things(rt, core, 1, 3)?;
+    assert_eq!(rt; begun(rt, core, 1)?, Ticket(0));
     for object in &all() {
-        apply(&rt, &mut core, lock(1, *object))?;
+        apply(rt, core, lock(1, *object))?;
     }
-    apply(&rt, &mut core, swap(1))?;
-    write_by_calls(&rt, &mut core)?;
-    blank_by_calls(&rt, &mut core)?;
-    apply(&rt, &mut core, cleanup(0))?;
-    apply(&rt, &mut core, return_from(1))?;
-    assert_drained(&rt, &core);
-    assert_replies(&rt, &core, 0, &lit_replies());
-    assert_latched(&rt, &core, &[shows(0, 0, 1, &[1001])]);
+    apply(rt, core, swap(1))?;
+    write_by_calls(rt, core)?;
+    blank_by_calls(rt, core)?;
+    apply(rt, core, cleanup(0))?;
+    apply(rt, core, return_from(1))?;
+    assert_drained(rt, core);
+    assert_replies(rt, core, 0, &lit_replies());
+    assert_latched(rt, core, &[shows(0, 0, 1, &[1001])]);
     assert_eq!(rt; core.history().len(), 17);
     Ok(())
 }

@@ -1,4 +1,6 @@
-//! Tests of the machine through its public calls: worked histories, steps that are refused, and random walks.
+//! Tests of the machine through its public calls: worked histories, steps that are refused, and random walks. A test makes
+//! its machine and lends it to a function with its steps (`.._with`): a function that owns a machine drops it at each of its
+//! ends, and is proved once for each of them.
 #![tactic(auto)]
 
 #[cfg(test)]

@@ -88,11 +88,18 @@ fn forbidden_first() -> [(&'static str, Step); 24] {
 #[test]
 fn steps_are_refused_at_the_start(rt: HostRuntime) -> Result<(), Fail> {
     let core = lighting(&rt, "0x400", "")?;
-    assert_refused(&rt, &core, &forbidden_first());
+    steps_are_refused_at_the_start_with(&rt, &core)
+}
+
+fn steps_are_refused_at_the_start_with(
+    rt: &(impl Abort + AllocGlobal),
+    core: &Core,
+) -> Result<(), Fail> {
+    assert_refused(rt, core, &forbidden_first());
     for client in [0, 2, u32::MAX] {
-        assert_not_idle(&rt, &core, client, "there is no such client");
-        assert_takes_none(&rt, &core, client, "there is no such client");
-        assert_not_waiting(&rt, &core, client, "there is no such client");
+        assert_not_idle(rt, core, client, "there is no such client");
+        assert_takes_none(rt, core, client, "there is no such client");
+        assert_not_waiting(rt, core, client, "there is no such client");
         assert_eq!(rt; core.idle_command(client), None);
     }
     assert!(rt; core.legal(&make(1)));
@@ -107,23 +114,30 @@ fn steps_are_refused_at_the_start(rt: HostRuntime) -> Result<(), Fail> {
 fn each_command_has_its_step(rt: HostRuntime) -> Result<(), Fail> {
     let text = format!(in rt.alloc(); "{SINGLE}client\nfence n\nsignal n\nwait\natomic 0x0 0\n")?;
     let mut core = started(&rt, text.as_str())?;
+    each_command_has_its_step_with(&rt, &mut core)
+}
+
+fn each_command_has_its_step_with(
+    rt: &(impl Abort + AllocGlobal),
+    core: &mut Core,
+) -> Result<(), Fail> {
     let steps = [make(1), signal(1), read(1), begin(1)];
     for own in &steps {
         for step in &steps {
             assert_eq!(rt; core.legal(step), step == own, "{step:?} at {own:?}");
         }
-        apply(&rt, &mut core, *own)?;
+        apply(rt, core, *own)?;
     }
-    assert_not_idle(&rt, &core, 1, "it takes locks");
-    assert_refused(&rt, &core, &[("it is no test", test(1))]);
-    apply(&rt, &mut core, swap(1))?;
-    assert_not_idle(&rt, &core, 1, "it returns");
-    assert_takes_none(&rt, &core, 1, "it returns");
-    assert_not_waiting(&rt, &core, 1, "the commit is not cleaned");
+    assert_not_idle(rt, core, 1, "it takes locks");
+    assert_refused(rt, core, &[("it is no test", test(1))]);
+    apply(rt, core, swap(1))?;
+    assert_not_idle(rt, core, 1, "it returns");
+    assert_takes_none(rt, core, 1, "it returns");
+    assert_not_waiting(rt, core, 1, "the commit is not cleaned");
     let rest = [claim(0), hw_done(0), cleanup(0), return_from(1)];
-    apply_all(&rt, &mut core, &rest)?;
-    assert_not_idle(&rt, &core, 1, "it is at its end");
-    assert_refused(&rt, &core, &[("the history is drained", Step::Stall)]);
+    apply_all(rt, core, &rest)?;
+    assert_not_idle(rt, core, 1, "it is at its end");
+    assert_refused(rt, core, &[("the history is drained", Step::Stall)]);
     Ok(())
 }
 
@@ -131,8 +145,15 @@ fn each_command_has_its_step(rt: HostRuntime) -> Result<(), Fail> {
 #[test]
 fn locks_are_refused_out_of_reach(rt: HostRuntime) -> Result<(), Fail> {
     let mut core = lighting(&rt, "0x400", "atomic 0x0 0 plane0.alpha=1\n")?;
-    light_up(&rt, &mut core)?;
-    apply(&rt, &mut core, begin(1))?;
+    locks_are_refused_out_of_reach_with(&rt, &mut core)
+}
+
+fn locks_are_refused_out_of_reach_with(
+    rt: &(impl Abort + AllocGlobal),
+    core: &mut Core,
+) -> Result<(), Fail> {
+    light_up(rt, core)?;
+    apply(rt, core, begin(1))?;
     let rows = [
         ("no modeset is needed", lock(1, conn(0))),
         ("an encoder has no lock", lock(1, encoder(0))),
@@ -143,18 +164,18 @@ fn locks_are_refused_out_of_reach(rt: HostRuntime) -> Result<(), Fail> {
         ("it is accepted", refuse(1)),
         ("it is no test", test(1)),
     ];
-    assert_refused(&rt, &core, &rows);
-    assert_not_idle(&rt, &core, 1, "it takes locks");
-    assert_not_waiting(&rt, &core, 1, "it takes locks");
-    apply(&rt, &mut core, lock(1, plane(0)))?;
+    assert_refused(rt, core, &rows);
+    assert_not_idle(rt, core, 1, "it takes locks");
+    assert_not_waiting(rt, core, 1, "it takes locks");
+    apply(rt, core, lock(1, plane(0)))?;
     let rows = [
         ("it holds the plane", lock(1, plane(0))),
         ("it does not hold the CRTC", swap(1)),
     ];
-    assert_refused(&rt, &core, &rows);
-    apply(&rt, &mut core, lock(1, crtc(0)))?;
+    assert_refused(rt, core, &rows);
+    apply(rt, core, lock(1, crtc(0)))?;
     let rows = [("it is no test", test(1)), ("it is accepted", refuse(1))];
-    assert_refused(&rt, &core, &rows);
+    assert_refused(rt, core, &rows);
     Ok(())
 }
 
@@ -164,28 +185,35 @@ fn contexts_back_off_first(rt: HostRuntime) -> Result<(), Fail> {
     let line = "client\natomic 0x100 0 plane0.alpha=1 crtc0.ACTIVE=0\n";
     let text = format!(in rt.alloc(); "{SINGLE}{line}{line}")?;
     let mut core = started(&rt, text.as_str())?;
-    take(&rt, &mut core, 1, &[plane(0)])?;
-    take(&rt, &mut core, 2, &[crtc(0), plane(0)])?;
+    contexts_back_off_first_with(&rt, &mut core)
+}
+
+fn contexts_back_off_first_with(
+    rt: &(impl Abort + AllocGlobal),
+    core: &mut Core,
+) -> Result<(), Fail> {
+    take(rt, core, 1, &[plane(0)])?;
+    take(rt, core, 2, &[crtc(0), plane(0)])?;
     let rows = [
         ("a younger one holds it", lock(1, crtc(0))),
         ("it does not hold the CRTC", test(1)),
         ("it has not backed off", relock(2)),
     ];
-    assert_refused(&rt, &core, &rows);
-    assert_takes_none(&rt, &core, 2, "it must back off");
-    assert_not_idle(&rt, &core, 2, "it must back off");
-    apply(&rt, &mut core, back_off(2))?;
-    assert_takes_none(&rt, &core, 2, "it backed off");
-    assert_not_idle(&rt, &core, 2, "it backed off");
-    assert_not_waiting(&rt, &core, 2, "it backed off, and the plane is held");
-    apply(&rt, &mut core, lock(1, crtc(0)))?;
+    assert_refused(rt, core, &rows);
+    assert_takes_none(rt, core, 2, "it must back off");
+    assert_not_idle(rt, core, 2, "it must back off");
+    apply(rt, core, back_off(2))?;
+    assert_takes_none(rt, core, 2, "it backed off");
+    assert_not_idle(rt, core, 2, "it backed off");
+    assert_not_waiting(rt, core, 2, "it backed off, and the plane is held");
+    apply(rt, core, lock(1, crtc(0)))?;
     let rows = [
         ("it is a test", swap(1)),
         ("it is accepted", refuse(1)),
         ("the plane is held", relock(2)),
     ];
-    assert_refused(&rt, &core, &rows);
-    apply(&rt, &mut core, test(1))?;
+    assert_refused(rt, core, &rows);
+    apply(rt, core, test(1))?;
     assert!(rt; core.legal(&relock(2)));
     Ok(())
 }
@@ -194,22 +222,29 @@ fn contexts_back_off_first(rt: HostRuntime) -> Result<(), Fail> {
 #[test]
 fn refused_requests_are_not_committed(rt: HostRuntime) -> Result<(), Fail> {
     let mut core = lighting(&rt, "0x0", "atomic 0x100 0 crtc0.ACTIVE=1\n")?;
-    make_all(&rt, &mut core, 1, 3)?;
-    take(&rt, &mut core, 1, &[crtc(0), plane(0)])?;
+    refused_requests_are_not_committed_with(&rt, &mut core)
+}
+
+fn refused_requests_are_not_committed_with(
+    rt: &(impl Abort + AllocGlobal),
+    core: &mut Core,
+) -> Result<(), Fail> {
+    make_all(rt, core, 1, 3)?;
+    take(rt, core, 1, &[crtc(0), plane(0)])?;
     let rows = [
         ("it does not hold the connector", refuse(1)),
         ("it does not hold the connector", swap(1)),
     ];
-    assert_refused(&rt, &core, &rows);
-    apply(&rt, &mut core, lock(1, conn(0)))?;
+    assert_refused(rt, core, &rows);
+    apply(rt, core, lock(1, conn(0)))?;
     let rows = [
         ("it may not set modes", swap(1)),
         ("it may not set modes", test(1)),
     ];
-    assert_refused(&rt, &core, &rows);
-    apply(&rt, &mut core, refuse(1))?;
-    take(&rt, &mut core, 1, &[crtc(0)])?;
-    assert_refused(&rt, &core, &[("there is no mode", test(1))]);
-    apply(&rt, &mut core, refuse(1))?;
+    assert_refused(rt, core, &rows);
+    apply(rt, core, refuse(1))?;
+    take(rt, core, 1, &[crtc(0)])?;
+    assert_refused(rt, core, &[("there is no mode", test(1))]);
+    apply(rt, core, refuse(1))?;
     Ok(())
 }

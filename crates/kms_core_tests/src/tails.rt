@@ -59,7 +59,14 @@ fn assert_written(rt: &impl Abort, core: &Core) {
 #[test]
 fn tails_go_step_by_step(rt: HostRuntime) -> Result<(), Fail> {
     let mut core = lighting(&rt, "0x400", "")?;
-    light(&rt, &mut core)?;
+    tails_go_step_by_step_with(&rt, &mut core)
+}
+
+fn tails_go_step_by_step_with(
+    rt: &(impl Abort + AllocGlobal),
+    core: &mut Core,
+) -> Result<(), Fail> {
+    light(rt, core)?;
     let rows = [
         ("it is not claimed", write(0, crtc(0))),
         ("it is not claimed", flush(0, crtc(0))),
@@ -67,22 +74,22 @@ fn tails_go_step_by_step(rt: HostRuntime) -> Result<(), Fail> {
         ("it is not claimed", cleanup(0)),
         ("there is no such commit", claim(1)),
     ];
-    assert_refused(&rt, &core, &rows);
-    apply(&rt, &mut core, claim(0))?;
-    assert_unwritten(&rt, &core);
-    apply(&rt, &mut core, write(0, crtc(0)))?;
-    assert_half_written(&rt, &core);
-    apply(&rt, &mut core, write(0, plane(0)))?;
-    assert_written(&rt, &core);
-    apply(&rt, &mut core, flush(0, crtc(0)))?;
+    assert_refused(rt, core, &rows);
+    apply(rt, core, claim(0))?;
+    assert_unwritten(rt, core);
+    apply(rt, core, write(0, crtc(0)))?;
+    assert_half_written(rt, core);
+    apply(rt, core, write(0, plane(0)))?;
+    assert_written(rt, core);
+    apply(rt, core, flush(0, crtc(0)))?;
     let rows = [
         ("it is flushed already", flush(0, crtc(0))),
         ("the end is not told", cleanup(0)),
         ("a plane has no blanking", vblank(plane(0))),
         ("there is no such CRTC", vblank(crtc(1))),
     ];
-    assert_refused(&rt, &core, &rows);
-    finish_by_steps(&rt, &mut core)?;
+    assert_refused(rt, core, &rows);
+    finish_by_steps(rt, core)?;
     Ok(())
 }
 
@@ -113,19 +120,26 @@ fn finish_by_steps(rt: &(impl Abort + AllocGlobal), core: &mut Core) -> Result<(
 #[test]
 fn tails_go_over_all_crtcs(rt: HostRuntime) -> Result<(), Fail> {
     let mut core = moving(&rt)?;
-    make_all(&rt, &mut core, 1, 3)?;
+    tails_go_over_all_crtcs_with(&rt, &mut core)
+}
+
+fn tails_go_over_all_crtcs_with(
+    rt: &(impl Abort + AllocGlobal),
+    core: &mut Core,
+) -> Result<(), Fail> {
+    make_all(rt, core, 1, 3)?;
     let objects = [crtc(0), crtc(1), plane(0), conn(0), conn(1)];
-    commit(&rt, &mut core, 1, &objects)?;
-    apply_all(&rt, &mut core, &[claim(0), write(0, crtc(0))])?;
-    assert_refused(&rt, &core, &[("a CRTC comes first", write(0, plane(0)))]);
-    apply_all(&rt, &mut core, &[write(0, crtc(1)), write(0, plane(0))])?;
-    assert_refused(&rt, &core, &[("the first comes first", flush(0, crtc(1)))]);
-    apply(&rt, &mut core, flush(0, crtc(0)))?;
-    assert_refused(&rt, &core, &[("one is not flushed", hw_done(0))]);
+    commit(rt, core, 1, &objects)?;
+    apply_all(rt, core, &[claim(0), write(0, crtc(0))])?;
+    assert_refused(rt, core, &[("a CRTC comes first", write(0, plane(0)))]);
+    apply_all(rt, core, &[write(0, crtc(1)), write(0, plane(0))])?;
+    assert_refused(rt, core, &[("the first comes first", flush(0, crtc(1)))]);
+    apply(rt, core, flush(0, crtc(0)))?;
+    assert_refused(rt, core, &[("one is not flushed", hw_done(0))]);
     let next = [flush(0, crtc(1)), hw_done(0), vblank(crtc(1))];
-    apply_all(&rt, &mut core, &next)?;
-    assert_refused(&rt, &core, &[("one has not latched", cleanup(0))]);
-    apply_all(&rt, &mut core, &[vblank(crtc(0)), cleanup(0)])?;
+    apply_all(rt, core, &next)?;
+    assert_refused(rt, core, &[("one has not latched", cleanup(0))]);
+    apply_all(rt, core, &[vblank(crtc(0)), cleanup(0)])?;
     Ok(())
 }
 
@@ -133,10 +147,17 @@ fn tails_go_over_all_crtcs(rt: HostRuntime) -> Result<(), Fail> {
 #[test]
 fn claims_wait_for_the_commits_before(rt: HostRuntime) -> Result<(), Fail> {
     let mut core = moving(&rt)?;
-    light_pair(&rt, &mut core)?;
-    commit(&rt, &mut core, 1, &[plane(0), crtc(0)])?;
-    commit(&rt, &mut core, 2, &[plane(0), crtc(1)])?;
-    assert_refused(&rt, &core, &[("the one before is not claimed", claim(2))]);
+    claims_wait_for_the_commits_before_with(&rt, &mut core)
+}
+
+fn claims_wait_for_the_commits_before_with(
+    rt: &(impl Abort + AllocGlobal),
+    core: &mut Core,
+) -> Result<(), Fail> {
+    light_pair(rt, core)?;
+    commit(rt, core, 1, &[plane(0), crtc(0)])?;
+    commit(rt, core, 2, &[plane(0), crtc(1)])?;
+    assert_refused(rt, core, &[("the one before is not claimed", claim(2))]);
     let part = [
         claim(1),
         write(1, crtc(0)),
@@ -144,9 +165,9 @@ fn claims_wait_for_the_commits_before(rt: HostRuntime) -> Result<(), Fail> {
         flush(1, crtc(0)),
         vblank(crtc(0)),
     ];
-    apply_all(&rt, &mut core, &part)?;
-    assert_refused(&rt, &core, &[("it has flipped, and is not done", claim(2))]);
-    apply(&rt, &mut core, hw_done(1))?;
+    apply_all(rt, core, &part)?;
+    assert_refused(rt, core, &[("it has flipped, and is not done", claim(2))]);
+    apply(rt, core, hw_done(1))?;
     assert!(rt; core.legal(&claim(2)));
     Ok(())
 }
@@ -157,21 +178,28 @@ fn swaps_wait_for_the_commits_before(rt: HostRuntime) -> Result<(), Fail> {
     let more =
         "atomic 0x0 0 plane0.alpha=1\natomic 0x200 0 plane0.alpha=2\natomic 0x200 0 plane0.alpha=3\n";
     let mut core = lighting(&rt, "0x600", more)?;
-    light(&rt, &mut core)?;
-    take(&rt, &mut core, 1, &both())?;
+    swaps_wait_for_the_commits_before_with(&rt, &mut core)
+}
+
+fn swaps_wait_for_the_commits_before_with(
+    rt: &(impl Abort + AllocGlobal),
+    core: &mut Core,
+) -> Result<(), Fail> {
+    light(rt, core)?;
+    take(rt, core, 1, &both())?;
     let rows = [
         ("the one before is not done", swap(1)),
         ("it waits", refuse(1)),
     ];
-    assert_refused(&rt, &core, &rows);
-    write_both(&rt, &mut core, 0)?;
-    apply_all(&rt, &mut core, &[swap(1), vblank(crtc(0)), cleanup(0)])?;
-    write_both(&rt, &mut core, 1)?;
+    assert_refused(rt, core, &rows);
+    write_both(rt, core, 0)?;
+    apply_all(rt, core, &[swap(1), vblank(crtc(0)), cleanup(0)])?;
+    write_both(rt, core, 1)?;
     let rest = [vblank(crtc(0)), cleanup(1), return_from(1)];
-    apply_all(&rt, &mut core, &rest)?;
-    change(&rt, &mut core)?;
-    take(&rt, &mut core, 1, &both())?;
-    assert_refused(&rt, &core, &[("it is busy", swap(1))]);
+    apply_all(rt, core, &rest)?;
+    change(rt, core)?;
+    take(rt, core, 1, &both())?;
+    assert_refused(rt, core, &[("it is busy", swap(1))]);
     Ok(())
 }
 
@@ -180,19 +208,26 @@ fn swaps_wait_for_the_commits_before(rt: HostRuntime) -> Result<(), Fail> {
 fn swaps_wait_for_a_cleanup(rt: HostRuntime) -> Result<(), Fail> {
     let more = "atomic 0x200 0 plane0.alpha=1\natomic 0x200 0 plane0.alpha=2\n";
     let mut core = lighting(&rt, "0x600", more)?;
-    light(&rt, &mut core)?;
-    write_both(&rt, &mut core, 0)?;
-    apply(&rt, &mut core, vblank(crtc(0)))?;
-    change(&rt, &mut core)?;
-    write_both(&rt, &mut core, 1)?;
-    apply(&rt, &mut core, vblank(crtc(0)))?;
-    take(&rt, &mut core, 1, &both())?;
+    swaps_wait_for_a_cleanup_with(&rt, &mut core)
+}
+
+fn swaps_wait_for_a_cleanup_with(
+    rt: &(impl Abort + AllocGlobal),
+    core: &mut Core,
+) -> Result<(), Fail> {
+    light(rt, core)?;
+    write_both(rt, core, 0)?;
+    apply(rt, core, vblank(crtc(0)))?;
+    change(rt, core)?;
+    write_both(rt, core, 1)?;
+    apply(rt, core, vblank(crtc(0)))?;
+    take(rt, core, 1, &both())?;
     let rows = [
         ("the second before is not cleaned", swap(1)),
         ("it is not busy", refuse(1)),
     ];
-    assert_refused(&rt, &core, &rows);
-    apply(&rt, &mut core, cleanup(0))?;
+    assert_refused(rt, core, &rows);
+    apply(rt, core, cleanup(0))?;
     assert!(rt; core.legal(&swap(1)));
     Ok(())
 }
@@ -201,12 +236,19 @@ fn swaps_wait_for_a_cleanup(rt: HostRuntime) -> Result<(), Fail> {
 #[test]
 fn reads_wait_for_reserved_events(rt: HostRuntime) -> Result<(), Fail> {
     let mut core = lighting(&rt, "0x400", "atomic 0x201 0 plane0.alpha=1\nwait\nwait\n")?;
-    light_up(&rt, &mut core)?;
-    change(&rt, &mut core)?;
-    assert_refused(&rt, &core, &[("the event is to come", read(1))]);
-    write_both(&rt, &mut core, 1)?;
-    assert_refused(&rt, &core, &[("the event is to come", read(1))]);
-    apply_all(&rt, &mut core, &[vblank(crtc(0)), read(1), read(1)])?;
+    reads_wait_for_reserved_events_with(&rt, &mut core)
+}
+
+fn reads_wait_for_reserved_events_with(
+    rt: &(impl Abort + AllocGlobal),
+    core: &mut Core,
+) -> Result<(), Fail> {
+    light_up(rt, core)?;
+    change(rt, core)?;
+    assert_refused(rt, core, &[("the event is to come", read(1))]);
+    write_both(rt, core, 1)?;
+    assert_refused(rt, core, &[("the event is to come", read(1))]);
+    apply_all(rt, core, &[vblank(crtc(0)), read(1), read(1)])?;
     Ok(())
 }
 
@@ -216,15 +258,22 @@ fn nothing_is_legal_after_the_end(rt: HostRuntime) -> Result<(), Fail> {
     let more =
         "fence n\natomic 0x200 0 plane0.alpha=1 plane0.IN_FENCE_FD=@n\natomic 0x0 0 plane0.alpha=2\nclient\nfence o\nsignal o\nwait\n";
     let mut core = lighting(&rt, "0x400", more)?;
-    light_up(&rt, &mut core)?;
-    apply(&rt, &mut core, make(1))?;
-    change(&rt, &mut core)?;
-    take(&rt, &mut core, 1, &both())?;
-    assert_refused(&rt, &core, &[("client 2 can go on", Step::Stall)]);
-    apply_all(&rt, &mut core, &[make(2), signal(2), read(2)])?;
-    assert_refused(&rt, &core, &[("the fence is not signalled", claim(1))]);
+    nothing_is_legal_after_the_end_with(&rt, &mut core)
+}
+
+fn nothing_is_legal_after_the_end_with(
+    rt: &(impl Abort + AllocGlobal),
+    core: &mut Core,
+) -> Result<(), Fail> {
+    light_up(rt, core)?;
+    apply(rt, core, make(1))?;
+    change(rt, core)?;
+    take(rt, core, 1, &both())?;
+    assert_refused(rt, core, &[("client 2 can go on", Step::Stall)]);
+    apply_all(rt, core, &[make(2), signal(2), read(2)])?;
+    assert_refused(rt, core, &[("the fence is not signalled", claim(1))]);
     assert!(rt; core.legal(&vblank(crtc(0))), "the CRTC is on");
-    apply(&rt, &mut core, Step::Stall)?;
+    apply(rt, core, Step::Stall)?;
     let ended = "the history was ended";
     for client in [1, 2] {
         let rows = [
@@ -240,9 +289,9 @@ fn nothing_is_legal_after_the_end(rt: HostRuntime) -> Result<(), Fail> {
             (ended, read(client)),
             (ended, return_from(client)),
         ];
-        assert_refused(&rt, &core, &rows);
+        assert_refused(rt, core, &rows);
     }
-    assert_tails_ended(&rt, &core, ended);
+    assert_tails_ended(rt, core, ended);
     Ok(())
 }
 

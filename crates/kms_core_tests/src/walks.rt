@@ -220,8 +220,35 @@ pub(crate) fn assert_same(rt: &impl Abort, one: &Core, other: &Core) {
     }
 }
 
-/// Walks from the start of a script, again and again, until there were so many steps, and does each walk again. It gives
-/// the kinds of steps that were done.
+/// Walks on one machine, and does the same steps on another, which tells the same then. It gives how many steps there were,
+/// and of which kinds.
+fn walk_twice(
+    rt: &(impl Abort + AllocGlobal),
+    core: &mut Core,
+    again: &mut Core,
+    dice: &mut Dice,
+    most: usize,
+) -> Result<(usize, u32), Fail> {
+    walk(rt, core, dice, most)?;
+    apply_all(rt, again, core.history())?;
+    assert_same(rt, core, again);
+    Ok((core.history().len(), kinds_in(core.history())))
+}
+
+/// A walk from the start of a script, done twice.
+fn one_walk(
+    rt: &(impl Abort + AllocGlobal),
+    text: &str,
+    dice: &mut Dice,
+    most: usize,
+) -> Result<(usize, u32), Fail> {
+    let mut core = started(rt, text)?;
+    let mut again = started(rt, text)?;
+    walk_twice(rt, &mut core, &mut again, dice, most)
+}
+
+/// Walks from the start of a script, again and again, until there were so many steps. It gives the kinds of steps that were
+/// done.
 fn assert_walks(
     rt: &(impl Abort + AllocGlobal),
     text: &str,
@@ -235,13 +262,9 @@ fn assert_walks(
         if left == 0 {
             break;
         }
-        let mut core = started(rt, text)?;
-        walk(rt, &mut core, &mut dice, left)?;
-        let mut again = started(rt, text)?;
-        apply_all(rt, &mut again, core.history())?;
-        assert_same(rt, &core, &again);
-        left = left.saturating_sub(core.history().len());
-        kinds |= kinds_in(core.history());
+        let (length, more) = one_walk(rt, text, &mut dice, left)?;
+        left = left.saturating_sub(length);
+        kinds |= more;
     }
     Ok(kinds)
 }
