@@ -3,9 +3,8 @@ ghost use Rattle.std.specs.Prelude.{◌≡◌, ◌≤◌, IfOk, [], replicate};
 ghost use Rattle.kms_model.specs.Script.WellFormed.{IsWellFormed};
 ghost use Rattle.kms_signal.specs.Queues.{empty_queue};
 
-use kms_logs::Ledger;
-use kms_logs::Log;
 use kms_clients::Clients;
+use kms_logs::{Ledger, Log};
 use kms_model::{Answered, Duplicates, Latch, NoMemory, Script, Step};
 use kms_regs::RegFile;
 use kms_signal::{EventQueue, Fences};
