@@ -2,19 +2,11 @@
 //! decided by `apply` here: the conditions of those calls speak of reach and of what was checked.
 use crate::checks::{assert_drained, assert_latched, assert_replies, shows};
 use crate::lights::{all, lighting, lit_replies};
-use crate::steps::{
-    apply, begin, cleanup, crtc, flush, hw_done, lock, make, plane, return_from, swap, vblank,
-    write,
-};
+use crate::steps::{apply, cleanup, lock, return_from, swap};
 use kms_core::Core;
-use kms_model::{NoMemory, ObjId, Ticket};
+use kms_model::{Kind, NoMemory, ObjId, Step, Ticket};
 use std::process::Abort;
 use std::test::Fail;
-
-/// The ids of the first CRTC and the first plane.
-const CRTC: ObjId = ObjId(100);
-
-const PLANE: ObjId = ObjId(200);
 
 /// Makes so many things for a client.
 fn make_things(
@@ -24,7 +16,7 @@ fn make_things(
     count: u32,
 ) -> Result<(), NoMemory> {
     for _thing in 0..count {
-        assert!(rt; core.legal(&make(client)));
+        assert!(rt; core.legal(&Step::Make { client }));
         let _reply = core.make(rt.alloc(), client)?;
     }
     Ok(())
@@ -36,7 +28,7 @@ fn begun(
     core: &mut Core,
     client: u32,
 ) -> Result<Ticket, NoMemory> {
-    assert!(rt; core.legal(&begin(client)));
+    assert!(rt; core.legal(&Step::Begin { client }));
     core.begin(rt.alloc(), client)
 }
 
@@ -44,23 +36,44 @@ fn begun(
 fn write_by_calls(rt: &(impl Abort + AllocGlobal), core: &mut Core) -> Result<(), NoMemory> {
     assert_eq!(rt; core.claim(), Some(0));
     assert_eq!(rt; core.claim(), None, "it is claimed");
-    assert!(rt; core.legal(&write(0, crtc(0))));
-    core.write(0, CRTC);
-    assert!(rt; core.legal(&write(0, plane(0))));
-    core.write(0, PLANE);
-    assert!(rt; core.legal(&flush(0, crtc(0))));
-    core.flush(0, 0);
-    assert!(rt; core.legal(&hw_done(0)));
-    core.hw_done(0);
+    let (commit, kind, index) = (0, Kind::Crtc, 0);
+    assert!(rt;
+        core.legal(&Step::Write {
+            commit,
+            kind,
+            index
+        })
+    );
+    core.write(commit, ObjId(100));
+    let plane = Kind::Plane;
+    assert!(rt;
+        core.legal(&Step::Write {
+            commit,
+            kind: plane,
+            index
+        })
+    );
+    core.write(commit, ObjId(200));
+    assert!(rt;
+        core.legal(&Step::Flush {
+            commit,
+            kind,
+            index
+        })
+    );
+    core.flush(commit, index);
+    assert!(rt; core.legal(&Step::HwDone { commit }));
+    core.hw_done(commit);
     Ok(())
 }
 
 /// The CRTC has two vertical blankings, at the first of which the commit latches.
 fn blank_by_calls(rt: &(impl Abort + AllocGlobal), core: &mut Core) -> Result<(), NoMemory> {
-    assert!(rt; core.legal(&vblank(crtc(0))));
-    assert!(rt; core.vblank(0)?, "the commit latches");
-    assert!(rt; core.legal(&vblank(crtc(0))));
-    assert!(rt; !core.vblank(0)?, "nothing latches");
+    let (kind, index) = (Kind::Crtc, 0);
+    assert!(rt; core.legal(&Step::Vblank { kind, index }));
+    assert!(rt; core.vblank(index)?, "the commit latches");
+    assert!(rt; core.legal(&Step::Vblank { kind, index }));
+    assert!(rt; !core.vblank(index)?, "nothing latches");
     Ok(())
 }
 

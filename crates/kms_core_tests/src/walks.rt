@@ -213,7 +213,7 @@ pub(crate) fn assert_same(rt: &impl Abort, one: &Core, other: &Core) {
     for index in 0..4 {
         let client = index + 1;
         assert!(rt; one.idle_command(client) == other.idle_command(client));
-        if index < one.script().clients.len() as u32 {
+        if (index as usize) < one.script().clients.len() {
             assert_eq!(rt; place(rt, one, client), place(rt, other, client));
         }
         assert_eq!(rt; goes(rt, one, index), goes(rt, other, index));
