@@ -11,7 +11,7 @@ top=$(cd "$here/.." && pwd)
 work=$(mktemp -d)
 trap 'rm -rf "$work"' EXIT
 mkdir "$work/crates"
-cp -r "$top"/crates/kms_* "$work/crates/"
+cp -a "$top"/crates/kms_* "$work/crates/"
 cp "$top/HANDLES" "$top/crates.txt" "$work/"
 sed -i 's/^kms_core_tests: .*/& kms_request kms_check kms_state/' "$work/crates.txt"
 for tests in decisions allocations; do

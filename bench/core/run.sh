@@ -12,7 +12,7 @@ mkdir -p "$work/crates/bench_core/src"
 # A crate, with all of the repository's that it stands on.
 add() {
     [ -d "$top/crates/$1" ] && [ ! -e "$work/crates/$1" ] || return 0
-    cp -r "$top/crates/$1" "$work/crates/"
+    cp -a "$top/crates/$1" "$work/crates/"
     line=$(grep "^$1[ :]" "$top/crates.txt")
     echo "$line" >>"$work/crates.txt"
     for below in ${line#*:}; do
