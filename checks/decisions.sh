@@ -10,9 +10,7 @@ here=$(cd "$(dirname "$0")" && pwd)
 top=$(cd "$here/.." && pwd)
 work=$(mktemp -d)
 trap 'rm -rf "$work"' EXIT
-mkdir "$work/crates"
-cp -a "$top"/crates/kms_* "$work/crates/"
-cp "$top/HANDLES" "$top/crates.txt" "$work/"
+(cd "$top" && tar -cf - --exclude=out HANDLES crates.txt crates) | tar -xf - -C "$work"
 sed -i 's/^kms_core_tests: .*/& kms_request kms_check kms_state/' "$work/crates.txt"
 for tests in decisions allocations; do
     cp "$here/decisions/$tests.rt.txt" "$work/crates/kms_core_tests/src/$tests.rt"
