@@ -1,8 +1,9 @@
 //! A history by the calls of clients, workers and CRTCs whose conditions `legal` tells. Locks are taken and requests are
 //! decided by `apply` here: the conditions of those calls speak of reach and of what was checked.
 use crate::checks::{assert_drained, assert_latched, assert_replies, shows};
+use crate::doing::apply;
 use crate::lights::{all, lighting, lit_replies};
-use crate::steps::{apply, cleanup, lock, return_from, swap};
+use crate::steps::{cleanup, lock, return_from, swap};
 use kms_core::Core;
 use kms_model::{Kind, NoMemory, ObjId, Step, Ticket};
 use std::process::Abort;

@@ -3,12 +3,12 @@ use crate::checks::{
     assert_drained, assert_latched, assert_replies, at, committed, event, goes, goes_off, made,
     place, refused, shows, told,
 };
+use crate::doing::{apply, apply_all, take, write_out};
 use crate::lights::{
     all, both, change, finish, light, light_up, lighting, lit_replies, write_both,
 };
 use crate::steps::{
-    apply, apply_all, begin, claim, cleanup, crtc, hw_done, lock, make, read, refuse, return_from,
-    swap, take, vblank, write_out,
+    begin, claim, cleanup, crtc, hw_done, lock, make, read, refuse, return_from, swap, vblank,
 };
 use crate::texts::{SINGLE, UNSET, started};
 use kms_core::Core;

@@ -10,6 +10,8 @@ mod checks;
 #[cfg(test)]
 mod crowds;
 #[cfg(test)]
+mod doing;
+#[cfg(test)]
 mod histories;
 #[cfg(test)]
 mod kinds;
@@ -19,7 +21,6 @@ mod lights;
 mod orders;
 #[cfg(test)]
 mod refusals;
-#[cfg(test)]
 mod steps;
 #[cfg(test)]
 mod tails;
@@ -29,3 +30,8 @@ mod texts;
 mod things;
 #[cfg(test)]
 mod walks;
+
+pub use steps::{
+    Object, back_off, begin, claim, cleanup, conn, crtc, encoder, flush, hw_done, lock, make,
+    plane, read, refuse, relock, return_from, signal, swap, test, vblank, write,
+};

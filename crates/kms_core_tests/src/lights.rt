@@ -1,9 +1,7 @@
 //! A client that lights the one CRTC of a device, with which most histories begin.
 use crate::checks::{committed, made, told};
-use crate::steps::{
-    Object, apply, apply_all, cleanup, conn, crtc, make_all, plane, return_from, swap, take,
-    vblank, write_out,
-};
+use crate::doing::{apply, apply_all, make_all, take, write_out};
+use crate::steps::{Object, cleanup, conn, crtc, plane, return_from, swap, vblank};
 use crate::texts::{MADE, SET, SINGLE, started};
 use kms_core::Core;
 use kms_model::{Answered, NoMemory};

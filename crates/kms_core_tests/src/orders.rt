@@ -3,10 +3,11 @@ use crate::checks::{
     Wanted, assert_drained, assert_latched, assert_replies, at, committed, made, place, refused,
     shows, told,
 };
+use crate::doing::{apply, apply_all, make_all, take, write_out};
 use crate::lights::{all, both, light, lighting, write_both};
 use crate::steps::{
-    Object, apply, apply_all, back_off, begin, claim, cleanup, conn, crtc, lock, make, make_all,
-    plane, refuse, relock, return_from, swap, take, test, vblank, write_out,
+    Object, back_off, begin, claim, cleanup, conn, crtc, lock, make, plane, refuse, relock,
+    return_from, swap, test, vblank,
 };
 use crate::texts::{MADE, PAIR, SECOND, SET, SINGLE, started};
 use kms_core::Core;

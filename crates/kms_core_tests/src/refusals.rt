@@ -1,9 +1,9 @@
 //! Steps that are not legal, by the condition that fails: requests, contexts and the commands of clients.
+use crate::doing::{apply, apply_all, make_all, take};
 use crate::lights::{light_up, lighting};
 use crate::steps::{
-    apply, apply_all, back_off, begin, claim, cleanup, conn, crtc, encoder, flush, hw_done, lock,
-    make, make_all, plane, read, refuse, relock, return_from, signal, swap, take, test, vblank,
-    write,
+    back_off, begin, claim, cleanup, conn, crtc, encoder, flush, hw_done, lock, make, plane, read,
+    refuse, relock, return_from, signal, swap, test, vblank, write,
 };
 use crate::texts::{SINGLE, started};
 use kms_core::Core;

@@ -1,48 +1,70 @@
-//! Steps in short, and how tests do them.
-use kms_core::Core;
-use kms_model::{Kind, NoMemory, Step};
-use std::process::Abort;
+//! Steps and display objects in short.
+ghost use Rattle.std.specs.Prelude.{◌≡◌};
+ghost use Rattle.kms_model.specs.declared.objects.Kind.TheVariants.{Conn, Crtc, Enc, Plane};
+ghost use Rattle.kms_model.specs.declared.replies.Step.TheVariants as step;
+
+use kms_model::{Kind, Step};
 
 /// A display object, by its kind and its index.
 #[derive(Clone, Copy, Debug)]
-pub(crate) struct Object {
-    pub(crate) kind: Kind,
-    pub(crate) index: u32,
+pub struct Object {
+    /// Its kind.
+    pub kind: Kind,
+    /// Its index, of any size.
+    pub index: u32,
 }
 
-pub(crate) fn crtc(index: u32) -> Object {
+/// The CRTC with an index.
+pub fn crtc(index: u32) -> Object
+    ensures { result ≡ record { kind = Crtc; index = index } }
+{
     Object {
         kind: Kind::Crtc,
         index,
     }
 }
 
-pub(crate) fn plane(index: u32) -> Object {
+/// The plane with an index.
+pub fn plane(index: u32) -> Object
+    ensures { result ≡ record { kind = Plane; index = index } }
+{
     Object {
         kind: Kind::Plane,
         index,
     }
 }
 
-pub(crate) fn conn(index: u32) -> Object {
+/// The connector with an index.
+pub fn conn(index: u32) -> Object
+    ensures { result ≡ record { kind = Conn; index = index } }
+{
     Object {
         kind: Kind::Conn,
         index,
     }
 }
 
-pub(crate) fn encoder(index: u32) -> Object {
+/// The encoder with an index.
+pub fn encoder(index: u32) -> Object
+    ensures { result ≡ record { kind = Enc; index = index } }
+{
     Object {
         kind: Kind::Enc,
         index,
     }
 }
 
-pub(crate) fn begin(client: u32) -> Step {
+/// A client begins an acquire context.
+pub fn begin(client: u32) -> Step
+    ensures { result ≡ step.Begin client }
+{
     Step::Begin { client }
 }
 
-pub(crate) fn lock(client: u32, object: Object) -> Step {
+/// A client asks for the lock of an object.
+pub fn lock(client: u32, object: Object) -> Step
+    ensures { result ≡ step.Lock client object.kind object.index }
+{
     Step::Lock {
         client,
         kind: object.kind,
@@ -50,47 +72,80 @@ pub(crate) fn lock(client: u32, object: Object) -> Step {
     }
 }
 
-pub(crate) fn back_off(client: u32) -> Step {
+/// A client drops its locks for an older context.
+pub fn back_off(client: u32) -> Step
+    ensures { result ≡ step.BackOff client }
+{
     Step::BackOff { client }
 }
 
-pub(crate) fn relock(client: u32) -> Step {
+/// A client takes the object that it backed off for.
+pub fn relock(client: u32) -> Step
+    ensures { result ≡ step.Relock client }
+{
     Step::Relock { client }
 }
 
-pub(crate) fn refuse(client: u32) -> Step {
+/// A client's request is refused.
+pub fn refuse(client: u32) -> Step
+    ensures { result ≡ step.Refuse client }
+{
     Step::Refuse { client }
 }
 
-pub(crate) fn test(client: u32) -> Step {
+/// A client's request is tested.
+pub fn test(client: u32) -> Step
+    ensures { result ≡ step.Test client }
+{
     Step::Test { client }
 }
 
-pub(crate) fn swap(client: u32) -> Step {
+/// A client's request is committed.
+pub fn swap(client: u32) -> Step
+    ensures { result ≡ step.Swap client }
+{
     Step::Swap { client }
 }
 
-pub(crate) fn make(client: u32) -> Step {
+/// A client makes or closes a thing.
+pub fn make(client: u32) -> Step
+    ensures { result ≡ step.Make client }
+{
     Step::Make { client }
 }
 
-pub(crate) fn signal(client: u32) -> Step {
+/// A client signals a fence.
+pub fn signal(client: u32) -> Step
+    ensures { result ≡ step.Signal client }
+{
     Step::Signal { client }
 }
 
-pub(crate) fn read(client: u32) -> Step {
+/// A client reads an event, or that none will come.
+pub fn read(client: u32) -> Step
+    ensures { result ≡ step.Read client }
+{
     Step::Read { client }
 }
 
-pub(crate) fn return_from(client: u32) -> Step {
+/// A client goes on whose commit is cleaned.
+pub fn return_from(client: u32) -> Step
+    ensures { result ≡ step.Return client }
+{
     Step::Return { client }
 }
 
-pub(crate) fn claim(commit: u32) -> Step {
+/// The tail of a commit begins.
+pub fn claim(commit: u32) -> Step
+    ensures { result ≡ step.Claim commit }
+{
     Step::Claim { commit }
 }
 
-pub(crate) fn write(commit: u32, object: Object) -> Step {
+/// A commit writes the registers of an object.
+pub fn write(commit: u32, object: Object) -> Step
+    ensures { result ≡ step.Write commit object.kind object.index }
+{
     Step::Write {
         commit,
         kind: object.kind,
@@ -98,7 +153,10 @@ pub(crate) fn write(commit: u32, object: Object) -> Step {
     }
 }
 
-pub(crate) fn flush(commit: u32, object: Object) -> Step {
+/// A commit flushes a CRTC.
+pub fn flush(commit: u32, object: Object) -> Step
+    ensures { result ≡ step.Flush commit object.kind object.index }
+{
     Step::Flush {
         commit,
         kind: object.kind,
@@ -106,88 +164,26 @@ pub(crate) fn flush(commit: u32, object: Object) -> Step {
     }
 }
 
-pub(crate) fn hw_done(commit: u32) -> Step {
+/// A commit has written and flushed all.
+pub fn hw_done(commit: u32) -> Step
+    ensures { result ≡ step.HwDone commit }
+{
     Step::HwDone { commit }
 }
 
-pub(crate) fn vblank(object: Object) -> Step {
+/// A CRTC has a vertical blanking.
+pub fn vblank(object: Object) -> Step
+    ensures { result ≡ step.Vblank object.kind object.index }
+{
     Step::Vblank {
         kind: object.kind,
         index: object.index,
     }
 }
 
-pub(crate) fn cleanup(commit: u32) -> Step {
+/// A commit is cleaned up.
+pub fn cleanup(commit: u32) -> Step
+    ensures { result ≡ step.Cleanup commit }
+{
     Step::Cleanup { commit }
-}
-
-/// Does a step, which is legal then, and by which alone the history grows.
-pub(crate) fn apply(
-    rt: &(impl Abort + AllocGlobal),
-    core: &mut Core,
-    step: Step,
-) -> Result<(), NoMemory> {
-    let length = core.history().len();
-    assert!(rt; core.legal(&step), "{step:?} is legal after {length} steps");
-    core.apply(rt.alloc(), &step)?;
-    assert_eq!(rt; core.history().len(), length.saturating_add(1));
-    assert_eq!(rt; core.history().last().copied(), Some(step));
-    Ok(())
-}
-
-/// Does steps one after the other.
-pub(crate) fn apply_all(
-    rt: &(impl Abort + AllocGlobal),
-    core: &mut Core,
-    steps: &[Step],
-) -> Result<(), NoMemory> {
-    for step in steps {
-        apply(rt, core, *step)?;
-    }
-    Ok(())
-}
-
-/// A client makes or closes so many things.
-pub(crate) fn make_all(
-    rt: &(impl Abort + AllocGlobal),
-    core: &mut Core,
-    client: u32,
-    count: u32,
-) -> Result<(), NoMemory> {
-    for _thing in 0..count {
-        apply(rt, core, make(client))?;
-    }
-    Ok(())
-}
-
-/// A client begins a context, and takes these objects in this order.
-pub(crate) fn take(
-    rt: &(impl Abort + AllocGlobal),
-    core: &mut Core,
-    client: u32,
-    objects: &[Object],
-) -> Result<(), NoMemory> {
-    apply(rt, core, begin(client))?;
-    for object in objects {
-        apply(rt, core, lock(client, *object))?;
-    }
-    Ok(())
-}
-
-/// A commit is claimed, writes these objects, flushes these CRTCs and is done.
-pub(crate) fn write_out(
-    rt: &(impl Abort + AllocGlobal),
-    core: &mut Core,
-    commit: u32,
-    objects: &[Object],
-    crtcs: &[u32],
-) -> Result<(), NoMemory> {
-    apply(rt, core, claim(commit))?;
-    for object in objects {
-        apply(rt, core, write(commit, *object))?;
-    }
-    for index in crtcs {
-        apply(rt, core, flush(commit, crtc(*index)))?;
-    }
-    apply(rt, core, hw_done(commit))
 }

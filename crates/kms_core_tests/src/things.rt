@@ -2,11 +2,9 @@
 use crate::checks::{
     assert_drained, assert_latched, assert_replies, committed, event, made, refused, shows, told,
 };
+use crate::doing::{apply, apply_all, make_all, write_out};
 use crate::lights::{both, change, finish, light_up, lighting};
-use crate::steps::{
-    apply, apply_all, begin, claim, cleanup, crtc, make, make_all, read, refuse, signal, vblank,
-    write_out,
-};
+use crate::steps::{begin, claim, cleanup, crtc, make, read, refuse, signal, vblank};
 use kms_core::Core;
 use kms_model::{Reply, Step};
 use std::process::Abort;

@@ -1,10 +1,11 @@
 //! Random walks of many clients, each of which is done again.
 use crate::checks::{goes, place};
 use crate::crowds::many;
+use crate::doing::{apply, apply_all};
 use crate::kinds::{BUT_STALL, STALL, kinds_in};
 use crate::steps::{
-    Object, apply, apply_all, back_off, begin, claim, cleanup, conn, crtc, encoder, flush, hw_done,
-    lock, make, plane, read, refuse, relock, return_from, signal, swap, test, vblank, write,
+    Object, back_off, begin, claim, cleanup, conn, crtc, encoder, flush, hw_done, lock, make,
+    plane, read, refuse, relock, return_from, signal, swap, test, vblank, write,
 };
 use crate::texts::started;
 use kms_core::Core;
