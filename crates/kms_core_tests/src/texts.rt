@@ -1,5 +1,6 @@
 //! The scripts that tests start from.
 use kms_core::Core;
+use kms_model::Part;
 use kms_script::parse;
 use std::process::Abort;
 use std::test::Fail;
@@ -27,6 +28,6 @@ pub(crate) const UNSET: &str =
 
 /// The machine of the script that a text spells, before the first step.
 pub(crate) fn started(rt: &(impl Abort + AllocGlobal), text: &str) -> Result<Core, Fail> {
-    let script = parse(rt.alloc(), text.as_bytes())?;
-    Ok(Core::new(rt.alloc(), script)?)
+    let parsed = parse(rt.alloc(), text.as_bytes(), Part::Script)?;
+    Ok(Core::new(rt.alloc(), parsed.script)?)
 }

@@ -1,4 +1,5 @@
 pub mod Accepted
+pub mod Alone
 pub mod Decimals
 pub mod DeviceLines
 pub mod Digits
@@ -8,8 +9,10 @@ pub mod Drafts
 pub mod Fields
 pub mod FitCommands
 pub mod FitScripts
+pub mod FitSteps
 pub mod FitWords
 pub mod Formed
+pub mod Fronts
 pub mod Hexadecimals
 pub mod Inverted
 pub mod LabelsMade
@@ -28,9 +31,12 @@ pub mod Naming
 pub mod OneSpelling
 pub mod PackedNames
 pub mod Parts
+pub mod ReadBack
 pub mod ReadParts
 pub mod Repeated
+pub mod RowsAgain
 pub mod RowsSpelt
+pub mod SchedulesSpelt
 pub mod ScriptLines
 pub mod Sizes
 pub mod Spaced
@@ -43,6 +49,8 @@ pub mod SpeltThings
 pub mod SpeltWords
 pub mod StepFields
 pub mod StepLines
+pub mod StepRows
+pub mod StepTexts
 pub mod StepsRead
 pub mod StepsSpelt
 pub mod Texts

@@ -30,7 +30,7 @@ is_sized n (Ok d) next e =
 is_sized n (Err why) next e = absurd cc
 
 -- a row that was read spells the same, whatever the bytes so far
-line_is_spelt : (m : ℕ) (d next : Draft) (row : Row) → line_after d row ≡ Ok next → spelt_line (resized m d) row ≡ Some (resized m next)
+pub line_is_spelt : (m : ℕ) (d next : Draft) (row : Row) → line_after d row ≡ Ok next → spelt_line (resized m d) row ≡ Some (resized m next)
 unfolding line_after
 line_is_spelt m d next row e =
     let bytes = unless_ok (not (list_all is_printable row.text)) Bytes _ next e in
@@ -39,13 +39,13 @@ line_is_spelt m d next row e =
     rw (on_from (list_all is_printable row.text) bytes.0, on_from row.is_ended cut.0, line_same m d row.text, s.is) (ap (λ (x : Draft). Some (resized m x)) s.counts)
 
 -- the draft behind a line, and what followed
-record Unfaulted {A : Type 0} (r : Lined) (f : Draft → Result A Fault) (x : A) : Type 0 where
-  next : Draft
-  is : r ≡ Ok next
-  then : f next ≡ Ok x
+pub record Unfaulted {A : Type 0} (r : Lined) (f : Draft → Result A Fault) (x : A) : Type 0 where
+  pub next : Draft
+  pub is : r ≡ Ok next
+  pub then : f next ≡ Ok x
 
 -- behind a row without a fault the reading goes on
-no_fault : {A : Type 0} (n : ℕ) (r : Lined) (f : Draft → Result A Fault) (x : A) → or_fault n r f ≡ Ok x → Unfaulted r f x
+pub no_fault : {A : Type 0} (n : ℕ) (r : Lined) (f : Draft → Result A Fault) (x : A) → or_fault n r f ≡ Ok x → Unfaulted r f x
 no_fault n (Ok d) f x e = record { next = d; is = refl; then = e }
 no_fault n (Err why) f x e = absurd cc
 

@@ -1,6 +1,6 @@
 -- What the reader has read so far, as the definitions see it.
 use Rattle.std.specs.Prelude.{◌≡◌, ◌≤◌, ◌+◌, ◌*◌, ℕ, List, [], length, Result, Ok, Err, ⊤, false, Bool, ◌||◌, nat_le, nat_lt, true}
-use Rattle.kms_model.specs.Script.InputLines.{Fault, Row}
+use Rattle.kms_model.specs.Script.InputLines.{Row}
 use Rattle.kms_model.specs.Script.WholeInput.{Draft, Lined, clients_in}
 use Rattle.kms_script.specs.Fitting.{IsFitDevice, HasFitClients}
 use Rattle.kms_script.specs.Named.{HasRoomForNames, NamesGrow}
@@ -57,10 +57,3 @@ ended d = record d { clients = clients_in d; has_client = false; commands = [] }
 -- with a command more a client has too many, or the script makes too many labels
 abbrev pub is_full : Draft → Bool
 is_full d = nat_le 4096 (length d.commands) || nat_lt 4096 d.names.made
-
--- What was read of lines exactly where that is stated, and a fault exactly where that fault is; want of memory may
--- come anywhere.
-abbrev pub GivesDraft : Result Held ParseError → Result Draft Fault → Type 0
-GivesDraft (Ok d) stated = stated ≡ Ok (draft_in d)
-GivesDraft (Err (errors.Fault line why)) stated = stated ≡ Err (record { line = line; why = why })
-GivesDraft (Err errors.NoMemory) stated = ⊤

@@ -6,27 +6,37 @@ use Rattle.kms_model.specs.declared.scripts.Why.TheVariants.{Bytes, Cut, Form, L
 use Rattle.kms_script.specs.declared.one_line.LineError.{LineError}
 use Rattle.kms_script.specs.declared.one_line.LineError.TheVariants as refusals
 use Rattle.kms_model.specs.declared.objects.Topology.{Topology}
+use Rattle.kms_model.specs.declared.replies.Step.{Step}
 use Rattle.kms_model.specs.declared.scripts.Script.{Script}
 use Rattle.kms_model.specs.Script.InputLines.{Fault}
+use Rattle.kms_model.specs.Script.Schedules.{Parts}
 use Rattle.kms_model.specs.Script.WholeInput.{Draft, topology_in}
 use Rattle.kms_script.specs.declared.devices.TopologyRead.{TopologyRead}
 use Rattle.kms_script.specs.declared.faults.ParseError.{ParseError}
 use Rattle.kms_script.specs.declared.faults.ParseError.TheVariants as errors
+use Rattle.kms_script.specs.declared.inputs.Parsed.{Parsed}
 use Rattle.kms_script.specs.declared.stop.Stop.{Stop}
 use Rattle.kms_script.specs.declared.stop.Stop.TheVariants as stops
 
--- A script exactly where that script is stated, and a fault exactly where that fault is; want of memory may
--- come anywhere.
-abbrev pub Gives : Result Script ParseError → Result Script Fault → Type 0
-Gives (Ok s) stated = stated ≡ Ok s
-Gives (Err (errors.Fault line why)) stated = stated ≡ Err (record { line = line; why = why })
-Gives (Err errors.NoMemory) stated = Unit {0}
+-- What was read, as the definitions see it, exactly where that is stated, and a fault exactly where that fault is; want
+-- of memory may come anywhere.
+abbrev pub Gives : {A B : Type 0} → (A → B) → Result A ParseError → Result B Fault → Type 0
+Gives seen (Ok x) stated = stated ≡ Ok (seen x)
+Gives seen (Err (errors.Fault line why)) stated = stated ≡ Err (record { line = line; why = why })
+Gives seen (Err errors.NoMemory) stated = Unit {0}
+
+-- a script with what follows it
+abbrev pub parts_of : Script → List Step → ℕ → Parts
+parts_of s steps rest = record { script = s; steps = steps; rest = rest }
+
+abbrev pub parts_in : Parsed → Parts
+parts_in p = parts_of p.script p.steps p.rest
 
 -- the device that lines spell, and the place behind them
 abbrev pub device_in : Draft → TopologyRead
 device_in d = record { version = 1; topology = topology_in d; rest = d.size }
 
--- The same of a device at the front of an input.
+-- What a reader of a device at the front of an input answers.
 abbrev pub GivesDevice : Result TopologyRead ParseError → Result (Topology × ℕ) Fault → Type 0
 GivesDevice (Ok r) stated = (r.version ≡ 1) × (stated ≡ Ok (r.topology, r.rest))
 GivesDevice (Err (errors.Fault line why)) stated = stated ≡ Err (record { line = line; why = why })

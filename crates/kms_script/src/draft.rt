@@ -77,7 +77,8 @@ fn take_conn(crtcs: u32, bytes: &[u8]) -> Option<u32>
     read_crtcs(crtcs, list)
 }
 
-fn all_printable(text: &[u8]) -> bool
+/// Whether all bytes of a line are from 0x20 to 0x7e.
+pub fn all_printable(text: &[u8]) -> bool
     ensures { result ≡ list_all is_printable text.now }
 {
     text.iter().all(|b| *b >= 0x20 && *b <= 0x7e)
@@ -138,6 +139,13 @@ impl Draft {
         ensures { result ≡ is_nil (draft_in self.now).conns }
     {
         self.conns.is_empty()
+    }
+
+    /// How many bytes the lines have, their line feeds among them.
+    pub fn size(&self) -> usize
+        ensures { result ≡ (draft_in self.now).size }
+    {
+        self.size
     }
 
     #[tactic(auto, unfolding(kms_model::specs::Script::WholeInput::first_line))]

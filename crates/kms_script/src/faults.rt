@@ -5,7 +5,7 @@ use kms_model::{NoMemory, Why};
 #[derive(Clone, Copy, Debug, PartialEq, Eq)]
 pub enum ParseError {
     /// The first line that may not stand where it stands, counted from 1, and why it may not. Line 0 is the
-    /// input as a whole. Where the input ends before its first connector, it is the number after the last line.
+    /// input as a whole. Where the input ends and a line is still demanded, it is the number after the last line.
     Fault { line: u32, why: Why },
     /// Memory ran out. This says nothing of the input.
     NoMemory,

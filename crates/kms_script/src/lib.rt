@@ -7,6 +7,7 @@
 mod commands;
 mod devices;
 mod draft;
+mod endings;
 mod faults;
 mod inputs;
 mod limits;
@@ -29,6 +30,9 @@ mod printing_words;
 mod requests;
 mod rows;
 #[cfg(test)]
+mod schedule_tests;
+mod schedules;
+#[cfg(test)]
 mod step_tests;
 mod steps;
 mod stop;
@@ -38,11 +42,12 @@ mod words;
 
 pub use devices::{TopologyRead, read_topology};
 pub use faults::ParseError;
-pub use inputs::parse;
+pub use inputs::{Parsed, parse};
 pub use kms_model::Why;
 pub use numbers::read_int;
 pub use one_line::{LineError, NameIndex, read_command};
 pub use printing::print;
 pub use printing_steps::print_step;
+pub use schedules::schedules_are_read_back;
 pub use steps::{read_step, steps_have_one_line};
 pub use words::{is_label, read_dec};

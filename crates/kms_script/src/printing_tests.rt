@@ -1,5 +1,6 @@
 //! What `print` writes: texts that were read, and a script that no text spells.
-use crate::{parse, print};
+use crate::print;
+use crate::tests::script;
 use kms_model::{
     Assign, Command, Format, Kind, Pattern, PlaneInfo, PropRef, Request, Script, Seq, Topology,
     Value,
@@ -55,7 +56,7 @@ wait
 ";
 
 fn printed(alloc: Global, text: &[u8]) -> Result<Seq<u8>, AllocError> {
-    let script = parse(alloc, text).map_err(|_| AllocError)?;
+    let script = script(alloc, text)?;
     print(alloc, &script).map_err(|_| AllocError)
 }
 
@@ -71,10 +72,9 @@ fn a_text_that_was_read_is_printed(rt: HostRuntime) -> Result<(), Fail> {
 #[test]
 fn a_printed_script_is_read_again(rt: HostRuntime) -> Result<(), Fail> {
     let alloc = rt.alloc();
-    let script = parse(alloc, EACH_FORM).map_err(|_| AllocError)?;
-    let text = print(alloc, &script).map_err(|_| AllocError)?;
-    let again = parse(alloc, text.as_slice()).map_err(|_| AllocError)?;
-    assert!(rt; again == script);
+    let first = script(alloc, EACH_FORM)?;
+    let text = print(alloc, &first).map_err(|_| AllocError)?;
+    assert!(rt; script(alloc, text.as_slice())? == first);
     Ok(())
 }
 

@@ -5,11 +5,12 @@ use crate::{
     LineError, NameIndex, ParseError, Why, is_label, parse, read_command, read_dec, read_int,
     read_topology,
 };
-use kms_model::{Script, Seq, Topology};
+use kms_model::{Part, Script, Seq, Topology};
 use std::alloc::{AllocError, Global};
 use std::test::Fail;
 
-const HEAD: &[u8] = b"kms 1\ncrtcs 1\nplane primary 0 XR24\nconn 0\n";
+/// The lines of a small device.
+pub(crate) const HEAD: &[u8] = b"kms 1\ncrtcs 1\nplane primary 0 XR24\nconn 0\n";
 
 const LIGHT: &[u8] =
     b"client\nbuffer b 1 1 XR24 solid 00616263\naddfb f b\nmode m 1 1 1 1 1 0 1 1 1 1 0 60 0 0 tiny\natomic 0x400 0 crtc0.ACTIVE=1 crtc0.MODE_ID=@m conn0.CRTC_ID=crtc0 plane0.FB_ID=@f plane0.CRTC_ID=crtc0 plane0.CRTC_W=1 plane0.CRTC_H=1 plane0.SRC_W=65536 plane0.SRC_H=65536\n";
@@ -24,7 +25,7 @@ fn light_and(alloc: Global, line: &[u8]) -> Result<Vec<u8>, AllocError> {
 }
 
 /// A text with a piece so many times behind it.
-fn repeated(
+pub(crate) fn repeated(
     alloc: Global,
     front: &[u8],
     piece: &[u8],
@@ -47,15 +48,27 @@ fn with_line(alloc: Global, front: &[u8], line: &str) -> Result<Vec<u8>, AllocEr
 
 /// The line and the cause of a fault: none for a script.
 fn fault(alloc: Global, text: &[u8]) -> Result<Option<(u32, Why)>, AllocError> {
-    match parse(alloc, text) {
+    part_fault(alloc, text, Part::Script)
+}
+
+/// The same of an input of a part.
+pub(crate) fn part_fault(
+    alloc: Global,
+    text: &[u8],
+    part: Part,
+) -> Result<Option<(u32, Why)>, AllocError> {
+    match parse(alloc, text, part) {
         Ok(_) => Ok(None),
         Err(ParseError::Fault { line, why }) => Ok(Some((line, why))),
         Err(ParseError::NoMemory) => Err(AllocError),
     }
 }
 
-fn script(alloc: Global, text: &[u8]) -> Result<Script, AllocError> {
-    parse(alloc, text).map_err(|_| AllocError)
+pub(crate) fn script(alloc: Global, text: &[u8]) -> Result<Script, AllocError> {
+    match parse(alloc, text, Part::Script) {
+        Ok(parsed) => Ok(parsed.script),
+        Err(_) => Err(AllocError),
+    }
 }
 
 #[test]
