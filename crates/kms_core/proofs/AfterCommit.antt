@@ -46,7 +46,7 @@ settled_some None b = refl
 settled_some (Some a) None = refl
 settled_some (Some a) (Some b) = refl
 
-there_is : {B : Type 0} (xs : List (Option B)) (i : ℕ) → option_flatten (slice_get xs i) ≡ slice_index_or xs i None
+pub there_is : {B : Type 0} (xs : List (Option B)) (i : ℕ) → option_flatten (slice_get xs i) ≡ slice_index_or xs i None
 there_is [] i = refl
 there_is (x ∷ xs) zero = refl
 there_is (x ∷ xs) (suc i) = there_is xs i

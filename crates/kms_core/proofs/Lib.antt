@@ -49,3 +49,8 @@ mod Applied
 mod ClientSteps
 mod FreedIds
 mod FreedCalls
+mod Finding
+mod FirstTails
+mod TailTurns
+mod NextLocks
+mod ClientTurns

@@ -116,7 +116,7 @@ module _ (r : Run) where
 
   -- CRTCs that go
 
-  goes_able : (index : ℕ) → index < count_of r.script.topology Crtc → is_some (go_at (machine r).device (object_id Crtc index)) ≡ true → able r (step.Vblank Crtc index) ≡ true
+  pub goes_able : (index : ℕ) → index < count_of r.script.topology Crtc → is_some (go_at (machine r).device (object_id Crtc index)) ≡ true → able r (step.Vblank Crtc index) ≡ true
   unfolding may
   goes_able index within goes = and_from (is_crtc_of r.script.topology Crtc index) _ (lt-ltb index (count_of r.script.topology Crtc) within) (or_left (is_some (go_at (machine r).device (object_id Crtc index))) (is_on_in (machine r).device.live (object_id Crtc index)) goes)
 

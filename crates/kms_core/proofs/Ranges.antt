@@ -54,11 +54,11 @@ any_filtered test f chosen a (suc n) holds = by_test (chosen a) refl (any_filter
 
 -- The first of a range at which something is found
 
-pub none_some : (f : ℕ → Option ℕ) (a n : ℕ) → ((j : ℕ) → a ≤ j → j < a + n → f j ≡ None) → first_some f (range_with_len a n) ≡ None
+pub none_some : {A : Type 0} (f : ℕ → Option A) (a n : ℕ) → ((j : ℕ) → a ≤ j → j < a + n → f j ≡ None) → first_some f (range_with_len a n) ≡ None
 none_some f a zero none = refl
 none_some f a (suc n) none = rw (none a (omega arith) (omega arith)) (none_some f (a + 1) n (λ j low high. none j (omega (arith, low)) (omega (arith, high))))
 
-pub one_some : (f : ℕ → Option ℕ) (a n k x : ℕ) → a ≤ k → k < a + n → f k ≡ Some x → ((j : ℕ) → a ≤ j → j < k → f j ≡ None) → first_some f (range_with_len a n) ≡ Some x
+pub one_some : {A : Type 0} (f : ℕ → Option A) (a n k : ℕ) (x : A) → a ≤ k → k < a + n → f k ≡ Some x → ((j : ℕ) → a ≤ j → j < k → f j ≡ None) → first_some f (range_with_len a n) ≡ Some x
 one_some f a zero k x low high is none = absurd (omega (arith, low, high))
 one_some f a (suc n) k x low high is none =
     elim (cases_lt a k) [

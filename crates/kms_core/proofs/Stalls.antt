@@ -1,6 +1,6 @@
 -- The end of a dead history, and the fence that it waits for.
-use Rattle.std.proofs.Common.{◌≡◌, ℕ, ◌+◌, ◌<◌, true, false, List, [], ◌∷◌, ◌++◌, length, Option, Some, None, inl, inr, refl, sym, ap, ◌∙◌, subst, arith}
-use Rattle.std.proofs.lemmas.Bool.{cases_lt, cond-false, cond-true}
+use Rattle.std.proofs.Common.{◌≡◌, ℕ, ◌+◌, ◌<◌, true, false, List, [], ◌∷◌, ◌++◌, Option, Some, None, refl, sym, ap, ◌∙◌, subst}
+use Rattle.std.proofs.lemmas.Bool.{cond-false, cond-true}
 use Rattle.kms_model.specs.declared.replies.Step.{Step}
 use Rattle.kms_model.specs.declared.replies.Step.TheVariants as step
 use Rattle.kms_model.specs.Device.World.{thing_with_id}
@@ -13,7 +13,7 @@ use Rattle.kms_core.specs.Run.{Run, machine}
 use Rattle.kms_core.specs.Stands.{Stores, Stands}
 use Rattle.kms_core.proofs.CommitStates.{facts}
 use Rattle.kms_core.proofs.Histories.{goes_on}
-use Rattle.kms_core.proofs.Ranges.{none_some, one_some}
+use Rattle.kms_core.proofs.FirstTails.{nothing_found, nothing_further, something_found}
 
 -- the history is ended
 pub stalls : (r v : Run) (st : Stores) (before steps : List Step) → Stands r st → r ≡ v → legal v.script (machine v) step.Stall ≡ true → before ≡ r.steps → steps ≡ before ++ step.Stall ∷ [] → Stands (record { script = r.script; steps = steps }) (record st { stalled = true })
@@ -49,44 +49,14 @@ module _ (r v : Run) (st : Stores) (stands : Stands r st) (same : r ≡ v) where
 
   -- The least commit
 
-  pub tail_within : (from k : ℕ) → tails.FindsFirst st.tails from (Some k) → k < length (machine v).device.commits
-  tail_within from k first =
-      let found = first r.script.topology (machine r).device.commits (machine r).device.marks (machine r).records.latches stands.stores.tails in
-      let within = found.1 in
-      let size = ap (λ (w : Run). length (machine w).device.commits) same in
-      omega (arith, within, size)
-
-  further : (from k : ℕ) → tails.FindsFirst st.tails from (Some k) → ((j : ℕ) → j < from → awaited j ≡ None) → (j : ℕ) → j < k → awaited j ≡ None
-  further from k first before j low =
-      let found = first r.script.topology (machine r).device.commits (machine r).device.marks (machine r).records.latches stands.stores.tails in
-      elim (cases_lt j from) [
-        | inl below ↦ before j below
-        | inr above ↦ cleaned_awaits j (found.3 j above low)
-      ]
-
   pub awaits_further : (from k : ℕ) → tails.FindsFirst st.tails from (Some k) → None ≡ awaited k → ((j : ℕ) → j < from → awaited j ≡ None) → (j : ℕ) → j < k + 1 → awaited j ≡ None
-  awaits_further from k first none before j low =
-      elim (cases_lt j k) [
-        | inl earlier ↦ further from k first before j earlier
-        | inr behind ↦ (let e : k ≡ j = omega (arith, low, behind) in ap awaited (sym e) ∙ sym none)
-      ]
+  awaits_further = nothing_further ℕ r v st stands same awaited cleaned_awaits
 
   pub awaits_found : (from k fence : ℕ) → tails.FindsFirst st.tails from (Some k) → Some fence ≡ awaited k → ((j : ℕ) → j < from → awaited j ≡ None) → Some fence ≡ first_some awaited (commit_numbers (machine v))
-  awaits_found from k fence first is before =
-      let within = tail_within from k first in
-      sym (one_some awaited 0 (length (machine v).device.commits) k fence (omega arith) (omega (arith, within)) (sym is) (λ j low high. further from k first before j high))
+  awaits_found = something_found ℕ r v st stands same awaited cleaned_awaits
 
   pub awaits_none : (from : ℕ) → tails.FindsFirst st.tails from None → ((j : ℕ) → j < from → awaited j ≡ None) → None ≡ first_some awaited (commit_numbers (machine v))
-  awaits_none from first before =
-      let found = first r.script.topology (machine r).device.commits (machine r).device.marks (machine r).records.latches stands.stores.tails in
-      let size = ap (λ (w : Run). length (machine w).device.commits) same in
-      sym
-      (none_some awaited 0 (length (machine v).device.commits)
-      (λ j low high.
-      elim (cases_lt j from) [
-        | inl below ↦ before j below
-        | inr above ↦ cleaned_awaits j (found j above (omega (arith, high, size)))
-      ]))
+  awaits_none = nothing_found ℕ r v st stands same awaited cleaned_awaits
 
 module _ (v : Run) where
   pub told_label : (fence : ℕ) → is_dead v.script (machine v) ≡ true → Some fence ≡ first_some (awaited_by v.script.topology (machine v)) (commit_numbers (machine v)) → label_of_thing (thing_with_id (machine v).device.world.things fence) ≡ stalled_on v.script (machine v)

@@ -13,3 +13,4 @@ pub mod Promises
 pub mod Next
 pub mod Freeing
 pub mod Needs
+pub mod Order

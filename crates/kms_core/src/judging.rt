@@ -112,7 +112,7 @@ impl Core {
     }
 
     /// What is told of the request for which a client takes locks; none where one of refusals 1 to 8 is due.
-    fn judged(&self, client: u32, request: &Request) -> Option<Judged>
+    pub(crate) fn judged(&self, client: u32, request: &Request) -> Option<Judged>
         requires { Some request.now ≡ request_taken self.now.script (machine self.now) client }
         ensures { IsJudged self.now.script.topology (machine self.now) client request.now result }
     {
@@ -207,7 +207,7 @@ impl Core {
 
 impl Judged {
     /// Whether the request is refused by 9 to 24, or, where it is no test, by what hinders it.
-    fn is_refused(self, is_test: bool) -> bool
+    pub(crate) fn is_refused(self, is_test: bool) -> bool
         ensures { result ≡ (self.holds && (is_some self.late
             || (not is_test && is_some self.hindered))) }
     {
@@ -215,7 +215,7 @@ impl Judged {
     }
 
     /// Whether the request is a test, and none of refusals 9 to 24 is due, with what it touches held.
-    fn is_accepted(self, is_test: bool) -> bool
+    pub(crate) fn is_accepted(self, is_test: bool) -> bool
         ensures { result ≡ (is_test && (self.holds && is_none self.late)) }
     {
         is_test && self.holds && self.late.is_none()
@@ -223,7 +223,7 @@ impl Judged {
 
     /// Whether the request is no test, none of refusals 9 to 24 is due, with what it touches held, nothing hinders its
     /// commit, and it waits for no other.
-    fn is_committed(self, is_test: bool) -> bool
+    pub(crate) fn is_committed(self, is_test: bool) -> bool
         ensures { result ≡ (not is_test && (self.holds && (is_none self.late
             && (is_none self.hindered && self.ready)))) }
     {
@@ -232,7 +232,7 @@ impl Judged {
 }
 
 /// Whether a request is only tested.
-fn is_test(flags: u32) -> bool
+pub(crate) fn is_test(flags: u32) -> bool
     ensures { result ≡ is_test flags }
 {
     AtomicFlags::of_request(flags).contains(AtomicFlags::TEST_ONLY)
@@ -267,7 +267,7 @@ fn is_lockable(topology: &Topology, kind: Kind, index: u32) -> bool
 }
 
 /// Whether an object is in a set; no encoder is.
-fn is_member(objects: &Mask, kind: Kind, index: u32) -> bool
+pub(crate) fn is_member(objects: &Mask, kind: Kind, index: u32) -> bool
     ensures { result ≡ is_member objects.now kind index }
 {
     match kind {

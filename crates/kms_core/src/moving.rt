@@ -86,7 +86,7 @@ impl Core {
     }
 
     /// How many objects of a kind the device has.
-    fn objects(&self, kind: Kind) -> u32
+    pub(crate) fn objects(&self, kind: Kind) -> u32
         ensures number { result ≡ count_of self.now.script.topology kind }
         ensures few { result ≤ 16 }
     {

@@ -1,7 +1,8 @@
 use Rattle.std.proofs.Common.{arith, sym, ◌∙◌}
 use Rattle.kms_core.proofs.Insides.{run_of, stores_of}
+use Rattle.kms_core.proofs.FirstTails.{tail_within}
 use Rattle.kms_core.proofs.Seeking.{few_tails, goes_up}
-use Rattle.kms_core.proofs.Stalls.{awaits_found, awaits_further, awaits_none, tail_within}
+use Rattle.kms_core.proofs.Stalls.{awaits_found, awaits_further, awaits_none}
 use Rattle.kms_core.proofs.machine.Core.awaited_fence.Goals as goal
 
 pub awaited_by-requires : goal.awaited_by-requires
