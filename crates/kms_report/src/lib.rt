@@ -1,12 +1,20 @@
-//! The text of a frame in a report: its digest, and the frame itself as a portable pixmap.
+//! The report of a history: its text, with the digest of each frame and, where it is asked for, the frame itself as a portable
+//! pixmap.
 #![tactic(auto)]
 
 ghost use Rattle.std.specs.Prelude.{◌≡◌, ◌*◌, length, IfOk};
 ghost use Rattle.kms_model.specs.Report.Flat.{digest_of};
 ghost use Rattle.kms_model.specs.Frames.Ppm.{ppm};
 
+mod answers;
+mod ends;
+mod frames;
+mod histories;
+mod latches;
+mod lines;
 mod pixmaps;
 
+pub use histories::{Options, report};
 use kms_compose::Frame;
 use kms_model::{NoMemory, Seq};
 use sha2::{Digest, Sha256};

@@ -20,10 +20,24 @@ pub fn text_of(alloc: Global, frame: &[u8], width: u32, height: u32) -> Result<V
 {
     let room = frame.len().saturating_mul(NUMBER_BYTES);
     let mut text = Vec::with_capacity(alloc, room.saturating_add(HEAD_BYTES))?;
+    push_pixmap(alloc, &mut text, frame, width, height)?;
+    Ok(text)
+}
+
+/// Adds the text of a frame of this size.
+pub fn push_pixmap(
+    alloc: Global,
+    text: &mut Vec<u8>,
+    frame: &[u8],
+    width: u32,
+    height: u32,
+) -> Result<(), NoMemory>
+    requires { length frame.now ≡ 3 * (width * height) }
+    ensures { OnOk result (text.new.items ≡ text.old.items ++ ppm frame.now width height) }
+{
     let head = format!(in alloc; "P3\n{width} {height}\n255\n")?;
     text.extend_from_slice(head.as_bytes())?;
-    push_rows(&mut text, frame, 3 * width as usize, height)?;
-    Ok(text)
+    push_rows(text, frame, 3 * width as usize, height)
 }
 
 /// Adds lines of so many numbers each.
