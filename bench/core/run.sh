@@ -2,10 +2,12 @@
 # Times the machine on generated scripts of 1000, 2000 and 4000 commits: two clients flip the planes of a CRTC each, and
 # wait for the event of each flip. Builds the program of main.rt.txt beside copies of the crates that it uses, with what was
 # proved of them, in a folder of its own, and runs it. It prints the steps and the time of each script, in microseconds; the
-# time of 4000 commits stays below four and a half times that of 1000.
+# time of 4000 commits stays below four and a half times that of 1000. The program of another folder beside this one is
+# built and run by that folder's name, and by the crate that it uses besides.
 set -eu
-here=$(cd "$(dirname "$0")" && pwd)
-top=$(cd "$here/../.." && pwd)
+top=$(cd "$(dirname "$0")/../.." && pwd)
+here="$top/bench/${1:-core}"
+more=${2:-}
 work=$(mktemp -d)
 trap 'rm -rf "$work"' EXIT
 mkdir -p "$work/crates/bench_core/src"
@@ -21,8 +23,9 @@ add() {
 }
 add kms_core
 add kms_script
-echo "bench_core: kms_model kms_core kms_script" >>"$work/crates.txt"
+[ -z "$more" ] || add "$more"
+echo "bench_core: kms_model kms_core kms_script $more" >>"$work/crates.txt"
 cp "$top/HANDLES" "$work/"
 cp "$here/main.rt.txt" "$work/crates/bench_core/src/main.rt"
 cd "$work/crates/bench_core"
-rt run 2>&1 | grep "commits:"
+rt run 2>&1 | grep "commits:\|replayed in"

@@ -1,0 +1,49 @@
+-- A history that goes on.
+use Rattle.std.proofs.Common.{◌≡◌, List, [], ◌∷◌, ◌++◌, length, refl, sym, ap, ◌∙◌, append_assoc, append-nil}
+use Rattle.std.proofs.lemmas.List.{length-reverse, reverse-append}
+use Rattle.kms_model.specs.declared.replies.Step.{Step}
+use Rattle.kms_model.specs.declared.scripts.Script.{Script}
+use Rattle.kms_model.specs.Machine.Effects.{next}
+use Rattle.kms_model.specs.Machine.Histories.{run_steps}
+use Rattle.kms_model.specs.Machine.State.{Machine, first_machine}
+use Rattle.kms_model.specs.Order.Rounds.{run_of}
+use Rattle.kms_model.specs.Order.Turns.{does}
+use Rattle.kms_core.specs.Run.{Run, gains}
+use Rattle.kms_rounds.specs.Rounds.{GoesOn, progress}
+
+pub run_more : (s : Script) (m : Machine) (h : List Step) (step : Step) → run_steps s m (h ++ step ∷ []) ≡ next s (run_steps s m h) step
+unfolding run_steps
+run_more s m [] step = refl
+run_more s m (first ∷ h) step = run_more s (next s m first) h step
+
+-- a history with a step more is one whose run does the step
+pub run_does : (s : Script) (h : List Step) (step : Step) → run_of s (h ++ step ∷ []) ≡ does s (run_of s h) step
+run_does s h step = λ i. record { steps = reverse-append h (step ∷ []) i; machine = run_more s (first_machine s.topology) h step i }
+
+pub progress_length : (r : Run) → length (progress r).steps ≡ length r.steps
+progress_length r = length-reverse r.steps
+
+pub stays : (r : Run) → GoesOn r r
+stays r = record { script = refl; more = []; steps = sym (append-nil r.steps) }
+
+pub goes_by : (old now new : Run) (more : List Step) → GoesOn old now → new ≡ gains now more → GoesOn old new
+goes_by old now new more on e = record {
+  script = ap (λ (r : Run). r.script) e ∙ on.script;
+  more = on.more ++ more;
+  steps = ap (λ (r : Run). r.steps) e ∙ ap (λ z. z ++ more) on.steps ∙ append_assoc old.steps on.more more;
+}
+
+pub goes_then : (old now new : Run) → GoesOn old now → GoesOn now new → GoesOn old new
+goes_then old now new on further = record {
+  script = further.script ∙ on.script;
+  more = on.more ++ further.more;
+  steps = further.steps ∙ ap (λ z. z ++ further.more) on.steps ∙ append_assoc old.steps on.more further.more;
+}
+
+-- clients are as many as before
+pub same_clients : (old now : Run) → GoesOn old now → length now.script.clients ≡ length old.script.clients
+same_clients old now on = ap (λ (s : Script). length s.clients) on.script
+
+-- what a core's run comes to by a step
+pub progress_step : (now new : Run) (step : Step) → new ≡ gains now (step ∷ []) → progress new ≡ does now.script (progress now) step
+progress_step now new step after = ap (λ (r : Run). progress r) after ∙ run_does now.script now.steps step

@@ -1,0 +1,8 @@
+mod Histories
+mod Going
+mod Settling
+mod Turned
+mod Rounding
+mod Finishing
+mod Replayed
+mod Apart
