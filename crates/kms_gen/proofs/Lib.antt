@@ -1,0 +1,5 @@
+pub mod Cutting
+pub mod Drawing
+pub mod Flipped
+pub mod Limits
+pub mod Spelt

@@ -1,0 +1,72 @@
+//! What a client does after its CRTC is lit: commits that change its plane, each with the wait for its event.
+ghost use Rattle.std.specs.Prelude.{◌≡◌, ◌<◌, ◌≤◌, ◌++◌, [], ◌∷◌, OnOk, IfOk};
+ghost use Rattle.kms_model.specs.declared.scripts.Command.TheVariants.{Atomic, Wait};
+ghost use Rattle.kms_model.specs.Script.Generated.{assigns_to, flip, flips_of, on_plane};
+
+use crate::labels::drawn_framebuffer;
+use kms_model::properties::{ALPHA, CRTC_X, FB_ID};
+use kms_model::{Assign, Command, Kind, NoMemory, PropRef, Request, Seq, Value};
+use std::alloc::Global;
+
+/// The flag of a request for an event. (Header: `drm_mode.h`, `DRM_MODE_PAGE_FLIP_EVENT`.)
+const PAGE_FLIP_EVENT: u32 = 0x1;
+
+/// One assignment, to a property by its id.
+pub fn assigns_to(kind: Kind, index: u32, prop: u32, value: Value) -> Assign
+    ensures { result ≡ assigns_to kind index prop value }
+{
+    Assign {
+        kind,
+        index,
+        prop: PropRef::Known(prop),
+        value,
+    }
+}
+
+/// An assignment to the plane of a CRTC.
+pub fn on_plane(crtc: u32, prop: u32, value: Value) -> Assign
+    ensures { result ≡ on_plane crtc prop value }
+{
+    assigns_to(Kind::Plane, crtc, prop, value)
+}
+
+/// A commit with this user data, of this number, that asks for an event.
+fn commit(alloc: Global, crtc: u32, index: u32, number: u64) -> Result<Request, NoMemory>
+    requires { crtc < 2 }
+    ensures { IfOk result (λ r. Atomic r ∷ Wait ∷ []
+        ≡ flip crtc (record { index = index; number = number })) }
+{
+    let assigns = Vec::from_array(
+        alloc,
+        [
+            on_plane(crtc, FB_ID, Value::Named(drawn_framebuffer(crtc, number))),
+            on_plane(crtc, ALPHA, Value::Num(i128::from(number / 2 % 65536))),
+            on_plane(crtc, CRTC_X, Value::Num(i128::from(number / 131072 % 64))),
+        ],
+    )?;
+    Ok(Request {
+        flags: PAGE_FLIP_EVENT,
+        user_data: u64::from(index),
+        assigns: Seq::from_vec(assigns),
+    })
+}
+
+/// Adds a commit and the wait for its event, where the commit is one of this client: clients take turns.
+pub fn push_flip(
+    alloc: Global,
+    commands: &mut Vec<Command>,
+    crtc: u32,
+    index: u32,
+    number: u64,
+) -> Result<(), NoMemory>
+    requires client { crtc < 2 }
+    requires counted { 1 ≤ index }
+    ensures { OnOk result (commands.new.items
+        ≡ commands.old.items ++ flips_of crtc (record { index = index; number = number })) }
+{
+    if (index - 1) % 2 == crtc {
+        commands.push(Command::Atomic(commit(alloc, crtc, index, number)?))?;
+        commands.push(Command::Wait)?;
+    }
+    Ok(())
+}
