@@ -1,12 +1,3 @@
-pub mod Continuing
-pub mod FreedLaw
-pub mod ImageLemmas
-pub mod LatchLemmas
 pub mod Outcomes
-pub mod Pieces
-pub mod Ranges
-pub mod ReportLaw
-pub mod Rising
-pub mod Survival
-pub mod Turning
-pub mod Lines
+pub mod Replayed
+pub mod Answering

@@ -1,24 +1,63 @@
 -- What the program says to an input.
-use Rattle.std.specs.Prelude.{◌≡◌, ℕ, Bool, List, Vec, Result, Ok, Err, ⊤}
-use Rattle.std.specs.declared.alloc.Global.{Global}
+use Rattle.std.specs.Prelude.{◌≡◌, ℕ, true, false, List, [], Option, Some, Result, Ok, Err, ⊤}
+use Rattle.kms_model.specs.declared.replies.Step.{Step}
 use Rattle.kms_model.specs.declared.scripts.Script.{Script}
-use Rattle.kms_model.specs.Script.Built.{built_input}
-use Rattle.kms_model.specs.Report.Flat.{flat}
-use Rattle.kms_model.specs.Report.Headline.{TellsJournal}
-use Rattle.kms_script.specs.declared.faults.ParseError.{ParseError}
-use Rattle.kms_script.specs.declared.faults.ParseError.TheVariants as errors
+use Rattle.kms_model.specs.Headline.{Headline}
+use Rattle.kms_model.specs.Machine.Histories.{at, illegal_at, is_dead, is_drained, is_history}
+use Rattle.kms_model.specs.Order.Rounds.{IsOne}
+use Rattle.kms_model.specs.Report.History as report
+use Rattle.kms_model.specs.Script.Schedules.{Parts, input_of}
+use Rattle.kms_report.specs.Telling as telling
+use Rattle.kms_rounds.specs.declared.ending.End.{End}
+use Rattle.kms_rounds.specs.declared.ending.End.TheVariants as end
+use Rattle.kms_run.specs.declared.answers.FullReport.{FullReport}
+use Rattle.kms_run.specs.declared.answers.NoAnswer.{NoAnswer}
+use Rattle.kms_run.specs.declared.answers.NoAnswer.TheVariants as stops
+use Rattle.kms_run.specs.declared.words.Action.{Action}
+use Rattle.kms_run.specs.declared.words.Action.TheVariants.{One, Replay}
+use Rattle.kms_run.specs.declared.words.Asked.{Asked}
+use Rattle.kms_run.specs.Words.{part_of}
 
--- The output is the report of the script that the input spells, with frames as text where they are asked for. So its
--- lines of latches are all of what the device of one thread shows for the journal that its first lines tell, and each
--- reply is that device's at its place.
-pub record IsReport (frames : Bool) (input output : List ℕ) : Type 0 where
-  pub script : Script
-  pub spelled : built_input input ≡ Ok script
-  pub report : output ≡ flat frames script
-  pub headline : TellsJournal frames script output
+-- the history that is made of a script: by `one` that which one thread makes, by `replay` the schedule
+abbrev pub IsMade : Action → Script → List Step → List Step → Type 0
+IsMade One s schedule h = IsOne s h
+IsMade Replay s schedule h = h ≡ schedule
 
--- a report, or the input's first fault, unless memory ran out
-abbrev pub Answers : Bool → List ℕ → Result (Vec ℕ Global) ParseError → Type 0
-Answers frames input (Ok text) = IsReport frames input text.items
-Answers frames input (Err (errors.Fault line why)) = built_input input ≡ Err (record { line = line; why = why })
-Answers frames input (Err errors.NoMemory) = ⊤
+-- How a history ended. A schedule alone may leave one open.
+abbrev pub HasEnd : End → Action → Script → List Step → Type 0
+HasEnd end.Drained action s h = (is_drained s (at s h) ≡ true) × (is_dead s (at s h) ≡ false)
+HasEnd end.Dead action s h = (is_drained s (at s h) ≡ false) × (is_dead s (at s h) ≡ true)
+HasEnd end.Open action s h = (action ≡ Replay) × ((is_drained s (at s h) ≡ false) × (is_dead s (at s h) ≡ false))
+
+-- A report of a history that is made of a script and a schedule, and the headline holds of that history.
+pub record IsReportOf (asked : Asked) (s : Script) (schedule : List Step) (ended : End) (output : List ℕ) : Type 0 where
+  pub history : List Step
+  pub is_history : is_history s history ≡ true
+  pub is_made : IsMade asked.action s schedule history
+  pub has_end : HasEnd ended asked.action s history
+  pub text : output ≡ report.text s history (telling.asked asked.options)
+  pub headline : Headline s history
+
+-- a step of a schedule, counted from 1, is the first that is not legal
+pub record IsIllegalOf (action : Action) (s : Script) (schedule : List Step) (place : ℕ) : Type 0 where
+  pub replayed : action ≡ Replay
+  pub is_first : illegal_at s schedule ≡ Some place
+
+-- The output is the report of a history of the script that the input spells.
+pub record IsReport (asked : Asked) (ended : End) (input output : List ℕ) : Type 0 where
+  pub parts : Parts
+  pub spelled : input_of (part_of asked.action) input ≡ Ok parts
+  pub report : IsReportOf asked parts.script parts.steps ended output
+
+-- A step of the schedule that the input spells, counted from 1, is the first that is not legal.
+pub record IsIllegal (asked : Asked) (place : ℕ) (input : List ℕ) : Type 0 where
+  pub parts : Parts
+  pub spelled : input_of (part_of asked.action) input ≡ Ok parts
+  pub illegal : IsIllegalOf asked.action parts.script parts.steps place
+
+-- a report; or the input's first fault, or the first step that is not legal, unless memory ran out
+abbrev pub Answers : Asked → List ℕ → Result FullReport NoAnswer → Type 0
+Answers asked input (Ok answer) = IsReport asked answer.ended input answer.text
+Answers asked input (Err (stops.Fault line why)) = input_of (part_of asked.action) input ≡ Err (record { line = line; why = why })
+Answers asked input (Err (stops.Illegal place)) = IsIllegal asked place input
+Answers asked input (Err stops.NoMemory) = ⊤

@@ -3,6 +3,8 @@ use Rattle.std.specs.Prelude.{ℕ, List, [], ◌++◌, codes}
 use Rattle.std.specs.Fmt.{decimal}
 use Rattle.kms_model.specs.declared.scripts.Why.{Why}
 use Rattle.kms_model.specs.declared.scripts.Why.TheVariants.{Bytes, Cut, Form, Label, Limit, Unbuilt}
+use Rattle.kms_rounds.specs.declared.ending.End.{End}
+use Rattle.kms_rounds.specs.declared.ending.End.TheVariants as end
 use Rattle.kms_run.specs.declared.status.Status.{Status}
 use Rattle.kms_run.specs.declared.status.Status.TheVariants as status
 
@@ -37,3 +39,9 @@ status_text status.NoMemory = codes "kms: out of memory"
 status_text (status.Illegal at) = codes "kms: event " ++ decimal at ++ codes " is not legal"
 status_text status.Open = codes "kms: open"
 status_text (status.AuditNo line) = codes "kms: audit: line " ++ decimal line
+
+-- the status of a run whose report is written
+abbrev pub status_of : End → Status
+status_of end.Drained = status.Ok
+status_of end.Dead = status.Stalled
+status_of end.Open = status.Open

@@ -1,35 +1,122 @@
 //! What the program says to an input.
-ghost use Rattle.std.specs.Prelude.{◌≡◌, ℕ, List, IfOk};
-ghost use Rattle.kms_model.specs.Report.Flat.{flat};
-ghost use Rattle.kms_model.specs.Script.WellFormed.{IsWellFormed};
-ghost use Rattle.kms_run.specs.Answers.{Answers};
+ghost use Rattle.std.specs.Prelude.{◌≡◌, [], IfErr, OnOk};
+ghost use Rattle.kms_run.specs.Answers.{Answers, IsMade};
+ghost use Rattle.kms_run.specs.Executing.{IsStopped, MayEnd, Tells};
 
-use crate::built::unbuilt_line;
-use crate::report::text_of;
-use crate::run::run_all;
-use kms_model::{NoMemory, Script, Why};
-use kms_script::{ParseError, parse};
+use crate::words::{Action, Asked};
+use kms_core::Core;
+use kms_model::{NoMemory, Seq, Step, Why};
+use kms_report::report;
+use kms_rounds::{End, ReplayError, end_of, finish, replay};
+use kms_script::{ParseError, Parsed, parse};
 use std::alloc::Global;
 
-/// The report of a script, with the frames as text where they are asked for.
-fn report(alloc: Global, script: &Script, frames: bool) -> Result<Vec<u8>, NoMemory>
-    requires { IsWellFormed script.now }
-    ensures { IfOk result (λ text. text.items ≡ flat frames script.now) }
-{
-    let run = run_all(alloc, script, frames)?;
-    text_of(alloc, script, &run)
+/// A report, and how the history ended that it tells.
+#[derive(Drop)]
+pub struct FullReport {
+    pub text: Seq<u8>,
+    pub ended: End,
 }
 
-/// The report of the script that an input spells, or the input's first fault.
-pub fn answer(alloc: Global, input: &[u8], frames: bool) -> Result<Vec<u8>, ParseError>
-    ensures { Answers frames input.now result }
-{
-    let script = parse(alloc, input)?;
-    if let Some(line) = unbuilt_line(&script) {
-        return Err(ParseError::Fault {
-            line,
-            why: Why::Unbuilt,
-        });
+/// Why there is no report.
+#[derive(Clone, Copy, Debug, PartialEq, Eq)]
+pub enum NoAnswer {
+    /// The first line that may not stand where it stands, counted from 1, and why; line 0 is the whole input.
+    Fault { line: u32, why: Why },
+    /// A step of the schedule, counted from 1, is the first that is not legal.
+    Illegal { at: u64 },
+    /// Memory ran out.
+    NoMemory,
+}
+
+impl From<ParseError> for NoAnswer {
+    ghost use Rattle.kms_run.specs.Executing.{unparsed};
+    ghost use Rattle.std.specs.Prelude.{◌≡◌};
+
+    ghost from_gives = { λ e stop. stop ≡ unparsed e };
+
+    fn from(e: ParseError) -> NoAnswer {
+        match e {
+            ParseError::Fault { line, why } => NoAnswer::Fault { line, why },
+            ParseError::NoMemory => NoAnswer::NoMemory,
+        }
     }
-    Ok(report(alloc, &script, frames)?)
+}
+
+impl From<NoMemory> for NoAnswer {
+    ghost use Rattle.kms_run.specs.declared.answers.NoAnswer.TheVariants as stops;
+    ghost use Rattle.std.specs.Prelude.{◌≡◌};
+
+    ghost from_gives = { λ _ stop. stop ≡ stops.NoMemory };
+
+    fn from(_e: NoMemory) -> NoAnswer {
+        NoAnswer::NoMemory
+    }
+}
+
+/// Does the steps of a schedule on a machine before its first step.
+fn replay_all(alloc: Global, core: &mut Core, schedule: &[Step]) -> Result<(), NoAnswer>
+    requires { core.old.steps ≡ [] }
+    ensures done { OnOk result (core.new
+        ≡ record { script = core.old.script; steps = schedule.now }) }
+    ensures script { core.new.script ≡ core.old.script }
+    ensures stopped { IfErr result (IsStopped Action.Replay core.old.script schedule.now) }
+{
+    match replay(alloc, core, schedule) {
+        Ok(()) => Ok(()),
+        Err(ReplayError::Illegal { at }) => Err(NoAnswer::Illegal { at }),
+        Err(ReplayError::NoMemory) => Err(NoAnswer::NoMemory),
+    }
+}
+
+/// Does what is asked for on a machine before its first step.
+fn execute(
+    alloc: Global,
+    core: &mut Core,
+    action: Action,
+    schedule: &[Step],
+) -> Result<(), NoAnswer>
+    requires { core.old.steps ≡ [] }
+    ensures script { core.new.script ≡ core.old.script }
+    ensures made { OnOk result
+        (IsMade action core.old.script schedule.now core.new.steps) }
+    ensures over { OnOk result (MayEnd action core.new) }
+    ensures stopped { IfErr result (IsStopped action core.old.script schedule.now) }
+{
+    match action {
+        Action::One => finish(alloc, core)?,
+        Action::Replay => replay_all(alloc, core, schedule)?,
+    }
+    Ok(())
+}
+
+/// Does what is asked for on a machine before its first step, and reports it.
+fn told(
+    alloc: Global,
+    core: &mut Core,
+    asked: &Asked,
+    schedule: &[Step],
+) -> Result<FullReport, NoAnswer>
+    requires { core.old.steps ≡ [] }
+    ensures { Tells asked.now core.old.script schedule.now result }
+{
+    execute(alloc, core, asked.action, schedule)?;
+    core.is_a_history();
+    core.shows_its_journal();
+    let text = report(alloc, core.script(), core, asked.options)?;
+    Ok(FullReport {
+        text,
+        ended: end_of(core),
+    })
+}
+
+/// The report of what is asked for with the script that an input spells; or the input's first fault, or the first step of
+/// its schedule that is not legal. The input's bytes are given up before anything is executed.
+pub fn answer(alloc: Global, input: Vec<u8>, asked: &Asked) -> Result<FullReport, NoAnswer>
+    ensures { Answers asked.now input.items result }
+{
+    let parsed = parse(alloc, &input, asked.action.part())?;
+    drop(input);
+    let mut core = Core::new(alloc, parsed.script)?;
+    told(alloc, &mut core, asked, parsed.steps.as_slice())
 }

@@ -1,22 +1,15 @@
-//! The program: it reads a script, executes it on the device of one thread, and writes the report.
+//! The program: it reads a script, executes it on the machine of many clients, and writes the report of the history.
 #![tactic(auto)]
 
 mod answers;
-mod built;
-mod freed;
-mod latches;
-mod replies;
-mod report;
-mod run;
 mod status;
 mod stream;
-mod text;
 mod top;
 mod words;
 
 pub use status::{Status, status_text};
 pub use top::{kms_main, kms_plain};
-pub use words::legal_words;
+pub use words::{Action, Asked, legal_words, read_words};
 
 #[cfg(test)]
 mod tests;

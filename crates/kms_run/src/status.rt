@@ -4,6 +4,7 @@ ghost use Rattle.std.specs.Fmt.{decimal};
 ghost use Rattle.kms_run.specs.StatusText.{why_text, status_text};
 
 use kms_model::{NoMemory, Why};
+use kms_rounds::End;
 use std::alloc::{AllocError, Global};
 
 /// How a run of the program ends.
@@ -33,7 +34,18 @@ pub enum Status {
 
 impl Status {
     ghost use Rattle.std.specs.Prelude.{◌≡◌};
-    ghost use Rattle.kms_run.specs.StatusText.{status_number};
+    ghost use Rattle.kms_run.specs.StatusText.{status_number, status_of};
+
+    /// The status of a run whose report is written, by how its history ended.
+    pub(crate) fn of_end(ended: End) -> Status
+        ensures { result ≡ status_of ended }
+    {
+        match ended {
+            End::Drained => Status::Ok,
+            End::Dead => Status::Stalled,
+            End::Open => Status::Open,
+        }
+    }
 
     /// The number that the program ends with.
     pub fn number(&self) -> u8

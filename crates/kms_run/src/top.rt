@@ -1,16 +1,15 @@
 //! The top calls.
-ghost use Rattle.std.specs.Prelude.{◌≡◌, ◌↔◌, map, string_bytes};
+ghost use Rattle.std.specs.Prelude.{◌≡◌, ◌↔◌, None, map, string_bytes};
 ghost use Rattle.kms_io.specs.Causes.{Rose};
 ghost use Rattle.kms_io.specs.Bytes.{Moved};
-ghost use Rattle.kms_run.specs.Words.{IsLegal, wants_frames};
+ghost use Rattle.kms_run.specs.Words.{asked};
 ghost use Rattle.kms_run.specs.Outcome.{HasEnded, Meets};
 
-use crate::answers::answer;
+use crate::answers::{NoAnswer, answer};
 use crate::status::Status;
 use crate::stream::{ReadError, read_all, write_all};
-use crate::words::{legal_words, wants_frames};
+use crate::words::read_words;
 use kms_io::{Gate, Sink, Source};
-use kms_script::ParseError;
 use std::alloc::Global;
 use std::sync::Wait;
 use std::thread::Threads;
@@ -27,28 +26,29 @@ fn answered<S: Source, K: Sink>(
 ) -> Status
     ensures moved { Moved
         (S.left source.old) (S.left source.new) (K.written sink.old) (K.written sink.new)
-        (Meets (wants_frames (map string_bytes words.now)) result (S.left source.new)) }
-    ensures usage { (result ≡ Status.Usage) ↔ (IsLegal (map string_bytes words.now) → ⊥) }
+        (Meets (map string_bytes words.now) result (S.left source.new)) }
+    ensures usage { (result ≡ Status.Usage) ↔ (asked (map string_bytes words.now) ≡ None) }
     ensures read_fault { result ≡ Status.ReadFault
         → Rose (S.faults source.old) (S.faults source.new) }
     ensures write_fault { result ≡ Status.WriteFault
         → Rose (K.faults sink.old) (K.faults sink.new) }
 {
-    if !legal_words(words) {
+    let Some(asked) = read_words(words) else {
         return Status::Usage;
-    }
+    };
     let input = match read_all(alloc, source, LIMIT + 1) {
         Ok(input) => input,
         Err(ReadError::Failed) => return Status::ReadFault,
         Err(ReadError::Memory) => return Status::NoMemory,
     };
-    let text = match answer(alloc, &input, wants_frames(words)) {
-        Ok(text) => text,
-        Err(ParseError::Fault { line, why }) => return Status::Script { line, why },
-        Err(ParseError::NoMemory) => return Status::NoMemory,
+    let report = match answer(alloc, input, &asked) {
+        Ok(report) => report,
+        Err(NoAnswer::Fault { line, why }) => return Status::Script { line, why },
+        Err(NoAnswer::Illegal { at }) => return Status::Illegal { at },
+        Err(NoAnswer::NoMemory) => return Status::NoMemory,
     };
-    match write_all(sink, &text) {
-        Ok(()) => Status::Ok,
+    match write_all(sink, report.text.as_slice()) {
+        Ok(()) => Status::of_end(report.ended),
         Err(_) => Status::WriteFault,
     }
 }

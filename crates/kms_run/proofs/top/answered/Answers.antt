@@ -1,0 +1,64 @@
+use Rattle.std.proofs.Common.{Err, [], map, refl, rules, subst, sym}
+use Rattle.std.specs.Prelude.{string_bytes}
+use Rattle.kms_io.specs.Bytes.{Begins}
+use Rattle.kms_io.proofs.Joins.{Appends-nothing}
+use Rattle.kms_run.specs.Answers.{Answers}
+use Rattle.kms_run.specs.Outcome.{Meets}
+use Rattle.kms_run.proofs.Outcomes.{met_report, reads_input}
+use Rattle.kms_run.proofs.top.answered.Goals as goal
+
+pub returns-in-Err-Fault-clause-moved : goal.returns-in-Err-Fault-clause-moved
+returns-in-Err-Fault-clause-moved g c = record {
+  took = c.in-Ok.input.items;
+  put = [];
+  taken = c.in-Ok.ensures.taken;
+  added = Appends-nothing _;
+  holds = record {
+    reads = reads_input _ _ c.in-Ok.input.items c.in-Some.asked c.in-Some.ensures c.in-Ok.ensures.whole;
+    fault = subst (λ e. Answers c.in-Some.asked c.in-Ok.input.items (Err e)) c.in-Err-Fault.field-0-is c.in-Err-Fault.ensures;
+    nothing = refl;
+  };
+}
+
+pub returns-in-Err-Illegal-clause-moved : goal.returns-in-Err-Illegal-clause-moved
+returns-in-Err-Illegal-clause-moved g c = record {
+  took = c.in-Ok.input.items;
+  put = [];
+  taken = c.in-Ok.ensures.taken;
+  added = Appends-nothing _;
+  holds = record {
+    reads = reads_input _ _ c.in-Ok.input.items c.in-Some.asked c.in-Some.ensures c.in-Ok.ensures.whole;
+    illegal = subst (λ e. Answers c.in-Some.asked c.in-Ok.input.items (Err e)) c.in-Err-Illegal.field-0-is c.in-Err-Illegal.ensures;
+    nothing = refl;
+  };
+}
+
+pub returns-in-Ok-write_all-clause-moved : goal.returns-in-Ok-write_all-clause-moved
+returns-in-Ok-write_all-clause-moved g c =
+    let words = map string_bytes c.args.words.now in
+    let left = g.S.Source.left c.read_all.new.source in
+    let reads = reads_input words left c.in-Ok.input.items c.in-Some.asked c.in-Some.ensures c.in-Ok.ensures.whole in
+    record {
+      took = c.in-Ok.input.items;
+      put = c.in-Ok-answer.report.text;
+      taken = c.in-Ok.ensures.taken;
+      added = search rules;
+      holds = subst (λ s. Meets words s left c.in-Ok.input.items c.in-Ok-answer.report.text) (sym c.of_end.ensures) (met_report words left c.in-Ok.input.items c.in-Ok-answer.report.text c.in-Ok-answer.report.ended reads c.in-Ok-answer.ensures);
+    }
+
+pub returns-clause-moved : goal.returns-clause-moved
+returns-clause-moved g c =
+    let front = c.in-Err.ensures.err in
+    record {
+      took = c.in-Ok.input.items;
+      put = front.0;
+      taken = c.in-Ok.ensures.taken;
+      added = front.2;
+      holds = record {
+        reads = reads_input _ _ c.in-Ok.input.items c.in-Some.asked c.in-Some.ensures c.in-Ok.ensures.whole;
+        ended = c.in-Ok-answer.report.ended;
+        text = c.in-Ok-answer.report.text;
+        report = c.in-Ok-answer.ensures;
+        front = subst (λ text. Begins text front.0) c.as_slice.ensures.value front.1;
+      };
+    }

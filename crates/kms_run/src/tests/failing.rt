@@ -1,0 +1,72 @@
+//! Sources and sinks that fail, at each of their calls in turn.
+use super::{ABC, LIT, LIT_REPLIES, lit, sink, source, words};
+use crate::{Status, kms_plain};
+use std::alloc::Global;
+use std::test::Fail;
+use std::thread::Threads;
+
+/// The bytes of one read, and of one write.
+const READ: usize = 40;
+
+const WRITE: usize = 16;
+
+/// How many reads the first script takes, its end included, and how many writes its report.
+const READS: u32 = 9;
+
+const WRITES: u32 = 12;
+
+/// Whether a failing read of this number ends the call, with nothing written.
+fn read_fails<R: Threads>(rt: &R, alloc: Global, text: &str, number: u32) -> Result<bool, Fail> {
+    let mut source = source(alloc, text, READ, &[number])?;
+    let mut sink = sink(alloc, 64, &[])?;
+    let words = words(alloc, &["one"])?;
+    let status = kms_plain(rt, alloc, &words, &mut source, &mut sink);
+    Ok(status == Status::ReadFault && sink.written().is_empty())
+}
+
+/// Whether a failing write of this number ends the call, with what was written before it.
+fn write_fails<R: Threads>(
+    rt: &R,
+    alloc: Global,
+    text: &str,
+    report: &str,
+    number: u32,
+) -> Result<bool, Fail> {
+    let mut source = source(alloc, text, READ, &[])?;
+    let mut sink = sink(alloc, WRITE, &[number])?;
+    let words = words(alloc, &["one"])?;
+    let status = kms_plain(rt, alloc, &words, &mut source, &mut sink);
+    let front = report
+        .as_bytes()
+        .chunks(WRITE)
+        .take(number.saturating_sub(1) as usize);
+    Ok(status == Status::WriteFault && front.flatten().eq(sink.written()))
+}
+
+#[test]
+fn each_failing_read_writes_nothing(rt: HostRuntime) -> Result<(), Fail> {
+    let text = lit(rt.alloc(), "")?;
+    assert_eq!(rt; text.len().div_ceil(READ) + 1, READS as usize);
+    for number in 1..READS + 1 {
+        assert!(rt;
+            read_fails(&rt, rt.alloc(), text.as_str(), number)?,
+            "read {number}"
+        );
+    }
+    assert!(rt; !read_fails(&rt, rt.alloc(), text.as_str(), READS + 1)?);
+    Ok(())
+}
+
+#[test]
+fn each_failing_write_leaves_a_front(rt: HostRuntime) -> Result<(), Fail> {
+    let alloc = rt.alloc();
+    let text = lit(alloc, "")?;
+    let report = format!(in alloc; "{LIT}{LIT_REPLIES}L 0 0 1 {ABC}\nD drained\n")?;
+    assert_eq!(rt; report.len().div_ceil(WRITE), WRITES as usize);
+    for number in 1..WRITES + 1 {
+        let fails = write_fails(&rt, alloc, text.as_str(), report.as_str(), number)?;
+        assert!(rt; fails, "write {number}");
+    }
+    assert!(rt; !write_fails(&rt, alloc, text.as_str(), report.as_str(), WRITES + 1)?);
+    Ok(())
+}

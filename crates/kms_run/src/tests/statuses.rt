@@ -1,0 +1,103 @@
+//! Words that are not legal; numbers and texts of statuses.
+use super::{HEAD, sink, source, words};
+use crate::{Status, kms_main, legal_words, status_text};
+use kms_io::NoGate;
+use kms_model::Why;
+use std::alloc::Global;
+use std::sync::Wait;
+use std::test::Fail;
+use std::thread::Threads;
+
+/// The source would fail at its first read, so `Usage` shows that nothing was read.
+fn is_usage<R: Threads + Wait>(rt: &R, alloc: Global, all: &[&str]) -> Result<bool, Fail> {
+    let mut source = source(alloc, HEAD, 4096, &[1])?;
+    let mut sink = sink(alloc, 4096, &[])?;
+    let words = words(alloc, all)?;
+    let status = kms_main(rt, alloc, &words, &mut source, &mut sink, &NoGate);
+    Ok(status == Status::Usage && sink.written().is_empty() && !legal_words(&words))
+}
+
+#[test]
+fn other_words_read_nothing(rt: HostRuntime) -> Result<(), Fail> {
+    let alloc = rt.alloc();
+    let rows: [&[&str]; 20] = [
+        &[],
+        &["run"],
+        &["run", "--threads", "0"],
+        &["run", "--threads", "17"],
+        &["one", "--trace", "--trace"],
+        &["one", "--ppm", "--ppm"],
+        &["one", "--trace", "--ppm", "--trace"],
+        &["replay", "--ppm", "--ppm"],
+        &["replay", "--threads"],
+        &["--ppm", "one"],
+        &["gen", "1"],
+        &["gen", "1", "2", "--run", "--run"],
+        &["audit", "--trace"],
+        &["help"],
+        &["one", "one"],
+        &["one", "replay"],
+        &["One"],
+        &["ones"],
+        &["--help"],
+        &["--version"],
+    ];
+    for row in &rows {
+        assert!(rt; is_usage(&rt, alloc, row)?);
+    }
+    Ok(())
+}
+
+#[test]
+fn options_come_once_in_any_order(rt: HostRuntime) -> Result<(), Fail> {
+    let alloc = rt.alloc();
+    let rows: [&[&str]; 10] = [
+        &["one"],
+        &["one", "--trace"],
+        &["one", "--ppm"],
+        &["one", "--trace", "--ppm"],
+        &["one", "--ppm", "--trace"],
+        &["replay"],
+        &["replay", "--trace"],
+        &["replay", "--ppm"],
+        &["replay", "--trace", "--ppm"],
+        &["replay", "--ppm", "--trace"],
+    ];
+    for row in &rows {
+        let words = words(alloc, row)?;
+        assert!(rt; legal_words(&words));
+    }
+    Ok(())
+}
+
+#[test]
+fn statuses_have_their_texts(rt: HostRuntime) -> Result<(), Fail> {
+    let rows = [
+        (Status::Ok, 0, ""),
+        (Status::ReadFault, 1, "kms: read fault"),
+        (Status::WriteFault, 2, "kms: write fault"),
+        (
+            Status::Usage,
+            3,
+            "kms: usage: kms one, replay, run, gen, audit",
+        ),
+        (
+            Status::Script {
+                line: 3,
+                why: Why::Label,
+            },
+            4,
+            "kms: line 3: label",
+        ),
+        (Status::Stalled, 5, "kms: stalled"),
+        (Status::NoMemory, 6, "kms: out of memory"),
+        (Status::Illegal { at: 12 }, 7, "kms: event 12 is not legal"),
+        (Status::Open, 8, "kms: open"),
+        (Status::AuditNo { line: 7 }, 9, "kms: audit: line 7"),
+    ];
+    for (status, number, text) in &rows {
+        assert_eq!(rt; status.number(), *number);
+        assert_eq!(rt; status_text(rt.alloc(), status)?.as_str(), *text);
+    }
+    Ok(())
+}

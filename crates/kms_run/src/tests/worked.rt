@@ -1,0 +1,218 @@
+//! Scripts that one thread executes, worked out by hand.
+use super::{
+    ABC, FOO, HEAD, LIT, LIT_REPLIES, LIT_STEPS, MADE, SET, TAIL, UNSET, answers, drains, lit,
+    replays, run,
+};
+use crate::Status;
+use std::alloc::Global;
+use std::test::Fail;
+
+#[test]
+fn first_commit_lights_the_crtc(rt: HostRuntime) -> Result<(), Fail> {
+    let alloc = rt.alloc();
+    let report = format!(in alloc; "{LIT}{LIT_REPLIES}L 0 0 1 {ABC}\nD drained\n")?;
+    assert!(rt; drains(&rt, alloc, lit(alloc, "")?.as_str(), report.as_str())?);
+    assert!(rt; drains(&rt, alloc, HEAD, "D drained\n")?);
+    Ok(())
+}
+
+/// A second commit of the same mode, under another label, is no modeset: it needs no leave, and the frame is latched
+/// again.
+#[test]
+fn same_mode_is_no_modeset(rt: HostRuntime) -> Result<(), Fail> {
+    let alloc = rt.alloc();
+    let text = lit(
+        alloc,
+        "mode m2 1 1 1 1 1 0 1 1 1 1 0 60 0 0 tiny\natomic 0x0 0 crtc0.MODE_ID=@m2\n",
+    )?;
+    let report = format!(in alloc;
+        "{LIT}J 1 5\nJ 1 6\n{LIT_REPLIES}R 1 5 4 made 1003\nR 1 6 5 commit 1\nL 0 0 1 {ABC}\nL 0 1 2 {ABC}\nD drained\n"
+    )?;
+    assert!(rt; drains(&rt, alloc, text.as_str(), report.as_str())?);
+    Ok(())
+}
+
+/// A second client is refused what is the first one's; the CRTC keeps a mode whose blob is destroyed.
+#[test]
+fn things_belong_to_their_client(rt: HostRuntime) -> Result<(), Fail> {
+    let alloc = rt.alloc();
+    let text = lit(
+        alloc,
+        "client\nblob w1 00\nblob w2 00\nblob w3 00\nblob w4 00\ndestroy m\nclosefb f\naddfb g b\nsignal m\nbuffer z 0 1 XR24 solid 00000000\n",
+    )?;
+    let report = format!(in alloc;
+        "J 1 1\nJ 2 1\nJ 1 2\nJ 2 2\nJ 1 3\nJ 2 3\nJ 1 4\nJ 2 4\nR 1 1 0 made 1000\nR 1 2 2 made 1002\nR 1 3 4 made 1004\nR 1 4 6 commit 0\nR 2 1 1 made 1001\nR 2 2 3 made 1003\nR 2 3 5 made 1005\nR 2 4 7 made 1006\nR 2 5 8 EPERM 34\nR 2 6 8 ENOENT 33\nR 2 7 8 ENOENT 33\nR 2 8 8 EINVAL 35\nR 2 9 8 EINVAL 31\nL 0 0 1 {ABC}\nD drained\n"
+    )?;
+    assert!(rt; drains(&rt, alloc, text.as_str(), report.as_str())?);
+    let text = lit(alloc, "destroy m\natomic 0x0 0 plane0.alpha=65535\n")?;
+    let report = format!(in alloc;
+        "{LIT}J 1 5\nJ 1 6\n{LIT_REPLIES}R 1 5 4 done\nR 1 6 5 commit 1\nL 0 0 1 {ABC}\nL 0 1 2 {ABC}\nD drained\n"
+    )?;
+    assert!(rt; drains(&rt, alloc, text.as_str(), report.as_str())?);
+    Ok(())
+}
+
+/// Four buffers of the greatest size take all the space that buffers have, so the smallest one more is refused.
+#[test]
+fn buffers_fill_their_space(rt: HostRuntime) -> Result<(), Fail> {
+    let alloc = rt.alloc();
+    let size = "4096 4096 XR24 solid 00000000";
+    let text = format!(in alloc;
+        "{HEAD}client\nbuffer a {size}\nbuffer b {size}\nbuffer c {size}\nbuffer d {size}\nbuffer e 1 1 XR24 solid 00000000\n"
+    )?;
+    let report = format!(in alloc;
+        "{LIT}R 1 1 0 made 1000\nR 1 2 1 made 1001\nR 1 3 2 made 1002\nR 1 4 3 made 1003\nR 1 5 4 ENOSPC 32\nD drained\n"
+    )?;
+    assert!(rt; drains(&rt, alloc, text.as_str(), report.as_str())?);
+    Ok(())
+}
+
+/// Two clients light a CRTC each: the journal goes by rounds, the replies by client and the latches by CRTC.
+#[test]
+fn clients_execute_in_rounds(rt: HostRuntime) -> Result<(), Fail> {
+    let alloc = rt.alloc();
+    let text = format!(in alloc;
+        "kms 1\ncrtcs 2\nplane primary 0 XR24\nplane primary 1 XR24\nconn 0\nconn 1\nclient\nbuffer b 1 1 XR24 solid 00616263\naddfb f b\nmode m 1 1 1 1 1 0 1 1 1 1 0 60 0 0 tiny\natomic 0x400 0 crtc1.ACTIVE=1 crtc1.MODE_ID=@m conn1.CRTC_ID=crtc1 plane1.FB_ID=@f plane1.CRTC_ID=crtc1 plane1.CRTC_W=1 plane1.CRTC_H=1 plane1.SRC_W=65536 plane1.SRC_H=65536\nclient\nbuffer b2 1 1 XR24 solid 00666f6f\naddfb f2 b2\nmode m2 1 1 1 1 1 0 1 1 1 1 0 60 0 0 tiny\natomic 0x400 0 crtc0.ACTIVE=1 crtc0.MODE_ID=@m2 conn0.CRTC_ID=crtc0 plane0.FB_ID=@f2 plane0.CRTC_ID=crtc0 plane0.CRTC_W=1 plane0.CRTC_H=1 plane0.SRC_W=65536 plane0.SRC_H=65536\n"
+    )?;
+    let report = format!(in alloc;
+        "J 1 1\nJ 2 1\nJ 1 2\nJ 2 2\nJ 1 3\nJ 2 3\nJ 1 4\nJ 2 4\nR 1 1 0 made 1000\nR 1 2 2 made 1002\nR 1 3 4 made 1004\nR 1 4 6 commit 0\nR 2 1 1 made 1001\nR 2 2 3 made 1003\nR 2 3 5 made 1005\nR 2 4 7 commit 1\nL 0 1 1 {FOO}\nL 1 0 1 {ABC}\nD drained\n"
+    )?;
+    assert!(rt; drains(&rt, alloc, text.as_str(), report.as_str())?);
+    Ok(())
+}
+
+/// A framebuffer that is closed is freed when no plane shows it any more; a picture that is off is not counted. Two that
+/// one commit frees are told in order of id.
+#[test]
+fn framebuffers_are_freed_when_nothing_needs_them(rt: HostRuntime) -> Result<(), Fail> {
+    let alloc = rt.alloc();
+    let text = format!(in alloc; "closefb f\natomic 0x400 0 {UNSET}\naddfb f2 b\nclosefb f2\n")?;
+    let text = lit(alloc, text.as_str())?;
+    let report = format!(in alloc;
+        "{LIT}J 1 5\nJ 1 6\nJ 1 7\nJ 1 8\n{LIT_REPLIES}R 1 5 4 done\nR 1 6 5 commit 1\nR 1 7 6 made 1003\nR 1 8 7 done\nL 0 0 1 {ABC}\nL 0 1 1 off\nX f 1001\nX f2 1003\nD drained\n"
+    )?;
+    assert!(rt; drains(&rt, alloc, text.as_str(), report.as_str())?);
+    let text = format!(in alloc;
+        "kms 1\ncrtcs 1\nplane primary 0 XR24\nplane overlay 0 XR24\nconn 0\n{MADE}atomic 0x400 0 {SET}\naddfb g b\natomic 0x0 0 plane0.FB_ID=@g plane1.FB_ID=@f plane1.CRTC_ID=crtc0 plane1.CRTC_W=1 plane1.CRTC_H=1 plane1.SRC_W=65536 plane1.SRC_H=65536\nclosefb g\nclosefb f\natomic 0x400 0 {UNSET} plane1.FB_ID=0 plane1.CRTC_ID=0\n"
+    )?;
+    let report = format!(in alloc;
+        "{LIT}J 1 5\nJ 1 6\nJ 1 7\nJ 1 8\nJ 1 9\n{LIT_REPLIES}R 1 5 4 made 1003\nR 1 6 5 commit 1\nR 1 7 6 done\nR 1 8 7 done\nR 1 9 8 commit 2\nL 0 0 1 {ABC}\nL 0 1 2 {ABC}\nL 0 2 2 off\nX f 1001\nX g 1003\nD drained\n"
+    )?;
+    assert!(rt; drains(&rt, alloc, text.as_str(), report.as_str())?);
+    Ok(())
+}
+
+/// The report with the steps, by one thread and from its own steps as a schedule.
+#[test]
+fn steps_are_told_and_replayed(rt: HostRuntime) -> Result<(), Fail> {
+    let alloc = rt.alloc();
+    let script = lit(alloc, "")?;
+    let steps = format!(in alloc; "{LIT_STEPS}{TAIL}T cleanup 0\nT return 1\n")?;
+    let report = format!(in alloc; "{LIT}{LIT_REPLIES}L 0 0 1 {ABC}\nD drained\n")?;
+    let traced = format!(in alloc; "{report}{steps}")?;
+    let input = format!(in alloc; "{script}schedule\n{steps}")?;
+    let trace = ["one", "--trace"];
+    assert!(rt;
+        answers(
+            &rt,
+            alloc,
+            &trace,
+            script.as_str(),
+            Status::Ok,
+            traced.as_str()
+        )?
+    );
+    let trace = ["replay", "--trace"];
+    assert!(rt;
+        answers(
+            &rt,
+            alloc,
+            &trace,
+            input.as_str(),
+            Status::Ok,
+            traced.as_str()
+        )?
+    );
+    let (script, steps) = (script.as_str(), steps.as_str());
+    assert!(rt; replays(&rt, alloc, script, steps, Status::Ok, report.as_str())?);
+    Ok(())
+}
+
+/// A CRTC is put out with an event, which its client reads.
+#[test]
+fn an_event_tells_that_the_crtc_is_off(rt: HostRuntime) -> Result<(), Fail> {
+    let alloc = rt.alloc();
+    let more = format!(in alloc; "atomic 0x401 9 {UNSET}\nwait\n")?;
+    let text = lit(alloc, more.as_str())?;
+    let report = format!(in alloc;
+        "{LIT}J 1 5\n{LIT_REPLIES}R 1 5 4 commit 1\nR 1 6 5 event 9 1 100\nL 0 0 1 {ABC}\nL 0 1 1 off\nE 1 9 1 100\nD drained\n"
+    )?;
+    assert!(rt; drains(&rt, alloc, text.as_str(), report.as_str())?);
+    Ok(())
+}
+
+/// A flip with an event; a wait with nothing to come; a framebuffer that is freed once it is closed.
+#[test]
+fn an_event_is_read_once(rt: HostRuntime) -> Result<(), Fail> {
+    let alloc = rt.alloc();
+    let text = lit(
+        alloc,
+        "buffer b2 1 1 XR24 solid 00666f6f\naddfb f2 b2\natomic 0x1 7 plane0.FB_ID=@f2\nwait\nclosefb f\nwait\n",
+    )?;
+    let report = format!(in alloc;
+        "{LIT}J 1 5\nJ 1 6\nJ 1 7\nJ 1 9\n{LIT_REPLIES}R 1 5 4 made 1003\nR 1 6 5 made 1004\nR 1 7 6 commit 1\nR 1 8 7 event 7 2 100\nR 1 9 7 done\nR 1 10 8 none\nL 0 0 1 {ABC}\nL 0 1 2 {FOO}\nE 1 7 2 100\nX f 1001\nD drained\n"
+    )?;
+    assert!(rt; drains(&rt, alloc, text.as_str(), report.as_str())?);
+    Ok(())
+}
+
+/// A commit waits for an out-fence, and the last one for a fence that nobody signals.
+#[test]
+fn a_fence_that_nobody_signals_stalls(rt: HostRuntime) -> Result<(), Fail> {
+    let alloc = rt.alloc();
+    let text = lit(
+        alloc,
+        "atomic 0x200 0 plane0.alpha=65535 crtc0.OUT_FENCE_PTR=+o\natomic 0x0 0 plane0.alpha=65535 plane0.IN_FENCE_FD=@o\nfence n\natomic 0x0 0 plane0.alpha=65535 plane0.IN_FENCE_FD=@n\n",
+    )?;
+    let report = format!(in alloc;
+        "{LIT}J 1 5\nJ 1 6\nJ 1 7\nJ 1 8\n{LIT_REPLIES}R 1 5 4 commit 1\nR 1 6 5 commit 2\nR 1 7 6 made 1004\nR 1 8 7 commit 3\nL 0 0 1 {ABC}\nL 0 1 2 {ABC}\nL 0 2 3 {ABC}\nD stalled n\n"
+    )?;
+    let one = ["one"];
+    assert!(rt;
+        answers(
+            &rt,
+            alloc,
+            &one,
+            text.as_str(),
+            Status::Stalled,
+            report.as_str()
+        )?
+    );
+    Ok(())
+}
+
+/// A client fills its space for events: the commit after 128 that are unread is refused, and accepted once one is read.
+#[test]
+fn events_fill_their_space(rt: HostRuntime) -> Result<(), Fail> {
+    let alloc = rt.alloc();
+    let flip = "atomic 0x1 0 plane0.alpha=65535\n";
+    let mut text = lit(alloc, "")?;
+    for _ in 0..129 {
+        text.push_str(flip)?;
+    }
+    text.push_str("wait\n")?;
+    text.push_str(flip)?;
+    let (status, sink) = run(&rt, alloc, &["one"], text.as_str())?;
+    assert_eq!(rt; status, Status::Ok);
+    let rows = [
+        "R 1 132 131 commit 128",
+        "R 1 133 132 ENOMEM events 25 4096",
+        "R 1 134 132 event 0 2 100",
+        "R 1 135 132 commit 129",
+    ];
+    for row in &rows {
+        let mut lines = sink.written().split(|byte| *byte == b'\n');
+        assert!(rt; lines.any(|line| line == row.as_bytes()), "{row}");
+    }
+    Ok(())
+}
