@@ -2,12 +2,10 @@
 # Times the machine on generated scripts of 1000, 2000 and 4000 commits: two clients flip the planes of a CRTC each, and
 # wait for the event of each flip. Builds the program of main.rt.txt beside copies of the crates that it uses, with what was
 # proved of them, in a folder of its own, and runs it. It prints the steps and the time of each script, in microseconds; the
-# time of 4000 commits stays below four and a half times that of 1000. The program of another folder beside this one is
-# built and run by that folder's name, and by the crate that it uses besides.
+# time of 4000 commits stays below four and a half times that of 1000.
 set -eu
-top=$(cd "$(dirname "$0")/../.." && pwd)
-here="$top/bench/${1:-core}"
-more=${2:-}
+here=$(cd "$(dirname "$0")" && pwd)
+top=$(cd "$here/../.." && pwd)
 work=$(mktemp -d)
 trap 'rm -rf "$work"' EXIT
 mkdir -p "$work/crates/bench_core/src"
@@ -23,9 +21,8 @@ add() {
 }
 add kms_core
 add kms_script
-[ -z "$more" ] || add "$more"
-echo "bench_core: kms_model kms_core kms_script $more" >>"$work/crates.txt"
+echo "bench_core: kms_model kms_core kms_script" >>"$work/crates.txt"
 cp "$top/HANDLES" "$work/"
 cp "$here/main.rt.txt" "$work/crates/bench_core/src/main.rt"
 cd "$work/crates/bench_core"
-rt run 2>&1 | grep "commits:\|replayed in"
+rt run 2>&1 | grep "commits:"
