@@ -1,0 +1,22 @@
+#!/bin/sh
+# Runs a built program on the examples and compares what it writes with their reports, the drawing among them. No part of the
+# gate.
+#
+# usage: checks/examples.sh PROGRAM
+set -eu
+[ $# -eq 1 ] || { sed -n '2,5s/^# \{0,1\}//p' "$0" >&2; exit 2; }
+program=$1
+top=$(cd "$(dirname "$0")/.." && pwd)
+# An input, the report that is expected of it, and the words.
+compare() {
+    input=$1 report=$2
+    shift 2
+    "$program" "$@" <"$top/examples/$input" | cmp - "$top/examples/$report"
+    echo "$* < $input: as $report"
+}
+compare first_light.kms first_light.report one
+compare two_screens.kms two_screens.report one
+compare meeting.kms meeting.report one --trace
+compare meeting.replay meeting.report replay --trace
+"$top/tools/timeline.py" <"$top/examples/meeting.report" | cmp - "$top/docs/pictures/meeting.svg"
+echo "timeline.py < meeting.report: as docs/pictures/meeting.svg"
