@@ -30,7 +30,7 @@ use Rattle.kms_model.specs.Request.Named.{names}
 use Rattle.kms_model.specs.Request.Verdict.{verdict}
 use Rattle.kms_model.proofs.FramedLemmas.{execution_keeps_framed}
 use Rattle.kms_model.proofs.Items.{IsIn}
-use Rattle.kms_model.proofs.RunIsSerial.{serial_last, unaccepted}
+use Rattle.kms_model.proofs.JournalLemmas.{serial_last, unaccepted}
 use Rattle.kms_model.proofs.SoundKept.{execution_keeps_sound, sound-apply}
 use Rattle.kms_model.proofs.TouchedLemmas.{IsRequestAt}
 use Rattle.kms_laws.proofs.Executed.{Follows, IsLike, KeepsModes, execute_follows, follows-out_fences, plane_like, words_like}

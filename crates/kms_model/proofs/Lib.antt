@@ -6,6 +6,7 @@ pub mod HeldValues
 pub mod ImageWords
 pub mod InPlace
 pub mod Items
+pub mod JournalLemmas
 pub mod KindsOfIds
 pub mod LastLemmas
 pub mod LateLemmas
@@ -17,12 +18,12 @@ pub mod ObjectLemmas
 pub mod OnLiterals
 pub mod OnMachines
 pub mod OnScripts
+pub mod OneThread
 pub mod OpenLemmas
 pub mod PropertyTable
 pub mod ReachLaw
 pub mod RequestLemmas
 pub mod Rows
-pub mod RunIsSerial
 pub mod SameLooks
 pub mod ScriptRows
 pub mod SeenLemmas

@@ -2,6 +2,7 @@
 -- schedule is not legal.
 use Rattle.std.specs.Prelude.{ℕ, true, false, List, [], Option, None, Result, Ok, Err, if◌then◌else◌}
 use Rattle.kms_model.specs.declared.scripts.Part.TheVariants as part
+use Rattle.kms_model.specs.declared.scripts.Script.{Script}
 use Rattle.kms_model.specs.Machine.Histories.{is_history, illegal_at}
 use Rattle.kms_model.specs.Order.Rounds.{finished_within}
 use Rattle.kms_model.specs.Report.History.{Options, text}
@@ -17,11 +18,15 @@ traced = record { trace = true; ppm = false }
 abbrev pub pixmaps : Options
 pixmaps = record { trace = false; ppm = true }
 
+-- the report that one thread makes of a script, in at most 64 rounds
+abbrev pub report_of_script : Options → Script → List ℕ
+report_of_script options s = text s (finished_within s 64 []) options
+
 abbrev pub report_of_one : Options → Result Parts Fault → List ℕ
 report_of_one options (Err fault) = []
-report_of_one options (Ok parts) = text parts.script (finished_within parts.script 64 []) options
+report_of_one options (Ok parts) = report_of_script options parts.script
 
--- the report that one thread makes of a script, in at most 64 rounds
+-- the same of the script that an input spells
 abbrev pub one : Options → List ℕ → List ℕ
 one options bytes = report_of_one options (input_of part.Script bytes)
 

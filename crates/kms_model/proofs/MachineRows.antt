@@ -3,9 +3,9 @@ use Rattle.std.proofs.Common.{◌≡◌, ℕ, List, ◌++◌, Some, refl}
 use Rattle.std.specs.Prelude.{codes, Ok}
 use Rattle.kms_model.specs.Script.Generated.{generated}
 use Rattle.kms_model.specs.Script.WholeInput.{input}
-use Rattle.kms_model.proofs.MachineInputs.{one, replayed, not_legal_at, plain, traced}
+use Rattle.kms_model.proofs.MachineInputs.{one, report_of_script, replayed, not_legal_at, plain, traced}
 use Rattle.kms_model.proofs.OnMachines.{on_machines}
-use Rattle.kms_model.proofs.Rows.{head, made}
+use Rattle.kms_model.proofs.Rows.{head, made, script}
 
 -- what lights the CRTC: nine assignments
 abbrev sets : List ℕ
@@ -54,6 +54,11 @@ empty_device_is_drained = refl
 pub modeset_needs_leave : one plain (head ++ made ++ lights (codes "0x0")) ≡ codes "J 1 1\nJ 1 2\nJ 1 3\nR 1 1 0 made 1000\nR 1 2 1 made 1001\nR 1 3 2 made 1002\nR 1 4 3 EINVAL 24\nD drained\n"
 unfolding on_machines
 modeset_needs_leave = refl
+
+-- a plane that is not there
+pub missing_plane_is_refused : report_of_script plain (script 0x400 1) ≡ codes "J 1 1\nJ 1 2\nJ 1 3\nR 1 1 0 made 1000\nR 1 2 1 made 1001\nR 1 3 2 made 1002\nR 1 4 3 ENOENT 4\nD drained\n"
+unfolding on_machines
+missing_plane_is_refused = refl
 
 -- A commit that does not wait is refused while the commit before has not flipped, and accepted after its vertical blanking.
 pub commit_is_busy_until_the_flip : replayed plain (quick_script ++ codes "atomic 0x200 0 plane0.alpha=65535\natomic 0x200 0 plane0.alpha=65535\n" ++ up_to_swap ++ second_locks ++ codes "T refuse 1\n" ++ tail_up_to_hwdone ++ codes "T vblank crtc0\n" ++ second_locks ++ codes "T swap 1\n" ++ second_tail) ≡ codes "J 1 1\nJ 1 2\nJ 1 3\nJ 1 4\nJ 1 6\nR 1 1 0 made 1000\nR 1 2 1 made 1001\nR 1 3 2 made 1002\nR 1 4 3 commit 0\nR 1 5 4 EBUSY 26 crtc0 0\nR 1 6 4 commit 1\nL 0 0 1 ba7816bf8f01cfea414140de5dae2223b00361a396177a9cb410ff61f20015ad\nL 0 1 2 ba7816bf8f01cfea414140de5dae2223b00361a396177a9cb410ff61f20015ad\nD drained\n"

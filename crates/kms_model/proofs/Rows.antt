@@ -1,5 +1,5 @@
--- Worked examples of the definitions, computed: what the scripts spell and what their reports are.
-use Rattle.std.proofs.Common.{◌≡◌, ℕ, List, [], ◌∷◌, ◌++◌, refl, codes, pos, Some, None, replicate, Ok, false}
+-- Worked examples of the definitions, computed: what scripts spell, buffers that are refused, colours and pixmaps.
+use Rattle.std.proofs.Common.{◌≡◌, ℕ, List, [], ◌∷◌, ◌++◌, refl, codes, pos, Some, None, replicate, Ok}
 use Rattle.kms_model.specs.Device.Modes.{plain_mode}
 use Rattle.kms_model.specs.declared.objects.Kind.TheVariants as kind
 use Rattle.kms_model.specs.declared.objects.Format.TheVariants.{Xr24, Rg16}
@@ -14,7 +14,6 @@ use Rattle.kms_model.specs.declared.scripts.PropRef.TheVariants.{Known}
 use Rattle.kms_model.specs.declared.scripts.Script.{Script}
 use Rattle.kms_model.specs.declared.scripts.Value.TheVariants as value
 use Rattle.kms_model.specs.Script.WholeInput.{input}
-use Rattle.kms_model.specs.Report.Flat.{flat}
 use Rattle.kms_model.specs.Frames.FrameBytes.{colour_of}
 use Rattle.kms_model.specs.Device.Execution.{new_buffer_refusal}
 use Rattle.kms_model.specs.Frames.Ppm.{ppm}
@@ -49,7 +48,7 @@ commands flags plane =
     ∷ command.Atomic (record { flags = flags; user_data = 0; assigns = sets plane })
     ∷ []
 
-abbrev script : ℕ → ℕ → Script
+abbrev pub script : ℕ → ℕ → Script
 script flags plane = record { version = 1; topology = device; names = codes "b" ∷ codes "f" ∷ codes "m" ∷ []; clients = commands flags plane ∷ [] }
 
 abbrev pub head : List ℕ
@@ -57,26 +56,6 @@ head = codes "kms 1\ncrtcs 1\nplane primary 0 XR24\nconn 0\n"
 
 abbrev pub made : List ℕ
 made = codes "client\nbuffer b 1 1 XR24 solid 00616263\naddfb f b\nmode m 1 1 1 1 1 0 1 1 1 1 0 60 0 0 tiny\n"
-
--- a first commit lights the CRTC
-pub first_commit_lights_the_crtc : flat false (script 0x400 0) ≡ codes "J 1 1\nJ 1 2\nJ 1 3\nJ 1 4\nR 1 1 0 made 1000\nR 1 2 1 made 1001\nR 1 3 2 made 1002\nR 1 4 3 commit 0\nL 0 0 1 ba7816bf8f01cfea414140de5dae2223b00361a396177a9cb410ff61f20015ad\nD drained\n"
-unfolding on_literals
-first_commit_lights_the_crtc = refl
-
--- a modeset needs leave
-pub modeset_needs_leave : flat false (script 0 0) ≡ codes "J 1 1\nJ 1 2\nJ 1 3\nR 1 1 0 made 1000\nR 1 2 1 made 1001\nR 1 3 2 made 1002\nR 1 4 3 EINVAL 24\nD drained\n"
-unfolding on_literals
-modeset_needs_leave = refl
-
--- a plane that is not there
-pub missing_plane_is_refused : flat false (script 0x400 1) ≡ codes "J 1 1\nJ 1 2\nJ 1 3\nR 1 1 0 made 1000\nR 1 2 1 made 1001\nR 1 3 2 made 1002\nR 1 4 3 ENOENT 4\nD drained\n"
-unfolding on_literals
-missing_plane_is_refused = refl
-
--- no client
-pub empty_device_drains : flat false (record { version = 1; topology = device; names = []; clients = [] }) ≡ codes "D drained\n"
-unfolding on_literals
-empty_device_drains = refl
 
 -- the text of the first script
 pub first_script_is_read : input (head ++ made ++ codes "atomic 0x400 0 crtc0.ACTIVE=1 crtc0.MODE_ID=@m conn0.CRTC_ID=crtc0 plane0.FB_ID=@f plane0.CRTC_ID=crtc0 plane0.CRTC_W=1 plane0.CRTC_H=1 plane0.SRC_W=65536 plane0.SRC_H=65536\n") ≡ Ok (script 0x400 0)

@@ -1,6 +1,6 @@
 -- Worked examples of what the device of one thread answers, computed: each reply of a script's commands.
-use Rattle.std.proofs.Common.{◌≡◌, ℕ, Bool, true, false, List, [], ◌∷◌, ◌++◌, refl, codes, pos, Some}
-use Rattle.std.specs.Prelude.{map, negsuc}
+use Rattle.std.proofs.Common.{◌≡◌, ℕ, List, [], ◌∷◌, ◌++◌, refl, codes, pos}
+use Rattle.std.specs.Prelude.{negsuc}
 use Rattle.kms_model.specs.declared.objects.Format.{Format}
 use Rattle.kms_model.specs.declared.objects.Format.TheVariants.{Xr24, Rg16}
 use Rattle.kms_model.specs.declared.objects.Kind.{Kind}
@@ -16,15 +16,13 @@ use Rattle.kms_model.specs.declared.scripts.Pattern.TheVariants.{Solid}
 use Rattle.kms_model.specs.declared.scripts.PropRef.TheVariants.{Known}
 use Rattle.kms_model.specs.declared.scripts.Value.{Value}
 use Rattle.kms_model.specs.declared.scripts.Value.TheVariants as value
-use Rattle.kms_model.specs.Script.Built.{is_built, unbuilt_line}
-use Rattle.kms_model.specs.Report.Flat.{run, flat}
 use Rattle.kms_model.specs.Device.ModeBytes.{mode_bytes}
+use Rattle.kms_model.specs.Report.History.{Options}
+use Rattle.kms_model.proofs.MachineInputs.{pixmaps, plain, report_of_script}
+use Rattle.kms_model.proofs.OneThread.{replies}
 use Rattle.kms_model.proofs.OnLiterals.{on_literals}
+use Rattle.kms_model.proofs.OnMachines.{on_machines}
 use Rattle.kms_model.proofs.Rows.{device, tiny}
-
--- the replies to all commands, in the order in which they are executed
-abbrev replies : Topology → List (List Command) → List Reply
-replies t clients = map (λ d. d.result.reply) (run (record { version = 1; topology = t; names = []; clients = clients }))
 
 abbrev refused : ℕ → Reply
 refused n = reply.Refused (record { 0 = n })
@@ -182,8 +180,8 @@ destroyed_mode_is_named_no_more = refl
 abbrev names : List (List ℕ)
 names = codes "b" ∷ codes "f" ∷ codes "m" ∷ []
 
-abbrev report : Bool → Topology → List (List Command) → List ℕ
-report frames t clients = flat frames (record { version = 1; topology = t; names = names; clients = clients })
+abbrev report : Options → List (List Command) → List ℕ
+report options clients = report_of_script options (record { version = 1; topology = device; names = names; clients = clients })
 
 -- a CRTC that goes off latches `off` and keeps its count; a framebuffer is freed once it is closed and no plane has it
 abbrev off : List Assign
@@ -195,20 +193,20 @@ off =
     ∷ sets kind.Plane 0 CRTC_ID (number 0)
     ∷ []
 
-pub closed_framebuffer_is_freed_when_its_plane_goes_off : report false device ((made ++ request 0x400 light ∷ command.CloseFb 1 ∷ request 0x400 off ∷ []) ∷ [])
+pub closed_framebuffer_is_freed_when_its_plane_goes_off : report plain ((made ++ request 0x400 light ∷ command.CloseFb 1 ∷ request 0x400 off ∷ []) ∷ [])
     ≡ codes "J 1 1\nJ 1 2\nJ 1 3\nJ 1 4\nJ 1 5\nJ 1 6\nR 1 1 0 made 1000\nR 1 2 1 made 1001\nR 1 3 2 made 1002\nR 1 4 3 commit 0\nR 1 5 4 done\nR 1 6 5 commit 1\nL 0 0 1 709e80c88487a2411e1ee4dfb9f22a861492d20c4765150c0c794abd70f8147c\nL 0 1 1 off\nX f 1001\nD drained\n"
-unfolding on_literals
+unfolding on_machines
 closed_framebuffer_is_freed_when_its_plane_goes_off = refl
 
 -- a framebuffer that no plane has is freed as it is closed, and a frame follows its line as text
-pub frame_follows_its_line : report true device ((made ++ request 0x400 light ∷ []) ∷ (command.Buffer 0 1 1 Xr24 (Solid 0) ∷ []) ∷ [])
+pub frame_follows_its_line : report pixmaps ((made ++ request 0x400 light ∷ []) ∷ (command.Buffer 0 1 1 Xr24 (Solid 0) ∷ []) ∷ [])
     ≡ codes "J 1 1\nJ 2 1\nJ 1 2\nJ 1 3\nJ 1 4\nR 1 1 0 made 1000\nR 1 2 2 made 1002\nR 1 3 3 made 1003\nR 1 4 4 commit 0\nR 2 1 1 made 1001\nL 0 0 1 709e80c88487a2411e1ee4dfb9f22a861492d20c4765150c0c794abd70f8147c\nP3\n1 1\n255\n0 0 0\nD drained\n"
-unfolding on_literals
+unfolding on_machines
 frame_follows_its_line = refl
 
-pub unused_framebuffer_is_freed_as_it_is_closed : report false device ((command.Buffer 0 1 1 Xr24 (Solid 0) ∷ command.AddFb 1 0 ∷ command.CloseFb 1 ∷ command.CloseFb 1 ∷ []) ∷ [])
+pub unused_framebuffer_is_freed_as_it_is_closed : report plain ((command.Buffer 0 1 1 Xr24 (Solid 0) ∷ command.AddFb 1 0 ∷ command.CloseFb 1 ∷ command.CloseFb 1 ∷ []) ∷ [])
     ≡ codes "J 1 1\nJ 1 2\nJ 1 3\nR 1 1 0 made 1000\nR 1 2 1 made 1001\nR 1 3 2 done\nR 1 4 3 ENOENT 33\nX f 1001\nD drained\n"
-unfolding on_literals
+unfolding on_machines
 unused_framebuffer_is_freed_as_it_is_closed = refl
 
 -- Fences
@@ -229,14 +227,3 @@ pub mode_by_its_bytes : replies device ((command.Blob 2 (mode_bytes tiny) ∷ co
     ≡ reply.Made 1000 ∷ reply.Made 1001 ∷ reply.Commit 0 ∷ refused 7 ∷ []
 unfolding on_literals
 mode_by_its_bytes = refl
-
--- Lines that are not executed so far
-
-pub first_unbuilt_line : unbuilt_line (record { version = 1; topology = two_crtcs; names = names; clients = made ∷ (command.Mode 2 tiny ∷ command.Wait ∷ command.Fence 0 ∷ []) ∷ [] }) ≡ Some 12
-unfolding on_literals
-first_unbuilt_line = refl
-
-pub events_and_fences_are_unbuilt : map is_built (request 0x1 [] ∷ request 0x101 [] ∷ request 0x0 (sets kind.Crtc 0 IN_FENCE_FD (value.Named 0) ∷ []) ∷ request 0x0 (sets kind.Plane 0 IN_FENCE_FD (value.Num (negsuc 0)) ∷ []) ∷ request 0x0 (sets kind.Plane 0 ALPHA (value.New 0) ∷ []) ∷ request 0x400 light ∷ [])
-    ≡ false ∷ false ∷ false ∷ true ∷ false ∷ true ∷ []
-unfolding on_literals
-events_and_fences_are_unbuilt = refl

@@ -3,5 +3,3 @@ pub mod Replies
 pub mod Rules
 pub mod History
 pub mod TextLines
-pub mod Flat
-pub mod Headline

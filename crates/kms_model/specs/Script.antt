@@ -5,6 +5,5 @@ pub mod CommandLines
 pub mod WholeInput
 pub mod Spelling
 pub mod WellFormed
-pub mod Built
 pub mod Schedules
 pub mod Generated

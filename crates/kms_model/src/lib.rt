@@ -26,7 +26,7 @@ mod tables;
 mod worlds;
 
 pub use copying::{Duplicate, NoMemory};
-pub use laws::{execution_keeps_sound, rounds_are_the_journal, start_is_sound};
+pub use laws::{execution_keeps_sound, start_is_sound};
 pub use layers::Layers;
 pub use list::Seq;
 pub use masks::has_bit;

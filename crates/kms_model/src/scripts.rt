@@ -159,8 +159,6 @@ pub enum Why {
     Label,
     /// A limit is passed with this line, or, at line 0, by the size of the whole input.
     Limit,
-    /// The line is outside what is built so far.
-    Unbuilt,
 }
 
 /// What may follow the script in an input.

@@ -5,7 +5,7 @@ use Rattle.std.specs.Fmt.{decimal, digits}
 use Rattle.std.specs.List.{flat_map, range_with_len}
 use Rattle.std.proofs.lemmas.Bool.{le-ltb, lt-ltb}
 use Rattle.std.proofs.lemmas.List.FromFn.{get_or-map-range_with_len}
-use Rattle.kms_model.specs.Report.Flat.{line}
+use Rattle.kms_model.specs.Report.TextLines.{line}
 
 -- one, two or three digits
 abbrev short : ℕ → List ℕ

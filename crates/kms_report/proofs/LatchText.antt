@@ -9,7 +9,7 @@ use Rattle.kms_model.specs.declared.runs.Latch.{Latch}
 use Rattle.kms_model.specs.Frames.FrameBytes.{frame_bytes}
 use Rattle.kms_model.specs.Frames.Ppm.{ppm}
 use Rattle.kms_model.specs.Machine.State.{Machine}
-use Rattle.kms_model.specs.Report.Flat.{digest_of}
+use Rattle.kms_model.specs.Report.History.{digest_of}
 use Rattle.kms_model.specs.Report.History.{if_wanted, latch_line, shown_line}
 use Rattle.kms_model.specs.Report.TextLines.{line}
 use Rattle.kms_report.specs.Telling.{latch_front, lit_line}

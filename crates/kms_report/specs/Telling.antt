@@ -9,7 +9,7 @@ use Rattle.kms_model.specs.declared.replies.Step.{Step}
 use Rattle.kms_model.specs.declared.runs.Latch.{Latch}
 use Rattle.kms_model.specs.Frames.Ppm.{ppm}
 use Rattle.kms_model.specs.Machine.State.{Machine}
-use Rattle.kms_model.specs.Report.Flat.{digest_of}
+use Rattle.kms_model.specs.Report.History.{digest_of}
 use Rattle.kms_model.specs.Report.History as history
 use Rattle.kms_model.specs.Report.TextLines.{line}
 use Rattle.kms_script.specs.Scheduled.{index_of}

@@ -5,7 +5,7 @@ ghost use Rattle.kms_core.specs.Run.{machine};
 ghost use Rattle.kms_model.specs.declared.pictures.Picture.TheVariants.{On};
 ghost use Rattle.kms_model.specs.Frames.Ppm.{ppm};
 ghost use Rattle.kms_model.specs.Frames.Shown.{EachCanBeShown};
-ghost use Rattle.kms_model.specs.Report.Flat.{digest_of};
+ghost use Rattle.kms_model.specs.Report.History.{digest_of};
 ghost use Rattle.kms_model.specs.Report.History.{if_wanted, latch_line};
 ghost use Rattle.kms_report.specs.Images.{things_of};
 ghost use Rattle.kms_report.specs.Telling.{latch_front, latches_text, lit_line};

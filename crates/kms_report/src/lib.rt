@@ -3,7 +3,7 @@
 #![tactic(auto)]
 
 ghost use Rattle.std.specs.Prelude.{◌≡◌, ◌*◌, length, IfOk};
-ghost use Rattle.kms_model.specs.Report.Flat.{digest_of};
+ghost use Rattle.kms_model.specs.Report.History.{digest_of};
 ghost use Rattle.kms_model.specs.Frames.Ppm.{ppm};
 
 mod answers;

@@ -1,7 +1,7 @@
 //! Portable pixmaps in their plain form.
 ghost use Rattle.std.specs.Prelude.{◌≡◌, ◌+◌, ◌*◌, ◌++◌, [], ◌∷◌, codes, map, length, IfOk, OnOk};
 ghost use Rattle.std.specs.Fmt.{decimal};
-ghost use Rattle.kms_model.specs.Report.Flat.{line};
+ghost use Rattle.kms_model.specs.Report.TextLines.{line};
 ghost use Rattle.kms_model.specs.Frames.Ppm.{number_lines, ppm};
 
 use kms_model::NoMemory;

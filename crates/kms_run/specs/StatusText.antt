@@ -2,7 +2,7 @@
 use Rattle.std.specs.Prelude.{ℕ, List, [], ◌++◌, codes}
 use Rattle.std.specs.Fmt.{decimal}
 use Rattle.kms_model.specs.declared.scripts.Why.{Why}
-use Rattle.kms_model.specs.declared.scripts.Why.TheVariants.{Bytes, Cut, Form, Label, Limit, Unbuilt}
+use Rattle.kms_model.specs.declared.scripts.Why.TheVariants.{Bytes, Cut, Form, Label, Limit}
 use Rattle.kms_rounds.specs.declared.ending.End.{End}
 use Rattle.kms_rounds.specs.declared.ending.End.TheVariants as end
 use Rattle.kms_run.specs.declared.status.Status.{Status}
@@ -26,7 +26,6 @@ why_text Cut = codes "cut"
 why_text Form = codes "form"
 why_text Label = codes "label"
 why_text Limit = codes "limit"
-why_text Unbuilt = codes "unbuilt"
 
 abbrev pub status_text : Status → List ℕ
 status_text status.Ok = []

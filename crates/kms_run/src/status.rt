@@ -75,7 +75,6 @@ fn why_text(why: Why) -> &'static str
         Why::Form => "form",
         Why::Label => "label",
         Why::Limit => "limit",
-        Why::Unbuilt => "unbuilt",
     }
 }
 

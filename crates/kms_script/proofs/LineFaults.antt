@@ -6,7 +6,7 @@ use Rattle.std.proofs.lemmas.Bool.Decides.{nat_tests}
 use Rattle.kms_model.specs.declared.scripts.Command.{Command}
 use Rattle.kms_model.specs.declared.scripts.Command.TheVariants as command
 use Rattle.kms_model.specs.declared.scripts.Why.{Why}
-use Rattle.kms_model.specs.declared.scripts.Why.TheVariants.{Bytes, Cut, Form, Label, Limit, Unbuilt}
+use Rattle.kms_model.specs.declared.scripts.Why.TheVariants.{Bytes, Cut, Form, Label, Limit}
 use Rattle.kms_model.specs.Script.CommandLines.{Names, addfb_read, atomic_read, blob_read, buffer_read, command_read, is_over, label_alone, label_read, line_read, making_read, mode_read, naming_read, or_form, thing_read, unless, unmade, words_in}
 use Rattle.kms_model.specs.Script.Words.{end_at, from, label_at, until}
 use Rattle.kms_model.specs.Script.WellFormed.{IsFitCommand}
@@ -206,12 +206,6 @@ error_step stated after Bytes f = absurd (other f.one)
 error_step stated after Cut f = absurd (other f.one)
   where
     other : (Cut ≡ Form) ⊎ ((Cut ≡ Label) ⊎ (Cut ≡ Limit)) → ⊥
-    other (inl e) = cc
-    other (inr (inl e)) = cc
-    other (inr (inr e)) = cc
-error_step stated after Unbuilt f = absurd (other f.one)
-  where
-    other : (Unbuilt ≡ Form) ⊎ ((Unbuilt ≡ Label) ⊎ (Unbuilt ≡ Limit)) → ⊥
     other (inl e) = cc
     other (inr (inl e)) = cc
     other (inr (inr e)) = cc

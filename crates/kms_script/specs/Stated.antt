@@ -2,7 +2,7 @@
 use Rattle.std.specs.Prelude.{◌≡◌, ℕ, List, Result, Ok, Err}
 use Rattle.kms_model.specs.declared.scripts.Command.{Command}
 use Rattle.kms_model.specs.declared.scripts.Why.{Why}
-use Rattle.kms_model.specs.declared.scripts.Why.TheVariants.{Bytes, Cut, Form, Label, Limit, Unbuilt}
+use Rattle.kms_model.specs.declared.scripts.Why.TheVariants.{Bytes, Cut, Form, Label, Limit}
 use Rattle.kms_script.specs.declared.one_line.LineError.{LineError}
 use Rattle.kms_script.specs.declared.one_line.LineError.TheVariants as refusals
 use Rattle.kms_model.specs.declared.objects.Topology.{Topology}
@@ -57,5 +57,4 @@ line_error (stops.Fault Limit) = refusals.Limit
 line_error (stops.Fault Form) = refusals.Form
 line_error (stops.Fault Bytes) = refusals.Form
 line_error (stops.Fault Cut) = refusals.Form
-line_error (stops.Fault Unbuilt) = refusals.Form
 line_error stops.NoMemory = refusals.NoMemory

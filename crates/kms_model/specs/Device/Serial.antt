@@ -17,8 +17,7 @@ use Rattle.kms_model.specs.Frames.Pictures.{picture}
 use Rattle.kms_model.specs.Frames.FrameBytes.{frame_bytes}
 use Rattle.kms_model.specs.Device.Execution.{Executed, execute}
 
--- A command is accepted where it makes a thing, is done or is committed. (On the device of one thread a fence that is
--- signalled is done too; no script with `signal` is executed so far.)
+-- A command is accepted where it makes a thing, is done or is committed.
 abbrev pub is_accepted : Reply → Bool
 is_accepted (reply.Made id) = true
 is_accepted reply.Done = true

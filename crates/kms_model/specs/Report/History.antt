@@ -39,6 +39,10 @@ entry_line e = line (codes "J" ∷ decimal e.client ∷ decimal e.command ∷ []
 abbrev pub answer_line : Answered → List ℕ
 answer_line a = line (codes "R" ∷ decimal a.client ∷ decimal a.command ∷ decimal a.place ∷ reply_words a.reply)
 
+-- the SHA-256 of a frame's bytes (FIPS 180-4) in lower-case hexadecimal
+abbrev pub digest_of : List ℕ → List ℕ
+digest_of frame = encode_lower (sha256 frame)
+
 -- the replies to a client, whose commands are answered in order
 abbrev pub answers_to : Machine → ℕ → List Answered
 answers_to m client = filter (λ a. a.client == client) (replies m)
@@ -48,7 +52,7 @@ abbrev pub shown_line : Machine → Bool → Latch → Picture → List ℕ
 shown_line m pixmap l Off = line (codes "L" ∷ decimal l.crtc ∷ decimal l.commit ∷ decimal l.count ∷ codes "off" ∷ [])
 shown_line m pixmap l (On shown) =
     let frame = frame_bytes m.device.world.things (On shown) in
-    line (codes "L" ∷ decimal l.crtc ∷ decimal l.commit ∷ decimal l.count ∷ encode_lower (sha256 frame) ∷ [])
+    line (codes "L" ∷ decimal l.crtc ∷ decimal l.commit ∷ decimal l.count ∷ digest_of frame ∷ [])
     ++ if_wanted pixmap (ppm frame shown.mode.hdisplay shown.mode.vdisplay)
 
 abbrev pub latch_line : Machine → Bool → Latch → List ℕ

@@ -3,7 +3,7 @@ use Rattle.std.specs.Prelude.{OnOk}
 use Rattle.std.specs.Fmt.{decimal}
 use Rattle.std.proofs.lemmas.List.{take_all}
 use Rattle.kms_model.specs.declared.copying.NoMemory.{NoMemory}
-use Rattle.kms_model.specs.Report.Flat.{line}
+use Rattle.kms_model.specs.Report.TextLines.{line}
 use Rattle.kms_report.proofs.Decimals.{line-push, spaced}
 use Rattle.kms_report.proofs.pixmaps.push_row.Goals as goal
 

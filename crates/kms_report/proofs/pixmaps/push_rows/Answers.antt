@@ -1,6 +1,6 @@
 use Rattle.std.proofs.Common.{◌≡◌, ℕ, suc, ◌+◌, ◌-◌, ◌*◌, List, ◌++◌, length, take, drop, map, ap, sym, ◌∙◌, append_assoc, arith, rules}
 use Rattle.std.specs.Fmt.{decimal}
-use Rattle.kms_model.specs.Report.Flat.{line}
+use Rattle.kms_model.specs.Report.TextLines.{line}
 use Rattle.kms_model.specs.Frames.Ppm.{number_lines}
 use Rattle.kms_report.proofs.pixmaps.push_rows.Goals as goal
 
