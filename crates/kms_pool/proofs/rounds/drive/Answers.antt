@@ -1,0 +1,30 @@
+use Rattle.std.proofs.Common.{map, IsPermutation, ap, sym, ◌∙◌, subst}
+use mathlib.Core.List.{map-map}
+use Rattle.std.proofs.lemmas.List.Elements.{All-same, All-map}
+use Rattle.std.proofs.lemmas.List.Sorted.{IsPermutation-refl, IsPermutation-trans}
+use Rattle.std.proofs.lemmas.Result.{IfOk-weaker}
+use Rattle.kms_pool.specs.Settled.{Rests}
+use Rattle.kms_pool.proofs.rounds.drive.Goals as goal
+
+pub loop-init : goal.loop-init
+loop-init g c =
+    let name = g.P.Player.name in
+    subst (λ ns. IsPermutation (map name c.args.players) ns)
+    (ap (map name) (sym c.in_ok-participants.ensures) ∙ map-map name (λ x. x.player) c.in_ok-participants.participants.items) (IsPermutation-refl (map name c.args.players))
+
+pub loop-preserved : goal.loop-preserved
+loop-preserved g c = IsPermutation-trans _ _ _ c.loop.invariant c.in_ok-participants-2.ensures
+
+pub returns-then-is_settled-clause-players : goal.returns-then-is_settled-clause-players
+returns-then-is_settled-clause-players g c =
+    let name = g.P.Player.name in
+    IfOk-weaker c.parted.result _ _
+    (λ r is. subst (λ ns. IsPermutation (map name c.args.players) ns) (sym (ap (map name) is ∙ map-map name (λ x. x.player) c.loop.participants.items)) c.loop.invariant) c.parted.ensures
+
+pub returns-then-is_settled-clause-settled : goal.returns-then-is_settled-clause-settled
+returns-then-is_settled-clause-settled g c =
+    let answer = g.P.Player.answer in
+    let settled = c.is_settled.ensures c.if-is_settled.true in
+    IfOk-weaker c.parted.result _ _
+    (λ r is. (settled.0, All-same (λ p. Rests settled.0 (answer p)) _ _ is (All-map (λ p. Rests settled.0 (answer p)) (λ x. x.player) _ (All-same (λ s. Rests settled.0 (answer s.player)) _ _ (sym c.as_slice.ensures.value) settled.1))))
+    c.parted.ensures

@@ -1,0 +1,7 @@
+use Rattle.std.proofs.Common.{◌≡◌, []}
+use Rattle.crossbeam_queue.specs.Passes.{view, IsPassOf, IsSamePass}
+use Rattle.kms_pool.specs.Rules.{hand}
+use Rattle.kms_pool.proofs.work.work.Given as goal
+
+abbrev pub invariant-loop : goal.invariant-loop
+invariant-loop g l = IsPassOf l.queue l.pass × IsSamePass l.fn.pass l.pass × (view l.pass ≡ hand 1 [] [])

@@ -1,0 +1,38 @@
+//! Who takes turns.
+ghost use Rattle.std.specs.Prelude.{◌≡◌, Option, Some, IfOk};
+ghost use Rattle.kms_pool.specs.declared.player.Turn.{Turn};
+
+use kms_model::NoMemory;
+use std::alloc::Global;
+use std::sync::Wait;
+
+/// What a turn came to.
+#[derive(Clone, Copy, PartialEq, Eq, Debug)]
+pub enum Turn {
+    /// The player did something, and may do more.
+    Did,
+    /// The player's next event was not legal in the history that it found.
+    NotYet {
+        /// The length of that history, a count of events.
+        length: u64,
+    },
+    /// The player has nothing more to do.
+    Ended,
+}
+
+/// Who takes turns. A player is given one turn after the other, by any thread, and one at a time.
+pub trait Player: Drop {
+    /// What tells players apart, as the device at which one plays and its rank there.
+    type Name;
+
+    // Who it is.
+    ghost name: { Self → Self.Name };
+
+    // What its last turn came to; none before its first.
+    ghost answer: { Self → Option Turn };
+
+    /// One turn, which may wait for others. The player stays who it is. The only error is want of memory.
+    fn turn<W: Wait>(&mut self, rt: &W, alloc: Global) -> Result<Turn, NoMemory>
+        ensures name { name self.new ≡ name self.old }
+        ensures answer { IfOk result (λ t. answer self.new ≡ Some t) };
+}
