@@ -73,7 +73,8 @@ impl Clients {
     /// The client that holds the lock of an object, a CRTC, a plane or a connector; none where the object is free.
     pub fn holder(&self, id: ObjId) -> Option<u32>
         requires { IsLockable id }
-        ensures holder { (m : Machine) → AreClientsOf m.contexts self.now → result ≡ holder_at m id.0 }
+        ensures holder { (m : Machine) → AreClientsOf m.contexts self.now
+            → result ≡ holder_at m id.0 }
         ensures client { IfSome result IsClient }
     {
         let ticket = self.table.holder(id)?;
@@ -149,7 +150,8 @@ impl Clients {
     pub fn backoff(&mut self, client: u32)
         requires client { IsClient client }
         requires must { MustBackOff (place_of self.old client).doing }
-        ensures { (m : Machine) → AreClientsOf m.contexts self.old → AreClientsOf (after_backoff m client) self.new }
+        ensures { (m : Machine) → AreClientsOf m.contexts self.old
+            → AreClientsOf (after_backoff m client) self.new }
     {
         let Doing::MustBackOff(ticket, object) = self.place(client).doing else {
             unreachable!();
@@ -184,7 +186,8 @@ impl Clients {
         requires client { IsClient client }
         requires taking { IsTaking (place_of self.old client).doing }
         requires command { (place_of self.old client).command < 4294967295 }
-        ensures { (m : Machine) → AreClientsOf m.contexts self.old → AreClientsOf (after_decision m client) self.new }
+        ensures { (m : Machine) → AreClientsOf m.contexts self.old
+            → AreClientsOf (after_decision m client) self.new }
     {
         let Doing::Taking(ticket) = self.place(client).doing else {
             unreachable!();
@@ -197,7 +200,8 @@ impl Clients {
     pub fn wait_for(&mut self, client: u32, commit: u32)
         requires client { IsClient client }
         requires taking { IsTaking (place_of self.old client).doing }
-        ensures { (m : Machine) → AreClientsOf m.contexts self.old → AreClientsOf (after_swap m client commit) self.new }
+        ensures { (m : Machine) → AreClientsOf m.contexts self.old
+            → AreClientsOf (after_swap m client commit) self.new }
     {
         let Doing::Taking(ticket) = self.place(client).doing else {
             unreachable!();
@@ -211,7 +215,8 @@ impl Clients {
         requires client { IsClient client }
         requires no_context { HasNoContext (place_of self.old client).doing }
         requires command { (place_of self.old client).command < 4294967295 }
-        ensures { (m : Machine) → AreClientsOf m.contexts self.old → AreClientsOf (goes_on m client).contexts self.new }
+        ensures { (m : Machine) → AreClientsOf m.contexts self.old
+            → AreClientsOf (goes_on m client).contexts self.new }
     {
         set_next(&mut self.places, client);
     }

@@ -162,8 +162,10 @@ fn run<P: Player + Send, R: Threads + Wait + Sync>(
     workers: &mut [Worker<P>],
 )
     requires some { 0 < length workers.old }
-    requires ready { All (λ w. IsPassOf queue.now w.pass × (view w.pass ≡ hand 1 [] [])) workers.old }
-    ensures ready { All (λ w. IsPassOf queue.now w.pass × (view w.pass ≡ hand 1 [] [])) workers.new }
+    requires ready { All (λ w.
+        IsPassOf queue.now w.pass × (view w.pass ≡ hand 1 [] [])) workers.old }
+    ensures ready { All (λ w.
+        IsPassOf queue.now w.pass × (view w.pass ≡ hand 1 [] [])) workers.new }
 {
     let threads = workers.len();
     thread::for_each_mut(
@@ -186,10 +188,12 @@ fn dismiss<P: Player>(
 ) -> Result<(), NoMemory>
     requires own { IsPassOf queue.now pass.old }
     requires some { 0 < (view pass.old).parts }
-    requires ready { All (λ w. IsPassOf queue.now w.pass × (view w.pass ≡ hand 1 [] [])) workers.items }
+    requires ready { All (λ w.
+        IsPassOf queue.now w.pass × (view w.pass ≡ hand 1 [] [])) workers.items }
     ensures own { IfOk result (λ _. IsSamePass pass.old pass.new) }
     ensures joined { IfOk result (λ _. view pass.new
-        ≡ hand ((view pass.old).parts + length workers.items) (view pass.old).brought (view pass.old).held) }
+        ≡ hand ((view pass.old).parts + length workers.items)
+        (view pass.old).brought (view pass.old).held) }
 {
     for worker in workers {
         worker.came?;

@@ -60,9 +60,43 @@ impl Model for PlaneWords {
 
     ghost Value = { PlaneWords };
 
-    ghost view = { λ s. record { crtc = s.crtc; fb = s.fb; fb_width = s.fb_width; fb_height = s.fb_height; fb_format = s.fb_format; x = s.x; y = s.y; w = s.w; h = s.h; src_x = s.src_x; src_y = s.src_y; src_w = s.src_w; src_h = s.src_h; alpha = s.alpha; blend = s.blend; zpos = s.zpos } };
+    ghost view = { λ s. record {
+      crtc = s.crtc;
+      fb = s.fb;
+      fb_width = s.fb_width;
+      fb_height = s.fb_height;
+      fb_format = s.fb_format;
+      x = s.x;
+      y = s.y;
+      w = s.w;
+      h = s.h;
+      src_x = s.src_x;
+      src_y = s.src_y;
+      src_w = s.src_w;
+      src_h = s.src_h;
+      alpha = s.alpha;
+      blend = s.blend;
+      zpos = s.zpos;
+    } };
 
-    ghost inverse = { λ s. record { crtc = s.crtc; fb = s.fb; fb_width = s.fb_width; fb_height = s.fb_height; fb_format = s.fb_format; x = s.x; y = s.y; w = s.w; h = s.h; src_x = s.src_x; src_y = s.src_y; src_w = s.src_w; src_h = s.src_h; alpha = s.alpha; blend = s.blend; zpos = s.zpos } };
+    ghost inverse = { λ s. record {
+      crtc = s.crtc;
+      fb = s.fb;
+      fb_width = s.fb_width;
+      fb_height = s.fb_height;
+      fb_format = s.fb_format;
+      x = s.x;
+      y = s.y;
+      w = s.w;
+      h = s.h;
+      src_x = s.src_x;
+      src_y = s.src_y;
+      src_w = s.src_w;
+      src_h = s.src_h;
+      alpha = s.alpha;
+      blend = s.blend;
+      zpos = s.zpos;
+    } };
 }
 
 /// The words of a CRTC, by the table of registers. Contracts see them as the definitions' words.

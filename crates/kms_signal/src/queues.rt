@@ -41,9 +41,14 @@ impl Model for EventQueue {
 
     ghost Value = { Queue };
 
-    ghost view = { λ s. record { reserved = s.reserved; unread = s.unread.items; room = deque_capacity s.unread - (s.reserved + deque_len s.unread) } };
+    ghost view = { λ s. record {
+      reserved = s.reserved;
+      unread = s.unread.items;
+      room = deque_capacity s.unread - (s.reserved + deque_len s.unread);
+    } };
 
-    ghost invariant = { λ s. (s.reserved + deque_len s.unread ≤ deque_capacity s.unread) × (s.reserved + deque_len s.unread ≤ 128) };
+    ghost invariant = { λ s. (s.reserved + deque_len s.unread ≤ deque_capacity s.unread)
+        × (s.reserved + deque_len s.unread ≤ 128) };
 }
 
 impl EventQueue {

@@ -20,7 +20,10 @@ impl<T> Model for RoomTable<T> {
 
     ghost Value = { Rooms T };
 
-    ghost view = { λ t. record { slots = t.slots.items; room = vec_capacity t.slots - vec_len t.slots } };
+    ghost view = { λ t. record {
+      slots = t.slots.items;
+      room = vec_capacity t.slots - vec_len t.slots;
+    } };
 
     ghost invariant = { λ t. IsRising t.slots.items };
 }
