@@ -1,11 +1,10 @@
-use Rattle.std.proofs.Common.{Err, [], map, refl, rules, subst, sym}
-use Rattle.std.specs.Prelude.{string_bytes}
+use Rattle.std.proofs.Common.{Err, [], refl, rules, subst, sym}
 use Rattle.kms_io.specs.Bytes.{Begins}
 use Rattle.kms_io.proofs.Joins.{Appends-nothing}
 use Rattle.kms_run.specs.Answers.{Answers}
 use Rattle.kms_run.specs.Outcome.{Meets}
-use Rattle.kms_run.proofs.Outcomes.{met_report, reads_input}
-use Rattle.kms_run.proofs.top.answered.Goals as goal
+use Rattle.kms_run.proofs.Outcomes.{met_report, reads_all}
+use Rattle.kms_run.proofs.top.executed.Goals as goal
 
 pub returns-in-Err-Fault-clause-moved : goal.returns-in-Err-Fault-clause-moved
 returns-in-Err-Fault-clause-moved g c = record {
@@ -14,8 +13,8 @@ returns-in-Err-Fault-clause-moved g c = record {
   taken = c.in-Ok.ensures.taken;
   added = Appends-nothing _;
   holds = record {
-    reads = reads_input _ _ c.in-Ok.input.items c.in-Some.asked c.in-Some.ensures c.in-Ok.ensures.whole;
-    fault = subst (λ e. Answers c.in-Some.asked c.in-Ok.input.items (Err e)) c.in-Err-Fault.field-0-is c.in-Err-Fault.ensures;
+    whole = reads_all _ c.in-Ok.input.items c.in-Ok.ensures.whole;
+    fault = subst (λ e. Answers c.args.asks.now c.in-Ok.input.items (Err e)) c.in-Err-Fault.field-0-is c.in-Err-Fault.ensures;
     nothing = refl;
   };
 }
@@ -27,23 +26,24 @@ returns-in-Err-Illegal-clause-moved g c = record {
   taken = c.in-Ok.ensures.taken;
   added = Appends-nothing _;
   holds = record {
-    reads = reads_input _ _ c.in-Ok.input.items c.in-Some.asked c.in-Some.ensures c.in-Ok.ensures.whole;
-    illegal = subst (λ e. Answers c.in-Some.asked c.in-Ok.input.items (Err e)) c.in-Err-Illegal.field-0-is c.in-Err-Illegal.ensures;
+    whole = reads_all _ c.in-Ok.input.items c.in-Ok.ensures.whole;
+    illegal = subst (λ e. Answers c.args.asks.now c.in-Ok.input.items (Err e)) c.in-Err-Illegal.field-0-is c.in-Err-Illegal.ensures;
     nothing = refl;
   };
 }
 
 pub returns-in-Ok-write_all-clause-moved : goal.returns-in-Ok-write_all-clause-moved
 returns-in-Ok-write_all-clause-moved g c =
-    let words = map string_bytes c.args.words.now in
+    let asks = c.args.asks.now in
     let left = g.S.Source.left c.read_all.new.source in
-    let reads = reads_input words left c.in-Ok.input.items c.in-Some.asked c.in-Some.ensures c.in-Ok.ensures.whole in
+    let input = c.in-Ok.input.items in
+    let text = c.in-Ok-answer.report.text in
     record {
-      took = c.in-Ok.input.items;
-      put = c.in-Ok-answer.report.text;
+      took = input;
+      put = text;
       taken = c.in-Ok.ensures.taken;
       added = search rules;
-      holds = subst (λ s. Meets words s left c.in-Ok.input.items c.in-Ok-answer.report.text) (sym c.of_end.ensures) (met_report words left c.in-Ok.input.items c.in-Ok-answer.report.text c.in-Ok-answer.report.ended reads c.in-Ok-answer.ensures);
+      holds = subst (λ s. Meets asks s left input text) (sym c.of_end.ensures) (met_report asks left input text c.in-Ok-answer.report.ended (reads_all left input c.in-Ok.ensures.whole) c.in-Ok-answer.ensures);
     }
 
 pub returns-clause-moved : goal.returns-clause-moved
@@ -55,7 +55,7 @@ returns-clause-moved g c =
       taken = c.in-Ok.ensures.taken;
       added = front.2;
       holds = record {
-        reads = reads_input _ _ c.in-Ok.input.items c.in-Some.asked c.in-Some.ensures c.in-Ok.ensures.whole;
+        whole = reads_all _ c.in-Ok.input.items c.in-Ok.ensures.whole;
         ended = c.in-Ok-answer.report.ended;
         text = c.in-Ok-answer.report.text;
         report = c.in-Ok-answer.ensures;
