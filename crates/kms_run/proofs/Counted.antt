@@ -32,5 +32,5 @@ counted_more m client count told is read counted =
     let before = flat_map (read_by m) (range_with_len 1 client) in
     let own : length (read_by m (client + 1)) ≡ told = ap length read ∙ told_count (client + 1) (replies m) ∙ sym is in
     let more : length (flat_map (read_by m) (range_with_len 1 (client + 1))) ≡ length before + length (read_by m (client + 1)) =
-      ap length (flat_map-range_more (read_by m) 1 client (client + 1) (omega arith)) ∙ length-append before (read_by m (client + 1)) in
+    ap length (flat_map-range_more (read_by m) 1 client (client + 1) (omega arith)) ∙ length-append before (read_by m (client + 1)) in
     omega (arith, own, more, counted)

@@ -93,7 +93,10 @@ fn six_lines(alloc: Global, counts: &Counts, digest: &str) -> Result<String, All
         freed,
     } = *counts;
     let mut text = String::new(alloc);
-    write!(text, "journal {journal}\nlatches {latches}\nevents {events}\nfreed {freed}\nreport {digest}\ndrained\n")?;
+    write!(
+        text,
+        "journal {journal}\nlatches {latches}\nevents {events}\nfreed {freed}\nreport {digest}\ndrained\n"
+    )?;
     Ok(text)
 }
 

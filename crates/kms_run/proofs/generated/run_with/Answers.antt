@@ -16,8 +16,8 @@ returns c =
     let same : c.finish.new.core.script ≡ s = c.in_ok-finish.ensures.on.script ∙ c.requires.script in
     let one = subst (λ s. IsFinished s [] h) c.requires.script (subst (λ front. IsFinished c.args.core.now.script front h) c.requires.start c.in_ok-finish.ensures.finished) in
     summed s h c.summary.result
-      (subst (λ s. is_history s h ≡ true) same c.is_a_history.ensures.history)
-      one
-      (c.generated_scripts_drain.ensures asks.seed asks.commits h one).1
-      (subst (λ s. Headline s h) same c.shows_its_journal.ensures)
-      (subst (λ s. IfOk c.summary.result (λ text. text ≡ summary s h)) same c.summary.ensures)
+    (subst (λ s. is_history s h ≡ true) same c.is_a_history.ensures.history)
+    one
+    (c.generated_scripts_drain.ensures asks.seed asks.commits h one).1
+    (subst (λ s. Headline s h) same c.shows_its_journal.ensures)
+    (subst (λ s. IfOk c.summary.result (λ text. text ≡ summary s h)) same c.summary.ensures)

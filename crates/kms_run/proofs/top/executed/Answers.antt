@@ -1,36 +1,23 @@
-use Rattle.std.proofs.Common.{Err, [], refl, rules, subst, sym}
+use Rattle.std.proofs.Common.{Err, refl, rules, subst, sym}
 use Rattle.kms_io.specs.Bytes.{Begins}
-use Rattle.kms_io.proofs.Joins.{Appends-nothing}
 use Rattle.kms_run.specs.Answers.{Answers}
 use Rattle.kms_run.specs.Outcome.{Meets}
-use Rattle.kms_run.proofs.Outcomes.{met_report, reads_all}
+use Rattle.kms_run.proofs.Outcomes.{met_report, moved_alone, reads_all}
 use Rattle.kms_run.proofs.top.executed.Goals as goal
 
 pub returns-in-Err-Fault-clause-moved : goal.returns-in-Err-Fault-clause-moved
-returns-in-Err-Fault-clause-moved g c = record {
-  took = c.in-Ok.input.items;
-  put = [];
-  taken = c.in-Ok.ensures.taken;
-  added = Appends-nothing _;
-  holds = record {
-    whole = reads_all _ c.in-Ok.input.items c.in-Ok.ensures.whole;
-    fault = subst (λ e. Answers c.args.asks.now c.in-Ok.input.items (Err e)) c.in-Err-Fault.field-0-is c.in-Err-Fault.ensures;
-    nothing = refl;
-  };
-}
+returns-in-Err-Fault-clause-moved g c = moved_alone _ _ _ c.in-Ok.input.items _ c.in-Ok.ensures.taken (record {
+  whole = reads_all _ c.in-Ok.input.items c.in-Ok.ensures.whole;
+  fault = subst (λ e. Answers c.args.asks.now c.in-Ok.input.items (Err e)) c.in-Err-Fault.field-0-is c.in-Err-Fault.ensures;
+  nothing = refl;
+})
 
 pub returns-in-Err-Illegal-clause-moved : goal.returns-in-Err-Illegal-clause-moved
-returns-in-Err-Illegal-clause-moved g c = record {
-  took = c.in-Ok.input.items;
-  put = [];
-  taken = c.in-Ok.ensures.taken;
-  added = Appends-nothing _;
-  holds = record {
-    whole = reads_all _ c.in-Ok.input.items c.in-Ok.ensures.whole;
-    illegal = subst (λ e. Answers c.args.asks.now c.in-Ok.input.items (Err e)) c.in-Err-Illegal.field-0-is c.in-Err-Illegal.ensures;
-    nothing = refl;
-  };
-}
+returns-in-Err-Illegal-clause-moved g c = moved_alone _ _ _ c.in-Ok.input.items _ c.in-Ok.ensures.taken (record {
+  whole = reads_all _ c.in-Ok.input.items c.in-Ok.ensures.whole;
+  illegal = subst (λ e. Answers c.args.asks.now c.in-Ok.input.items (Err e)) c.in-Err-Illegal.field-0-is c.in-Err-Illegal.ensures;
+  nothing = refl;
+})
 
 pub returns-in-Ok-write_all-clause-moved : goal.returns-in-Ok-write_all-clause-moved
 returns-in-Ok-write_all-clause-moved g c =
