@@ -1,3 +1,5 @@
 pub mod Outcomes
 pub mod Replayed
 pub mod Answering
+pub mod Counted
+pub mod Summed

@@ -1,5 +1,5 @@
 -- What the program says to an input.
-use Rattle.std.specs.Prelude.{◌≡◌, ℕ, true, false, List, [], Option, Some, Result, Ok, Err, ⊤}
+use Rattle.std.specs.Prelude.{◌≡◌, ℕ, true, false, List, Some, Result, Ok, Err, ⊤}
 use Rattle.kms_model.specs.declared.replies.Step.{Step}
 use Rattle.kms_model.specs.declared.scripts.Script.{Script}
 use Rattle.kms_model.specs.Headline.{Headline}
@@ -15,7 +15,7 @@ use Rattle.kms_run.specs.declared.answers.NoAnswer.{NoAnswer}
 use Rattle.kms_run.specs.declared.answers.NoAnswer.TheVariants as stops
 use Rattle.kms_run.specs.declared.words.Action.{Action}
 use Rattle.kms_run.specs.declared.words.Action.TheVariants.{One, Replay}
-use Rattle.kms_run.specs.declared.words.Asked.{Asked}
+use Rattle.kms_run.specs.declared.words.Execution.{Execution}
 use Rattle.kms_run.specs.Words.{part_of}
 
 -- the history that is made of a script: by `one` that which one thread makes, by `replay` the schedule
@@ -30,7 +30,7 @@ HasEnd end.Dead action s h = (is_drained s (at s h) ≡ false) × (is_dead s (at
 HasEnd end.Open action s h = (action ≡ Replay) × ((is_drained s (at s h) ≡ false) × (is_dead s (at s h) ≡ false))
 
 -- A report of a history that is made of a script and a schedule, and the headline holds of that history.
-pub record IsReportOf (asked : Asked) (s : Script) (schedule : List Step) (ended : End) (output : List ℕ) : Type 0 where
+pub record IsReportOf (asked : Execution) (s : Script) (schedule : List Step) (ended : End) (output : List ℕ) : Type 0 where
   pub history : List Step
   pub is_history : is_history s history ≡ true
   pub is_made : IsMade asked.action s schedule history
@@ -44,19 +44,19 @@ pub record IsIllegalOf (action : Action) (s : Script) (schedule : List Step) (pl
   pub is_first : illegal_at s schedule ≡ Some place
 
 -- The output is the report of a history of the script that the input spells.
-pub record IsReport (asked : Asked) (ended : End) (input output : List ℕ) : Type 0 where
+pub record IsReport (asked : Execution) (ended : End) (input output : List ℕ) : Type 0 where
   pub parts : Parts
   pub spelled : input_of (part_of asked.action) input ≡ Ok parts
   pub report : IsReportOf asked parts.script parts.steps ended output
 
 -- A step of the schedule that the input spells, counted from 1, is the first that is not legal.
-pub record IsIllegal (asked : Asked) (place : ℕ) (input : List ℕ) : Type 0 where
+pub record IsIllegal (asked : Execution) (place : ℕ) (input : List ℕ) : Type 0 where
   pub parts : Parts
   pub spelled : input_of (part_of asked.action) input ≡ Ok parts
   pub illegal : IsIllegalOf asked.action parts.script parts.steps place
 
 -- a report; or the input's first fault, or the first step that is not legal, unless memory ran out
-abbrev pub Answers : Asked → List ℕ → Result FullReport NoAnswer → Type 0
+abbrev pub Answers : Execution → List ℕ → Result FullReport NoAnswer → Type 0
 Answers asked input (Ok answer) = IsReport asked answer.ended input answer.text
 Answers asked input (Err (stops.Fault line why)) = input_of (part_of asked.action) input ≡ Err (record { line = line; why = why })
 Answers asked input (Err (stops.Illegal place)) = IsIllegal asked place input

@@ -11,7 +11,7 @@ use Rattle.kms_run.specs.declared.answers.NoAnswer.{NoAnswer}
 use Rattle.kms_run.specs.declared.answers.NoAnswer.TheVariants as stops
 use Rattle.kms_run.specs.declared.words.Action.{Action}
 use Rattle.kms_run.specs.declared.words.Action.TheVariants.{One, Replay}
-use Rattle.kms_run.specs.declared.words.Asked.{Asked}
+use Rattle.kms_run.specs.declared.words.Execution.{Execution}
 use Rattle.kms_run.specs.Answers.{IsIllegalOf, IsReportOf}
 
 -- why nothing more was done: a step is not legal, unless memory ran out
@@ -20,7 +20,7 @@ IsStopped action s schedule (stops.Fault line why) = ⊥
 IsStopped action s schedule (stops.Illegal place) = IsIllegalOf action s schedule place
 IsStopped action s schedule stops.NoMemory = ⊤
 
-abbrev pub Tells : Asked → Script → List Step → Result FullReport NoAnswer → Type 0
+abbrev pub Tells : Execution → Script → List Step → Result FullReport NoAnswer → Type 0
 Tells asked s schedule (Ok answer) = IsReportOf asked s schedule answer.ended answer.text
 Tells asked s schedule (Err stop) = IsStopped asked.action s schedule stop
 

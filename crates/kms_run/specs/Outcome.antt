@@ -1,6 +1,6 @@
 -- What a call of the program reads and writes, by its status.
 use Rattle.std.specs.Prelude.{◌≡◌, ◌↔◌, ℕ, ◌<◌, ◌≤◌, ◌+◌, List, [], length, Err, None, Option, Some, ◌⊎◌, ⊤}
-use Rattle.std.specs.Io.KnownBytes.{IsAtEnd}
+use Rattle.std.specs.Io.KnownBytes.{Appends, IsAtEnd}
 use Rattle.kms_io.specs.Bytes.{Begins, Moved}
 use Rattle.kms_model.specs.declared.scripts.Why.{Why}
 use Rattle.kms_model.specs.Script.InputLines.{input_limit}
@@ -9,8 +9,11 @@ use Rattle.kms_rounds.specs.declared.ending.End.{End}
 use Rattle.kms_rounds.specs.declared.ending.End.TheVariants as end
 use Rattle.kms_run.specs.declared.status.Status.{Status}
 use Rattle.kms_run.specs.declared.status.Status.TheVariants as status
-use Rattle.kms_run.specs.declared.words.Asked.{Asked}
+use Rattle.kms_run.specs.declared.words.Asked.TheVariants.{Execute, Generate}
+use Rattle.kms_run.specs.declared.words.Execution.{Execution}
+use Rattle.kms_run.specs.declared.words.Generation.{Generation}
 use Rattle.kms_run.specs.Answers.{IsIllegal, IsReport}
+use Rattle.kms_run.specs.Summary.{IsGenerated}
 use Rattle.kms_run.specs.Words.{asked, part_of}
 
 -- All that the source had left was read, or, of a longer input, one byte more than an input may have.
@@ -18,67 +21,83 @@ pub record ReadsAll (left : Option (List ℕ)) (input : List ℕ) : Type 0 where
   pub most : length input ≤ input_limit + 1
   pub end : length input < input_limit + 1 → IsAtEnd left
 
--- The words are legal, and the whole input was read.
-pub record ReadsInput (words : List (List ℕ)) (left : Option (List ℕ)) (input : List ℕ) : Type 0 where
-  pub asks : Asked
-  pub legal : asked words ≡ Some asks
-  pub whole : ReadsAll left input
-
 -- The whole input was read, and what was written is its report, of a history that ended so.
-pub record WritesReport (words : List (List ℕ)) (ended : End) (left : Option (List ℕ)) (input output : List ℕ) : Type 0 where
-  pub reads : ReadsInput words left input
-  pub report : IsReport reads.asks ended input output
+pub record WritesReport (asks : Execution) (ended : End) (left : Option (List ℕ)) (input output : List ℕ) : Type 0 where
+  pub whole : ReadsAll left input
+  pub report : IsReport asks ended input output
 
 -- The whole input was read, and what was written is a front part of its report.
-pub record WritesFront (words : List (List ℕ)) (left : Option (List ℕ)) (input output : List ℕ) : Type 0 where
-  pub reads : ReadsInput words left input
+pub record WritesFront (asks : Execution) (left : Option (List ℕ)) (input output : List ℕ) : Type 0 where
+  pub whole : ReadsAll left input
   pub ended : End
   pub text : List ℕ
-  pub report : IsReport reads.asks ended input text
+  pub report : IsReport asks ended input text
   pub front : Begins text output
 
 -- The whole input was read, this is its first fault, and nothing was written.
-pub record TellsFault (words : List (List ℕ)) (left : Option (List ℕ)) (line : ℕ) (why : Why) (input output : List ℕ) : Type 0 where
-  pub reads : ReadsInput words left input
-  pub fault : input_of (part_of reads.asks.action) input ≡ Err (record { line = line; why = why })
+pub record TellsFault (asks : Execution) (left : Option (List ℕ)) (line : ℕ) (why : Why) (input output : List ℕ) : Type 0 where
+  pub whole : ReadsAll left input
+  pub fault : input_of (part_of asks.action) input ≡ Err (record { line = line; why = why })
   pub nothing : output ≡ []
 
 -- The whole input was read, this step of its schedule is the first that is not legal, and nothing was written.
-pub record TellsIllegal (words : List (List ℕ)) (left : Option (List ℕ)) (place : ℕ) (input output : List ℕ) : Type 0 where
-  pub reads : ReadsInput words left input
-  pub illegal : IsIllegal reads.asks place input
+pub record TellsIllegal (asks : Execution) (left : Option (List ℕ)) (place : ℕ) (input output : List ℕ) : Type 0 where
+  pub whole : ReadsAll left input
+  pub illegal : IsIllegal asks place input
   pub nothing : output ≡ []
 
--- nothing was read or written
-pub record MovesNothing (input output : List ℕ) : Type 0 where
-  pub read : input ≡ []
-  pub written : output ≡ []
+-- What was written is a front part of what `gen` writes.
+pub record IsGeneratedFront (asks : Generation) (output : List ℕ) : Type 0 where
+  pub text : List ℕ
+  pub generated : IsGenerated asks text
+  pub front : Begins text output
 
 -- nothing was written
 abbrev pub WritesNothing : List ℕ → List ℕ → Type 0
 WritesNothing input output = output ≡ []
 
--- the statuses of a call that may have read and has written nothing
+-- the statuses of a call of `one` or `replay` that may have read and has written nothing
 abbrev pub IsSilent : Status → Type 0
 IsSilent s = (s ≡ status.ReadFault) ⊎ (s ≡ status.NoMemory)
 
--- the statuses that come in what is built so far
-abbrev pub IsBuilt : Status → Type 0
-IsBuilt (status.AuditNo line) = ⊥
-IsBuilt _ = ⊤
+-- the statuses of `one` and `replay`
+abbrev pub IsOfExecution : Status → Type 0
+IsOfExecution status.Usage = ⊥
+IsOfExecution (status.AuditNo line) = ⊥
+IsOfExecution _ = ⊤
 
--- What was read and written where a call ended so; left is what the source has left afterwards.
-abbrev pub Meets : List (List ℕ) → Status → Option (List ℕ) → List ℕ → List ℕ → Type 0
-Meets words status.Ok left input output = WritesReport words end.Drained left input output
-Meets words status.Stalled left input output = WritesReport words end.Dead left input output
-Meets words status.Open left input output = WritesReport words end.Open left input output
-Meets words status.WriteFault left input output = WritesFront words left input output
-Meets words (status.Script line why) left input output = TellsFault words left line why input output
-Meets words (status.Illegal place) left input output = TellsIllegal words left place input output
-Meets words status.Usage left input output = MovesNothing input output
-Meets words status.ReadFault left input output = WritesNothing input output
-Meets words status.NoMemory left input output = WritesNothing input output
-Meets words (status.AuditNo line) left input output = ⊥
+-- the statuses of `gen`
+abbrev pub IsOfGeneration : Status → Type 0
+IsOfGeneration status.Ok = ⊤
+IsOfGeneration status.WriteFault = ⊤
+IsOfGeneration status.NoMemory = ⊤
+IsOfGeneration _ = ⊥
+
+-- What `one` or `replay` read and wrote where it ended so; left is what the source has left afterwards.
+abbrev pub Meets : Execution → Status → Option (List ℕ) → List ℕ → List ℕ → Type 0
+Meets asks status.Ok left input output = WritesReport asks end.Drained left input output
+Meets asks status.Stalled left input output = WritesReport asks end.Dead left input output
+Meets asks status.Open left input output = WritesReport asks end.Open left input output
+Meets asks status.WriteFault left input output = WritesFront asks left input output
+Meets asks (status.Script line why) left input output = TellsFault asks left line why input output
+Meets asks (status.Illegal place) left input output = TellsIllegal asks left place input output
+Meets asks status.ReadFault left input output = WritesNothing input output
+Meets asks status.NoMemory left input output = WritesNothing input output
+Meets asks status.Usage left input output = ⊥
+Meets asks (status.AuditNo line) left input output = ⊥
+
+-- What `gen` wrote where it ended so.
+abbrev pub MeetsGenerated : Generation → Status → List ℕ → Type 0
+MeetsGenerated asks status.Ok output = IsGenerated asks output
+MeetsGenerated asks status.WriteFault output = IsGeneratedFront asks output
+MeetsGenerated asks status.NoMemory output = output ≡ []
+MeetsGenerated asks _ output = ⊥
+
+-- bytes were put behind what was written, and P holds of them
+pub record Wrote (written written_after : Option (List ℕ)) (P : List ℕ → Type 0) : Type 0 where
+  pub put : List ℕ
+  pub added : Appends written written_after put
+  pub holds : P put
 
 -- What a call does that is given these words and ended so: what the source had left and the sink had written before and
 -- afterwards. `ReadRose` and `WriteRose` say that the counts of faults of the source and of the sink rose.
@@ -86,21 +105,45 @@ module _ (words : List (List ℕ)) (ended : Status) (left left_after written wri
   abbrev Moves : (List ℕ → List ℕ → Type 0) → Type 0
   Moves says = Moved left left_after written written_after says
 
-  pub record HasEnded : Type 0 where
+  abbrev Writes : (List ℕ → Type 0) → Type 0
+  Writes says = Wrote written written_after says
+
+  -- `one` and `replay`
+  pub record Executes (asks : Execution) : Type 0 where
     -- The whole input was read, and what was written is the report of what was asked for with it, or a front of the report. The
     -- status tells how the history ended: drained, dead, or, of a schedule alone, neither.
-    pub ok : ended ≡ status.Ok → Moves (WritesReport words end.Drained left_after)
-    pub stalled : ended ≡ status.Stalled → Moves (WritesReport words end.Dead left_after)
-    pub left_open : ended ≡ status.Open → Moves (WritesReport words end.Open left_after)
-    pub cut : ended ≡ status.WriteFault → Moves (WritesFront words left_after)
+    pub ok : ended ≡ status.Ok → Moves (WritesReport asks end.Drained left_after)
+    pub stalled : ended ≡ status.Stalled → Moves (WritesReport asks end.Dead left_after)
+    pub left_open : ended ≡ status.Open → Moves (WritesReport asks end.Open left_after)
+    pub cut : ended ≡ status.WriteFault → Moves (WritesFront asks left_after)
     -- A fault is the whole input's first, an illegal step the first of its schedule, and then nothing was written.
-    pub script : (line : ℕ) (why : Why) → ended ≡ status.Script line why → Moves (TellsFault words left_after line why)
-    pub illegal : (place : ℕ) → ended ≡ status.Illegal place → Moves (TellsIllegal words left_after place)
-    -- Otherwise nothing was written, and without legal words nothing was read.
+    pub script : (line : ℕ) (why : Why) → ended ≡ status.Script line why → Moves (TellsFault asks left_after line why)
+    pub illegal : (place : ℕ) → ended ≡ status.Illegal place → Moves (TellsIllegal asks left_after place)
+    -- Otherwise nothing was written.
     pub read_only : IsSilent ended → Moves WritesNothing
-    pub untouched : ended ≡ status.Usage → Moves MovesNothing
     -- When the statuses come that the bytes do not determine. No other status comes, but want of memory.
-    pub usage : (ended ≡ status.Usage) ↔ (asked words ≡ None)
     pub read_fault : ended ≡ status.ReadFault → ReadRose
     pub write_fault : ended ≡ status.WriteFault → WriteRose
-    pub no_other : IsBuilt ended
+    pub no_other : IsOfExecution ended
+
+  -- `gen`
+  pub record Generates (asks : Generation) : Type 0 where
+    pub unread : left_after ≡ left
+    -- What was written is the generated script or its summary, or a front of it.
+    pub ok : ended ≡ status.Ok → Writes (IsGenerated asks)
+    pub cut : ended ≡ status.WriteFault → Writes (IsGeneratedFront asks)
+    pub silent : ended ≡ status.NoMemory → Writes (λ output. output ≡ [])
+    -- A failing write and want of memory are all that may come in the way.
+    pub write_fault : ended ≡ status.WriteFault → WriteRose
+    pub no_other : IsOfGeneration ended
+
+  -- no legal words
+  pub record Refuses : Type 0 where
+    pub unread : left_after ≡ left
+    pub unwritten : written_after ≡ written
+
+  pub record HasEnded : Type 0 where
+    pub usage : (ended ≡ status.Usage) ↔ (asked words ≡ None)
+    pub refused : asked words ≡ None → Refuses
+    pub executed : (asks : Execution) → asked words ≡ Some (Execute asks) → Executes asks
+    pub generated : (asks : Generation) → asked words ≡ Some (Generate asks) → Generates asks

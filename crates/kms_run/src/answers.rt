@@ -3,7 +3,7 @@ ghost use Rattle.std.specs.Prelude.{◌≡◌, [], IfErr, OnOk};
 ghost use Rattle.kms_run.specs.Answers.{Answers, IsMade};
 ghost use Rattle.kms_run.specs.Executing.{IsStopped, MayEnd, Tells};
 
-use crate::words::{Action, Asked};
+use crate::words::{Action, Execution};
 use kms_core::Core;
 use kms_model::{NoMemory, Seq, Step, Why};
 use kms_report::report;
@@ -94,7 +94,7 @@ fn execute(
 fn told(
     alloc: Global,
     core: &mut Core,
-    asked: &Asked,
+    asked: &Execution,
     schedule: &[Step],
 ) -> Result<FullReport, NoAnswer>
     requires { core.old.steps ≡ [] }
@@ -112,7 +112,7 @@ fn told(
 
 /// The report of what is asked for with the script that an input spells; or the input's first fault, or the first step of
 /// its schedule that is not legal. The input's bytes are given up before anything is executed.
-pub fn answer(alloc: Global, input: Vec<u8>, asked: &Asked) -> Result<FullReport, NoAnswer>
+pub fn answer(alloc: Global, input: Vec<u8>, asked: &Execution) -> Result<FullReport, NoAnswer>
     ensures { Answers asked.now input.items result }
 {
     let parsed = parse(alloc, &input, asked.action.part())?;

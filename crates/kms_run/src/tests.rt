@@ -4,6 +4,7 @@ ghost use Rattle.std.specs.Prelude.{◌<◌};
 mod failing;
 mod faults;
 mod frames;
+mod generated;
 mod refusals;
 mod schedules;
 mod session;

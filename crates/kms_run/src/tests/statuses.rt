@@ -20,7 +20,7 @@ fn is_usage<R: Threads + Wait>(rt: &R, alloc: Global, all: &[&str]) -> Result<bo
 #[test]
 fn other_words_read_nothing(rt: HostRuntime) -> Result<(), Fail> {
     let alloc = rt.alloc();
-    let rows: [&[&str]; 20] = [
+    let rows: [&[&str]; 23] = [
         &[],
         &["run"],
         &["run", "--threads", "0"],
@@ -32,6 +32,9 @@ fn other_words_read_nothing(rt: HostRuntime) -> Result<(), Fail> {
         &["replay", "--threads"],
         &["--ppm", "one"],
         &["gen", "1"],
+        &["gen", "1", "0"],
+        &["gen", "1", "4001"],
+        &["gen", "18446744073709551616", "1"],
         &["gen", "1", "2", "--run", "--run"],
         &["audit", "--trace"],
         &["help"],

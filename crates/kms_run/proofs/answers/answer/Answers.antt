@@ -1,4 +1,4 @@
-use Rattle.std.proofs.Common.{Ok, rules}
+use Rattle.std.proofs.Common.{rules}
 use Rattle.kms_script.specs.Stated.{parts_in}
 use Rattle.kms_run.proofs.Answering.{answers_told}
 use Rattle.kms_run.proofs.answers.answer.Goals as goal
