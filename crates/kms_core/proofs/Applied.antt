@@ -15,15 +15,18 @@ use Rattle.kms_model.specs.declared.runs.Doing.TheVariants as doing
 use Rattle.kms_model.specs.declared.runs.Place.{Place}
 use Rattle.kms_model.specs.Device.Objects.{count_of, exists, first_id, index_of, kind_of, object_id}
 use Rattle.kms_model.specs.Machine.Commits.{is_all_latched, is_all_written, is_claimed, is_cleaned, is_hw_done}
-use Rattle.kms_model.specs.Machine.Histories.{legal}
+use Rattle.kms_model.specs.Machine.Histories.{is_history, legal}
 use Rattle.kms_model.specs.Machine.State.{doing_at, holder_at, reserved_at, unread_at}
 use Rattle.kms_model.specs.Machine.Steps.{contended, idle_at, is_crtc_of, is_free_for, is_free_or_older, is_lockable, is_taking, is_wait, may, may_lock, must_back_off, next_flush, returning_of, taking_at, ticket_of}
 use Rattle.kms_model.specs.Request.Reach.{reaches}
+use Rattle.kms_model.specs.Script.WellFormed.{IsWellFormed}
 use Rattle.kms_model.proofs.Items.{IsObject, ids-in}
 use Rattle.kms_model.proofs.KindsOfIds.{index_of-object, kind_of-object}
 use Rattle.kms_model.proofs.TouchedLemmas.{HasFewObjects, few_objects}
 use Rattle.kms_clients.specs.InStep.{holder_of_contended, lock_answer, relock_answer}
 use Rattle.kms_laws.proofs.Basics.{both_bools}
+use Rattle.kms_laws.proofs.Modes.{plain-from}
+use Rattle.kms_laws.proofs.NeverStuck.{history_facts}
 use Rattle.kms_laws.proofs.Stalled.{legal-going}
 use Rattle.kms_laws.proofs.Steps.{flush-found, value-is}
 use Rattle.kms_wwlock.specs.declared.table.Lock.TheVariants as table
@@ -36,7 +39,6 @@ use Rattle.kms_core.specs.Run.{Run, machine}
 use Rattle.kms_core.specs.Stands.{Stores, Stands}
 use Rattle.kms_core.specs.Work.{MayCleanUp, MayWrite, is_over, write_step}
 use Rattle.kms_core.proofs.ClientSteps.{answered_is, must_not}
-use Rattle.kms_core.proofs.CommitStates.{facts}
 use Rattle.kms_core.proofs.Locking.{steps_of_lock}
 use Rattle.kms_core.proofs.Outside.{outside}
 use Rattle.kms_core.proofs.Places.{not_ended}
@@ -208,12 +210,12 @@ module _ (v : Run) where
     over None is = absurd (false≢true (rw is at (not_ended (machine v).stalled _ asked)))
     over (Some k) is = and_from (not (machine v).stalled) _ (ap not (legal-going v.script (machine v) (step.Return client) asked)) (rw is (rw is at (not_ended (machine v).stalled _ asked)))
 
--- What the stores tell besides
+-- What is asked for of a device's objects
 
-module _ (r v : Run) (st : Stores) (stands : Stands r st) (same : r ≡ v) where
-  few : HasFewObjects v.script.topology
-  few = subst (λ (w : Run). HasFewObjects w.script.topology) same (few_objects r.script.topology stands.formed.device)
+pub few_now : (r v : Run) (st : Stores) → Stands r st → r ≡ v → HasFewObjects v.script.topology
+few_now r v st stands same = subst (λ (w : Run). HasFewObjects w.script.topology) same (few_objects r.script.topology stands.formed.device)
 
+module _ (v : Run) (few : HasFewObjects v.script.topology) where
   pub lock_index : (client : ℕ) (kind : Kind) (index : ℕ) → IsLegal v (step.Lock client kind index) → index ≤ 255
   lock_index client kind index asked =
       let there = ltb-true index (count_of v.script.topology kind) (lockable_exists v.script.topology kind index (lock_is v client kind index asked).0) in
@@ -255,39 +257,44 @@ module _ (r v : Run) (st : Stores) (stands : Stands r st) (same : r ≡ v) where
       let within = o.within in
       sym (kind_of-object kind index (few_of t kind index few (ltb-true index (count_of t kind) is.0))) ∙ ap kind_of o.same ∙ kind_of-object Crtc o.index (few_of t Crtc o.index few within)
 
+-- What a history tells besides
+
+pub record IsHistoryOf (v : Run) : Type 0 where
+  pub formed : IsWellFormed v.script
+  pub history : is_history v.script v.steps ≡ true
+
+pub history_now : (r v : Run) (st : Stores) → Stands r st → r ≡ v → IsHistoryOf v
+history_now r v st stands same = subst IsHistoryOf same (record { formed = stands.formed; history = stands.history })
+
+module _ (v : Run) (is : IsHistoryOf v) where
   pub cleanup_asked : (k : ℕ) → IsLegal v (step.Cleanup k) → MayCleanUp v k
   unfolding legal may
   cleanup_asked k asked =
-      let now = subst (λ (w : Run). IsLegal w (step.Cleanup k)) (sym same) asked in
-      let d = (machine r).device in
-      let parts = and_parts (is_hw_done d k) _ (not_ended (machine r).stalled _ now) in
-      let two = and_parts (is_all_latched r.script.topology d (machine r).records.latches k) _ parts.1 in
-      subst (λ (w : Run). MayCleanUp w k) same
-      (record {
-        claimed = ((facts r st stands).holds.tail.marks.done k parts.0).0;
+      let d = (machine v).device in
+      let parts = and_parts (is_hw_done d k) _ (not_ended (machine v).stalled _ asked) in
+      let two = and_parts (is_all_latched v.script.topology d (machine v).records.latches k) _ parts.1 in
+      record {
+        claimed = ((history_facts v.script v.steps (plain-from v.script is.formed) is.history).holds.tail.marks.done k parts.0).0;
         kept = not-true (is_cleaned d k) two.1;
-        going = legal-going r.script (machine r) (step.Cleanup k) now;
-      })
+        going = legal-going v.script (machine v) (step.Cleanup k) asked;
+      }
 
-  inside : (client : ℕ) → (doing_at (machine r) client ≡ doing.Idle → ⊥) → (1 ≤ client) × (client ≤ length r.script.clients)
+  inside : (client : ℕ) → (doing_at (machine v) client ≡ doing.Idle → ⊥) → (1 ≤ client) × (client ≤ length v.script.clients)
   inside client busy =
-      let rests : ((1 ≤ client) × (client ≤ length r.script.clients) → ⊥) → ⊥ = (λ away. busy (ap (λ (p : Place). p.doing) (outside r.script r.steps stands.history client away))) in
+      let rests : ((1 ≤ client) × (client ≤ length v.script.clients) → ⊥) → ⊥ = (λ away. busy (ap (λ (p : Place). p.doing) (outside v.script v.steps is.history client away))) in
       elim (cases_lt 0 client) [
-        | inl low ↦ elim (cases_lt (length r.script.clients) client) [
-          | inl above ↦ absurd (rests (λ is. (let l = is.1 in omega (arith, l, above))))
+        | inl low ↦ elim (cases_lt (length v.script.clients) client) [
+          | inl above ↦ absurd (rests (λ within. (let l = within.1 in omega (arith, l, above))))
           | inr within ↦ (omega (arith, low), within)
         ]
-        | inr none ↦ absurd (rests (λ is. (let l = is.0 in omega (arith, l, none))))
+        | inr none ↦ absurd (rests (λ within. (let l = within.0 in omega (arith, l, none))))
       ]
 
   pub return_asked : (client : ℕ) → IsLegal v (step.Return client) → MayReturn v client
   unfolding legal may
-  return_asked client asked = returns (returning_of (doing_at (machine r) client)) refl where
-    now : IsLegal r (step.Return client)
-    now = subst (λ (w : Run). IsLegal w (step.Return client)) (sym same) asked
-
-    returns : (o : Option ℕ) → returning_of (doing_at (machine r) client) ≡ o → MayReturn v client
-    returns None is = absurd (false≢true (rw is at (not_ended (machine r).stalled _ now)))
-    returns (Some k) is =
-        let there = inside client (λ idle. (let none : None ≡ Some k = ap returning_of (sym idle) ∙ is in cc)) in
-        subst (λ (w : Run). MayReturn w client) same (record { low = there.0; high = there.1; commit = k; returning = is })
+  return_asked client asked = returns (returning_of (doing_at (machine v) client)) refl where
+    returns : (o : Option ℕ) → returning_of (doing_at (machine v) client) ≡ o → MayReturn v client
+    returns None none = absurd (false≢true (rw none at (not_ended (machine v).stalled _ asked)))
+    returns (Some k) some =
+        let there = inside client (λ idle. (let none : None ≡ Some k = ap returning_of (sym idle) ∙ some in cc)) in
+        record { low = there.0; high = there.1; commit = k; returning = some }

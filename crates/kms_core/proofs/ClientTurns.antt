@@ -1,5 +1,5 @@
 -- The next step of a client in the order of one thread.
-use Rattle.std.proofs.Common.{◌≡◌, ℕ, ◌+◌, ◌≤◌, Bool, true, false, List, length, cond, Option, Some, None, inr, refl, sym, ap, ◌∙◌, subst, arith, ⊎_elim}
+use Rattle.std.proofs.Common.{◌≡◌, ℕ, ◌≤◌, Bool, true, false, List, length, cond, Option, Some, None, refl, sym, ap, ◌∙◌, arith, ⊎_elim}
 use Rattle.std.specs.Prelude.{◌&&◌, find, is_none, not}
 use Rattle.std.specs.Option.{option_and_then, option_map}
 use Rattle.std.proofs.lemmas.Bool.{and_left, and_parts, cases_Bool, false≢true}
@@ -12,7 +12,7 @@ use Rattle.kms_model.specs.declared.scripts.Request.{Request}
 use Rattle.kms_model.specs.declared.scripts.Script.{Script}
 use Rattle.kms_model.specs.Firsts.{or_else}
 use Rattle.kms_model.specs.Machine.Histories.{is_at_end, legal}
-use Rattle.kms_model.specs.Machine.State.{Machine, command_at, doing_at, request_at, request_in, reserved_at, unread_at}
+use Rattle.kms_model.specs.Machine.State.{Machine, command_at, doing_at, request_at, request_in}
 use Rattle.kms_model.specs.Machine.Steps.{contended, idle_at, is_atomic, is_free_for, is_idle, is_making, is_signal, is_taking, is_wait, may, may_lock, must_back_off, taking_at}
 use Rattle.kms_model.specs.Order.Turns.{client_step, first_missing, lock_step, next_lock}
 use Rattle.kms_model.specs.Request.Reach.{reaches}

@@ -1,15 +1,15 @@
 mod Insides
-mod Histories
+pub mod Histories
 mod Spared
 mod Refusing
 mod Beside
-mod Places
+pub mod Places
 mod Stored
 mod Locking
 mod BackingOff
 mod First
 mod Answering
-mod Takers
+pub mod Takers
 mod Fresh
 mod Verdicts
 mod Accepted
@@ -45,7 +45,7 @@ mod TailSteps
 mod Movers
 mod Legals
 mod Stalls
-mod Applied
+pub mod Applied
 mod ClientSteps
 mod FreedIds
 mod FreedCalls

@@ -1,8 +1,8 @@
 -- Whether a client, a tail or a CRTC that goes has a step.
-use Rattle.std.proofs.Common.{◌≡◌, ℕ, ◌+◌, ◌<◌, ◌≤◌, Bool, true, false, [], ◌∷◌, ◌++◌, length, Some, None, inl, inr, refl, sym, ap, ◌∙◌, subst, arith}
+use Rattle.std.proofs.Common.{◌≡◌, ℕ, ◌+◌, ◌<◌, ◌≤◌, Bool, true, false, [], ◌∷◌, ◌++◌, length, Some, None, refl, sym, ap, ◌∙◌, subst, arith}
 use Rattle.std.specs.Prelude.{◌||◌, is_some}
 use Rattle.std.specs.List.{flat_map, list_any, range_with_len}
-use Rattle.std.proofs.lemmas.Bool.{and_from, cases_lt, lt-ltb, or_left}
+use Rattle.std.proofs.lemmas.Bool.{and_from, lt-ltb, or_left}
 use Rattle.std.proofs.lemmas.List.Folds.{list_any-append}
 use Rattle.kms_model.specs.declared.objects.Kind.TheVariants.{Conn, Crtc, Plane}
 use Rattle.kms_model.specs.declared.replies.Step.{Step}
@@ -20,6 +20,7 @@ use Rattle.kms_core.specs.Next.{client_moves, context_steps, decision_steps, loc
 use Rattle.kms_core.specs.Run.{Run, machine}
 use Rattle.kms_core.specs.Stands.{Stores, Stands}
 use Rattle.kms_core.proofs.CommitStates.{facts}
+use Rattle.kms_core.proofs.FirstTails.{of_all, up_to_first}
 use Rattle.kms_core.proofs.Ranges.{any_filtered, any_flat, any_mapped, none_pass, one_passes}
 
 or_false : (b : Bool) → (b || false) ≡ b
@@ -55,27 +56,17 @@ module _ (r v : Run) (st : Stores) (stands : Stands r st) (same : r ≡ v) where
   pub no_tail_step : (from : ℕ) → tails.FindsFirst st.tails from None → ((j : ℕ) → j < from → list_any (able v) (steps_of_commit v.script.topology j) ≡ false)
       → false ≡ list_any (able v) (flat_map (steps_of_commit v.script.topology) (commit_numbers (machine v)))
   no_tail_step from first before =
-      let found = first r.script.topology (machine r).device.commits (machine r).device.marks (machine r).records.latches stands.stores.tails in
       let size = ap (λ (w : Run). length (machine w).device.commits) same in
       sym (any_flat (able v) (steps_of_commit v.script.topology) (commit_numbers (machine v))
       ∙ none_pass (λ j. list_any (able v) (steps_of_commit v.script.topology j)) 0 (length (machine v).device.commits)
       (λ j low high.
-      elim (cases_lt j from) [
-        | inl below ↦ before j below
-        | inr above ↦ cleaned_rests j (found j above (omega (arith, high, size)))
-      ]))
+      of_all r.script.topology (machine r).device.commits (machine r).device.marks (machine r).records.latches st.tails stands.stores.tails (λ i. list_any (able v) (steps_of_commit v.script.topology i) ≡ false) cleaned_rests from first before j
+      (omega (arith, high, size))))
 
   pub rests_further : (from k : ℕ) → tails.FindsFirst st.tails from (Some k) → list_any (able v) (steps_of_commit v.script.topology k) ≡ false → ((j : ℕ) → j < from → list_any (able v) (steps_of_commit v.script.topology j) ≡ false)
       → (j : ℕ) → j < k + 1 → list_any (able v) (steps_of_commit v.script.topology j) ≡ false
-  rests_further from k first rests before j low =
-      let found = first r.script.topology (machine r).device.commits (machine r).device.marks (machine r).records.latches stands.stores.tails in
-      elim (cases_lt j from) [
-        | inl below ↦ before j below
-        | inr above ↦ elim (cases_lt j k) [
-          | inl earlier ↦ cleaned_rests j (found.3 j above earlier)
-          | inr behind ↦ (let e : k ≡ j = omega (arith, low, behind) in subst (λ n. list_any (able v) (steps_of_commit v.script.topology n) ≡ false) e rests)
-        ]
-      ]
+  rests_further =
+      up_to_first r.script.topology (machine r).device.commits (machine r).device.marks (machine r).records.latches st.tails stands.stores.tails (λ j. list_any (able v) (steps_of_commit v.script.topology j) ≡ false) cleaned_rests
 
 module _ (r : Run) where
   -- Steps of a client, and of a commit, group by group

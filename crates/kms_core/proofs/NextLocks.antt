@@ -1,6 +1,6 @@
 -- What a client lacks for its request, and the lock that it takes next.
-use Rattle.std.proofs.Common.{◌≡◌, ℕ, ◌<◌, ◌≤◌, Bool, true, false, length, cond, Option, Some, None, arith, refl, sym, ap, ◌∙◌, subst}
-use Rattle.std.specs.Prelude.{◌&&◌, ◌||◌, All, find, is_some, not, nat_lt, slice_index_or}
+use Rattle.std.proofs.Common.{◌≡◌, ℕ, ◌<◌, Bool, true, false, length, cond, Option, Some, None, arith, refl, sym, ap, ◌∙◌, subst}
+use Rattle.std.specs.Prelude.{◌&&◌, find, is_some, not}
 use Rattle.std.specs.List.{list_any, range_with_len}
 use Rattle.std.specs.Option.{option_map}
 use Rattle.std.proofs.lemmas.Bool.{and_right, false≢true, le-ltb, ltb-true, or_right}
@@ -13,20 +13,20 @@ use Rattle.kms_model.specs.declared.states.Checked.{Checked}
 use Rattle.kms_model.specs.declared.states.Mask.{Mask}
 use Rattle.kms_model.specs.declared.worlds.World.{World}
 use Rattle.kms_model.specs.Device.Masks.{has_bit}
-use Rattle.kms_model.specs.Device.Objects.{count_of, index_of, kind_of, object_id}
+use Rattle.kms_model.specs.Device.Objects.{count_of, object_id}
 use Rattle.kms_model.specs.Device.Sound.{IsDevice}
 use Rattle.kms_model.specs.Firsts.{or_else}
 use Rattle.kms_model.specs.Machine.Commits.{lockable}
 use Rattle.kms_model.specs.Machine.State.{Machine, doing_at, holder_at, holds}
 use Rattle.kms_model.specs.Machine.Steps.{is_free_or_older, is_lockable, may_lock, taking_at, ticket_of}
-use Rattle.kms_model.specs.Order.Turns.{first_missing, in_affected_group, in_named_group, in_set_group, missing_of, next_lock, or_those}
+use Rattle.kms_model.specs.Order.Turns.{first_missing, in_affected_group, in_named_group, missing_of, next_lock, or_those}
 use Rattle.kms_model.specs.Request.Apply.{after}
 use Rattle.kms_model.specs.Request.Deciding.{IsChecked}
-use Rattle.kms_model.specs.Request.Groups.{affected_group, named_group}
+use Rattle.kms_model.specs.Request.Groups.{affected_group}
 use Rattle.kms_model.specs.Request.Late.{duplicate_at}
 use Rattle.kms_model.specs.Request.Named.{names}
 use Rattle.kms_model.specs.Request.Reach.{reaches}
-use Rattle.kms_model.specs.Request.Touched.{is_affected, named_by, sets, touched_by, touches, touches_crtc}
+use Rattle.kms_model.specs.Request.Touched.{is_affected, sets, touches, touches_crtc}
 use Rattle.kms_model.specs.Request.Verdict.{early_in}
 use Rattle.kms_model.proofs.KindsOfIds.{kind_of-object}
 use Rattle.kms_model.proofs.MaskLemmas.{has_bit-below}
@@ -51,7 +51,7 @@ use Rattle.kms_core.proofs.AfterCommit.{there_is}
 use Rattle.kms_core.proofs.Finding.{any_lockable, found_filtered, found_lockable, found_those}
 use Rattle.kms_core.proofs.Presented.{presented}
 use Rattle.kms_core.proofs.Refusing.{early_at, settable_now}
-use Rattle.kms_core.proofs.Taken.{Takes, lockable_exists, taken_parts, taking-is}
+use Rattle.kms_core.proofs.Taken.{lockable_exists, taken_parts, taking-is}
 
 -- Groups
 

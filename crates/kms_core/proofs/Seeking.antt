@@ -32,6 +32,7 @@ use Rattle.kms_core.specs.Stands.{Stores, Stands, is_fence}
 use Rattle.kms_core.specs.Work.{AreFewTails, FindsFirst, IsFirstOf, IsGoing, IsPassedBy, first_claim}
 use Rattle.kms_core.proofs.CommitStates.{facts}
 use Rattle.kms_core.proofs.Fencing.{thing_made}
+use Rattle.kms_core.proofs.FirstTails.{before_first, of_all, up_to_first}
 
 -- The loop
 
@@ -44,34 +45,20 @@ pub none_passed : (v : Rooms Tail) (test : ℕ → Bool) → ArePassed v test 0
 none_passed v test t commits marks latches stand j low within = absurd (omega (arith, low))
 
 pub one_passed : (v : Rooms Tail) (test : ℕ → Bool) (from k : ℕ) → ArePassed v test from → tails.FindsFirst v from (Some k) → test k ≡ false → ArePassed v test (k + 1)
-one_passed v test from k passed first fails t commits marks latches stand j low within =
-    let found = first t commits marks latches stand in
-    elim (cases_lt j from) [
-      | inl below ↦ passed t commits marks latches stand j below within
-      | inr above ↦ elim (cases_lt j k) [
-        | inl before ↦ inl (found.3 j above before)
-        | inr behind ↦ (let same : k ≡ j = omega (arith, low, behind) in inr (ap test (sym same) ∙ fails))
-      ]
-    ]
+one_passed v test from k passed first fails t commits marks latches stand =
+    up_to_first t commits marks latches v stand (λ j. j < length commits → IsPassedBy marks test j) (λ j cleaned within. inl cleaned) from k first (λ within. inr fails) (passed t commits marks latches stand)
 
 pub one_found : (v : Rooms Tail) (test : ℕ → Bool) (from k : ℕ) → ArePassed v test from → tails.FindsFirst v from (Some k) → test k ≡ true → FindsFirst v test (Some k)
 one_found v test from k passed first passes t commits marks latches stand =
-    let found = first t commits marks latches stand in
-    let within : k < length commits = found.1 in (
+    let within : k < length commits = (first t commits marks latches stand).1 in (
       within,
       passes,
-      λ j before. elim (cases_lt j from) [
-        | inl below ↦ passed t commits marks latches stand j below (omega (arith, before, within))
-        | inr above ↦ inl (found.3 j above before)
-      ],
+      λ j before. before_first t commits marks latches v stand (λ i. i < length commits → IsPassedBy marks test i) (λ i cleaned inside. inl cleaned) from k first (passed t commits marks latches stand) j before (omega (arith, before, within)),
     )
 
 pub none_found : (v : Rooms Tail) (test : ℕ → Bool) (from : ℕ) → ArePassed v test from → tails.FindsFirst v from None → FindsFirst v test None
 none_found v test from passed first t commits marks latches stand j within =
-    elim (cases_lt j from) [
-      | inl below ↦ passed t commits marks latches stand j below within
-      | inr above ↦ inl (first t commits marks latches stand j above within)
-    ]
+    of_all t commits marks latches v stand (λ i. i < length commits → IsPassedBy marks test i) (λ i cleaned inside. inl cleaned) from first (passed t commits marks latches stand) j within within
 
 -- the number found is not below the one that was sought from, and there is a number above it
 pub record GoesUp (from k : ℕ) : Type 0 where

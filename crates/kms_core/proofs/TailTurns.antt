@@ -1,6 +1,6 @@
 -- The next step of a tail in the order of one thread.
 use Rattle.std.proofs.Common.{◌≡◌, ℕ, zero, suc, ◌+◌, ◌<◌, ◌≤◌, Bool, true, false, [], ◌∷◌, ◌++◌, map, cond, Option, Some, None, inl, inr, refl, sym, ap, ◌∙◌, subst, arith}
-use Rattle.std.specs.Prelude.{◌&&◌, ◌||◌, filter, find, is_some, not}
+use Rattle.std.specs.Prelude.{◌&&◌, filter, find, is_some, not}
 use Rattle.std.specs.List.{range_with_len}
 use Rattle.std.specs.Option.{option_map}
 use Rattle.std.proofs.lemmas.Bool.{cases_lt, or_left}
@@ -13,7 +13,6 @@ use Rattle.kms_model.specs.Firsts.{first_some, or_else}
 use Rattle.kms_model.specs.Machine.Commits.{has_number}
 use Rattle.kms_model.specs.Machine.Histories.{commit_numbers, for_each, is_dead, legal, steps_of_commit, steps_with_go}
 use Rattle.kms_model.specs.Machine.State.{go_at}
-use Rattle.kms_model.specs.Machine.Steps.{may}
 use Rattle.kms_model.specs.Order.Turns.{tail_step}
 use Rattle.kms_laws.specs.Laws.{can_move}
 use Rattle.kms_laws.proofs.Drained.{no_step}

@@ -26,12 +26,12 @@ pub taker_as : (r v : Run) (st : Stores) (t client : ℕ) → Stands r st → r 
 taker_as r v st t client stands same is = is ∙ same_taker (machine r) st.clients t stands.stores.clients ∙ ap (λ (x : Run). taker (machine x) t) same
 
 -- where a first value was found
-record FoundAt (f : ℕ → Option ℕ) (n x : ℕ) : Type 0 where
-  index : ℕ
-  below : index < n
-  is : f index ≡ Some x
+pub record FoundAt (f : ℕ → Option ℕ) (n x : ℕ) : Type 0 where
+  pub index : ℕ
+  pub below : index < n
+  pub is : f index ≡ Some x
 
-found_at : (f : ℕ → Option ℕ) (n x : ℕ) → first_below f n ≡ Some x → FoundAt f n x
+pub found_at : (f : ℕ → Option ℕ) (n x : ℕ) → first_below f n ≡ Some x → FoundAt f n x
 unfolding first_below
 found_at f zero x e = absurd cc
 found_at f (suc n) x e = either (first_below f n) refl (found_at f n x) e where

@@ -1,5 +1,5 @@
 -- What is told of the next step.
-use Rattle.std.specs.Prelude.{◌≡◌, ℕ, ◌≤◌, true, ◌&&◌, ◌||◌, Bool, List, [], ◌∷◌, Option, Some, None, if◌then◌else◌, is_none, length, not}
+use Rattle.std.specs.Prelude.{◌≡◌, ℕ, ◌≤◌, true, false, ◌&&◌, ◌||◌, Bool, List, [], ◌∷◌, Option, Some, None, if◌then◌else◌, is_none, length, not}
 use Rattle.std.specs.List.{flat_map, list_any, range_with_len}
 use Rattle.std.specs.Option.{option_map}
 use Rattle.kms_model.specs.declared.objects.Kind.{Kind}
@@ -96,3 +96,12 @@ if_awaited m (Some fence) = if is_awaited m fence then Some fence else None
 -- a step is legal after the history
 abbrev pub IsLegal : Run → Step → Type 0
 IsLegal r step = legal r.script (machine r) step ≡ true
+
+-- a worker does it, for the tail of a commit
+abbrev pub is_of_worker : Step → Bool
+is_of_worker (step.Claim k) = true
+is_of_worker (step.Write k kind index) = true
+is_of_worker (step.Flush k kind index) = true
+is_of_worker (step.HwDone k) = true
+is_of_worker (step.Cleanup k) = true
+is_of_worker _ = false

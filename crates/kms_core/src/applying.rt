@@ -1,8 +1,8 @@
 //! Steps that are legal are done.
-ghost use Rattle.std.specs.Prelude.{ℕ, ◌≡◌, ◌∷◌, [], IsOk, Some};
+ghost use Rattle.std.specs.Prelude.{ℕ, ◌≡◌, ◌∷◌, [], IsOk, Some, true};
 ghost use Rattle.kms_laws.specs.TailsLeft.{commit_of_step};
 ghost use Rattle.kms_model.specs.declared.replies.Step.TheVariants as step;
-ghost use Rattle.kms_core.specs.Next.{IsLegal};
+ghost use Rattle.kms_core.specs.Next.{IsLegal, is_of_worker};
 ghost use Rattle.kms_core.specs.Run.{Run, gains, if_ok, machine};
 
 use crate::machine::Core;
@@ -32,38 +32,42 @@ impl Core {
             Step::Swap { client } => self.do_swap(alloc, client),
             Step::Make { client } => self.do_make(alloc, client),
             Step::Signal { client } => self.do_signal(client),
-            Step::Claim { commit } => {
-                self.claim_commit(commit);
+            Step::Claim { .. }
+            | Step::Write { .. }
+            | Step::Flush { .. }
+            | Step::HwDone { .. }
+            | Step::Cleanup { .. } => {
+                self.do_of_tail(step);
                 Ok(())
             }
+            Step::Vblank { kind, index } => self.do_vblank(kind, index),
+            Step::Read { client } => self.do_read(client),
+            Step::Return { client } => self.do_return(client),
+            Step::Stall => self.stall(),
+        }
+    }
+
+    /// Does a step of a worker, which takes no memory.
+    fn do_of_tail(&mut self, step: &Step)
+        requires legal { IsLegal self.old step.now }
+        requires worker { is_of_worker step.now ≡ true }
+        ensures history { self.new ≡ gains self.old (step.now ∷ []) }
+    {
+        match *step {
+            Step::Claim { commit } => self.claim_commit(commit),
             Step::Write {
                 commit,
                 kind,
                 index,
-            } => {
-                self.do_write(commit, kind, index);
-                Ok(())
-            }
+            } => self.do_write(commit, kind, index),
             Step::Flush {
                 commit,
                 kind,
                 index,
-            } => {
-                self.do_flush(commit, kind, index);
-                Ok(())
-            }
-            Step::HwDone { commit } => {
-                self.hw_done(commit);
-                Ok(())
-            }
-            Step::Vblank { kind, index } => self.do_vblank(kind, index),
-            Step::Cleanup { commit } => {
-                self.do_cleanup(commit);
-                Ok(())
-            }
-            Step::Read { client } => self.do_read(client),
-            Step::Return { client } => self.do_return(client),
-            Step::Stall => self.stall(),
+            } => self.do_flush(commit, kind, index),
+            Step::HwDone { commit } => self.hw_done(commit),
+            Step::Cleanup { commit } => self.do_cleanup(commit),
+            _ => unreachable!(),
         }
     }
 

@@ -1,16 +1,23 @@
 //! What a commit leaves in the stores.
-ghost use Rattle.std.specs.Prelude.{◌≡◌, ◌<◌, ◌≤◌, ◌+◌, ◌++◌, [], ◌∷◌, length, map, IfOk, IsSome, OnOk, Some, option_copied, true, false};
+ghost use Rattle.std.specs.Prelude.{ℕ, ◌≡◌, ◌<◌, ◌≤◌, ◌+◌, ◌*◌, ◌++◌, List, [], ◌∷◌, length, map, IfOk, IsSome, OnErr, OnOk, Some, option_copied, true, false};
+ghost use Rattle.kms_model.specs.declared.replies.Reply.TheVariants as reply;
 ghost use Rattle.kms_model.specs.declared.replies.Step.TheVariants as step;
+ghost use Rattle.kms_model.specs.declared.scripts.Assign.{Assign};
 ghost use Rattle.kms_model.specs.declared.scripts.Request.{Request};
+ghost use Rattle.kms_model.specs.declared.worlds.World.{World};
+ghost use Rattle.kms_model.specs.Device.Execution.{make_out_fences};
 ghost use Rattle.kms_model.specs.Device.Serial.{command_of};
 ghost use Rattle.kms_model.specs.Machine.State.{Machine, request_in};
 ghost use Rattle.kms_model.specs.Request.Flags.{is_nonblock};
+ghost use Rattle.kms_model.specs.Request.Touched.{out_fence_label};
 ghost use Rattle.kms_model.specs.Stores.Tables.{AreBelow};
 ghost use Rattle.kms_clients.specs.InStep.{AreClientsOf, IsTaking, after_decision, after_swap};
 ghost use Rattle.kms_clients.specs.Standing.{IsClient, place_of};
 ghost use Rattle.kms_signal.specs.Queues.{HasSpace};
 ghost use Rattle.kms_tails.specs.InStep.{StandsAfterSwap, StandsAlike};
+ghost use Rattle.kms_things.specs.Made.{HasIds, with_made};
 ghost use Rattle.kms_track.specs.Tracking.{IsSetUp};
+ghost use Rattle.kms_core.specs.Calls.{answered, joined};
 ghost use Rattle.kms_core.specs.Run.{gains, if_ok, machine};
 ghost use Rattle.kms_core.specs.Swaps.{MayCommit};
 ghost use Rattle.kms_core.specs.Settled.{events_of, fences_for, fences_under, id_under, label_in, labels_in, next_after};
@@ -21,9 +28,10 @@ use crate::present::present_after;
 use crate::records::{answer, join, make_room, make_spare};
 use crate::swapping::{count_in, is_nonblock, wants_event};
 use kms_clients::Clients;
+use kms_logs::Log;
 use kms_model::{
-    Checked, Command, FIRST_CRTC_ID, MAX_CRTCS, NoMemory, ObjId, Reply, Request, Resolved, Script,
-    Seq, Step,
+    Answered, Checked, Command, FIRST_CRTC_ID, Latch, MAX_CRTCS, NoMemory, ObjId, Reply, Request,
+    Resolved, Script, Seq, Step,
 };
 use kms_signal::{EventQueue, Fences};
 use kms_tails::Tails;
@@ -48,15 +56,12 @@ impl Core {
     {
         let events = events_of(resolved.flags, checked.named);
         let labels = out_labels(resolved.out_fences.as_slice());
-        make_room(
+        make_commit_room(
+            alloc,
             &mut self.steps,
             &mut self.journal,
             &mut self.replies,
-            &self.tails,
-        )?;
-        make_spare(&mut self.steps, &mut self.latches, &self.tails)?;
-        make_tail_room(
-            alloc,
+            &mut self.latches,
             &mut self.fences,
             &mut self.queues[(client - 1) as usize],
             &mut self.tracker,
@@ -65,10 +70,8 @@ impl Core {
             &resolved.in_fences,
             events,
         )?;
-        let first = self.things.next_id();
         let asked = &labels[..self.script.topology.crtcs as usize];
-        self.things.make_out_fences(client, asked)?;
-        make_fences(alloc, &mut self.fences, first, asked);
+        make_out_fences(alloc, &mut self.things, &mut self.fences, client, asked)?;
         self.present = present_after(&self.present, &checked.states);
         reserve_events(alloc, &mut self.queues[(client - 1) as usize], events);
         let commit = set_up(alloc, &mut self.tracker, checked, &resolved.in_fences);
@@ -84,9 +87,7 @@ impl Core {
             checked,
             out_fences,
         );
-        let reply = Reply::Commit { commit };
-        answer(&self.journal, &mut self.replies, client, number, reply);
-        join(&mut self.journal, client, number, &reply);
+        reply_commit(&mut self.journal, &mut self.replies, client, number, commit);
         leave(&mut self.clients, client, resolved.flags, commit);
         self.steps.push(Step::Swap { client });
         Ok(commit)
@@ -213,6 +214,54 @@ pub(crate) fn make_fences(alloc: Global, fences: &mut Fences, first: u32, labels
     }
 }
 
+/// Makes a client's out-fences with the next ids under the labels that its request asks for, one place for each CRTC of the
+/// device, in order. There is room for the fences. Want of memory leaves all as it was. (Kernel: "Explicit Fencing
+/// Properties", `OUT_FENCE_PTR`.)
+fn make_out_fences(
+    alloc: Global,
+    things: &mut Things,
+    fences: &mut Fences,
+    client: u32,
+    labels: &[Option<u32>],
+) -> Result<(), NoMemory>
+    requires few { length labels.now ≤ 4 }
+    requires ids { HasIds things.old }
+    requires below { AreBelow things.old.next_id fences.old.slots }
+    requires room { length labels.now ≤ fences.old.room }
+    ensures made { OnOk result ((w : World) (assigns : List Assign) (crtcs : List ℕ)
+        → labels.now ≡ map (out_fence_label assigns) crtcs
+        → make_out_fences client assigns (with_made w things.old) crtcs ≡ with_made w things.new) }
+    ensures counted { things.new.fbs ≡ things.old.fbs }
+    ensures fences { OnOk result (fences.new.slots
+        ≡ fences.old.slots ++ fences_for things.old.next_id labels.now) }
+    ensures same_things { OnErr result (things.new ≡ things.old) }
+    ensures same_fences { OnErr result (fences.new ≡ fences.old) }
+{
+    let first = things.next_id();
+    things.make_out_fences(client, labels)?;
+    make_fences(alloc, fences, first, labels);
+    Ok(())
+}
+
+/// Replies to a client that its command with a number became a commit, and puts the command into the journal.
+fn reply_commit(
+    journal: &mut Log<(u32, u32)>,
+    replies: &mut Log<Answered>,
+    client: u32,
+    command: u32,
+    commit: u32,
+)
+    requires journal { 0 < journal.old.room }
+    requires replies { 0 < replies.old.room }
+    ensures journal { journal.new.items ≡ joined journal.old.items true client command }
+    ensures replies { replies.new.items ≡ replies.old.items
+        ++ answered client command (length journal.old.items) (reply.Commit commit) ∷ [] }
+{
+    let reply = Reply::Commit { commit };
+    answer(journal, replies, client, command, reply);
+    join(journal, client, command, &reply);
+}
+
 /// How many events a request asks for: one for each CRTC that it names, or none.
 pub(crate) fn events_of(flags: u32, named: u32) -> u32
     ensures count { result ≡ events_of flags named }
@@ -223,6 +272,51 @@ pub(crate) fn events_of(flags: u32, named: u32) -> u32
     } else {
         0
     }
+}
+
+/// Takes all memory that a commit needs: for its records, for the steps and the latches of its tail, for its fences, for so
+/// many events, and for its tail. What is stored stays.
+pub(crate) fn make_commit_room(
+    alloc: Global,
+    steps: &mut Log<Step>,
+    journal: &mut Log<(u32, u32)>,
+    replies: &mut Log<Answered>,
+    latches: &mut Log<Latch>,
+    fences: &mut Fences,
+    queue: &mut EventQueue,
+    tracker: &mut Tracker,
+    tails: &mut Tails,
+    checked: &Checked,
+    in_fences: &Seq<(ObjId, u32)>,
+    events: u32,
+) -> Result<(), NoMemory>
+    ensures steps { steps.new.items ≡ steps.old.items }
+    ensures journal { journal.new.items ≡ journal.old.items }
+    ensures replies { replies.new.items ≡ replies.old.items }
+    ensures latches { latches.new.items ≡ latches.old.items }
+    ensures steps_kept { steps.old.room ≤ steps.new.room }
+    ensures latches_kept { latches.old.room ≤ latches.new.room }
+    ensures fences { fences.new.slots ≡ fences.old.slots }
+    ensures reserved { queue.new.reserved ≡ queue.old.reserved }
+    ensures unread { queue.new.unread ≡ queue.old.unread }
+    ensures count { tracker.new.count ≡ tracker.old.count }
+    ensures lasts { tracker.new.lasts ≡ tracker.old.lasts }
+    ensures pending { tracker.new.pending.slots ≡ tracker.old.pending.slots }
+    ensures tails { StandsAlike tails.old tails.new }
+    ensures journal_room { OnOk result (0 < journal.new.room) }
+    ensures replies_room { OnOk result (0 < replies.new.room) }
+    ensures steps_room { OnOk result (31 * length tails.old.slots + 32 ≤ steps.new.room) }
+    ensures latches_room { OnOk result (31 * length tails.old.slots + 31 ≤ latches.new.room) }
+    ensures fences_room { OnOk result (4 ≤ fences.new.room) }
+    ensures events_room { OnOk result (events ≤ queue.new.room) }
+    ensures commit_room { OnOk result (0 < tracker.new.pending.room) }
+    ensures tail_room { OnOk result (0 < tails.new.room) }
+{
+    make_room(steps, journal, replies, tails)?;
+    make_spare(steps, latches, tails)?;
+    make_tail_room(
+        alloc, fences, queue, tracker, tails, checked, in_fences, events,
+    )
 }
 
 /// Takes memory for the fences of a commit, for so many events, and for its tail. What is stored stays.

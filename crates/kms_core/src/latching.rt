@@ -1,24 +1,35 @@
 //! Flushes and vertical blankings, at which commits latch.
 ghost use Rattle.std.specs.Prelude.{◌≡◌, ◌<◌, ◌≤◌, IfOk, IsOk, [], ◌∷◌, None, Some, length, slice_index_or, true};
 ghost use Rattle.kms_model.specs.declared.objects.Kind.TheVariants.{Crtc};
+ghost use Rattle.kms_model.specs.declared.objects.Topology.{Topology};
 ghost use Rattle.kms_model.specs.declared.replies.Step.TheVariants as step;
+ghost use Rattle.kms_model.specs.Device.Objects.{object_id};
+ghost use Rattle.kms_model.specs.Machine.State.{DeviceState, count_at};
 ghost use Rattle.kms_model.specs.Stores.Tables.{value_with_id};
+ghost use Rattle.kms_regs.specs.File.{StandsFor};
+ghost use Rattle.kms_signal.specs.Rooms.{Rooms};
 ghost use Rattle.kms_signal.specs.StepLaws.{with_signal};
 ghost use Rattle.kms_tails.specs.declared.tail.Tail.{Tail as CommitTail};
 ghost use Rattle.kms_tails.specs.InStep.{StandsAfterLatch};
 ghost use Rattle.kms_track.specs.Tracking.{changed, with_latch};
+ghost use Rattle.kms_freeing.specs.Freeing.{framebuffers_in};
 ghost use Rattle.kms_core.specs.Latching.{IsLatching, MayBlank, MayFlush, event_told, goes_at, told_if};
+ghost use Rattle.kms_core.specs.Needs.{Frees};
 ghost use Rattle.kms_core.specs.Run.{Run, machine, gains, if_ok};
 ghost use Rattle.kms_core.specs.Stands.{queue_of};
+ghost use Rattle.kms_core.specs.Work.{AreFewTails};
 
 use crate::freeing::free;
 use crate::machine::Core;
 use crate::making::signal_fence;
 use crate::records::make_step_room;
 use kms_freeing::shown_ids;
-use kms_model::{Kind, Latch, NoMemory, ObjId, Step};
+use kms_logs::Ledger;
+use kms_model::{Duplicates, Kind, Latch, NoMemory, ObjId, Picture, Step};
+use kms_regs::RegFile;
 use kms_signal::{EventQueue, Fences, flip_event};
 use kms_tails::{Tail, Tails};
+use kms_things::Things;
 use kms_track::Tracker;
 
 impl Core {
@@ -35,35 +46,26 @@ impl Core {
             index: crtc,
         });
         self.tails.flushed(commit, crtc);
-        let shown_ids = shown_ids(&self.registers.decode_live(crtc));
+        let ids_before = shown_ids(&self.registers.decode_live(crtc));
         let Some(picture) = self.registers.flush(crtc) else {
             self.goes[crtc as usize] = Some(commit);
             return;
         };
-        let count = self.registers.count(crtc);
-        let shown = Latch {
-            crtc,
-            commit,
-            count,
-            picture,
-        };
-        latch(
+        let shown = latch_of(&self.registers, crtc, commit, picture);
+        show(
             &mut self.tails,
             &mut self.tracker,
             &mut self.fences,
             &mut self.queues,
-            &shown,
-        );
-        self.latches.push(shown);
-        free(
             &mut self.freed,
             &self.things,
             &self.present,
             &self.registers,
-            &self.tails,
             self.script.topology.crtcs,
-            shown_ids.as_slice(),
+            &shown,
+            ids_before.as_slice(),
         );
+        self.latches.push(shown);
     }
 
     /// The CRTC with an index has a vertical blanking, which is counted. True exactly where it goes: the commit that
@@ -92,32 +94,79 @@ impl Core {
             unreachable!();
         };
         self.goes[crtc as usize] = None;
-        let count = self.registers.count(crtc);
-        let shown = Latch {
-            crtc,
-            commit,
-            count,
-            picture,
-        };
-        latch(
+        let shown = latch_of(&self.registers, crtc, commit, picture);
+        show(
             &mut self.tails,
             &mut self.tracker,
             &mut self.fences,
             &mut self.queues,
-            &shown,
-        );
-        self.latches.push(shown);
-        free(
             &mut self.freed,
             &self.things,
             &self.present,
             &self.registers,
-            &self.tails,
             self.script.topology.crtcs,
+            &shown,
             ids_before.as_slice(),
         );
+        self.latches.push(shown);
         Ok(true)
     }
+}
+
+/// What the CRTC with an index, from 0 to 3, latches: a picture of a commit, with its count of vertical blankings so far.
+fn latch_of(registers: &RegFile, crtc: u32, commit: u32, picture: Picture) -> Latch
+    requires { crtc < 4 }
+    ensures shown { result ≡ record {
+      crtc = crtc;
+      commit = commit;
+      count = result.count;
+      picture = picture;
+    } }
+    ensures count { (t : Topology) (d : DeviceState) → StandsFor t d registers.now
+        → result.count ≡ count_at d (object_id Crtc crtc) }
+{
+    Latch {
+        crtc,
+        commit,
+        count: registers.count(crtc),
+        picture,
+    }
+}
+
+/// A commit latches at a CRTC. Of the framebuffers that the picture before named, given by their ids, those are freed that
+/// nothing needs any more. There is a place for each.
+fn show(
+    tails: &mut Tails,
+    tracker: &mut Tracker,
+    fences: &mut Fences,
+    queues: &mut Vec<EventQueue>,
+    freed: &mut Ledger<(u32, u32)>,
+    things: &Things,
+    present: &Duplicates,
+    registers: &RegFile,
+    crtcs: u32,
+    shown: &Latch,
+    ids_before: &[u32],
+)
+    requires crtc { shown.now.crtc < 4 }
+    requires crtcs { crtcs ≤ 4 }
+    requires there { IsLatching tails.old queues.old.items shown.now }
+    requires few { (left : Rooms CommitTail)
+        → StandsAfterLatch shown.now.commit shown.now.crtc tails.old left → AreFewTails left }
+    requires places { framebuffers_in things.now.things ids_before.now ≤ freed.old.places }
+    ensures tails { StandsAfterLatch shown.now.commit shown.now.crtc tails.old tails.new }
+    ensures tracker { tracker.new
+        ≡ changed tracker.old shown.now.commit (with_latch shown.now.crtc) }
+    ensures fences { (x : CommitTail) → value_with_id tails.old.slots shown.now.commit ≡ Some x
+        → fences.new ≡ with_signal fences.old (slice_index_or x.out_fences shown.now.crtc None) }
+    ensures queues { (x : CommitTail) → value_with_id tails.old.slots shown.now.commit ≡ Some x
+        → queues.new.items
+        ≡ told_if x.wants_event x.client (event_told x shown.now) queues.old.items }
+    ensures freed { Frees things.now present.now registers.now tails.new crtcs ids_before.now
+        freed.old freed.new }
+{
+    latch(tails, tracker, fences, queues, shown);
+    free(freed, things, present, registers, tails, crtcs, ids_before);
 }
 
 /// A commit latches at a CRTC: its event for the CRTC is delivered if it asks for one, and its out-fence there is

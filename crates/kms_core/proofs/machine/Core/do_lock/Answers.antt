@@ -1,22 +1,22 @@
 use Rattle.std.proofs.Common.{◌∙◌, ap, sym}
 use Rattle.kms_core.specs.Run.{gains}
 use Rattle.kms_core.proofs.Insides.{run_of, stores_of}
-use Rattle.kms_core.proofs.Applied.{lock_asked, lock_index, lock_named, lock_there, locked_step}
+use Rattle.kms_core.proofs.Applied.{few_now, lock_asked, lock_index, lock_named, lock_there, locked_step}
 use Rattle.kms_core.proofs.machine.Core.do_lock.Goals as goal
 
 pub unreachable-requires : goal.unreachable-requires
 unreachable-requires c = lock_there c.args.self.now c.args.client c.args.kind c.args.index c.doing.result c.requires c.doing.ensures c.in_default.not-Taking
 
 pub of-requires : goal.of-requires
-of-requires c = lock_index (run_of c.self.inside) c.args.self.now (stores_of c.self.inside) c.self.invariant.stands c.self.view_is c.args.client c.args.kind c.args.index c.requires
+of-requires c = lock_index c.args.self.now (few_now (run_of c.self.inside) c.args.self.now (stores_of c.self.inside) c.self.invariant.stands c.self.view_is) c.args.client c.args.kind c.args.index c.requires
 
 pub lock-requires : goal.lock-requires
-lock-requires c = lock_asked (run_of c.self.inside) c.args.self.now (stores_of c.self.inside) c.self.invariant.stands c.self.view_is c.args.client c.args.kind c.args.index c.doing.result c.in-Taking.ticket c.of.result c.requires c.doing.ensures c.in-Taking.is c.of.ensures
+lock-requires c = lock_asked c.args.self.now (few_now (run_of c.self.inside) c.args.self.now (stores_of c.self.inside) c.self.invariant.stands c.self.view_is) c.args.client c.args.kind c.args.index c.doing.result c.in-Taking.ticket c.of.result c.requires c.doing.ensures c.in-Taking.is c.of.ensures
 
 pub returns : goal.returns
 returns c =
     let taking = sym c.doing.ensures ∙ c.in-Taking.is in
     record {
       history = c.in_ok-_answer.ensures.history c.args.client taking
-          ∙ ap (gains c.args.self.now) (locked_step c.args.self.now c.args.client c.args.kind c.args.index c.of.result c.in_ok-_answer._answer c.requires (lock_named (run_of c.self.inside) c.args.self.now (stores_of c.self.inside) c.self.invariant.stands c.self.view_is c.args.client c.args.kind c.args.index c.of.result c.requires c.of.ensures) c.of.ensures (c.in_ok-_answer.ensures.answer c.args.client taking));
+          ∙ ap (gains c.args.self.now) (locked_step c.args.self.now c.args.client c.args.kind c.args.index c.of.result c.in_ok-_answer._answer c.requires (lock_named c.args.self.now (few_now (run_of c.self.inside) c.args.self.now (stores_of c.self.inside) c.self.invariant.stands c.self.view_is) c.args.client c.args.kind c.args.index c.of.result c.requires c.of.ensures) c.of.ensures (c.in_ok-_answer.ensures.answer c.args.client taking));
     }

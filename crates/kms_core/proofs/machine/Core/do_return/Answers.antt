@@ -2,11 +2,11 @@ use Rattle.std.proofs.Common.{◌∙◌, ap}
 use Rattle.kms_core.specs.Calls.{return_step}
 use Rattle.kms_core.specs.Run.{gains}
 use Rattle.kms_core.proofs.Insides.{run_of, stores_of}
-use Rattle.kms_core.proofs.Applied.{return_asked, return_done}
+use Rattle.kms_core.proofs.Applied.{history_now, return_asked, return_done}
 use Rattle.kms_core.proofs.machine.Core.do_return.Goals as goal
 
 pub return_from-requires : goal.return_from-requires
-return_from-requires c = return_asked (run_of c.self.inside) c.args.self.now (stores_of c.self.inside) c.self.invariant.stands c.self.view_is c.args.client c.requires
+return_from-requires c = return_asked c.args.self.now (history_now (run_of c.self.inside) c.args.self.now (stores_of c.self.inside) c.self.invariant.stands c.self.view_is) c.args.client c.requires
 
 pub returns : goal.returns
 returns c = record { history = c.in_ok-_over.ensures.history ∙ ap (λ b. gains c.args.self.now (return_step c.args.client b)) (c.in_ok-_over.ensures.answer ∙ return_done c.args.self.now c.args.client c.requires) }

@@ -36,15 +36,16 @@ invariant_of-self c =
     refl c.push.ensures.items refl c.flushed.ensures.stands c.in_default.ensures.stands c.in_default.ensures.picture in
     record { stands = stands; spare = own_spared r st _ step c.args.commit c.push.new.self.items _ _ _ c.self.invariant.stands stands c.push.ensures.items own c.self.invariant.spare c.push.ensures.room }
 
-pub count-count-requires : goal.count-count-requires
-count-count-requires c = (flushes_next (run_of c.self.inside) c.args.self.now (stores_of c.self.inside) c.args.commit c.args.crtc c.self.invariant.stands c.self.view_is c.requires).low
+pub latch_of-shown-requires : goal.latch_of-shown-requires
+latch_of-shown-requires c = (flushes_next (run_of c.self.inside) c.args.self.now (stores_of c.self.inside) c.args.commit c.args.crtc c.self.invariant.stands c.self.view_is c.requires).low
 
-pub latch-requires-clause-crtc : goal.latch-requires-clause-crtc
-latch-requires-clause-crtc c = (flushes_next (run_of c.self.inside) c.args.self.now (stores_of c.self.inside) c.args.commit c.args.crtc c.self.invariant.stands c.self.view_is c.requires).low
+pub show-requires-clause-crtc : goal.show-requires-clause-crtc
+show-requires-clause-crtc c = rw c.latch_of-shown.ensures.shown (flushes_next (run_of c.self.inside) c.args.self.now (stores_of c.self.inside) c.args.commit c.args.crtc c.self.invariant.stands c.self.view_is c.requires).low
 
-pub latch-requires-clause-there : goal.latch-requires-clause-there
-latch-requires-clause-there c =
-    flush_latches (run_of c.self.inside) c.args.self.now (stores_of c.self.inside) c.args.commit c.args.crtc c.count-count.result c.in-Some.picture c.flushed.new.self c.self.invariant.stands c.self.view_is c.requires c.flushed.ensures.stands
+pub show-requires-clause-there : goal.show-requires-clause-there
+show-requires-clause-there c =
+    rw c.latch_of-shown.ensures.shown
+    (flush_latches (run_of c.self.inside) c.args.self.now (stores_of c.self.inside) c.args.commit c.args.crtc c.latch_of-shown.result.count c.in-Some.picture c.flushed.new.self c.self.invariant.stands c.self.view_is c.requires c.flushed.ensures.stands)
 
 pub push-requires-2 : goal.push-requires-2
 push-requires-2 c =
@@ -57,44 +58,46 @@ push-requires-2 c =
 pub decode_live-requires : goal.decode_live-requires
 decode_live-requires c = (flushes_next (run_of c.self.inside) c.args.self.now (stores_of c.self.inside) c.args.commit c.args.crtc c.self.invariant.stands c.self.view_is c.requires).low
 
-pub shown_ids-shown_ids-requires : goal.shown_ids-shown_ids-requires
-shown_ids-shown_ids-requires c = live_few (run_of c.self.inside) (stores_of c.self.inside) (object_id Crtc c.args.crtc) c.decode_live.result c.self.invariant.stands (λ t d stand. c.decode_live.ensures t d stand)
+pub shown_ids-ids_before-requires : goal.shown_ids-ids_before-requires
+shown_ids-ids_before-requires c = live_few (run_of c.self.inside) (stores_of c.self.inside) (object_id Crtc c.args.crtc) c.decode_live.result c.self.invariant.stands (λ t d stand. c.decode_live.ensures t d stand)
 
-pub free-requires-clause-places : goal.free-requires-clause-places
-free-requires-clause-places c =
+pub show-requires-clause-places : goal.show-requires-clause-places
+show-requires-clause-places c =
     live_places (run_of c.self.inside) (stores_of c.self.inside) (object_id Crtc c.args.crtc) c.as_slice.result.now c.self.invariant.stands
     (flushes_next (run_of c.self.inside) c.args.self.now (stores_of c.self.inside) c.args.commit c.args.crtc c.self.invariant.stands c.self.view_is c.requires).flush.is_crtc
-    (live_all (run_of c.self.inside) (stores_of c.self.inside) (object_id Crtc c.args.crtc) c.decode_live.result c.shown_ids-shown_ids.result.items c.as_slice.result.now c.self.invariant.stands c.shown_ids-shown_ids.ensures (λ t d stand. c.decode_live.ensures t d stand) c.as_slice.ensures.value)
+    (live_all (run_of c.self.inside) (stores_of c.self.inside) (object_id Crtc c.args.crtc) c.decode_live.result c.shown_ids-ids_before.result.items c.as_slice.result.now c.self.invariant.stands c.shown_ids-ids_before.ensures (λ t d stand. c.decode_live.ensures t d stand) c.as_slice.ensures.value)
 
-pub free-requires-clause-few : goal.free-requires-clause-few
-free-requires-clause-few c =
-    few_flushed (run_of c.self.inside) c.args.self.now (stores_of c.self.inside) c.args.commit c.args.crtc c.flushed.new.self c.latch.new.tails c.self.invariant.stands c.self.view_is c.requires c.flushed.ensures.stands c.latch.ensures.tails
+pub show-requires-clause-few : goal.show-requires-clause-few
+show-requires-clause-few c =
+    rw c.latch_of-shown.ensures.shown
+    (λ left latches. few_flushed (run_of c.self.inside) c.args.self.now (stores_of c.self.inside) c.args.commit c.args.crtc c.flushed.new.self left c.self.invariant.stands c.self.view_is c.requires c.flushed.ensures.stands latches)
 
 pub invariant_of-self-2 : goal.invariant_of-self-2
 invariant_of-self-2 c =
     let r = run_of c.self.inside in
     let st = stores_of c.self.inside in
     let step = Flush c.args.commit Crtc c.args.crtc in
+    let shown = c.latch_of-shown.ensures.shown in
     let own = own_step r st step c.args.commit c.self.invariant.stands refl refl (flushes_next r c.args.self.now st c.args.commit c.args.crtc c.self.invariant.stands c.self.view_is c.requires).is_legal in
     let stands =
-    flushes_off r c.args.self.now st c.args.commit c.args.crtc c.count-count.result c.in-Some.picture c.flush.new.self c.flushed.new.self c.latch.new.tails c.latch.new.tracker c.latch.new.fences
-    c.latch.new.queues.items st.latches.items c.push-2.new.self r.steps c.push.new.self.items c.self.invariant.stands c.self.view_is c.requires refl c.push.ensures.items
+    flushes_off r c.args.self.now st c.args.commit c.args.crtc c.latch_of-shown.result.count c.in-Some.picture c.flush.new.self c.flushed.new.self c.show.new.tails c.show.new.tracker c.show.new.fences
+    c.show.new.queues.items st.latches.items c.push-2.new.self r.steps c.push.new.self.items c.self.invariant.stands c.self.view_is c.requires refl c.push.ensures.items
     (record {
       flushes = c.in-Some.ensures.stands;
       tells = c.in-Some.ensures.picture;
       latched = c.in-Some.ensures.latched;
-      counted = c.count-count.ensures.device;
+      counted = c.latch_of-shown.ensures.count;
       marked = c.flushed.ensures.stands;
-      tails_now = c.latch.ensures.tails;
-      tracker_now = c.latch.ensures.tracker;
-      fences_now = c.latch.ensures.fences;
-      queues_now = c.latch.ensures.queues;
+      tails_now = rw shown at c.show.ensures.tails;
+      tracker_now = rw shown at c.show.ensures.tracker;
+      fences_now = rw shown at c.show.ensures.fences;
+      queues_now = rw shown at c.show.ensures.queues;
       recorded = refl;
-      recorded_now = c.push-2.ensures.items;
+      recorded_now = rw shown at c.push-2.ensures.items;
     })
-    c.as_slice.result.now c.free.new.freed
-    (live_all r st (object_id Crtc c.args.crtc) c.decode_live.result c.shown_ids-shown_ids.result.items c.as_slice.result.now c.self.invariant.stands c.shown_ids-shown_ids.ensures (λ t d stand. c.decode_live.ensures t d stand) c.as_slice.ensures.value)
-    c.free.ensures in
+    c.as_slice.result.now c.show.new.freed
+    (live_all r st (object_id Crtc c.args.crtc) c.decode_live.result c.shown_ids-ids_before.result.items c.as_slice.result.now c.self.invariant.stands c.shown_ids-ids_before.ensures (λ t d stand. c.decode_live.ensures t d stand) c.as_slice.ensures.value)
+    c.show.ensures.freed in
     record {
       stands = stands;
       spare = tail_spared r st _ step c.args.commit r.steps c.push.new.self.items _ _ _ _ c.self.invariant.stands stands refl c.push.ensures.items own.within own.of c.self.invariant.spare c.push.ensures.room c.push-2.ensures.room;

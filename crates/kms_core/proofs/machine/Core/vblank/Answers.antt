@@ -54,9 +54,13 @@ unreachable-requires c =
     has_picture (run_of c.self.inside) (stores_of c.self.inside) c.in-Some.commit c.args.crtc c.self.invariant.stands
     (blanks_low (run_of c.self.inside) c.args.self.now (stores_of c.self.inside) c.args.crtc c.self.invariant.stands c.self.view_is c.requires) c.in-Some.is c.in_default-vblank.ensures.picture
 
-pub latch-requires-clause-there : goal.latch-requires-clause-there
-latch-requires-clause-there c =
-    blank_latches (run_of c.self.inside) c.args.self.now (stores_of c.self.inside) c.in-Some.commit c.args.crtc c.count-count.result c.in-Some-vblank.picture c.self.invariant.stands c.self.view_is c.requires c.in-Some.is
+pub show-requires-clause-crtc : goal.show-requires-clause-crtc
+show-requires-clause-crtc c = rw c.latch_of-shown.ensures.shown (blanks_low (run_of c.self.inside) c.args.self.now (stores_of c.self.inside) c.args.crtc c.self.invariant.stands c.self.view_is c.requires)
+
+pub show-requires-clause-there : goal.show-requires-clause-there
+show-requires-clause-there c =
+    rw c.latch_of-shown.ensures.shown
+    (blank_latches (run_of c.self.inside) c.args.self.now (stores_of c.self.inside) c.in-Some.commit c.args.crtc c.latch_of-shown.result.count c.in-Some-vblank.picture c.self.invariant.stands c.self.view_is c.requires c.in-Some.is)
 
 pub push-requires-3 : goal.push-requires-3
 push-requires-3 c =
@@ -76,42 +80,44 @@ decode_live-requires c = blanks_low (run_of c.self.inside) c.args.self.now (stor
 pub shown_ids-ids_before-requires : goal.shown_ids-ids_before-requires
 shown_ids-ids_before-requires c = live_few (run_of c.self.inside) (stores_of c.self.inside) (object_id Crtc c.args.crtc) c.decode_live.result c.self.invariant.stands (λ t d stand. c.decode_live.ensures t d stand)
 
-pub free-requires-clause-places : goal.free-requires-clause-places
-free-requires-clause-places c =
+pub show-requires-clause-places : goal.show-requires-clause-places
+show-requires-clause-places c =
     let r = run_of c.self.inside in
     let st = stores_of c.self.inside in
     live_places r st (object_id Crtc c.args.crtc) c.as_slice.result.now c.self.invariant.stands
     (blanks_crtc r c.args.self.now st c.in-Some.commit c.args.crtc c.self.invariant.stands c.self.view_is c.requires c.in-Some.is)
     (live_all r st (object_id Crtc c.args.crtc) c.decode_live.result c.shown_ids-ids_before.result.items c.as_slice.result.now c.self.invariant.stands c.shown_ids-ids_before.ensures (λ t d stand. c.decode_live.ensures t d stand) c.as_slice.ensures.value)
 
-pub free-requires-clause-few : goal.free-requires-clause-few
-free-requires-clause-few c =
-    few_blanked (run_of c.self.inside) c.args.self.now (stores_of c.self.inside) c.in-Some.commit c.args.crtc c.latch.new.tails c.self.invariant.stands c.self.view_is c.requires c.in-Some.is c.latch.ensures.tails
+pub show-requires-clause-few : goal.show-requires-clause-few
+show-requires-clause-few c =
+    rw c.latch_of-shown.ensures.shown
+    (λ left latches. few_blanked (run_of c.self.inside) c.args.self.now (stores_of c.self.inside) c.in-Some.commit c.args.crtc left c.self.invariant.stands c.self.view_is c.requires c.in-Some.is latches)
 
 pub invariant_of-self-2 : goal.invariant_of-self-2
 invariant_of-self-2 c =
     let r = run_of c.self.inside in
     let st = stores_of c.self.inside in
     let step = Vblank Crtc c.args.crtc in
+    let shown = c.latch_of-shown.ensures.shown in
     let B = blanks_for r c.args.self.now st c.in-Some.commit c.args.crtc c.self.invariant.stands c.self.view_is c.requires c.in-Some.is in
     let stands =
-    blanks_with r c.args.self.now st c.in-Some.commit c.args.crtc c.count-count.result c.in-Some-vblank.picture c.vblank.new.self c.latch.new.tails c.latch.new.tracker c.latch.new.fences
-    c.latch.new.queues.items st.latches.items c.push-3.new.self r.steps c.push-2.new.self.items c.self.invariant.stands c.self.view_is c.requires refl c.push-2.ensures.items
+    blanks_with r c.args.self.now st c.in-Some.commit c.args.crtc c.latch_of-shown.result.count c.in-Some-vblank.picture c.vblank.new.self c.show.new.tails c.show.new.tracker c.show.new.fences
+    c.show.new.queues.items st.latches.items c.push-3.new.self r.steps c.push-2.new.self.items c.self.invariant.stands c.self.view_is c.requires refl c.push-2.ensures.items
     (record {
       go = c.in-Some.is;
       blanks = c.in-Some-vblank.ensures.stands;
       tells = c.in-Some-vblank.ensures.picture;
-      counted = c.count-count.ensures.device;
-      tails_now = c.latch.ensures.tails;
-      tracker_now = c.latch.ensures.tracker;
-      fences_now = c.latch.ensures.fences;
-      queues_now = c.latch.ensures.queues;
+      counted = c.latch_of-shown.ensures.count;
+      tails_now = rw shown at c.show.ensures.tails;
+      tracker_now = rw shown at c.show.ensures.tracker;
+      fences_now = rw shown at c.show.ensures.fences;
+      queues_now = rw shown at c.show.ensures.queues;
       recorded = refl;
-      recorded_now = c.push-3.ensures.items;
+      recorded_now = rw shown at c.push-3.ensures.items;
     })
-    c.as_slice.result.now c.free.new.freed
+    c.as_slice.result.now c.show.new.freed
     (live_all r st (object_id Crtc c.args.crtc) c.decode_live.result c.shown_ids-ids_before.result.items c.as_slice.result.now c.self.invariant.stands c.shown_ids-ids_before.ensures (λ t d stand. c.decode_live.ensures t d stand) c.as_slice.ensures.value)
-    c.free.ensures in
+    c.show.ensures.freed in
     record {
       stands = stands;
       spare = tail_spared r st _ step c.in-Some.commit r.steps c.push-2.new.self.items _ _ _ _ c.self.invariant.stands stands refl c.push-2.ensures.items B.within B.go c.self.invariant.spare c.push-2.ensures.room c.push-3.ensures.room;
