@@ -16,7 +16,8 @@ impl Core {
     pub fn apply(&mut self, alloc: Global, step: &Step) -> Result<(), NoMemory>
         requires { IsLegal self.old step.now }
         ensures history { self.new ≡ gains self.old (if_ok result (λ u. step.now ∷ [])) }
-        ensures no_memory { (k : ℕ) → commit_of_step (machine self.old) step.now ≡ Some k → IsOk result }
+        ensures no_memory { (k : ℕ) → commit_of_step (machine self.old) step.now ≡ Some k
+            → IsOk result }
     {
         match *step {
             Step::Begin { client } => self.do_begin(alloc, client),
@@ -83,7 +84,8 @@ impl Core {
     /// Asks for an object for a client that takes locks: it is free, or an older context holds it.
     fn do_lock(&mut self, client: u32, kind: Kind, index: u32) -> Result<(), NoMemory>
         requires { IsLegal self.old (step.Lock client kind index) }
-        ensures history { self.new ≡ gains self.old (if_ok result (λ u. step.Lock client kind index ∷ [])) }
+        ensures history { self.new
+            ≡ gains self.old (if_ok result (λ u. step.Lock client kind index ∷ [])) }
     {
         let _ = &self.script;
         let Doing::Taking(ticket) = self.doing(client) else {
@@ -195,8 +197,10 @@ impl Core {
     /// A CRTC that goes or is on has a vertical blanking.
     fn do_vblank(&mut self, kind: Kind, index: u32) -> Result<(), NoMemory>
         requires { IsLegal self.old (step.Vblank kind index) }
-        ensures history { self.new ≡ gains self.old (if_ok result (λ u. step.Vblank kind index ∷ [])) }
-        ensures no_memory { (k : ℕ) → commit_of_step (machine self.old) (step.Vblank kind index) ≡ Some k
+        ensures history { self.new
+            ≡ gains self.old (if_ok result (λ u. step.Vblank kind index ∷ [])) }
+        ensures no_memory { (k : ℕ)
+            → commit_of_step (machine self.old) (step.Vblank kind index) ≡ Some k
             → IsOk result }
     {
         let Kind::Crtc = kind else {

@@ -134,9 +134,11 @@ impl Core {
 
     /// The reply that refuses the request for which a client takes locks, where it may be refused.
     pub(crate) fn refusal_reply(&self, client: u32, request: &Request) -> Reply
-        requires taken { Some request.now ≡ request_taken self.now.script (machine self.now) client }
+        requires taken { Some request.now
+            ≡ request_taken self.now.script (machine self.now) client }
         requires refused { may self.now.script (machine self.now) (step.Refuse client) ≡ true }
-        ensures { result ≡ refusal_reply self.now.script.topology (machine self.now) client request.now
+        ensures { result
+            ≡ refusal_reply self.now.script.topology (machine self.now) client request.now
             (verdict self.now.script.topology (machine self.now).device.world request.now) }
     {
         if let Some(why) = early(&self.script.topology, request, &Now(&self.things)) {

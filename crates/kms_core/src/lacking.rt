@@ -26,7 +26,8 @@ use kms_request::{affected, only_crtcs};
 impl Core {
     /// The lock that a client takes next for a request.
     pub(crate) fn lock_step(&self, client: u32, request: &Request) -> Option<Step>
-        requires taken { Some request.now ≡ request_taken self.now.script (machine self.now) client }
+        requires taken { Some request.now
+            ≡ request_taken self.now.script (machine self.now) client }
         requires none { early_in self.now.script.topology (world self.now) request.now ≡ None }
         ensures { result ≡ option_map (lock_step client)
             (next_lock self.now.script (machine self.now) client request.now) }

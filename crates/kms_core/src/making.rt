@@ -27,7 +27,8 @@ impl Core {
     pub fn make(&mut self, alloc: Global, client: u32) -> Result<Reply, NoMemory>
         requires { MayMake self.old client }
         ensures reply { IfOk result (λ reply. reply ≡ reply_at self.old client) }
-        ensures history { self.new ≡ gains self.old (if_ok result (λ reply. step.Make client ∷ [])) }
+        ensures history { self.new
+            ≡ gains self.old (if_ok result (λ reply. step.Make client ∷ [])) }
     {
         make_room(
             &mut self.steps,
@@ -67,7 +68,8 @@ impl Core {
     pub fn signal(&mut self, client: u32) -> Result<Reply, NoMemory>
         requires { MaySignal self.old client }
         ensures reply { IfOk result (λ reply. reply ≡ reply_at self.old client) }
-        ensures history { self.new ≡ gains self.old (if_ok result (λ reply. step.Signal client ∷ [])) }
+        ensures history { self.new
+            ≡ gains self.old (if_ok result (λ reply. step.Signal client ∷ [])) }
     {
         make_room(
             &mut self.steps,

@@ -96,7 +96,8 @@ impl Core {
     /// Whether the tail of a commit has a step. Those that are cleaned have none.
     fn has_tail_step(&self) -> bool
         ensures { result ≡ list_any (may self.now.script (machine self.now))
-            (flat_map (steps_of_commit self.now.script.topology) (commit_numbers (machine self.now))) }
+            (flat_map (steps_of_commit self.now.script.topology)
+            (commit_numbers (machine self.now))) }
     {
         let mut from = 0;
         'seeking: while let Some(commit) = self.tails.first_from(from) {

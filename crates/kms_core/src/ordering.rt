@@ -54,7 +54,8 @@ impl Core {
     /// The next step of a client that takes locks for a request. The request is judged once.
     fn taking_step(&self, client: u32, request: &Request) -> Option<Step>
         requires going { (machine self.now).stalled ≡ false }
-        requires taken { Some request.now ≡ request_taken self.now.script (machine self.now) client }
+        requires taken { Some request.now
+            ≡ request_taken self.now.script (machine self.now) client }
         ensures { result ≡ client_step self.now.script (machine self.now) client }
     {
         let Some(judged) = self.judged(client, request) else {

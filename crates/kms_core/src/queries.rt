@@ -68,7 +68,8 @@ impl Core {
     /// A framebuffer is freed by the step after which nothing needs it any more: it is closed, and no plane, no picture that
     /// a CRTC shows and no commit that is not cleaned up names it. (Kernel: `drm_framebuffer_put`.)
     pub fn freed(&self) -> &[(u32, u32)]
-        ensures { result.now ≡ map label_and_id (framebuffers.freed self.now.script self.now.steps) }
+        ensures { result.now
+            ≡ map label_and_id (framebuffers.freed self.now.script self.now.steps) }
     {
         self.freed.as_slice()
     }
