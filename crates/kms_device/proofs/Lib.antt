@@ -1,0 +1,6 @@
+pub mod Runs
+pub mod Counting
+pub mod Legals
+pub mod Staying
+pub mod Turning
+pub mod Found

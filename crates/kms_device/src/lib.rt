@@ -1,0 +1,11 @@
+//! The device that threads share: the machine behind a lock whose history they see grow.
+#![tactic(auto)]
+
+mod commands;
+mod contexts;
+mod device;
+mod kernel;
+mod workers;
+
+pub use device::Device;
+pub use kernel::{Kernel, Pass};
