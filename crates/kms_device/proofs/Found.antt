@@ -28,7 +28,7 @@ idle-same s m m2 client test e h =
     and_from (is_idle (doing_at m2 client)) _ (ap (λ (p : Place). is_idle p.doing) e ∙ both.0) (rw e both.1)
 
 module _ (script : Script) (pass : DevicePass) (found : Run) (f : MayBeFound script pass found) where
-  history : is_history script found.steps ≡ true
+  pub history : is_history script found.steps ≡ true
   history = subst (λ s. is_history s found.steps ≡ true) f.same f.is_open.history
 
   before : Machine

@@ -4,3 +4,6 @@ pub mod Legals
 pub mod Staying
 pub mod Turning
 pub mod Found
+pub mod Holding
+pub mod Takers
+pub mod Deciding

@@ -5,12 +5,15 @@ use Rattle.std.specs.Fn.{FnOnceReturnsAtMut, Once}
 use denote.Ref.{MutBor}
 use Rattle.kms_model.specs.declared.replies.Reply.{Reply}
 use Rattle.kms_model.specs.declared.replies.Step.{Step}
-use Rattle.kms_model.specs.declared.replies.Step.TheVariants.{Claim, Read, Relock, Return}
+use Rattle.kms_model.specs.declared.replies.Step.TheVariants.{Claim, Read, Refuse, Relock, Return}
 use Rattle.kms_model.specs.declared.scripts.Script.{Script}
 use Rattle.kms_histlock.specs.Passes.{MayFind}
 use Rattle.kms_core.specs.declared.contexts.Locked.{Locked}
 use Rattle.kms_core.specs.declared.contexts.Locked.TheVariants as locked
+use Rattle.kms_core.specs.declared.deciding.Decided.{Decided}
+use Rattle.kms_core.specs.declared.deciding.Decided.TheVariants as decided
 use Rattle.kms_core.specs.Calls.{read_step, return_step}
+use Rattle.kms_core.specs.Decisions.{steps_of}
 use Rattle.kms_core.specs.Locks.{relock_steps}
 use Rattle.kms_core.specs.Run.{Run, gains, if_ok}
 use Rattle.kms_core.specs.Work.{claim_steps}
@@ -111,3 +114,10 @@ relocks_of client (Ok (locked.Older holder)) = none_of client
 relocks_of client (Ok (locked.Younger holder)) = none_of client
 relocks_of client (Ok (locked.Held holder)) = none_of client
 relocks_of client (Err e) = none_of client
+
+pub decides_of : {E : Type 0} (client : ℕ) (r : Result Decided E) (x : Step) → is_plain x ≡ true → owner x ≡ client → ArePlainOf client (if_ok r (steps_of client x))
+decides_of client (Ok (decided.Done reply)) x plain own = one_of client x plain (inr own)
+decides_of client (Ok (decided.Refused reply)) x plain own = one_of client (Refuse client) refl (inr refl)
+decides_of client (Ok (decided.NotYet object commit)) x plain own = none_of client
+decides_of client (Ok (decided.Again label was now)) x plain own = none_of client
+decides_of client (Err e) x plain own = none_of client

@@ -3,6 +3,7 @@
 
 mod commands;
 mod contexts;
+mod decisions;
 mod device;
 mod kernel;
 mod workers;
