@@ -1,8 +1,9 @@
 -- Decisions: from what a pass has seen to what its turn finds.
-use Rattle.std.proofs.Common.{◌≡◌, ℕ, ◌≤◌, List, true, Option, Some, None, refl, sym, ap, ◌∙◌, subst, arith, inl, inr, ⊎_elim}
-use Rattle.std.proofs.lemmas.Bool.{ltb-true}
+use Rattle.std.proofs.Common.{◌≡◌, ℕ, ◌≤◌, List, ◌++◌, append_assoc, Bool, true, Option, Some, None, refl, sym, ap, ◌∙◌, subst, arith, inl, inr, ⊎_elim}
+use Rattle.std.proofs.lemmas.Bool.{and_from, ltb-true}
 use Rattle.kms_model.specs.declared.objects.Kind.{Kind}
 use Rattle.kms_model.specs.declared.objects.Kind.TheVariants.{Conn, Crtc, Plane}
+use Rattle.kms_model.specs.declared.objects.ObjId.{ObjId}
 use Rattle.kms_model.specs.declared.objects.Ticket.{Ticket}
 use Rattle.kms_model.specs.declared.replies.Refusal.{Refusal}
 use Rattle.kms_model.specs.declared.runs.Doing.TheVariants as doing
@@ -17,12 +18,14 @@ use Rattle.kms_model.specs.declared.states.ConnState.{ConnState}
 use Rattle.kms_model.specs.declared.states.Duplicates.{Duplicates}
 use Rattle.kms_model.specs.declared.worlds.Look.{Look}
 use Rattle.kms_model.specs.declared.worlds.World.{World}
-use Rattle.kms_model.specs.Device.Objects.{count_of, exists, kind_of, object_id}
+use Rattle.kms_model.specs.Device.Objects.{count_of, exists, index_of, kind_of, object_id}
 use Rattle.kms_model.specs.Device.Serial.{command_of}
-use Rattle.kms_model.specs.Machine.Histories.{at, is_history}
-use Rattle.kms_model.specs.Machine.State.{command_at, doing_at, entry_at, first_machine, holder_at, holds, request_at, request_in}
-use Rattle.kms_model.specs.Request.Agreement.{crtc_state_at}
+use Rattle.kms_model.specs.Machine.Histories.{at, is_history, run_steps}
+use Rattle.kms_model.specs.Machine.State.{Machine, command_at, doing_at, entry_at, first_machine, holder_at, holds, request_at, request_in}
+use Rattle.kms_model.specs.Machine.Steps.{is_lockable, is_taking, taking_at}
+use Rattle.kms_model.specs.Request.Agreement.{AgreesOld, crtc_state_at}
 use Rattle.kms_model.specs.Request.Deciding.{GivesChecked, GivesRefusal, IsOfRequest}
+use Rattle.kms_model.specs.Request.Reach.{reaches}
 use Rattle.kms_model.specs.Request.Refusals.{early_refusal}
 use Rattle.kms_model.specs.Request.Resolves.{IsResolved}
 use Rattle.kms_model.specs.Request.Sets.{look_in}
@@ -33,18 +36,23 @@ use Rattle.kms_model.proofs.KindsOfIds.{kind_of-object}
 use Rattle.kms_model.proofs.TouchedLemmas.{few_objects, few_of}
 use Rattle.kms_laws.proofs.Modes.{plain-from}
 use Rattle.kms_laws.proofs.NeverStuck.{history_along}
+use Rattle.kms_laws.proofs.OldLookUps.{ask_within_reach}
 use Rattle.kms_laws.proofs.Sizes.{command-there}
 use Rattle.kms_laws.proofs.Steps.{IsPlainScript, request-is, value-is}
 use Rattle.kms_track.specs.Places.{object_at}
 use Rattle.kms_core.specs.Decisions.{IsAccepted, IsDeciding, IsRefusedLate, MayRefuse, MayTest, taker, world}
+use Rattle.kms_core.specs.Locks.{IsTaking, MayLock}
 use Rattle.kms_core.specs.Run.{Run, machine}
 use Rattle.kms_core.specs.Swaps.{MaySwap}
-use Rattle.kms_device.specs.Asking.{AreOfLocks, HoldsEach, IsAcceptedWith, IsDecidingFor, IsRefusedWith, MayBeRefused, MayBeSwapped, MayBeTested}
+use Rattle.kms_device.specs.Asking.{AreOfLocks, HoldsEach, IsAcceptedWith, IsDecidingFor, IsRefusedWith, MayAskFor, MayBeRefused, MayBeSwapped, MayBeTested}
 use Rattle.kms_device.specs.Turns.{DevicePass, MayBeFound, seen}
 use Rattle.kms_device.proofs.Found.{going-found, history, place-found, stays-found}
 use Rattle.kms_device.proofs.Holding.{Keeps, holds-is, keeps_step}
-use Rattle.kms_device.proofs.Runs.{legal-before}
+use Rattle.kms_device.proofs.Runs.{legal-before, legal-behind, run-append}
 use Rattle.kms_device.proofs.Takers.{taker-is}
+
+taking_from : (s : Script) (m : Machine) (client : ℕ) (test : Request → Bool) (r : Request) → is_taking (doing_at m client) ≡ true → request_at s m client ≡ Some r → test r ≡ true → taking_at s m client test ≡ true
+taking_from s m client test r taking at passes = and_from (is_taking (doing_at m client)) _ taking (rw at passes)
 
 module _ (script : Script) (pass : DevicePass) (found : Run) (f : MayBeFound script pass found) where
   formed : IsWellFormed script
@@ -187,3 +195,35 @@ module _ (script : Script) (pass : DevicePass) (found : Run) (f : MayBeFound scr
     states = h.states;
     no_test = h.no_test;
   }
+
+  -- an object that the request touches wherever it was resolved and checked as it was is in its reach
+  reach-found : (t : Ticket) (id : ObjId) (h : MayAskFor (seen script pass) pass.rank t id) → reaches found.script.topology (world found) h.request id.0 ≡ true
+  reach-found t id h =
+      let rest = f.history.begins.0 in
+      let late = h.begins.0 ++ rest in
+      let all : found.steps ≡ h.early ++ late = f.history.begins.1 ∙ (ap (λ xs. xs ++ rest) h.begins.1 ∙ append_assoc h.early h.begins.0 rest) in
+      let whole : is_history script (h.early ++ late) ≡ true = subst (λ xs. is_history script xs ≡ true) all (history script pass found f) in
+      let first = first_machine script.topology in
+      let now : run_steps script (at script h.early) late ≡ machine found = sym (run-append script first h.early late) ∙ (ap (at script) (sym all) ∙ ap (λ s. at s found.steps) (sym f.same)) in
+      let own : AgreesOld script.topology (world found).things (world found).values h.duplicates
+      = subst (λ (s : Script). AgreesOld s.topology (world found).things (world found).values h.duplicates) f.same (of_locks h.duplicates h.taken).old in
+      let asks = ask_within_reach script h.early plain (legal-before script first h.early late whole) late (legal-behind script first h.early late whole) h.request h.resolved h.duplicates h.asks
+      (subst (λ (m : Machine). AgreesOld script.topology m.device.world.things m.device.world.values h.duplicates) (sym now) own) in
+      let there = asks.within id.0 (h.touched asks.world asks.of_request) in
+      subst (λ (s : Script). reaches s.topology (world found) h.request id.0 ≡ true) (sym f.same)
+      (subst (λ (m : Machine). reaches script.topology m.device.world h.request id.0 ≡ true) now there)
+
+  pub may_lock : (t : Ticket) (id : ObjId) → MayAskFor (seen script pass) pass.rank t id → MayLock found t id × IsTaking found pass.rank t
+  may_lock t id h =
+      let taking = ap (λ (p : Place). p.doing) (place-found script pass found f) ∙ h.taking in
+      let reach = reach-found t id h in (
+        record {
+          client = pass.rank;
+          taking = taking;
+          is_id = h.is_id;
+          lockable = subst (λ (s : Script). is_lockable s.topology (kind_of id.0) (index_of id.0) ≡ true) (sym f.same) h.lockable;
+          reached = taking_from found.script (machine found) pass.rank (λ q. reaches found.script.topology (world found) q id.0) h.request (ap is_taking taking) (request-found ∙ h.at) reach;
+          goes_on = going-found script pass found f;
+        },
+        taking,
+      )

@@ -6,6 +6,8 @@ mod contexts;
 mod decisions;
 mod device;
 mod kernel;
+#[cfg(test)]
+mod tests;
 mod workers;
 
 pub use device::Device;
