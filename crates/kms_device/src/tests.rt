@@ -81,6 +81,16 @@ fn make_both<R: Threads + Wait + Sync>(
     )
 }
 
+/// Ends a device of two passes, and gives the machine.
+fn close(alloc: Global, device: Device, one: Pass, other: Pass) -> Result<Core, NoMemory>
+    requires own { (one.lock ≡ device.lock) × (other.lock ≡ device.lock) }
+    requires seats { device.seats ≡ 2 }
+    requires first { one.rank ≡ 1 }
+{
+    let passes = Vec::from_array(alloc, [one, other])?;
+    Ok(device.close(Seq::from_vec(passes)))
+}
+
 /// Whether a thing was made.
 fn is_made(reply: &Result<Reply, NoMemory>) -> bool {
     matches!(reply, Ok(Reply::Made { .. }))
@@ -100,9 +110,7 @@ fn two_clients_in_two_threads_make_a_thing_each(rt: HostRuntime) -> Result<(), F
     };
     let ((one, first), (other, second)) = make_both(&rt, alloc, &device, one, other);
     assert!(rt; is_made(&first) && is_made(&second));
-    passes.push(one)?;
-    passes.push(other)?;
-    let core = device.close(Seq::from_vec(passes));
+    let core = close(alloc, device, one, other)?;
     assert!(rt; core.history().len() == 2 && core.replies().len() == 2 && core.drained());
     Ok(())
 }
@@ -118,7 +126,8 @@ fn finds_nothing<W: Wait>(rt: &W, device: &Device, pass: &mut Pass) -> bool
     let done = device.hw_done(rt, pass, 0);
     let cleaned = device.cleanup(rt, pass, 0);
     let blanked = device.vblank(rt, pass, 0);
-    claimed.is_none() && !wrote && !flushed && !done && !cleaned && !blanked
+    let ended = device.ended(rt, pass);
+    claimed.is_none() && !(wrote || flushed || done || cleaned || blanked || ended)
 }
 
 /// Whether nothing was counted yet, of which the device has one CRTC.
@@ -138,14 +147,12 @@ fn workers_find_nothing_before_the_first_commit(rt: HostRuntime) -> Result<(), F
     assert!(rt; script.clients.len() == 2);
     let (device, passes) = Device::new(alloc, script, 2)?;
     let mut passes = passes.into_vec();
-    let Some(mut pass) = passes.pop() else {
-        panic!(rt; "no pass")
+    let (Some(mut other), Some(one)) = (passes.pop(), passes.pop()) else {
+        panic!(rt; "no passes")
     };
-    assert!(rt; finds_nothing(&rt, &device, &mut pass));
-    assert!(rt; counts_nothing(&device, &mut pass));
-    assert!(rt; !device.ended(&rt, &mut pass) && pass.seen_len() == 0);
-    passes.push(pass)?;
-    let core = device.close(Seq::from_vec(passes));
+    assert!(rt; finds_nothing(&rt, &device, &mut other));
+    assert!(rt; counts_nothing(&device, &mut other));
+    let core = close(alloc, device, one, other)?;
     assert!(rt; core.history().is_empty());
     Ok(())
 }
