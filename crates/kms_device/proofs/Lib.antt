@@ -1,0 +1,9 @@
+pub mod Runs
+pub mod Counting
+pub mod Legals
+pub mod Staying
+pub mod Turning
+pub mod Found
+pub mod Holding
+pub mod Takers
+pub mod Deciding

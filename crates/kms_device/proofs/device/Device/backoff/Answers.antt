@@ -1,0 +1,22 @@
+use Rattle.std.proofs.Common.{refl, rules}
+use Rattle.std.proofs.iter.Serving.{serving}
+use Rattle.kms_model.specs.declared.replies.Step.TheVariants as step
+use Rattle.kms_core.specs.Locks.{HasContext, MayBackOff}
+use Rattle.kms_device.proofs.Found.{may_back_off}
+use Rattle.kms_device.proofs.Turning.{adds_of, one_if_ok, turn_of}
+use Rattle.kms_device.proofs.device.Device.backoff.Goals as goal
+
+pub turn-requires-clause-callable : goal.turn-requires-clause-callable
+turn-requires-clause-callable g c = λ found finds.
+    let may : MayBackOff found c.args.t = (may_back_off c.args.self.now.script c.args.pass.now found finds c.args.t c.requires.must).0 in
+    grind serving
+
+pub turn-requires-clause-steps : goal.turn-requires-clause-steps
+turn-requires-clause-steps g c = λ found left r finds called.
+    let context : HasContext found c.args.pass.now.rank c.args.t = (may_back_off c.args.self.now.script c.args.pass.now found finds c.args.t c.requires.must).1 in
+    adds_of c.args.pass.now.rank found left _ (one_if_ok c.args.pass.now.rank r (step.BackOff c.args.pass.now.rank) refl refl) (search rules)
+
+pub returns : goal.returns
+returns g c = turn_of _ _ _ _ _ _ _ _ c.turn.ensures (λ x y finds called.
+    let context : HasContext x c.args.pass.now.rank c.args.t = (may_back_off c.args.self.now.script c.args.pass.now x finds c.args.t c.requires.must).1 in
+    search rules)

@@ -1,0 +1,4 @@
+pub mod Steps
+pub mod Kernels
+pub mod Turns
+pub mod Asking

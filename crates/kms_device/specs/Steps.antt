@@ -1,0 +1,70 @@
+-- Whose a step is, and what is counted of a history. From: `drm_vblank.c`, drm_crtc_vblank_count (the counts of CRTCs).
+use Rattle.std.specs.Prelude.{ℕ, suc, ◌≤◌, ◌≡◌, ◌==◌, ◌&&◌, nat_le, Bool, true, false, List, [], ◌∷◌, ◌++◌, All}
+use Prim.Native.Nat.{zero-le, suc-le-suc}
+use Rattle.kms_model.specs.declared.objects.Kind.TheVariants.{Crtc}
+use Rattle.kms_model.specs.declared.objects.ObjId.{ObjId}
+use Rattle.kms_model.specs.declared.replies.Step.{Step}
+use Rattle.kms_model.specs.declared.replies.Step.TheVariants.{Stall, Vblank}
+use Rattle.kms_model.specs.Device.Objects.{exists, first_id, kind_of}
+use Rattle.kms_model.specs.Machine.Histories.{legal}
+use Rattle.kms_model.specs.Promises.{client_of_step}
+use Rattle.kms_core.specs.Decisions.{number_or_0}
+use Rattle.kms_core.specs.Latching.{goes_at}
+use Rattle.kms_core.specs.Run.{Run, machine}
+use Rattle.kms_core.specs.Work.{write_step}
+
+-- the client whose step it is; 0 for nobody's
+abbrev pub owner : Step → ℕ
+owner step = number_or_0 (client_of_step step)
+
+-- the end of a dead history
+abbrev pub is_stall : Step → Bool
+is_stall Stall = true
+is_stall _ = false
+
+-- a vertical blanking of the CRTC with an index
+abbrev pub is_blanking : ℕ → Step → Bool
+is_blanking crtc (Vblank Crtc index) = index == crtc
+is_blanking crtc _ = false
+
+abbrev pub one_more_if : Bool → ℕ → ℕ
+one_more_if true n = suc n
+one_more_if false n = n
+
+-- how many vertical blankings the CRTC with an index had
+abbrev pub blankings : ℕ → List Step → ℕ
+blankings crtc [] = 0
+blankings crtc (step ∷ steps) = one_more_if (is_blanking crtc step) (blankings crtc steps)
+
+one_more_if-grows : (b : Bool) (m n : ℕ) → m ≤ n → one_more_if b m ≤ one_more_if b n
+one_more_if-grows true m n l = suc-le-suc l
+one_more_if-grows false m n l = l
+
+-- a longer history has no fewer
+pub blankings-grow : (crtc : ℕ) (xs ys : List Step) → blankings crtc xs ≤ blankings crtc (xs ++ ys)
+blankings-grow crtc [] ys = zero-le
+blankings-grow crtc (x ∷ xs) ys =
+    one_more_if-grows (is_blanking crtc x) (blankings crtc xs) (blankings crtc (xs ++ ys)) (blankings-grow crtc xs ys)
+
+-- no step of a history ends it
+abbrev pub NeverEnds : List Step → Type 0
+NeverEnds steps = All (λ step. is_stall step ≡ false) steps
+
+-- What is done
+
+-- a step that is done, or none
+abbrev pub step_if : Bool → Step → List Step
+step_if false step = []
+step_if true step = step ∷ []
+
+-- the device has the CRTC with an index, and it latches a commit at its next vertical blanking
+abbrev pub blanks_at : Run → ℕ → Bool
+blanks_at r crtc = exists r.script.topology Crtc crtc && goes_at r crtc
+
+-- a step is legal next
+abbrev pub is_legal : Run → Step → Bool
+is_legal r step = legal r.script (machine r) step
+
+-- an object is the CRTC or the plane that a commit writes next
+abbrev pub may_write : Run → ℕ → ObjId → Bool
+may_write r k id = nat_le (first_id (kind_of id.0)) id.0 && is_legal r (write_step k id)

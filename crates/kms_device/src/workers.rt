@@ -1,0 +1,133 @@
+//! The calls of workers and of vertical blankings. They take no memory, and ask for nothing of what the pass has seen.
+ghost use Rattle.std.specs.Prelude.{◌≡◌};
+ghost use Rattle.kms_model.specs.declared.objects.Kind.TheVariants.{Crtc};
+ghost use Rattle.kms_model.specs.declared.replies.Step.TheVariants as step;
+ghost use Rattle.kms_core.specs.Run.{Run, gains};
+ghost use Rattle.kms_core.specs.Work.{claim_steps, first_claim, write_step};
+ghost use Rattle.kms_device.specs.Steps.{blanks_at, is_legal, may_write, step_if};
+ghost use Rattle.kms_device.specs.Turns.{Turn};
+
+use crate::device::Device;
+use crate::kernel::{Kernel, Pass};
+use kms_core::Core;
+use kms_model::{Kind, ObjId, Step};
+use std::sync::Wait;
+
+impl Device {
+    /// Claims the least commit whose tail may begin, as the machine's `claim` does; none exactly where there is none in the history
+    /// that was found.
+    pub fn claim<W: Wait>(&self, rt: &W, pass: &mut Pass) -> Option<u32>
+        requires own { pass.old.lock ≡ self.now.lock }
+        ensures { Turn self.now.script (λ found. result ≡ first_claim found) (claim_steps result)
+            pass.old pass.new }
+    {
+        self.turn(rt, pass, |core: &mut Core| core.claim())
+    }
+
+    /// Writes the registers of the CRTC or the plane that a commit writes next, as the machine's `write` does. False, and no step,
+    /// exactly where it is not the next in the history that was found.
+    pub fn write<W: Wait>(&self, rt: &W, pass: &mut Pass, commit: u32, id: ObjId) -> bool
+        requires own { pass.old.lock ≡ self.now.lock }
+        ensures { Turn self.now.script (λ found. result ≡ may_write found commit id)
+            (step_if result (write_step commit id)) pass.old pass.new }
+    {
+        self.turn(rt, pass, |core: &mut Core| write(core, commit, id))
+    }
+
+    /// Flushes the CRTC with an index for a commit, as the machine's `flush` does. False, and no step, exactly where the commit does
+    /// not flush it next in the history that was found.
+    pub fn flush<W: Wait>(&self, rt: &W, pass: &mut Pass, commit: u32, crtc: u32) -> bool
+        requires own { pass.old.lock ≡ self.now.lock }
+        ensures { Turn self.now.script
+            (λ found. result ≡ is_legal found (step.Flush commit Crtc crtc))
+            (step_if result (step.Flush commit Crtc crtc)) pass.old pass.new }
+    {
+        self.turn(rt, pass, |core: &mut Core| flush(core, commit, crtc))
+    }
+
+    /// Tells that all registers of a commit are written and flushed, as the machine's `hw_done` does. False, and no step, exactly
+    /// where they are not, or it was told, in the history that was found.
+    pub fn hw_done<W: Wait>(&self, rt: &W, pass: &mut Pass, commit: u32) -> bool
+        requires own { pass.old.lock ≡ self.now.lock }
+        ensures { Turn self.now.script (λ found. result ≡ is_legal found (step.HwDone commit))
+            (step_if result (step.HwDone commit)) pass.old pass.new }
+    {
+        self.turn(rt, pass, |core: &mut Core| hw_done(core, commit))
+    }
+
+    /// Cleans a commit up, as the machine's `cleanup` does. False, and no step, exactly where its tail is not over, or it is cleaned
+    /// up, in the history that was found.
+    pub fn cleanup<W: Wait>(&self, rt: &W, pass: &mut Pass, commit: u32) -> bool
+        requires own { pass.old.lock ≡ self.now.lock }
+        ensures { Turn self.now.script (λ found. result ≡ is_legal found (step.Cleanup commit))
+            (step_if result (step.Cleanup commit)) pass.old pass.new }
+    {
+        self.turn(rt, pass, |core: &mut Core| clean_up(core, commit))
+    }
+
+    /// The CRTC with an index has a vertical blanking at which it latches a commit, as the machine's `vblank` does. False, and no
+    /// step, exactly where it latches none then in the history that was found, or the device has no such CRTC.
+    pub fn vblank<W: Wait>(&self, rt: &W, pass: &mut Pass, crtc: u32) -> bool
+        requires own { pass.old.lock ≡ self.now.lock }
+        ensures { Turn self.now.script (λ found. result ≡ blanks_at found crtc)
+            (step_if result (step.Vblank Crtc crtc)) pass.old pass.new }
+    {
+        self.lock
+            .with(rt, pass, |kernel: &mut Kernel| kernel.vblank(crtc))
+    }
+}
+
+/// Writes an object for a commit, where it is the one that the commit writes next.
+fn write(core: &mut Core, commit: u32, id: ObjId) -> bool
+    ensures answer { result ≡ may_write core.old commit id }
+    ensures history { core.new ≡ gains core.old (step_if result (write_step commit id)) }
+{
+    let step = Step::Write {
+        commit,
+        kind: id.kind(),
+        index: id.index(),
+    };
+    if id.0 < id.kind().first_id() || !core.legal(&step) {
+        return false;
+    }
+    core.write(commit, id);
+    true
+}
+
+/// Flushes a CRTC for a commit, where it is the one that the commit flushes next.
+fn flush(core: &mut Core, commit: u32, crtc: u32) -> bool
+    ensures answer { result ≡ is_legal core.old (step.Flush commit Crtc crtc) }
+    ensures history { core.new ≡ gains core.old (step_if result (step.Flush commit Crtc crtc)) }
+{
+    let step = Step::Flush {
+        commit,
+        kind: Kind::Crtc,
+        index: crtc,
+    };
+    if !core.legal(&step) {
+        return false;
+    }
+    core.flush(commit, crtc);
+    true
+}
+
+/// Tells that a commit is written and flushed, where it is so and was not told.
+fn hw_done(core: &mut Core, commit: u32) -> bool
+    ensures answer { result ≡ is_legal core.old (step.HwDone commit) }
+    ensures history { core.new ≡ gains core.old (step_if result (step.HwDone commit)) }
+{
+    if !core.legal(&Step::HwDone { commit }) {
+        return false;
+    }
+    core.hw_done(commit);
+    true
+}
+
+/// Cleans a commit up, where its tail is over.
+fn clean_up(core: &mut Core, commit: u32) -> bool
+    ensures answer { result ≡ is_legal core.old (step.Cleanup commit) }
+    ensures history { core.new ≡ gains core.old (step_if result (step.Cleanup commit)) }
+{
+    core.is_a_history();
+    core.legal(&Step::Cleanup { commit }) && core.cleanup(commit)
+}
