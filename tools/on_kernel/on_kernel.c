@@ -1,0 +1,877 @@
+/* Executes the commands of a script through the kernel's mode-setting ioctls, and prints what the kernel answers.
+ *
+ *     on_kernel CARD [--crc] < SCRIPT
+ *
+ * CARD is a device file as /dev/dri/card0. README.md, beside this file, says what is printed and how to run it. */
+#define _GNU_SOURCE
+#include <errno.h>
+#include <fcntl.h>
+#include <poll.h>
+#include <pthread.h>
+#include <semaphore.h>
+#include <stdbool.h>
+#include <stdint.h>
+#include <stdio.h>
+#include <stdlib.h>
+#include <string.h>
+#include <sys/ioctl.h>
+#include <sys/mman.h>
+#include <sys/stat.h>
+#include <sys/sysmacros.h>
+#include <time.h>
+#include <unistd.h>
+
+#include <drm_fourcc.h>
+#include <xf86drm.h>
+#include <xf86drmMode.h>
+
+#ifndef DRM_IOCTL_MODE_CLOSEFB
+struct drm_mode_closefb {
+    uint32_t fb_id;
+    uint32_t pad;
+};
+#define DRM_IOCTL_MODE_CLOSEFB DRM_IOWR(0xD0, struct drm_mode_closefb)
+#endif
+
+/* The kernel's fences for tests. (drivers/dma-buf/sw_sync.c) */
+struct sw_sync_create_fence_data {
+    uint32_t value;
+    char name[32];
+    int32_t fence;
+};
+#define SW_SYNC_IOC_CREATE_FENCE _IOWR('W', 0, struct sw_sync_create_fence_data)
+#define SW_SYNC_IOC_INC _IOW('W', 1, uint32_t)
+#define SW_SYNC "/sys/kernel/debug/sync/sw_sync"
+
+enum {
+    MOST_CLIENTS = 16,
+    MOST_THINGS = 8192,
+    MOST_WORDS = 300,
+    MOST_OBJECTS = 64,
+    MOST_PROPERTIES = 64,
+    FIRST_THING = 1000,
+    FIRST_CRTC = 100,
+    PATIENCE_MS = 300,      /* how long a command may take before the next client has its turn */
+    MOST_STILL_ROUNDS = 10, /* rounds without an answer before the run is given up */
+};
+
+/* An id and a file that nothing has. */
+#define NO_ID 0xfffffff0u
+#define NO_FILE 0x7ffffff0
+
+enum kind { BUFFER, FRAMEBUFFER, BLOB, FENCE, OUT_FENCE };
+
+struct thing {
+    char label[17];
+    enum kind kind;
+    int owner;
+    uint32_t id; /* the kernel's: a handle, a framebuffer, a blob */
+    int file;    /* of a fence */
+    int timeline;
+    bool is_signalled, is_awaited;
+    uint32_t width, height, format, pitch;
+};
+
+struct property {
+    uint32_t id;
+    char name[DRM_PROP_NAME_LEN];
+};
+
+struct object {
+    uint32_t id, type;
+    struct property properties[MOST_PROPERTIES];
+    unsigned count;
+};
+
+struct objects {
+    struct object all[MOST_OBJECTS];
+    unsigned count;
+};
+
+struct client {
+    int number, file;
+    char **lines;
+    unsigned count, next;
+    bool is_running, is_accepted;
+    char reply[128];
+    sem_t turn, answered;
+};
+
+struct entry {
+    int client;
+    unsigned command;
+};
+
+static struct objects crtcs, planes, connectors, encoders;
+static struct thing things[MOST_THINGS];
+static unsigned thing_count, made_count, commit_count;
+static struct client clients[MOST_CLIENTS];
+static unsigned client_count;
+static struct client *master;
+static pthread_mutex_t table = PTHREAD_MUTEX_INITIALIZER;
+static struct entry *journal;
+static unsigned journal_count;
+static FILE *replies[MOST_CLIENTS], *events[MOST_CLIENTS];
+static char *reply_texts[MOST_CLIENTS], *event_texts[MOST_CLIENTS];
+static size_t text_size;
+static int card_minor;
+static bool wants_crc;
+static FILE *checksums;
+static char *checksum_text;
+
+static void give_up(const char *what, const char *detail) {
+    fprintf(stderr, "on_kernel: %s%s%s\n", what, *detail ? ": " : "", detail);
+    exit(2);
+}
+
+/* Words and lines */
+
+static unsigned split(char *line, char **words) {
+    unsigned count = 0;
+    for (char *word = strtok(line, " "); word && count < MOST_WORDS; word = strtok(NULL, " "))
+        words[count++] = word;
+    return count;
+}
+
+static char *next_line(void) {
+    static char *line;
+    static size_t size;
+    ssize_t length = getline(&line, &size, stdin);
+    if (length <= 0)
+        return NULL;
+    if (line[length - 1] == '\n')
+        line[length - 1] = 0;
+    return line;
+}
+
+static const char *errno_name(int error) {
+    const char *name = strerrorname_np(error);
+    return name ? name : "EUNKNOWN";
+}
+
+/* Answers */
+
+static void answer(struct client *c, bool is_accepted, const char *text) {
+    c->is_accepted = is_accepted;
+    snprintf(c->reply, sizeof c->reply, "%s", text);
+}
+
+static void answer_error(struct client *c, int error) { answer(c, false, errno_name(error)); }
+
+static void answer_made(struct client *c) {
+    char text[32];
+    snprintf(text, sizeof text, "made %u", FIRST_THING + made_count++);
+    answer(c, true, text);
+}
+
+/* Things */
+
+static struct thing *find_thing(const char *label) {
+    for (unsigned i = thing_count; i > 0; i--)
+        if (!strcmp(things[i - 1].label, label))
+            return &things[i - 1];
+    return NULL;
+}
+
+static struct thing *add_thing(struct client *c, const char *label, enum kind kind) {
+    if (thing_count == MOST_THINGS)
+        give_up("too many things", "");
+    struct thing *t = &things[thing_count++];
+    memset(t, 0, sizeof *t);
+    snprintf(t->label, sizeof t->label, "%s", label);
+    t->kind = kind;
+    t->owner = c->number;
+    t->file = t->timeline = -1;
+    return t;
+}
+
+/* The device's objects */
+
+static void read_properties(int file, struct object *o) {
+    drmModeObjectProperties *all = drmModeObjectGetProperties(file, o->id, o->type);
+    for (uint32_t i = 0; all && i < all->count_props && o->count < MOST_PROPERTIES; i++) {
+        drmModePropertyRes *p = drmModeGetProperty(file, all->props[i]);
+        if (!p)
+            continue;
+        struct property *to = &o->properties[o->count++];
+        to->id = p->prop_id;
+        snprintf(to->name, sizeof to->name, "%s", p->name);
+        for (char *at = to->name; *at; at++)
+            if (*at == ' ')
+                *at = '_';
+        drmModeFreeProperty(p);
+    }
+    drmModeFreeObjectProperties(all);
+}
+
+static void add_object(int file, struct objects *to, uint32_t id, uint32_t type) {
+    struct object *o = &to->all[to->count++];
+    o->id = id;
+    o->type = type;
+    read_properties(file, o);
+}
+
+static bool has_object(const struct objects *all, uint32_t id) {
+    for (unsigned i = 0; i < all->count; i++)
+        if (all->all[i].id == id)
+            return true;
+    return false;
+}
+
+static uint32_t property_id(const struct objects *all, const char *name) {
+    for (unsigned i = 0; i < all->count; i++)
+        for (unsigned j = 0; j < all->all[i].count; j++)
+            if (!strcmp(all->all[i].properties[j].name, name))
+                return all->all[i].properties[j].id;
+    return 0;
+}
+
+/* The id of a property of any kind of object; one of another kind is for the kernel to refuse. */
+static uint32_t any_property_id(const struct objects *first, const char *name) {
+    const struct objects *kinds[] = {first, &crtcs, &planes, &connectors};
+    for (unsigned i = 0; i < 4; i++) {
+        uint32_t id = property_id(kinds[i], name);
+        if (id)
+            return id;
+    }
+    return NO_ID;
+}
+
+static uint64_t property_value(int file, const struct object *o, const char *name) {
+    uint64_t value = 0;
+    drmModeObjectProperties *all = drmModeObjectGetProperties(file, o->id, o->type);
+    for (uint32_t i = 0; all && i < all->count_props; i++)
+        for (unsigned j = 0; j < o->count; j++)
+            if (o->properties[j].id == all->props[i] && !strcmp(o->properties[j].name, name))
+                value = all->prop_values[i];
+    drmModeFreeObjectProperties(all);
+    return value;
+}
+
+/* The bits of a list of CRTC indices parted by commas. */
+static uint32_t crtc_mask(const char *list) {
+    uint32_t mask = 0;
+    for (const char *at = list; *at; at++)
+        if (*at != ',')
+            mask |= 1u << strtoul(at, (char **)&at, 10), at--;
+    return mask;
+}
+
+static void take_crtcs(int file, unsigned wanted) {
+    drmModeRes *all = drmModeGetResources(file);
+    if (!all || (unsigned)all->count_crtcs < wanted)
+        give_up("the card has too few CRTCs", "");
+    for (unsigned i = 0; i < wanted; i++)
+        add_object(file, &crtcs, all->crtcs[i], DRM_MODE_OBJECT_CRTC);
+    drmModeFreeResources(all);
+}
+
+static uint64_t type_of(const char *word) { return !strcmp(word, "primary") ? 1 : !strcmp(word, "cursor") ? 2 : 0; }
+
+/* The first plane of the card that is not taken, of this type and for these CRTCs. */
+static void take_plane(int file, char *line) {
+    char *words[MOST_WORDS];
+    if (split(line, words) < 4)
+        give_up("not a plane", line);
+    uint32_t mask = crtc_mask(words[2]);
+    drmModePlaneRes *all = drmModeGetPlaneResources(file);
+    for (uint32_t i = 0; all && i < all->count_planes; i++) {
+        drmModePlane *p = drmModeGetPlane(file, all->planes[i]);
+        struct object o = {.id = all->planes[i], .type = DRM_MODE_OBJECT_PLANE};
+        read_properties(file, &o);
+        if (p && !has_object(&planes, o.id) && (p->possible_crtcs & mask) == mask &&
+            property_value(file, &o, "type") == type_of(words[1])) {
+            planes.all[planes.count++] = o;
+            return;
+        }
+        drmModeFreePlane(p);
+    }
+    give_up("the card has no such plane left", words[1]);
+}
+
+/* The first connector of the card that is not taken, with an encoder for these CRTCs, and that encoder. */
+static void take_connector(int file, const char *list) {
+    uint32_t mask = crtc_mask(list);
+    drmModeRes *all = drmModeGetResources(file);
+    for (int i = 0; all && i < all->count_connectors; i++) {
+        drmModeConnector *n = drmModeGetConnector(file, all->connectors[i]);
+        for (int j = 0; n && j < n->count_encoders && !has_object(&connectors, n->connector_id); j++) {
+            drmModeEncoder *e = drmModeGetEncoder(file, n->encoders[j]);
+            if (e && (e->possible_crtcs & mask) == mask && n->connector_type != DRM_MODE_CONNECTOR_WRITEBACK) {
+                add_object(file, &connectors, n->connector_id, DRM_MODE_OBJECT_CONNECTOR);
+                add_object(file, &encoders, e->encoder_id, DRM_MODE_OBJECT_ENCODER);
+                return;
+            }
+        }
+    }
+    give_up("the card has no such connector left", list);
+}
+
+/* Buffers and framebuffers */
+
+static uint32_t ramp(uint32_t format, uint32_t x, uint32_t y) {
+    if (format == DRM_FORMAT_RGB565)
+        return x % 32 * 2048 + y % 64 * 32 + (x + y) % 32;
+    return 0xff000000u + x % 256 * 65536 + y % 256 * 256 + (x + y) % 256;
+}
+
+static uint32_t pattern_word(char **words, const struct thing *t, uint32_t x, uint32_t y) {
+    const char *name = words[5];
+    if (!strcmp(name, "ramp"))
+        return ramp(t->format, x, y);
+    if (!strcmp(name, "pixels"))
+        return strtoul(words[6 + y * t->width + x], NULL, 16);
+    uint32_t side = !strcmp(name, "checker") ? strtoul(words[8], NULL, 10) : 1;
+    bool is_first = !strcmp(name, "solid") || (x / side + y / side) % 2 == 0;
+    return strtoul(words[is_first ? 6 : 7], NULL, 16);
+}
+
+static bool draw(struct client *c, struct thing *t, char **words, uint64_t size) {
+    struct drm_mode_map_dumb map = {.handle = t->id};
+    if (drmIoctl(c->file, DRM_IOCTL_MODE_MAP_DUMB, &map))
+        return false;
+    uint8_t *bytes = mmap(NULL, size, PROT_READ | PROT_WRITE, MAP_SHARED, c->file, map.offset);
+    if (bytes == MAP_FAILED)
+        return false;
+    for (uint32_t y = 0; y < t->height; y++)
+        for (uint32_t x = 0; x < t->width; x++) {
+            uint32_t word = pattern_word(words, t, x, y);
+            if (t->format == DRM_FORMAT_RGB565)
+                ((uint16_t *)(bytes + y * t->pitch))[x] = word;
+            else
+                ((uint32_t *)(bytes + y * t->pitch))[x] = word;
+        }
+    munmap(bytes, size);
+    return true;
+}
+
+static void do_buffer(struct client *c, char **words) {
+    bool is_narrow = !strcmp(words[4], "RG16");
+    struct drm_mode_create_dumb make = {.width = strtoul(words[2], NULL, 10),
+                                        .height = strtoul(words[3], NULL, 10),
+                                        .bpp = is_narrow ? 16 : 32};
+    if (drmIoctl(c->file, DRM_IOCTL_MODE_CREATE_DUMB, &make)) {
+        answer_error(c, errno);
+        return;
+    }
+    struct thing *t = add_thing(c, words[1], BUFFER);
+    t->id = make.handle;
+    t->width = make.width;
+    t->height = make.height;
+    t->pitch = make.pitch;
+    t->format = is_narrow                     ? DRM_FORMAT_RGB565
+                : !strcmp(words[4], "AR24") ? DRM_FORMAT_ARGB8888
+                                              : DRM_FORMAT_XRGB8888;
+    if (!draw(c, t, words, make.size))
+        give_up("a buffer cannot be drawn", words[1]);
+    answer_made(c);
+}
+
+static void do_addfb(struct client *c, char **words) {
+    struct thing *b = find_thing(words[2]);
+    bool is_own = b && b->kind == BUFFER && b->owner == c->number;
+    uint32_t handles[4] = {is_own ? b->id : NO_ID}, offsets[4] = {0}, id;
+    uint32_t pitches[4] = {b ? b->pitch : 64};
+    uint32_t format = b && b->format ? b->format : DRM_FORMAT_XRGB8888;
+    if (drmModeAddFB2(c->file, b ? b->width : 16, b ? b->height : 16, format, handles, pitches, offsets, &id, 0)) {
+        answer_error(c, errno);
+        return;
+    }
+    add_thing(c, words[1], FRAMEBUFFER)->id = id;
+    answer_made(c);
+}
+
+static void do_closefb(struct client *c, char **words) {
+    struct thing *t = find_thing(words[1]);
+    struct drm_mode_closefb close = {.fb_id = t && t->kind == FRAMEBUFFER ? t->id : NO_ID};
+    if (drmIoctl(c->file, DRM_IOCTL_MODE_CLOSEFB, &close))
+        answer_error(c, errno);
+    else
+        answer(c, true, "done");
+}
+
+/* Blobs */
+
+static void make_blob(struct client *c, const char *label, const void *bytes, size_t size) {
+    uint32_t id;
+    if (drmModeCreatePropertyBlob(c->file, bytes, size, &id)) {
+        answer_error(c, errno);
+        return;
+    }
+    add_thing(c, label, BLOB)->id = id;
+    answer_made(c);
+}
+
+static void do_mode(struct client *c, char **words) {
+    uint32_t n[14];
+    for (unsigned i = 0; i < 14; i++)
+        n[i] = strtoul(words[2 + i], NULL, 10);
+    struct drm_mode_modeinfo mode = {
+        .clock = n[0], .hdisplay = n[1], .hsync_start = n[2], .hsync_end = n[3], .htotal = n[4],
+        .hskew = n[5], .vdisplay = n[6], .vsync_start = n[7], .vsync_end = n[8], .vtotal = n[9],
+        .vscan = n[10], .vrefresh = n[11], .flags = n[12], .type = n[13]};
+    snprintf(mode.name, sizeof mode.name, "%s", words[16]);
+    make_blob(c, words[1], &mode, sizeof mode);
+}
+
+static void do_blob(struct client *c, char **words) {
+    uint8_t bytes[2048];
+    size_t size = strlen(words[2]) / 2;
+    for (size_t i = 0; i < size && i < sizeof bytes; i++)
+        sscanf(words[2] + 2 * i, "%2hhx", &bytes[i]);
+    make_blob(c, words[1], bytes, size);
+}
+
+static void do_destroy(struct client *c, char **words) {
+    struct thing *t = find_thing(words[1]);
+    if (drmModeDestroyPropertyBlob(c->file, t && t->kind == BLOB ? t->id : NO_ID))
+        answer_error(c, errno);
+    else
+        answer(c, true, "done");
+}
+
+/* Fences */
+
+static void do_fence(struct client *c, char **words) {
+    struct sw_sync_create_fence_data data = {.value = 1, .fence = -1};
+    snprintf(data.name, sizeof data.name, "%s", words[1]);
+    int timeline = open(SW_SYNC, O_RDWR | O_CLOEXEC);
+    if (timeline < 0 || ioctl(timeline, SW_SYNC_IOC_CREATE_FENCE, &data))
+        give_up("no fences (CONFIG_SW_SYNC, and debugfs mounted)", SW_SYNC);
+    struct thing *t = add_thing(c, words[1], FENCE);
+    t->timeline = timeline;
+    t->file = data.fence;
+    answer_made(c);
+}
+
+static void do_signal(struct client *c, char **words) {
+    struct thing *t = find_thing(words[1]);
+    uint32_t one = 1;
+    if (!t || t->kind != FENCE || ioctl(t->timeline, SW_SYNC_IOC_INC, &one)) {
+        answer_error(c, EINVAL);
+        return;
+    }
+    t->is_signalled = true;
+    answer(c, false, "done");
+}
+
+static const struct thing *awaited_fence(void) {
+    for (unsigned i = 0; i < thing_count; i++)
+        if (things[i].kind == FENCE && things[i].is_awaited && !things[i].is_signalled)
+            return &things[i];
+    return NULL;
+}
+
+/* Requests */
+
+struct request {
+    uint32_t objects[MOST_WORDS], counts[MOST_WORDS], properties[MOST_WORDS];
+    uint64_t values[MOST_WORDS];
+    int32_t out_fences[MOST_WORDS];
+    const char *out_labels[MOST_WORDS];
+    struct thing *in_fences[MOST_WORDS];
+    unsigned count;
+};
+
+static const struct objects *kind_named(const char *word, const char **digits) {
+    static const struct {
+        const char *name;
+        const struct objects *all;
+    } kinds[] = {{"crtc", &crtcs}, {"plane", &planes}, {"conn", &connectors}, {"enc", &encoders}};
+    for (unsigned i = 0; i < 4; i++)
+        if (!strncmp(word, kinds[i].name, strlen(kinds[i].name))) {
+            *digits = word + strlen(kinds[i].name);
+            return kinds[i].all;
+        }
+    give_up("not an object", word);
+    return NULL;
+}
+
+static uint32_t object_id(const char *word, const struct objects **all) {
+    const char *digits;
+    *all = kind_named(word, &digits);
+    unsigned index = strtoul(digits, NULL, 10);
+    return index < (*all)->count ? (*all)->all[index].id : NO_ID;
+}
+
+static uint64_t number(const char *word) {
+    return *word == '-' ? (uint64_t)strtoll(word, NULL, 10) : strtoull(word, NULL, 10);
+}
+
+static uint64_t file_of(const struct thing *t) { return t->file < 0 ? NO_FILE : t->file; }
+
+/* A handle of a buffer is no id. */
+static uint64_t id_of(const struct thing *t) { return t->kind == BUFFER || !t->id ? NO_ID : t->id; }
+
+/* The value that an assignment gives to the kernel. What nothing was made under becomes an id that nothing has. */
+static uint64_t value_of(struct request *r, const char *property, const char *word) {
+    const struct objects *all;
+    bool is_fence = !strcmp(property, "IN_FENCE_FD");
+    if (*word == '@') {
+        struct thing *t = find_thing(word + 1);
+        if (!t)
+            return is_fence ? NO_FILE : NO_ID;
+        r->in_fences[r->count] = is_fence ? t : NULL;
+        return is_fence ? file_of(t) : id_of(t);
+    }
+    if (*word == '+') {
+        r->out_labels[r->count] = word + 1;
+        r->out_fences[r->count] = -1;
+        return (uintptr_t)&r->out_fences[r->count];
+    }
+    return *word == 'c' ? object_id(word, &all) : number(word);
+}
+
+static void assign(struct request *r, char *word) {
+    char *property = strchr(word, '.'), *value = strchr(word, '=');
+    if (!property || !value)
+        give_up("not an assignment", word);
+    *property++ = *value++ = 0;
+    const struct objects *all;
+    r->objects[r->count] = object_id(word, &all);
+    r->counts[r->count] = 1;
+    r->properties[r->count] = any_property_id(all, property);
+    r->values[r->count] = value_of(r, property, value);
+    r->count++;
+}
+
+static void become_master(struct client *c) {
+    if (master == c)
+        return;
+    if (master)
+        drmDropMaster(master->file);
+    if (drmSetMaster(c->file))
+        give_up("no master of the card (run as root, with no other display server)", strerror(errno));
+    master = c;
+}
+
+static int commit_request(struct client *c, struct request *r, uint32_t flags, uint64_t user_data) {
+    struct drm_mode_atomic atomic = {.flags = flags,
+                                     .count_objs = r->count,
+                                     .objs_ptr = (uintptr_t)r->objects,
+                                     .count_props_ptr = (uintptr_t)r->counts,
+                                     .props_ptr = (uintptr_t)r->properties,
+                                     .prop_values_ptr = (uintptr_t)r->values,
+                                     .user_data = user_data};
+    become_master(c);
+    pthread_mutex_unlock(&table);
+    int error = drmIoctl(c->file, DRM_IOCTL_MODE_ATOMIC, &atomic) ? errno : 0;
+    pthread_mutex_lock(&table);
+    return error;
+}
+
+static void keep_out_fences(struct client *c, struct request *r) {
+    for (unsigned i = 0; i < r->count; i++)
+        if (r->out_labels[i] && r->out_fences[i] >= 0) {
+            add_thing(c, r->out_labels[i], OUT_FENCE)->file = r->out_fences[i];
+            made_count++;
+        }
+}
+
+/* A checksum of what a CRTC shows, as the driver gives it: the third one, which is of a frame after the commit. Each read
+ * gives a line with the frame and the checksums. */
+static bool read_checksum(unsigned crtc, char *line, size_t size) {
+    char path[96];
+    snprintf(path, sizeof path, "/sys/kernel/debug/dri/%d/crtc-%u/crc/control", card_minor, crtc);
+    int control = open(path, O_WRONLY | O_CLOEXEC);
+    bool is_read = control >= 0 && write(control, "auto", 4) == 4;
+    close(control);
+    snprintf(path, sizeof path, "/sys/kernel/debug/dri/%d/crtc-%u/crc/data", card_minor, crtc);
+    int data = is_read ? open(path, O_RDONLY | O_CLOEXEC) : -1;
+    for (unsigned i = 0; is_read && i < 3; i++) {
+        ssize_t length = read(data, line, size - 1);
+        is_read = length > 0;
+        line[is_read ? length : 0] = 0;
+    }
+    close(data);
+    return is_read;
+}
+
+static void print_checksums(unsigned commit) {
+    char line[256];
+    for (unsigned i = 0; i < crtcs.count; i++)
+        if (property_value(clients[0].file, &crtcs.all[i], "ACTIVE") && read_checksum(i, line, sizeof line)) {
+            line[strcspn(line, "\n")] = 0;
+            char *sum = strchr(line, ' ');
+            fprintf(checksums, "C %u %u%s\n", i, commit, sum ? sum : " none");
+        }
+}
+
+static void do_atomic(struct client *c, char **words, unsigned count) {
+    struct request *r = calloc(1, sizeof *r);
+    uint32_t flags = strtoul(words[1], NULL, 16);
+    for (unsigned i = 3; i < count; i++)
+        assign(r, words[i]);
+    for (unsigned i = 0; i < r->count; i++)
+        if (r->in_fences[i])
+            r->in_fences[i]->is_awaited = true;
+    int error = commit_request(c, r, flags, strtoull(words[2], NULL, 10));
+    if (error) {
+        answer_error(c, error);
+        for (unsigned i = 0; i < r->count; i++)
+            if (r->in_fences[i])
+                r->in_fences[i]->is_awaited = false;
+    } else if (flags & DRM_MODE_ATOMIC_TEST_ONLY) {
+        answer(c, false, "tested");
+    } else {
+        char text[32];
+        snprintf(text, sizeof text, "commit %u", commit_count);
+        keep_out_fences(c, r);
+        answer(c, true, text);
+        if (wants_crc && !(flags & DRM_MODE_ATOMIC_NONBLOCK))
+            print_checksums(commit_count);
+        commit_count++;
+    }
+    free(r);
+}
+
+/* Events */
+
+static unsigned crtc_index(uint32_t id) {
+    for (unsigned i = 0; i < crtcs.count; i++)
+        if (crtcs.all[i].id == id)
+            return i;
+    return 0;
+}
+
+/* The oldest event, or none where none comes while no commit waits for a fence. */
+static void do_wait(struct client *c) {
+    struct pollfd one = {.fd = c->file, .events = POLLIN};
+    pthread_mutex_unlock(&table);
+    int ready;
+    bool is_waiting;
+    do {
+        ready = poll(&one, 1, 3 * PATIENCE_MS);
+        pthread_mutex_lock(&table);
+        is_waiting = awaited_fence() != NULL;
+        pthread_mutex_unlock(&table);
+    } while (ready == 0 && is_waiting);
+    pthread_mutex_lock(&table);
+    struct drm_event_vblank event;
+    /* one event fits, so one is read */
+    if (ready <= 0 || read(c->file, &event, sizeof event) != sizeof event) {
+        answer(c, false, "none");
+        return;
+    }
+    char text[96];
+    unsigned id = FIRST_CRTC + crtc_index(event.crtc_id);
+    snprintf(text, sizeof text, "event %llu %u %u", (unsigned long long)event.user_data, event.sequence, id);
+    fprintf(events[c->number - 1], "E %d %llu %u %u\n", c->number, (unsigned long long)event.user_data, event.sequence,
+            id);
+    answer(c, false, text);
+}
+
+/* Clients */
+
+static void execute(struct client *c, char *line) {
+    char *words[MOST_WORDS];
+    unsigned count = split(line, words);
+    const char *name = count ? words[0] : "";
+    if (!strcmp(name, "wait") && count == 1)
+        do_wait(c);
+    else if (!strcmp(name, "atomic") && count >= 3)
+        do_atomic(c, words, count);
+    else if (!strcmp(name, "buffer") && count >= 6)
+        do_buffer(c, words);
+    else if (!strcmp(name, "addfb") && count == 3)
+        do_addfb(c, words);
+    else if (!strcmp(name, "mode") && count == 17)
+        do_mode(c, words);
+    else if (!strcmp(name, "blob") && count == 3)
+        do_blob(c, words);
+    else if (!strcmp(name, "destroy") && count == 2)
+        do_destroy(c, words);
+    else if (!strcmp(name, "closefb") && count == 2)
+        do_closefb(c, words);
+    else if (!strcmp(name, "fence") && count == 2)
+        do_fence(c, words);
+    else if (!strcmp(name, "signal") && count == 2)
+        do_signal(c, words);
+    else
+        give_up("not a command", name);
+}
+
+static void *run_client(void *of) {
+    struct client *c = of;
+    for (unsigned i = 0; i < c->count; i++) {
+        sem_wait(&c->turn);
+        pthread_mutex_lock(&table);
+        /* strtok is of the thread that holds the table */
+        execute(c, c->lines[i]);
+        pthread_mutex_unlock(&table);
+        sem_post(&c->answered);
+    }
+    return NULL;
+}
+
+static bool is_answered(struct client *c) {
+    struct timespec until;
+    clock_gettime(CLOCK_REALTIME, &until);
+    until.tv_nsec += PATIENCE_MS * 1000000L;
+    until.tv_sec += until.tv_nsec / 1000000000L;
+    until.tv_nsec %= 1000000000L;
+    return sem_timedwait(&c->answered, &until) == 0;
+}
+
+static void record(struct client *c) {
+    fprintf(replies[c->number - 1], "R %d %u %u %s\n", c->number, c->next + 1, journal_count, c->reply);
+    if (c->is_accepted) {
+        journal = realloc(journal, (journal_count + 1) * sizeof *journal);
+        journal[journal_count++] = (struct entry){c->number, c->next + 1};
+    }
+    c->next++;
+    c->is_running = false;
+}
+
+/* One command of each client, as far as it answers in time; false where no client has a command left. */
+static bool run_round(bool *moved) {
+    bool is_left = false;
+    for (unsigned i = 0; i < client_count; i++) {
+        struct client *c = &clients[i];
+        if (c->next == c->count)
+            continue;
+        is_left = true;
+        if (!c->is_running)
+            sem_post(&c->turn);
+        c->is_running = true;
+        if (is_answered(c)) {
+            record(c);
+            *moved = true;
+        }
+    }
+    return is_left;
+}
+
+static bool run_all(void) {
+    unsigned still = 0;
+    for (;;) {
+        bool moved = false;
+        if (!run_round(&moved))
+            return awaited_fence() == NULL;
+        still = moved ? 0 : still + 1;
+        if (still == MOST_STILL_ROUNDS)
+            return false;
+    }
+}
+
+/* The whole run */
+
+static int open_card(const char *path) {
+    int file = open(path, O_RDWR | O_CLOEXEC);
+    if (file < 0)
+        give_up(path, strerror(errno));
+    if (drmSetClientCap(file, DRM_CLIENT_CAP_UNIVERSAL_PLANES, 1) || drmSetClientCap(file, DRM_CLIENT_CAP_ATOMIC, 1))
+        give_up("the card has no atomic mode setting", path);
+    return file;
+}
+
+static void add_client(const char *path) {
+    if (client_count == MOST_CLIENTS)
+        give_up("too many clients", "");
+    struct client *c = &clients[client_count++];
+    c->number = client_count;
+    c->file = open_card(path);
+    sem_init(&c->turn, 0, 0);
+    sem_init(&c->answered, 0, 0);
+    replies[c->number - 1] = open_memstream(&reply_texts[c->number - 1], &text_size);
+    events[c->number - 1] = open_memstream(&event_texts[c->number - 1], &text_size);
+}
+
+static void add_command(const char *line) {
+    struct client *c = &clients[client_count - 1];
+    c->lines = realloc(c->lines, (c->count + 1) * sizeof *c->lines);
+    c->lines[c->count++] = strdup(line);
+}
+
+static void read_script(const char *path, int file) {
+    char *line = next_line();
+    if (!line || strcmp(line, "kms 1"))
+        give_up("the script does not begin with `kms 1`", "");
+    while ((line = next_line())) {
+        if (!strncmp(line, "crtcs ", 6))
+            take_crtcs(file, strtoul(line + 6, NULL, 10));
+        else if (!strncmp(line, "plane ", 6))
+            take_plane(file, line);
+        else if (!strncmp(line, "conn ", 5))
+            take_connector(file, line + 5);
+        else if (!strcmp(line, "client"))
+            add_client(path);
+        else if (client_count)
+            add_command(line);
+        else
+            give_up("not a line of a device", line);
+    }
+}
+
+/* All is turned off, as at a script's start. */
+static void turn_off(struct client *c) {
+    static const char *names[] = {"ACTIVE", "MODE_ID", "FB_ID", "CRTC_ID"};
+    struct request *r = calloc(1, sizeof *r);
+    const struct objects *kinds[] = {&connectors, &planes, &crtcs};
+    for (unsigned k = 0; k < 3; k++)
+        for (unsigned i = 0; i < kinds[k]->count; i++)
+            for (unsigned n = 0; n < 4; n++) {
+                uint32_t id = property_id(kinds[k], names[n]);
+                if (!id || r->count == MOST_WORDS)
+                    continue;
+                r->objects[r->count] = kinds[k]->all[i].id;
+                r->counts[r->count] = 1;
+                r->properties[r->count++] = id;
+            }
+    pthread_mutex_lock(&table);
+    int error = commit_request(c, r, DRM_MODE_ATOMIC_ALLOW_MODESET, 0);
+    pthread_mutex_unlock(&table);
+    if (error)
+        give_up("the card cannot be turned off", strerror(error));
+    free(r);
+}
+
+static void print_report(bool is_drained) {
+    for (unsigned i = 0; i < journal_count; i++)
+        printf("J %d %u\n", journal[i].client, journal[i].command);
+    for (unsigned i = 0; i < client_count; i++) {
+        fflush(replies[i]);
+        fputs(reply_texts[i], stdout);
+    }
+    fflush(checksums);
+    fputs(checksum_text, stdout);
+    for (unsigned i = 0; i < client_count; i++) {
+        fflush(events[i]);
+        fputs(event_texts[i], stdout);
+    }
+    const struct thing *fence = awaited_fence();
+    printf(is_drained ? "D drained\n" : "D stalled %s\n", fence ? fence->label : "");
+    fflush(stdout);
+}
+
+/* What still waits in the kernel is let go. */
+static void signal_all(void) {
+    uint32_t one = 1;
+    for (unsigned i = 0; i < thing_count; i++)
+        if (things[i].kind == FENCE && ioctl(things[i].timeline, SW_SYNC_IOC_INC, &one))
+            perror("on_kernel: signal");
+}
+
+int main(int count, char **words) {
+    if (count < 2 || count > 3 || (count == 3 && strcmp(words[2], "--crc")))
+        give_up("usage: on_kernel CARD [--crc] < SCRIPT", "");
+    wants_crc = count == 3;
+    int file = open_card(words[1]);
+    struct stat card;
+    fstat(file, &card);
+    card_minor = minor(card.st_rdev);
+    checksums = open_memstream(&checksum_text, &text_size);
+    read_script(words[1], file);
+    drmDropMaster(file);
+    if (client_count)
+        turn_off(&clients[0]);
+    for (unsigned i = 0; i < client_count; i++) {
+        pthread_t thread;
+        if (pthread_create(&thread, NULL, run_client, &clients[i]))
+            give_up("no thread", "");
+    }
+    bool is_drained = run_all();
+    print_report(is_drained);
+    signal_all();
+    return is_drained ? 0 : 5;
+}
