@@ -23,7 +23,7 @@ STEPS = [
     ("vblank", ["the CRTC has GO"],
      ["the count rises, the CRTC", "latches: new picture,", "event, out-fence"]),
     ("cleanup", ["latched on each", "named CRTC"],
-     ["old states are given up,", "closed framebuffers", "are freed; a blocking", "client goes on"]),
+     ["old states are given up,", "and closed framebuffers", "with them; a blocking", "client goes on"]),
 ]
 
 
