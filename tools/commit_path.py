@@ -7,10 +7,10 @@ Each box is a step of the machine, by its word in a schedule; above it stands wh
 """
 import html
 
-INK, LINE, PALE, BOX = "#222222", "#4e79a7", "#eef3f8", 150
-GAP, LEFT, TOP, HIGH = 22, 16, 118, 40
+INK, LINE, PALE, BOX = "#222222", "#4e79a7", "#eef3f8", 160
+GAP, LEFT, TOP, HIGH = 24, 16, 118, 40
 STEPS = [
-    ("swap", ["locks of all touched objects;", "on each named CRTC the last", "commit is done, the last", "but one is cleaned"],
+    ("swap", ["locks of touched objects;", "on each named CRTC: last", "commit done, the one", "before it cleaned up"],
      ["states are the new ones;", "events are reserved,", "out-fences are made;", "locks are dropped"]),
     ("claim", ["in-fences are signalled;", "the last commit on each", "touched object is done", "and has flipped"],
      ["a worker takes", "the commit"]),
@@ -23,7 +23,7 @@ STEPS = [
     ("vblank", ["the CRTC has GO"],
      ["the count rises, the CRTC", "latches: new picture,", "event, out-fence"]),
     ("cleanup", ["latched on each", "named CRTC"],
-     ["old states are given up,", "closed framebuffers", "are freed; a blocking", "client goes on"]),
+     ["old states are given up,", "and closed framebuffers", "with them; a blocking", "client goes on"]),
 ]
 
 
