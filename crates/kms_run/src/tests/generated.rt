@@ -1,5 +1,7 @@
 //! Generated scripts, written and run. No source is read: each would fail at its first read.
-use super::{answers, sink, source, words};
+ghost use Rattle.std.specs.Prelude.{◌<◌, ◌≤◌};
+
+use super::{run, sink, source, words};
 use crate::{Status, kms_main, legal_words};
 use kms_io::{MemSink, NoGate};
 use sha2::{Digest, Sha256};
@@ -63,7 +65,7 @@ fn one_commit_is_written(rt: HostRuntime) -> Result<(), Fail> {
 fn one_commit_is_run(rt: HostRuntime) -> Result<(), Fail> {
     let alloc = rt.alloc();
     let text = one_flip(alloc)?;
-    let (_, report) = super::run(&rt, alloc, &["one"], text.as_str())?;
+    let (_, report) = run(&rt, alloc, &["one"], text.as_str())?;
     let digest = hex::encode(alloc, Sha256::digest(report.written()).as_slice())?;
     let lines = format!(in alloc;
         "journal 13\nlatches 3\nevents 1\nfreed 0\nreport {digest}\ndrained\n"
