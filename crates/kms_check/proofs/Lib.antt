@@ -7,3 +7,7 @@ pub mod PlaneRanges
 pub mod Readiness
 pub mod RequestFacts
 pub mod ValuesAfter
+pub mod Masks
+pub mod Asked
+pub mod Covering
+pub mod Freshness

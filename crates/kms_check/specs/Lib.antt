@@ -2,3 +2,4 @@ pub mod Lacking
 pub mod Applying
 pub mod Answers
 pub mod Example
+pub mod Moves

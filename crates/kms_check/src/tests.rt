@@ -17,9 +17,9 @@ use std::alloc::Global;
 use std::test::Fail;
 
 /// The labels of the worlds: framebuffers, and one mode under two labels.
-const FB: u32 = 0;
+pub(crate) const FB: u32 = 0;
 
-const MODE: u32 = 1;
+pub(crate) const MODE: u32 = 1;
 
 const SHORT: u32 = 2;
 
@@ -40,7 +40,7 @@ fn row(id: u32, width: u32, format: Format) -> FbInfo
 }
 
 /// What the labels name.
-fn found(alloc: Global) -> Result<Lookups, NoMemory>
+pub(crate) fn found(alloc: Global) -> Result<Lookups, NoMemory>
     ensures { IfOk result (λ found. (lit : Bool) (label : ℕ)
         → look_in found label ≡ look_up (example.world_of lit) label) }
 {
@@ -66,11 +66,11 @@ fn alike<S: Copy>(state: S) -> Option<Both<S>>
 
 /// Which states are given: those of a device whose first CRTC is lit, or not, and of the objects of which kinds.
 #[derive(Clone, Copy)]
-struct Given {
-    lit: bool,
-    crtcs: bool,
-    planes: bool,
-    conns: bool,
+pub(crate) struct Given {
+    pub(crate) lit: bool,
+    pub(crate) crtcs: bool,
+    pub(crate) planes: bool,
+    pub(crate) conns: bool,
 }
 
 const LIT: Given = Given {
@@ -80,7 +80,7 @@ const LIT: Given = Given {
     conns: true,
 };
 
-const DARK: Given = Given { lit: false, ..LIT };
+pub(crate) const DARK: Given = Given { lit: false, ..LIT };
 
 /// The state of the first CRTC.
 fn first_crtc(lit: bool) -> CrtcState
@@ -172,7 +172,7 @@ fn conns(given: Given) -> [Option<Both<ConnState>>; 8]
     conns
 }
 
-fn states(given: Given) -> Duplicates
+pub(crate) fn states(given: Given) -> Duplicates
     ensures { result ≡ example.states given.lit given.crtcs given.planes given.conns }
 {
     Duplicates {

@@ -12,7 +12,7 @@ use Rattle.kms_model.specs.declared.states.Mask.{Mask}
 use Rattle.kms_model.specs.declared.worlds.Look.{Look}
 use Rattle.kms_model.specs.Device.Sound.{IsDevice}
 use Rattle.kms_model.specs.Machine.Effects.{next}
-use Rattle.kms_model.specs.Machine.Histories.{legal}
+use Rattle.kms_model.specs.Machine.Histories.{is_history, legal}
 use Rattle.kms_model.specs.Machine.State.{Machine, holds}
 use Rattle.kms_model.specs.Machine.Steps.{holds_touched, may, may_test}
 use Rattle.kms_model.specs.Request.Deciding.{IsChecked, IsOfRequest}
@@ -33,6 +33,7 @@ use Rattle.kms_track.proofs.There.{on_place}
 use Rattle.kms_core.specs.Judging.{held_at}
 use Rattle.kms_core.specs.Decisions.{Decides, HoldsAll, IsAccepted, IsDeciding, IsFirstStale, MayTest, taker, world}
 use Rattle.kms_core.specs.Run.{Run, machine}
+use Rattle.kms_model.specs.Script.WellFormed.{IsWellFormed}
 use Rattle.kms_core.specs.Stands.{Stores, Stands}
 use Rattle.kms_clients.specs.Standing.{doing_in}
 use Rattle.kms_core.specs.Decisions.{taker_in}
@@ -80,17 +81,17 @@ pub record AcceptedNow (r : Run) (client : ℕ) (request : Request) (resolved : 
   pub held : holds_touched r.script.topology (machine r) client request ≡ true
   pub checked_as : IsChecked r.script.topology (world r) request checked
 
-pub accepted_now : (r : Run) (st : Stores) (t : ℕ) (used : List (ℕ × Look)) (request : Request) (resolved : Resolved) (checked : Checked) → Stands r st → IsFirstStale (look_up (world r)) used None
+pub accepted_now : (r : Run) (t : ℕ) (used : List (ℕ × Look)) (request : Request) (resolved : Resolved) (checked : Checked) → IsWellFormed r.script → is_history r.script r.steps ≡ true → IsFirstStale (look_up (world r)) used None
     → IsDeciding r t used request → IsAccepted r t used request resolved checked → AcceptedNow r (taker (machine r) t) request resolved checked
 unfolding verdict
-accepted_now r st t used request resolved checked stands fresh deciding accepted =
+accepted_now r t used request resolved checked formed history fresh deciding accepted =
     let told : TellsLabels (look_in used) (look_up (world r)) request.assigns = tells_now (world r) request used fresh deciding.labels in
-    let of : IsOfRequest r.script.topology (world r) request resolved accepted.duplicates = of_request r st used request resolved accepted.duplicates stands told accepted.given in
+    let of : IsOfRequest r.script.topology (world r) request resolved accepted.duplicates = of_request r used request resolved accepted.duplicates formed history told accepted.given in
     let is = accepted.gives (world r) of in
     record {
       decider = decider r t used request deciding;
       none = or_else-nones (early_in r.script.topology (world r) request) (late_in r.script.topology (world r) request) of.asks.accepted (accepted.passes (world r) of);
-      held = mask_held r.script.topology (machine r) (taker (machine r) t) request checked.touched stands.formed.device is.touched accepted.holds;
+      held = mask_held r.script.topology (machine r) (taker (machine r) t) request checked.touched formed.device is.touched accepted.holds;
       checked_as = is;
     }
 
@@ -108,7 +109,7 @@ pub tests : (r : Run) (st : Stores) (t : ℕ) (used : List (ℕ × Look)) (check
     → Decides r (taker (machine r) t) (step.Test (taker (machine r) t)) reply.Tested
 tests r st t used checked stands fresh asked =
     test_by r (taker (machine r) t) asked.request asked.resolved checked
-    (accepted_now r st t used asked.request asked.resolved checked stands fresh asked.deciding asked.accepted) asked.test
+    (accepted_now r t used asked.request asked.resolved checked stands.formed stands.history fresh asked.deciding asked.accepted) asked.test
 
 -- as the call finds it
 pub tests_as : (r v : Run) (st : Stores) (t : ℕ) (used : List (ℕ × Look)) (checked : Checked) (client : ℕ) → Stands r st → r ≡ v → IsFirstStale (named_among st.made.things) used None → MayTest v t used checked

@@ -125,7 +125,7 @@ late_none true busy x y e = absurd cc
 late_none false true x y e = absurd cc
 late_none false false x y e = refl
 
-late_refuses : (r : Run) (client : ℕ) (checked : Checked) (flags : ℕ) (given : Reply) (asked : IsReadyToCommit r client checked flags) → late_reply r.script.topology (machine r) client asked.request ≡ Some given
+pub late_refuses : (r : Run) (client : ℕ) (checked : Checked) (flags : ℕ) (given : Reply) (asked : IsReadyToCommit r client checked flags) → late_reply r.script.topology (machine r) client asked.request ≡ Some given
     → Decides r client (step.Refuse client) given
 unfolding legal steps.may steps.may_refuse next refused
 late_refuses r client checked flags given asked is =

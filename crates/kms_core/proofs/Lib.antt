@@ -10,10 +10,10 @@ mod BackingOff
 mod First
 mod Answering
 pub mod Takers
-mod Fresh
-mod Verdicts
-mod Accepted
-mod Lates
+pub mod Fresh
+pub mod Verdicts
+pub mod Accepted
+pub mod Lates
 mod Returned
 mod Recorded
 mod Delivered
@@ -30,7 +30,7 @@ mod Swaps
 mod OutFences
 mod OutLabels
 mod Commits
-mod Swapped
+pub mod Swapped
 mod CommitStates
 mod Marking
 mod Writing

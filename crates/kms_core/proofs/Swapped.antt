@@ -10,7 +10,7 @@ use Rattle.kms_model.specs.declared.scripts.Request.{Request}
 use Rattle.kms_model.specs.declared.sets.Resolved.{Resolved}
 use Rattle.kms_model.specs.declared.states.Checked.{Checked}
 use Rattle.kms_model.specs.declared.worlds.Look.{Look}
-use Rattle.kms_model.specs.Machine.Histories.{legal}
+use Rattle.kms_model.specs.Machine.Histories.{is_history, legal}
 use Rattle.kms_model.specs.Machine.State.{Machine, request_at}
 use Rattle.kms_model.specs.Request.Lookups.{look_up}
 use Rattle.kms_clients.specs.Standing.{doing_in}
@@ -19,6 +19,7 @@ use Rattle.kms_core.specs.declared.deciding.Decided.{Decided}
 use Rattle.kms_core.specs.declared.deciding.Decided.TheVariants as answer
 use Rattle.kms_core.specs.Decisions.{IsDecided, IsFirstStale, steps_of, taker, taker_in, world}
 use Rattle.kms_core.specs.Run.{Run, gains, machine}
+use Rattle.kms_model.specs.Script.WellFormed.{IsWellFormed}
 use Rattle.kms_core.specs.Stands.{Stores, Stands}
 use Rattle.kms_core.specs.Swaps.{IsReadyToCommit, MayCommit, MaySwap, MaySwapUnless, hindered_steps, late_reply, or_answer, refused_or, swap_answer, swap_answer_of, waits_or_commits}
 use Rattle.kms_core.proofs.Accepted.{accepted_now}
@@ -28,10 +29,10 @@ use Rattle.kms_core.proofs.Verdicts.{of_request}
 
 -- What is asked for
 
-ready_now : (r : Run) (st : Stores) (t : ℕ) (used : List (ℕ × Look)) (checked : Checked) (resolved : Resolved) → Stands r st → IsFirstStale (look_up (world r)) used None → MaySwap r t used checked resolved
+pub ready_now : (r : Run) (t : ℕ) (used : List (ℕ × Look)) (checked : Checked) (resolved : Resolved) → IsWellFormed r.script → is_history r.script r.steps ≡ true → IsFirstStale (look_up (world r)) used None → MaySwap r t used checked resolved
     → IsReadyToCommit r (taker (machine r) t) checked resolved.flags
-ready_now r st t used checked resolved stands fresh asked =
-    let now = accepted_now r st t used asked.request resolved checked stands fresh asked.deciding asked.accepted in
+ready_now r t used checked resolved formed history fresh asked =
+    let now = accepted_now r t used asked.request resolved checked formed history fresh asked.deciding asked.accepted in
     record {
       request = asked.request;
       number = now.decider.takes.number;
@@ -50,9 +51,9 @@ commit_now : (r : Run) (st : Stores) (t : ℕ) (used : List (ℕ × Look)) (chec
 unfolding ready_now
 commit_now r st t used checked resolved stands fresh asked is_legal =
     record {
-      ready = ready_now r st t used checked resolved stands fresh asked;
+      ready = ready_now r t used checked resolved stands.formed stands.history fresh asked;
       states = asked.states;
-      asks = (of_request r st used asked.request resolved asked.accepted.duplicates stands (tells_now (world r) asked.request used fresh asked.deciding.labels) asked.accepted.given).asks;
+      asks = (of_request r used asked.request resolved asked.accepted.duplicates stands.formed stands.history (tells_now (world r) asked.request used fresh asked.deciding.labels) asked.accepted.given).asks;
       legal = is_legal;
     }
 
@@ -62,7 +63,7 @@ pub ready_as : (r v : Run) (st : Stores) (t : ℕ) (used : List (ℕ × Look)) (
     → client ≡ taker_in (doing_in st.clients.places) t → IsReadyToCommit v client checked resolved.flags
 ready_as r v st t used checked resolved client stands same none asked is =
     let now = subst (λ (x : Run). MaySwap x t used checked resolved) (sym same) asked in
-    let done = ready_now r st t used checked resolved stands (fresh_now r r st used stands refl none) now in
+    let done = ready_now r t used checked resolved stands.formed stands.history (fresh_now r r st used stands refl none) now in
     let own = subst (λ n. IsReadyToCommit r n checked resolved.flags) (sym (taker_as r r st t client stands refl is)) done in
     subst (λ (x : Run). IsReadyToCommit x client checked resolved.flags) same own
 

@@ -18,6 +18,7 @@ use Rattle.kms_model.specs.declared.worlds.Look.{Look}
 use Rattle.kms_model.specs.declared.worlds.Thing.{Thing}
 use Rattle.kms_model.specs.declared.worlds.World.{World}
 use Rattle.kms_model.specs.Device.World.{thing_labelled}
+use Rattle.kms_model.specs.Machine.Commits.{has_number, lockable}
 use Rattle.kms_model.specs.Machine.Effects.{decided, next}
 use Rattle.kms_model.specs.Machine.Histories.{legal}
 use Rattle.kms_model.specs.Machine.State.{Machine, doing_at, has_value, holds, request_at}
@@ -94,8 +95,8 @@ pub record IsGiven (r : Run) (used : List (ℕ × Look)) (request : Request) (re
 pub record IsRefusedEarly (r : Run) (used : List (ℕ × Look)) (request : Request) (why : Refusal) : Type 0 where
   pub first : early_refusal r.script.topology (look_in used) request ≡ Some why.0
 
--- the first of refusals 9 to 24, as a check gives it; the context holds what the request touches, as `used` and the duplicates
--- give it
+-- the first of refusals 9 to 24, as a check gives it; the context holds each object of the device that the request touches, as
+-- `used` and the duplicates give it
 pub record IsRefusedLate (r : Run) (t : ℕ) (used : List (ℕ × Look)) (request : Request) (why : Refusal) : Type 0 where
   pub resolved : Resolved
   pub duplicates : Duplicates
@@ -103,7 +104,8 @@ pub record IsRefusedLate (r : Run) (t : ℕ) (used : List (ℕ × Look)) (reques
   pub gives : GivesRefusal r.script.topology request resolved duplicates why
   pub holds :
       (w : World) → IsOfRequest r.script.topology w request resolved duplicates
-      → (object : ℕ) → touches r.script.topology w request object ≡ true → holds (machine r) (taker (machine r) t) object ≡ true
+      → (object : ℕ) → has_number (lockable r.script.topology) object ≡ true → touches r.script.topology w request object ≡ true
+      → holds (machine r) (taker (machine r) t) object ≡ true
 
 pub record MayRefuse (r : Run) (t : ℕ) (used : List (ℕ × Look)) (why : Refusal) : Type 0 where
   pub request : Request

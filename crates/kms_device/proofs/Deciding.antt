@@ -20,6 +20,7 @@ use Rattle.kms_model.specs.declared.worlds.Look.{Look}
 use Rattle.kms_model.specs.declared.worlds.World.{World}
 use Rattle.kms_model.specs.Device.Objects.{count_of, exists, index_of, kind_of, object_id}
 use Rattle.kms_model.specs.Device.Serial.{command_of}
+use Rattle.kms_model.specs.Machine.Commits.{has_number, lockable}
 use Rattle.kms_model.specs.Machine.Histories.{at, is_history, run_steps}
 use Rattle.kms_model.specs.Machine.State.{Machine, command_at, doing_at, entry_at, first_machine, holder_at, holds, request_at, request_in}
 use Rattle.kms_model.specs.Machine.Steps.{is_lockable, is_taking, taking_at}
@@ -61,7 +62,7 @@ module _ (script : Script) (pass : DevicePass) (found : Run) (f : MayBeFound scr
   plain : IsPlainScript script
   plain = plain-from script formed
 
-  seen-history : is_history script pass.seen ≡ true
+  pub seen-history : is_history script pass.seen ≡ true
   seen-history = legal-before script (first_machine script.topology) pass.seen f.history.begins.0 (subst (λ h. is_history script h ≡ true) f.history.begins.1 (history script pass found f))
 
   abbrev Kept : ℕ → Type 0
@@ -78,7 +79,7 @@ module _ (script : Script) (pass : DevicePass) (found : Run) (f : MayBeFound scr
         same = record { plane = λ e. refl; connector = λ e. refl; crtc = λ e. refl };
       })
 
-  held-found : (object : ℕ) → holds (at script pass.seen) pass.rank object ≡ true → holds (machine found) pass.rank object ≡ true
+  pub held-found : (object : ℕ) → holds (at script pass.seen) pass.rank object ≡ true → holds (machine found) pass.rank object ≡ true
   held-found object held = holds-is (machine found) pass.rank object (kept object held).held
 
   kind-is : (kind : Kind) (index : ℕ) → exists script.topology kind index ≡ true → kind_of (object_id kind index) ≡ kind
@@ -112,7 +113,7 @@ module _ (script : Script) (pass : DevicePass) (found : Run) (f : MayBeFound scr
     };
   }
 
-  request-found : request_at found.script (machine found) pass.rank ≡ request_at script (at script pass.seen) pass.rank
+  pub request-found : request_at found.script (machine found) pass.rank ≡ request_at script (at script pass.seen) pass.rank
   request-found =
       ap (λ (s : Script). request_at s (machine found) pass.rank) f.same
       ∙ ap (λ (p : Place). request_in (command_of script (record { client = pass.rank; command = p.command }))) (place-found script pass found f)
@@ -151,10 +152,11 @@ module _ (script : Script) (pass : DevicePass) (found : Run) (f : MayBeFound scr
           duplicates = r.duplicates;
           given = record { asks = subst (λ (s : Script). IsResolved s.topology (look_in used) request r.resolved) (sym f.same) r.asks; old = own.old };
           gives = subst (λ (s : Script). GivesRefusal s.topology request r.resolved r.duplicates why) (sym f.same) r.gives;
-          holds = λ w is object touch.
+          holds = λ w is object there touch.
               subst (λ c. holds (machine found) c object ≡ true) (sym the_taker)
               (held-found object
               (r.holds w (subst (λ (s : Script). IsOfRequest s.topology w request r.resolved r.duplicates) f.same is) object
+              (subst (λ (s : Script). has_number (lockable s.topology) object ≡ true) f.same there)
               (subst (λ (s : Script). touches s.topology w request object ≡ true) f.same touch)));
         }
 

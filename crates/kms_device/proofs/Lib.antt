@@ -7,3 +7,16 @@ pub mod Found
 pub mod Holding
 pub mod Takers
 pub mod Deciding
+pub mod Went
+pub mod Stepping
+pub mod Serving
+pub mod TurnsTried
+pub mod HeldObjects
+pub mod LockTries
+pub mod TakingTries
+pub mod DecidedTries
+pub mod Moved
+pub mod DecisionTries
+pub mod Joining
+pub mod TriedCases
+pub mod CommitMade

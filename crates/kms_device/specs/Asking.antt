@@ -16,6 +16,7 @@ use Rattle.kms_model.specs.declared.states.Duplicates.{Duplicates}
 use Rattle.kms_model.specs.declared.worlds.Look.{Look}
 use Rattle.kms_model.specs.declared.worlds.World.{World}
 use Rattle.kms_model.specs.Device.Objects.{exists, first_id, index_of, kind_of, object_id}
+use Rattle.kms_model.specs.Machine.Commits.{has_number, lockable}
 use Rattle.kms_model.specs.Machine.State.{doing_at, holds, request_at}
 use Rattle.kms_model.specs.Machine.Steps.{is_lockable}
 use Rattle.kms_model.specs.Request.Agreement.{AgreesOld}
@@ -84,7 +85,8 @@ pub record IsDecidingFor (r : Run) (client : ℕ) (t : Ticket) (used : List (ℕ
   pub at : request_at r.script (machine r) client ≡ Some request
   pub labels : map (λ l. l.0) used ≡ labels_of request.assigns
 
--- the first of refusals 9 to 24, as a check gives it with such duplicates; the context holds what the request touches
+-- the first of refusals 9 to 24, as a check gives it with such duplicates; the context holds each object of the device that the
+-- request touches
 pub record IsRefusedWith (r : Run) (client : ℕ) (used : List (ℕ × Look)) (request : Request) (why : Refusal) : Type 0 where
   pub resolved : Resolved
   pub duplicates : Duplicates
@@ -93,7 +95,8 @@ pub record IsRefusedWith (r : Run) (client : ℕ) (used : List (ℕ × Look)) (r
   pub gives : GivesRefusal r.script.topology request resolved duplicates why
   pub holds :
       (w : World) → IsOfRequest r.script.topology w request resolved duplicates
-      → (object : ℕ) → touches r.script.topology w request object ≡ true → holds (machine r) client object ≡ true
+      → (object : ℕ) → has_number (lockable r.script.topology) object ≡ true → touches r.script.topology w request object ≡ true
+      → holds (machine r) client object ≡ true
 
 -- a client's request is refused by itself, or with duplicates
 pub record MayBeRefused (r : Run) (client : ℕ) (t : Ticket) (used : List (ℕ × Look)) (why : Refusal) : Type 0 where

@@ -1,14 +1,19 @@
 //! The device that threads share: the machine behind a lock whose history they see grow.
 #![tactic(auto)]
 
+mod attempt;
 mod commands;
 mod contexts;
 mod decisions;
 mod device;
 mod kernel;
+mod naming;
 #[cfg(test)]
 mod tests;
+mod tries;
 mod workers;
 
+pub use attempt::{Attempt, Attempted};
 pub use device::Device;
 pub use kernel::{Kernel, Pass};
+pub use naming::command_of;

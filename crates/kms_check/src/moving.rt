@@ -1,0 +1,78 @@
+//! The next move of a client that takes locks for a request. (Kernel: `drm_mode_atomic_ioctl`, "KMS Locking".)
+ghost use Rattle.std.specs.Prelude.{IfOk, List, ℕ};
+ghost use Rattle.kms_model.specs.declared.scripts.Request.{Request};
+ghost use Rattle.kms_model.specs.declared.worlds.Look.{Look};
+ghost use Rattle.kms_model.specs.Device.Sound.{IsDevice};
+ghost use Rattle.kms_model.specs.Request.Deciding.{AreFresh, AreOfSoundWorld, IsAskedFor};
+ghost use Rattle.kms_model.specs.Request.Resolves.{IsResolved};
+ghost use Rattle.kms_model.specs.Request.Sets.{look_in};
+ghost use Rattle.kms_check.specs.Moves.{IsMove};
+
+use crate::checking::{Refused, check};
+use crate::least::least_of;
+use kms_model::{
+    Checked, Duplicates, Lookups, NoMemory, ObjId, Refusal, Request, Resolved, Topology,
+};
+use kms_request::{RequestError, resolve};
+use kms_track::object_at;
+use std::alloc::Global;
+
+/// What a client that takes locks for a request does next.
+#[derive(Debug, Drop)]
+pub enum Move {
+    /// The request is refused, with a number from 1 to 24.
+    Refuse(Refusal),
+    /// This object is to be locked, and its state duplicated.
+    Lock(ObjId),
+    /// The request is accepted: what was checked of it, and what it asks for.
+    Accept(Checked, Resolved),
+}
+
+/// What a client that takes locks for a request does next.
+///
+/// `looks` has what each label of the request named at some time, and `states` has the states of the objects that the
+/// client locked for the request, which are those of a device that holds what is accepted; each new state is the old
+/// one. The request is refused by itself, with one of refusals 1 to 8, or by the state after it, with one of refusals 9
+/// to 24; it is accepted; or the least object is locked of the first group of objects that is not duplicated whole. It is
+/// refused by the state after it, and accepted, only where all that it touches is duplicated. The only error is want of
+/// memory.
+pub fn next_move(
+    alloc: Global,
+    topology: &Topology,
+    request: &Request,
+    looks: &Lookups,
+    states: &Duplicates,
+) -> Result<Move, NoMemory>
+    requires device { IsDevice topology.now }
+    requires held { AreOfSoundWorld topology.now states.now }
+    requires fresh { AreFresh states.now }
+    ensures { IfOk result (IsMove topology.now request.now looks.now states.now) }
+{
+    match resolve(alloc, topology, request, looks) {
+        Ok(resolved) => Ok(move_of_resolved(topology, *states, resolved)),
+        Err(RequestError::Of(why)) => Ok(Move::Refuse(why)),
+        Err(RequestError::NoMemory) => Err(NoMemory),
+    }
+}
+
+/// The next move for a request that is resolved.
+fn move_of_resolved(topology: &Topology, states: Duplicates, resolved: Resolved) -> Move
+    requires device { IsDevice topology.now }
+    requires asked { IsAskedFor topology.now resolved }
+    requires held { AreOfSoundWorld topology.now states }
+    requires fresh { AreFresh states }
+    ensures { (r : Request) (used : List (ℕ × Look))
+        → IsResolved topology.now (look_in used) r resolved
+        → IsMove topology.now r used states result }
+{
+    match check(topology, states, &resolved) {
+        Ok(checked) => Move::Accept(checked, resolved),
+        Err(Refused::Of(why)) => Move::Refuse(why),
+        Err(Refused::MoreLocks { locks }) => match least_of(&locks) {
+            Some(id) => Move::Lock(id),
+            // In each world that the request and the states are of the set has an object; where there is no such world,
+            // any object will do.
+            None => Move::Lock(object_at(0)),
+        },
+    }
+}

@@ -1,0 +1,61 @@
+-- A commit of several attempts.
+use Rattle.std.proofs.Common.{◌≡◌, ◌≢◌, ℕ, List, [], ◌∷◌, ◌++◌, Result, Ok, Err, refl, sym, ◌∙◌, subst, inl, inr}
+use Rattle.std.specs.Prelude.{OnErr}
+use Rattle.kms_model.specs.declared.replies.Reply.{Reply}
+use Rattle.kms_model.specs.declared.replies.Step.{Step}
+use Rattle.kms_model.specs.declared.scripts.Script.{Script}
+use Rattle.kms_core.specs.Run.{machine}
+use Rattle.kms_device.specs.declared.attempt.Attempt.{Attempt}
+use Rattle.kms_device.specs.declared.attempt.Attempted.{Attempted}
+use Rattle.kms_device.specs.declared.attempt.Attempted.TheVariants as attempted
+use Rattle.kms_device.specs.Attempts.{BrokenOff, Committed, GoesOnAt, IsAttempt, MayAttempt, Records, Serves, StaysAt, Went, new_attempt}
+use Rattle.kms_device.specs.Committing.{GoesOnWith}
+use Rattle.kms_device.specs.Turns.{DevicePass, seen}
+use Rattle.kms_device.proofs.Serving.{serves_new}
+use Rattle.kms_device.proofs.Went.{went_before, went_both, went_not}
+
+pub on_err : {A E P : Type 0} (r : Result A E) → P → OnErr r P
+on_err (Ok a) p = tt
+on_err (Err e) p = p
+
+-- before the first attempt
+pub made_none : (script : Script) (client : ℕ) (p : DevicePass) (kept : Attempt) → kept ≡ new_attempt → MayAttempt (seen script p) client → GoesOnWith script client p p kept
+made_none script client p kept is_new may = record {
+  steps = [];
+  went = went_not p;
+  stays = record { may = may; command = refl };
+  serves = subst (Serves (seen script p) client) (sym is_new) (serves_new (seen script p) client);
+}
+
+module _ (script : Script) (client : ℕ) (p m q : DevicePass) (kept : Attempt) (on : GoesOnWith script client p m kept) where
+  -- an attempt that made some steps, or none
+  further : (xs : List Step) (keeps : Attempt) → Went xs m q → StaysAt (seen script m) (seen script q) client → Serves (seen script q) client keeps → GoesOnWith script client p q keeps
+  further xs keeps went stays serves = record {
+    steps = on.steps ++ xs;
+    went = went_both on.steps xs p m q on.went went;
+    stays = record { may = stays.may; command = stays.command ∙ on.stays.command };
+    serves = serves;
+  }
+
+  -- an attempt that gave no reply
+  pub made_more : (did : Attempted) (keeps : Attempt) → ((r : Reply) → did ≢ attempted.Answered r) → IsAttempt script client m kept q keeps did → GoesOnAt (seen script m) (seen script q) client did → Serves (seen script q) client keeps
+      → GoesOnWith script client p q keeps
+  made_more attempted.Did keeps other is stays serves = elim is [
+    | inl stepped ↦ further (stepped.stepped.next ∷ []) keeps stepped.stepped.went stays serves
+    | inr none ↦ elim none [ inl took ↦ further [] keeps took.went stays serves | inr looked ↦ further [] keeps looked.went stays serves ]
+  ]
+  made_more (attempted.NotYet n) keeps other is stays serves = further [] keeps is.went stays serves
+  made_more (attempted.Answered r) keeps other is stays serves = absurd (other r refl)
+
+  -- one that gave the reply
+  pub made_all : (did : Attempted) (keeps : Attempt) (r : Reply) → did ≡ attempted.Answered r → IsAttempt script client m kept q keeps did → Committed script client r p q
+  made_all did keeps r is_reply is =
+      let by = subst (IsAttempt script client m kept q keeps) is_reply is in record {
+        steps = on.steps ++ by.stepped.next ∷ [];
+        went = went_both on.steps (by.stepped.next ∷ []) p m q on.went by.stepped.went;
+        records = subst (λ n. Records (machine (seen script q)) client n r) on.stays.command by.records;
+      }
+
+  -- no memory
+  pub broken : Went [] m q → MayAttempt (seen script q) client → BrokenOff script client p q
+  broken went may = record { steps = on.steps; went = went_before on.steps p m q on.went went; again = may }

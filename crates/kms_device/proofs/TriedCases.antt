@@ -1,0 +1,172 @@
+-- What the parts of an attempt did, by what the device's calls answered.
+use Rattle.std.proofs.Common.{All, ◌≡◌, ℕ, List, [], ◌∷◌, ◌++◌, length, true, false, Some, None, Result, Ok, Err, refl, sym, ap, ◌∙◌, subst}
+use Rattle.std.specs.Prelude.{not, IfOk, OnErr, IsErr}
+use Rattle.std.proofs.lemmas.Bool.{and_from, false≢true}
+use Rattle.std.proofs.lemmas.List.Elements.{All-cons, All-head, All-nil, All-tail}
+use Rattle.kms_model.specs.declared.objects.ObjId.{ObjId}
+use Rattle.kms_model.specs.declared.objects.Ticket.{Ticket}
+use Rattle.kms_model.specs.declared.replies.Refusal.{Refusal}
+use Rattle.kms_model.specs.declared.replies.Reply.TheVariants as reply
+use Rattle.kms_model.specs.declared.replies.Step.TheVariants as step
+use Rattle.kms_model.specs.declared.runs.Doing.TheVariants as doing
+use Rattle.kms_model.specs.declared.runs.Place.{Place}
+use Rattle.kms_model.specs.declared.scripts.Request.{Request}
+use Rattle.kms_model.specs.declared.scripts.Script.{Script}
+use Rattle.kms_model.specs.declared.sets.Resolved.{Resolved}
+use Rattle.kms_model.specs.declared.states.Checked.{Checked}
+use Rattle.kms_model.specs.declared.states.Duplicates.{Duplicates}
+use Rattle.kms_model.specs.declared.worlds.Look.{Look}
+use Rattle.kms_model.specs.Machine.Histories.{legal}
+use Rattle.kms_model.specs.Device.Serial.{command_of}
+use Rattle.kms_model.specs.Script.WellFormed.{IsWellFormed}
+use Rattle.kms_model.specs.Machine.State.{command_at, doing_at, place_at, request_in}
+use Rattle.kms_model.specs.Machine.Steps.{is_idle, may, returning_of}
+use Rattle.kms_model.specs.Request.Deciding.{AreOfSoundWorld}
+use Rattle.kms_model.specs.Request.Flags.{is_test}
+use Rattle.kms_model.specs.Request.Lookups.{look_up}
+use Rattle.kms_laws.proofs.Modes.{plain-from}
+use Rattle.kms_laws.proofs.Steps.{history_kept, request-is}
+use Rattle.kms_check.proofs.Readiness.{HasRoom}
+use Rattle.kms_check.specs.Moves.{AcceptedAs, AsksFor, RefusedBy}
+use Rattle.kms_core.specs.declared.contexts.Locked.{Locked}
+use Rattle.kms_core.specs.declared.deciding.Decided.{Decided}
+use Rattle.kms_core.specs.declared.deciding.Decided.TheVariants as answer
+use Rattle.kms_core.specs.Decisions.{IsDecided, steps_of, world}
+use Rattle.kms_core.specs.Locks.{MayBegin, lock_steps, locked_answer}
+use Rattle.kms_core.specs.Run.{Run, machine}
+use Rattle.kms_core.specs.Swaps.{swap_answer}
+use Rattle.kms_device.specs.declared.attempt.Attempt.{Attempt}
+use Rattle.kms_device.specs.declared.attempt.Attempted.{Attempted}
+use Rattle.kms_device.specs.declared.attempt.Attempted.TheVariants as attempted
+use Rattle.kms_device.specs.Attempts.{MayAttempt, Serves, new_attempt}
+use Rattle.kms_device.specs.Steps.{NeverEnds, is_stall}
+use Rattle.kms_device.specs.Trying.{Concludes, DidAndKeeps, DidNothing, IsReady, LooksInVain, Takes, Tried, attempted_of, kept_of, with_looks}
+use Rattle.kms_device.specs.Turns.{DevicePass, Turn, seen}
+use Rattle.kms_device.proofs.Deciding.{seen-history}
+use Rattle.kms_device.proofs.Found.{place-found}
+use Rattle.kms_device.proofs.Joining.{tried_later}
+use Rattle.kms_device.proofs.TurnsTried.{ready_after}
+use Rattle.kms_device.proofs.DecisionTries.{refuses_so, swaps_so, tests_so, vain_so}
+use Rattle.kms_device.proofs.Moved.{asked_at, room_for}
+use Rattle.kms_device.proofs.Runs.{open-at}
+use Rattle.kms_device.proofs.TurnsTried.{began}
+use Rattle.kms_device.proofs.TakingTries as taking
+use Rattle.kms_device.proofs.TakingTries.{TakesFor}
+
+-- no memory
+pub tried_err : {E : Type 0} (script : Script) (p q : DevicePass) (kept : Attempt) (r : Result (Attempted × Attempt) E) → IsErr r → DidNothing script p q → Tried script p kept q r
+tried_err script p q kept (Ok did) e nothing = absurd (false≢true e)
+tried_err script p q kept (Err x) e nothing = nothing
+
+-- a client that is idle at a request may begin a context
+pub may_begin_at : (script : Script) (p : DevicePass) (kept : Attempt) → IsReady script p kept → doing_at (machine (seen script p)) p.rank ≡ doing.Idle → MayBegin (seen script p) p.rank
+unfolding legal may
+may_begin_at script p kept ready idle =
+    and_from (not (machine (seen script p)).stalled) _ (ap not (open-at script p.seen ready.is_open.history ready.is_open.goes_on))
+    (and_from (is_idle (doing_at (machine (seen script p)) p.rank)) _ (ap is_idle idle)
+    (rw (request-is (command_at script (machine (seen script p)) p.rank) ready.may.request ready.may.at) refl))
+
+-- a context began
+pub began_as : (script : Script) (says : Run → Type 0) (p q : DevicePass) (kept keeps : Attempt) (client : ℕ) → IsReady script p kept → doing_at (machine (seen script p)) p.rank ≡ doing.Idle → p.rank ≡ client → keeps ≡ new_attempt
+    → Turn script says (step.Begin client ∷ []) p q → DidAndKeeps script p kept q attempted.Did keeps
+began_as script says p q kept keeps client ready idle whose is_new t =
+    subst (DidAndKeeps script p kept q attempted.Did) (sym is_new)
+    (began script says p q kept ready idle (subst (λ n. Turn script says (step.Begin n ∷ []) p q) (sym whose) t))
+
+-- a lock was asked for
+pub as_locked : (script : Script) (p q : DevicePass) (kept : Attempt) (id : ObjId) (a : Locked) (n : ℕ) (did : Attempted) (keeps : Attempt) → n ≡ length q.seen → did ≡ attempted_of n a → keeps ≡ kept_of id a kept
+    → DidAndKeeps script p kept q (attempted_of (length q.seen) a) (kept_of id a kept) → DidAndKeeps script p kept q did keeps
+as_locked script p q kept id a n did keeps length_is did_is keeps_is h =
+    subst (λ x. DidAndKeeps script p kept q x keeps) (sym (did_is ∙ ap (λ k. attempted_of k a) length_is)) (subst (λ x. DidAndKeeps script p kept q (attempted_of (length q.seen) a) x) (sym keeps_is) h)
+
+-- the states are those of a sound world
+pub of_sound_world : (script : Script) (p : DevicePass) (kept : Attempt) → IsReady script p kept → AreOfSoundWorld script.topology kept.states
+of_sound_world script p kept ready = record {
+  world = world (seen script p);
+  sound = (history_kept script p.seen (plain-from script ready.is_open.formed) ready.is_open.history).present.sound;
+  old = ready.serves.states.old;
+}
+
+module _ (script : Script) (p : DevicePass) (ticket : Ticket) (request : Request) (used : List (ℕ × Look)) (states : Duplicates) (ready : IsReady script p (with_looks used states)) (takes : Takes script p ticket request) where
+  abbrev Kept : Attempt
+  Kept = with_looks used states
+
+  pub takes_for : TakesFor script p (with_looks used states) ticket request used
+  takes_for = record { ready = ready; taking = takes.taking; at = takes.at; has = refl }
+
+  module _ (q : DevicePass) (id : ObjId) (asks : AsksFor script.topology request used states id) (room : HasRoom states) where
+    pub locks_so : (a : Locked) → Turn script (λ found. a ≡ locked_answer found p.rank id) (lock_steps p.rank id a) p q → DidAndKeeps script p (with_looks used states) q (attempted_of (length q.seen) a) (kept_of id a (with_looks used states))
+    locks_so a t =
+        let is = asked_at script p (with_looks used states) ticket request used takes_for id asks in
+        taking.locked script p q (with_looks used states) ticket request used takes_for id asks is.is_id is.absent
+        (λ r. room_for script.topology states id.0 (world r) ready.is_open.formed.device room is.is_id is.can_lock is.absent r.script.topology) a t
+
+  module _ {E : Type 0} (m q : DevicePass) (a : Decided) (r : Result (Attempted × Attempt) E) where
+    pub refused_so : (why : Refusal) → RefusedBy script.topology request used states why
+        → Turn script (λ found. IsDecided (look_up (world found)) used (answer.Done (reply.Refused why)) a) (steps_of p.rank (step.Refuse p.rank) a) p m
+        → IfOk r (λ did. Concludes script request (with_looks used states) m a q did.0 did.1) → OnErr r (LooksInVain script a m q) → Tried script p (with_looks used states) q r
+    refused_so why refused t told vain = by r told vain
+      where
+        by : (r : Result (Attempted × Attempt) E) → IfOk r (λ did. Concludes script request (with_looks used states) m a q did.0 did.1) → OnErr r (LooksInVain script a m q) → Tried script p (with_looks used states) q r
+        by (Ok did) told vain = refuses_so script p m q (with_looks used states) ticket request used takes_for did.0 did.1 why refused a t told
+        by (Err e) told vain = vain_so script p m q (with_looks used states) ticket request used takes_for _ (step.Refuse p.rank) a t vain
+
+    module _ (checked : Checked) (resolved : Resolved) (accepted : AcceptedAs script.topology request used states checked resolved) where
+      pub tested_so : is_test request.flags ≡ true → Turn script (λ found. IsDecided (look_up (world found)) used (answer.Done reply.Tested) a) (steps_of p.rank (step.Test p.rank) a) p m
+          → IfOk r (λ did. Concludes script request (with_looks used states) m a q did.0 did.1) → OnErr r (LooksInVain script a m q) → Tried script p (with_looks used states) q r
+      tested_so test t told vain = by r told vain
+        where
+          by : (r : Result (Attempted × Attempt) E) → IfOk r (λ did. Concludes script request (with_looks used states) m a q did.0 did.1) → OnErr r (LooksInVain script a m q) → Tried script p (with_looks used states) q r
+          by (Ok did) told vain = tests_so script p m q (with_looks used states) ticket request used takes_for did.0 did.1 checked resolved accepted test a t told
+          by (Err e) told vain = vain_so script p m q (with_looks used states) ticket request used takes_for _ (step.Test p.rank) a t vain
+
+      pub swapped_so : is_test request.flags ≡ false → Turn script (λ found. IsDecided (look_up (world found)) used (swap_answer found p.rank) a) (steps_of p.rank (step.Swap p.rank) a) p m
+          → IfOk r (λ did. Concludes script request (with_looks used states) m a q did.0 did.1) → OnErr r (LooksInVain script a m q) → Tried script p (with_looks used states) q r
+      swapped_so no_test t told vain = by r told vain
+        where
+          by : (r : Result (Attempted × Attempt) E) → IfOk r (λ did. Concludes script request (with_looks used states) m a q did.0 did.1) → OnErr r (LooksInVain script a m q) → Tried script p (with_looks used states) q r
+          by (Ok did) told vain = swaps_so script p m q (with_looks used states) ticket request used takes_for did.0 did.1 checked resolved accepted no_test a t told
+          by (Err e) told vain = vain_so script p m q (with_looks used states) ticket request used takes_for _ (step.Swap p.rank) a t vain
+
+-- The first turn, which shows where the client stands
+
+-- the beginning of a list of which each item passes
+all-front : {A : Type 0} (P : A → Type 0) (xs ys : List A) → All P (xs ++ ys) → All P xs
+all-front P [] ys h = All-nil P
+all-front P (x ∷ xs) ys h = All-cons P x xs (All-head P x (xs ++ ys) h) (all-front P xs ys (All-tail P x (xs ++ ys) h))
+
+module _ (script : Script) (says : Run → Type 0) (p q : DevicePass) (kept : Attempt) (client : ℕ) (whose : p.rank ≡ client) (may : MayAttempt (seen script p) client) (serves : Serves (seen script p) client kept) (t : Turn script says [] p q) where
+  pub ready_first : IsReady script p kept
+  ready_first = record {
+    is_open = record {
+      formed = subst IsWellFormed t.finds.same t.finds.is_open.formed;
+      history = seen-history script p t.found t.finds;
+      goes_on = all-front (λ x. is_stall x ≡ false) p.seen t.finds.history.begins.0 (subst NeverEnds t.finds.history.begins.1 t.finds.is_open.goes_on);
+    };
+    may = subst (MayAttempt (seen script p)) (sym whose) may;
+    serves = subst (λ n. Serves (seen script p) n kept) (sym whose) serves;
+  }
+
+  pub ready_then : IsReady script q kept
+  ready_then = ready_after script says p q kept ready_first t
+
+  -- what the rest did
+  pub tried_first : {E : Type 0} (r : DevicePass) (result : Result (Attempted × Attempt) E) → Tried script q kept r result → Tried script p kept r result
+  tried_first r result is = tried_later script says p q r kept ready_first t result is
+
+-- the place that was told
+pub place_told : (script : Script) (p q : DevicePass) (client : ℕ) (place : Place) → p.rank ≡ client → (t : Turn script (λ found. place ≡ place_at (machine found) client) [] p q) → place ≡ place_at (machine (seen script p)) client
+place_told script p q client place whose t = t.said ∙ subst (λ n. place_at (machine t.found) n ≡ place_at (machine (seen script p)) n) whose (place-found script p t.found t.finds)
+
+-- the client stands at a request
+pub no_request : (script its : Script) (p q : DevicePass) (client : ℕ) (place : Place) → its ≡ script → p.rank ≡ client → Turn script (λ found. place ≡ place_at (machine found) client) [] p q → MayAttempt (seen script p) client
+    → None ≡ request_in (command_of its (record { client = client; command = place.command })) → ⊥
+no_request script its p q client place same whose t may none_its =
+    let none : None ≡ request_in (command_of script (record { client = client; command = place.command })) = none_its ∙ ap (λ (s : Script). request_in (command_of s (record { client = client; command = place.command }))) same in
+    let there : Some may.request ≡ None = sym may.at ∙ (ap (λ (x : Place). request_in (command_of script (record { client = client; command = x.command }))) (sym (place_told script p q client place whose t)) ∙ sym none) in absurd cc
+
+-- it does not wait for a commit
+pub not_waiting : (script : Script) (p q : DevicePass) (client k : ℕ) (place : Place) → p.rank ≡ client → Turn script (λ found. place ≡ place_at (machine found) client) [] p q → MayAttempt (seen script p) client
+    → place.doing ≡ doing.Returning k → ⊥
+not_waiting script p q client k place whose t may waits =
+    let there : Some k ≡ None = sym (ap returning_of waits) ∙ (ap (λ (x : Place). returning_of x.doing) (place_told script p q client place whose t) ∙ may.awake) in absurd cc

@@ -1,0 +1,14 @@
+-- What a commit has done while it makes attempts. From: as for attempts.
+use Rattle.std.specs.Prelude.{ℕ, List}
+use Rattle.kms_model.specs.declared.replies.Step.{Step}
+use Rattle.kms_model.specs.declared.scripts.Script.{Script}
+use Rattle.kms_device.specs.declared.attempt.Attempt.{Attempt}
+use Rattle.kms_device.specs.Attempts.{Serves, StaysAt, Went}
+use Rattle.kms_device.specs.Turns.{DevicePass, seen}
+
+-- It made some steps, gave no reply yet, and can go on with what it keeps.
+pub record GoesOnWith (script : Script) (client : ℕ) (before after : DevicePass) (kept : Attempt) : Type 0 where
+  pub steps : List Step
+  pub went : Went steps before after
+  pub stays : StaysAt (seen script before) (seen script after) client
+  pub serves : Serves (seen script after) client kept

@@ -1,0 +1,114 @@
+//! A client's request, one step at a time, and whole.
+ghost use Rattle.std.specs.Prelude.{◌≡◌, [], IfOk, OnErr};
+ghost use Rattle.kms_device.specs.Attempts.{BrokenOff, Committed, GoesOnAt, IsAttempt, MayAttempt, Serves, Went, new_attempt};
+ghost use Rattle.kms_device.specs.Turns.{seen};
+
+use crate::device::Device;
+use crate::kernel::Pass;
+use kms_io::Gate;
+use kms_model::{Duplicates, Lookups, NoMemory, Reply};
+use kms_state::Duplicating;
+use std::alloc::Global;
+use std::mem::replace;
+use std::sync::Wait;
+
+/// What a client keeps of its request between two attempts at it. (Kernel: `struct drm_atomic_state`, and what
+/// drm_mode_atomic_ioctl looked up.)
+#[derive(Drop)]
+pub struct Attempt {
+    /// What the labels of the request named when they were looked up; none before they are.
+    pub looks: Option<Lookups>,
+    /// The states that the locks of the client's context gave, as they are in the device, each with itself as the new state.
+    pub states: Duplicates,
+}
+
+/// What came of an attempt.
+#[derive(Clone, Copy, Debug, PartialEq, Eq)]
+pub enum Attempted {
+    /// A step was made that records no reply; or an object that was held already gave its state; or a label names something else
+    /// than it did, and all look-ups were made anew.
+    Did,
+    /// The client's next step is not legal in the history that was found.
+    NotYet {
+        /// How long that history was, a count of steps.
+        length: u64,
+    },
+    /// The step was made that decides the request, with this reply.
+    Answered(Reply),
+}
+
+impl Attempt {
+    /// One that serves wherever a client stands.
+    pub fn new() -> Attempt
+        ensures { result ≡ new_attempt }
+    {
+        Attempt {
+            looks: None,
+            states: Duplicates::empty(),
+        }
+    }
+}
+
+impl Device {
+    /// One step of a client's request, from the beginning of its context to the reply. Where the client stands tells which call
+    /// comes next: `begin`, `backoff` or `relock`; or, while it takes locks, the call that resolving the request with the look-ups
+    /// that were kept and a check of the states that were kept ask for, which is `refuse`, the `lock` of the least object that is
+    /// lacking, `test` or `swap`. Resolving and checking are done outside of every turn; the gate is called before. `kept` is new,
+    /// or what the client's last attempt left. The only error is want of memory: then no step was made, and `kept` is new.
+    pub fn attempt<W: Wait, G: Gate>(
+        &self,
+        rt: &W,
+        alloc: Global,
+        pass: &mut Pass,
+        client: u32,
+        gate: &G,
+        kept: &mut Attempt,
+    ) -> Result<Attempted, NoMemory>
+        requires own { pass.old.lock ≡ self.now.lock }
+        requires whose { pass.old.rank ≡ client }
+        requires may { MayAttempt (seen self.now.script pass.old) client }
+        requires serves { Serves (seen self.now.script pass.old) client kept.old }
+        ensures did { IfOk result
+            (IsAttempt self.now.script client pass.old kept.old pass.new kept.new) }
+        ensures goes_on { IfOk result (GoesOnAt (seen self.now.script pass.old)
+            (seen self.now.script pass.new) client) }
+        ensures serves { Serves (seen self.now.script pass.new) client kept.new }
+        ensures no_step { OnErr result (Went [] pass.old pass.new) }
+        ensures may { OnErr result (MayAttempt (seen self.now.script pass.new) client) }
+        ensures anew { OnErr result (kept.new ≡ new_attempt) }
+    {
+        let old = replace(kept, Attempt::new());
+        let (answer, new) = self.try_step(rt, alloc, pass, client, gate, old)?;
+        *kept = new;
+        Ok(answer)
+    }
+
+    /// The client's next command, which is a request, from the beginning of its context to the reply. It makes attempts until one
+    /// gives the reply; how many is not bounded. The only error is want of memory: then the client may have begun, hold locks or
+    /// have backed off, and `commit` may be called again for it.
+    pub fn commit<W: Wait, G: Gate>(
+        &self,
+        rt: &W,
+        alloc: Global,
+        pass: &mut Pass,
+        client: u32,
+        gate: &G,
+    ) -> Result<Reply, NoMemory>
+        requires own { pass.old.lock ≡ self.now.lock }
+        requires whose { pass.old.rank ≡ client }
+        requires may { MayAttempt (seen self.now.script pass.old) client }
+        ensures committed { IfOk result
+            (λ reply. Committed self.now.script client reply pass.old pass.new) }
+        ensures broken_off { OnErr result (BrokenOff self.now.script client pass.old pass.new) }
+    {
+        let mut kept = Attempt::new();
+        for _ in rt.forever() {
+            if let Attempted::Answered(reply) = self.attempt(
+                rt, alloc, pass, client, gate, &mut kept,
+            )? {
+                return Ok(reply);
+            }
+        }
+        unreachable!()
+    }
+}
