@@ -7,3 +7,4 @@ pub mod Found
 pub mod Holding
 pub mod Takers
 pub mod Deciding
+pub mod Tails
