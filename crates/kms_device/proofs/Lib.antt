@@ -20,3 +20,4 @@ pub mod DecisionTries
 pub mod Joining
 pub mod TriedCases
 pub mod CommitMade
+pub mod Tails

@@ -49,10 +49,10 @@ turn_of {F} {R} g f r script says es before after t tells =
       left = subst IsOpen told.1 t.is_open;
     }
 
-abbrev IsPlain : Step → Type 0
+abbrev pub IsPlain : Step → Type 0
 IsPlain step = is_plain step ≡ true
 
-abbrev IsOf : ℕ → Step → Type 0
+abbrev pub IsOf : ℕ → Step → Type 0
 IsOf client step = (owner step ≡ 0) ⊎ (owner step ≡ client)
 
 -- steps that are a client's, or nobody's, and plain

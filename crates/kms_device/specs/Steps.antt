@@ -1,12 +1,14 @@
--- Whose a step is, and what is counted of a history. From: `drm_vblank.c`, drm_crtc_vblank_count (the counts of CRTCs).
+-- Whose a step is, what is counted of a history, and the tail of a commit. From: `drm_vblank.c`, drm_crtc_vblank_count (the counts
+-- of CRTCs); `drm_atomic_helper.c`, commit_tail (the order of a tail).
 use Rattle.std.specs.Prelude.{ℕ, suc, ◌≤◌, ◌≡◌, ◌==◌, ◌&&◌, nat_le, Bool, true, false, List, [], ◌∷◌, ◌++◌, All}
 use Prim.Native.Nat.{zero-le, suc-le-suc}
-use Rattle.kms_model.specs.declared.objects.Kind.TheVariants.{Crtc}
+use Rattle.kms_model.specs.declared.objects.Kind.TheVariants.{Crtc, Plane}
 use Rattle.kms_model.specs.declared.objects.ObjId.{ObjId}
+use Rattle.kms_model.specs.declared.objects.Topology.{Topology}
 use Rattle.kms_model.specs.declared.replies.Step.{Step}
-use Rattle.kms_model.specs.declared.replies.Step.TheVariants.{Stall, Vblank}
+use Rattle.kms_model.specs.declared.replies.Step.TheVariants.{Cleanup, Flush, HwDone, Stall, Vblank, Write}
 use Rattle.kms_model.specs.Device.Objects.{exists, first_id, kind_of}
-use Rattle.kms_model.specs.Machine.Histories.{legal}
+use Rattle.kms_model.specs.Machine.Histories.{for_each, legal}
 use Rattle.kms_model.specs.Promises.{client_of_step}
 use Rattle.kms_core.specs.Decisions.{number_or_0}
 use Rattle.kms_core.specs.Latching.{goes_at}
@@ -68,3 +70,10 @@ is_legal r step = legal r.script (machine r) step
 -- an object is the CRTC or the plane that a commit writes next
 abbrev pub may_write : Run → ℕ → ObjId → Bool
 may_write r k id = nat_le (first_id (kind_of id.0)) id.0 && is_legal r (write_step k id)
+
+-- What a worker may do for a commit that it claimed, in order: the writes of CRTCs and of planes, the flushes, and the end. The
+-- first that is legal is the first that is left.
+abbrev pub tail_of : Topology → ℕ → List Step
+tail_of t k =
+    for_each t Crtc (λ kind index. Write k kind index) ++ (for_each t Plane (λ kind index. Write k kind index)
+    ++ (for_each t Crtc (λ kind index. Flush k kind index) ++ HwDone k ∷ Cleanup k ∷ []))

@@ -1,10 +1,12 @@
 //! The calls of workers and of vertical blankings. They take no memory, and ask for nothing of what the pass has seen.
-ghost use Rattle.std.specs.Prelude.{◌≡◌};
+ghost use Rattle.std.specs.Prelude.{◌≡◌, ◌∷◌, [], find, true};
+ghost use Rattle.std.specs.List.{range_with_len};
+ghost use Rattle.std.specs.Option.{option_to_list};
 ghost use Rattle.kms_model.specs.declared.objects.Kind.TheVariants.{Crtc};
 ghost use Rattle.kms_model.specs.declared.replies.Step.TheVariants as step;
 ghost use Rattle.kms_core.specs.Run.{Run, gains};
 ghost use Rattle.kms_core.specs.Work.{claim_steps, first_claim, write_step};
-ghost use Rattle.kms_device.specs.Steps.{blanks_at, is_legal, may_write, step_if};
+ghost use Rattle.kms_device.specs.Steps.{blanks_at, is_legal, may_write, step_if, tail_of};
 ghost use Rattle.kms_device.specs.Turns.{Turn};
 
 use crate::device::Device;
@@ -63,6 +65,17 @@ impl Device {
             (step_if result (step.Cleanup commit)) pass.old pass.new }
     {
         self.turn(rt, pass, |core: &mut Core| clean_up(core, commit))
+    }
+
+    /// Does the first of a commit's write, flush, hwdone and cleanup steps that is left, and gives it. None, and no step, exactly where
+    /// it is not legal in the history that was found, or none is left. (Kernel: `drm_atomic_helper.c`, `commit_tail`.)
+    pub fn work_on<W: Wait>(&self, rt: &W, pass: &mut Pass, commit: u32) -> Option<Step>
+        requires own { pass.old.lock ≡ self.now.lock }
+        ensures { Turn self.now.script
+            (λ found. result ≡ find (is_legal found) (tail_of found.script.topology commit))
+            (option_to_list result) pass.old pass.new }
+    {
+        self.turn(rt, pass, |core: &mut Core| work_on(core, commit))
     }
 
     /// The CRTC with an index has a vertical blanking at which it latches a commit, as the machine's `vblank` does. False, and no
@@ -130,4 +143,79 @@ fn clean_up(core: &mut Core, commit: u32) -> bool
 {
     core.is_a_history();
     core.legal(&Step::Cleanup { commit }) && core.cleanup(commit)
+}
+
+/// Does the first step of a commit's tail that is legal.
+fn work_on(core: &mut Core, commit: u32) -> Option<Step>
+    ensures answer { result ≡ find (is_legal core.old) (tail_of core.old.script.topology commit) }
+    ensures history { core.new ≡ gains core.old (option_to_list result) }
+{
+    core.is_a_history();
+    let crtcs = core.script().topology.crtcs;
+    let planes = core.script().topology.planes.len() as u32;
+    if let Some(index) = first_write(core, commit, Kind::Crtc, crtcs) {
+        return Some(write_object(core, commit, Kind::Crtc, index));
+    }
+    if let Some(index) = first_write(core, commit, Kind::Plane, planes) {
+        return Some(write_object(core, commit, Kind::Plane, index));
+    }
+    if let Some(index) = first_flush(core, commit, crtcs) {
+        flush(core, commit, index);
+        return Some(Step::Flush {
+            commit,
+            kind: Kind::Crtc,
+            index,
+        });
+    }
+    if core.legal(&Step::HwDone { commit }) {
+        hw_done(core, commit);
+        return Some(Step::HwDone { commit });
+    }
+    if clean_up(core, commit) {
+        return Some(Step::Cleanup { commit });
+    }
+    None
+}
+
+/// The index of the first object of a kind, of so many, that a commit may write.
+fn first_write(core: &Core, commit: u32, kind: Kind, count: u32) -> Option<u32>
+    ensures { result ≡ find (λ index. is_legal core.now (step.Write commit kind index))
+        (range_with_len 0 count) }
+{
+    (0..count).find(|index| {
+        core.legal(&Step::Write {
+            commit,
+            kind,
+            index: *index,
+        })
+    })
+}
+
+/// The index of the first CRTC, of so many, that a commit may flush.
+fn first_flush(core: &Core, commit: u32, count: u32) -> Option<u32>
+    ensures { result ≡ find (λ index. is_legal core.now (step.Flush commit Crtc index))
+        (range_with_len 0 count) }
+{
+    (0..count).find(|index| {
+        core.legal(&Step::Flush {
+            commit,
+            kind: Kind::Crtc,
+            index: *index,
+        })
+    })
+}
+
+/// Writes the object of a kind with an index, which a commit writes next, and gives the step.
+fn write_object(core: &mut Core, commit: u32, kind: Kind, index: u32) -> Step
+    requires { is_legal core.old (step.Write commit kind index) ≡ true }
+    ensures answer { result ≡ step.Write commit kind index }
+    ensures history { core.new ≡ gains core.old (step.Write commit kind index ∷ []) }
+{
+    core.is_a_history();
+    write(core, commit, ObjId::of(kind, index));
+    Step::Write {
+        commit,
+        kind,
+        index,
+    }
 }

@@ -1,0 +1,4 @@
+mod Waits
+mod NothingDone
+mod Standing
+mod PlainSteps

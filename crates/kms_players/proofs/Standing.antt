@@ -1,0 +1,182 @@
+-- Where a client stands, and which step comes next there.
+use Rattle.std.proofs.Common.{◌≡◌, ◌⊎◌, ℕ, zero, suc, [], ◌∷◌, replicate, Bool, true, false, Option, Some, None, Result, Ok, Err, inl, inr, refl, sym, ap, ◌∙◌, subst}
+use Rattle.std.specs.Prelude.{◌&&◌, IfOk, OnErr, is_none, slice_get}
+use Rattle.std.proofs.lemmas.Bool.{and_from, and_parts, false≢true}
+use Rattle.kms_model.specs.declared.runs.Doing.{Doing}
+use Rattle.kms_model.specs.declared.runs.Doing.TheVariants as doing
+use Rattle.kms_model.specs.declared.runs.Place.{Place}
+use Rattle.kms_model.specs.declared.scripts.Command.{Command}
+use Rattle.kms_model.specs.declared.scripts.Command.TheVariants as command
+use Rattle.kms_model.specs.declared.scripts.Request.{Request}
+use Rattle.kms_model.specs.declared.scripts.Script.{Script}
+use Rattle.kms_model.specs.declared.states.Both.{Both}
+use Rattle.kms_model.specs.Device.Serial.{command_of}
+use Rattle.kms_model.specs.Machine.Histories.{is_at_end}
+use Rattle.kms_model.specs.Machine.State.{command_at, doing_at, place_at, request_at, request_in}
+use Rattle.kms_model.specs.Machine.Steps.{is_idle, returning_of}
+use Rattle.kms_laws.specs.Laws.{has_context}
+use Rattle.kms_laws.proofs.Contexts.{HasRequest}
+use Rattle.kms_laws.proofs.Modes.{plain-from}
+use Rattle.kms_laws.proofs.NeverStuck.{history_facts}
+use Rattle.kms_pool.specs.declared.player.Turn as pool
+use Rattle.kms_pool.specs.declared.player.Turn.TheVariants.{Did, Ended, NotYet}
+use Rattle.kms_core.specs.Calls.{idle_command_at, only_if}
+use Rattle.kms_core.specs.Run.{Run, machine}
+use Rattle.kms_device.specs.declared.attempt.Attempt.{Attempt}
+use Rattle.kms_device.specs.Attempts.{MayAttempt, Serves, Went, new_attempt}
+use Rattle.kms_device.specs.Turns.{DevicePass, IsOpen, Turn, seen}
+use Rattle.kms_players.specs.Players.{name_of}
+use Rattle.kms_players.specs.PlayerTurns.{AttemptTurn, ClientTurn, PlainTurn, Plays}
+use Rattle.kms_players.proofs.Waits.{seen-found, turn_name, went_name}
+
+-- what is new serves wherever a client stands
+
+no_state : {S : Type 0} (n index : ℕ) (both : Both S) → slice_get (replicate n None) index ≡ Some (Some both) → ⊥
+no_state zero index both at = absurd cc
+no_state (suc n) zero both at = absurd cc
+no_state (suc n) (suc index) both at = no_state n index both at
+
+pub serves_new : (r : Run) (client : ℕ) → Serves r client new_attempt
+serves_new r client = record {
+  looks = λ used told. absurd cc;
+  states = record {
+    crtcs = λ index both at. absurd (no_state 4 index both at);
+    planes = λ index both at. absurd (no_state 16 index both at);
+    conns = λ index both at. absurd (no_state 8 index both at);
+    old = record {
+      crtcs = λ index both at. absurd (no_state 4 index both at);
+      planes = λ index both at. absurd (no_state 16 index both at);
+      conns = λ index both at. absurd (no_state 8 index both at);
+    };
+  };
+  fresh = record {
+    crtcs = λ index both at. absurd (no_state 4 index both at);
+    planes = λ index both at. absurd (no_state 16 index both at);
+    conns = λ index both at. absurd (no_state 8 index both at);
+  };
+}
+
+-- a client that has a context stands at a request
+has_request : (r : Run) (client : ℕ) → IsOpen r → has_context (doing_at (machine r) client) ≡ true → HasRequest r.script client (place_at (machine r) client)
+has_request r client is_open = (history_facts r.script r.steps (plain-from r.script is_open.formed) is_open.history).locks.atomic client
+
+-- one that is at no request, and does not return, is idle
+idle_at_place : (s : Script) (client : ℕ) (place : Place) → (has_context place.doing ≡ true → HasRequest s client place) → returning_of place.doing ≡ None
+    → request_in (command_of s (record { client = client; command = place.command })) ≡ None → is_idle place.doing ≡ true
+idle_at_place s client place request awake none = by_doing place.doing request awake where
+  by_doing : (d : Doing) → (has_context d ≡ true → HasRequest s client place) → returning_of d ≡ None → is_idle d ≡ true
+  by_doing doing.Idle request awake = refl
+  by_doing (doing.Returning k) request awake = absurd cc
+  by_doing (doing.Taking t) request awake = (let r = (request refl).at in absurd cc)
+  by_doing (doing.MustBackOff t object) request awake = (let r = (request refl).at in absurd cc)
+  by_doing (doing.BackedOff t object) request awake = (let r = (request refl).at in absurd cc)
+
+pub idle : (r : Run) (client : ℕ) → IsOpen r → returning_of (doing_at (machine r) client) ≡ None → request_at r.script (machine r) client ≡ None → is_idle (doing_at (machine r) client) ≡ true
+idle r client is_open awake none = idle_at_place r.script client (place_at (machine r) client) (has_request r client is_open) awake none
+
+-- with no command left it is at its end
+pub at_end : (r : Run) (client : ℕ) → IsOpen r → returning_of (doing_at (machine r) client) ≡ None → command_at r.script (machine r) client ≡ None → is_at_end r.script (machine r) client ≡ true
+at_end r client is_open awake none =
+    and_from (is_idle (doing_at (machine r) client)) _
+    (idle r client is_open awake (ap request_in none))
+    (ap is_none none)
+
+returning_not : (d : Doing) → ((k : ℕ) → d ≡ doing.Returning k → ⊥) → returning_of d ≡ None
+returning_not (doing.Returning k) awake = absurd (awake k refl)
+returning_not d awake = refl
+
+request_not : (c : Command) → ((r : Request) → c ≡ command.Atomic r → ⊥) → request_in (Some c) ≡ None
+request_not (command.Atomic r) other = absurd (other r refl)
+request_not c other = refl
+
+-- A client was told where it stands.
+module _ (script : Script) (client : ℕ) (place : Place) (before told : DevicePass) (t : Turn script (λ found. place ≡ place_at (machine found) client) [] before told) where
+  is_seen : seen script told ≡ t.found
+  is_seen = seen-found script (λ found. place ≡ place_at (machine found) client) before told t
+
+  pub open_told : IsOpen (seen script told)
+  open_told = subst IsOpen (sym is_seen) t.finds.is_open
+
+  stands : place_at (machine (seen script told)) client ≡ place
+  stands = ap (λ r. place_at (machine r) client) is_seen ∙ sym t.said
+
+  commands : command_at script (machine (seen script told)) client ≡ command_of script (record { client = client; command = place.command })
+  commands = ap (λ (p : Place). command_of script (record { client = client; command = p.command })) stands
+
+  module _ (awake : (k : ℕ) → place.doing ≡ doing.Returning k → ⊥) where
+    awake_told : returning_of (doing_at (machine (seen script told)) client) ≡ None
+    awake_told = ap (λ (p : Place). returning_of p.doing) stands ∙ returning_not place.doing awake
+
+    pub may_attempt : (r : Request) → command_of script (record { client = client; command = place.command }) ≡ Some (command.Atomic r) → MayAttempt (seen script told) client
+    may_attempt r e = record { request = r; at = ap request_in (commands ∙ e); awake = awake_told }
+
+    pub idle_told : (c : Command) → ((r : Request) → c ≡ command.Atomic r → ⊥) → command_of script (record { client = client; command = place.command }) ≡ Some c
+        → (idle_command_at (seen script told) client ≡ Some c) × (request_in (Some c) ≡ None)
+    idle_told c other e =
+        let idles = idle (seen script told) client open_told awake_told (ap request_in (commands ∙ e) ∙ request_not c other) in
+        (ap (λ b. only_if b (command_at script (machine (seen script told)) client)) idles ∙ (commands ∙ e), request_not c other)
+
+    pub ends : command_of script (record { client = client; command = place.command }) ≡ None → Turn script (λ found. is_at_end found.script (machine found) client ≡ true) [] before told
+    ends e = record {
+      found = t.found;
+      finds = t.finds;
+      said = subst (λ r. is_at_end r.script (machine r) client ≡ true) is_seen (at_end (seen script told) client open_told awake_told (commands ∙ e));
+      now = t.now;
+      left = t.left;
+    }
+
+-- a client's turn, after it was told where it stands, or knew
+
+pub plays_plain : (script : Script) (client : ℕ) (before told after : DevicePass) (kept : Attempt) (answer : pool.Turn) → Went [] before told → PlainTurn script client told after answer → ClientTurn script client before kept after kept answer
+plays_plain script client before told after kept Did went did = record { told = told; went = went; did = inl did }
+plays_plain script client before told after kept (NotYet n) went did = record { told = told; went = went; did = inl did }
+plays_plain script client before told after kept Ended went did = absurd did
+
+pub plays_attempt : (script : Script) (client : ℕ) (before told after : DevicePass) (old new : Attempt) (answer : pool.Turn) → Went [] before told → AttemptTurn script client told old after new answer → ClientTurn script client before old after new answer
+plays_attempt script client before told after old new Did went did = record { told = told; went = went; did = inr did }
+plays_attempt script client before told after old new (NotYet n) went did = record { told = told; went = went; did = inr did }
+plays_attempt script client before told after old new Ended went did = absurd did
+
+-- the pass is that of the same player
+
+plain_name : (script : Script) (client : ℕ) (before after : DevicePass) (answer : pool.Turn) → PlainTurn script client before after answer → name_of after ≡ name_of before
+plain_name script client before after Did t = turn_name script _ (t.0 ∷ []) before after t.1
+plain_name script client before after (NotYet n) t = turn_name script _ [] before after t.1
+plain_name script client before after Ended t = absurd t
+
+attempt_name : (script : Script) (client : ℕ) (before : DevicePass) (old : Attempt) (after : DevicePass) (new : Attempt) (answer : pool.Turn) → AttemptTurn script client before old after new answer → name_of after ≡ name_of before
+attempt_name script client before old after new Did (inl (inl s)) = went_name _ before after s.stepped.went
+attempt_name script client before old after new Did (inl (inr (inl s))) = went_name _ before after s.went
+attempt_name script client before old after new Did (inl (inr (inr s))) = went_name _ before after s.went
+attempt_name script client before old after new Did (inr s) = went_name _ before after s.1.stepped.went
+attempt_name script client before old after new (NotYet n) s = went_name _ before after s.went
+attempt_name script client before old after new Ended s = absurd s
+
+plays_name : (script : Script) (client : ℕ) (before : DevicePass) (old : Attempt) (after : DevicePass) (new : Attempt) (answer : pool.Turn) → Plays script client before old after new answer → name_of after ≡ name_of before
+plays_name script client before old after new answer t = did t.did ∙ went_name [] before t.told t.went where
+  did : PlainTurn script client t.told after answer ⊎ AttemptTurn script client t.told old after new answer → name_of after ≡ name_of t.told
+  did (inl s) = plain_name script client t.told after answer s
+  did (inr s) = attempt_name script client t.told old after new answer s
+
+pub client_name : (script : Script) (client : ℕ) (before : DevicePass) (old : Attempt) (after : DevicePass) (new : Attempt) (answer : pool.Turn) → ClientTurn script client before old after new answer → name_of after ≡ name_of before
+client_name script client before old after new Ended t = turn_name script _ [] before after t
+client_name script client before old after new Did t = plays_name script client before old after new Did t
+client_name script client before old after new (NotYet n) t = plays_name script client before old after new (NotYet n) t
+
+-- the same by the whole answer, which may be want of memory
+
+module _ {E : Type 0} (script : Script) (client : ℕ) (before told after : DevicePass) (old new : Attempt) (r : Result (pool.Turn × Option ℕ) E) where
+  pub ok_attempt : Went [] before told → IfOk r (λ x. AttemptTurn script client told old after new x.0) → IfOk r (λ x. ClientTurn script client before old after new x.0)
+  ok_attempt went h = of r h where
+    of : (r : Result (pool.Turn × Option ℕ) E) → IfOk r (λ x. AttemptTurn script client told old after new x.0) → IfOk r (λ x. ClientTurn script client before old after new x.0)
+    of (Ok x) h = plays_attempt script client before told after old new x.0 went h
+    of (Err e) h = tt
+
+pub err_then : {A E P Q : Type 0} (r : Result A E) → (P → Q) → OnErr r P → OnErr r Q
+err_then (Ok x) f p = tt
+err_then (Err e) f p = f p
+
+pub answer_name : {E : Type 0} (script : Script) (client : ℕ) (before after : DevicePass) (old new : Attempt) (r : Result (pool.Turn × Option ℕ) E)
+    → IfOk r (λ x. ClientTurn script client before old after new x.0) → OnErr r (Went [] before after) → name_of after ≡ name_of before
+answer_name script client before after old new (Ok x) h went = client_name script client before old after new x.0 h
+answer_name script client before after old new (Err e) h went = went_name [] before after went

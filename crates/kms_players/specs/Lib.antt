@@ -1,0 +1,4 @@
+pub mod Players
+pub mod PlayerTurns
+pub mod UnderWay
+pub mod AnyPlayers

@@ -1,0 +1,107 @@
+//! Clients.
+ghost use Rattle.std.specs.Prelude.{◌≡◌, ◌≤◌, [], length, Some, None, IfOk, OnErr};
+ghost use Rattle.kms_device.specs.Attempts.{Went, new_attempt};
+ghost use Rattle.kms_players.specs.Players.{name_of};
+ghost use Rattle.kms_players.specs.PlayerTurns.{ClientTurn};
+
+use crate::name::Name;
+use crate::site::Site;
+use kms_device::{Attempt, Device, Pass};
+use kms_io::Gate;
+use kms_model::NoMemory;
+use kms_pool::{Player, Turn};
+use std::alloc::Global;
+use std::marker::Model;
+use std::sync::Wait;
+
+/// A client of the script, which makes its commands one after the other. (Kernel: one `struct drm_file`.)
+#[derive(Drop)]
+pub struct Client<'a, G: Gate> {
+    site: Site<'a, G>,
+    pass: Pass,
+    kept: Attempt,
+    // The number of the command at which it makes attempts.
+    under_way: Option<u32>,
+    last: Option<Turn>,
+}
+
+impl<'a, G: Gate> Model for Client<'a, G> {
+    ghost use Rattle.kms_players.specs.Players.{ClientState};
+    ghost use Rattle.kms_players.specs.UnderWay.{IsAtDevice, IsUnderWay};
+    ghost use Rattle.kms_device.specs.Turns.{seen};
+
+    ghost Value = { ClientState };
+
+    ghost view = { λ c. record { device = c.site.device.now; client = c.site.client; pass = c.pass; kept = c.kept; last = c.last } };
+
+    ghost invariant = { λ c. IsAtDevice c.site.device.now c.site.client c.pass
+        × IsUnderWay (seen c.site.device.now.script c.pass) c.site.client c.kept c.under_way };
+}
+
+impl<'a, G: Gate> Client<'a, G> {
+    /// The client with a number, counted from 1, of the device's script, with the pass of the device whose rank is that number. It
+    /// has had no turn.
+    pub fn new(device: &'a Device, gate: &'a G, client: u32, pass: Pass) -> Client<'a, G>
+        requires own { pass.lock ≡ device.now.lock }
+        requires whose { pass.rank ≡ client }
+        requires low { 1 ≤ client }
+        requires high { client ≤ length device.now.script.clients }
+        ensures { result ≡ record {
+          device = device.now;
+          client = client;
+          pass = pass;
+          kept = new_attempt;
+          last = None;
+        } }
+    {
+        Client {
+            site: Site {
+                device,
+                gate,
+                client,
+            },
+            pass,
+            kept: Attempt::new(),
+            under_way: None,
+            last: None,
+        }
+    }
+
+    /// One turn. A client at a request makes one attempt at it; any other makes the one step of its place, where that is legal. It
+    /// ends once it has no command left. The gate is called before a check of its request, and after each answer. The only error is
+    /// want of memory: then no step was made.
+    pub fn play<W: Wait>(&mut self, rt: &W, alloc: Global) -> Result<Turn, NoMemory>
+        ensures turn { IfOk result (ClientTurn self.old.device.script self.old.client self.old.pass
+            self.old.kept self.new.pass self.new.kept) }
+        ensures name { name_of self.new.pass ≡ name_of self.old.pass }
+        ensures same { (self.new.device ≡ self.old.device) × (self.new.client ≡ self.old.client) }
+        ensures last { IfOk result (λ turn. self.new.last ≡ Some turn) }
+        ensures no_step { OnErr result (Went [] self.old.pass self.new.pass) }
+    {
+        let (turn, under_way) = self
+            .site
+            .turn(rt, alloc, &mut self.pass, &mut self.kept, self.under_way)?;
+        self.under_way = under_way;
+        self.last = Some(turn);
+        Ok(turn)
+    }
+
+    /// Its pass, when it is given up.
+    pub fn into_pass(self) -> Pass
+        ensures { result ≡ self.entry.pass }
+    {
+        self.pass
+    }
+}
+
+impl<'a, G: Gate> Player for Client<'a, G> {
+    type Name = Name;
+
+    ghost name = { λ c. name_of c.pass };
+
+    ghost answer = { λ c. c.last };
+
+    fn turn<W: Wait>(&mut self, rt: &W, alloc: Global) -> Result<Turn, NoMemory> {
+        self.play(rt, alloc)
+    }
+}

@@ -1,0 +1,221 @@
+//! What a client does in a turn.
+ghost use Rattle.std.specs.Prelude.{◌≡◌, [], Some, None, IfOk, OnErr, option_copied};
+ghost use Rattle.kms_model.specs.Device.Serial.{command_of, from_one};
+ghost use Rattle.kms_model.specs.Machine.State.{request_in};
+ghost use Rattle.kms_pool.specs.declared.player.Turn.TheVariants.{Did};
+ghost use Rattle.kms_core.specs.Calls.{MayRead, MayReturn, idle_command_at};
+ghost use Rattle.kms_device.specs.Attempts.{MayAttempt, Serves, Went, new_attempt};
+ghost use Rattle.kms_device.specs.Turns.{IsOpen, seen};
+ghost use Rattle.kms_players.specs.Players.{name_of};
+ghost use Rattle.kms_players.specs.PlayerTurns.{AttemptTurn, ClientTurn, PlainTurn};
+ghost use Rattle.kms_players.specs.UnderWay.{IsAtDevice, IsUnderWay};
+
+use kms_device::{Attempt, Attempted, Device, Pass};
+use kms_io::{Gate, Point};
+use kms_model::{Command, Doing, NoMemory, Script};
+use kms_pool::Turn;
+use std::alloc::Global;
+use std::sync::Wait;
+
+/// Where a client plays: its device, its gate and its number.
+#[derive(Drop)]
+pub(crate) struct Site<'a, G: Gate> {
+    pub(crate) device: &'a Device,
+    pub(crate) gate: &'a G,
+    pub(crate) client: u32,
+}
+
+impl<'a, G: Gate> Site<'a, G> {
+    /// A turn of a client, of the number of the command of which an attempt is under way, if any. What it came to is given, with
+    /// that number after it.
+    pub(crate) fn turn<W: Wait>(
+        &self,
+        rt: &W,
+        alloc: Global,
+        pass: &mut Pass,
+        kept: &mut Attempt,
+        under_way: Option<u32>,
+    ) -> Result<(Turn, Option<u32>), NoMemory>
+        requires at { IsAtDevice self.now.device.now self.now.client pass.old }
+        requires under_way { IsUnderWay (seen self.now.device.now.script pass.old)
+            self.now.client kept.old under_way }
+        ensures turn { IfOk result (λ r. ClientTurn self.now.device.now.script self.now.client
+            pass.old kept.old pass.new kept.new r.0) }
+        ensures under_way { IfOk result (λ r. IsUnderWay (seen self.now.device.now.script pass.new)
+            self.now.client kept.new r.1) }
+        ensures name { name_of pass.new ≡ name_of pass.old }
+        ensures no_step { OnErr result (Went [] pass.old pass.new) }
+        ensures still { OnErr result (IsUnderWay (seen self.now.device.now.script pass.new)
+            self.now.client kept.new under_way) }
+    {
+        match under_way {
+            Some(number) => self.attempt(rt, alloc, pass, number, kept),
+            None => self.ask(rt, alloc, pass, kept),
+        }
+    }
+
+    /// A turn of a client with no attempt under way. What it came to is given, with the number of the command of which an attempt
+    /// is under way then.
+    fn ask<W: Wait>(
+        &self,
+        rt: &W,
+        alloc: Global,
+        pass: &mut Pass,
+        kept: &mut Attempt,
+    ) -> Result<(Turn, Option<u32>), NoMemory>
+        requires at { IsAtDevice self.now.device.now self.now.client pass.old }
+        requires new { kept.old ≡ new_attempt }
+        ensures turn { IfOk result (λ r. ClientTurn self.now.device.now.script self.now.client
+            pass.old kept.old pass.new kept.new r.0) }
+        ensures under_way { IfOk result (λ r. IsUnderWay (seen self.now.device.now.script pass.new)
+            self.now.client kept.new r.1) }
+        ensures no_step { OnErr result (Went [] pass.old pass.new) }
+        ensures anew { OnErr result (kept.new ≡ new_attempt) }
+    {
+        let place = self.device.place(rt, pass, self.client);
+        if let Doing::Returning(_commit) = place.doing {
+            return Ok((self.go_on(rt, pass)?, None));
+        }
+        let script = self.device.script();
+        let Some(command) = command_of(script, self.client, place.command) else {
+            return Ok((Turn::Ended, None));
+        };
+        if let Command::Atomic(_request) = command {
+            return self.attempt(rt, alloc, pass, place.command, kept);
+        }
+        let turn = self.execute(rt, alloc, pass, place.command, command)?;
+        Ok((turn, None))
+    }
+
+    /// An attempt at the request at which a client stands, the command with a number.
+    fn attempt<W: Wait>(
+        &self,
+        rt: &W,
+        alloc: Global,
+        pass: &mut Pass,
+        number: u32,
+        kept: &mut Attempt,
+    ) -> Result<(Turn, Option<u32>), NoMemory>
+        requires own { pass.old.lock ≡ self.now.device.now.lock }
+        requires whose { pass.old.rank ≡ self.now.client }
+        requires may { MayAttempt (seen self.now.device.now.script pass.old) self.now.client }
+        requires serves { Serves (seen self.now.device.now.script pass.old) self.now.client kept.old }
+        ensures turn { IfOk result (λ r. AttemptTurn self.now.device.now.script self.now.client
+            pass.old kept.old pass.new kept.new r.0) }
+        ensures under_way { IfOk result (λ r. IsUnderWay (seen self.now.device.now.script pass.new)
+            self.now.client kept.new r.1) }
+        ensures no_step { OnErr result (Went [] pass.old pass.new) }
+        ensures may { OnErr result
+            (MayAttempt (seen self.now.device.now.script pass.new) self.now.client) }
+        ensures anew { OnErr result (kept.new ≡ new_attempt) }
+        ensures serves { OnErr result
+            (Serves (seen self.now.device.now.script pass.new) self.now.client kept.new) }
+    {
+        match self
+            .device
+            .attempt(rt, alloc, pass, self.client, self.gate, kept)?
+        {
+            Attempted::Did => Ok((Turn::Did, Some(number))),
+            Attempted::NotYet { length } => Ok((Turn::NotYet { length }, Some(number))),
+            Attempted::Answered(_reply) => {
+                self.gate.at(rt, Point::Answered, self.client, number);
+                Ok((Turn::Did, None))
+            }
+        }
+    }
+
+    /// The return of a client from its commit, where that is cleaned up.
+    fn go_on<W: Wait>(&self, rt: &W, pass: &mut Pass) -> Result<Turn, NoMemory>
+        requires own { pass.old.lock ≡ self.now.device.now.lock }
+        requires whose { pass.old.rank ≡ self.now.client }
+        requires may { MayReturn (seen self.now.device.now.script pass.old) self.now.client }
+        ensures turn { IfOk result
+            (PlainTurn self.now.device.now.script self.now.client pass.old pass.new) }
+        ensures no_step { OnErr result (Went [] pass.old pass.new) }
+    {
+        if self.device.return_from(rt, pass, self.client)? {
+            Ok(Turn::Did)
+        } else {
+            Ok(Turn::NotYet {
+                length: pass.seen_len(),
+            })
+        }
+    }
+
+    /// The command at which a client is idle, with its number; it is no request.
+    fn execute<W: Wait>(
+        &self,
+        rt: &W,
+        alloc: Global,
+        pass: &mut Pass,
+        number: u32,
+        command: &Command,
+    ) -> Result<Turn, NoMemory>
+        requires own { pass.old.lock ≡ self.now.device.now.lock }
+        requires whose { pass.old.rank ≡ self.now.client }
+        requires is_open { IsOpen (seen self.now.device.now.script pass.old) }
+        requires idle { idle_command_at (seen self.now.device.now.script pass.old) self.now.client
+            ≡ Some command.now }
+        requires no_request { request_in (Some command.now) ≡ None }
+        ensures turn { IfOk result
+            (PlainTurn self.now.device.now.script self.now.client pass.old pass.new) }
+        ensures no_step { OnErr result (Went [] pass.old pass.new) }
+    {
+        match command {
+            Command::Wait => self.read(rt, pass, number),
+            Command::Signal { .. } => {
+                let _reply = self.device.signal(rt, pass, self.client)?;
+                Ok(self.answered(rt, number))
+            }
+            _ => {
+                let _reply = self.device.make(rt, alloc, pass, self.client)?;
+                Ok(self.answered(rt, number))
+            }
+        }
+    }
+
+    /// The reading of an event by a client that is idle at a `wait`, the command with a number, where one is there or none will
+    /// come.
+    fn read<W: Wait>(&self, rt: &W, pass: &mut Pass, number: u32) -> Result<Turn, NoMemory>
+        requires own { pass.old.lock ≡ self.now.device.now.lock }
+        requires whose { pass.old.rank ≡ self.now.client }
+        requires may { MayRead (seen self.now.device.now.script pass.old) self.now.client }
+        ensures turn { IfOk result
+            (PlainTurn self.now.device.now.script self.now.client pass.old pass.new) }
+        ensures no_step { OnErr result (Went [] pass.old pass.new) }
+    {
+        match self.device.read_event(rt, pass, self.client)? {
+            Some(_reply) => Ok(self.answered(rt, number)),
+            None => Ok(Turn::NotYet {
+                length: pass.seen_len(),
+            }),
+        }
+    }
+
+    /// A turn in which the command with a number was answered, which the gate is told.
+    fn answered<W: Wait>(&self, rt: &W, number: u32) -> Turn
+        ensures { result ≡ Did }
+    {
+        self.gate.at(rt, Point::Answered, self.client, number);
+        Turn::Did
+    }
+}
+
+/// The command of a client with a number, both counted from 1, where there is one.
+fn command_of(script: &Script, client: u32, number: u32) -> Option<&Command>
+    ensures { option_copied result
+        ≡ command_of script.now (record { client = client; command = number }) }
+{
+    let commands = from_one(script.clients.as_slice(), client)?;
+    from_one(commands.as_slice(), number)
+}
+
+/// The item with a number, counted from 1, where there is one.
+fn from_one<T>(items: &[T], number: u32) -> Option<&T>
+    ensures { option_copied result ≡ from_one items.now number }
+{
+    if number == 0 {
+        return None;
+    }
+    items.get((number - 1) as usize)
+}
