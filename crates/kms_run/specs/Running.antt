@@ -10,16 +10,12 @@ use Rattle.kms_core.specs.Run.{Run}
 use Rattle.kms_device.specs.Steps.{blankings}
 use Rattle.kms_device.specs.Turns.{DevicePass, DeviceState}
 use Rattle.kms_laws.specs.Ends.{IsOver}
-use Rattle.kms_players.specs.Players.{PlayerName}
+use Rattle.kms_players.specs.Players.{name_of}
 use Rattle.kms_run.specs.Answers.{IsContinued}
 
 -- how many players a script has: its clients, four workers, and one for the vertical blankings of each CRTC
 abbrev pub seats_for : Script → ℕ
 seats_for s = length s.clients + 4 + s.topology.crtcs
-
--- what tells the player of a pass from others
-abbrev pub pass_name : DevicePass → PlayerName
-pass_name p = record { lock = p.lock; rank = p.rank }
 
 -- a pass of a device, whose rank is that of one of the players
 pub record IsSeat (d : DeviceState) (p : DevicePass) : Type 0 where
@@ -29,7 +25,7 @@ pub record IsSeat (d : DeviceState) (p : DevicePass) : Type 0 where
 
 -- all passes of a device, in any order
 abbrev pub AreAllPasses : DeviceState → List DevicePass → Type 0
-AreAllPasses d passes = IsPermutation (map pass_name (new_passes d.lock d.seats)) (map pass_name passes)
+AreAllPasses d passes = IsPermutation (map name_of (new_passes d.lock d.seats)) (map name_of passes)
 
 -- The history that a device had when it was closed with these passes, continued to its end.
 pub record IsFinishedOf (d : DeviceState) (passes : List DevicePass) (r : Run) : Type 0 where

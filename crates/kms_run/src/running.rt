@@ -1,8 +1,10 @@
 //! A run: players in threads execute a script on one device.
 ghost use Rattle.std.specs.Prelude.{◌≡◌, ◌≤◌, IfOk, map, All};
 ghost use Rattle.kms_model.specs.Script.WellFormed.{IsWellFormed};
+ghost use Rattle.kms_players.specs.Players.{name_of};
 ghost use Rattle.kms_run.specs.Answers.{Answers};
-ghost use Rattle.kms_run.specs.Running.{AreAllPasses, IsFinishedOf, IsRunOf, IsSeat, pass_name, seats_for};
+ghost use Rattle.kms_run.specs.Running.{AreAllPasses, IsFinishedOf, IsRunOf, IsSeat, seats_for};
+ghost use Rattle.kms_run.specs.declared.words.Action.TheVariants as Action;
 ghost use Rattle.kms_run.specs.Words.{AreFewThreads};
 
 use crate::answers::{FullReport, NoAnswer, full_report};
@@ -36,7 +38,7 @@ fn seats_for(script: &Script) -> u32
 /// blankings of each CRTC.
 fn player<'a, G: Gate>(device: &'a Device, gate: &'a G, pass: Pass) -> AnyPlayer<'a, G>
     requires { IsSeat device.now pass }
-    ensures { ⟦<AnyPlayer<'a, G> as Player>⟧.name result ≡ pass_name pass }
+    ensures { ⟦<AnyPlayer<'a, G> as Player>⟧.name result ≡ name_of pass }
 {
     let clients = device.script().clients.len() as u32;
     let rank = pass.rank();
@@ -59,7 +61,7 @@ fn players<'a, G: Gate>(
 ) -> Result<Seq<AnyPlayer<'a, G>>, NoMemory>
     requires { All (IsSeat device.now) passes }
     ensures { IfOk result (λ players.
-        map ⟦<AnyPlayer<'a, G> as Player>⟧.name players ≡ map pass_name passes) }
+        map ⟦<AnyPlayer<'a, G> as Player>⟧.name players ≡ map name_of passes) }
 {
     let passes = passes.into_vec();
     let mut players = Vec::with_capacity(alloc, passes.len())?;
@@ -75,7 +77,7 @@ fn passes_of<'a, G: Gate>(
     players: Seq<AnyPlayer<'a, G>>,
 ) -> Result<Seq<Pass>, NoMemory>
     ensures { IfOk result (λ passes.
-        map pass_name passes ≡ map ⟦<AnyPlayer<'a, G> as Player>⟧.name players) }
+        map name_of passes ≡ map ⟦<AnyPlayer<'a, G> as Player>⟧.name players) }
 {
     let players = players.into_vec();
     let mut passes = Vec::with_capacity(alloc, players.len())?;
