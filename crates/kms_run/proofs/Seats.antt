@@ -22,13 +22,13 @@ new_seats d (suc n) l =
     (All-cons (IsSeat d) (new_pass d.lock (n + 1)) [] (record { own = refl; low = omega arith; high = omega (arith, l) }) (All-nil (IsSeat d)))
 
 module _ (lock : LockName Script) where
-  passes : ℕ → List DevicePass
+  abbrev passes : ℕ → List DevicePass
   passes n = new_passes lock n
 
-  IsOfLock : PlayerName → Type 0
+  abbrev IsOfLock : PlayerName → Type 0
   IsOfLock name = name.lock ≡ lock
 
-  is_first : PlayerName → Bool
+  abbrev is_first : PlayerName → Bool
   is_first name = name.rank == 1
 
   names_own : (n : ℕ) → All IsOfLock (map name_of (passes n))
@@ -55,8 +55,8 @@ module _ (lock : LockName Script) where
   has_first : (n : ℕ) → list_any (λ p. p.rank == 1) (passes (suc n)) ≡ true
   has_first zero = refl
   has_first (suc n) =
-      list_any-append (λ p. p.rank == 1) (passes (suc n)) (new_pass lock (suc n + 1) ∷ [])
-      ∙ ap (λ b. b || list_any (λ p. p.rank == 1) (new_pass lock (suc n + 1) ∷ [])) (has_first n)
+      let last : List DevicePass = new_pass lock (suc n + 1) ∷ [] in
+      list_any-append (λ p. p.rank == 1) (passes (suc n)) last ∙ ap (λ b. b || list_any (λ p. p.rank == 1) last) (has_first n)
 
 -- All passes are of the device's lock,
 pub all_own : (d : DeviceState) (back : List DevicePass) → AreAllPasses d back → All (λ p. p.lock ≡ d.lock) back
@@ -70,8 +70,8 @@ all_own d back all = named back (All-permutation (IsOfLock d.lock) (map name_of 
 -- they are as many as it has seats,
 pub all_count : (d : DeviceState) (back : List DevicePass) → AreAllPasses d back → length back ≡ d.seats
 all_count d back all =
-    sym (length-map name_of back) ∙ (length_permutation (map name_of (new_passes d.lock d.seats)) (map name_of back) all
-    ∙ (length-map name_of (new_passes d.lock d.seats) ∙ count d.lock d.seats))
+    sym (length-map back name_of) ∙ (length_permutation (map name_of (new_passes d.lock d.seats)) (map name_of back) all
+    ∙ (length-map (new_passes d.lock d.seats) name_of ∙ count d.lock d.seats))
 
 -- and one has the rank 1.
 pub all_first : (d : DeviceState) (back : List DevicePass) → 1 ≤ d.seats → AreAllPasses d back → Any (λ p. p.rank ≡ 1) back
@@ -81,6 +81,6 @@ all_first d back some all = of_test (Any-from_list_any (λ p. p.rank == 1) back 
   there (suc n) e l =
       sym (any_named d.lock back)
       ∙ (sym (list_any-IsPermutation (is_first d.lock) (map name_of (new_passes d.lock d.seats)) (map name_of back) all)
-      ∙ (any_named d.lock (new_passes d.lock d.seats) ∙ (ap (λ k. list_any (λ p. p.rank == 1) (new_passes d.lock k)) e ∙ has_first d.lock n)))
+      ∙ (any_named d.lock (passes d.lock d.seats) ∙ (ap (λ k. list_any (λ p. p.rank == 1) (passes d.lock k)) e ∙ has_first d.lock n)))
   of_test : Any (λ p. (p.rank == 1) ≡ true) back → Any (λ p. p.rank ≡ 1) back
-  of_test (k, x, within, at, passes) = (k, x, within, at, eqb-true x.rank 1 passes)
+  of_test (k, x, within, at, is) = (k, x, within, at, eqb-true x.rank 1 is)

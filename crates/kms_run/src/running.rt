@@ -77,7 +77,7 @@ fn passes_of<'a, G: Gate>(
     players: Seq<AnyPlayer<'a, G>>,
 ) -> Result<Seq<Pass>, NoMemory>
     ensures { IfOk result (λ passes.
-        map name_of passes ≡ map ⟦<AnyPlayer<'a, G> as Player>⟧.name players) }
+        map name_of passes ≡ map ⟦<AnyPlayer<'a, G> as Player>⟧.name players.entry) }
 {
     let players = players.into_vec();
     let mut passes = Vec::with_capacity(alloc, players.len())?;

@@ -85,7 +85,8 @@ fn is_word(word: &String, text: &[u8]) -> bool
 
 /// The action that a word names, but for `run`.
 fn action_of(word: &String) -> Option<Action>
-    ensures { result ≡ action_of (string_bytes word.now) }
+    ensures value { result ≡ action_of (string_bytes word.now) }
+    ensures few { IfSome result HasFewThreads }
 {
     if is_word(word, b"one") {
         Some(Action::One)
@@ -130,7 +131,8 @@ fn options_of(words: &[String]) -> Option<Options>
 /// What words of `one` and `replay` ask for.
 #[tactic(auto, unfolding(crate::specs::Words::execution_of))]
 fn execution_of(first: &String, rest: &[String]) -> Option<Execution>
-    ensures { result ≡ execution_of (string_bytes first.now) (map string_bytes rest.now) }
+    ensures value { result ≡ execution_of (string_bytes first.now) (map string_bytes rest.now) }
+    ensures few { IfSome result (λ asks. HasFewThreads asks.action) }
 {
     let action = action_of(first)?;
     let options = options_of(rest)?;
