@@ -3,3 +3,4 @@ pub mod Replayed
 pub mod Answering
 pub mod Counted
 pub mod Summed
+pub mod Seats

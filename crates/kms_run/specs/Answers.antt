@@ -1,10 +1,10 @@
--- What the program says to an input.
+-- What the program says to an input. This device's own.
 use Rattle.std.specs.Prelude.{◌≡◌, ℕ, true, false, List, Some, Result, Ok, Err, ⊤}
 use Rattle.kms_model.specs.declared.replies.Step.{Step}
 use Rattle.kms_model.specs.declared.scripts.Script.{Script}
 use Rattle.kms_model.specs.Headline.{Headline}
 use Rattle.kms_model.specs.Machine.Histories.{at, illegal_at, is_dead, is_drained, is_history}
-use Rattle.kms_model.specs.Order.Rounds.{IsOne}
+use Rattle.kms_model.specs.Order.Rounds.{IsFinished, IsOne}
 use Rattle.kms_model.specs.Report.History as report
 use Rattle.kms_model.specs.Script.Schedules.{Parts, input_of}
 use Rattle.kms_report.specs.Telling as telling
@@ -14,14 +14,22 @@ use Rattle.kms_run.specs.declared.answers.FullReport.{FullReport}
 use Rattle.kms_run.specs.declared.answers.NoAnswer.{NoAnswer}
 use Rattle.kms_run.specs.declared.answers.NoAnswer.TheVariants as stops
 use Rattle.kms_run.specs.declared.words.Action.{Action}
-use Rattle.kms_run.specs.declared.words.Action.TheVariants.{One, Replay}
+use Rattle.kms_run.specs.declared.words.Action.TheVariants.{One, Replay, Run}
 use Rattle.kms_run.specs.declared.words.Execution.{Execution}
 use Rattle.kms_run.specs.Words.{part_of}
 
--- the history that is made of a script: by `one` that which one thread makes, by `replay` the schedule
+-- Some history of a script, continued to its end in the order of one thread.
+pub record IsContinued (s : Script) (h : List Step) : Type 0 where
+  pub left : List Step
+  pub is_history : is_history s left ≡ true
+  pub is_finished : IsFinished s left h
+
+-- The history that is made of a script: by `one` that which one thread makes, by `replay` the schedule, and by `run` some
+-- history, since threads take their turns as they come, continued to its end.
 abbrev pub IsMade : Action → Script → List Step → List Step → Type 0
 IsMade One s schedule h = IsOne s h
 IsMade Replay s schedule h = h ≡ schedule
+IsMade (Run threads) s schedule h = IsContinued s h
 
 -- How a history ended. A schedule alone may leave one open.
 abbrev pub HasEnd : End → Action → Script → List Step → Type 0

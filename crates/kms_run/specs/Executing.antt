@@ -1,5 +1,5 @@
--- What the steps of an answer tell one another.
-use Rattle.std.specs.Prelude.{List, Result, Ok, Err, ⊤}
+-- What the steps of an answer tell one another. This device's own.
+use Rattle.std.specs.Prelude.{◌≡◌, true, List, Result, Ok, Err, ⊤}
 use Rattle.kms_model.specs.declared.replies.Step.{Step}
 use Rattle.kms_model.specs.declared.scripts.Script.{Script}
 use Rattle.kms_core.specs.Run.{Run}
@@ -10,7 +10,7 @@ use Rattle.kms_run.specs.declared.answers.FullReport.{FullReport}
 use Rattle.kms_run.specs.declared.answers.NoAnswer.{NoAnswer}
 use Rattle.kms_run.specs.declared.answers.NoAnswer.TheVariants as stops
 use Rattle.kms_run.specs.declared.words.Action.{Action}
-use Rattle.kms_run.specs.declared.words.Action.TheVariants.{One, Replay}
+use Rattle.kms_run.specs.declared.words.Action.TheVariants.{One, Replay, Run as ByThreads}
 use Rattle.kms_run.specs.declared.words.Execution.{Execution}
 use Rattle.kms_run.specs.Answers.{IsIllegalOf, IsReportOf}
 
@@ -24,9 +24,10 @@ abbrev pub Tells : Execution → Script → List Step → Result FullReport NoAn
 Tells asked s schedule (Ok answer) = IsReportOf asked s schedule answer.ended answer.text
 Tells asked s schedule (Err stop) = IsStopped asked.action s schedule stop
 
--- a history that one thread makes is not left open
+-- only a schedule may leave a history open
 abbrev pub MayEnd : Action → Run → Type 0
 MayEnd One r = IsOver r.script r.steps
+MayEnd (ByThreads threads) r = IsOver r.script r.steps
 MayEnd Replay r = ⊤
 
 -- what the error of a reader says

@@ -1,4 +1,4 @@
--- What a call of the program reads and writes, by its status.
+-- What a call of the program reads and writes, by its status. This device's own.
 use Rattle.std.specs.Prelude.{◌≡◌, ◌↔◌, ℕ, ◌<◌, ◌≤◌, ◌+◌, List, [], length, Err, None, Option, Some, ◌⊎◌, ⊤}
 use Rattle.std.specs.Io.KnownBytes.{Appends, IsAtEnd}
 use Rattle.kms_io.specs.Bytes.{Begins, Moved}
@@ -56,11 +56,11 @@ pub record IsGeneratedFront (asks : Generation) (output : List ℕ) : Type 0 whe
 abbrev pub WritesNothing : List ℕ → List ℕ → Type 0
 WritesNothing input output = output ≡ []
 
--- the statuses of a call of `one` or `replay` that may have read and has written nothing
+-- the statuses of a call of `one`, `replay` or `run` that may have read and has written nothing
 abbrev pub IsSilent : Status → Type 0
 IsSilent s = (s ≡ status.ReadFault) ⊎ (s ≡ status.NoMemory)
 
--- the statuses of `one` and `replay`
+-- the statuses of `one`, `replay` and `run`
 abbrev pub IsOfExecution : Status → Type 0
 IsOfExecution status.Usage = ⊥
 IsOfExecution (status.AuditNo line) = ⊥
@@ -73,7 +73,7 @@ IsOfGeneration status.WriteFault = ⊤
 IsOfGeneration status.NoMemory = ⊤
 IsOfGeneration _ = ⊥
 
--- What `one` or `replay` read and wrote where it ended so; left is what the source has left afterwards.
+-- What `one`, `replay` or `run` read and wrote where it ended so; left is what the source has left afterwards.
 abbrev pub Meets : Execution → Status → Option (List ℕ) → List ℕ → List ℕ → Type 0
 Meets asks status.Ok left input output = WritesReport asks end.Drained left input output
 Meets asks status.Stalled left input output = WritesReport asks end.Dead left input output
@@ -108,7 +108,7 @@ module _ (words : List (List ℕ)) (ended : Status) (left left_after written wri
   abbrev Writes : (List ℕ → Type 0) → Type 0
   Writes says = Wrote written written_after says
 
-  -- `one` and `replay`
+  -- `one`, `replay` and `run`
   pub record Executes (asks : Execution) : Type 0 where
     -- The whole input was read, and what was written is the report of what was asked for with it, or a front of the report. The
     -- status tells how the history ended: drained, dead, or, of a schedule alone, neither.

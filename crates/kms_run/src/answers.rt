@@ -1,7 +1,8 @@
 //! What the program says to an input.
-ghost use Rattle.std.specs.Prelude.{◌≡◌, [], IfErr, OnOk};
-ghost use Rattle.kms_run.specs.Answers.{Answers, IsMade};
+ghost use Rattle.std.specs.Prelude.{◌≡◌, [], false, IfErr, IfOk, OnOk};
+ghost use Rattle.kms_run.specs.Answers.{Answers, IsMade, IsReportOf};
 ghost use Rattle.kms_run.specs.Executing.{IsStopped, MayEnd, Tells};
+ghost use Rattle.kms_run.specs.Words.{needs_threads};
 
 use crate::words::{Action, Execution};
 use kms_core::Core;
@@ -69,14 +70,15 @@ fn replay_all(alloc: Global, core: &mut Core, schedule: &[Step]) -> Result<(), N
     }
 }
 
-/// Does what is asked for on a machine before its first step.
+/// Does what is asked for on a machine before its first step, which is no run.
 fn execute(
     alloc: Global,
     core: &mut Core,
     action: Action,
     schedule: &[Step],
 ) -> Result<(), NoAnswer>
-    requires { core.old.steps ≡ [] }
+    requires start { core.old.steps ≡ [] }
+    requires alone { needs_threads action ≡ false }
     ensures script { core.new.script ≡ core.old.script }
     ensures made { OnOk result
         (IsMade action core.old.script schedule.now core.new.steps) }
@@ -86,8 +88,29 @@ fn execute(
     match action {
         Action::One => finish(alloc, core)?,
         Action::Replay => replay_all(alloc, core, schedule)?,
+        Action::Run { .. } => unreachable!(),
     }
     Ok(())
+}
+
+/// The report of the history that was made of a script and a schedule as was asked for.
+pub(crate) fn full_report(
+    alloc: Global,
+    core: &Core,
+    asked: &Execution,
+    schedule: &[Step],
+) -> Result<FullReport, NoMemory>
+    requires made { IsMade asked.now.action core.now.script schedule.now core.now.steps }
+    requires over { MayEnd asked.now.action core.now }
+    ensures { IfOk result (λ answer.
+        IsReportOf asked.now core.now.script schedule.now answer.ended answer.text) }
+{
+    core.is_a_history();
+    core.shows_its_journal();
+    Ok(FullReport {
+        text: report(alloc, core.script(), core, asked.options)?,
+        ended: end_of(core),
+    })
 }
 
 /// Does what is asked for on a machine before its first step, and reports it.
@@ -97,22 +120,18 @@ fn told(
     asked: &Execution,
     schedule: &[Step],
 ) -> Result<FullReport, NoAnswer>
-    requires { core.old.steps ≡ [] }
+    requires start { core.old.steps ≡ [] }
+    requires alone { needs_threads asked.now.action ≡ false }
     ensures { Tells asked.now core.old.script schedule.now result }
 {
     execute(alloc, core, asked.action, schedule)?;
-    core.is_a_history();
-    core.shows_its_journal();
-    let text = report(alloc, core.script(), core, asked.options)?;
-    Ok(FullReport {
-        text,
-        ended: end_of(core),
-    })
+    Ok(full_report(alloc, core, asked, schedule)?)
 }
 
-/// The report of what is asked for with the script that an input spells; or the input's first fault, or the first step of
-/// its schedule that is not legal. The input's bytes are given up before anything is executed.
+/// The report of what is asked for, but a run, with the script that an input spells; or the input's first fault, or the first
+/// step of its schedule that is not legal. The input's bytes are given up before anything is executed.
 pub fn answer(alloc: Global, input: Vec<u8>, asked: &Execution) -> Result<FullReport, NoAnswer>
+    requires { needs_threads asked.now.action ≡ false }
     ensures { Answers asked.now input.items result }
 {
     let parsed = parse(alloc, &input, asked.action.part())?;

@@ -1,9 +1,10 @@
-//! The program: it reads a script, executes it on the machine of many clients, and writes the report of the history; or it
-//! generates a script.
+//! The program: it reads a script, executes it on the machine of many clients, by one thread or several, and writes the
+//! report of the history; or it generates a script.
 #![tactic(auto)]
 
 mod answers;
 mod generated;
+mod running;
 mod status;
 mod stream;
 mod top;
@@ -11,7 +12,7 @@ mod words;
 
 pub use status::{Status, status_text};
 pub use top::{kms_main, kms_plain};
-pub use words::{Action, Asked, Execution, Generation, legal_words, read_words};
+pub use words::{Action, Asked, Execution, Generation, is_run, legal_words, read_words};
 
 #[cfg(test)]
 mod tests;

@@ -6,6 +6,7 @@ mod faults;
 mod frames;
 mod generated;
 mod refusals;
+mod runs;
 mod schedules;
 mod session;
 mod statuses;
@@ -17,6 +18,9 @@ use std::alloc::{AllocError, Global};
 use std::sync::Wait;
 use std::test::Fail;
 use std::thread::Threads;
+
+/// The bytes that a sink has room for.
+const ROOM: usize = 1 << 20;
 
 /// A device with one CRTC, one plane and one connector.
 const HEAD: &str = "kms 1\ncrtcs 1\nplane primary 0 XR24\nconn 0\n";
@@ -57,6 +61,15 @@ const FOO: &str = "2c26b46b68ffc68ff99b453c1d30413413422d706483bfa0f98a5e886266e
 /// The digest of the frame of one black pixel.
 const BLACK: &str = "709e80c88487a2411e1ee4dfb9f22a861492d20c4765150c0c794abd70f8147c";
 
+/// Commands of a client that has lit the CRTC: a commit waits for an out-fence, and the last one for a fence that nobody
+/// signals.
+const WAITING: &str =
+    "atomic 0x200 0 plane0.alpha=65535 crtc0.OUT_FENCE_PTR=+o\natomic 0x0 0 plane0.alpha=65535 plane0.IN_FENCE_FD=@o\nfence n\natomic 0x0 0 plane0.alpha=65535 plane0.IN_FENCE_FD=@n\n";
+
+/// Two clients, each of which lights a CRTC with its fourth command.
+const TWO_SCREENS: &str =
+    "kms 1\ncrtcs 2\nplane primary 0 XR24\nplane primary 1 XR24\nconn 0\nconn 1\nclient\nbuffer b 1 1 XR24 solid 00616263\naddfb f b\nmode m 1 1 1 1 1 0 1 1 1 1 0 60 0 0 tiny\natomic 0x400 0 crtc1.ACTIVE=1 crtc1.MODE_ID=@m conn1.CRTC_ID=crtc1 plane1.FB_ID=@f plane1.CRTC_ID=crtc1 plane1.CRTC_W=1 plane1.CRTC_H=1 plane1.SRC_W=65536 plane1.SRC_H=65536\nclient\nbuffer b2 1 1 XR24 solid 00666f6f\naddfb f2 b2\nmode m2 1 1 1 1 1 0 1 1 1 1 0 60 0 0 tiny\natomic 0x400 0 crtc0.ACTIVE=1 crtc0.MODE_ID=@m2 conn0.CRTC_ID=crtc0 plane0.FB_ID=@f2 plane0.CRTC_ID=crtc0 plane0.CRTC_W=1 plane0.CRTC_H=1 plane0.SRC_W=65536 plane0.SRC_H=65536\n";
+
 /// A script that lights the CRTC with these flags, and then goes on.
 fn lit_with(alloc: Global, flags: &str, more: &str) -> Result<String, AllocError> {
     format!(in alloc; "{HEAD}{MADE}atomic {flags} 0 {SET}\n{more}")
@@ -85,11 +98,11 @@ fn source(alloc: Global, text: &str, step: usize, fails: &[u32]) -> Result<MemSo
 fn sink(alloc: Global, step: usize, fails: &[u32]) -> Result<MemSink, Fail>
     requires { 0 < step }
 {
-    Ok(MemSink::new(alloc, 16384, step, Vec::from_slice(alloc, fails)?)?)
+    Ok(MemSink::new(alloc, ROOM, step, Vec::from_slice(alloc, fails)?)?)
 }
 
 /// What the program answers to words and a text, and what it writes.
-fn run<R: Threads + Wait>(
+fn run<R: Threads + Wait + Sync>(
     rt: &R,
     alloc: Global,
     all: &[&str],
@@ -103,7 +116,7 @@ fn run<R: Threads + Wait>(
 }
 
 /// Whether the program answers so to words and a text, and writes this.
-fn answers<R: Threads + Wait>(
+fn answers<R: Threads + Wait + Sync>(
     rt: &R,
     alloc: Global,
     all: &[&str],
@@ -116,7 +129,7 @@ fn answers<R: Threads + Wait>(
 }
 
 /// Whether `one` drains a script, and writes this.
-fn drains<R: Threads + Wait>(
+fn drains<R: Threads + Wait + Sync>(
     rt: &R,
     alloc: Global,
     text: &str,
@@ -126,7 +139,7 @@ fn drains<R: Threads + Wait>(
 }
 
 /// Whether a script with a schedule is replayed so, and writes this.
-fn replays<R: Threads + Wait>(
+fn replays<R: Threads + Wait + Sync>(
     rt: &R,
     alloc: Global,
     script: &str,

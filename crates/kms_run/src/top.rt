@@ -1,16 +1,21 @@
 //! The top calls.
-ghost use Rattle.std.specs.Prelude.{◌≡◌, map, string_bytes};
+ghost use Rattle.std.specs.Prelude.{◌≡◌, ◌≢◌, ℕ, List, Err, IfErr, IfOk, OnErr, Option, false, map, string_bytes};
+ghost use Rattle.std.specs.Io.KnownBytes.{Consumes};
 ghost use Rattle.kms_io.specs.Causes.{Rose};
 ghost use Rattle.kms_io.specs.Bytes.{Moved};
-ghost use Rattle.kms_run.specs.Outcome.{HasEnded, Meets, MeetsGenerated, Wrote};
-ghost use Rattle.kms_run.specs.Words.{HasFewCommits};
+ghost use Rattle.kms_run.specs.declared.words.Execution.{Execution};
+ghost use Rattle.kms_run.specs.Answers.{Answers};
+ghost use Rattle.kms_run.specs.Outcome.{HasEnded, IsSilent, Meets, MeetsGenerated, ReadsAll, Wrote};
+ghost use Rattle.kms_run.specs.Words.{AreFewThreads, HasFewCommits, is_run, needs_threads};
 
-use crate::answers::{NoAnswer, answer};
+use crate::answers::{FullReport, NoAnswer, answer};
 use crate::generated::generated_text;
+use crate::running::run_answer;
 use crate::status::Status;
 use crate::stream::{ReadError, read_all, write_all};
-use crate::words::{Asked, Execution, Generation, read_words};
+use crate::words::{Action, Asked, Execution, Generation, read_words};
 use kms_io::{Gate, Sink, Source};
+use kms_report::Options;
 use std::alloc::Global;
 use std::sync::Wait;
 use std::thread::Threads;
@@ -18,27 +23,34 @@ use std::thread::Threads;
 /// The most bytes that an input may have: 64 MiB.
 const LIMIT: usize = 67_108_864;
 
-/// What `one` and `replay` do, with all that is promised of the bytes in one clause by the status.
-fn executed<S: Source, K: Sink>(
-    alloc: Global,
-    asks: &Execution,
-    source: &mut S,
-    sink: &mut K,
-) -> Status
-    ensures moved { Moved
-        (S.left source.old) (S.left source.new) (K.written sink.old) (K.written sink.new)
-        (Meets asks.now result (S.left source.new)) }
-    ensures read_fault { result ≡ Status.ReadFault
+/// Reads the input to its end, or to one byte more than it may have. The error is the status that comes of it.
+fn read_input<S: Source>(alloc: Global, source: &mut S) -> Result<Vec<u8>, Status>
+    ensures taken { IfOk result (λ bytes.
+        Consumes (S.left source.old) (S.left source.new) bytes.items) }
+    ensures whole { IfOk result (λ bytes. ReadsAll (S.left source.new) bytes.items) }
+    ensures some { OnErr result ((bytes : List ℕ)
+        × Consumes (S.left source.old) (S.left source.new) bytes) }
+    ensures silent { IfErr result IsSilent }
+    ensures cause { result ≡ Err Status.ReadFault
         → Rose (S.faults source.old) (S.faults source.new) }
-    ensures write_fault { result ≡ Status.WriteFault
-        → Rose (K.faults sink.old) (K.faults sink.new) }
 {
-    let input = match read_all(alloc, source, LIMIT + 1) {
-        Ok(input) => input,
-        Err(ReadError::Failed) => return Status::ReadFault,
-        Err(ReadError::Memory) => return Status::NoMemory,
-    };
-    let report = match answer(alloc, input, asks) {
+    match read_all(alloc, source, LIMIT + 1) {
+        Ok(input) => Ok(input),
+        Err(ReadError::Failed) => Err(Status::ReadFault),
+        Err(ReadError::Memory) => Err(Status::NoMemory),
+    }
+}
+
+/// Writes the report of an input, where it has one. Gives the status that comes of it.
+fn write_answer<K: Sink>(sink: &mut K, answer: Result<FullReport, NoAnswer>) -> Status
+    ensures put { (asks : Execution) (left : Option (List ℕ)) (input : List ℕ)
+        → ReadsAll left input → Answers asks input answer
+        → Wrote (K.written sink.old) (K.written sink.new) (Meets asks result left input) }
+    ensures cause { result ≡ Status.WriteFault
+        → Rose (K.faults sink.old) (K.faults sink.new) }
+    ensures read { result ≢ Status.ReadFault }
+{
+    let report = match answer {
         Ok(report) => report,
         Err(NoAnswer::Fault { line, why }) => return Status::Script { line, why },
         Err(NoAnswer::Illegal { at }) => return Status::Illegal { at },
@@ -47,6 +59,57 @@ fn executed<S: Source, K: Sink>(
     match write_all(sink, report.text.as_slice()) {
         Ok(()) => Status::of_end(report.ended),
         Err(_) => Status::WriteFault,
+    }
+}
+
+/// What `one` and `replay` do, with all that is promised of the bytes in one clause by the status.
+fn executed<S: Source, K: Sink>(
+    alloc: Global,
+    asks: &Execution,
+    source: &mut S,
+    sink: &mut K,
+) -> Status
+    requires { needs_threads asks.now.action ≡ false }
+    ensures moved { Moved
+        (S.left source.old) (S.left source.new) (K.written sink.old) (K.written sink.new)
+        (Meets asks.now result (S.left source.new)) }
+    ensures read_fault { result ≡ Status.ReadFault
+        → Rose (S.faults source.old) (S.faults source.new) }
+    ensures write_fault { result ≡ Status.WriteFault
+        → Rose (K.faults sink.old) (K.faults sink.new) }
+{
+    match read_input(alloc, source) {
+        Ok(input) => write_answer(sink, answer(alloc, input, asks)),
+        Err(status) => status,
+    }
+}
+
+/// What `run` does, by so many threads, with the same promise.
+fn run_executed<R: Threads + Wait + Sync, S: Source, K: Sink, G: Gate + Sync>(
+    rt: &R,
+    alloc: Global,
+    threads: u32,
+    options: Options,
+    source: &mut S,
+    sink: &mut K,
+    gate: &G,
+) -> Status
+    requires { AreFewThreads threads }
+    ensures moved { Moved
+        (S.left source.old) (S.left source.new) (K.written sink.old) (K.written sink.new)
+        (Meets (record { action = Action.Run threads; options = options }) result
+        (S.left source.new)) }
+    ensures read_fault { result ≡ Status.ReadFault
+        → Rose (S.faults source.old) (S.faults source.new) }
+    ensures write_fault { result ≡ Status.WriteFault
+        → Rose (K.faults sink.old) (K.faults sink.new) }
+{
+    match read_input(alloc, source) {
+        Ok(input) => {
+            let answer = run_answer(rt, alloc, input, threads, options, gate);
+            write_answer(sink, answer)
+        }
+        Err(status) => status,
     }
 }
 
@@ -66,8 +129,8 @@ fn generated<K: Sink>(alloc: Global, asks: &Generation, sink: &mut K) -> Status
     }
 }
 
-/// All that the program does for words that are no legal words of `run` (so far, for all words). It waits for
-/// nobody. `rt` is for threads that only compute; there are none yet.
+/// All that the program does for words that are no legal words of `run`. It waits for nobody. `rt` is for threads that
+/// only compute; there are none yet.
 ///
 /// The words are tried first. For `one` and `replay` the input is read to its end (or to one byte more than it may have),
 /// then the script is read and executed, and only then is the report written. For `gen` nothing is read.
@@ -78,6 +141,7 @@ pub fn kms_plain<R: Threads, S: Source, K: Sink>(
     source: &mut S,
     sink: &mut K,
 ) -> Status
+    requires alone { is_run (map string_bytes words.now) ≡ false }
     ensures ended { HasEnded (map string_bytes words.now) result
         (S.left source.old) (S.left source.new) (K.written sink.old) (K.written sink.new)
         (Rose (S.faults source.old) (S.faults source.new))
@@ -90,20 +154,29 @@ pub fn kms_plain<R: Threads, S: Source, K: Sink>(
     }
 }
 
-/// All that the program does. For legal words of `run` it will make the run itself, with threads that wait for
-/// one another and with the gate; there are none yet.
-pub fn kms_main<R: Threads + Wait, S: Source, K: Sink, G: Gate + Sync>(
+/// All that the program does. For legal words of `run` it makes the run itself: the input is read as for `one`, then
+/// players in as many threads as are asked for execute the script on one device, and wait for one another; once all have
+/// come to rest, the device is closed, its history is continued to its end by one thread, and the report is written. The
+/// players come to the gate. For all other words it is `kms_plain`, which waits for nobody. That a run comes to rest is not
+/// promised.
+pub fn kms_main<R: Threads + Wait + Sync, S: Source, K: Sink, G: Gate + Sync>(
     rt: &R,
     alloc: Global,
     words: &[String],
     source: &mut S,
     sink: &mut K,
-    _gate: &G,
+    gate: &G,
 ) -> Status
     ensures ended { HasEnded (map string_bytes words.now) result
         (S.left source.old) (S.left source.new) (K.written sink.old) (K.written sink.new)
         (Rose (S.faults source.old) (S.faults source.new))
         (Rose (K.faults sink.old) (K.faults sink.new)) }
 {
-    kms_plain(rt, alloc, words, source, sink)
+    match read_words(words) {
+        Some(Asked::Execute(Execution {
+            action: Action::Run { threads },
+            options,
+        })) => run_executed(rt, alloc, threads, options, source, sink, gate),
+        _ => kms_plain(rt, alloc, words, source, sink),
+    }
 }

@@ -1,14 +1,17 @@
 //! The words of the command line.
 ghost use Rattle.std.specs.Prelude.{◌≡◌, ◌≤◌, IfSome, is_some, map, string_bytes};
 ghost use Rattle.std.specs.Str.{bytes_eq};
-ghost use Rattle.kms_run.specs.Words.{AsksForFew, HasFewCommits, action_of, asked, commits_of, execution_of, generation_of, no_options, options_after, run_of, with_option};
+ghost use Rattle.kms_run.specs.Words.{AsksForFew, HasFewCommits, HasFewThreads, IsFewCount, action_of, asked, execution_of, generation_of, is_run, no_options, no_words, number_of, options_after, run_after, run_of, with_option, with_word_at};
 
 use kms_model::Part;
 use kms_report::Options;
 use kms_script::read_dec;
 
 /// The most commits that a generated script may have.
-const MOST_COMMITS: u64 = 4000;
+const MOST_COMMITS: u32 = 4000;
+
+/// The most threads that may make a run.
+const MOST_THREADS: u32 = 16;
 
 /// What is done with the script that was read.
 #[derive(Clone, Copy, Debug, PartialEq, Eq)]
@@ -17,20 +20,29 @@ pub enum Action {
     One,
     /// `replay`: the steps of the schedule behind the script are done.
     Replay,
+    /// `run`: so many threads, from 1 to 16, do the steps of all actors, and one thread those that are left then.
+    Run { threads: u32 },
 }
 
 impl Action {
     ghost use Rattle.std.specs.Prelude.{◌≡◌};
-    ghost use Rattle.kms_run.specs.Words.{part_of};
+    ghost use Rattle.kms_run.specs.Words.{needs_threads, part_of};
 
     /// What may follow the script.
     pub fn part(self) -> Part
         ensures { result ≡ part_of self }
     {
         match self {
-            Action::One => Part::Script,
+            Action::One | Action::Run { .. } => Part::Script,
             Action::Replay => Part::Schedule,
         }
+    }
+
+    /// Whether threads do the steps, which wait for one another.
+    pub fn needs_threads(self) -> bool
+        ensures { result ≡ needs_threads self }
+    {
+        matches!(self, Action::Run { .. })
     }
 }
 
@@ -58,7 +70,7 @@ pub const NO_OPTIONS: Options = Options {
 /// What legal words ask for.
 #[derive(Clone, Copy, Debug, PartialEq, Eq)]
 pub enum Asked {
-    /// `one` or `replay`: a script is read and executed.
+    /// `one`, `replay` or `run`: a script is read and executed.
     Execute(Execution),
     /// `gen`: a script is generated, and nothing is read.
     Generate(Generation),
@@ -71,9 +83,10 @@ fn is_word(word: &String, text: &[u8]) -> bool
     word.as_bytes() == text
 }
 
-/// The action that a word names.
+/// The action that a word names, but for `run`.
 fn action_of(word: &String) -> Option<Action>
-    ensures { result ≡ action_of (string_bytes word.now) }
+    ensures value { result ≡ action_of (string_bytes word.now) }
+    ensures few { IfSome result HasFewThreads }
 {
     if is_word(word, b"one") {
         Some(Action::One)
@@ -118,25 +131,90 @@ fn options_of(words: &[String]) -> Option<Options>
 /// What words of `one` and `replay` ask for.
 #[tactic(auto, unfolding(crate::specs::Words::execution_of))]
 fn execution_of(first: &String, rest: &[String]) -> Option<Execution>
-    ensures { result ≡ execution_of (string_bytes first.now) (map string_bytes rest.now) }
+    ensures value { result ≡ execution_of (string_bytes first.now) (map string_bytes rest.now) }
+    ensures few { IfSome result (λ asks. HasFewThreads asks.action) }
 {
     let action = action_of(first)?;
     let options = options_of(rest)?;
     Some(Execution { action, options })
 }
 
-/// The number of commits that a word spells, from 1 to 4000.
-#[tactic(auto, unfolding(crate::specs::Words::commits_of))]
-fn commits_of(word: &String) -> Option<u32>
-    ensures value { result ≡ commits_of (string_bytes word.now) }
+/// The number from 1 to the most that a word spells.
+#[tactic(auto, unfolding(crate::specs::Words::number_of))]
+fn number_of(word: &String, most: u32) -> Option<u32>
+    ensures value { result ≡ number_of most (string_bytes word.now) }
     ensures some { IfSome result (λ n. 1 ≤ n) }
-    ensures few { IfSome result (λ n. n ≤ MOST_COMMITS) }
+    ensures few { IfSome result (λ n. n ≤ most) }
 {
-    let commits = read_dec(word.as_bytes(), MOST_COMMITS)?;
-    if commits == 0 {
+    let number = read_dec(word.as_bytes(), u64::from(most))?;
+    if number == 0 {
         return None;
     }
-    Some(commits as u32)
+    Some(number as u32)
+}
+
+/// What words behind `run` have told of the number of threads.
+#[derive(Clone, Copy)]
+enum Count {
+    /// Nothing.
+    Untold,
+    /// That it is the next word.
+    Awaited,
+    /// The number.
+    Told(u32),
+}
+
+/// What words behind `run` have told.
+#[derive(Clone, Copy)]
+struct RunWords {
+    threads: Count,
+    options: Options,
+}
+
+/// What words behind `run` tell with one more.
+#[tactic(auto, unfolding(crate::specs::Words::with_word_at))]
+fn with_word(told: RunWords, word: &String) -> Option<RunWords>
+    requires few { IsFewCount told.threads }
+    ensures value { result ≡ with_word_at told.threads told.options (string_bytes word.now) }
+    ensures few { IfSome result (λ more. IsFewCount more.threads) }
+{
+    let RunWords { threads, options } = told;
+    match threads {
+        Count::Awaited => Some(RunWords {
+            threads: Count::Told(number_of(word, MOST_THREADS)?),
+            options,
+        }),
+        Count::Untold if is_word(word, b"--threads") => Some(RunWords {
+            threads: Count::Awaited,
+            options,
+        }),
+        Count::Untold | Count::Told(_) => Some(RunWords {
+            threads,
+            options: with_option(options, word)?,
+        }),
+    }
+}
+
+/// What the words behind `run` ask for: `--threads` and their number, once, and options, in any order.
+#[tactic(auto, unfolding(crate::specs::Words::run_after))]
+fn run_of_words(words: &[String]) -> Option<Execution>
+    ensures value { result ≡ run_after no_words (map string_bytes words.now) }
+    ensures few { IfSome result (λ asks. HasFewThreads asks.action) }
+{
+    let mut told = RunWords {
+        threads: Count::Untold,
+        options: NO_OPTIONS,
+    };
+    for word in words {
+        told = with_word(told, word)?;
+    }
+    let Count::Told(threads) = told.threads else {
+        return None;
+    };
+    Some(Execution {
+        action: Action::Run { threads },
+        options: told.options,
+    })
 }
 
 /// Whether the words behind a number of commits ask to run the script: `--run` does, and no word does not.
@@ -160,14 +238,15 @@ fn generation_of(words: &[String]) -> Option<Generation>
         return None;
     };
     let seed = read_dec(seed.as_bytes(), u64::MAX)?;
-    let commits = commits_of(commits)?;
+    let commits = number_of(commits, MOST_COMMITS)?;
     let run = run_of(rest)?;
     Some(Generation { seed, commits, run })
 }
 
 /// What words ask for; none where they are not legal. The legal words are `one` or `replay`, followed by `--trace` and
-/// `--ppm`, each at most once, in any order; and `gen`, a seed below 2^64 and a number of commits from 1 to 4000, followed
-/// by `--run` or nothing. A number has one spelling, in decimal digits. The program's own name is not among the words.
+/// `--ppm`, each at most once, in any order; `run`, followed by these and by `--threads` and a number from 1 to 16 as two
+/// words, once, in any order; and `gen`, a seed below 2^64 and a number of commits from 1 to 4000, followed by `--run` or
+/// nothing. A number has one spelling, in decimal digits. The program's own name is not among the words.
 #[tactic(auto, unfolding(crate::specs::Words::asked))]
 pub fn read_words(words: &[String]) -> Option<Asked>
     ensures value { result ≡ asked (map string_bytes words.now) }
@@ -179,6 +258,9 @@ pub fn read_words(words: &[String]) -> Option<Asked>
     if is_word(first, b"gen") {
         return Some(Asked::Generate(generation_of(rest)?));
     }
+    if is_word(first, b"run") {
+        return Some(Asked::Execute(run_of_words(rest)?));
+    }
     Some(Asked::Execute(execution_of(first, rest)?))
 }
 
@@ -187,4 +269,14 @@ pub fn legal_words(words: &[String]) -> bool
     ensures { result ≡ is_some (asked (map string_bytes words.now)) }
 {
     read_words(words).is_some()
+}
+
+/// Whether words are legal words of `run`. It takes no memory.
+pub fn is_run(words: &[String]) -> bool
+    ensures { result ≡ is_run (map string_bytes words.now) }
+{
+    match read_words(words) {
+        Some(Asked::Execute(asks)) => asks.action.needs_threads(),
+        _ => false,
+    }
 }

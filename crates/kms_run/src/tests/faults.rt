@@ -8,7 +8,7 @@ use std::test::Fail;
 use std::thread::Threads;
 
 /// Whether this is the first fault of an input, of which nothing is written.
-fn faults<R: Threads + Wait>(
+fn faults<R: Threads + Wait + Sync>(
     rt: &R,
     alloc: Global,
     all: &[&str],

@@ -30,7 +30,7 @@ fn one_flip(alloc: Global) -> Result<String, AllocError> {
 }
 
 /// What the program answers to words, and what it writes, in pieces of at most `step` bytes; some writes fail.
-fn generates<R: Threads + Wait>(
+fn generates<R: Threads + Wait + Sync>(
     rt: &R,
     alloc: Global,
     all: &[&str],

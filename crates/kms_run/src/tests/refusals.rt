@@ -6,7 +6,7 @@ use std::test::Fail;
 use std::thread::Threads;
 
 /// Whether the last of four commands, an atomic one, is refused so. `made` are the lines of the others.
-fn refuses<R: Threads + Wait>(
+fn refuses<R: Threads + Wait + Sync>(
     rt: &R,
     alloc: Global,
     made: &str,

@@ -16,7 +16,7 @@ const SECOND_TAIL: &str =
 const LOCKS: &str = "T begin 1\nT lock 1 plane0\nT lock 1 crtc0\n";
 
 /// Whether a schedule is refused at this step, of which nothing is written.
-fn is_illegal<R: Threads + Wait>(
+fn is_illegal<R: Threads + Wait + Sync>(
     rt: &R,
     alloc: Global,
     script: &str,

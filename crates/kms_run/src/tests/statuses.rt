@@ -1,6 +1,6 @@
 //! Words that are not legal; numbers and texts of statuses.
 use super::{HEAD, sink, source, words};
-use crate::{Status, kms_main, legal_words, status_text};
+use crate::{Status, is_run, kms_main, legal_words, status_text};
 use kms_io::NoGate;
 use kms_model::Why;
 use std::alloc::Global;
@@ -9,22 +9,29 @@ use std::test::Fail;
 use std::thread::Threads;
 
 /// The source would fail at its first read, so `Usage` shows that nothing was read.
-fn is_usage<R: Threads + Wait>(rt: &R, alloc: Global, all: &[&str]) -> Result<bool, Fail> {
+fn is_usage<R: Threads + Wait + Sync>(rt: &R, alloc: Global, all: &[&str]) -> Result<bool, Fail> {
     let mut source = source(alloc, HEAD, 4096, &[1])?;
     let mut sink = sink(alloc, 4096, &[])?;
     let words = words(alloc, all)?;
     let status = kms_main(rt, alloc, &words, &mut source, &mut sink, &NoGate);
-    Ok(status == Status::Usage && sink.written().is_empty() && !legal_words(&words))
+    Ok(status == Status::Usage && sink.written().is_empty() && !legal_words(&words) && !is_run(&words))
 }
 
 #[test]
 fn other_words_read_nothing(rt: HostRuntime) -> Result<(), Fail> {
     let alloc = rt.alloc();
-    let rows: [&[&str]; 23] = [
+    let rows: [&[&str]; 30] = [
         &[],
         &["run"],
+        &["run", "--threads"],
         &["run", "--threads", "0"],
         &["run", "--threads", "17"],
+        &["run", "--threads", "01"],
+        &["run", "--threads", "--trace"],
+        &["run", "--threads", "2", "--threads", "2"],
+        &["run", "--threads", "2", "--ppm", "--ppm"],
+        &["run", "2"],
+        &["run", "--trace"],
         &["one", "--trace", "--trace"],
         &["one", "--ppm", "--ppm"],
         &["one", "--trace", "--ppm", "--trace"],
@@ -68,7 +75,24 @@ fn options_come_once_in_any_order(rt: HostRuntime) -> Result<(), Fail> {
     ];
     for row in &rows {
         let words = words(alloc, row)?;
-        assert!(rt; legal_words(&words));
+        assert!(rt; legal_words(&words) && !is_run(&words));
+    }
+    Ok(())
+}
+
+#[test]
+fn threads_come_once_among_the_options(rt: HostRuntime) -> Result<(), Fail> {
+    let alloc = rt.alloc();
+    let rows: [&[&str]; 5] = [
+        &["run", "--threads", "1"],
+        &["run", "--threads", "16"],
+        &["run", "--threads", "3", "--trace", "--ppm"],
+        &["run", "--ppm", "--threads", "3", "--trace"],
+        &["run", "--trace", "--ppm", "--threads", "3"],
+    ];
+    for row in &rows {
+        let words = words(alloc, row)?;
+        assert!(rt; legal_words(&words) && is_run(&words));
     }
     Ok(())
 }

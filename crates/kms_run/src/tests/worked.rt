@@ -1,7 +1,7 @@
 //! Scripts that one thread executes, worked out by hand.
 use super::{
-    ABC, FOO, HEAD, LIT, LIT_REPLIES, LIT_STEPS, MADE, SET, TAIL, UNSET, answers, drains, lit,
-    replays, run,
+    ABC, FOO, HEAD, LIT, LIT_REPLIES, LIT_STEPS, MADE, SET, TAIL, TWO_SCREENS, UNSET, WAITING,
+    answers, drains, lit, replays, run,
 };
 use crate::Status;
 use std::alloc::Global;
@@ -71,13 +71,10 @@ fn buffers_fill_their_space(rt: HostRuntime) -> Result<(), Fail> {
 #[test]
 fn clients_execute_in_rounds(rt: HostRuntime) -> Result<(), Fail> {
     let alloc = rt.alloc();
-    let text = format!(in alloc;
-        "kms 1\ncrtcs 2\nplane primary 0 XR24\nplane primary 1 XR24\nconn 0\nconn 1\nclient\nbuffer b 1 1 XR24 solid 00616263\naddfb f b\nmode m 1 1 1 1 1 0 1 1 1 1 0 60 0 0 tiny\natomic 0x400 0 crtc1.ACTIVE=1 crtc1.MODE_ID=@m conn1.CRTC_ID=crtc1 plane1.FB_ID=@f plane1.CRTC_ID=crtc1 plane1.CRTC_W=1 plane1.CRTC_H=1 plane1.SRC_W=65536 plane1.SRC_H=65536\nclient\nbuffer b2 1 1 XR24 solid 00666f6f\naddfb f2 b2\nmode m2 1 1 1 1 1 0 1 1 1 1 0 60 0 0 tiny\natomic 0x400 0 crtc0.ACTIVE=1 crtc0.MODE_ID=@m2 conn0.CRTC_ID=crtc0 plane0.FB_ID=@f2 plane0.CRTC_ID=crtc0 plane0.CRTC_W=1 plane0.CRTC_H=1 plane0.SRC_W=65536 plane0.SRC_H=65536\n"
-    )?;
-    let report = format!(in alloc;
+        let report = format!(in alloc;
         "J 1 1\nJ 2 1\nJ 1 2\nJ 2 2\nJ 1 3\nJ 2 3\nJ 1 4\nJ 2 4\nR 1 1 0 made 1000\nR 1 2 2 made 1002\nR 1 3 4 made 1004\nR 1 4 6 commit 0\nR 2 1 1 made 1001\nR 2 2 3 made 1003\nR 2 3 5 made 1005\nR 2 4 7 commit 1\nL 0 1 1 {FOO}\nL 1 0 1 {ABC}\nD drained\n"
     )?;
-    assert!(rt; drains(&rt, alloc, text.as_str(), report.as_str())?);
+    assert!(rt; drains(&rt, alloc, TWO_SCREENS, report.as_str())?);
     Ok(())
 }
 
@@ -166,14 +163,11 @@ fn an_event_is_read_once(rt: HostRuntime) -> Result<(), Fail> {
     Ok(())
 }
 
-/// A commit waits for an out-fence, and the last one for a fence that nobody signals.
+/// A commit is dead that waits for a fence which nobody signals.
 #[test]
 fn a_fence_that_nobody_signals_stalls(rt: HostRuntime) -> Result<(), Fail> {
     let alloc = rt.alloc();
-    let text = lit(
-        alloc,
-        "atomic 0x200 0 plane0.alpha=65535 crtc0.OUT_FENCE_PTR=+o\natomic 0x0 0 plane0.alpha=65535 plane0.IN_FENCE_FD=@o\nfence n\natomic 0x0 0 plane0.alpha=65535 plane0.IN_FENCE_FD=@n\n",
-    )?;
+    let text = lit(alloc, WAITING)?;
     let report = format!(in alloc;
         "{LIT}J 1 5\nJ 1 6\nJ 1 7\nJ 1 8\n{LIT_REPLIES}R 1 5 4 commit 1\nR 1 6 5 commit 2\nR 1 7 6 made 1004\nR 1 8 7 commit 3\nL 0 0 1 {ABC}\nL 0 1 2 {ABC}\nL 0 2 3 {ABC}\nD stalled n\n"
     )?;

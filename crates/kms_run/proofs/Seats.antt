@@ -1,0 +1,86 @@
+-- The passes of a device, and those that come back from its players.
+use Rattle.std.proofs.Common.{◌≡◌, ℕ, zero, suc, ◌+◌, ◌≤◌, Bool, true, ◌==◌, ◌||◌, List, [], ◌∷◌, ◌++◌, length, map, refl, sym, ap, subst, ◌∙◌, arith}
+use Rattle.std.specs.Prelude.{All, Any, IsPermutation}
+use Rattle.std.specs.List.{list_any}
+use Rattle.std.proofs.lemmas.Bool.{eqb-true}
+use Rattle.std.proofs.lemmas.List.{length-append, length-map}
+use Rattle.std.proofs.lemmas.List.Elements.{All-append, All-cons, All-head, All-nil, All-tail}
+use Rattle.std.proofs.lemmas.List.Folds.{Any-from_list_any, list_any-append}
+use Rattle.std.proofs.lemmas.List.Sorted.{All-permutation, length_permutation, list_any-IsPermutation}
+use Rattle.kms_histlock.specs.Passes.{LockName, new_pass, new_passes}
+use Rattle.kms_model.specs.declared.replies.Step.{Step}
+use Rattle.kms_model.specs.declared.scripts.Script.{Script}
+use Rattle.kms_device.specs.Turns.{DevicePass, DeviceState}
+use Rattle.kms_players.specs.Players.{PlayerName, name_of}
+use Rattle.kms_run.specs.Running.{AreAllPasses, IsSeat, seats_for}
+
+-- each of the first passes of a device is one of a player
+pub new_seats : (d : DeviceState) (n : ℕ) → n ≤ seats_for d.script → All (IsSeat d) (new_passes d.lock n)
+new_seats d zero l = All-nil (IsSeat d)
+new_seats d (suc n) l =
+    All-append (IsSeat d) (new_passes d.lock n) (new_pass d.lock (n + 1) ∷ []) (new_seats d n (omega (arith, l)))
+    (All-cons (IsSeat d) (new_pass d.lock (n + 1)) [] (record { own = refl; low = omega arith; high = omega (arith, l) }) (All-nil (IsSeat d)))
+
+module _ (lock : LockName Script) where
+  abbrev passes : ℕ → List DevicePass
+  passes n = new_passes lock n
+
+  abbrev IsOfLock : PlayerName → Type 0
+  IsOfLock name = name.lock ≡ lock
+
+  abbrev is_first : PlayerName → Bool
+  is_first name = name.rank == 1
+
+  names_own : (n : ℕ) → All IsOfLock (map name_of (passes n))
+  names_own n = mapped (passes n) (own n) where
+    mapped : (ps : List DevicePass) → All (λ p. p.lock ≡ lock) ps → All IsOfLock (map name_of ps)
+    mapped [] h = All-nil IsOfLock
+    mapped (p ∷ ps) h =
+        All-cons IsOfLock (name_of p) (map name_of ps) (All-head (λ p. p.lock ≡ lock) p ps h) (mapped ps (All-tail (λ p. p.lock ≡ lock) p ps h))
+    own : (n : ℕ) → All (λ p. p.lock ≡ lock) (passes n)
+    own zero = All-nil (λ p. p.lock ≡ lock)
+    own (suc n) =
+        All-append (λ p. p.lock ≡ lock) (passes n) (new_pass lock (n + 1) ∷ []) (own n)
+        (All-cons (λ p. p.lock ≡ lock) (new_pass lock (n + 1)) [] refl (All-nil (λ p. p.lock ≡ lock)))
+
+  count : (n : ℕ) → length (passes n) ≡ n
+  count zero = refl
+  count (suc n) = let more = length-append (passes n) (new_pass lock (n + 1) ∷ []) in let before = count n in omega (arith, more, before)
+
+  -- a test of names, and of the passes that have them
+  any_named : (ps : List DevicePass) → list_any is_first (map name_of ps) ≡ list_any (λ p. p.rank == 1) ps
+  any_named [] = refl
+  any_named (p ∷ ps) = ap (λ b. (p.rank == 1) || b) (any_named ps)
+
+  has_first : (n : ℕ) → list_any (λ p. p.rank == 1) (passes (suc n)) ≡ true
+  has_first zero = refl
+  has_first (suc n) =
+      let last : List DevicePass = new_pass lock (suc n + 1) ∷ [] in
+      list_any-append (λ p. p.rank == 1) (passes (suc n)) last ∙ ap (λ b. b || list_any (λ p. p.rank == 1) last) (has_first n)
+
+-- All passes are of the device's lock,
+pub all_own : (d : DeviceState) (back : List DevicePass) → AreAllPasses d back → All (λ p. p.lock ≡ d.lock) back
+all_own d back all = named back (All-permutation (IsOfLock d.lock) (map name_of (new_passes d.lock d.seats)) (map name_of back) all (names_own d.lock d.seats)) where
+  named : (ps : List DevicePass) → All (IsOfLock d.lock) (map name_of ps) → All (λ p. p.lock ≡ d.lock) ps
+  named [] h = All-nil (λ p. p.lock ≡ d.lock)
+  named (p ∷ ps) h =
+      All-cons (λ p. p.lock ≡ d.lock) p ps (All-head (IsOfLock d.lock) (name_of p) (map name_of ps) h)
+      (named ps (All-tail (IsOfLock d.lock) (name_of p) (map name_of ps) h))
+
+-- they are as many as it has seats,
+pub all_count : (d : DeviceState) (back : List DevicePass) → AreAllPasses d back → length back ≡ d.seats
+all_count d back all =
+    sym (length-map back name_of) ∙ (length_permutation (map name_of (new_passes d.lock d.seats)) (map name_of back) all
+    ∙ (length-map (new_passes d.lock d.seats) name_of ∙ count d.lock d.seats))
+
+-- and one has the rank 1.
+pub all_first : (d : DeviceState) (back : List DevicePass) → 1 ≤ d.seats → AreAllPasses d back → Any (λ p. p.rank ≡ 1) back
+all_first d back some all = of_test (Any-from_list_any (λ p. p.rank == 1) back (there d.seats refl some)) where
+  there : (n : ℕ) → d.seats ≡ n → 1 ≤ n → list_any (λ p. p.rank == 1) back ≡ true
+  there zero e l = absurd (omega (arith, l))
+  there (suc n) e l =
+      sym (any_named d.lock back)
+      ∙ (sym (list_any-IsPermutation (is_first d.lock) (map name_of (new_passes d.lock d.seats)) (map name_of back) all)
+      ∙ (any_named d.lock (passes d.lock d.seats) ∙ (ap (λ k. list_any (λ p. p.rank == 1) (passes d.lock k)) e ∙ has_first d.lock n)))
+  of_test : Any (λ p. (p.rank == 1) ≡ true) back → Any (λ p. p.rank ≡ 1) back
+  of_test (k, x, within, at, is) = (k, x, within, at, eqb-true x.rank 1 is)
