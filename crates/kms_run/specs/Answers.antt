@@ -1,4 +1,4 @@
--- What the program says to an input.
+-- What the program says to an input. This device's own.
 use Rattle.std.specs.Prelude.{◌≡◌, ℕ, true, false, List, Some, Result, Ok, Err, ⊤}
 use Rattle.kms_model.specs.declared.replies.Step.{Step}
 use Rattle.kms_model.specs.declared.scripts.Script.{Script}

@@ -1,4 +1,4 @@
--- What the steps of an answer tell one another.
+-- What the steps of an answer tell one another. This device's own.
 use Rattle.std.specs.Prelude.{List, Result, Ok, Err, ⊤}
 use Rattle.kms_model.specs.declared.replies.Step.{Step}
 use Rattle.kms_model.specs.declared.scripts.Script.{Script}
