@@ -1,4 +1,4 @@
--- What holds of all generated scripts.
+-- What holds of all generated scripts. This device's own.
 use Rattle.std.specs.Prelude.{◌<◌, ◌≤◌, ◌^◌, ℕ}
 use Rattle.kms_model.specs.Script.Generated.{generated}
 use Rattle.kms_model.specs.Script.WellFormed.{IsWellFormed}

@@ -1,4 +1,4 @@
--- What the counts of a summary go by.
+-- What the counts of a summary go by. This device's own.
 use Rattle.std.specs.Prelude.{ℕ, ◌==◌, ◌&&◌, Bool, is_some}
 use Rattle.kms_model.specs.declared.replies.Answered.{Answered}
 use Rattle.kms_shown.specs.Told.{event_in}

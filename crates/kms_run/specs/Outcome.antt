@@ -2,6 +2,7 @@
 use Rattle.std.specs.Prelude.{◌≡◌, ◌↔◌, ℕ, ◌<◌, ◌≤◌, ◌+◌, List, [], length, Err, None, Option, Some, ◌⊎◌, ⊤}
 use Rattle.std.specs.Io.KnownBytes.{Appends, IsAtEnd}
 use Rattle.kms_io.specs.Bytes.{Begins, Moved}
+use Rattle.kms_io.specs.Causes.{Rose}
 use Rattle.kms_model.specs.declared.scripts.Why.{Why}
 use Rattle.kms_model.specs.Script.InputLines.{input_limit}
 use Rattle.kms_model.specs.Script.Schedules.{input_of}
@@ -100,8 +101,8 @@ pub record Wrote (written written_after : Option (List ℕ)) (P : List ℕ → T
   pub holds : P put
 
 -- What a call does that is given these words and ended so: what the source had left and the sink had written before and
--- afterwards. `ReadRose` and `WriteRose` say that the counts of faults of the source and of the sink rose.
-module _ (words : List (List ℕ)) (ended : Status) (left left_after written written_after : Option (List ℕ)) (ReadRose WriteRose : Type 0) where
+-- afterwards, and how often each had failed.
+module _ (words : List (List ℕ)) (ended : Status) (left left_after written written_after : Option (List ℕ)) (read_faults read_faults_after write_faults write_faults_after : ℕ) where
   abbrev Moves : (List ℕ → List ℕ → Type 0) → Type 0
   Moves says = Moved left left_after written written_after says
 
@@ -122,25 +123,30 @@ module _ (words : List (List ℕ)) (ended : Status) (left left_after written wri
     -- Otherwise nothing was written.
     pub read_only : IsSilent ended → Moves WritesNothing
     -- When the statuses come that the bytes do not determine. No other status comes, but want of memory.
-    pub read_fault : ended ≡ status.ReadFault → ReadRose
-    pub write_fault : ended ≡ status.WriteFault → WriteRose
+    pub read_fault : ended ≡ status.ReadFault → Rose read_faults read_faults_after
+    pub write_fault : ended ≡ status.WriteFault → Rose write_faults write_faults_after
     pub no_other : IsOfExecution ended
 
   -- `gen`
   pub record Generates (asks : Generation) : Type 0 where
+    -- Nothing was read, and no read failed.
     pub unread : left_after ≡ left
+    pub no_read_fault : read_faults_after ≡ read_faults
     -- What was written is the generated script or its summary, or a front of it.
     pub ok : ended ≡ status.Ok → Writes (IsGenerated asks)
     pub cut : ended ≡ status.WriteFault → Writes (IsGeneratedFront asks)
     pub silent : ended ≡ status.NoMemory → Writes (λ output. output ≡ [])
     -- A failing write and want of memory are all that may come in the way.
-    pub write_fault : ended ≡ status.WriteFault → WriteRose
+    pub write_fault : ended ≡ status.WriteFault → Rose write_faults write_faults_after
     pub no_other : IsOfGeneration ended
 
   -- no legal words
   pub record Refuses : Type 0 where
+    -- Nothing was read or written, and no read or write failed.
     pub unread : left_after ≡ left
+    pub no_read_fault : read_faults_after ≡ read_faults
     pub unwritten : written_after ≡ written
+    pub no_write_fault : write_faults_after ≡ write_faults
 
   pub record HasEnded : Type 0 where
     pub usage : (ended ≡ status.Usage) ↔ (asked words ≡ None)

@@ -1,4 +1,4 @@
--- The number and the text of a status.
+-- The number and the text of a status. This device's own.
 use Rattle.std.specs.Prelude.{ℕ, List, [], ◌++◌, codes}
 use Rattle.std.specs.Fmt.{decimal}
 use Rattle.kms_model.specs.declared.scripts.Why.{Why}

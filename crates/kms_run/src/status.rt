@@ -10,11 +10,11 @@ use std::alloc::{AllocError, Global};
 /// How a run of the program ends.
 #[derive(Clone, Copy, Debug, PartialEq, Eq)]
 pub enum Status {
-    /// The history is drained and its report is written.
+    /// The history is drained and its report is written; or `gen` has written its text.
     Ok,
     /// The source failed; nothing is written.
     ReadFault,
-    /// The sink failed; a front part of the report is written.
+    /// The sink failed; a front part of the output is written.
     WriteFault,
     /// The words are not legal; nothing is read or written.
     Usage,

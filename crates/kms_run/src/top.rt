@@ -133,7 +133,8 @@ fn generated<K: Sink>(alloc: Global, asks: &Generation, sink: &mut K) -> Status
 /// only compute; there are none yet.
 ///
 /// The words are tried first. For `one` and `replay` the input is read to its end (or to one byte more than it may have),
-/// then the script is read and executed, and only then is the report written. For `gen` nothing is read.
+/// then the script is read and executed, and only then is the report written. For `gen` nothing is read; the generated
+/// script, or the six lines of its run, is written when it is whole.
 pub fn kms_plain<R: Threads, S: Source, K: Sink>(
     _rt: &R,
     alloc: Global,
@@ -144,8 +145,7 @@ pub fn kms_plain<R: Threads, S: Source, K: Sink>(
     requires alone { is_run (map string_bytes words.now) ≡ false }
     ensures ended { HasEnded (map string_bytes words.now) result
         (S.left source.old) (S.left source.new) (K.written sink.old) (K.written sink.new)
-        (Rose (S.faults source.old) (S.faults source.new))
-        (Rose (K.faults sink.old) (K.faults sink.new)) }
+        (S.faults source.old) (S.faults source.new) (K.faults sink.old) (K.faults sink.new) }
 {
     match read_words(words) {
         None => Status::Usage,
@@ -169,8 +169,7 @@ pub fn kms_main<R: Threads + Wait + Sync, S: Source, K: Sink, G: Gate + Sync>(
 ) -> Status
     ensures ended { HasEnded (map string_bytes words.now) result
         (S.left source.old) (S.left source.new) (K.written sink.old) (K.written sink.new)
-        (Rose (S.faults source.old) (S.faults source.new))
-        (Rose (K.faults sink.old) (K.faults sink.new)) }
+        (S.faults source.old) (S.faults source.new) (K.faults sink.old) (K.faults sink.new) }
 {
     match read_words(words) {
         Some(Asked::Execute(Execution {

@@ -20,7 +20,7 @@ fn is_usage<R: Threads + Wait + Sync>(rt: &R, alloc: Global, all: &[&str]) -> Re
 #[test]
 fn other_words_read_nothing(rt: HostRuntime) -> Result<(), Fail> {
     let alloc = rt.alloc();
-    let rows: [&[&str]; 30] = [
+    let rows: [&[&str]; 32] = [
         &[],
         &["run"],
         &["run", "--threads"],
@@ -43,6 +43,8 @@ fn other_words_read_nothing(rt: HostRuntime) -> Result<(), Fail> {
         &["gen", "1", "4001"],
         &["gen", "18446744073709551616", "1"],
         &["gen", "1", "2", "--run", "--run"],
+        &["gen", "--run", "1", "2"],
+        &["audit"],
         &["audit", "--trace"],
         &["help"],
         &["one", "one"],
