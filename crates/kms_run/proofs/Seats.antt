@@ -37,6 +37,7 @@ module _ (lock : LockName Script) where
     mapped [] h = All-nil IsOfLock
     mapped (p ∷ ps) h =
         All-cons IsOfLock (name_of p) (map name_of ps) (All-head (λ p. p.lock ≡ lock) p ps h) (mapped ps (All-tail (λ p. p.lock ≡ lock) p ps h))
+
     own : (n : ℕ) → All (λ p. p.lock ≡ lock) (passes n)
     own zero = All-nil (λ p. p.lock ≡ lock)
     own (suc n) =
@@ -82,5 +83,6 @@ all_first d back some all = of_test (Any-from_list_any (λ p. p.rank == 1) back 
       sym (any_named d.lock back)
       ∙ (sym (list_any-IsPermutation (is_first d.lock) (map name_of (new_passes d.lock d.seats)) (map name_of back) all)
       ∙ (any_named d.lock (passes d.lock d.seats) ∙ (ap (λ k. list_any (λ p. p.rank == 1) (passes d.lock k)) e ∙ has_first d.lock n)))
+
   of_test : Any (λ p. (p.rank == 1) ≡ true) back → Any (λ p. p.rank ≡ 1) back
   of_test (k, x, within, at, is) = (k, x, within, at, eqb-true x.rank 1 is)
