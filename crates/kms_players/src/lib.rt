@@ -9,6 +9,8 @@ mod client;
 mod name;
 mod resting;
 mod site;
+#[cfg(test)]
+mod tests;
 mod tick;
 mod worker;
 
