@@ -21,3 +21,4 @@ pub mod Joining
 pub mod TriedCases
 pub mod CommitMade
 pub mod Tails
+pub mod FirstSteps
