@@ -69,7 +69,7 @@ impl<'a, G: Gate> Client<'a, G> {
 
     /// One turn. A client at a request makes one attempt at it; any other makes the one step of its place, where that is legal. It
     /// ends once it has no command left. The gate is called before a check of its request, and after each answer. The only error is
-    /// want of memory: then no step was made.
+    /// want of memory: then no step was made, and what was kept of an attempt is new.
     pub fn play<W: Wait>(&mut self, rt: &W, alloc: Global) -> Result<Turn, NoMemory>
         ensures turn { IfOk result (ClientTurn self.old.device.script self.old.client self.old.pass
             self.old.kept self.new.pass self.new.kept) }
@@ -77,6 +77,7 @@ impl<'a, G: Gate> Client<'a, G> {
         ensures same { (self.new.device ≡ self.old.device) × (self.new.client ≡ self.old.client) }
         ensures last { IfOk result (λ turn. self.new.last ≡ Some turn) }
         ensures no_step { OnErr result (Went [] self.old.pass self.new.pass) }
+        ensures anew { OnErr result (self.new.kept ≡ new_attempt) }
     {
         let (turn, under_way) = self
             .site

@@ -47,6 +47,7 @@ impl<'a, G: Gate> Site<'a, G> {
         ensures no_step { OnErr result (Went [] pass.old pass.new) }
         ensures still { OnErr result (IsUnderWay (seen self.now.device.now.script pass.new)
             self.now.client kept.new under_way) }
+        ensures anew { OnErr result (kept.new ≡ new_attempt) }
     {
         match under_way {
             Some(number) => self.attempt(rt, alloc, pass, number, kept),
