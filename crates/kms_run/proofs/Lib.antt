@@ -4,3 +4,4 @@ pub mod Answering
 pub mod Counted
 pub mod Summed
 pub mod Seats
+pub mod Continued

@@ -59,6 +59,25 @@ module _ (lock : LockName Script) where
       let last : List DevicePass = new_pass lock (suc n + 1) ∷ [] in
       list_any-append (λ p. p.rank == 1) (passes (suc n)) last ∙ ap (λ b. b || list_any (λ p. p.rank == 1) last) (has_first n)
 
+-- an item that is done, and its like that is left no more, have one name
+done_next : {A B C : Type 0} (f : A → C) (g : B → C) (done : List A) (x : A) (y : B) (rest : List B)
+    → f x ≡ g y → map f (done ++ x ∷ []) ++ map g rest ≡ map f done ++ (g y ∷ map g rest)
+done_next f g [] x y rest e = ap (λ c. c ∷ map g rest) e
+done_next f g (a ∷ done) x y rest e = ap (λ cs. f a ∷ cs) (done_next f g done x y rest e)
+
+-- one more of the names, in their order, is that of an item that is done
+pub one_more : {A B C : Type 0} (f : A → C) (g : B → C) (done after : List A) (x : A) (y : B) (left rest : List B) (names : List C)
+    → map f done ++ map g left ≡ names → left ≡ y ∷ rest → f x ≡ g y → after ≡ done ++ x ∷ [] → map f after ++ map g rest ≡ names
+one_more f g done after x y left rest names was next same pushed =
+    ap (λ xs. map f xs ++ map g rest) pushed ∙ (done_next f g done x y rest same ∙ (sym (ap (λ ys. map f done ++ map g ys) next) ∙ was))
+
+-- what comes back of the players of all passes
+pub all_back : (d : DeviceState) (n : ℕ) (given back : List DevicePass) (names names' : List PlayerName)
+    → d.seats ≡ n → given ≡ new_passes d.lock n → names ≡ map name_of given → IsPermutation names names' → map name_of back ≡ names' → AreAllPasses d back
+all_back d n given back names names' seats new named moved named' =
+    let all : names ≡ map name_of (new_passes d.lock d.seats) = named ∙ ap (map name_of) (new ∙ ap (passes d.lock) (sym seats)) in
+    subst (λ ns. IsPermutation ns (map name_of back)) all (subst (IsPermutation names) (sym named') moved)
+
 -- All passes are of the device's lock,
 pub all_own : (d : DeviceState) (back : List DevicePass) → AreAllPasses d back → All (λ p. p.lock ≡ d.lock) back
 all_own d back all = named back (All-permutation (IsOfLock d.lock) (map name_of (new_passes d.lock d.seats)) (map name_of back) all (names_own d.lock d.seats)) where

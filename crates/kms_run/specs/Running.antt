@@ -40,5 +40,5 @@ pub record IsFinishedOf (d : DeviceState) (passes : List DevicePass) (r : Run) :
 -- a history of a script that was continued to its end, and is over
 pub record IsRunOf (s : Script) (r : Run) : Type 0 where
   pub script : r.script ≡ s
-  pub is_continued : IsContinued s r.steps
-  pub is_over : IsOver s r.steps
+  pub is_continued : IsContinued r.script r.steps
+  pub is_over : IsOver r.script r.steps

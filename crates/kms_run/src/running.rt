@@ -37,7 +37,8 @@ fn seats_for(script: &Script) -> u32
 /// The player of a pass, by its rank: first each client, in order of number, then the workers, then a player for the vertical
 /// blankings of each CRTC.
 fn player<'a, G: Gate>(device: &'a Device, gate: &'a G, pass: Pass) -> AnyPlayer<'a, G>
-    requires { IsSeat device.now pass }
+    requires formed { IsWellFormed device.now.script }
+    requires seat { IsSeat device.now pass }
     ensures { ⟦<AnyPlayer<'a, G> as Player>⟧.name result ≡ name_of pass }
 {
     let clients = device.script().clients.len() as u32;
@@ -59,7 +60,8 @@ fn players<'a, G: Gate>(
     gate: &'a G,
     passes: Seq<Pass>,
 ) -> Result<Seq<AnyPlayer<'a, G>>, NoMemory>
-    requires { All (IsSeat device.now) passes }
+    requires formed { IsWellFormed device.now.script }
+    requires seats { All (IsSeat device.now) passes }
     ensures { IfOk result (λ players.
         map ⟦<AnyPlayer<'a, G> as Player>⟧.name players ≡ map name_of passes) }
 {

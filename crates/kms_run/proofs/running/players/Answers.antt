@@ -1,0 +1,23 @@
+use Rattle.std.proofs.Common.{ap, arith, length, sym}
+use Rattle.std.proofs.lemmas.List.Elements.{All-same, All-tail}
+use Rattle.std.specs.Vec.Iter.{into_iter_items}
+use Rattle.kms_players.specs.AnyPlayers.{pass_of}
+use Rattle.kms_players.specs.Players.{name_of}
+use Rattle.kms_run.specs.Running.{IsSeat}
+use Rattle.kms_run.proofs.Seats.{one_more}
+use Rattle.kms_run.proofs.running.players.Goals as goal
+
+pub loop-pass-preserved : goal.loop-pass-preserved
+loop-pass-preserved g c =
+    let is_seat = IsSeat c.args.device.now in
+    let i = c.loop-pass.invariant in
+    let next = c.in-Some.ensures.steps.0 in
+    let gone = c.in-Some.ensures.steps.1 in
+    let long = ap length next in
+    let left = i.left in record {
+      made =
+          one_more (λ p. name_of (pass_of p)) name_of c.loop-pass.players.items c.push.new.self.items c.player.result c.in-Some.pass
+          (into_iter_items c.loop-pass.pass-iterator) (into_iter_items c.next.new.self) _ i.made next c.player.ensures c.in_ok-push.ensures.items;
+      seats = All-tail is_seat c.in-Some.pass _ (All-same is_seat _ _ (sym next) i.seats);
+      left = omega (arith, gone, long, left);
+    }

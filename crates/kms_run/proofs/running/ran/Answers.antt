@@ -1,0 +1,26 @@
+use Rattle.std.proofs.Common.{◌≤◌, arith, subst, sym}
+use Rattle.std.specs.Prelude.{All}
+use Rattle.kms_model.specs.Script.WellFormed.{IsWellFormed}
+use Rattle.kms_run.specs.Running.{IsSeat, seats_for}
+use Rattle.kms_run.proofs.Continued.{run_of}
+use Rattle.kms_run.proofs.Seats.{all_back, new_seats}
+use Rattle.kms_run.proofs.running.ran.Goals as goal
+
+pub players-requires-clause-formed : goal.players-requires-clause-formed
+players-requires-clause-formed g c = subst IsWellFormed (sym c.in_ok-device.ensures.script) c.requires.formed
+
+pub players-requires-clause-seats : goal.players-requires-clause-seats
+players-requires-clause-seats g c =
+    let d = c.in_ok-device.device in
+    let n = c.seats_for-seats.result in
+    let exact = c.seats_for-seats.ensures.exact in
+    let few : n ≤ seats_for d.script = subst (λ s. n ≤ seats_for s) (sym c.in_ok-device.ensures.script) (omega (arith, exact)) in
+    subst (All (IsSeat d)) (sym c.in_ok-device.ensures.passes) (new_seats d n few)
+
+pub continued-requires-clause-all : goal.continued-requires-clause-all
+continued-requires-clause-all g c =
+    all_back c.in_ok-device.device c.seats_for-seats.result c.in_ok-device.passes c.in_ok-passes.passes _ _ c.in_ok-device.ensures.seats
+    c.in_ok-device.ensures.passes c.in_ok-players.ensures c.in_ok-players-2.ensures.players c.in_ok-passes.ensures
+
+pub returns : goal.returns
+returns g c = run_of c.args.script c.in_ok-device.device c.in_ok-passes.passes c.continued.result c.in_ok-device.ensures.script c.continued.ensures
