@@ -173,10 +173,14 @@ pub fn kms_main<R: Threads + Wait + Sync, S: Source, K: Sink, G: Gate + Sync>(
         (Rose (K.faults sink.old) (K.faults sink.new)) }
 {
     match read_words(words) {
-        Some(Asked::Execute(Execution {
-            action: Action::Run { threads },
-            options,
-        })) => run_executed(rt, alloc, threads, options, source, sink, gate),
+        Some(
+            Asked::Execute(
+                Execution {
+                    action: Action::Run { threads },
+                    options,
+                },
+            ),
+        ) => run_executed(rt, alloc, threads, options, source, sink, gate),
         _ => kms_plain(rt, alloc, words, source, sink),
     }
 }

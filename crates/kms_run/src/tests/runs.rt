@@ -1,5 +1,7 @@
 //! Runs by threads.
-use super::{ABC, HEAD, LIT, LIT_REPLIES, TWO_SCREENS, WAITING, answers, lit, run, sink, source, words};
+use super::{
+    ABC, HEAD, LIT, LIT_REPLIES, TWO_SCREENS, WAITING, answers, lit, run, sink, source, words,
+};
 use crate::{Status, kms_main};
 use kms_io::{Gate, Point};
 use std::alloc::Global;
@@ -41,11 +43,20 @@ fn four_threads_light_the_crtc(rt: HostRuntime) -> Result<(), Fail> {
 fn a_fence_that_nobody_signals_stalls_threads(rt: HostRuntime) -> Result<(), Fail> {
     let alloc = rt.alloc();
     let text = lit(alloc, WAITING)?;
-    let (status, sink) = run(&rt, alloc, &["run", "--threads", "4", "--trace"], text.as_str())?;
+    let (status, sink) = run(
+        &rt,
+        alloc,
+        &["run", "--threads", "4", "--trace"],
+        text.as_str(),
+    )?;
     assert_eq!(rt; status, Status::Stalled);
     let lines = sink.written();
     assert!(rt; lines.ends_with(b"\nT stall\n"));
-    assert!(rt; lines.split(|byte| *byte == b'\n').any(|line| line == b"D stalled n".as_slice()));
+    assert!(rt;
+        lines
+            .split(|byte| *byte == b'\n')
+            .any(|line| line == b"D stalled n".as_slice())
+    );
     Ok(())
 }
 

@@ -14,7 +14,12 @@ fn is_usage<R: Threads + Wait + Sync>(rt: &R, alloc: Global, all: &[&str]) -> Re
     let mut sink = sink(alloc, 4096, &[])?;
     let words = words(alloc, all)?;
     let status = kms_main(rt, alloc, &words, &mut source, &mut sink, &NoGate);
-    Ok(status == Status::Usage && sink.written().is_empty() && !legal_words(&words) && !is_run(&words))
+    Ok(
+        status == Status::Usage
+            && sink.written().is_empty()
+            && !legal_words(&words)
+            && !is_run(&words),
+    )
 }
 
 #[test]

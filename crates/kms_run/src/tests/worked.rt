@@ -71,7 +71,7 @@ fn buffers_fill_their_space(rt: HostRuntime) -> Result<(), Fail> {
 #[test]
 fn clients_execute_in_rounds(rt: HostRuntime) -> Result<(), Fail> {
     let alloc = rt.alloc();
-        let report = format!(in alloc;
+    let report = format!(in alloc;
         "J 1 1\nJ 2 1\nJ 1 2\nJ 2 2\nJ 1 3\nJ 2 3\nJ 1 4\nJ 2 4\nR 1 1 0 made 1000\nR 1 2 2 made 1002\nR 1 3 4 made 1004\nR 1 4 6 commit 0\nR 2 1 1 made 1001\nR 2 2 3 made 1003\nR 2 3 5 made 1005\nR 2 4 7 commit 1\nL 0 1 1 {FOO}\nL 1 0 1 {ABC}\nD drained\n"
     )?;
     assert!(rt; drains(&rt, alloc, TWO_SCREENS, report.as_str())?);
