@@ -3,12 +3,11 @@ use Rattle.std.proofs.Common.{◌≡◌, ℕ, zero, suc, ◌+◌, ◌≤◌, Boo
 use Rattle.std.specs.Prelude.{All, Any, IsPermutation}
 use Rattle.std.specs.List.{list_any}
 use Rattle.std.proofs.lemmas.Bool.{eqb-true}
-use Rattle.std.proofs.lemmas.List.{length-append, length-map}
+use Rattle.std.proofs.lemmas.List.{append-nil, length-append, length-map}
 use Rattle.std.proofs.lemmas.List.Elements.{All-append, All-cons, All-head, All-nil, All-tail}
 use Rattle.std.proofs.lemmas.List.Folds.{Any-from_list_any, list_any-append}
 use Rattle.std.proofs.lemmas.List.Sorted.{All-permutation, length_permutation, list_any-IsPermutation}
 use Rattle.kms_histlock.specs.Passes.{LockName, new_pass, new_passes}
-use Rattle.kms_model.specs.declared.replies.Step.{Step}
 use Rattle.kms_model.specs.declared.scripts.Script.{Script}
 use Rattle.kms_device.specs.Turns.{DevicePass, DeviceState}
 use Rattle.kms_players.specs.Players.{PlayerName, name_of}
@@ -70,6 +69,12 @@ pub one_more : {A B C : Type 0} (f : A → C) (g : B → C) (done after : List A
     → map f done ++ map g left ≡ names → left ≡ y ∷ rest → f x ≡ g y → after ≡ done ++ x ∷ [] → map f after ++ map g rest ≡ names
 one_more f g done after x y left rest names was next same pushed =
     ap (λ xs. map f xs ++ map g rest) pushed ∙ (done_next f g done x y rest same ∙ (sym (ap (λ ys. map f done ++ map g ys) next) ∙ was))
+
+-- where none is left, all names are those of what is done
+pub all_done : {A B C : Type 0} (f : A → C) (g : B → C) (done all : List A) (left : List B) (size : ℕ) (names : List C)
+    → map f done ++ map g left ≡ names → size ≡ 0 → size ≡ length left → all ≡ done → map f all ≡ names
+all_done f g done all [] size names was none long same = ap (map f) same ∙ (sym (append-nil (map f done)) ∙ was)
+all_done f g done all (y ∷ left) size names was none long same = absurd (omega (arith, none, long))
 
 -- what comes back of the players of all passes
 pub all_back : (d : DeviceState) (n : ℕ) (given back : List DevicePass) (names names' : List PlayerName)

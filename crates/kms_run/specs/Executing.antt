@@ -1,5 +1,5 @@
 -- What the steps of an answer tell one another. This device's own.
-use Rattle.std.specs.Prelude.{◌≡◌, true, List, Result, Ok, Err, ⊤}
+use Rattle.std.specs.Prelude.{List, Result, Ok, Err, ⊤}
 use Rattle.kms_model.specs.declared.replies.Step.{Step}
 use Rattle.kms_model.specs.declared.scripts.Script.{Script}
 use Rattle.kms_core.specs.Run.{Run}

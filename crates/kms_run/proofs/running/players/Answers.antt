@@ -1,10 +1,10 @@
 use Rattle.std.proofs.Common.{ap, arith, length, sym}
 use Rattle.std.proofs.lemmas.List.Elements.{All-same, All-tail}
-use Rattle.std.specs.Vec.Iter.{into_iter_items}
+use Rattle.std.specs.Vec.Iter.{into_iter_items, into_iter_len}
 use Rattle.kms_players.specs.AnyPlayers.{pass_of}
 use Rattle.kms_players.specs.Players.{name_of}
 use Rattle.kms_run.specs.Running.{IsSeat}
-use Rattle.kms_run.proofs.Seats.{one_more}
+use Rattle.kms_run.proofs.Seats.{all_done, one_more}
 use Rattle.kms_run.proofs.running.players.Goals as goal
 
 pub loop-pass-preserved : goal.loop-pass-preserved
@@ -21,3 +21,8 @@ loop-pass-preserved g c =
       seats = All-tail is_seat c.in-Some.pass _ (All-same is_seat _ _ (sym next) i.seats);
       left = omega (arith, gone, long, left);
     }
+
+pub returns : goal.returns
+returns g c =
+    all_done (λ p. name_of (pass_of p)) name_of c.loop-pass.players.items c.from_vec.result (into_iter_items c.loop-pass.pass-iterator)
+    (into_iter_len c.loop-pass.pass-iterator) _ c.loop-pass.invariant.made c.in-None.ensures.steps.0 c.loop-pass.invariant.left c.from_vec.ensures
