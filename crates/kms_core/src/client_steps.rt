@@ -7,10 +7,9 @@ ghost use Rattle.kms_model.specs.Machine.Steps.{is_atomic, is_making, is_signal,
 ghost use Rattle.kms_core.specs.Next.{IsOutside};
 ghost use Rattle.kms_core.specs.Run.{machine};
 
-use crate::commands::command_of;
 use crate::machine::Core;
 use crate::reading::next_reply;
-use kms_model::{Command, Doing};
+use kms_model::{Command, Doing, command_of};
 
 impl Core {
     /// Whether the script has a client with a number.

@@ -22,17 +22,17 @@ ghost use Rattle.kms_core.specs.Run.{gains, if_ok, machine};
 ghost use Rattle.kms_core.specs.Swaps.{MayCommit};
 ghost use Rattle.kms_core.specs.Settled.{events_of, fences_for, fences_under, id_under, label_in, labels_in, next_after};
 
-use crate::commands::command_of;
 use crate::machine::Core;
 use crate::present::present_after;
 use crate::records::{answer, join, make_room, make_spare};
-use crate::swapping::{count_in, is_nonblock, wants_event};
+use crate::swapping::count_in;
 use kms_clients::Clients;
 use kms_logs::Log;
 use kms_model::{
-    Answered, Checked, Command, FIRST_CRTC_ID, Latch, MAX_CRTCS, NoMemory, ObjId, Reply, Request,
-    Resolved, Script, Seq, Step,
+    Answered, Checked, FIRST_CRTC_ID, Latch, MAX_CRTCS, NoMemory, ObjId, Reply, Request, Resolved,
+    Script, Seq, Step, request_of,
 };
+use kms_props::{is_nonblock, wants_event};
 use kms_signal::{EventQueue, Fences};
 use kms_tails::Tails;
 use kms_things::Things;
@@ -91,17 +91,6 @@ impl Core {
         leave(&mut self.clients, client, resolved.flags, commit);
         self.steps.push(Step::Swap { client });
         Ok(commit)
-    }
-}
-
-/// The request that is the command of a client with a number, both counted from 1, where there is one.
-fn request_of(script: &Script, client: u32, command: u32) -> Option<&Request>
-    ensures { option_copied result
-        ≡ request_in (command_of script.now (record { client = client; command = command })) }
-{
-    match command_of(script, client, command) {
-        Some(Command::Atomic(request)) => Some(request),
-        _ => None,
     }
 }
 

@@ -17,16 +17,15 @@ ghost use Rattle.kms_core.specs.Swaps.{HasAllStates};
 ghost use Rattle.kms_core.specs.Judging.{IsJudged, held_at, request_taken};
 ghost use Rattle.kms_core.specs.Run.{machine};
 
-use crate::commands::command_of;
 use crate::lookers::{Ever, Now};
 use crate::machine::Core;
 use crate::swapping::late_reply;
 use kms_clients::Clients;
 use kms_model::{
     Checked, Command, Doing, Kind, Mask, NoMemory, ObjId, Refusal, Reply, Request, Resolved,
-    Topology, has_bit,
+    Topology, command_of, has_bit,
 };
-use kms_props::AtomicFlags;
+use kms_props::is_test;
 use kms_request::{RequestError, changed, early, exists, full_check, reach, resolve, spans};
 use kms_track::{OBJECTS, has_object, object_at};
 use std::alloc::Global;
@@ -231,13 +230,6 @@ impl Judged {
     {
         !is_test && self.holds && self.late.is_none() && self.hindered.is_none() && self.ready
     }
-}
-
-/// Whether a request is only tested.
-pub(crate) fn is_test(flags: u32) -> bool
-    ensures { result ≡ is_test flags }
-{
-    AtomicFlags::of_request(flags).contains(AtomicFlags::TEST_ONLY)
 }
 
 /// Whether a client's context holds each object of a set.

@@ -3,7 +3,6 @@
 
 mod applying;
 mod client_steps;
-mod commands;
 mod committing;
 mod contexts;
 mod deciding;

@@ -11,11 +11,10 @@ ghost use Rattle.kms_things.specs.Made.{with_made};
 ghost use Rattle.kms_core.specs.Calls.{MayMake, MaySignal, fence_of, reply_at, with_fence_of};
 ghost use Rattle.kms_core.specs.Run.{Run, machine, gains, if_ok};
 
-use crate::commands::command_of;
 use crate::freeing::account;
 use crate::machine::Core;
 use crate::records::{answer, join, make_room};
-use kms_model::{Command, NoMemory, Reply, Step};
+use kms_model::{Command, NoMemory, Reply, Step, command_of};
 use kms_signal::Fences;
 use kms_things::Things;
 use std::alloc::Global;

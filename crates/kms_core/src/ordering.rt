@@ -4,9 +4,9 @@ ghost use Rattle.kms_model.specs.Order.Turns.{client_step};
 ghost use Rattle.kms_core.specs.Judging.{request_taken};
 ghost use Rattle.kms_core.specs.Run.{machine};
 
-use crate::judging::is_test;
 use crate::machine::Core;
 use kms_model::{Request, Step};
+use kms_props::is_test;
 
 impl Core {
     /// The next step of a client, given by its number from 1 to that of the clients, in the order of one thread: what decides

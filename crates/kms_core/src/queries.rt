@@ -16,9 +16,8 @@ ghost use Rattle.kms_freeing.specs.Freeing.{label_and_id};
 ghost use Rattle.kms_core.specs.Run.{machine};
 ghost use Rattle.kms_core.specs.Stands.{entry_pair};
 
-use crate::commands::command_of;
 use crate::machine::Core;
-use kms_model::{Answered, Command, Doing, Image, Latch, Place, Script, Step};
+use kms_model::{Answered, Command, Doing, Image, Latch, Place, Script, Step, command_of};
 
 impl Core {
     /// The script.

@@ -16,7 +16,7 @@ ghost use Rattle.kms_core.specs.Swaps.{IsReadyToCommit, MaySwap, MaySwapUnless, 
 use crate::deciding::{Decided, first_stale, taker};
 use crate::machine::Core;
 use kms_model::{Checked, Lookups, Mask, NoMemory, Reply, Resolved, Step, Ticket, has_bit};
-use kms_props::AtomicFlags;
+use kms_props::{is_nonblock, wants_event};
 use kms_signal::{EVENT_BYTES, EVENT_SPACE, EventQueue};
 use kms_track::Tracker;
 use std::alloc::Global;
@@ -88,20 +88,6 @@ impl Core {
         }
         Ok(None)
     }
-}
-
-/// Whether a request asks for events.
-pub(crate) fn wants_event(flags: u32) -> bool
-    ensures { result ≡ wants_event flags }
-{
-    AtomicFlags::of_request(flags).contains(AtomicFlags::PAGE_FLIP_EVENT)
-}
-
-/// Whether a request does not wait.
-pub(crate) fn is_nonblock(flags: u32) -> bool
-    ensures { result ≡ is_nonblock flags }
-{
-    AtomicFlags::of_request(flags).contains(AtomicFlags::NONBLOCK)
 }
 
 fn one_if(b: bool) -> u32

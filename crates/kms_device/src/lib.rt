@@ -7,7 +7,6 @@ mod contexts;
 mod decisions;
 mod device;
 mod kernel;
-mod naming;
 #[cfg(test)]
 mod tests;
 mod tries;
@@ -16,4 +15,3 @@ mod workers;
 pub use attempt::{Attempt, Attempted};
 pub use device::Device;
 pub use kernel::{Kernel, Pass};
-pub use naming::command_of;

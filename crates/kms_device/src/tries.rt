@@ -12,15 +12,14 @@ ghost use Rattle.kms_device.specs.Turns.{seen};
 use crate::attempt::{Attempt, Attempted};
 use crate::device::Device;
 use crate::kernel::Pass;
-use crate::naming::request_of;
 use kms_check::{Move, next_move};
 use kms_core::{Decided, Locked};
 use kms_io::{Gate, Point};
 use kms_model::{
     Checked, Doing, Duplicates, Lookups, NoMemory, ObjId, ObjState, Refusal, Request, Resolved,
-    Ticket,
+    Ticket, request_of,
 };
-use kms_props::AtomicFlags;
+use kms_props::is_test;
 use kms_state::Duplicating;
 use std::alloc::Global;
 use std::sync::Wait;
@@ -308,13 +307,6 @@ impl<'a> Work<'a> {
             states: self.states,
         }
     }
-}
-
-/// Whether a request is only tested.
-fn is_test(flags: u32) -> bool
-    ensures { result ≡ is_test flags }
-{
-    AtomicFlags::of_request(flags).contains(AtomicFlags::TEST_ONLY)
 }
 
 /// What comes of an answer to a lock of an object that was asked for, in a history of some length.

@@ -9,6 +9,7 @@ mod laws;
 mod layers;
 mod list;
 mod masks;
+mod numbered;
 mod objects;
 mod pictures;
 mod printing;
@@ -30,6 +31,7 @@ pub use laws::{execution_keeps_sound, start_is_sound};
 pub use layers::Layers;
 pub use list::Seq;
 pub use masks::has_bit;
+pub use numbered::{command_of, request_of};
 pub use objects::{
     FIRST_CONNECTOR_ID, FIRST_CRTC_ID, FIRST_ENCODER_ID, FIRST_PLANE_ID, FIRST_THING_ID, Format,
     Kind, MAX_CLIENTS, MAX_CONNECTORS, MAX_CRTCS, MAX_PLANES, Mode, ObjId, PlaneInfo, Ticket,

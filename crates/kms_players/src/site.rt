@@ -1,6 +1,6 @@
 //! What a client does in a turn.
 ghost use Rattle.std.specs.Prelude.{◌≡◌, [], Some, None, IfOk, OnErr, option_copied};
-ghost use Rattle.kms_model.specs.Device.Serial.{command_of, from_one};
+ghost use Rattle.kms_model.specs.Device.Serial.{command_of};
 ghost use Rattle.kms_model.specs.Machine.State.{request_in};
 ghost use Rattle.kms_pool.specs.declared.player.Turn.TheVariants.{Did};
 ghost use Rattle.kms_core.specs.Calls.{MayRead, MayReturn, idle_command_at};
@@ -12,7 +12,7 @@ ghost use Rattle.kms_players.specs.UnderWay.{IsAtDevice, IsUnderWay};
 
 use kms_device::{Attempt, Attempted, Device, Pass};
 use kms_io::{Gate, Point};
-use kms_model::{Command, Doing, NoMemory, Script};
+use kms_model::{Command, Doing, NoMemory, command_of};
 use kms_pool::Turn;
 use std::alloc::Global;
 use std::sync::Wait;
@@ -200,23 +200,4 @@ impl<'a, G: Gate> Site<'a, G> {
         self.gate.at(rt, Point::Answered, self.client, number);
         Turn::Did
     }
-}
-
-/// The command of a client with a number, both counted from 1, where there is one.
-fn command_of(script: &Script, client: u32, number: u32) -> Option<&Command>
-    ensures { option_copied result
-        ≡ command_of script.now (record { client = client; command = number }) }
-{
-    let commands = from_one(script.clients.as_slice(), client)?;
-    from_one(commands.as_slice(), number)
-}
-
-/// The item with a number, counted from 1, where there is one.
-fn from_one<T>(items: &[T], number: u32) -> Option<&T>
-    ensures { option_copied result ≡ from_one items.now number }
-{
-    if number == 0 {
-        return None;
-    }
-    items.get((number - 1) as usize)
 }

@@ -1,7 +1,7 @@
 //! The flags of an atomic request. (Header: `drm_mode.h`.)
 ghost use Rattle.std.specs.Prelude.{⊤, ◌≡◌, option_map};
 ghost use Rattle.kms_model.specs.Firsts.{number_if};
-ghost use Rattle.kms_model.specs.Request.Flags.{has_flag};
+ghost use Rattle.kms_model.specs.Request.Flags.{has_flag, is_nonblock, is_test, wants_event};
 ghost use Rattle.kms_model.specs.Device.Properties.{are_flags};
 ghost use Rattle.kms_model.specs.Device.Properties.{flags as flag_rows};
 ghost use Rattle.kms_props.specs.Flags.{bits_of};
@@ -70,4 +70,25 @@ pub fn from_bits(flags: u32) -> Option<AtomicFlags>
     ensures { option_map bits_of result ≡ number_if flags (are_flags flags) }
 {
     AtomicFlags::from_bits(flags)
+}
+
+/// Whether a request with these flags is only tested.
+pub fn is_test(flags: u32) -> bool
+    ensures { result ≡ is_test flags }
+{
+    AtomicFlags::of_request(flags).contains(AtomicFlags::TEST_ONLY)
+}
+
+/// Whether a request with these flags asks for events.
+pub fn wants_event(flags: u32) -> bool
+    ensures { result ≡ wants_event flags }
+{
+    AtomicFlags::of_request(flags).contains(AtomicFlags::PAGE_FLIP_EVENT)
+}
+
+/// Whether a request with these flags does not wait for its commit.
+pub fn is_nonblock(flags: u32) -> bool
+    ensures { result ≡ is_nonblock flags }
+{
+    AtomicFlags::of_request(flags).contains(AtomicFlags::NONBLOCK)
 }

@@ -1,6 +1,5 @@
 //! Whether a request is accepted, and what it leaves.
 ghost use Rattle.std.specs.Prelude.{◌≡◌, All, IfErr, IfOk, OnOk, None, Some};
-ghost use Rattle.kms_model.specs.Request.Flags.{is_test};
 ghost use Rattle.kms_model.specs.Request.Verdict.{verdict};
 ghost use Rattle.kms_model.specs.Request.Resolves.{IsSettable};
 ghost use Rattle.kms_request.specs.Whole.{StandBetween};
@@ -9,15 +8,7 @@ ghost use Rattle.kms_things.specs.Present.{IsAfter};
 
 use crate::store::WorldStore;
 use kms_model::{Duplicates, Refusal, Request, Topology};
-use kms_props::AtomicFlags;
 use kms_request::{changed, early, full_check};
-
-/// Whether a request is only tested.
-pub fn is_test(flags: u32) -> bool
-    ensures { result ≡ is_test flags }
-{
-    AtomicFlags::of_request(flags).contains(AtomicFlags::TEST_ONLY)
-}
 
 /// The states of all objects after a request, or its first refusal. They are the device's present states before.
 #[tactic(auto, unfolding(kms_model::specs::Request::Verdict::verdict))]

@@ -21,12 +21,13 @@ ghost use Rattle.kms_things.specs.Commands.{IsNoRequest};
 ghost use Rattle.kms_things.specs.Framebuffers.{framebuffer_entry};
 ghost use Rattle.kms_things.specs.Present.{IsPresent};
 
-use crate::requests::{check, is_test};
+use crate::requests::check;
 use crate::store::WorldStore;
 use kms_model::{
     Command, Duplicates, Image, Look, Mask, NoMemory, Picture, PlaneState, Reply, Request, Topology,
 };
 use kms_picture::picture;
+use kms_props::is_test;
 use kms_request::{Looker, changed, named_in, spans};
 use kms_state::Duplicating;
 use kms_things::{start_states, swapped};

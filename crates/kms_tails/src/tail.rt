@@ -14,9 +14,7 @@ use kms_model::{
     Both, Checked, CrtcState, Kind, MAX_CONNECTORS, MAX_CRTCS, MAX_PLANES, ObjId, PlaneState,
     Request,
 };
-
-/// The flag of a request for an event at each CRTC that it names. (Header: `drm_mode.h`, `DRM_MODE_PAGE_FLIP_EVENT`.)
-const PAGE_FLIP_EVENT: u32 = 0x1;
+use kms_props::wants_event;
 
 /// What the tail of a commit that is swapped in needs, and how far it has come. It takes a few kilobytes, in place.
 /// (Kernel: `struct drm_atomic_state`, `struct drm_crtc_commit`, `struct drm_pending_vblank_event`.)
@@ -49,7 +47,7 @@ impl Tail {
         Tail {
             client,
             user_data: request.user_data,
-            wants_event: request.flags & PAGE_FLIP_EVENT == PAGE_FLIP_EVENT,
+            wants_event: wants_event(request.flags),
             checked: *checked,
             out_fences,
             progress: Progress::none(),
