@@ -74,18 +74,18 @@ pub all_made : {A B : Type 0} (f : B → A) (done result : List A) (left : List 
 all_made f done result [] size all was none long same = same ∙ (sym (append-nil done) ∙ was)
 all_made f done result (y ∷ left) size all was none long same = absurd (omega (arith, none, long))
 
-module _ {G : Type 0} (d : DeviceState) where
+module _ (G : Type 0) (d : DeviceState) where
   -- whoever plays with a pass has its name
-  player_name : (p : DevicePass) → name_of (pass_of (player_of {G} d p)) ≡ name_of p
+  player_name : (p : DevicePass) → name_of (pass_of (player_of {G = G} d p)) ≡ name_of p
   player_name p = by (nat_le p.rank (length d.script.clients)) (nat_le p.rank (length d.script.clients + 4)) where
-    by : (a b : Bool) → name_of (pass_of (if a then client_of {G} d p else (if b then worker_of d p else tick_of d p))) ≡ name_of p
+    by : (a b : Bool) → name_of (pass_of (if a then client_of {G = G} d p else (if b then worker_of d p else tick_of d p))) ≡ name_of p
     by true b = refl
     by false true = refl
     by false false = refl
 
-  pub player_names : (ps : List DevicePass) → map (λ p. name_of (pass_of p)) (map (player_of {G} d) ps) ≡ map name_of ps
+  pub player_names : (ps : List DevicePass) → map (λ p. name_of (pass_of p)) (map (player_of {G = G} d) ps) ≡ map name_of ps
   player_names [] = refl
-  player_names (p ∷ ps) = ap (λ n. n ∷ map (λ p. name_of (pass_of p)) (map (player_of {G} d) ps)) (player_name p) ∙ ap (λ ns. name_of p ∷ ns) (player_names ps)
+  player_names (p ∷ ps) = ap (λ n. n ∷ map (λ p. name_of (pass_of p)) (map (player_of {G = G} d) ps)) (player_name p) ∙ ap (λ ns. name_of p ∷ ns) (player_names ps)
 
 -- an item that is done, and its like that is left no more, have one name
 done_next : {A B C : Type 0} (f : A → C) (g : B → C) (done : List A) (x : A) (y : B) (rest : List B)

@@ -22,7 +22,7 @@ players-requires-clause-seats g c =
 pub continued-requires-clause-all : goal.continued-requires-clause-all
 continued-requires-clause-all g c =
     all_back c.in_ok-device.device c.seats_for-seats.result c.in_ok-device.passes c.in_ok-passes.passes _ _ c.in_ok-device.ensures.seats
-    c.in_ok-device.ensures.passes (ap (map (λ p. name_of (pass_of p))) c.in_ok-players.ensures ∙ player_names c.in_ok-device.device c.in_ok-device.passes)
+    c.in_ok-device.ensures.passes (ap (map (λ p. name_of (pass_of p))) c.in_ok-players.ensures ∙ player_names _ c.in_ok-device.device c.in_ok-device.passes)
     c.in_ok-players-2.ensures.players c.in_ok-passes.ensures
 
 pub returns : goal.returns
