@@ -152,7 +152,7 @@ module _ (script : Script) (says : Run → Type 0) (p q : DevicePass) (kept : At
 
   -- what the rest did
   pub tried_first : {E : Type 0} (r : DevicePass) (result : Result (Attempted × Attempt) E) → Tried script q kept r result → Tried script p kept r result
-  tried_first r result is = tried_later script says p q r kept ready_first t result is
+  tried_first r result is = tried_later script says p q r kept ready_first t kept result is
 
 -- the place that was told
 pub place_told : (script : Script) (p q : DevicePass) (client : ℕ) (place : Place) → p.rank ≡ client → (t : Turn script (λ found. place ≡ place_at (machine found) client) [] p q) → place ≡ place_at (machine (seen script p)) client

@@ -20,7 +20,7 @@ attempt-requires-clause-serves g c = c.loop.invariant.serves
 pub returns-in_err-reply-clause-broken_off : goal.returns-in_err-reply-clause-broken_off
 returns-in_err-reply-clause-broken_off g c =
     on_err c.from_residual.result
-    (broken c.args.self.now.script c.args.client c.args.pass.now c.loop.pass c.attempt.new.pass c.loop.kept c.loop.invariant c.in_err-reply.ensures.no_step c.in_err-reply.ensures.may)
+    (broken c.args.self.now.script c.args.client c.args.pass.now c.loop.pass c.attempt.new.pass c.loop.kept c.loop.invariant c.in_err-reply.ensures.no_step c.in_err-reply.ensures.stays)
 
 pub returns-in-Answered-clause-committed : goal.returns-in-Answered-clause-committed
 returns-in-Answered-clause-committed g c =
