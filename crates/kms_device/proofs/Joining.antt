@@ -214,7 +214,7 @@ module _ (script : Script) (p m q : DevicePass) (kept : Attempt) (ready : IsRead
   abbrev Says : Run → Type 0
   Says found = told ≡ lookups (world found) request
 
-  pub takes_with : Takes script m ticket request
+  takes_with : Takes script m ticket request
   takes_with = takes_later script Says p m q kept ready t ticket request takes
 
   ready2 : IsReady script m kept
@@ -233,16 +233,19 @@ module _ (script : Script) (p m q : DevicePass) (kept : Attempt) (ready : IsRead
     told = told_then ∙ ap {B = List (ℕ × Look)} (λ s. lookups (world (record { script = s; steps = m.seen })) request) (sym same);
   }
 
-  pub ready_with : IsReady script m (with_looks told kept.states)
-  ready_with = record {
-    is_open = ready2.is_open;
-    may = ready2.may;
-    serves = record {
-      looks = λ looks is. subst (AreLookedUp (seen script m) m.rank) (told_in looks is) (looked_then (seen script m) m.rank refl (start_refl m.seen) takes_with.at);
-      states = ready2.serves.states;
-      fresh = ready2.serves.fresh;
-    };
-  }
+  pub ready_with : IsReady script m (with_looks told kept.states) × Takes script m ticket request
+  ready_with = (
+    record {
+      is_open = ready2.is_open;
+      may = ready2.may;
+      serves = record {
+        looks = λ looks is. subst (AreLookedUp (seen script m) m.rank) (told_in looks is) (looked_then (seen script m) m.rank refl (start_refl m.seen) takes_with.at);
+        states = ready2.serves.states;
+        fresh = ready2.serves.fresh;
+      };
+    },
+    takes_with,
+  )
     where
       told_in : (looks : List (ℕ × Look)) → Some told ≡ Some looks → told ≡ looks
       told_in looks e = cc

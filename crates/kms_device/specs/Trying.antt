@@ -21,6 +21,7 @@ use Rattle.kms_core.specs.Run.{machine}
 use Rattle.kms_device.specs.declared.attempt.Attempt.{Attempt}
 use Rattle.kms_device.specs.declared.attempt.Attempted.{Attempted}
 use Rattle.kms_device.specs.declared.attempt.Attempted.TheVariants as attempted
+use Rattle.kms_device.specs.declared.tries.Work.{Work}
 use Rattle.kms_device.specs.Attempts.{GoesOnAt, IsAttempt, MayAttempt, Serves, StaysAt, Went, new_attempt, taken_in}
 use Rattle.kms_device.specs.Turns.{DevicePass, IsOpen, Turn, seen}
 
@@ -37,6 +38,15 @@ pub record Takes (script : Script) (pass : DevicePass) (t : Ticket) (request : R
 
 abbrev pub with_looks : List (ℕ × Look) → Duplicates → Attempt
 with_looks looks states = record { looks = Some looks; states = states }
+
+-- what is kept of what a client works with
+abbrev pub kept_in : Work → Attempt
+kept_in work = with_looks work.looks work.states
+
+-- The client takes locks for the request in the context, and the look-ups and the states serve.
+pub record Works (script : Script) (pass : DevicePass) (work : Work) : Type 0 where
+  pub ready : IsReady script pass (kept_in work)
+  pub takes : Takes script pass work.t work.request.now
 
 -- What an attempt did and keeps: the next can be made with it.
 pub record DidAndKeeps (script : Script) (before : DevicePass) (kept : Attempt) (after : DevicePass) (did : Attempted) (keeps : Attempt) : Type 0 where

@@ -1,5 +1,6 @@
 //! A client's request, one step at a time, and whole.
-ghost use Rattle.std.specs.Prelude.{◌≡◌, [], IfOk, OnErr};
+ghost use Rattle.std.specs.Prelude.{◌≡◌, ℕ, [], IfOk, OnErr};
+ghost use Rattle.kms_core.specs.Run.{Run};
 ghost use Rattle.kms_device.specs.Attempts.{BrokenOff, Committed, GoesOnAt, IsAttempt, MayAttempt, Serves, StaysAt, Went, new_attempt};
 ghost use Rattle.kms_device.specs.Turns.{seen};
 
@@ -38,9 +39,10 @@ pub enum Attempted {
 }
 
 impl Attempt {
-    /// One that serves wherever a client stands.
+    /// One that serves wherever a client stands, in each history.
     pub fn new() -> Attempt
-        ensures { result ≡ new_attempt }
+        ensures anew { result ≡ new_attempt }
+        ensures serves { (r : Run) (client : ℕ) → Serves r client result }
     {
         Attempt {
             looks: None,

@@ -3,7 +3,7 @@ use Rattle.kms_device.proofs.CommitMade.{broken, made_all, made_more, made_none,
 use Rattle.kms_device.proofs.device.Device.commit.Goals as goal
 
 pub loop-init : goal.loop-init
-loop-init g c = made_none c.args.self.now.script c.args.client c.args.pass.now c.new-kept.result c.new-kept.ensures c.requires.may
+loop-init g c = made_none c.args.self.now.script c.args.client c.args.pass.now c.new-kept.result c.new-kept.ensures.anew c.requires.may
 
 pub attempt-requires-clause-own : goal.attempt-requires-clause-own
 attempt-requires-clause-own g c = c.loop.invariant.went.lock ∙ c.requires.own
