@@ -18,7 +18,7 @@ use Rattle.kms_model.specs.declared.states.ConnState.{ConnState}
 use Rattle.kms_model.specs.declared.states.Duplicates.{Duplicates}
 use Rattle.kms_model.specs.declared.worlds.Look.{Look}
 use Rattle.kms_model.specs.declared.worlds.World.{World}
-use Rattle.kms_model.specs.Device.Objects.{count_of, exists, index_of, kind_of, object_id}
+use Rattle.kms_model.specs.Device.Objects.{count_of, exists, first_id, index_of, kind_of, object_id}
 use Rattle.kms_model.specs.Device.Serial.{command_of}
 use Rattle.kms_model.specs.Machine.Commits.{has_number, lockable}
 use Rattle.kms_model.specs.Machine.Histories.{at, is_history, run_steps}
@@ -56,20 +56,20 @@ taking_from : (s : Script) (m : Machine) (client : ℕ) (test : Request → Bool
 taking_from s m client test r taking at passes = and_from (is_taking (doing_at m client)) _ taking (rw at passes)
 
 module _ (script : Script) (pass : DevicePass) (found : Run) (f : MayBeFound script pass found) where
-  formed : IsWellFormed script
+  pub formed : IsWellFormed script
   formed = subst IsWellFormed f.same f.is_open.formed
 
-  plain : IsPlainScript script
+  pub plain : IsPlainScript script
   plain = plain-from script formed
 
   pub seen-history : is_history script pass.seen ≡ true
   seen-history = legal-before script (first_machine script.topology) pass.seen f.history.begins.0 (subst (λ h. is_history script h ≡ true) f.history.begins.1 (history script pass found f))
 
-  abbrev Kept : ℕ → Type 0
+  abbrev pub Kept : ℕ → Type 0
   Kept object = Keeps script (at script pass.seen).device.world pass.rank object (machine found)
 
   -- an object that the client of the pass holds, and its state
-  kept : (object : ℕ) → holds (at script pass.seen) pass.rank object ≡ true → Kept object
+  pub kept : (object : ℕ) → holds (at script pass.seen) pass.rank object ≡ true → Kept object
   kept object held =
       stays-found script pass found f (Keeps script (at script pass.seen).device.world pass.rank object)
       (λ m x is others k. keeps_step script (at script pass.seen).device.world pass.rank object m x plain is others k)
@@ -82,7 +82,7 @@ module _ (script : Script) (pass : DevicePass) (found : Run) (f : MayBeFound scr
   pub held-found : (object : ℕ) → holds (at script pass.seen) pass.rank object ≡ true → holds (machine found) pass.rank object ≡ true
   held-found object held = holds-is (machine found) pass.rank object (kept object held).held
 
-  kind-is : (kind : Kind) (index : ℕ) → exists script.topology kind index ≡ true → kind_of (object_id kind index) ≡ kind
+  pub kind-is : (kind : Kind) (index : ℕ) → exists script.topology kind index ≡ true → kind_of (object_id kind index) ≡ kind
   kind-is kind index there =
       let few = few_of script.topology kind (few_objects script.topology plain.device) in
       let l = ltb-true index (count_of script.topology kind) there in kind_of-object kind index (omega (arith, few, l))
@@ -215,17 +215,22 @@ module _ (script : Script) (pass : DevicePass) (found : Run) (f : MayBeFound scr
       subst (λ (s : Script). reaches s.topology (world found) h.request id.0 ≡ true) (sym f.same)
       (subst (λ (m : Machine). reaches script.topology m.device.world h.request id.0 ≡ true) now there)
 
-  pub may_lock : (t : Ticket) (id : ObjId) → MayAskFor (seen script pass) pass.rank t id → MayLock found t id × IsTaking found pass.rank t
-  may_lock t id h =
-      let taking = ap (λ (p : Place). p.doing) (place-found script pass found f) ∙ h.taking in
-      let reach = reach-found t id h in (
+  -- an object that is in the reach of the request may be asked for
+  pub lock_found : (t : Ticket) (id : ObjId) (request : Request) → doing_at (at script pass.seen) pass.rank ≡ doing.Taking t → request_at script (at script pass.seen) pass.rank ≡ Some request
+      → first_id (kind_of id.0) ≤ id.0 → is_lockable script.topology (kind_of id.0) (index_of id.0) ≡ true → reaches found.script.topology (world found) request id.0 ≡ true
+      → MayLock found t id × IsTaking found pass.rank t
+  lock_found t id request was_taking at is_id lockable reach =
+      let taking = ap (λ (p : Place). p.doing) (place-found script pass found f) ∙ was_taking in (
         record {
           client = pass.rank;
           taking = taking;
-          is_id = h.is_id;
-          lockable = subst (λ (s : Script). is_lockable s.topology (kind_of id.0) (index_of id.0) ≡ true) (sym f.same) h.lockable;
-          reached = taking_from found.script (machine found) pass.rank (λ q. reaches found.script.topology (world found) q id.0) h.request (ap is_taking taking) (request-found ∙ h.at) reach;
+          is_id = is_id;
+          lockable = subst (λ (s : Script). is_lockable s.topology (kind_of id.0) (index_of id.0) ≡ true) (sym f.same) lockable;
+          reached = taking_from found.script (machine found) pass.rank (λ q. reaches found.script.topology (world found) q id.0) request (ap is_taking taking) (request-found ∙ at) reach;
           goes_on = going-found script pass found f;
         },
         taking,
       )
+
+  pub may_lock : (t : Ticket) (id : ObjId) → MayAskFor (seen script pass) pass.rank t id → MayLock found t id × IsTaking found pass.rank t
+  may_lock t id h = lock_found t id h.request h.taking h.at h.is_id h.lockable (reach-found t id h)
