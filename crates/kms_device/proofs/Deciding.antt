@@ -18,7 +18,7 @@ use Rattle.kms_model.specs.declared.states.ConnState.{ConnState}
 use Rattle.kms_model.specs.declared.states.Duplicates.{Duplicates}
 use Rattle.kms_model.specs.declared.worlds.Look.{Look}
 use Rattle.kms_model.specs.declared.worlds.World.{World}
-use Rattle.kms_model.specs.Device.Objects.{count_of, exists, first_id, index_of, kind_of, object_id}
+use Rattle.kms_model.specs.Device.Objects.{count_of, exists, index_of, kind_of, object_id}
 use Rattle.kms_model.specs.Device.Serial.{command_of}
 use Rattle.kms_model.specs.Machine.Commits.{has_number, lockable}
 use Rattle.kms_model.specs.Machine.Histories.{at, is_history, run_steps}
@@ -45,7 +45,7 @@ use Rattle.kms_core.specs.Decisions.{IsAccepted, IsDeciding, IsRefusedLate, MayR
 use Rattle.kms_core.specs.Locks.{IsTaking, MayLock}
 use Rattle.kms_core.specs.Run.{Run, machine}
 use Rattle.kms_core.specs.Swaps.{MaySwap}
-use Rattle.kms_device.specs.Asking.{AreOfLocks, HoldsEach, IsAcceptedWith, IsDecidingFor, IsRefusedWith, MayAskFor, MayBeRefused, MayBeSwapped, MayBeTested}
+use Rattle.kms_device.specs.Asking.{AreOfLocks, HoldsEach, IsAcceptedWith, IsDecidingFor, IsRefusedWith, MayAskFor, MayBeRefused, MayBeSwapped, MayBeTested, TakesLocks}
 use Rattle.kms_device.specs.Turns.{DevicePass, MayBeFound, seen}
 use Rattle.kms_device.proofs.Found.{going-found, history, place-found, stays-found}
 use Rattle.kms_device.proofs.Holding.{Keeps, holds-is, keeps_step}
@@ -199,7 +199,7 @@ module _ (script : Script) (pass : DevicePass) (found : Run) (f : MayBeFound scr
   }
 
   -- an object that the request touches wherever it was resolved and checked as it was is in its reach
-  reach-found : (t : Ticket) (id : ObjId) (h : MayAskFor (seen script pass) pass.rank t id) → reaches found.script.topology (world found) h.request id.0 ≡ true
+  reach-found : (t : Ticket) (id : ObjId) (h : MayAskFor (seen script pass) pass.rank t id) → reaches found.script.topology (world found) h.takes.request id.0 ≡ true
   reach-found t id h =
       let rest = f.history.begins.0 in
       let late = h.begins.0 ++ rest in
@@ -209,28 +209,26 @@ module _ (script : Script) (pass : DevicePass) (found : Run) (f : MayBeFound scr
       let now : run_steps script (at script h.early) late ≡ machine found = sym (run-append script first h.early late) ∙ (ap (at script) (sym all) ∙ ap (λ s. at s found.steps) (sym f.same)) in
       let own : AgreesOld script.topology (world found).things (world found).values h.duplicates
       = subst (λ (s : Script). AgreesOld s.topology (world found).things (world found).values h.duplicates) f.same (of_locks h.duplicates h.taken).old in
-      let asks = ask_within_reach script h.early plain (legal-before script first h.early late whole) late (legal-behind script first h.early late whole) h.request h.resolved h.duplicates h.asks
+      let asks = ask_within_reach script h.early plain (legal-before script first h.early late whole) late (legal-behind script first h.early late whole) h.takes.request h.resolved h.duplicates h.asks
       (subst (λ (m : Machine). AgreesOld script.topology m.device.world.things m.device.world.values h.duplicates) (sym now) own) in
       let there = asks.within id.0 (h.touched asks.world asks.of_request) in
-      subst (λ (s : Script). reaches s.topology (world found) h.request id.0 ≡ true) (sym f.same)
-      (subst (λ (m : Machine). reaches script.topology m.device.world h.request id.0 ≡ true) now there)
+      subst (λ (s : Script). reaches s.topology (world found) h.takes.request id.0 ≡ true) (sym f.same)
+      (subst (λ (m : Machine). reaches script.topology m.device.world h.takes.request id.0 ≡ true) now there)
 
   -- an object that is in the reach of the request may be asked for
-  pub lock_found : (t : Ticket) (id : ObjId) (request : Request) → doing_at (at script pass.seen) pass.rank ≡ doing.Taking t → request_at script (at script pass.seen) pass.rank ≡ Some request
-      → first_id (kind_of id.0) ≤ id.0 → is_lockable script.topology (kind_of id.0) (index_of id.0) ≡ true → reaches found.script.topology (world found) request id.0 ≡ true
-      → MayLock found t id × IsTaking found pass.rank t
-  lock_found t id request was_taking at is_id lockable reach =
-      let taking = ap (λ (p : Place). p.doing) (place-found script pass found f) ∙ was_taking in (
+  pub lock_found : (t : Ticket) (id : ObjId) (h : TakesLocks (seen script pass) pass.rank t id) → reaches found.script.topology (world found) h.request id.0 ≡ true → MayLock found t id × IsTaking found pass.rank t
+  lock_found t id h reach =
+      let taking = ap (λ (p : Place). p.doing) (place-found script pass found f) ∙ h.taking in (
         record {
           client = pass.rank;
           taking = taking;
-          is_id = is_id;
-          lockable = subst (λ (s : Script). is_lockable s.topology (kind_of id.0) (index_of id.0) ≡ true) (sym f.same) lockable;
-          reached = taking_from found.script (machine found) pass.rank (λ q. reaches found.script.topology (world found) q id.0) request (ap is_taking taking) (request-found ∙ at) reach;
+          is_id = h.is_id;
+          lockable = subst (λ (s : Script). is_lockable s.topology (kind_of id.0) (index_of id.0) ≡ true) (sym f.same) h.lockable;
+          reached = taking_from found.script (machine found) pass.rank (λ q. reaches found.script.topology (world found) q id.0) h.request (ap is_taking taking) (request-found ∙ h.at) reach;
           goes_on = going-found script pass found f;
         },
         taking,
       )
 
   pub may_lock : (t : Ticket) (id : ObjId) → MayAskFor (seen script pass) pass.rank t id → MayLock found t id × IsTaking found pass.rank t
-  may_lock t id h = lock_found t id h.request h.taking h.at h.is_id h.lockable (reach-found t id h)
+  may_lock t id h = lock_found t id h.takes (reach-found t id h)

@@ -109,13 +109,13 @@ module _ (script : Script) (pass : DevicePass) (found : Run) (f : MayBeFound scr
   V = (machine found).device.world
 
   abbrev Assigns : List Assign
-  Assigns = h.request.assigns
+  Assigns = h.takes.request.assigns
 
   abbrev Items : List Assign
   Items = reaching T W Assigns
 
   abbrev Q : Request
-  Q = record h.request { assigns = Items }
+  Q = record h.takes.request { assigns = Items }
 
   later : Holds script (machine found) × StayIn W.things V
   later =
@@ -212,26 +212,26 @@ module _ (script : Script) (pass : DevicePass) (found : Run) (f : MayBeFound scr
       by_routed : (k : Kind) → kind_of id.0 ≡ k → is_routed k ≡ true → is_lockable T k (id.0 - first_id k) ≡ exists T k (id.0 - first_id k) → sets Items id.0 ≡ false
           → is_affected T W.things W.values (after W Q) id.0 ≡ true → is_affected T V.things V.values (after V Q) id.0 ≡ true
       by_routed k e r same unset affected =
-          let lockable : is_lockable T k (id.0 - first_id k) ≡ true = subst (λ k. is_lockable T k (id.0 - first_id k) ≡ true) e h.lockable in
-          let low : first_id k ≤ id.0 = subst (λ k. first_id k ≤ id.0) e h.is_id in
+          let lockable : is_lockable T k (id.0 - first_id k) ≡ true = subst (λ k. is_lockable T k (id.0 - first_id k) ≡ true) e h.takes.lockable in
+          let low : first_id k ≤ id.0 = subst (λ k. first_id k ≤ id.0) e h.takes.is_id in
           let not_named : in_named_group T W Q id.0 ≡ false = ap (λ b. not b && names W.values (after W Q) Items id.0) (ap is_routed e ∙ r) in
-          affected_still T W V (formed script pass found f).device before.present.sound later.0.present.sound later.1 Items made fine h.request (routed (h.set unset)) k id.0 r
+          affected_still T W V (formed script pass found f).device before.present.sound later.0.present.sound later.1 Items made fine h.takes.request (routed (h.set unset)) k id.0 r
           (is_object k e lockable low (sym same ∙ lockable)) (states (h.set unset) (h.named unset not_named)) affected
 
       by_held : (k : Kind) → kind_of id.0 ≡ k → touches_of_kind k T W Q id.0 ≡ true → sets Items id.0 ≡ false → touches_of_kind k T V Q id.0 ≡ true
-      by_held kind.Crtc e is unset = sym (crtc_touched T W V (formed script pass found f).device before.present.sound later.0.present.sound later.1 Items made fine h.request (routed (h.set unset)) id.0) ∙ is
+      by_held kind.Crtc e is unset = sym (crtc_touched T W V (formed script pass found f).device before.present.sound later.0.present.sound later.1 Items made fine h.takes.request (routed (h.set unset)) id.0) ∙ is
       by_held kind.Plane e is unset = or_second (sets Items id.0) _ _ unset is (by_routed kind.Plane e refl refl unset)
       by_held kind.Conn e is unset = or_second (sets Items id.0) _ _ unset is (by_routed kind.Conn e refl refl unset)
       by_held kind.Enc e is unset = is
 
-  reach_still : reaches found.script.topology (world found) h.request id.0 ≡ true
+  reach_still : reaches found.script.topology (world found) h.takes.request id.0 ≡ true
   unfolding reaches touches
   reach_still =
-      subst (λ (s : Script). reaches s.topology V h.request id.0 ≡ true) (sym f.same)
-      (ap (λ items. touches_of_kind (kind_of id.0) T V (record h.request { assigns = items }) id.0) items_same ∙ still (kind_of id.0) refl touched)
+      subst (λ (s : Script). reaches s.topology V h.takes.request id.0 ≡ true) (sym f.same)
+      (ap (λ items. touches_of_kind (kind_of id.0) T V (record h.takes.request { assigns = items }) id.0) items_same ∙ still (kind_of id.0) refl touched)
 
   next_found : MayLock found t id × IsTaking found pass.rank t
-  next_found = lock_found script pass found f t id h.request h.taking h.at h.is_id h.lockable reach_still
+  next_found = lock_found script pass found f t id h.takes reach_still
 
 -- by either condition
 pub may_take : (script : Script) (pass : DevicePass) (found : Run) → MayBeFound script pass found → (t : Ticket) (id : ObjId) → MayTake (seen script pass) pass.rank t id → MayLock found t id × IsTaking found pass.rank t

@@ -73,39 +73,38 @@ HoldsGroup r client in_group =
 abbrev pub reaching_part : Run → Request → Request
 reaching_part r request = record request { assigns = reaching r.script.topology (world r) request.assigns }
 
--- A client takes locks for a request in the context of a ticket. Each label of the request is made, and the object is in its reach.
--- The context holds whole each group before the first that has the object: the objects that are set, the CRTCs that are named, and
--- the planes and connectors of CRTCs that need a modeset.
-pub record IsNextByGroups (r : Run) (client : ℕ) (t : Ticket) (id : ObjId) : Type 0 where
+-- a client takes locks for a request in the context of a ticket, and an object of the device has a lock
+pub record TakesLocks (r : Run) (client : ℕ) (t : Ticket) (id : ObjId) : Type 0 where
   pub request : Request
   pub taking : doing_at (machine r) client ≡ doing.Taking t
   pub at : request_at r.script (machine r) client ≡ Some request
   pub is_id : first_id (kind_of id.0) ≤ id.0
   pub lockable : is_lockable r.script.topology (kind_of id.0) (index_of id.0) ≡ true
-  pub made : All (λ a. IfSome (label_of a.value) (λ label. is_some (thing_labelled (world r).things label) ≡ true)) request.assigns
-  pub reached : reaches r.script.topology (world r) request id.0 ≡ true
-  pub set : in_set_group (reaching_part r request) id.0 ≡ false → HoldsGroup r client (in_set_group (reaching_part r request))
-  pub named :
-      in_set_group (reaching_part r request) id.0 ≡ false
-      → in_named_group r.script.topology (world r) (reaching_part r request) id.0 ≡ false
-      → HoldsGroup r client (in_named_group r.script.topology (world r) (reaching_part r request))
 
--- A client takes locks for a request in the context of a ticket. What the request asks for was resolved with what its labels
--- named after a beginning of the history, and duplicates are the states that the context's locks gave. Wherever that is so the
--- request touches the object, as a check tells.
+-- Each label of the client's request is made, and the object is in its reach. The context holds whole each group before the first
+-- that has the object. The groups are the objects that are set, the CRTCs that are named, and the planes and connectors of CRTCs
+-- that need a modeset.
+pub record IsNextByGroups (r : Run) (client : ℕ) (t : Ticket) (id : ObjId) : Type 0 where
+  pub takes : TakesLocks r client t id
+  pub made : All (λ a. IfSome (label_of a.value) (λ label. is_some (thing_labelled (world r).things label) ≡ true)) takes.request.assigns
+  pub reached : reaches r.script.topology (world r) takes.request id.0 ≡ true
+  pub set : in_set_group (reaching_part r takes.request) id.0 ≡ false → HoldsGroup r client (in_set_group (reaching_part r takes.request))
+  pub named :
+      in_set_group (reaching_part r takes.request) id.0 ≡ false
+      → in_named_group r.script.topology (world r) (reaching_part r takes.request) id.0 ≡ false
+      → HoldsGroup r client (in_named_group r.script.topology (world r) (reaching_part r takes.request))
+
+-- What the client's request asks for was resolved with what its labels named after a beginning of the history, and duplicates are the
+-- states that the context's locks gave. Wherever that is so the request touches the object, as a check tells.
 pub record MayAskFor (r : Run) (client : ℕ) (t : Ticket) (id : ObjId) : Type 0 where
-  pub request : Request
-  pub taking : doing_at (machine r) client ≡ doing.Taking t
-  pub at : request_at r.script (machine r) client ≡ Some request
-  pub is_id : first_id (kind_of id.0) ≤ id.0
-  pub lockable : is_lockable r.script.topology (kind_of id.0) (index_of id.0) ≡ true
+  pub takes : TakesLocks r client t id
   pub early : List Step
   pub begins : IsStart early r.steps
   pub resolved : Resolved
-  pub asks : IsResolved r.script.topology (look_up (world (record r { steps = early }))) request resolved
+  pub asks : IsResolved r.script.topology (look_up (world (record r { steps = early }))) takes.request resolved
   pub duplicates : Duplicates
   pub taken : AreOfLocks r client duplicates
-  pub touched : (w : World) → IsOfRequest r.script.topology w request resolved duplicates → touches r.script.topology w request id.0 ≡ true
+  pub touched : (w : World) → IsOfRequest r.script.topology w takes.request resolved duplicates → touches r.script.topology w takes.request id.0 ≡ true
 
 -- the object is next by the groups, or a check has asked for it
 abbrev pub MayTake : Run → ℕ → Ticket → ObjId → Type 0

@@ -96,8 +96,8 @@ step_of_move r client request (move.Accept checked resolved) =
     if is_test request.flags then step.Test client
     else (if is_some (late_reply r.script.topology (machine r) client request) then step.Refuse client else step.Swap client)
 
--- The look-ups that an attempt uses: those that were kept, or else ones made in it. These tell of a history that begins with `from`,
--- which the pass had seen before.
+-- The look-ups that an attempt uses: those that were kept, or else ones made in it. These tell of a history that begins with
+-- `from`, which the pass had seen before.
 pub record Uses (from : List Step) (r : Run) (client : ℕ) (kept : Option (List (ℕ × Look))) (used : List (ℕ × Look)) : Type 0 where
   pub looked : AreLookedUp r client used
   pub same : (looks : List (ℕ × Look)) → kept ≡ Some looks → used ≡ looks

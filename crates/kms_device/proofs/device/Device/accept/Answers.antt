@@ -17,7 +17,7 @@ returns-in_err-answer g c = tried_err _ _ _ _ c.from_residual.result c.from_resi
 pub returns-then-is_test : goal.returns-then-is_test
 returns-then-is_test g c =
     tested_so c.args.self.now.script c.args.pass.now c.args.work.t c.args.work.request.now c.args.work.looks c.args.work.states c.requires.works.ready c.requires.works.takes
-    c.test.new.pass c.conclude.new.pass c.in_ok-answer.answer c.conclude.result c.args.checked.now c.args.resolved.now c.requires.accepted (sym c.is_test.ensures ∙ c.if-is_test.true) c.in_ok-answer.ensures c.conclude.ensures.did c.conclude.ensures.vain
+    c.test.new.pass c.conclude.new.pass c.in_ok-answer.answer c.conclude.result c.conclude.ensures.did c.conclude.ensures.vain c.args.checked.now c.args.resolved.now c.requires.accepted (sym c.is_test.ensures ∙ c.if-is_test.true) c.in_ok-answer.ensures
 
 pub swap-requires-clause-may : goal.swap-requires-clause-may
 swap-requires-clause-may g c =
@@ -31,4 +31,4 @@ returns-in_err-answer-2 g c = tried_err _ _ _ _ c.from_residual-in_err-answer-2.
 pub returns : goal.returns
 returns g c =
     swapped_so c.args.self.now.script c.args.pass.now c.args.work.t c.args.work.request.now c.args.work.looks c.args.work.states c.requires.works.ready c.requires.works.takes
-    c.swap.new.pass c.conclude-2.new.pass c.in_ok-answer-2.answer c.conclude-2.result c.args.checked.now c.args.resolved.now c.requires.accepted (sym c.is_test.ensures ∙ c.if-is_test.false) c.in_ok-answer-2.ensures c.conclude-2.ensures.did c.conclude-2.ensures.vain
+    c.swap.new.pass c.conclude-2.new.pass c.in_ok-answer-2.answer c.conclude-2.result c.conclude-2.ensures.did c.conclude-2.ensures.vain c.args.checked.now c.args.resolved.now c.requires.accepted (sym c.is_test.ensures ∙ c.if-is_test.false) c.in_ok-answer-2.ensures

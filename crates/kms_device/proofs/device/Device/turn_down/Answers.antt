@@ -15,4 +15,4 @@ returns-in_err-answer g c = tried_err _ _ _ _ c.from_residual.result c.from_resi
 pub returns : goal.returns
 returns g c =
     refused_so c.args.self.now.script c.args.pass.now c.args.work.t c.args.work.request.now c.args.work.looks c.args.work.states c.requires.works.ready c.requires.works.takes
-    c.refuse.new.pass c.conclude.new.pass c.in_ok-answer.answer c.conclude.result c.args.why c.requires.refused c.in_ok-answer.ensures c.conclude.ensures.did c.conclude.ensures.vain
+    c.refuse.new.pass c.conclude.new.pass c.in_ok-answer.answer c.conclude.result c.conclude.ensures.did c.conclude.ensures.vain c.args.why c.requires.refused c.in_ok-answer.ensures
