@@ -1,11 +1,12 @@
 #!/bin/sh
 # Runs scripts by threads: bench/stress.sh PROGRAM [SECONDS]. For so many seconds, at most 60 (50 without the second word), it
-# takes generated scripts of random seeds and those of examples/ in turn, runs each with 1 to 16 threads, and gives the steps
+# takes scripts in turn: those of examples/, generated ones of random seeds with 100 commits and with 2000, and one whose clients
+# wait for a fence that the last of them signals after 3000 other commands. It runs each with 1 to 16 threads, and gives the steps
 # that the run tells to `replay`, whose report must be the same bytes and whose status the same. Prints how many runs and events
-# there were, the events a second by number of threads, and the differences; its status is 1 where there are any. No part of the
-# gate.
+# there were, by kind of script and by number of threads, with the events a second, the wall time, and the processor time of the
+# program and of the system; and the differences. Its status is 1 where there are any. No part of the gate.
 set -eu
-[ $# -ge 1 ] || { sed -n '2,6s/^# \{0,1\}//p' "$0" >&2; exit 2; }
+[ $# -ge 1 ] || { sed -n '2,7s/^# \{0,1\}//p' "$0" >&2; exit 2; }
 program=$1
 seconds=${2:-50}
 [ "$seconds" -le 60 ] || seconds=60
@@ -14,6 +15,21 @@ work=$(mktemp -d)
 trap 'rm -rf "$work"' EXIT
 end=$(($(date +%s) + seconds))
 differences=0
+
+# A script of sixteen clients: the first lights the CRTC and commits once more behind a fence, fourteen wait for events, and the
+# last signals the fence once it has made 3000 blobs.
+waiting() {
+    printf 'kms 1\ncrtcs 1\nplane primary 0 XR24\nconn 0\nclient\nbuffer b 1 1 XR24 solid 00616263\naddfb f b\n'
+    printf 'mode m 1 1 1 1 1 0 1 1 1 1 0 60 0 0 tiny\nfence n\natomic 0x400 0 crtc0.ACTIVE=1 crtc0.MODE_ID=@m'
+    printf ' conn0.CRTC_ID=crtc0 plane0.FB_ID=@f plane0.CRTC_ID=crtc0 plane0.CRTC_W=1 plane0.CRTC_H=1'
+    printf ' plane0.SRC_W=65536 plane0.SRC_H=65536\natomic 0x1 1 plane0.IN_FENCE_FD=@n\nwait\n'
+    for _ in 1 2 3 4 5 6 7 8 9 10 11 12 13 14; do
+        printf 'client\natomic 0x1 2 plane0.alpha=9 plane0.IN_FENCE_FD=@n\nwait\n'
+    done
+    echo client
+    seq 1 3000 | sed 's/.*/blob p& 00/'
+    echo 'signal n'
+}
 
 # The status of the program on a file, which writes another.
 status_of() {
@@ -24,40 +40,63 @@ status_of() {
     echo "$ended"
 }
 
-# One run of a script, given as a file and a name, with a number of threads.
+# The processor time in milliseconds that all programs so far have taken, their own and the system's.
+taken() {
+    times >"$work/times"
+    sed -n '2s/[ms]/ /gp' "$work/times" | awk '{ printf "%d %d\n", $1 * 60000 + $2 * 1000, $3 * 60000 + $4 * 1000 }'
+}
+
+# One run of a script, given as a kind, a file and a name, with a number of threads.
 one_run() {
+    before=$(taken)
     start=$(date +%s%N)
-    ran=$(status_of "$1" "$work/ran" run --threads "$3" --trace)
+    ran=$(status_of "$2" "$work/ran" run --threads "$4" --trace)
     took=$((($(date +%s%N) - start) / 1000))
-    { cat "$1"; echo schedule; grep '^T ' "$work/ran" || true; } >"$work/schedule"
+    after=$(taken)
+    { cat "$2"; echo schedule; grep '^T ' "$work/ran" || true; } >"$work/schedule"
     replayed=$(status_of "$work/schedule" "$work/replayed" replay --trace)
-    echo "$3 $(grep -c '^T ' "$work/ran" || true) $took" >>"$work/runs"
+    echo "$1 $4 $(grep -c '^T ' "$work/ran" || true) $took $before $after" >>"$work/runs"
     if [ "$ran" != "$replayed" ] || ! cmp -s "$work/ran" "$work/replayed"; then
         differences=$((differences + 1))
-        echo "differs: $2 with $3 threads: status $ran, replayed $replayed"
+        echo "differs: $3 with $4 threads: status $ran, replayed $replayed"
     fi
 }
 
+# A generated script with so many commits, and its run.
+generated() {
+    seed=$(od -An -N4 -tu4 /dev/urandom | tr -d ' ')
+    "$program" gen "$seed" "$2" >"$work/script"
+    one_run "$1" "$work/script" "gen $seed $2" "$3"
+}
+
+waiting >"$work/waiting"
 threads=0
 while [ "$(date +%s)" -lt "$end" ]; do
-    for example in "$top"/examples/*.kms "$top"/examples/kernel/*.kms generated; do
+    for script in "$top"/examples/*.kms "$top"/examples/kernel/*.kms generated waiting long; do
         [ "$(date +%s)" -lt "$end" ] || break
         threads=$((threads % 16 + 1))
-        name=$example script=$example
-        if [ "$example" = generated ]; then
-            seed=$(od -An -N4 -tu4 /dev/urandom | tr -d ' ')
-            name="gen $seed 100" script=$work/script
-            "$program" gen "$seed" 100 >"$script"
-        fi
-        one_run "$script" "$name" "$threads"
+        case $script in
+            generated) generated generated 100 "$threads" ;;
+            long) generated long 2000 "$threads" ;;
+            waiting) one_run waiting "$work/waiting" waiting "$threads" ;;
+            *) one_run example "$script" "$script" "$threads" ;;
+        esac
     done
 done
 awk -v differences="$differences" '
-    { runs[$1]++; events[$1] += $2; took[$1] += $3; all++; sum += $2 }
+    function told(name) {
+        printf "%s: %d runs, %d events, %.0f events a second, %.2f s wall, %.2f s user, %.2f s system\n", name, runs[name],
+            events[name], events[name] / (wall[name] / 1000000), wall[name] / 1000000, user[name] / 1000, system_time[name] / 1000
+    }
+    function count(name) {
+        runs[name]++; events[name] += $3; wall[name] += $4; user[name] += $7 - $5; system_time[name] += $8 - $6
+    }
+    { count($1); count($2 " threads"); count("all") }
     END {
         for (n = 1; n <= 16; n++)
-            if (runs[n])
-                printf "%2d threads: %d runs, %d events, %.0f events a second\n", n, runs[n], events[n], events[n] / (took[n] / 1000000)
-        printf "%d runs, %d events, %d differences\n", all, sum, differences
+            if (runs[n " threads"]) told(n " threads")
+        for (kind in runs) if (kind !~ /threads|all/) told(kind)
+        told("all")
+        printf "%d differences\n", differences
     }' "$work/runs"
 [ "$differences" -eq 0 ]

@@ -1,9 +1,11 @@
 -- A commit of several attempts.
-use Rattle.std.proofs.Common.{◌≡◌, ◌≢◌, ℕ, List, [], ◌∷◌, ◌++◌, Result, Ok, Err, refl, sym, ◌∙◌, subst, inl, inr}
+use Rattle.std.proofs.Common.{◌≡◌, ◌≢◌, ℕ, List, [], ◌∷◌, ◌++◌, Result, Ok, Err, refl, sym, ap, ◌∙◌, subst, inl, inr}
 use Rattle.std.specs.Prelude.{OnErr}
 use Rattle.kms_model.specs.declared.replies.Reply.{Reply}
 use Rattle.kms_model.specs.declared.replies.Step.{Step}
+use Rattle.kms_model.specs.declared.runs.Place.{Place}
 use Rattle.kms_model.specs.declared.scripts.Script.{Script}
+use Rattle.kms_model.specs.Machine.Steps.{returning_of}
 use Rattle.kms_core.specs.Run.{machine}
 use Rattle.kms_device.specs.declared.attempt.Attempt.{Attempt}
 use Rattle.kms_device.specs.declared.attempt.Attempted.{Attempted}
@@ -12,6 +14,7 @@ use Rattle.kms_device.specs.Attempts.{BrokenOff, Committed, GoesOnAt, IsAttempt,
 use Rattle.kms_device.specs.Committing.{GoesOnWith}
 use Rattle.kms_device.specs.Turns.{DevicePass, seen}
 use Rattle.kms_device.proofs.Serving.{serves_new}
+use Rattle.kms_device.proofs.Stepping.{may_again}
 use Rattle.kms_device.proofs.Went.{went_before, went_both, went_not}
 
 pub on_err : {A E P : Type 0} (r : Result A E) → P → OnErr r P
@@ -51,11 +54,19 @@ module _ (script : Script) (client : ℕ) (p m q : DevicePass) (kept : Attempt) 
   pub made_all : (did : Attempted) (keeps : Attempt) (r : Reply) → did ≡ attempted.Answered r → IsAttempt script client m kept q keeps did → Committed script client r p q
   made_all did keeps r is_reply is =
       let by = subst (IsAttempt script client m kept q keeps) is_reply is in record {
-        steps = on.steps ++ by.stepped.next ∷ [];
+        steps = on.steps;
+        last = by.stepped.next;
         went = went_both on.steps (by.stepped.next ∷ []) p m q on.went by.stepped.went;
+        found = by.stepped.found;
+        same = by.stepped.finds.same;
+        left = by.stepped.left;
+        stays = record {
+          may = may_again (seen script m) by.stepped.found client by.stepped.finds.same (ap (λ (x : Place). x.command) by.stepped.finds.place) (ap (λ (x : Place). returning_of x.doing) by.stepped.finds.place ∙ on.stays.may.awake) on.stays.may;
+          command = ap (λ (x : Place). x.command) by.stepped.finds.place ∙ on.stays.command;
+        };
         records = subst (λ n. Records (machine (seen script q)) client n r) on.stays.command by.records;
       }
 
   -- no memory
-  pub broken : Went [] m q → MayAttempt (seen script q) client → BrokenOff script client p q
-  broken went may = record { steps = on.steps; went = went_before on.steps p m q on.went went; again = may }
+  pub broken : Went [] m q → StaysAt (seen script m) (seen script q) client → BrokenOff script client p q
+  broken went stays = record { steps = on.steps; went = went_before on.steps p m q on.went went; again = record { may = stays.may; command = stays.command ∙ on.stays.command } }

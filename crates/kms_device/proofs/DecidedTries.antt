@@ -12,6 +12,8 @@ use Rattle.kms_model.specs.Machine.Effects.{answers, decided, drops_locks, goes_
 use Rattle.kms_model.specs.Machine.State.{Machine, place_at, request_at}
 use Rattle.kms_model.specs.Request.Flags.{is_nonblock, wants_event}
 use Rattle.kms_model.specs.Request.Lookups.{look_up, lookups}
+use Rattle.kms_check.specs.declared.moving.Move.{Move}
+use Rattle.kms_check.specs.Moves.{IsMove}
 use Rattle.kms_core.specs.Calls.{answered}
 use Rattle.kms_core.specs.Decisions.{IsDecided, world}
 use Rattle.kms_core.specs.declared.deciding.Decided.{Decided}
@@ -19,15 +21,15 @@ use Rattle.kms_core.specs.declared.deciding.Decided.TheVariants as answer
 use Rattle.kms_core.specs.Run.{Run, machine}
 use Rattle.kms_device.specs.declared.attempt.Attempt.{Attempt}
 use Rattle.kms_device.specs.declared.attempt.Attempted.TheVariants as attempted
-use Rattle.kms_device.specs.Attempts.{AreLookedUp, ComesNext, MayAttempt, Records, Serves, new_attempt}
+use Rattle.kms_device.specs.Attempts.{ComesNext, MayAttempt, Records, Serves, is_lock, new_attempt}
 use Rattle.kms_device.specs.Steps.{owner}
 use Rattle.kms_device.specs.Trying.{DidAndKeeps, DidNothing, IsReady}
 use Rattle.kms_device.specs.Turns.{DevicePass, Turn, seen}
 use Rattle.kms_device.proofs.Deciding.{request-found}
 use Rattle.kms_device.proofs.Stepping.{found-is, next-after, rank-after, seen-after, start_refl}
 use Rattle.kms_device.proofs.Serving.{serves_new}
-use Rattle.kms_device.proofs.TakingTries.{TakesFor, some_in}
-use Rattle.kms_device.proofs.TurnsTried.{command-after, command-found, may_after, ready_after, serves_after, stepped, went_on}
+use Rattle.kms_device.proofs.TakingTries.{TakesFor, asks_found, some_in}
+use Rattle.kms_device.proofs.TurnsTried.{command-after, command-found, finds_request, may_after, ready_after, serves_after, stepped, went_on}
 use Rattle.kms_device.proofs.Went.{went_later}
 
 -- What is recorded
@@ -71,11 +73,11 @@ stale_one now (l ∷ ls) label was current decision (inr other) = (0, l, omega a
 
 module _ (script : Script) (p m : DevicePass) (kept : Attempt) (ticket : Ticket) (request : Request) (used : List (ℕ × Look)) (c : TakesFor script p kept ticket request used) where
   -- the step that comes next was made, and recorded a reply
-  pub answered_by : (says : Run → Type 0) (x : Step) (own : owner x ≡ p.rank) (t : Turn script says (x ∷ []) p m) (r : Reply) → ComesNext t.found p.rank kept x
+  pub answered_by : (says : Run → Type 0) (x : Step) (own : owner x ≡ p.rank) (t : Turn script says (x ∷ []) p m) (r : Reply) → ComesNext p.seen t.found p.rank kept used x
       → Records (next script (machine t.found) x) p.rank (place_at (machine t.found) p.rank).command r → DidAndKeeps script p kept m (attempted.Answered r) new_attempt
   answered_by says x own t r comes records = record {
     is_attempt = record {
-      stepped = stepped script says p m kept c.ready x own t comes;
+      stepped = stepped script says p m kept c.ready x own t used comes;
       records = record {
         place = records.place;
         before = records.before;
@@ -119,16 +121,16 @@ module _ (script : Script) (p m : DevicePass) (kept : Attempt) (ticket : Ticket)
     serves2 : Serves (seen script q) p.rank kept
     serves2 = subst (λ n. Serves (seen script q) n kept) rank (serves_after script Says2 m q kept ready2 t2)
 
-    pub looked_again : (label : ℕ) (was current : Look) (decision : Decided) → IsDecided (look_up (world t.found)) used decision (answer.Again label was current) → DidAndKeeps script p kept q attempted.Did (record kept { looks = Some told })
-    looked_again label was current decision is_stale = record {
+    pub looked_again : (asks : Move) → IsMove script.topology request used kept.states asks → is_lock asks ≡ false → (label : ℕ) (was current : Look) (decision : Decided) → IsDecided (look_up (world t.found)) used decision (answer.Again label was current) → DidAndKeeps script p kept q attempted.Did (record kept { looks = Some told })
+    looked_again asks is_move no_lock label was current decision is_stale = record {
       is_attempt = inr (inr (record {
         went = went_later [] p m q (went_on script says p m kept c.ready t) (went_on script Says2 m q kept ready2 t2);
         found = t.found;
-        same = t.finds.same;
+        finds = finds_request script says [] p m t;
         begins = (t2.finds.history.begins.0, seen-after script Says2 [] m q t2 ∙ (append-nil t2.found.steps ∙ (t2.finds.history.begins.1 ∙ ap (λ xs. xs ++ t2.finds.history.begins.0) (seen-after script says [] p m t ∙ append-nil t.found.steps))));
         used = used;
-        looked = subst (λ r. AreLookedUp r p.rank used) (found-is script says p m t) ((serves_after script says p m kept c.ready t).looks used c.has);
-        kept = λ looks is. some_in used looks (sym c.has ∙ is);
+        move = asks_found script p m kept ticket request used c says [] t asks is_move;
+        decides = no_lock;
         stale = stale_one (look_up (world t.found)) used label was current decision is_stale;
         request = request;
         at = at2;
@@ -148,5 +150,10 @@ pub in_vain : (script : Script) (says says2 : Run → Type 0) (p m q : DevicePas
 in_vain script says says2 p m q kept ready t t2 =
     let ready2 : IsReady script m kept = ready_after script says p m kept ready t in record {
       went = went_later [] p m q (went_on script says p m kept ready t) (went_on script says2 m q kept ready2 t2);
-      may = subst (MayAttempt (seen script q)) (rank-after script says [] p m t) (may_after script says2 m q kept ready2 t2);
+      stays = record {
+        may = subst (MayAttempt (seen script q)) (rank-after script says [] p m t) (may_after script says2 m q kept ready2 t2);
+        command =
+            subst (λ n. (place_at (machine (seen script q)) n).command ≡ (place_at (machine (seen script m)) n).command) (rank-after script says [] p m t) (command-after script says2 m q kept ready2 t2)
+            ∙ command-after script says p m kept ready t;
+      };
     }

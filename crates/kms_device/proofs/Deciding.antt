@@ -45,7 +45,7 @@ use Rattle.kms_core.specs.Decisions.{IsAccepted, IsDeciding, IsRefusedLate, MayR
 use Rattle.kms_core.specs.Locks.{IsTaking, MayLock}
 use Rattle.kms_core.specs.Run.{Run, machine}
 use Rattle.kms_core.specs.Swaps.{MaySwap}
-use Rattle.kms_device.specs.Asking.{AreOfLocks, HoldsEach, IsAcceptedWith, IsDecidingFor, IsRefusedWith, MayAskFor, MayBeRefused, MayBeSwapped, MayBeTested}
+use Rattle.kms_device.specs.Asking.{AreOfLocks, HoldsEach, IsAcceptedWith, IsDecidingFor, IsRefusedWith, MayAskFor, MayBeRefused, MayBeSwapped, MayBeTested, TakesLocks}
 use Rattle.kms_device.specs.Turns.{DevicePass, MayBeFound, seen}
 use Rattle.kms_device.proofs.Found.{going-found, history, place-found, stays-found}
 use Rattle.kms_device.proofs.Holding.{Keeps, holds-is, keeps_step}
@@ -56,20 +56,20 @@ taking_from : (s : Script) (m : Machine) (client : ℕ) (test : Request → Bool
 taking_from s m client test r taking at passes = and_from (is_taking (doing_at m client)) _ taking (rw at passes)
 
 module _ (script : Script) (pass : DevicePass) (found : Run) (f : MayBeFound script pass found) where
-  formed : IsWellFormed script
+  pub formed : IsWellFormed script
   formed = subst IsWellFormed f.same f.is_open.formed
 
-  plain : IsPlainScript script
+  pub plain : IsPlainScript script
   plain = plain-from script formed
 
   pub seen-history : is_history script pass.seen ≡ true
   seen-history = legal-before script (first_machine script.topology) pass.seen f.history.begins.0 (subst (λ h. is_history script h ≡ true) f.history.begins.1 (history script pass found f))
 
-  abbrev Kept : ℕ → Type 0
+  abbrev pub Kept : ℕ → Type 0
   Kept object = Keeps script (at script pass.seen).device.world pass.rank object (machine found)
 
   -- an object that the client of the pass holds, and its state
-  kept : (object : ℕ) → holds (at script pass.seen) pass.rank object ≡ true → Kept object
+  pub kept : (object : ℕ) → holds (at script pass.seen) pass.rank object ≡ true → Kept object
   kept object held =
       stays-found script pass found f (Keeps script (at script pass.seen).device.world pass.rank object)
       (λ m x is others k. keeps_step script (at script pass.seen).device.world pass.rank object m x plain is others k)
@@ -82,7 +82,7 @@ module _ (script : Script) (pass : DevicePass) (found : Run) (f : MayBeFound scr
   pub held-found : (object : ℕ) → holds (at script pass.seen) pass.rank object ≡ true → holds (machine found) pass.rank object ≡ true
   held-found object held = holds-is (machine found) pass.rank object (kept object held).held
 
-  kind-is : (kind : Kind) (index : ℕ) → exists script.topology kind index ≡ true → kind_of (object_id kind index) ≡ kind
+  pub kind-is : (kind : Kind) (index : ℕ) → exists script.topology kind index ≡ true → kind_of (object_id kind index) ≡ kind
   kind-is kind index there =
       let few = few_of script.topology kind (few_objects script.topology plain.device) in
       let l = ltb-true index (count_of script.topology kind) there in kind_of-object kind index (omega (arith, few, l))
@@ -199,7 +199,7 @@ module _ (script : Script) (pass : DevicePass) (found : Run) (f : MayBeFound scr
   }
 
   -- an object that the request touches wherever it was resolved and checked as it was is in its reach
-  reach-found : (t : Ticket) (id : ObjId) (h : MayAskFor (seen script pass) pass.rank t id) → reaches found.script.topology (world found) h.request id.0 ≡ true
+  reach-found : (t : Ticket) (id : ObjId) (h : MayAskFor (seen script pass) pass.rank t id) → reaches found.script.topology (world found) h.takes.request id.0 ≡ true
   reach-found t id h =
       let rest = f.history.begins.0 in
       let late = h.begins.0 ++ rest in
@@ -209,16 +209,16 @@ module _ (script : Script) (pass : DevicePass) (found : Run) (f : MayBeFound scr
       let now : run_steps script (at script h.early) late ≡ machine found = sym (run-append script first h.early late) ∙ (ap (at script) (sym all) ∙ ap (λ s. at s found.steps) (sym f.same)) in
       let own : AgreesOld script.topology (world found).things (world found).values h.duplicates
       = subst (λ (s : Script). AgreesOld s.topology (world found).things (world found).values h.duplicates) f.same (of_locks h.duplicates h.taken).old in
-      let asks = ask_within_reach script h.early plain (legal-before script first h.early late whole) late (legal-behind script first h.early late whole) h.request h.resolved h.duplicates h.asks
+      let asks = ask_within_reach script h.early plain (legal-before script first h.early late whole) late (legal-behind script first h.early late whole) h.takes.request h.resolved h.duplicates h.asks
       (subst (λ (m : Machine). AgreesOld script.topology m.device.world.things m.device.world.values h.duplicates) (sym now) own) in
       let there = asks.within id.0 (h.touched asks.world asks.of_request) in
-      subst (λ (s : Script). reaches s.topology (world found) h.request id.0 ≡ true) (sym f.same)
-      (subst (λ (m : Machine). reaches script.topology m.device.world h.request id.0 ≡ true) now there)
+      subst (λ (s : Script). reaches s.topology (world found) h.takes.request id.0 ≡ true) (sym f.same)
+      (subst (λ (m : Machine). reaches script.topology m.device.world h.takes.request id.0 ≡ true) now there)
 
-  pub may_lock : (t : Ticket) (id : ObjId) → MayAskFor (seen script pass) pass.rank t id → MayLock found t id × IsTaking found pass.rank t
-  may_lock t id h =
-      let taking = ap (λ (p : Place). p.doing) (place-found script pass found f) ∙ h.taking in
-      let reach = reach-found t id h in (
+  -- an object that is in the reach of the request may be asked for
+  pub lock_found : (t : Ticket) (id : ObjId) (h : TakesLocks (seen script pass) pass.rank t id) → reaches found.script.topology (world found) h.request id.0 ≡ true → MayLock found t id × IsTaking found pass.rank t
+  lock_found t id h reach =
+      let taking = ap (λ (p : Place). p.doing) (place-found script pass found f) ∙ h.taking in (
         record {
           client = pass.rank;
           taking = taking;
@@ -229,3 +229,6 @@ module _ (script : Script) (pass : DevicePass) (found : Run) (f : MayBeFound scr
         },
         taking,
       )
+
+  pub may_lock : (t : Ticket) (id : ObjId) → MayAskFor (seen script pass) pass.rank t id → MayLock found t id × IsTaking found pass.rank t
+  may_lock t id h = lock_found t id h.takes (reach-found t id h)

@@ -1,6 +1,7 @@
 -- What came of an attempt whose turn made a call that decides the request.
-use Rattle.std.proofs.Common.{◌≡◌, ℕ, List, [], ◌∷◌, length, Bool, true, false, is_some, Option, Some, None, refl, sym, ap, ◌∙◌, subst}
+use Rattle.std.proofs.Common.{◌≡◌, ℕ, List, [], ◌∷◌, length, Bool, true, false, is_some, Option, Some, None, refl, sym, ap, ◌∙◌, subst, All, inl, inr}
 use Rattle.std.specs.Prelude.{⊤, not, ◌&&◌, if◌then◌else◌}
+use Rattle.std.proofs.lemmas.List.Elements.{All-cons, All-nil}
 use Rattle.std.proofs.lemmas.Bool.{and_parts}
 use Rattle.kms_model.specs.declared.objects.ObjId.{ObjId}
 use Rattle.kms_model.specs.declared.objects.Ticket.{Ticket}
@@ -28,7 +29,7 @@ use Rattle.kms_track.specs.InStep.{awaited_answer, awaited_commit, pending_pair}
 use Rattle.kms_track.specs.Told.{not_marked}
 use Rattle.kms_check.specs.declared.moving.Move.{Move}
 use Rattle.kms_check.specs.declared.moving.Move.TheVariants as move
-use Rattle.kms_check.specs.Moves.{AcceptedAs, RefusedBy}
+use Rattle.kms_check.specs.Moves.{AcceptedAs, IsMove, RefusedBy}
 use Rattle.kms_core.specs.declared.deciding.Decided.{Decided}
 use Rattle.kms_core.specs.declared.deciding.Decided.TheVariants as answer
 use Rattle.kms_core.specs.Decisions.{Decides, IsDecided, steps_of, world}
@@ -40,7 +41,7 @@ use Rattle.kms_core.proofs.Verdicts.{refuses}
 use Rattle.kms_device.specs.declared.attempt.Attempt.{Attempt}
 use Rattle.kms_device.specs.declared.attempt.Attempted.{Attempted}
 use Rattle.kms_device.specs.declared.attempt.Attempted.TheVariants as attempted
-use Rattle.kms_device.specs.Attempts.{ComesNext, Records, new_attempt, step_of_move}
+use Rattle.kms_device.specs.Attempts.{ComesNext, Records, WaitsAt, is_lock, new_attempt, step_of_move}
 use Rattle.kms_device.specs.Asking.{MayBeRefused, MayBeSwapped}
 use Rattle.kms_device.specs.Steps.{owner}
 use Rattle.kms_device.specs.Trying.{Concludes, DidAndKeeps, DidNothing, IsTold, LooksAnew, LooksInVain}
@@ -50,7 +51,7 @@ use Rattle.kms_device.proofs.Deciding.{may_refuse, request-found, the_taker}
 use Rattle.kms_device.proofs.DecidedTries.{answered_by, in_vain, looked_again, recorded, swap_recorded}
 use Rattle.kms_device.proofs.Moved.{may_refuse_by, may_swap_by}
 use Rattle.kms_device.proofs.Stepping.{found-is}
-use Rattle.kms_device.proofs.TakingTries.{TakesFor, comes_after, comes_found}
+use Rattle.kms_device.proofs.TakingTries.{TakesFor, comes_found, waits_found}
 use Rattle.kms_device.proofs.TurnsTried.{waits_for}
 
 -- What a swap's answer tells
@@ -118,6 +119,12 @@ no_swap s m client r stands not_yet =
     (taking_no s m client (may_swap s.topology m client) r stands
     (and_no (not (is_test r.flags)) _ (and_no (holds_touched s.topology m client r) _ (and_no (is_accepted_at s.topology m r) _ (and_no (not (is_refused_late s.topology m client r)) _ not_yet)))))
 
+-- look-ups of which none is old, where a swap is told to wait
+all_fresh : (now : ℕ → Look) (used : List (ℕ × Look)) (object : ObjId) (commit : ℕ) (decision : Decided) → IsDecided now used decision (answer.NotYet object commit) → All (λ told. told.1 ≡ now told.0) used
+all_fresh now [] object commit decision is = All-nil (λ told. told.1 ≡ now told.0)
+all_fresh now (l ∷ ls) object commit decision (inl same, told) = All-cons (λ told. told.1 ≡ now told.0) l ls same.0 (all_fresh now ls object commit decision (same.1, told))
+all_fresh now (l ∷ ls) object commit decision (inr other, told) = absurd cc
+
 -- What was told stands
 
 as_told : (script : Script) (p : DevicePass) (kept : Attempt) (m q : DevicePass) (told did : Attempted) (given keeps : Attempt) → IsTold m q did told keeps given → DidAndKeeps script p kept m told given → DidAndKeeps script p kept q did keeps
@@ -127,7 +134,7 @@ as_told script p kept m q told did given keeps is did_so =
 
 module _ (script : Script) (p m q : DevicePass) (kept : Attempt) (ticket : Ticket) (request : Request) (used : List (ℕ × Look)) (c : TakesFor script p kept ticket request used) (did : Attempted) (keeps : Attempt) where
   -- a decision with a reply, by the lemma of the core
-  by_decision : (says : Run → Type 0) (x : Step) (own : owner x ≡ p.rank) (t : Turn script says (x ∷ []) p m) (r : Reply) → ComesNext t.found p.rank kept x → next script (machine t.found) x ≡ decided (machine t.found) p.rank r
+  by_decision : (says : Run → Type 0) (x : Step) (own : owner x ≡ p.rank) (t : Turn script says (x ∷ []) p m) (r : Reply) → ComesNext p.seen t.found p.rank kept used x → next script (machine t.found) x ≡ decided (machine t.found) p.rank r
       → IsTold m q did (attempted.Answered r) keeps new_attempt → DidAndKeeps script p kept q did keeps
   by_decision says x own t r comes does told =
       as_told script p kept m q (attempted.Answered r) did new_attempt keeps told
@@ -135,12 +142,12 @@ module _ (script : Script) (p m q : DevicePass) (kept : Attempt) (ticket : Ticke
       (subst (λ (z : Machine). Records z p.rank (place_at (machine t.found) p.rank).command r) (sym does) (recorded (machine t.found) p.rank r)))
 
   -- look-ups that grew old
-  again : (says : Run → Type 0) (t : Turn script says [] p m) (label : ℕ) (was now : Look) (decision : Decided) → IsDecided (look_up (world t.found)) used decision (answer.Again label was now)
+  again : (asks : Move) → IsMove script.topology request used kept.states asks → is_lock asks ≡ false → (says : Run → Type 0) (t : Turn script says [] p m) (label : ℕ) (was now : Look) (decision : Decided) → IsDecided (look_up (world t.found)) used decision (answer.Again label was now)
       → LooksAnew script request kept m q did keeps → DidAndKeeps script p kept q did keeps
-  again says t label was now decision stale anew =
+  again asks is_move no_lock says t label was now decision stale anew =
       subst (λ x. DidAndKeeps script p kept q x keeps) (sym anew.did_is)
       (subst (λ x. DidAndKeeps script p kept q attempted.Did x) (sym anew.keeps_is)
-      (looked_again script p m kept ticket request used c q says t anew.told anew.turn label was now decision stale))
+      (looked_again script p m kept ticket request used c q says t anew.told anew.turn asks is_move no_lock label was now decision stale))
 
   -- `refuse`
   module _ (why : Refusal) (refused : RefusedBy script.topology request used kept.states why) where
@@ -148,7 +155,7 @@ module _ (script : Script) (p m q : DevicePass) (kept : Attempt) (ticket : Ticke
         → Concludes script request kept m a q did keeps → DidAndKeeps script p kept q did keeps
     refuses_so (answer.Done r) t told =
         by_decision (λ found. IsDecided (look_up (world found)) used (answer.Done (reply.Refused why)) (answer.Done r)) (step.Refuse p.rank) refl t r
-        (comes_found script p m kept ticket request used c _ (move.Refuse why) (step.Refuse p.rank) refl t refused)
+        (comes_found script p m kept ticket request used c _ (step.Refuse p.rank ∷ []) t (move.Refuse why) refused)
         (ap (λ s. next s (machine t.found) (step.Refuse p.rank)) (sym t.finds.same) ∙ (does ∙ ap (decided (machine t.found) p.rank) (sym same))) told
       where
         same : r ≡ reply.Refused why
@@ -163,7 +170,7 @@ module _ (script : Script) (p m q : DevicePass) (kept : Attempt) (ticket : Ticke
             (refuses t.found ticket.0 used why t.finds.is_open.formed t.finds.is_open.history t.said.0 (may_refuse script p t.found t.finds ticket used why may_be))).does
     refuses_so (answer.Refused r) t told = (let e = t.said.1 in absurd cc)
     refuses_so (answer.NotYet object commit) t told = (let e = t.said.1 in absurd cc)
-    refuses_so (answer.Again label was now) t told = again _ t label was now (answer.Done (reply.Refused why)) t.said told
+    refuses_so (answer.Again label was now) t told = again (move.Refuse why) refused refl _ t label was now (answer.Done (reply.Refused why)) t.said told
 
   -- `test` and `swap`
   module _ (checked : Checked) (resolved : Resolved) (accepted : AcceptedAs script.topology request used kept.states checked resolved) where
@@ -175,15 +182,15 @@ module _ (script : Script) (p m q : DevicePass) (kept : Attempt) (ticket : Ticke
     unfolding next
     tests_so test (answer.Done r) t told =
         by_decision (λ found. IsDecided (look_up (world found)) used (answer.Done reply.Tested) (answer.Done r)) (step.Test p.rank) refl t r
-        (subst (λ x. ComesNext t.found p.rank kept x) (ap (λ b. if b then step.Test p.rank else (if is_some (late_reply t.found.script.topology (machine t.found) p.rank request) then step.Refuse p.rank else step.Swap p.rank)) test)
-        (comes_found script p m kept ticket request used c _ asks (step.Test p.rank) refl t accepted))
+        (subst (λ x. ComesNext p.seen t.found p.rank kept used x) (ap (λ b. if b then step.Test p.rank else (if is_some (late_reply t.found.script.topology (machine t.found) p.rank request) then step.Refuse p.rank else step.Swap p.rank)) test)
+        (comes_found script p m kept ticket request used c _ (step.Test p.rank ∷ []) t asks accepted))
         (ap (decided (machine t.found) p.rank) (sym same)) told
       where
         same : r ≡ reply.Tested
         same = (let e = t.said.1 in cc)
     tests_so test (answer.Refused r) t told = (let e = t.said.1 in absurd cc)
     tests_so test (answer.NotYet object commit) t told = (let e = t.said.1 in absurd cc)
-    tests_so test (answer.Again label was now) t told = again _ t label was now (answer.Done reply.Tested) t.said told
+    tests_so test (answer.Again label was now) t told = again asks accepted refl _ t label was now (answer.Done reply.Tested) t.said told
 
     -- what a swap finds
     module _ (no_test : is_test request.flags ≡ false) (a : Decided) where
@@ -210,7 +217,7 @@ module _ (script : Script) (p m q : DevicePass) (kept : Attempt) (ticket : Ticke
     swaps_so no_test (answer.Done r) t told =
         as_told script p kept m q (attempted.Answered r) did new_attempt keeps told
         (answered_by script p m kept ticket request used c _ (step.Swap p.rank) refl t r
-        (subst (λ x. ComesNext t.found p.rank kept x) (step_is no_test (answer.Done r) t.found None commits.none_late) (comes_found script p m kept ticket request used c _ asks (step.Swap p.rank) refl t accepted))
+        (subst (λ x. ComesNext p.seen t.found p.rank kept used x) (step_is no_test (answer.Done r) t.found None commits.none_late) (comes_found script p m kept ticket request used c _ (step.Swap p.rank ∷ []) t asks accepted))
         (subst (λ (z : Machine). Records z p.rank (place_at (machine t.found) p.rank).command r) (sym swapped)
         (subst (λ x. Records (swapped_state script.topology (machine t.found) p.rank (Some request)) p.rank (place_at (machine t.found) p.rank).command x) (sym commits.is_number) (swap_recorded script.topology (machine t.found) p.rank request))))
       where
@@ -221,7 +228,7 @@ module _ (script : Script) (p m q : DevicePass) (kept : Attempt) (ticket : Ticke
         swapped = ap (swapped_state script.topology (machine t.found) p.rank) (ap (λ s. request_at s (machine t.found) p.rank) (sym t.finds.same) ∙ at_found no_test (answer.Done r) _ t)
     swaps_so no_test (answer.Refused r) t told =
         by_decision _ (step.Refuse p.rank) refl t r
-        (subst (λ x. ComesNext t.found p.rank kept x) (step_is no_test (answer.Refused r) t.found (Some r) late) (comes_found script p m kept ticket request used c _ asks (step.Refuse p.rank) refl t accepted))
+        (subst (λ x. ComesNext p.seen t.found p.rank kept used x) (step_is no_test (answer.Refused r) t.found (Some r) late) (comes_found script p m kept ticket request used c _ (step.Refuse p.rank ∷ []) t asks accepted))
         (ap (λ s. next s (machine t.found) (step.Refuse p.rank)) (sym t.finds.same) ∙ does) told
       where
         late : late_reply t.found.script.topology (machine t.found) p.rank request ≡ Some r
@@ -242,16 +249,14 @@ module _ (script : Script) (p m q : DevicePass) (kept : Attempt) (ticket : Ticke
         does = (late_refuses t.found p.rank checked resolved.flags r ready (ap (late_reply t.found.script.topology (machine t.found) p.rank) its_request ∙ late)).does
     swaps_so no_test (answer.NotYet object commit) t told =
         as_told script p kept m q (attempted.NotYet (length m.seen)) did kept keeps told
-        (waits_for script _ p m kept c.ready t (step.Swap p.rank)
-        (subst (λ x. ComesNext (seen script m) p.rank kept x) (step_is no_test (answer.NotYet object commit) (seen script m) None (ap (λ (r : Run). late_reply r.script.topology (machine r) p.rank request) here ∙ awaits.none_late)) (comes_after script p m kept ticket request used c _ asks t accepted))
-        (ap (λ (r : Run). legal r.script (machine r) (step.Swap p.rank)) here ∙ no_swap t.found.script (machine t.found) p.rank request (at_found no_test (answer.NotYet object commit) _ t) (not_ready t.found.script.topology (machine t.found) request awaits.pair awaits.is_awaited)))
+        (waits_for script _ p m kept c.ready t used (step.Swap p.rank) c.has
+        (subst (λ x. WaitsAt (doing_at (machine t.found) p.rank) p.seen t.found p.rank kept used x) (step_is no_test (answer.NotYet object commit) t.found None awaits.none_late)
+        (waits_found script p m kept ticket request used c _ [] t asks accepted (all_fresh (look_up (world t.found)) used object commit (swap_answer t.found p.rank) t.said)))
+        (no_swap t.found.script (machine t.found) p.rank request (at_found no_test (answer.NotYet object commit) _ t) (not_ready t.found.script.topology (machine t.found) request awaits.pair awaits.is_awaited)))
       where
-        here : seen script m ≡ t.found
-        here = found-is script _ p m t
-
         awaits : Awaits (late_reply t.found.script.topology (machine t.found) p.rank request) (awaited_answer t.found.script.topology (machine t.found) request)
         awaits = not_yet_of (late_reply t.found.script.topology (machine t.found) p.rank request) (awaited_answer t.found.script.topology (machine t.found) request) (length (machine t.found).device.commits) object commit (t.said.1 ∙ answer_is no_test (answer.NotYet object commit) _ t)
-    swaps_so no_test (answer.Again label was now) t told = again _ t label was now (swap_answer t.found p.rank) t.said told
+    swaps_so no_test (answer.Again label was now) t told = again asks accepted refl _ t label was now (swap_answer t.found p.rank) t.said told
 
 -- no memory for new look-ups: nothing was done
 pub vain_so : (script : Script) (p m q : DevicePass) (kept : Attempt) (ticket : Ticket) (request : Request) (used : List (ℕ × Look)) (c : TakesFor script p kept ticket request used) (says : Run → Type 0) (x : Step) (a : Decided)

@@ -7,6 +7,8 @@ pub mod Found
 pub mod Holding
 pub mod Takers
 pub mod Deciding
+pub mod ReachStays
+pub mod Reaching
 pub mod Went
 pub mod Stepping
 pub mod Serving

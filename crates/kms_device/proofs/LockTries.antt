@@ -27,7 +27,7 @@ use Rattle.kms_core.specs.Run.{Run, machine}
 use Rattle.kms_core.specs.States.{state_of_kind}
 use Rattle.kms_device.specs.declared.attempt.Attempt.{Attempt}
 use Rattle.kms_device.specs.declared.attempt.Attempted.TheVariants as attempted
-use Rattle.kms_device.specs.Attempts.{ComesNextAt, Serves}
+use Rattle.kms_device.specs.Attempts.{ComesNextAt, Serves, WaitsAt, taken_in}
 use Rattle.kms_device.specs.Steps.{owner}
 use Rattle.kms_device.specs.Trying.{DidAndKeeps, IsReady, attempted_of, kept_of, with_state}
 use Rattle.kms_device.specs.Turns.{DevicePass, Turn, seen}
@@ -104,12 +104,14 @@ module _ (script : Script) (p q : DevicePass) (kept : Attempt) (ready : IsReady 
       said : a ≡ relocked_as (present_state t.found object) (relock_answer (machine t.found) (holder_at (machine t.found) object.0))
       said = t.said ∙ answer-is (machine t.found) t.found (ap (λ (r : Run). doing_at (machine r) p.rank) (sym (found-is script (λ found. a ≡ relocked_answer found p.rank) p q t)) ∙ here)
 
-      held_then : is_none (holder_at (machine t.found) object.0) ≡ false → legal script (machine (seen script q)) (step.Relock p.rank) ≡ false
+      here_found : doing_at (machine t.found) p.rank ≡ doing.BackedOff ticket object
+      here_found = ap (λ (r : Run). doing_at (machine r) p.rank) (sym (found-is script (λ found. a ≡ relocked_answer found p.rank) p q t)) ∙ here
+
+      held_then : is_none (holder_at (machine t.found) object.0) ≡ false → legal t.found.script (machine t.found) (step.Relock p.rank) ≡ false
       unfolding legal may
       held_then taken =
-          ap (λ d. not (machine (seen script q)).stalled && is_free_for (machine (seen script q)) (contended d)) here
-          ∙ (ap (λ (r : Run). not (machine (seen script q)).stalled && is_none (holder_at (machine r) object.0)) (found-is script (λ found. a ≡ relocked_answer found p.rank) p q t)
-          ∙ (ap (λ b. not (machine (seen script q)).stalled && b) taken ∙ and-no (not (machine (seen script q)).stalled)))
+          ap (λ d. not (machine t.found).stalled && is_free_for (machine t.found) (contended d)) here_found
+          ∙ (ap (λ b. not (machine t.found).stalled && b) taken ∙ and-no (not (machine t.found).stalled))
         where
           and-no : (b : Bool) → (b && false) ≡ false
           and-no true = refl
@@ -119,8 +121,9 @@ module _ (script : Script) (p q : DevicePass) (kept : Attempt) (ready : IsReady 
     unfolding next
     relocked (answer.Got s) t =
         subst (λ x. DidAndKeeps script p kept q attempted.Did (with_state kept object x)) (sym (got-is t.found s (holder_at (machine t.found) object.0) (t.said ∙ answer-is (machine t.found) t.found there)))
-        (stepped_on script says p q kept ready (step.Relock p.rank) refl t (with_state kept object (present_state t.found object))
-        (subst (λ d. ComesNextAt d t.found p.rank kept (step.Relock p.rank)) (sym there) refl)
+        (stepped_on script says p q kept ready (step.Relock p.rank) refl t (with_state kept object (present_state t.found object)) [] refl
+        (sym (ap (λ d. taken_in kept.states (object_of (contended d)).0 (present_state t.found (object_of (contended d)))) there))
+        (subst (λ d. ComesNextAt d p.seen t.found p.rank kept [] (step.Relock p.rank)) (sym there) refl)
         (ap (λ (m : Machine). m.records.replies) taken) command
         (ap (λ m. returning_of (doing_at m p.rank)) taken ∙ ap (λ (z : Place). returning_of z.doing) place)
         (serves-taken says (step.Relock p.rank) refl t object (ap (λ (m : Machine). m.device.world) taken)
@@ -145,8 +148,8 @@ module _ (script : Script) (p q : DevicePass) (kept : Attempt) (ready : IsReady 
         command : (place_at (next script (machine t.found) (step.Relock p.rank)) p.rank).command ≡ (place_at (machine t.found) p.rank).command
         command = ap (λ m. (place_at m p.rank).command) taken ∙ ap (λ (z : Place). z.command) place
     relocked (answer.Held h) t =
-        waits_for script (λ found. answer.Held h ≡ relocked_answer found p.rank) p q kept ready t (step.Relock p.rank)
-        (subst (λ d. ComesNextAt d (seen script q) p.rank kept (step.Relock p.rank)) (sym (here (answer.Held h) t)) refl)
+        waits_for script (λ found. answer.Held h ≡ relocked_answer found p.rank) p q kept ready t [] (step.Relock p.rank) refl
+        (subst (λ d. WaitsAt d p.seen t.found p.rank kept [] (step.Relock p.rank)) (sym (here_found (answer.Held h) t)) refl)
         (held_then (answer.Held h) t (held-is t.found h (holder_at (machine t.found) object.0) (said (answer.Held h) t)))
     relocked (answer.Own s) t = absurd (false≢true (only t.found (answer.Own s) (holder_at (machine t.found) object.0) (said (answer.Own s) t)))
     relocked (answer.Older h) t = absurd (false≢true (only t.found (answer.Older h) (holder_at (machine t.found) object.0) (said (answer.Older h) t)))

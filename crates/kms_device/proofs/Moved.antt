@@ -164,11 +164,7 @@ module _ (script : Script) (p : DevicePass) (kept : Attempt) (ticket : Ticket) (
 
   pub may_ask : (id : ObjId) → AsksFor script.topology request used kept.states id → MayAskFor R p.rank ticket id
   may_ask id asks = record {
-    request = request;
-    taking = c.taking;
-    at = c.at;
-    is_id = (asked_at id asks).is_id;
-    lockable = (asked_at id asks).can_lock;
+    takes = record { request = request; taking = c.taking; at = c.at; is_id = (asked_at id asks).is_id; lockable = (asked_at id asks).can_lock };
     early = looked.early;
     begins = looked.begins;
     resolved = asks.resolved;

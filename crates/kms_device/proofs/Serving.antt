@@ -29,8 +29,8 @@ use Rattle.kms_core.specs.Run.{Run, machine}
 use Rattle.kms_core.specs.States.{state_of_kind}
 use Rattle.kms_device.specs.declared.attempt.Attempt.{Attempt}
 use Rattle.kms_device.specs.Asking.{AreOfLocks, HoldsEach}
-use Rattle.kms_device.specs.Attempts.{AreLookedUp, Serves, new_attempt}
-use Rattle.kms_device.specs.Trying.{taken_in, with_state}
+use Rattle.kms_device.specs.Attempts.{AreLookedUp, Serves, new_attempt, taken_in}
+use Rattle.kms_device.specs.Trying.{with_state}
 use Rattle.kms_device.specs.Turns.{DevicePass, MayBeFound, seen}
 use Rattle.kms_device.proofs.Deciding.{of_locks, request-found}
 use Rattle.kms_device.proofs.Stepping.{request-same}

@@ -1,5 +1,5 @@
 -- What a turn leaves: the machine after it, and where the client of the pass stands.
-use Rattle.std.proofs.Common.{◌≡◌, ℕ, List, [], ◌∷◌, ◌++◌, append-nil, true, None, sym, ap, ◌∙◌, subst}
+use Rattle.std.proofs.Common.{◌≡◌, ℕ, List, [], ◌∷◌, ◌++◌, append-nil, append_assoc, true, None, sym, ap, ◌∙◌, subst}
 use Rattle.kms_model.specs.declared.replies.Step.{Step}
 use Rattle.kms_model.specs.declared.scripts.Script.{Script}
 use Rattle.std.proofs.lemmas.Bool.{and_parts}
@@ -31,8 +31,8 @@ may_again r r2 client scripts same awake may = record {
 pub start_refl : {A : Type 0} (xs : List A) → IsStart xs xs
 start_refl xs = ([], sym (append-nil xs))
 
-pub start_more : {A : Type 0} (xs ys zs : List A) → IsStart xs ys → ((us vs ws : List A) → (us ++ vs) ++ ws ≡ us ++ (vs ++ ws)) → IsStart xs (ys ++ zs)
-start_more xs ys zs begins assoc = (begins.0 ++ zs, ap (λ us. us ++ zs) begins.1 ∙ assoc xs begins.0 zs)
+pub start_trans : {A : Type 0} (xs ys zs : List A) → IsStart xs ys → IsStart ys zs → IsStart xs zs
+start_trans xs ys zs a b = (a.0 ++ b.0, b.1 ∙ (ap (λ us. us ++ b.0) a.1 ∙ append_assoc xs a.0 b.0))
 
 module _ (script : Script) (says : Run → Type 0) (xs : List Step) (p q : DevicePass) (t : Turn script says xs p q) where
   pub seen-after : q.seen ≡ t.found.steps ++ xs

@@ -1,6 +1,6 @@
 -- What came of a turn of an attempt in which a client that takes locks asked for one.
 use Rattle.std.proofs.Common.{◌≡◌, ℕ, ◌≤◌, List, [], ◌∷◌, length, Bool, true, false, Option, Some, None, refl, sym, ap, ◌∙◌, subst, arith, inl, inr}
-use Rattle.std.specs.Prelude.{not, ◌&&◌, nat_lt, ◌==◌, if◌then◌else◌}
+use Rattle.std.specs.Prelude.{is_none, not, ◌&&◌, nat_lt, ◌==◌, if◌then◌else◌}
 use Rattle.kms_model.specs.declared.objects.ObjId.{ObjId}
 use Rattle.kms_model.specs.declared.objects.Ticket.{Ticket}
 use Rattle.kms_model.specs.declared.replies.Step.{Step}
@@ -32,15 +32,15 @@ use Rattle.kms_core.specs.Run.{Run, machine}
 use Rattle.kms_device.specs.declared.attempt.Attempt.{Attempt}
 use Rattle.kms_device.specs.declared.attempt.Attempted.TheVariants as attempted
 use Rattle.kms_device.specs.Steps.{owner}
-use Rattle.kms_device.specs.Attempts.{AreLookedUp, ComesNext, ComesNextAt, step_of_move}
+use Rattle.kms_device.specs.Attempts.{AreLookedUp, AsksNext, ComesNext, ComesNextAt, FindsRequest, IsInVain, WaitsAt, states_after, step_of_move, taken_in}
 use Rattle.kms_device.specs.Trying.{DidAndKeeps, IsReady, attempted_of, kept_of, with_state}
 use Rattle.kms_device.specs.Turns.{DevicePass, Turn, seen}
 use Rattle.kms_device.proofs.Deciding.{request-found}
 use Rattle.kms_device.proofs.LockTries.{now_held, serves-taken, still_held}
-use Rattle.kms_device.proofs.Serving.{serves_more}
+use Rattle.kms_device.proofs.Serving.{serves_found, serves_more}
 use Rattle.kms_device.proofs.HeldObjects.{IsLockableId, held_object}
-use Rattle.kms_device.proofs.Stepping.{found-is, open-after}
-use Rattle.kms_device.proofs.TurnsTried.{doing-after, doing-found, place-now, serves-found, serves-next, serves_after, stepped_on, stays_after, waits_for, went_on}
+use Rattle.kms_device.proofs.Stepping.{found-is, found-place, open-after}
+use Rattle.kms_device.proofs.TurnsTried.{doing-found, finds_request, place-now, serves-next, serves_after, stepped_on, stays_after, waits_for, went_on}
 
 pub some_in : (used looks : List (ℕ × Look)) → Some used ≡ Some looks → used ≡ looks
 some_in used looks e = cc
@@ -70,10 +70,10 @@ module _ (m : Machine) (client : ℕ) (s : ObjState) where
   older_told t false true holder e = refl
   older_told t false false holder e = absurd cc
 
-  younger_told : (t : Ticket) (own older : Bool) (holder : Ticket) → answer.Younger t ≡ locked_as s (told own older holder) → older ≡ false
+  younger_told : (t : Ticket) (own older : Bool) (holder : Ticket) → answer.Younger t ≡ locked_as s (told own older holder) → (own ≡ false) × (older ≡ false)
   younger_told t true older holder e = absurd cc
   younger_told t false true holder e = absurd cc
-  younger_told t false false holder e = refl
+  younger_told t false false holder e = (refl, refl)
 
   held_told : (t : Ticket) (own older : Bool) (holder : Ticket) → answer.Held t ≡ locked_as s (told own older holder) → ⊥
   held_told t true older holder e = absurd cc
@@ -95,7 +95,7 @@ module _ (m : Machine) (client : ℕ) (s : ObjState) where
   older-of t None e = absurd cc
   older-of t (Some holder) e = (holder, refl, older_told t (holder == client) (older_than holder) (ticket_at m holder) e)
 
-  pub younger-of : (t : Ticket) (h : Option ℕ) → answer.Younger t ≡ locked_as s (lock_answer m client h) → OneOf h (λ holder. older_than holder ≡ false)
+  pub younger-of : (t : Ticket) (h : Option ℕ) → answer.Younger t ≡ locked_as s (lock_answer m client h) → OneOf h (λ holder. ((holder == client) ≡ false) × (older_than holder ≡ false))
   younger-of t None e = absurd cc
   younger-of t (Some holder) e = (holder, refl, younger_told t (holder == client) (older_than holder) (ticket_at m holder) e)
 
@@ -116,54 +116,72 @@ pub record TakesFor (script : Script) (p : DevicePass) (kept : Attempt) (ticket 
   pub has : kept.looks ≡ Some used
 
 module _ (script : Script) (p q : DevicePass) (kept : Attempt) (ticket : Ticket) (request : Request) (used : List (ℕ × Look)) (c : TakesFor script p kept ticket request used) where
-  -- the step of a move comes next where the client is found so
-  pub comes_at : (r : Run) (asks : Move) → r.script ≡ script → doing_at (machine r) p.rank ≡ doing.Taking ticket → request_at r.script (machine r) p.rank ≡ Some request → AreLookedUp r p.rank used
-      → IsMove script.topology request used kept.states asks → ComesNext r p.rank kept (step_of_move r p.rank request asks)
-  comes_at r asks same taking at looked is_move =
-      subst (λ d. ComesNextAt d r p.rank kept (step_of_move r p.rank request asks)) (sym taking)
-      (record {
-        request = request;
-        at = at;
-        used = used;
-        looked = looked;
-        same = λ looks is. some_in used looks (sym c.has ∙ is);
-        asks = asks;
-        is_move = subst (λ (s : Script). IsMove s.topology request used kept.states asks) (sym same) is_move;
-        next_is = refl;
-      })
+  -- what it asks for, where the client is found so
+  abbrev pub asks_at : (r : Run) (asks : Move) → r.script ≡ script → request_at r.script (machine r) p.rank ≡ Some request → AreLookedUp r p.rank used
+      → IsMove script.topology request used kept.states asks → AsksNext p.seen r p.rank kept used
+  asks_at r asks same at looked is_move = record {
+    request = request;
+    at = at;
+    uses = record {
+      looked = looked;
+      same = λ looks is. some_in used looks (sym c.has ∙ is);
+      made = λ none. (let both : Some used ≡ None = sym c.has ∙ none in absurd cc);
+    };
+    asks = asks;
+    is_move = subst (λ (s : Script). IsMove s.topology request used kept.states asks) (sym same) is_move;
+  }
+
+  -- in what a turn found
+  module _ (says : Run → Type 0) (xs : List Step) (t : Turn script says xs p q) where
+    pub looked_found : AreLookedUp t.found p.rank used
+    looked_found = (serves_found script p t.found t.finds kept c.ready.serves).looks used c.has
+
+    pub taking_found : doing_at (machine t.found) p.rank ≡ doing.Taking ticket
+    taking_found = ap (λ (z : Place). z.doing) (found-place script says xs p q t) ∙ c.taking
+
+    abbrev pub asks_found : (asks : Move) → IsMove script.topology request used kept.states asks → AsksNext p.seen t.found p.rank kept used
+    asks_found asks is_move = asks_at t.found asks t.finds.same (request-found script p t.found t.finds ∙ c.at) looked_found is_move
+
+    -- the step of a move comes next
+    pub comes_found : (asks : Move) → IsMove script.topology request used kept.states asks → ComesNext p.seen t.found p.rank kept used (step_of_move t.found p.rank request asks)
+    comes_found asks is_move =
+        subst (λ d. ComesNextAt d p.seen t.found p.rank kept used (step_of_move t.found p.rank request asks)) (sym taking_found) (record { move = asks_found asks is_move; next_is = refl })
+
+    -- what is asked for in vain
+    pub waits_found : (asks : Move) → IsMove script.topology request used kept.states asks → IsInVain t.found p.rank used asks
+        → WaitsAt (doing_at (machine t.found) p.rank) p.seen t.found p.rank kept used (step_of_move t.found p.rank request asks)
+    waits_found asks is_move in_vain =
+        subst (λ d. WaitsAt d p.seen t.found p.rank kept used (step_of_move t.found p.rank request asks)) (sym taking_found)
+        (record { comes = record { move = asks_found asks is_move; next_is = refl }; in_vain = in_vain })
 
   -- after a turn that added nothing
-  pub comes_after : (says : Run → Type 0) (asks : Move) → Turn script says [] p q → IsMove script.topology request used kept.states asks → ComesNext (seen script q) p.rank kept (step_of_move (seen script q) p.rank request asks)
+  pub comes_after : (says : Run → Type 0) (asks : Move) (t : Turn script says [] p q) → IsMove script.topology request used kept.states asks → ComesNext p.seen (seen script q) p.rank kept used (step_of_move (seen script q) p.rank request asks)
   comes_after says asks t is_move =
-      comes_at (seen script q) asks refl (doing-after script says p q kept c.ready t ∙ c.taking)
-      (ap (λ (r : Run). request_at r.script (machine r) p.rank) (found-is script says p q t) ∙ (request-found script p t.found t.finds ∙ c.at))
-      ((serves_after script says p q kept c.ready t).looks used c.has) is_move
-
-  -- in a turn that added a step of the client's
-  pub comes_found : (says : Run → Type 0) (asks : Move) (x : Step) (own : owner x ≡ p.rank) (t : Turn script says (x ∷ []) p q) → IsMove script.topology request used kept.states asks → ComesNext t.found p.rank kept (step_of_move t.found p.rank request asks)
-  comes_found says asks x own t is_move =
-      comes_at t.found asks t.finds.same (doing-found script says p q kept c.ready x own t ∙ c.taking) (request-found script p t.found t.finds ∙ c.at)
-      ((serves-found script says p q kept c.ready x own t).looks used c.has) is_move
+      subst (λ r. ComesNext p.seen r p.rank kept used (step_of_move r p.rank request asks)) (sym (found-is script says p q t)) (comes_found says [] t asks is_move)
 
   module _ (id : ObjId) (asks : AsksFor script.topology request used kept.states id) (is_id : first_id (kind_of id.0) ≤ id.0) (absent : is_duplicated kept.states id.0 ≡ false)
       (room : (r : Run) → may_duplicate kept.states id.0 (present_state r id) ≡ true) where
     object-is : object_id (kind_of id.0) (index_of id.0) ≡ id.0
     object-is = omega (arith, is_id)
 
+    -- what is kept behind the step, by the object's id
+    lock_states : (r : Run) → states_after r p.rank kept.states (lock_step p.rank id) ≡ (if is_none (holder_at (machine r) id.0) then taken_in kept.states id.0 (present_state r id) else kept.states)
+    lock_states r = ap (λ o. if is_none (holder_at (machine r) o) then taken_in kept.states o (present_state r (record { 0 = o })) else kept.states) object-is
+
     module _ (a : Locked) where
       abbrev Says : Run → Type 0
       Says found = a ≡ locked_answer found p.rank id
 
       -- one that a younger context holds cannot be had
-      no_lock : (t : Turn script Says [] p q) → OneOf (holder_at (machine t.found) id.0) (λ holder. nat_lt (ticket_at (machine t.found) holder).0 (ticket_at (machine t.found) p.rank).0 ≡ false)
-          → legal script (machine (seen script q)) (lock_step p.rank id) ≡ false
+      no_lock : (t : Turn script Says [] p q) → OneOf (holder_at (machine t.found) id.0) (λ holder. ((holder == p.rank) ≡ false) × (nat_lt (ticket_at (machine t.found) holder).0 (ticket_at (machine t.found) p.rank).0 ≡ false))
+          → legal t.found.script (machine t.found) (lock_step p.rank id) ≡ false
       unfolding legal may may_lock
       no_lock t younger =
-          ap (λ (r : Run). legal script (machine r) (lock_step p.rank id)) (found-is script Says p q t)
+          ap (λ s. legal s (machine t.found) (lock_step p.rank id)) t.finds.same
           ∙ (ap (λ b. not (machine t.found).stalled && (is_lockable script.topology (kind_of id.0) (index_of id.0)
           && (taking_at script (machine t.found) p.rank (λ r. reaches script.topology (machine t.found).device.world r (object_id (kind_of id.0) (index_of id.0))) && b)))
           (ap (λ o. is_free_or_older (machine t.found) (ticket_of (doing_at (machine t.found) p.rank)) (holder_at (machine t.found) o)) object-is
-          ∙ (ap (is_free_or_older (machine t.found) (ticket_of (doing_at (machine t.found) p.rank))) younger.1 ∙ younger.2))
+          ∙ (ap (is_free_or_older (machine t.found) (ticket_of (doing_at (machine t.found) p.rank))) younger.1 ∙ younger.2.1))
           ∙ (ap (λ b. not (machine t.found).stalled && (is_lockable script.topology (kind_of id.0) (index_of id.0) && b)) (and-no _)
           ∙ (ap (λ b. not (machine t.found).stalled && b) (and-no _) ∙ and-no _)))
 
@@ -171,8 +189,9 @@ module _ (script : Script) (p q : DevicePass) (kept : Attempt) (ticket : Ticket)
     unfolding next
     locked (answer.Got s) t =
         subst (λ x. DidAndKeeps script p kept q attempted.Did (with_state kept id x)) (sym got.1)
-        (stepped_on script (Says (answer.Got s)) p q kept c.ready (lock_step p.rank id) refl t (with_state kept id (present_state t.found id))
-        (comes_found (Says (answer.Got s)) (move.Lock id) (lock_step p.rank id) refl t asks)
+        (stepped_on script (Says (answer.Got s)) p q kept c.ready (lock_step p.rank id) refl t (with_state kept id (present_state t.found id)) used c.has
+        (sym (lock_states t.found ∙ ap (λ o. if is_none o then taken_in kept.states id.0 (present_state t.found id) else kept.states) got.0))
+        (comes_found (Says (answer.Got s)) (lock_step p.rank id ∷ []) t (move.Lock id) asks)
         (ap (λ (m : Machine). m.records.replies) taken) (ap (λ m. (place_at m p.rank).command) taken)
         (ap (λ m. returning_of (doing_at m p.rank)) taken ∙ ap returning_of there)
         (serves-taken script p q kept c.ready (Says (answer.Got s)) (lock_step p.rank id) refl t id (ap (λ (m : Machine). m.device.world) taken)
@@ -188,8 +207,9 @@ module _ (script : Script) (p q : DevicePass) (kept : Attempt) (ticket : Ticket)
         taken : next script (machine t.found) (lock_step p.rank id) ≡ put_lock (machine t.found) id.0 (Some p.rank)
         taken = ap (λ o. effects.locked (machine t.found) p.rank o (holder_at (machine t.found) o)) object-is ∙ ap (effects.locked (machine t.found) p.rank id.0) got.0
     locked (answer.Older h) t =
-        stepped_on script (Says (answer.Older h)) p q kept c.ready (lock_step p.rank id) refl t kept
-        (comes_found (Says (answer.Older h)) (move.Lock id) (lock_step p.rank id) refl t asks)
+        stepped_on script (Says (answer.Older h)) p q kept c.ready (lock_step p.rank id) refl t kept used c.has
+        (sym (lock_states t.found ∙ ap (λ o. if is_none o then taken_in kept.states id.0 (present_state t.found id) else kept.states) older.1))
+        (comes_found (Says (answer.Older h)) (lock_step p.rank id ∷ []) t (move.Lock id) asks)
         (ap (λ (m : Machine). m.records.replies) meets) command
         (ap (λ m. returning_of (doing_at m p.rank)) meets ∙ ap (λ (z : Place). returning_of z.doing) place)
         (serves-next script (Says (answer.Older h)) p q kept c.ready (lock_step p.rank id) refl t (ap (λ (m : Machine). m.device.world) meets) (λ other held. ap (λ m. holds m p.rank other) meets ∙ held) command)
@@ -207,14 +227,20 @@ module _ (script : Script) (p q : DevicePass) (kept : Attempt) (ticket : Ticket)
         command : (place_at (next script (machine t.found) (lock_step p.rank id)) p.rank).command ≡ (place_at (machine t.found) p.rank).command
         command = ap (λ m. (place_at m p.rank).command) meets ∙ ap (λ (z : Place). z.command) place
     locked (answer.Younger h) t =
-        waits_for script (Says (answer.Younger h)) p q kept c.ready t (lock_step p.rank id) (comes_after (Says (answer.Younger h)) (move.Lock id) t asks)
-        (no_lock (answer.Younger h) t (younger-of (machine t.found) p.rank (present_state t.found id) h (holder_at (machine t.found) id.0) t.said))
+        waits_for script (Says (answer.Younger h)) p q kept c.ready t used (lock_step p.rank id) c.has
+        (waits_found (Says (answer.Younger h)) [] t (move.Lock id) asks (ap (has_value p.rank) younger.1 ∙ younger.2.0)) (no_lock (answer.Younger h) t younger)
+      where
+        younger : OneOf (holder_at (machine t.found) id.0) (λ holder. ((holder == p.rank) ≡ false) × (nat_lt (ticket_at (machine t.found) holder).0 (ticket_at (machine t.found) p.rank).0 ≡ false))
+        younger = younger-of (machine t.found) p.rank (present_state t.found id) h (holder_at (machine t.found) id.0) t.said
     locked (answer.Own s) t =
         subst (λ x. DidAndKeeps script p kept q attempted.Did (with_state kept id x)) (sym (own.1 ∙ ap (λ (r : Run). present_state r id) (sym same)))
         (record {
           is_attempt = inr (inl (record {
             went = went_on script (Says (answer.Own s)) p q kept c.ready t;
             object = id;
+            finds = subst (FindsRequest script p.rank p) (sym same) (finds_request script (Says (answer.Own s)) [] p q t);
+            used = used;
+            looks = c.has;
             comes = comes_after (Says (answer.Own s)) (move.Lock id) t asks;
             held = held;
             lacked = absent;

@@ -7,6 +7,7 @@ use Rattle.kms_model.specs.declared.objects.ObjId.{ObjId}
 use Rattle.kms_model.specs.declared.objects.Ticket.{Ticket}
 use Rattle.kms_model.specs.declared.replies.Refusal.{Refusal}
 use Rattle.kms_model.specs.declared.replies.Reply.TheVariants as reply
+use Rattle.kms_model.specs.declared.replies.Step.{Step}
 use Rattle.kms_model.specs.declared.replies.Step.TheVariants as step
 use Rattle.kms_model.specs.declared.runs.Doing.TheVariants as doing
 use Rattle.kms_model.specs.declared.runs.Place.{Place}
@@ -102,31 +103,26 @@ module _ (script : Script) (p : DevicePass) (ticket : Ticket) (request : Request
         (λ r. room_for script.topology states id.0 (world r) ready.is_open.formed.device room is.is_id is.can_lock is.absent r.script.topology) a t
 
   module _ {E : Type 0} (m q : DevicePass) (a : Decided) (r : Result (Attempted × Attempt) E) where
-    pub refused_so : (why : Refusal) → RefusedBy script.topology request used states why
-        → Turn script (λ found. IsDecided (look_up (world found)) used (answer.Done (reply.Refused why)) a) (steps_of p.rank (step.Refuse p.rank) a) p m
-        → IfOk r (λ did. Concludes script request (with_looks used states) m a q did.0 did.1) → OnErr r (LooksInVain script a m q) → Tried script p (with_looks used states) q r
-    refused_so why refused t told vain = by r told vain
-      where
-        by : (r : Result (Attempted × Attempt) E) → IfOk r (λ did. Concludes script request (with_looks used states) m a q did.0 did.1) → OnErr r (LooksInVain script a m q) → Tried script p (with_looks used states) q r
-        by (Ok did) told vain = refuses_so script p m q (with_looks used states) ticket request used takes_for did.0 did.1 why refused a t told
-        by (Err e) told vain = vain_so script p m q (with_looks used states) ticket request used takes_for _ (step.Refuse p.rank) a t vain
+    -- by what its conclusion tells
+    module _ (says : Run → Type 0) (x : Step) (t : Turn script says (steps_of p.rank x a) p m) where
+      concluded : (r : Result (Attempted × Attempt) E) → ((did : Attempted × Attempt) → Concludes script request Kept m a q did.0 did.1 → DidAndKeeps script p Kept q did.0 did.1)
+          → IfOk r (λ did. Concludes script request Kept m a q did.0 did.1) → OnErr r (LooksInVain script a m q) → Tried script p Kept q r
+      concluded (Ok did) tells told vain = tells did told
+      concluded (Err e) tells told vain = vain_so script p m q Kept ticket request used takes_for says x a t vain
 
-    module _ (checked : Checked) (resolved : Resolved) (accepted : AcceptedAs script.topology request used states checked resolved) where
-      pub tested_so : is_test request.flags ≡ true → Turn script (λ found. IsDecided (look_up (world found)) used (answer.Done reply.Tested) a) (steps_of p.rank (step.Test p.rank) a) p m
-          → IfOk r (λ did. Concludes script request (with_looks used states) m a q did.0 did.1) → OnErr r (LooksInVain script a m q) → Tried script p (with_looks used states) q r
-      tested_so test t told vain = by r told vain
-        where
-          by : (r : Result (Attempted × Attempt) E) → IfOk r (λ did. Concludes script request (with_looks used states) m a q did.0 did.1) → OnErr r (LooksInVain script a m q) → Tried script p (with_looks used states) q r
-          by (Ok did) told vain = tests_so script p m q (with_looks used states) ticket request used takes_for did.0 did.1 checked resolved accepted test a t told
-          by (Err e) told vain = vain_so script p m q (with_looks used states) ticket request used takes_for _ (step.Test p.rank) a t vain
+    module _ (told : IfOk r (λ did. Concludes script request (with_looks used states) m a q did.0 did.1)) (vain : OnErr r (LooksInVain script a m q)) where
+      pub refused_so : (why : Refusal) → RefusedBy script.topology request used states why
+          → Turn script (λ found. IsDecided (look_up (world found)) used (answer.Done (reply.Refused why)) a) (steps_of p.rank (step.Refuse p.rank) a) p m → Tried script p (with_looks used states) q r
+      refused_so why refused t = concluded _ (step.Refuse p.rank) t r (λ did told. refuses_so script p m q Kept ticket request used takes_for did.0 did.1 why refused a t told) told vain
 
-      pub swapped_so : is_test request.flags ≡ false → Turn script (λ found. IsDecided (look_up (world found)) used (swap_answer found p.rank) a) (steps_of p.rank (step.Swap p.rank) a) p m
-          → IfOk r (λ did. Concludes script request (with_looks used states) m a q did.0 did.1) → OnErr r (LooksInVain script a m q) → Tried script p (with_looks used states) q r
-      swapped_so no_test t told vain = by r told vain
-        where
-          by : (r : Result (Attempted × Attempt) E) → IfOk r (λ did. Concludes script request (with_looks used states) m a q did.0 did.1) → OnErr r (LooksInVain script a m q) → Tried script p (with_looks used states) q r
-          by (Ok did) told vain = swaps_so script p m q (with_looks used states) ticket request used takes_for did.0 did.1 checked resolved accepted no_test a t told
-          by (Err e) told vain = vain_so script p m q (with_looks used states) ticket request used takes_for _ (step.Swap p.rank) a t vain
+      module _ (checked : Checked) (resolved : Resolved) (accepted : AcceptedAs script.topology request used states checked resolved) where
+        pub tested_so : is_test request.flags ≡ true → Turn script (λ found. IsDecided (look_up (world found)) used (answer.Done reply.Tested) a) (steps_of p.rank (step.Test p.rank) a) p m
+            → Tried script p (with_looks used states) q r
+        tested_so test t = concluded _ (step.Test p.rank) t r (λ did told. tests_so script p m q Kept ticket request used takes_for did.0 did.1 checked resolved accepted test a t told) told vain
+
+        pub swapped_so : is_test request.flags ≡ false → Turn script (λ found. IsDecided (look_up (world found)) used (swap_answer found p.rank) a) (steps_of p.rank (step.Swap p.rank) a) p m
+            → Tried script p (with_looks used states) q r
+        swapped_so no_test t = concluded _ (step.Swap p.rank) t r (λ did told. swaps_so script p m q Kept ticket request used takes_for did.0 did.1 checked resolved accepted no_test a t told) told vain
 
 -- The first turn, which shows where the client stands
 
@@ -152,7 +148,7 @@ module _ (script : Script) (says : Run → Type 0) (p q : DevicePass) (kept : At
 
   -- what the rest did
   pub tried_first : {E : Type 0} (r : DevicePass) (result : Result (Attempted × Attempt) E) → Tried script q kept r result → Tried script p kept r result
-  tried_first r result is = tried_later script says p q r kept ready_first t result is
+  tried_first r result is = tried_later script says p q r kept ready_first t kept result is
 
 -- the place that was told
 pub place_told : (script : Script) (p q : DevicePass) (client : ℕ) (place : Place) → p.rank ≡ client → (t : Turn script (λ found. place ≡ place_at (machine found) client) [] p q) → place ≡ place_at (machine (seen script p)) client

@@ -1,5 +1,5 @@
 -- What came of one turn of an attempt, by where the client stands.
-use Rattle.std.proofs.Common.{◌≡◌, ℕ, [], ◌∷◌, length, true, false, None, refl, sym, ap, ◌∙◌, subst, inl}
+use Rattle.std.proofs.Common.{append-nil, ◌≡◌, ℕ, List, [], ◌∷◌, length, true, false, None, refl, sym, ap, ◌∙◌, subst, inl}
 use Rattle.kms_model.specs.declared.objects.ObjId.{ObjId}
 use Rattle.kms_model.specs.declared.objects.Ticket.{Ticket}
 use Rattle.kms_model.specs.declared.replies.Step.{Step}
@@ -8,6 +8,7 @@ use Rattle.kms_model.specs.declared.runs.Doing.{Doing}
 use Rattle.kms_model.specs.declared.runs.Doing.TheVariants as doing
 use Rattle.kms_model.specs.declared.runs.Place.{Place}
 use Rattle.kms_model.specs.declared.scripts.Script.{Script}
+use Rattle.kms_model.specs.declared.worlds.Look.{Look}
 use Rattle.kms_model.specs.Machine.Effects.{backed_off, next, now_doing}
 use Rattle.kms_model.specs.Machine.Histories.{legal}
 use Rattle.kms_model.specs.Machine.State.{Machine, doing_at, holds, place_at}
@@ -17,13 +18,22 @@ use Rattle.kms_histlock.specs.Rules.{IsStart}
 use Rattle.kms_core.specs.Run.{Run, machine}
 use Rattle.kms_device.specs.declared.attempt.Attempt.{Attempt}
 use Rattle.kms_device.specs.declared.attempt.Attempted.TheVariants as attempted
-use Rattle.kms_device.specs.Attempts.{ComesNext, ComesNextAt, MayAttempt, Serves, StaysAt, Stepped, Went, new_attempt}
+use Rattle.kms_device.specs.Attempts.{ComesNext, ComesNextAt, FindsRequest, MayAttempt, Serves, StaysAt, Stepped, WaitsAt, looks_after, states_after, Went, new_attempt}
 use Rattle.kms_device.specs.Steps.{owner}
 use Rattle.kms_device.specs.Trying.{DidAndKeeps, DidNothing, IsReady}
 use Rattle.kms_device.specs.Turns.{DevicePass, Turn, seen}
 use Rattle.kms_device.proofs.Serving.{none_fresh, none_of_locks, looked_later, serves_found, serves_later, serves_new}
 use Rattle.kms_device.proofs.Stepping.{found-is, found-place, legal-found, may_again, next-after, open-after, seen-after}
 use Rattle.kms_device.proofs.Went.{one_own, went_turn}
+
+-- what a turn finds: the client stands where it stood
+pub finds_request : (script : Script) (says : Run → Type 0) (xs : List Step) (p q : DevicePass) (t : Turn script says xs p q) → FindsRequest script p.rank p t.found
+finds_request script says xs p q t = record {
+  same = t.finds.same;
+  is_open = t.finds.is_open;
+  begins = (t.finds.history.begins.0, t.finds.history.begins.1);
+  place = found-place script says xs p q t;
+}
 
 -- where a client stands after it began something else at its command
 pub place-now : (m : Machine) (client : ℕ) (d : Doing) → place_at (now_doing m client d) client ≡ record { command = (place_at m client).command; doing = d }
@@ -51,7 +61,7 @@ module _ (script : Script) (says : Run → Type 0) (p q : DevicePass) (kept : At
     serves_after = subst (λ r. Serves r p.rank kept) (sym (found-is script says p q t)) (serves_found script p t.found t.finds kept ready.serves)
 
     pub nothing_done : DidNothing script p q
-    nothing_done = record { went = went_on; may = may_after }
+    nothing_done = record { went = went_on; stays = record { may = may_after; command = command-after } }
 
     -- where the client stands is known, and what was kept serves
     pub ready_after : IsReady script q kept
@@ -65,12 +75,28 @@ module _ (script : Script) (says : Run → Type 0) (p q : DevicePass) (kept : At
         rank = ap (λ (z : DevicePass). z.rank) t.now
 
     -- the step that comes next is not legal in what was found
-    pub waits_for : (x : Step) → ComesNext (seen script q) p.rank kept x → legal script (machine (seen script q)) x ≡ false → DidAndKeeps script p kept q (attempted.NotYet (length q.seen)) kept
-    waits_for x comes illegal = record {
-      is_attempt = record { went = went_on; is_length = refl; next = x; comes = comes; illegal = illegal; states = refl };
+    pub waits_for : (used : List (ℕ × Look)) (x : Step) → kept.looks ≡ looks_after kept used x → WaitsAt (doing_at (machine t.found) p.rank) p.seen t.found p.rank kept used x
+        → legal t.found.script (machine t.found) x ≡ false → DidAndKeeps script p kept q (attempted.NotYet (length q.seen)) kept
+    waits_for used x looks waits illegal = record {
+      is_attempt = record {
+        went = went_on;
+        found = t.found;
+        finds = finds_request script says [] p q t;
+        is_length = ap length left;
+        used = used;
+        next = x;
+        waits = waits;
+        illegal = ap (λ s. legal s (machine t.found) x) (sym t.finds.same) ∙ illegal;
+        left = left;
+        looks = looks;
+        states = refl;
+      };
       goes_on = stays_after;
       serves = serves_after;
     }
+      where
+        left : q.seen ≡ t.found.steps
+        left = seen-after script says [] p q t ∙ append-nil t.found.steps
 
   -- A turn that added one step of the client's.
   module _ (x : Step) (own : owner x ≡ p.rank) (t : Turn script says (x ∷ []) p q) where
@@ -83,10 +109,11 @@ module _ (script : Script) (says : Run → Type 0) (p q : DevicePass) (kept : At
     pub serves-found : Serves t.found p.rank kept
     serves-found = serves_found script p t.found t.finds kept ready.serves
 
-    abbrev pub stepped : ComesNext t.found p.rank kept x → Stepped script p.rank p q kept
-    stepped comes = record {
+    abbrev pub stepped : (used : List (ℕ × Look)) → ComesNext p.seen t.found p.rank kept used x → Stepped script p.rank p q kept
+    stepped used comes = record {
       found = t.found;
-      same = t.finds.same;
+      finds = finds_request script says (x ∷ []) p q t;
+      used = used;
       next = x;
       comes = comes;
       legal = legal-found script says x p q t;
@@ -98,12 +125,12 @@ module _ (script : Script) (says : Run → Type 0) (p q : DevicePass) (kept : At
     begins = (x ∷ [], seen-after script says (x ∷ []) p q t)
 
     -- it goes on at its command
-    pub stepped_on : (keeps : Attempt) → ComesNext t.found p.rank kept x → (next script (machine t.found) x).records.replies ≡ (machine t.found).records.replies
+    pub stepped_on : (keeps : Attempt) (used : List (ℕ × Look)) → keeps.looks ≡ looks_after kept used x → keeps.states ≡ states_after t.found p.rank kept.states x → ComesNext p.seen t.found p.rank kept used x → (next script (machine t.found) x).records.replies ≡ (machine t.found).records.replies
         → (place_at (next script (machine t.found) x) p.rank).command ≡ (place_at (machine t.found) p.rank).command
         → returning_of (doing_at (next script (machine t.found) x) p.rank) ≡ None
         → Serves (seen script q) p.rank keeps → DidAndKeeps script p kept q attempted.Did keeps
-    stepped_on keeps comes silent command awake serves = record {
-      is_attempt = inl (record { stepped = stepped comes; silent = ap (λ (m : Machine). m.records.replies) now ∙ silent });
+    stepped_on keeps used looks states comes silent command awake serves = record {
+      is_attempt = inl (record { stepped = stepped used comes; looks = looks; states = states; silent = ap (λ (m : Machine). m.records.replies) now ∙ silent });
       goes_on = record { may = may_again (seen script p) (seen script q) p.rank refl same_command (ap (λ m. returning_of (doing_at m p.rank)) now ∙ awake) ready.may; command = same_command };
       serves = serves;
     }
@@ -129,8 +156,8 @@ module _ (script : Script) (says : Run → Type 0) (p q : DevicePass) (kept : At
   pub began : doing_at (machine (seen script p)) p.rank ≡ doing.Idle → Turn script says (step.Begin p.rank ∷ []) p q → DidAndKeeps script p kept q attempted.Did new_attempt
   unfolding next
   began idle t =
-      stepped_on (step.Begin p.rank) refl t new_attempt
-      (subst (λ d. ComesNextAt d t.found p.rank kept (step.Begin p.rank)) (sym (doing-found (step.Begin p.rank) refl t ∙ idle)) refl)
+      stepped_on (step.Begin p.rank) refl t new_attempt [] refl refl
+      (subst (λ d. ComesNextAt d p.seen t.found p.rank kept [] (step.Begin p.rank)) (sym (doing-found (step.Begin p.rank) refl t ∙ idle)) refl)
       refl
       (ap (λ (z : Place). z.command) (place-now (machine t.found) p.rank (doing.Taking (record { 0 = (machine t.found).contexts.tickets }))))
       (ap (λ (z : Place). returning_of z.doing) (place-now (machine t.found) p.rank (doing.Taking (record { 0 = (machine t.found).contexts.tickets }))))
@@ -141,8 +168,8 @@ module _ (script : Script) (says : Run → Type 0) (p q : DevicePass) (kept : At
       → DidAndKeeps script p kept q attempted.Did (record kept { states = new_attempt.states })
   unfolding next
   gave_way ticket object must t =
-      stepped_on (step.BackOff p.rank) refl t (record kept { states = new_attempt.states })
-      (subst (λ d. ComesNextAt d t.found p.rank kept (step.BackOff p.rank)) (sym there) refl)
+      stepped_on (step.BackOff p.rank) refl t (record kept { states = new_attempt.states }) [] refl refl
+      (subst (λ d. ComesNextAt d p.seen t.found p.rank kept [] (step.BackOff p.rank)) (sym there) refl)
       refl command
       (ap (λ (z : Place). returning_of z.doing) place ∙ ap (λ d. returning_of (backed_off d)) there)
       (record {

@@ -1,6 +1,6 @@
 -- What the calls of a client ask for, of what its pass has seen. From: "KMS Locking", `drm_modeset_lock.c`; "Atomic Mode Setting";
 -- `drm_atomic_helper.c`, drm_atomic_helper_swap_state.
-use Rattle.std.specs.Prelude.{◌≡◌, ◌≤◌, ◌⊎◌, ℕ, true, false, List, map, slice_get, Option, Some, None}
+use Rattle.std.specs.Prelude.{◌≡◌, ◌≤◌, ◌⊎◌, ℕ, All, Bool, IfSome, is_some, true, false, List, map, slice_get, Option, Some, None}
 use Rattle.kms_model.specs.declared.objects.Kind.{Kind}
 use Rattle.kms_model.specs.declared.objects.Kind.TheVariants.{Conn, Crtc, Plane}
 use Rattle.kms_model.specs.declared.objects.ObjId.{ObjId}
@@ -16,13 +16,16 @@ use Rattle.kms_model.specs.declared.states.Duplicates.{Duplicates}
 use Rattle.kms_model.specs.declared.worlds.Look.{Look}
 use Rattle.kms_model.specs.declared.worlds.World.{World}
 use Rattle.kms_model.specs.Device.Objects.{exists, first_id, index_of, kind_of, object_id}
+use Rattle.kms_model.specs.Device.World.{thing_labelled}
 use Rattle.kms_model.specs.Machine.Commits.{has_number, lockable}
 use Rattle.kms_model.specs.Machine.State.{doing_at, holds, request_at}
 use Rattle.kms_model.specs.Machine.Steps.{is_lockable}
 use Rattle.kms_model.specs.Request.Agreement.{AgreesOld}
 use Rattle.kms_model.specs.Request.Deciding.{GivesChecked, GivesRefusal, IsOfRequest}
 use Rattle.kms_model.specs.Request.Flags.{is_test}
-use Rattle.kms_model.specs.Request.Lookups.{look_up}
+use Rattle.kms_model.specs.Order.Turns.{in_named_group, in_set_group}
+use Rattle.kms_model.specs.Request.Lookups.{label_of, look_up}
+use Rattle.kms_model.specs.Request.Reach.{reaches, reaching}
 use Rattle.kms_model.specs.Request.Resolves.{IsResolved}
 use Rattle.kms_model.specs.Request.Sets.{look_in}
 use Rattle.kms_model.specs.Request.Touched.{touches}
@@ -60,22 +63,52 @@ pub record AreOfLocks (r : Run) (client : ℕ) (d : Duplicates) : Type 0 where
   pub conns : HoldsEach r client Conn d.conns
   pub old : AgreesOld r.script.topology (world r).things (world r).values d
 
--- A client takes locks for a request in the context of a ticket. What the request asks for was resolved with what its labels
--- named after a beginning of the history, and duplicates are the states that the context's locks gave. Wherever that is so the
--- request touches the object, as a check tells.
-pub record MayAskFor (r : Run) (client : ℕ) (t : Ticket) (id : ObjId) : Type 0 where
+-- a client's context holds each object of the device that is in a group
+abbrev pub HoldsGroup : Run → ℕ → (ℕ → Bool) → Type 0
+HoldsGroup r client in_group =
+    (kind : Kind) (index : ℕ) → is_lockable r.script.topology kind index ≡ true → in_group (object_id kind index) ≡ true
+    → holds (machine r) client (object_id kind index) ≡ true
+
+-- a request with those of its assignments that count for its reach: all, where nothing is wrong with it by itself
+abbrev pub reaching_part : Run → Request → Request
+reaching_part r request = record request { assigns = reaching r.script.topology (world r) request.assigns }
+
+-- a client takes locks for a request in the context of a ticket, and an object of the device has a lock
+pub record TakesLocks (r : Run) (client : ℕ) (t : Ticket) (id : ObjId) : Type 0 where
   pub request : Request
   pub taking : doing_at (machine r) client ≡ doing.Taking t
   pub at : request_at r.script (machine r) client ≡ Some request
   pub is_id : first_id (kind_of id.0) ≤ id.0
   pub lockable : is_lockable r.script.topology (kind_of id.0) (index_of id.0) ≡ true
+
+-- Each label of the client's request is made, and the object is in its reach. The context holds whole each group before the first
+-- that has the object. The groups are the objects that are set, the CRTCs that are named, and the planes and connectors of CRTCs
+-- that need a modeset.
+pub record IsNextByGroups (r : Run) (client : ℕ) (t : Ticket) (id : ObjId) : Type 0 where
+  pub takes : TakesLocks r client t id
+  pub made : All (λ a. IfSome (label_of a.value) (λ label. is_some (thing_labelled (world r).things label) ≡ true)) takes.request.assigns
+  pub reached : reaches r.script.topology (world r) takes.request id.0 ≡ true
+  pub set : in_set_group (reaching_part r takes.request) id.0 ≡ false → HoldsGroup r client (in_set_group (reaching_part r takes.request))
+  pub named :
+      in_set_group (reaching_part r takes.request) id.0 ≡ false
+      → in_named_group r.script.topology (world r) (reaching_part r takes.request) id.0 ≡ false
+      → HoldsGroup r client (in_named_group r.script.topology (world r) (reaching_part r takes.request))
+
+-- What the client's request asks for was resolved with what its labels named after a beginning of the history, and duplicates are the
+-- states that the context's locks gave. Wherever that is so the request touches the object, as a check tells.
+pub record MayAskFor (r : Run) (client : ℕ) (t : Ticket) (id : ObjId) : Type 0 where
+  pub takes : TakesLocks r client t id
   pub early : List Step
   pub begins : IsStart early r.steps
   pub resolved : Resolved
-  pub asks : IsResolved r.script.topology (look_up (world (record r { steps = early }))) request resolved
+  pub asks : IsResolved r.script.topology (look_up (world (record r { steps = early }))) takes.request resolved
   pub duplicates : Duplicates
   pub taken : AreOfLocks r client duplicates
-  pub touched : (w : World) → IsOfRequest r.script.topology w request resolved duplicates → touches r.script.topology w request id.0 ≡ true
+  pub touched : (w : World) → IsOfRequest r.script.topology w takes.request resolved duplicates → touches r.script.topology w takes.request id.0 ≡ true
+
+-- the object is next by the groups, or a check has asked for it
+abbrev pub MayTake : Run → ℕ → Ticket → ObjId → Type 0
+MayTake r client t id = IsNextByGroups r client t id ⊎ MayAskFor r client t id
 
 -- Decisions
 

@@ -2,6 +2,7 @@
 -- of CRTCs); `drm_atomic_helper.c`, commit_tail (the order of a tail).
 use Rattle.std.specs.Prelude.{ℕ, suc, ◌≤◌, ◌≡◌, ◌==◌, ◌&&◌, nat_le, Bool, true, false, List, [], ◌∷◌, ◌++◌, All}
 use Prim.Native.Nat.{zero-le, suc-le-suc}
+use Rattle.kms_model.specs.declared.objects.Kind.{Kind}
 use Rattle.kms_model.specs.declared.objects.Kind.TheVariants.{Crtc, Plane}
 use Rattle.kms_model.specs.declared.objects.ObjId.{ObjId}
 use Rattle.kms_model.specs.declared.objects.Topology.{Topology}
@@ -70,6 +71,11 @@ is_legal r step = legal r.script (machine r) step
 -- an object is the CRTC or the plane that a commit writes next
 abbrev pub may_write : Run → ℕ → ObjId → Bool
 may_write r k id = nat_le (first_id (kind_of id.0)) id.0 && is_legal r (write_step k id)
+
+-- the step of a commit that flushes an object, or else writes it
+abbrev pub part_of : Bool → ℕ → Kind → ℕ → Step
+part_of true k kind index = Flush k kind index
+part_of false k kind index = Write k kind index
 
 -- What a worker may do for a commit that it claimed, in order: the writes of CRTCs and of planes, the flushes, and the end. The
 -- first that is legal is the first that is left.

@@ -21,7 +21,8 @@ use Rattle.kms_core.specs.Run.{machine}
 use Rattle.kms_device.specs.declared.attempt.Attempt.{Attempt}
 use Rattle.kms_device.specs.declared.attempt.Attempted.{Attempted}
 use Rattle.kms_device.specs.declared.attempt.Attempted.TheVariants as attempted
-use Rattle.kms_device.specs.Attempts.{GoesOnAt, IsAttempt, MayAttempt, Serves, Went, new_attempt}
+use Rattle.kms_device.specs.declared.tries.Work.{Work}
+use Rattle.kms_device.specs.Attempts.{GoesOnAt, IsAttempt, MayAttempt, Serves, StaysAt, Went, new_attempt, taken_in}
 use Rattle.kms_device.specs.Turns.{DevicePass, IsOpen, Turn, seen}
 
 -- What an attempt is given, once a turn has shown where the client of the pass stands.
@@ -38,6 +39,15 @@ pub record Takes (script : Script) (pass : DevicePass) (t : Ticket) (request : R
 abbrev pub with_looks : List (ℕ × Look) → Duplicates → Attempt
 with_looks looks states = record { looks = Some looks; states = states }
 
+-- what is kept of what a client works with
+abbrev pub kept_in : Work → Attempt
+kept_in work = with_looks work.looks work.states
+
+-- The client takes locks for the request in the context, and the look-ups and the states serve.
+pub record Works (script : Script) (pass : DevicePass) (work : Work) : Type 0 where
+  pub ready : IsReady script pass (kept_in work)
+  pub takes : Takes script pass work.t work.request.now
+
 -- What an attempt did and keeps: the next can be made with it.
 pub record DidAndKeeps (script : Script) (before : DevicePass) (kept : Attempt) (after : DevicePass) (did : Attempted) (keeps : Attempt) : Type 0 where
   pub is_attempt : IsAttempt script before.rank before kept after keeps did
@@ -47,15 +57,11 @@ pub record DidAndKeeps (script : Script) (before : DevicePass) (kept : Attempt) 
 -- no step was made, and the next attempt can be made
 pub record DidNothing (script : Script) (before after : DevicePass) : Type 0 where
   pub went : Went [] before after
-  pub may : MayAttempt (seen script after) before.rank
+  pub stays : StaysAt (seen script before) (seen script after) before.rank
 
 abbrev pub Tried : {E : Type 0} → Script → DevicePass → Attempt → DevicePass → Result (Attempted × Attempt) E → Type 0
 Tried script before kept after (Ok did) = DidAndKeeps script before kept after did.0 did.1
 Tried script before kept after (Err e) = DidNothing script before after
-
--- states with that of an object that is not among them
-abbrev pub taken_in : Duplicates → ℕ → ObjState → Duplicates
-taken_in d id s = if may_duplicate d id s then duplicated d id s else d
 
 abbrev pub with_state : Attempt → ObjId → ObjState → Attempt
 with_state kept id s = record kept { states = taken_in kept.states id.0 s }

@@ -1,6 +1,7 @@
 //! A client's request, one step at a time, and whole.
-ghost use Rattle.std.specs.Prelude.{◌≡◌, [], IfOk, OnErr};
-ghost use Rattle.kms_device.specs.Attempts.{BrokenOff, Committed, GoesOnAt, IsAttempt, MayAttempt, Serves, Went, new_attempt};
+ghost use Rattle.std.specs.Prelude.{◌≡◌, ℕ, [], IfOk, OnErr};
+ghost use Rattle.kms_core.specs.Run.{Run};
+ghost use Rattle.kms_device.specs.Attempts.{BrokenOff, Committed, GoesOnAt, IsAttempt, MayAttempt, Serves, StaysAt, Went, new_attempt};
 ghost use Rattle.kms_device.specs.Turns.{seen};
 
 use crate::device::Device;
@@ -38,9 +39,10 @@ pub enum Attempted {
 }
 
 impl Attempt {
-    /// One that serves wherever a client stands.
+    /// One that serves wherever a client stands, in each history.
     pub fn new() -> Attempt
-        ensures { result ≡ new_attempt }
+        ensures anew { result ≡ new_attempt }
+        ensures serves { (r : Run) (client : ℕ) → Serves r client result }
     {
         Attempt {
             looks: None,
@@ -74,7 +76,8 @@ impl Device {
             (seen self.now.script pass.new) client) }
         ensures serves { Serves (seen self.now.script pass.new) client kept.new }
         ensures no_step { OnErr result (Went [] pass.old pass.new) }
-        ensures may { OnErr result (MayAttempt (seen self.now.script pass.new) client) }
+        ensures stays { OnErr result (StaysAt (seen self.now.script pass.old)
+            (seen self.now.script pass.new) client) }
         ensures anew { OnErr result (kept.new ≡ new_attempt) }
     {
         let old = replace(kept, Attempt::new());

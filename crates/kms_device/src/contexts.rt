@@ -3,7 +3,7 @@ ghost use Rattle.std.specs.Prelude.{◌≡◌, ◌∷◌, [], IfOk, ⊤};
 ghost use Rattle.kms_model.specs.declared.replies.Step.TheVariants as step;
 ghost use Rattle.kms_core.specs.Locks.{MayBegin, lock_steps, locked_answer, relock_steps, relocked_answer};
 ghost use Rattle.kms_core.specs.Run.{if_ok, machine};
-ghost use Rattle.kms_device.specs.Asking.{HasBackedOff, MayAskFor, MustBackOff};
+ghost use Rattle.kms_device.specs.Asking.{HasBackedOff, MayTake, MustBackOff};
 ghost use Rattle.kms_device.specs.Turns.{Turn, seen};
 
 use crate::device::Device;
@@ -34,8 +34,9 @@ impl Device {
     }
 
     /// Asks for an object in the context of a ticket, which takes locks, as the machine's `lock` does. The context is that of the
-    /// client of the pass. A check of states that its locks gave has asked for the object, so that it is in the reach of the
-    /// request, whatever others did since. `Own` and `Younger` make no step, nor does want of memory.
+    /// client of the pass. Either each label of the request is made, the object is in its reach, and the context holds the groups of
+    /// objects before that of the object; or a check of states that its locks gave has asked for the object. Then it is in the reach
+    /// of the request, whatever others did since. `Own` and `Younger` make no step, nor does want of memory.
     pub fn lock<W: Wait>(
         &self,
         rt: &W,
@@ -44,7 +45,7 @@ impl Device {
         id: ObjId,
     ) -> Result<Locked, NoMemory>
         requires own { pass.old.lock ≡ self.now.lock }
-        requires may { MayAskFor (seen self.now.script pass.old) pass.old.rank t id }
+        requires may { MayTake (seen self.now.script pass.old) pass.old.rank t id }
         ensures { Turn self.now.script
             (λ found. IfOk result (λ a. a ≡ locked_answer found pass.old.rank id))
             (if_ok result (lock_steps pass.old.rank id)) pass.old pass.new }

@@ -6,7 +6,7 @@ ghost use Rattle.kms_model.specs.Request.Flags.{is_test};
 ghost use Rattle.kms_check.specs.Moves.{AcceptedAs, AsksFor, RefusedBy};
 ghost use Rattle.kms_core.specs.Run.{machine};
 ghost use Rattle.kms_device.specs.Attempts.{MayAttempt, Serves};
-ghost use Rattle.kms_device.specs.Trying.{Concludes, IsReady, LooksInVain, Takes, Tried, attempted_of, kept_of, with_looks, with_state};
+ghost use Rattle.kms_device.specs.Trying.{Concludes, IsReady, LooksInVain, Takes, Tried, Works, attempted_of, kept_in, kept_of, with_state};
 ghost use Rattle.kms_device.specs.Turns.{seen};
 
 use crate::attempt::{Attempt, Attempted};
@@ -135,30 +135,24 @@ impl Device {
     {
         let Attempt { looks, states } = kept;
         match looks {
-            Some(looks) => self.move_with(
-                rt,
-                alloc,
-                pass,
-                Work {
+            Some(looks) => {
+                let work = Work {
                     t,
                     request,
                     looks,
                     states,
-                },
-            ),
+                };
+                self.move_with(rt, alloc, pass, work)
+            }
             None => {
                 let looks = self.lookups(rt, alloc, pass, request)?;
-                self.move_with(
-                    rt,
-                    alloc,
-                    pass,
-                    Work {
-                        t,
-                        request,
-                        looks,
-                        states,
-                    },
-                )
+                let work = Work {
+                    t,
+                    request,
+                    looks,
+                    states,
+                };
+                self.move_with(rt, alloc, pass, work)
             }
         }
     }
@@ -172,10 +166,8 @@ impl Device {
         work: Work,
     ) -> Result<(Attempted, Attempt), NoMemory>
         requires own { pass.old.lock ≡ self.now.lock }
-        requires ready { IsReady self.now.script pass.old (with_looks work.looks work.states) }
-        requires takes { Takes self.now.script pass.old work.t work.request.now }
-        ensures { Tried self.now.script pass.old (with_looks work.entry.looks work.entry.states)
-            pass.new result }
+        requires works { Works self.now.script pass.old work }
+        ensures { Tried self.now.script pass.old (kept_in work.entry) pass.new result }
     {
         let topology = &self.script().topology;
         match next_move(alloc, topology, work.request, &work.looks, &work.states)? {
@@ -196,12 +188,10 @@ impl Device {
         work: Work,
     ) -> Result<(Attempted, Attempt), NoMemory>
         requires own { pass.old.lock ≡ self.now.lock }
-        requires ready { IsReady self.now.script pass.old (with_looks work.looks work.states) }
-        requires takes { Takes self.now.script pass.old work.t work.request.now }
+        requires works { Works self.now.script pass.old work }
         requires asks { AsksFor self.now.script.topology work.request.now work.looks work.states
             id }
-        ensures { Tried self.now.script pass.old (with_looks work.entry.looks work.entry.states)
-            pass.new result }
+        ensures { Tried self.now.script pass.old (kept_in work.entry) pass.new result }
     {
         let answer = self.lock(rt, pass, work.t, id)?;
         Ok(after_lock(pass.seen_len(), id, answer, work.into_kept()))
@@ -217,12 +207,10 @@ impl Device {
         work: Work,
     ) -> Result<(Attempted, Attempt), NoMemory>
         requires own { pass.old.lock ≡ self.now.lock }
-        requires ready { IsReady self.now.script pass.old (with_looks work.looks work.states) }
-        requires takes { Takes self.now.script pass.old work.t work.request.now }
+        requires works { Works self.now.script pass.old work }
         requires refused { RefusedBy self.now.script.topology work.request.now work.looks
             work.states why }
-        ensures { Tried self.now.script pass.old (with_looks work.entry.looks work.entry.states)
-            pass.new result }
+        ensures { Tried self.now.script pass.old (kept_in work.entry) pass.new result }
     {
         let answer = self.refuse(rt, pass, work.t, &work.looks, why)?;
         self.conclude(rt, alloc, pass, answer, work)
@@ -239,12 +227,10 @@ impl Device {
         work: Work,
     ) -> Result<(Attempted, Attempt), NoMemory>
         requires own { pass.old.lock ≡ self.now.lock }
-        requires ready { IsReady self.now.script pass.old (with_looks work.looks work.states) }
-        requires takes { Takes self.now.script pass.old work.t work.request.now }
+        requires works { Works self.now.script pass.old work }
         requires accepted { AcceptedAs self.now.script.topology work.request.now work.looks
             work.states checked.now resolved.now }
-        ensures { Tried self.now.script pass.old (with_looks work.entry.looks work.entry.states)
-            pass.new result }
+        ensures { Tried self.now.script pass.old (kept_in work.entry) pass.new result }
     {
         if is_test(work.request.flags) {
             let answer = self.test(rt, pass, work.t, &work.looks, checked)?;
@@ -265,7 +251,7 @@ impl Device {
     ) -> Result<(Attempted, Attempt), NoMemory>
         requires own { pass.old.lock ≡ self.now.lock }
         ensures did { IfOk result (λ did. Concludes self.now.script work.entry.request.now
-            (with_looks work.entry.looks work.entry.states) pass.old answer pass.new did.0 did.1) }
+            (kept_in work.entry) pass.old answer pass.new did.0 did.1) }
         ensures vain { OnErr result (LooksInVain self.now.script answer pass.old pass.new) }
     {
         match answer {
@@ -287,7 +273,7 @@ impl Device {
 /// What a client works with that takes locks for its request in the context of a ticket: what the request's labels named, and the
 /// states that its locks gave.
 #[derive(Drop)]
-struct Work<'a> {
+pub(crate) struct Work<'a> {
     t: Ticket,
     request: &'a Request,
     looks: Lookups,
@@ -296,11 +282,11 @@ struct Work<'a> {
 
 impl<'a> Work<'a> {
     ghost use Rattle.std.specs.Prelude.{◌≡◌};
-    ghost use Rattle.kms_device.specs.Trying.{with_looks};
+    ghost use Rattle.kms_device.specs.Trying.{kept_in};
 
     /// What is kept of it.
     fn into_kept(self) -> Attempt
-        ensures { result ≡ with_looks self.entry.looks self.entry.states }
+        ensures { result ≡ kept_in self.entry }
     {
         Attempt {
             looks: Some(self.looks),

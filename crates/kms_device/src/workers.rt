@@ -6,7 +6,7 @@ ghost use Rattle.kms_model.specs.declared.objects.Kind.TheVariants.{Crtc};
 ghost use Rattle.kms_model.specs.declared.replies.Step.TheVariants as step;
 ghost use Rattle.kms_core.specs.Run.{Run, gains};
 ghost use Rattle.kms_core.specs.Work.{claim_steps, first_claim, write_step};
-ghost use Rattle.kms_device.specs.Steps.{blanks_at, is_legal, may_write, step_if, tail_of};
+ghost use Rattle.kms_device.specs.Steps.{blanks_at, is_legal, may_write, part_of, step_if, tail_of};
 ghost use Rattle.kms_device.specs.Turns.{Turn};
 
 use crate::device::Device;
@@ -153,13 +153,13 @@ fn work_on(core: &mut Core, commit: u32) -> Option<Step>
     core.is_a_history();
     let crtcs = core.script().topology.crtcs;
     let planes = core.script().topology.planes.len() as u32;
-    if let Some(index) = first_write(core, commit, Kind::Crtc, crtcs) {
+    if let Some(index) = first_left(core, commit, Kind::Crtc, crtcs, false) {
         return Some(write_object(core, commit, Kind::Crtc, index));
     }
-    if let Some(index) = first_write(core, commit, Kind::Plane, planes) {
+    if let Some(index) = first_left(core, commit, Kind::Plane, planes, false) {
         return Some(write_object(core, commit, Kind::Plane, index));
     }
-    if let Some(index) = first_flush(core, commit, crtcs) {
+    if let Some(index) = first_left(core, commit, Kind::Crtc, crtcs, true) {
         flush(core, commit, index);
         return Some(Step::Flush {
             commit,
@@ -177,32 +177,30 @@ fn work_on(core: &mut Core, commit: u32) -> Option<Step>
     None
 }
 
-/// The index of the first object of a kind, of so many, that a commit may write.
-fn first_write(core: &Core, commit: u32, kind: Kind, count: u32) -> Option<u32>
-    ensures { result ≡ find (λ index. is_legal core.now (step.Write commit kind index))
+/// The index of the first object of a kind, of so many, that a commit may flush, or else write.
+fn first_left(core: &Core, commit: u32, kind: Kind, count: u32, flushes: bool) -> Option<u32>
+    ensures { result ≡ find (λ index. is_legal core.now (part_of flushes commit kind index))
         (range_with_len 0 count) }
 {
-    (0..count).find(|index| {
-        core.legal(&Step::Write {
-            commit,
-            kind,
-            index: *index,
-        })
-    })
+    (0..count).find(|index| core.legal(&part(flushes, commit, kind, *index)))
 }
 
-/// The index of the first CRTC, of so many, that a commit may flush.
-fn first_flush(core: &Core, commit: u32, count: u32) -> Option<u32>
-    ensures { result ≡ find (λ index. is_legal core.now (step.Flush commit Crtc index))
-        (range_with_len 0 count) }
+/// The step of a commit that flushes an object, or else writes it.
+fn part(flushes: bool, commit: u32, kind: Kind, index: u32) -> Step
+    ensures { result ≡ part_of flushes commit kind index }
 {
-    (0..count).find(|index| {
-        core.legal(&Step::Flush {
+    if flushes {
+        return Step::Flush {
             commit,
-            kind: Kind::Crtc,
-            index: *index,
-        })
-    })
+            kind,
+            index,
+        };
+    }
+    Step::Write {
+        commit,
+        kind,
+        index,
+    }
 }
 
 /// Writes the object of a kind with an index, which a commit writes next, and gives the step.

@@ -23,10 +23,11 @@ use Rattle.kms_pool.specs.declared.player.Turn.TheVariants.{Did, Ended, NotYet}
 use Rattle.kms_core.specs.Calls.{idle_command_at, only_if}
 use Rattle.kms_core.specs.Run.{Run, machine}
 use Rattle.kms_device.specs.declared.attempt.Attempt.{Attempt}
-use Rattle.kms_device.specs.Attempts.{MayAttempt, Serves, Went, new_attempt}
+use Rattle.kms_device.specs.Attempts.{MayAttempt, Serves, StaysAt, Went, new_attempt}
 use Rattle.kms_device.specs.Turns.{DevicePass, IsOpen, Turn, seen}
 use Rattle.kms_players.specs.Players.{name_of}
-use Rattle.kms_players.specs.PlayerTurns.{AttemptTurn, ClientTurn, PlainTurn, Plays}
+use Rattle.kms_players.specs.PlayerTurns.{AttemptTurn, ClientTurn, PlainTurn, Plays, RequestTurn}
+use Rattle.kms_players.specs.UnderWay.{IsAttempting}
 use Rattle.kms_players.proofs.Waits.{seen-found, turn_name, went_name}
 
 -- what is new serves wherever a client stands
@@ -103,12 +104,21 @@ module _ (script : Script) (client : ℕ) (place : Place) (before told : DeviceP
   commands : command_at script (machine (seen script told)) client ≡ command_of script (record { client = client; command = place.command })
   commands = ap (λ (p : Place). command_of script (record { client = client; command = p.command })) stands
 
+  pub at_command : (place_at (machine (seen script told)) client).command ≡ place.command
+  at_command = ap (λ (p : Place). p.command) stands
+
   module _ (awake : (k : ℕ) → place.doing ≡ doing.Returning k → ⊥) where
     awake_told : returning_of (doing_at (machine (seen script told)) client) ≡ None
     awake_told = ap (λ (p : Place). returning_of p.doing) stands ∙ returning_not place.doing awake
 
     pub may_attempt : (r : Request) → command_of script (record { client = client; command = place.command }) ≡ Some (command.Atomic r) → MayAttempt (seen script told) client
     may_attempt r e = record { request = r; at = ap request_in (commands ∙ e); awake = awake_told }
+
+    pub attempting_anew : (r : Request) (kept : Attempt) → command_of script (record { client = client; command = place.command }) ≡ Some (command.Atomic r) → kept ≡ new_attempt
+        → IsAttempting (seen script told) client kept place.command
+    attempting_anew r kept e anew =
+        subst (λ kept. IsAttempting (seen script told) client kept place.command) (sym anew)
+        (record { may = may_attempt r e; at = at_command; serves = serves_new (seen script told) client })
 
     pub idle_told : (c : Command) → ((r : Request) → c ≡ command.Atomic r → ⊥) → command_of script (record { client = client; command = place.command }) ≡ Some c
         → (idle_command_at (seen script told) client ≡ Some c) × (request_in (Some c) ≡ None)
@@ -125,6 +135,10 @@ module _ (script : Script) (client : ℕ) (place : Place) (before told : DeviceP
       left = t.left;
     }
 
+-- a client that makes attempts at a request makes them still after one that gave no reply
+pub attempting_on : (before after : Run) (client number : ℕ) (old new : Attempt) → IsAttempting before client old number → StaysAt before after client → Serves after client new → IsAttempting after client new number
+attempting_on before after client number old new is stays serves = record { may = stays.may; at = stays.command ∙ is.at; serves = serves }
+
 -- a client's turn, after it was told where it stands, or knew
 
 pub plays_plain : (script : Script) (client : ℕ) (before told after : DevicePass) (kept : Attempt) (answer : pool.Turn) → Went [] before told → PlainTurn script client told after answer → ClientTurn script client before kept after kept answer
@@ -132,10 +146,10 @@ plays_plain script client before told after kept Did went did = record { told = 
 plays_plain script client before told after kept (NotYet n) went did = record { told = told; went = went; did = inl did }
 plays_plain script client before told after kept Ended went did = absurd did
 
-pub plays_attempt : (script : Script) (client : ℕ) (before told after : DevicePass) (old new : Attempt) (answer : pool.Turn) → Went [] before told → AttemptTurn script client told old after new answer → ClientTurn script client before old after new answer
+pub plays_attempt : (script : Script) (client : ℕ) (before told after : DevicePass) (old new : Attempt) (answer : pool.Turn) → Went [] before told → RequestTurn script client told old after new answer → ClientTurn script client before old after new answer
 plays_attempt script client before told after old new Did went did = record { told = told; went = went; did = inr did }
 plays_attempt script client before told after old new (NotYet n) went did = record { told = told; went = went; did = inr did }
-plays_attempt script client before told after old new Ended went did = absurd did
+plays_attempt script client before told after old new Ended went did = absurd did.attempt
 
 -- the pass is that of the same player
 
@@ -154,9 +168,9 @@ attempt_name script client before old after new Ended s = absurd s
 
 plays_name : (script : Script) (client : ℕ) (before : DevicePass) (old : Attempt) (after : DevicePass) (new : Attempt) (answer : pool.Turn) → Plays script client before old after new answer → name_of after ≡ name_of before
 plays_name script client before old after new answer t = did t.did ∙ went_name [] before t.told t.went where
-  did : PlainTurn script client t.told after answer ⊎ AttemptTurn script client t.told old after new answer → name_of after ≡ name_of t.told
+  did : PlainTurn script client t.told after answer ⊎ RequestTurn script client t.told old after new answer → name_of after ≡ name_of t.told
   did (inl s) = plain_name script client t.told after answer s
-  did (inr s) = attempt_name script client t.told old after new answer s
+  did (inr s) = attempt_name script client t.told old after new answer s.attempt
 
 pub client_name : (script : Script) (client : ℕ) (before : DevicePass) (old : Attempt) (after : DevicePass) (new : Attempt) (answer : pool.Turn) → ClientTurn script client before old after new answer → name_of after ≡ name_of before
 client_name script client before old after new Ended t = turn_name script _ [] before after t
@@ -166,10 +180,10 @@ client_name script client before old after new (NotYet n) t = plays_name script 
 -- the same by the whole answer, which may be want of memory
 
 module _ {E : Type 0} (script : Script) (client : ℕ) (before told after : DevicePass) (old new : Attempt) (r : Result (pool.Turn × Option ℕ) E) where
-  pub ok_attempt : Went [] before told → IfOk r (λ x. AttemptTurn script client told old after new x.0) → IfOk r (λ x. ClientTurn script client before old after new x.0)
-  ok_attempt went h = of r h where
+  pub ok_attempt : Went [] before told → MayAttempt (seen script told) client → IfOk r (λ x. AttemptTurn script client told old after new x.0) → IfOk r (λ x. ClientTurn script client before old after new x.0)
+  ok_attempt went may h = of r h where
     of : (r : Result (pool.Turn × Option ℕ) E) → IfOk r (λ x. AttemptTurn script client told old after new x.0) → IfOk r (λ x. ClientTurn script client before old after new x.0)
-    of (Ok x) h = plays_attempt script client before told after old new x.0 went h
+    of (Ok x) h = plays_attempt script client before told after old new x.0 went (record { may = may; attempt = h })
     of (Err e) h = tt
 
 pub err_then : {A E P Q : Type 0} (r : Result A E) → (P → Q) → OnErr r P → OnErr r Q

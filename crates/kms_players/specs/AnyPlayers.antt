@@ -4,6 +4,7 @@ use Rattle.kms_pool.specs.declared.player.Turn.{Turn}
 use Rattle.kms_device.specs.Turns.{DevicePass}
 use Rattle.kms_players.specs.declared.any.AnyPlayer.{AnyPlayer}
 use Rattle.kms_players.specs.declared.any.AnyPlayer.TheVariants.{Client, Vblank, Worker}
+use Rattle.kms_players.specs.Took.{ClientTook, TickTook, WorkerTook}
 
 module _ {G : Type 0} where
   abbrev pub pass_of : AnyPlayer G → DevicePass
@@ -16,3 +17,10 @@ module _ {G : Type 0} where
   answer_of (Client c) = c.last
   answer_of (Worker w) = w.last
   answer_of (Vblank t) = t.last
+
+  -- what a turn was, which no player spends as one of another kind
+  abbrev pub Took : AnyPlayer G → AnyPlayer G → Turn → Type 0
+  Took (Client before) (Client after) answer = ClientTook before after answer
+  Took (Worker before) (Worker after) answer = WorkerTook before after answer
+  Took (Vblank before) (Vblank after) answer = TickTook before after answer
+  Took _ _ answer = ⊥

@@ -1,4 +1,5 @@
 pub mod Players
 pub mod PlayerTurns
 pub mod UnderWay
+pub mod Took
 pub mod AnyPlayers

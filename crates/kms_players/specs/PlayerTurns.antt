@@ -20,9 +20,9 @@ use Rattle.kms_core.specs.Work.{first_claim}
 use Rattle.kms_device.specs.declared.attempt.Attempt.{Attempt}
 use Rattle.kms_device.specs.declared.attempt.Attempted.{Attempted}
 use Rattle.kms_device.specs.declared.attempt.Attempted.TheVariants as attempted
-use Rattle.kms_device.specs.Attempts.{IsAttempt, Went}
+use Rattle.kms_device.specs.Attempts.{IsAttempt, MayAttempt, Went}
 use Rattle.kms_device.specs.Steps.{blanks_at, is_legal, step_if, tail_of}
-use Rattle.kms_device.specs.Turns.{DevicePass, Turn}
+use Rattle.kms_device.specs.Turns.{DevicePass, Turn, seen}
 
 -- A client's turn
 
@@ -66,11 +66,16 @@ AttemptTurn script client before old after new Did =
 AttemptTurn script client before old after new (NotYet n) = IsAttempt script client before old after new (attempted.NotYet n)
 AttemptTurn script client before old after new Ended = ⊥
 
+-- a client that stands at a request, and does not wait for a commit of its own, made an attempt at it
+pub record RequestTurn (script : Script) (client : ℕ) (before : DevicePass) (old : Attempt) (after : DevicePass) (new : Attempt) (answer : pool.Turn) : Type 0 where
+  pub may : MayAttempt (seen script before) client
+  pub attempt : AttemptTurn script client before old after new answer
+
 -- It was told where it stands, unless it knew, which makes no step: then it made its step, or an attempt.
 pub record Plays (script : Script) (client : ℕ) (before : DevicePass) (old : Attempt) (after : DevicePass) (new : Attempt) (answer : pool.Turn) : Type 0 where
   pub told : DevicePass
   pub went : Went [] before told
-  pub did : PlainTurn script client told after answer ⊎ AttemptTurn script client told old after new answer
+  pub did : PlainTurn script client told after answer ⊎ RequestTurn script client told old after new answer
 
 -- a client's turn, by its answer
 abbrev pub ClientTurn : Script → ℕ → DevicePass → Attempt → DevicePass → Attempt → pool.Turn → Type 0

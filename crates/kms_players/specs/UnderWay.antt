@@ -1,6 +1,7 @@
 -- What a client keeps true of itself between its turns. From: this device's own.
 use Rattle.std.specs.Prelude.{◌≡◌, ◌≤◌, ℕ, length, Option, Some, None}
-use Rattle.kms_core.specs.Run.{Run}
+use Rattle.kms_model.specs.Machine.State.{place_at}
+use Rattle.kms_core.specs.Run.{Run, machine}
 use Rattle.kms_device.specs.declared.attempt.Attempt.{Attempt}
 use Rattle.kms_device.specs.Attempts.{MayAttempt, Serves, new_attempt}
 use Rattle.kms_device.specs.Turns.{DevicePass, DeviceState}
@@ -12,7 +13,13 @@ pub record IsAtDevice (device : DeviceState) (client : ℕ) (pass : DevicePass) 
   pub low : 1 ≤ client
   pub high : client ≤ length device.script.clients
 
--- What a client keeps serves for an attempt at the command with a number; where none is under way, it is new.
+-- a client stands at the command with a number, which is a request, and what it keeps serves for an attempt at it
+pub record IsAttempting (r : Run) (client : ℕ) (kept : Attempt) (number : ℕ) : Type 0 where
+  pub may : MayAttempt r client
+  pub at : (place_at (machine r) client).command ≡ number
+  pub serves : Serves r client kept
+
+-- whether an attempt is under way, and at which command; where none is, what the client keeps is new
 abbrev pub IsUnderWay : Run → ℕ → Attempt → Option ℕ → Type 0
 IsUnderWay r client kept None = kept ≡ new_attempt
-IsUnderWay r client kept (Some number) = MayAttempt r client × Serves r client kept
+IsUnderWay r client kept (Some number) = IsAttempting r client kept number

@@ -1,7 +1,7 @@
 //! Players of every kind.
 ghost use Rattle.std.specs.Prelude.{◌≡◌};
 ghost use Rattle.kms_players.specs.Players.{name_of};
-ghost use Rattle.kms_players.specs.AnyPlayers.{answer_of, pass_of};
+ghost use Rattle.kms_players.specs.AnyPlayers.{Took, answer_of, pass_of};
 
 use crate::client::Client;
 use crate::name::Name;
@@ -44,6 +44,8 @@ impl<'a, G: Gate> Player for AnyPlayer<'a, G> {
     ghost name = { λ p. name_of (pass_of p) };
 
     ghost answer = { answer_of };
+
+    ghost took = { Took };
 
     fn turn<W: Wait>(&mut self, rt: &W, alloc: Global) -> Result<Turn, NoMemory> {
         match self {

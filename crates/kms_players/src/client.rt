@@ -3,6 +3,7 @@ ghost use Rattle.std.specs.Prelude.{◌≡◌, ◌≤◌, [], length, Some, None
 ghost use Rattle.kms_device.specs.Attempts.{Went, new_attempt};
 ghost use Rattle.kms_players.specs.Players.{name_of};
 ghost use Rattle.kms_players.specs.PlayerTurns.{ClientTurn};
+ghost use Rattle.kms_players.specs.Took.{ClientTook};
 
 use crate::name::Name;
 use crate::site::Site;
@@ -101,6 +102,8 @@ impl<'a, G: Gate> Player for Client<'a, G> {
     ghost name = { λ c. name_of c.pass };
 
     ghost answer = { λ c. c.last };
+
+    ghost took = { ClientTook };
 
     fn turn<W: Wait>(&mut self, rt: &W, alloc: Global) -> Result<Turn, NoMemory> {
         self.play(rt, alloc)

@@ -1,14 +1,15 @@
 //! What a client does in a turn.
 ghost use Rattle.std.specs.Prelude.{◌≡◌, [], Some, None, IfOk, OnErr, option_copied};
 ghost use Rattle.kms_model.specs.Device.Serial.{command_of};
-ghost use Rattle.kms_model.specs.Machine.State.{request_in};
+ghost use Rattle.kms_model.specs.Machine.State.{place_at, request_in};
 ghost use Rattle.kms_pool.specs.declared.player.Turn.TheVariants.{Did};
 ghost use Rattle.kms_core.specs.Calls.{MayRead, MayReturn, idle_command_at};
-ghost use Rattle.kms_device.specs.Attempts.{MayAttempt, Serves, Went, new_attempt};
+ghost use Rattle.kms_core.specs.Run.{machine};
+ghost use Rattle.kms_device.specs.Attempts.{Went, new_attempt};
 ghost use Rattle.kms_device.specs.Turns.{IsOpen, seen};
 ghost use Rattle.kms_players.specs.Players.{name_of};
 ghost use Rattle.kms_players.specs.PlayerTurns.{AttemptTurn, ClientTurn, PlainTurn};
-ghost use Rattle.kms_players.specs.UnderWay.{IsAtDevice, IsUnderWay};
+ghost use Rattle.kms_players.specs.UnderWay.{IsAtDevice, IsAttempting, IsUnderWay};
 
 use kms_device::{Attempt, Attempted, Device, Pass};
 use kms_io::{Gate, Point};
@@ -99,18 +100,16 @@ impl<'a, G: Gate> Site<'a, G> {
     ) -> Result<(Turn, Option<u32>), NoMemory>
         requires own { pass.old.lock ≡ self.now.device.now.lock }
         requires whose { pass.old.rank ≡ self.now.client }
-        requires may { MayAttempt (seen self.now.device.now.script pass.old) self.now.client }
-        requires serves { Serves (seen self.now.device.now.script pass.old) self.now.client kept.old }
+        requires attempting { IsAttempting (seen self.now.device.now.script pass.old)
+            self.now.client kept.old number }
         ensures turn { IfOk result (λ r. AttemptTurn self.now.device.now.script self.now.client
             pass.old kept.old pass.new kept.new r.0) }
         ensures under_way { IfOk result (λ r. IsUnderWay (seen self.now.device.now.script pass.new)
             self.now.client kept.new r.1) }
         ensures no_step { OnErr result (Went [] pass.old pass.new) }
-        ensures may { OnErr result
-            (MayAttempt (seen self.now.device.now.script pass.new) self.now.client) }
+        ensures attempting { OnErr result
+            (IsAttempting (seen self.now.device.now.script pass.new) self.now.client kept.new number) }
         ensures anew { OnErr result (kept.new ≡ new_attempt) }
-        ensures serves { OnErr result
-            (Serves (seen self.now.device.now.script pass.new) self.now.client kept.new) }
     {
         match self
             .device
@@ -158,6 +157,8 @@ impl<'a, G: Gate> Site<'a, G> {
         requires idle { idle_command_at (seen self.now.device.now.script pass.old) self.now.client
             ≡ Some command.now }
         requires no_request { request_in (Some command.now) ≡ None }
+        requires at { (place_at (machine (seen self.now.device.now.script pass.old))
+            self.now.client).command ≡ number }
         ensures turn { IfOk result
             (PlainTurn self.now.device.now.script self.now.client pass.old pass.new) }
         ensures no_step { OnErr result (Went [] pass.old pass.new) }
@@ -181,6 +182,8 @@ impl<'a, G: Gate> Site<'a, G> {
         requires own { pass.old.lock ≡ self.now.device.now.lock }
         requires whose { pass.old.rank ≡ self.now.client }
         requires may { MayRead (seen self.now.device.now.script pass.old) self.now.client }
+        requires at { (place_at (machine (seen self.now.device.now.script pass.old))
+            self.now.client).command ≡ number }
         ensures turn { IfOk result
             (PlainTurn self.now.device.now.script self.now.client pass.old pass.new) }
         ensures no_step { OnErr result (Went [] pass.old pass.new) }

@@ -2,6 +2,7 @@
 ghost use Rattle.std.specs.Prelude.{◌≡◌, ◌<◌, length, Some, None};
 ghost use Rattle.kms_players.specs.Players.{name_of};
 ghost use Rattle.kms_players.specs.PlayerTurns.{TickTurn};
+ghost use Rattle.kms_players.specs.Took.{TickTook};
 
 use crate::name::Name;
 use crate::resting::rest;
@@ -79,6 +80,8 @@ impl<'a, G: Gate> Player for VblankTick<'a, G> {
     ghost name = { λ t. name_of t.pass };
 
     ghost answer = { λ t. t.last };
+
+    ghost took = { TickTook };
 
     fn turn<W: Wait>(&mut self, rt: &W, _alloc: Global) -> Result<Turn, NoMemory> {
         Ok(self.play(rt))

@@ -2,6 +2,7 @@
 ghost use Rattle.std.specs.Prelude.{◌≡◌, ◌<◌, length, Some, None};
 ghost use Rattle.kms_players.specs.Players.{name_of};
 ghost use Rattle.kms_players.specs.PlayerTurns.{WorkerTurn, hand_after};
+ghost use Rattle.kms_players.specs.Took.{WorkerTook};
 
 use crate::name::Name;
 use crate::resting::rest;
@@ -91,6 +92,8 @@ impl<'a, G: Gate> Player for Worker<'a, G> {
     ghost name = { λ w. name_of w.pass };
 
     ghost answer = { λ w. w.last };
+
+    ghost took = { WorkerTook };
 
     fn turn<W: Wait>(&mut self, rt: &W, _alloc: Global) -> Result<Turn, NoMemory> {
         Ok(self.play(rt))

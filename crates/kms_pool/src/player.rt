@@ -31,8 +31,12 @@ pub trait Player: Drop {
     // What its last turn came to; none before its first.
     ghost answer: { Self → Option Turn };
 
+    // What a turn was: who took it, as it was before and as it is afterwards, and what the turn came to.
+    ghost took: { Self → Self → Turn → Type 0 };
+
     /// One turn, which may wait for others. The player stays who it is. The only error is want of memory.
     fn turn<W: Wait>(&mut self, rt: &W, alloc: Global) -> Result<Turn, NoMemory>
         ensures name { name self.new ≡ name self.old }
-        ensures answer { IfOk result (λ t. answer self.new ≡ Some t) };
+        ensures answer { IfOk result (λ t. answer self.new ≡ Some t) }
+        ensures took { IfOk result (λ t. took self.old self.new t) };
 }

@@ -1,5 +1,10 @@
 //! When the threads of a round stop.
+use std::sync::Wait;
 use std::sync::atomic::{AtomicBool, AtomicU64, Ordering};
+use std::time::Duration;
+
+/// How many microseconds a thread sleeps that finds no turn to make.
+const NAP: u64 = 50;
 
 /// How many turns go on, and how many in a row have come to nothing. It only saves turns: whether the players have
 /// settled is asked of their answers, once no thread is at work.
@@ -9,6 +14,8 @@ pub(crate) struct Quiet {
     in_a_row: AtomicU64,
     enough: u64,
     stopped: AtomicBool,
+    // It is 0 always: threads sleep on it.
+    sleepers: AtomicU64,
 }
 
 impl Quiet {
@@ -19,6 +26,7 @@ impl Quiet {
             in_a_row: AtomicU64::new(0),
             enough,
             stopped: AtomicBool::new(false),
+            sleepers: AtomicU64::new(0),
         }
     }
 
@@ -58,6 +66,12 @@ impl Quiet {
     /// Lets no further turn begin.
     pub(crate) fn stop(&self) {
         self.stopped.store(true, Ordering::SeqCst);
+    }
+
+    /// Lets a thread that finds no turn to make sleep for a moment. Nobody wakes it.
+    pub(crate) fn nap<W: Wait>(&self, rt: &W) {
+        self.sleepers
+            .park_timeout(rt, 0, Duration::from_micros(NAP));
     }
 
     /// Whether no turn is to begin, and none goes on that may change this.

@@ -47,6 +47,9 @@ impl<'a> Player for Counter<'a> {
 
     ghost answer = { λ c. c.last };
 
+    ghost took = { λ before after turn. (after.left ≤ before.left)
+        × ((turn ≡ Turn.Ended) → before.left ≡ 0) };
+
     fn turn<W: Wait>(&mut self, _rt: &W, _alloc: Global) -> Result<Turn, NoMemory> {
         if self.number == WITHOUT_MEMORY {
             return Err(NoMemory);
@@ -59,7 +62,9 @@ impl<'a> Player for Counter<'a> {
 
 impl<'a> Counter<'a> {
     fn count(&mut self) -> Turn
-        ensures { self.new.number ≡ self.old.number }
+        ensures number { self.new.number ≡ self.old.number }
+        ensures left { self.new.left ≤ self.old.left }
+        ensures ended { result ≡ Turn.Ended → self.old.left ≡ 0 }
     {
         let going = self.counted.going.fetch_add(1, Ordering::SeqCst);
         if going == 1 {

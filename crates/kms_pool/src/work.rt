@@ -78,7 +78,7 @@ pub(crate) fn work<P: Player, W: Wait>(
                 Some(Ok(did)) => quiet.tell(*did),
                 Some(Err(_)) => quiet.stop(),
                 // There are more threads than players: it is no turn that came to nothing.
-                None => yield_now(),
+                None => quiet.nap(rt),
             }
             quiet.end();
             if let Some(Err(e)) = did {
@@ -87,7 +87,7 @@ pub(crate) fn work<P: Player, W: Wait>(
         } else if quiet.is_over() {
             return Ok(());
         } else {
-            yield_now();
+            quiet.nap(rt);
         }
     }
     unreachable!()

@@ -1,17 +1,18 @@
 -- The passes of a device, and those that come back from its players.
 use Rattle.std.proofs.Common.{◌≡◌, ℕ, zero, suc, ◌+◌, ◌≤◌, Bool, true, ◌==◌, ◌||◌, List, [], ◌∷◌, ◌++◌, length, map, refl, sym, ap, subst, ◌∙◌, arith}
-use Rattle.std.specs.Prelude.{All, Any, IsPermutation}
+use Rattle.std.specs.Prelude.{All, Any, IsPermutation, false, nat_le, if◌then◌else◌}
 use Rattle.std.specs.List.{list_any}
 use Rattle.std.proofs.lemmas.Bool.{eqb-true}
-use Rattle.std.proofs.lemmas.List.{append-nil, length-append, length-map}
+use Rattle.std.proofs.lemmas.List.{append-nil, append_assoc, length-append, length-map}
 use Rattle.std.proofs.lemmas.List.Elements.{All-append, All-cons, All-head, All-nil, All-tail}
 use Rattle.std.proofs.lemmas.List.Folds.{Any-from_list_any, list_any-append}
 use Rattle.std.proofs.lemmas.List.Sorted.{All-permutation, length_permutation, list_any-IsPermutation}
 use Rattle.kms_histlock.specs.Passes.{LockName, new_pass, new_passes}
 use Rattle.kms_model.specs.declared.scripts.Script.{Script}
 use Rattle.kms_device.specs.Turns.{DevicePass, DeviceState}
+use Rattle.kms_players.specs.AnyPlayers.{pass_of}
 use Rattle.kms_players.specs.Players.{PlayerName, name_of}
-use Rattle.kms_run.specs.Running.{AreAllPasses, IsSeat, seats_for}
+use Rattle.kms_run.specs.Running.{AreAllPasses, IsSeat, client_of, player_of, seats_for, tick_of, worker_of}
 
 -- each of the first passes of a device is one of a player
 pub new_seats : (d : DeviceState) (n : ℕ) → n ≤ seats_for d.script → All (IsSeat d) (new_passes d.lock n)
@@ -57,6 +58,34 @@ module _ (lock : LockName Script) where
   has_first (suc n) =
       let last : List DevicePass = new_pass lock (suc n + 1) ∷ [] in
       list_any-append (λ p. p.rank == 1) (passes (suc n)) last ∙ ap (λ b. b || list_any (λ p. p.rank == 1) last) (has_first n)
+
+-- The players of passes
+
+-- what was made of one more item
+pub one_made : {A B : Type 0} (f : B → A) (done after : List A) (x : A) (y : B) (left rest : List B) (all : List A)
+    → done ++ map f left ≡ all → left ≡ y ∷ rest → x ≡ f y → after ≡ done ++ x ∷ [] → after ++ map f rest ≡ all
+one_made f done after x y left rest all was next same pushed =
+    ap (λ xs. xs ++ map f rest) pushed ∙ (append_assoc done (x ∷ []) (map f rest)
+    ∙ (ap (λ z. done ++ z ∷ map f rest) same ∙ (sym (ap (λ ys. done ++ map f ys) next) ∙ was)))
+
+-- where none is left, all is made
+pub all_made : {A B : Type 0} (f : B → A) (done result : List A) (left : List B) (size : ℕ) (all : List A)
+    → done ++ map f left ≡ all → size ≡ 0 → size ≡ length left → result ≡ done → result ≡ all
+all_made f done result [] size all was none long same = same ∙ (sym (append-nil done) ∙ was)
+all_made f done result (y ∷ left) size all was none long same = absurd (omega (arith, none, long))
+
+module _ (G : Type 0) (d : DeviceState) where
+  -- whoever plays with a pass has its name
+  player_name : (p : DevicePass) → name_of (pass_of (player_of {G = G} d p)) ≡ name_of p
+  player_name p = by (nat_le p.rank (length d.script.clients)) (nat_le p.rank (length d.script.clients + 4)) where
+    by : (a b : Bool) → name_of (pass_of (if a then client_of {G = G} d p else (if b then worker_of d p else tick_of d p))) ≡ name_of p
+    by true b = refl
+    by false true = refl
+    by false false = refl
+
+  pub player_names : (ps : List DevicePass) → map (λ p. name_of (pass_of p)) (map (player_of {G = G} d) ps) ≡ map name_of ps
+  player_names [] = refl
+  player_names (p ∷ ps) = ap (λ n. n ∷ map (λ p. name_of (pass_of p)) (map (player_of {G = G} d) ps)) (player_name p) ∙ ap (λ ns. name_of p ∷ ns) (player_names ps)
 
 -- an item that is done, and its like that is left no more, have one name
 done_next : {A B C : Type 0} (f : A → C) (g : B → C) (done : List A) (x : A) (y : B) (rest : List B)

@@ -1,5 +1,5 @@
 -- The players of a run, their passes, and the history that they leave. This device's own.
-use Rattle.std.specs.Prelude.{◌≡◌, ℕ, ◌+◌, ◌≤◌, true, List, length, map, All, IsPermutation}
+use Rattle.std.specs.Prelude.{◌≡◌, ℕ, ◌+◌, ◌-◌, ◌≤◌, nat_le, true, List, length, map, None, if◌then◌else◌, All, IsPermutation}
 use Rattle.std.specs.List.{sum_by}
 use Rattle.kms_histlock.specs.Passes.{IsReached, new_passes}
 use Rattle.kms_model.specs.declared.replies.Step.{Step}
@@ -8,8 +8,11 @@ use Rattle.kms_model.specs.Machine.Histories.{is_history}
 use Rattle.kms_model.specs.Order.Rounds.{IsFinished}
 use Rattle.kms_core.specs.Run.{Run}
 use Rattle.kms_device.specs.Steps.{blankings}
+use Rattle.kms_device.specs.Attempts.{new_attempt}
 use Rattle.kms_device.specs.Turns.{DevicePass, DeviceState}
 use Rattle.kms_laws.specs.Ends.{IsOver}
+use Rattle.kms_players.specs.declared.any.AnyPlayer.{AnyPlayer}
+use Rattle.kms_players.specs.declared.any.AnyPlayer.TheVariants.{Client, Vblank, Worker}
 use Rattle.kms_players.specs.Players.{name_of}
 use Rattle.kms_run.specs.Answers.{IsContinued}
 
@@ -22,6 +25,23 @@ pub record IsSeat (d : DeviceState) (p : DevicePass) : Type 0 where
   pub own : p.lock ≡ d.lock
   pub low : 1 ≤ p.rank
   pub high : p.rank ≤ seats_for d.script
+
+-- The player of a pass, by its rank: first each client, by its number from 1 on, then four workers, by a number from 0 on, then
+-- what ticks for each CRTC, by its index. It has had no turn: a client keeps nothing of a request, and a worker has no commit.
+module _ {G : Type 0} where
+  abbrev pub client_of : DeviceState → DevicePass → AnyPlayer G
+  client_of d p = Client (record { device = d; client = p.rank; pass = p; kept = new_attempt; last = None })
+
+  abbrev pub worker_of : DeviceState → DevicePass → AnyPlayer G
+  worker_of d p = Worker (record { device = d; number = p.rank - length d.script.clients - 1; pass = p; hand = None; last = None })
+
+  abbrev pub tick_of : DeviceState → DevicePass → AnyPlayer G
+  tick_of d p = Vblank (record { device = d; crtc = p.rank - length d.script.clients - 4 - 1; pass = p; last = None })
+
+  abbrev pub player_of : DeviceState → DevicePass → AnyPlayer G
+  player_of d p =
+      if nat_le p.rank (length d.script.clients) then client_of d p
+      else (if nat_le p.rank (length d.script.clients + 4) then worker_of d p else tick_of d p)
 
 -- all passes of a device, in any order
 abbrev pub AreAllPasses : DeviceState → List DevicePass → Type 0

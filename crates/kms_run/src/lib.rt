@@ -13,6 +13,3 @@ mod words;
 pub use status::{Status, status_text};
 pub use top::{kms_main, kms_plain};
 pub use words::{Action, Asked, Execution, Generation, is_run, legal_words, read_words};
-
-#[cfg(test)]
-mod tests;

@@ -3,7 +3,7 @@ ghost use Rattle.std.specs.Prelude.{◌≡◌, ◌≤◌, IfOk, map, All};
 ghost use Rattle.kms_model.specs.Script.WellFormed.{IsWellFormed};
 ghost use Rattle.kms_players.specs.Players.{name_of};
 ghost use Rattle.kms_run.specs.Answers.{Answers};
-ghost use Rattle.kms_run.specs.Running.{AreAllPasses, IsFinishedOf, IsRunOf, IsSeat, seats_for};
+ghost use Rattle.kms_run.specs.Running.{AreAllPasses, IsFinishedOf, IsRunOf, IsSeat, player_of, seats_for};
 ghost use Rattle.kms_run.specs.declared.words.Action.TheVariants as Action;
 ghost use Rattle.kms_run.specs.Words.{AreFewThreads};
 
@@ -39,7 +39,7 @@ fn seats_for(script: &Script) -> u32
 fn player<'a, G: Gate>(device: &'a Device, gate: &'a G, pass: Pass) -> AnyPlayer<'a, G>
     requires formed { IsWellFormed device.now.script }
     requires seat { IsSeat device.now pass }
-    ensures { ⟦<AnyPlayer<'a, G> as Player>⟧.name result ≡ name_of pass }
+    ensures { result ≡ player_of device.now pass }
 {
     let clients = device.script().clients.len() as u32;
     let rank = pass.rank();
@@ -62,8 +62,7 @@ fn players<'a, G: Gate>(
 ) -> Result<Seq<AnyPlayer<'a, G>>, NoMemory>
     requires formed { IsWellFormed device.now.script }
     requires seats { All (IsSeat device.now) passes }
-    ensures { IfOk result (λ players.
-        map ⟦<AnyPlayer<'a, G> as Player>⟧.name players ≡ map name_of passes) }
+    ensures { IfOk result (λ players. players ≡ map (player_of device.now) passes) }
 {
     let passes = passes.into_vec();
     let mut players = Vec::with_capacity(alloc, passes.len())?;

@@ -25,38 +25,38 @@ returns-in-Some-clause-answer c =
     ap Some c.write_object.ensures.answer
     ∙ first_told c.args.core.now c.args.commit (Some c.in-Some.index) _ _ (of_crtcs _ _ _ _ c.script.ensures c.in-Some.ensures) refl refl
 
-pub write_object-requires-in-Some-first_write : goal.write_object-requires-in-Some-first_write
-write_object-requires-in-Some-first_write c = find-holds (λ i. is_legal c.args.core.now (step.Write c.args.commit Plane i)) (range_with_len 0 c.len-planes.result) c.in-Some-first_write.index (sym c.in-Some-first_write.ensures)
+pub write_object-requires-in-Some-first_left : goal.write_object-requires-in-Some-first_left
+write_object-requires-in-Some-first_left c = find-holds (λ i. is_legal c.args.core.now (step.Write c.args.commit Plane i)) (range_with_len 0 c.len-planes.result) c.in-Some-first_left.index (sym c.in-Some-first_left.ensures)
 
-pub returns-in-Some-first_write-clause-answer : goal.returns-in-Some-first_write-clause-answer
-returns-in-Some-first_write-clause-answer c =
-    ap Some c.write_object-in-Some-first_write.ensures.answer
-    ∙ first_told c.args.core.now c.args.commit None (Some c.in-Some-first_write.index) _ (of_crtcs _ _ _ _ c.script.ensures c.in_default.ensures) (of_planes _ _ _ _ _ c.len-planes.ensures c.script-2.ensures c.in-Some-first_write.ensures) refl
+pub returns-in-Some-first_left-clause-answer : goal.returns-in-Some-first_left-clause-answer
+returns-in-Some-first_left-clause-answer c =
+    ap Some c.write_object-in-Some-first_left.ensures.answer
+    ∙ first_told c.args.core.now c.args.commit None (Some c.in-Some-first_left.index) _ (of_crtcs _ _ _ _ c.script.ensures c.in_default.ensures) (of_planes _ _ _ _ _ c.len-planes.ensures c.script-2.ensures c.in-Some-first_left.ensures) refl
 
-pub returns-in-Some-first_flush-clause-answer : goal.returns-in-Some-first_flush-clause-answer
-returns-in-Some-first_flush-clause-answer c =
-    first_told c.args.core.now c.args.commit None None (Some c.in-Some-first_flush.index) (of_crtcs _ _ _ _ c.script.ensures c.in_default.ensures)
-    (of_planes _ _ _ _ _ c.len-planes.ensures c.script-2.ensures c.in_default-first_write.ensures) (of_crtcs _ _ _ _ c.script.ensures c.in-Some-first_flush.ensures)
+pub returns-in-Some-first_left-2-clause-answer : goal.returns-in-Some-first_left-2-clause-answer
+returns-in-Some-first_left-2-clause-answer c =
+    first_told c.args.core.now c.args.commit None None (Some c.in-Some-first_left-2.index) (of_crtcs _ _ _ _ c.script.ensures c.in_default.ensures)
+    (of_planes _ _ _ _ _ c.len-planes.ensures c.script-2.ensures c.in_default-first_left.ensures) (of_crtcs _ _ _ _ c.script.ensures c.in-Some-first_left-2.ensures)
 
-pub returns-in-Some-first_flush-clause-history : goal.returns-in-Some-first_flush-clause-history
-returns-in-Some-first_flush-clause-history c =
+pub returns-in-Some-first_left-2-clause-history : goal.returns-in-Some-first_left-2-clause-history
+returns-in-Some-first_left-2-clause-history c =
     c.flush.ensures.history
-    ∙ ap (λ b. gains c.args.core.now (step_if b (step.Flush c.args.commit Crtc c.in-Some-first_flush.index))) (c.flush.ensures.answer ∙ find-holds (λ i. is_legal c.args.core.now (step.Flush c.args.commit Crtc i)) (range_with_len 0 c.script.result.now.topology.crtcs) c.in-Some-first_flush.index (sym c.in-Some-first_flush.ensures))
+    ∙ ap (λ b. gains c.args.core.now (step_if b (step.Flush c.args.commit Crtc c.in-Some-first_left-2.index))) (c.flush.ensures.answer ∙ find-holds (λ i. is_legal c.args.core.now (step.Flush c.args.commit Crtc i)) (range_with_len 0 c.script.result.now.topology.crtcs) c.in-Some-first_left-2.index (sym c.in-Some-first_left-2.ensures))
 
 pub returns-then-legal-clause-answer : goal.returns-then-legal-clause-answer
 returns-then-legal-clause-answer c =
     (λ i. cond (c.if-legal.ensures i) (Some (step.HwDone c.args.commit)) (find (is_legal c.args.core.now) (step.Cleanup c.args.commit ∷ [])))
     ∙ first_told c.args.core.now c.args.commit None None None (of_crtcs _ _ _ _ c.script.ensures c.in_default.ensures)
-    (of_planes _ _ _ _ _ c.len-planes.ensures c.script-2.ensures c.in_default-first_write.ensures) (of_crtcs _ _ _ _ c.script.ensures c.in_default-first_flush.ensures)
+    (of_planes _ _ _ _ _ c.len-planes.ensures c.script-2.ensures c.in_default-first_left.ensures) (of_crtcs _ _ _ _ c.script.ensures c.in_default-first_left-2.ensures)
 
 pub returns-then-clean_up-clause-answer : goal.returns-then-clean_up-clause-answer
 returns-then-clean_up-clause-answer c =
     (λ i. cond (c.if-legal.ensures i) (Some (step.HwDone c.args.commit)) (cond (c.if-clean_up.ensures.answer i) (Some (step.Cleanup c.args.commit)) None))
     ∙ first_told c.args.core.now c.args.commit None None None (of_crtcs _ _ _ _ c.script.ensures c.in_default.ensures)
-    (of_planes _ _ _ _ _ c.len-planes.ensures c.script-2.ensures c.in_default-first_write.ensures) (of_crtcs _ _ _ _ c.script.ensures c.in_default-first_flush.ensures)
+    (of_planes _ _ _ _ _ c.len-planes.ensures c.script-2.ensures c.in_default-first_left.ensures) (of_crtcs _ _ _ _ c.script.ensures c.in_default-first_left-2.ensures)
 
 pub returns-clause-answer : goal.returns-clause-answer
 returns-clause-answer c =
     (λ i. cond (c.if-legal.ensures i) (Some (step.HwDone c.args.commit)) (cond (c.if-clean_up.ensures.answer i) (Some (step.Cleanup c.args.commit)) None))
     ∙ first_told c.args.core.now c.args.commit None None None (of_crtcs _ _ _ _ c.script.ensures c.in_default.ensures)
-    (of_planes _ _ _ _ _ c.len-planes.ensures c.script-2.ensures c.in_default-first_write.ensures) (of_crtcs _ _ _ _ c.script.ensures c.in_default-first_flush.ensures)
+    (of_planes _ _ _ _ _ c.len-planes.ensures c.script-2.ensures c.in_default-first_left.ensures) (of_crtcs _ _ _ _ c.script.ensures c.in_default-first_left-2.ensures)

@@ -1,9 +1,11 @@
-use Rattle.std.proofs.Common.{◌≤◌, arith, subst, sym}
+use Rattle.std.proofs.Common.{◌≤◌, ◌∙◌, ap, arith, map, subst, sym}
 use Rattle.std.specs.Prelude.{All}
 use Rattle.kms_model.specs.Script.WellFormed.{IsWellFormed}
+use Rattle.kms_players.specs.AnyPlayers.{pass_of}
+use Rattle.kms_players.specs.Players.{name_of}
 use Rattle.kms_run.specs.Running.{IsSeat, seats_for}
 use Rattle.kms_run.proofs.Continued.{run_of}
-use Rattle.kms_run.proofs.Seats.{all_back, new_seats}
+use Rattle.kms_run.proofs.Seats.{all_back, new_seats, player_names}
 use Rattle.kms_run.proofs.running.ran.Goals as goal
 
 pub players-requires-clause-formed : goal.players-requires-clause-formed
@@ -20,7 +22,8 @@ players-requires-clause-seats g c =
 pub continued-requires-clause-all : goal.continued-requires-clause-all
 continued-requires-clause-all g c =
     all_back c.in_ok-device.device c.seats_for-seats.result c.in_ok-device.passes c.in_ok-passes.passes _ _ c.in_ok-device.ensures.seats
-    c.in_ok-device.ensures.passes c.in_ok-players.ensures c.in_ok-players-2.ensures.players c.in_ok-passes.ensures
+    c.in_ok-device.ensures.passes (ap (map (λ p. name_of (pass_of p))) c.in_ok-players.ensures ∙ player_names _ c.in_ok-device.device c.in_ok-device.passes)
+    c.in_ok-players-2.ensures.players c.in_ok-passes.ensures
 
 pub returns : goal.returns
 returns g c = run_of c.args.script c.in_ok-device.device c.in_ok-passes.passes c.continued.result c.in_ok-device.ensures.script c.continued.ensures

@@ -3,7 +3,7 @@ use Rattle.kms_device.proofs.CommitMade.{broken, made_all, made_more, made_none,
 use Rattle.kms_device.proofs.device.Device.commit.Goals as goal
 
 pub loop-init : goal.loop-init
-loop-init g c = made_none c.args.self.now.script c.args.client c.args.pass.now c.new-kept.result c.new-kept.ensures c.requires.may
+loop-init g c = made_none c.args.self.now.script c.args.client c.args.pass.now c.new-kept.result c.new-kept.ensures.anew c.requires.may
 
 pub attempt-requires-clause-own : goal.attempt-requires-clause-own
 attempt-requires-clause-own g c = c.loop.invariant.went.lock ∙ c.requires.own
@@ -20,7 +20,7 @@ attempt-requires-clause-serves g c = c.loop.invariant.serves
 pub returns-in_err-reply-clause-broken_off : goal.returns-in_err-reply-clause-broken_off
 returns-in_err-reply-clause-broken_off g c =
     on_err c.from_residual.result
-    (broken c.args.self.now.script c.args.client c.args.pass.now c.loop.pass c.attempt.new.pass c.loop.kept c.loop.invariant c.in_err-reply.ensures.no_step c.in_err-reply.ensures.may)
+    (broken c.args.self.now.script c.args.client c.args.pass.now c.loop.pass c.attempt.new.pass c.loop.kept c.loop.invariant c.in_err-reply.ensures.no_step c.in_err-reply.ensures.stays)
 
 pub returns-in-Answered-clause-committed : goal.returns-in-Answered-clause-committed
 returns-in-Answered-clause-committed g c =

@@ -12,4 +12,4 @@ pub returns-in_err-begin : goal.returns-in_err-begin
 returns-in_err-begin g c = tried_err _ _ _ _ c.from_residual.result c.from_residual.ensures.0 (nothing_done _ _ _ _ c.args.kept c.requires.ready c.in_err-begin.ensures)
 
 pub returns : goal.returns
-returns g c = began_as _ _ c.args.pass.now c.begin.new.pass c.args.kept c.new.result c.args.client c.requires.ready c.requires.idle c.requires.whose c.new.ensures c.in_ok-begin.ensures
+returns g c = began_as _ _ c.args.pass.now c.begin.new.pass c.args.kept c.new.result c.args.client c.requires.ready c.requires.idle c.requires.whose c.new.ensures.anew c.in_ok-begin.ensures

@@ -1,9 +1,11 @@
 //! Words that are not legal; numbers and texts of statuses.
-use super::{HEAD, sink, source, words};
-use crate::{Status, is_run, kms_main, legal_words, status_text};
+use crate::asserting::{sink, source, words};
+use crate::texts::HEAD;
 use kms_io::NoGate;
 use kms_model::Why;
-use std::alloc::Global;
+use kms_run::{Status, is_run, kms_main, legal_words, status_text};
+use std::alloc::{AllocGlobal, Global};
+use std::process::Abort;
 use std::sync::Wait;
 use std::test::Fail;
 use std::thread::Threads;
@@ -65,9 +67,21 @@ fn other_words_read_nothing(rt: HostRuntime) -> Result<(), Fail> {
     Ok(())
 }
 
+/// Asserts that words are legal, and whether they are words of `run`.
+fn assert_legal(
+    rt: &(impl Abort + AllocGlobal),
+    rows: &[&[&str]],
+    of_run: bool,
+) -> Result<(), Fail> {
+    for row in rows {
+        let words = words(rt.alloc(), row)?;
+        assert!(rt; legal_words(&words) && is_run(&words) == of_run);
+    }
+    Ok(())
+}
+
 #[test]
 fn options_come_once_in_any_order(rt: HostRuntime) -> Result<(), Fail> {
-    let alloc = rt.alloc();
     let rows: [&[&str]; 10] = [
         &["one"],
         &["one", "--trace"],
@@ -80,16 +94,11 @@ fn options_come_once_in_any_order(rt: HostRuntime) -> Result<(), Fail> {
         &["replay", "--trace", "--ppm"],
         &["replay", "--ppm", "--trace"],
     ];
-    for row in &rows {
-        let words = words(alloc, row)?;
-        assert!(rt; legal_words(&words) && !is_run(&words));
-    }
-    Ok(())
+    assert_legal(&rt, &rows, false)
 }
 
 #[test]
 fn threads_come_once_among_the_options(rt: HostRuntime) -> Result<(), Fail> {
-    let alloc = rt.alloc();
     let rows: [&[&str]; 5] = [
         &["run", "--threads", "1"],
         &["run", "--threads", "16"],
@@ -97,11 +106,7 @@ fn threads_come_once_among_the_options(rt: HostRuntime) -> Result<(), Fail> {
         &["run", "--ppm", "--threads", "3", "--trace"],
         &["run", "--trace", "--ppm", "--threads", "3"],
     ];
-    for row in &rows {
-        let words = words(alloc, row)?;
-        assert!(rt; legal_words(&words) && is_run(&words));
-    }
-    Ok(())
+    assert_legal(&rt, &rows, true)
 }
 
 #[test]

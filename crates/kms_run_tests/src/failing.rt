@@ -1,7 +1,8 @@
 //! Sources and sinks that fail, at each of their calls in turn.
-use super::{ABC, LIT, LIT_REPLIES, lit, sink, source, words};
-use crate::{Status, is_run, kms_plain};
+use crate::asserting::{joined, lit, sink, source, words};
+use crate::texts::{ABC, LIT, LIT_REPLIES};
 use kms_io::{MemSink, MemSource};
+use kms_run::{Status, is_run, kms_plain};
 use std::alloc::Global;
 use std::test::Fail;
 use std::thread::Threads;
@@ -58,7 +59,7 @@ fn write_fails<R: Threads>(
 
 #[test]
 fn each_failing_read_writes_nothing(rt: HostRuntime) -> Result<(), Fail> {
-    let text = lit(rt.alloc(), "")?;
+    let text = lit(rt.alloc(), &[])?;
     assert_eq!(rt; text.len().div_ceil(READ) + 1, READS as usize);
     for number in 1..READS + 1 {
         assert!(rt;
@@ -73,8 +74,8 @@ fn each_failing_read_writes_nothing(rt: HostRuntime) -> Result<(), Fail> {
 #[test]
 fn each_failing_write_leaves_a_front(rt: HostRuntime) -> Result<(), Fail> {
     let alloc = rt.alloc();
-    let text = lit(alloc, "")?;
-    let report = format!(in alloc; "{LIT}{LIT_REPLIES}L 0 0 1 {ABC}\nD drained\n")?;
+    let text = lit(alloc, &[])?;
+    let report = joined(alloc, &[LIT, LIT_REPLIES, "L 0 0 1 ", ABC, "\nD drained\n"])?;
     assert_eq!(rt; report.len().div_ceil(WRITE), WRITES as usize);
     for number in 1..WRITES + 1 {
         let fails = write_fails(&rt, alloc, text.as_str(), report.as_str(), number)?;

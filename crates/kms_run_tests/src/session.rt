@@ -1,7 +1,9 @@
 //! A session at a full-sized screen: a picture that is flipped ten times, with a cursor that moves over it.
-use super::run;
-use crate::Status;
-use std::alloc::{AllocError, Global};
+use crate::asserting::{has_line, run};
+use kms_io::MemSink;
+use kms_run::Status;
+use std::alloc::{AllocError, AllocGlobal, Global};
+use std::process::Abort;
 use std::test::Fail;
 
 /// The device, what the client makes, and the commit that lights the first CRTC with its plane and the cursor.
@@ -25,15 +27,11 @@ fn session(alloc: Global) -> Result<String, AllocError> {
     Ok(text)
 }
 
-#[test]
-fn a_cursor_moves_over_flips(rt: HostRuntime) -> Result<(), Fail> {
-    let alloc = rt.alloc();
-    let text = session(alloc)?;
-    let (status, sink) = run(&rt, alloc, &["one"], text.as_str())?;
-    assert_eq!(rt; status, Status::Ok);
+/// Asserts that the report has a latch for each commit, and an event for each flip.
+fn assert_flips(rt: &(impl Abort + AllocGlobal), sink: &MemSink) -> Result<(), Fail> {
     for commit in 0..FLIPS + 1 {
         let count = commit + 1;
-        let front = format!(in alloc; "L 0 {commit} {count} ")?;
+        let front = format!(in rt.alloc(); "L 0 {commit} {count} ")?;
         let mut lines = sink.written().split(|byte| *byte == b'\n');
         assert!(rt;
             lines.any(|line| line.starts_with(front.as_bytes())),
@@ -42,9 +40,16 @@ fn a_cursor_moves_over_flips(rt: HostRuntime) -> Result<(), Fail> {
     }
     for flip in 1..FLIPS + 1 {
         let count = flip + 1;
-        let event = format!(in alloc; "E 1 {flip} {count} 100")?;
-        let mut lines = sink.written().split(|byte| *byte == b'\n');
-        assert!(rt; lines.any(|line| line == event.as_bytes()), "{event}");
+        let event = format!(in rt.alloc(); "E 1 {flip} {count} 100")?;
+        assert!(rt; has_line(sink, event.as_str()), "{event}");
     }
     Ok(())
+}
+
+#[test]
+fn a_cursor_moves_over_flips(rt: HostRuntime) -> Result<(), Fail> {
+    let text = session(rt.alloc())?;
+    let (status, sink) = run(&rt, rt.alloc(), &["one"], text.as_str())?;
+    assert_eq!(rt; status, Status::Ok);
+    assert_flips(&rt, &sink)
 }

@@ -1,9 +1,9 @@
 //! Generated scripts, written and run. No source is read: each would fail at its first read.
 ghost use Rattle.std.specs.Prelude.{◌<◌, ◌≤◌};
 
-use super::{run, sink, source, words};
-use crate::{Status, kms_main, legal_words};
+use crate::asserting::{run, sink, source, words};
 use kms_io::{MemSink, NoGate};
+use kms_run::{Status, kms_main, legal_words};
 use sha2::{Digest, Sha256};
 use std::alloc::{AllocError, Global};
 use std::sync::Wait;
