@@ -34,9 +34,9 @@ impl Device {
     }
 
     /// Asks for an object in the context of a ticket, which takes locks, as the machine's `lock` does. The context is that of the
-    /// client of the pass. Either each label of the request is made, the object is in its reach, and the context holds the groups of
-    /// objects before that of the object; or a check of states that its locks gave has asked for the object. Then it is in the reach
-    /// of the request, whatever others did since. `Own` and `Younger` make no step, nor does want of memory.
+    /// client of the pass. Either each label of the request is made, the object is in its reach, and the context holds the groups
+    /// of objects before that of the object; or a check of states that its locks gave has asked for the object. Then it is in the
+    /// reach of the request, whatever others did since. `Own` and `Younger` make no step, nor does want of memory.
     pub fn lock<W: Wait>(
         &self,
         rt: &W,
