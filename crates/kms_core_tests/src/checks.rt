@@ -114,22 +114,7 @@ pub(crate) fn assert_drained(rt: &impl Abort, core: &Core) {
     assert_eq!(rt; core.stalled_on(), None);
 }
 
-/// Where a client of the script stands.
-pub(crate) fn place(rt: &impl Abort, core: &Core, client: u32) -> Place {
-    assert!(rt; client >= 1, "clients are counted from 1");
-    assert!(rt;
-        client as usize <= core.script().clients.len(),
-        "it is a client"
-    );
-    core.place(client)
-}
-
-pub(crate) fn at(command: u32, doing: Doing) -> Place {
-    Place { command, doing }
-}
-
-/// Whether one of the first four CRTCs latches at its next vertical blanking.
-pub(crate) fn goes(rt: &impl Abort, core: &Core, crtc: u32) -> bool {
-    assert!(rt; crtc < 4, "there are at most four");
-    core.has_go(crtc)
+/// What `place_of` gives of a client of the script that stands there.
+pub(crate) fn at(command: u32, doing: Doing) -> Option<Place> {
+    Some(Place { command, doing })
 }

@@ -1,32 +1,35 @@
 //! How tests do steps.
+use crate::moves::{do_step, do_steps};
 use crate::steps::{Object, begin, claim, crtc, flush, hw_done, lock, make, write};
 use kms_core::Core;
 use kms_model::{NoMemory, Step};
 use std::process::Abort;
 
-/// Does a step, which is legal then, and by which alone the history grows.
+/// Does a step, which is legal then.
 pub(crate) fn apply(
     rt: &(impl Abort + AllocGlobal),
     core: &mut Core,
     step: Step,
 ) -> Result<(), NoMemory> {
     let length = core.history().len();
-    assert!(rt; core.legal(&step), "{step:?} is legal after {length} steps");
-    core.apply(rt.alloc(), &step)?;
-    assert_eq!(rt; core.history().len(), length.saturating_add(1));
-    assert_eq!(rt; core.history().last().copied(), Some(step));
+    assert!(rt;
+        do_step(core, rt.alloc(), &step)?,
+        "{step:?} is legal after {length} steps"
+    );
     Ok(())
 }
 
-/// Does steps one after the other.
+/// Does steps one after the other, each of which is legal then.
 pub(crate) fn apply_all(
     rt: &(impl Abort + AllocGlobal),
     core: &mut Core,
     steps: &[Step],
 ) -> Result<(), NoMemory> {
-    for step in steps {
-        apply(rt, core, *step)?;
-    }
+    assert_eq!(rt;
+        do_steps(core, rt.alloc(), steps)?,
+        None,
+        "each step is legal"
+    );
     Ok(())
 }
 

@@ -1,16 +1,16 @@
 //! Histories of one client, worked out by hand.
 use crate::checks::{
-    assert_drained, assert_latched, assert_replies, at, committed, event, goes, goes_off, made,
-    place, refused, shows, told,
+    assert_drained, assert_latched, assert_replies, at, committed, event, goes_off, made, refused,
+    shows, told,
 };
 use crate::doing::{apply, apply_all, take, write_out};
-use crate::lights::{
-    all, both, change, finish, light, light_up, lighting, lit_replies, write_both,
-};
+use crate::lights::{change, finish, light, light_up, lit_replies, write_both};
+use crate::moves::{goes, place_of};
 use crate::steps::{
-    begin, claim, cleanup, crtc, hw_done, lock, make, read, refuse, return_from, swap, vblank,
+    all, begin, both, claim, cleanup, crtc, hw_done, lock, make, read, refuse, return_from, swap,
+    vblank,
 };
-use crate::texts::{SINGLE, UNSET, started};
+use crate::texts::{SINGLE, UNSET, WRONG, lighting, started};
 use kms_core::Core;
 use kms_model::{Doing, NoMemory, Reply};
 use std::process::Abort;
@@ -46,19 +46,19 @@ fn a_client_lights_the_crtc_with(
     rt: &(impl Abort + AllocGlobal),
     core: &mut Core,
 ) -> Result<(), Fail> {
-    assert_eq!(rt; place(rt, core, 1), at(1, Doing::Idle));
+    assert_eq!(rt; place_of(core, 1), at(1, Doing::Idle));
     light(rt, core)?;
-    assert_eq!(rt; place(rt, core, 1), at(4, Doing::Returning(0)));
-    assert!(rt; !goes(rt, core, 0), "nothing is flushed");
+    assert_eq!(rt; place_of(core, 1), at(4, Doing::Returning(0)));
+    assert!(rt; !goes(core, 0), "nothing is flushed");
     write_both(rt, core, 0)?;
-    assert!(rt; goes(rt, core, 0), "it is flushed");
+    assert!(rt; goes(core, 0), "it is flushed");
     assert_latched(rt, core, &[]);
     apply(rt, core, vblank(crtc(0)))?;
-    assert!(rt; !goes(rt, core, 0), "it has latched");
+    assert!(rt; !goes(core, 0), "it has latched");
     assert!(rt; !core.legal(&return_from(1)), "it is not cleaned");
     apply_all(rt, core, &[cleanup(0), return_from(1)])?;
     assert_drained(rt, core);
-    assert_eq!(rt; place(rt, core, 1), at(5, Doing::Idle));
+    assert_eq!(rt; place_of(core, 1), at(5, Doing::Idle));
     assert_replies(rt, core, 0, &lit_replies());
     assert!(rt; core.journal() == [(1, 1), (1, 2), (1, 3), (1, 4)].as_slice());
     assert_latched(rt, core, &[shows(0, 0, 1, &[1001])]);
@@ -107,7 +107,7 @@ fn a_crtc_goes_off_at_its_flush_with(
     take(rt, core, 1, &all())?;
     apply(rt, core, swap(1))?;
     write_out(rt, core, 1, &both(), &[0])?;
-    assert!(rt; !goes(rt, core, 0), "it has latched");
+    assert!(rt; !goes(core, 0), "it has latched");
     assert!(rt; !core.legal(&vblank(crtc(0))), "it is off");
     apply_all(rt, core, &[cleanup(1), return_from(1), read(1)])?;
     assert_drained(rt, core);
@@ -116,10 +116,6 @@ fn a_crtc_goes_off_at_its_flush_with(
     assert_latched(rt, core, &[shows(0, 0, 1, &[1001]), goes_off(0, 1, 1)]);
     Ok(())
 }
-
-/// The lines of a client on the device of one CRTC, each of which is refused but the sixth.
-const WRONG: &str =
-    "atomic 0x1 0 crtc0.ACTIVE=0\natomic 0x101 0 crtc0.ACTIVE=0\natomic 0x2 0\natomic 0x4 0\natomic 0x1 0\natomic 0x0 0\natomic 0x0 0 crtc1.ACTIVE=0\natomic 0x0 0 crtc0.alpha=1\natomic 0x0 0 plane0.type=1\natomic 0x0 0 plane0.alpha=65536\n";
 
 /// A request is refused for which a client needs no locks.
 fn refuse_at_once(rt: &(impl Abort + AllocGlobal), core: &mut Core) -> Result<(), NoMemory> {

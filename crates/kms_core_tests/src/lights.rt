@@ -1,33 +1,10 @@
 //! A client that lights the one CRTC of a device, with which most histories begin.
 use crate::checks::{committed, made, told};
 use crate::doing::{apply, apply_all, make_all, take, write_out};
-use crate::steps::{Object, cleanup, conn, crtc, plane, return_from, swap, vblank};
-use crate::texts::{MADE, SET, SINGLE, started};
+use crate::steps::{Object, all, both, cleanup, crtc, light_steps, return_from, swap, vblank};
 use kms_core::Core;
 use kms_model::{Answered, NoMemory};
 use std::process::Abort;
-use std::test::Fail;
-
-/// The machine of a client that lights the one CRTC by a request with these flags as its fourth command, and of what
-/// follows.
-pub(crate) fn lighting(
-    rt: &(impl Abort + AllocGlobal),
-    flags: &str,
-    more: &str,
-) -> Result<Core, Fail> {
-    let text = format!(in rt.alloc(); "{SINGLE}client\n{MADE}atomic {flags} 0 {SET}\n{more}")?;
-    started(rt, text.as_str())
-}
-
-/// The objects that a request takes which lights the CRTC or turns it off.
-pub(crate) fn all() -> [Object; 3] {
-    [crtc(0), plane(0), conn(0)]
-}
-
-/// The objects that its commit writes.
-pub(crate) fn both() -> [Object; 2] {
-    [crtc(0), plane(0)]
-}
 
 /// A client makes its things and commits what lights the CRTC.
 pub(crate) fn light(rt: &(impl Abort + AllocGlobal), core: &mut Core) -> Result<(), NoMemory> {
@@ -59,8 +36,7 @@ pub(crate) fn finish(
 
 /// The client lights the CRTC, and the tail of its commit is over.
 pub(crate) fn light_up(rt: &(impl Abort + AllocGlobal), core: &mut Core) -> Result<(), NoMemory> {
-    light(rt, core)?;
-    finish(rt, core, 0, &both())
+    apply_all(rt, core, &light_steps())
 }
 
 /// The client commits a request that changes the plane alone.

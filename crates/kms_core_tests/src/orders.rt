@@ -1,15 +1,16 @@
 //! Histories of commits and clients that meet, worked out by hand.
 use crate::checks::{
-    Wanted, assert_drained, assert_latched, assert_replies, at, committed, made, place, refused,
-    shows, told,
+    Wanted, assert_drained, assert_latched, assert_replies, at, committed, made, refused, shows,
+    told,
 };
 use crate::doing::{apply, apply_all, make_all, take, write_out};
-use crate::lights::{all, both, light, lighting, write_both};
+use crate::lights::{light, write_both};
+use crate::moves::place_of;
 use crate::steps::{
-    Object, back_off, begin, claim, cleanup, conn, crtc, lock, make, plane, refuse, relock,
-    return_from, swap, test, vblank,
+    Object, all, back_off, begin, both, claim, cleanup, conn, crtc, lock, make, plane, refuse,
+    relock, return_from, swap, test, vblank,
 };
-use crate::texts::{MADE, PAIR, SECOND, SET, SINGLE, started};
+use crate::texts::{MADE, PAIR, SECOND, SET, SINGLE, lighting, started};
 use kms_core::Core;
 use kms_model::{Doing, NoMemory, ObjId, Reply, Ticket};
 use std::process::Abort;
@@ -34,7 +35,7 @@ fn a_commit_is_busy_until_the_one_before_has_flipped_with(
     core: &mut Core,
 ) -> Result<(), Fail> {
     light(rt, core)?;
-    assert_eq!(rt; place(rt, core, 1), at(5, Doing::Idle));
+    assert_eq!(rt; place_of(core, 1), at(5, Doing::Idle));
     take(rt, core, 1, &[plane(0), crtc(0)])?;
     assert_eq!(rt; core.history().len(), 11);
     assert!(rt; !core.legal(&swap(1)), "it is busy");
@@ -203,13 +204,13 @@ fn the_younger_context_backs_off_with(
     assert!(rt; !core.legal(&lock(1, crtc(0))), "a younger one holds it");
     apply(rt, core, lock(2, plane(0)))?;
     let must = Doing::MustBackOff(Ticket(1), ObjId(200));
-    assert_eq!(rt; place(rt, core, 2), at(1, must));
+    assert_eq!(rt; place_of(core, 2), at(1, must));
     apply(rt, core, back_off(2))?;
     let off = Doing::BackedOff(Ticket(1), ObjId(200));
-    assert_eq!(rt; place(rt, core, 2), at(1, off));
+    assert_eq!(rt; place_of(core, 2), at(1, off));
     assert!(rt; !core.legal(&relock(2)), "it is held");
     apply_all(rt, core, &[lock(1, crtc(0)), test(1), relock(2)])?;
-    assert_eq!(rt; place(rt, core, 2), at(1, Doing::Taking(Ticket(1))));
+    assert_eq!(rt; place_of(core, 2), at(1, Doing::Taking(Ticket(1))));
     apply_all(rt, core, &[lock(2, crtc(0)), test(2)])?;
     assert_drained(rt, core);
     let want = [told(1, 1, 0, Reply::Tested), told(2, 1, 0, Reply::Tested)];

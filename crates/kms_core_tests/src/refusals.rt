@@ -1,11 +1,11 @@
 //! Steps that are not legal, by the condition that fails: requests, contexts and the commands of clients.
 use crate::doing::{apply, apply_all, make_all, take};
-use crate::lights::{light_up, lighting};
+use crate::lights::light_up;
 use crate::steps::{
     back_off, begin, claim, cleanup, conn, crtc, encoder, flush, hw_done, lock, make, plane, read,
     refuse, relock, return_from, signal, swap, test, vblank, write,
 };
-use crate::texts::{SINGLE, started};
+use crate::texts::{SINGLE, lighting, started};
 use kms_core::Core;
 use kms_model::Step;
 use std::process::Abort;

@@ -1,5 +1,5 @@
 //! Steps and display objects in short.
-ghost use Rattle.std.specs.Prelude.{◌≡◌};
+ghost use Rattle.std.specs.Prelude.{◌≡◌, [], ◌∷◌};
 ghost use Rattle.kms_model.specs.declared.objects.Kind.TheVariants.{Conn, Crtc, Enc, Plane};
 ghost use Rattle.kms_model.specs.declared.replies.Step.TheVariants as step;
 
@@ -52,6 +52,21 @@ pub fn encoder(index: u32) -> Object
         kind: Kind::Enc,
         index,
     }
+}
+
+/// The objects that a request takes which lights the CRTC of the device with one, or turns it off.
+pub fn all() -> [Object; 3]
+    ensures { result ≡ record { kind = Crtc; index = 0 } ∷ record { kind = Plane; index = 0 }
+        ∷ record { kind = Conn; index = 0 } ∷ [] }
+{
+    [crtc(0), plane(0), conn(0)]
+}
+
+/// The objects that its commit writes.
+pub fn both() -> [Object; 2]
+    ensures { result ≡ record { kind = Crtc; index = 0 } ∷ record { kind = Plane; index = 0 } ∷ [] }
+{
+    [crtc(0), plane(0)]
 }
 
 /// A client begins an acquire context.
@@ -186,4 +201,31 @@ pub fn cleanup(commit: u32) -> Step
     ensures { result ≡ step.Cleanup commit }
 {
     Step::Cleanup { commit }
+}
+
+/// The steps of a client that lights the CRTC of the device with one, and of the whole tail of its commit.
+pub fn light_steps() -> [Step; 16]
+    ensures { result ≡ step.Make 1 ∷ step.Make 1 ∷ step.Make 1 ∷ step.Begin 1
+        ∷ step.Lock 1 Crtc 0 ∷ step.Lock 1 Plane 0 ∷ step.Lock 1 Conn 0 ∷ step.Swap 1
+        ∷ step.Claim 0 ∷ step.Write 0 Crtc 0 ∷ step.Write 0 Plane 0 ∷ step.Flush 0 Crtc 0
+        ∷ step.HwDone 0 ∷ step.Vblank Crtc 0 ∷ step.Cleanup 0 ∷ step.Return 1 ∷ [] }
+{
+    [
+        make(1),
+        make(1),
+        make(1),
+        begin(1),
+        lock(1, crtc(0)),
+        lock(1, plane(0)),
+        lock(1, conn(0)),
+        swap(1),
+        claim(0),
+        write(0, crtc(0)),
+        write(0, plane(0)),
+        flush(0, crtc(0)),
+        hw_done(0),
+        vblank(crtc(0)),
+        cleanup(0),
+        return_from(1),
+    ]
 }

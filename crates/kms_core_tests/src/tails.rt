@@ -1,12 +1,13 @@
 //! Steps of tails that are not legal, by the condition that fails, and of clients that wait for tails.
 use crate::doing::{apply, apply_all, make_all, take};
-use crate::lights::{all, both, change, light, light_up, lighting, write_both};
+use crate::lights::{change, light, light_up, write_both};
 use crate::orders::{commit, light_pair, moving};
 use crate::refusals::assert_refused;
 use crate::steps::{
-    back_off, begin, claim, cleanup, conn, crtc, flush, hw_done, lock, make, plane, read, refuse,
-    relock, return_from, signal, swap, test, vblank, write,
+    all, back_off, begin, both, claim, cleanup, conn, crtc, flush, hw_done, lock, make, plane,
+    read, refuse, relock, return_from, signal, swap, test, vblank, write,
 };
+use crate::texts::lighting;
 use kms_core::Core;
 use kms_model::{NoMemory, Step};
 use std::process::Abort;

@@ -1,33 +1,61 @@
 //! The scripts that tests start from.
+ghost use Rattle.std.specs.Prelude.{◌≡◌, IfOk, []};
+
 use kms_core::Core;
 use kms_model::Part;
 use kms_script::parse;
-use std::process::Abort;
 use std::test::Fail;
 
 /// A device of one CRTC, one plane and one connector.
-pub(crate) const SINGLE: &str = "kms 1\ncrtcs 1\nplane primary 0 XR24\nconn 0\n";
+pub const SINGLE: &str = "kms 1\ncrtcs 1\nplane primary 0 XR24\nconn 0\n";
 
 /// A device of two CRTCs, a plane for both and a connector for each.
-pub(crate) const PAIR: &str = "kms 1\ncrtcs 2\nplane overlay 0,1 XR24\nconn 0\nconn 1\n";
+pub const PAIR: &str = "kms 1\ncrtcs 2\nplane overlay 0,1 XR24\nconn 0\nconn 1\n";
 
 /// A buffer of one pixel, a framebuffer of it and a mode of that size: a client's first three commands.
-pub(crate) const MADE: &str =
+pub const MADE: &str =
     "buffer b 1 1 XR24 solid 00616263\naddfb f b\nmode m 1 1 1 1 1 0 1 1 1 1 0 60 0 0 tiny\n";
 
 /// What a request sets that lights the first CRTC.
-pub(crate) const SET: &str =
+pub const SET: &str =
     "crtc0.ACTIVE=1 crtc0.MODE_ID=@m conn0.CRTC_ID=crtc0 plane0.FB_ID=@f plane0.CRTC_ID=crtc0 plane0.CRTC_W=1 plane0.CRTC_H=1 plane0.SRC_W=65536 plane0.SRC_H=65536";
 
 /// What a request sets that lights the second CRTC with nothing on it.
-pub(crate) const SECOND: &str = "crtc1.ACTIVE=1 crtc1.MODE_ID=@m conn1.CRTC_ID=crtc1";
+pub const SECOND: &str = "crtc1.ACTIVE=1 crtc1.MODE_ID=@m conn1.CRTC_ID=crtc1";
 
 /// What a request sets that turns the first CRTC off.
-pub(crate) const UNSET: &str =
+pub const UNSET: &str =
     "crtc0.ACTIVE=0 crtc0.MODE_ID=0 conn0.CRTC_ID=0 plane0.FB_ID=0 plane0.CRTC_ID=0";
 
+/// The lines of a client on the device of one CRTC, each of which is refused but the sixth.
+pub const WRONG: &str =
+    "atomic 0x1 0 crtc0.ACTIVE=0\natomic 0x101 0 crtc0.ACTIVE=0\natomic 0x2 0\natomic 0x4 0\natomic 0x1 0\natomic 0x0 0\natomic 0x0 0 crtc1.ACTIVE=0\natomic 0x0 0 crtc0.alpha=1\natomic 0x0 0 plane0.type=1\natomic 0x0 0 plane0.alpha=65536\n";
+
+/// The lines of a client that makes and awaits an out-fence, and then awaits a fence that nobody signals.
+pub const AWAITS: &str =
+    "atomic 0x200 0 plane0.alpha=65535 crtc0.OUT_FENCE_PTR=+o\natomic 0x0 0 plane0.alpha=65535 plane0.IN_FENCE_FD=@o\nfence n\natomic 0x0 0 plane0.alpha=65535 plane0.IN_FENCE_FD=@n\n";
+
+/// The lines of a client that flips to another framebuffer, reads the event, closes the first and reads again.
+pub const FLIPS: &str =
+    "buffer b2 1 1 XR24 solid 00666f6f\naddfb f2 b2\natomic 0x1 7 plane0.FB_ID=@f2\nwait\nclosefb f\nwait\n";
+
+/// The lines of a client that has no right to the things of another, whose last commands are refused.
+pub const OTHER: &str =
+    "client\nblob w1 00\nblob w2 00\nblob w3 00\nblob w4 00\ndestroy m\nclosefb f\naddfb g b\nsignal m\nbuffer z 0 1 XR24 solid 00000000\n";
+
 /// The machine of the script that a text spells, before the first step.
-pub(crate) fn started(rt: &(impl Abort + AllocGlobal), text: &str) -> Result<Core, Fail> {
+pub fn started(rt: &impl AllocGlobal, text: &str) -> Result<Core, Fail>
+    ensures { IfOk result (λ core. core.steps ≡ []) }
+{
     let parsed = parse(rt.alloc(), text.as_bytes(), Part::Script)?;
     Ok(Core::new(rt.alloc(), parsed.script)?)
+}
+
+/// The machine of a client that lights the one CRTC by a request with these flags as its fourth command, and of what
+/// follows.
+pub fn lighting(rt: &impl AllocGlobal, flags: &str, more: &str) -> Result<Core, Fail>
+    ensures { IfOk result (λ core. core.steps ≡ []) }
+{
+    let text = format!(in rt.alloc(); "{SINGLE}client\n{MADE}atomic {flags} 0 {SET}\n{more}")?;
+    started(rt, text.as_str())
 }

@@ -3,16 +3,13 @@ use crate::checks::{
     assert_drained, assert_latched, assert_replies, committed, event, made, refused, shows, told,
 };
 use crate::doing::{apply, apply_all, make_all, write_out};
-use crate::lights::{both, change, finish, light_up, lighting};
-use crate::steps::{begin, claim, cleanup, crtc, make, read, refuse, signal, vblank};
+use crate::lights::{change, finish, light_up};
+use crate::steps::{begin, both, claim, cleanup, crtc, make, read, refuse, signal, vblank};
+use crate::texts::{AWAITS, FLIPS, OTHER, lighting};
 use kms_core::Core;
 use kms_model::{Reply, Step};
 use std::process::Abort;
 use std::test::Fail;
-
-/// The lines of a client that makes and awaits an out-fence, and then awaits a fence that nobody signals.
-const AWAITS: &str =
-    "atomic 0x200 0 plane0.alpha=65535 crtc0.OUT_FENCE_PTR=+o\natomic 0x0 0 plane0.alpha=65535 plane0.IN_FENCE_FD=@o\nfence n\natomic 0x0 0 plane0.alpha=65535 plane0.IN_FENCE_FD=@n\n";
 
 /// A commit waits for the out-fence of the one before it, which signals at its latch; and another for ever.
 #[test]
@@ -77,10 +74,6 @@ fn assert_stalls_on(
     Ok(())
 }
 
-/// The lines of a client that flips to another framebuffer, reads the event, closes the first and reads again.
-const FLIPS: &str =
-    "buffer b2 1 1 XR24 solid 00666f6f\naddfb f2 b2\natomic 0x1 7 plane0.FB_ID=@f2\nwait\nclosefb f\nwait\n";
-
 /// A framebuffer that no CRTC shows any more is freed where it is closed.
 #[test]
 fn a_framebuffer_is_freed_after_a_flip(rt: HostRuntime) -> Result<(), Fail> {
@@ -140,10 +133,6 @@ fn a_closed_framebuffer_is_freed_by_a_cleanup_with(
     assert!(rt; core.freed() == [(1, 1001)].as_slice());
     Ok(())
 }
-
-/// The lines of a client that has no right to the things of another, whose last commands are refused.
-const OTHER: &str =
-    "client\nblob w1 00\nblob w2 00\nblob w3 00\nblob w4 00\ndestroy m\nclosefb f\naddfb g b\nsignal m\nbuffer z 0 1 XR24 solid 00000000\n";
 
 #[test]
 fn things_belong_to_their_client(rt: HostRuntime) -> Result<(), Fail> {

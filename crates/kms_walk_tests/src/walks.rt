@@ -1,14 +1,13 @@
 //! Random walks of many clients, each of which is done again.
-use crate::checks::{goes, place};
 use crate::crowds::many;
-use crate::doing::{apply, apply_all};
 use crate::kinds::{BUT_STALL, STALL, kinds_in};
-use crate::steps::{
-    Object, back_off, begin, claim, cleanup, conn, crtc, encoder, flush, hw_done, lock, make,
-    plane, read, refuse, relock, return_from, signal, swap, test, vblank, write,
-};
-use crate::texts::started;
+use crate::turns::assert_order;
 use kms_core::Core;
+use kms_core_tests::{
+    Object, back_off, begin, claim, cleanup, conn, crtc, do_step, do_steps, encoder, flush, goes,
+    hw_done, lock, make, plane, read, refuse, relock, return_from, signal, started, swap,
+    tells_same, test, vblank, write,
+};
 use kms_model::Step;
 use std::process::Abort;
 use std::test::Fail;
@@ -144,11 +143,11 @@ fn legal_steps(rt: &impl AllocGlobal, core: &Core, commits: &Commits) -> Result<
 }
 
 /// Whether some step is there other than the end of a history and a vertical blanking of a CRTC that does not go.
-fn has_move(rt: &impl Abort, core: &Core, legal: &[Step]) -> bool {
+fn has_move(core: &Core, legal: &[Step]) -> bool {
     for step in legal {
         let moves = match *step {
             Step::Stall => false,
-            Step::Vblank { index, .. } => goes(rt, core, index),
+            Step::Vblank { index, .. } => goes(core, index),
             _ => true,
         };
         if moves {
@@ -173,15 +172,18 @@ fn walk(
     for _step in 0..most {
         let (length, answered) = (core.history().len(), core.replies().len());
         let legal = legal_steps(rt, core, &commits)?;
+        if length % 4 == 0 {
+            assert_order(rt, core, commits.count, &objects());
+        }
         assert_eq!(rt; core.history().len(), length);
         assert_eq!(rt; core.replies().len(), answered);
-        let moves = has_move(rt, core, &legal);
+        let moves = has_move(core, &legal);
         assert_eq!(rt; core.enabled(), moves, "after {length} steps");
         if !moves {
             return end(rt, core, &commits);
         }
         let step = *legal.get(dice.roll(legal.len())).ok_or("a step is legal")?;
-        apply(rt, core, step)?;
+        assert!(rt; do_step(core, rt.alloc(), &step)?, "{step:?} is legal");
         commits.did(step)?;
     }
     Ok(())
@@ -194,31 +196,10 @@ fn end(rt: &(impl Abort + AllocGlobal), core: &mut Core, commits: &Commits) -> R
     if core.drained() {
         return Ok(());
     }
-    apply(rt, core, Step::Stall)?;
+    assert!(rt; do_step(core, rt.alloc(), &Step::Stall)?);
     assert!(rt; legal_steps(rt, core, commits)?.is_empty());
     assert!(rt; !core.enabled());
     Ok(())
-}
-
-/// Asserts that two machines tell the same of themselves.
-pub(crate) fn assert_same(rt: &impl Abort, one: &Core, other: &Core) {
-    assert!(rt; one.history() == other.history());
-    assert!(rt; one.journal() == other.journal());
-    assert!(rt; one.replies() == other.replies());
-    assert!(rt; one.latched() == other.latched());
-    assert!(rt; one.freed() == other.freed());
-    assert_eq!(rt; one.drained(), other.drained());
-    assert_eq!(rt; one.enabled(), other.enabled());
-    assert_eq!(rt; one.is_stalled(), other.is_stalled());
-    assert_eq!(rt; one.stalled_on(), other.stalled_on());
-    for index in 0..4 {
-        let client = index + 1;
-        assert!(rt; one.idle_command(client) == other.idle_command(client));
-        if (index as usize) < one.script().clients.len() {
-            assert_eq!(rt; place(rt, one, client), place(rt, other, client));
-        }
-        assert_eq!(rt; goes(rt, one, index), goes(rt, other, index));
-    }
 }
 
 /// Walks on one machine, and does the same steps on another, which tells the same then. It gives how many steps there were,
@@ -231,8 +212,8 @@ fn walk_twice(
     most: usize,
 ) -> Result<(usize, u32), Fail> {
     walk(rt, core, dice, most)?;
-    apply_all(rt, again, core.history())?;
-    assert_same(rt, core, again);
+    assert_eq!(rt; do_steps(again, rt.alloc(), core.history())?, None);
+    assert!(rt; tells_same(core, again));
     Ok((core.history().len(), kinds_in(core.history())))
 }
 

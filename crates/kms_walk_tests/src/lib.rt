@@ -1,0 +1,13 @@
+//! Random walks of many clients on a machine, and the steps that a machine tells next, beside those that are legal. Each walk
+//! starts from a seed, and is done again on a second machine. A test makes its machine and lends it to a function with its
+//! steps (`.._with`), which is proved once.
+#![tactic(auto)]
+
+#[cfg(test)]
+mod crowds;
+#[cfg(test)]
+mod kinds;
+#[cfg(test)]
+mod turns;
+#[cfg(test)]
+mod walks;
