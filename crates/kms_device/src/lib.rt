@@ -7,8 +7,6 @@ mod contexts;
 mod decisions;
 mod device;
 mod kernel;
-#[cfg(test)]
-mod tests;
 mod tries;
 mod workers;
 

@@ -1,0 +1,73 @@
+//! Two clients, each in a thread of its own.
+ghost use Rattle.std.specs.Prelude.{◌≡◌};
+ghost use Rattle.kms_histlock.specs.Passes.{IsSamePass};
+
+use crate::opening::{assert_again, closed, opened};
+use crate::texts::{MAKING, TURNING_OFF};
+use crate::{Call, Told, make_call};
+use kms_core::Core;
+use kms_device::{Device, Pass};
+use kms_model::{NoMemory, Reply};
+use std::alloc::Global;
+use std::process::Abort;
+use std::sync::Wait;
+use std::thread::{Threads, join};
+
+/// What a thread gives back: its pass, and what its call was answered.
+type Called = (Pass, Result<Told, NoMemory>);
+
+/// Makes a call, and gives the pass back.
+fn called<W: Wait>(rt: &W, alloc: Global, device: &Device, mut pass: Pass, what: Call) -> Called
+    requires own { pass.lock ≡ device.now.lock }
+    ensures same { IsSamePass pass result.0 }
+{
+    let told = make_call(rt, alloc, device, &mut pass, what);
+    (pass, told)
+}
+
+/// Makes the same call through two passes, each in a thread of its own.
+fn both<R: Threads + Wait + Sync>(
+    rt: &R,
+    alloc: Global,
+    device: &Device,
+    one: Pass,
+    other: Pass,
+    what: Call,
+) -> (Called, Called)
+    requires own { (one.lock ≡ device.now.lock) × (other.lock ≡ device.now.lock) }
+    ensures same { IsSamePass one result.0.0 × IsSamePass other result.1.0 }
+{
+    join(
+        rt,
+        || called(rt, alloc, device, one, what),
+        || called(rt, alloc, device, other, what),
+    )
+}
+
+/// Asserts that a machine has so many steps and commands in its journal.
+fn assert_went(rt: &(impl Abort + AllocGlobal), core: &Core, steps: usize, commands: usize) {
+    assert!(rt; core.history().len() == steps && core.journal().len() == commands);
+    assert_again(rt, core);
+}
+
+#[test]
+fn two_clients_in_two_threads_make_a_thing_each(rt: HostRuntime) {
+    let (device, one, other) = opened(&rt, MAKING);
+    let ((one, first), (other, second)) = both(&rt, rt.alloc(), &device, one, other, Call::Make);
+    let made = |id| Ok(Told::Replied(Reply::Made { id }));
+    let answers = (first, second);
+    assert!(rt; answers == (made(1000), made(1001)) || answers == (made(1001), made(1000)));
+    let core = closed(&rt, device, one, other);
+    assert_went(&rt, &core, 2, 2);
+}
+
+#[test]
+fn two_clients_in_two_threads_commit(rt: HostRuntime) {
+    let (device, one, other) = opened(&rt, TURNING_OFF);
+    let ((one, first), (other, second)) = both(&rt, rt.alloc(), &device, one, other, Call::Commit);
+    let told = |commit| Ok(Told::Replied(Reply::Commit { commit }));
+    let answers = (first, second);
+    assert!(rt; answers == (told(0), told(1)) || answers == (told(1), told(0)));
+    let core = closed(&rt, device, one, other);
+    assert_went(&rt, &core, 6, 2);
+}

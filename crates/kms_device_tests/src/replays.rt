@@ -1,0 +1,50 @@
+//! Histories that are done again.
+ghost use Rattle.std.specs.Prelude.{◌≡◌, IfOk};
+
+use kms_core::Core;
+use kms_model::Duplicate;
+use kms_rounds::{ReplayError, replay};
+use std::alloc::Global;
+
+/// A new machine of the same script, on which the steps of a machine were done again, one after the other. The error is want of
+/// memory, or the place of a step that was not legal there.
+pub fn again(alloc: Global, core: &Core) -> Result<Core, ReplayError>
+    ensures { IfOk result (λ new. new ≡ core.now) }
+{
+    core.is_a_history();
+    let mut new = Core::new(alloc, core.script().copy(alloc)?)?;
+    replay(alloc, &mut new, core.history())?;
+    Ok(new)
+}
+
+/// Whether two machines answer every question in the same way.
+pub fn tell_the_same(one: &Core, other: &Core) -> bool {
+    one.history() == other.history()
+        && one.journal() == other.journal()
+        && one.replies() == other.replies()
+        && one.latched() == other.latched()
+        && one.freed() == other.freed()
+        && one.drained() == other.drained()
+        && one.enabled() == other.enabled()
+        && one.is_stalled() == other.is_stalled()
+        && one.stalled_on() == other.stalled_on()
+        && stand_the_same(one, other)
+        && go_the_same(one, other)
+}
+
+/// Whether the clients of two machines stand at the same places.
+fn stand_the_same(one: &Core, other: &Core) -> bool {
+    let clients = one.script().clients.len();
+    if other.script().clients.len() != clients {
+        return false;
+    }
+    (1..clients as u32 + 1).all(|client| {
+        one.place(client) == other.place(client)
+            && one.idle_command(client) == other.idle_command(client)
+    })
+}
+
+/// Whether the same CRTCs of two machines latch a commit at their next vertical blanking.
+fn go_the_same(one: &Core, other: &Core) -> bool {
+    (0..4).all(|crtc| one.has_go(crtc) == other.has_go(crtc))
+}
