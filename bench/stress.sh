@@ -40,22 +40,23 @@ status_of() {
     echo "$ended"
 }
 
-# The processor time in milliseconds that all programs so far have taken, their own and the system's.
-taken() {
-    times >"$work/times"
-    sed -n '2s/[ms]/ /gp' "$work/times" | awk '{ printf "%d %d\n", $1 * 60000 + $2 * 1000, $3 * 60000 + $4 * 1000 }'
+# The processor time in milliseconds, the programs' own and the system's, between two records of `times`.
+between() {
+    for file in "$1" "$2"; do sed -n '2s/[ms]/ /gp' "$file"; done | awk '
+        { user[NR] = $1 * 60000 + $2 * 1000; sys[NR] = $3 * 60000 + $4 * 1000 }
+        END { printf "%d %d\n", user[2] - user[1], sys[2] - sys[1] }'
 }
 
 # One run of a script, given as a kind, a file and a name, with a number of threads.
 one_run() {
-    before=$(taken)
+    times >"$work/before"
     start=$(date +%s%N)
     ran=$(status_of "$2" "$work/ran" run --threads "$4" --trace)
     took=$((($(date +%s%N) - start) / 1000))
-    after=$(taken)
+    times >"$work/after"
     { cat "$2"; echo schedule; grep '^T ' "$work/ran" || true; } >"$work/schedule"
     replayed=$(status_of "$work/schedule" "$work/replayed" replay --trace)
-    echo "$1 $4 $(grep -c '^T ' "$work/ran" || true) $took $before $after" >>"$work/runs"
+    echo "$1 $4 $(grep -c '^T ' "$work/ran" || true) $took $(between "$work/before" "$work/after")" >>"$work/runs"
     if [ "$ran" != "$replayed" ] || ! cmp -s "$work/ran" "$work/replayed"; then
         differences=$((differences + 1))
         echo "differs: $3 with $4 threads: status $ran, replayed $replayed"
@@ -89,7 +90,7 @@ awk -v differences="$differences" '
             events[name], events[name] / (wall[name] / 1000000), wall[name] / 1000000, user[name] / 1000, system_time[name] / 1000
     }
     function count(name) {
-        runs[name]++; events[name] += $3; wall[name] += $4; user[name] += $7 - $5; system_time[name] += $8 - $6
+        runs[name]++; events[name] += $3; wall[name] += $4; user[name] += $5; system_time[name] += $6
     }
     { count($1); count($2 " threads"); count("all") }
     END {

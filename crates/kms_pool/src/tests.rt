@@ -41,6 +41,9 @@ struct Counter<'a> {
 }
 
 impl<'a> Player for Counter<'a> {
+    ghost use Rattle.std.specs.Prelude.{◌≡◌, ◌≤◌};
+    ghost use Rattle.kms_pool.specs.declared.player.Turn.{Turn};
+
     type Name = u64;
 
     ghost name = { λ c. c.number };
