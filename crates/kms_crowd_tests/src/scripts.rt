@@ -5,16 +5,19 @@ use std::test::Fail;
 /// How many commits each client makes, a count.
 pub(crate) const COMMITS: u32 = 100;
 
-/// How many clients there are, and planes. A client moves the plane whose index is its number less one.
+/// How many clients there are. Each has a plane that CRTCs show, whose index is its number less one, and one that is off.
 pub(crate) const CLIENTS: u32 = 8;
+
+/// Every how many requests of a client meet those of others.
+const MEETING: u32 = 25;
 
 /// How many CRTCs there are, each with a connector. Two clients move planes on each.
 const CRTCS: u32 = 4;
 
-/// The device: a plane for each client, which each CRTC can show.
+/// The device: two planes for each client, which each CRTC can show.
 fn device(alloc: Global) -> Result<String, Fail> {
     let mut text = format!(in alloc; "kms 1\ncrtcs {CRTCS}\n")?;
-    for _plane in 0..CLIENTS {
+    for _plane in 0..2 * CLIENTS {
         text.push_str("plane overlay 0,1,2,3 XR24\n")?;
     }
     for index in 0..CRTCS {
@@ -23,7 +26,7 @@ fn device(alloc: Global) -> Result<String, Fail> {
     Ok(text)
 }
 
-/// The commands of the first client that light all CRTCs, with all planes on them: its first commit.
+/// The commands of the first client that light all CRTCs, with a plane of each client on them: its first commit.
 fn light(alloc: Global) -> Result<String, Fail> {
     let mut text = format!(in alloc;
         "buffer b 1 1 XR24 solid 00616263\naddfb f b\nmode m 1 1 1 1 1 0 1 1 1 1 0 60 0 0 tiny\natomic 0x400 0"
@@ -45,16 +48,17 @@ fn light(alloc: Global) -> Result<String, Fail> {
     Ok(text)
 }
 
-/// A request that dims a client's plane, and every other time names a neighbouring CRTC too, which then is locked before the
-/// plane's own: so contexts meet from both sides.
+/// A request that dims a plane of a client. Mostly that is the plane that is off, so that no other client wants the same
+/// objects. Some dim the plane that is shown, and name another CRTC too, which is locked before the plane's own: there
+/// contexts meet from both sides.
 fn dim(alloc: Global, client: u32, number: u32) -> Result<String, Fail> {
-    let plane = client - 1;
-    let alpha = number;
-    if number % 2 == 0 {
-        return Ok(format!(in alloc; "atomic 0x0 0 plane{plane}.alpha={alpha}\n")?);
+    let shown = client.saturating_sub(1);
+    let off = shown.saturating_add(CLIENTS);
+    if number % MEETING != 1 {
+        return Ok(format!(in alloc; "atomic 0x0 0 plane{off}.alpha={number}\n")?);
     }
-    let other = (client + number / 2) % CRTCS;
-    Ok(format!(in alloc; "atomic 0x0 0 plane{plane}.alpha={alpha} crtc{other}.ACTIVE=1\n")?)
+    let other = client.saturating_add(number / MEETING) % CRTCS;
+    Ok(format!(in alloc; "atomic 0x0 0 plane{shown}.alpha={number} crtc{other}.ACTIVE=1\n")?)
 }
 
 /// The script: each client makes so many commits, the first of which lights everything.

@@ -5,7 +5,7 @@ ghost use Rattle.kms_histlock.specs.Passes.{IsSamePass};
 
 use kms_device::{Device, Pass};
 use kms_device_tests::{commit, make, return_from};
-use kms_model::{NoMemory, Reply};
+use kms_model::{NoMemory, Reply, Step};
 use std::alloc::Global;
 use std::sync::Wait;
 
@@ -63,11 +63,11 @@ fn finish<W: Wait>(rt: &W, device: &Device, pass: &mut Pass, commit: u32) -> Res
         if let Some(claimed) = device.claim(rt, pass) {
             work(rt, device, pass, claimed);
         }
-        blank(rt, device, pass);
-        work(rt, device, pass, commit);
         if return_from(rt, device, pass)? {
             return Ok(true);
         }
+        blank(rt, device, pass);
+        work(rt, device, pass, commit);
     }
     Ok(false)
 }
@@ -78,8 +78,9 @@ fn work<W: Wait>(rt: &W, device: &Device, pass: &mut Pass, commit: u32)
     ensures same { IsSamePass pass.old pass.new }
 {
     for _step in 0..MOST_STEPS {
-        if device.work_on(rt, pass, commit).is_none() {
-            return;
+        match device.work_on(rt, pass, commit) {
+            None | Some(Step::Cleanup { .. }) => return,
+            Some(_) => {}
         }
     }
 }

@@ -1,6 +1,5 @@
 //! What a thread drives.
 ghost use Rattle.std.specs.Prelude.{◌≡◌};
-ghost use Rattle.kms_histlock.specs.Passes.{IsSamePass};
 
 use crate::turns::commit_and_finish;
 use kms_device::{Device, Pass};
@@ -21,11 +20,12 @@ pub struct Two {
 
 impl Two {
     ghost use Rattle.std.specs.Prelude.{◌≡◌};
-    ghost use Rattle.kms_histlock.specs.Passes.{IsSamePass};
+    ghost use Rattle.kms_crowd_tests.specs.Pairs.{AreOf, AreSame};
 
     /// Two passes by which nothing is over yet.
     pub fn new(one: Pass, other: Pass) -> Two
-        ensures { result ≡ record { one = one; other = other; over = 0 } }
+        ensures one { result.one ≡ one }
+        ensures other { result.other ≡ other }
     {
         Two {
             one,
@@ -36,10 +36,8 @@ impl Two {
 
     /// The two clients commit in turn, so many times each, until memory runs out.
     pub fn commit<W: Wait>(mut self, rt: &W, alloc: Global, device: &Device, times: u32) -> Two
-        requires one { self.entry.one.lock ≡ device.now.lock }
-        requires other { self.entry.other.lock ≡ device.now.lock }
-        ensures one { IsSamePass self.entry.one result.one }
-        ensures other { IsSamePass self.entry.other result.other }
+        requires own { AreOf device.now self.entry }
+        ensures same { AreSame self.entry result }
     {
         for _time in 0..times {
             let one = commit_and_finish(rt, alloc, device, &mut self.one);
