@@ -55,8 +55,8 @@ none_at {S} zero i = refl
 none_at {S} (suc n) zero = refl
 none_at {S} (suc n) (suc i) = none_at {S = S} n i
 
-never_of : {S : Type 0} (k : Kind) (n id : ℕ) → is_some (state_of {S = S} k (replicate n None) id) ≡ false
-never_of {S} k n id = by (nat_le (first_id k) id) where
+never_of : (S : Type 0) (k : Kind) (n id : ℕ) → is_some (state_of {S = S} k (replicate n None) id) ≡ false
+never_of S k n id = by (nat_le (first_id k) id) where
   by : (b : Bool) → is_some (if b then state_at {S = S} (replicate n None) (id - first_id k) else None) ≡ false
   by true = ap is_some (none_at {S = S} n (id - first_id k))
   by false = refl
@@ -64,9 +64,9 @@ never_of {S} k n id = by (nat_le (first_id k) id) where
 never : (object : ℕ) → is_duplicated none_duplicated object ≡ true → ⊥
 never object = of_kind (kind_of object) where
   of_kind : (k : Kind) → is_duplicated_of k none_duplicated object ≡ true → ⊥
-  of_kind Crtc is = false≢true (sym (never_of Crtc 4 object) ∙ is)
-  of_kind Plane is = false≢true (sym (never_of Plane 16 object) ∙ is)
-  of_kind Conn is = false≢true (sym (never_of Conn 8 object) ∙ is)
+  of_kind Crtc is = false≢true (sym (never_of _ Crtc 4 object) ∙ is)
+  of_kind Plane is = false≢true (sym (never_of _ Plane 16 object) ∙ is)
+  of_kind Conn is = false≢true (sym (never_of _ Conn 8 object) ∙ is)
   of_kind Enc is = false≢true is
 
 pub begins : (s : Script) (m : Machine) (client : ℕ) (request : Request) → request_at s m client ≡ Some request → Agrees s.topology m.device.world.things m.device.world.values none_duplicated

@@ -14,6 +14,8 @@ use std::test::Fail;
 
 /// The next step of one thread, which has each client's request decided before it goes on.
 fn next_step(rt: &impl Abort, core: &Core) -> Option<Step> {
+    // A script has at most 16 clients.
+    core.is_a_history();
     let clients = core.script().clients.len() as u32;
     for index in 0..clients {
         let client = index.saturating_add(1);

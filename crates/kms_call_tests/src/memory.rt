@@ -69,8 +69,8 @@ fn a_crtc_is_lit_with_all_memory(rt: HostRuntime) -> Result<(), Fail> {
     tell(persist_on_both(&rt, &mut core, &mut twin, &light_steps())?)
 }
 
-/// The steps after that of a client that shows another framebuffer, reads the event, closes the first, and reads again.
-fn flip_steps() -> [Step; 17] {
+/// The steps after that of a client that shows another framebuffer, up to its commit.
+fn flip_steps() -> [Step; 6] {
     [
         make(1),
         make(1),
@@ -78,6 +78,12 @@ fn flip_steps() -> [Step; 17] {
         lock(1, crtc(0)),
         lock(1, plane(0)),
         swap(1),
+    ]
+}
+
+/// The tail of that commit.
+fn tail_steps() -> [Step; 7] {
+    [
         claim(1),
         write(1, crtc(0)),
         write(1, plane(0)),
@@ -85,23 +91,35 @@ fn flip_steps() -> [Step; 17] {
         hw_done(1),
         vblank(crtc(0)),
         cleanup(1),
-        return_from(1),
-        read(1),
-        make(1),
-        read(1),
     ]
+}
+
+/// The client goes on, reads the event, closes the first framebuffer, and reads again.
+fn reading_steps() -> [Step; 4] {
+    [return_from(1), read(1), make(1), read(1)]
 }
 
 #[test]
 fn an_event_is_read_with_all_memory(rt: HostRuntime) -> Result<(), Fail> {
     let mut core = lighting(&rt, "0x400", FLIPS)?;
     let mut twin = lighting(&rt, "0x400", FLIPS)?;
-    let lit = persist_on_both(&rt, &mut core, &mut twin, &light_steps())?;
-    let flipped = persist_on_both(&rt, &mut core, &mut twin, &flip_steps())?;
-    assert!(&rt;
+    an_event_is_read_with(&rt, &mut core, &mut twin)
+}
+
+fn an_event_is_read_with(
+    rt: &(impl Abort + AllocGlobal),
+    core: &mut Core,
+    twin: &mut Core,
+) -> Result<(), Fail> {
+    let lit = persist_on_both(rt, core, twin, &light_steps())?;
+    let flipped = persist_on_both(rt, core, twin, &flip_steps())?;
+    let shown = persist_on_both(rt, core, twin, &tail_steps())?;
+    let closed = persist_on_both(rt, core, twin, &reading_steps())?;
+    assert!(rt;
         core.freed() == [(1, 1001)].as_slice(),
         "the framebuffer is freed"
     );
-    assert!(&rt; core.drained());
-    tell(lit.saturating_add(flipped))
+    assert!(rt; core.drained());
+    let set_up = lit.saturating_add(flipped);
+    tell(set_up.saturating_add(shown).saturating_add(closed))
 }

@@ -51,12 +51,9 @@ fn assert_not_waiting(rt: &impl Abort, core: &Core, client: u32, reason: &str) {
     assert_refused(rt, core, &rows);
 }
 
-/// Each kind of step where it is not legal at the start, of clients, objects and commits that are there and that are not.
-/// The one client is at a `make`.
-fn forbidden_first() -> [(&'static str, Step); 24] {
+/// The steps of the one client, which is at a `make`, that are not legal at the start.
+fn forbidden_first() -> [(&'static str, Step); 10] {
     let idle = "the client is idle";
-    let unmade = "there is no such commit";
-    let none = "there is no such client";
     [
         ("it is at a buffer", begin(1)),
         ("it is at a buffer", signal(1)),
@@ -68,15 +65,24 @@ fn forbidden_first() -> [(&'static str, Step); 24] {
         (idle, test(1)),
         (idle, swap(1)),
         (idle, return_from(1)),
-        (none, make(0)),
-        (none, make(2)),
-        (none, return_from(0)),
-        (none, lock(2, crtc(0))),
-        (unmade, claim(0)),
-        (unmade, write(0, crtc(0))),
-        (unmade, flush(0, crtc(0))),
-        (unmade, hw_done(0)),
-        (unmade, cleanup(0)),
+    ]
+}
+
+/// Those of commits that are not made.
+fn unmade() -> [(&'static str, Step); 5] {
+    let reason = "there is no such commit";
+    [
+        (reason, claim(0)),
+        (reason, write(0, crtc(0))),
+        (reason, flush(0, crtc(0))),
+        (reason, hw_done(0)),
+        (reason, cleanup(0)),
+    ]
+}
+
+/// Those of display objects, and the end of the history.
+fn unlit() -> [(&'static str, Step); 5] {
+    [
         ("it is off", vblank(crtc(0))),
         ("there is no such CRTC", vblank(crtc(1))),
         ("there is no such CRTC", vblank(crtc(100))),
@@ -96,6 +102,8 @@ fn steps_are_refused_at_the_start_with(
     core: &Core,
 ) -> Result<(), Fail> {
     assert_refused(rt, core, &forbidden_first());
+    assert_refused(rt, core, &unmade());
+    assert_refused(rt, core, &unlit());
     for client in [0, 2, u32::MAX] {
         assert_not_idle(rt, core, client, "there is no such client");
         assert_takes_none(rt, core, client, "there is no such client");

@@ -8,7 +8,7 @@ use kms_core_tests::{
     hw_done, lock, make, plane, read, refuse, relock, return_from, signal, started, swap,
     tells_same, test, vblank, write,
 };
-use kms_model::Step;
+use kms_model::{NoMemory, Step};
 use std::process::Abort;
 use std::test::Fail;
 
@@ -31,28 +31,17 @@ impl Dice {
     }
 }
 
-/// Each object of the device, and one more of each kind.
-fn objects() -> [Object; 18] {
-    [
-        crtc(0),
-        crtc(1),
-        crtc(2),
-        crtc(3),
-        crtc(4),
-        plane(0),
-        plane(1),
-        plane(2),
-        plane(3),
-        plane(4),
-        plane(5),
-        conn(0),
-        conn(1),
-        conn(2),
-        conn(3),
-        conn(4),
-        encoder(0),
-        crtc(100),
-    ]
+/// Each object of the device, and others that it does not have.
+fn objects(rt: &impl AllocGlobal) -> Result<Vec<Object>, NoMemory> {
+    let mut objects = Vec::new(rt.alloc());
+    for index in 0..6 {
+        objects.push(crtc(index))?;
+        objects.push(plane(index))?;
+        objects.push(conn(index))?;
+    }
+    objects.push(encoder(0))?;
+    objects.push(crtc(100))?;
+    Ok(objects)
 }
 
 fn steps_of_client(client: u32) -> [Step; 10] {
@@ -104,12 +93,17 @@ fn keep(core: &Core, legal: &mut Vec<Step>, step: Step) -> Result<(), Fail> {
 }
 
 /// Keeps those steps that are legal of so many clients, and of one more on each side.
-fn keep_clients(core: &Core, legal: &mut Vec<Step>, clients: u32) -> Result<(), Fail> {
+fn keep_clients(
+    core: &Core,
+    legal: &mut Vec<Step>,
+    clients: u32,
+    objects: &[Object],
+) -> Result<(), Fail> {
     for client in 0..clients.saturating_add(2) {
         for step in &steps_of_client(client) {
             keep(core, legal, *step)?;
         }
-        for object in &objects() {
+        for object in objects {
             keep(core, legal, lock(client, *object))?;
         }
     }
@@ -117,12 +111,17 @@ fn keep_clients(core: &Core, legal: &mut Vec<Step>, clients: u32) -> Result<(), 
 }
 
 /// Keeps those steps that are legal of commits, from the last that is cleaned like all before it to one that is not made.
-fn keep_commits(core: &Core, legal: &mut Vec<Step>, commits: &Commits) -> Result<(), Fail> {
+fn keep_commits(
+    core: &Core,
+    legal: &mut Vec<Step>,
+    commits: &Commits,
+    objects: &[Object],
+) -> Result<(), Fail> {
     for commit in commits.first.saturating_sub(1)..commits.count.saturating_add(1) {
         for step in [claim(commit), hw_done(commit), cleanup(commit)] {
             keep(core, legal, step)?;
         }
-        for object in &objects() {
+        for object in objects {
             keep(core, legal, write(commit, *object))?;
             keep(core, legal, flush(commit, *object))?;
         }
@@ -131,11 +130,16 @@ fn keep_commits(core: &Core, legal: &mut Vec<Step>, commits: &Commits) -> Result
 }
 
 /// All steps that are legal after a history with these commits.
-fn legal_steps(rt: &impl AllocGlobal, core: &Core, commits: &Commits) -> Result<Vec<Step>, Fail> {
+fn legal_steps(
+    rt: &impl AllocGlobal,
+    core: &Core,
+    commits: &Commits,
+    objects: &[Object],
+) -> Result<Vec<Step>, Fail> {
     let mut legal = Vec::new(rt.alloc());
-    keep_clients(core, &mut legal, 4)?;
-    keep_commits(core, &mut legal, commits)?;
-    for object in &objects() {
+    keep_clients(core, &mut legal, 4, objects)?;
+    keep_commits(core, &mut legal, commits, objects)?;
+    for object in objects {
         keep(core, &mut legal, vblank(*object))?;
     }
     keep(core, &mut legal, Step::Stall)?;
@@ -169,18 +173,19 @@ fn walk(
         first: 0,
         cleaned: Vec::new(rt.alloc()),
     };
+    let objects = objects(rt)?;
     for _step in 0..most {
         let (length, answered) = (core.history().len(), core.replies().len());
-        let legal = legal_steps(rt, core, &commits)?;
+        let legal = legal_steps(rt, core, &commits, objects.as_slice())?;
         if length % 4 == 0 {
-            assert_order(rt, core, commits.count, &objects());
+            assert_order(rt, core, commits.count, objects.as_slice());
         }
         assert_eq!(rt; core.history().len(), length);
         assert_eq!(rt; core.replies().len(), answered);
         let moves = has_move(core, &legal);
         assert_eq!(rt; core.enabled(), moves, "after {length} steps");
         if !moves {
-            return end(rt, core, &commits);
+            return end(rt, core, &commits, objects.as_slice());
         }
         let step = *legal.get(dice.roll(legal.len())).ok_or("a step is legal")?;
         assert!(rt; do_step(core, rt.alloc(), &step)?, "{step:?} is legal");
@@ -190,14 +195,19 @@ fn walk(
 }
 
 /// Asserts that a history in which nothing moves is drained, or is dead for a fence, and then ends it.
-fn end(rt: &(impl Abort + AllocGlobal), core: &mut Core, commits: &Commits) -> Result<(), Fail> {
+fn end(
+    rt: &(impl Abort + AllocGlobal),
+    core: &mut Core,
+    commits: &Commits,
+    objects: &[Object],
+) -> Result<(), Fail> {
     assert_eq!(rt; core.legal(&Step::Stall), !core.drained());
     assert_eq!(rt; core.stalled_on().is_some(), !core.drained());
     if core.drained() {
         return Ok(());
     }
     assert!(rt; do_step(core, rt.alloc(), &Step::Stall)?);
-    assert!(rt; legal_steps(rt, core, commits)?.is_empty());
+    assert!(rt; legal_steps(rt, core, commits, objects)?.is_empty());
     assert!(rt; !core.enabled());
     Ok(())
 }
