@@ -25,7 +25,7 @@ own-append : (client : ℕ) (xs ys : List Step) → own_steps client (xs ++ ys) 
 own-append client xs ys = filter-append (λ step. owner step == client) xs ys
 
 pub went_not : (p : DevicePass) → Went [] p p
-went_not p = record { lock = refl; rank = refl; more = []; grows = sym (append-nil p.seen); own = refl; made = omega arith }
+went_not p = record { lock = refl; rank = refl; more = []; grows = sym (append-nil p.seen); own = refl; made = omega arith; length_read = refl; counts_read = refl }
 
 -- turns after others
 pub went_both : (xs ys : List Step) (p q r : DevicePass) → Went xs p q → Went ys q r → Went (xs ++ ys) p r
@@ -36,6 +36,8 @@ went_both xs ys p q r w v = record {
   grows = v.grows ∙ (ap (λ zs. zs ++ v.more) w.grows ∙ append_assoc p.seen w.more v.more);
   own = own-append p.rank w.more v.more ∙ (ap (λ zs. zs ++ own_steps p.rank v.more) w.own ∙ ap (λ zs. xs ++ zs) (ap (λ n. own_steps n v.more) (sym w.rank) ∙ v.own));
   made = let long = length-append xs ys in let a = w.made in let b = v.made in omega arith;
+  length_read = v.length_read ∙ w.length_read;
+  counts_read = v.counts_read ∙ w.counts_read;
 }
 
 -- one turn
@@ -48,6 +50,8 @@ went_turn script says xs p q own t =
       grows = ap (λ (z : DevicePass). z.seen) t.now ∙ (ap (λ zs. zs ++ xs) t.finds.history.begins.1 ∙ append_assoc p.seen rest xs);
       own = own-append p.rank rest xs ∙ (ap (λ zs. zs ++ own_steps p.rank xs) (none_own p.rank rest t.finds.history.begins.2) ∙ own);
       made = ap (λ (z : DevicePass). z.made) t.now;
+      length_read = ap (λ (z : DevicePass). z.length_read) t.now;
+      counts_read = ap (λ (z : DevicePass). z.counts_read) t.now;
     }
 
 -- turns that added nothing, and then others

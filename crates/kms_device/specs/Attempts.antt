@@ -43,7 +43,8 @@ use Rattle.kms_device.specs.Turns.{DevicePass, IsOpen, seen}
 abbrev pub own_steps : ℕ → List Step → List Step
 own_steps client steps = filter (λ step. owner step == client) steps
 
--- A pass of a client went on by turns: of what it has seen since then, the client's steps are these, and the pass made them.
+-- A pass of a client went on by turns: of what it has seen since then, the client's steps are these, and the pass made them. The
+-- numbers that it has read are those that it had read.
 pub record Went (steps : List Step) (before after : DevicePass) : Type 0 where
   pub lock : after.lock ≡ before.lock
   pub rank : after.rank ≡ before.rank
@@ -51,6 +52,8 @@ pub record Went (steps : List Step) (before after : DevicePass) : Type 0 where
   pub grows : after.seen ≡ before.seen ++ more
   pub own : own_steps before.rank more ≡ steps
   pub made : after.made ≡ before.made + length steps
+  pub length_read : after.length_read ≡ before.length_read
+  pub counts_read : after.counts_read ≡ before.counts_read
 
 -- What an attempt asks for
 

@@ -142,8 +142,8 @@ attempting_on before after client number old new is stays serves = record { may 
 -- a client's turn, after it was told where it stands, or knew
 
 pub plays_plain : (script : Script) (client : ℕ) (before told after : DevicePass) (kept : Attempt) (answer : pool.Turn) → Went [] before told → PlainTurn script client told after answer → ClientTurn script client before kept after kept answer
-plays_plain script client before told after kept Did went did = record { told = told; went = went; did = inl did }
-plays_plain script client before told after kept (NotYet n) went did = record { told = told; went = went; did = inl did }
+plays_plain script client before told after kept Did went did = record { told = told; went = went; did = inl (did, refl) }
+plays_plain script client before told after kept (NotYet n) went did = record { told = told; went = went; did = inl (did, refl) }
 plays_plain script client before told after kept Ended went did = absurd did
 
 pub plays_attempt : (script : Script) (client : ℕ) (before told after : DevicePass) (old new : Attempt) (answer : pool.Turn) → Went [] before told → RequestTurn script client told old after new answer → ClientTurn script client before old after new answer
@@ -168,12 +168,12 @@ attempt_name script client before old after new Ended s = absurd s
 
 plays_name : (script : Script) (client : ℕ) (before : DevicePass) (old : Attempt) (after : DevicePass) (new : Attempt) (answer : pool.Turn) → Plays script client before old after new answer → name_of after ≡ name_of before
 plays_name script client before old after new answer t = did t.did ∙ went_name [] before t.told t.went where
-  did : PlainTurn script client t.told after answer ⊎ RequestTurn script client t.told old after new answer → name_of after ≡ name_of t.told
-  did (inl s) = plain_name script client t.told after answer s
+  did : (PlainTurn script client t.told after answer × (new ≡ old)) ⊎ RequestTurn script client t.told old after new answer → name_of after ≡ name_of t.told
+  did (inl s) = plain_name script client t.told after answer s.0
   did (inr s) = attempt_name script client t.told old after new answer s.attempt
 
 pub client_name : (script : Script) (client : ℕ) (before : DevicePass) (old : Attempt) (after : DevicePass) (new : Attempt) (answer : pool.Turn) → ClientTurn script client before old after new answer → name_of after ≡ name_of before
-client_name script client before old after new Ended t = turn_name script _ [] before after t
+client_name script client before old after new Ended t = turn_name script _ [] before after t.0
 client_name script client before old after new Did t = plays_name script client before old after new Did t
 client_name script client before old after new (NotYet n) t = plays_name script client before old after new (NotYet n) t
 

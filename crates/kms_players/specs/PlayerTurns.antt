@@ -71,16 +71,16 @@ pub record RequestTurn (script : Script) (client : ℕ) (before : DevicePass) (o
   pub may : MayAttempt (seen script before) client
   pub attempt : AttemptTurn script client before old after new answer
 
--- It was told where it stands, unless it knew, which makes no step: then it made its step, or an attempt.
+-- It was told where it stands, unless it knew, which makes no step: then it made its step, and keeps what it kept, or an attempt.
 pub record Plays (script : Script) (client : ℕ) (before : DevicePass) (old : Attempt) (after : DevicePass) (new : Attempt) (answer : pool.Turn) : Type 0 where
   pub told : DevicePass
   pub went : Went [] before told
-  pub did : PlainTurn script client told after answer ⊎ RequestTurn script client told old after new answer
+  pub did : (PlainTurn script client told after answer × (new ≡ old)) ⊎ RequestTurn script client told old after new answer
 
 -- a client's turn, by its answer
 abbrev pub ClientTurn : Script → ℕ → DevicePass → Attempt → DevicePass → Attempt → pool.Turn → Type 0
 ClientTurn script client before old after new Ended =
-    Turn script (λ found. is_at_end found.script (machine found) client ≡ true) [] before after
+    Turn script (λ found. is_at_end found.script (machine found) client ≡ true) [] before after × (new ≡ old)
 ClientTurn script client before old after new answer = Plays script client before old after new answer
 
 -- A turn of a worker, or of what ticks

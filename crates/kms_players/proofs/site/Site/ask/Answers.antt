@@ -1,12 +1,13 @@
-use Rattle.std.proofs.Common.{ap, ◌∙◌, ◌≡◌, Some, None, rules, subst, sym}
+use Rattle.std.proofs.Common.{ap, ◌∙◌, ◌≡◌, Some, None, refl, rules, subst, sym}
 use Rattle.kms_model.specs.Device.Serial.{command_of}
 use Rattle.kms_io.proofs.Joins.{OnErr-always}
 use Rattle.kms_players.proofs.Standing.{at_command, attempting_anew, ends, err_then, idle_told, may_attempt, ok_attempt, open_told, plays_plain}
-use Rattle.kms_players.proofs.Waits.{went_both, went_none}
+use Rattle.kms_device.proofs.Went.{went_later}
+use Rattle.kms_players.proofs.Waits.{went_none}
 use Rattle.kms_players.proofs.site.Site.ask.Goals as goal
 
 pub returns-in_err-go_on-clause-no_step : goal.returns-in_err-go_on-clause-no_step
-returns-in_err-go_on-clause-no_step g c = OnErr-always c.from_residual.result (went_both _ _ _ (went_none _ _ _ _ c.place-place.ensures) c.in_err-go_on.ensures.no_step)
+returns-in_err-go_on-clause-no_step g c = OnErr-always c.from_residual.result (went_later _ _ _ _ (went_none _ _ _ _ c.place-place.ensures) c.in_err-go_on.ensures.no_step)
 
 pub returns-in-Returning-clause-turn : goal.returns-in-Returning-clause-turn
 returns-in-Returning-clause-turn g c = plays_plain _ _ _ _ _ _ _ (went_none _ _ _ _ c.place-place.ensures) c.in_ok-go_on.ensures.turn
@@ -14,8 +15,8 @@ returns-in-Returning-clause-turn g c = plays_plain _ _ _ _ _ _ _ (went_none _ _ 
 pub returns-in_default-command_of : goal.returns-in_default-command_of
 returns-in_default-command_of g c = record {
   turn =
-      ends c.args.self.now.device.now.script c.args.self.now.client c.place-place.result _ _ c.place-place.ensures c.in_default.not-Returning
-      (sym (subst (λ s. None ≡ command_of s (record { client = c.args.self.now.client; command = c.place-place.result.command })) c.script-script.ensures c.in_default-command_of.ensures));
+      (ends c.args.self.now.device.now.script c.args.self.now.client c.place-place.result _ _ c.place-place.ensures c.in_default.not-Returning
+      (sym (subst (λ s. None ≡ command_of s (record { client = c.args.self.now.client; command = c.place-place.result.command })) c.script-script.ensures c.in_default-command_of.ensures)), refl);
   under_way = c.requires.new;
   no_step = tt;
   anew = tt;
@@ -29,7 +30,7 @@ returns-in-Atomic g c = record {
       (sym (subst (λ s. Some c.in-Some.command.now ≡ command_of s (record { client = c.args.self.now.client; command = c.place-place.result.command })) c.script-script.ensures c.in-Some.ensures) ∙ ap Some c.in-Atomic.is))
       c.attempt.ensures.turn;
   under_way = c.attempt.ensures.under_way;
-  no_step = err_then c.attempt.result (went_both _ _ _ (went_none _ _ _ _ c.place-place.ensures)) c.attempt.ensures.no_step;
+  no_step = err_then c.attempt.result (went_later _ _ _ _ (went_none _ _ _ _ c.place-place.ensures)) c.attempt.ensures.no_step;
   anew = c.attempt.ensures.anew;
 }
 
@@ -60,7 +61,7 @@ pub returns-in_err-turn : goal.returns-in_err-turn
 returns-in_err-turn g c = record {
   turn = search rules;
   under_way = search rules;
-  no_step = OnErr-always c.from_residual-in_err-turn.result (went_both _ _ _ (went_none _ _ _ _ c.place-place.ensures) c.in_err-turn.ensures.no_step);
+  no_step = OnErr-always c.from_residual-in_err-turn.result (went_later _ _ _ _ (went_none _ _ _ _ c.place-place.ensures) c.in_err-turn.ensures.no_step);
   anew = OnErr-always c.from_residual-in_err-turn.result c.requires.new;
 }
 
