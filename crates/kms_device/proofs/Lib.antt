@@ -23,4 +23,3 @@ pub mod Joining
 pub mod TriedCases
 pub mod CommitMade
 pub mod Tails
-pub mod FirstSteps
