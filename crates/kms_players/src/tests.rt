@@ -22,23 +22,43 @@ use std::test::Fail;
 const TWO: &str =
     "kms 1\ncrtcs 1\nplane primary 0 XR24\nconn 0\nclient\nbuffer b 1 1 XR24 solid 00616263\naddfb f b\nmode m 1 1 1 1 1 0 1 1 1 1 0 60 0 0 tiny\nfence n\natomic 0x400 0 crtc0.ACTIVE=1 crtc0.MODE_ID=@m conn0.CRTC_ID=crtc0 plane0.FB_ID=@f plane0.CRTC_ID=crtc0 plane0.CRTC_W=1 plane0.CRTC_H=1 plane0.SRC_W=65536 plane0.SRC_H=65536\natomic 0x1 7 plane0.alpha=9 plane0.IN_FENCE_FD=@n\nwait\nclient\nbuffer c 1 1 XR24 solid 00616263\natomic 0x100 0 plane0.alpha=8\nsignal n\n";
 
-/// A gate that holds nobody, and counts who comes.
+/// The number of the worker.
+const WORKER: u32 = 3;
+
+/// A gate that holds nobody, and counts who comes, and who comes with other numbers than its own.
 #[derive(Drop)]
 struct Counter {
+    // The CRTC for which it ticks.
+    crtc: u32,
     checks: AtomicU64,
     answers: AtomicU64,
+    other_answers: AtomicU64,
     claims: AtomicU64,
     ticks: AtomicU64,
+    strange: AtomicU64,
 }
 
 impl Counter {
-    fn new() -> Counter {
+    fn new(crtc: u32) -> Counter {
         Counter {
+            crtc,
             checks: AtomicU64::new(0),
             answers: AtomicU64::new(0),
+            other_answers: AtomicU64::new(0),
             claims: AtomicU64::new(0),
             ticks: AtomicU64::new(0),
+            strange: AtomicU64::new(0),
         }
+    }
+
+    /// How many have come with numbers that are not theirs.
+    fn strange(&self) -> u64 {
+        self.strange.load(Ordering::SeqCst)
+    }
+
+    /// Counts one of these. Tells how many there are then.
+    fn one_more(counted: &AtomicU64) -> u64 {
+        counted.fetch_add(1, Ordering::SeqCst).saturating_add(1)
     }
 
     /// How many claims workers came for.
@@ -48,14 +68,29 @@ impl Counter {
 }
 
 impl Gate for Counter {
-    fn at<R: Wait>(&self, _rt: &R, point: Point, _a: u32, _b: u32) {
-        let count = match point {
-            Point::Check => &self.checks,
-            Point::Answered => &self.answers,
-            Point::Claim => &self.claims,
-            Point::Vblank => &self.ticks,
+    /// A client comes to a check with its number and that of a command, and with each answer with the number of its next command;
+    /// a worker with its number, and what ticks with the index of its CRTC.
+    fn at<R: Wait>(&self, _rt: &R, point: Point, a: u32, b: u32) {
+        let expected = match (point, a) {
+            (Point::Check, 1) | (Point::Check, 2) => {
+                Counter::one_more(&self.checks);
+                1 <= b
+            }
+            (Point::Answered, 1) => Counter::one_more(&self.answers) == u64::from(b),
+            (Point::Answered, 2) => Counter::one_more(&self.other_answers) == u64::from(b),
+            (Point::Claim, WORKER) => {
+                Counter::one_more(&self.claims);
+                b == 0
+            }
+            (Point::Vblank, _) => {
+                Counter::one_more(&self.ticks);
+                a == self.crtc && b == 0
+            }
+            _ => false,
         };
-        count.fetch_add(1, Ordering::SeqCst);
+        if !expected {
+            Counter::one_more(&self.strange);
+        }
     }
 }
 
@@ -129,7 +164,7 @@ impl<'a, G: Gate> Players<'a, G> {
         Players {
             one: Client::new(device, gate, 1, one),
             other: Client::new(device, gate, 2, other),
-            worker: Worker::new(device, gate, 0, worker),
+            worker: Worker::new(device, gate, WORKER, worker),
             tick: VblankTick::new(device, gate, 0, tick),
         }
     }
@@ -207,16 +242,33 @@ fn work<W: Wait, G: Gate>(rt: &W, worker: &mut Worker<'_, G>) -> u32
 #[test]
 fn players_on_one_thread_drain_a_history(rt: HostRuntime) -> Result<(), Fail> {
     let alloc = rt.alloc();
-    let gate = Counter::new();
+    let gate = Counter::new(0);
     let (device, passes) = started(&rt)?;
     let mut players = Players::new(&device, &gate, passes);
     assert!(rt; players.finish(&rt, alloc)?);
     let passes = players.into_passes();
     let core = close(alloc, device, passes)?;
     assert!(rt; core.drained() && core.replies().len() == 10);
-    assert!(rt; gate.answers.load(Ordering::SeqCst) == 10);
+    assert!(rt; gate.answers.load(Ordering::SeqCst) == 7);
+    assert!(rt; gate.other_answers.load(Ordering::SeqCst) == 3);
     assert!(rt; gate.checks.load(Ordering::SeqCst) > 3);
     assert!(rt; gate.claims() > 1 && gate.ticks.load(Ordering::SeqCst) > 1);
+    assert!(rt; gate.strange() == 0);
+    Ok(())
+}
+
+#[test]
+fn what_ticks_comes_to_the_gate_with_its_crtc(rt: HostRuntime) -> Result<(), Fail> {
+    let alloc = rt.alloc();
+    let gate = Counter::new(1);
+    let (device, passes) = started(&rt)?;
+    let (one, other, worker, pass) = passes;
+    let mut tick = VblankTick::new(&device, &gate, 1, pass);
+    assert!(rt; tick.play(&rt) != Turn::Did);
+    assert!(rt; gate.ticks.load(Ordering::SeqCst) == 1 && gate.strange() == 0);
+    let pass = tick.into_pass();
+    let core = close(alloc, device, (one, other, worker, pass))?;
+    assert!(rt; core.history().is_empty());
     Ok(())
 }
 
@@ -235,7 +287,7 @@ fn commit<W: Wait, G: Gate>(
 #[test]
 fn a_worker_claims_no_commit_while_it_has_one(rt: HostRuntime) -> Result<(), Fail> {
     let alloc = rt.alloc();
-    let gate = Counter::new();
+    let gate = Counter::new(0);
     let (device, passes) = started(&rt)?;
     let mut players = Players::new(&device, &gate, passes);
     commit(&rt, alloc, &mut players.one)?;

@@ -14,9 +14,11 @@ returns-in-Returning-clause-turn g c = plays_plain _ _ _ _ _ _ _ (went_none _ _ 
 
 pub returns-in_default-command_of : goal.returns-in_default-command_of
 returns-in_default-command_of g c = record {
-  turn =
-      (ends c.args.self.now.device.now.script c.args.self.now.client c.place-place.result _ _ c.place-place.ensures c.in_default.not-Returning
-      (sym (subst (λ s. None ≡ command_of s (record { client = c.args.self.now.client; command = c.place-place.result.command })) c.script-script.ensures c.in_default-command_of.ensures)), refl);
+  turn = (
+    ends c.args.self.now.device.now.script c.args.self.now.client c.place-place.result _ _ c.place-place.ensures c.in_default.not-Returning
+        (sym (subst (λ s. None ≡ command_of s (record { client = c.args.self.now.client; command = c.place-place.result.command })) c.script-script.ensures c.in_default-command_of.ensures)),
+    refl,
+  );
   under_way = c.requires.new;
   no_step = tt;
   anew = tt;
