@@ -1,6 +1,6 @@
 -- What a pass knows once it was told where its client stands, and what the labels of its client's request name.
-use Rattle.std.proofs.Common.{◌≡◌, ◌∙◌, ℕ, List, [], Bool, true, false, Some, None, refl, sym, ap, subst}
-use Rattle.std.specs.Prelude.{◌≤◌, ◌&&◌, ◌||◌, length, nat_le, not}
+use Rattle.std.proofs.Common.{◌≡◌, ◌∙◌, ℕ, List, [], true, Some, None, refl, sym, ap, subst}
+use Rattle.std.specs.Prelude.{◌&&◌, ◌||◌, nat_le, not}
 use Rattle.std.proofs.lemmas.Bool.{and_from, and_parts, false≢true, leb-true}
 use Rattle.kms_model.specs.declared.objects.Kind.{Kind}
 use Rattle.kms_model.specs.declared.objects.Kind.TheVariants.{Conn, Crtc, Enc, Plane}
@@ -28,16 +28,15 @@ use Rattle.kms_model.specs.Request.SameLooks.{TellsLabels}
 use Rattle.kms_model.specs.Request.Sets.{look_in}
 use Rattle.kms_model.specs.Request.Touched.{is_affected, sets, touches, touches_of_kind}
 use Rattle.kms_model.proofs.SameLooks.{resolved-same, world_tells}
-use Rattle.kms_state.specs.Places.{none_duplicated}
-use Rattle.kms_core.specs.Calls.{MayMake, MayReturn}
+use Rattle.kms_core.specs.Calls.{MayMake}
 use Rattle.kms_core.specs.Decisions.{world}
 use Rattle.kms_core.specs.Run.{Run, machine}
-use Rattle.kms_device.specs.Asking.{MayAskFor}
+use Rattle.kms_device.specs.Asking.{MayAskFor, TakesLocks}
 use Rattle.kms_device.specs.Attempts.{new_attempt}
 use Rattle.kms_device.specs.Trying.{IsReady}
 use Rattle.kms_device.specs.Turns.{DevicePass, IsOpen, Turn, seen}
 use Rattle.kms_device.proofs.Runs.{open-at}
-use Rattle.kms_device.proofs.Serving.{none_of_locks, serves_new}
+use Rattle.kms_device.proofs.Serving.{serves_new}
 use Rattle.kms_device.proofs.Stepping.{found-is, open-after, rank-after, request-same, start_refl}
 use Rattle.kms_device.proofs.TurnsTried.{command-after, doing-after}
 use Rattle.kms_device_tests.specs.Resolving.{Resolves}
@@ -90,9 +89,6 @@ module _ (script : Script) (client : ℕ) (place : Place) (p q : DevicePass) (wh
       and_from (not (machine (seen script q)).stalled) _ (ap not (open-at script q.seen is_open.history is_open.goes_on))
       (and_from (is_idle (doing_at (machine (seen script q)) client)) _ (ap (λ (x : Place). is_idle x.doing) stands ∙ ap is_idle idle) (rw stood h))
 
-  pub may_return_told : (k : ℕ) → place.doing ≡ doing.Returning k → 1 ≤ client → client ≤ length script.clients → MayReturn (seen script q) client
-  may_return_told k is low high = record { low = low; high = high; commit = k; returning = ap (λ (x : Place). returning_of x.doing) stands ∙ ap returning_of is }
-
 -- an object that a request sets is touched by it
 touched_of : (k : Kind) (t : Topology) (w : World) (r : Request) (index object : ℕ) → is_lockable t k index ≡ true → sets r.assigns object ≡ true → touches_of_kind k t w r object ≡ true
 touched_of Crtc t w r index object there set = ap (λ b. b || names w.values (after w r) r.assigns object) set
@@ -116,19 +112,22 @@ module _ (script : Script) (p q : DevicePass) (request : Request) (used : List (
       → (nat_le (first_id (kind_of id.0)) id.0 && is_lockable script.topology (kind_of id.0) (index_of id.0)) ≡ true → sets request.assigns id.0 ≡ true
       → Resolves script.topology (look_in used) request → MayAskFor (seen script q) q.rank ticket id
   may_ask_told ticket id taking at there set fine =
-      let both = and_parts (nat_le (first_id (kind_of id.0)) id.0) (is_lockable script.topology (kind_of id.0) (index_of id.0)) there in record {
+      let both = and_parts (nat_le (first_id (kind_of id.0)) id.0) (is_lockable script.topology (kind_of id.0) (index_of id.0)) there in
+      let takes : TakesLocks (seen script q) q.rank ticket id = record {
         request = request;
         taking = subst (λ n. doing_at (machine (seen script q)) n ≡ doing.Taking ticket) rank_same (doing-after script (λ found. used ≡ lookups (world found) request) p q new_attempt ready t ∙ taking);
         at = subst (λ n. request_at script (machine (seen script q)) n ≡ Some request) rank_same
             (request-same script (machine (seen script p)) (machine (seen script q)) p.rank (command-after script (λ found. used ≡ lookups (world found) request) p q new_attempt ready t) ∙ at);
         is_id = leb-true (first_id (kind_of id.0)) id.0 both.0;
         lockable = both.1;
+      } in record {
+        takes = takes;
         early = q.seen;
         begins = start_refl q.seen;
         resolved = fine.resolved;
         asks = resolved-same script.topology (look_in used) (look_up (world (seen script q))) request fine.resolved
             (subst (λ looks. TellsLabels (look_in looks) (look_up (world (seen script q))) request.assigns) (sym told) (world_tells (world (seen script q)) request)) fine.asks;
-        duplicates = none_duplicated;
-        taken = none_of_locks (seen script q) q.rank;
+        duplicates = new_attempt.states;
+        taken = (serves_new (seen script q) q.rank).states;
         touched = λ w is. touched_set script.topology w request id.0 both.1 set;
       }

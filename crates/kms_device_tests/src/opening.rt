@@ -2,7 +2,7 @@
 ghost use Rattle.std.specs.Prelude.{◌≡◌};
 ghost use Rattle.kms_histlock.specs.Passes.{IsSamePass, new_pass};
 
-use crate::{Call, Told, again, make_call, tell_the_same};
+use crate::{Call, Told, again, anew, make_call, tell_the_same};
 use kms_core::Core;
 use kms_device::{Device, Pass};
 use kms_model::{NoMemory, Part, Seq};
@@ -51,12 +51,21 @@ pub(crate) fn closed(
     device.close(Seq::from_vec(passes))
 }
 
-/// Asserts that a history can be done again on a new machine, which tells the same then.
+/// Asserts that a history can be done again on a new machine, which tells the same then, and not before.
 pub(crate) fn assert_again(rt: &(impl Abort + AllocGlobal), core: &Core) {
+    assert_differs(rt, core);
     let Ok(new) = again(rt.alloc(), core) else {
         panic!(rt; "each step is legal")
     };
     assert!(rt; tell_the_same(core, &new));
+}
+
+/// Asserts that a new machine of the same script, on which nothing was done, does not tell the same.
+fn assert_differs(rt: &(impl Abort + AllocGlobal), core: &Core) {
+    let Ok(new) = anew(rt.alloc(), core) else {
+        panic!(rt; "there is memory")
+    };
+    assert!(rt; !tell_the_same(core, &new));
 }
 
 /// Makes a call through one of two passes: the first, or any other number for the other.

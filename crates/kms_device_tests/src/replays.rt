@@ -1,23 +1,32 @@
 //! Histories that are done again.
-ghost use Rattle.std.specs.Prelude.{◌≡◌, IfOk};
+ghost use Rattle.std.specs.Prelude.{◌≡◌, [], IfOk};
 
 use kms_core::Core;
-use kms_model::Duplicate;
+use kms_model::{Duplicate, MAX_CLIENTS, NoMemory};
 use kms_rounds::{ReplayError, replay};
 use std::alloc::Global;
+
+/// A new machine of the script of a machine. The error is want of memory.
+pub fn anew(alloc: Global, core: &Core) -> Result<Core, NoMemory>
+    ensures { IfOk result (λ new. new ≡ record core.now { steps = [] }) }
+{
+    core.is_a_history();
+    Core::new(alloc, core.script().copy(alloc)?)
+}
 
 /// A new machine of the same script, on which the steps of a machine were done again, one after the other. The error is want of
 /// memory, or the place of a step that was not legal there.
 pub fn again(alloc: Global, core: &Core) -> Result<Core, ReplayError>
     ensures { IfOk result (λ new. new ≡ core.now) }
 {
-    core.is_a_history();
-    let mut new = Core::new(alloc, core.script().copy(alloc)?)?;
+    let mut new = anew(alloc, core)?;
     replay(alloc, &mut new, core.history())?;
     Ok(new)
 }
 
-/// Whether two machines answer every question in the same way.
+/// Whether two machines answer these questions in the same way: their history, journal, replies, latches and freed
+/// framebuffers; whether they are drained, can go on or have ended, and what holds them up; where each client stands, with the
+/// command at which it is idle; and which CRTCs latch a commit at their next vertical blanking.
 pub fn tell_the_same(one: &Core, other: &Core) -> bool {
     one.history() == other.history()
         && one.journal() == other.journal()
@@ -38,9 +47,10 @@ fn stand_the_same(one: &Core, other: &Core) -> bool {
     if other.script().clients.len() != clients {
         return false;
     }
-    (1..clients as u32 + 1).all(|client| {
-        one.place(client) == other.place(client)
-            && one.idle_command(client) == other.idle_command(client)
+    (1..MAX_CLIENTS + 1).all(|client| {
+        client as usize > clients
+            || one.place(client) == other.place(client)
+                && one.idle_command(client) == other.idle_command(client)
     })
 }
 
