@@ -6,6 +6,11 @@ use kms_device::{Device, Pass};
 use kms_model::NoMemory;
 use std::alloc::Global;
 use std::sync::Wait;
+use std::sync::atomic::AtomicU64;
+use std::time::Duration;
+
+/// How many microseconds a thread sleeps once both its clients have committed, so that the others find the device free.
+const NAP: u64 = 300;
 
 /// What a thread drives: the passes of two clients. It counts how many of their commits are over.
 #[derive(Drop)]
@@ -36,9 +41,11 @@ impl Two {
 
     /// The two clients commit in turn, so many times each, until memory runs out.
     pub fn commit<W: Wait>(mut self, rt: &W, alloc: Global, device: &Device, times: u32) -> Two
-        requires own { AreOf device.now self.entry }
-        ensures same { AreSame self.entry result }
+        requires own { AreOf device.now self }
+        ensures same { AreSame self result }
     {
+        // It is 0 always: the thread sleeps on it, and nobody wakes it.
+        let sleeper = AtomicU64::new(0);
         for _time in 0..times {
             let one = commit_and_finish(rt, alloc, device, &mut self.one);
             let other = commit_and_finish(rt, alloc, device, &mut self.other);
@@ -46,6 +53,7 @@ impl Two {
                 .over
                 .saturating_add(count(one))
                 .saturating_add(count(other));
+            sleeper.park_timeout(rt, 0, Duration::from_micros(NAP));
         }
         self
     }
