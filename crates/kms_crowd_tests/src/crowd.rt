@@ -162,7 +162,7 @@ fn assert_all(rt: &(impl Abort + AllocGlobal), core: &Core) {
     assert!(rt; tell_the_same(core, &new));
 }
 
-/// Eight clients in four threads make thousands of commits each over one device. No client's commit waits for one that nobody
+/// Eight clients in four threads make their commits over one device. No client's commit waits for one that nobody
 /// works on, so all come to their end.
 #[test]
 fn eight_clients_in_four_threads_commit(rt: HostRuntime) -> Result<(), Fail> {

@@ -3,13 +3,13 @@ use std::alloc::Global;
 use std::test::Fail;
 
 /// How many commits each client makes, a count.
-pub(crate) const COMMITS: u32 = 2500;
+pub(crate) const COMMITS: u32 = 30;
 
 /// How many clients there are. Each has a plane that CRTCs show, whose index is its number less one, and one that is off.
 pub(crate) const CLIENTS: u32 = 8;
 
 /// Every how many requests of a client meet those of others.
-const MEETING: u32 = 25;
+const MEETING: u32 = 5;
 
 /// How many CRTCs there are, each with a connector. Two clients move planes on each.
 const CRTCS: u32 = 4;

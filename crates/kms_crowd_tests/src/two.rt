@@ -6,11 +6,6 @@ use kms_device::{Device, Pass};
 use kms_model::NoMemory;
 use std::alloc::Global;
 use std::sync::Wait;
-use std::sync::atomic::AtomicU64;
-use std::time::Duration;
-
-/// How many microseconds a thread sleeps once both its clients have committed, so that the others find the device free.
-const NAP: u64 = 300;
 
 /// What a thread drives: the passes of two clients. It counts how many of their commits are over.
 #[derive(Drop)]
@@ -44,8 +39,6 @@ impl Two {
         requires own { AreOf device.now self }
         ensures same { AreSame self result }
     {
-        // It is 0 always: the thread sleeps on it, and nobody wakes it.
-        let sleeper = AtomicU64::new(0);
         for _time in 0..times {
             let one = commit_and_finish(rt, alloc, device, &mut self.one);
             let other = commit_and_finish(rt, alloc, device, &mut self.other);
@@ -53,7 +46,6 @@ impl Two {
                 .over
                 .saturating_add(count(one))
                 .saturating_add(count(other));
-            sleeper.park_timeout(rt, 0, Duration::from_micros(NAP));
         }
         self
     }

@@ -111,6 +111,16 @@ pub(crate) fn assert_order(rt: &impl Abort, core: &Core, commits: u32, objects: 
     assert_eq!(rt; core.tail_step(), first);
 }
 
+/// The next step of a client of the machine's script.
+fn next_of(rt: &impl Abort, core: &Core, client: u32) -> Option<Step> {
+    assert!(rt; 1 <= client, "clients are counted from 1");
+    assert!(rt;
+        client as usize <= core.script().clients.len(),
+        "one of the script's"
+    );
+    core.client_step(client)
+}
+
 /// Asserts that these are a client's next steps, and does them.
 fn assert_next(
     rt: &(impl Abort + AllocGlobal),
@@ -119,12 +129,7 @@ fn assert_next(
     want: &[Step],
 ) -> Result<(), NoMemory> {
     for step in want {
-        assert!(rt; 1 <= client, "clients are counted from 1");
-        assert!(rt;
-            client as usize <= core.script().clients.len(),
-            "one of the script's"
-        );
-        assert_eq!(rt; core.client_step(client), Some(*step));
+        assert_eq!(rt; next_of(rt, core, client), Some(*step));
         assert!(rt; do_step(core, rt.alloc(), step)?, "{step:?} is legal");
     }
     Ok(())
@@ -166,7 +171,7 @@ fn a_client_lights_the_crtc_in_its_turns_with(
         swap(1),
     ];
     assert_next(rt, core, 1, &want)?;
-    assert_eq!(rt; core.client_step(1), None, "it waits for its commit");
+    assert_eq!(rt; next_of(rt, core, 1), None, "it waits for its commit");
     let want = [
         claim(0),
         write(0, crtc(0)),
@@ -179,7 +184,7 @@ fn a_client_lights_the_crtc_in_its_turns_with(
     assert_settles(rt, core, &want)?;
     assert!(rt; do_step(core, rt.alloc(), &return_from(1))?);
     assert!(rt; core.drained());
-    assert_eq!(rt; core.client_step(1), None, "it is at its end");
+    assert_eq!(rt; next_of(rt, core, 1), None, "it is at its end");
     Ok(())
 }
 
@@ -236,9 +241,13 @@ fn locks_of_younger_contexts_are_waited_for_with(
     assert_eq!(rt; do_steps(core, rt.alloc(), &first)?, None);
     assert_next(rt, core, 2, &[lock(2, crtc(0))])?;
     assert_next(rt, core, 1, &[lock(1, plane(0)), lock(1, conn(0))])?;
-    assert_eq!(rt; core.client_step(1), None, "the CRTC is a younger client's");
+    assert_eq!(rt;
+        next_of(rt, core, 1),
+        None,
+        "the CRTC is a younger client's"
+    );
     assert_next(rt, core, 2, &[lock(2, plane(0)), back_off(2)])?;
-    assert_eq!(rt; core.client_step(2), None, "the plane is held");
+    assert_eq!(rt; next_of(rt, core, 2), None, "the plane is held");
     assert_next(rt, core, 1, &[lock(1, crtc(0)), swap(1)])?;
     assert_next(rt, core, 2, &[relock(2), lock(2, crtc(0))])?;
     Ok(())
