@@ -1,15 +1,8 @@
-//! The calls of the machine that take locks and decide requests, as a client's thread makes them one by one: each with its
-//! conditions proved. Tests of these and of all other calls, and of want of memory.
+//! Tests of the machine by single calls, and of want of memory. A test makes its machine and lends it to a function with its
+//! steps (`.._with`), which is proved once.
 #![tactic(auto)]
 
 #[cfg(test)]
 mod calls;
-mod contexts;
-mod deciding;
 #[cfg(test)]
 mod memory;
-mod steps;
-
-pub use contexts::{Context, begin_context, take_object, take_objects};
-pub use deciding::decide;
-pub use steps::{call_lock, call_relock, call_step};
