@@ -1,9 +1,7 @@
 #!/bin/sh
 # Times turns at the device that threads share, with 1, 2, 4 and 8 passes on as many threads: for each it prints how many
 # events there were, the time that they took, and how many that is in a second. Builds the program of main.rt.txt beside
-# copies of the crates that it uses, in a folder of its own. It builds without a proof, and slowly, as `rt try` does; with the
-# word `run` it proves the program and all below it first, and builds it as programs are built that are used:
-#     bench/turns/run.sh run
+# copies of the crates that it uses, in a folder of its own. It builds without a proof, and without optimisation, as `rt try` does.
 set -eu
 here=$(cd "$(dirname "$0")" && pwd)
 top=$(cd "$here/../.." && pwd)
@@ -14,4 +12,4 @@ mkdir -p "$work/crates/bench_turns/src"
 echo "bench_turns: kms_model kms_device kms_crowd_tests kms_script" >>"$work/crates.txt"
 cp "$here/main.rt.txt" "$work/crates/bench_turns/src/main.rt"
 cd "$work/crates/bench_turns"
-rt "${1:-try}" 2>&1 | grep "passes:\|error"
+rt try 2>&1 | grep "passes:\|error"
