@@ -9,8 +9,27 @@ use crate::rules::{
     COUNTS, Draw, LENGTH, Look, PassOn, Place, SERVED, StoreCount, StoreLength, TICKETS, VALUE,
     Words,
 };
+use std::hint::spin_loop;
 use std::sync::Wait;
-use std::thread::yield_now;
+use std::sync::atomic::AtomicU64;
+use std::time::Duration;
+
+/// How many times a waiting pass looks before it sleeps between two looks, a count.
+const LOOKS: u32 = 400;
+
+/// How many microseconds it sleeps then.
+const NAP: u64 = 20;
+
+// Lets some time go by between two looks at the served word. The pass looks `LOOKS` times in a row at first, for a turn is short.
+// Then it sleeps, so that whoever has the turn finds a processor where there are more threads than processors. Nobody
+// wakes it: `bed` is 0 always.
+fn pause<W: Wait>(rt: &W, bed: &AtomicU64, looks: u32) {
+    if looks < LOOKS {
+        spin_loop();
+    } else {
+        bed.park_timeout(rt, 0, Duration::from_micros(NAP));
+    }
+}
 
 // Looks at the served word again and again, until it is the seat's number.
 fn wait<T: Kept, W: Wait>(rt: &W, words: &Words<T>, seat: &mut Place<T>, number: u64)
@@ -19,11 +38,14 @@ fn wait<T: Kept, W: Wait>(rt: &W, words: &Words<T>, seat: &mut Place<T>, number:
     ensures same { IsSameSeat seat.old seat.new }
     ensures takes { Takes T.owner T.entries T.counted T.fixed number seat.old.me seat.new.me }
 {
+    let bed = AtomicU64::new(0);
+    let mut looks = 0u32;
     for _ in rt.forever() {
         if words.load::<Look>(seat, SERVED) == number {
             return;
         }
-        yield_now();
+        pause(rt, &bed, looks);
+        looks = looks.saturating_add(1);
     }
     unreachable!()
 }

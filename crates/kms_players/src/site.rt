@@ -107,8 +107,8 @@ impl<'a, G: Gate> Site<'a, G> {
         ensures under_way { IfOk result (λ r. IsUnderWay (seen self.now.device.now.script pass.new)
             self.now.client kept.new r.1) }
         ensures no_step { OnErr result (Went [] pass.old pass.new) }
-        ensures attempting { OnErr result
-            (IsAttempting (seen self.now.device.now.script pass.new) self.now.client kept.new number) }
+        ensures attempting { OnErr result (IsAttempting (seen self.now.device.now.script pass.new)
+            self.now.client kept.new number) }
         ensures anew { OnErr result (kept.new ≡ new_attempt) }
     {
         match self

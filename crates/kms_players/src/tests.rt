@@ -61,6 +61,12 @@ impl Counter {
         counted.fetch_add(1, Ordering::SeqCst).saturating_add(1)
     }
 
+    /// Counts a check, by how many answers its client has had. Tells whether it is of the next command, whose number is `command`.
+    fn check(&self, answers: &AtomicU64, command: u32) -> bool {
+        Counter::one_more(&self.checks);
+        answers.load(Ordering::SeqCst).saturating_add(1) == u64::from(command)
+    }
+
     /// How many claims workers came for.
     fn claims(&self) -> u64 {
         self.claims.load(Ordering::SeqCst)
@@ -68,14 +74,12 @@ impl Counter {
 }
 
 impl Gate for Counter {
-    /// A client comes to a check with its number and that of a command, and with each answer with the number of its next command;
-    /// a worker with its number, and what ticks with the index of its CRTC.
+    /// A client comes to a check with its number and that of the command behind the last answered one, and with each answer
+    /// with the number of the command that it answers; a worker with its number, and what ticks with the index of its CRTC.
     fn at<R: Wait>(&self, _rt: &R, point: Point, a: u32, b: u32) {
         let expected = match (point, a) {
-            (Point::Check, 1) | (Point::Check, 2) => {
-                Counter::one_more(&self.checks);
-                1 <= b
-            }
+            (Point::Check, 1) => self.check(&self.answers, b),
+            (Point::Check, 2) => self.check(&self.other_answers, b),
             (Point::Answered, 1) => Counter::one_more(&self.answers) == u64::from(b),
             (Point::Answered, 2) => Counter::one_more(&self.other_answers) == u64::from(b),
             (Point::Claim, WORKER) => {

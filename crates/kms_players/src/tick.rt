@@ -55,7 +55,8 @@ impl<'a, G: Gate> VblankTick<'a, G> {
     /// One turn: a vertical blanking of the CRTC where it latches a commit at it. It ends where the history is drained. The gate is
     /// called before.
     pub fn play<W: Wait>(&mut self, rt: &W) -> Turn
-        ensures turn { TickTurn self.old.device.script self.old.crtc self.old.pass self.new.pass result }
+        ensures turn { TickTurn self.old.device.script self.old.crtc self.old.pass self.new.pass
+            result }
         ensures name { name_of self.new.pass ≡ name_of self.old.pass }
         ensures same { (self.new.device ≡ self.old.device) × (self.new.crtc ≡ self.old.crtc) }
         ensures last { self.new.last ≡ Some result }
