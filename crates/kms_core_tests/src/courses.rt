@@ -23,7 +23,7 @@
 //! | `D open`, `D drained`, `D stalled n`, `D ended n` | how the history ends, before and after a dead one is ended |
 use crate::ends::ends;
 use crate::lists::{Told, counts, is_told};
-use crate::moves::{do_step, goes, place_of};
+use crate::moves::{do_step, goes, next_of, place_of};
 use crate::refusing::is_refused;
 use crate::texts::{lighting, started};
 use kms_core::Core;
@@ -40,9 +40,9 @@ pub(crate) fn step_of(line: &str) -> Result<Step, Fail> {
     }
 }
 
-/// Fails with a line that does not hold.
-fn holds(is: bool, line: &str) -> Result<(), Fail> {
-    if is { Ok(()) } else { Err(Fail::new(line)) }
+/// Fails with what does not hold.
+pub fn holds(is: bool, what: &str) -> Result<(), Fail> {
+    if is { Ok(()) } else { Err(Fail::new(what)) }
 }
 
 /// Does the step of a line.
@@ -50,14 +50,6 @@ fn do_line(core: &mut Core, alloc: Global, line: &str) -> Result<(), Fail> {
     let step = step_of(line)?;
     let is = do_step(core, alloc, &step)?;
     holds(is, line)
-}
-
-/// What is next for a client of the script.
-fn next_of(core: &Core, client: u32) -> Option<Step> {
-    if client == 0 || client as usize > core.script().clients.len() {
-        return None;
-    }
-    core.client_step(client)
 }
 
 /// Whether a step is the one that a line spells, or there is none and the line says so.

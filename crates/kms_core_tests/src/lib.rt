@@ -20,9 +20,11 @@ mod tails;
 mod texts;
 #[cfg(test)]
 mod things;
+#[cfg(test)]
+mod turns;
 
-pub use courses::{follow, play, play_lighting};
-pub use moves::{do_step, do_steps, goes, place_of, tells_same};
+pub use courses::{follow, holds, play, play_lighting};
+pub use moves::{do_step, do_steps, goes, next_of, place_of, tells_same};
 pub use pieces::{
     CHANGE, END_0, END_1, LIGHT, LIGHT_PAIR, LIT, LIT_TWICE, TAIL_2, TAKE, WRITE_0, WRITE_1,
 };
