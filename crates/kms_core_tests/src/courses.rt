@@ -25,7 +25,7 @@ use crate::ends::ends;
 use crate::lists::{Told, counts, is_told};
 use crate::moves::{do_step, goes, next_of, place_of};
 use crate::refusing::is_refused;
-use crate::texts::{lighting, started};
+use crate::texts::{lighting, started_from};
 use kms_core::Core;
 use kms_model::Step;
 use kms_script::read_step;
@@ -33,7 +33,7 @@ use std::alloc::Global;
 use std::test::Fail;
 
 /// The step of a line of a schedule.
-pub(crate) fn step_of(line: &str) -> Result<Step, Fail> {
+pub fn step_of(line: &str) -> Result<Step, Fail> {
     match read_step(line.as_bytes()) {
         Some(step) => Ok(step),
         None => Err(Fail::new(line)),
@@ -163,11 +163,7 @@ pub fn follow(core: &mut Core, alloc: Global, course: &[&str]) -> Result<(), Fai
 
 /// Follows a course from the start of the script that some pieces spell.
 pub fn play(rt: &impl AllocGlobal, script: &[&str], course: &[&str]) -> Result<(), Fail> {
-    let mut text = String::new(rt.alloc());
-    for piece in script {
-        text.push_str(piece)?;
-    }
-    let mut core = started(rt, text.as_str())?;
+    let mut core = started_from(rt, script)?;
     follow(&mut core, rt.alloc(), course)
 }
 

@@ -23,7 +23,7 @@ mod things;
 #[cfg(test)]
 mod turns;
 
-pub use courses::{follow, holds, play, play_lighting};
+pub use courses::{follow, holds, play, play_lighting, step_of};
 pub use moves::{do_step, do_steps, goes, next_of, place_of, tells_same};
 pub use pieces::{
     CHANGE, END_0, END_1, LIGHT, LIGHT_PAIR, LIT, LIT_TWICE, TAIL_2, TAKE, WRITE_0, WRITE_1,
@@ -35,5 +35,5 @@ pub use steps::{
 };
 pub use texts::{
     AWAITS, CLOSING, CROSSING, FLIPS, MADE, MOVING, OTHER, PAIR, SET, SINGLE, UNSET, WRONG,
-    lighting, started,
+    lighting, started, started_from,
 };

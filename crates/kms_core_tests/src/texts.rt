@@ -74,6 +74,15 @@ pub fn started(rt: &impl AllocGlobal, text: &str) -> Result<Core, Fail>
     Ok(Core::new(rt.alloc(), parsed.script)?)
 }
 
+/// The machine of the script that some pieces spell, before the first step.
+pub fn started_from(rt: &impl AllocGlobal, script: &[&str]) -> Result<Core, Fail> {
+    let mut text = String::new(rt.alloc());
+    for piece in script {
+        text.push_str(piece)?;
+    }
+    started(rt, text.as_str())
+}
+
 /// The machine of a client that lights the one CRTC by a request with these flags as its fourth command, and of what
 /// follows.
 pub fn lighting(rt: &impl AllocGlobal, flags: &str, more: &str) -> Result<Core, Fail>
