@@ -2,7 +2,7 @@
 # Refuses each allocation of two runs of the machine in turn, by the toolchain's `--fail-alloc`: the run in which a client
 # lights a CRTC, and the one in which an event is read and a framebuffer freed. A step that finds no memory leaves the
 # machine as it was, as a second machine beside it tells, and is done at the second try; the tests
-# (allocations/memory.rt.txt, which are not proved) assert both. Each run builds the tests anew, which takes half a minute, so
+# (crates/kms_call_tests/src/memory.rt) ask for both. Each run builds the tests anew, which takes half a minute, so
 # this is no part of the gate. It says what it saw at each allocation, and in the last line how often it saw what.
 #     checks/allocations.sh [FIRST [LAST]]
 # begins at an allocation and ends at one; without LAST it ends where no run has so many.
@@ -16,7 +16,7 @@ trap 'rm -rf "$work"' EXIT
 (cd "$top" && tar -cf - --exclude=out HANDLES crates.txt crates) | tar -xf - -C "$work"
 mkdir -p "$work/crates/memory_tests/src"
 echo "memory_tests: kms_model kms_core kms_core_tests" >>"$work/crates.txt"
-cp "$here/allocations/memory.rt.txt" "$work/crates/memory_tests/src/memory.rt"
+cp "$top/crates/kms_call_tests/src/memory.rt" "$work/crates/memory_tests/src/memory.rt"
 printf '//! Want of memory.\n#![tactic(auto)]\n\n#[cfg(test)]\nmod memory;\n' >"$work/crates/memory_tests/src/lib.rt"
 cd "$work/crates/memory_tests"
 before=0

@@ -1,178 +1,119 @@
 //! Histories of one client, worked out by hand.
-use crate::checks::{
-    assert_drained, assert_latched, assert_replies, at, committed, event, goes_off, made, refused,
-    shows, told,
-};
-use crate::doing::{apply, apply_all, take, write_out};
-use crate::lights::{change, finish, light, light_up, lit_replies, write_both};
-use crate::moves::{goes, place_of};
-use crate::steps::{
-    all, begin, both, claim, cleanup, crtc, hw_done, lock, make, read, refuse, return_from, swap,
-    vblank,
-};
-use crate::texts::{SINGLE, UNSET, WRONG, lighting, started};
+use crate::courses::{follow, play, play_lighting};
+use crate::pieces::{CHANGE, END_0, END_1, LIGHT, LIT, LIT_TWICE, TAKE, WRITE_0, WRITE_1};
+use crate::texts::{MADE, SET, SINGLE, UNSET, WRONG, lighting};
 use kms_core::Core;
-use kms_model::{Doing, NoMemory, Reply};
-use std::process::Abort;
 use std::test::Fail;
 
 #[test]
 fn nothing_happens_without_clients(rt: HostRuntime) -> Result<(), Fail> {
-    let core = started(&rt, SINGLE)?;
-    nothing_happens_without_clients_with(&rt, &core)
-}
-
-fn nothing_happens_without_clients_with(
-    rt: &(impl Abort + AllocGlobal),
-    core: &Core,
-) -> Result<(), Fail> {
-    assert_drained(rt, core);
-    assert!(rt; core.history().is_empty());
-    assert!(rt; core.replies().is_empty());
-    assert!(rt; core.journal().is_empty());
-    assert!(rt; core.freed().is_empty());
-    assert_latched(rt, core, &[]);
-    assert_eq!(rt; core.idle_command(1), None);
-    Ok(())
+    let course = [
+        "D drained",
+        "count T 0",
+        "count R 0",
+        "count J 0",
+        "count freed 0",
+        "count L 0",
+        "client 1 none",
+    ];
+    play(&rt, &[SINGLE], &course)
 }
 
 #[test]
 fn a_client_lights_the_crtc(rt: HostRuntime) -> Result<(), Fail> {
-    let mut core = lighting(&rt, "0x400", "")?;
-    a_client_lights_the_crtc_with(&rt, &mut core)
-}
-
-fn a_client_lights_the_crtc_with(
-    rt: &(impl Abort + AllocGlobal),
-    core: &mut Core,
-) -> Result<(), Fail> {
-    assert_eq!(rt; place_of(core, 1), at(1, Doing::Idle));
-    light(rt, core)?;
-    assert_eq!(rt; place_of(core, 1), at(4, Doing::Returning(0)));
-    assert!(rt; !goes(core, 0), "nothing is flushed");
-    write_both(rt, core, 0)?;
-    assert!(rt; goes(core, 0), "it is flushed");
-    assert_latched(rt, core, &[]);
-    apply(rt, core, vblank(crtc(0)))?;
-    assert!(rt; !goes(core, 0), "it has latched");
-    assert!(rt; !core.legal(&return_from(1)), "it is not cleaned");
-    apply_all(rt, core, &[cleanup(0), return_from(1)])?;
-    assert_drained(rt, core);
-    assert_eq!(rt; place_of(core, 1), at(5, Doing::Idle));
-    assert_replies(rt, core, 0, &lit_replies());
-    assert!(rt; core.journal() == [(1, 1), (1, 2), (1, 3), (1, 4)].as_slice());
-    assert_latched(rt, core, &[shows(0, 0, 1, &[1001])]);
-    assert!(rt; core.freed().is_empty());
-    assert!(rt; core.legal(&vblank(crtc(0))), "the CRTC is on");
-    Ok(())
+    let course = [
+        "client 1 1 Idle",
+        LIGHT,
+        "client 1 4 Returning(0)\nrests 0",
+        WRITE_0,
+        "goes 0\ncount L 0",
+        "T vblank crtc0\nrests 0",
+        "no T return 1: it is not cleaned",
+        "T cleanup 0\nT return 1",
+        "D drained\nclient 1 5 Idle",
+        LIT,
+        "count R 4",
+        "J 1 1\nJ 1 2\nJ 1 3\nJ 1 4\ncount J 4",
+        "L 0 0 1 1x1 1001\ncount L 1",
+        "count freed 0",
+        "may T vblank crtc0",
+    ];
+    play_lighting(&rt, "0x400", "", &course)
 }
 
 #[test]
 fn an_equal_mode_in_another_blob_is_no_modeset(rt: HostRuntime) -> Result<(), Fail> {
     let more = "mode m2 1 1 1 1 1 0 1 1 1 1 0 60 0 0 tiny\natomic 0x0 0 crtc0.MODE_ID=@m2\n";
-    let mut core = lighting(&rt, "0x400", more)?;
-    an_equal_mode_in_another_blob_is_no_modeset_with(&rt, &mut core)
-}
-
-fn an_equal_mode_in_another_blob_is_no_modeset_with(
-    rt: &(impl Abort + AllocGlobal),
-    core: &mut Core,
-) -> Result<(), Fail> {
-    light_up(rt, core)?;
-    apply(rt, core, make(1))?;
-    take(rt, core, 1, &[crtc(0)])?;
-    apply(rt, core, swap(1))?;
-    finish(rt, core, 1, &[crtc(0)])?;
-    assert_drained(rt, core);
-    let want = [told(1, 5, 4, made(1003)), told(1, 6, 5, committed(1))];
-    assert_replies(rt, core, 4, &want);
-    let want = [shows(0, 0, 1, &[1001]), shows(0, 1, 2, &[1001])];
-    assert_latched(rt, core, &want);
-    Ok(())
+    let course = [
+        LIGHT,
+        WRITE_0,
+        END_0,
+        "T make 1\nT begin 1\nT lock 1 crtc0\nT swap 1",
+        "T claim 1\nT write 1 crtc0\nT flush 1 crtc0\nT hwdone 1",
+        END_1,
+        "D drained\nafter R 4",
+        "R 1 5 4 made 1003\nR 1 6 5 commit 1\ncount R 6",
+        LIT_TWICE,
+    ];
+    play_lighting(&rt, "0x400", more, &course)
 }
 
 /// A commit after which the CRTC is off latches where it is flushed, with the count as it is, and its event comes then.
 #[test]
 fn a_crtc_goes_off_at_its_flush(rt: HostRuntime) -> Result<(), Fail> {
-    let more = format!(in rt.alloc(); "atomic 0x401 9 {UNSET}\nwait\n")?;
-    let mut core = lighting(&rt, "0x400", more.as_str())?;
-    a_crtc_goes_off_at_its_flush_with(&rt, &mut core)
-}
-
-fn a_crtc_goes_off_at_its_flush_with(
-    rt: &(impl Abort + AllocGlobal),
-    core: &mut Core,
-) -> Result<(), Fail> {
-    light_up(rt, core)?;
-    take(rt, core, 1, &all())?;
-    apply(rt, core, swap(1))?;
-    write_out(rt, core, 1, &both(), &[0])?;
-    assert!(rt; !goes(core, 0), "it has latched");
-    assert!(rt; !core.legal(&vblank(crtc(0))), "it is off");
-    apply_all(rt, core, &[cleanup(1), return_from(1), read(1)])?;
-    assert_drained(rt, core);
-    let want = [told(1, 5, 4, committed(1)), told(1, 6, 5, event(9, 1, 100))];
-    assert_replies(rt, core, 4, &want);
-    assert_latched(rt, core, &[shows(0, 0, 1, &[1001]), goes_off(0, 1, 1)]);
-    Ok(())
-}
-
-/// A request is refused for which a client needs no locks.
-fn refuse_at_once(rt: &(impl Abort + AllocGlobal), core: &mut Core) -> Result<(), NoMemory> {
-    apply_all(rt, core, &[begin(1), refuse(1)])
+    let script = [
+        SINGLE,
+        "client\n",
+        MADE,
+        "atomic 0x400 0 ",
+        SET,
+        "\natomic 0x401 9 ",
+        UNSET,
+        "\nwait\n",
+    ];
+    let course = [
+        LIGHT,
+        WRITE_0,
+        END_0,
+        "T begin 1\nT lock 1 crtc0\nT lock 1 plane0\nT lock 1 conn0\nT swap 1",
+        WRITE_1,
+        "rests 0\nno T vblank crtc0: it is off",
+        "T cleanup 1\nT return 1\nT read 1",
+        "D drained\nafter R 4",
+        "R 1 5 4 commit 1\nR 1 6 5 event 9 1 100\ncount R 6",
+        "L 0 0 1 1x1 1001\nL 0 1 1 off\ncount L 2",
+    ];
+    play(&rt, &script, &course)
 }
 
 /// Whether an event is asked for a CRTC that is off needs its lock; flags, and assignments, are refused without one. A
 /// commit of nothing is done and cleaned without writing.
 #[test]
 fn requests_are_refused_by_their_first_cause(rt: HostRuntime) -> Result<(), Fail> {
-    let text = format!(in rt.alloc(); "{SINGLE}client\n{WRONG}")?;
-    let mut core = started(&rt, text.as_str())?;
-    requests_are_refused_by_their_first_cause_with(&rt, &mut core)
-}
-
-fn requests_are_refused_by_their_first_cause_with(
-    rt: &(impl Abort + AllocGlobal),
-    core: &mut Core,
-) -> Result<(), Fail> {
-    apply(rt, core, begin(1))?;
-    assert!(rt; !core.legal(&refuse(1)), "it does not hold the CRTC");
-    take_more(rt, core)?;
-    for _line in 0..4 {
-        refuse_at_once(rt, core)?;
-    }
-    let empty = [begin(1), swap(1), claim(0), hw_done(0), cleanup(0)];
-    apply_all(rt, core, &empty)?;
-    apply(rt, core, return_from(1))?;
-    for _line in 0..4 {
-        refuse_at_once(rt, core)?;
-    }
-    assert_drained(rt, core);
-    let want = [
-        told(1, 1, 0, refused(17)),
-        told(1, 2, 0, refused(3)),
-        told(1, 3, 0, refused(2)),
-        told(1, 4, 0, refused(1)),
-        told(1, 5, 0, refused(9)),
-        told(1, 6, 0, committed(0)),
-        told(1, 7, 1, refused(4)),
-        told(1, 8, 1, refused(5)),
-        told(1, 9, 1, refused(6)),
-        told(1, 10, 1, refused(7)),
+    let refused = "T begin 1\nT refuse 1";
+    let course = [
+        "T begin 1\nno T refuse 1: it does not hold the CRTC",
+        "T lock 1 crtc0\nT refuse 1",
+        refused,
+        refused,
+        refused,
+        refused,
+        "T begin 1\nT swap 1\nT claim 0\nT hwdone 0\nT cleanup 0\nT return 1",
+        refused,
+        refused,
+        refused,
+        refused,
+        "D drained",
+        "R 1 1 0 EINVAL 17\nR 1 2 0 EINVAL 3\nR 1 3 0 EINVAL 2\nR 1 4 0 EINVAL 1",
+        "R 1 5 0 EINVAL 9\nR 1 6 0 commit 0\nR 1 7 1 ENOENT 4\nR 1 8 1 ENOENT 5",
+        "R 1 9 1 EINVAL 6\nR 1 10 1 EINVAL 7\ncount R 10",
+        "J 1 6\ncount J 1\ncount L 0",
     ];
-    assert_replies(rt, core, 0, &want);
-    assert!(rt; core.journal() == [(1, 6)].as_slice());
-    assert_latched(rt, core, &[]);
-    Ok(())
-}
-
-/// The client takes the CRTC, and its request is refused.
-fn take_more(rt: &(impl Abort + AllocGlobal), core: &mut Core) -> Result<(), NoMemory> {
-    apply_all(rt, core, &[lock(1, crtc(0)), refuse(1)])
+    play(&rt, &[SINGLE, "client\n", WRONG], &course)
 }
 
 /// The lines of a client that asks for so many events, reads one, and asks for one more.
-fn many_events(rt: &(impl Abort + AllocGlobal), count: u32) -> Result<String, Fail> {
+fn many_events(rt: &impl AllocGlobal, count: u32) -> Result<String, Fail> {
     let line = "atomic 0x1 0 plane0.alpha=65535\n";
     let mut text = String::new(rt.alloc());
     for _event in 0..count {
@@ -183,36 +124,36 @@ fn many_events(rt: &(impl Abort + AllocGlobal), count: u32) -> Result<String, Fa
     Ok(text)
 }
 
+/// The steps of a commit with this number that changes the plane.
+fn flip(rt: &impl AllocGlobal, core: &mut Core, commit: u32) -> Result<(), Fail> {
+    let text = format!(in rt.alloc();
+        "T claim {commit}\nT write {commit} crtc0\nT write {commit} plane0\nT flush {commit} crtc0\nT hwdone {commit}\nT vblank crtc0\nT cleanup {commit}\nT return 1"
+    )?;
+    follow(core, rt.alloc(), &[CHANGE, text.as_str()])
+}
+
+/// The client fills the space for its events, and goes on once it reads one.
+fn fill(rt: &impl AllocGlobal, core: &mut Core) -> Result<(), Fail> {
+    follow(core, rt.alloc(), &[LIGHT, WRITE_0, END_0])?;
+    for commit in 1..129 {
+        flip(rt, core, commit)?;
+    }
+    let full = "no T swap 1: there is no space\nT refuse 1\nT read 1";
+    follow(core, rt.alloc(), &[TAKE, full])?;
+    flip(rt, core, 129)
+}
+
 /// A client has room for 128 events that it did not read. Reading one makes room for one.
 #[test]
 fn events_fill_their_space(rt: HostRuntime) -> Result<(), Fail> {
     let more = many_events(&rt, 129)?;
     let mut core = lighting(&rt, "0x400", more.as_str())?;
-    events_fill_their_space_with(&rt, &mut core)
-}
-
-fn events_fill_their_space_with(
-    rt: &(impl Abort + AllocGlobal),
-    core: &mut Core,
-) -> Result<(), Fail> {
-    light_up(rt, core)?;
-    for commit in 1..129 {
-        change(rt, core)?;
-        finish(rt, core, commit, &both())?;
-    }
-    take(rt, core, 1, &both())?;
-    assert!(rt; !core.legal(&swap(1)), "there is no space");
-    apply_all(rt, core, &[refuse(1), read(1)])?;
-    change(rt, core)?;
-    finish(rt, core, 129, &both())?;
-    assert_drained(rt, core);
-    let want = [
-        told(1, 132, 131, committed(128)),
-        told(1, 133, 132, Reply::Space { used: 4096 }),
-        told(1, 134, 132, event(0, 2, 100)),
-        told(1, 135, 132, committed(129)),
+    fill(&rt, &mut core)?;
+    let course = [
+        "D drained\nafter R 131",
+        "R 1 132 131 commit 128\nR 1 133 132 ENOMEM events 25 4096",
+        "R 1 134 132 event 0 2 100\nR 1 135 132 commit 129\ncount R 135",
+        "count L 130",
     ];
-    assert_replies(rt, core, 131, &want);
-    assert_eq!(rt; core.latched().len(), 130);
-    Ok(())
+    follow(&mut core, rt.alloc(), &course)
 }

@@ -1,34 +1,39 @@
 //! Tests of the machine through its public calls: worked histories, and steps that are refused; and what other tests of the
-//! machine share with them. A test makes its machine and lends it to a function with its steps (`.._with`): a function that
-//! owns a machine drops it at each of its ends, and is proved once for each of them.
+//! machine share with them. A test is text: a script, and a course of what is done on its machine and of what it tells.
 #![tactic(auto)]
 
-#[cfg(test)]
-mod checks;
-#[cfg(test)]
-mod doing;
+mod courses;
+mod ends;
 #[cfg(test)]
 mod histories;
-#[cfg(test)]
-mod lights;
+mod lists;
 mod moves;
 #[cfg(test)]
 mod orders;
+mod pieces;
 #[cfg(test)]
 mod refusals;
+mod refusing;
 mod steps;
 #[cfg(test)]
 mod tails;
 mod texts;
 #[cfg(test)]
 mod things;
+#[cfg(test)]
+mod turns;
 
-pub use moves::{do_step, do_steps, goes, place_of, tells_same};
+pub use courses::{follow, holds, play, play_lighting, step_of};
+pub use moves::{do_step, do_steps, goes, next_of, place_of, tells_same};
+pub use pieces::{
+    CHANGE, END_0, END_1, LIGHT, LIGHT_PAIR, LIT, LIT_TWICE, TAIL_2, TAKE, WRITE_0, WRITE_1,
+};
 pub use steps::{
     Object, all, back_off, begin, both, claim, cleanup, conn, crtc, encoder, flush, hw_done,
     light_steps, lock, make, plane, read, refuse, relock, return_from, signal, swap, test, vblank,
     write,
 };
 pub use texts::{
-    AWAITS, FLIPS, MADE, OTHER, PAIR, SECOND, SET, SINGLE, UNSET, WRONG, lighting, started,
+    AWAITS, CLOSING, CROSSING, FLIPS, MADE, MOVING, OTHER, PAIR, SET, SINGLE, UNSET, WRONG,
+    lighting, started, started_from,
 };

@@ -5,6 +5,7 @@ ghost use Rattle.kms_model.specs.declared.objects.Kind.TheVariants.{Crtc};
 ghost use Rattle.kms_model.specs.Device.Objects.{object_id};
 ghost use Rattle.kms_model.specs.Machine.Histories.{legal, replies};
 ghost use Rattle.kms_model.specs.Machine.State.{go_at, place_at};
+ghost use Rattle.kms_model.specs.Order.Turns.{client_step};
 ghost use Rattle.kms_core.specs.Run.{gains, if_ok, machine};
 
 use kms_core::Core;
@@ -45,6 +46,17 @@ pub fn place_of(core: &Core, client: u32) -> Option<Place>
         return None;
     }
     Some(core.place(client))
+}
+
+/// What is next for a client in the order of one thread. None for one that the script does not have.
+pub fn next_of(core: &Core, client: u32) -> Option<Step>
+    ensures { 1 ≤ client → client ≤ length core.now.script.clients
+        → result ≡ client_step core.now.script (machine core.now) client }
+{
+    if client == 0 || client as usize > core.script().clients.len() {
+        return None;
+    }
+    core.client_step(client)
 }
 
 /// Whether one of the first four CRTCs latches at its next vertical blanking. Others do not.

@@ -1,258 +1,100 @@
 //! Steps that are not legal, by the condition that fails: requests, contexts and the commands of clients.
-use crate::doing::{apply, apply_all, make_all, take};
-use crate::lights::light_up;
-use crate::steps::{
-    back_off, begin, claim, cleanup, conn, crtc, encoder, flush, hw_done, lock, make, plane, read,
-    refuse, relock, return_from, signal, swap, test, vblank, write,
-};
-use crate::texts::{SINGLE, lighting, started};
-use kms_core::Core;
-use kms_model::Step;
-use std::process::Abort;
+use crate::courses::{play, play_lighting};
+use crate::pieces::{END_0, LIGHT, WRITE_0};
+use crate::texts::{CROSSING, SINGLE};
 use std::test::Fail;
-
-/// Asserts that none of some steps is legal, each of which has its reason.
-pub(crate) fn assert_refused(rt: &impl Abort, core: &Core, rows: &[(&str, Step)]) {
-    for (reason, step) in rows {
-        assert!(rt; !core.legal(step), "{step:?}: {reason}");
-    }
-}
-
-/// The steps of a context that takes no locks, and of one that has to go on in another way.
-fn assert_takes_none(rt: &impl Abort, core: &Core, client: u32, reason: &str) {
-    let rows = [
-        (reason, lock(client, crtc(0))),
-        (reason, lock(client, plane(0))),
-        (reason, refuse(client)),
-        (reason, test(client)),
-        (reason, swap(client)),
-    ];
-    assert_refused(rt, core, &rows);
-}
-
-/// The steps of a client that is idle at a command.
-fn assert_not_idle(rt: &impl Abort, core: &Core, client: u32, reason: &str) {
-    let rows = [
-        (reason, begin(client)),
-        (reason, make(client)),
-        (reason, signal(client)),
-        (reason, read(client)),
-    ];
-    assert_refused(rt, core, &rows);
-}
-
-/// The steps of a context that met an older one, and of a commit's client.
-fn assert_not_waiting(rt: &impl Abort, core: &Core, client: u32, reason: &str) {
-    let rows = [
-        (reason, back_off(client)),
-        (reason, relock(client)),
-        (reason, return_from(client)),
-    ];
-    assert_refused(rt, core, &rows);
-}
-
-/// The steps of the one client, which is at a `make`, that are not legal at the start.
-fn forbidden_first() -> [(&'static str, Step); 10] {
-    let idle = "the client is idle";
-    [
-        ("it is at a buffer", begin(1)),
-        ("it is at a buffer", signal(1)),
-        ("it is at a buffer", read(1)),
-        (idle, lock(1, crtc(0))),
-        (idle, back_off(1)),
-        (idle, relock(1)),
-        (idle, refuse(1)),
-        (idle, test(1)),
-        (idle, swap(1)),
-        (idle, return_from(1)),
-    ]
-}
-
-/// Those of commits that are not made.
-fn unmade() -> [(&'static str, Step); 5] {
-    let reason = "there is no such commit";
-    [
-        (reason, claim(0)),
-        (reason, write(0, crtc(0))),
-        (reason, flush(0, crtc(0))),
-        (reason, hw_done(0)),
-        (reason, cleanup(0)),
-    ]
-}
-
-/// Those of display objects, and the end of the history.
-fn unlit() -> [(&'static str, Step); 5] {
-    [
-        ("it is off", vblank(crtc(0))),
-        ("there is no such CRTC", vblank(crtc(1))),
-        ("there is no such CRTC", vblank(crtc(100))),
-        ("a plane has no blanking", vblank(plane(0))),
-        ("the client can go on", Step::Stall),
-    ]
-}
 
 #[test]
 fn steps_are_refused_at_the_start(rt: HostRuntime) -> Result<(), Fail> {
-    let core = lighting(&rt, "0x400", "")?;
-    steps_are_refused_at_the_start_with(&rt, &core)
-}
-
-fn steps_are_refused_at_the_start_with(
-    rt: &(impl Abort + AllocGlobal),
-    core: &Core,
-) -> Result<(), Fail> {
-    assert_refused(rt, core, &forbidden_first());
-    assert_refused(rt, core, &unmade());
-    assert_refused(rt, core, &unlit());
-    for client in [0, 2, u32::MAX] {
-        assert_not_idle(rt, core, client, "there is no such client");
-        assert_takes_none(rt, core, client, "there is no such client");
-        assert_not_waiting(rt, core, client, "there is no such client");
-        assert_eq!(rt; core.idle_command(client), None);
-    }
-    assert!(rt; core.legal(&make(1)));
-    assert!(rt; core.enabled());
-    assert!(rt; !core.drained());
-    assert_eq!(rt; core.stalled_on(), None);
-    Ok(())
+    let course = [
+        "no T begin 1: it is at a buffer\nno T signal 1: it is at a buffer",
+        "no T read 1: it is at a buffer\nno taking 1: the client is idle",
+        "no waiting 1: the client is idle\nno tail 0: there is no such commit",
+        "no T vblank crtc0: it is off\nno T vblank crtc1: there is no such CRTC",
+        "no T vblank crtc100: there is no such CRTC",
+        "no T vblank plane0: a plane has no blanking",
+        "no T stall: the client can go on",
+        "no idle 0: there is no such client\nno taking 0: nor here",
+        "no waiting 0: nor here\nclient 0 none",
+        "no idle 2: there is no such client\nno taking 2: nor here",
+        "no waiting 2: nor here\nclient 2 none",
+        "no idle 4294967295: there is no such client\nno taking 4294967295: nor here",
+        "no waiting 4294967295: nor here\nclient 4294967295 none",
+        "may T make 1\nD open",
+    ];
+    play_lighting(&rt, "0x400", "", &course)
 }
 
 /// At each command of a client one step alone is legal of those that begin or do a command, and at its end none.
 #[test]
 fn each_command_has_its_step(rt: HostRuntime) -> Result<(), Fail> {
-    let text = format!(in rt.alloc(); "{SINGLE}client\nfence n\nsignal n\nwait\natomic 0x0 0\n")?;
-    let mut core = started(&rt, text.as_str())?;
-    each_command_has_its_step_with(&rt, &mut core)
-}
-
-fn each_command_has_its_step_with(
-    rt: &(impl Abort + AllocGlobal),
-    core: &mut Core,
-) -> Result<(), Fail> {
-    let steps = [make(1), signal(1), read(1), begin(1)];
-    for own in &steps {
-        for step in &steps {
-            assert_eq!(rt; core.legal(step), step == own, "{step:?} at {own:?}");
-        }
-        apply(rt, core, *own)?;
-    }
-    assert_not_idle(rt, core, 1, "it takes locks");
-    assert_refused(rt, core, &[("it is no test", test(1))]);
-    apply(rt, core, swap(1))?;
-    assert_not_idle(rt, core, 1, "it returns");
-    assert_takes_none(rt, core, 1, "it returns");
-    assert_not_waiting(rt, core, 1, "the commit is not cleaned");
-    let rest = [claim(0), hw_done(0), cleanup(0), return_from(1)];
-    apply_all(rt, core, &rest)?;
-    assert_not_idle(rt, core, 1, "it is at its end");
-    assert_refused(rt, core, &[("the history is drained", Step::Stall)]);
-    Ok(())
+    let script = [SINGLE, "client\nfence n\nsignal n\nwait\natomic 0x0 0\n"];
+    let course = [
+        "no T signal 1: a fence\nno T read 1: a fence\nno T begin 1: a fence\nT make 1",
+        "no T make 1: a signal\nno T read 1: a signal\nno T begin 1: a signal\nT signal 1",
+        "no T make 1: a wait\nno T signal 1: a wait\nno T begin 1: a wait\nT read 1",
+        "no T make 1: a request\nno T signal 1: a request\nno T read 1: a request\nT begin 1",
+        "no idle 1: it takes locks\nno T test 1: it is no test\nT swap 1",
+        "no idle 1: it returns\nno taking 1: it returns",
+        "no waiting 1: the commit is not cleaned",
+        "T claim 0\nT hwdone 0\nT cleanup 0\nT return 1",
+        "no idle 1: it is at its end\nno T stall: the history is drained",
+    ];
+    play(&rt, &script, &course)
 }
 
 /// Locks are asked for within the reach of the request alone.
 #[test]
 fn locks_are_refused_out_of_reach(rt: HostRuntime) -> Result<(), Fail> {
-    let mut core = lighting(&rt, "0x400", "atomic 0x0 0 plane0.alpha=1\n")?;
-    locks_are_refused_out_of_reach_with(&rt, &mut core)
-}
-
-fn locks_are_refused_out_of_reach_with(
-    rt: &(impl Abort + AllocGlobal),
-    core: &mut Core,
-) -> Result<(), Fail> {
-    light_up(rt, core)?;
-    apply(rt, core, begin(1))?;
-    let rows = [
-        ("no modeset is needed", lock(1, conn(0))),
-        ("an encoder has no lock", lock(1, encoder(0))),
-        ("there is no such CRTC", lock(1, crtc(1))),
-        ("it has a plane's number", lock(1, crtc(100))),
-        ("there is no such plane", lock(1, plane(1))),
-        ("it holds no lock", swap(1)),
-        ("it is accepted", refuse(1)),
-        ("it is no test", test(1)),
+    let course = [
+        LIGHT,
+        WRITE_0,
+        END_0,
+        "T begin 1",
+        "no T lock 1 conn0: no modeset is needed\nno T lock 1 enc0: an encoder has no lock",
+        "no T lock 1 crtc1: there is no such CRTC\nno T lock 1 crtc100: it has a plane's number",
+        "no T lock 1 plane1: there is no such plane\nno T swap 1: it holds no lock",
+        "no T refuse 1: it is accepted\nno T test 1: it is no test",
+        "no idle 1: it takes locks\nno waiting 1: it takes locks",
+        "T lock 1 plane0",
+        "no T lock 1 plane0: it holds the plane\nno T swap 1: it does not hold the CRTC",
+        "T lock 1 crtc0",
+        "no T test 1: it is no test\nno T refuse 1: it is accepted",
     ];
-    assert_refused(rt, core, &rows);
-    assert_not_idle(rt, core, 1, "it takes locks");
-    assert_not_waiting(rt, core, 1, "it takes locks");
-    apply(rt, core, lock(1, plane(0)))?;
-    let rows = [
-        ("it holds the plane", lock(1, plane(0))),
-        ("it does not hold the CRTC", swap(1)),
-    ];
-    assert_refused(rt, core, &rows);
-    apply(rt, core, lock(1, crtc(0)))?;
-    let rows = [("it is no test", test(1)), ("it is accepted", refuse(1))];
-    assert_refused(rt, core, &rows);
-    Ok(())
+    play_lighting(&rt, "0x400", "atomic 0x0 0 plane0.alpha=1\n", &course)
 }
 
 /// A context that must back off, or did, takes no lock but the one that it backed off for.
 #[test]
 fn contexts_back_off_first(rt: HostRuntime) -> Result<(), Fail> {
-    let line = "client\natomic 0x100 0 plane0.alpha=1 crtc0.ACTIVE=0\n";
-    let text = format!(in rt.alloc(); "{SINGLE}{line}{line}")?;
-    let mut core = started(&rt, text.as_str())?;
-    contexts_back_off_first_with(&rt, &mut core)
-}
-
-fn contexts_back_off_first_with(
-    rt: &(impl Abort + AllocGlobal),
-    core: &mut Core,
-) -> Result<(), Fail> {
-    take(rt, core, 1, &[plane(0)])?;
-    take(rt, core, 2, &[crtc(0), plane(0)])?;
-    let rows = [
-        ("a younger one holds it", lock(1, crtc(0))),
-        ("it does not hold the CRTC", test(1)),
-        ("it has not backed off", relock(2)),
+    let course = [
+        "T begin 1\nT lock 1 plane0",
+        "T begin 2\nT lock 2 crtc0\nT lock 2 plane0",
+        "no T lock 1 crtc0: a younger one holds it",
+        "no T test 1: it does not hold the CRTC\nno T relock 2: it has not backed off",
+        "no taking 2: it must back off\nno idle 2: it must back off",
+        "T backoff 2",
+        "no taking 2: it backed off\nno idle 2: it backed off",
+        "no waiting 2: it backed off, and the plane is held",
+        "T lock 1 crtc0",
+        "no T swap 1: it is a test\nno T refuse 1: it is accepted",
+        "no T relock 2: the plane is held",
+        "T test 1\nmay T relock 2",
     ];
-    assert_refused(rt, core, &rows);
-    assert_takes_none(rt, core, 2, "it must back off");
-    assert_not_idle(rt, core, 2, "it must back off");
-    apply(rt, core, back_off(2))?;
-    assert_takes_none(rt, core, 2, "it backed off");
-    assert_not_idle(rt, core, 2, "it backed off");
-    assert_not_waiting(rt, core, 2, "it backed off, and the plane is held");
-    apply(rt, core, lock(1, crtc(0)))?;
-    let rows = [
-        ("it is a test", swap(1)),
-        ("it is accepted", refuse(1)),
-        ("the plane is held", relock(2)),
-    ];
-    assert_refused(rt, core, &rows);
-    apply(rt, core, test(1))?;
-    assert!(rt; core.legal(&relock(2)));
-    Ok(())
+    play(&rt, &CROSSING, &course)
 }
 
 /// A request that is refused by its state is refused with its locks, and neither tested nor committed.
 #[test]
 fn refused_requests_are_not_committed(rt: HostRuntime) -> Result<(), Fail> {
-    let mut core = lighting(&rt, "0x0", "atomic 0x100 0 crtc0.ACTIVE=1\n")?;
-    refused_requests_are_not_committed_with(&rt, &mut core)
-}
-
-fn refused_requests_are_not_committed_with(
-    rt: &(impl Abort + AllocGlobal),
-    core: &mut Core,
-) -> Result<(), Fail> {
-    make_all(rt, core, 1, 3)?;
-    take(rt, core, 1, &[crtc(0), plane(0)])?;
-    let rows = [
-        ("it does not hold the connector", refuse(1)),
-        ("it does not hold the connector", swap(1)),
+    let course = [
+        "T make 1\nT make 1\nT make 1\nT begin 1\nT lock 1 crtc0\nT lock 1 plane0",
+        "no T refuse 1: it does not hold the connector",
+        "no T swap 1: it does not hold the connector",
+        "T lock 1 conn0",
+        "no T swap 1: it may not set modes\nno T test 1: it may not set modes",
+        "T refuse 1\nT begin 1\nT lock 1 crtc0",
+        "no T test 1: there is no mode\nT refuse 1",
     ];
-    assert_refused(rt, core, &rows);
-    apply(rt, core, lock(1, conn(0)))?;
-    let rows = [
-        ("it may not set modes", swap(1)),
-        ("it may not set modes", test(1)),
-    ];
-    assert_refused(rt, core, &rows);
-    apply(rt, core, refuse(1))?;
-    take(rt, core, 1, &[crtc(0)])?;
-    assert_refused(rt, core, &[("there is no mode", test(1))]);
-    apply(rt, core, refuse(1))?;
-    Ok(())
+    play_lighting(&rt, "0x0", "atomic 0x100 0 crtc0.ACTIVE=1\n", &course)
 }

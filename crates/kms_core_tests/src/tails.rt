@@ -1,177 +1,70 @@
 //! Steps of tails that are not legal, by the condition that fails, and of clients that wait for tails.
-use crate::doing::{apply, apply_all, make_all, take};
-use crate::lights::{change, light, light_up, write_both};
-use crate::orders::{commit, light_pair, moving};
-use crate::refusals::assert_refused;
-use crate::steps::{
-    all, back_off, begin, both, claim, cleanup, conn, crtc, flush, hw_done, lock, make, plane,
-    read, refuse, relock, return_from, signal, swap, test, vblank, write,
-};
-use crate::texts::lighting;
-use kms_core::Core;
-use kms_model::{NoMemory, Step};
-use std::process::Abort;
+use crate::courses::{play, play_lighting};
+use crate::pieces::{CHANGE, END_0, END_1, LIGHT, LIGHT_PAIR, TAKE, WRITE_0, WRITE_1};
+use crate::texts::MOVING;
 use std::test::Fail;
-
-/// A commit that is claimed, of whose objects none is written.
-fn assert_unwritten(rt: &impl Abort, core: &Core) {
-    let rows = [
-        ("it is claimed already", claim(0)),
-        ("the CRTC comes first", write(0, plane(0))),
-        ("a connector has no registers", write(0, conn(0))),
-        ("there is no such CRTC", write(0, crtc(1))),
-        ("nothing is written", flush(0, crtc(0))),
-        ("nothing is written", hw_done(0)),
-        ("nothing is written", cleanup(0)),
-        ("there is no such commit", write(1, crtc(0))),
-        ("it is not cleaned", return_from(1)),
-        ("the CRTC is off", vblank(crtc(0))),
-    ];
-    assert_refused(rt, core, &rows);
-}
-
-/// The CRTC is written, and the plane is not.
-fn assert_half_written(rt: &impl Abort, core: &Core) {
-    let rows = [
-        ("it is written already", write(0, crtc(0))),
-        ("it has the plane's number", write(0, crtc(100))),
-        ("it is not the plane", write(0, plane(1))),
-        ("the plane is not written", flush(0, crtc(0))),
-        ("the plane is not written", hw_done(0)),
-    ];
-    assert_refused(rt, core, &rows);
-}
-
-/// All is written, and nothing flushed.
-fn assert_written(rt: &impl Abort, core: &Core) {
-    let rows = [
-        ("it is written already", write(0, plane(0))),
-        ("connectors are not written", write(0, conn(0))),
-        ("a plane is not flushed", flush(0, plane(0))),
-        ("there is no such CRTC", flush(0, crtc(1))),
-        ("there is no such commit", flush(1, crtc(0))),
-        ("it is not flushed", hw_done(0)),
-        ("it is not flushed", cleanup(0)),
-        ("the CRTC is off", vblank(crtc(0))),
-    ];
-    assert_refused(rt, core, &rows);
-}
 
 /// Each step of the tail of the first commit, where the one before it was not done, and where it was done already.
 #[test]
 fn tails_go_step_by_step(rt: HostRuntime) -> Result<(), Fail> {
-    let mut core = lighting(&rt, "0x400", "")?;
-    tails_go_step_by_step_with(&rt, &mut core)
-}
-
-fn tails_go_step_by_step_with(
-    rt: &(impl Abort + AllocGlobal),
-    core: &mut Core,
-) -> Result<(), Fail> {
-    light(rt, core)?;
-    let rows = [
-        ("it is not claimed", write(0, crtc(0))),
-        ("it is not claimed", flush(0, crtc(0))),
-        ("it is not claimed", hw_done(0)),
-        ("it is not claimed", cleanup(0)),
-        ("there is no such commit", claim(1)),
+    let course = [
+        LIGHT,
+        "no T write 0 crtc0: it is not claimed\nno T flush 0 crtc0: it is not claimed",
+        "no T hwdone 0: it is not claimed\nno T cleanup 0: it is not claimed",
+        "no T claim 1: there is no such commit\nT claim 0\nno T claim 0: it is claimed already",
+        "no T write 0 plane0: the CRTC comes first",
+        "no T write 0 conn0: a connector has no registers",
+        "no T write 0 crtc1: there is no such CRTC",
+        "no T flush 0 crtc0: nothing is written\nno T hwdone 0: nothing is written",
+        "no T cleanup 0: nothing is written\nno T write 1 crtc0: there is no such commit",
+        "no T return 1: it is not cleaned\nno T vblank crtc0: the CRTC is off",
+        "T write 0 crtc0\nno T write 0 crtc0: it is written already",
+        "no T write 0 crtc100: it has the plane's number\nno T write 0 plane1: it is not the plane",
+        "no T flush 0 crtc0: the plane is not written\nno T hwdone 0: the plane is not written",
+        "T write 0 plane0\nno T write 0 plane0: it is written already",
+        "no T write 0 conn0: connectors are not written\nno T flush 0 plane0: a plane is not flushed",
+        "no T flush 0 crtc1: there is no such CRTC\nno T flush 1 crtc0: there is no such commit",
+        "no T hwdone 0: it is not flushed\nno T cleanup 0: it is not flushed",
+        "no T vblank crtc0: the CRTC is off\nT flush 0 crtc0",
+        "no T flush 0 crtc0: it is flushed already\nno T cleanup 0: the end is not told",
+        "no T vblank plane0: a plane has no blanking\nno T vblank crtc1: there is no such CRTC",
+        "T hwdone 0\nno T hwdone 0: the end is told already",
+        "no T cleanup 0: it has not latched\nno T return 1: it is not cleaned",
+        "T vblank crtc0\nT cleanup 0\nno tail 0: it is cleaned",
+        "T return 1\nno T return 1: it returned already",
     ];
-    assert_refused(rt, core, &rows);
-    apply(rt, core, claim(0))?;
-    assert_unwritten(rt, core);
-    apply(rt, core, write(0, crtc(0)))?;
-    assert_half_written(rt, core);
-    apply(rt, core, write(0, plane(0)))?;
-    assert_written(rt, core);
-    apply(rt, core, flush(0, crtc(0)))?;
-    let rows = [
-        ("it is flushed already", flush(0, crtc(0))),
-        ("the end is not told", cleanup(0)),
-        ("a plane has no blanking", vblank(plane(0))),
-        ("there is no such CRTC", vblank(crtc(1))),
-    ];
-    assert_refused(rt, core, &rows);
-    finish_by_steps(rt, core)?;
-    Ok(())
-}
-
-/// The end of the tail, once all is flushed.
-fn finish_by_steps(rt: &(impl Abort + AllocGlobal), core: &mut Core) -> Result<(), NoMemory> {
-    apply(rt, core, hw_done(0))?;
-    let rows = [
-        ("the end is told already", hw_done(0)),
-        ("it has not latched", cleanup(0)),
-        ("it is not cleaned", return_from(1)),
-    ];
-    assert_refused(rt, core, &rows);
-    apply_all(rt, core, &[vblank(crtc(0)), cleanup(0)])?;
-    let rows = [
-        ("it is cleaned", cleanup(0)),
-        ("it is cleaned", claim(0)),
-        ("it is cleaned", write(0, crtc(0))),
-        ("it is cleaned", flush(0, crtc(0))),
-        ("it is cleaned", hw_done(0)),
-    ];
-    assert_refused(rt, core, &rows);
-    apply(rt, core, return_from(1))?;
-    assert_refused(rt, core, &[("it returned already", return_from(1))]);
-    Ok(())
+    play_lighting(&rt, "0x400", "", &course)
 }
 
 /// CRTCs are flushed in order, and a commit is cleaned once it has latched at each.
 #[test]
 fn tails_go_over_all_crtcs(rt: HostRuntime) -> Result<(), Fail> {
-    let mut core = moving(&rt)?;
-    tails_go_over_all_crtcs_with(&rt, &mut core)
-}
-
-fn tails_go_over_all_crtcs_with(
-    rt: &(impl Abort + AllocGlobal),
-    core: &mut Core,
-) -> Result<(), Fail> {
-    make_all(rt, core, 1, 3)?;
-    let objects = [crtc(0), crtc(1), plane(0), conn(0), conn(1)];
-    commit(rt, core, 1, &objects)?;
-    apply_all(rt, core, &[claim(0), write(0, crtc(0))])?;
-    assert_refused(rt, core, &[("a CRTC comes first", write(0, plane(0)))]);
-    apply_all(rt, core, &[write(0, crtc(1)), write(0, plane(0))])?;
-    assert_refused(rt, core, &[("the first comes first", flush(0, crtc(1)))]);
-    apply(rt, core, flush(0, crtc(0)))?;
-    assert_refused(rt, core, &[("one is not flushed", hw_done(0))]);
-    let next = [flush(0, crtc(1)), hw_done(0), vblank(crtc(1))];
-    apply_all(rt, core, &next)?;
-    assert_refused(rt, core, &[("one has not latched", cleanup(0))]);
-    apply_all(rt, core, &[vblank(crtc(0)), cleanup(0)])?;
-    Ok(())
+    let course = [
+        "T make 1\nT make 1\nT make 1\nT begin 1\nT lock 1 crtc0\nT lock 1 crtc1",
+        "T lock 1 plane0\nT lock 1 conn0\nT lock 1 conn1\nT swap 1",
+        "T claim 0\nT write 0 crtc0\nno T write 0 plane0: a CRTC comes first",
+        "T write 0 crtc1\nT write 0 plane0\nno T flush 0 crtc1: the first comes first",
+        "T flush 0 crtc0\nno T hwdone 0: one is not flushed",
+        "T flush 0 crtc1\nT hwdone 0\nT vblank crtc1",
+        "no T cleanup 0: one has not latched",
+        "T vblank crtc0\nT cleanup 0",
+    ];
+    play(&rt, &MOVING, &course)
 }
 
 /// A commit is not claimed before the one before it on each object is done and has flipped.
 #[test]
 fn claims_wait_for_the_commits_before(rt: HostRuntime) -> Result<(), Fail> {
-    let mut core = moving(&rt)?;
-    claims_wait_for_the_commits_before_with(&rt, &mut core)
-}
-
-fn claims_wait_for_the_commits_before_with(
-    rt: &(impl Abort + AllocGlobal),
-    core: &mut Core,
-) -> Result<(), Fail> {
-    light_pair(rt, core)?;
-    commit(rt, core, 1, &[plane(0), crtc(0)])?;
-    commit(rt, core, 2, &[plane(0), crtc(1)])?;
-    assert_refused(rt, core, &[("the one before is not claimed", claim(2))]);
-    let part = [
-        claim(1),
-        write(1, crtc(0)),
-        write(1, plane(0)),
-        flush(1, crtc(0)),
-        vblank(crtc(0)),
+    let course = [
+        LIGHT_PAIR,
+        "T begin 1\nT lock 1 plane0\nT lock 1 crtc0\nT swap 1",
+        "T begin 2\nT lock 2 plane0\nT lock 2 crtc1\nT swap 2",
+        "no T claim 2: the one before is not claimed",
+        "T claim 1\nT write 1 crtc0\nT write 1 plane0\nT flush 1 crtc0\nT vblank crtc0",
+        "no T claim 2: it has flipped, and is not done",
+        "T hwdone 1\nmay T claim 2",
     ];
-    apply_all(rt, core, &part)?;
-    assert_refused(rt, core, &[("it has flipped, and is not done", claim(2))]);
-    apply(rt, core, hw_done(1))?;
-    assert!(rt; core.legal(&claim(2)));
-    Ok(())
+    play(&rt, &MOVING, &course)
 }
 
 /// A commit is not made before the one before it on its CRTC is done, and the second before it is cleaned.
@@ -179,79 +72,54 @@ fn claims_wait_for_the_commits_before_with(
 fn swaps_wait_for_the_commits_before(rt: HostRuntime) -> Result<(), Fail> {
     let more =
         "atomic 0x0 0 plane0.alpha=1\natomic 0x200 0 plane0.alpha=2\natomic 0x200 0 plane0.alpha=3\n";
-    let mut core = lighting(&rt, "0x600", more)?;
-    swaps_wait_for_the_commits_before_with(&rt, &mut core)
-}
-
-fn swaps_wait_for_the_commits_before_with(
-    rt: &(impl Abort + AllocGlobal),
-    core: &mut Core,
-) -> Result<(), Fail> {
-    light(rt, core)?;
-    take(rt, core, 1, &both())?;
-    let rows = [
-        ("the one before is not done", swap(1)),
-        ("it waits", refuse(1)),
+    let course = [
+        LIGHT,
+        TAKE,
+        "no T swap 1: the one before is not done\nno T refuse 1: it waits",
+        WRITE_0,
+        "T swap 1\nT vblank crtc0\nT cleanup 0",
+        WRITE_1,
+        END_1,
+        CHANGE,
+        TAKE,
+        "no T swap 1: it is busy",
     ];
-    assert_refused(rt, core, &rows);
-    write_both(rt, core, 0)?;
-    apply_all(rt, core, &[swap(1), vblank(crtc(0)), cleanup(0)])?;
-    write_both(rt, core, 1)?;
-    let rest = [vblank(crtc(0)), cleanup(1), return_from(1)];
-    apply_all(rt, core, &rest)?;
-    change(rt, core)?;
-    take(rt, core, 1, &both())?;
-    assert_refused(rt, core, &[("it is busy", swap(1))]);
-    Ok(())
+    play_lighting(&rt, "0x600", more, &course)
 }
 
 /// The second commit before one has to be cleaned, also where all have flipped.
 #[test]
 fn swaps_wait_for_a_cleanup(rt: HostRuntime) -> Result<(), Fail> {
     let more = "atomic 0x200 0 plane0.alpha=1\natomic 0x200 0 plane0.alpha=2\n";
-    let mut core = lighting(&rt, "0x600", more)?;
-    swaps_wait_for_a_cleanup_with(&rt, &mut core)
-}
-
-fn swaps_wait_for_a_cleanup_with(
-    rt: &(impl Abort + AllocGlobal),
-    core: &mut Core,
-) -> Result<(), Fail> {
-    light(rt, core)?;
-    write_both(rt, core, 0)?;
-    apply(rt, core, vblank(crtc(0)))?;
-    change(rt, core)?;
-    write_both(rt, core, 1)?;
-    apply(rt, core, vblank(crtc(0)))?;
-    take(rt, core, 1, &both())?;
-    let rows = [
-        ("the second before is not cleaned", swap(1)),
-        ("it is not busy", refuse(1)),
+    let course = [
+        LIGHT,
+        WRITE_0,
+        "T vblank crtc0",
+        CHANGE,
+        WRITE_1,
+        "T vblank crtc0",
+        TAKE,
+        "no T swap 1: the second before is not cleaned\nno T refuse 1: it is not busy",
+        "T cleanup 0\nmay T swap 1",
     ];
-    assert_refused(rt, core, &rows);
-    apply(rt, core, cleanup(0))?;
-    assert!(rt; core.legal(&swap(1)));
-    Ok(())
+    play_lighting(&rt, "0x600", more, &course)
 }
 
 /// A `wait` is not answered while an event is reserved and none is unread.
 #[test]
 fn reads_wait_for_reserved_events(rt: HostRuntime) -> Result<(), Fail> {
-    let mut core = lighting(&rt, "0x400", "atomic 0x201 0 plane0.alpha=1\nwait\nwait\n")?;
-    reads_wait_for_reserved_events_with(&rt, &mut core)
-}
-
-fn reads_wait_for_reserved_events_with(
-    rt: &(impl Abort + AllocGlobal),
-    core: &mut Core,
-) -> Result<(), Fail> {
-    light_up(rt, core)?;
-    change(rt, core)?;
-    assert_refused(rt, core, &[("the event is to come", read(1))]);
-    write_both(rt, core, 1)?;
-    assert_refused(rt, core, &[("the event is to come", read(1))]);
-    apply_all(rt, core, &[vblank(crtc(0)), read(1), read(1)])?;
-    Ok(())
+    let course = [
+        LIGHT,
+        WRITE_0,
+        END_0,
+        CHANGE,
+        "no T read 1: the event is to come",
+        WRITE_1,
+        "no T read 1: the event is to come",
+        "T vblank crtc0\nT read 1\nT read 1",
+    ];
+    let more = "atomic 0x201 0 plane0.alpha=1\nwait\nwait\n";
+    play_lighting(&rt, "0x400", more, &course)
 }
 
 /// Nothing is legal once a dead history was ended.
@@ -259,58 +127,20 @@ fn reads_wait_for_reserved_events_with(
 fn nothing_is_legal_after_the_end(rt: HostRuntime) -> Result<(), Fail> {
     let more =
         "fence n\natomic 0x200 0 plane0.alpha=1 plane0.IN_FENCE_FD=@n\natomic 0x0 0 plane0.alpha=2\nclient\nfence o\nsignal o\nwait\n";
-    let mut core = lighting(&rt, "0x400", more)?;
-    nothing_is_legal_after_the_end_with(&rt, &mut core)
-}
-
-fn nothing_is_legal_after_the_end_with(
-    rt: &(impl Abort + AllocGlobal),
-    core: &mut Core,
-) -> Result<(), Fail> {
-    light_up(rt, core)?;
-    apply(rt, core, make(1))?;
-    change(rt, core)?;
-    take(rt, core, 1, &both())?;
-    assert_refused(rt, core, &[("client 2 can go on", Step::Stall)]);
-    apply_all(rt, core, &[make(2), signal(2), read(2)])?;
-    assert_refused(rt, core, &[("the fence is not signalled", claim(1))]);
-    assert!(rt; core.legal(&vblank(crtc(0))), "the CRTC is on");
-    apply(rt, core, Step::Stall)?;
-    let ended = "the history was ended";
-    for client in [1, 2] {
-        let rows = [
-            (ended, begin(client)),
-            (ended, lock(client, plane(0))),
-            (ended, back_off(client)),
-            (ended, relock(client)),
-            (ended, refuse(client)),
-            (ended, test(client)),
-            (ended, swap(client)),
-            (ended, make(client)),
-            (ended, signal(client)),
-            (ended, read(client)),
-            (ended, return_from(client)),
-        ];
-        assert_refused(rt, core, &rows);
-    }
-    assert_tails_ended(rt, core, ended);
-    Ok(())
-}
-
-fn assert_tails_ended(rt: &impl Abort, core: &Core, ended: &str) {
-    for commit in [0, 1, 2] {
-        let rows = [
-            (ended, claim(commit)),
-            (ended, write(commit, crtc(0))),
-            (ended, flush(commit, crtc(0))),
-            (ended, hw_done(commit)),
-            (ended, cleanup(commit)),
-        ];
-        assert_refused(rt, core, &rows);
-    }
-    let rows = [
-        (ended, vblank(crtc(0))),
-        ("it is ended already", Step::Stall),
+    let course = [
+        LIGHT,
+        WRITE_0,
+        END_0,
+        "T make 1",
+        CHANGE,
+        TAKE,
+        "no T stall: client 2 can go on",
+        "T make 2\nT signal 2\nT read 2\nno T claim 1: the fence is not signalled",
+        "may T vblank crtc0\nT stall",
+        "no idle 1: it was ended\nno taking 1: it was ended\nno waiting 1: it was ended",
+        "no idle 2: it was ended\nno taking 2: it was ended\nno waiting 2: it was ended",
+        "no tail 0: it was ended\nno tail 1: it was ended\nno tail 2: it was ended",
+        "no T vblank crtc0: it was ended\nno T stall: it is ended already",
     ];
-    assert_refused(rt, core, &rows);
+    play_lighting(&rt, "0x400", more, &course)
 }

@@ -20,9 +20,6 @@ pub const MADE: &str =
 pub const SET: &str =
     "crtc0.ACTIVE=1 crtc0.MODE_ID=@m conn0.CRTC_ID=crtc0 plane0.FB_ID=@f plane0.CRTC_ID=crtc0 plane0.CRTC_W=1 plane0.CRTC_H=1 plane0.SRC_W=65536 plane0.SRC_H=65536";
 
-/// What a request sets that lights the second CRTC with nothing on it.
-pub const SECOND: &str = "crtc1.ACTIVE=1 crtc1.MODE_ID=@m conn1.CRTC_ID=crtc1";
-
 /// What a request sets that turns the first CRTC off.
 pub const UNSET: &str =
     "crtc0.ACTIVE=0 crtc0.MODE_ID=0 conn0.CRTC_ID=0 plane0.FB_ID=0 plane0.CRTC_ID=0";
@@ -43,12 +40,47 @@ pub const FLIPS: &str =
 pub const OTHER: &str =
     "client\nblob w1 00\nblob w2 00\nblob w3 00\nblob w4 00\ndestroy m\nclosefb f\naddfb g b\nsignal m\nbuffer z 0 1 XR24 solid 00000000\n";
 
+/// One client lights two CRTCs, with a plane at the first, and takes the plane away; another shows it at the second.
+pub const MOVING: [&str; 7] = [
+    PAIR,
+    "client\n",
+    MADE,
+    "atomic 0x400 0 ",
+    SET,
+    " crtc1.ACTIVE=1 crtc1.MODE_ID=@m conn1.CRTC_ID=crtc1\n",
+    "atomic 0x200 0 plane0.FB_ID=0 plane0.CRTC_ID=0\nclient\natomic 0x0 0 plane0.FB_ID=@f plane0.CRTC_ID=crtc1\n",
+];
+
+/// A client shows the framebuffer of another, which closes it.
+pub const CLOSING: [&str; 4] = [
+    SINGLE,
+    "client\nmode m 1 1 1 1 1 0 1 1 1 1 0 60 0 0 tiny\natomic 0x400 0 ",
+    SET,
+    "\nclient\nbuffer b 1 1 XR24 solid 00616263\naddfb f b\nclosefb f\n",
+];
+
+/// Two clients test the same.
+pub const CROSSING: [&str; 3] = [
+    SINGLE,
+    "client\natomic 0x100 0 plane0.alpha=1 crtc0.ACTIVE=0\n",
+    "client\natomic 0x100 0 plane0.alpha=1 crtc0.ACTIVE=0\n",
+];
+
 /// The machine of the script that a text spells, before the first step.
 pub fn started(rt: &impl AllocGlobal, text: &str) -> Result<Core, Fail>
     ensures { IfOk result (λ core. core.steps ≡ []) }
 {
     let parsed = parse(rt.alloc(), text.as_bytes(), Part::Script)?;
     Ok(Core::new(rt.alloc(), parsed.script)?)
+}
+
+/// The machine of the script that some pieces spell, before the first step.
+pub fn started_from(rt: &impl AllocGlobal, script: &[&str]) -> Result<Core, Fail> {
+    let mut text = String::new(rt.alloc());
+    for piece in script {
+        text.push_str(piece)?;
+    }
+    started(rt, text.as_str())
 }
 
 /// The machine of a client that lights the one CRTC by a request with these flags as its fourth command, and of what

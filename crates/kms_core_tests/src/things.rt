@@ -1,113 +1,53 @@
 //! Histories of fences, framebuffers and other things, worked out by hand.
-use crate::checks::{
-    assert_drained, assert_latched, assert_replies, committed, event, made, refused, shows, told,
-};
-use crate::doing::{apply, apply_all, make_all, write_out};
-use crate::lights::{change, finish, light_up};
-use crate::steps::{begin, both, claim, cleanup, crtc, make, read, refuse, signal, vblank};
-use crate::texts::{AWAITS, FLIPS, OTHER, lighting};
-use kms_core::Core;
-use kms_model::{Reply, Step};
-use std::process::Abort;
+use crate::courses::play_lighting;
+use crate::pieces::{CHANGE, END_0, END_1, LIGHT, LIT_TWICE, TAIL_2, WRITE_0, WRITE_1};
+use crate::texts::{AWAITS, FLIPS, OTHER};
 use std::test::Fail;
 
 /// A commit waits for the out-fence of the one before it, which signals at its latch; and another for ever.
 #[test]
 fn a_commit_waits_for_a_fence_that_nobody_signals(rt: HostRuntime) -> Result<(), Fail> {
-    let mut core = lighting(&rt, "0x400", AWAITS)?;
-    a_commit_waits_for_a_fence_that_nobody_signals_with(&rt, &mut core)
-}
-
-fn a_commit_waits_for_a_fence_that_nobody_signals_with(
-    rt: &(impl Abort + AllocGlobal),
-    core: &mut Core,
-) -> Result<(), Fail> {
-    light_up(rt, core)?;
-    change(rt, core)?;
-    write_out(rt, core, 1, &both(), &[0])?;
-    change(rt, core)?;
-    assert!(rt; !core.legal(&claim(2)), "the out-fence is not signalled");
-    apply_all(rt, core, &[vblank(crtc(0)), cleanup(1)])?;
-    finish(rt, core, 2, &both())?;
-    apply(rt, core, make(1))?;
-    assert_eq!(rt; core.stalled_on(), None);
-    change(rt, core)?;
-    assert!(rt; !core.legal(&claim(3)), "the fence is not signalled");
-    assert!(rt; !core.enabled(), "nothing moves");
-    assert!(rt; !core.drained(), "a commit is not cleaned");
-    assert_stalls_on(rt, core, b"n")?;
-    let want = [
-        told(1, 5, 4, committed(1)),
-        told(1, 6, 5, committed(2)),
-        told(1, 7, 6, made(1004)),
-        told(1, 8, 7, committed(3)),
+    let course = [
+        LIGHT,
+        WRITE_0,
+        END_0,
+        CHANGE,
+        WRITE_1,
+        CHANGE,
+        "no T claim 2: the out-fence is not signalled",
+        "T vblank crtc0\nT cleanup 1",
+        TAIL_2,
+        "T make 1\nD open",
+        CHANGE,
+        "no T claim 3: the fence is not signalled",
+        "D stalled n\nT stall\nD ended n",
+        "no T stall: it has its end\nno T vblank crtc0: nothing is legal",
+        "after R 4\nR 1 5 4 commit 1\nR 1 6 5 commit 2",
+        "R 1 7 6 made 1004\nR 1 8 7 commit 3\ncount R 8",
+        "L 0 0 1 1x1 1001\nL 0 1 2 1x1 1001\nL 0 2 3 1x1 1001\ncount L 3",
     ];
-    assert_replies(rt, core, 4, &want);
-    let want = [
-        shows(0, 0, 1, &[1001]),
-        shows(0, 1, 2, &[1001]),
-        shows(0, 2, 3, &[1001]),
-    ];
-    assert_latched(rt, core, &want);
-    Ok(())
-}
-
-/// Asserts that a history waits for the fence with a name alone, before and after its end.
-fn assert_stalls_on(
-    rt: &(impl Abort + AllocGlobal),
-    core: &mut Core,
-    name: &[u8],
-) -> Result<(), Fail> {
-    let label = core.stalled_on().ok_or("it waits for a fence")?;
-    let named = core
-        .script()
-        .names
-        .get(label as usize)
-        .ok_or("the fence has a name")?;
-    assert!(rt; named.as_slice() == name, "label {label}");
-    assert!(rt; !core.is_stalled(), "it is not ended");
-    apply(rt, core, Step::Stall)?;
-    assert!(rt; core.is_stalled(), "it is ended");
-    assert_eq!(rt; core.stalled_on(), Some(label));
-    assert!(rt; !core.legal(&Step::Stall), "it has its end");
-    assert!(rt; !core.legal(&vblank(crtc(0))), "nothing is legal");
-    Ok(())
+    play_lighting(&rt, "0x400", AWAITS, &course)
 }
 
 /// A framebuffer that no CRTC shows any more is freed where it is closed.
 #[test]
 fn a_framebuffer_is_freed_after_a_flip(rt: HostRuntime) -> Result<(), Fail> {
-    let mut core = lighting(&rt, "0x400", FLIPS)?;
-    a_framebuffer_is_freed_after_a_flip_with(&rt, &mut core)
-}
-
-fn a_framebuffer_is_freed_after_a_flip_with(
-    rt: &(impl Abort + AllocGlobal),
-    core: &mut Core,
-) -> Result<(), Fail> {
-    light_up(rt, core)?;
-    make_all(rt, core, 1, 2)?;
-    change(rt, core)?;
-    finish(rt, core, 1, &both())?;
-    apply(rt, core, read(1))?;
-    assert!(rt; core.freed().is_empty());
-    apply_all(rt, core, &[make(1), read(1)])?;
-    assert_drained(rt, core);
-    let want = [
-        told(1, 5, 4, made(1003)),
-        told(1, 6, 5, made(1004)),
-        told(1, 7, 6, committed(1)),
-        told(1, 8, 7, event(7, 2, 100)),
-        told(1, 9, 7, Reply::Done),
-        told(1, 10, 8, Reply::NoEvent),
+    let course = [
+        LIGHT,
+        WRITE_0,
+        END_0,
+        "T make 1\nT make 1",
+        CHANGE,
+        WRITE_1,
+        END_1,
+        "T read 1\ncount freed 0\nT make 1\nT read 1",
+        "D drained\nafter R 4",
+        "R 1 5 4 made 1003\nR 1 6 5 made 1004\nR 1 7 6 commit 1",
+        "R 1 8 7 event 7 2 100\nR 1 9 7 done\nR 1 10 8 none\ncount R 10",
+        "L 0 0 1 1x1 1001\nL 0 1 2 1x1 1004\ncount L 2",
+        "freed 1 1001\ncount freed 1\nimage 1001 [6382179]",
     ];
-    assert_replies(rt, core, 4, &want);
-    let want = [shows(0, 0, 1, &[1001]), shows(0, 1, 2, &[1004])];
-    assert_latched(rt, core, &want);
-    assert!(rt; core.freed() == [(1, 1001)].as_slice());
-    let image = core.image(1001).ok_or("its words stay")?;
-    assert!(rt; image.words == [0x616263].as_slice());
-    Ok(())
+    play_lighting(&rt, "0x400", FLIPS, &course)
 }
 
 /// A framebuffer that was closed before is freed where the commit is cleaned after which nothing names it.
@@ -115,79 +55,49 @@ fn a_framebuffer_is_freed_after_a_flip_with(
 fn a_closed_framebuffer_is_freed_by_a_cleanup(rt: HostRuntime) -> Result<(), Fail> {
     let more =
         "buffer b2 1 1 XR24 solid 00666f6f\naddfb f2 b2\nclosefb f\natomic 0x0 0 plane0.FB_ID=@f2\n";
-    let mut core = lighting(&rt, "0x400", more)?;
-    a_closed_framebuffer_is_freed_by_a_cleanup_with(&rt, &mut core)
-}
-
-fn a_closed_framebuffer_is_freed_by_a_cleanup_with(
-    rt: &(impl Abort + AllocGlobal),
-    core: &mut Core,
-) -> Result<(), Fail> {
-    light_up(rt, core)?;
-    make_all(rt, core, 1, 3)?;
-    change(rt, core)?;
-    write_out(rt, core, 1, &both(), &[0])?;
-    apply(rt, core, vblank(crtc(0)))?;
-    assert!(rt; core.freed().is_empty(), "the commit keeps its old state");
-    apply(rt, core, cleanup(1))?;
-    assert!(rt; core.freed() == [(1, 1001)].as_slice());
-    Ok(())
+    let course = [
+        LIGHT,
+        WRITE_0,
+        END_0,
+        "T make 1\nT make 1\nT make 1",
+        CHANGE,
+        WRITE_1,
+        "T vblank crtc0\ncount freed 0",
+        "T cleanup 1\nfreed 1 1001\ncount freed 1",
+    ];
+    play_lighting(&rt, "0x400", more, &course)
 }
 
 #[test]
 fn things_belong_to_their_client(rt: HostRuntime) -> Result<(), Fail> {
-    let mut core = lighting(&rt, "0x400", OTHER)?;
-    things_belong_to_their_client_with(&rt, &mut core)
-}
-
-fn things_belong_to_their_client_with(
-    rt: &(impl Abort + AllocGlobal),
-    core: &mut Core,
-) -> Result<(), Fail> {
-    light_up(rt, core)?;
-    make_all(rt, core, 2, 7)?;
-    apply_all(rt, core, &[signal(2), make(2)])?;
-    assert_drained(rt, core);
-    let want = [
-        told(2, 5, 8, Reply::Denied(34)),
-        told(2, 6, 8, Reply::Denied(33)),
-        told(2, 7, 8, Reply::Denied(33)),
-        told(2, 8, 8, Reply::Denied(35)),
-        told(2, 9, 8, Reply::Denied(31)),
+    let course = [
+        LIGHT,
+        WRITE_0,
+        END_0,
+        "T make 2\nT make 2\nT make 2\nT make 2\nT make 2\nT make 2\nT make 2",
+        "T signal 2\nT make 2",
+        "D drained\nafter R 8",
+        "R 2 5 8 EPERM 34\nR 2 6 8 ENOENT 33\nR 2 7 8 ENOENT 33",
+        "R 2 8 8 EINVAL 35\nR 2 9 8 EINVAL 31\ncount R 13\ncount J 8",
     ];
-    assert_replies(rt, core, 8, &want);
-    assert_eq!(rt; core.journal().len(), 8);
-    Ok(())
+    play_lighting(&rt, "0x400", OTHER, &course)
 }
 
 /// A mode that was destroyed stays where a CRTC has it.
 #[test]
 fn a_destroyed_mode_stays_in_use(rt: HostRuntime) -> Result<(), Fail> {
-    let mut core = lighting(
-        &rt,
-        "0x400",
-        "destroy m\natomic 0x0 0 plane0.alpha=65535\natomic 0x0 0 crtc0.MODE_ID=@m\n",
-    )?;
-    a_destroyed_mode_stays_in_use_with(&rt, &mut core)
-}
-
-fn a_destroyed_mode_stays_in_use_with(
-    rt: &(impl Abort + AllocGlobal),
-    core: &mut Core,
-) -> Result<(), Fail> {
-    light_up(rt, core)?;
-    apply(rt, core, make(1))?;
-    change(rt, core)?;
-    finish(rt, core, 1, &both())?;
-    assert!(rt; core.legal(&begin(1)));
-    apply_all(rt, core, &[begin(1), refuse(1)])?;
-    let want = [
-        told(1, 5, 4, Reply::Done),
-        told(1, 6, 5, committed(1)),
-        told(1, 7, 6, refused(7)),
+    let more = "destroy m\natomic 0x0 0 plane0.alpha=65535\natomic 0x0 0 crtc0.MODE_ID=@m\n";
+    let course = [
+        LIGHT,
+        WRITE_0,
+        END_0,
+        "T make 1",
+        CHANGE,
+        WRITE_1,
+        END_1,
+        "may T begin 1\nT begin 1\nT refuse 1",
+        "after R 4\nR 1 5 4 done\nR 1 6 5 commit 1\nR 1 7 6 EINVAL 7\ncount R 7",
+        LIT_TWICE,
     ];
-    assert_replies(rt, core, 4, &want);
-    let want = [shows(0, 0, 1, &[1001]), shows(0, 1, 2, &[1001])];
-    assert_latched(rt, core, &want);
-    Ok(())
+    play_lighting(&rt, "0x400", more, &course)
 }

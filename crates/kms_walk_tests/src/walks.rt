@@ -1,15 +1,14 @@
 //! Random walks of many clients, each of which is done again.
 use crate::crowds::many;
 use crate::kinds::{BUT_STALL, STALL, kinds_in};
-use crate::turns::assert_order;
+use crate::turns::is_in_order;
 use kms_core::Core;
 use kms_core_tests::{
     Object, back_off, begin, claim, cleanup, conn, crtc, do_step, do_steps, encoder, flush, goes,
-    hw_done, lock, make, plane, read, refuse, relock, return_from, signal, started, swap,
+    holds, hw_done, lock, make, plane, read, refuse, relock, return_from, signal, started, swap,
     tells_same, test, vblank, write,
 };
 use kms_model::{NoMemory, Step};
-use std::process::Abort;
 use std::test::Fail;
 
 /// Numbers that look random.
@@ -161,75 +160,85 @@ fn has_move(core: &Core, legal: &[Step]) -> bool {
     false
 }
 
-/// Does legal steps, at most so many, by the dice, until nothing moves any more, and ends a dead history.
-fn walk(
-    rt: &(impl Abort + AllocGlobal),
+/// Does a legal step, by the dice. False where nothing moves any more.
+fn step_once(
+    rt: &impl AllocGlobal,
     core: &mut Core,
     dice: &mut Dice,
-    most: usize,
-) -> Result<(), Fail> {
+    commits: &mut Commits,
+    objects: &[Object],
+) -> Result<bool, Fail> {
+    let legal = legal_steps(rt, core, commits, objects)?;
+    let moves = has_move(core, &legal);
+    holds(core.enabled() == moves, "it moves where a step is legal")?;
+    if !moves {
+        return Ok(false);
+    }
+    let step = *legal.get(dice.roll(legal.len())).ok_or("a step is legal")?;
+    holds(do_step(core, rt.alloc(), &step)?, "it is legal still")?;
+    commits.did(step)?;
+    Ok(true)
+}
+
+/// Does legal steps, at most so many, by the dice, until nothing moves any more, and ends a dead history.
+fn walk(rt: &impl AllocGlobal, core: &mut Core, dice: &mut Dice, most: usize) -> Result<(), Fail> {
+    let objects = objects(rt)?;
     let mut commits = Commits {
         count: 0,
         first: 0,
         cleaned: Vec::new(rt.alloc()),
     };
-    let objects = objects(rt)?;
     for _step in 0..most {
-        let (length, answered) = (core.history().len(), core.replies().len());
-        let legal = legal_steps(rt, core, &commits, objects.as_slice())?;
-        if length % 4 == 0 {
-            assert_order(rt, core, commits.count, objects.as_slice());
+        if core.history().len() % 4 == 0 {
+            holds(
+                is_in_order(core, commits.count, objects.as_slice()),
+                "in order",
+            )?;
         }
-        assert_eq!(rt; core.history().len(), length);
-        assert_eq!(rt; core.replies().len(), answered);
-        let moves = has_move(core, &legal);
-        assert_eq!(rt; core.enabled(), moves, "after {length} steps");
-        if !moves {
+        if !step_once(rt, core, dice, &mut commits, objects.as_slice())? {
             return end(rt, core, &commits, objects.as_slice());
         }
-        let step = *legal.get(dice.roll(legal.len())).ok_or("a step is legal")?;
-        assert!(rt; do_step(core, rt.alloc(), &step)?, "{step:?} is legal");
-        commits.did(step)?;
     }
     Ok(())
 }
 
-/// Asserts that a history in which nothing moves is drained, or is dead for a fence, and then ends it.
+/// Checks that a history in which nothing moves is drained, or is dead for a fence, and then ends it.
 fn end(
-    rt: &(impl Abort + AllocGlobal),
+    rt: &impl AllocGlobal,
     core: &mut Core,
     commits: &Commits,
     objects: &[Object],
 ) -> Result<(), Fail> {
-    assert_eq!(rt; core.legal(&Step::Stall), !core.drained());
-    assert_eq!(rt; core.stalled_on().is_some(), !core.drained());
-    if core.drained() {
-        return Ok(());
+    let is_drained = core.drained();
+    let is_dead = core.legal(&Step::Stall) && core.stalled_on().is_some();
+    holds(is_dead != is_drained, "it is drained or dead")?;
+    if is_drained {
+        return holds(!core.legal(&Step::Stall), "it has its end");
     }
-    assert!(rt; do_step(core, rt.alloc(), &Step::Stall)?);
-    assert!(rt; legal_steps(rt, core, commits, objects)?.is_empty());
-    assert!(rt; !core.enabled());
-    Ok(())
+    holds(do_step(core, rt.alloc(), &Step::Stall)?, "it is ended")?;
+    let legal = legal_steps(rt, core, commits, objects)?;
+    holds(legal.is_empty() && !core.enabled(), "nothing is legal")
 }
 
 /// Walks on one machine, and does the same steps on another, which tells the same then. It gives how many steps there were,
 /// and of which kinds.
 fn walk_twice(
-    rt: &(impl Abort + AllocGlobal),
+    rt: &impl AllocGlobal,
     core: &mut Core,
     again: &mut Core,
     dice: &mut Dice,
     most: usize,
 ) -> Result<(usize, u32), Fail> {
     walk(rt, core, dice, most)?;
-    assert_eq!(rt; do_steps(again, rt.alloc(), core.history())?, None);
-    assert!(rt; tells_same(core, again));
+    let left = do_steps(again, rt.alloc(), core.history())?;
+    holds(left.is_none(), "each step is legal again")?;
+    holds(tells_same(core, again), "both tell the same")?;
     Ok((core.history().len(), kinds_in(core.history())))
 }
 
 /// A walk from the start of a script, done twice.
 fn one_walk(
-    rt: &(impl Abort + AllocGlobal),
+    rt: &impl AllocGlobal,
     text: &str,
     dice: &mut Dice,
     most: usize,
@@ -241,12 +250,7 @@ fn one_walk(
 
 /// Walks from the start of a script, again and again, until there were so many steps. It gives the kinds of steps that were
 /// done.
-fn assert_walks(
-    rt: &(impl Abort + AllocGlobal),
-    text: &str,
-    seed: u64,
-    steps: usize,
-) -> Result<u32, Fail> {
+fn kinds_of_walks(rt: &impl AllocGlobal, text: &str, seed: u64, steps: usize) -> Result<u32, Fail> {
     let mut kinds = 0;
     let mut dice = Dice { state: seed };
     let mut left = steps;
@@ -264,22 +268,21 @@ fn assert_walks(
 #[test]
 fn walks_can_be_done_again(rt: HostRuntime) -> Result<(), Fail> {
     let text = many(&rt, "signal")?;
-    assert_eq!(rt; assert_walks(&rt, text.as_str(), 1, 2000)?, BUT_STALL);
-    Ok(())
+    let kinds = kinds_of_walks(&rt, text.as_str(), 1, 2000)?;
+    holds(kinds == BUT_STALL, "each kind of step is done")
 }
 
 #[test]
 fn other_walks_can_be_done_again(rt: HostRuntime) -> Result<(), Fail> {
     let text = many(&rt, "signal")?;
-    assert_eq!(rt; assert_walks(&rt, text.as_str(), 2, 2000)?, BUT_STALL);
-    Ok(())
+    let kinds = kinds_of_walks(&rt, text.as_str(), 2, 2000)?;
+    holds(kinds == BUT_STALL, "each kind of step is done")
 }
 
 /// Where no client signals its fence, walks end in dead histories.
 #[test]
 fn walks_stall(rt: HostRuntime) -> Result<(), Fail> {
     let text = many(&rt, "destroy")?;
-    let kinds = assert_walks(&rt, text.as_str(), 3, 2000)?;
-    assert!(rt; kinds & STALL != 0, "a walk stalls");
-    Ok(())
+    let kinds = kinds_of_walks(&rt, text.as_str(), 3, 2000)?;
+    holds(kinds & STALL != 0, "a walk stalls")
 }

@@ -1,0 +1,78 @@
+//! Lines of a course on steps that are not legal.
+use crate::courses::step_of;
+use crate::steps::{
+    back_off, begin, claim, cleanup, crtc, flush, hw_done, lock, make, plane, read, refuse, relock,
+    return_from, signal, swap, test, write,
+};
+use kms_core::Core;
+use kms_model::Step;
+use std::test::Fail;
+
+/// The steps of a client that is idle at a command.
+fn idle_steps(client: u32) -> [Step; 4] {
+    [begin(client), make(client), signal(client), read(client)]
+}
+
+/// The steps of a context that takes locks, on the device with one CRTC.
+fn taking_steps(client: u32) -> [Step; 5] {
+    [
+        lock(client, crtc(0)),
+        lock(client, plane(0)),
+        refuse(client),
+        test(client),
+        swap(client),
+    ]
+}
+
+/// The steps of a context that met an older one, and of a commit's client.
+fn waiting_steps(client: u32) -> [Step; 3] {
+    [back_off(client), relock(client), return_from(client)]
+}
+
+/// The steps of a commit's tail, on the device with one CRTC.
+fn tail_steps(commit: u32) -> [Step; 5] {
+    [
+        claim(commit),
+        write(commit, crtc(0)),
+        flush(commit, crtc(0)),
+        hw_done(commit),
+        cleanup(commit),
+    ]
+}
+
+/// Whether none of some steps is legal.
+fn none_is_legal(core: &Core, steps: &[Step]) -> bool {
+    for step in steps {
+        if core.legal(step) {
+            return false;
+        }
+    }
+    true
+}
+
+/// Whether no step of a kind is legal that has a number.
+fn is_kind_refused(core: &Core, kind: &str, number: u32) -> Result<bool, Fail> {
+    if kind == "idle" {
+        return Ok(none_is_legal(core, &idle_steps(number)));
+    }
+    if kind == "taking" {
+        return Ok(none_is_legal(core, &taking_steps(number)));
+    }
+    if kind == "waiting" {
+        return Ok(none_is_legal(core, &waiting_steps(number)));
+    }
+    if kind == "tail" {
+        return Ok(none_is_legal(core, &tail_steps(number)));
+    }
+    Err(Fail::new(kind))
+}
+
+/// Whether what a line names is not legal. It has its reason behind a colon.
+pub(crate) fn is_refused(core: &Core, line: &str) -> Result<bool, Fail> {
+    let (what, _reason) = line.split_once(": ").ok_or("it has a reason")?;
+    let (kind, number) = what.split_once(' ').ok_or("a kind and its number")?;
+    if kind == "T" {
+        return Ok(!core.legal(&step_of(what)?));
+    }
+    is_kind_refused(core, kind, number.parse()?)
+}
