@@ -1,41 +1,53 @@
 #!/bin/sh
-# Refuses each allocation of two runs of the machine in turn, by the toolchain's `--fail-alloc`: the run in which a client
-# lights a CRTC, and the one in which an event is read and a framebuffer freed. A step that finds no memory leaves the
-# machine as it was, as a second machine beside it tells, and is done at the second try; the tests
-# (crates/kms_call_tests/src/memory.rt) ask for both. Each run builds the tests anew, which takes half a minute, so
-# this is no part of the gate. It says what it saw at each allocation, and in the last line how often it saw what.
-#     checks/allocations.sh [FIRST [LAST]]
-# begins at an allocation and ends at one; without LAST it ends where no run has so many.
+# Refuses each allocation of two runs of the machine in turn: the run in which a client lights a CRTC, and the one in which an
+# event is read and a framebuffer freed. A step that finds no memory leaves the machine as it was, as a second machine
+# beside it tells, and is done at the second try; the tests (crates/kms_call_tests/src/memory.rt) ask for both. They are run
+# as they are built once they are proved, with a library before the C library's `malloc` (refuse_allocation.c); where they
+# are not built yet, `rt test` proves and builds them first. For each run it says how often it saw what. Skipped where a C
+# compiler is missing.
+#     checks/allocations.sh [TESTS]
+# runs the tests of a file that was built elsewhere.
 set -eu
-first=${1:-1}
-last=${2:-1000000}
 here=$(cd "$(dirname "$0")" && pwd)
-top=$(cd "$here/.." && pwd)
-work=$(mktemp -d)
-trap 'rm -rf "$work"' EXIT
-(cd "$top" && tar -cf - --exclude=out HANDLES crates.txt crates) | tar -xf - -C "$work"
-mkdir -p "$work/crates/memory_tests/src"
-echo "memory_tests: kms_model kms_core kms_core_tests" >>"$work/crates.txt"
-cp "$top/crates/kms_call_tests/src/memory.rt" "$work/crates/memory_tests/src/memory.rt"
-printf '//! Want of memory.\n#![tactic(auto)]\n\n#[cfg(test)]\nmod memory;\n' >"$work/crates/memory_tests/src/lib.rt"
-cd "$work/crates/memory_tests"
-before=0
-again=0
-number=$first
-while [ "$number" -le "$last" ]; do
-    all=$(rt try --test --fail-alloc "$number" 2>&1 || true)
-    said=$(echo "$all" | awk '/^test /{own = /memory::/} own')
-    seen=$(echo "$said" | grep -c "found no memory, and was done at the second try" || true)
-    unread=$(echo "$said" | grep -c "error: NoMemory" || true)
-    fine=$(echo "$said" | grep -c "^test memory::.* ok$" || true)
-    echo "allocation $number: $seen of the runs found no memory at a step and did it at the second try, $unread before the first step, $fine had all"
-    if [ $((seen + unread + fine)) -ne 2 ]; then
-        echo "$all"
-        exit 1
-    fi
-    again=$((again + seen))
-    before=$((before + unread))
-    [ "$fine" -lt 2 ] || break
-    number=$((number + 1))
+crate=$(cd "$here/../crates/kms_call_tests" && pwd)
+program=${1:-$crate/out/kms_call_tests_tests}
+for compiler in cc gcc clang; do
+    command -v "$compiler" >/dev/null 2>&1 && break
+    compiler=
 done
-echo "steps that were done at the second try: $again; runs that found no memory before the first step: $before"
+if [ -z "$compiler" ]; then
+    echo "allocations: skipped, there is no C compiler"
+    exit 0
+fi
+[ -x "$program" ] || (cd "$crate" && rt test >&2)
+refuse=$(mktemp)
+trap 'rm -f "$refuse"' EXIT
+"$compiler" -O1 -shared -fPIC -o "$refuse" "$here/refuse_allocation.c"
+
+# What a run of a test says with one allocation refused.
+run() {
+    REFUSE=$2 LD_PRELOAD=$refuse "$program" "$1" 2>&1
+}
+
+# Refuses each allocation of a test, and tells how it went.
+sweep() {
+    number=1
+    before=0
+    again=0
+    while said=$(run "$1" "$number" || true) && [ "${said#*an allocation is refused}" != "$said" ]; do
+        case $said in
+        *"found no memory, and was done at the second try"*) again=$((again + 1)) ;;
+        *"error: NoMemory"* | *"error: AllocError"*)
+            [ "$again" -eq 0 ] || return 1
+            before=$((before + 1))
+            ;;
+        *) echo "$1: allocation $number: $said" && return 1 ;;
+        esac
+        number=$((number + 1))
+    done
+    run "$1" "$number" >/dev/null || return 1
+    echo "$1: $((number - 1)) allocations refused, $before before the first step, $again at a step that was done at the second try"
+}
+
+sweep memory::a_crtc_is_lit_with_all_memory
+sweep memory::an_event_is_read_with_all_memory

@@ -140,7 +140,14 @@ fn fill(rt: &impl AllocGlobal, core: &mut Core) -> Result<(), Fail> {
     }
     let full = "no T swap 1: there is no space\nT refuse 1\nT read 1";
     follow(core, rt.alloc(), &[TAKE, full])?;
-    flip(rt, core, 129)
+    flip(rt, core, 129)?;
+    let course = [
+        "D drained\nafter R 131",
+        "R 1 132 131 commit 128\nR 1 133 132 ENOMEM events 25 4096",
+        "R 1 134 132 event 0 2 100\nR 1 135 132 commit 129\ncount R 135",
+        "count L 130",
+    ];
+    follow(core, rt.alloc(), &course)
 }
 
 /// A client has room for 128 events that it did not read. Reading one makes room for one.
@@ -148,12 +155,5 @@ fn fill(rt: &impl AllocGlobal, core: &mut Core) -> Result<(), Fail> {
 fn events_fill_their_space(rt: HostRuntime) -> Result<(), Fail> {
     let more = many_events(&rt, 129)?;
     let mut core = lighting(&rt, "0x400", more.as_str())?;
-    fill(&rt, &mut core)?;
-    let course = [
-        "D drained\nafter R 131",
-        "R 1 132 131 commit 128\nR 1 133 132 ENOMEM events 25 4096",
-        "R 1 134 132 event 0 2 100\nR 1 135 132 commit 129\ncount R 135",
-        "count L 130",
-    ];
-    follow(&mut core, rt.alloc(), &course)
+    fill(&rt, &mut core)
 }

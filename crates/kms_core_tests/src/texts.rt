@@ -85,9 +85,9 @@ pub fn started_from(rt: &impl AllocGlobal, script: &[&str]) -> Result<Core, Fail
 
 /// The machine of a client that lights the one CRTC by a request with these flags as its fourth command, and of what
 /// follows.
-pub fn lighting(rt: &impl AllocGlobal, flags: &str, more: &str) -> Result<Core, Fail>
-    ensures { IfOk result (λ core. core.steps ≡ []) }
-{
-    let text = format!(in rt.alloc(); "{SINGLE}client\n{MADE}atomic {flags} 0 {SET}\n{more}")?;
-    started(rt, text.as_str())
+pub fn lighting(rt: &impl AllocGlobal, flags: &str, more: &str) -> Result<Core, Fail> {
+    let script = [
+        SINGLE, "client\n", MADE, "atomic ", flags, " 0 ", SET, "\n", more,
+    ];
+    started_from(rt, &script)
 }
