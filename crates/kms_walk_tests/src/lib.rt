@@ -1,6 +1,5 @@
 //! Random walks of many clients on a machine, and the steps that a machine tells next, beside those that are legal. Each walk
-//! starts from a seed, and is done again on a second machine. A test makes its machine and lends it to a function with its
-//! steps (`.._with`), which is proved once.
+//! starts from a seed, and is done again on a second machine.
 #![tactic(auto)]
 
 #[cfg(test)]
