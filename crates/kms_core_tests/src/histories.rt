@@ -1,7 +1,7 @@
 //! Histories of one client, worked out by hand.
 use crate::courses::{follow, play, play_lighting};
 use crate::pieces::{CHANGE, END_0, END_1, LIGHT, LIT, LIT_TWICE, TAKE, WRITE_0, WRITE_1};
-use crate::texts::{MADE, SET, SINGLE, UNSET, WRONG, lighting};
+use crate::texts::{MADE, SET, SINGLE, UNSET, WRONG, started_from};
 use kms_core::Core;
 use std::test::Fail;
 
@@ -112,18 +112,6 @@ fn requests_are_refused_by_their_first_cause(rt: HostRuntime) -> Result<(), Fail
     play(&rt, &[SINGLE, "client\n", WRONG], &course)
 }
 
-/// The lines of a client that asks for so many events, reads one, and asks for one more.
-fn many_events(rt: &impl AllocGlobal, count: u32) -> Result<String, Fail> {
-    let line = "atomic 0x1 0 plane0.alpha=65535\n";
-    let mut text = String::new(rt.alloc());
-    for _event in 0..count {
-        text.push_str(line)?;
-    }
-    text.push_str("wait\n")?;
-    text.push_str(line)?;
-    Ok(text)
-}
-
 /// The steps of a commit with this number that changes the plane.
 fn flip(rt: &impl AllocGlobal, core: &mut Core, commit: u32) -> Result<(), Fail> {
     let text = format!(in rt.alloc();
@@ -150,10 +138,35 @@ fn fill(rt: &impl AllocGlobal, core: &mut Core) -> Result<(), Fail> {
     follow(core, rt.alloc(), &course)
 }
 
+/// A commit that asks for an event.
+const EVENT: &str = "atomic 0x1 0 plane0.alpha=65535\n";
+
+/// Sixteen of them.
+const EVENTS: &str =
+    "atomic 0x1 0 plane0.alpha=65535\natomic 0x1 0 plane0.alpha=65535\natomic 0x1 0 plane0.alpha=65535\natomic 0x1 0 plane0.alpha=65535\natomic 0x1 0 plane0.alpha=65535\natomic 0x1 0 plane0.alpha=65535\natomic 0x1 0 plane0.alpha=65535\natomic 0x1 0 plane0.alpha=65535\natomic 0x1 0 plane0.alpha=65535\natomic 0x1 0 plane0.alpha=65535\natomic 0x1 0 plane0.alpha=65535\natomic 0x1 0 plane0.alpha=65535\natomic 0x1 0 plane0.alpha=65535\natomic 0x1 0 plane0.alpha=65535\natomic 0x1 0 plane0.alpha=65535\natomic 0x1 0 plane0.alpha=65535\n";
+
 /// A client has room for 128 events that it did not read. Reading one makes room for one.
 #[test]
 fn events_fill_their_space(rt: HostRuntime) -> Result<(), Fail> {
-    let more = many_events(&rt, 129)?;
-    let mut core = lighting(&rt, "0x400", more.as_str())?;
+    let script = [
+        SINGLE,
+        "client\n",
+        MADE,
+        "atomic 0x400 0 ",
+        SET,
+        "\n",
+        EVENTS,
+        EVENTS,
+        EVENTS,
+        EVENTS,
+        EVENTS,
+        EVENTS,
+        EVENTS,
+        EVENTS,
+        EVENT,
+        "wait\n",
+        EVENT,
+    ];
+    let mut core = started_from(&rt, &script)?;
     fill(&rt, &mut core)
 }

@@ -38,14 +38,19 @@ fn write_lines(
     Ok(())
 }
 
-/// The script of four clients, each of which lights a CRTC, changes what is shown, and ends. `after` stands before the name
-/// of the fence that each client's commit waits for.
-pub(crate) fn many(rt: &impl AllocGlobal, after: &str) -> Result<String, Fail> {
-    let mut text = String::from_str(rt.alloc(), DEVICE)?;
+/// The script of a device with four clients, each with these lines.
+fn crowd(rt: &impl AllocGlobal, device: &str, parts: &[&str], after: &str) -> Result<String, Fail> {
+    let mut text = String::from_str(rt.alloc(), device)?;
     for (own, next) in [('0', '1'), ('1', '2'), ('2', '3'), ('3', '0')] {
-        for lines in [LIGHTS, CHANGES, CLOSES] {
+        for lines in parts {
             write_lines(&mut text, lines, own, next, after)?;
         }
     }
     Ok(text)
+}
+
+/// The script of four clients, each of which lights a CRTC, changes what is shown, and ends. `after` stands before the name
+/// of the fence that each client's commit waits for.
+pub(crate) fn many(rt: &impl AllocGlobal, after: &str) -> Result<String, Fail> {
+    crowd(rt, DEVICE, &[LIGHTS, CHANGES, CLOSES], after)
 }
