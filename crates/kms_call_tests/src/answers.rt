@@ -4,9 +4,9 @@ use crate::deciding::decide;
 use crate::steps::{call_lock, call_relock, call_step};
 use kms_core::{Core, Decided, Locked};
 use kms_core_tests::{
-    CLOSING, CROSSING, all, back_off, crtc, follow, holds, make, plane, started_from,
+    CLOSING, CROSSING, Object, all, back_off, crtc, follow, holds, make, plane, started_from,
 };
-use kms_model::{Command, Look, Lookups, Ticket};
+use kms_model::{Command, Look, Lookups, NoMemory, Ticket};
 use std::alloc::Global;
 use std::test::Fail;
 
@@ -60,38 +60,63 @@ fn look_ups_that_grew_old_are_told(rt: HostRuntime) -> Result<(), Fail> {
     decide_late(&mut core, rt.alloc())
 }
 
-/// Whether an object is taken.
-fn is_got(locked: Option<Locked>) -> bool {
-    matches!(locked, Some(Locked::Got { .. }))
+/// Whether a client takes an object that is free.
+fn takes(core: &mut Core, client: u32, object: Object) -> Result<bool, NoMemory> {
+    let locked = call_lock(core, client, object)?;
+    Ok(matches!(locked, Some(Locked::Got { .. })))
 }
 
-/// The second of two contexts meets the first, and backs off.
-fn meet(core: &mut Core, alloc: Global) -> Result<(), Fail> {
+/// Whether a client meets the first context at an object, and must back off.
+fn meets(core: &mut Core, client: u32, object: Object) -> Result<bool, NoMemory> {
+    let locked = call_lock(core, client, object)?;
+    Ok(matches!(locked, Some(Locked::Older { holder: Ticket(0) })))
+}
+
+/// Whether a client takes the object that it backed off for.
+fn takes_again(core: &mut Core, client: u32) -> Result<bool, NoMemory> {
+    let locked = call_relock(core, client)?;
+    Ok(matches!(locked, Some(Locked::Got { .. })))
+}
+
+/// Whether the first context still holds the object that a client backed off for.
+fn is_held(core: &mut Core, client: u32) -> Result<bool, NoMemory> {
+    let locked = call_relock(core, client)?;
+    Ok(matches!(locked, Some(Locked::Held { holder: Ticket(0) })))
+}
+
+/// Each of two contexts takes an object.
+fn take_both(core: &mut Core, alloc: Global) -> Result<(), Fail> {
     follow(core, alloc, &["T begin 1\nT begin 2"])?;
-    holds(is_got(call_lock(core, 1, plane(0))?), "the plane is free")?;
-    holds(is_got(call_lock(core, 2, crtc(0))?), "the CRTC is free")?;
-    let older = Locked::Older { holder: Ticket(0) };
-    let met = call_lock(core, 2, plane(0))?;
-    holds(met == Some(older), "an older context holds it")?;
-    holds(call_step(core, alloc, &back_off(2))?, "it backs off")
+    holds(takes(core, 1, plane(0))?, "the plane is free")?;
+    holds(takes(core, 2, crtc(0))?, "the CRTC is free")
 }
 
-/// It waits for the plane, and takes it once the first is done.
+/// The second meets the first, backs off, and waits for the plane.
+fn meet(core: &mut Core, alloc: Global) -> Result<(), Fail> {
+    holds(meets(core, 2, plane(0))?, "an older context holds it")?;
+    holds(call_step(core, alloc, &back_off(2))?, "it backs off")?;
+    holds(is_held(core, 2)?, "it is held still")?;
+    follow(core, alloc, &["count T 6"])
+}
+
+/// The first takes the CRTC and is done, and the second takes the plane.
 fn wait(core: &mut Core, alloc: Global) -> Result<(), Fail> {
-    let held = Locked::Held { holder: Ticket(0) };
-    let met = call_relock(core, 2)?;
-    holds(met == Some(held), "it is held still")?;
-    follow(core, alloc, &["count T 6"])?;
-    holds(is_got(call_lock(core, 1, crtc(0))?), "the CRTC is free")?;
+    holds(takes(core, 1, crtc(0))?, "the CRTC is free")?;
     follow(core, alloc, &["T test 1"])?;
-    holds(is_got(call_relock(core, 2)?), "the plane is free")?;
+    holds(takes_again(core, 2)?, "the plane is free")?;
     follow(core, alloc, &["count T 9"])
+}
+
+/// The steps of both, one after the other.
+fn meet_and_wait(core: &mut Core, alloc: Global) -> Result<(), Fail> {
+    take_both(core, alloc)?;
+    meet(core, alloc)?;
+    wait(core, alloc)
 }
 
 /// What two contexts are answered that take the same objects. Only answers that are steps make the history longer.
 #[test]
 fn locks_have_their_answers(rt: HostRuntime) -> Result<(), Fail> {
     let mut core = started_from(&rt, &CROSSING)?;
-    meet(&mut core, rt.alloc())?;
-    wait(&mut core, rt.alloc())
+    meet_and_wait(&mut core, rt.alloc())
 }
