@@ -1,16 +1,18 @@
 #!/bin/sh
 # Refuses each allocation of two runs of the machine in turn: the run in which a client lights a CRTC, and the one in which an
 # event is read and a framebuffer freed. A step that finds no memory leaves the machine as it was, as a second machine
-# beside it tells, and is done at the second try; the tests (crates/kms_call_tests/src/memory.rt) ask for both. They are run
-# as they are built once they are proved, with a library before the C library's `malloc` (refuse_allocation.c); where they
-# are not built yet, `rt test` proves and builds them first. For each run it says how often it saw what. Skipped where a C
-# compiler is missing.
+# beside it tells, and is done at the second try; the tests (allocations/memory.rt.txt) ask for both. They are run as they are
+# built once they are proved, with a library before the C library's `malloc` (refuse_allocation.c); `rt test` proves and builds
+# them first, in a copy of the crates, unless a file of them is given. For each run it says how often it saw what. Skipped
+# where a C compiler is missing.
 #     checks/allocations.sh [TESTS]
 # runs the tests of a file that was built elsewhere.
 set -eu
 here=$(cd "$(dirname "$0")" && pwd)
-crate=$(cd "$here/../crates/kms_call_tests" && pwd)
-program=${1:-$crate/out/kms_call_tests_tests}
+top=$(cd "$here/.." && pwd)
+work=$(mktemp -d)
+trap 'rm -rf "$work"' EXIT
+program=${1:-$work/crates/memory_tests/out/memory_tests_tests}
 for compiler in cc gcc clang; do
     command -v "$compiler" >/dev/null 2>&1 && break
     compiler=
@@ -19,9 +21,15 @@ if [ -z "$compiler" ]; then
     echo "allocations: skipped, there is no C compiler"
     exit 0
 fi
-[ -x "$program" ] || (cd "$crate" && rt test >&2)
-refuse=$(mktemp)
-trap 'rm -f "$refuse"' EXIT
+if [ ! -x "$program" ]; then
+    (cd "$top" && tar -cf - --exclude=out HANDLES crates.txt crates) | tar -xf - -C "$work"
+    mkdir -p "$work/crates/memory_tests/src"
+    echo "memory_tests: kms_model kms_core kms_core_tests" >>"$work/crates.txt"
+    cp "$here/allocations/memory.rt.txt" "$work/crates/memory_tests/src/memory.rt"
+    printf '//! Want of memory.\n#![tactic(auto)]\n\n#[cfg(test)]\nmod memory;\n' >"$work/crates/memory_tests/src/lib.rt"
+    (cd "$work/crates/memory_tests" && rt test >&2)
+fi
+refuse=$work/refuse_allocation.so
 "$compiler" -O1 -shared -fPIC -o "$refuse" "$here/refuse_allocation.c"
 
 # What a run of a test says with one allocation refused.
