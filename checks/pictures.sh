@@ -14,3 +14,8 @@ echo "commit_path.py: as docs/pictures/commit.svg"
 "$program" one --ppm <"$top/examples/blend_modes.kms" | "$top/tools/frames.py" "$folder" 8
 diff -r "$folder" "$top/docs/pictures/blend"
 echo "one --ppm < blend_modes.kms: as docs/pictures/blend"
+rm -r "$folder"
+mkdir "$folder"
+"$program" one --ppm <"$top/examples/scaling.kms" | "$top/tools/frames.py" "$folder" 8
+diff -r "$folder" "$top/docs/pictures/scaling"
+echo "one --ppm < scaling.kms: as docs/pictures/scaling"

@@ -94,7 +94,7 @@ pub fn mode_of(bytes: &[u8]) -> Mode
 }
 
 // The number of two bytes from a place on.
-fn half(bytes: &[u8], at: usize) -> u16
+pub(crate) fn half(bytes: &[u8], at: usize) -> u16
     requires { at + 2 ≤ length bytes.now }
     ensures { result ≡ two_at bytes.now at }
 {

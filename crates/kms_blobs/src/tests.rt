@@ -1,4 +1,4 @@
-use crate::{BadMode, BlobStore, decode_mode, encode_mode, mode_of};
+use crate::{BadMode, BlobStore, decode_mode, encode_mode, gamma_of_bytes, mode_of};
 use kms_model::{Denied, Mode, NoMemory};
 
 /// The bytes of the 1920x1080 mode of CEA-861, at 60 Hz.
@@ -47,6 +47,44 @@ fn the_first_cause_is_answered(rt: HostRuntime) {
     wide.hsync_end = 4099;
     wide.htotal = 4100;
     assert!(rt; decode_mode(&encode_mode(&wide)) == Err(BadMode::Size));
+}
+
+/// An entry whose numbers differ in all their bytes: red 2 * value + 1, green 255 - value, blue value in the upper
+/// bytes, each modulo 256.
+fn entry(value: u8) -> [u8; 8] {
+    let red = value.wrapping_mul(2).wrapping_add(1);
+    [0xfe, red, 0xff, 255 - value, 0xfd, value, 0xfc, 0xfb]
+}
+
+#[test]
+fn a_table_keeps_the_upper_bytes_of_its_entries(rt: HostRuntime) -> Result<(), NoMemory> {
+    let mut bytes = Vec::new(rt.alloc());
+    for value in 0..256 {
+        bytes.extend_from_slice(&entry(value as u8))?;
+    }
+    let Some(gamma) = gamma_of_bytes(&bytes) else {
+        assert!(rt; false, "2048 bytes are a table");
+        return Ok(());
+    };
+    assert_eq!(rt; [gamma.red[0], gamma.green[0], gamma.blue[0]], [1, 255, 0]);
+    assert_eq!(rt; [gamma.red[3], gamma.green[3], gamma.blue[3]], [7, 252, 3]);
+    assert_eq!(rt;
+        [gamma.red[127], gamma.green[127], gamma.blue[127]],
+        [255, 128, 127]
+    );
+    assert_eq!(rt;
+        [gamma.red[255], gamma.green[255], gamma.blue[255]],
+        [255, 0, 255]
+    );
+    Ok(())
+}
+
+#[test]
+fn bytes_that_are_not_2048_are_no_table(rt: HostRuntime) {
+    assert!(rt; gamma_of_bytes(&[0; 2048]).is_some());
+    assert!(rt; gamma_of_bytes(&[0; 2047]).is_none());
+    assert!(rt; gamma_of_bytes(&[0; 2049]).is_none());
+    assert!(rt; gamma_of_bytes(&[]).is_none());
 }
 
 #[test]

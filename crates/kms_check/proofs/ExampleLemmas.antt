@@ -15,7 +15,7 @@ use Rattle.kms_model.specs.Device.Masks.{mask_below}
 use Rattle.kms_model.specs.Request.Sets.{look_in}
 use Rattle.kms_model.specs.Device.Sound.{IsSound}
 use Rattle.kms_model.specs.Request.Deciding.{AreFresh, AreFreshIn}
-use Rattle.kms_samples.specs.Samples.{double}
+use Rattle.kms_samples.specs.Samples.{double, in_profile_2}
 use Rattle.kms_request.specs.Whole.{ArePresent}
 use Rattle.kms_check.specs.Example.{alike, conn, crtc, if_given, lit_world, plane, states, things, two, world_of}
 
@@ -39,6 +39,12 @@ pub is_sound : (lit : Bool) → IsSound double (world_of lit)
 unfolding late_refusal plane_refusal shown_refusal
 is_sound true = record { numbered = search rules; next = refl; held = refl; accepted = refl }
 is_sound false = record { numbered = search rules; next = refl; held = refl; accepted = refl }
+
+-- in profile 2 too
+pub is_sound_in_2 : (lit : Bool) → IsSound (in_profile_2 double) (world_of lit)
+unfolding late_refusal plane_refusal shown_refusal
+is_sound_in_2 true = record { numbered = search rules; next = refl; held = refl; accepted = refl }
+is_sound_in_2 false = record { numbered = search rules; next = refl; held = refl; accepted = refl }
 
 abbrev nowhere : Rect
 nowhere = record { x = pos 0; y = pos 0; w = pos 0; h = pos 0 }
@@ -65,7 +71,7 @@ pub given_is : {S : Type 0} (given : Bool) (n : ℕ) (state : ℕ → S) (first 
 given_is true n state first second there one other = rw (one, other) refl
 given_is false n state first second there one other = absurd cc
 
-pub off_crtc : (lit : Bool) → record { active = false; mode = None; planes = 0; conns = 0 } ≡ crtc lit 1
+pub off_crtc : (lit : Bool) → record { active = false; mode = None; gamma = None; planes = 0; conns = 0 } ≡ crtc lit 1
 unfolding mask_below
 off_crtc true = refl
 off_crtc false = refl
@@ -76,6 +82,9 @@ off_plane false = refl
 
 pub states_old : (lit a b c : Bool) → AgreesOld double (world_of lit).things (world_of lit).values (states lit a b c)
 states_old lit a b c = record { crtcs = given_old a 2 (crtc lit); planes = given_old b 14 (plane lit); conns = given_old c 6 (conn lit) }
+
+pub states_old_in_2 : (lit a b c : Bool) → AgreesOld (in_profile_2 double) (world_of lit).things (world_of lit).values (states lit a b c)
+states_old_in_2 lit a b c = record { crtcs = given_old a 2 (crtc lit); planes = given_old b 14 (plane lit); conns = given_old c 6 (conn lit) }
 
 pub states_fresh : (lit a b c : Bool) → AreFresh (states lit a b c)
 states_fresh lit a b c = record { crtcs = given_fresh a 2 (crtc lit); planes = given_fresh b 14 (plane lit); conns = given_fresh c 6 (conn lit) }
@@ -104,7 +113,7 @@ all_present =
     let old = states_old true true true true in
     let fresh = states_fresh true true true true in
     record {
-      device = record { legal = refl; kinds = search rules };
+      device = record { profile = refl; legal = refl; kinds = search rules };
       sound = is_sound true;
       old = old;
       new = record {

@@ -148,6 +148,7 @@ value-after : (m : ℕ) (d : Duplicates) (id prop : ℕ) (value : SetValue) → 
 value-after m d id prop (to.Num n) may before = number-after m (kind_of id) d id prop n may before
 value-after m d id prop (to.Fb fb) may before = changed-in_range m d id (λ s. record s { fb = fb }) (λ s held. same_numbers s (record s { fb = fb }) refl refl refl refl refl held) before
 value-after m d id prop (to.Mode mode) may before = before
+value-after m d id prop (to.Gamma gamma) may before = before
 value-after m d id prop (to.Crtc crtc) may before = crtc-after m (kind_of id) d id crtc before
 value-after m d id prop to.Fence may before = before
 

@@ -21,7 +21,7 @@ use Rattle.kms_model.specs.Request.Apply.{apply, assign, number_of, object_of, p
 use Rattle.kms_model.specs.Request.Lookups.{look_up}
 use Rattle.kms_model.specs.Device.Objects.{first_id, object_id, count_of, exists}
 use Rattle.kms_model.specs.Request.Sets.{has_target_of, last_sets, set_in, set_value}
-use Rattle.kms_model.specs.Device.States.{natural, plane_from, mode_of}
+use Rattle.kms_model.specs.Device.States.{gamma_of, natural, plane_from, mode_of}
 use Rattle.kms_model.specs.Request.Touched.{last_value, set_where}
 use Rattle.kms_model.specs.Device.World.{value, put, thing_numbered}
 use Rattle.kms_model.proofs.AppliedValues.{value-put}
@@ -155,6 +155,7 @@ agrees-same t things xs ys d same agrees =
     crtc_state_from t things v crtc = record {
       active = not (Rattle.std.specs.Ordering.int_eq (v crtc Rattle.kms_model.specs.declared.properties.TheConstants.ACTIVE) (pos 0));
       mode = mode_of (thing_numbered things (v crtc Rattle.kms_model.specs.declared.properties.TheConstants.MODE_ID));
+      gamma = gamma_of (thing_numbered things (v crtc Rattle.kms_model.specs.declared.properties.TheConstants.GAMMA_LUT));
       planes = set_where t Rattle.kms_model.specs.declared.objects.Kind.TheVariants.Plane (λ object. natural (v object CRTC_ID) == crtc);
       conns = set_where t Rattle.kms_model.specs.declared.objects.Kind.TheVariants.Conn (λ object. natural (v object CRTC_ID) == crtc);
     }

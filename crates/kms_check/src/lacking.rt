@@ -26,7 +26,7 @@ fn is_missing<S: Copy>(mask: u32, states: &[Option<Both<S>>], index: usize) -> b
     requires { index < 32 }
     ensures { result ≡ (has_bit mask index && is_none (duplicate_at states.now index)) }
 {
-    has_bit(mask, index as u32) && states.get(index).copied().flatten().is_none()
+    has_bit(mask, index as u32) && !matches!(states.get(index), Some(Some(_)))
 }
 
 /// The mask of those of a set that are not duplicated.

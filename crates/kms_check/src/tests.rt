@@ -6,13 +6,17 @@ ghost use Rattle.kms_model.specs.Request.Lookups.{look_up};
 ghost use Rattle.kms_model.specs.Request.Sets.{look_in};
 
 use crate::{Refused, check};
-use kms_model::properties::{ACTIVE, ALPHA, CRTC_ID, CRTC_W, CRTC_X, FB_ID, MODE_ID, SRC_W, SRC_X};
+use kms_model::properties::{
+    ACTIVE, ALPHA, CRTC_H, CRTC_ID, CRTC_W, CRTC_X, FB_ID, GAMMA_LUT, MODE_ID, SRC_H, SRC_W, SRC_X,
+};
 use kms_model::{
-    Assign, Both, Checked, ConnState, CrtcState, Duplicates, FbInfo, Format, Kind, Look, Lookups,
-    Mask, NoMemory, ObjId, PlaneState, Rect, Refusal, Seq, Value,
+    Assign, Both, Checked, ConnState, CrtcState, Duplicates, FbInfo, Format, Gamma, Kind, Look,
+    Lookups, Mask, NoMemory, ObjId, PlaneState, Rect, Refusal, Seq, Value,
 };
 use kms_request::{reach, resolve};
-use kms_samples::{ALLOW_MODESET, double, light, on_crtc, on_plane, request, set, tiny};
+use kms_samples::{
+    ALLOW_MODESET, double, in_profile_2, light, on_crtc, on_plane, request, set, tiny,
+};
 use std::alloc::Global;
 use std::test::Fail;
 
@@ -90,6 +94,7 @@ fn first_crtc(lit: bool) -> CrtcState
         CrtcState {
             active: true,
             mode: Some(tiny()),
+            gamma: None,
             planes: 1,
             conns: 1,
         }
@@ -338,6 +343,82 @@ fn a_request_is_refused_by_what_the_device_can_do(rt: HostRuntime) -> Result<(),
             refusal.map(Refused::Of)
         );
     }
+    Ok(())
+}
+
+/// What `check` answers in profile 2 to a request over these states, which sets what `first` and then `more` say.
+fn checked_in_profile_2(
+    alloc: Global,
+    given: Given,
+    found: &Lookups,
+    first: &[Assign],
+    more: &[Assign],
+) -> Result<Result<Checked, Refused>, Fail> {
+    let topology = in_profile_2(double(alloc)?);
+    let flags = if given.lit { 0 } else { ALLOW_MODESET };
+    let request = request(alloc, flags, first, more)?;
+    let resolved = resolve(alloc, &topology, &request, found)?;
+    Ok(check(&topology, states(given), &resolved))
+}
+
+/// Why a request to light a device of profile 2, which sets also this, is not accepted, if it is not.
+fn refused_in_profile_2(alloc: Global, more: &[Assign]) -> Result<Option<Refused>, Fail> {
+    let found = found(alloc)?;
+    Ok(checked_in_profile_2(alloc, DARK, &found, &light(WIDE, MODE), more)?.err())
+}
+
+/// A framebuffer of two pixels, of which one is shown: at most four times as large or small, along each axis by itself, and
+/// from any place on.
+#[test]
+fn planes_of_profile_2_scale_little(rt: HostRuntime) -> Result<(), Fail> {
+    let a = rt.alloc();
+    for (prop, number, fits) in [
+        (CRTC_W, 4, true),
+        (CRTC_W, 5, false),
+        (CRTC_W, 0, false),
+        (CRTC_H, 4, true),
+        (CRTC_H, 5, false),
+        (SRC_W, 16384, true),
+        (SRC_W, 16383, false),
+        (SRC_H, 16384, true),
+        (SRC_H, 16383, false),
+        (SRC_X, 32768, true),
+        (SRC_X, 1, true),
+        (SRC_X, 65536, true),
+    ] {
+        let want = if fits {
+            None
+        } else {
+            Some(Refused::Of(Refusal::SCALED))
+        };
+        let one = [on_plane(prop, Value::Num(number))];
+        assert_eq!(rt; refused_in_profile_2(a, &one)?, want, "{prop} {number}");
+    }
+    let past = [on_plane(SRC_X, Value::Num(65537))];
+    let outside = Some(Refused::Of(Refusal::SOURCE_OUTSIDE_FRAMEBUFFER));
+    assert_eq!(rt; refused_in_profile_2(a, &past)?, outside);
+    Ok(())
+}
+
+/// A table of which each channel tells another one apart.
+const TABLE: Gamma = Gamma {
+    red: [71; 256],
+    green: [72; 256],
+    blue: [73; 256],
+};
+
+/// A changed table is no modeset, and is there after the request.
+#[test]
+fn a_changed_table_needs_no_modeset(rt: HostRuntime) -> Result<(), Fail> {
+    let a = rt.alloc();
+    let looks = [(MODE, Look::Gamma(TABLE, 1001))];
+    let found = Seq::from_vec(Vec::from_array(a, looks)?);
+    let table = [on_crtc(GAMMA_LUT, Value::Named(MODE))];
+    let gamma = match checked_in_profile_2(a, LIT, &found, &table, &[])? {
+        Ok(checked) => checked.states.crtcs[0].and_then(|both| both.new.gamma),
+        Err(_) => None,
+    };
+    assert!(rt; gamma == Some(TABLE));
     Ok(())
 }
 

@@ -1,3 +1,4 @@
+pub mod Places
 pub mod Runs
 pub mod SameFrames
-pub mod Stretches
+pub mod Visible

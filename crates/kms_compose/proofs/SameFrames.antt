@@ -1,8 +1,7 @@
 -- Over images of framebuffers among the things, a frame is that of the things.
-use Rattle.std.proofs.Common.{◌≡◌, ◌<◌, ℕ, Bool, true, false, ◌&&◌, ◌==◌, cond, pos, ◌+ℤ◌, ◌≤ℤ◌, ◌<ℤ◌, int_le, int_lt, List, [], ◌∷◌, suc, length, slice_index_or, Option, Some, None, refl, ap, ◌∙◌, arith}
+use Rattle.std.proofs.Common.{◌≡◌, ◌<◌, ℕ, Bool, true, false, ◌==◌, cond, ◌*◌, pos, ◌+ℤ◌, int_le, List, [], ◌∷◌, suc, length, slice_index_or, Option, Some, None, refl, ap, ◌∙◌, arith}
 use Rattle.std.specs.Prelude.{All}
 use Rattle.std.proofs.lemmas.Bool.{and_parts, eqb-true}
-use Rattle.std.proofs.lemmas.Int.{ints}
 use Rattle.kms_model.specs.declared.objects.Mode.{Mode}
 use Rattle.kms_model.specs.declared.pictures.Colour.{Colour}
 use Rattle.kms_model.specs.declared.pictures.Layer.{Layer}
@@ -11,14 +10,15 @@ use Rattle.kms_model.specs.declared.pictures.Picture.TheVariants.{Off, On}
 use Rattle.kms_model.specs.declared.pictures.Rect.{Rect}
 use Rattle.kms_model.specs.declared.pictures.Shown.{Shown}
 use Rattle.kms_model.specs.declared.worlds.Thing.{Thing}
-use Rattle.kms_model.specs.Frames.FrameBytes.{black, channels, composed, covers, frame_bytes, frame_of, layer_colour, mixed, source_at, word_of}
+use Rattle.kms_model.specs.Frames.FrameBytes.{black, channels, composed, covers, frame_bytes, frame_of, layer_colour, mixed, source_at, through, word_of}
 use Rattle.kms_model.specs.Frames.Images.{image_of}
 use Rattle.kms_model.specs.Stores.Kept.{Seen}
 use Rattle.kms_model.proofs.ImageWords.{word_of-image}
+use Rattle.kms_model.proofs.SourcePlaces.{covers-at, source-within}
 use Rattle.kms_model.proofs.Spans.{flat_map-range_same}
 use Rattle.kms_compose.specs.declared.images.FbImage.{FbImage}
 use Rattle.kms_compose.specs.Images.{AreImagesIn, CanShow, IsShowable, image_seen, seen_under, word_under}
-use Rattle.kms_compose.proofs.Stretches.{axes, cond_under, source_below}
+use Rattle.kms_compose.proofs.Visible.{axes, clipped_at, cond_under}
 
 -- the layers' colours decide a frame
 composed-same : (words words' : ℕ → ℕ → ℕ → Option ℕ) (x y : ℕ) (under : Colour) (layers : List Layer) →
@@ -45,24 +45,6 @@ image_among things (i ∷ images) fb s are found =
     among true e here there h = here (eqb-true i.fb fb e) ∙ h
     among false e here there h = there h
 
--- a pixel that a rectangle covers
-record IsCovered (v : Rect) (x y : ℕ) : Type 0 where
-  left : v.x ≤ℤ pos x
-  right : pos x <ℤ (v.x +ℤ v.w)
-  top : v.y ≤ℤ pos y
-  bottom : pos y <ℤ (v.y +ℤ v.h)
-
-is_covered_from : (v : Rect) (x y : ℕ) → covers v x y ≡ true → IsCovered v x y
-is_covered_from v x y h =
-    let left = and_parts (int_le v.x (pos x)) (int_lt (pos x) (v.x +ℤ v.w) && (int_le v.y (pos y) && int_lt (pos y) (v.y +ℤ v.h))) h in
-    let right = and_parts (int_lt (pos x) (v.x +ℤ v.w)) (int_le v.y (pos y) && int_lt (pos y) (v.y +ℤ v.h)) left.1 in
-    let rest = and_parts (int_le v.y (pos y)) (int_lt (pos y) (v.y +ℤ v.h)) right.1 in record {
-      left = grind (arith, ints, left.0);
-      right = grind (arith, ints, right.0);
-      top = grind (arith, ints, rest.0);
-      bottom = grind (arith, ints, rest.1);
-    }
-
 -- a layer has the same colour over the images and over the things
 layer_same : (m : Mode) (things : List Thing) (images : List FbImage) (l : Layer) (x y : ℕ) → IsShowable m images l → AreImagesIn things images →
     layer_colour (word_under images) x y l ≡ layer_colour (word_of things) x y l
@@ -73,17 +55,19 @@ layer_same m things images l x y showable are = visible_same l.visible refl
     visible_same None e = rw e refl
     visible_same (Some v) e = rw e (cond_under (covers v x y) _ _ None (λ h.
         let image = showable.image in
-        let at = is_covered_from v x y h in
-        let both = axes m l v showable.placed e in
-        let left = source_below _ _ _ _ _ _ x both.x at.left at.right in
-        let low = source_below _ _ _ _ _ _ y both.y at.top at.bottom in
-        let word = word_of-image things l.fb.id (source_at l.src.x l.dst.x x) (source_at l.src.y l.dst.y y) image.seen (image_among things images l.fb.id image.seen are image.found) (omega (arith, left, image.width)) (omega (arith, low, image.height)) in
+        let p = showable.placed in
+        let at = covers-at v x y h in
+        let both = axes m l v p e in
+        let ends = and_parts (int_le (l.src.x +ℤ l.src.w) (pos (65536 * l.fb.width))) (int_le (l.src.y +ℤ l.src.h) (pos (65536 * l.fb.height))) p.fits in
+        let left = source-within l.src.x l.src.w l.dst.x l.dst.w l.fb.width x p.left p.src_w.low p.width ends.0 (clipped_at _ _ _ _ _ x both.x at.column) in
+        let low = source-within l.src.y l.src.h l.dst.y l.dst.h l.fb.height y p.top p.src_h.low p.height ends.1 (clipped_at _ _ _ _ _ y both.y at.row) in
+        let word = word_of-image things l.fb.id (source_at l.src.x l.src.w l.dst.x l.dst.w x) (source_at l.src.y l.src.h l.dst.y l.dst.h y) image.seen (image_among things images l.fb.id image.seen are image.found) (omega (arith, left, image.width)) (omega (arith, low, image.height)) in
         rw (image.found, word) refl))
 
 shown_same : (things : List Thing) (images : List FbImage) (p : Shown) → All (IsShowable p.mode images) p.layers → AreImagesIn things images →
     frame_of (word_under images) (On p) ≡ frame_of (word_of things) (On p)
 shown_same things images p showable are = flat_map-range_same _ _ p.mode.vdisplay (λ y low. flat_map-range_same _ _ p.mode.hdisplay (λ x left.
-    ap channels (composed-same (word_under images) (word_of things) x y black p.layers (λ k d below. layer_same p.mode things images (slice_index_or p.layers k d) x y (showable k d below) are))))
+    ap (λ (c : Colour). channels (through p.gamma c)) (composed-same (word_under images) (word_of things) x y black p.layers (λ k d below. layer_same p.mode things images (slice_index_or p.layers k d) x y (showable k d below) are))))
 
 pub frame_same : (things : List Thing) (images : List FbImage) (p : Picture) → CanShow images p → AreImagesIn things images → frame_of (word_under images) p ≡ frame_bytes things p
 frame_same things images Off can are = refl

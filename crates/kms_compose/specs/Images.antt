@@ -1,5 +1,5 @@
 -- Images under the ids of framebuffers.
-use Rattle.std.specs.Prelude.{◌≡◌, ℕ, ◌*◌, ◌==◌, List, [], ◌∷◌, Option, Some, None, All, ⊤, length, if◌then◌else◌}
+use Rattle.std.specs.Prelude.{◌≡◌, ◌<◌, ℕ, ◌==◌, List, [], ◌∷◌, Option, Some, None, All, ⊤, if◌then◌else◌}
 use Rattle.std.specs.Option.{option_map}
 use Rattle.kms_model.specs.declared.objects.Mode.{Mode}
 use Rattle.kms_model.specs.declared.pictures.FbInfo.{FbInfo}
@@ -35,9 +35,11 @@ pub record IsShowable (m : Mode) (images : List FbImage) (l : Layer) : Type 0 wh
   pub placed : FitsMode m l
   pub image : HasImage images l.fb
 
--- a layer that can be shown in some mode
+-- a layer that can be shown in some mode, whose sizes have 16 bits
 pub record IsShown (images : List FbImage) (l : Layer) : Type 0 where
   pub mode : Mode
+  pub narrow : mode.hdisplay < 65536
+  pub low : mode.vdisplay < 65536
   pub showable : IsShowable mode images l
 
 -- a picture that can be shown over these images

@@ -1,2 +1,4 @@
+pub mod Example
 pub mod Images
 pub mod Parts
+pub mod Sources

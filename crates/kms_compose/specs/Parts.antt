@@ -1,13 +1,20 @@
 -- The visible parts of layers in pixels of the mode, and what they put on a row.
-use Rattle.std.specs.Prelude.{◌<◌, ◌≤◌, ℕ, ◌+◌, ◌-◌, ◌*◌, Bool, true, false, not, ◌&&◌, ◌||◌, ◌==◌, nat_le, nat_lt, List, [], ◌∷◌, Option, Some, None, length, slice_index, if◌then◌else◌}
+use Rattle.std.specs.Prelude.{◌≡◌, ◌<◌, ◌≤◌, ℕ, ◌+◌, ◌-◌, ◌*◌, pos, ◌≤ℤ◌, ◌<ℤ◌, All, ⊤, Bool, true, false, not, ◌&&◌, ◌||◌, ◌==◌, nat_le, nat_lt, List, [], ◌∷◌, Option, Some, None, length, slice_index, if◌then◌else◌}
 use Rattle.kms_model.specs.declared.objects.Format.{Format}
 use Rattle.kms_model.specs.declared.objects.Format.TheVariants.{Xr24, Ar24, Rg16}
 use Rattle.kms_model.specs.declared.pictures.Colour.{Colour}
 use Rattle.kms_model.specs.declared.pictures.Layer.{Layer}
-use Rattle.kms_model.specs.Frames.FrameBytes.{black, blended, channels, colour_of, mixed}
+use Rattle.kms_model.specs.Frames.FrameBytes.{black, blended, channels, colour_of, mixed, through}
+use Rattle.kms_model.specs.Frames.Rectangles.{fits_source}
+use Rattle.kms_model.specs.Device.States.{natural}
+use Rattle.kms_model.specs.declared.objects.Gamma.{Gamma}
+use Rattle.kms_model.specs.declared.pictures.Rect.{Rect}
 use Rattle.kms_model.specs.declared.stores.Image.{Image}
+use Rattle.kms_compose.specs.declared.parts.Columns.{Columns}
+use Rattle.kms_compose.specs.declared.parts.Columns.TheVariants.{From, At}
 use Rattle.kms_compose.specs.declared.parts.Part.{Part}
-use Rattle.kms_compose.specs.declared.parts.Stretch.{Stretch}
+use Rattle.kms_compose.specs.declared.sources.Reach.{Reach}
+use Rattle.kms_compose.specs.Sources.{IsSeen, place_at}
 
 -- from a place on, so many
 abbrev pub is_within : ℕ → ℕ → ℕ → Bool
@@ -17,9 +24,14 @@ is_within start size at = nat_le start at && nat_lt at (start + size)
 abbrev pub run_colour : Format → List ℕ → ℕ → ℕ → Option Colour
 run_colour format words left x = if is_within left (length words) x then Some (colour_of format (slice_index words (x - left))) else None
 
+-- the column of the image that a pixel of a part shows, by its place from the left
+abbrev pub column_at : Columns → ℕ → ℕ
+column_at (From first) k = first + k
+column_at (At columns) k = slice_index columns.items k
+
 -- the words of a part on a row
 abbrev pub part_word : Part → ℕ → ℕ → ℕ
-part_word p x y = slice_index p.words.now (p.first + (y - p.top) * p.stride + (x - p.left))
+part_word p x y = slice_index p.words.now (place_at p.rows y * p.stride + column_at p.columns (x - p.left))
 
 -- the colour of a part at a pixel
 abbrev pub part_colour : Part → ℕ → ℕ → Option Colour
@@ -30,32 +42,70 @@ abbrev pub seen_colour : Option Part → ℕ → ℕ → Option Colour
 seen_colour None x y = None
 seen_colour (Some p) x y = part_colour p x y
 
--- the colour at a place of a row of a part, whose words on that row these are
+-- the colour at a place of a row of a part, of whose image this is the row that it shows there
 abbrev pub on_row : Part → Option (List ℕ) → ℕ → Option Colour
 on_row p None x = None
-on_row p (Some words) x = run_colour p.layer.fb.format words p.left x
+on_row p (Some row) x = if is_within p.left p.width x then Some (colour_of p.layer.fb.format (slice_index row (column_at p.columns (x - p.left)))) else None
 
--- what is visible along both axes of an image, as a part
-abbrev pub part : Layer → Stretch → Stretch → Image → Part
-part l columns rows image = record {
-  layer = l;
-  left = columns.start;
-  top = rows.start;
-  width = columns.size;
-  height = rows.size;
-  first = rows.source * image.width + columns.source;
-  stride = image.width;
-  words = image.words;
-}
+-- what a layer shows from left to right, and from top to bottom
+abbrev pub across : Layer → Reach
+across l = record { src = l.src.x; long = l.src.w; dst = l.dst.x; wide = l.dst.w }
 
--- each row of a part is within its words
-abbrev pub HasRows : Part → Type 0
-HasRows p = (r : ℕ) → r < p.height → p.first + r * p.stride + p.width ≤ length p.words.now
+abbrev pub down : Layer → Reach
+down l = record { src = l.src.y; long = l.src.h; dst = l.dst.y; wide = l.dst.h }
+
+-- this is visible of a layer: some pixels of its destination
+pub record IsVisible (l : Layer) (visible : Rect) : Type 0 where
+  pub left : pos 0 ≤ℤ visible.x
+  pub top : pos 0 ≤ℤ visible.y
+  pub wide : pos 0 <ℤ visible.w
+  pub high : pos 0 <ℤ visible.h
+  pub columns : IsSeen (across l) (natural visible.x) (natural visible.w)
+  pub rows : IsSeen (down l) (natural visible.y) (natural visible.h)
+
+-- an image with a word for each pixel, in which a layer's source ends
+pub record IsImageFor (l : Layer) (image : Image) : Type 0 where
+  pub words : length image.words.now ≡ image.width * image.height
+  pub fits : fits_source l.src image.width image.height ≡ true
+
+-- so many columns are told
+abbrev pub HasCount : Columns → ℕ → Type 0
+HasCount (From first) count = ⊤
+HasCount (At columns) count = length columns.items ≡ count
+
+-- so many columns, each of an image of this width
+abbrev pub AreColumns : Columns → ℕ → ℕ → Type 0
+AreColumns (From first) count width = first + count ≤ width
+AreColumns (At columns) count width = (length columns.items ≡ count) × All (λ column. column < width) columns.items
+
+-- the columns of a part are some of its image, one for each pixel of a row
+abbrev pub HasColumns : Part → Type 0
+HasColumns p = AreColumns p.columns p.width p.stride
+
+-- each row of the image that a part shows is within the image's words
+pub record HasRows (p : Part) : Type 0 where
+  pub seen : IsSeen p.rows p.top p.height
+  pub within : (y : ℕ) → is_within p.top p.height y ≡ true → place_at p.rows y * p.stride + p.stride ≤ length p.words.now
+
+-- the part of an image that a layer shows, of which this is visible
+pub record IsCut (l : Layer) (visible : Rect) (image : Image) (p : Part) : Type 0 where
+  pub layer : p.layer ≡ l
+  pub left : p.left ≡ natural visible.x
+  pub top : p.top ≡ natural visible.y
+  pub width : p.width ≡ natural visible.w
+  pub height : p.height ≡ natural visible.h
+  pub columns : (k : ℕ) → k < p.width → column_at p.columns k ≡ place_at (across l) (p.left + k)
+  pub rows : p.rows ≡ down l
+  pub stride : p.stride ≡ image.width
+  pub words : p.words.now ≡ image.words.now
+  pub has_columns : HasColumns p
+  pub has_rows : HasRows p
 
 -- a part of a mode of this width
 pub record IsPart (width : ℕ) (p : Part) : Type 0 where
   pub within : p.left + p.width ≤ width
   pub words : HasRows p
+  pub columns : HasColumns p
   pub alpha : p.layer.alpha ≤ 65535
   pub blend : p.layer.blend ≤ 2
 
@@ -64,9 +114,9 @@ abbrev pub parts_over : ℕ → ℕ → Colour → List Part → Colour
 parts_over x y under [] = under
 parts_over x y under (p ∷ ps) = parts_over x y (mixed p.layer under (part_colour p x y)) ps
 
--- the bytes of a pixel of the parts over black
-abbrev pub part_pixel : List Part → ℕ → ℕ → List ℕ
-part_pixel parts y x = channels (parts_over x y black parts)
+-- the bytes of a pixel of the parts over black, through a table of colour values
+abbrev pub part_pixel : Option Gamma → List Part → ℕ → ℕ → List ℕ
+part_pixel gamma parts y x = channels (through gamma (parts_over x y black parts))
 
 -- the part, if there is one
 abbrev pub listed : Option Part → List Part

@@ -10,7 +10,8 @@ ghost use Rattle.kms_compose.specs.Parts.{IsPart, listed, part_pixel, parts_over
 use crate::images::{FbImage, Images};
 use crate::parts::{Part, part_of};
 use crate::rows::{interleave, make_row};
-use kms_model::{NoMemory, Picture, Seq, Shown};
+use crate::tables::through_gamma;
+use kms_model::{Gamma, NoMemory, Picture, Seq, Shown};
 use std::alloc::Global;
 
 /// The bytes of a frame: red, green and blue of each pixel, row by row; none where the CRTC is off.
@@ -19,10 +20,12 @@ pub type Frame = Seq<u8>;
 /// Makes the frame of a picture over the images of its framebuffers. (Kernel: "Plane Composition Properties".)
 ///
 /// Each layer is as a check of the state lets it through: its alpha is from 0 to 65535 and its blend mode from 0 to 2,
-/// its source begins and ends in its framebuffer and is as large as its destination, and what is visible of it is the
-/// destination clipped to the mode. Each layer's framebuffer has an image in its size, with a word for each pixel.
+/// its source begins and ends in its framebuffer and has sizes from 0 to 4294967295, its destination has sizes from 0 to
+/// 2147483647, neither is more than four times as wide or high as the other, and what is visible of it is the destination
+/// clipped to the mode. Each layer's framebuffer has an image in its size, with a word for each pixel.
 ///
-/// The only error is want of memory. The frame's memory is taken at once, and besides it a few rows.
+/// The only error is want of memory. The frame's memory is taken at once, and besides it a few rows, and for each scaled
+/// layer one.
 pub fn frame(alloc: Global, picture: &Picture, images: &Images) -> Result<Frame, NoMemory>
     requires { CanShow images.now picture.now }
     ensures exact { IfOk result (λ bytes. bytes ≡ frame_of (word_under images.now) picture.now) }
@@ -42,10 +45,10 @@ fn shown_bytes(alloc: Global, shown: &Shown, images: &[FbImage]) -> Result<Frame
     requires { All (IsShowable shown.now.mode images.now) shown.now.layers }
     ensures { IfOk result (λ bytes. bytes ≡ frame_of (word_under images.now) (On shown.now)) }
 {
-    let parts = parts_of(alloc, shown, images)?;
     let width = usize::from(shown.mode.hdisplay);
     let height = usize::from(shown.mode.vdisplay);
-    let bytes = parts_bytes(alloc, &parts, width, height)?;
+    let parts = parts_of(alloc, shown, images)?;
+    let bytes = parts_bytes(alloc, &parts, &shown.gamma, width, height)?;
     Ok(Seq::from_vec(bytes))
 }
 
@@ -55,7 +58,9 @@ fn parts_of<'a>(
     shown: &Shown,
     images: &[FbImage<'a>],
 ) -> Result<Vec<Part<'a>>, NoMemory>
-    requires { All (IsShowable shown.now.mode images.now) shown.now.layers }
+    requires layers { All (IsShowable shown.now.mode images.now) shown.now.layers }
+    requires narrow { shown.now.mode.hdisplay < 65536 }
+    requires low { shown.now.mode.vdisplay < 65536 }
     ensures parts { IfOk result (λ parts. All (IsPart shown.now.mode.hdisplay) parts.items) }
     ensures colours { IfOk result (λ parts. (x y : ℕ)
         → parts_over x y black parts.items
@@ -63,7 +68,7 @@ fn parts_of<'a>(
 {
     let mut parts = Vec::new(alloc);
     for layer in shown.layers.as_slice() {
-        push_part(&mut parts, part_of(layer, images))?;
+        push_part(&mut parts, part_of(alloc, layer, images)?)?;
     }
     Ok(parts)
 }
@@ -78,10 +83,11 @@ fn push_part<'a>(parts: &mut Vec<Part<'a>>, part: Option<Part<'a>>) -> Result<()
     Ok(())
 }
 
-/// The bytes of parts over black, in a mode of this size.
+/// The bytes of parts over black, through a table of colour values if there is one, in a mode of this size.
 fn parts_bytes(
     alloc: Global,
     parts: &[Part],
+    gamma: &Option<Gamma>,
     width: usize,
     height: usize,
 ) -> Result<Vec<u8>, NoMemory>
@@ -89,19 +95,22 @@ fn parts_bytes(
     requires narrow { width < 65536 }
     requires low { height < 65536 }
     ensures { IfOk result (λ bytes. bytes.items
-        ≡ flat_map (λ y. flat_map (part_pixel parts.now y) (range_with_len 0 width))
+        ≡ flat_map (λ y. flat_map (part_pixel gamma.now parts.now y) (range_with_len 0 width))
         (range_with_len 0 height)) }
 {
     let mut bytes = Vec::with_capacity(alloc, 3 * width * height)?;
+    let mut words = vec![in alloc; 0u32; width]?;
     let mut channels = vec![in alloc; 0u8; 5 * width]?;
     let mut pixels = vec![in alloc; 0u8; 3 * width]?;
     let (alpha, rest) = channels.split_at_mut(width);
     let (own, rest) = rest.split_at_mut(width);
     let (red, rest) = rest.split_at_mut(width);
     let (green, blue) = rest.split_at_mut(width);
+    let words = words.as_mut_slice();
     let pixels = pixels.as_mut_slice();
     for y in 0..height {
-        make_row(parts, y, alpha, own, red, green, blue);
+        make_row(parts, y, words, alpha, own, red, green, blue);
+        through_gamma(gamma, red, green, blue);
         interleave(red, green, blue, pixels);
         bytes.extend_from_slice(pixels)?;
     }

@@ -1,107 +1,147 @@
 //! The visible parts of layers.
-ghost use Rattle.std.specs.Prelude.{◌≡◌, ◌<◌, ◌≤◌, ◌+◌, ◌*◌, ◌+ℤ◌, ◌-ℤ◌, ◌≤ℤ◌, ℕ, pos, int_div, length, IfSome, option_copied};
+ghost use Rattle.std.specs.Prelude.{◌≡◌, ◌<◌, ◌+◌, ℕ, length, IfOk, IfSome, option_copied};
 ghost use Rattle.kms_model.specs.declared.objects.Mode.{Mode};
 ghost use Rattle.kms_model.specs.Frames.FrameBytes.{layer_colour};
 ghost use Rattle.kms_model.specs.Frames.Images.{FitsMode};
 ghost use Rattle.kms_compose.specs.Images.{IsShown, word_under};
-ghost use Rattle.kms_compose.specs.Parts.{HasRows, IsPart, on_row, part, part_colour, seen_colour};
+ghost use Rattle.kms_compose.specs.Parts.{HasColumns, HasCount, HasRows, IsCut, IsImageFor, IsPart, IsVisible, across, column_at, down, on_row, part_colour, seen_colour};
+ghost use Rattle.kms_compose.specs.Sources.{IsSeen, place_at};
 
 use crate::images::{FbImage, image_of};
-use kms_model::{Image, Layer};
+use crate::sources::{Reach, is_unscaled, natural, place_at, places};
+use kms_model::{Image, Layer, NoMemory, Rect};
+use std::alloc::Global;
 
-/// The visible part of a layer, in pixels of the mode, with the words that it shows.
-#[derive(Clone, Copy)]
+/// The columns of an image that a part shows.
+#[derive(Drop)]
+pub enum Columns {
+    /// One beside the other, from this one on.
+    From(usize),
+    /// These, one for each pixel of a row of the part.
+    At(Vec<usize>),
+}
+
+/// The visible part of a layer, in pixels of the mode, with the words of its image.
+#[derive(Drop)]
 pub struct Part<'a> {
     pub layer: Layer,
     pub left: usize,
     pub top: usize,
     pub width: usize,
     pub height: usize,
-    // The place of the word that is shown at the upper left corner, and how many words a row of the image has.
-    pub first: usize,
+    pub columns: Columns,
+    // Which row of the image each of its rows shows, and how many words a row of the image has.
+    pub rows: Reach,
     pub stride: usize,
     pub words: &'a [u32],
 }
 
-/// What is visible of a layer along one axis: from which pixel of the mode on, how many pixels, and which pixel of the
-/// framebuffer is shown first.
-#[derive(Clone, Copy)]
-pub struct Stretch {
-    pub start: usize,
-    pub size: usize,
-    pub source: usize,
+/// What a layer shows from left to right.
+fn across(layer: &Layer) -> Reach
+    ensures { result ≡ across layer.now }
+{
+    Reach {
+        src: layer.src.x,
+        long: layer.src.w,
+        dst: layer.dst.x,
+        wide: layer.dst.w,
+    }
+}
+
+/// What a layer shows from top to bottom.
+fn down(layer: &Layer) -> Reach
+    ensures { result ≡ down layer.now }
+{
+    Reach {
+        src: layer.src.y,
+        long: layer.src.h,
+        dst: layer.dst.y,
+        wide: layer.dst.h,
+    }
+}
+
+/// The columns that so many pixels of the mode from `left` on show. Those of a scaled layer are found here, once for all
+/// rows.
+fn columns_of(alloc: Global, reach: &Reach, left: usize, width: usize) -> Result<Columns, NoMemory>
+    requires seen { IsSeen reach.now left width }
+    requires some { 0 < width }
+    ensures count { IfOk result (λ columns. HasCount columns width) }
+    ensures places { IfOk result (λ columns. (k : ℕ) → k < width
+        → column_at columns k ≡ place_at reach.now (left + k)) }
+{
+    if is_unscaled(reach) {
+        Ok(Columns::From(place_at(reach, left)))
+    } else {
+        Ok(Columns::At(places(alloc, reach, left, width)?))
+    }
 }
 
 /// The visible part of a layer; none where nothing of it is visible.
-pub fn part_of<'a>(layer: &Layer, images: &[FbImage<'a>]) -> Option<Part<'a>>
+pub fn part_of<'a>(
+    alloc: Global,
+    layer: &Layer,
+    images: &[FbImage<'a>],
+) -> Result<Option<Part<'a>>, NoMemory>
     requires { IsShown images.now layer.now }
-    ensures colours { (x y : ℕ)
-        → layer_colour (word_under images.now) x y layer.now ≡ seen_colour result x y }
-    ensures layer { IfSome result (λ p. p.layer ≡ layer.now) }
-    ensures within { (m : Mode) → FitsMode m layer.now → IfSome result (IsPart m.hdisplay) }
+    ensures colours { IfOk result (λ part. (x y : ℕ)
+        → layer_colour (word_under images.now) x y layer.now ≡ seen_colour part x y) }
+    ensures layer { IfOk result (λ part. IfSome part (λ p. p.layer ≡ layer.now)) }
+    ensures within { (m : Mode) → FitsMode m layer.now
+        → IfOk result (λ part. IfSome part (IsPart m.hdisplay)) }
 {
-    let visible = layer.visible?;
-    let image = image_of(images, layer.fb.id)?;
-    let columns = stretch_of(layer.src.x, layer.dst.x, visible.x, visible.w);
-    let rows = stretch_of(layer.src.y, layer.dst.y, visible.y, visible.h);
-    Some(cut(layer, columns, rows, image))
+    let Some(visible) = layer.visible else {
+        return Ok(None);
+    };
+    let Some(image) = image_of(images, layer.fb.id) else {
+        return Ok(None);
+    };
+    Ok(Some(cut(alloc, layer, &visible, image)?))
 }
 
-/// The part of an image that a layer shows, of what is visible along both axes.
-fn cut<'a>(layer: &Layer, columns: Stretch, rows: Stretch, image: Image<'a>) -> Part<'a>
-    requires columns { columns.source + columns.size ≤ image.width }
-    requires rows { rows.source + rows.size ≤ image.height }
-    requires some { 0 < rows.size }
-    requires words { length image.words.now ≡ image.width * image.height }
-    ensures exact { result ≡ part layer.now columns rows image.entry }
-    ensures words { HasRows result }
+/// The part of an image that a layer shows, of which this is visible.
+fn cut<'a>(
+    alloc: Global,
+    layer: &Layer,
+    visible: &Rect,
+    image: Image<'a>,
+) -> Result<Part<'a>, NoMemory>
+    requires visible { IsVisible layer.now visible.now }
+    requires image { IsImageFor layer.now image }
+    ensures { IfOk result (λ p. IsCut layer.now visible.now image.entry p) }
 {
-    let stride = image.width as usize;
-    Part {
+    let left = natural(visible.x);
+    let width = natural(visible.w);
+    let top = natural(visible.y);
+    let height = natural(visible.h);
+    let columns = columns_of(alloc, &across(layer), left, width)?;
+    Ok(Part {
         layer: *layer,
-        left: columns.start,
-        top: rows.start,
-        width: columns.size,
-        height: rows.size,
-        first: rows.source * stride + columns.source,
-        stride,
+        left,
+        top,
+        width,
+        height,
+        columns,
+        rows: down(layer),
+        stride: image.width as usize,
         words: image.words,
-    }
+    })
 }
 
-/// What is visible along an axis, of which so many pixels from `start` on are visible: `src` is where the source
-/// begins, in 16.16 fixed point, and `dst` where the destination begins.
-fn stretch_of(src: i64, dst: i64, start: i64, size: i64) -> Stretch
-    requires src { pos 0 ≤ℤ src }
-    requires dst { dst ≤ℤ start }
-    requires start { pos 0 ≤ℤ start }
-    requires size { pos 0 ≤ℤ size }
-    requires source { (int_div src (pos 65536) +ℤ (start -ℤ dst)) ≤ℤ pos 4294967295 }
-    ensures start { pos result.start ≡ start }
-    ensures size { pos result.size ≡ size }
-    ensures source { pos result.source ≡ int_div src (pos 65536) +ℤ (start -ℤ dst) }
-{
-    Stretch {
-        start: start as usize,
-        size: size as usize,
-        source: (src / 65536 + (start - dst)) as usize,
-    }
-}
-
-/// The words that a part shows on a row; none where the row is above or below it.
-pub fn words_on<'a>(part: &Part<'a>, y: usize) -> Option<&'a [u32]>
-    requires { HasRows part.now }
+/// The words of the row of its image that a part shows on a row of the mode; none where the row is above or below the part.
+/// Which row of the image it is, is found here, once for the row.
+pub fn row_on<'a>(part: &Part<'a>, y: usize) -> Option<&'a [u32]>
+    requires rows { HasRows part.now }
+    requires columns { HasColumns part.now }
     ensures colours { (x : ℕ)
         → part_colour part.now x y ≡ on_row part.now (option_copied result) x }
-    ensures width { IfSome result (λ words. length words.now ≡ part.now.width) }
+    ensures width { IfSome result (λ words. length words.now ≡ part.now.stride) }
 {
     if y < part.top {
         return None;
     }
-    let below = y - part.top;
-    if below >= part.height {
+    if y - part.top >= part.height {
         return None;
     }
-    let start = part.first + below * part.stride;
-    Some(&part.words[start..start + part.width])
+    let start = place_at(&part.rows, y) * part.stride;
+    Some(&part.words[start..start + part.stride])
 }

@@ -5,7 +5,7 @@ ghost use Rattle.kms_model.specs.Frames.FrameBytes.{black, channels, colour_of, 
 ghost use Rattle.kms_compose.specs.Parts.{IsPart, channel_over, colour_at, has_alpha, is_opaque, part_colour, parts_over, run_colour};
 
 use crate::channels::{Alpha, Blue, Channel, Green, Red, unpack};
-use crate::parts::{Part, words_on};
+use crate::parts::{Columns, Part, row_on};
 use kms_blend::blend_row;
 use kms_model::{Format, Layer};
 
@@ -67,10 +67,22 @@ fn read_alpha(layer: &Layer, words: &[u32], alpha: &mut [u8])
     }
 }
 
-/// Puts a part on a row, given by its channels. `alpha` and `own` are room for as many numbers.
-fn put_part(
+/// Reads the words at some columns of a row of an image.
+fn gather(row: &[u32], columns: &[usize], out: &mut [u32])
+    requires columns { All (λ column. column < length row.now) columns.now }
+    requires out { length columns.now ≡ length out.old }
+    ensures { EachIndex out.new (λ k.
+        slice_index out.new k ≡ slice_index row.now (slice_index columns.now k)) }
+{
+    for (i, word) in out.iter_mut().enumerate() {
+        *word = row[columns[i]];
+    }
+}
+
+/// Puts the words that a part shows on a row, given by its channels. `alpha` and `own` are room for as many numbers.
+fn put_words(
     part: &Part,
-    y: usize,
+    words: &[u32],
     alpha: &mut [u8],
     own: &mut [u8],
     red: &mut [u8],
@@ -78,16 +90,15 @@ fn put_part(
     blue: &mut [u8],
 )
     requires part { IsPart (length red.old) part.now }
+    requires words { length words.now ≡ part.now.width }
     requires alpha { length alpha.old ≡ length red.old }
     requires own { length own.old ≡ length red.old }
     requires green { length green.old ≡ length red.old }
     requires blue { length blue.old ≡ length red.old }
     ensures { (x : ℕ) → x < length red.old → colour_at red.new green.new blue.new x
-        ≡ mixed part.now.layer (colour_at red.old green.old blue.old x) (part_colour part.now x y) }
+        ≡ mixed part.now.layer (colour_at red.old green.old blue.old x)
+        (run_colour part.now.layer.fb.format words.now part.now.left x) }
 {
-    let Some(words) = words_on(part, y) else {
-        return;
-    };
     let layer = &part.layer;
     let alpha = &mut alpha[..words.len()];
     let own = &mut own[..words.len()];
@@ -97,10 +108,47 @@ fn put_part(
     put_channel::<Blue>(layer, words, part.left, alpha, own, blue);
 }
 
-/// Makes a row of the parts over black, by its channels. `alpha` and `own` are room for as many numbers.
+/// Puts a part on a row, given by its channels. `shown`, `alpha` and `own` are room for as many numbers.
+fn put_part(
+    part: &Part,
+    y: usize,
+    shown: &mut [u32],
+    alpha: &mut [u8],
+    own: &mut [u8],
+    red: &mut [u8],
+    green: &mut [u8],
+    blue: &mut [u8],
+)
+    requires part { IsPart (length red.old) part.now }
+    requires shown { length shown.old ≡ length red.old }
+    requires alpha { length alpha.old ≡ length red.old }
+    requires own { length own.old ≡ length red.old }
+    requires green { length green.old ≡ length red.old }
+    requires blue { length blue.old ≡ length red.old }
+    ensures { (x : ℕ) → x < length red.old → colour_at red.new green.new blue.new x
+        ≡ mixed part.now.layer (colour_at red.old green.old blue.old x) (part_colour part.now x y) }
+{
+    let Some(row) = row_on(part, y) else {
+        return;
+    };
+    match &part.columns {
+        Columns::From(first) => {
+            let words = &row[*first..*first + part.width];
+            put_words(part, words, alpha, own, red, green, blue);
+        }
+        Columns::At(columns) => {
+            let words = &mut shown[..part.width];
+            gather(row, columns.as_slice(), words);
+            put_words(part, words, alpha, own, red, green, blue);
+        }
+    }
+}
+
+/// Makes a row of the parts over black, by its channels. `shown`, `alpha` and `own` are room for as many numbers.
 pub fn make_row(
     parts: &[Part],
     y: usize,
+    shown: &mut [u32],
     alpha: &mut [u8],
     own: &mut [u8],
     red: &mut [u8],
@@ -108,6 +156,7 @@ pub fn make_row(
     blue: &mut [u8],
 )
     requires parts { All (IsPart (length red.old)) parts.now }
+    requires shown { length shown.old ≡ length red.old }
     requires alpha { length alpha.old ≡ length red.old }
     requires own { length own.old ≡ length red.old }
     requires green { length green.old ≡ length red.old }
@@ -119,7 +168,7 @@ pub fn make_row(
     green.fill(0);
     blue.fill(0);
     for part in parts {
-        put_part(part, y, alpha, own, red, green, blue);
+        put_part(part, y, shown, alpha, own, red, green, blue);
     }
 }
 

@@ -30,6 +30,8 @@ struct Plane<'a> {
     ghost filled: { length words.now ≡ fb_width * fb_height },
     ghost across: { column + w ≤ fb_width },
     ghost down: { line + h ≤ fb_height },
+    ghost narrow: { w ≤ 65535 },
+    ghost low: { h ≤ 65535 },
     ghost near_x: { IsNear x },
     ghost near_y: { IsNear y },
     ghost is_alpha: { alpha ≤ 65535 },
@@ -144,6 +146,7 @@ fn two_planes(
     let picture = Picture::On(Shown {
         mode,
         conn: ObjId::of(Kind::Conn, 0).0,
+        gamma: None,
         layers,
     });
     let frame = frame(alloc, &picture, &images)?;
@@ -155,6 +158,7 @@ fn no_plane_shows_black(rt: HostRuntime) -> Result<(), Fail> {
     let picture = Picture::On(Shown {
         mode: mode(2, 1),
         conn: ObjId::of(Kind::Conn, 0).0,
+        gamma: None,
         layers: Layers::new(),
     });
     let frame = frame(rt.alloc(), &picture, &Seq::new(rt.alloc()))?;
@@ -347,6 +351,7 @@ fn the_largest_mode_has_50331648_bytes(rt: HostRuntime) -> Result<(), Fail> {
     let picture = Picture::On(Shown {
         mode: mode(4096, 4096),
         conn: ObjId::of(Kind::Conn, 0).0,
+        gamma: None,
         layers: Layers::new(),
     });
     let frame = frame(rt.alloc(), &picture, &Seq::new(rt.alloc()))?;

@@ -19,7 +19,7 @@ use Rattle.kms_core.specs.Decisions.{Decides}
 use Rattle.kms_logs.specs.Logs.{Logged}
 use Rattle.kms_core.specs.Run.{Run, machine}
 use Rattle.kms_core.specs.Stands.{Stores, StandsAt, Stands, entry_pair}
-use Rattle.kms_core.proofs.Histories.{goes_same}
+use Rattle.kms_core.proofs.Histories.{goes_same, told_anew}
 
 taking_is : (d : Doing) → is_taking d ≡ true → IsTaking d
 taking_is doing.Idle e = absurd cc
@@ -75,22 +75,12 @@ decided_stands r v st client command place step reply clients replies more befor
     let recorded = stands.stores.recorded in
     let at_command : command ≡ (place_at m client).command = command_is ∙ ap (λ (p : Place). p.command) (stands.stores.clients.places client decides.number) in
     let at_place : place ≡ length m.records.journal = place_is ∙ accepted_count m.records st.journal.items recorded.accepted in
-    let after : StandsAt r.script (decided m client reply) (record st { clients = clients; replies = more }) = record {
-      clients = now;
-      recorded = record {
-        accepted = recorded.accepted;
-        answered = answered_more m client command place reply replies.items more.items at_command at_place (replies_are ∙ recorded.answered) replies_more;
-        latched = recorded.latched;
-      };
-      world = stands.stores.world;
-      fences = stands.stores.fences;
-      fenced = stands.stores.fenced;
-      out_fenced = stands.stores.out_fenced;
-      queues = stands.stores.queues;
-      tracker = stands.stores.tracker;
-      tails = stands.stores.tails;
-      registers = stands.stores.registers;
-      going = stands.stores.going;
-      ended = stands.stores.ended;
-    } in
+    let after : StandsAt r.script (decided m client reply) (record st { clients = clients; replies = more }) =
+    told_anew r.script m st (decided m client reply).contexts (decided m client reply).records.replies m.stalled clients more st.latches st.freed st.stalled now
+    (record {
+      accepted = recorded.accepted;
+      answered = answered_more m client command place reply replies.items more.items at_command at_place (replies_are ∙ recorded.answered) replies_more;
+      latched = recorded.latched;
+    })
+    stands.stores.ended stands.stores in
     goes_same r st (record st { clients = clients; replies = more }) step (rw decides.does (record { world = refl; commits = refl; cleaned = refl; live = refl })) refl steps (steps_more ∙ ap (λ (xs : List Step). xs ++ step ∷ []) steps_are) stands decides.legal (rw decides.does after)

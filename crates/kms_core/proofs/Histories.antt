@@ -1,16 +1,27 @@
 -- A history that goes on by a step.
-use Rattle.std.proofs.Common.{◌≡◌, ℕ, true, false, List, [], ◌∷◌, ◌++◌, refl, ap, ◌∙◌, arith}
+use Rattle.std.proofs.Common.{◌≡◌, ℕ, Bool, true, false, List, [], ◌∷◌, ◌++◌, refl, ap, ◌∙◌, arith}
 use Rattle.std.proofs.lemmas.Bool.{and_parts, and_from}
+use Rattle.kms_model.specs.declared.replies.Answered.{Answered}
 use Rattle.kms_model.specs.declared.replies.Step.{Step}
+use Rattle.kms_model.specs.declared.runs.Latch.{Latch}
 use Rattle.kms_model.specs.declared.scripts.Script.{Script}
 use Rattle.kms_model.specs.Machine.Effects.{next}
 use Rattle.kms_model.specs.Machine.Histories.{are_legal, at, is_history, legal, run_steps}
-use Rattle.kms_model.specs.Machine.State.{Machine, first_machine}
+use Rattle.kms_model.specs.Machine.Registers.{Registers}
+use Rattle.kms_model.specs.Machine.State.{Contexts, Machine, Marks, first_machine}
+use Rattle.kms_clients.specs.InStep.{AreClientsOf}
+use Rattle.kms_clients.specs.Standing.{Standing}
 use Rattle.kms_laws.proofs.Modes.{plain-from}
 use Rattle.kms_freeing.specs.Freeing.{AreFreed, may_free}
-use Rattle.kms_logs.specs.Logs.{Reserved}
+use Rattle.kms_logs.specs.Logs.{Logged, Reserved}
+use Rattle.kms_regs.specs.File.{RegisterFile, StandsFor}
+use Rattle.kms_signal.specs.Rooms.{Rooms}
+use Rattle.kms_tails.specs.declared.tail.Tail.{Tail}
+use Rattle.kms_tails.specs.InStep.{AreTailsOf}
+use Rattle.kms_track.specs.InStep.{IsTrackerOf}
+use Rattle.kms_track.specs.Tracking.{Tracking}
 use Rattle.kms_core.specs.Run.{Run, machine}
-use Rattle.kms_core.specs.Stands.{Stores, StandsAt, Stands}
+use Rattle.kms_core.specs.Stands.{AreRecords, Stores, StandsAt, Stands}
 use Rattle.kms_freeing.proofs.FreedHistories.{kind_freed, quiet_freed, quiet_needs}
 use Rattle.kms_freeing.proofs.FreedSteps.{SameNeeds}
 
@@ -62,11 +73,13 @@ goes_same r old new step needs same steps is stands is_legal after =
     (quiet_freed r.script r.steps step plain stands.history is_legal old.freed new.freed stands.freed (ap (λ (v : Reserved (ℕ × ℕ)). v.items) same)
     (let places = ap (λ (v : Reserved (ℕ × ℕ)). v.places) same in omega (arith, places)) (quiet_needs r.script r.steps step plain stands.history is_legal needs))
 
--- stores that stand do so with any framebuffers that were freed
-pub with_freed : (s : Script) (m : Machine) (st : Stores) (freed : Reserved (ℕ × ℕ)) → StandsAt s m st → StandsAt s m (record st { freed = freed })
-with_freed s m st freed stands = record {
-  clients = stands.clients;
-  recorded = stands.recorded;
+-- stores that stand do so where clients, answers, what was freed and the end are told anew, and latches have other memory
+pub told_anew : (s : Script) (m : Machine) (st : Stores) (contexts : Contexts) (replies : List Answered) (ended : Bool) (clients : Standing) (answers : Logged Answered) (shown : Logged Latch) (freed : Reserved (ℕ × ℕ)) (stalled : Bool)
+    → AreClientsOf contexts clients → AreRecords (record m.records { replies = replies }) st.journal.items answers.items shown.items → ended ≡ stalled → StandsAt s m st
+    → StandsAt s (record m { contexts = contexts; records = record m.records { replies = replies }; stalled = ended }) (record st { clients = clients; replies = answers; latches = shown; freed = freed; stalled = stalled })
+told_anew s m st contexts replies ended clients answers shown freed stalled in_step recorded is_ended stands = record {
+  clients = in_step;
+  recorded = recorded;
   world = stands.world;
   fences = stands.fences;
   fenced = stands.fenced;
@@ -76,6 +89,30 @@ with_freed s m st freed stands = record {
   tails = stands.tails;
   registers = stands.registers;
   going = stands.going;
+  ended = is_ended;
+}
+
+-- stores that stand do so with any framebuffers that were freed
+pub with_freed : (s : Script) (m : Machine) (st : Stores) (freed : Reserved (ℕ × ℕ)) → StandsAt s m st → StandsAt s m (record st { freed = freed })
+with_freed s m st freed stands =
+    told_anew s m st m.contexts m.records.replies m.stalled st.clients st.replies st.latches freed st.stalled stands.clients stands.recorded stands.ended stands
+
+-- and where marks, shadow words and what follows these are told anew
+pub written_anew : (s : Script) (m : Machine) (shadow : Registers) (marks : Marks) (st : Stores) (tracker : Tracking) (v : Rooms Tail) (new : RegisterFile) → StandsFor s.topology (record m.device { shadow = shadow; marks = marks }) new
+    → IsTrackerOf s.topology m.device.commits marks m.records.latches tracker → AreTailsOf s.topology m.device.commits marks m.records.latches v → StandsAt s m st
+    → StandsAt s (record m { device = record m.device { shadow = shadow; marks = marks } }) (record st { tracker = tracker; tails = v; registers = new })
+written_anew s m shadow marks st tracker v new written tracked kept stands = record {
+  clients = stands.clients;
+  recorded = stands.recorded;
+  world = stands.world;
+  fences = stands.fences;
+  fenced = stands.fenced;
+  out_fenced = stands.out_fenced;
+  queues = stands.queues;
+  tracker = tracked;
+  tails = kept;
+  registers = written;
+  going = record { size = stands.going.size; go = stands.going.go };
   ended = stands.ended;
 }
 

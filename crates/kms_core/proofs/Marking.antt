@@ -31,26 +31,14 @@ use Rattle.kms_core.specs.Run.{Run, machine}
 use Rattle.kms_core.specs.Stands.{Stores, Stands, StandsAt}
 use Rattle.kms_core.specs.Work.{AreFewTails, MayBeDone, MayCleanUp, TellsOver, is_over}
 use Rattle.kms_core.proofs.FreedCalls.{goes_cleaning, kept_places}
-use Rattle.kms_core.proofs.Histories.{goes_on}
+use Rattle.kms_core.proofs.Histories.{goes_on, written_anew}
+use Rattle.kms_core.proofs.Spared.{IsOwn, own_step}
 use Rattle.kms_laws.proofs.SmallNumbers.{numbers_fit}
 
 -- all stores stand with other marks
 pub stands_marked : (s : Script) (m : Machine) (marks : Marks) (st : Stores) (tracker : Tracking) (v : Rooms Tail) → IsTrackerOf s.topology m.device.commits marks m.records.latches tracker
     → AreTailsOf s.topology m.device.commits marks m.records.latches v → StandsAt s m st → StandsAt s (record m { device = record m.device { marks = marks } }) (record st { tracker = tracker; tails = v })
-stands_marked s m marks st tracker v tracked kept stands = record {
-  clients = stands.clients;
-  recorded = stands.recorded;
-  world = stands.world;
-  fences = stands.fences;
-  fenced = stands.fenced;
-  out_fenced = stands.out_fenced;
-  queues = stands.queues;
-  tracker = tracked;
-  tails = kept;
-  registers = stands.registers;
-  going = record { size = stands.going.size; go = stands.going.go };
-  ended = stands.ended;
-}
+stands_marked s m marks st tracker v tracked kept stands = written_anew s m m.device.shadow marks st tracker v st.registers stands.registers tracked kept stands
 
 -- a commit is claimed
 pub claims : (r : Run) (st : Stores) (k : ℕ) (tracker : Tracking) (v : Rooms Tail) (before steps : List Step) → Stands r st → legal r.script (machine r) (step.Claim k) ≡ true → before ≡ r.steps → steps ≡ before ++ step.Claim k ∷ []
@@ -115,6 +103,16 @@ pub over_told : (r v : Run) (st : Stores) (k : ℕ) → Stands r st → r ≡ v 
 over_told r v st k stands same asked over tells =
     tells r.script.topology (machine r).device (machine r).records.latches stands.formed.device (claimed_within r v st k stands same asked) (subst (λ (x : Run). MayCleanUp x k) (sym same) asked).kept stands.stores.tails
     ∙ ap (λ (x : Run). is_over x k) same
+
+-- where the tail tells so, the cleanup is a step of the commit's own
+pub record OwnsCleanup (r : Run) (k : ℕ) : Type 0 where
+  pub over : is_over r k ≡ true
+  pub own : IsOwn r (step.Cleanup k) k
+
+pub owns_cleanup : (r v : Run) (st : Stores) (k : ℕ) → Stands r st → r ≡ v → MayCleanUp v k → (over : Bool) → TellsOver st.tails k over → over ≡ true → OwnsCleanup r k
+owns_cleanup r v st k stands same asked over tells told =
+    let is = ap (λ (w : Run). is_over w k) same ∙ sym (over_told r v st k stands same asked over tells) ∙ told in
+    record { over = is; own = own_step r st (step.Cleanup k) k stands refl refl (cleanup_legal r k (subst (λ (w : Run). MayCleanUp w k) (sym same) asked) is) }
 
 -- What is freed
 

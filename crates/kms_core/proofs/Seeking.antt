@@ -1,5 +1,5 @@
 -- The first commit that may be claimed is found.
-use Rattle.std.proofs.Common.{◌≡◌, ℕ, zero, suc, ◌+◌, ◌<◌, ◌≤◌, Bool, true, false, List, length, Option, Some, None, inl, inr, ⊎_elim, refl, sym, ap, ◌∙◌, subst, arith}
+use Rattle.std.proofs.Common.{◌≡◌, ℕ, zero, suc, ◌+◌, ◌-◌, ◌<◌, ◌≤◌, Bool, true, false, List, length, Option, Some, None, inl, inr, ⊎_elim, refl, sym, ap, ◌∙◌, subst, arith}
 use Rattle.std.specs.Prelude.{find, not, nat_lt, ◌&&◌}
 use Rattle.std.specs.List.{range_with_len}
 use Rattle.std.proofs.lemmas.Bool.{cases_lt, false≢true}
@@ -72,6 +72,14 @@ goes_up v from k few first =
     let within = found.1 in
     let bound = few.few in
     record { up = up; fits = omega (arith, within, bound) }
+
+-- so less is left to seek above it
+pub less_left : (v : Rooms Tail) (from k : ℕ) → AreFewTails v → tails.FindsFirst v from (Some k) → 4294967296 - (k + 1) < 4294967296 - from
+less_left v from k few first =
+    let up = goes_up v from k few first in
+    let low = up.up in
+    let fits = up.fits in
+    omega (arith, low, fits)
 
 -- What is found is the answer
 

@@ -24,7 +24,7 @@ use Rattle.kms_logs.specs.Logs.{Logged}
 use Rattle.kms_core.specs.Run.{Run, machine}
 use Rattle.kms_core.specs.Stands.{HasSpare, Holds, Stands, Stores}
 use Rattle.kms_core.proofs.CommitStates.{facts}
-use Rattle.kms_core.proofs.Histories.{legal_last, run_more}
+use Rattle.kms_core.proofs.Histories.{legal_last, run_more, told_anew}
 
 -- Each commit that has steps left has a tail
 
@@ -140,20 +140,8 @@ pub with_latches : (r : Run) (st : Stores) (shown : Logged Latch) → Stands r s
 with_latches r st shown stands is = record {
   formed = stands.formed;
   history = stands.history;
-  stores = record {
-    clients = stands.stores.clients;
-    recorded = record { accepted = stands.stores.recorded.accepted; answered = stands.stores.recorded.answered; latched = is ∙ stands.stores.recorded.latched };
-    world = stands.stores.world;
-    fences = stands.stores.fences;
-    fenced = stands.stores.fenced;
-    out_fenced = stands.stores.out_fenced;
-    queues = stands.stores.queues;
-    tracker = stands.stores.tracker;
-    tails = stands.stores.tails;
-    registers = stands.stores.registers;
-    going = stands.stores.going;
-    ended = stands.stores.ended;
-  };
+  stores = told_anew r.script (machine r) st (machine r).contexts (machine r).records.replies (machine r).stalled st.clients st.replies shown st.freed st.stalled stands.stores.clients
+      (record { accepted = stands.stores.recorded.accepted; answered = stands.stores.recorded.answered; latched = is ∙ stands.stores.recorded.latched }) stands.stores.ended stands.stores;
   freed = stands.freed;
 }
 

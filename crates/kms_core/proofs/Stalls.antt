@@ -12,7 +12,7 @@ use Rattle.kms_tails.specs.InStep as tails
 use Rattle.kms_core.specs.Run.{Run, machine}
 use Rattle.kms_core.specs.Stands.{Stores, Stands}
 use Rattle.kms_core.proofs.CommitStates.{facts}
-use Rattle.kms_core.proofs.Histories.{goes_on}
+use Rattle.kms_core.proofs.Histories.{goes_on, told_anew}
 use Rattle.kms_core.proofs.FirstTails.{nothing_found, nothing_further, something_found}
 
 -- the history is ended
@@ -20,20 +20,7 @@ pub stalls : (r v : Run) (st : Stores) (before steps : List Step) → Stands r s
 unfolding next
 stalls r v st before steps stands same asked is more =
     goes_on r st (record st { stalled = true }) step.Stall refl refl steps (more ∙ ap (λ (xs : List Step). xs ++ step.Stall ∷ []) is) stands (subst (λ (w : Run). legal w.script (machine w) step.Stall ≡ true) (sym same) asked)
-    (record {
-      clients = stands.stores.clients;
-      recorded = stands.stores.recorded;
-      world = stands.stores.world;
-      fences = stands.stores.fences;
-      fenced = stands.stores.fenced;
-      out_fenced = stands.stores.out_fenced;
-      queues = stands.stores.queues;
-      tracker = stands.stores.tracker;
-      tails = stands.stores.tails;
-      registers = stands.stores.registers;
-      going = stands.stores.going;
-      ended = refl;
-    })
+    (told_anew r.script (machine r) st (machine r).contexts (machine r).records.replies true st.clients st.replies st.latches st.freed true stands.stores.clients stands.stores.recorded refl stands.stores)
 
 -- Commits
 

@@ -9,7 +9,6 @@ use Rattle.kms_model.specs.declared.objects.Topology.{Topology}
 use Rattle.kms_model.specs.declared.replies.Step.{Step}
 use Rattle.kms_model.specs.declared.replies.Step.TheVariants as step
 use Rattle.kms_model.specs.declared.runs.Latch.{Latch}
-use Rattle.kms_model.specs.declared.scripts.Script.{Script}
 use Rattle.kms_model.specs.declared.states.Both.{Both}
 use Rattle.kms_model.specs.declared.states.CrtcState.{CrtcState}
 use Rattle.kms_model.specs.declared.states.PlaneState.{PlaneState}
@@ -19,8 +18,8 @@ use Rattle.kms_model.specs.Device.States.{connector_on}
 use Rattle.kms_model.specs.Machine.Commits.{commit_at, has_number, is_claimed, new_connector, new_crtc, new_plane, old_plane, old_values, new_values, registered}
 use Rattle.kms_model.specs.Machine.Effects.{next, written_registers}
 use Rattle.kms_model.specs.Machine.Histories.{legal}
-use Rattle.kms_model.specs.Machine.Registers.{Registers, crtc_register, crtc_words, plane_register, plane_words}
-use Rattle.kms_model.specs.Machine.State.{Commit, DeviceState, Machine, Marks}
+use Rattle.kms_model.specs.Machine.Registers.{crtc_register, crtc_words, plane_register, plane_words}
+use Rattle.kms_model.specs.Machine.State.{Commit, DeviceState, Marks}
 use Rattle.kms_model.specs.Machine.Steps.{may, next_write}
 use Rattle.kms_model.proofs.Items.{IsIn, IsObject, ids-has, ids-in}
 use Rattle.kms_model.proofs.StateLemmas.{sound-plane_in_range}
@@ -40,13 +39,12 @@ use Rattle.kms_tails.specs.InStep.{AreStates, AreTailsOf, HasRegisters, IsKept, 
 use Rattle.kms_tails.specs.Remaining.{connector_of}
 use Rattle.kms_tails.proofs.Queries.{connector_at, crtc_is, plane_is, touched_crtc, touched_plane}
 use Rattle.kms_tails.proofs.StepLemmas as tails_follow
-use Rattle.kms_track.specs.InStep.{IsTrackerOf}
 use Rattle.kms_track.proofs.StepLemmas as tracker_follows
 use Rattle.kms_core.specs.Run.{Run, machine}
-use Rattle.kms_core.specs.Stands.{Stores, Stands, StandsAt}
+use Rattle.kms_core.specs.Stands.{Stores, Stands}
 use Rattle.kms_core.specs.Work.{HoldsCrtc, HoldsOld, HoldsPlane, IsCrtcWritten, IsPlaneWritten, IsWritten, MayWrite, write_step}
 use Rattle.kms_core.proofs.CommitStates.{commits_sound, shadow_crtc, facts}
-use Rattle.kms_core.proofs.Histories.{goes_on}
+use Rattle.kms_core.proofs.Histories.{goes_on, written_anew}
 use Rattle.kms_core.proofs.Locking.{object_is}
 
 -- What is asked
@@ -278,24 +276,6 @@ registers_stand r st k x Plane index new stands there W is written = plane_stand
 registers_stand r st k x Conn index new stands there W is written = absurd (no_others r.script.topology (object_id Conn index) (few_objects r.script.topology stands.formed.device) (omega arith) W.is_registered)
 registers_stand r st k x Enc index new stands there W is written = absurd (no_others r.script.topology (object_id Enc index) (few_objects r.script.topology stands.formed.device) (omega arith) W.is_registered)
 
-stands_shadowed : (s : Script) (m : Machine) (shadow : Registers) (marks : Marks) (st : Stores) (new : RegisterFile) (w : Rooms Tail) → StandsFor s.topology (record m.device { shadow = shadow; marks = marks }) new
-    → IsTrackerOf s.topology m.device.commits marks m.records.latches st.tracker → AreTailsOf s.topology m.device.commits marks m.records.latches w → StandsAt s m st
-    → StandsAt s (record m { device = record m.device { shadow = shadow; marks = marks } }) (record st { registers = new; tails = w })
-stands_shadowed s m shadow marks st new w written tracked kept stands = record {
-  clients = stands.clients;
-  recorded = stands.recorded;
-  world = stands.world;
-  fences = stands.fences;
-  fenced = stands.fenced;
-  out_fenced = stands.out_fenced;
-  queues = stands.queues;
-  tracker = tracked;
-  tails = kept;
-  registers = written;
-  going = record { size = stands.going.size; go = stands.going.go };
-  ended = stands.ended;
-}
-
 -- the tail that was found is the commit's
 tail_is : (r : Run) (st : Stores) (k object : ℕ) (x : Tail) → Stands r st → IsWrite r.script.topology (machine r).device k object → FindsTail st.tails k (Some x)
     → IsTailOf r.script.topology (commit_at r.script.topology (machine r).device.commits k) (machine r).device.marks (machine r).records.latches k x
@@ -318,7 +298,7 @@ writes_object r v st k id x new w before steps stands same asked finds was more 
     let index = index_of id.0 in
     let object = object_id kind index in
     goes_on r st (record st { registers = new; tails = w }) (write_step k id) refl refl steps (more ∙ ap (λ (xs : List Step). xs ++ write_step k id ∷ []) was) stands N.is_legal
-    (stands_shadowed r.script (machine r) (written_registers t d k object) (tails.with_written k object d.marks) st new w
+    (written_anew r.script (machine r) (written_registers t d k object) (tails.with_written k object d.marks) st st.tracker w new
     (registers_stand r st k x kind index new stands N.there N.write (tail_is r st k object x stands N.write finds) written)
     (tracker_follows.others_follow r.script (machine r) (write_step k id) st.tracker refl stands.stores.tracker)
     (tails_follow.write_follows r.script (machine r) k index kind st.tails w N.is_legal stands.stores.tails (subst (λ (o : ℕ). StandsAfter k st.tails w (tails.with_written k o)) (sym N.is_object) after)) stands.stores)

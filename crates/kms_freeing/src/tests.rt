@@ -45,6 +45,7 @@ fn layers_give_their_framebuffers_in_order_of_id(rt: HostRuntime) -> Result<(), 
     let picture = Picture::On(Shown {
         mode: tiny(),
         conn: 300,
+        gamma: None,
         layers,
     });
     assert!(rt; shown_ids(&picture).as_slice() == [1001, 1003].as_slice());

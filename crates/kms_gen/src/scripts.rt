@@ -19,6 +19,7 @@ fn generated_device(alloc: Global) -> Result<Topology, NoMemory>
         formats: 1,
     });
     Ok(Topology {
+        profile: 1,
         crtcs: 2,
         planes: Seq::from_vec(Vec::from_array(alloc, planes)?),
         conns: Seq::from_vec(Vec::from_array(alloc, [1, 2])?),

@@ -6,7 +6,8 @@
 ghost use Rattle.std.specs.Prelude.{◌≡◌, ◌+◌, ◌-◌, ◌*◌, ◌/◌, ◌%◌, ◌^◌, ◌<◌, ◌≤◌, ◌↔◌, ◌+ℤ◌, ◌-ℤ◌, ◌≤ℤ◌, ℤ, pos, FitsSigned, int_le, IsTrue, IsNone};
 ghost use Rattle.std.specs.Int.{w64, int_max, int_min};
 ghost use Rattle.kms_model.specs.Frames.Pictures.{between_edges, clip};
-ghost use Rattle.kms_model.specs.Frames.Rectangles.{HasPixel, HasPixelIfAny, IsNear, IsNearRect, fits_source, rounded_quotient};
+ghost use Rattle.kms_model.specs.Frames.Rectangles.{HasPixel, HasPixelIfAny, IsNear, IsNearRect, fits_source, is_scaled_little, rounded_quotient};
+ghost use Rattle.kms_model.specs.Device.Sound.{IsBetween};
 
 use kms_model::Rect;
 
@@ -87,6 +88,24 @@ fn ends_within(start: i64, size: i64, pixels: u32) -> bool
     ensures { result ≡ int_le (start +ℤ size) (pos (65536 * pixels)) }
 {
     start + size <= 65536 * i64::from(pixels)
+}
+
+/// One pixel in 16.16 fixed point.
+const PIXEL: i64 = 65536;
+
+/// The greatest scale, of a source to its destination and the other way round.
+const GREATEST_SCALE: i64 = 4;
+
+/// Whether a size of a source and that of its destination along the same axis are near enough to be shown: neither is more
+/// than four times the other. `long` is in 16.16 fixed point, from 0 to 4294967295, and `wide` in pixels, from 0 to
+/// 2147483647. (Kernel: `drm_atomic_helper_check_plane_state`, which refuses others with `ERANGE`; the greatest scale is
+/// this device's own.)
+pub fn is_scaled_little(long: i64, wide: i64) -> bool
+    requires long { IsBetween (pos 0) (pos 4294967295) long }
+    requires wide { IsBetween (pos 0) (pos 2147483647) wide }
+    ensures { result ≡ is_scaled_little long wide }
+{
+    PIXEL * wide <= GREATEST_SCALE * long && long <= GREATEST_SCALE * PIXEL * wide
 }
 
 /// The quotient of `n` by the odd number `d`, to the nearest number. `n + d` is below 2^64.

@@ -81,6 +81,23 @@ fn a_source_fits_up_to_its_last_edge(rt: HostRuntime) {
     assert!(rt; !fits_source(rect(pixel, 0, pixel, pixel), 1, 2));
 }
 
+// A pixel of the framebuffer over four of the destination, and four over one: one number further is too far.
+#[test]
+fn a_size_is_at_most_four_times_the_other(rt: HostRuntime) {
+    let pixel = 65536;
+    assert!(rt; is_scaled_little(pixel, 4));
+    assert!(rt; !is_scaled_little(pixel, 5));
+    assert!(rt; !is_scaled_little(pixel - 1, 4));
+    assert!(rt; is_scaled_little(4 * pixel, 1));
+    assert!(rt; !is_scaled_little(4 * pixel + 1, 1));
+    assert!(rt; is_scaled_little(pixel, 1));
+    assert!(rt; is_scaled_little(0, 0));
+    assert!(rt; !is_scaled_little(1, 0));
+    assert!(rt; !is_scaled_little(0, 1));
+    assert!(rt; is_scaled_little(4294967295, 16384));
+    assert!(rt; !is_scaled_little(4294967295, 2147483647));
+}
+
 // The last two are the numerators of half a channel, next below and next above, by 65535 * 255.
 #[test]
 fn a_quotient_is_rounded_to_the_nearest(rt: HostRuntime) {

@@ -16,13 +16,13 @@ use Rattle.kms_model.specs.Device.Closing.{closed_if, closed_in}
 use Rattle.kms_model.specs.Device.Execution.{BufferInfo, add_fb, buffer_of, close, close_refusal, close_unless, destroy_refusal, execute, make, make_out_fence, make_out_fences, make_unless, new_buffer_refusal, signal_refusal, signal_unless}
 use Rattle.kms_model.specs.Device.Objects.{ids_of}
 use Rattle.kms_model.specs.Device.Sound.{IsSound}
-use Rattle.kms_model.specs.Device.States.{mode_in, plane_at}
+use Rattle.kms_model.specs.Device.States.{gamma_in, mode_in, plane_at}
 use Rattle.kms_model.specs.Device.World.{thing_labelled, thing_with_id, value}
 use Rattle.kms_model.specs.Machine.Steps.{is_atomic}
 use Rattle.kms_model.specs.Request.Touched.{out_fence_label}
 use Rattle.kms_model.proofs.FramedLemmas.{closed_same}
 use Rattle.kms_model.proofs.Items.{IsIn}
-use Rattle.kms_model.proofs.SeenLemmas.{AreSeenAlike, alike-closed, alike-push, mode-seen, plane-seen}
+use Rattle.kms_model.proofs.SeenLemmas.{AreSeenAlike, alike-closed, alike-push, gamma-seen, mode-seen, plane-seen}
 use Rattle.kms_model.proofs.SoundKept.{sound-make}
 use Rattle.kms_model.proofs.ThingLemmas.{IsSeenAlike}
 use Rattle.kms_laws.proofs.Requests.{words_at, words_same}
@@ -40,13 +40,16 @@ plane_like t w v p like is = ap (λ values. plane_at v.things values p) like.val
 pub words_like : (t : Topology) (w v : World) (c : ℕ) → IsLike t w v → IsIn c (ids_of t kind.Crtc) → words_at t v.things v.values c ≡ words_at t w.things w.values c
 words_like t w v c like is =
     ap (λ values. words_at t v.things values c) like.values
-    ∙ words_same t w.things v.things w.values w.values c refl refl (sym (mode-seen t w.things v.things w.values c like.alike is))
+    ∙ words_same t w.things v.things w.values w.values c refl refl (sym (mode-seen t w.things v.things w.values c like.alike is)) (sym (gamma-seen t w.things v.things w.values c like.alike is))
+
+seen-self : (things : List Thing) (number : ℤ) → IsSeenAlike things things number
+seen-self things number = record { fb = refl; mode = refl; gamma = refl }
 
 alike-self : (t : Topology) (things : List Thing) (values : List Setting) → AreSeenAlike t things things values
-alike-self t things values = record { planes = λ p is. record { fb = refl; mode = refl }; crtcs = λ c is. record { fb = refl; mode = refl } }
+alike-self t things values = record { planes = λ p is. seen-self things _; crtcs = λ c is. seen-self things _; gammas = λ c is. seen-self things _ }
 
 seen-trans : (xs ys zs : List Thing) (number : ℤ) → IsSeenAlike xs ys number → IsSeenAlike ys zs number → IsSeenAlike xs zs number
-seen-trans xs ys zs number a b = record { fb = a.fb ∙ b.fb; mode = a.mode ∙ b.mode }
+seen-trans xs ys zs number a b = record { fb = a.fb ∙ b.fb; mode = a.mode ∙ b.mode; gamma = a.gamma ∙ b.gamma }
 
 like-self : (t : Topology) (w : World) → IsLike t w w
 like-self t w = record { values = refl; count = refl; alike = alike-self t w.things w.values }
@@ -60,10 +63,11 @@ like-trans t w v u a b =
       alike = record {
         planes = λ p is. seen-trans w.things v.things u.things (value w.values p _) (a.alike.planes p is) (moved.planes p is);
         crtcs = λ c is. seen-trans w.things v.things u.things (value w.values c _) (a.alike.crtcs c is) (moved.crtcs c is);
+        gammas = λ c is. seen-trans w.things v.things u.things (value w.values c _) (a.alike.gammas c is) (moved.gammas c is);
       };
     }
 
--- Modes of things
+-- Modes and tables of things
 
 kept-push : (things : List Thing) (thing : Thing) → AreKept things → KeepsMode thing.content → AreKept (things ++ thing ∷ [])
 kept-push [] thing kept here = (here, tt)
@@ -73,10 +77,14 @@ kept-closed : (things : List Thing) (id : ℕ) → AreKept things → AreKept (c
 kept-closed [] id kept = tt
 kept-closed (u ∷ us) id kept = (subst KeepsMode (sym (closed_same id u).content) kept.0, kept-closed us id kept.1)
 
-no_mode : (c : Content) → mode_in c ≡ None → KeepsMode c
-no_mode c none = record { mode = λ m e. absurd (let z : None ≡ Some m = sym none ∙ e in cc) }
+-- contents with no mode and no table of colour values
+no_mode : (c : Content) → mode_in c ≡ None → gamma_in c ≡ None → KeepsMode c
+no_mode c none nothing = record {
+  mode = λ m e. absurd (let z : None ≡ Some m = sym none ∙ e in cc);
+  gamma = λ g e. absurd (let z : None ≡ Some g = sym nothing ∙ e in cc);
+}
 
--- what each command's mode keeps
+-- what each command's mode keeps, and its table of colour values
 abbrev pub KeepsModes : Command → Type 0
 KeepsModes (command.Mode label m) = KeepsMode (content.Mode m)
 KeepsModes (command.Blob label bytes) = KeepsMode (content.Blob bytes)
@@ -153,7 +161,7 @@ follows-close_unless t w thing (Some n) kept = follows-self t w kept
 
 follows-add_fb : (t : Topology) (w : World) (client label : ℕ) (o : Option BufferInfo) → IsSound t w → AreKept w.things → Follows t w (add_fb w client label o).world
 follows-add_fb t w client label None sound kept = follows-self t w kept
-follows-add_fb t w client label (Some b) sound kept = follows-make t w client label _ sound kept (no_mode _ refl)
+follows-add_fb t w client label (Some b) sound kept = follows-make t w client label _ sound kept (no_mode _ refl refl)
 
 follows-signal : (t : Topology) (w : World) (o : Option ℕ) → AreKept w.things → Follows t w (signal_unless w o).world
 follows-signal t w None kept = follows-self t w kept
@@ -162,13 +170,13 @@ follows-signal t w (Some n) kept = follows-self t w kept
 pub execute_follows : (t : Topology) (w : World) (client : ℕ) (c : Command) → IsSound t w → AreKept w.things → KeepsModes c → is_atomic c ≡ false → Follows t w (execute t w client c).world
 unfolding execute
 execute_follows t w client (command.Buffer label width height format pattern) sound kept keeps other =
-    follows-make_unless t w client label (content.Buffer width height format pattern) (new_buffer_refusal w.things width height format) sound kept (no_mode _ refl)
+    follows-make_unless t w client label (content.Buffer width height format pattern) (new_buffer_refusal w.things width height format) sound kept (no_mode _ refl refl)
 execute_follows t w client (command.AddFb label buffer) sound kept keeps other = follows-add_fb t w client label (buffer_of w.things client buffer) sound kept
 execute_follows t w client (command.Mode label m) sound kept keeps other = follows-make t w client label (content.Mode m) sound kept keeps
 execute_follows t w client (command.Blob label bytes) sound kept keeps other = follows-make t w client label (content.Blob bytes) sound kept keeps
 execute_follows t w client (command.Destroy label) sound kept keeps other = follows-close_unless t w (thing_labelled w.things label) (destroy_refusal client (thing_labelled w.things label)) kept
 execute_follows t w client (command.CloseFb label) sound kept keeps other = follows-close_unless t w (thing_labelled w.things label) (close_refusal client (thing_labelled w.things label)) kept
-execute_follows t w client (command.Fence label) sound kept keeps other = follows-make t w client label content.Fence sound kept (no_mode _ refl)
+execute_follows t w client (command.Fence label) sound kept keeps other = follows-make t w client label content.Fence sound kept (no_mode _ refl refl)
 execute_follows t w client (command.Signal label) sound kept keeps other = follows-signal t w (signal_refusal (thing_labelled w.things label)) kept
 execute_follows t w client (command.Atomic r) sound kept keeps other = absurd (false≢true (sym other))
 execute_follows t w client command.Wait sound kept keeps other = follows-self t w kept
@@ -177,7 +185,7 @@ execute_follows t w client command.Wait sound kept keeps other = follows-self t 
 
 follows-out_fence : (t : Topology) (client : ℕ) (w : World) (label : Option ℕ) → IsSound t w → AreKept w.things → Follows t w (make_out_fence client w label) × IsSound t (make_out_fence client w label)
 follows-out_fence t client w None sound kept = (follows-self t w kept, sound)
-follows-out_fence t client w (Some label) sound kept = (follows-make t w client label content.OutFence sound kept (no_mode _ refl), sound-make t w client label content.OutFence sound)
+follows-out_fence t client w (Some label) sound kept = (follows-make t w client label content.OutFence sound kept (no_mode _ refl refl), sound-make t w client label content.OutFence sound)
 
 pub follows-out_fences : (t : Topology) (client : ℕ) (assigns : List Assign) (w : World) (crtcs : List ℕ) → IsSound t w → AreKept w.things → Follows t w (make_out_fences client assigns w crtcs)
 follows-out_fences t client assigns w [] sound kept = follows-self t w kept

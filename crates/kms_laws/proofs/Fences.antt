@@ -6,6 +6,7 @@ use Rattle.std.specs.Option.{option_and_then, option_map}
 use Rattle.std.specs.Result.{result_ok}
 use Rattle.std.proofs.lemmas.Bool.{cases_Bool, cases_lt, cond-true, cond-false, eq-eqb, eqb-true, false≢true}
 use Rattle.kms_model.specs.declared.objects.Kind.TheVariants.{Crtc, Plane}
+use Rattle.kms_model.specs.declared.objects.Gamma.{Gamma}
 use Rattle.kms_model.specs.declared.objects.Mode.{Mode}
 use Rattle.kms_model.specs.declared.objects.ObjId.{ObjId}
 use Rattle.kms_model.specs.declared.objects.Topology.{Topology}
@@ -25,6 +26,7 @@ use Rattle.kms_model.specs.declared.worlds.World.{World}
 use Rattle.kms_model.specs.Device.Closing.{closed_if, closed_in}
 use Rattle.kms_model.specs.Device.Execution.{BufferInfo, add_fb, buffer_of, close, close_refusal, close_unless, committed, destroy_refusal, execute, make, make_out_fence, make_out_fences, make_unless, new_buffer_refusal, signal_refusal, signal_unless}
 use Rattle.kms_model.specs.Device.Modes.{is_legal_mode}
+use Rattle.kms_model.specs.Device.GammaBytes.{gamma_of_bytes}
 use Rattle.kms_model.specs.Device.ModeBytes.{decoded}
 use Rattle.kms_model.specs.Device.Objects.{ids_of}
 use Rattle.kms_model.specs.Device.World.{thing_labelled}
@@ -32,7 +34,7 @@ use Rattle.kms_model.specs.Machine.Commits.{commit_names, has_latched, has_numbe
 use Rattle.kms_model.specs.Machine.State.{Commit, DeviceState}
 use Rattle.kms_model.specs.Machine.Steps.{is_atomic}
 use Rattle.kms_model.specs.Request.Apply.{object_of}
-use Rattle.kms_model.specs.Request.Lookups.{label_of, look_of, look_of_content, look_of_mode, look_up}
+use Rattle.kms_model.specs.Request.Lookups.{label_of, look_of, look_of_blob, look_of_content, look_up}
 use Rattle.kms_model.specs.Request.Sets.{fence_of_look, in_fence, in_fences, obj_id}
 use Rattle.kms_model.specs.Request.Touched.{last_value, new_label, out_fence_label, sets}
 use Rattle.kms_model.proofs.FramedLemmas.{closed_same}
@@ -220,11 +222,12 @@ fence-content id (content.Mode m) fence e = go (is_legal_mode m) e
     go : (b : Bool) → fence_of_look (if b then look.Mode m id else look.Blob id) ≡ Some fence → (id ≡ fence) × ((content.Mode m ≡ content.Fence) ⊎ (content.Mode m ≡ content.OutFence))
     go true e = absurd cc
     go false e = absurd cc
-fence-content id (content.Blob bytes) fence e = go (result_ok (decoded bytes)) e
+fence-content id (content.Blob bytes) fence e = go (result_ok (decoded bytes)) (gamma_of_bytes bytes) e
   where
-    go : (o : Option Mode) → fence_of_look (look_of_mode id o) ≡ Some fence → (id ≡ fence) × ((content.Blob bytes ≡ content.Fence) ⊎ (content.Blob bytes ≡ content.OutFence))
-    go (Some m) e = absurd cc
-    go None e = absurd cc
+    go : (mode : Option Mode) (gamma : Option Gamma) → fence_of_look (look_of_blob id mode gamma) ≡ Some fence → (id ≡ fence) × ((content.Blob bytes ≡ content.Fence) ⊎ (content.Blob bytes ≡ content.OutFence))
+    go (Some m) gamma e = absurd cc
+    go None (Some g) e = absurd cc
+    go None None e = absurd cc
 
 -- what a label of an in-fence stands for
 record IsFence (things : List Thing) (label id : ℕ) : Type 0 where

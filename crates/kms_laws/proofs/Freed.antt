@@ -13,7 +13,7 @@ use Rattle.kms_model.specs.Device.States.{plane_at}
 use Rattle.kms_model.specs.Frames.Pictures.{layers_with, put_layer, put_plane, shown_with}
 use Rattle.kms_model.specs.Machine.Commits.{commit_touches, has_number}
 use Rattle.kms_model.specs.Machine.Framebuffers.{picture_names}
-use Rattle.kms_model.specs.Machine.Registers.{CrtcWords, PlaneWords, Registers, crtc_register, decoded_picture, format_in, is_copied, latched_registers, mode_in_words, plane_in, plane_register, plane_words}
+use Rattle.kms_model.specs.Machine.Registers.{CrtcWords, PlaneWords, Registers, crtc_register, decoded_picture, format_in, gamma_in_words, is_copied, latched_registers, mode_in_words, plane_in, plane_register, plane_words}
 use Rattle.kms_model.specs.Machine.State.{Commit, DeviceState}
 use Rattle.kms_model.proofs.Items.{IsIn, IsObject, ids-in}
 use Rattle.kms_laws.proofs.Basics.{both_bools}
@@ -72,7 +72,7 @@ layer-names f m c fb (p ∷ ps) h = by_tests (λ g. names_further p ps f c fb (l
 pub picture-names : (t : Topology) (w : CrtcWords) (f : ℕ → PlaneWords) (c fb : ℕ) → picture_names fb (picture_in_words t w (λ p. plane_in (f p)) c) ≡ true → Names (ids_of t Plane) f c fb
 picture-names t w f c fb h = by_active (w.active == 0) h
   where
-    by_active : (off : Bool) → picture_names fb (if not off then picture.On (shown_with (mode_in_words w) w.conn (layers_with (λ p. plane_in (f p)) (mode_in_words w) c (ids_of t Plane))) else picture.Off) ≡ true → Names (ids_of t Plane) f c fb
+    by_active : (off : Bool) → picture_names fb (if not off then picture.On (shown_with (mode_in_words w) w.conn (gamma_in_words w) (layers_with (λ p. plane_in (f p)) (mode_in_words w) c (ids_of t Plane))) else picture.Off) ≡ true → Names (ids_of t Plane) f c fb
     by_active true h = absurd (false≢true h)
     by_active false h = layer-names f (mode_in_words w) c fb (ids_of t Plane) h
 

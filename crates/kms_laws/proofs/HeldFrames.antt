@@ -5,6 +5,8 @@ use Rattle.std.specs.Ordering.{int_eq}
 use Rattle.std.proofs.lemmas.Bool.{or_parts}
 use Rattle.kms_model.specs.declared.objects.Kind.{Kind}
 use Rattle.kms_model.specs.declared.objects.Kind.TheVariants.{Crtc, Plane, Conn}
+use Rattle.kms_model.specs.declared.objects.Gamma.{Gamma}
+use Rattle.kms_model.specs.declared.objects.Mode.{Mode}
 use Rattle.kms_model.specs.declared.objects.Topology.{Topology}
 use Rattle.kms_model.specs.declared.properties.TheConstants.{ACTIVE}
 use Rattle.kms_model.specs.declared.replies.Step.{Step}
@@ -30,9 +32,9 @@ use Rattle.kms_model.specs.Request.Touched.{is_affected, sets, touches, touches_
 use Rattle.kms_model.proofs.AppliedValues.{value-apply_unset}
 use Rattle.kms_model.proofs.Items.{IsIn, ids-has, list_all-at}
 use Rattle.kms_model.proofs.MaskLemmas.{same_masks}
-use Rattle.kms_model.proofs.SeenLemmas.{mode-seen}
+use Rattle.kms_model.proofs.SeenLemmas.{gamma-seen, mode-seen}
 use Rattle.kms_model.proofs.SoundKept.{accepted-parts, sound-apply}
-use Rattle.kms_model.proofs.TouchedLemmas.{HasFewObjects, IsRequestAt, crtc_at-unset, few_objects, mode_at-unset, routed-unnamed}
+use Rattle.kms_model.proofs.TouchedLemmas.{HasFewObjects, IsRequestAt, crtc_at-unset, few_objects, gamma_at-unset, mode_at-unset, routed-unnamed}
 use Rattle.kms_laws.proofs.Basics.{implied, in_either}
 use Rattle.kms_laws.proofs.EachStep.{Carries, IsSwap, by_bool, by_fence, by_latch, by_two, each_step, latched_as, made_as, swap-found, swapped_as}
 use Rattle.kms_laws.proofs.Executed.{IsLike, execute_follows, follows-out_fences, plane_like}
@@ -54,8 +56,8 @@ in_kind t k o few is of_kind =
     (in_either (ids_of t Plane) (ids_of t Conn) o rest))
     (in_either (ids_of t Crtc) _ o is)
 
-abbrev pub state_with : (active : Bool) (mode : Option Rattle.kms_model.specs.declared.objects.Mode.Mode) (planes conns : ℕ) → CrtcState
-state_with active mode planes conns = record { active = active; mode = mode; planes = planes; conns = conns }
+abbrev pub state_with : Bool → Option Mode → Option Gamma → ℕ → ℕ → CrtcState
+state_with active mode gamma planes conns = record { active = active; mode = mode; gamma = gamma; planes = planes; conns = conns }
 
 -- What a request does not touch
 
@@ -72,11 +74,12 @@ module _ (t : Topology) (w : World) (r : Request) (at : IsRequestAt t w r) (o : 
       let parts = or_parts (sets r.assigns o) (names w.values (after w r) r.assigns o) (of_its_kind Crtc e) in
       let active : is_active (after w r) o ≡ is_active w.values o = ap (λ n. not (int_eq n (pos 0))) (value-apply_unset w.things w.values r.assigns o ACTIVE parts.0) in
       let mode = mode_at-unset w r o parts.0 in
+      let gamma = gamma_at-unset w r o parts.0 in
       let planes = same_masks (λ i. crtc_at (after w r) (object_id Plane i) == o) (λ i. crtc_at w.values (object_id Plane i) == o) (count_of t Plane)
       (λ i within. routed-unnamed t w r Plane o (object_id Plane i) at refl (ids-has t Plane i within) parts.1) in
       let conns = same_masks (λ i. crtc_at (after w r) (object_id Conn i) == o) (λ i. crtc_at w.values (object_id Conn i) == o) (count_of t Conn)
       (λ i within. routed-unnamed t w r Conn o (object_id Conn i) at refl (ids-has t Conn i within) parts.1) in
-      λ i. state_with (active i) (mode i) (planes i) (conns i)
+      λ i. state_with (active i) (mode i) (gamma i) (planes i) (conns i)
 
   pub untouched_same : (n : ℕ) → HasSameState t w (record w { values = after w r; commits = n }) o
   untouched_same n = record {
@@ -93,8 +96,9 @@ like_same t w v o few is_there like = record {
   connector = λ e. ap (λ values. crtc_at values o) like.values;
   crtc = λ e.
       ap (λ values. crtc_state_at t v.things values o) like.values
-      ∙ ap (λ mode. state_with (is_active w.values o) mode (crtc_state_at t w.things w.values o).planes (crtc_state_at t w.things w.values o).conns)
-      (sym (mode-seen t w.things v.things w.values o like.alike (in_kind t Crtc o few is_there e)));
+      ∙ (let mode = mode-seen t w.things v.things w.values o like.alike (in_kind t Crtc o few is_there e) in
+      let gamma = gamma-seen t w.things v.things w.values o like.alike (in_kind t Crtc o few is_there e) in
+      sym (λ i. state_with (is_active w.values o) (mode i) (gamma i) (crtc_state_at t w.things w.values o).planes (crtc_state_at t w.things w.values o).conns));
 }
 
 same_trans : (t : Topology) (w v u : World) (o : ℕ) → HasSameState t w v o → HasSameState t v u o → HasSameState t w u o

@@ -11,7 +11,7 @@ use Rattle.kms_model.specs.Device.Objects.{object_id, ids_of}
 use Rattle.kms_model.specs.Frames.Pictures.{layers_with, shown_with}
 use Rattle.kms_model.specs.Headline.{CommitPicture}
 use Rattle.kms_model.specs.Machine.Commits.{commit_names, commit_touches, commit_concerns, has_latched, has_number, has_pair, lockable, registered, new_plane, new_crtc, new_connector}
-use Rattle.kms_model.specs.Machine.Registers.{PlaneWords, CrtcWords, Registers, crtc_words, first_crtc_words, first_plane_words, mode_in_words, plane_in, plane_register, plane_words, crtc_register, read}
+use Rattle.kms_model.specs.Machine.Registers.{PlaneWords, CrtcWords, Registers, crtc_words, first_crtc_words, first_plane_words, gamma_in_words, mode_in_words, plane_in, plane_register, plane_words, crtc_register, read}
 use Rattle.kms_model.specs.Machine.State.{Commit, Marks}
 use Rattle.kms_model.proofs.Items.{IsIn}
 use Rattle.kms_model.proofs.TouchedLemmas.{HasFewObjects}
@@ -29,7 +29,7 @@ crtc_after t cs (suc k) c = crtc_words (new_connector t cs k c) (new_crtc t cs k
 -- the picture of a CRTC with words, and planes with states
 abbrev pub picture_in_words : Topology → CrtcWords → (ℕ → PlaneState) → ℕ → Picture
 picture_in_words t w state c =
-    if not (w.active == 0) then On (shown_with (mode_in_words w) w.conn (layers_with state (mode_in_words w) c (ids_of t Plane))) else Off
+    if not (w.active == 0) then On (shown_with (mode_in_words w) w.conn (gamma_in_words w) (layers_with state (mode_in_words w) c (ids_of t Plane))) else Off
 
 abbrev pub picture_at : Topology → List Commit → ℕ → ℕ → Picture
 picture_at t cs m c = picture_in_words t (crtc_after t cs m c) (λ p. plane_in (plane_after t cs m p)) c

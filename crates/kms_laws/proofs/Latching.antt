@@ -11,7 +11,7 @@ use Rattle.kms_model.specs.declared.runs.Latch.{Latch}
 use Rattle.kms_model.specs.Device.Objects.{ids_of}
 use Rattle.kms_model.specs.Frames.Pictures.{layers_with, shown_with, seen_on, put_plane}
 use Rattle.kms_model.specs.Machine.Commits.{commit_names, commit_touches, has_latched, has_number, has_pair}
-use Rattle.kms_model.specs.Machine.Registers.{PlaneWords, CrtcWords, Registers, copied_planes, crtc_register, decoded_picture, first_crtc_words, first_plane_words, is_copied, latched_registers, mode_in_words, plane_in, plane_register, read}
+use Rattle.kms_model.specs.Machine.Registers.{PlaneWords, CrtcWords, Registers, copied_planes, crtc_register, decoded_picture, first_crtc_words, first_plane_words, gamma_in_words, is_copied, latched_registers, mode_in_words, plane_in, plane_register, read}
 use Rattle.kms_model.specs.Machine.State.{Commit, Marks}
 use Rattle.kms_model.proofs.Items.{IsIn}
 use Rattle.kms_laws.proofs.Basics.{both_bools, read_same, read_other}
@@ -141,7 +141,7 @@ layers_same f g m c (p ∷ ps) h =
 pub picture_layers : (t : Topology) (w : CrtcWords) (f g : ℕ → PlaneWords) (c : ℕ) → ((p : ℕ) → IsIn p (ids_of t Plane) → seen c (f p) ≡ seen c (g p))
     → picture_in_words t w (λ p. plane_in (f p)) c ≡ picture_in_words t w (λ p. plane_in (g p)) c
 picture_layers t w f g c h =
-    ap (λ layers. if not (w.active == 0) then On (shown_with (mode_in_words w) w.conn layers) else Off) (layers_same f g (mode_in_words w) c (ids_of t Plane) h)
+    ap (λ layers. if not (w.active == 0) then On (shown_with (mode_in_words w) w.conn (gamma_in_words w) layers) else Off) (layers_same f g (mode_in_words w) c (ids_of t Plane) h)
 
 -- A latch copies what is on the CRTC to the live words
 

@@ -1,5 +1,6 @@
 pub mod Apart
 pub mod Basics
+pub mod Blankings
 pub mod ClientProgress
 pub mod Contexts
 pub mod ContextsAtAll

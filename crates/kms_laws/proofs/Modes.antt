@@ -1,14 +1,13 @@
--- Modes whose numbers fit their types are what their words hold.
-use Rattle.std.proofs.Common.{◌≡◌, ℕ, zero, suc, ◌*◌, ◌<◌, ◌≤◌, ◌-◌, ◌^◌, ◌/◌, ◌%◌, List, [], ◌∷◌, ◌++◌, length, get_or, Bool, true, false, ◌==◌, Option, Some, None, refl, sym, ap, ◌∙◌, subst, arith, inl, inr, ⊎_elim, length-append}
+-- Modes whose numbers fit their types are what their words hold, and so are tables of colour values of bytes.
+use Rattle.std.proofs.Common.{◌≡◌, ℕ, zero, suc, ◌<◌, ◌≤◌, ◌-◌, ◌^◌, ◌/◌, ◌%◌, List, [], ◌∷◌, ◌++◌, length, Bool, true, false, ◌==◌, Option, Some, None, refl, sym, ap, ◌∙◌, subst, arith, inl, inr, ⊎_elim, length-append}
 use Rattle.std.proofs.lemmas.List.{length-replicate}
 use Rattle.std.proofs.lemmas.Slice.Eq.{bytes_eq-Decides}
 use Rattle.std.specs.Prelude.{if◌then◌else◌, not, ◌&&◌, nat_le, nat_lt, replicate, slice_get, Ok, Err}
-use Rattle.std.specs.Int.{w32, to_le_bytes, from_le_bytes}
-use Rattle.std.specs.List.{AllByRecursion, list_all}
+use Rattle.std.specs.List.{list_all}
 use Rattle.std.specs.Option.{option_and_then}
 use Rattle.std.specs.Result.{result_ok}
 use Rattle.std.proofs.lemmas.Bool.{eqb-true, and_parts, leb-true, ltb-true, or_cases}
-use Rattle.std.proofs.lemmas.Nat.{le_bytes_4}
+use Rattle.kms_model.proofs.GammaRoundTrip.{blob-table, gamma_back}
 use Rattle.kms_model.proofs.ModeRoundTrip.{mode_bytes-mode_held, mode_held-mode_bytes}
 use Rattle.kms_model.specs.Device.ModeRanges.{FitsTypes}
 use Rattle.kms_model.specs.declared.objects.Mode.{Mode}
@@ -23,32 +22,10 @@ use Rattle.kms_model.specs.Device.Modes.{is_axis}
 use Rattle.kms_model.specs.Script.WellFormed.{IsWellFormed, are_words16, has_widths, is_command_in, is_label_in, is_mode_name, is_word16, is_word32}
 use Rattle.kms_model.specs.Script.Words.{between, is_digit, is_name_byte, until}
 use Rattle.kms_model.proofs.Items.{IsIn, list_all-at}
+use Rattle.kms_model.proofs.WordBytes.{AreBytes, small_at, words_back}
 use Rattle.kms_laws.proofs.Executed.{KeepsModes}
 use Rattle.kms_laws.proofs.Steps.{IsPlainScript}
 use Rattle.kms_laws.proofs.Words.{IsKeptMode}
-
--- bytes are below 256
-abbrev pub AreBytes : List ℕ → Type 0
-AreBytes bytes = AllByRecursion (λ byte. byte < 256) bytes
-
-small_at : (bytes : List ℕ) (i : ℕ) → AreBytes bytes → get_or bytes i 0 < 256
-small_at [] i small = omega arith
-small_at (b ∷ bytes) zero small = small.0
-small_at (b ∷ bytes) (suc i) small = small_at bytes i small.1
-
--- bytes, four at a time, are those of their words
-words_back : (n : ℕ) (bytes : List ℕ) → length bytes ≡ 4 * n → AreBytes bytes → bytes_of_words (words_of_bytes bytes) ≡ bytes
-unfolding words_of_bytes
-words_back zero [] e small = refl
-words_back zero (a ∷ rest) e small = absurd (omega arith)
-words_back (suc n) [] e small = absurd (omega arith)
-words_back (suc n) (a ∷ []) e small = absurd (omega arith)
-words_back (suc n) (a ∷ b ∷ []) e small = absurd (omega arith)
-words_back (suc n) (a ∷ b ∷ c ∷ []) e small = absurd (omega arith)
-words_back (suc n) (a ∷ b ∷ c ∷ d ∷ rest) e small =
-    let four : AreBytes (a ∷ b ∷ c ∷ d ∷ []) = (small.0, (small.1.0, (small.1.1.0, (small.1.1.1.0, tt)))) in
-    let word : to_le_bytes w32 (from_le_bytes w32 (a ∷ b ∷ c ∷ d ∷ [])) ≡ a ∷ b ∷ c ∷ d ∷ [] = le_bytes_4 (a ∷ b ∷ c ∷ d ∷ []) (from_le_bytes w32 (a ∷ b ∷ c ∷ d ∷ [])) refl (λ i. small_at (a ∷ b ∷ c ∷ d ∷ []) i four) refl in
-    (λ i. word i ++ words_back n rest (omega arith) small.1.1.1.1 i)
 
 two_and : {P : Type 0} (n : ℕ) → P → (n % 256 < 256) × (((n / 256) % 256 < 256) × P)
 two_and n p = (omega arith, (omega arith, p))
@@ -162,22 +139,26 @@ name-fits name h =
       subst AreBytes (sym same) (small_append word (replicate (32 - length word) 0) (small_all is_name_byte word name_byte-lt two.0) (small_zeros (32 - length word))),
     )
 
-pub keeps-from : (names : List (List ℕ)) (c : Command) → is_command_in names c ≡ true → KeepsModes c
-keeps-from names (command.Mode label m) h =
+pub keeps-from : (profile : ℕ) (names : List (List ℕ)) (c : Command) → is_command_in profile names c ≡ true → KeepsModes c
+keeps-from profile names (command.Mode label m) h =
     let two = and_parts (has_widths m) _ (and_parts (is_label_in names label) _ h).1 in
     let name = name-fits m.name two.1 in
-    record { mode = λ k e. let same : m ≡ k = cc in subst IsKeptMode same (fitting-kept m (fits-from m two.0 name.0) name.1) }
-keeps-from names (command.Blob label bytes) h =
+    record {
+      mode = λ k e. let same : m ≡ k = cc in subst IsKeptMode same (fitting-kept m (fits-from m two.0 name.0) name.1);
+      gamma = λ g e. absurd cc;
+    }
+keeps-from profile names (command.Blob label bytes) h =
     let two = and_parts (between 1 2048 (length bytes)) _ (and_parts (is_label_in names label) _ h).1 in
-    record { mode = λ m e. blob-kept bytes m (small_all (λ b. nat_lt b 256) bytes (λ b small. ltb-true b 256 small) two.1) e }
-keeps-from names (command.Buffer label width height format pattern) h = tt
-keeps-from names (command.AddFb label buffer) h = tt
-keeps-from names (command.Destroy label) h = tt
-keeps-from names (command.CloseFb label) h = tt
-keeps-from names (command.Fence label) h = tt
-keeps-from names (command.Signal label) h = tt
-keeps-from names (command.Atomic r) h = tt
-keeps-from names command.Wait h = tt
+    let small : AreBytes bytes = small_all (λ b. nat_lt b 256) bytes (λ b is. ltb-true b 256 is) two.1 in
+    record { mode = λ m e. blob-kept bytes m small e; gamma = λ g e. gamma_back g (blob-table bytes g small e) }
+keeps-from profile names (command.Buffer label width height format pattern) h = tt
+keeps-from profile names (command.AddFb label buffer) h = tt
+keeps-from profile names (command.Destroy label) h = tt
+keeps-from profile names (command.CloseFb label) h = tt
+keeps-from profile names (command.Fence label) h = tt
+keeps-from profile names (command.Signal label) h = tt
+keeps-from profile names (command.Atomic r) h = tt
+keeps-from profile names command.Wait h = tt
 
 slice_get-in : {A : Type 0} (xs : List A) (n : ℕ) (x : A) → slice_get xs n ≡ Some x → IsIn x xs
 slice_get-in [] n x e = absurd cc
@@ -189,13 +170,13 @@ from_one-in xs zero x e = absurd cc
 from_one-in xs (suc n) x e = slice_get-in xs n x e
 
 -- a command of a well-formed script is one that words spell
-command-spelt : (s : Script) (e : Entry) (c : Command) → list_all (list_all (is_command_in s.names)) s.clients ≡ true → command_of s e ≡ Some c → is_command_in s.names c ≡ true
+command-spelt : (s : Script) (e : Entry) (c : Command) → list_all (list_all (is_command_in s.topology.profile s.names)) s.clients ≡ true → command_of s e ≡ Some c → is_command_in s.topology.profile s.names c ≡ true
 command-spelt s e c all is = go (from_one s.clients e.client) refl is
   where
-    go : (o : Option (List Command)) → from_one s.clients e.client ≡ o → option_and_then (λ commands. from_one commands e.command) o ≡ Some c → is_command_in s.names c ≡ true
+    go : (o : Option (List Command)) → from_one s.clients e.client ≡ o → option_and_then (λ commands. from_one commands e.command) o ≡ Some c → is_command_in s.topology.profile s.names c ≡ true
     go None found is = absurd cc
     go (Some commands) found is =
-        list_all-at (is_command_in s.names) commands c (list_all-at (list_all (is_command_in s.names)) s.clients commands all (from_one-in s.clients e.client commands found)) (from_one-in commands e.command c is)
+        list_all-at (is_command_in s.topology.profile s.names) commands c (list_all-at (list_all (is_command_in s.topology.profile s.names)) s.clients commands all (from_one-in s.clients e.client commands found)) (from_one-in commands e.command c is)
 
 pub plain-from : (s : Script) → IsWellFormed s → IsPlainScript s
-plain-from s formed = record { device = formed.device; modes = λ e c is. keeps-from s.names c (command-spelt s e c formed.commands is) }
+plain-from s formed = record { device = formed.device; modes = λ e c is. keeps-from s.topology.profile s.names c (command-spelt s e c formed.commands is) }

@@ -154,7 +154,7 @@ names = names_of_client (codes "1") ++ names_of_client (codes "2")
 
 mode-kept : (crtc : ℕ) → KeepsModes (command.Mode (mode_m crtc) generated_mode)
 unfolding is_label
-mode-kept crtc = keeps-from names (command.Mode 4 generated_mode) refl
+mode-kept crtc = keeps-from 1 names (command.Mode 4 generated_mode) refl
 
 commands-are : (crtc : ℕ) (drawn : List Drawn) → AllByRecursion IsGenerated (commands_for drawn crtc)
 commands-are crtc drawn = (
@@ -195,7 +195,7 @@ generated-is seed n e c is = go (from_one (generated seed n).clients e.client) r
     go (Some commands) found is = is-at commands c (of_client commands (from_one-in (generated seed n).clients e.client commands found)) (from_one-in commands e.command c is)
 
 generated-device : IsDevice generated_device
-generated-device = record { legal = refl; kinds = All-from_recursion HasPlaneKind generated_device.planes (omega arith, (omega arith, tt)) }
+generated-device = record { profile = refl; legal = refl; kinds = All-from_recursion HasPlaneKind generated_device.planes (omega arith, (omega arith, tt)) }
 
 pub generated-plain : (seed n : ℕ) → IsPlainScript (generated seed n)
 generated-plain seed n = record { device = generated-device; modes = λ e c f. (generated-is seed n e c f).modes }

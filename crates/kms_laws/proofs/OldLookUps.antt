@@ -41,16 +41,16 @@ use Rattle.kms_laws.proofs.Traversal.{IsKept, step_keeps, world_kept}
 -- Things stay
 
 -- what was under a label is there in a world, with its id and its content
-abbrev StayIn : List worlds.Thing → World → Type 0
+abbrev pub StayIn : List worlds.Thing → World → Type 0
 StayIn things w = (label : ℕ) (u : worlds.Thing) → thing_labelled things label ≡ Some u → Labelled w.things label u
 
-longer : (things : List worlds.Thing) (w v : World) → ((label : ℕ) (u : worlds.Thing) → thing_labelled w.things label ≡ Some u → Labelled v.things label u) → StayIn things w → StayIn things v
+pub longer : (things : List worlds.Thing) (w v : World) → ((label : ℕ) (u : worlds.Thing) → thing_labelled w.things label ≡ Some u → Labelled v.things label u) → StayIn things w → StayIn things v
 longer things w v forth stay label u found =
     let one = stay label u found in
     let two = forth label one.thing one.found in
     record { thing = two.thing; found = two.found; same_id = two.same_id ∙ one.same_id; same_content = two.same_content ∙ one.same_content }
 
-stay_kept : (s : Script) (things : List worlds.Thing) → IsKept s (λ d ls. StayIn things d.world)
+pub stay_kept : (s : Script) (things : List worlds.Thing) → IsKept s (λ d ls. StayIn things d.world)
 stay_kept s things =
     world_kept s (StayIn things)
     (λ m client c is other stay. longer things m.device.world (execute s.topology m.device.world client c).world (execute_labels s.topology m.device.world client c other).forth stay)

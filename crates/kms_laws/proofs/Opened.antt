@@ -8,7 +8,7 @@ use Rattle.std.proofs.lemmas.List.{length-map}
 use Rattle.kms_model.specs.declared.objects.Kind.{Kind}
 use Rattle.kms_model.specs.declared.objects.Kind.TheVariants.{Crtc, Plane, Conn, Enc}
 use Rattle.kms_model.specs.declared.objects.Topology.{Topology}
-use Rattle.kms_model.specs.declared.properties.TheConstants.{ACTIVE, MODE_ID, FB_ID}
+use Rattle.kms_model.specs.declared.properties.TheConstants.{ACTIVE, GAMMA_LUT, MODE_ID, FB_ID}
 use Rattle.kms_model.specs.declared.scripts.Assign.{Assign}
 use Rattle.kms_model.specs.declared.scripts.Request.{Request}
 use Rattle.kms_model.specs.declared.scripts.Value.{Value}
@@ -20,7 +20,7 @@ use Rattle.kms_model.specs.declared.worlds.World.{World}
 use Rattle.kms_model.specs.Device.Modes.{same_mode}
 use Rattle.kms_model.specs.Device.Objects.{ids_of, kind_of, object_id}
 use Rattle.kms_model.specs.Device.Sound.{AreNumbered, IsSound, empty_request}
-use Rattle.kms_model.specs.Device.States.{framebuffer_of, mode_at, mode_of, plane_at}
+use Rattle.kms_model.specs.Device.States.{framebuffer_of, gamma_at, gamma_of, mode_at, mode_of, plane_at}
 use Rattle.kms_model.specs.Device.World.{put, thing_labelled, thing_numbered}
 use Rattle.kms_model.specs.Device.World as world
 use Rattle.kms_model.specs.Request.Agreement.{AgreesOld, crtc_state_at}
@@ -57,10 +57,10 @@ numbered-open n [] numbered = tt
 numbered-open n (u ∷ us) numbered = (numbered.0, numbered-open (n + 1) us numbered.1)
 
 seen-open : (things : List Thing) (number : ℤ) → IsSeenAlike things (map opened things) number
-seen-open [] number = record { fb = refl; mode = refl }
+seen-open [] number = record { fb = refl; mode = refl; gamma = refl }
 seen-open (u ∷ us) number =
     let rest : IsSeenAlike us (map opened us) number = seen-open us number in
-    record { fb = fb (int_eq (pos u.id) number) rest; mode = mode (int_eq (pos u.id) number) rest }
+    record { fb = fb (int_eq (pos u.id) number) rest; mode = mode (int_eq (pos u.id) number) rest; gamma = gamma (int_eq (pos u.id) number) rest }
   where
     fb : (b : Bool) → IsSeenAlike us (map opened us) number → framebuffer_of (if b then Some u else thing_numbered us number) ≡ framebuffer_of (if b then Some (opened u) else thing_numbered (map opened us) number)
     fb true rest = refl
@@ -70,10 +70,15 @@ seen-open (u ∷ us) number =
     mode true rest = refl
     mode false rest = rest.mode
 
+    gamma : (b : Bool) → IsSeenAlike us (map opened us) number → gamma_of (if b then Some u else thing_numbered us number) ≡ gamma_of (if b then Some (opened u) else thing_numbered (map opened us) number)
+    gamma true rest = refl
+    gamma false rest = rest.gamma
+
 alike-open : (t : Topology) (things : List Thing) (values : List Setting) → AreSeenAlike t things (map opened things) values
 alike-open t things values = record {
   planes = λ p is. seen-open things (world.value values p FB_ID);
   crtcs = λ c is. seen-open things (world.value values c MODE_ID);
+  gammas = λ c is. seen-open things (world.value values c GAMMA_LUT);
 }
 
 pub sound-open : (t : Topology) (w : World) → IsSound t w → IsSound t (all_open w)
@@ -92,15 +97,22 @@ sound-open t w sound =
 mode-open : (things : List Thing) (values : List Setting) (c : ℕ) → mode_at (map opened things) values c ≡ mode_at things values c
 mode-open things values c = sym (seen-open things (world.value values c MODE_ID)).mode
 
+gamma-open : (things : List Thing) (values : List Setting) (c : ℕ) → gamma_at (map opened things) values c ≡ gamma_at things values c
+gamma-open things values c = sym (seen-open things (world.value values c GAMMA_LUT)).gamma
+
 plane-open : (things : List Thing) (values : List Setting) (p : ℕ) → plane_at things values p ≡ plane_at (map opened things) values p
 plane-open things values p = rw ((seen-open things (world.value values p FB_ID)).fb) refl
+
+crtc-open : (t : Topology) (things : List Thing) (values : List Setting) (c : ℕ) → crtc_state_at t things values c ≡ crtc_state_at t (map opened things) values c
+crtc-open t things values c =
+    let state = crtc_state_at t things values c in
+    sym (λ i. state_with state.active (mode-open things values c i) (gamma-open things values c i) state.planes state.conns)
 
 pub agrees-open : (t : Topology) (things : List Thing) (values : List Setting) (d : Duplicates) → AgreesOld t things values d → AgreesOld t (map opened things) values d
 agrees-open t things values d old = record {
   crtcs = λ index both e.
       old.crtcs index both e
-      ∙ ap (λ mode. state_with (crtc_state_at t things values (object_id Crtc index)).active mode (crtc_state_at t things values (object_id Crtc index)).planes (crtc_state_at t things values (object_id Crtc index)).conns)
-      (sym (mode-open things values (object_id Crtc index)));
+      ∙ crtc-open t things values (object_id Crtc index);
   planes = λ index both e. old.planes index both e ∙ plane-open things values (object_id Plane index);
   conns = λ index both e. old.conns index both e;
 }

@@ -1,11 +1,12 @@
 -- What an accepted request leaves, and whom it names.
-use Rattle.std.proofs.Common.{◌≡◌, ℕ, List, [], ◌∷◌, Bool, true, false, ◌&&◌, ◌==◌, refl, sym, ap, ◌∙◌, subst, inl, inr, ◌⊎◌, ⊎_elim}
-use Rattle.std.specs.Prelude.{if◌then◌else◌, not, pos}
+use Rattle.std.proofs.Common.{◌≡◌, ℕ, List, [], ◌∷◌, Bool, true, false, ◌&&◌, ◌==◌, Option, refl, sym, ap, ◌∙◌, subst, inl, inr, ◌⊎◌, ⊎_elim}
+use Rattle.std.specs.Prelude.{if◌then◌else◌, is_some, not, pos}
 use Rattle.std.specs.Ordering.{int_eq}
 use Rattle.std.proofs.lemmas.Bool.{and_parts, and_from, or_cases, or_left, or_right, or_parts, or_from, eqb-true, eq-eqb, cases_Bool, false_from_ne_true, false≢true}
 use Rattle.kms_model.specs.declared.objects.Kind.{Kind}
 use Rattle.kms_model.specs.declared.objects.Kind.TheVariants.{Crtc, Plane, Conn, Enc}
 use Rattle.kms_model.specs.declared.objects.Topology.{Topology}
+use Rattle.kms_model.specs.declared.objects.Gamma.{Gamma}
 use Rattle.kms_model.specs.declared.properties.TheConstants.{ACTIVE}
 use Rattle.kms_model.specs.declared.scripts.Assign.{Assign}
 use Rattle.kms_model.specs.declared.scripts.Request.{Request}
@@ -13,8 +14,8 @@ use Rattle.kms_model.specs.declared.worlds.Setting.{Setting}
 use Rattle.kms_model.specs.declared.worlds.Thing.{Thing}
 use Rattle.kms_model.specs.declared.worlds.World.{World}
 use Rattle.kms_model.specs.Device.Objects.{ids_of}
-use Rattle.kms_model.specs.Device.States.{connector_on, crtc_at, mode_at, plane_at}
-use Rattle.kms_model.specs.Machine.Registers.{CrtcWords, crtc_words, flag_word, mode_words}
+use Rattle.kms_model.specs.Device.States.{connector_on, crtc_at, gamma_at, mode_at, plane_at}
+use Rattle.kms_model.specs.Machine.Registers.{CrtcWords, crtc_words, flag_word, gamma_words, mode_words}
 use Rattle.kms_model.specs.Request.Agreement.{crtc_state_at}
 use Rattle.kms_model.specs.Request.Apply.{after, object_of}
 use Rattle.kms_model.specs.Request.Checks.{is_active}
@@ -22,7 +23,7 @@ use Rattle.kms_model.specs.Request.Named.{is_named_by, is_routed, moves_on, name
 use Rattle.kms_model.specs.Request.Touched.{is_affected, sets, touches, touches_of_kind, touches_routed}
 use Rattle.kms_model.proofs.AppliedValues.{value-apply_unset}
 use Rattle.kms_model.proofs.Items.{IsIn, Passes, list_any-has, list_any-some}
-use Rattle.kms_model.proofs.TouchedLemmas.{IsRequestAt, HasFewObjects, accepted-each, crtc_at-unset, few_objects, kind_of_object, mode_at-unset, plane_at-unset, routed-unnamed, untouched-modeset}
+use Rattle.kms_model.proofs.TouchedLemmas.{IsRequestAt, HasFewObjects, accepted-each, crtc_at-unset, few_objects, gamma_at-unset, kind_of_object, mode_at-unset, plane_at-unset, routed-unnamed, untouched-modeset}
 use Rattle.kms_laws.proofs.Basics.{both_bools}
 use Rattle.kms_laws.proofs.Objects.{plane_kind}
 
@@ -30,13 +31,13 @@ use Rattle.kms_laws.proofs.Objects.{plane_kind}
 abbrev pub words_at : Topology → List Thing → List Setting → ℕ → CrtcWords
 words_at t things values crtc = crtc_words (connector_on values crtc (ids_of t Conn)) (crtc_state_at t things values crtc)
 
-words_with : Bool → ℕ → List ℕ → CrtcWords
-words_with active conn mode = record { active = flag_word active; conn = conn; mode = mode }
+words_with : Bool → ℕ → List ℕ → Option Gamma → CrtcWords
+words_with active conn mode gamma = record { active = flag_word active; conn = conn; mode = mode; gamma_on = flag_word (is_some gamma); gamma = gamma_words gamma }
 
 pub words_same : (t : Topology) (xs ys : List Thing) (old new : List Setting) (c : ℕ) → is_active new c ≡ is_active old c → connector_on new c (ids_of t Conn) ≡ connector_on old c (ids_of t Conn) → mode_at ys new c ≡ mode_at xs old c
-    → words_at t ys new c ≡ words_at t xs old c
+    → gamma_at ys new c ≡ gamma_at xs old c → words_at t ys new c ≡ words_at t xs old c
 unfolding crtc_words words_with
-words_same t xs ys old new c active conn mode = (λ i. words_with (active i) (conn i) (mode_words (mode i)))
+words_same t xs ys old new c active conn mode gamma = (λ i. words_with (active i) (conn i) (mode_words (mode i)) (gamma i))
 
 -- who is set is named
 pub set-named : (old new : List Setting) (assigns : List Assign) (c : ℕ) → sets assigns c ≡ true → names old new assigns c ≡ true
@@ -79,7 +80,7 @@ module _ (t : Topology) (w : World) (r : Request) (at : IsRequestAt t w r) where
       words_same t w.things w.things w.values (after w r) c
       (ap (λ n. not (int_eq n (pos 0))) (value-apply_unset w.things w.values r.assigns c ACTIVE unset))
       (connector-same w.values (after w r) c (ids_of t Conn) (λ k is. routed-unnamed t w r Conn c k at refl is un))
-      (mode_at-unset w r c unset)
+      (mode_at-unset w r c unset) (gamma_at-unset w r c unset)
 
   -- a CRTC that needs a modeset is named
   pub modeset_named : (c : ℕ) → needs_modeset t w.things w.values (after w r) c ≡ true → names w.values (after w r) r.assigns c ≡ true

@@ -9,12 +9,13 @@ use Rattle.std.proofs.lemmas.Int.{ints, to_z-of_z}
 use Rattle.kms_model.specs.declared.objects.Format.{Format}
 use Rattle.kms_model.specs.declared.objects.Format.TheVariants.{Xr24, Ar24, Rg16}
 use Rattle.kms_model.specs.declared.objects.Kind.TheVariants.{Crtc, Plane, Conn}
+use Rattle.kms_model.specs.declared.objects.Gamma.{Gamma}
 use Rattle.kms_model.specs.declared.objects.Mode.{Mode}
 use Rattle.kms_model.specs.declared.objects.Topology.{Topology}
 use Rattle.kms_model.specs.declared.pictures.FbInfo.{FbInfo}
 use Rattle.kms_model.specs.declared.pictures.Picture.{Picture}
 use Rattle.kms_model.specs.declared.pictures.Picture.TheVariants.{Off, On}
-use Rattle.kms_model.specs.declared.properties.TheConstants.{ACTIVE, FB_ID, MODE_ID}
+use Rattle.kms_model.specs.declared.properties.TheConstants.{ACTIVE, FB_ID, GAMMA_LUT, MODE_ID}
 use Rattle.kms_model.specs.declared.states.PlaneState.{PlaneState}
 use Rattle.kms_model.specs.declared.worlds.Content.{Content}
 use Rattle.kms_model.specs.declared.worlds.Content.TheVariants as content
@@ -23,11 +24,11 @@ use Rattle.kms_model.specs.declared.worlds.World.{World}
 use Rattle.kms_model.specs.Device.ModeBytes.{mode_held}
 use Rattle.kms_model.specs.Device.Objects.{ids_of}
 use Rattle.kms_model.specs.Device.Sound.{AreNumbered, IsBetween, IsPlaneInRange, IsSound}
-use Rattle.kms_model.specs.Device.States.{connector_on, framebuffer_in, framebuffer_of, mode_at, mode_in, mode_of, natural, plane_at}
+use Rattle.kms_model.specs.Device.States.{connector_on, framebuffer_in, framebuffer_of, gamma_at, gamma_in, gamma_of, mode_at, mode_in, mode_of, natural, plane_at}
 use Rattle.kms_model.specs.Device.World.{thing_numbered, value}
 use Rattle.kms_model.specs.Frames.Pictures.{layers_with, picture, picture_in, put_plane, seen_on, shown_with}
 use Rattle.kms_model.specs.Frames.Shown.{AreFramed, FramesIn}
-use Rattle.kms_model.specs.Machine.Registers.{CrtcWords, bytes_of_words, code_of, crtc_words, fb_number, flag_word, format_in, mode_in_words, mode_words, plane_in, plane_words}
+use Rattle.kms_model.specs.Machine.Registers.{CrtcWords, bytes_of_words, code_of, crtc_words, fb_number, flag_word, format_in, gamma_in_words, gamma_with, gamma_words, mode_in_words, mode_words, plane_in, plane_words}
 use Rattle.kms_model.specs.Request.Checks.{is_active}
 use Rattle.kms_model.proofs.HeldValues.{all_held-from}
 use Rattle.kms_model.proofs.Items.{IsIn, IsObject, ids-in}
@@ -108,15 +109,20 @@ plane_back t w p sound framed is =
     state_back (plane_at w.things w.values p) (plane_in_range t w.things w.values p (all_held-from t w.things w.values sound.held) is)
     (λ f e. fb_some w.things (value w.values p FB_ID) f sound.numbered framed e)
 
--- Modes
+-- Modes and tables of colour values
 
 -- a mode is what its words hold
 abbrev pub IsKeptMode : Mode → Type 0
 IsKeptMode m = mode_held (bytes_of_words (mode_words (Some m))) ≡ m
 
--- so is the mode of a content, if it has one
+-- a table of colour values is what its words hold
+abbrev pub IsKeptGamma : Gamma → Type 0
+IsKeptGamma g = gamma_with (bytes_of_words (gamma_words (Some g))) ≡ g
+
+-- so is the mode of a content, if it has one, and its table of colour values
 pub record KeepsMode (c : Content) : Type 0 where
   pub mode : (m : Mode) → mode_in c ≡ Some m → IsKeptMode m
+  pub gamma : (g : Gamma) → gamma_in c ≡ Some g → IsKeptGamma g
 
 abbrev pub AreKept : List Thing → Type 0
 AreKept things = AllByRecursion (λ thing. KeepsMode thing.content) things
@@ -128,6 +134,13 @@ kept_mode things number m kept e = go (thing_numbered things number) refl e
     go None found e = absurd cc
     go (Some thing) found e = (by_recursion-at (λ u. KeepsMode u.content) things thing kept (find-in (λ u. int_eq (pos u.id) number) things thing found)).mode m e
 
+kept_gamma : (things : List Thing) (number : ℤ) (g : Gamma) → AreKept things → gamma_of (thing_numbered things number) ≡ Some g → IsKeptGamma g
+kept_gamma things number g kept e = go (thing_numbered things number) refl e
+  where
+    go : (o : Option Thing) → thing_numbered things number ≡ o → gamma_of o ≡ Some g → IsKeptGamma g
+    go None found e = absurd cc
+    go (Some thing) found e = (by_recursion-at (λ u. KeepsMode u.content) things thing kept (find-in (λ u. int_eq (pos u.id) number) things thing found)).gamma g e
+
 -- Pictures
 
 layers-alike : (f g : ℕ → PlaneState) (m : Mode) (c : ℕ) (ps : List ℕ) → ((p : ℕ) → IsIn p ps → f p ≡ g p) → layers_with f m c ps ≡ layers_with g m c ps
@@ -136,7 +149,7 @@ layers-alike f g m c (p ∷ ps) h = (λ i. put_plane m p (h p (inl refl) i) (see
 
 pub picture-alike : (t : Topology) (w : CrtcWords) (f g : ℕ → PlaneState) (c : ℕ) → ((p : ℕ) → IsIn p (ids_of t Plane) → f p ≡ g p) → picture_in_words t w f c ≡ picture_in_words t w g c
 picture-alike t w f g c h =
-    ap (λ layers. if not (w.active == 0) then On (shown_with (mode_in_words w) w.conn layers) else Off) (layers-alike f g (mode_in_words w) c (ids_of t Plane) h)
+    ap (λ layers. if not (w.active == 0) then On (shown_with (mode_in_words w) w.conn (gamma_in_words w) layers) else Off) (layers-alike f g (mode_in_words w) c (ids_of t Plane) h)
 
 -- what a CRTC's words show, where they are those of values, is what the values show
 pub words_show : (t : Topology) (w : World) (c : ℕ) → IsSound t w → AreFramed w.things → AreKept w.things → IsIn c (ids_of t Crtc)
@@ -146,13 +159,25 @@ words_show t w c sound framed kept is =
     picture-alike t (words_at t w.things w.values c) _ (plane_at w.things w.values) c (λ p i. plane_back t w p sound framed i)
     ∙ by_active (int_eq (value w.values c ACTIVE) (pos 0)) refl
   where
+    -- the table of colour values of the words of one, or of none
+    table : Option Gamma → Option Gamma
+    table g = if flag_word (is_some g) == 1 then Some (gamma_with (bytes_of_words (gamma_words g))) else None
+
+    table-back : (g : Option Gamma) → gamma_at w.things w.values c ≡ g → table g ≡ g
+    table-back None e = refl
+    table-back (Some g) e = ap Some (kept_gamma w.things (value w.values c GAMMA_LUT) g kept e)
+
     shows : Option Mode → Picture
-    shows m = On (shown_with (mode_held (bytes_of_words (mode_words m))) (connector_on w.values c (ids_of t Conn)) (layers_with (plane_at w.things w.values) (mode_held (bytes_of_words (mode_words m))) c (ids_of t Plane)))
+    shows m =
+        On (shown_with (mode_held (bytes_of_words (mode_words m))) (connector_on w.values c (ids_of t Conn)) (table (gamma_at w.things w.values c))
+        (layers_with (plane_at w.things w.values) (mode_held (bytes_of_words (mode_words m))) c (ids_of t Plane)))
 
     with_mode : (m : Option Mode) → mode_at w.things w.values c ≡ m → is_some m ≡ true → shows m ≡ picture_in t w.things w.values c m
     with_mode None e some = absurd cc
     with_mode (Some m) e some =
-        ap (λ z. On (shown_with z (connector_on w.values c (ids_of t Conn)) (layers_with (plane_at w.things w.values) z c (ids_of t Plane)))) (kept_mode w.things (value w.values c MODE_ID) m kept e)
+        let mode = kept_mode w.things (value w.values c MODE_ID) m kept e in
+        let gamma = table-back (gamma_at w.things w.values c) refl in
+        λ i. On (shown_with (mode i) (connector_on w.values c (ids_of t Conn)) (gamma i) (layers_with (plane_at w.things w.values) (mode i) c (ids_of t Plane)))
 
     some_mode : is_active w.values c ≡ true → is_some (mode_at w.things w.values c) ≡ true
     some_mode on =

@@ -1,3 +1,4 @@
+pub mod Blankings
 pub mod Ends
 pub mod Laws
 pub mod Numbers

@@ -1,4 +1,5 @@
 //! How large the numbers of a history become, and how much of a commit is left to do.
+ghost use Rattle.kms_laws.specs.Blankings.{CountsAreBlankings};
 ghost use Rattle.kms_laws.specs.Numbers.{AllNumbersFit};
 ghost use Rattle.kms_laws.specs.TailsLeft.{AllTailsGetShorter, CleanedTailsAreOver, TailsAreShort, TailsGetShorter};
 
@@ -7,6 +8,11 @@ ghost use Rattle.kms_laws.specs.TailsLeft.{AllTailsGetShorter, CleanedTailsAreOv
 /// has at most 128 events that are reserved or unread.
 pub fn numbers_fit_their_types()
     ensures { AllNumbersFit }
+{}
+
+/// After each history the count of each CRTC is the number of its vertical blankings in the history.
+pub fn counts_are_blankings()
+    ensures { CountsAreBlankings }
 {}
 
 /// At most 31 steps are left of the tail of a commit: a claim, 20 writes, 4 flushes, an hw_done, 4 latches and a cleanup.

@@ -9,7 +9,8 @@ mod headline;
 mod locks;
 
 pub use bounds::{
-    all_tails_get_shorter, numbers_fit_their_types, tails_are_short, tails_get_shorter,
+    all_tails_get_shorter, counts_are_blankings, numbers_fit_their_types, tails_are_short,
+    tails_get_shorter,
 };
 pub use ends::{
     finished_histories_are_over, generated_scripts_drain, generated_scripts_never_stall,

@@ -34,6 +34,7 @@ use Rattle.kms_model.proofs.ApplyLemmas.{number_or, value-apply}
 use Rattle.kms_model.proofs.HeldValues.{AreAllHeld}
 use Rattle.kms_model.proofs.Items.{ids-has}
 use Rattle.kms_model.proofs.LastLemmas.{IsIn, set_by}
+use Rattle.kms_model.proofs.PropertyTable.{of_kind-in}
 use Rattle.kms_model.proofs.SeenLemmas.{conn_crtc-held, plane_crtc-held}
 
 -- what holds of all items holds of one
@@ -65,12 +66,12 @@ crtc_in_range t f a allowed is =
     subst P is allowed.value
 
 -- an object with a CRTC_ID is a plane or a connector
-pub routed : (k : Kind) (prop : PropRef) → has_property k prop ≡ true → prop_of prop ≡ CRTC_ID → is_routed k ≡ true
-routed k (Unknown name) has is = absurd (cc)
-routed Crtc (Known id) has is = (let wrong : is_of_kind Crtc (property CRTC_ID) ≡ true = subst (λ i. is_of_kind Crtc (property i) ≡ true) is has in absurd (cc))
-routed Enc (Known id) has is = (let wrong : is_of_kind Enc (property CRTC_ID) ≡ true = subst (λ i. is_of_kind Enc (property i) ≡ true) is has in absurd (cc))
-routed Plane (Known id) has is = refl
-routed Conn (Known id) has is = refl
+pub routed : (t : Topology) (k : Kind) (prop : PropRef) → has_property t k prop ≡ true → prop_of prop ≡ CRTC_ID → is_routed k ≡ true
+routed t k (Unknown name) has is = absurd (cc)
+routed t Crtc (Known id) has is = (let wrong : is_of_kind Crtc (property CRTC_ID) ≡ true = subst (λ i. is_of_kind Crtc (property i) ≡ true) is (of_kind-in t.profile id Crtc has) in absurd (cc))
+routed t Enc (Known id) has is = (let wrong : is_of_kind Enc (property CRTC_ID) ≡ true = subst (λ i. is_of_kind Enc (property i) ≡ true) is (of_kind-in t.profile id Enc has) in absurd (cc))
+routed t Plane (Known id) has is = refl
+routed t Conn (Known id) has is = refl
 
 -- The CRTC after a request: that of the last CRTC_ID, or else the one before.
 pub record CrtcAfter (t : Topology) (f : ℕ → Look) (old new : List Setting) (assigns : List Assign) (object : ℕ) : Type 0 where

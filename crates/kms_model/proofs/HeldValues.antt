@@ -6,11 +6,12 @@ use Rattle.std.specs.Ordering.{int_eq}
 use Rattle.std.specs.Result.{result_ok}
 use Rattle.std.proofs.lemmas.Bool.{eqb-true, and_parts, and_from, or_cases, or_left, or_right, cases_Bool, cond-true, cond-false, ltb-true, not-false}
 use Rattle.std.proofs.lemmas.Bool.Decides.{Decides-int_eq, nat_tests}
+use Rattle.kms_model.specs.declared.objects.Gamma.{Gamma}
 use Rattle.kms_model.specs.declared.objects.Kind.{Kind}
 use Rattle.kms_model.specs.declared.objects.Kind.TheVariants as kind
 use Rattle.kms_model.specs.declared.objects.Mode.{Mode}
 use Rattle.kms_model.specs.declared.objects.Topology.{Topology}
-use Rattle.kms_model.specs.declared.properties.TheConstants.{FB_ID, MODE_ID, IN_FENCE_FD, OUT_FENCE_PTR}
+use Rattle.kms_model.specs.declared.properties.TheConstants.{FB_ID, GAMMA_LUT, MODE_ID, IN_FENCE_FD, OUT_FENCE_PTR}
 use Rattle.kms_model.specs.declared.ranges.Range.{Range}
 use Rattle.kms_model.specs.declared.ranges.Range.TheVariants.{Numbers, Thing, CrtcName}
 use Rattle.kms_model.specs.declared.scripts.Assign.{Assign}
@@ -22,18 +23,20 @@ use Rattle.kms_model.specs.declared.worlds.Setting.{Setting}
 use Rattle.kms_model.specs.declared.worlds.Thing as worlds
 use Rattle.kms_model.specs.declared.worlds.World.{World}
 use Rattle.kms_model.specs.declared.stores.BadMode.TheVariants.{Length, Horizontal, Vertical, Clock, Size}
+use Rattle.kms_model.specs.Device.GammaBytes.{gamma_of_bytes}
 use Rattle.kms_model.specs.Device.ModeBytes.{decoded, if_legal, mode_held}
 use Rattle.kms_model.specs.Device.Modes.{is_axis, is_legal_mode}
 use Rattle.kms_model.specs.Device.Objects.{object_id, count_of, ids_of}
 use Rattle.kms_model.specs.Device.World.{value, thing_labelled, thing_numbered}
-use Rattle.kms_model.specs.Device.States.{framebuffer_of, framebuffer_in, mode_of, mode_in}
-use Rattle.kms_model.specs.Request.Lookups.{look_of_mode, look_of_content, look_of, look_up}
+use Rattle.kms_model.specs.Device.States.{framebuffer_in, gamma_in, mode_in}
+use Rattle.kms_model.specs.Request.Lookups.{look_of_blob, look_of_content, look_of, look_up}
 use Rattle.kms_model.specs.Device.Properties.{Property, properties, property}
 use Rattle.kms_model.specs.Request.Apply.{id_in, number_of, prop_of, is_kept, object_of, assign, apply}
 use Rattle.kms_model.specs.Firsts.{number_if}
 use Rattle.kms_model.specs.Request.Refusals.{own_refusal, has_property, is_immutable, is_of_kind, takes, is_in_range, is_in_range_of, is_value, assign_refusal, assigns_refusal}
 use Rattle.kms_model.specs.Device.Objects.{exists}
-use Rattle.kms_model.specs.Device.Sound.{AreNumbered, has_legal_mode, is_thing, is_crtc, is_held, holds_value, kept_properties, holds_values, are_held}
+use Rattle.kms_model.specs.Device.Sound.{AreNumbered, has_legal_mode, is_taken, is_thing, is_crtc, is_held, holds_value, kept_properties, holds_values, are_held}
+use Rattle.kms_model.proofs.PropertyTable.{rows_found}
 use Rattle.kms_model.proofs.Items.{IsIn, list_all-at, list_all-from, list_any-has, ids-has, or_else-none, number_if-none}
 use Rattle.kms_model.proofs.AppliedValues.{targets, value-assign}
 use Rattle.kms_model.proofs.ThingLemmas.{IsNumberedIn, ids-numbered, find-in, thing_numbered-labelled, IsSeenAlike, seen-push}
@@ -44,10 +47,6 @@ all-at : {A : Type 0} (P : A → Type 0) (xs : List A) (x : A) → AllByRecursio
 all-at P [] x all is = absurd is
 all-at P (y ∷ ys) x all (inl same) = subst P same all.0
 all-at P (y ∷ ys) x all (inr rest) = all-at P ys x all.1 rest
-
--- each row is found by its id
-rows_found : AllByRecursion (λ p. property p.id ≡ Some p) properties
-rows_found = (refl, (refl, (refl, (refl, (refl, (refl, (refl, (refl, (refl, (refl, (refl, (refl, (refl, (refl, (refl, (refl, (refl, (refl, tt))))))))))))))))))
 
 filter-in : {A : Type 0} (test : A → Bool) (xs : List A) (x : A) → IsIn x (filter test xs) → IsIn x xs × (test x ≡ true)
 filter-in test [] x is = absurd is
@@ -101,19 +100,26 @@ decoded-if false m n e = absurd cc
 decoded-legal : (bytes : List ℕ) (m : Mode) → result_ok (decoded bytes) ≡ Some m → is_legal_mode m ≡ true
 decoded-legal bytes m e = decoded-if (length bytes == 68) (mode_held bytes) m e
 
-taken_content : (q id : ℕ) (c : Content) → is_kept q ≡ true → takes q (look_of_content id c) ≡ true → (((q == FB_ID) && is_some (framebuffer_in c)) || ((q == MODE_ID) && has_legal_mode (mode_in c))) ≡ true
+-- a property takes what a content has
+abbrev takes_content : ℕ → Content → Bool
+takes_content q c = ((q == FB_ID) && is_some (framebuffer_in c)) || (((q == MODE_ID) && has_legal_mode (mode_in c)) || ((q == GAMMA_LUT) && is_some (gamma_in c)))
+
+taken_content : (q id : ℕ) (c : Content) → is_kept q ≡ true → takes q (look_of_content id c) ≡ true → takes_content q c ≡ true
 taken_content q id (content.Buffer width height format pattern) kept taken = absurd cc
-taken_content q id (content.Framebuffer info buffer) kept taken = or_left ((q == FB_ID) && true) ((q == MODE_ID) && false) (and_from (q == FB_ID) true taken refl)
+taken_content q id (content.Framebuffer info buffer) kept taken = or_left ((q == FB_ID) && true) _ (and_from (q == FB_ID) true taken refl)
 taken_content q id (content.Mode m) kept taken = go (is_legal_mode m) taken
   where
-    go : (legal : Bool) → takes q (if legal then Rattle.kms_model.specs.declared.worlds.Look.TheVariants.Mode m id else Rattle.kms_model.specs.declared.worlds.Look.TheVariants.Blob id) ≡ true → (((q == FB_ID) && false) || ((q == MODE_ID) && legal)) ≡ true
-    go true is = or_right ((q == FB_ID) && false) ((q == MODE_ID) && true) (and_from (q == MODE_ID) true is refl)
+    go : (legal : Bool) → takes q (if legal then Rattle.kms_model.specs.declared.worlds.Look.TheVariants.Mode m id else Rattle.kms_model.specs.declared.worlds.Look.TheVariants.Blob id) ≡ true
+        → (((q == FB_ID) && false) || (((q == MODE_ID) && legal) || ((q == GAMMA_LUT) && false))) ≡ true
+    go true is = or_right ((q == FB_ID) && false) _ (or_left ((q == MODE_ID) && true) _ (and_from (q == MODE_ID) true is refl))
     go false is = absurd cc
-taken_content q id (content.Blob bytes) kept taken = go (result_ok (decoded bytes)) refl taken
+taken_content q id (content.Blob bytes) kept taken = go (result_ok (decoded bytes)) (gamma_of_bytes bytes) refl taken
   where
-    go : (mode : Option Mode) → result_ok (decoded bytes) ≡ mode → takes q (look_of_mode id mode) ≡ true → (((q == FB_ID) && false) || ((q == MODE_ID) && has_legal_mode mode)) ≡ true
-    go (Some m) held is = or_right ((q == FB_ID) && false) ((q == MODE_ID) && is_legal_mode m) (and_from (q == MODE_ID) (is_legal_mode m) is (decoded-legal bytes m held))
-    go None held is = absurd cc
+    go : (mode : Option Mode) (gamma : Option Gamma) → result_ok (decoded bytes) ≡ mode → takes q (look_of_blob id mode gamma) ≡ true
+        → (((q == FB_ID) && false) || (((q == MODE_ID) && has_legal_mode mode) || ((q == GAMMA_LUT) && is_some gamma))) ≡ true
+    go (Some m) gamma held is = or_right ((q == FB_ID) && false) _ (or_left ((q == MODE_ID) && is_legal_mode m) _ (and_from (q == MODE_ID) (is_legal_mode m) is (decoded-legal bytes m held)))
+    go None (Some g) held is = or_right ((q == FB_ID) && false) _ (or_right ((q == MODE_ID) && false) ((q == GAMMA_LUT) && true) (and_from (q == GAMMA_LUT) true is refl))
+    go None None held is = absurd cc
 taken_content q id content.Fence kept taken = let same = eqb-true q IN_FENCE_FD taken in let e : is_kept IN_FENCE_FD ≡ true = subst (λ r. is_kept r ≡ true) same kept in absurd cc
 taken_content q id content.OutFence kept taken = let same = eqb-true q IN_FENCE_FD taken in let e : is_kept IN_FENCE_FD ≡ true = subst (λ r. is_kept r ≡ true) same kept in absurd cc
 
@@ -122,8 +128,8 @@ held-label : (things : List worlds.Thing) (q : ℕ) (none : ℤ) (o : Option wor
     → takes q (look_of o) ≡ true → is_thing things q none (id_in o) ≡ true
 held-label things q none None kept found taken = absurd cc
 held-label things q none (Some u) kept found taken =
-    or_right (int_eq (pos u.id) none) (((q == FB_ID) && is_some (framebuffer_of (thing_numbered things (pos u.id)))) || ((q == MODE_ID) && has_legal_mode (mode_of (thing_numbered things (pos u.id)))))
-    (rw (found u refl) (taken_content q u.id u.content kept (go u.is_open taken)))
+    or_right (int_eq (pos u.id) none) (is_taken q (thing_numbered things (pos u.id)))
+    (ap (is_taken q) (found u refl) ∙ taken_content q u.id u.content kept (go u.is_open taken))
   where
     go : (open_ : Bool) → takes q (if open_ then look_of_content u.id u.content else Rattle.kms_model.specs.declared.worlds.Look.TheVariants.Closed) ≡ true → takes q (look_of_content u.id u.content) ≡ true
     go true is = is
@@ -152,7 +158,7 @@ held-in_range t w q (Thing none) (Crtc index) numbered kept is = absurd cc
 
 pub record IsAccepted (t : Topology) (w : World) (a : Assign) : Type 0 where
   pub object_exists : exists t a.kind a.index ≡ true
-  pub has : has_property a.kind a.prop ≡ true
+  pub has : has_property t a.kind a.prop ≡ true
   pub mutable : is_immutable a.prop ≡ false
   pub is_value : is_value t (look_up w) a.prop a.value ≡ true
 
@@ -161,11 +167,11 @@ unfolding assign_refusal own_refusal
 accepted-assign t w earlier a none =
     let own = (or_else-none (own_refusal t (look_up w) a) _ none).first_none in
     let four = or_else-none (number_if 4 (not (exists t a.kind a.index))) _ own in
-    let five = or_else-none (number_if 5 (not (has_property a.kind a.prop))) _ four.second_none in
+    let five = or_else-none (number_if 5 (not (has_property t a.kind a.prop))) _ four.second_none in
     let six = or_else-none (number_if 6 (is_immutable a.prop)) _ five.second_none in
     record {
       object_exists = not-false (exists t a.kind a.index) (number_if-none 4 _ four.first_none);
-      has = not-false (has_property a.kind a.prop) (number_if-none 5 _ five.first_none);
+      has = not-false (has_property t a.kind a.prop) (number_if-none 5 _ five.first_none);
       mutable = number_if-none 6 (is_immutable a.prop) six.first_none;
       is_value = not-false (is_value t (look_up w) a.prop a.value) (number_if-none 7 _ six.second_none);
     }
@@ -241,7 +247,7 @@ are_held-kept t xs ys old new keeps held =
 pub held-seen : (t : Topology) (xs ys : List worlds.Thing) (q : ℕ) (r : Range) (number : ℤ) → IsSeenAlike xs ys number → is_held t xs q r number ≡ true → is_held t ys q r number ≡ true
 held-seen t xs ys q (Numbers low high) number alike held = held
 held-seen t xs ys q CrtcName number alike held = held
-held-seen t xs ys q (Thing none) number alike held = rw (← alike.fb, ← alike.mode) held
+held-seen t xs ys q (Thing none) number alike held = rw (← alike.fb, ← alike.mode, ← alike.gamma) held
 
 found_apart : (n : ℕ) (things : List worlds.Thing) (u : worlds.Thing) (number : ℤ) (o : Option worlds.Thing) → AreNumbered n things → u.id ≡ n + length things → thing_numbered things number ≡ o → is_some o ≡ true → number ≢ pos u.id
 found_apart n things u number None numbered next found some = absurd cc
@@ -261,22 +267,21 @@ found_apart n things u number (Some v) numbered next found some =
           | inr other ↦ find-holds ys z x (sym (cond-false (int_eq (pos y.id) z) (Some y) (thing_numbered ys z) other) ∙ e)
         ]
 
-some_thing-fb : (o : Option worlds.Thing) → is_some (framebuffer_of o) ≡ true → is_some o ≡ true
-some_thing-fb None some = absurd cc
-some_thing-fb (Some u) some = refl
-
-some_thing-mode : (o : Option worlds.Thing) → has_legal_mode (mode_of o) ≡ true → is_some o ≡ true
-some_thing-mode None some = absurd cc
-some_thing-mode (Some u) some = refl
+-- what a property takes is a thing
+taken-some : (q : ℕ) (o : Option worlds.Thing) → is_taken q o ≡ true → is_some o ≡ true
+taken-some q (Some u) taken = refl
+taken-some q None taken =
+    elim (or_cases ((q == FB_ID) && false) _ taken) [
+      | inl fb ↦ (and_parts (q == FB_ID) false fb).1
+      | inr rest ↦ elim (or_cases ((q == MODE_ID) && false) ((q == GAMMA_LUT) && false) rest) [
+        | inl mode ↦ (and_parts (q == MODE_ID) false mode).1
+        | inr gamma ↦ (and_parts (q == GAMMA_LUT) false gamma).1
+      ]
+    ]
 
 -- the number of a thing, held, is not that of the next thing
-pub held-apart : (things : List worlds.Thing) (u : worlds.Thing) (q : ℕ) (number : ℤ) → AreNumbered 1000 things → u.id ≡ 1000 + length things
-    → (((q == FB_ID) && is_some (framebuffer_of (thing_numbered things number))) || ((q == MODE_ID) && has_legal_mode (mode_of (thing_numbered things number)))) ≡ true → number ≢ pos u.id
-held-apart things u q number numbered next held =
-    elim (or_cases ((q == FB_ID) && is_some (framebuffer_of (thing_numbered things number))) ((q == MODE_ID) && has_legal_mode (mode_of (thing_numbered things number))) held) [
-      | inl fb ↦ found_apart 1000 things u number (thing_numbered things number) numbered next refl (some_thing-fb (thing_numbered things number) (and_parts (q == FB_ID) _ fb).1)
-      | inr mode ↦ found_apart 1000 things u number (thing_numbered things number) numbered next refl (some_thing-mode (thing_numbered things number) (and_parts (q == MODE_ID) _ mode).1)
-    ]
+pub held-apart : (things : List worlds.Thing) (u : worlds.Thing) (q : ℕ) (number : ℤ) → AreNumbered 1000 things → u.id ≡ 1000 + length things → is_taken q (thing_numbered things number) ≡ true → number ≢ pos u.id
+held-apart things u q number numbered next held = found_apart 1000 things u number (thing_numbered things number) numbered next refl (taken-some q (thing_numbered things number) held)
 
 -- what is held stays held as a thing is made
 pub held-push : (t : Topology) (things : List worlds.Thing) (u : worlds.Thing) (q : ℕ) (r : Range) (number : ℤ) → AreNumbered 1000 things → u.id ≡ 1000 + length things
@@ -284,7 +289,7 @@ pub held-push : (t : Topology) (things : List worlds.Thing) (u : worlds.Thing) (
 held-push t things u q (Numbers low high) number numbered next held = held
 held-push t things u q CrtcName number numbered next held = held
 held-push t things u q (Thing none) number numbered next held =
-    elim (or_cases (int_eq number none) (((q == FB_ID) && is_some (framebuffer_of (thing_numbered things number))) || ((q == MODE_ID) && has_legal_mode (mode_of (thing_numbered things number)))) held) [
+    elim (or_cases (int_eq number none) (is_taken q (thing_numbered things number)) held) [
       | inl is_none ↦ or_left (int_eq number none) _ is_none
       | inr found ↦ held-seen t things (things ++ u ∷ []) q (Thing none) number (seen-push things u number (held-apart things u q number numbered next found)) held
     ]
@@ -293,7 +298,7 @@ held-push t things u q (Thing none) number numbered next held =
 pub seen-held : (t : Topology) (things : List worlds.Thing) (u : worlds.Thing) (q : ℕ) (number : ℤ) → AreNumbered 1000 things → u.id ≡ 1000 + length things
     → is_thing things q (pos 0) number ≡ true → IsSeenAlike things (things ++ u ∷ []) number
 seen-held t things u q number numbered next held =
-    seen-push things u number (elim (or_cases (int_eq number (pos 0)) (((q == FB_ID) && is_some (framebuffer_of (thing_numbered things number))) || ((q == MODE_ID) && has_legal_mode (mode_of (thing_numbered things number)))) held) [
+    seen-push things u number (elim (or_cases (int_eq number (pos 0)) (is_taken q (thing_numbered things number)) held) [
       | inl is_zero ↦ (λ same. let e : pos 0 ≡ pos u.id = sym ((Decides-int_eq number (pos 0)).0 is_zero) ∙ same in let ids : 0 ≡ u.id = cc in omega (arith, next, ids))
       | inr found ↦ held-apart things u q number numbered next found
     ])

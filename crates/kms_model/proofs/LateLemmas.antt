@@ -231,18 +231,18 @@ new_mode-at t w r d j crtc stand same there =
     go (Some both) is some = ap (λ s. s.mode) (stand.new.crtcs j both (flatten-some (slice_get d.crtcs j) both is))
 
 shown-same : (t : Topology) (w : World) (r : Request) (d : Duplicates) (objects : Mask) → StandAt t w r d → Covers t w r d objects
-    → first_in objects.planes d.planes (λ index both. shown_refusal_of d.crtcs both) (count_of t kind.Plane) ≡ first_some (shown_refusal_at w.things (after w r)) (ids_of t kind.Plane)
+    → first_in objects.planes d.planes (λ index both. shown_refusal_of t.profile d.crtcs both) (count_of t kind.Plane) ≡ first_some (shown_refusal_at t.profile w.things (after w r)) (ids_of t kind.Plane)
 shown-same t w r d objects stand covers =
-    first-ids t kind.Plane (λ i. option_and_then (λ both. shown_refusal_of d.crtcs both) (duplicate_in objects.planes d.planes i)) (shown_refusal_at w.things (after w r)) (λ i within.
-    part-same objects.planes d.planes (λ index both. shown_refusal_of d.crtcs both) i (shown_refusal_at w.things (after w r) (object_id kind.Plane i)) (covers.has_planes i within)
+    first-ids t kind.Plane (λ i. option_and_then (λ both. shown_refusal_of t.profile d.crtcs both) (duplicate_in objects.planes d.planes i)) (shown_refusal_at t.profile w.things (after w r)) (λ i within.
+    part-same objects.planes d.planes (λ index both. shown_refusal_of t.profile d.crtcs both) i (shown_refusal_at t.profile w.things (after w r) (object_id kind.Plane i)) (covers.has_planes i within)
     (λ out. untouched-shown t w r (object_id kind.Plane i) stand.at (ids-has t kind.Plane i within) (untouched-where (touches_object t w r (object_id kind.Plane i)) (has_bit objects.planes i) (covers.planes i within) out))
     (λ inside both here. on_crtc_of i within inside both.new (stand.new.planes i both here) (held i within)))
   where
     on_crtc_of : (i : ℕ) → i < count_of t kind.Plane → has_bit objects.planes i ≡ true → (s : PlaneState) → s ≡ plane_at w.things (after w r) (object_id kind.Plane i) → IsCrtcOrNone t (crtc_at (after w r) (object_id kind.Plane i))
-        → shown_refusal (new_mode d.crtcs s.crtc) s ≡ shown_refusal_at w.things (after w r) (object_id kind.Plane i)
-    on_crtc_of i within inside s is (IsNone off) = shown-off (new_mode d.crtcs s.crtc) (mode_at w.things (after w r) s.crtc) s (ap (λ x. x.crtc) is ∙ off) ∙ ap (λ x. shown_refusal (mode_at w.things (after w r) x.crtc) x) is
+        → shown_refusal t.profile (new_mode d.crtcs s.crtc) s ≡ shown_refusal_at t.profile w.things (after w r) (object_id kind.Plane i)
+    on_crtc_of i within inside s is (IsNone off) = shown-off t.profile (new_mode d.crtcs s.crtc) (mode_at w.things (after w r) s.crtc) s (ap (λ x. x.crtc) is ∙ off) ∙ ap (λ x. shown_refusal t.profile (mode_at w.things (after w r) x.crtc) x) is
     on_crtc_of i within inside s is (IsCrtc j below same) =
-        ap (λ m. shown_refusal m s) (new_mode-at t w r d j s.crtc stand (ap (λ x. x.crtc) is ∙ same) (covers.has_crtc_of i j within inside below same)) ∙ ap (λ x. shown_refusal (mode_at w.things (after w r) x.crtc) x) is
+        ap (λ m. shown_refusal t.profile m s) (new_mode-at t w r d j s.crtc stand (ap (λ x. x.crtc) is ∙ same) (covers.has_crtc_of i j within inside below same)) ∙ ap (λ x. shown_refusal t.profile (mode_at w.things (after w r) x.crtc) x) is
 
     held : (i : ℕ) → i < count_of t kind.Plane → IsCrtcOrNone t (crtc_at (after w r) (object_id kind.Plane i))
     held i within = plane_crtc-held t w.things (after w r) (object_id kind.Plane i) (all_held-from t w.things (after w r) (apply-held t w r stand.at.sound stand.at.early)) (ids-has t kind.Plane i within)

@@ -2,6 +2,7 @@ pub mod AppliedValues
 pub mod ApplyLemmas
 pub mod CrtcLemmas
 pub mod FramedLemmas
+pub mod GammaRoundTrip
 pub mod HeldValues
 pub mod ImageWords
 pub mod InPlace
@@ -20,6 +21,7 @@ pub mod OnMachines
 pub mod OnScripts
 pub mod OneThread
 pub mod OpenLemmas
+pub mod ProfileRows
 pub mod PropertyTable
 pub mod ReachLaw
 pub mod RequestLemmas
@@ -32,6 +34,7 @@ pub mod SettingLemmas
 pub mod ShownLemmas
 pub mod SoundKept
 pub mod SoundStart
+pub mod SourcePlaces
 pub mod Spans
 pub mod StandsLemmas
 pub mod StartValues
@@ -42,3 +45,4 @@ pub mod TouchedLemmas
 pub mod UnionLemmas
 pub mod ValueLemmas
 pub mod VerdictRows
+pub mod WordBytes

@@ -22,7 +22,7 @@ use Rattle.kms_model.specs.Device.Objects.{exists, count_of}
 use Rattle.kms_model.specs.Device.Properties.{Property, properties, property, has_id, keeps_limits}
 use Rattle.kms_model.specs.Script.Words.{between}
 use Rattle.kms_model.proofs.Items.{number_if-none}
-use Rattle.kms_model.proofs.PropertyTable.{find-list_all}
+use Rattle.kms_model.proofs.PropertyTable.{find-list_all, of_kind-in}
 use Rattle.kms_model.specs.Request.Refusals.{own_refusal, flags_refusal, assign_refusal, assigns_refusal, early_refusal, has_property, is_immutable, is_value, is_in_range, is_in_range_of, is_of_kind}
 use Rattle.kms_model.specs.Request.Apply.{prop_of}
 use Rattle.kms_model.specs.Request.Resolves.{IsAllowed, IsSettable, IsSettableNumber, IsSettableValue, HasPlace}
@@ -42,11 +42,11 @@ unfolding assign_refusal own_refusal
 allowed t f earlier a none =
     let own = (none_of_both (own_refusal t f a) _ none).0 in
     let four = none_of_both (number_if 4 (not (exists t a.kind a.index))) _ own in
-    let five = none_of_both (number_if 5 (not (has_property a.kind a.prop))) _ four.1 in
+    let five = none_of_both (number_if 5 (not (has_property t a.kind a.prop))) _ four.1 in
     let six = none_of_both (number_if 6 (is_immutable a.prop)) _ five.1 in
     record {
       exists = not_not (exists t a.kind a.index) (number_if-none 4 _ four.0);
-      has = not_not (has_property a.kind a.prop) (number_if-none 5 _ five.0);
+      has = not_not (has_property t a.kind a.prop) (number_if-none 5 _ five.0);
       mutable = number_if-none 6 (is_immutable a.prop) six.0;
       value = not_not (is_value t f a.prop a.value) (number_if-none 7 _ six.1);
     }
@@ -137,9 +137,9 @@ few_of_kind t kind.Plane few = omega arith
 few_of_kind t kind.Conn few = omega arith
 few_of_kind t kind.Enc few = omega arith
 
--- an id of the table is at most 18
+-- an id of the table is at most 19
 abbrev is_small_id : Property → Bool
-is_small_id p = nat_le p.id 18
+is_small_id p = nat_le p.id 19
 
 small_ids : list_all is_small_id properties ≡ true
 small_ids = refl
@@ -155,28 +155,30 @@ find_own : (id : ℕ) (ps : List Property) → IfSome (find (has_id id) ps) (λ 
 find_own id [] = tt
 find_own id (p ∷ ps) = elim (eqb_tells p.id id) [ inl same ↦ rw same.0 same.1 | inr other ↦ rw other.0 (find_own id ps) ]
 
-small_id_of : (id : ℕ) (row : Option Property) (k : Kind) → IfSome row (λ p. p.id ≡ id) → IfSome row (λ p. is_small_id p ≡ true) → is_of_kind k row ≡ true → id ≤ 18
+small_id_of : (id : ℕ) (row : Option Property) (k : Kind) → IfSome row (λ p. p.id ≡ id) → IfSome row (λ p. is_small_id p ≡ true) → is_of_kind k row ≡ true → id ≤ 19
 small_id_of id None k own small has = absurd (cc)
-small_id_of id (Some p) k own small has = (let h : p.id ≤ 18 = leb-true p.id 18 small in omega arith)
+small_id_of id (Some p) k own small has = (let h : p.id ≤ 19 = leb-true p.id 19 small in omega arith)
 
 -- a property that some kind of object has is in the table
-pub small_prop : (k : Kind) (prop : PropRef) → has_property k prop ≡ true → prop_of prop ≤ 18
-small_prop k (Unknown name) has = omega arith
-small_prop k (Known id) has = small_id_of id (property id) k (find_own id properties) (find-list_all is_small_id (has_id id) properties small_ids) has
+pub small_prop : (t : Topology) (k : Kind) (prop : PropRef) → has_property t k prop ≡ true → prop_of prop ≤ 19
+small_prop t k (Unknown name) has = omega arith
+small_prop t k (Known id) has =
+    small_id_of id (property id) k (find_own id properties) (find-list_all is_small_id (has_id id) properties small_ids) (of_kind-in t.profile id k has)
 
 no_encoder_of : (row : Option Property) → IfSome row (λ p. has_no_encoder p ≡ true) → is_of_kind kind.Enc row ≡ true → ⊥
 no_encoder_of None h has = cc
 no_encoder_of (Some p) h has = let no : is_of_kind kind.Enc (Some p) ≡ false = not-true (is_of_kind kind.Enc (Some p)) h in cc
 
-no_encoder : (prop : PropRef) → has_property kind.Enc prop ≡ true → ⊥
-no_encoder (Unknown name) has = cc
-no_encoder (Known id) has = no_encoder_of (property id) (find-list_all has_no_encoder (has_id id) properties no_encoders) has
+no_encoder : (t : Topology) (prop : PropRef) → has_property t kind.Enc prop ≡ true → ⊥
+no_encoder t (Unknown name) has = cc
+no_encoder t (Known id) has =
+    no_encoder_of (property id) (find-list_all has_no_encoder (has_id id) properties no_encoders) (of_kind-in t.profile id kind.Enc has)
 
-placed : (t : Topology) (k : Kind) (index : ℕ) (prop : PropRef) → HasFew t → exists t k index ≡ true → has_property k prop ≡ true → HasPlace k index
+placed : (t : Topology) (k : Kind) (index : ℕ) (prop : PropRef) → HasFew t → exists t k index ≡ true → has_property t k prop ≡ true → HasPlace k index
 placed t kind.Crtc index prop few is has = omega (arith, ltb-true index t.crtcs is)
 placed t kind.Plane index prop few is has = omega (arith, ltb-true index (length t.planes) is)
 placed t kind.Conn index prop few is has = omega (arith, ltb-true index (length t.conns) is)
-placed t kind.Enc index prop few is has = no_encoder prop has
+placed t kind.Enc index prop few is has = no_encoder t prop has
 
 -- an allowed assignment is within the limits
 pub allowed_settable : (t : Topology) (f : ℕ → Look) (a : Assign) → keeps_limits t ≡ true → IsAllowed t f a → IsSettable a
@@ -184,7 +186,7 @@ allowed_settable t f a limits h =
     let few = has_few t limits in
     record {
       place = placed t a.kind a.index a.prop few h.exists h.has;
-      prop = small_prop a.kind a.prop h.has;
+      prop = small_prop t a.kind a.prop h.has;
       index = omega (arith, few_of_kind t a.kind few, ltb-true a.index (count_of t a.kind) h.exists);
       value = settable_by_row t f a.value (property (prop_of a.prop)) few.crtcs (small_row (prop_of a.prop)) h.value;
     }

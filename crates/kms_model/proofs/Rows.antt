@@ -22,7 +22,7 @@ use Rattle.kms_model.proofs.OnScripts.{on_scripts}
 
 -- one CRTC, one primary plane and one connector
 abbrev pub device : Topology
-device = record { crtcs = 1; planes = record { kind = 1; crtcs = 1; formats = 1 } ∷ []; conns = 1 ∷ [] }
+device = record { profile = 1; crtcs = 1; planes = record { kind = 1; crtcs = 1; formats = 1 } ∷ []; conns = 1 ∷ [] }
 
 abbrev pub tiny : Mode
 tiny = plain_mode 1 1 1 (codes "tiny" ++ replicate 28 0)

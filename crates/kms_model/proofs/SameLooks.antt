@@ -27,7 +27,7 @@ use Rattle.kms_model.specs.Device.Properties.{Property, property}
 use Rattle.kms_model.specs.Request.Refusals.{own_refusal, assign_refusal, assigns_refusal, early_refusal, is_in_range, is_in_range_of, takes}
 use Rattle.kms_model.specs.Request.Resolves.{IsResolved}
 use Rattle.kms_model.specs.Request.SameLooks.{TellsLabel, TellsLabels}
-use Rattle.kms_model.specs.Request.Sets.{fb_of_look, fb_value, fence_of_look, in_fence, in_fences, last_sets, look_in, mode_of_look, mode_value, obj_id, set_of}
+use Rattle.kms_model.specs.Request.Sets.{fb_of_look, fb_value, fence_of_look, gamma_of_look, gamma_value, in_fence, in_fences, last_sets, look_in, mode_of_look, mode_value, obj_id, set_of}
 use Rattle.kms_model.specs.Request.Touched.{last_value, value_if}
 
 range-same : (t : Topology) (f g : ℕ → Look) (prop : ℕ) (range : Range) (v : Value) → TellsLabel f g v → is_in_range t f prop range v ≡ is_in_range t g prop range v
@@ -77,8 +77,14 @@ mode-same f g (Named label) same = ap mode_of_look same
 mode-same f g (New label) same = refl
 mode-same f g (Crtc index) same = refl
 
+gamma-same : (f g : ℕ → Look) (v : Value) → TellsLabel f g v → gamma_value f v ≡ gamma_value g v
+gamma-same f g (Num n) same = refl
+gamma-same f g (Named label) same = ap gamma_of_look same
+gamma-same f g (New label) same = refl
+gamma-same f g (Crtc index) same = refl
+
 set-same : (f g : ℕ → Look) (a : Assign) → TellsLabel f g a.value → set_of f a ≡ set_of g a
-set-same f g a same = rw (fb-same f g a.value same, mode-same f g a.value same) refl
+set-same f g a same = rw (fb-same f g a.value same, mode-same f g a.value same, gamma-same f g a.value same) refl
 
 sets-same : (f g : ℕ → Look) (assigns : List Assign) → TellsLabels f g assigns → last_sets f assigns ≡ last_sets g assigns
 unfolding last_sets

@@ -29,6 +29,7 @@ set kind index prop value = record { kind = kind; index = index; prop = prop; va
 
 abbrev device : Topology
 device = record {
+  profile = 1;
   crtcs = 2;
   planes = record { kind = 1; crtcs = 1; formats = 5 } ∷ record { kind = 0; crtcs = 3; formats = 7 } ∷ record { kind = 2; crtcs = 2; formats = 2 } ∷ [];
   conns = 1 ∷ 3 ∷ [];
@@ -137,7 +138,10 @@ faults =
     -- device lacks a connector
     ∷ faulty (codes "kms 1\ncrtcs 1\nplane primary 0 XR24\n") 4 Form
     -- another version
-    ∷ faulty (codes "kms 2\n") 1 Form
+    ∷ faulty (codes "kms 3\n") 1 Form
+    ∷ faulty (codes "kms 0\n") 1 Form
+    -- second spelling of a version
+    ∷ faulty (codes "kms 02\n") 1 Form
     -- five crtcs
     ∷ faulty (codes "kms 1\ncrtcs 5\n") 2 Form
     -- second spelling of a count

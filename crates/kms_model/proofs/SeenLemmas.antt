@@ -8,14 +8,14 @@ use Rattle.kms_model.specs.declared.objects.Kind.TheVariants as kind
 use Rattle.kms_model.specs.declared.objects.Mode.{Mode}
 use Rattle.kms_model.specs.declared.objects.PlaneInfo.{PlaneInfo}
 use Rattle.kms_model.specs.declared.objects.Topology.{Topology}
-use Rattle.kms_model.specs.declared.properties.TheConstants.{FB_ID, CRTC_ID, MODE_ID}
+use Rattle.kms_model.specs.declared.properties.TheConstants.{FB_ID, CRTC_ID, GAMMA_LUT, MODE_ID}
 use Rattle.kms_model.specs.declared.scripts.Request.{Request}
 use Rattle.kms_model.specs.declared.states.PlaneState.{PlaneState}
 use Rattle.kms_model.specs.declared.worlds.Setting.{Setting}
 use Rattle.kms_model.specs.declared.worlds.Thing.{Thing}
 use Rattle.kms_model.specs.Device.Objects.{first_id, ids_of}
 use Rattle.kms_model.specs.Device.World.{value}
-use Rattle.kms_model.specs.Device.States.{natural, mode_at, crtc_at, plane_at, plane_with}
+use Rattle.kms_model.specs.Device.States.{natural, gamma_at, mode_at, crtc_at, plane_at, plane_with}
 use Rattle.kms_model.specs.Request.Named.{needs_modeset}
 use Rattle.kms_model.specs.Device.Properties.{Property}
 use Rattle.kms_model.specs.Device.Sound.IsCrtcOrNone.{IsNone, IsCrtc}
@@ -60,12 +60,16 @@ fb-held t things values plane all is = all.planes.at plane _ is (row-at (kept_pr
 pub mode-held : (t : Topology) (things : List Thing) (values : List Setting) (crtc : ℕ) → AreAllHeld t things values → IsIn crtc (ids_of t kind.Crtc) → is_thing things MODE_ID (pos 0) (value values crtc MODE_ID) ≡ true
 mode-held t things values crtc all is = all.crtcs.at crtc _ is (row-at (kept_properties kind.Crtc) 1 _ refl)
 
+pub gamma-held : (t : Topology) (things : List Thing) (values : List Setting) (crtc : ℕ) → AreAllHeld t things values → IsIn crtc (ids_of t kind.Crtc) → is_thing things GAMMA_LUT (pos 0) (value values crtc GAMMA_LUT) ≡ true
+gamma-held t things values crtc all is = all.crtcs.at crtc _ is (row-at (kept_properties kind.Crtc) 2 _ refl)
+
 -- What is seen of a device's things
 
 -- two lists of things show the same under the numbers that a device's planes and CRTCs have
 pub record AreSeenAlike (t : Topology) (xs ys : List Thing) (values : List Setting) : Type 0 where
   pub planes : (plane : ℕ) → IsIn plane (ids_of t kind.Plane) → IsSeenAlike xs ys (value values plane FB_ID)
   pub crtcs : (crtc : ℕ) → IsIn crtc (ids_of t kind.Crtc) → IsSeenAlike xs ys (value values crtc MODE_ID)
+  pub gammas : (crtc : ℕ) → IsIn crtc (ids_of t kind.Crtc) → IsSeenAlike xs ys (value values crtc GAMMA_LUT)
 
 -- a thing more: what is held is seen alike
 pub alike-push : (t : Topology) (things : List Thing) (u : Thing) (values : List Setting) → AreNumbered 1000 things → u.id ≡ 1000 + length things → are_held t things values ≡ true → AreSeenAlike t things (things ++ u ∷ []) values
@@ -74,6 +78,7 @@ alike-push t things u values numbered next held =
     record {
       planes = λ plane is. seen-held t things u FB_ID (value values plane FB_ID) numbered next (fb-held t things values plane all is);
       crtcs = λ crtc is. seen-held t things u MODE_ID (value values crtc MODE_ID) numbered next (mode-held t things values crtc all is);
+      gammas = λ crtc is. seen-held t things u GAMMA_LUT (value values crtc GAMMA_LUT) numbered next (gamma-held t things values crtc all is);
     }
 
 -- a thing that is closed
@@ -81,6 +86,7 @@ pub alike-closed : (t : Topology) (things : List Thing) (id : ℕ) (values : Lis
 alike-closed t things id values = record {
   planes = λ plane is. seen-closed things id (value values plane FB_ID);
   crtcs = λ crtc is. seen-closed things id (value values crtc MODE_ID);
+  gammas = λ crtc is. seen-closed things id (value values crtc GAMMA_LUT);
 }
 
 pub plane-seen : (t : Topology) (xs ys : List Thing) (values : List Setting) (plane : ℕ) → AreSeenAlike t xs ys values → IsIn plane (ids_of t kind.Plane) → plane_at xs values plane ≡ plane_at ys values plane
@@ -88,6 +94,9 @@ plane-seen t xs ys values plane alike is = ap (plane_with (value values plane)) 
 
 pub mode-seen : (t : Topology) (xs ys : List Thing) (values : List Setting) (crtc : ℕ) → AreSeenAlike t xs ys values → IsIn crtc (ids_of t kind.Crtc) → mode_at xs values crtc ≡ mode_at ys values crtc
 mode-seen t xs ys values crtc alike is = (alike.crtcs crtc is).mode
+
+pub gamma-seen : (t : Topology) (xs ys : List Thing) (values : List Setting) (crtc : ℕ) → AreSeenAlike t xs ys values → IsIn crtc (ids_of t kind.Crtc) → gamma_at xs values crtc ≡ gamma_at ys values crtc
+gamma-seen t xs ys values crtc alike is = (alike.gammas crtc is).gamma
 
 -- planes with their infos have the ids of planes
 pub planes-in : (t : Topology) (p : ℕ × PlaneInfo) → IsIn p (with_ids (first_id kind.Plane) t.planes) → IsIn p.0 (ids_of t kind.Plane)
@@ -101,16 +110,16 @@ conns-in t c is =
     subst (λ id. IsIn id (ids_of t kind.Conn)) (sym at.same) (ids-has t kind.Conn at.index at.within)
 
 -- a plane on no CRTC is not shown, whatever mode there is
-pub shown-off : (a b : Option Mode) (s : PlaneState) → s.crtc ≡ 0 → shown_refusal a s ≡ shown_refusal b s
+pub shown-off : (profile : ℕ) (a b : Option Mode) (s : PlaneState) → s.crtc ≡ 0 → shown_refusal profile a s ≡ shown_refusal profile b s
 unfolding shown_refusal
-shown-off a b s off = rw off refl
+shown-off profile a b s off = rw off refl
 
 shown-seen : (t : Topology) (xs ys : List Thing) (values : List Setting) (plane : ℕ) → AreSeenAlike t xs ys values → IsIn plane (ids_of t kind.Plane) → IsCrtcOrNone t (crtc_at values plane)
-    → shown_refusal (mode_at xs values (crtc_at values plane)) (plane_at ys values plane) ≡ shown_refusal (mode_at ys values (crtc_at values plane)) (plane_at ys values plane)
-shown-seen t xs ys values plane alike is (IsNone off) = shown-off (mode_at xs values (crtc_at values plane)) (mode_at ys values (crtc_at values plane)) (plane_at ys values plane) off
+    → shown_refusal t.profile (mode_at xs values (crtc_at values plane)) (plane_at ys values plane) ≡ shown_refusal t.profile (mode_at ys values (crtc_at values plane)) (plane_at ys values plane)
+shown-seen t xs ys values plane alike is (IsNone off) = shown-off t.profile (mode_at xs values (crtc_at values plane)) (mode_at ys values (crtc_at values plane)) (plane_at ys values plane) off
 shown-seen t xs ys values plane alike is (IsCrtc index within same) =
     let on : IsIn (crtc_at values plane) (ids_of t kind.Crtc) = subst (λ id. IsIn id (ids_of t kind.Crtc)) (sym same) (ids-has t kind.Crtc index within) in
-    ap (λ m. shown_refusal m (plane_at ys values plane)) (mode-seen t xs ys values (crtc_at values plane) alike on)
+    ap (λ m. shown_refusal t.profile m (plane_at ys values plane)) (mode-seen t xs ys values (crtc_at values plane) alike on)
 
 -- The second part of a verdict is the same over lists of things that show the same.
 pub late-seen : (t : Topology) (xs ys : List Thing) (old new : List Setting) (r : Request) → AreSeenAlike t xs ys old → AreSeenAlike t xs ys new → AreAllHeld t xs new → late_refusal t xs old new r ≡ late_refusal t ys old new r
@@ -122,8 +131,8 @@ late-seen t xs ys old new r before after held =
     (λ crtc is. ap (crtc_refusal (asks_signal old new r crtc) (is_active old crtc) (is_active new crtc)) (mode-seen t xs ys new crtc after is)) in
     let routes = first_some-same (route_refusal_at t xs new) (route_refusal_at t ys new) (ids_of t kind.Crtc)
     (λ crtc is. rw (mode-seen t xs ys new crtc after is) refl) in
-    let shown = first_some-same (shown_refusal_at xs new) (shown_refusal_at ys new) (ids_of t kind.Plane)
-    (λ plane is. ap (shown_refusal (mode_at xs new (crtc_at new plane))) (plane-seen t xs ys new plane after is) ∙ shown-seen t xs ys new plane after is (plane_crtc-held t xs new plane held is)) in
+    let shown = first_some-same (shown_refusal_at t.profile xs new) (shown_refusal_at t.profile ys new) (ids_of t kind.Plane)
+    (λ plane is. ap (shown_refusal t.profile (mode_at xs new (crtc_at new plane))) (plane-seen t xs ys new plane after is) ∙ shown-seen t xs ys new plane after is (plane_crtc-held t xs new plane held is)) in
     let modesets = list_any-same (needs_modeset t xs old new) (needs_modeset t ys old new) (ids_of t kind.Crtc)
     (λ crtc is. rw (mode-seen t xs ys old crtc before is, mode-seen t xs ys new crtc after is) refl) in
     rw (planes, crtcs, routes, shown, modesets) refl

@@ -5,7 +5,7 @@ use Rattle.std.specs.List.{list_all}
 use Rattle.std.proofs.lemmas.Bool.{and_parts, eqb-true, false≢true, cases_Bool}
 use Rattle.kms_model.specs.declared.objects.Kind.{Kind}
 use Rattle.kms_model.specs.declared.objects.Kind.TheVariants.{Crtc, Plane, Conn, Enc}
-use Rattle.kms_model.specs.declared.properties.TheConstants.{FB_ID, CRTC_ID, ACTIVE, MODE_ID}
+use Rattle.kms_model.specs.declared.properties.TheConstants.{FB_ID, CRTC_ID, ACTIVE, GAMMA_LUT, MODE_ID}
 use Rattle.kms_model.specs.declared.ranges.Range.{Range}
 use Rattle.kms_model.specs.declared.ranges.Range.TheVariants.{Numbers, Thing, CrtcName}
 use Rattle.kms_model.specs.declared.sets.SetValue.{SetValue}
@@ -22,6 +22,7 @@ takes Plane prop (to.Num n) = is_kept prop && (not (prop == FB_ID) && not (prop 
 takes Crtc prop (to.Num n) = prop == ACTIVE
 takes Plane prop (to.Fb fb) = prop == FB_ID
 takes Crtc prop (to.Mode mode) = prop == MODE_ID
+takes Crtc prop (to.Gamma gamma) = prop == GAMMA_LUT
 takes Plane prop (to.Crtc id) = prop == CRTC_ID
 takes Conn prop (to.Crtc id) = prop == CRTC_ID
 takes kind prop to.Fence = not (is_kept prop)
@@ -46,6 +47,7 @@ rows_take : (kind : Kind) (value : SetValue) → list_all (row_takes kind value)
 rows_take kind (to.Num n) = of_each_kind (λ k. list_all (row_takes k (to.Num n)) properties ≡ true) refl refl refl refl kind
 rows_take kind (to.Fb fb) = of_each_kind (λ k. list_all (row_takes k (to.Fb fb)) properties ≡ true) refl refl refl refl kind
 rows_take kind (to.Mode mode) = of_each_kind (λ k. list_all (row_takes k (to.Mode mode)) properties ≡ true) refl refl refl refl kind
+rows_take kind (to.Gamma gamma) = of_each_kind (λ k. list_all (row_takes k (to.Gamma gamma)) properties ≡ true) refl refl refl refl kind
 rows_take kind (to.Crtc id) = of_each_kind (λ k. list_all (row_takes k (to.Crtc id)) properties ≡ true) refl refl refl refl kind
 rows_take kind to.Fence = of_each_kind (λ k. list_all (row_takes k to.Fence) properties ≡ true) refl refl refl refl kind
 
@@ -53,6 +55,7 @@ has_kind-among : (prop : ℕ) (range : Range) (value : SetValue) → range_takes
 has_kind-among prop (Numbers low high) (to.Num n) h = refl
 has_kind-among prop (Numbers low high) (to.Fb fb) h = h
 has_kind-among prop (Numbers low high) (to.Mode mode) h = h
+has_kind-among prop (Numbers low high) (to.Gamma gamma) h = h
 has_kind-among prop (Numbers low high) (to.Crtc id) h = h
 has_kind-among prop (Numbers low high) to.Fence h = h
 has_kind-among prop (Thing none) value h = h

@@ -1,9 +1,9 @@
 -- What the CRTCs of a sound world show can be composed.
 use Rattle.std.proofs.Common.{◌≡◌, ℕ, zero, suc, ◌+◌, ◌*◌, ◌<◌, Bool, true, false, cond, List, [], ◌∷◌, length, map, Option, Some, None, inl, inr, arith, refl, sym, ap, ◌∙◌, subst, eqb}
-use Rattle.std.specs.Prelude.{All, nat_le, not, ◌&&◌, ◌==◌, ℤ, pos, negsuc, ◌≤ℤ◌, ◌*ℤ◌, slice_get, is_none}
+use Rattle.std.specs.Prelude.{All, nat_le, not, ◌&&◌, ◌==◌, ℤ, pos, slice_get, is_none}
 use Rattle.std.specs.List.{AllByRecursion, flat_map, range_with_len}
 use Rattle.std.specs.Ordering.{int_eq}
-use Rattle.std.proofs.lemmas.Bool.{eqb-true, and_parts}
+use Rattle.std.proofs.lemmas.Bool.{eqb-true, and_from, and_parts, le-leb}
 use Rattle.std.proofs.lemmas.Bool.Decides.{nat_tests}
 use Rattle.std.proofs.lemmas.List.{length-append}
 use Rattle.std.proofs.lemmas.List.FromFn.{length-map-range_with_len}
@@ -14,6 +14,7 @@ use Rattle.kms_model.specs.declared.objects.PlaneInfo.{PlaneInfo}
 use Rattle.kms_model.specs.declared.objects.Topology.{Topology}
 use Rattle.kms_model.specs.declared.pictures.FbInfo.{FbInfo}
 use Rattle.kms_model.specs.declared.pictures.Layer.{Layer}
+use Rattle.kms_model.specs.declared.pictures.Rect.{Rect}
 use Rattle.kms_model.specs.declared.pictures.Picture.TheVariants.{Off}
 use Rattle.kms_model.specs.declared.properties.TheConstants.{FB_ID, ACTIVE}
 use Rattle.kms_model.specs.declared.scripts.Pattern.{Pattern}
@@ -23,7 +24,7 @@ use Rattle.kms_model.specs.declared.worlds.Content.TheVariants as content
 use Rattle.kms_model.specs.declared.worlds.Setting.{Setting}
 use Rattle.kms_model.specs.declared.worlds.Thing.{Thing}
 use Rattle.kms_model.specs.declared.worlds.World.{World}
-use Rattle.kms_model.specs.Request.Checks.{is_unscaled, placed_refusal, plane_refusal_with, plane_refusal, shown_refusal, has_crtc, is_beyond, is_whole}
+use Rattle.kms_model.specs.Request.Checks.{has_sizes, has_start, is_unscaled, placed_refusal, plane_refusal_with, plane_refusal, shown_refusal, has_crtc, is_beyond}
 use Rattle.kms_model.specs.Device.Execution.{BufferInfo, buffer_info}
 use Rattle.kms_model.specs.Firsts.{or_else, number_if}
 use Rattle.kms_model.specs.Script.Grammar.{format_bit}
@@ -31,7 +32,7 @@ use Rattle.kms_model.specs.Frames.Images.{FitsMode, image_of, seen_in}
 use Rattle.kms_model.specs.Device.Masks.{has_bit}
 use Rattle.kms_model.specs.Device.Objects.{ids_of}
 use Rattle.kms_model.specs.Frames.Pictures.{layer_of, seen_on, put_layer, put_plane, layers_of, picture_in, picture}
-use Rattle.kms_model.specs.Frames.Rectangles.{fits_source}
+use Rattle.kms_model.specs.Frames.Rectangles.{fits_source, is_scaled_little}
 use Rattle.kms_model.specs.Device.Sound.{AreNumbered, IsSound, IsPlaneInRange}
 use Rattle.kms_model.specs.Device.States.{natural, framebuffer_in, framebuffer_of, mode_at, plane_at}
 use Rattle.kms_model.specs.Stores.Kept.{Seen, row_words, buffer_words}
@@ -118,22 +119,29 @@ passes : (info : PlaneInfo) (s : PlaneState) (fb : FbInfo) → s.fb ≡ Some fb 
 unfolding plane_refusal
 passes info s fb is e = passes-if info s fb (s.crtc == 0) refl (ap (λ o. plane_refusal_with info s s o (s.crtc == 0)) (sym is) ∙ e)
 
-unscaled-if : (mode : Option Mode) (s : PlaneState) (b : Bool) → b ≡ false → cond b None (or_else (number_if 21 (is_none mode)) (or_else (number_if 22 (not (is_unscaled s.src s.dst))) (number_if 23 (not (is_whole s.src.x && is_whole s.src.y))))) ≡ None → is_unscaled s.src s.dst ≡ true
-unscaled-if mode s true is e = absurd cc
-unscaled-if mode s false is e =
+sized-if : (profile : ℕ) (mode : Option Mode) (s : PlaneState) (b : Bool) → b ≡ false
+    → cond b None (or_else (number_if 21 (is_none mode)) (or_else (number_if 22 (not (has_sizes profile s.src s.dst))) (number_if 23 (not (has_start profile s.src))))) ≡ None → has_sizes profile s.src s.dst ≡ true
+sized-if profile mode s true is e = absurd cc
+sized-if profile mode s false is e =
     let a = or_else-none (number_if 21 (is_none mode)) _ e in
-    let b = or_else-none (number_if 22 (not (is_unscaled s.src s.dst))) _ a.second_none in
+    let b = or_else-none (number_if 22 (not (has_sizes profile s.src s.dst))) _ a.second_none in
     un-not _ (number_if-none 22 _ b.first_none)
 
-unscaled : (mode : Option Mode) (s : PlaneState) → (s.crtc == 0) ≡ false → shown_refusal mode s ≡ None → is_unscaled s.src s.dst ≡ true
+sized : (profile : ℕ) (mode : Option Mode) (s : PlaneState) → (s.crtc == 0) ≡ false → shown_refusal profile mode s ≡ None → has_sizes profile s.src s.dst ≡ true
 unfolding shown_refusal
-unscaled mode s apart e = unscaled-if mode s (s.crtc == 0) apart e
+sized profile mode s apart e = sized-if profile mode s (s.crtc == 0) apart e
 
--- a size in 16.16 fixed point
-sixteenth : (a b : ℤ) → pos 0 ≤ℤ a → pos 0 ≤ℤ b → (natural a == 65536 * natural b) ≡ true → a ≡ pos 65536 *ℤ b
-sixteenth (pos a) (pos b) low low' e = ap pos (eqb-true a (65536 * b) e)
-sixteenth (negsuc a) b low low' e = absurd low.le
-sixteenth (pos a) (negsuc b) low low' e = absurd low'.le
+-- an equal size is scaled little
+little-from : (a b : ℤ) → (natural a == 65536 * natural b) ≡ true → is_scaled_little a b ≡ true
+little-from a b e =
+    let same : natural a ≡ 65536 * natural b = eqb-true (natural a) (65536 * natural b) e in
+    and_from (nat_le (65536 * natural b) (4 * natural a)) (nat_le (natural a) (262144 * natural b)) (le-leb _ _ (omega arith)) (le-leb _ _ (omega arith))
+
+-- in each profile the sizes of a source and its destination are scaled little
+little-if : (src dst : Rect) (b : Bool) → cond b (is_unscaled src dst) (is_scaled_little src.w dst.w && is_scaled_little src.h dst.h) ≡ true → (is_scaled_little src.w dst.w ≡ true) × (is_scaled_little src.h dst.h ≡ true)
+little-if src dst true e =
+    let sides = and_parts (natural src.w == 65536 * natural dst.w) _ e in (little-from src.w dst.w sides.0, little-from src.h dst.h sides.1)
+little-if src dst false e = and_parts (is_scaled_little src.w dst.w) (is_scaled_little src.h dst.h) e
 
 item-at : {A : Type 0} (xs : List A) (i : ℕ) → i < length xs → (x : A) × (slice_get xs i ≡ Some x)
 item-at [] i less = absurd (omega arith)
@@ -151,8 +159,7 @@ placed t w m crtc plane fb sound is seen =
     let here = all.planes (200 + o.index, at.0) (with_ids-has 200 t.planes o.index at.0 at.1) in
     let none : plane_refusal at.0 s s ≡ None = subst (λ id. plane_refusal at.0 (plane_at w.things w.values id) (plane_at w.things w.values id) ≡ None) (sym o.same) here in
     let p = passes at.0 s fb on.has none in
-    let flat = unscaled (mode_at w.things w.values s.crtc) s p.apart (all.shown plane is) in
-    let sides = and_parts (natural s.src.w == 65536 * natural s.dst.w) _ flat in
+    let sides = little-if s.src s.dst (t.profile == 1) (sized t.profile (mode_at w.things w.values s.crtc) s p.apart (all.shown plane is)) in
     let range : IsPlaneInRange s = subst (λ id. IsPlaneInRange (plane_at w.things w.values id)) (sym o.same) (sound-plane_in_range t w o.index sound o.within) in
     record {
       visible = refl;
@@ -161,8 +168,12 @@ placed t w m crtc plane fb sound is seen =
       left = range.src_x.low;
       top = range.src_y.low;
       fits = p.fits;
-      width = sixteenth s.src.w s.dst.w range.src_w.low range.w.low sides.0;
-      height = sixteenth s.src.h s.dst.h range.src_h.low range.h.low sides.1;
+      src_w = range.src_w;
+      src_h = range.src_h;
+      dst_w = range.w;
+      dst_h = range.h;
+      width = sides.0;
+      height = sides.1;
     }
 
 -- Words

@@ -108,7 +108,7 @@ late-again t things old new r none =
     let conns = or_else-none (first_some (conn_refusal_at new) (with_ids (first_id kind.Conn) t.conns)) _ crtcs.second_none in
     let clones = or_else-none (first_some (clone_refusal_at t new) (ids_of t kind.Crtc)) _ conns.second_none in
     let routes = or_else-none (first_some (route_refusal_at t things new) (ids_of t kind.Crtc)) _ clones.second_none in
-    let shown = or_else-none (first_some (shown_refusal_at things new) (ids_of t kind.Plane)) _ routes.second_none in
+    let shown = or_else-none (first_some (shown_refusal_at t.profile things new) (ids_of t kind.Plane)) _ routes.second_none in
     let planes_again : first_some (plane_refusal_at things new new) (with_ids (first_id kind.Plane) t.planes) ≡ None = first_some-none (plane_refusal_at things new new) (with_ids (first_id kind.Plane) t.planes)
     (λ p is. plane-again p.1 (plane_at things old p.0) (plane_at things new p.0) (first_some-at (plane_refusal_at things old new) (with_ids (first_id kind.Plane) t.planes) p planes.first_none is)) in
     let crtcs_again : first_some (crtc_refusal_at things new new empty_request) (ids_of t kind.Crtc) ≡ None = first_some-none (crtc_refusal_at things new new empty_request) (ids_of t kind.Crtc)

@@ -11,7 +11,7 @@ use Rattle.kms_model.specs.declared.objects.Kind.{Kind}
 use Rattle.kms_model.specs.declared.objects.Kind.TheVariants as kind
 use Rattle.kms_model.specs.declared.objects.PlaneInfo.{PlaneInfo}
 use Rattle.kms_model.specs.declared.objects.Topology.{Topology}
-use Rattle.kms_model.specs.declared.properties.TheConstants.{FB_ID, CRTC_ID, ACTIVE, MODE_ID}
+use Rattle.kms_model.specs.declared.properties.TheConstants.{FB_ID, CRTC_ID, ACTIVE, GAMMA_LUT, MODE_ID}
 use Rattle.kms_model.specs.declared.states.PlaneState.{PlaneState}
 use Rattle.kms_model.specs.declared.worlds.Setting.{Setting}
 use Rattle.kms_model.specs.Device.Objects.{first_id, count_of, ids_of}
@@ -102,7 +102,7 @@ all-start t k device = record { at = λ object p is row. start-held t object p d
 
 -- a property that is 0 at the start
 abbrev pub is_zero_prop : ℕ → Bool
-is_zero_prop prop = (prop == FB_ID) || ((prop == CRTC_ID) || ((prop == ACTIVE) || (prop == MODE_ID)))
+is_zero_prop prop = (prop == FB_ID) || ((prop == CRTC_ID) || ((prop == ACTIVE) || ((prop == MODE_ID) || (prop == GAMMA_LUT))))
 
 abbrev starts_zero : Setting → Bool
 starts_zero s = not (is_zero_prop s.prop) || int_eq s.number (pos 0)
@@ -139,9 +139,9 @@ off-plane : (info : PlaneInfo) (s : PlaneState) → s.fb ≡ None → s.crtc ≡
 unfolding plane_refusal
 off-plane info s fb crtc = rw (fb, crtc) refl
 
-off-shown : (mode : _) (s : PlaneState) → s.crtc ≡ 0 → shown_refusal mode s ≡ None
+off-shown : (profile : ℕ) (mode : _) (s : PlaneState) → s.crtc ≡ 0 → shown_refusal profile mode s ≡ None
 unfolding shown_refusal
-off-shown mode s crtc = rw crtc refl
+off-shown profile mode s crtc = rw crtc refl
 
 start-accepted : (t : Topology) → IsDevice t → late_refusal t [] (start t).values (start t).values empty_request ≡ None
 unfolding late_refusal
@@ -152,7 +152,7 @@ start-accepted t device =
     (or_else-nones _ _ (first_some-none (conn_refusal_at values) (with_ids (first_id kind.Conn) t.conns) (λ c is. rw (start-crtc t c.0 device) refl))
     (or_else-nones _ _ (first_some-none (clone_refusal_at t values) (ids_of t kind.Crtc) (λ crtc is. rw (start-clones t crtc device is) refl))
     (or_else-nones _ _ (first_some-none (route_refusal_at t [] values) (ids_of t kind.Crtc) (λ crtc is. rw (start-clones t crtc device is) refl))
-    (or_else-nones _ _ (first_some-none (shown_refusal_at [] values) (ids_of t kind.Plane) (λ plane is. off-shown (mode_at [] values (crtc_at values plane)) (plane_at [] values plane) (start-crtc t plane device)))
+    (or_else-nones _ _ (first_some-none (shown_refusal_at t.profile [] values) (ids_of t kind.Plane) (λ plane is. off-shown t.profile (mode_at [] values (crtc_at values plane)) (plane_at [] values plane) (start-crtc t plane device)))
     (none-number_if 24 _ (list_any-none (needs_modeset t [] values values) (ids_of t kind.Crtc) (λ crtc is. needs_modeset-self t [] values crtc))))))))
 
 -- The device of one thread is sound before the first command.

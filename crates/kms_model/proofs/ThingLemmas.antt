@@ -1,12 +1,13 @@
 -- Things by their ids and labels, as they are made and closed.
-use Rattle.std.proofs.Common.{◌≡◌, ◌≢◌, ℕ, ◌+◌, ◌<◌, ◌≤◌, Bool, true, false, List, [], ◌∷◌, ◌++◌, length, Some, inl, inr, arith, refl, sym, ap, ◌∙◌}
+use Rattle.std.proofs.Common.{◌≡◌, ◌≢◌, ℕ, ◌+◌, ◌<◌, ◌≤◌, Bool, true, false, List, [], ◌∷◌, ◌++◌, length, Option, Some, inl, inr, arith, refl, sym, ap, ◌∙◌}
 use Rattle.std.specs.Prelude.{◌==◌, ℤ, pos, if◌then◌else◌, find}
 use Rattle.std.specs.Ordering.{int_eq}
 use Rattle.std.proofs.lemmas.Bool.{cases_Bool, cond-true, cond-false, false_from_ne_true}
 use Rattle.std.proofs.lemmas.Bool.Decides.{Decides-int_eq}
+use Rattle.kms_model.specs.declared.worlds.Content.{Content}
 use Rattle.kms_model.specs.declared.worlds.Thing.{Thing}
 use Rattle.kms_model.specs.Device.World.{thing_labelled, thing_numbered}
-use Rattle.kms_model.specs.Device.States.{framebuffer_of, framebuffer_in, mode_of, mode_in}
+use Rattle.kms_model.specs.Device.States.{framebuffer_of, framebuffer_in, gamma_of, gamma_in, mode_of, mode_in}
 use Rattle.kms_model.specs.Device.Sound.{AreNumbered}
 use Rattle.kms_model.specs.Device.Closing.{closed_if, closed_in}
 use Rattle.kms_model.proofs.Items.{IsIn}
@@ -74,27 +75,34 @@ numbered-closed n (u ∷ us) id numbered = (closed_id id u ∙ numbered.0, numbe
 
 -- Things that are seen alike
 
--- two lists of things show the same framebuffer and the same mode under a number
+-- two lists of things show the same framebuffer, the same mode and the same table of colour values under a number
 pub record IsSeenAlike (xs ys : List Thing) (number : ℤ) : Type 0 where
   pub fb : framebuffer_of (thing_numbered xs number) ≡ framebuffer_of (thing_numbered ys number)
   pub mode : mode_of (thing_numbered xs number) ≡ mode_of (thing_numbered ys number)
+  pub gamma : gamma_of (thing_numbered xs number) ≡ gamma_of (thing_numbered ys number)
 
 pub seen-same : (xs ys : List Thing) (number : ℤ) → thing_numbered xs number ≡ thing_numbered ys number → IsSeenAlike xs ys number
-seen-same xs ys number same = record { fb = ap framebuffer_of same; mode = ap mode_of same }
+seen-same xs ys number same = record { fb = ap framebuffer_of same; mode = ap mode_of same; gamma = ap gamma_of same }
 
-seen-cond : (b : Bool) (t u : Thing) (xs ys : List Thing) (number : ℤ) → t.content ≡ u.content → IsSeenAlike xs ys number
-    → (framebuffer_of (if b then Some t else thing_numbered xs number) ≡ framebuffer_of (if b then Some u else thing_numbered ys number))
-    × (mode_of (if b then Some t else thing_numbered xs number) ≡ mode_of (if b then Some u else thing_numbered ys number))
-seen-cond true t u xs ys number content rest = (ap framebuffer_in content, ap mode_in content)
-seen-cond false t u xs ys number content rest = (rest.fb, rest.mode)
+module _ {A : Type 0} (of_thing : Option Thing → Option A) (of_content : Content → Option A) (reads : (t : Thing) → of_thing (Some t) ≡ of_content t.content) where
+  closed-cond : (b : Bool) (t u : Thing) (xs ys : List Thing) (number : ℤ) → t.content ≡ u.content → of_thing (thing_numbered xs number) ≡ of_thing (thing_numbered ys number)
+      → of_thing (if b then Some t else thing_numbered xs number) ≡ of_thing (if b then Some u else thing_numbered ys number)
+  closed-cond true t u xs ys number content rest = reads t ∙ ap of_content content ∙ sym (reads u)
+  closed-cond false t u xs ys number content rest = rest
+
+  closed-reads : (things : List Thing) (id : ℕ) (number : ℤ) → of_thing (thing_numbered things number) ≡ of_thing (thing_numbered (closed_in things id) number)
+  closed-reads [] id number = refl
+  closed-reads (t ∷ ts) id number =
+      let same : (closed_if id t).id ≡ t.id = closed_id id t in
+      rw same (closed-cond (int_eq (pos t.id) number) t (closed_if id t) ts (closed_in ts id) number (sym (closed_content id t)) (closed-reads ts id number))
 
 -- closing a thing changes nothing that is seen of things
 pub seen-closed : (things : List Thing) (id : ℕ) (number : ℤ) → IsSeenAlike things (closed_in things id) number
-seen-closed [] id number = record { fb = refl; mode = refl }
-seen-closed (t ∷ ts) id number =
-    let both = seen-cond (int_eq (pos t.id) number) t (closed_if id t) ts (closed_in ts id) number (sym (closed_content id t)) (seen-closed ts id number) in
-    let same : (closed_if id t).id ≡ t.id = closed_id id t in
-    record { fb = rw same both.0; mode = rw same both.1 }
+seen-closed things id number = record {
+  fb = closed-reads framebuffer_of framebuffer_in (λ t. refl) things id number;
+  mode = closed-reads mode_of mode_in (λ t. refl) things id number;
+  gamma = closed-reads gamma_of gamma_in (λ t. refl) things id number;
+}
 
 find-push : (things : List Thing) (t : Thing) (number : ℤ) → int_eq (pos t.id) number ≡ false → thing_numbered things number ≡ thing_numbered (things ++ t ∷ []) number
 find-push [] t number other = rw other refl

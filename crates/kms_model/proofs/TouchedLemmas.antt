@@ -9,7 +9,7 @@ use Rattle.kms_model.specs.declared.objects.Kind.TheVariants as kind
 use Rattle.kms_model.specs.declared.objects.Mode.{Mode}
 use Rattle.kms_model.specs.declared.objects.PlaneInfo.{PlaneInfo}
 use Rattle.kms_model.specs.declared.objects.Topology.{Topology}
-use Rattle.kms_model.specs.declared.properties.TheConstants.{ACTIVE, MODE_ID, CRTC_ID}
+use Rattle.kms_model.specs.declared.properties.TheConstants.{ACTIVE, GAMMA_LUT, MODE_ID, CRTC_ID}
 use Rattle.kms_model.specs.declared.scripts.Assign.{Assign}
 use Rattle.kms_model.specs.declared.scripts.Request.{Request}
 use Rattle.kms_model.specs.declared.states.PlaneState.{PlaneState}
@@ -19,8 +19,8 @@ use Rattle.kms_model.specs.Script.Words.{between}
 use Rattle.kms_model.specs.Device.Modes.{same_mode}
 use Rattle.kms_model.specs.Device.Objects.{first_id, object_id, count_of, ids_of}
 use Rattle.kms_model.specs.Device.Properties.{keeps_limits}
-use Rattle.kms_model.specs.Device.World.{value}
-use Rattle.kms_model.specs.Device.States.{natural, mode_at, crtc_at, plane_at, plane_from}
+use Rattle.kms_model.specs.Device.World.{thing_numbered, value}
+use Rattle.kms_model.specs.Device.States.{gamma_at, gamma_of, natural, mode_at, mode_of, crtc_at, plane_at, plane_from}
 use Rattle.kms_model.specs.Request.Lookups.{look_up}
 use Rattle.kms_model.specs.Request.Apply.{object_of}
 pub use Rattle.kms_model.specs.Request.Apply.{after}
@@ -122,7 +122,10 @@ pub plane_at-unset : (w : World) (r : Request) (plane : ℕ) → sets r.assigns 
 plane_at-unset w r plane unset = ap (λ v. plane_from v w.things) (λ i prop. value-apply_unset w.things w.values r.assigns plane prop unset i)
 
 pub mode_at-unset : (w : World) (r : Request) (crtc : ℕ) → sets r.assigns crtc ≡ false → mode_at w.things (after w r) crtc ≡ mode_at w.things w.values crtc
-mode_at-unset w r crtc unset = ap (λ n. Rattle.kms_model.specs.Device.States.mode_of (Rattle.kms_model.specs.Device.World.thing_numbered w.things n)) (value-apply_unset w.things w.values r.assigns crtc MODE_ID unset)
+mode_at-unset w r crtc unset = ap (λ n. mode_of (thing_numbered w.things n)) (value-apply_unset w.things w.values r.assigns crtc MODE_ID unset)
+
+pub gamma_at-unset : (w : World) (r : Request) (crtc : ℕ) → sets r.assigns crtc ≡ false → gamma_at w.things (after w r) crtc ≡ gamma_at w.things w.values crtc
+gamma_at-unset w r crtc unset = ap (λ n. gamma_of (thing_numbered w.things n)) (value-apply_unset w.things w.values r.assigns crtc GAMMA_LUT unset)
 
 -- a CRTC that is not named has the same objects of a kind before and after
 pub routed-unnamed : (t : Topology) (w : World) (r : Request) (k : Kind) (crtc object : ℕ) → IsRequestAt t w r → is_routed k ≡ true → IsIn object (ids_of t k) → names w.values (after w r) r.assigns crtc ≡ false
@@ -151,7 +154,7 @@ pub record Accepts (t : Topology) (w : World) : Type 0 where
   pub conns : (c : ℕ × ℕ) → IsIn c (with_ids (first_id kind.Conn) t.conns) → conn_refusal_at w.values c ≡ None
   pub clones : (crtc : ℕ) → IsIn crtc (ids_of t kind.Crtc) → clone_refusal_at t w.values crtc ≡ None
   pub routes : (crtc : ℕ) → IsIn crtc (ids_of t kind.Crtc) → route_refusal_at t w.things w.values crtc ≡ None
-  pub shown : (plane : ℕ) → IsIn plane (ids_of t kind.Plane) → shown_refusal_at w.things w.values plane ≡ None
+  pub shown : (plane : ℕ) → IsIn plane (ids_of t kind.Plane) → shown_refusal_at t.profile w.things w.values plane ≡ None
 
 pub accepts : (t : Topology) (w : World) → IsSound t w → Accepts t w
 unfolding late_refusal
@@ -162,14 +165,14 @@ accepts t w sound =
     let conns = or_else-none (first_some (conn_refusal_at w.values) (with_ids (first_id kind.Conn) t.conns)) _ crtcs.second_none in
     let clones = or_else-none (first_some (clone_refusal_at t w.values) (ids_of t kind.Crtc)) _ conns.second_none in
     let routes = or_else-none (first_some (route_refusal_at t w.things w.values) (ids_of t kind.Crtc)) _ clones.second_none in
-    let shown = or_else-none (first_some (shown_refusal_at w.things w.values) (ids_of t kind.Plane)) _ routes.second_none in
+    let shown = or_else-none (first_some (shown_refusal_at t.profile w.things w.values) (ids_of t kind.Plane)) _ routes.second_none in
     record {
       planes = λ p is. first_some-at (plane_refusal_at w.things w.values w.values) (with_ids (first_id kind.Plane) t.planes) p planes.first_none is;
       crtcs = λ crtc is. first_some-at (crtc_refusal_at w.things w.values w.values empty_request) (ids_of t kind.Crtc) crtc crtcs.first_none is;
       conns = λ c is. first_some-at (conn_refusal_at w.values) (with_ids (first_id kind.Conn) t.conns) c conns.first_none is;
       clones = λ crtc is. first_some-at (clone_refusal_at t w.values) (ids_of t kind.Crtc) crtc clones.first_none is;
       routes = λ crtc is. first_some-at (route_refusal_at t w.things w.values) (ids_of t kind.Crtc) crtc routes.first_none is;
-      shown = λ plane is. first_some-at (shown_refusal_at w.things w.values) (ids_of t kind.Plane) plane shown.first_none is;
+      shown = λ plane is. first_some-at (shown_refusal_at t.profile w.things w.values) (ids_of t kind.Plane) plane shown.first_none is;
     }
 
 -- Untouched objects
@@ -231,25 +234,25 @@ same_mode-none (Some a) (Some b) same = refl
 same_mode-none None (Some b) same = absurd cc
 same_mode-none (Some a) None same = absurd cc
 
-shown-modes : (a b : Option Mode) (s : PlaneState) → is_none a ≡ is_none b → shown_refusal a s ≡ shown_refusal b s
+shown-modes : (profile : ℕ) (a b : Option Mode) (s : PlaneState) → is_none a ≡ is_none b → shown_refusal profile a s ≡ shown_refusal profile b s
 unfolding shown_refusal
-shown-modes a b s same = rw same refl
+shown-modes profile a b s same = rw same refl
 
 -- a plane that is not set and whose CRTC needs no modeset
-pub untouched-shown : (t : Topology) (w : World) (r : Request) (plane : ℕ) → IsRequestAt t w r → IsIn plane (ids_of t kind.Plane) → touches_object t w r plane ≡ false → shown_refusal_at w.things (after w r) plane ≡ None
+pub untouched-shown : (t : Topology) (w : World) (r : Request) (plane : ℕ) → IsRequestAt t w r → IsIn plane (ids_of t kind.Plane) → touches_object t w r plane ≡ false → shown_refusal_at t.profile w.things (after w r) plane ≡ None
 untouched-shown t w r plane at is untouched =
     let parts = or_parts (sets r.assigns plane) (is_affected t w.things w.values (after w r) plane) untouched in
-    ap (λ s. shown_refusal (mode_at w.things (after w r) s.crtc) s) (plane_at-unset w r plane parts.0)
+    ap (λ s. shown_refusal t.profile (mode_at w.things (after w r) s.crtc) s) (plane_at-unset w r plane parts.0)
     ∙ on_its_crtc (plane_crtc-held t w.things w.values plane (all_held-from t w.things w.values at.sound.held) is) parts.1
     ∙ (accepts t w at.sound).shown plane is
   where
     on_its_crtc : IsCrtcOrNone t (crtc_at w.values plane) → is_affected t w.things w.values (after w r) plane ≡ false
-        → shown_refusal (mode_at w.things (after w r) (crtc_at w.values plane)) (plane_at w.things w.values plane) ≡ shown_refusal (mode_at w.things w.values (crtc_at w.values plane)) (plane_at w.things w.values plane)
-    on_its_crtc (IsNone off) kept = shown-off _ _ (plane_at w.things w.values plane) off
+        → shown_refusal t.profile (mode_at w.things (after w r) (crtc_at w.values plane)) (plane_at w.things w.values plane) ≡ shown_refusal t.profile (mode_at w.things w.values (crtc_at w.values plane)) (plane_at w.things w.values plane)
+    on_its_crtc (IsNone off) kept = shown-off t.profile _ _ (plane_at w.things w.values plane) off
     on_its_crtc (IsCrtc index within same) kept =
         let crtc : ℕ = crtc_at w.values plane in
         let on : IsIn crtc (ids_of t kind.Crtc) = subst (λ id. IsIn id (ids_of t kind.Crtc)) (sym same) (ids-has t kind.Crtc index within) in
         let not_both : (needs_modeset t w.things w.values (after w r) crtc && moves_on w.values (after w r) crtc plane) ≡ false = list_any-at (λ c. needs_modeset t w.things w.values (after w r) c && moves_on w.values (after w r) c plane) (ids_of t kind.Crtc) crtc kept on in
         let unneeded : needs_modeset t w.things w.values (after w r) crtc ≡ false = false_from_ne_true _ (λ need. both_ways _ not_both (and_from _ _ need (or_left (crtc == crtc) _ (eq-eqb crtc crtc refl)))) in
         let modes : same_mode (mode_at w.things w.values crtc) (mode_at w.things (after w r) crtc) ≡ true = not-false _ (or_parts (not (same_mode (mode_at w.things w.values crtc) (mode_at w.things (after w r) crtc))) _ unneeded).0 in
-        shown-modes _ _ (plane_at w.things w.values plane) (sym (same_mode-none _ _ modes))
+        shown-modes t.profile _ _ (plane_at w.things w.values plane) (sym (same_mode-none _ _ modes))

@@ -24,16 +24,16 @@ use Rattle.kms_model.proofs.OnLiterals.{on_literals}
 use Rattle.kms_model.proofs.OnMachines.{on_machines}
 use Rattle.kms_model.proofs.Rows.{device, tiny}
 
-abbrev refused : ℕ → Reply
+abbrev pub refused : ℕ → Reply
 refused n = reply.Refused (record { 0 = n })
 
-abbrev sets : Kind → ℕ → ℕ → Value → Assign
+abbrev pub sets : Kind → ℕ → ℕ → Value → Assign
 sets kind index prop v = record { kind = kind; index = index; prop = Known prop; value = v }
 
-abbrev request : ℕ → List Assign → Command
+abbrev pub request : ℕ → List Assign → Command
 request flags assigns = command.Atomic (record { flags = flags; user_data = 0; assigns = assigns })
 
-abbrev number : ℕ → Value
+abbrev pub number : ℕ → Value
 number n = value.Num (pos n)
 
 -- a buffer, a framebuffer and a mode, under the labels 0, 1 and 2
@@ -43,10 +43,10 @@ made_with width format = command.Buffer 0 width 1 format (Solid 0) ∷ command.A
 abbrev made : List Command
 made = made_with 1 Xr24
 
-abbrev three_made : List Reply
+abbrev pub three_made : List Reply
 three_made = reply.Made 1000 ∷ reply.Made 1001 ∷ reply.Made 1002 ∷ []
 
-abbrev crtc_sets : List Assign
+abbrev pub crtc_sets : List Assign
 crtc_sets =
     sets kind.Crtc 0 ACTIVE (number 1)
     ∷ sets kind.Crtc 0 MODE_ID (value.Named 2)
@@ -63,20 +63,20 @@ plane_sets =
     ∷ sets kind.Plane 0 SRC_H (number 65536)
     ∷ []
 
-abbrev light : List Assign
+abbrev pub light : List Assign
 light = crtc_sets ++ plane_sets
 
 -- two CRTCs, a plane of both and two connectors of one CRTC each
 abbrev two_crtcs : Topology
-two_crtcs = record { crtcs = 2; planes = record { kind = 1; crtcs = 3; formats = 1 } ∷ []; conns = 1 ∷ 2 ∷ [] }
+two_crtcs = record { profile = 1; crtcs = 2; planes = record { kind = 1; crtcs = 3; formats = 1 } ∷ []; conns = 1 ∷ 2 ∷ [] }
 
 -- two CRTCs, a plane and a connector of the first alone
 abbrev first_alone : Topology
-first_alone = record { crtcs = 2; planes = record { kind = 1; crtcs = 1; formats = 1 } ∷ []; conns = 1 ∷ [] }
+first_alone = record { profile = 1; crtcs = 2; planes = record { kind = 1; crtcs = 1; formats = 1 } ∷ []; conns = 1 ∷ [] }
 
 -- one CRTC with two connectors
 abbrev two_conns : Topology
-two_conns = record { crtcs = 1; planes = record { kind = 1; crtcs = 1; formats = 1 } ∷ []; conns = 1 ∷ 1 ∷ [] }
+two_conns = record { profile = 1; crtcs = 1; planes = record { kind = 1; crtcs = 1; formats = 1 } ∷ []; conns = 1 ∷ 1 ∷ [] }
 
 pub flags_and_assignments : replies device ((
     request 0x1 (sets kind.Crtc 0 ACTIVE (number 0) ∷ [])

@@ -1,6 +1,7 @@
 pub mod Objects
 pub mod Modes
 pub mod ModeBytes
+pub mod GammaBytes
 pub mod ModeRanges
 pub mod Properties
 pub mod Masks

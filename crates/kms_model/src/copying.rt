@@ -56,6 +56,7 @@ fn copy_items<T: Duplicate>(alloc: Global, items: &[T]) -> Result<Seq<T>, NoMemo
 impl Duplicate for Topology {
     fn copy(&self, alloc: Global) -> Result<Self, NoMemory> {
         Ok(Topology {
+            profile: self.profile,
             crtcs: self.crtcs,
             planes: self.planes.copy(alloc)?,
             conns: self.conns.copy(alloc)?,

@@ -1,16 +1,29 @@
 //! The laws of the definitions, each as the contract of a function that does nothing.
-ghost use Rattle.std.specs.Prelude.{ℕ};
+ghost use Rattle.std.specs.Prelude.{ℕ, ◌≡◌, ◌==◌, true, false, Option, None};
+ghost use Rattle.kms_model.specs.declared.objects.Mode.{Mode};
 ghost use Rattle.kms_model.specs.declared.objects.Topology.{Topology};
 ghost use Rattle.kms_model.specs.declared.scripts.Command.{Command};
+ghost use Rattle.kms_model.specs.declared.states.PlaneState.{PlaneState};
 ghost use Rattle.kms_model.specs.declared.worlds.World.{World};
 ghost use Rattle.kms_model.specs.Device.World.{start};
-ghost use Rattle.kms_model.specs.Device.Sound.{IsDevice, IsSound};
+ghost use Rattle.kms_model.specs.Device.Sound.{IsDevice, IsPlaneInRange, IsSound};
 ghost use Rattle.kms_model.specs.Device.Execution.{execute};
+ghost use Rattle.kms_model.specs.Frames.FrameBytes.{covers};
+ghost use Rattle.kms_model.specs.Frames.Unscaled.{ShowsUnscaled};
+ghost use Rattle.kms_model.specs.Request.Checks.{shown_refusal};
 
 /// A device of one thread is sound before the first command: its values are among those of their properties,
 /// and a request without assignments is accepted.
 pub fn start_is_sound()
     ensures { (t : Topology) → IsDevice t → IsSound t (start t) }
+{}
+
+/// A plane that profile 1 accepts shows, at each pixel of its destination, the place of the framebuffer that it shows
+/// unscaled: as far behind the source's first pixel as the pixel is behind the destination's.
+pub fn accepted_in_profile_1_is_unscaled()
+    ensures { (mode : Option Mode) (s : PlaneState) (x y : ℕ) → IsPlaneInRange s
+        → (s.crtc == 0) ≡ false → shown_refusal 1 mode s ≡ None → covers s.dst x y ≡ true
+        → ShowsUnscaled s x y }
 {}
 
 /// Each command leaves a sound device sound, whatever is answered to it.

@@ -27,15 +27,15 @@ mod tables;
 mod worlds;
 
 pub use copying::{Duplicate, NoMemory};
-pub use laws::{execution_keeps_sound, start_is_sound};
+pub use laws::{accepted_in_profile_1_is_unscaled, execution_keeps_sound, start_is_sound};
 pub use layers::Layers;
 pub use list::Seq;
 pub use masks::has_bit;
 pub use numbered::{command_of, request_of};
 pub use objects::{
     FIRST_CONNECTOR_ID, FIRST_CRTC_ID, FIRST_ENCODER_ID, FIRST_PLANE_ID, FIRST_THING_ID, Format,
-    Kind, MAX_CLIENTS, MAX_CONNECTORS, MAX_CRTCS, MAX_PLANES, Mode, ObjId, PlaneInfo, Ticket,
-    Topology,
+    Gamma, Kind, MAX_CLIENTS, MAX_CONNECTORS, MAX_CRTCS, MAX_PLANES, Mode, ObjId, PlaneInfo,
+    Ticket, Topology,
 };
 pub use pictures::{Colour, FbInfo, Layer, Picture, Rect, Shown};
 pub use ranges::Range;

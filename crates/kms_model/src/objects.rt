@@ -188,9 +188,24 @@ pub struct PlaneInfo {
     pub formats: u32,
 }
 
+/// A table of colour values: what a channel's value becomes. The place in each list is the value before, from 0 to 255.
+/// (Header: `drm_mode.h`, `struct drm_color_lut`, of which the upper 8 of 16 bits are kept.)
+#[derive(Clone, Copy, Debug, PartialEq, Eq)]
+pub struct Gamma {
+    /// What each value of red becomes, from 0 to 255.
+    pub red: [u8; 256],
+    /// What each value of green becomes.
+    pub green: [u8; 256],
+    /// What each value of blue becomes.
+    pub blue: [u8; 256],
+}
+
 /// The display objects of a device.
 #[derive(Debug, PartialEq, Eq, Drop)]
 pub struct Topology {
+    /// The profile of the device, which is the version of its script: 1, or 2 where planes may scale and begin between
+    /// pixels, and CRTCs have gamma tables.
+    pub profile: u32,
     /// The number of CRTCs, from 1 to 4.
     pub crtcs: u32,
     /// The planes by index, from 1 to 16.

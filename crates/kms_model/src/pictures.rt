@@ -1,6 +1,6 @@
 //! What a CRTC shows.
 use crate::layers::Layers;
-use crate::objects::{Format, Mode};
+use crate::objects::{Format, Gamma, Mode};
 
 /// A rectangle, in pixels (a destination) or in 16.16 fixed point (a source).
 #[derive(Clone, Copy, Debug, PartialEq, Eq)]
@@ -82,6 +82,8 @@ pub struct Shown {
     pub mode: Mode,
     /// The id of the connector that is routed to the CRTC, or 0.
     pub conn: u32,
+    /// The table that the colours of its layers go through once they are composed, if any.
+    pub gamma: Option<Gamma>,
     /// The layers from the lowest to the highest.
     pub layers: Layers,
 }

@@ -136,7 +136,7 @@ pub enum Command {
 /// A script: the device and what each client calls.
 #[derive(Debug, PartialEq, Eq, Drop)]
 pub struct Script {
-    /// The version of its first line: 1.
+    /// The version of its first line, 1 or 2: the profile of its device.
     pub version: u32,
     /// The device.
     pub topology: Topology,

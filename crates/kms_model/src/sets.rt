@@ -1,6 +1,6 @@
 //! What a request sets, with its labels looked up.
 use crate::list::Seq;
-use crate::objects::{Mode, ObjId};
+use crate::objects::{Gamma, Mode, ObjId};
 use crate::pictures::FbInfo;
 use crate::worlds::Look;
 
@@ -16,6 +16,8 @@ pub enum SetValue {
     Fb(Option<FbInfo>),
     /// `MODE_ID`: a mode, or none.
     Mode(Option<Mode>),
+    /// `GAMMA_LUT`: a table of colour values, or none.
+    Gamma(Option<Gamma>),
     /// `CRTC_ID`: the id of a CRTC, or 0.
     Crtc(u32),
     /// `IN_FENCE_FD` or `OUT_FENCE_PTR`, whatever the value: these belong to the request alone and change no state.

@@ -1,5 +1,5 @@
 //! The states of display objects, typed.
-use crate::objects::Mode;
+use crate::objects::{Gamma, Mode};
 use crate::pictures::{FbInfo, Rect};
 
 /// A plane's state. (Kernel: `struct drm_plane_state`.)
@@ -41,6 +41,8 @@ pub struct CrtcState {
     pub active: bool,
     /// Its mode, if any; it is enabled where it has one.
     pub mode: Option<Mode>,
+    /// The table that its colours go through, if any. (Kernel: `drm_crtc_state.gamma_lut`.)
+    pub gamma: Option<Gamma>,
     /// The planes whose CRTC it is, a mask: bit i stands for plane index i.
     pub planes: u32,
     /// The connectors whose CRTC it is, a mask: bit i stands for connector index i.
@@ -52,6 +54,7 @@ impl CrtcState {
     pub const OFF: CrtcState = CrtcState {
         active: false,
         mode: None,
+        gamma: None,
         planes: 0,
         conns: 0,
     };

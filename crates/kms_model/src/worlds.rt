@@ -1,6 +1,6 @@
 //! The world of the one-thread device: a flat list of settings, and the things that were made.
 use crate::list::Seq;
-use crate::objects::{Format, Mode};
+use crate::objects::{Format, Gamma, Mode};
 use crate::pictures::FbInfo;
 use crate::scripts::Pattern;
 
@@ -79,8 +79,10 @@ pub enum Look {
     Fb(FbInfo),
     /// A blob that holds a legal mode, and the blob's id.
     Mode(Mode, u32),
-    /// Another blob.
+    /// A blob of neither a legal mode nor 2048 bytes.
     Blob(u32),
+    /// A blob of 2048 bytes, as a table of colour values, and the blob's id.
+    Gamma(Gamma, u32),
     /// A fence.
     Fence(u32),
     /// A buffer.

@@ -151,7 +151,7 @@ naming_makes named_by none names bytes = bind_if (label_alone bytes) _ (Makes na
 
 property_kept : (names : Names) (word : List ℕ) → Marks names nothing (property_read names word).1
 unfolding property_read
-property_kept names word = by (known_property word) where
+property_kept names word = by (known_property names.profile word) where
   by : (o : Option ℕ) → Marks names nothing (option_map_or {U = PropRef × Names} (λ id. (Known id, names)) o (Unknown (place word names), saying word names)).1
   by None = saying_marks word names
   by (Some id) = kept names

@@ -13,7 +13,7 @@ use Rattle.kms_model.specs.Script.Grammar.{is_printable}
 use Rattle.kms_model.specs.Script.InputLines.{Row, rows_of}
 use Rattle.kms_model.specs.Script.Spelling.{lined, spelt_line, spelt_lines}
 use Rattle.kms_model.specs.Script.WellFormed.{IsWellFormed}
-use Rattle.kms_model.specs.Script.WholeInput.{Draft, Lined, blank_draft, client_line, clients_in, clients_of, command_line, conn_at, conn_line, crtcs_at, crtcs_line, first_line, is_nil, later_line, plane_fields, plane_line, script_in, script_line}
+use Rattle.kms_model.specs.Script.WholeInput.{Draft, Lined, blank_draft, client_line, clients_in, clients_of, command_line, conn_at, conn_line, crtcs_at, crtcs_line, first_line, is_nil, later_line, plane_fields, plane_line, script_in, script_line, version_read}
 use Rattle.kms_model.specs.Script.Words.{◌>>=◌, end_at, from, until}
 use Rattle.kms_once.specs.Once.{makes}
 use Rattle.kms_once.proofs.MadeCommands.{IfRead, Makes, command_makes, cond_if, then_if}
@@ -101,7 +101,7 @@ not_false false e = absurd (false≢true (sym e))
 
 first_once : (d : Draft) (text : List ℕ) → Once d → IfLine (first_line d text) Once
 unfolding first_line
-first_once d text is = choose_if (bytes_eq text (codes "kms 1")) _ _ Once (keeps d _ refl refl is) tt
+first_once d text is = form_if (version_read text) _ _ Once (any_read (version_read text)) (λ version u. record { once = is.once; counted = is.counted })
 
 crtcs_once : (d : Draft) (text : List ℕ) → Once d → IfLine (crtcs_line d text) Once
 unfolding crtcs_line

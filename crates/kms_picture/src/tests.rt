@@ -1,7 +1,7 @@
 use crate::{may_picture, picture};
 use kms_model::{
     Both, CrtcState, Duplicates, FIRST_CONNECTOR_ID, FIRST_CRTC_ID, FIRST_PLANE_ID, FbInfo, Format,
-    Picture, PlaneState, Rect, Shown,
+    Gamma, Picture, PlaneState, Rect, Shown,
 };
 use kms_samples::sized_mode;
 use kms_state::Duplicating;
@@ -46,6 +46,7 @@ fn device() -> Duplicates {
     let off = CrtcState {
         active: false,
         mode: None,
+        gamma: None,
         planes: 0x8019,
         conns: 0x40,
     };
@@ -145,6 +146,7 @@ fn a_crtc_that_is_off_or_has_no_mode_shows_nothing(rt: HostRuntime) {
     let state = CrtcState {
         active: true,
         mode: None,
+        gamma: None,
         planes: 0x19,
         conns: 0,
     };
@@ -163,6 +165,24 @@ fn a_crtc_that_is_off_or_has_no_mode_shows_nothing(rt: HostRuntime) {
         new: state,
     });
     assert_eq!(rt; shown(&rt, &states, 0), None);
+}
+
+#[test]
+fn a_picture_has_the_table_of_its_crtc(rt: HostRuntime) {
+    let mut states = device();
+    let gamma = Gamma {
+        red: [1; 256],
+        green: [2; 256],
+        blue: [3; 256],
+    };
+    if let Some(both) = &mut states.crtcs[1] {
+        both.old.gamma = Some(gamma);
+    }
+    assert!(rt; shown(&rt, &states, 1).is_some_and(|s| s.gamma.is_none()));
+    if let Some(both) = &mut states.crtcs[1] {
+        both.new.gamma = Some(gamma);
+    }
+    assert!(rt; shown(&rt, &states, 1).is_some_and(|s| s.gamma == Some(gamma)));
 }
 
 #[test]
@@ -185,6 +205,7 @@ fn a_crtc_without_planes_and_connectors_is_black(rt: HostRuntime) {
     let state = CrtcState {
         active: true,
         mode: Some(sized_mode(10, 8)),
+        gamma: None,
         planes: 0,
         conns: 0,
     };

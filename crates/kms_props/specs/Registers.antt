@@ -3,7 +3,7 @@
 use Rattle.std.specs.Prelude.{ℕ, Bool, ◌==◌, List, [], ◌∷◌, find, Option, Some, None, is_some, option_map}
 use Rattle.kms_model.specs.declared.objects.Kind.TheVariants as kind
 use Rattle.kms_props.specs.declared.registers.Register.{Register}
-use Rattle.kms_props.specs.declared.registers.TheConstants.Register.{PLANE_CRTC, FB, FB_WIDTH, FB_HEIGHT, FB_FORMAT, X, Y, WIDTH, HEIGHT, SRC_X, SRC_Y, SRC_WIDTH, SRC_HEIGHT, ALPHA, BLEND, ZPOS, ACTIVE, CONNECTOR, MODE}
+use Rattle.kms_props.specs.declared.registers.TheConstants.Register.{PLANE_CRTC, FB, FB_WIDTH, FB_HEIGHT, FB_FORMAT, X, Y, WIDTH, HEIGHT, SRC_X, SRC_Y, SRC_WIDTH, SRC_HEIGHT, ALPHA, BLEND, ZPOS, ACTIVE, CONNECTOR, MODE, GAMMA_ON, GAMMA}
 use Rattle.kms_props.specs.declared.registers.RegisterRow.{RegisterRow}
 use Rattle.kms_props.specs.declared.registers.Start.{Start}
 use Rattle.kms_props.specs.declared.registers.Start.TheVariants.{Word, Index}
@@ -38,6 +38,8 @@ registers =
     ∷ crtc_row ACTIVE 1
     ∷ crtc_row CONNECTOR 1
     ∷ crtc_row MODE 17
+    ∷ crtc_row GAMMA_ON 1
+    ∷ crtc_row GAMMA 192
     ∷ []
 
 abbrev pub is_of : Register → RegisterRow → Bool

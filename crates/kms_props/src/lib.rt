@@ -17,6 +17,8 @@ mod tests;
 pub use devices::check_topology;
 pub use flags::{AtomicFlags, from_bits, is_nonblock, is_test, wants_event};
 pub use formats::{FormatRow, code, format_table, fourcc};
-pub use properties::{PropertyRow, is_immutable, lookup, name, property_table, range, row_of};
+pub use properties::{
+    PropertyRow, is_immutable, lookup, name, property_table, range, row_in, row_of,
+};
 pub use registers::{Register, RegisterRow, Start, first_word, register_table};
 pub use table::Table;

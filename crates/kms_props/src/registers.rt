@@ -7,7 +7,7 @@ use crate::first_row;
 use crate::table::Table;
 use kms_model::Kind;
 
-/// A register of a plane or of a CRTC: a number from 0 to 18, its place in the table. Each of its words has 32 bits;
+/// A register of a plane or of a CRTC: a number from 0 to 20, its place in the table. Each of its words has 32 bits;
 /// signed values stand in two's complement.
 #[derive(Clone, Copy, Debug, PartialEq, Eq)]
 pub struct Register(pub u32);
@@ -69,6 +69,12 @@ impl Register {
 
     /// The 68 bytes of a CRTC's mode as little-endian words, 0 without a mode.
     pub const MODE: Register = Register(18);
+
+    /// 1 where a CRTC has a table of colour values, else 0.
+    pub const GAMMA_ON: Register = Register(19);
+
+    /// The 256 values of red, of green and of blue of a CRTC's table as little-endian words, 0 without a table.
+    pub const GAMMA: Register = Register(20);
 }
 
 /// What the words of a register are before anything is written.
@@ -107,7 +113,7 @@ macro_rules! crtc {
     };
 }
 
-const REGISTERS: Table<RegisterRow, 19> = Table {
+const REGISTERS: Table<RegisterRow, 21> = Table {
     rows: [
         plane!(PLANE_CRTC, Start::Word(0)),
         plane!(FB, Start::Word(0)),
@@ -128,11 +134,13 @@ const REGISTERS: Table<RegisterRow, 19> = Table {
         crtc!(ACTIVE, 1),
         crtc!(CONNECTOR, 1),
         crtc!(MODE, 17),
+        crtc!(GAMMA_ON, 1),
+        crtc!(GAMMA, 192),
     ],
 };
 
 /// The table of registers, those of planes before those of CRTCs.
-pub fn register_table() -> Table<RegisterRow, 19>
+pub fn register_table() -> Table<RegisterRow, 21>
     ensures { result.rows ≡ registers }
 {
     REGISTERS

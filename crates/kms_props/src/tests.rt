@@ -1,20 +1,28 @@
 //! What no clause says: the constants as numbers, and the look-ups as a caller uses them.
 use crate::{
     AtomicFlags, check_topology, format_table, fourcc, from_bits, is_immutable, lookup, name,
-    property_table, range,
+    property_table, range, row_in, row_of,
 };
 use bitflags::Flags;
-use kms_model::properties::{CRTC_ID, CRTC_X, FB_ID, IN_FENCE_FD, TYPE, ZPOS};
+use kms_model::properties::{
+    CRTC_ID, CRTC_X, FB_ID, GAMMA_LUT, IN_FENCE_FD, OUT_FENCE_PTR, TYPE, ZPOS,
+};
 use kms_model::{Format, Kind, PlaneInfo, Range, Seq, Topology};
 use std::process::Abort;
 use std::test::Fail;
 
-/// Asserts what CRTCs, planes, connectors and encoders find under a name.
+/// Asserts what CRTCs, planes, connectors and encoders find under a name in each profile.
 fn assert_found(rt: &impl Abort, name: &[u8], ids: [Option<u32>; 4]) {
-    assert_eq!(rt; lookup(Kind::Crtc, name), ids[0]);
-    assert_eq!(rt; lookup(Kind::Plane, name), ids[1]);
-    assert_eq!(rt; lookup(Kind::Conn, name), ids[2]);
-    assert_eq!(rt; lookup(Kind::Enc, name), ids[3]);
+    assert_found_in(rt, 1, name, ids);
+    assert_found_in(rt, 2, name, ids);
+}
+
+/// The same in one profile.
+fn assert_found_in(rt: &impl Abort, profile: u32, name: &[u8], ids: [Option<u32>; 4]) {
+    assert_eq!(rt; lookup(profile, Kind::Crtc, name), ids[0]);
+    assert_eq!(rt; lookup(profile, Kind::Plane, name), ids[1]);
+    assert_eq!(rt; lookup(profile, Kind::Conn, name), ids[2]);
+    assert_eq!(rt; lookup(profile, Kind::Enc, name), ids[3]);
 }
 
 fn assert_on_planes(rt: &impl Abort, name: &[u8], id: u32) {
@@ -59,6 +67,18 @@ fn properties_of_crtcs_are_found_on_crtcs_alone(rt: HostRuntime) {
     assert_on_crtcs(&rt, b"ACTIVE", 16);
     assert_on_crtcs(&rt, b"MODE_ID", 17);
     assert_on_crtcs(&rt, b"OUT_FENCE_PTR", 18);
+}
+
+#[test]
+fn a_gamma_table_is_known_from_profile_2_on(rt: HostRuntime) {
+    assert_found_in(&rt, 1, b"GAMMA_LUT", [None; 4]);
+    assert_found_in(&rt, 2, b"GAMMA_LUT", [Some(19), None, None, None]);
+    assert!(rt; row_in(1, GAMMA_LUT).is_none());
+    assert_eq!(rt; row_in(2, GAMMA_LUT), row_of(GAMMA_LUT));
+    assert_eq!(rt; row_in(1, OUT_FENCE_PTR), row_of(OUT_FENCE_PTR));
+    assert_eq!(rt; range(GAMMA_LUT), Range::Thing { none: 0 });
+    assert!(rt; !is_immutable(GAMMA_LUT));
+    assert_nowhere(&rt, &[b"GAMMA_LUt", b"GAMMA_LU", b"GAMMA_LUTT"]);
 }
 
 #[test]
@@ -144,8 +164,8 @@ fn a_blank_is_written_as_an_underscore(rt: HostRuntime) {
 #[test]
 fn a_name_leads_back_to_its_property(rt: HostRuntime) {
     assert_eq!(rt; name(CRTC_X).len(), 6);
-    assert_eq!(rt; lookup(Kind::Plane, name(CRTC_X)), Some(CRTC_X));
-    assert_eq!(rt; property_table().rows.len(), 18);
+    assert_eq!(rt; lookup(1, Kind::Plane, name(CRTC_X)), Some(CRTC_X));
+    assert_eq!(rt; property_table().rows.len(), 19);
 }
 
 #[test]
@@ -221,6 +241,7 @@ fn device(
     conns: &[u32],
 ) -> Result<Topology, Fail> {
     Ok(Topology {
+        profile: 1,
         crtcs,
         planes: Seq::from_vec(planes.to_vec(rt.alloc())?),
         conns: Seq::from_vec(conns.to_vec(rt.alloc())?),

@@ -10,3 +10,4 @@ pub mod Signed
 pub mod WordsBack
 pub mod MachineEffects
 mod OneCrtc
+pub mod TableBytes

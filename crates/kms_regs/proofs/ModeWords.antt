@@ -1,5 +1,5 @@
--- The words of a mode and its bytes.
-use Rattle.std.proofs.Common.{◌≡◌, ℕ, suc, ◌+◌, ◌*◌, ◌<◌, ◌≤◌, List, [], ◌∷◌, ◌++◌, length, take, drop, get_or, arith, refl, sym, ap, subst, ◌∙◌}
+-- Words and their bytes.
+use Rattle.std.proofs.Common.{◌≡◌, ℕ, suc, ◌+◌, ◌*◌, ◌<◌, ◌≤◌, List, [], ◌∷◌, ◌++◌, length, take, drop, get_or, arith, refl, sym, ap, ◌∙◌}
 use Rattle.std.specs.Int.{w32, from_le_bytes}
 use Rattle.std.proofs.lemmas.List.{take_all, drop_all, append-nil}
 use Rattle.std.proofs.lemmas.List.{append_assoc}
@@ -9,10 +9,9 @@ use Rattle.std.specs.Prelude.{slice_set}
 use Rattle.kms_model.specs.Machine.Registers.{bytes_of_words, words_of_bytes}
 
 -- the bytes of all words are all bytes
-pub all_bytes : (i : ℕ) (bytes words : List ℕ) → i ≡ 17 → length bytes ≡ 68 → length words ≡ 17 → take (4 * i) bytes ≡ bytes_of_words (take i words) → bytes ≡ bytes_of_words words
-all_bytes i bytes words last bytes_long words_long so_far =
-    let here : take 68 bytes ≡ bytes_of_words (take 17 words) = subst (λ (k : ℕ). take (4 * k) bytes ≡ bytes_of_words (take k words)) last so_far in
-    sym (take_all 68 bytes (omega (arith, bytes_long))) ∙ here ∙ ap bytes_of_words (take_all 17 words (omega (arith, words_long)))
+pub all_bytes : (i : ℕ) (bytes words : List ℕ) → i ≡ length words → length bytes ≡ 4 * length words → take (4 * i) bytes ≡ bytes_of_words (take i words) → bytes ≡ bytes_of_words words
+all_bytes i bytes words last long so_far =
+    sym (take_all (4 * i) bytes (omega (arith, last, long))) ∙ so_far ∙ ap bytes_of_words (take_all i words (omega (arith, last)))
 
 -- the number of four bytes from a place on
 abbrev pub word_at : List ℕ → ℕ → ℕ
@@ -28,19 +27,18 @@ one_word bytes at next is within =
     rw (one_byte bytes at (at + 1) refl (omega arith), one_byte bytes (at + 1) (at + 2) (omega arith) (omega arith), one_byte bytes (at + 2) (at + 3) (omega arith) (omega arith), one_byte bytes (at + 3) next (omega arith) (omega arith)) refl
 
 -- one word more
-pub more_words : (bytes words : List ℕ) (i w : ℕ) → length bytes ≡ 68 → length words ≡ 17 → i < 17 → w ≡ word_at bytes (4 * i)
+pub more_words : (bytes words : List ℕ) (i w : ℕ) → length bytes ≡ 4 * length words → i < length words → w ≡ word_at bytes (4 * i)
     → take i words ++ words_of_bytes (drop (4 * i) bytes) ≡ words_of_bytes bytes → take (i + 1) (slice_set words i w) ++ words_of_bytes (drop (4 * (i + 1)) bytes) ≡ words_of_bytes bytes
-more_words bytes words i w bytes_long words_long low is so_far =
-    let front : take (i + 1) (slice_set words i w) ≡ take i words ++ w ∷ [] = take-set_at words i (i + 1) w refl (omega (arith, words_long)) in
-    let next : words_of_bytes (drop (4 * i) bytes) ≡ word_at bytes (4 * i) ∷ words_of_bytes (drop (4 * (i + 1)) bytes) = one_word bytes (4 * i) (4 * (i + 1)) (omega arith) (omega (arith, bytes_long)) in
+more_words bytes words i w long low is so_far =
+    let front : take (i + 1) (slice_set words i w) ≡ take i words ++ w ∷ [] = take-set_at words i (i + 1) w refl (omega (arith, low)) in
+    let next : words_of_bytes (drop (4 * i) bytes) ≡ word_at bytes (4 * i) ∷ words_of_bytes (drop (4 * (i + 1)) bytes) = one_word bytes (4 * i) (4 * (i + 1)) (omega arith) (omega (arith, long, low)) in
     let rest : List ℕ = words_of_bytes (drop (4 * (i + 1)) bytes) in
     ap (λ (xs : List ℕ). xs ++ rest) front ∙ append_assoc (take i words) (w ∷ []) rest ∙ ap (λ (v : ℕ). take i words ++ v ∷ rest) is
     ∙ ap (λ (xs : List ℕ). take i words ++ xs) (sym next) ∙ so_far
 
 -- the words of all bytes are all words
-pub all_words : (i : ℕ) (bytes words : List ℕ) → i ≡ 17 → length bytes ≡ 68 → length words ≡ 17 → take i words ++ words_of_bytes (drop (4 * i) bytes) ≡ words_of_bytes bytes → words ≡ words_of_bytes bytes
+pub all_words : (i : ℕ) (bytes words : List ℕ) → i ≡ length words → length bytes ≡ 4 * length words → take i words ++ words_of_bytes (drop (4 * i) bytes) ≡ words_of_bytes bytes → words ≡ words_of_bytes bytes
 unfolding words_of_bytes
-all_words i bytes words last bytes_long words_long so_far =
-    let here : take 17 words ++ words_of_bytes (drop 68 bytes) ≡ words_of_bytes bytes = subst (λ (k : ℕ). take k words ++ words_of_bytes (drop (4 * k) bytes) ≡ words_of_bytes bytes) last so_far in
-    let none : drop 68 bytes ≡ [] = drop_all 68 bytes (omega (arith, bytes_long)) in
-    sym (take_all 17 words (omega (arith, words_long))) ∙ sym (append-nil (take 17 words)) ∙ ap (λ (xs : List ℕ). take 17 words ++ words_of_bytes xs) (sym none) ∙ here
+all_words i bytes words last long so_far =
+    let none : drop (4 * i) bytes ≡ [] = drop_all (4 * i) bytes (omega (arith, last, long)) in
+    sym (take_all i words (omega (arith, last))) ∙ sym (append-nil (take i words)) ∙ ap (λ (xs : List ℕ). take i words ++ words_of_bytes xs) (sym none) ∙ so_far

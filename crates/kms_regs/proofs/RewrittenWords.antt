@@ -40,7 +40,13 @@ plane_old old new = (λ i. record {
 })
 
 pub crtc_old : (old new : CrtcWords) → rewritten_crtc old old new ≡ new
-crtc_old old new = (λ i. record { active = rewritten_old old.active new.active i; conn = rewritten_old old.conn new.conn i; mode = words_old old.mode new.mode i })
+crtc_old old new = (λ i. record {
+  active = rewritten_old old.active new.active i;
+  conn = rewritten_old old.conn new.conn i;
+  mode = words_old old.mode new.mode i;
+  gamma_on = rewritten_old old.gamma_on new.gamma_on i;
+  gamma = words_old old.gamma new.gamma i;
+})
 
 -- Words that are written place by place
 

@@ -11,7 +11,7 @@ use Rattle.kms_model.specs.declared.pictures.Layer.{Layer}
 use Rattle.kms_model.specs.declared.pictures.Picture.TheVariants.{Off, On}
 use Rattle.kms_model.specs.declared.states.PlaneState.{PlaneState}
 use Rattle.kms_model.specs.Frames.Pictures.{layers_with, put_plane, seen_on, shown_with}
-use Rattle.kms_model.specs.Machine.Registers.{CrtcWords, PlaneWords, Registers, crtc_register, decoded_picture, first_crtc_words, first_plane_words, is_copied, latched_registers, mode_in_words, plane_in, plane_register, read, shown_in_words, write_crtc, write_plane}
+use Rattle.kms_model.specs.Machine.Registers.{CrtcWords, PlaneWords, Registers, crtc_register, decoded_picture, first_crtc_words, first_plane_words, gamma_in_words, is_copied, latched_registers, mode_in_words, plane_in, plane_register, read, shown_in_words, write_crtc, write_plane}
 use Rattle.kms_regs.specs.Words.{ReadSame}
 use Rattle.kms_regs.proofs.BankLemmas.{copied-copied, kept-copied, later-copied}
 
@@ -84,7 +84,7 @@ pub decoded_alike : (t : Topology) (a b : Registers) (crtc : ℕ) → crtc_regis
 unfolding decoded_picture
 decoded_alike t a b crtc same seen =
     let shown : (c : CrtcWords) → shown_in_words t a crtc c ≡ shown_in_words t b crtc c = λ c.
-    ap (λ (ls : List (ℕ × Layer)). On (shown_with (mode_in_words c) c.conn ls))
+    ap (λ (ls : List (ℕ × Layer)). On (shown_with (mode_in_words c) c.conn (gamma_in_words c) ls))
     (same_layers (λ plane. plane_in (plane_register a plane)) (λ plane. plane_in (plane_register b plane)) (mode_in_words c) crtc 0 (length t.planes) (λ i ls low. seen (mode_in_words c) i ls (omega (arith, low)))) in
     ap (λ (c : CrtcWords). if not (c.active == 0) then shown_in_words t a crtc c else Off) same
     ∙ ap (λ p. if not ((crtc_register b crtc).active == 0) then p else Off) (shown (crtc_register b crtc))

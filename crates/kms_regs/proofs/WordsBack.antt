@@ -1,12 +1,13 @@
 -- The states that words were made of are read back from them.
-use Rattle.std.proofs.Common.{◌≡◌, ℕ, zero, suc, ◌*◌, ◌<◌, ℤ, pos, negsuc, ◌≤ℤ◌, List, [], ◌∷◌, ◌++◌, length, get_or, Option, Some, None, arith, rules, refl, ap, ◌∙◌, SFits, if◌then◌else◌}
-use Rattle.std.specs.Prelude.{◌==◌, not, Bool, true, false}
-use Rattle.std.specs.Int.{w16, w32, cast_signed, cast_unsigned, from_le_bytes, to_le_bytes}
+use Rattle.std.proofs.Common.{◌≡◌, ℕ, zero, suc, ◌<◌, ℤ, pos, negsuc, ◌≤ℤ◌, List, [], ◌∷◌, ◌++◌, length, get_or, Option, Some, None, arith, rules, refl, ap, ◌∙◌, SFits, if◌then◌else◌}
+use Rattle.std.specs.Prelude.{◌==◌, not, Bool, true, false, is_some}
+use Rattle.std.specs.List.{AllByRecursion}
+use Rattle.std.specs.Int.{w16, w32, cast_signed, cast_unsigned, to_le_bytes}
 use Rattle.std.proofs.lemmas.Int.{ints, to_z-of_z}
-use Rattle.std.proofs.lemmas.Nat.{le_bytes_4}
 use Rattle.kms_model.specs.declared.objects.Format.{Format}
 use Rattle.kms_model.specs.declared.objects.Format.TheVariants.{Xr24, Ar24, Rg16}
 use Rattle.kms_model.specs.declared.objects.Kind.TheVariants.{Crtc, Plane}
+use Rattle.kms_model.specs.declared.objects.Gamma.{Gamma}
 use Rattle.kms_model.specs.declared.objects.Mode.{Mode}
 use Rattle.kms_model.specs.declared.objects.Topology.{Topology}
 use Rattle.kms_model.specs.declared.pictures.FbInfo.{FbInfo}
@@ -19,9 +20,11 @@ use Rattle.kms_model.specs.Frames.Pictures.{layers_with, put_plane, seen_on, sho
 use Rattle.kms_model.specs.Device.ModeBytes.{mode_bytes, mode_held}
 use Rattle.kms_model.specs.Device.Sound.{IsBetween}
 use Rattle.kms_model.specs.Device.States.{natural}
-use Rattle.kms_model.specs.Machine.Registers.{CrtcWords, Registers, bytes_of_words, code_of, crtc_words, decoded_picture, fb_number, flag_word, format_in, mode_words, plane_in, plane_register, plane_words, shown_in_words, words_of_bytes}
+use Rattle.kms_model.specs.Machine.Registers.{CrtcWords, Registers, bytes_of_words, code_of, crtc_words, decoded_picture, fb_number, flag_word, format_in, gamma_in_words, gamma_words, mode_words, plane_in, plane_register, plane_words, shown_in_words}
+use Rattle.kms_model.proofs.GammaRoundTrip.{IsTable, gamma_back}
 use Rattle.kms_model.proofs.ModeRoundTrip.{mode_held-mode_bytes}
-use Rattle.kms_regs.specs.Written.{AreBytes, AreWritten, HasId, HasMode, IsWritable, IsWritableMode, picture_of_states}
+use Rattle.kms_model.proofs.WordBytes.{words_back}
+use Rattle.kms_regs.specs.Written.{AreBytes, AreWritten, HasGamma, HasId, HasMode, IsWritable, IsWritableMode, picture_of_states}
 use Rattle.kms_regs.proofs.Rows.{other_id}
 use Rattle.kms_regs.proofs.SameWords.{same_layers}
 
@@ -53,30 +56,9 @@ plane_back s h =
 
 -- Modes
 
-four_small : (a b c d : ℕ) (rest : List ℕ) → AreBytes (a ∷ b ∷ c ∷ d ∷ rest) → (i : ℕ) → get_or (a ∷ b ∷ c ∷ d ∷ []) i 0 < 256
-four_small a b c d rest h zero = h.small 0
-four_small a b c d rest h (suc zero) = h.small 1
-four_small a b c d rest h (suc (suc zero)) = h.small 2
-four_small a b c d rest h (suc (suc (suc zero))) = h.small 3
-four_small a b c d rest h (suc (suc (suc (suc i)))) = omega arith
-
-rest_small : (a : ℕ) (rest : List ℕ) → AreBytes (a ∷ rest) → AreBytes rest
-rest_small a rest h = record { small = λ i. h.small (suc i) }
-
--- whole words of bytes
-words_back : (n : ℕ) (bytes : List ℕ) → length bytes ≡ 4 * n → AreBytes bytes → bytes_of_words (words_of_bytes bytes) ≡ bytes
-unfolding words_of_bytes
-words_back zero [] long h = refl
-words_back zero (a ∷ bytes) long h = absurd (omega (arith, long))
-words_back (suc n) [] long h = absurd (omega (arith, long))
-words_back (suc n) (a ∷ []) long h = absurd (omega (arith, long))
-words_back (suc n) (a ∷ b ∷ []) long h = absurd (omega (arith, long))
-words_back (suc n) (a ∷ b ∷ c ∷ []) long h = absurd (omega (arith, long))
-words_back (suc n) (a ∷ b ∷ c ∷ d ∷ bytes) long h =
-    let rest : bytes_of_words (words_of_bytes bytes) ≡ bytes =
-    words_back n bytes (omega (arith, long)) (rest_small d bytes (rest_small c (d ∷ bytes) (rest_small b (c ∷ d ∷ bytes) (rest_small a (b ∷ c ∷ d ∷ bytes) h)))) in
-    let first : to_le_bytes w32 (from_le_bytes w32 (a ∷ b ∷ c ∷ d ∷ [])) ≡ a ∷ b ∷ c ∷ d ∷ [] = le_bytes_4 (a ∷ b ∷ c ∷ d ∷ []) _ refl (four_small a b c d bytes h) refl in
-    ap (λ (xs : List ℕ). xs ++ bytes_of_words (words_of_bytes bytes)) first ∙ ap (λ (xs : List ℕ). a ∷ b ∷ c ∷ d ∷ xs) rest
+bytes_by_recursion : (bytes : List ℕ) → ((i : ℕ) → get_or bytes i 0 < 256) → AllByRecursion (λ byte. byte < 256) bytes
+bytes_by_recursion [] small = tt
+bytes_by_recursion (b ∷ bytes) small = (small 0, bytes_by_recursion bytes (λ i. small (suc i)))
 
 append_small : (xs ys : List ℕ) → AreBytes xs → AreBytes ys → AreBytes (xs ++ ys)
 append_small xs ys first second = record { small = go xs first.small } where
@@ -122,7 +104,22 @@ mode_long m long = ap (λ (n : ℕ). suc (suc (suc (suc (suc (suc (suc (suc (suc
 
 -- the mode that the words of a mode hold is that mode
 pub mode_back : (m : Mode) → IsWritableMode m → mode_held (bytes_of_words (mode_words (Some m))) ≡ m
-mode_back m h = ap mode_held (words_back 17 (mode_bytes m) (mode_long m h.fits.back.name) (mode_small m h.name_bytes)) ∙ mode_held-mode_bytes m h.fits
+mode_back m h = ap mode_held (words_back 17 (mode_bytes m) (mode_long m h.fits.back.name) (bytes_by_recursion (mode_bytes m) (mode_small m h.name_bytes).small)) ∙ mode_held-mode_bytes m h.fits
+
+-- Tables of colour values
+
+gamma_read : (c : CrtcWords) (gamma : Option Gamma) → c.gamma_on ≡ flag_word (is_some gamma) → c.gamma ≡ gamma_words gamma → HasGamma gamma → gamma_in_words c ≡ gamma
+gamma_read c None on words has = rw on refl
+gamma_read c (Some g) on words has =
+    let table : IsTable g = record {
+      red = has.reds;
+      green = has.greens;
+      blue = has.blues;
+      red_bytes = bytes_by_recursion g.red has.red_bytes.small;
+      green_bytes = bytes_by_recursion g.green has.green_bytes.small;
+      blue_bytes = bytes_by_recursion g.blue has.blue_bytes.small;
+    } in
+    rw (on, words) (ap Some (gamma_back g table))
 
 -- What words show that were written for states
 
@@ -130,20 +127,30 @@ plane_read : (t : Topology) (rs : Registers) (crtc conn : ℕ) (s : CrtcState) (
     → plane_in (plane_register rs (object_id Plane i)) ≡ state (object_id Plane i)
 plane_read t rs crtc conn s state h i low = ap plane_in (h.planes_are i low) ∙ plane_back (state (object_id Plane i)) (h.states_are i low)
 
+abbrev words_with : ℕ → Bool → Option Mode → Option Gamma → CrtcWords
+words_with conn active mode gamma = record {
+  active = flag_word active;
+  conn = conn;
+  mode = mode_words mode;
+  gamma_on = flag_word (is_some gamma);
+  gamma = gamma_words gamma;
+}
+
 by_state : (t : Topology) (rs : Registers) (crtc conn : ℕ) (state : ℕ → PlaneState) → ((i : ℕ) → i < length t.planes → plane_in (plane_register rs (object_id Plane i)) ≡ state (object_id Plane i))
-    → (active : Bool) (mode : Option Mode) → HasMode active mode
-    → (if not (flag_word active == 0) then shown_in_words t rs crtc (record { active = flag_word active; conn = conn; mode = mode_words mode }) else Off) ≡ picture_of_states t crtc state conn active mode
-by_state t rs crtc conn state read true (Some m) has =
+    → (active : Bool) (mode : Option Mode) (gamma : Option Gamma) → HasMode active mode → HasGamma gamma
+    → (if not (flag_word active == 0) then shown_in_words t rs crtc (words_with conn active mode gamma) else Off) ≡ picture_of_states t crtc state conn gamma active mode
+by_state t rs crtc conn state read true (Some m) gamma has table =
     let f : ℕ → PlaneState = λ plane. plane_in (plane_register rs plane) in
-    ap (λ (k : Mode). On (shown_with k conn (layers_with f k crtc (ids_of t Plane)))) (mode_back m has)
-    ∙ ap (λ (ls : List (ℕ × Layer)). On (shown_with m conn ls)) (same_layers f state m crtc 0 (length t.planes) (λ i ls low.
+    ap (λ (k : Mode). On (shown_with k conn (gamma_in_words (words_with conn true (Some m) gamma)) (layers_with f k crtc (ids_of t Plane)))) (mode_back m has)
+    ∙ ap (λ (g : Option Gamma). On (shown_with m conn g (layers_with f m crtc (ids_of t Plane)))) (gamma_read (words_with conn true (Some m) gamma) gamma refl refl table)
+    ∙ ap (λ (ls : List (ℕ × Layer)). On (shown_with m conn gamma ls)) (same_layers f state m crtc 0 (length t.planes) (λ i ls low.
     ap (λ (x : PlaneState). put_plane m (object_id Plane i) x (seen_on crtc x) ls) (read i (omega (arith, low)))))
-by_state t rs crtc conn state read true None has = absurd has
-by_state t rs crtc conn state read false mode has = refl
+by_state t rs crtc conn state read true None gamma has table = absurd has
+by_state t rs crtc conn state read false mode gamma has table = refl
 
 pub decoded_written : (t : Topology) (rs : Registers) (crtc conn : ℕ) (s : CrtcState) (state : ℕ → PlaneState) → AreWritten t rs crtc conn s state
-    → decoded_picture t rs (object_id Crtc crtc) ≡ picture_of_states t (object_id Crtc crtc) state conn s.active s.mode
+    → decoded_picture t rs (object_id Crtc crtc) ≡ picture_of_states t (object_id Crtc crtc) state conn s.gamma s.active s.mode
 unfolding decoded_picture crtc_words
 decoded_written t rs crtc conn s state h =
     ap (λ (c : CrtcWords). if not (c.active == 0) then shown_in_words t rs (object_id Crtc crtc) c else Off) h.crtc_is
-    ∙ by_state t rs (object_id Crtc crtc) conn state (plane_read t rs crtc conn s state h) s.active s.mode h.mode_is
+    ∙ by_state t rs (object_id Crtc crtc) conn state (plane_read t rs crtc conn s state h) s.active s.mode s.gamma h.mode_is h.gamma_is

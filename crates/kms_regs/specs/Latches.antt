@@ -27,7 +27,7 @@ ShowsTheShadow t shadow live crtc =
 abbrev pub ShowsWhatWasWritten : Topology → Registers → Registers → ℕ → Type 0
 ShowsWhatWasWritten t shadow live crtc =
     (conn : ℕ) (s : CrtcState) (state : ℕ → PlaneState) → AreWritten t shadow crtc conn s state
-    → decoded_picture t (latched_registers t shadow live (object_id Crtc crtc)) (object_id Crtc crtc) ≡ picture_of_states t (object_id Crtc crtc) state conn s.active s.mode
+    → decoded_picture t (latched_registers t shadow live (object_id Crtc crtc)) (object_id Crtc crtc) ≡ picture_of_states t (object_id Crtc crtc) state conn s.gamma s.active s.mode
 
 -- the live pictures of the others are as they were
 abbrev pub LeavesTheOthers : Topology → Registers → Registers → ℕ → Type 0

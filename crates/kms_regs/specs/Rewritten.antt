@@ -37,6 +37,8 @@ rewritten_crtc words old new = record {
   active = rewritten words.active old.active new.active;
   conn = rewritten words.conn old.conn new.conn;
   mode = rewritten_words words.mode old.mode new.mode;
+  gamma_on = rewritten words.gamma_on old.gamma_on new.gamma_on;
+  gamma = rewritten_words words.gamma old.gamma new.gamma;
 }
 
 -- the registers after a write of a plane or of a CRTC

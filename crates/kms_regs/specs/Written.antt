@@ -3,6 +3,7 @@ use Rattle.std.specs.Prelude.{◌≡◌, ◌≢◌, ℕ, ◌<◌, Bool, true, fa
 use Rattle.kms_model.specs.Device.Objects.{ids_of, object_id}
 use Rattle.kms_model.specs.Device.Sound.{IsPlaneInRange}
 use Rattle.kms_model.specs.declared.objects.Kind.TheVariants.{Crtc, Plane}
+use Rattle.kms_model.specs.declared.objects.Gamma.{Gamma}
 use Rattle.kms_model.specs.declared.objects.Mode.{Mode}
 use Rattle.kms_model.specs.declared.objects.Topology.{Topology}
 use Rattle.kms_model.specs.declared.pictures.FbInfo.{FbInfo}
@@ -33,12 +34,26 @@ pub record IsWritableMode (m : Mode) : Type 0 where
   pub fits : FitsTypes m
   pub name_bytes : AreBytes m.name
 
+-- a table of colour values that its words tell: 256 numbers below 256 of each channel
+pub record IsWritableGamma (g : Gamma) : Type 0 where
+  pub reds : length g.red ≡ 256
+  pub greens : length g.green ≡ 256
+  pub blues : length g.blue ≡ 256
+  pub red_bytes : AreBytes g.red
+  pub green_bytes : AreBytes g.green
+  pub blue_bytes : AreBytes g.blue
+
+-- a CRTC's table, if it has one, is one that its words tell
+abbrev pub HasGamma : Option Gamma → Type 0
+HasGamma None = Unit {0}
+HasGamma (Some g) = IsWritableGamma g
+
 -- what a CRTC with a connector, or 0, shows in a state, with the states of planes that a function gives; one that is on
 -- has a mode
-abbrev pub picture_of_states : Topology → ℕ → (ℕ → PlaneState) → ℕ → Bool → Option Mode → Picture
-picture_of_states t crtc state conn true (Some m) = On (shown_with m conn (layers_with state m crtc (ids_of t Plane)))
-picture_of_states t crtc state conn true None = Off
-picture_of_states t crtc state conn false mode = Off
+abbrev pub picture_of_states : Topology → ℕ → (ℕ → PlaneState) → ℕ → Option Gamma → Bool → Option Mode → Picture
+picture_of_states t crtc state conn gamma true (Some m) = On (shown_with m conn gamma (layers_with state m crtc (ids_of t Plane)))
+picture_of_states t crtc state conn gamma true None = Off
+picture_of_states t crtc state conn gamma false mode = Off
 
 -- the mode of a CRTC that is on is there, and its words tell it
 abbrev pub HasMode : Bool → Option Mode → Type 0
@@ -50,5 +65,6 @@ HasMode false mode = Unit {0}
 pub record AreWritten (t : Topology) (rs : Registers) (crtc conn : ℕ) (s : CrtcState) (state : ℕ → PlaneState) : Type 0 where
   pub crtc_is : crtc_register rs (object_id Crtc crtc) ≡ crtc_words conn s
   pub mode_is : HasMode s.active s.mode
+  pub gamma_is : HasGamma s.gamma
   pub planes_are : (index : ℕ) → index < length t.planes → plane_register rs (object_id Plane index) ≡ plane_words (state (object_id Plane index))
   pub states_are : (index : ℕ) → index < length t.planes → IsWritable (state (object_id Plane index))

@@ -16,7 +16,7 @@ use kms_model::{CrtcState, Picture, PlaneState, Topology};
 use std::marker::Model;
 
 /// The registers of a device: shadow and live words, which CRTCs go at their next vertical blanking, and how many each
-/// has had. It takes about three kilobytes, in place.
+/// has had. It takes about nine kilobytes, in place.
 ///
 /// Contracts tell for each state of a machine that the register file stands for, that it stands for the state after the
 /// write, the flush or the vertical blanking. It does not know which commit goes.

@@ -4,7 +4,7 @@ ghost use Rattle.kms_model.specs.Device.Sound.{IsPlaneInRange};
 
 use crate::RegFile;
 use crate::words::{CrtcWords, PlaneWords};
-use kms_model::{CrtcState, FbInfo, Format, Picture, PlaneState, Rect};
+use kms_model::{CrtcState, FbInfo, Format, Gamma, Picture, PlaneState, Rect};
 use kms_samples::{full_hd, split, tiny};
 use std::process::Abort;
 use std::test::Fail;
@@ -157,6 +157,77 @@ fn the_words_of_a_mode_are_its_bytes(rt: HostRuntime) {
     );
     assert_eq!(rt; words.mode(), mode);
     assert_eq!(rt; CrtcWords::of(0, &CrtcState::OFF).mode, [0; 17]);
+}
+
+/// A table whose channels differ: red inverts, green keeps, and blue is 7 but for the last value.
+fn a_gamma() -> Gamma {
+    let mut gamma = Gamma {
+        red: [0; 256],
+        green: [0; 256],
+        blue: [7; 256],
+    };
+    for value in 0..256 {
+        gamma.red[value] = (255 - value) as u8;
+        gamma.green[value] = value as u8;
+    }
+    gamma.blue[255] = 9;
+    gamma
+}
+
+/// A CRTC that is on, with a table.
+fn lit_with_gamma() -> CrtcState {
+    CrtcState {
+        gamma: Some(a_gamma()),
+        ..lit()
+    }
+}
+
+#[test]
+fn the_words_of_a_table_are_its_channels_one_after_the_other(rt: HostRuntime) {
+    let words = CrtcWords::of(0, &lit_with_gamma());
+    assert_eq!(rt; words.gamma_on, 1);
+    assert_eq!(rt; words.gamma[0], 0xfcfd_feff);
+    assert_eq!(rt; words.gamma[63], 0x0001_0203);
+    assert_eq!(rt; words.gamma[64], 0x0302_0100);
+    assert_eq!(rt; words.gamma[127], 0xfffe_fdfc);
+    assert_eq!(rt; words.gamma[128], 0x0707_0707);
+    assert_eq!(rt; words.gamma[191], 0x0907_0707);
+    assert!(rt; words.gamma() == Some(a_gamma()));
+    let without = CrtcWords::of(0, &lit());
+    assert_eq!(rt; without.gamma_on, 0);
+    assert!(rt; without.gamma == [0; 192]);
+    assert!(rt; without.gamma().is_none());
+    assert!(rt; CrtcWords::first() == CrtcWords::of(0, &CrtcState::OFF));
+}
+
+/// Whether the live picture of a CRTC that is on has this table.
+fn shows_gamma(regs: &RegFile, crtc: u32, gamma: Option<Gamma>) -> bool
+    requires { crtc < 4 }
+{
+    match regs.decode_live(crtc) {
+        Picture::Off => false,
+        Picture::On(shown) => shown.gamma == gamma,
+    }
+}
+
+#[test]
+fn a_changed_table_is_shown_from_its_latch_on(rt: HostRuntime) -> Result<(), Fail> {
+    let mut regs = RegFile::new(&split(rt.alloc())?);
+    write_crtc(&rt, &mut regs, 1, 300, &CrtcState::OFF, &lit());
+    assert!(rt; regs.flush(1).is_none());
+    assert!(rt; blank(&rt, &mut regs, 1).is_some());
+    assert!(rt; shows_gamma(&regs, 1, None));
+    write_crtc(&rt, &mut regs, 1, 300, &lit(), &lit_with_gamma());
+    assert!(rt; shows_gamma(&regs, 1, None), "written");
+    assert!(rt; regs.flush(1).is_none());
+    assert!(rt; shows_gamma(&regs, 1, None), "flushed");
+    assert!(rt; blank(&rt, &mut regs, 1).is_some());
+    assert!(rt; shows_gamma(&regs, 1, Some(a_gamma())), "latched");
+    write_crtc(&rt, &mut regs, 1, 300, &lit_with_gamma(), &lit());
+    assert!(rt; regs.flush(1).is_none());
+    assert!(rt; blank(&rt, &mut regs, 1).is_some());
+    assert!(rt; shows_gamma(&regs, 1, None), "taken away");
+    Ok(())
 }
 
 #[test]

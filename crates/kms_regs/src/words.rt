@@ -1,5 +1,5 @@
 //! The words of a plane and of a CRTC.
-ghost use Rattle.std.specs.Prelude.{◌≡◌, ◌<◌, ◌≤ℤ◌, ℤ, pos, negsuc};
+ghost use Rattle.std.specs.Prelude.{◌≡◌, ◌<◌, ◌≤◌, ◌≤ℤ◌, ◌+◌, ◌*◌, ◌++◌, ℤ, pos, negsuc, length, take, drop, slice_range, Some};
 ghost use Rattle.std.specs.List.{flat_map};
 ghost use Rattle.std.specs.Int.{w32, cast_unsigned, to_le_bytes};
 ghost use Rattle.kms_model.specs.Device.Objects.{object_id};
@@ -7,16 +7,21 @@ ghost use Rattle.kms_model.specs.Device.Sound.{IsPlaneInRange};
 ghost use Rattle.kms_model.specs.Device.States.{natural};
 ghost use Rattle.kms_model.specs.declared.objects.Kind.TheVariants.{Plane};
 ghost use Rattle.kms_model.specs.Frames.Rectangles.{IsNearRect};
-ghost use Rattle.kms_model.specs.Machine.Registers.{bytes_of_words, code_of, crtc_words, fb_in, fb_number, flag_word, first_crtc_words, first_plane_words, mode_in_words, mode_words, plane_in, plane_words, words_of_bytes};
+ghost use Rattle.kms_model.specs.Machine.Registers.{bytes_of_words, code_of, crtc_words, fb_in, fb_number, flag_word, first_crtc_words, first_plane_words, gamma_bytes, gamma_in_words, gamma_with, gamma_words, mode_in_words, mode_words, plane_in, plane_words, words_of_bytes};
 ghost use Rattle.kms_regs.specs.Rewritten.{rewritten, rewritten_crtc, rewritten_plane, rewritten_words};
 
 use kms_blobs::{encode_mode, mode_of};
-use kms_model::{CrtcState, FbInfo, Format, Mode, PlaneState, Rect};
+use kms_model::{CrtcState, FbInfo, Format, Gamma, Mode, PlaneState, Rect};
 use kms_props::{Register, code, first_word, fourcc};
 use std::marker::Model;
 
 /// How many words a mode has.
 const MODE_WORDS: usize = 17;
+
+/// How many words a table of colour values has, and how many bytes.
+const GAMMA_WORDS: usize = 192;
+
+const GAMMA_BYTES: usize = 768;
 
 /// The words of a plane, by the table of registers. Contracts see them as the definitions' words.
 #[derive(Clone, Copy, Debug, PartialEq, Eq)]
@@ -108,6 +113,10 @@ pub struct CrtcWords {
     pub conn: u32,
     /// The bytes of its mode as little-endian words, 0 without a mode.
     pub mode: [u32; 17],
+    /// 1 where it has a table of colour values, else 0.
+    pub gamma_on: u32,
+    /// The values of red, of green and of blue of its table as little-endian words, 0 without a table.
+    pub gamma: [u32; 192],
 }
 
 impl Model for CrtcWords {
@@ -115,9 +124,21 @@ impl Model for CrtcWords {
 
     ghost Value = { CrtcWords };
 
-    ghost view = { λ s. record { active = s.active; conn = s.conn; mode = s.mode } };
+    ghost view = { λ s. record {
+      active = s.active;
+      conn = s.conn;
+      mode = s.mode;
+      gamma_on = s.gamma_on;
+      gamma = s.gamma;
+    } };
 
-    ghost inverse = { λ s. record { active = s.active; conn = s.conn; mode = s.mode } };
+    ghost inverse = { λ s. record {
+      active = s.active;
+      conn = s.conn;
+      mode = s.mode;
+      gamma_on = s.gamma_on;
+      gamma = s.gamma;
+    } };
 }
 
 /// Writes a word where the new one differs from the old one.
@@ -307,6 +328,8 @@ impl CrtcWords {
             active: first_word(Register::ACTIVE, 0),
             conn: first_word(Register::CONNECTOR, 0),
             mode: [first_word(Register::MODE, 0); MODE_WORDS],
+            gamma_on: first_word(Register::GAMMA_ON, 0),
+            gamma: [first_word(Register::GAMMA, 0); GAMMA_WORDS],
         }
     }
 
@@ -318,6 +341,8 @@ impl CrtcWords {
             active: flag_word(state.active),
             conn,
             mode: mode_words(&state.mode),
+            gamma_on: flag_word(state.gamma.is_some()),
+            gamma: gamma_words(&state.gamma),
         }
     }
 
@@ -328,13 +353,25 @@ impl CrtcWords {
         write(&mut self.active, old.active, new.active);
         write(&mut self.conn, old.conn, new.conn);
         write_mode(&mut self.mode, &old.mode, &new.mode);
+        write(&mut self.gamma_on, old.gamma_on, new.gamma_on);
+        write_gamma(&mut self.gamma, &old.gamma, &new.gamma);
     }
 
     /// The mode that the words hold.
     pub fn mode(&self) -> Mode
         ensures { result ≡ mode_in_words self.now }
     {
-        mode_of(&bytes_of(&self.mode))
+        mode_of(&mode_bytes(&self.mode))
+    }
+
+    /// The table of colour values that the words hold, if any.
+    pub fn gamma(&self) -> Option<Gamma>
+        ensures { result ≡ gamma_in_words self.now }
+    {
+        if self.gamma_on != 1 {
+            return None;
+        }
+        Some(gamma_with(&table_bytes(&self.gamma)))
     }
 }
 
@@ -342,7 +379,23 @@ impl CrtcWords {
 fn write_mode(words: &mut [u32; 17], old: &[u32; 17], new: &[u32; 17])
     ensures { words.new ≡ rewritten_words words.old old.now new.now }
 {
-    for i in 0..MODE_WORDS {
+    write_words(words, old, new);
+}
+
+/// Writes the words of a table that differ.
+fn write_gamma(words: &mut [u32; 192], old: &[u32; 192], new: &[u32; 192])
+    ensures { words.new ≡ rewritten_words words.old old.now new.now }
+{
+    write_words(words, old, new);
+}
+
+/// Writes the words that differ between an old and a new state, of as many words each.
+fn write_words(words: &mut [u32], old: &[u32], new: &[u32])
+    requires old { length old.now ≡ length words.old }
+    requires new { length new.now ≡ length words.old }
+    ensures { words.new ≡ rewritten_words words.old old.now new.now }
+{
+    for i in 0..words.len() {
         write(&mut words[i], old[i], new[i]);
     }
 }
@@ -352,30 +405,121 @@ fn mode_words(mode: &Option<Mode>) -> [u32; 17]
     ensures { result ≡ mode_words mode.now }
 {
     match mode {
-        Some(mode) => words_of(&encode_mode(mode)),
+        Some(mode) => mode_held(mode),
         None => [0; MODE_WORDS],
     }
 }
 
-/// The words of 68 bytes, four at a time.
-fn words_of(bytes: &[u8; 68]) -> [u32; 17]
-    ensures { result ≡ words_of_bytes bytes.now }
+/// The words of a mode that is there.
+fn mode_held(mode: &Mode) -> [u32; 17]
+    ensures { result ≡ mode_words (Some mode.now) }
 {
     let mut words = [0; MODE_WORDS];
-    for i in 0..MODE_WORDS {
-        let at = 4 * i;
-        words[i] = u32::from_le_bytes([bytes[at], bytes[at + 1], bytes[at + 2], bytes[at + 3]]);
-    }
+    put_words(&encode_mode(mode), &mut words);
     words
 }
 
-/// The bytes of 17 words.
-fn bytes_of(words: &[u32; 17]) -> [u8; 68]
+/// The words of a table of colour values, 0 without one.
+fn gamma_words(gamma: &Option<Gamma>) -> [u32; 192]
+    ensures { result ≡ gamma_words gamma.now }
+{
+    match gamma {
+        Some(gamma) => gamma_held(gamma),
+        None => [0; GAMMA_WORDS],
+    }
+}
+
+/// The words of a table that is there.
+fn gamma_held(gamma: &Gamma) -> [u32; 192]
+    ensures { result ≡ gamma_words (Some gamma.now) }
+{
+    let mut words = [0; GAMMA_WORDS];
+    put_words(&gamma_bytes(gamma), &mut words);
+    words
+}
+
+/// The values of red, then those of green, then those of blue.
+fn gamma_bytes(gamma: &Gamma) -> [u8; 768]
+    ensures { result ≡ gamma_bytes gamma.now }
+{
+    joined(&gamma.red, &gamma.green, &gamma.blue)
+}
+
+/// The bytes of three channels, one behind the other.
+fn joined(red: &[u8; 256], green: &[u8; 256], blue: &[u8; 256]) -> [u8; 768]
+    ensures { result ≡ red.now ++ (green.now ++ blue.now) }
+{
+    let mut bytes = [0; GAMMA_BYTES];
+    put_values(&mut bytes, 0, red);
+    put_values(&mut bytes, 256, green);
+    put_values(&mut bytes, 512, blue);
+    bytes
+}
+
+/// Puts the values of a channel at a place of these bytes.
+fn put_values(bytes: &mut [u8; 768], start: usize, values: &[u8; 256])
+    requires { start ≤ 512 }
+    ensures { bytes.new ≡ take start bytes.old ++ (values.now ++ drop (start + 256) bytes.old) }
+{
+    bytes[start..start + 256].copy_from_slice(values);
+}
+
+/// The table that these bytes hold.
+fn gamma_with(bytes: &[u8; 768]) -> Gamma
+    ensures { result ≡ gamma_with bytes.now }
+{
+    Gamma {
+        red: channel(bytes, 0),
+        green: channel(bytes, 256),
+        blue: channel(bytes, 512),
+    }
+}
+
+/// The values of the channel that begins at a place of these bytes.
+fn channel(bytes: &[u8; 768], start: usize) -> [u8; 256]
+    requires { start ≤ 512 }
+    ensures { result ≡ slice_range bytes.now start (start + 256) }
+{
+    let mut values = [0; 256];
+    values.copy_from_slice(&bytes[start..start + 256]);
+    values
+}
+
+/// The bytes of the words of a mode.
+fn mode_bytes(words: &[u32; 17]) -> [u8; 68]
     ensures { result ≡ bytes_of_words words.now }
 {
     let mut bytes = [0; 68];
-    for i in 0..MODE_WORDS {
+    put_bytes(words, &mut bytes);
+    bytes
+}
+
+/// The bytes of the words of a table.
+fn table_bytes(words: &[u32; 192]) -> [u8; 768]
+    ensures { result ≡ bytes_of_words words.now }
+{
+    let mut bytes = [0; GAMMA_BYTES];
+    put_bytes(words, &mut bytes);
+    bytes
+}
+
+/// Puts the little-endian words of bytes, four at a time.
+fn put_words(bytes: &[u8], words: &mut [u32])
+    requires { length bytes.now ≡ 4 * length words.old }
+    ensures { words.new ≡ words_of_bytes bytes.now }
+{
+    for i in 0..words.len() {
+        let at = 4 * i;
+        words[i] = u32::from_le_bytes([bytes[at], bytes[at + 1], bytes[at + 2], bytes[at + 3]]);
+    }
+}
+
+/// Puts the bytes of words, four of each.
+fn put_bytes(words: &[u32], bytes: &mut [u8])
+    requires { length bytes.old ≡ 4 * length words.now }
+    ensures { bytes.new ≡ bytes_of_words words.now }
+{
+    for i in 0..words.len() {
         bytes[4 * i..4 * i + 4].copy_from_slice(&words[i].to_le_bytes());
     }
-    bytes
 }

@@ -8,7 +8,7 @@ use Rattle.std.proofs.lemmas.Bool.Decides.{eqb_tells, nat_tests, same_from_decid
 use Rattle.kms_model.specs.declared.objects.Kind.{Kind}
 use Rattle.kms_model.specs.declared.objects.Kind.TheVariants.{Crtc, Plane, Conn, Enc}
 use Rattle.kms_model.specs.declared.objects.Topology.{Topology}
-use Rattle.kms_model.specs.declared.properties.TheConstants.{CRTC_ID, FB_ID, MODE_ID}
+use Rattle.kms_model.specs.declared.properties.TheConstants.{CRTC_ID, FB_ID, GAMMA_LUT, MODE_ID}
 use Rattle.kms_model.specs.declared.scripts.Assign.{Assign}
 use Rattle.kms_model.specs.declared.scripts.Request.{Request}
 use Rattle.kms_model.specs.declared.scripts.Value.{Value}
@@ -128,9 +128,12 @@ no_crtc_set f prop v other = elim (cases_Bool (prop == FB_ID)) [
   | inl fb ↦ rw fb refl
   | inr no_fb ↦ elim (cases_Bool (prop == MODE_ID)) [
     | inl mode ↦ rw (no_fb, mode) refl
-    | inr no_mode ↦ elim (cases_Bool (is_kept prop)) [
-      | inl kept ↦ rw (no_fb, no_mode, other, kept) refl
-      | inr fence ↦ rw (no_fb, no_mode, other, fence) refl
+    | inr no_mode ↦ elim (cases_Bool (prop == GAMMA_LUT)) [
+      | inl gamma ↦ rw (no_fb, no_mode, gamma) refl
+      | inr no_gamma ↦ elim (cases_Bool (is_kept prop)) [
+        | inl kept ↦ rw (no_fb, no_mode, no_gamma, other, kept) refl
+        | inr fence ↦ rw (no_fb, no_mode, no_gamma, other, fence) refl
+      ]
     ]
   ]
 ]
@@ -170,7 +173,7 @@ module _ (t : Topology) (things : List worlds.Thing) (old : List Setting) (f : �
               or_right (object_of b == crtc) _ (and_from (is_routed b.kind) _ routes (or_left (crtc_at old (object_of b) == crtc) _ (eq-eqb (crtc_at old (object_of b)) crtc before))))
         ]
         | inr goes ↦ (let set = sets_crtc f (prop_of b.prop) crtc b.value some (eqb-true (new_crtc (set_value f (prop_of b.prop) b.value)) crtc goes) in
-            let routes = routed b.kind b.prop may.has set.0 in
+            let routes = routed t b.kind b.prop may.has set.0 in
             let last_crtc : last_value assigns (object_of b) CRTC_ID ≡ Some b.value = subst (λ p. last_value assigns (object_of b) p ≡ Some b.value) set.0 last in
             let after : crtc_at (apply things old assigns) (object_of b) ≡ crtc = crtc_of_last (object_of b) b.value last_crtc ∙ set.1 in
             or_right (object_of b == crtc) _ (and_from (is_routed b.kind) _ routes (or_right (crtc_at old (object_of b) == crtc) _ (eq-eqb (crtc_at (apply things old assigns) (object_of b)) crtc after))))

@@ -51,6 +51,7 @@ new_crtc (to.Crtc id) = id
 new_crtc (to.Num n) = 0
 new_crtc (to.Fb fb) = 0
 new_crtc (to.Mode mode) = 0
+new_crtc (to.Gamma gamma) = 0
 new_crtc to.Fence = 0
 
 -- A set names a CRTC: it sets it, or a plane or a connector that was on it, or it puts one on it.

@@ -55,7 +55,7 @@ refusal_at t d objects asked Clones index =
 refusal_at t d objects asked Routes index =
     option_and_then (λ both. route_refusal_of both) (crtc_in d objects index)
 refusal_at t d objects asked Shown index =
-    option_and_then (λ both. shown_refusal_of d.crtcs both) (plane_in d objects index)
+    option_and_then (λ both. shown_refusal_of t.profile d.crtcs both) (plane_in d objects index)
 
 -- the numbers of a plane that a step looks at are in range
 abbrev pub IsLookedAtInRange : Step → Option (Both PlaneState) → Type 0

@@ -15,9 +15,9 @@ place_of Plane index = 4 + index
 place_of Conn index = 20 + index
 place_of Enc index = 28 + index
 
--- the place of a property of an object: each object has room for the ids up to 18
+-- the place of a property of an object: each object has room for the ids up to 19
 abbrev pub target_of : Assign → ℕ
-target_of a = place_of a.kind a.index * 19 + prop_of a.prop
+target_of a = place_of a.kind a.index * 20 + prop_of a.prop
 
 -- for each property of an object, whether one of the assignments sets it
 abbrev pub TellTargets : List Assign → List Bool → Type 0

@@ -1,5 +1,5 @@
 //! Duplicated states, by the index of their object.
-ghost use Rattle.std.specs.Prelude.{◌≡◌};
+ghost use Rattle.std.specs.Prelude.{◌≡◌, option_copied};
 ghost use Rattle.kms_model.specs.Device.Masks.{has_bit};
 ghost use Rattle.kms_model.specs.Request.Late.{duplicate_at, duplicate_in};
 
@@ -13,10 +13,13 @@ pub(crate) fn is_in(mask: u32, index: usize) -> bool
 }
 
 /// The states of the object with an index, where they are duplicated.
-pub(crate) fn duplicate_at<S: Copy>(states: &[Option<Both<S>>], index: usize) -> Option<Both<S>>
-    ensures { result ≡ duplicate_at states.now index }
+pub(crate) fn duplicate_at<S: Copy>(states: &[Option<Both<S>>], index: usize) -> Option<&Both<S>>
+    ensures { option_copied result ≡ duplicate_at states.now index }
 {
-    states.get(index).copied().flatten()
+    match states.get(index) {
+        Some(Some(both)) => Some(both),
+        _ => None,
+    }
 }
 
 /// The states of the object with an index, where it is in a set and they are duplicated.
@@ -24,8 +27,8 @@ pub(crate) fn duplicate_in<S: Copy>(
     mask: u32,
     states: &[Option<Both<S>>],
     index: usize,
-) -> Option<Both<S>>
-    ensures { result ≡ duplicate_in mask states.now index }
+) -> Option<&Both<S>>
+    ensures { option_copied result ≡ duplicate_in mask states.now index }
 {
     if is_in(mask, index) {
         duplicate_at(states, index)

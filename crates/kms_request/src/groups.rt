@@ -4,6 +4,7 @@ ghost use Rattle.std.specs.Prelude.{◌≡◌, ◌≤◌, ◌==◌, ◌&&◌, Al
 ghost use Rattle.kms_model.specs.Device.Masks.{mask_below};
 ghost use Rattle.kms_model.specs.Device.Objects.{most_of, object_id};
 ghost use Rattle.kms_model.specs.Request.Groups.{no_objects, union};
+ghost use Rattle.kms_model.specs.Request.Late.{duplicate_in};
 ghost use Rattle.kms_model.specs.Request.Apply.{object_of};
 ghost use Rattle.kms_request.specs.Whole.{IsSettableIf};
 ghost use Rattle.kms_request.specs.Groups.{affected_below, affected_with, assigned_of, crtcs_fenced, objects_assigned, objects_set, only_of, set_of_kind};
@@ -13,8 +14,7 @@ use crate::picking::Picker;
 use crate::sets::object_of;
 use crate::states::needs_modeset;
 use kms_model::{
-    Assign, Both, CrtcState, Duplicates, Kind, MAX_CONNECTORS, MAX_CRTCS, MAX_PLANES, Mask, ObjId,
-    Set,
+    Assign, Duplicates, Kind, MAX_CONNECTORS, MAX_CRTCS, MAX_PLANES, Mask, ObjId, Set,
 };
 
 /// The set of no object.
@@ -133,12 +133,12 @@ pub(crate) fn objects_assigned<P: Picker>(picks: &P, assigns: &[Assign]) -> Mask
     }
 }
 
-/// The planes and connectors that a CRTC has before or after, where it needs a modeset.
-fn affected_with(both: Option<Both<CrtcState>>) -> Mask
-    ensures { result ≡ affected_with both }
+/// The planes and connectors that a CRTC of some, given by their mask, has before or after, where it needs a modeset.
+fn affected_at(states: &Duplicates, crtcs: u32, index: u32) -> Mask
+    ensures { result ≡ affected_with (duplicate_in crtcs states.now.crtcs index) }
 {
-    match both {
-        Some(both) if needs_modeset(&both) => Mask {
+    match duplicate_in(crtcs, &states.crtcs, index as usize) {
+        Some(both) if needs_modeset(both) => Mask {
             crtcs: 0,
             planes: both.old.planes | both.new.planes,
             conns: both.old.conns | both.new.conns,
@@ -154,8 +154,7 @@ pub fn affected(states: &Duplicates, crtcs: u32) -> Mask
 {
     let mut affected = no_objects();
     for index in 0..MAX_CRTCS {
-        let both = duplicate_in(crtcs, &states.crtcs, index as usize);
-        affected = union(&affected, &affected_with(both));
+        affected = union(&affected, &affected_at(states, crtcs, index));
     }
     affected
 }

@@ -137,14 +137,14 @@ fn check_route(states: &Duplicates, objects: &Mask, index: usize) -> Option<Refu
 }
 
 /// What is wrong with a plane of a set on its CRTC, from 21 to 23.
-fn check_shown(states: &Duplicates, objects: &Mask, index: usize) -> Option<Refusal>
+fn check_shown(profile: u32, states: &Duplicates, objects: &Mask, index: usize) -> Option<Refusal>
     requires { IfSome (plane_in states.now objects.now index) (λ both. IsPlaneInRange both.new) }
     ensures { refusal_number result
-        ≡ option_and_then (λ both. shown_refusal_of states.now.crtcs both)
+        ≡ option_and_then (λ both. shown_refusal_of profile states.now.crtcs both)
         (plane_in states.now objects.now index) }
 {
     let both = duplicate_in(objects.planes, &states.planes, index)?;
-    shown_refusal(new_mode(states, both.new.crtc), &both.new)
+    shown_refusal(profile, new_mode(states, both.new.crtc), &both.new)
 }
 
 /// What a step finds wrong with an object of a set.
@@ -166,7 +166,7 @@ fn refusal_at(
         Step::Conns => check_conn(topology, states, objects, index),
         Step::Clones => check_clones(topology, states, objects, index),
         Step::Routes => check_route(states, objects, index),
-        Step::Shown => check_shown(states, objects, index),
+        Step::Shown => check_shown(topology.profile, states, objects, index),
     }
 }
 
@@ -210,7 +210,7 @@ fn some_needs_modeset(topology: &Topology, states: &Duplicates, objects: &Mask) 
         objects.crtcs,
         &states.crtcs,
         index,
-    ).is_some_and(|both| needs_modeset(&both)))
+    ).is_some_and(|both| needs_modeset(both)))
 }
 
 /// The first refusal from 9 to 24 of a set of duplicated objects.

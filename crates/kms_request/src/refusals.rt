@@ -1,20 +1,20 @@
 //! Refusals 1 to 8. (Kernel: `drm_atomic_uapi.c`, `drm_mode_atomic_ioctl`, `drm_atomic_set_property`.)
-ghost use Rattle.std.specs.Prelude.{◌≡◌, ◌<◌, ◌≤◌, ℕ, ◌&&◌, ◌==◌, List, [], ◌∷◌, All, IsNone, IsTrue, Option, Some, None, option_map, slice_index_or, slice_set, false, if◌then◌else◌};
+ghost use Rattle.std.specs.Prelude.{◌≡◌, ◌<◌, ◌≤◌, ℕ, ◌&&◌, ◌==◌, List, [], ◌∷◌, All, IfSome, IsNone, IsTrue, Option, Some, None, is_some, option_map, slice_index_or, slice_set, false, if◌then◌else◌};
 ghost use Rattle.std.specs.List.{list_any};
 ghost use Rattle.kms_model.specs.Request.Apply.{prop_of};
 ghost use Rattle.kms_model.specs.Firsts.{number_if, or_else};
 ghost use Rattle.kms_model.specs.Device.Objects.{count_of, exists};
-ghost use Rattle.kms_model.specs.Device.Properties.{are_flags, keeps_limits, property};
-ghost use Rattle.kms_model.specs.Request.Refusals.{assigns_refusal, early_refusal, flags_refusal, is_in_range, names_label, is_second_fence, own_refusal, takes};
+ghost use Rattle.kms_model.specs.Device.Properties.{are_flags, keeps_limits, property, property_in};
+ghost use Rattle.kms_model.specs.Request.Refusals.{assigns_refusal, early_refusal, flags_refusal, has_property, is_in_range, is_of_kind, names_label, is_second_fence, own_refusal, takes};
 ghost use Rattle.kms_model.specs.Request.Resolves.{IsAllowed, IsSettable};
 ghost use Rattle.kms_props.specs.Rows.{property_of};
 ghost use Rattle.kms_request.specs.Answers.{refusal_number};
 ghost use Rattle.kms_request.specs.Fences.{SetsFenceOfPlane, TellFences};
 
 use crate::lookups::Looker;
-use kms_model::properties::{FB_ID, IN_FENCE_FD, MODE_ID, OUT_FENCE_PTR};
+use kms_model::properties::{FB_ID, GAMMA_LUT, IN_FENCE_FD, MODE_ID, OUT_FENCE_PTR};
 use kms_model::{Assign, Kind, Look, PropRef, Range, Refusal, Request, Topology, Value};
-use kms_props::{AtomicFlags, PropertyRow, from_bits, row_of};
+use kms_props::{AtomicFlags, PropertyRow, from_bits, row_in};
 
 /// What is wrong with flags: 1, there is another bit; 2, PAGE_FLIP_ASYNC is set; 3, TEST_ONLY and PAGE_FLIP_EVENT are set.
 fn flags_refusal(flags: u32) -> Option<Refusal>
@@ -50,13 +50,25 @@ pub fn exists(topology: &Topology, kind: Kind, index: u32) -> bool
     (index as usize) < count_of(topology, kind)
 }
 
-/// The row of a property that an assignment names.
-fn row_named(prop: PropRef) -> Option<PropertyRow>
-    ensures { option_map property_of result ≡ property (prop_of prop) }
+/// The row of the property that an assignment names; `None` where no object of this kind has it on the device.
+fn row_named(topology: &Topology, kind: Kind, prop: PropRef) -> Option<PropertyRow>
+    ensures has { is_some result ≡ has_property topology.now kind prop }
+    ensures row { IfSome result (λ row. Some (property_of row) ≡ property (prop_of prop)) }
 {
     match prop {
-        PropRef::Known(id) => row_of(id),
+        PropRef::Known(id) => row_of_kind(topology.profile, kind, id),
         PropRef::Unknown(_) => None,
+    }
+}
+
+/// The row of the property of an id; `None` where no object of this kind has it on a device of this profile.
+fn row_of_kind(profile: u32, kind: Kind, id: u32) -> Option<PropertyRow>
+    ensures has { is_some result ≡ is_of_kind kind (property_in profile id) }
+    ensures row { IfSome result (λ row. Some (property_of row) ≡ property id) }
+{
+    match row_in(profile, id) {
+        Some(row) if row.kinds.contains(&kind) => Some(row),
+        _ => None,
     }
 }
 
@@ -67,6 +79,7 @@ fn takes(prop: u32, look: Look) -> bool
     match look {
         Look::Fb(_) => prop == FB_ID,
         Look::Mode(..) => prop == MODE_ID,
+        Look::Gamma(..) => prop == GAMMA_LUT,
         Look::Fence(_) => prop == IN_FENCE_FD,
         Look::Blob(_) | Look::Buffer(_) | Look::Missing | Look::Closed => false,
     }
@@ -94,7 +107,8 @@ fn is_in_range<L: Looker>(
 }
 
 /// What is wrong with an assignment by itself, whatever comes before it: 4, its object does not exist; 5, the object
-/// does not have the property; 6, the property is immutable; 7, the value is not among the property's.
+/// does not have the property, on a device of this profile; 6, the property is immutable; 7, the value is not among the
+/// property's.
 #[tactic(auto, unfolding(kms_model::specs::Request::Refusals::own_refusal))]
 pub(crate) fn own_refusal<L: Looker>(topology: &Topology, found: &L, a: &Assign) -> Option<Refusal>
     ensures refusal { refusal_number result ≡ own_refusal topology.now (L.meaning found.now) a.now }
@@ -103,12 +117,9 @@ pub(crate) fn own_refusal<L: Looker>(topology: &Topology, found: &L, a: &Assign)
     if !exists(topology, a.kind, a.index) {
         return Some(Refusal::NO_OBJECT);
     }
-    let Some(row) = row_named(a.prop) else {
+    let Some(row) = row_named(topology, a.kind, a.prop) else {
         return Some(Refusal::NO_PROPERTY);
     };
-    if !row.kinds.contains(&a.kind) {
-        return Some(Refusal::NO_PROPERTY);
-    }
     if row.immutable {
         return Some(Refusal::IMMUTABLE_PROPERTY);
     }

@@ -5,13 +5,13 @@ ghost use Rattle.kms_model.specs.declared.objects.Topology.{Topology};
 ghost use Rattle.kms_model.specs.Request.Apply.{is_kept, object_of, prop_of};
 ghost use Rattle.kms_model.specs.Request.Resolves.{IsAllowed, IsSettable, IsSettableValue};
 ghost use Rattle.kms_model.specs.Request.SetRanges.{may_set};
-ghost use Rattle.kms_model.specs.Request.Sets.{crtc_value, fb_value, fence_of_look, last_sets, mode_value, number_value, set_of, set_value};
+ghost use Rattle.kms_model.specs.Request.Sets.{crtc_value, fb_value, fence_of_look, gamma_value, last_sets, mode_value, number_value, set_of, set_value};
 
 use crate::lookups::Looker;
 use crate::targets::{mark, no_marks};
-use kms_model::properties::{CRTC_ID, FB_ID, IN_FENCE_FD, MODE_ID, OUT_FENCE_PTR};
+use kms_model::properties::{CRTC_ID, FB_ID, GAMMA_LUT, IN_FENCE_FD, MODE_ID, OUT_FENCE_PTR};
 use kms_model::{
-    Assign, FbInfo, Kind, Look, Mode, NoMemory, ObjId, PropRef, Seq, Set, SetValue, Value,
+    Assign, FbInfo, Gamma, Kind, Look, Mode, NoMemory, ObjId, PropRef, Seq, Set, SetValue, Value,
 };
 use std::alloc::Global;
 
@@ -59,6 +59,19 @@ fn mode_value<L: Looker>(found: &L, given: Value) -> Option<Mode>
     }
 }
 
+/// The table of colour values that a value names.
+fn gamma_value<L: Looker>(found: &L, given: Value) -> Option<Gamma>
+    ensures { result ≡ gamma_value (L.meaning found.now) given }
+{
+    let Value::Named(label) = given else {
+        return None;
+    };
+    match found.look(label) {
+        Look::Gamma(gamma, _) => Some(gamma),
+        _ => None,
+    }
+}
+
 /// The id of the CRTC that a value names, or 0.
 fn crtc_value(given: Value) -> u32
     requires { IsSettableValue given }
@@ -89,6 +102,7 @@ fn set_value<L: Looker>(found: &L, prop: u32, given: Value) -> SetValue
     match prop {
         FB_ID => SetValue::Fb(fb_value(found, given)),
         MODE_ID => SetValue::Mode(mode_value(found, given)),
+        GAMMA_LUT => SetValue::Gamma(gamma_value(found, given)),
         CRTC_ID => SetValue::Crtc(crtc_value(given)),
         IN_FENCE_FD | OUT_FENCE_PTR => SetValue::Fence,
         _ => SetValue::Num(number_value(given)),
@@ -96,7 +110,7 @@ fn set_value<L: Looker>(found: &L, prop: u32, given: Value) -> SetValue
 }
 
 /// What one assignment sets, over what labels name. Its object is one of 4 CRTCs, 16 planes and 8 connectors, its property
-/// has an id to 18, a number is from -2147483648 to 4294967295, and a CRTC in its value has an index below 4: so is each
+/// has an id to 19, a number is from -2147483648 to 4294967295, and a CRTC in its value has an index below 4: so is each
 /// assignment of a request that [`early`] does not refuse.
 ///
 /// [`early`]: crate::early

@@ -1,7 +1,7 @@
 //! Refusals of the states of one object. (Kernel: `drm_atomic_plane_check`, `drm_atomic_crtc_check`,
 //! `drm_atomic_helper_check_modeset`, `drm_atomic_helper_check_plane_state`.)
 ghost use Rattle.std.specs.Prelude.{◌≡◌, ◌*◌, ◌+ℤ◌, ◌==◌, int_lt, pos, negsuc, Some};
-ghost use Rattle.kms_model.specs.Request.Checks.{conn_refusal, crtc_refusal, has_crtc, switches_crtc, is_beyond, is_unscaled, is_whole, placed_refusal, plane_refusal, shown_refusal};
+ghost use Rattle.kms_model.specs.Request.Checks.{conn_refusal, crtc_refusal, has_crtc, has_sizes, has_start, switches_crtc, is_beyond, is_unscaled, is_whole, placed_refusal, plane_refusal, shown_refusal};
 ghost use Rattle.kms_model.specs.Script.Grammar.{format_bit};
 ghost use Rattle.kms_model.specs.Device.Modes.{same_mode};
 ghost use Rattle.kms_model.specs.Device.States.{natural};
@@ -9,7 +9,7 @@ ghost use Rattle.kms_model.specs.Device.Sound.{IsBetween, IsPlaneInRange};
 ghost use Rattle.kms_model.specs.Request.Late.{needs_modeset_between};
 ghost use Rattle.kms_request.specs.Answers.{refusal_number};
 
-use kms_geom::fits_source;
+use kms_geom::{fits_source, is_scaled_little};
 use kms_model::{
     Both, CrtcState, FbInfo, Format, Kind, Mode, PlaneInfo, PlaneState, Rect, Refusal, has_bit,
 };
@@ -166,12 +166,38 @@ fn is_whole(place: i64) -> bool
     place % PIXEL == 0
 }
 
-/// What is wrong with a plane on a CRTC of a mode: 21, the CRTC is not enabled; 22, the sizes of source and destination
-/// differ; 23, the source begins between pixels. The numbers of the state are in the ranges of their properties.
+/// Whether source and destination have sizes that a device of a profile shows: in profile 1 the same, in profile 2 sizes
+/// of which neither is more than four times the other. (Kernel: `drm_atomic_helper_check_plane_state`, whose caller gives
+/// the least and the greatest scale.)
+fn has_sizes(profile: u32, src: Rect, dst: Rect) -> bool
+    requires src_w { IsBetween (pos 0) (pos 4294967295) src.w }
+    requires src_h { IsBetween (pos 0) (pos 4294967295) src.h }
+    requires w { IsBetween (pos 0) (pos 2147483647) dst.w }
+    requires h { IsBetween (pos 0) (pos 2147483647) dst.h }
+    ensures { result ≡ has_sizes profile src dst }
+{
+    if profile == 1 {
+        is_unscaled(src, dst)
+    } else {
+        is_scaled_little(src.w, dst.w) && is_scaled_little(src.h, dst.h)
+    }
+}
+
+/// Whether a source begins where a device of a profile lets it: in profile 1 at a pixel, in profile 2 anywhere.
+fn has_start(profile: u32, src: Rect) -> bool
+    requires x { IsBetween (pos 0) (pos 4294967295) src.x }
+    requires y { IsBetween (pos 0) (pos 4294967295) src.y }
+    ensures { result ≡ has_start profile src }
+{
+    profile != 1 || (is_whole(src.x) && is_whole(src.y))
+}
+
+/// What is wrong with a plane on a CRTC of a mode, on a device of a profile: 21, the CRTC is not enabled; 22, the sizes of
+/// source and destination; 23, where the source begins. The numbers of the state are in the ranges of their properties.
 #[tactic(auto, unfolding(kms_model::specs::Request::Checks::shown_refusal))]
-pub(crate) fn shown_refusal(mode: Option<Mode>, state: &PlaneState) -> Option<Refusal>
+pub(crate) fn shown_refusal(profile: u32, mode: Option<Mode>, state: &PlaneState) -> Option<Refusal>
     requires { IsPlaneInRange state.now }
-    ensures { refusal_number result ≡ shown_refusal mode state.now }
+    ensures { refusal_number result ≡ shown_refusal profile mode state.now }
 {
     if state.crtc == 0 {
         return None;
@@ -179,10 +205,10 @@ pub(crate) fn shown_refusal(mode: Option<Mode>, state: &PlaneState) -> Option<Re
     if mode.is_none() {
         return Some(Refusal::CRTC_NOT_ENABLED);
     }
-    if !is_unscaled(state.src, state.dst) {
+    if !has_sizes(profile, state.src, state.dst) {
         return Some(Refusal::SCALED);
     }
-    if !(is_whole(state.src.x) && is_whole(state.src.y)) {
+    if !has_start(profile, state.src) {
         return Some(Refusal::FRACTIONAL_SOURCE);
     }
     None
@@ -200,7 +226,7 @@ fn same_mode(a: Option<Mode>, b: Option<Mode>) -> bool
 pub fn needs_modeset(both: &Both<CrtcState>) -> bool
     ensures { result ≡ needs_modeset_between both.now }
 {
-    let old = both.old;
-    let new = both.new;
-    !same_mode(old.mode, new.mode) || old.active != new.active || old.conns != new.conns
+    !same_mode(both.old.mode, both.new.mode)
+        || both.old.active != both.new.active
+        || both.old.conns != both.new.conns
 }

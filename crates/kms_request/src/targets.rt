@@ -9,8 +9,8 @@ ghost use Rattle.kms_request.specs.Targets.{place_of, target_of, TellTargets};
 use crate::sets::prop_of;
 use kms_model::{Assign, Kind, MAX_CRTCS, MAX_PLANES};
 
-/// Room for 4 CRTCs, 16 planes and 8 connectors, each with the ids of properties up to 18.
-const ROOM: usize = 532;
+/// Room for 4 CRTCs, 16 planes and 8 connectors, each with the ids of properties up to 19.
+const ROOM: usize = 560;
 
 /// A mark for each property of each object.
 pub type Marks = [bool; ROOM];
@@ -43,7 +43,7 @@ fn target_of(a: &Assign) -> usize
     ensures place { result ≡ target_of a.now }
     ensures within { result < ROOM }
 {
-    place_of(a.kind, a.index) * 19 + prop_of(a.prop) as usize
+    place_of(a.kind, a.index) * 20 + prop_of(a.prop) as usize
 }
 
 /// Marks what an assignment sets, and tells whether it was not marked before.

@@ -3,15 +3,15 @@ ghost use Rattle.kms_model.specs.Device.Sound.{IsDevice};
 
 use crate::{RequestError, early, named, resolve};
 use kms_model::properties::{
-    ACTIVE, ALPHA, BLEND, CRTC_H, CRTC_ID, CRTC_W, CRTC_X, CRTC_Y, FB_ID, IN_FENCE_FD, MODE_ID,
-    OUT_FENCE_PTR, SRC_H, SRC_W, SRC_X, SRC_Y, TYPE, ZPOS,
+    ACTIVE, ALPHA, BLEND, CRTC_H, CRTC_ID, CRTC_W, CRTC_X, CRTC_Y, FB_ID, GAMMA_LUT, IN_FENCE_FD,
+    MODE_ID, OUT_FENCE_PTR, SRC_H, SRC_W, SRC_X, SRC_Y, TYPE, ZPOS,
 };
 use kms_model::{
-    Assign, Both, ConnState, Duplicates, FIRST_CRTC_ID, FIRST_PLANE_ID, FbInfo, Format, Kind, Look,
-    Lookups, Mode, NoMemory, ObjId, PlaneState, PropRef, Rect, Refusal, Request, Resolved, Seq,
-    SetValue, Topology, Value,
+    Assign, Both, ConnState, Duplicates, FIRST_CRTC_ID, FIRST_PLANE_ID, FbInfo, Format, Gamma,
+    Kind, Look, Lookups, Mode, NoMemory, ObjId, PlaneState, PropRef, Rect, Refusal, Request,
+    Resolved, Seq, SetValue, Topology, Value,
 };
-use kms_samples::{on_crtc, on_plane, request, set, single, split, tiny};
+use kms_samples::{in_profile_2, on_crtc, on_plane, request, set, single, split, tiny};
 use std::alloc::Global;
 use std::process::Abort;
 use std::test::Fail;
@@ -31,6 +31,15 @@ const CLOSED: u32 = 5;
 
 const MISSING: u32 = 6;
 
+const GAMMA: u32 = 7;
+
+/// A table of which each channel tells another one apart.
+const TABLE: Gamma = Gamma {
+    red: [71; 256],
+    green: [72; 256],
+    blue: [73; 256],
+};
+
 const INFO: FbInfo = FbInfo {
     id: 1001,
     width: 1,
@@ -46,6 +55,7 @@ fn looks(alloc: Global) -> Result<Lookups, NoMemory> {
         (FENCE, Look::Fence(1004)),
         (BUFFER, Look::Buffer(1005)),
         (CLOSED, Look::Closed),
+        (GAMMA, Look::Gamma(TABLE, 1006)),
     ];
     Ok(Seq::from_vec(entries.to_vec(alloc)?))
 }
@@ -323,6 +333,33 @@ fn an_assignment_is_refused_by_the_first_that_is_wrong(rt: HostRuntime) -> Resul
     assert_early(&rt, a, 0, &late, Some(Refusal::INVALID_VALUE))
 }
 
+/// A table is set in profile 2 alone, to 0 or to an open blob of 2048 bytes.
+#[test]
+fn a_table_is_a_property_of_profile_2(rt: HostRuntime) -> Result<(), NoMemory> {
+    let a = rt.alloc();
+    let topology = in_profile_2(split(a)?);
+    for (value, want) in [
+        (Value::Num(0), None),
+        (Value::Named(GAMMA), None),
+        (Value::Num(1), Some(Refusal::INVALID_VALUE)),
+        (Value::Named(MODE), Some(Refusal::INVALID_VALUE)),
+        (Value::Named(BLOB), Some(Refusal::INVALID_VALUE)),
+        (Value::Named(FB), Some(Refusal::INVALID_VALUE)),
+        (Value::Named(CLOSED), Some(Refusal::INVALID_VALUE)),
+        (Value::Named(MISSING), Some(Refusal::INVALID_VALUE)),
+        (Value::New(GAMMA), Some(Refusal::INVALID_VALUE)),
+        (Value::Crtc(0), Some(Refusal::INVALID_VALUE)),
+    ] {
+        let assign = on_crtc(GAMMA_LUT, value);
+        assert_early_on(&rt, a, &topology, 0, &[assign], want)?;
+        assert_early(&rt, a, 0, &[assign], Some(Refusal::NO_PROPERTY))?;
+    }
+    let other = on_crtc(MODE_ID, Value::Named(GAMMA));
+    assert_early_on(&rt, a, &topology, 0, &[other], Some(Refusal::INVALID_VALUE))?;
+    let plane = on_plane(GAMMA_LUT, Value::Num(0));
+    assert_early_on(&rt, a, &topology, 0, &[plane], Some(Refusal::NO_PROPERTY))
+}
+
 #[test]
 fn numbers_are_taken_up_to_their_bounds(rt: HostRuntime) -> Result<(), NoMemory> {
     let a = rt.alloc();
@@ -575,7 +612,7 @@ fn a_fence_is_second_where_one_was_named(rt: HostRuntime) -> Result<(), NoMemory
 
 /// What a request without flags asks for.
 fn resolved(alloc: Global, assigns: &[Assign]) -> Result<Resolved, RequestError> {
-    let topology = split(alloc)?;
+    let topology = in_profile_2(split(alloc)?);
     let request = request(alloc, 0, assigns, &[])?;
     let found = looks(alloc)?;
     resolve(alloc, &topology, &request, &found)
@@ -591,6 +628,7 @@ fn the_last_of_several_sets_counts(rt: HostRuntime) -> Result<(), Fail> {
             set(Kind::Plane, 1, ZPOS, Value::Num(6)),
             on_plane(ZPOS, Value::Num(9)),
             on_crtc(MODE_ID, Value::Named(MODE)),
+            on_crtc(GAMMA_LUT, Value::Named(GAMMA)),
             on_plane(CRTC_ID, Value::Crtc(1)),
         ],
     )?;
@@ -601,7 +639,9 @@ fn the_last_of_several_sets_counts(rt: HostRuntime) -> Result<(), Fail> {
             SetValue::Fb(Some(info)) => i64::from(info.id),
             SetValue::Crtc(id) => i64::from(id),
             SetValue::Mode(Some(mode)) => i64::from(mode.vrefresh),
-            SetValue::Fb(None) | SetValue::Mode(None) | SetValue::Fence => -1,
+            SetValue::Gamma(Some(gamma)) => i64::from(gamma.red[0]),
+            SetValue::Fb(None) | SetValue::Mode(None) | SetValue::Gamma(None) => -1,
+            SetValue::Fence => -1,
         };
         lines.push((set.object.0, set.prop, number))?;
     }
@@ -610,6 +650,7 @@ fn the_last_of_several_sets_counts(rt: HostRuntime) -> Result<(), Fail> {
         (FIRST_PLANE_ID + 1, ZPOS, 6),
         (FIRST_PLANE_ID, ZPOS, 9),
         (FIRST_CRTC_ID, MODE_ID, 60),
+        (FIRST_CRTC_ID, GAMMA_LUT, 71),
         (FIRST_PLANE_ID, CRTC_ID, i64::from(FIRST_CRTC_ID + 1)),
     ];
     assert_eq!(rt; lines.as_slice(), want.as_slice());

@@ -20,6 +20,8 @@ mod refusals;
 #[cfg(test)]
 mod runs;
 #[cfg(test)]
+mod scaling;
+#[cfg(test)]
 mod schedules;
 #[cfg(test)]
 mod session;

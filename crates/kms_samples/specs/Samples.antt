@@ -46,7 +46,7 @@ abbrev pub plane_of : ℕ → PlaneInfo
 plane_of crtcs = record { kind = 1; crtcs = crtcs; formats = 1 }
 
 abbrev pub device_with : ℕ → List PlaneInfo → List ℕ → Topology
-device_with crtcs planes conns = record { crtcs = crtcs; planes = planes; conns = conns }
+device_with crtcs planes conns = record { profile = 1; crtcs = crtcs; planes = planes; conns = conns }
 
 -- one CRTC, a plane of it and a connector of it
 abbrev pub single : Topology
@@ -71,6 +71,10 @@ plane_of_both = record { kind = 1; crtcs = 3; formats = 7 }
 -- two CRTCs, and two planes and a connector that go on each of them
 abbrev pub split : Topology
 split = device_with 2 (plane_of_both ∷ plane_of_both ∷ []) (3 ∷ [])
+
+-- a device in profile 2
+abbrev pub in_profile_2 : Topology → Topology
+in_profile_2 t = record t { profile = 2 }
 
 -- sets a property of the object of a kind with an index
 abbrev pub set : Kind → ℕ → ℕ → Value → Assign

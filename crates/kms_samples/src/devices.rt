@@ -1,7 +1,7 @@
 //! Devices.
 ghost use Rattle.std.specs.Prelude.{◌≡◌, IfOk};
 ghost use Rattle.kms_model.specs.Device.Sound.{IsDevice};
-ghost use Rattle.kms_samples.specs.Samples.{cloned, device_with, double, pair, plane_of, single, split};
+ghost use Rattle.kms_samples.specs.Samples.{cloned, device_with, double, in_profile_2, pair, plane_of, single, split};
 
 use kms_model::{NoMemory, PlaneInfo, Seq, Topology};
 use std::alloc::Global;
@@ -17,7 +17,7 @@ pub fn plane_of(crtcs: u32) -> PlaneInfo
     }
 }
 
-/// A device of this many CRTCs, these planes and connectors, each of which is the mask of its possible CRTCs.
+/// A device of profile 1, of this many CRTCs, these planes and connectors, each of which is the mask of its possible CRTCs.
 fn device_with(
     alloc: Global,
     crtcs: u32,
@@ -27,6 +27,7 @@ fn device_with(
     ensures { IfOk result (λ t. t ≡ device_with crtcs planes.now conns.now) }
 {
     Ok(Topology {
+        profile: 1,
         crtcs,
         planes: Seq::from_vec(planes.to_vec(alloc)?),
         conns: Seq::from_vec(conns.to_vec(alloc)?),
@@ -75,4 +76,16 @@ pub fn split(alloc: Global) -> Result<Topology, NoMemory>
         ..plane_of(3)
     };
     device_with(alloc, 2, &[plane, plane], &[3])
+}
+
+/// The same device in profile 2: its planes may scale, and its CRTCs have tables of colour values.
+pub fn in_profile_2(topology: Topology) -> Topology
+    requires { IsDevice topology }
+    ensures value { result ≡ in_profile_2 topology }
+    ensures device { IsDevice result }
+{
+    Topology {
+        profile: 2,
+        ..topology
+    }
 }

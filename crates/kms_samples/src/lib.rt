@@ -6,6 +6,6 @@ mod devices;
 mod modes;
 mod requests;
 
-pub use devices::{cloned, double, pair, plane_of, single, split};
+pub use devices::{cloned, double, in_profile_2, pair, plane_of, single, split};
 pub use modes::{full_hd, sized_mode, tiny};
 pub use requests::{ALLOW_MODESET, light, on_crtc, on_plane, request, set};

@@ -10,7 +10,7 @@ use Rattle.kms_model.specs.Script.CommandLines.{Names, command_read, is_over, or
 use Rattle.kms_model.specs.Script.Grammar.{is_printable}
 use Rattle.kms_model.specs.Script.InputLines.{Row, rows_of}
 use Rattle.kms_model.specs.Script.Words.{until, from, end_at}
-use Rattle.kms_model.specs.Script.WholeInput.{Draft, Lined, is_nil, crtcs_at, plane_fields, conn_at, clients_in, script_limit, is_done, is_conn_of, first_line, crtcs_line, plane_line, conn_line, client_line, command_line, later_line, script_line, sized, line_after, device_after, topology_in, missing_line}
+use Rattle.kms_model.specs.Script.WholeInput.{Draft, Lined, is_nil, crtcs_at, plane_fields, conn_at, clients_in, script_limit, is_done, is_conn_of, first_line, crtcs_line, plane_line, conn_line, client_line, command_line, later_line, script_line, sized, line_after, device_after, topology_in, missing_line, version_read}
 use Rattle.kms_script.specs.declared.stop.Stop.{Stop}
 use Rattle.kms_script.specs.declared.stop.Stop.TheVariants as stops
 use Rattle.kms_script.specs.Drafted.{Becomes, error_at}
@@ -21,9 +21,9 @@ abbrev KeepsClient : Draft → Lined → Type 0
 KeepsClient d (Ok next) = next.has_client ≡ d.has_client
 KeepsClient d (Err why) = ⊤
 
-first_step : (d : Draft) (t : Bool) → KeepsClient d (if t then Ok (record d { head = 1 }) else Err Form)
-first_step d true = refl
-first_step d false = tt
+first_step : (d : Draft) (o : Option ℕ) → KeepsClient d (or_form o (λ version. Ok (record d { head = 1; names = record d.names { profile = version } })))
+first_step d None = tt
+first_step d (Some version) = refl
 
 crtcs_step : (d : Draft) (t : Bool) (o : Option ℕ) → KeepsClient d (if t then or_form o (λ n. Ok (record d { head = 2; crtcs = n })) else Err Form)
 crtcs_step d true None = tt
@@ -88,7 +88,7 @@ later_keeps d text none (inr is) = rw is (choice d (bytes_eq (keyword text) (cod
 script_keeps : (d : Draft) (text : List ℕ) → d.has_client ≡ false → (is_nil d.conns ≡ true) ⊎ (bytes_eq (keyword text) (codes "conn") ≡ true) → KeepsClient d (script_line d text)
 unfolding script_line first_line crtcs_line
 script_keeps d text none why =
-    choice d (d.head == 0) _ _ (first_step d (bytes_eq text (codes "kms 1")))
+    choice d (d.head == 0) _ _ (first_step d (version_read text))
     (choice d (d.head == 1) _ _ (crtcs_step d (bytes_eq (keyword text) (codes "crtcs")) (crtcs_at (from 32 text))) (later_keeps d text none why))
 
 sized_step : (d next : Draft) (n : ℕ) (t : Bool) → next.has_client ≡ d.has_client → KeepsClient d (unless t Limit (Ok (record next { size = next.size + n })))

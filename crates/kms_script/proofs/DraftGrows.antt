@@ -1,16 +1,21 @@
 -- A line that may stand where it stands is spelt as what it adds to the draft.
-use Rattle.std.proofs.Common.{◌≡◌, ℕ, ◌<◌, ◌≤◌, true, false, List, [], ◌∷◌, ◌++◌, append-nil, Some, refl, sym, ap, ◌∙◌, arith}
+use Rattle.std.proofs.Common.{◌≡◌, ℕ, ◌<◌, ◌≤◌, inl, inr, true, false, List, [], ◌∷◌, ◌++◌, append-nil, Some, refl, sym, ap, ◌∙◌, subst, arith}
 use Rattle.std.specs.Prelude.{codes}
 use Rattle.std.specs.Fmt.{decimal, digits}
+use Rattle.std.specs.List.{flat_map}
+use Rattle.std.specs.Str.{bytes_eq}
+use Rattle.std.proofs.lemmas.Slice.Eq.{bytes_eq-Decides}
 use Rattle.kms_model.specs.declared.objects.PlaneInfo.{PlaneInfo}
 use Rattle.kms_model.specs.declared.scripts.Command.{Command}
 use Rattle.kms_model.specs.Script.CommandLines.{Names, command_read}
 use Rattle.kms_model.specs.Report.TextLines.{line}
-use Rattle.kms_model.specs.Script.WholeInput.{Draft, is_nil, clients_in}
+use Rattle.kms_model.specs.Script.WholeInput.{Draft, is_nil, clients_in, version_read}
 use Rattle.kms_model.specs.Script.Spelling.{spelt_plane, conn_words, command_words}
-use Rattle.kms_script.proofs.Accepted.{nil_is}
-use Rattle.kms_script.proofs.DraftText.{head_text, lines_text, draft_text, plane_more, conn_more, client_more, command_more, late_line}
+use Rattle.kms_script.proofs.Accepted.{either_ok, nil_is}
+use Rattle.kms_script.proofs.DraftText.{head_text, kms_words, whole, lines_text, draft_text, client_text, plane_more, conn_more, client_more, command_more, late_line}
+use Rattle.kms_script.proofs.Inverted.{if_some, some_same}
 use Rattle.kms_script.proofs.NamesBegin.{Begins}
+use Rattle.kms_script.proofs.ProfileStays.{command_stays}
 use Rattle.kms_script.proofs.SpeltCommands.{command_spelt, names_begin}
 
 -- what stands of a draft between two lines: planes come behind the first two lines, and clients behind connectors
@@ -37,16 +42,44 @@ no_clients d o none = rw (none, o.first_client none) refl
 
 -- The first two lines
 
--- the version as it stands in the first line
+-- a version as it stands in the first line
 one : decimal 1 ≡ codes "1"
 unfolding digits
 one = refl
 
--- `kms 1`
-pub first_follows : (d : Draft) (text : List ℕ) → IsInOrder d → d.head ≡ 0 → text ≡ codes "kms 1" → Follows d (record d { head = 1 }) text
-first_follows d text o zeroth is = record {
+two : decimal 2 ≡ codes "2"
+unfolding digits
+two = refl
+
+version_one : (text : List ℕ) → text ≡ codes "kms 1" → line (kms_words 1) ≡ text ++ 10 ∷ []
+version_one text is = rw (is, one) refl
+
+version_two : (text : List ℕ) → text ≡ codes "kms 2" → line (kms_words 2) ≡ text ++ 10 ∷ []
+version_two text is = rw (is, two) refl
+
+version_spelt : (text : List ℕ) (version : ℕ) → version_read text ≡ Some version → line (kms_words version) ≡ text ++ 10 ∷ []
+version_spelt text version e = elim (either_ok (bytes_eq text (codes "kms 1")) _ _ (Some version) e) [
+  | inl first ↦ subst (λ v. line (kms_words v) ≡ text ++ 10 ∷ []) (some_same 1 version first.1) (version_one text ((bytes_eq-Decides text (codes "kms 1")).0 first.0))
+  | inr other ↦ (let second = if_some (bytes_eq text (codes "kms 2")) (Some 2) version other.1 in
+    subst (λ v. line (kms_words v) ≡ text ++ 10 ∷ []) (some_same 2 version second.1) (version_two text ((bytes_eq-Decides text (codes "kms 2")).0 second.0)))
+]
+
+-- a draft of a version behind the first line
+abbrev pub with_version : Draft → ℕ → Draft
+with_version d version = record d { head = 1; names = record d.names { profile = version } }
+
+-- names begin whatever their profile is
+pub any_profile : (all : List (List ℕ)) (names : Names) (version : ℕ) → Begins (record names { profile = version }) all → Begins names all
+any_profile all names version b = record { more = b.more; whole = b.whole }
+
+first_grown : (all : List (List ℕ)) (d : Draft) (version : ℕ) (text : List ℕ) → d.head ≡ 0 → version_read text ≡ Some version → draft_text all d ++ (text ++ 10 ∷ []) ≡ draft_text all (with_version d version)
+first_grown all d version text zeroth read = rw (zeroth) (sym (version_spelt text version read))
+
+-- `kms V`
+pub first_follows : (d : Draft) (version : ℕ) (text : List ℕ) → IsInOrder d → d.head ≡ 0 → version_read text ≡ Some version → Follows d (with_version d version) text
+first_follows d version text o zeroth read = record {
   ordered = record { crtcs = o.crtcs; planes = λ lt. o.planes (omega arith); conns = λ lt. o.conns (omega arith); late_client = o.late_client; first_client = o.first_client };
-  spelt = λ all b. record { begins = b; grown = rw (zeroth, is, one) refl };
+  spelt = λ all b. record { begins = any_profile all d.names version b; grown = first_grown all d version text zeroth read };
 }
 
 -- the text behind the second line
@@ -55,7 +88,7 @@ second_text all d n text o first spelt =
     let few : d.head < 2 = omega arith in
     let conns : d.conns ≡ [] = o.conns few in
     let none : clients_in d ≡ [] = no_clients d o (o.late_client (ap is_nil conns)) in
-    rw (first, ← spelt, o.planes few, conns, none) (sym (append-nil (head_text n)))
+    rw (first, ← spelt, o.planes few, conns, none) (sym (append-nil (head_text d.names.profile n)))
 
 -- `crtcs N`
 pub second_follows : (d : Draft) (n : ℕ) (text : List ℕ) → IsInOrder d → d.head ≡ 1 → n ≤ 4 → line (codes "crtcs" ∷ decimal n ∷ []) ≡ text ++ 10 ∷ [] → Follows d (record d { head = 2; crtcs = n }) text
@@ -73,7 +106,7 @@ plane_follows d p text o late none spelt = record {
   spelt = λ all b. record {
     begins = b;
     grown = late_line all d (record d { planes = d.planes ++ p ∷ [] }) (spelt_plane p) text late refl spelt
-        (plane_more all (head_text d.crtcs) d.planes p d.conns (clients_in d) (nil_is d.conns none) (no_clients d o (o.late_client none)));
+        (plane_more all (head_text d.names.profile d.crtcs) d.planes p d.conns (clients_in d) (nil_is d.conns none) (no_clients d o (o.late_client none)));
   };
 }
 
@@ -84,7 +117,7 @@ conn_follows d mask text o late none spelt = record {
   spelt = λ all b. record {
     begins = b;
     grown = late_line all d (record d { conns = d.conns ++ mask ∷ [] }) (conn_words mask) text late refl spelt
-        (conn_more all (head_text d.crtcs) (lines_text spelt_plane d.planes) d.conns mask (clients_in d) (no_clients d o none));
+        (conn_more all (head_text d.names.profile d.crtcs) (lines_text spelt_plane d.planes) d.conns mask (clients_in d) (no_clients d o none));
   };
 }
 
@@ -99,7 +132,7 @@ client_follows d text o late some spelt = record {
   spelt = λ all b. record {
     begins = b;
     grown = late_line all d (with_client d) (codes "client" ∷ []) text late refl spelt
-        (client_more all (head_text d.crtcs) (lines_text spelt_plane d.planes) (lines_text conn_words d.conns) (clients_in d));
+        (client_more all (head_text d.names.profile d.crtcs) (lines_text spelt_plane d.planes) (lines_text conn_words d.conns) (clients_in d));
   };
 }
 
@@ -110,6 +143,7 @@ command_follows d c after text o late has read = record {
   spelt = λ all b. record {
     begins = names_begin all d.names after text c read b;
     grown = late_line all d (record d { names = after; commands = d.commands ++ c ∷ [] }) (command_words all c) text late refl (command_spelt all d.names after text c read b)
-        (command_more all (head_text d.crtcs) (lines_text spelt_plane d.planes) (lines_text conn_words d.conns) d.clients d.has_client d.commands c has);
+        (command_more all (head_text d.names.profile d.crtcs) (lines_text spelt_plane d.planes) (lines_text conn_words d.conns) d.clients d.has_client d.commands c has
+        ∙ ap (λ v. whole (head_text v d.crtcs) (lines_text spelt_plane d.planes) (lines_text conn_words d.conns) (flat_map (client_text all) (clients_in (record d { commands = d.commands ++ c ∷ [] })))) (sym (command_stays d.names text (c, after) read)));
   };
 }

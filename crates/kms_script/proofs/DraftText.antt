@@ -12,12 +12,12 @@ use Rattle.kms_model.specs.Script.WholeInput.{Draft, clients_in, clients_of, scr
 use Rattle.kms_model.specs.Script.Spelling.{text_of, spelt_plane, conn_words, command_words, client_lines, spelling}
 
 -- the first line
-abbrev pub kms_words : List (List ℕ)
-kms_words = codes "kms" ∷ decimal 1 ∷ []
+abbrev pub kms_words : ℕ → List (List ℕ)
+kms_words version = codes "kms" ∷ decimal version ∷ []
 
 -- the first two lines
-abbrev pub head_text : ℕ → List ℕ
-head_text crtcs = line kms_words ++ line (codes "crtcs" ∷ decimal crtcs ∷ [])
+abbrev pub head_text : ℕ → ℕ → List ℕ
+head_text version crtcs = line (kms_words version) ++ line (codes "crtcs" ∷ decimal crtcs ∷ [])
 
 -- lines of one kind
 abbrev pub lines_text : {A : Type 0} → (A → List (List ℕ)) → List A → List ℕ
@@ -33,17 +33,17 @@ whole head planes conns clients = head ++ (planes ++ (conns ++ clients))
 
 -- the lines of a draft by kinds
 abbrev pub parts : List (List ℕ) → Draft → List ℕ
-parts all d = whole (head_text d.crtcs) (lines_text spelt_plane d.planes) (lines_text conn_words d.conns) (flat_map (client_text all) (clients_in d))
+parts all d = whole (head_text d.names.profile d.crtcs) (lines_text spelt_plane d.planes) (lines_text conn_words d.conns) (flat_map (client_text all) (clients_in d))
 
 -- what stands after so many of the first two lines
-abbrev by_head : ℕ → List ℕ → List ℕ
-by_head zero later = []
-by_head (suc zero) later = line kms_words
-by_head (suc (suc n)) later = later
+abbrev by_head : ℕ → ℕ → List ℕ → List ℕ
+by_head version zero later = []
+by_head version (suc zero) later = line (kms_words version)
+by_head version (suc (suc n)) later = later
 
 -- the text of a draft, with all names of the script that it begins
 abbrev pub draft_text : List (List ℕ) → Draft → List ℕ
-draft_text all d = by_head d.head (parts all d)
+draft_text all d = by_head d.names.profile d.head (parts all d)
 
 -- Parts with a line more behind them
 
@@ -98,17 +98,17 @@ command_more all head planes conns clients has commands c is =
 -- A line behind the first two
 
 -- behind the first two lines stand all parts
-late : (n : ℕ) (later : List ℕ) → 2 ≤ n → by_head n later ≡ later
-late zero later le = absurd (omega arith)
-late (suc zero) later le = absurd (omega arith)
-late (suc (suc n)) later le = refl
+late : (version n : ℕ) (later : List ℕ) → 2 ≤ n → by_head version n later ≡ later
+late version zero later le = absurd (omega arith)
+late version (suc zero) later le = absurd (omega arith)
+late version (suc (suc n)) later le = refl
 
 -- a line behind the first two adds its words
 pub late_line : (all : List (List ℕ)) (d next : Draft) (words : List (List ℕ)) (text : List ℕ) → 2 ≤ d.head → next.head ≡ d.head → line words ≡ text ++ 10 ∷ [] → parts all d ++ line words ≡ parts all next
     → draft_text all d ++ (text ++ 10 ∷ []) ≡ draft_text all next
 late_line all d next words text le same spelt grown =
-    ap (λ (bs : List ℕ). bs ++ (text ++ 10 ∷ [])) (late d.head (parts all d) le) ∙ ap (λ (bs : List ℕ). parts all d ++ bs) (sym spelt) ∙ grown
-    ∙ sym (late d.head (parts all next) le) ∙ ap (λ n. by_head n (parts all next)) (sym same)
+    ap (λ (bs : List ℕ). bs ++ (text ++ 10 ∷ [])) (late d.names.profile d.head (parts all d) le) ∙ ap (λ (bs : List ℕ). parts all d ++ bs) (sym spelt) ∙ grown
+    ∙ sym (late next.names.profile d.head (parts all next) le) ∙ ap (λ n. by_head next.names.profile n (parts all next)) (sym same)
 
 -- The whole script
 
@@ -127,6 +127,6 @@ pub script_text : (d : Draft) → 2 ≤ d.head → draft_text (words_in d.names)
 script_text d le =
     let all : List (List ℕ) = words_in d.names in
     let second : List (List ℕ) = codes "crtcs" ∷ decimal d.crtcs ∷ [] in
-    late d.head (parts all d) le
-    ∙ ap (whole (head_text d.crtcs) (lines_text spelt_plane d.planes) (lines_text conn_words d.conns)) (sym (texts_of all (clients_in d)))
-    ∙ sym (in_parts kms_words second (map spelt_plane d.planes) (map conn_words d.conns) (flat_map (client_lines all) (clients_in d)))
+    late d.names.profile d.head (parts all d) le
+    ∙ ap (whole (head_text d.names.profile d.crtcs) (lines_text spelt_plane d.planes) (lines_text conn_words d.conns)) (sym (texts_of all (clients_in d)))
+    ∙ sym (in_parts (kms_words d.names.profile) second (map spelt_plane d.planes) (map conn_words d.conns) (flat_map (client_lines all) (clients_in d)))

@@ -3,6 +3,7 @@ use Rattle.std.proofs.Common.{◌≡◌, ℕ, ◌+◌, ◌-◌, ◌≤◌, ◌^�
 use Rattle.std.specs.Prelude.{◌==◌, ◌&&◌, ◌||◌, codes, nat_le, nat_lt, option_map}
 use Rattle.std.specs.List.{list_all}
 use Rattle.std.specs.Str.{bytes_eq}
+use Rattle.std.proofs.lemmas.Bool.{eqb-true}
 use Rattle.std.proofs.lemmas.Bool.Decides.{nat_tests}
 use Rattle.std.proofs.lemmas.Nat.{pow_pos}
 use Rattle.kms_model.specs.declared.objects.PlaneInfo.{PlaneInfo}
@@ -14,14 +15,16 @@ use Rattle.kms_model.specs.Script.Grammar.{crtc_list, format_bit, format_list, f
 use Rattle.kms_model.specs.Script.InputLines.{Row, rows_of}
 use Rattle.kms_model.specs.Script.Spelling.{Spells, spelt_line, spelt_lines}
 use Rattle.kms_model.specs.Script.WellFormed.{has_choice, is_command_in}
-use Rattle.kms_model.specs.Script.WholeInput.{Draft, blank_draft, client_line, clients_in, clients_of, command_line, conn_at, conn_line, crtcs_at, crtcs_line, first_line, is_nil, later_line, plane_fields, plane_line, plane_type, script_in, script_line}
+use Rattle.kms_model.specs.Script.WholeInput.{Draft, blank_draft, client_line, clients_in, clients_of, command_line, conn_at, conn_line, crtcs_at, crtcs_line, first_line, is_nil, later_line, plane_fields, plane_line, plane_type, script_in, script_line, version_read}
 use Rattle.kms_model.specs.Script.Words.{dec, end_at, field_at, from, until}
-use Rattle.kms_script.proofs.Accepted.{accepted, either_ok, form_ok, if_ok, ok_same, on_from, unless_ok}
+use Rattle.kms_script.proofs.Accepted.{accepted, either_ok, form_ok, if_ok, is_late, ok_same, on_from, unless_ok}
+use Rattle.kms_script.proofs.DraftGrows.{any_profile, with_version}
 use Rattle.kms_script.proofs.FitCommands.{command_fit}
 use Rattle.kms_script.proofs.FitWords.{fits_both}
 use Rattle.kms_script.proofs.Inverted.{bind_some, from_bind, map_some, some_same}
 use Rattle.kms_script.proofs.NamesBegin.{Begins}
 use Rattle.kms_script.proofs.Parts.{first_part, later_parts}
+use Rattle.kms_script.proofs.ProfileStays.{command_stays}
 use Rattle.kms_script.proofs.RowsSpelt.{ended_draft, is_line}
 use Rattle.kms_script.proofs.SpeltCommands.{names_begin}
 
@@ -101,7 +104,12 @@ all_one p x e = rw e refl
 pub record FitsAll (all : List (List ℕ)) (d : Draft) : Type 0 where
   pub planes : list_all has_choice d.planes ≡ true
   pub conns : list_all (λ mask. not (mask == 0)) d.conns ≡ true
-  pub clients : list_all (list_all (is_command_in all)) (clients_in d) ≡ true
+  pub clients : list_all (list_all (is_command_in d.names.profile all)) (clients_in d) ≡ true
+  -- before the first line there is no client
+  pub early : d.head ≡ 0 → clients_in d ≡ []
+
+none_fit : (p : Command → Bool) (clients : List (List Command)) → clients ≡ [] → list_all (list_all p) clients ≡ true
+none_fit p clients none = rw none refl
 
 -- a line leads from a draft within the bounds to one, and the names before it are a front of those after it
 record Leads (all : List (List ℕ)) (d next : Draft) : Type 0 where
@@ -111,18 +119,19 @@ record Leads (all : List (List ℕ)) (d next : Draft) : Type 0 where
 same_begins : (all : List (List ℕ)) (d next : Draft) → d.names ≡ next.names → Begins next.names all → Begins d.names all
 same_begins all d next same b = subst (λ n. Begins n all) (sym same) b
 
-first_leads : (all : List (List ℕ)) (d next : Draft) (text : List ℕ) → first_line d text ≡ Ok next → Begins next.names all → Leads all d next
+first_leads : (all : List (List ℕ)) (d next : Draft) (text : List ℕ) → d.head ≡ 0 → first_line d text ≡ Ok next → Begins next.names all → Leads all d next
 unfolding first_line
-first_leads all d next text e =
-    let kms = if_ok (bytes_eq text (codes "kms 1")) Form _ next e in
-    subst (λ n. Begins n.names all → Leads all d n) (ok_same (record d { head = 1 }) next kms.1) (λ b. record { begins = b; fits = λ f. record { planes = f.planes; conns = f.conns; clients = f.clients } })
+first_leads all d next text zeroth e =
+    let version = form_ok (version_read text) _ next e in
+    subst (λ n. Begins n.names all → Leads all d n) (ok_same (with_version d version.value) next version.then)
+    (λ b. record { begins = any_profile all d.names version.value b; fits = λ f. record { planes = f.planes; conns = f.conns; clients = none_fit (is_command_in version.value all) (clients_in d) (f.early zeroth); early = λ none. absurd (omega arith) } })
 
 crtcs_leads : (all : List (List ℕ)) (d next : Draft) (text : List ℕ) → crtcs_line d text ≡ Ok next → Begins next.names all → Leads all d next
 unfolding crtcs_line
 crtcs_leads all d next text e =
     let key = if_ok (bytes_eq (until 32 text) (codes "crtcs")) Form _ next e in
     let n = form_ok (crtcs_at (from 32 text)) _ next key.1 in
-    subst (λ m. Begins m.names all → Leads all d m) (ok_same (record d { head = 2; crtcs = n.value }) next n.then) (λ b. record { begins = b; fits = λ f. record { planes = f.planes; conns = f.conns; clients = f.clients } })
+    subst (λ m. Begins m.names all → Leads all d m) (ok_same (record d { head = 2; crtcs = n.value }) next n.then) (λ b. record { begins = b; fits = λ f. record { planes = f.planes; conns = f.conns; clients = f.clients; early = λ none. absurd (omega arith) } })
 
 plane_leads : (all : List (List ℕ)) (d next : Draft) (fields : List ℕ) → plane_line d fields ≡ Ok next → Begins next.names all → Leads all d next
 unfolding plane_line
@@ -131,7 +140,7 @@ plane_leads all d next fields e =
     let form = unless_ok (not (is_nil d.conns)) Form _ next p.then in
     let limit = unless_ok (nat_le 16 (length d.planes)) Limit _ next form.1 in
     subst (λ m. Begins m.names all → Leads all d m) (ok_same (record d { planes = d.planes ++ p.value ∷ [] }) next limit.1)
-    (λ b. record { begins = b; fits = λ f. record { planes = all_append has_choice d.planes (p.value ∷ []) f.planes (all_one has_choice p.value (plane_choice d.crtcs fields p.value p.given)); conns = f.conns; clients = f.clients } })
+    (λ b. record { begins = b; fits = λ f. record { planes = all_append has_choice d.planes (p.value ∷ []) f.planes (all_one has_choice p.value (plane_choice d.crtcs fields p.value p.given)); conns = f.conns; clients = f.clients; early = f.early } })
 
 conn_leads : (all : List (List ℕ)) (d next : Draft) (fields : List ℕ) → conn_line d fields ≡ Ok next → Begins next.names all → Leads all d next
 unfolding conn_line
@@ -140,16 +149,16 @@ conn_leads all d next fields e =
     let form = unless_ok (is_nil d.planes || d.has_client) Form _ next mask.then in
     let limit = unless_ok (nat_le 8 (length d.conns)) Limit _ next form.1 in
     subst (λ m. Begins m.names all → Leads all d m) (ok_same (record d { conns = d.conns ++ mask.value ∷ [] }) next limit.1)
-    (λ b. record { begins = b; fits = λ f. record { planes = f.planes; conns = all_append (λ mask. not (mask == 0)) d.conns (mask.value ∷ []) f.conns (all_one (λ mask. not (mask == 0)) mask.value (conn_choice d.crtcs fields mask.value mask.given)); clients = f.clients } })
+    (λ b. record { begins = b; fits = λ f. record { planes = f.planes; conns = all_append (λ mask. not (mask == 0)) d.conns (mask.value ∷ []) f.conns (all_one (λ mask. not (mask == 0)) mask.value (conn_choice d.crtcs fields mask.value mask.given)); clients = f.clients; early = f.early } })
 
-client_leads : (all : List (List ℕ)) (d next : Draft) (fields : List ℕ) → client_line d fields ≡ Ok next → Begins next.names all → Leads all d next
+client_leads : (all : List (List ℕ)) (d next : Draft) (fields : List ℕ) → 2 ≤ d.head → client_line d fields ≡ Ok next → Begins next.names all → Leads all d next
 unfolding client_line
-client_leads all d next fields e =
+client_leads all d next fields late e =
     let done = form_ok (end_at fields) _ next e in
     let form = unless_ok (is_nil d.conns) Form _ next done.then in
     let limit = unless_ok (nat_le 16 (length (clients_in d))) Limit _ next form.1 in
     subst (λ m. Begins m.names all → Leads all d m) (ok_same (record d { clients = clients_in d; has_client = true; commands = [] }) next limit.1)
-    (λ b. record { begins = b; fits = λ f. record { planes = f.planes; conns = f.conns; clients = all_append (list_all (is_command_in all)) (clients_in d) ([] ∷ []) f.clients refl } })
+    (λ b. record { begins = b; fits = λ f. record { planes = f.planes; conns = f.conns; clients = all_append (list_all (is_command_in d.names.profile all)) (clients_in d) ([] ∷ []) f.clients refl; early = λ none. absurd (omega arith) } })
 
 -- a command more of the present client
 one_more : (p : Command → Bool) (clients : List (List Command)) (has : Bool) (commands : List Command) (c : Command) → has ≡ true → p c ≡ true → list_all (list_all p) (clients ++ clients_of has commands) ≡ true → list_all (list_all p) (clients ++ clients_of has (commands ++ c ∷ [])) ≡ true
@@ -163,9 +172,9 @@ one_more p clients true commands c has is e =
     first false e = absurd cc
 one_more p clients false commands c has is e = absurd cc
 
-command_leads : (all : List (List ℕ)) (d next : Draft) (text : List ℕ) → command_line d text ≡ Ok next → Begins next.names all → Leads all d next
+command_leads : (all : List (List ℕ)) (d next : Draft) (text : List ℕ) → 2 ≤ d.head → command_line d text ≡ Ok next → Begins next.names all → Leads all d next
 unfolding command_line
-command_leads all d next text e =
+command_leads all d next text late e =
     let c = form_ok (command_read d.names text) _ next e in
     let form = unless_ok (not d.has_client) Form _ next c.then in
     let label = unless_ok c.value.1.is_twice Label _ next form.1 in
@@ -176,20 +185,22 @@ command_leads all d next text e =
       fits = λ f. record {
         planes = f.planes;
         conns = f.conns;
-        clients = one_more (is_command_in all) d.clients d.has_client d.commands c.value.0 (on_from d.has_client form.0) (command_fit all d.names text c.value c.given b) f.clients;
+        clients = subst (λ profile. list_all (list_all (is_command_in profile all)) (d.clients ++ clients_of d.has_client (d.commands ++ c.value.0 ∷ [])) ≡ true) (sym (command_stays d.names text c.value c.given))
+            (one_more (is_command_in d.names.profile all) d.clients d.has_client d.commands c.value.0 (on_from d.has_client form.0) (command_fit all d.names text c.value c.given b) f.clients);
+        early = λ none. absurd (omega arith);
       };
     })
 
-later_leads : (all : List (List ℕ)) (d next : Draft) (text : List ℕ) → later_line d text ≡ Ok next → Begins next.names all → Leads all d next
+later_leads : (all : List (List ℕ)) (d next : Draft) (text : List ℕ) → 2 ≤ d.head → later_line d text ≡ Ok next → Begins next.names all → Leads all d next
 unfolding later_line
-later_leads all d next text e =
+later_leads all d next text late e =
     elim (either_ok (bytes_eq (until 32 text) (codes "plane")) _ _ (accepted next) e) [
       | inl plane ↦ plane_leads all d next (from 32 text) plane.1
       | inr other ↦ elim (either_ok (bytes_eq (until 32 text) (codes "conn")) _ _ (accepted next) other.1) [
         | inl conn ↦ conn_leads all d next (from 32 text) conn.1
         | inr still ↦ elim (either_ok (bytes_eq (until 32 text) (codes "client")) _ _ (accepted next) still.1) [
-          | inl client ↦ client_leads all d next (from 32 text) client.1
-          | inr command ↦ command_leads all d next text command.1
+          | inl client ↦ client_leads all d next (from 32 text) late client.1
+          | inr command ↦ command_leads all d next text late command.1
         ]
       ]
     ]
@@ -198,10 +209,10 @@ line_leads : (all : List (List ℕ)) (d next : Draft) (text : List ℕ) → scri
 unfolding script_line
 line_leads all d next text e =
     elim (either_ok (d.head == 0) _ _ (accepted next) e) [
-      | inl zeroth ↦ first_leads all d next text zeroth.1
+      | inl zeroth ↦ first_leads all d next text (eqb-true d.head 0 zeroth.0) zeroth.1
       | inr more ↦ elim (either_ok (d.head == 1) _ _ (accepted next) more.1) [
         | inl first ↦ crtcs_leads all d next text first.1
-        | inr late ↦ later_leads all d next text late.1
+        | inr late ↦ later_leads all d next text (is_late d.head more.0 late.0) late.1
       ]
     ]
 
@@ -218,12 +229,12 @@ rows_lead all d last (row ∷ rows) e b =
 pub record IsSpelt (s : Script) : Type 0 where
   pub planes : list_all has_choice s.topology.planes ≡ true
   pub conns : list_all (λ mask. not (mask == 0)) s.topology.conns ≡ true
-  pub commands : list_all (list_all (is_command_in s.names)) s.clients ≡ true
+  pub commands : list_all (list_all (is_command_in s.topology.profile s.names)) s.clients ≡ true
 
 pub spelt_fits : (bytes : List ℕ) (s : Script) → Spells bytes s → IsSpelt s
 spelt_fits bytes s e =
     let d = map_some script_in (spelt_lines blank_draft (rows_of bytes)) s e in
     let names : List (List ℕ) = words_in d.value.names in
     let leads = rows_lead names blank_draft d.value (rows_of bytes) d.given (record { more = []; whole = sym (append-nil names) }) in
-    let fits = leads.fits (record { planes = refl; conns = refl; clients = refl }) in
+    let fits = leads.fits (record { planes = refl; conns = refl; clients = refl; early = λ none. refl }) in
     subst (λ x. IsSpelt x) d.makes (record { planes = fits.planes; conns = fits.conns; commands = fits.clients })

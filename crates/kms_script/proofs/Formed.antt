@@ -1,5 +1,5 @@
 -- What was read within the limits is a well-formed script.
-use Rattle.std.proofs.Common.{◌≡◌, ℕ, zero, suc, ◌<◌, ◌≤◌, ◌^◌, ◌⊎◌, inl, inr, Bool, true, List, [], ◌∷◌, length, refl, arith}
+use Rattle.std.proofs.Common.{◌≡◌, ℕ, zero, suc, ◌<◌, ◌≤◌, ◌^◌, ◌⊎◌, inl, inr, Bool, true, List, [], ◌∷◌, length, refl, sym, subst, arith}
 use Rattle.std.specs.Prelude.{All}
 use Rattle.std.specs.List.{AllByRecursion, IsDistinct, list_all}
 use Rattle.std.specs.Str.{bytes_eq}
@@ -54,6 +54,7 @@ legal_device d fit some =
 
 pub ended_device : (d : Draft) → IsFitDevice d → IsFitDevice (ended d)
 ended_device d fit = record {
+  profile = fit.profile;
   crtcs = fit.crtcs;
   no_planes = fit.no_planes;
   no_conns = fit.no_conns;
@@ -64,15 +65,23 @@ ended_device d fit = record {
   conns = fit.conns;
 }
 
-pub keeps_limits : (d : Draft) (names : List (List ℕ)) (clients : List (List Command)) → IsFitDevice d → 0 < length d.conns → All IsFitClient clients → length clients ≤ 16 → IsDistinct bytes_eq names
-    → KeepsLimits (record { version = 1; topology = topology_in d; names = names; clients = clients })
-keeps_limits d names clients fit some each few differ = record {
-  device = record { legal = legal_device d fit some; kinds = λ k p lt. (fit.planes k p lt).kind };
+keeps_own : (d : Draft) (names : List (List ℕ)) (clients : List (List Command)) → IsFitDevice d → 0 < length d.conns → All IsFitClient clients → length clients ≤ 16 → IsDistinct bytes_eq names
+    → KeepsLimits (record { version = d.names.profile; topology = topology_in d; names = names; clients = clients })
+keeps_own d names clients fit some each few differ = record {
+  device = record { profile = fit.profile; legal = legal_device d fit some; kinds = λ k p lt. (fit.planes k p lt).kind };
   few = few;
   clients = by_recursion IsFitClient clients each;
   version = refl;
   differ = differ;
 }
+
+-- the script of a draft with a profile
+abbrev pub of_profile : Draft → ℕ → List (List ℕ) → List (List Command) → Script
+of_profile d profile names clients = record { version = profile; topology = record { profile = profile; crtcs = d.crtcs; planes = d.planes; conns = d.conns }; names = names; clients = clients }
+
+pub keeps_limits : (d : Draft) (profile : ℕ) (names : List (List ℕ)) (clients : List (List Command)) → profile ≡ d.names.profile → IsFitDevice d → 0 < length d.conns → All IsFitClient clients → length clients ≤ 16 → IsDistinct bytes_eq names
+    → KeepsLimits (of_profile d profile names clients)
+keeps_limits d profile names clients same fit some each few differ = subst (λ p. KeepsLimits (of_profile d p names clients)) (sym same) (keeps_own d names clients fit some each few differ)
 
 -- a script that bytes spell, and that keeps the limits, is well formed
 pub well_formed : (bytes : List ℕ) (s : Script) → KeepsLimits s → Spells bytes s → IsWellFormed s

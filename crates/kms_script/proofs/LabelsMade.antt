@@ -94,7 +94,7 @@ nothing_makes names = record { was = λ v. refl; twice = or_none names.is_twice 
 -- the names after it
 property_makes : (names : Names) (word : List ℕ) → Makes names None (property_read names word).1
 unfolding property_read
-property_makes names word = step (known_property word)
+property_makes names word = step (known_property names.profile word)
   where
     step : (o : Option ℕ) → Makes names None (prop_of names word o).1
     step None = saying_makes word names

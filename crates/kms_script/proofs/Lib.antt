@@ -31,6 +31,7 @@ pub mod Naming
 pub mod OneSpelling
 pub mod PackedNames
 pub mod Parts
+pub mod ProfileStays
 pub mod ReadBack
 pub mod ReadParts
 pub mod Repeated

@@ -172,9 +172,9 @@ read_step (Some r) c after e = step r.1.is_twice (is_over r.0) e
     step false false e = let same : r ≡ (c, after) = cc in rw same refl
 
 -- a command with the names after it
-pub alone_read : (words : List (List ℕ)) (text : List ℕ) (c : Command) (after : Names) → line_of (unmade words) text ≡ Ok (c, after) → line_read words text ≡ Ok (c, words_in after)
+pub alone_read : (profile : ℕ) (words : List (List ℕ)) (text : List ℕ) (c : Command) (after : Names) → line_of (unmade profile words) text ≡ Ok (c, after) → line_read profile words text ≡ Ok (c, words_in after)
 unfolding line_read
-alone_read words text c after e = read_step (command_read (unmade words) text) c after e
+alone_read profile words text c after e = read_step (command_read (unmade profile words) text) c after e
 
 -- a fault is one of three, and the same
 record FaultAlone (stated : Result (Command × List (List ℕ)) Why) (why : Why) : Type 0 where
@@ -211,7 +211,7 @@ error_step stated after Cut f = absurd (other f.one)
     other (inr (inr e)) = cc
 
 -- the error of a line
-pub alone_stopped : (words after : List (List ℕ)) (text : List ℕ) (names : Names) (stop : Stop) → GivesLine (Err stop) (line_of (unmade words) text) names → GivesCommand (Err (line_error stop)) (line_read words text) after
+pub alone_stopped : (profile : ℕ) (words after : List (List ℕ)) (text : List ℕ) (names : Names) (stop : Stop) → GivesLine (Err stop) (line_of (unmade profile words) text) names → GivesCommand (Err (line_error stop)) (line_read profile words text) after
 unfolding line_read
-alone_stopped words after text names (stops.Fault why) e = error_step _ after why (fault_step (command_read (unmade words) text) why e)
-alone_stopped words after text names stops.NoMemory e = tt
+alone_stopped profile words after text names (stops.Fault why) e = error_step _ after why (fault_step (command_read (unmade profile words) text) why e)
+alone_stopped profile words after text names stops.NoMemory e = tt

@@ -158,37 +158,38 @@ was_again w (n ∷ ns) = was_again_step (is w n) w n ns refl (was_again w ns)
 
 -- Names
 
-abbrev pub names_of : List (List ℕ) → List ℕ → ℕ → Bool → Names
-names_of ws numbers count twice = record { all = marked (is_in_numbers numbers) 0 ws; made = count; is_twice = twice }
+abbrev pub names_of : ℕ → List (List ℕ) → List ℕ → ℕ → Bool → Names
+names_of profile ws numbers count twice = record { profile = profile; all = marked (is_in_numbers numbers) 0 ws; made = count; is_twice = twice }
 
 -- a name that is there
-pub saying_there : (w : List ℕ) (ws : List (List ℕ)) (numbers : List ℕ) (count : ℕ) (twice : Bool) (n : ℕ) → place_among w ws ≡ Some n → names_of ws numbers count twice ≡ saying w (names_of ws numbers count twice)
+pub saying_there : (profile : ℕ) (w : List ℕ) (ws : List (List ℕ)) (numbers : List ℕ) (count : ℕ) (twice : Bool) (n : ℕ) → place_among w ws ≡ Some n → names_of profile ws numbers count twice ≡ saying w (names_of profile ws numbers count twice)
 unfolding saying
-saying_there w ws numbers count twice n e = rw (said_there (is_in_numbers numbers) w 0 ws n e) refl
+saying_there profile w ws numbers count twice n e = rw (said_there (is_in_numbers numbers) w 0 ws n e) refl
 
 -- a name that is not
-pub saying_new : (w : List ℕ) (ws : List (List ℕ)) (numbers : List ℕ) (count : ℕ) (twice : Bool) → place_among w ws ≡ None → ((n : ℕ) → is_in_numbers numbers n ≡ true → n < length ws) → names_of (ws ++ w ∷ []) numbers count twice ≡ saying w (names_of ws numbers count twice)
+pub saying_new : (profile : ℕ) (w : List ℕ) (ws : List (List ℕ)) (numbers : List ℕ) (count : ℕ) (twice : Bool) → place_among w ws ≡ None → ((n : ℕ) → is_in_numbers numbers n ≡ true → n < length ws) → names_of profile (ws ++ w ∷ []) numbers count twice ≡ saying w (names_of profile ws numbers count twice)
 unfolding saying
-saying_new w ws numbers count twice e below = rw (said_new (is_in_numbers numbers) w 0 ws e (past (is_in_numbers numbers (0 + length ws)) (length ws) refl below)) refl
+saying_new profile w ws numbers count twice e below = rw (said_new (is_in_numbers numbers) w 0 ws e (past (is_in_numbers numbers (0 + length ws)) (length ws) refl below)) refl
   where
     past : (b : Bool) (len : ℕ) → is_in_numbers numbers (0 + len) ≡ b → ((n : ℕ) → is_in_numbers numbers n ≡ true → n < len) → is_in_numbers numbers (0 + len) ≡ false
     past true len e below = absurd (omega (arith, below (0 + len) e))
     past false len e below = e
 
 -- a label that is made, once its name is said
-pub making_said : (w : List ℕ) (old : Names) (ws : List (List ℕ)) (numbers after : List ℕ) (count : ℕ) (twice new : Bool) → names_of ws numbers count twice ≡ saying w old
+pub making_said : (profile : ℕ) (w : List ℕ) (old : Names) (ws : List (List ℕ)) (numbers after : List ℕ) (count : ℕ) (twice new : Bool) → names_of profile ws numbers count twice ≡ saying w old
     → new ≡ not (is_in_numbers numbers (place w old)) → ((m : ℕ) → is_in_numbers after m ≡ cond (is_eq (nat_cmp (place w old) m)) true (is_in_numbers numbers m))
-    → names_of ws after (count + 1) (twice || not new) ≡ making w old
+    → names_of profile ws after (count + 1) (twice || not new) ≡ making w old
 unfolding saying making
-making_said w old ws numbers after count twice new said_is new_is after_is =
+making_said profile w old ws numbers after count twice new said_is new_is after_is =
     let all : marked (is_in_numbers numbers) 0 ws ≡ said w old.all = ap (λ (n : Names). n.all) said_is in
     let words : ws ≡ map (λ (n : Name). n.word) (said w old.all) = sym (marked_words (is_in_numbers numbers) 0 ws) ∙ ap (λ (ns : List Name). map (λ (n : Name). n.word) ns) all in
     let found : place_among w ws ≡ Some (place w old) = rw words (said_found w old.all) in
     let now : made w old.all ≡ marked (is_in_numbers after) 0 ws = sym (made_again w old.all) ∙ (ap (made w) (sym all) ∙ made_at (is_in_numbers numbers) (is_in_numbers after) w 0 ws (place w old) found (marks_of (place w old) after_is)) in
     let was : was_made w old.all ≡ is_in_numbers numbers (place w old) = sym (was_again w old.all) ∙ (ap (was_made w) (sym all) ∙ (was_at (is_in_numbers numbers) w 0 ws (place w old) found ∙ ap (is_in_numbers numbers) (from_none (place w old)))) in
+    let profiles : profile ≡ old.profile = ap (λ (n : Names). n.profile) said_is in
     let counts : count ≡ old.made = ap (λ (n : Names). n.made) said_is in
     let twices : twice ≡ old.is_twice = ap (λ (n : Names). n.is_twice) said_is in
-    rw (now, was, counts, twices, new_is, not_not (is_in_numbers numbers (place w old))) refl
+    rw (now, was, profiles, counts, twices, new_is, not_not (is_in_numbers numbers (place w old))) refl
   where
     marks_of : (n : ℕ) → ((m : ℕ) → is_in_numbers after m ≡ cond (is_eq (nat_cmp n m)) true (is_in_numbers numbers m)) → Marks (is_in_numbers numbers) (is_in_numbers after) (0 + n)
     marks_of n e =
@@ -204,9 +205,9 @@ making_said w old ws numbers after count twice new said_is new_is after_is =
     not_not false = refl
 
 -- a name that was said has its place as its number
-pub found_said : (w : List ℕ) (old : Names) (ws : List (List ℕ)) (numbers : List ℕ) (count : ℕ) (twice : Bool) → names_of ws numbers count twice ≡ saying w old → place_among w ws ≡ Some (place w old)
+pub found_said : (profile : ℕ) (w : List ℕ) (old : Names) (ws : List (List ℕ)) (numbers : List ℕ) (count : ℕ) (twice : Bool) → names_of profile ws numbers count twice ≡ saying w old → place_among w ws ≡ Some (place w old)
 unfolding saying
-found_said w old ws numbers count twice said_is =
+found_said profile w old ws numbers count twice said_is =
     let words : ws ≡ map (λ (n : Name). n.word) (said w old.all) = sym (marked_words (is_in_numbers numbers) 0 ws) ∙ ap (λ (n : Names). words_in n) said_is in
     rw words (said_found w old.all)
 
@@ -268,12 +269,12 @@ take_again zero ws = refl
 take_again (suc n) [] = refl
 take_again (suc n) (w ∷ ws) = ap (λ (vs : List (List ℕ)). w ∷ vs) (take_again n ws)
 
-pub held_kept : (n : ℕ) (ws : List (List ℕ)) → held (take n ws) n [] 0 false ≡ kept (take n ws)
-held_kept n ws = rw (none_marked 0 (take n ws), take_again n ws) refl
+pub held_kept : (profile n : ℕ) (ws : List (List ℕ)) → held profile (take n ws) n [] 0 false ≡ kept profile (take n ws)
+held_kept profile n ws = rw (none_marked 0 (take n ws), take_again n ws) refl
 
-pub words_unmade : (ws : List (List ℕ)) → words_in (unmade ws) ≡ ws
-words_unmade [] = refl
-words_unmade (w ∷ ws) = ap (λ (vs : List (List ℕ)). w ∷ vs) (words_unmade ws)
+pub words_unmade : (profile : ℕ) (ws : List (List ℕ)) → words_in (unmade profile ws) ≡ ws
+words_unmade profile [] = refl
+words_unmade profile (w ∷ ws) = ap (λ (vs : List (List ℕ)). w ∷ vs) (words_unmade profile ws)
 
 -- Words said one after the other
 
@@ -296,9 +297,9 @@ said_last (v ∷ ws) (suc i) w e d =
     let more : suc i + 1 ≡ suc (i + 1) = omega arith in
     rw (apart, more, said_last ws i w e d.1) refl
 
-pub next_unmade : (ws : List (List ℕ)) (i : ℕ) (w : List ℕ) → slice_get ws i ≡ Some w → IsDistinct bytes_eq ws → saying w (unmade (take i ws)) ≡ unmade (take (i + 1) ws)
+pub next_unmade : (profile : ℕ) (ws : List (List ℕ)) (i : ℕ) (w : List ℕ) → slice_get ws i ≡ Some w → IsDistinct bytes_eq ws → saying w (unmade profile (take i ws)) ≡ unmade profile (take (i + 1) ws)
 unfolding saying
-next_unmade ws i w e d = rw (said_last ws i w e d) refl
+next_unmade profile ws i w e d = rw (said_last ws i w e d) refl
 
-pub room_for_one : (ws : List (List ℕ)) (i : ℕ) → i < length ws → length ws ≤ 2 ^ 32 → HasRoomForNames (unmade (take i ws)) 1
-room_for_one ws i lt few = record { all = rw (length-map, length-take) (omega arith); made = omega arith }
+pub room_for_one : (profile : ℕ) (ws : List (List ℕ)) (i : ℕ) → i < length ws → length ws ≤ 2 ^ 32 → HasRoomForNames (unmade profile (take i ws)) 1
+room_for_one profile ws i lt few = record { all = rw (length-map, length-take) (omega arith); made = omega arith }

@@ -4,14 +4,13 @@ use Rattle.std.specs.Prelude.{codes, ◌==◌, ◌||◌, not, nat_le, nat_lt, le
 use Rattle.std.specs.Fmt.{decimal}
 use Rattle.std.specs.Str.{bytes_eq}
 use Rattle.std.proofs.lemmas.Bool.{eqb-true}
-use Rattle.std.proofs.lemmas.Slice.Eq.{bytes_eq-Decides}
 use Rattle.kms_model.specs.declared.scripts.Why.TheVariants.{Form, Label, Limit}
 use Rattle.kms_model.specs.Script.CommandLines.{command_read, is_over}
-use Rattle.kms_model.specs.Script.WholeInput.{Draft, is_nil, crtcs_at, plane_fields, conn_at, clients_in, first_line, crtcs_line, plane_line, conn_line, client_line, command_line, later_line, script_line}
+use Rattle.kms_model.specs.Script.WholeInput.{Draft, is_nil, crtcs_at, plane_fields, conn_at, clients_in, first_line, crtcs_line, plane_line, conn_line, client_line, command_line, later_line, script_line, version_read}
 use Rattle.kms_model.specs.Script.Words.{until, from, end_at}
 use Rattle.kms_model.specs.Script.Spelling.{crtcs_word}
 use Rattle.kms_script.proofs.Accepted.{accepted, form_ok, unless_ok, if_ok, either_ok, ok_same, second_off, on_from, is_late}
-use Rattle.kms_script.proofs.DraftGrows.{IsInOrder, Follows, with_client, first_follows, second_follows, plane_follows, conn_follows, client_follows, command_follows}
+use Rattle.kms_script.proofs.DraftGrows.{IsInOrder, Follows, with_client, with_version, first_follows, second_follows, plane_follows, conn_follows, client_follows, command_follows}
 use Rattle.kms_script.proofs.LineFields.{end_spelt}
 use Rattle.kms_script.proofs.LinesSpelt.{line_spelt, later_words, count_spelt, plane_spelt, conn_spelt}
 
@@ -23,8 +22,8 @@ begins_with key text = bytes_eq (until 32 text) key ≡ true
 first_line_follows : (d next : Draft) (text : List ℕ) → IsInOrder d → d.head ≡ 0 → first_line d text ≡ Ok next → Follows d next text
 unfolding first_line
 first_line_follows d next text o zeroth e =
-    let kms = if_ok (bytes_eq text (codes "kms 1")) Form _ next e in
-    subst (λ n. Follows d n text) (ok_same (record d { head = 1 }) next kms.1) (first_follows d text o zeroth ((bytes_eq-Decides text (codes "kms 1")).0 kms.0))
+    let version = form_ok (version_read text) _ next e in
+    subst (λ n. Follows d n text) (ok_same (with_version d version.value) next version.then) (first_follows d version.value text o zeroth version.given)
 
 -- the second line
 crtcs_line_follows : (d next : Draft) (text : List ℕ) → IsInOrder d → d.head ≡ 1 → crtcs_line d text ≡ Ok next → Follows d next text

@@ -37,7 +37,7 @@ prop_named all names word (Some id) known b = record { begins = b; same = known 
 -- the property of an assignment
 pub property_named : (all : List (List ℕ)) (names : Names) (word : List ℕ) → Begins (property_read names word).1 all → Named names all (property_word all (property_read names word).0) word
 unfolding property_read
-property_named all names word b = prop_named all names word (known_property word) (λ id e. property_spelt id word e) b
+property_named all names word b = prop_named all names word (known_property names.profile word) (λ id e. property_spelt names.profile id word e) b
 
 -- a value that was read of a word, with the names after it
 abbrev Valued : List (List ℕ) → Names → Value × Names → List ℕ → Type 0

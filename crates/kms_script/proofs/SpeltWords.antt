@@ -1,6 +1,6 @@
 -- The words of formats, numbers with a sign, objects and properties are written as they were read.
 use Rattle.std.proofs.Common.{◌≡◌, ℕ, zero, suc, inl, inr, Bool, true, false, List, [], ◌∷◌, ◌++◌, cond, Option, Some, None, ℤ, pos, negsuc, neg_ℤ, refl, sym, ap, ◌∙◌, arith}
-use Rattle.std.specs.Prelude.{◌==◌, codes, find, option_map, IfSome}
+use Rattle.std.specs.Prelude.{◌==◌, ◌&&◌, codes, option_map, IfSome}
 use Rattle.std.specs.Fmt.{decimal, signed_decimal}
 use Rattle.std.specs.List.{list_all, list_any}
 use Rattle.std.specs.Option.{option_map_or}
@@ -12,7 +12,7 @@ use Rattle.kms_model.specs.declared.objects.Format.TheVariants.{Xr24, Ar24, Rg16
 use Rattle.kms_model.specs.declared.objects.Kind.{Kind}
 use Rattle.kms_model.specs.declared.objects.Kind.TheVariants.{Crtc, Plane, Conn, Enc}
 use Rattle.kms_model.specs.Script.Grammar.{negative, int, format_named, indexed, object, known_property}
-use Rattle.kms_model.specs.Device.Properties.{Property, properties, property_id, is_named, same_kind, name_of}
+use Rattle.kms_model.specs.Device.Properties.{Property, properties, property_id, property_named, is_in_profile, is_named, same_kind, name_of}
 use Rattle.kms_model.specs.Script.Words.{dec, strip}
 use Rattle.kms_model.proofs.PropertyTable.{find-list_all}
 use Rattle.kms_model.proofs.SetLemmas.{find-passes}
@@ -89,22 +89,23 @@ all_name_themselves : list_all names_itself properties ≡ true
 all_name_themselves = refl
 
 -- the id of a row that a name found gives the name back
-row_spelt : (kind : Kind) (name : List ℕ) (id : ℕ) (o : Option Property) → IfSome o (λ p. names_itself p ≡ true) → IfSome o (λ p. is_named kind name p ≡ true) → option_map (λ (p : Property). p.id) o ≡ Some id → id_word id ≡ name
-row_spelt kind name id None itself named e = absurd cc
-row_spelt kind name id (Some p) itself named e =
-    let is : bytes_eq p.name name ≡ true = (and_parts (list_any (same_kind kind) p.kinds) (bytes_eq p.name name) named).1 in
+row_spelt : (profile : ℕ) (kind : Kind) (name : List ℕ) (id : ℕ) (o : Option Property) → IfSome o (λ p. names_itself p ≡ true) → IfSome o (λ p. is_named profile kind name p ≡ true) → option_map (λ (p : Property). p.id) o ≡ Some id → id_word id ≡ name
+row_spelt profile kind name id None itself named e = absurd cc
+row_spelt profile kind name id (Some p) itself named e =
+    let both : (bytes_eq p.name name && is_in_profile profile p) ≡ true = (and_parts (list_any (same_kind kind) p.kinds) (bytes_eq p.name name && is_in_profile profile p) named).1 in
+    let is : bytes_eq p.name name ≡ true = (and_parts (bytes_eq p.name name) (is_in_profile profile p) both).0 in
     rw (← some_same p.id id e) (found (id_word p.id) p.name itself ∙ found p.name name is)
 
 -- the property of a kind of object
-id_spelt : (kind : Kind) (name : List ℕ) (id : ℕ) → property_id kind name ≡ Some id → id_word id ≡ name
-id_spelt kind name id e = row_spelt kind name id (find (is_named kind name) properties) (find-list_all names_itself (is_named kind name) properties all_name_themselves) (find-passes (is_named kind name) properties) e
+id_spelt : (profile : ℕ) (kind : Kind) (name : List ℕ) (id : ℕ) → property_id profile kind name ≡ Some id → id_word id ≡ name
+id_spelt profile kind name id e = row_spelt profile kind name id (property_named profile kind name) (find-list_all names_itself (is_named profile kind name) properties all_name_themselves) (find-passes (is_named profile kind name) properties) e
 
 -- the name of a property that is known
-pub property_spelt : (id : ℕ) (name : List ℕ) → known_property name ≡ Some id → id_word id ≡ name
-property_spelt id name e = elim (or_else_some (property_id Plane name) _ id e) [
-  | inl plane ↦ id_spelt Plane name id plane
-  | inr more ↦ elim (or_else_some (property_id Crtc name) (property_id Conn name) id more) [
-    | inl crtc ↦ id_spelt Crtc name id crtc
-    | inr conn ↦ id_spelt Conn name id conn
+pub property_spelt : (profile id : ℕ) (name : List ℕ) → known_property profile name ≡ Some id → id_word id ≡ name
+property_spelt profile id name e = elim (or_else_some (property_id profile Plane name) _ id e) [
+  | inl plane ↦ id_spelt profile Plane name id plane
+  | inr more ↦ elim (or_else_some (property_id profile Crtc name) (property_id profile Conn name) id more) [
+    | inl crtc ↦ id_spelt profile Crtc name id crtc
+    | inr conn ↦ id_spelt profile Conn name id conn
   ]
 ]

@@ -1,5 +1,5 @@
 -- What is kept of a script while it is read: it is one within the limits.
-use Rattle.std.specs.Prelude.{◌≡◌, ◌<◌, ◌≤◌, ◌^◌, ℕ, length, All, ⊤}
+use Rattle.std.specs.Prelude.{◌≡◌, ◌<◌, ◌≤◌, ◌^◌, ℕ, true, length, All, ⊤}
 use Rattle.std.specs.List.{AllByRecursion, IsDistinct}
 use Rattle.std.specs.Str.{bytes_eq}
 use Rattle.kms_model.specs.declared.objects.PlaneInfo.{PlaneInfo}
@@ -12,6 +12,7 @@ use Rattle.kms_model.specs.Device.Sound.{IsDevice}
 use Rattle.kms_model.specs.Stores.Kept.{Fills}
 use Rattle.kms_model.specs.Script.WellFormed.{IsFitClient, IsFitCommand}
 use Rattle.kms_model.specs.Script.WholeInput.{Draft, clients_in}
+use Rattle.kms_model.specs.Script.Words.{between}
 
 -- a pattern fills its buffer
 abbrev pub HasFilled : Command → Type 0
@@ -38,8 +39,13 @@ pub record IsFitCount (crtcs : ℕ) : Type 0 where
   pub some : 1 ≤ crtcs
   pub few : crtcs ≤ 4
 
+-- a profile that there is
+abbrev pub IsFitProfile : ℕ → Type 0
+IsFitProfile profile = between 1 2 profile ≡ true
+
 -- the device of the lines so far
 pub record IsFitDevice (d : Draft) : Type 0 where
+  pub profile : IsFitProfile d.names.profile
   pub crtcs : 2 ≤ d.head → IsFitCount d.crtcs
   pub no_planes : d.head < 2 → length d.planes ≡ 0
   pub no_conns : d.head < 2 → length d.conns ≡ 0
@@ -61,5 +67,5 @@ pub record KeepsLimits (s : Script) : Type 0 where
   pub device : IsDevice s.topology
   pub few : length s.clients ≤ 16
   pub clients : AllByRecursion IsFitClient s.clients
-  pub version : s.version ≡ 1
+  pub version : s.version ≡ s.topology.profile
   pub differ : IsDistinct bytes_eq s.names

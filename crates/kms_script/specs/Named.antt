@@ -21,10 +21,10 @@ abbrev pub marked : (ℕ → Bool) → ℕ → List (List ℕ) → List Name
 marked is_made n [] = []
 marked is_made n (w ∷ ws) = record { word = w; is_made = is_made n } ∷ marked is_made (n + 1) ws
 
--- words with their numbers, how many of them were there before, the numbers of labels that are made, how often one was
--- made, and whether one was made twice
-abbrev pub held : List (List ℕ) → ℕ → List ℕ → ℕ → Bool → HeldNames
-held words earlier numbers count twice = record { names = record { all = marked (is_in_numbers numbers) 0 words; made = count; is_twice = twice }; before = take earlier words }
+-- a profile, words with their numbers, how many of them were there before, the numbers of labels that are made, how often
+-- one was made, and whether one was made twice
+abbrev pub held : ℕ → List (List ℕ) → ℕ → List ℕ → ℕ → Bool → HeldNames
+held profile words earlier numbers count twice = record { names = record { profile = profile; all = marked (is_in_numbers numbers) 0 words; made = count; is_twice = twice }; before = take earlier words }
 
 -- the numbers are those of words, and so many were there before
 pub record AreMade (words : List (List ℕ)) (count : ℕ) (numbers : List ℕ) : Type 0 where
@@ -32,8 +32,16 @@ pub record AreMade (words : List (List ℕ)) (count : ℕ) (numbers : List ℕ) 
   pub before : count ≤ length words
 
 -- words that were all there before, of which no line makes one
-abbrev pub kept : List (List ℕ) → HeldNames
-kept words = record { names = unmade words; before = words }
+abbrev pub kept : ℕ → List (List ℕ) → HeldNames
+kept profile words = record { names = unmade profile words; before = words }
+
+-- the names of the lines of a script with a profile
+pub record Indexed : Type 0 where
+  pub profile : ℕ
+  pub words : List (List ℕ)
+
+abbrev pub indexed : ℕ → HeldNames → Indexed
+indexed profile n = record { profile = profile; words = n.before }
 
 -- So many names more have numbers below 2^32.
 pub record HasRoomForNames (names : Names) (more : ℕ) : Type 0 where

@@ -34,11 +34,11 @@ parts_in p = parts_of p.script p.steps p.rest
 
 -- the device that lines spell, and the place behind them
 abbrev pub device_in : Draft → TopologyRead
-device_in d = record { version = 1; topology = topology_in d; rest = d.size }
+device_in d = record { version = d.names.profile; topology = topology_in d; rest = d.size }
 
 -- What a reader of a device at the front of an input answers.
 abbrev pub GivesDevice : Result TopologyRead ParseError → Result (Topology × ℕ) Fault → Type 0
-GivesDevice (Ok r) stated = (r.version ≡ 1) × (stated ≡ Ok (r.topology, r.rest))
+GivesDevice (Ok r) stated = (r.version ≡ r.topology.profile) × (stated ≡ Ok (r.topology, r.rest))
 GivesDevice (Err (errors.Fault line why)) stated = stated ≡ Err (record { line = line; why = why })
 GivesDevice (Err errors.NoMemory) stated = Unit {0}
 

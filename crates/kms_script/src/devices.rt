@@ -13,7 +13,7 @@ use std::alloc::Global;
 /// A device at the front of an input.
 #[derive(Debug, PartialEq, Eq, Drop)]
 pub struct TopologyRead {
-    /// The version of the input's first line: 1.
+    /// The version of the input's first line, 1 or 2, which is the device's profile.
     pub version: u32,
     /// The device.
     pub topology: Topology,
@@ -26,7 +26,7 @@ fn device_in(draft: Draft) -> TopologyRead
 {
     let (topology, rest) = draft.into_device();
     TopologyRead {
-        version: 1,
+        version: topology.profile,
         topology,
         rest,
     }

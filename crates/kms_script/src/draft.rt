@@ -2,8 +2,8 @@
 ghost use Rattle.std.specs.Prelude.{◌≡◌, ◌<◌, ◌≤◌, ◌+◌, ◌*◌, ℕ, Some, true, false, IfOk, IfSome, OnOk, length, option_map};
 ghost use Rattle.std.specs.List.{list_all};
 ghost use Rattle.kms_model.specs.Script.Grammar.{is_printable};
-ghost use Rattle.kms_model.specs.Script.WholeInput.{blank_draft, is_nil, crtcs_at, plane_type, plane_fields, conn_at, first_line, crtcs_line, plane_line, conn_line, client_line, command_line, later_line, script_line, clients_in, line_after, topology_in, script_in, is_conn_of, is_done};
-ghost use Rattle.kms_script.specs.Fitting.{KeepsLimits, IsFitCount, IsFitPlane, IsFitMask, HasFitClients};
+ghost use Rattle.kms_model.specs.Script.WholeInput.{blank_draft, is_nil, crtcs_at, plane_type, plane_fields, conn_at, first_line, crtcs_line, plane_line, conn_line, client_line, command_line, later_line, script_line, clients_in, line_after, topology_in, script_in, is_conn_of, is_done, version_read};
+ghost use Rattle.kms_script.specs.Fitting.{KeepsLimits, IsFitCount, IsFitPlane, IsFitMask, IsFitProfile, HasFitClients};
 ghost use Rattle.kms_script.specs.Drafted.{draft_in, row_in, IsSoundDraft, HasRoomFor, Keeps, Becomes, ended, is_full};
 
 use crate::limits::{MAX_COMMANDS, MAX_LABELS, MAX_SCRIPT};
@@ -19,6 +19,20 @@ use kms_model::{
 };
 use std::alloc::Global;
 use std::mem::replace;
+
+/// `kms V`: the version, 1 or 2, which is the profile of the device.
+fn read_version(text: &[u8]) -> Option<u32>
+    ensures value { result ≡ version_read text.now }
+    ensures fit { IfSome result IsFitProfile }
+{
+    if text == b"kms 1".as_slice() {
+        Some(1)
+    } else if text == b"kms 2".as_slice() {
+        Some(2)
+    } else {
+        None
+    }
+}
 
 /// `crtcs N`: the number of CRTCs, from 1 to 4.
 #[tactic(auto, unfolding(kms_model::specs::Script::WholeInput::crtcs_at))]
@@ -126,7 +140,7 @@ impl Draft {
             crtcs: 0,
             planes: Seq::new(alloc),
             conns: Seq::new(alloc),
-            names: Names::new(alloc),
+            names: Names::new(alloc, 1),
             clients: Seq::new(alloc),
             has_client: false,
             commands: Seq::new(alloc),
@@ -156,10 +170,11 @@ impl Draft {
             (draft_in self.new) }
         ensures keeps { OnOk result (Keeps (draft_in self.old) (draft_in self.new) 0) }
     {
-        if text != b"kms 1".as_slice() {
+        let Some(version) = read_version(text) else {
             return Err(Stop::Fault(Why::Form));
-        }
+        };
         self.head = 1;
+        self.names.set_profile(version);
         Ok(())
     }
 
@@ -384,6 +399,7 @@ impl Draft {
         ensures place { result.1 ≡ (draft_in self).size }
     {
         let topology = Topology {
+            profile: self.names.profile(),
             crtcs: self.crtcs,
             planes: self.planes,
             conns: self.conns,
@@ -399,9 +415,11 @@ impl Draft {
         ensures limits { IfOk result KeepsLimits }
     {
         self.end_client(alloc)?;
+        let profile = self.names.profile();
         Ok(Script {
-            version: 1,
+            version: profile,
             topology: Topology {
+                profile,
                 crtcs: self.crtcs,
                 planes: self.planes,
                 conns: self.conns,

@@ -16,6 +16,8 @@ use std::marker::Model;
 /// The names so far, and which of them were there before. Contracts see them as the definitions do.
 #[derive(Drop)]
 pub struct Names {
+    /// The profile of the script's device, 1 or 2.
+    profile: u32,
     /// Each name's number is its place in order of first occurrence.
     numbering: Numbering,
     /// How many of the names were there before.
@@ -33,7 +35,7 @@ impl Model for Names {
 
     ghost Value = { HeldNames };
 
-    ghost view = { λ n. held n.numbering n.before n.made.keys n.count n.is_twice };
+    ghost view = { λ n. held n.profile n.numbering n.before n.made.keys n.count n.is_twice };
 
     ghost invariant = { λ n. AreMade n.numbering n.before n.made.keys };
 }
@@ -51,17 +53,33 @@ fn push_where(numbers: &mut Vec<u128>, is_made: bool, word: &[u8]) -> Result<(),
 }
 
 impl Names {
-    /// No names.
-    pub fn new(alloc: Global) -> Names
-        ensures { result ≡ kept [] }
+    /// No names, of a script with a profile.
+    pub fn new(alloc: Global, profile: u32) -> Names
+        ensures { result ≡ kept profile [] }
     {
         Names {
+            profile,
             numbering: Numbering::new(alloc),
             before: 0,
             made: BTreeSet::new(alloc),
             count: 0,
             is_twice: false,
         }
+    }
+
+    /// The profile of the script's device.
+    pub fn profile(&self) -> u32
+        ensures { result ≡ self.now.names.profile }
+    {
+        self.profile
+    }
+
+    /// Tells the profile of the script's device. The names stay.
+    pub fn set_profile(&mut self, profile: u32)
+        ensures names { self.new.names ≡ record self.old.names { profile = profile } }
+        ensures before { self.new.before ≡ self.old.before }
+    {
+        self.profile = profile;
     }
 
     /// How often a label was made.
@@ -131,7 +149,7 @@ impl Names {
 
     /// Lets all names stay: they are those before the next line, and no line makes one yet.
     pub fn keep(&mut self, alloc: Global)
-        ensures { self.new ≡ kept (words_in self.old.names) }
+        ensures { self.new ≡ kept self.old.names.profile (words_in self.old.names) }
     {
         self.before = self.numbering.len();
         self.undo(alloc);
@@ -139,7 +157,7 @@ impl Names {
 
     /// Takes the names back that were not there before; no line makes one yet.
     pub fn undo(&mut self, alloc: Global)
-        ensures { self.new ≡ kept self.old.before }
+        ensures { self.new ≡ kept self.old.names.profile self.old.before }
     {
         self.numbering.shorten(self.before);
         self.made = BTreeSet::new(alloc);
@@ -156,12 +174,12 @@ impl Names {
     }
 
     /// Names of words that differ, all of them there before, of which no line makes one.
-    pub fn from_words(alloc: Global, words: &[Seq<u8>]) -> Result<Names, NoMemory>
+    pub fn from_words(alloc: Global, profile: u32, words: &[Seq<u8>]) -> Result<Names, NoMemory>
         requires differ { IsDistinct bytes_eq words.now }
         requires few { length words.now ≤ 2 ^ 32 }
-        ensures { IfOk result (λ names. names ≡ kept words.now) }
+        ensures { IfOk result (λ names. names ≡ kept profile words.now) }
     {
-        let mut names = Names::new(alloc);
+        let mut names = Names::new(alloc, profile);
         for word in words {
             names.say(alloc, word.as_slice())?;
         }

@@ -50,17 +50,17 @@ fn is_property_word(word: &[u8]) -> bool
     !word.is_empty() && word.len() <= 32 && all_property_bytes(word)
 }
 
-/// The id of the property of a name, which some kind of object has.
-pub fn known_property(name: &[u8]) -> Option<u32>
-    ensures { result ≡ known_property name.now }
+/// The id of the property of a name, which some kind of object has in a profile.
+pub fn known_property(profile: u32, name: &[u8]) -> Option<u32>
+    ensures { result ≡ known_property profile name.now }
 {
-    if let Some(id) = lookup(Kind::Plane, name) {
+    if let Some(id) = lookup(profile, Kind::Plane, name) {
         return Some(id);
     }
-    if let Some(id) = lookup(Kind::Crtc, name) {
+    if let Some(id) = lookup(profile, Kind::Crtc, name) {
         return Some(id);
     }
-    lookup(Kind::Conn, name)
+    lookup(profile, Kind::Conn, name)
 }
 
 /// The words of an assignment.

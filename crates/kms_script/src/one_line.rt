@@ -49,47 +49,52 @@ fn line_error(stop: Stop) -> LineError
 }
 
 /// The names that lines say, with an index of them, for lines that are read one after the other. Contracts see the
-/// list of names: labels, and names of properties that no property has, each once in order of first occurrence.
+/// profile of the lines' script and the list of names: labels, and names of properties that no property of this profile
+/// has, each once in order of first occurrence.
 #[derive(Drop)]
 pub struct NameIndex {
+    /// The profile of the lines' script.
+    profile: u32,
     names: Names,
 }
 
 impl Model for NameIndex {
-    ghost use Rattle.std.specs.Prelude.{◌≡◌, ℕ, List};
-    ghost use Rattle.kms_script.specs.Named.{kept};
+    ghost use Rattle.std.specs.Prelude.{◌≡◌};
+    ghost use Rattle.kms_script.specs.Named.{Indexed, indexed, kept};
 
-    ghost Value = { List (List ℕ) };
+    ghost Value = { Indexed };
 
-    ghost view = { λ n. n.names.before };
+    ghost view = { λ n. indexed n.profile n.names };
 
-    ghost invariant = { λ n. n.names ≡ kept n.names.before };
+    ghost invariant = { λ n. n.names ≡ kept n.profile n.names.before };
 }
 
 impl NameIndex {
-    /// No names.
-    pub fn new(alloc: Global) -> NameIndex
-        ensures { result ≡ [] }
+    /// No names, of a script with a profile, 1 or 2.
+    pub fn new(alloc: Global, profile: u32) -> NameIndex
+        ensures { result ≡ record { profile = profile; words = [] } }
     {
         NameIndex {
-            names: Names::new(alloc),
+            profile,
+            names: Names::new(alloc, profile),
         }
     }
 
-    /// The index of names that differ, at most 4,294,967,296 of them.
-    pub fn of(alloc: Global, names: &[Seq<u8>]) -> Result<NameIndex, NoMemory>
+    /// The index of names that differ, at most 4,294,967,296 of them, of a script with a profile.
+    pub fn of(alloc: Global, profile: u32, names: &[Seq<u8>]) -> Result<NameIndex, NoMemory>
         requires differ { IsDistinct bytes_eq names.now }
         requires few { length names.now ≤ 4294967296 }
-        ensures { IfOk result (λ index. index ≡ names.now) }
+        ensures { IfOk result (λ index. index ≡ record { profile = profile; words = names.now }) }
     {
         Ok(NameIndex {
-            names: Names::from_words(alloc, names)?,
+            profile,
+            names: Names::from_words(alloc, profile, names)?,
         })
     }
 
     /// The names.
     pub fn into_names(self) -> Seq<Seq<u8>>
-        ensures names { result ≡ self }
+        ensures names { result ≡ self.words }
         ensures differ { IsDistinct bytes_eq result }
     {
         self.names.into_words()
@@ -100,17 +105,21 @@ impl NameIndex {
     ///
     /// The names must with the line's bytes be fewer than 4,294,967,295.
     pub fn read(&mut self, alloc: Global, line: &[u8]) -> Result<Command, LineError>
-        requires few { length self.old + length line.now < 4294967295 }
-        ensures value { GivesCommand result (line_read self.old line.now) self.new }
-        ensures few { length self.new ≤ length self.old + length line.now + 2 }
+        requires few { length self.old.words + length line.now < 4294967295 }
+        ensures value { GivesCommand result
+            (line_read self.old.profile self.old.words line.now) self.new.words }
+        ensures profile { self.new.profile ≡ self.old.profile }
+        ensures few { length self.new.words ≤ length self.old.words + length line.now + 2 }
         ensures unchanged { OnErr result (self.new ≡ self.old) }
     {
         match read_line(&mut self.names, alloc, line) {
             Ok(command) => {
+                self.names.set_profile(self.profile);
                 self.names.keep(alloc);
                 Ok(command)
             }
             Err(stop) => {
+                self.names.set_profile(self.profile);
                 self.names.undo(alloc);
                 Err(line_error(stop))
             }
@@ -119,7 +128,7 @@ impl NameIndex {
 }
 
 /// The command that a line spells, without its line feed. The line's new labels and unknown names of properties go
-/// behind the names. The refusals come in the order Form, Label, Limit, and leave the names as they were; that
+/// behind the names; a name is known where a property of the device's profile has it. The refusals come in the order Form, Label, Limit, and leave the names as they were; that
 /// earlier lines make the line's labels is no matter of this call. Each object may have any index to 255, whatever
 /// the device has.
 ///
@@ -127,18 +136,19 @@ impl NameIndex {
 /// goes over all of them: for many lines take a `NameIndex`.
 pub fn read_command(
     alloc: Global,
-    _topology: &Topology,
+    topology: &Topology,
     names: &mut Seq<Seq<u8>>,
     line: &[u8],
 ) -> Result<Command, LineError>
     requires differ { IsDistinct bytes_eq names.old }
     requires few { length names.old + length line.now < 4294967295 }
-    ensures value { GivesCommand result (line_read names.old line.now) names.new }
+    ensures value { GivesCommand result
+        (line_read topology.now.profile names.old line.now) names.new }
     ensures differ { IsDistinct bytes_eq names.new }
     ensures few { length names.new ≤ length names.old + length line.now + 2 }
     ensures unchanged { OnErr result (names.new ≡ names.old) }
 {
-    let mut index = NameIndex::of(alloc, names.as_slice())?;
+    let mut index = NameIndex::of(alloc, topology.profile, names.as_slice())?;
     let command = index.read(alloc, line)?;
     *names = index.into_names();
     Ok(command)

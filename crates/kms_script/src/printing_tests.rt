@@ -83,7 +83,7 @@ fn strange_commands(alloc: Global) -> Result<Seq<Command>, AllocError> {
     let assign = Assign {
         kind: Kind::Enc,
         index: 256,
-        prop: PropRef::Known(19),
+        prop: PropRef::Known(20),
         value: Value::Named(7),
     };
     let request = Request {
@@ -127,6 +127,7 @@ fn a_script_that_no_text_spells_is_printed(rt: HostRuntime) -> Result<(), Fail> 
     let script = Script {
         version: 2,
         topology: Topology {
+            profile: 1,
             crtcs: 0,
             planes: Seq::from_vec(Vec::from_array(alloc, [plane])?),
             conns: Seq::new(alloc),

@@ -20,7 +20,7 @@ fn read_property(names: &mut Names, alloc: Global, word: &[u8]) -> Result<PropRe
     ensures grows { OnOk result (NamesGrow names.old.names names.new.names 1) }
     ensures before { names.new.before ≡ names.old.before }
 {
-    match known_property(word) {
+    match known_property(names.profile(), word) {
         Some(id) => Ok(PropRef::Known(id)),
         None => Ok(PropRef::Unknown(names.say(alloc, word)?)),
     }

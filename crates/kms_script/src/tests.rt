@@ -2,8 +2,8 @@
 ghost use Rattle.std.specs.Prelude.{◌<◌, length};
 
 use crate::{
-    LineError, NameIndex, ParseError, Why, is_label, parse, read_command, read_dec, read_int,
-    read_topology,
+    LineError, NameIndex, ParseError, Why, is_label, parse, print, read_command, read_dec,
+    read_int, read_topology,
 };
 use kms_model::{Part, Script, Seq, Topology};
 use std::alloc::{AllocError, Global};
@@ -11,6 +11,9 @@ use std::test::Fail;
 
 /// The lines of a small device.
 pub(crate) const HEAD: &[u8] = b"kms 1\ncrtcs 1\nplane primary 0 XR24\nconn 0\n";
+
+/// The same device, of profile 2.
+const HEAD_2: &[u8] = b"kms 2\ncrtcs 1\nplane primary 0 XR24\nconn 0\n";
 
 const LIGHT: &[u8] =
     b"client\nbuffer b 1 1 XR24 solid 00616263\naddfb f b\nmode m 1 1 1 1 1 0 1 1 1 1 0 60 0 0 tiny\natomic 0x400 0 crtc0.ACTIVE=1 crtc0.MODE_ID=@m conn0.CRTC_ID=crtc0 plane0.FB_ID=@f plane0.CRTC_ID=crtc0 plane0.CRTC_W=1 plane0.CRTC_H=1 plane0.SRC_W=65536 plane0.SRC_H=65536\n";
@@ -96,6 +99,39 @@ fn the_example_is_a_script(rt: HostRuntime) -> Result<(), Fail> {
     Ok(())
 }
 
+#[test]
+fn the_version_of_a_script_is_its_profile(rt: HostRuntime) -> Result<(), Fail> {
+    let alloc = rt.alloc();
+    for (version, head) in [(1, HEAD), (2, HEAD_2)] {
+        let script = script(alloc, head)?;
+        assert_eq!(rt; script.version, version);
+        assert_eq!(rt; script.topology.profile, version);
+        let text = print(alloc, &script).map_err(|_| AllocError)?;
+        assert_eq!(rt; text.as_slice(), head);
+        let device = read_topology(alloc, head).map_err(|_| AllocError)?;
+        assert_eq!(rt; device.version, version);
+        assert_eq!(rt; device.topology.profile, version);
+    }
+    Ok(())
+}
+
+/// How many names a line says alone, on a device of a profile: a name of a property that it has is none of them.
+fn names_of(alloc: Global, head: &[u8], line: &[u8]) -> Result<usize, AllocError>
+    requires { length line.now < 1024 }
+{
+    let device = script(alloc, head)?.topology;
+    line_alone(alloc, &device, line).map_err(|_| AllocError)
+}
+
+#[test]
+fn a_gamma_table_is_known_from_profile_2_on(rt: HostRuntime) -> Result<(), Fail> {
+    let alloc = rt.alloc();
+    let line = b"atomic 0x0 0 crtc0.GAMMA_LUT=0";
+    assert_eq!(rt; names_of(alloc, HEAD, line)?, 1);
+    assert_eq!(rt; names_of(alloc, HEAD_2, line)?, 0);
+    Ok(())
+}
+
 /// Third lines that have no form.
 const NO_PLANES: &str = "
 plane primary  0 XR24
@@ -116,7 +152,16 @@ fn each_fault_of_a_device_is_told_at_its_line(rt: HostRuntime) -> Result<(), Fai
     let alloc = rt.alloc();
     let front = b"kms 1\ncrtcs 1\n";
     assert_eq!(rt; fault(alloc, b"")?, Some((1, Why::Form)));
-    assert_eq!(rt; fault(alloc, b"kms 2\n")?, Some((1, Why::Form)));
+    for text in [
+        b"kms 0\n".as_slice(),
+        b"kms 3\n",
+        b"kms 02\n",
+        b"kms 2 \n",
+        b"kms\n",
+    ] {
+        assert_eq!(rt; fault(alloc, text)?, Some((1, Why::Form)));
+    }
+    assert_eq!(rt; fault(alloc, b"kms 2\n")?, Some((2, Why::Form)));
     assert_eq!(rt; fault(alloc, b"kms 1\ncrtcs 01\n")?, Some((2, Why::Form)));
     assert_eq!(rt; fault(alloc, b"kms 1\ncrtcs 5\n")?, Some((2, Why::Form)));
     for line in NO_PLANES.lines() {
@@ -461,7 +506,7 @@ fn two_indexed(alloc: Global, first: &[u8], second: &[u8]) -> Result<usize, Line
     requires first { length first.now < 1024 }
     requires second { length second.now < 1024 }
 {
-    let mut index = NameIndex::new(alloc);
+    let mut index = NameIndex::new(alloc, 1);
     index.read(alloc, first)?;
     let _ = index.read(alloc, second);
     Ok(index.into_names().len())

@@ -60,7 +60,7 @@ labels_are assigns labels crtcs long few tell =
 -- What is seen after out-fences
 
 alike_then : (xs ys zs : List Thing) (number : _) → IsSeenAlike xs ys number → IsSeenAlike ys zs number → IsSeenAlike xs zs number
-alike_then xs ys zs number first second = record { fb = first.fb ∙ second.fb; mode = first.mode ∙ second.mode }
+alike_then xs ys zs number first second = record { fb = first.fb ∙ second.fb; mode = first.mode ∙ second.mode; gamma = first.gamma ∙ second.gamma }
 
 -- at most this many things more
 record IsSeenWithin (t : Topology) (n : ℕ) (w after : World) : Type 0 where
@@ -84,6 +84,7 @@ within_then t m n u v w first second =
       alike = record {
         planes = λ plane is. alike_then u.things v.things w.things _ (first.alike.planes plane is) (further.planes plane is);
         crtcs = λ crtc is. alike_then u.things v.things w.things _ (first.alike.crtcs crtc is) (further.crtcs crtc is);
+        gammas = λ crtc is. alike_then u.things v.things w.things _ (first.alike.gammas crtc is) (further.gammas crtc is);
       };
       ids = omega (arith, first.ids, second.ids);
       commits = second.commits ∙ first.commits;

@@ -37,6 +37,7 @@ alike_same : (t : Topology) (things : List Thing) (values : List Setting) → Ar
 alike_same t things values = record {
   planes = λ plane is. seen-same things things (value values plane _) refl;
   crtcs = λ crtc is. seen-same things things (value values crtc _) refl;
+  gammas = λ crtc is. seen-same things things (value values crtc _) refl;
 }
 
 pub seen_same : (t : Topology) (w : World) → IsSeenAfter t w w

@@ -21,7 +21,7 @@ use Rattle.kms_model.specs.Frames.Images.{image_of, seen_in}
 use Rattle.kms_model.specs.Device.Objects.{object_id, count_of}
 use Rattle.kms_model.specs.Device.Sound.{AreNumbered, has_legal_mode, IsSound}
 use Rattle.kms_model.specs.Request.Late.{duplicate_at}
-use Rattle.kms_model.specs.Device.States.{framebuffer_in, framebuffer_of, mode_of, plane_at}
+use Rattle.kms_model.specs.Device.States.{framebuffer_in, framebuffer_of, gamma_of, mode_of, plane_at}
 use Rattle.kms_model.specs.Script.Words.{◌>>=◌}
 use Rattle.kms_model.specs.Device.World.{value, thing_numbered, thing_with_id}
 use Rattle.kms_model.proofs.LateLemmas.{flatten-some}
@@ -75,10 +75,10 @@ number-of things z (Some t) numbered framed at held =
       | inr some ↦ ap pos (own-id things t.id t.content (in-things (λ u. FramesIn things u.id u.content) things t framed there) some) ∙ matches things z t at
     ]
 
-is-held : (b c d : Bool) → (b || ((true && c) || (false && d))) ≡ true → (b || c) ≡ true
-is-held true c d e = refl
-is-held false true d e = refl
-is-held false false d e = absurd cc
+is-held : (b c d e : Bool) → (b || ((true && c) || ((false && d) || (false && e)))) ≡ true → (b || c) ≡ true
+is-held true c d e h = refl
+is-held false true d e h = refl
+is-held false false d e h = absurd cc
 
 -- a plane is set to the id of its state's framebuffer
 pub fb_id-is : (t : Topology) (w : World) (index : ℕ) → IsSound t w → AreFramed w.things → index < count_of t kind.Plane
@@ -86,7 +86,7 @@ pub fb_id-is : (t : Topology) (w : World) (index : ℕ) → IsSound t w → AreF
 fb_id-is t w index sound framed within =
     let z = value w.values (object_id kind.Plane index) FB_ID in
     number-of w.things z (thing_numbered w.things z) sound.numbered framed refl
-    (is-held (int_eq z (pos 0)) (is_some (framebuffer_of (thing_numbered w.things z))) (has_legal_mode (mode_of (thing_numbered w.things z)))
+    (is-held (int_eq z (pos 0)) (is_some (framebuffer_of (thing_numbered w.things z))) (has_legal_mode (mode_of (thing_numbered w.things z))) (is_some (gamma_of (thing_numbered w.things z)))
     (fb-held t w.things w.values (object_id kind.Plane index) (all_held-from t w.things w.values sound.held) (ids-has t kind.Plane index within)))
 
 -- the same of a state that is duplicated

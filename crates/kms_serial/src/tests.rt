@@ -5,14 +5,14 @@ ghost use Rattle.kms_model.specs.Script.WellFormed.{IsFitCommand};
 
 use crate::Serial;
 use kms_model::properties::{
-    ACTIVE, ALPHA, CRTC_ID, CRTC_W, CRTC_X, FB_ID, IN_FENCE_FD, MODE_ID, OUT_FENCE_PTR, SRC_W,
-    SRC_X, TYPE,
+    ACTIVE, ALPHA, CRTC_H, CRTC_ID, CRTC_W, CRTC_X, FB_ID, GAMMA_LUT, IN_FENCE_FD, MODE_ID,
+    OUT_FENCE_PTR, SRC_H, SRC_W, SRC_X, TYPE,
 };
 use kms_model::{
     Assign, Command, Denied, Format, Kind, Mask, NoMemory, Pattern, Refusal, Reply, Topology, Value,
 };
 use kms_samples::{
-    ALLOW_MODESET, cloned, light, on_crtc, on_plane, pair, request, set, single, tiny,
+    ALLOW_MODESET, cloned, in_profile_2, light, on_crtc, on_plane, pair, request, set, single, tiny,
 };
 use std::alloc::Global;
 use std::process::Abort;
@@ -225,6 +225,36 @@ fn a_request_is_refused_by_its_framebuffer(rt: HostRuntime) -> Result<(), Fail> 
     assert_answers_of(&rt, a, single(a)?, 1, Format::Rg16, &short)?;
     let wide = [refused(ALLOW_MODESET, &all, &between, Refusal::FRACTIONAL_SOURCE)];
     assert_answers_of(&rt, a, single(a)?, 2, Format::Xr24, &wide)?;
+    Ok(())
+}
+
+/// A plane of profile 2 scales, needs no modeset for it, and begins between pixels.
+#[test]
+fn a_plane_of_profile_2_scales_little(rt: HostRuntime) -> Result<(), Fail> {
+    let a = rt.alloc();
+    let all = light(FB, MODE);
+    let sets = [
+        [on_plane(CRTC_W, Value::Num(5))],
+        [on_plane(CRTC_H, Value::Num(5))],
+        [on_plane(SRC_W, Value::Num(16383))],
+        [on_plane(SRC_H, Value::Num(16383))],
+        [on_plane(CRTC_W, Value::Num(4))],
+        [on_plane(CRTC_H, Value::Num(4))],
+        [on_plane(SRC_X, Value::Num(32768))],
+        [on_crtc(GAMMA_LUT, Value::Num(0))],
+    ];
+    let cases = [
+        refused(ALLOW_MODESET, &all, &sets[0], Refusal::SCALED),
+        refused(ALLOW_MODESET, &all, &sets[1], Refusal::SCALED),
+        refused(ALLOW_MODESET, &all, &sets[2], Refusal::SCALED),
+        refused(ALLOW_MODESET, &all, &sets[3], Refusal::SCALED),
+        committed(ALLOW_MODESET, &all, 0),
+        committed(0, &sets[4], 1),
+        committed(0, &sets[5], 2),
+        committed(0, &sets[6], 3),
+        committed(0, &sets[7], 4),
+    ];
+    assert_answers_of(&rt, a, in_profile_2(single(a)?), 2, Format::Xr24, &cases)?;
     Ok(())
 }
 

@@ -4,17 +4,18 @@ use mathlib.Core.Path.{fun_ext}
 use Rattle.std.specs.Prelude.{◌==◌, not, Option, Bool}
 use Rattle.std.specs.Ordering.{int_eq}
 use Rattle.std.proofs.lemmas.Bool.{cases_eq}
+use Rattle.kms_model.specs.declared.objects.Gamma.{Gamma}
 use Rattle.kms_model.specs.declared.objects.Kind.{Kind}
 use Rattle.kms_model.specs.declared.objects.Kind.TheVariants.{Plane, Conn}
 use Rattle.kms_model.specs.declared.objects.Mode.{Mode}
 use Rattle.kms_model.specs.declared.states.CrtcState.{CrtcState}
 use Rattle.kms_model.specs.declared.objects.Topology.{Topology}
-use Rattle.kms_model.specs.declared.properties.TheConstants.{CRTC_ID, MODE_ID, ACTIVE}
+use Rattle.kms_model.specs.declared.properties.TheConstants.{CRTC_ID, MODE_ID, ACTIVE, GAMMA_LUT}
 use Rattle.kms_model.specs.declared.worlds.Setting.{Setting}
 use Rattle.kms_model.specs.declared.worlds.Thing.{Thing}
 use Rattle.kms_model.specs.Device.Objects.{object_id, count_of}
 use Rattle.kms_model.specs.Device.World.{thing_numbered}
-use Rattle.kms_model.specs.Device.States.{natural, crtc_at, mode_of, plane_at, plane_from}
+use Rattle.kms_model.specs.Device.States.{natural, crtc_at, gamma_of, mode_of, plane_at, plane_from}
 use Rattle.kms_model.specs.Request.Agreement.{conn_state_at, crtc_state_at, on_crtc}
 use Rattle.kms_model.proofs.MaskLemmas.{same_masks}
 use Rattle.kms_model.proofs.ValueLemmas.{Puts}
@@ -33,13 +34,14 @@ pub on_crtc-same : (t : Topology) (before after : List Setting) (crtc : ℕ) (ki
 on_crtc-same t before after crtc kind same =
     same_masks (λ k. crtc_at after (object_id kind k) == crtc) (λ k. crtc_at before (object_id kind k) == crtc) (count_of t kind) (λ k within. ap (λ c. c == crtc) (same k within))
 
-abbrev crtc_state : Bool → Option Mode → ℕ → ℕ → CrtcState
-crtc_state active mode planes conns = record { active = active; mode = mode; planes = planes; conns = conns }
+abbrev crtc_state : Bool → Option Mode → Option Gamma → ℕ → ℕ → CrtcState
+crtc_state active mode gamma planes conns = record { active = active; mode = mode; gamma = gamma; planes = planes; conns = conns }
 
-pub same_crtc_state : (a b : CrtcState) → a.active ≡ b.active → a.mode ≡ b.mode → a.planes ≡ b.planes → a.conns ≡ b.conns → a ≡ b
-same_crtc_state a b active mode planes conns =
-    ap (λ x. crtc_state x a.mode a.planes a.conns) active ∙ ap (λ x. crtc_state b.active x a.planes a.conns) mode
-    ∙ ap (λ x. crtc_state b.active b.mode x a.conns) planes ∙ ap (λ x. crtc_state b.active b.mode b.planes x) conns
+pub same_crtc_state : (a b : CrtcState) → a.active ≡ b.active → a.mode ≡ b.mode → a.gamma ≡ b.gamma → a.planes ≡ b.planes → a.conns ≡ b.conns → a ≡ b
+same_crtc_state a b active mode gamma planes conns =
+    ap (λ x. crtc_state x a.mode a.gamma a.planes a.conns) active ∙ ap (λ x. crtc_state b.active x a.gamma a.planes a.conns) mode
+    ∙ ap (λ x. crtc_state b.active b.mode x a.planes a.conns) gamma
+    ∙ ap (λ x. crtc_state b.active b.mode b.gamma x a.conns) planes ∙ ap (λ x. crtc_state b.active b.mode b.gamma b.planes x) conns
 
 -- A set of another property than CRTC_ID moves no object.
 pub crtc_at-kept : (before after : List Setting) (object prop o : ℕ) (number : ℤ) → Puts before after object prop number → prop ≢ CRTC_ID → crtc_at after o ≡ crtc_at before o
@@ -56,5 +58,6 @@ crtc_state_at-other t things before after object prop crtc number puts apart oth
     same_crtc_state (crtc_state_at t things after crtc) (crtc_state_at t things before crtc)
     (ap (λ z. not (int_eq z (pos 0))) (puts.other_object crtc ACTIVE apart))
     (ap (λ z. mode_of (thing_numbered things z)) (puts.other_object crtc MODE_ID apart))
+    (ap (λ z. gamma_of (thing_numbered things z)) (puts.other_object crtc GAMMA_LUT apart))
     (on_crtc-same t before after crtc Plane (λ k within. crtc_at-kept before after object prop (object_id Plane k) number puts other))
     (on_crtc-same t before after crtc Conn (λ k within. crtc_at-kept before after object prop (object_id Conn k) number puts other))

@@ -7,7 +7,7 @@ use Rattle.std.proofs.lemmas.Nat.{one_shl}
 use Rattle.kms_model.specs.declared.objects.Kind.{Kind}
 use Rattle.kms_model.specs.declared.objects.Kind.TheVariants.{Crtc, Plane, Conn, Enc}
 use Rattle.kms_model.specs.declared.objects.Topology.{Topology}
-use Rattle.kms_model.specs.declared.properties.TheConstants.{ACTIVE, MODE_ID}
+use Rattle.kms_model.specs.declared.properties.TheConstants.{ACTIVE, GAMMA_LUT, MODE_ID}
 use Rattle.kms_model.specs.declared.states.Both.{Both}
 use Rattle.kms_model.specs.declared.states.CrtcState.{CrtcState}
 use Rattle.kms_model.specs.declared.worlds.Setting.{Setting}
@@ -15,7 +15,7 @@ use Rattle.kms_model.specs.declared.worlds.Thing.{Thing}
 use Rattle.kms_model.specs.Device.Masks.{mask_below}
 use Rattle.kms_model.specs.Device.Objects.{object_id, count_of}
 use Rattle.kms_model.specs.Device.World.{thing_numbered}
-use Rattle.kms_model.specs.Device.States.{crtc_at, mode_of}
+use Rattle.kms_model.specs.Device.States.{crtc_at, gamma_of, mode_of}
 use Rattle.kms_model.specs.Request.Agreement.{AreNew, crtc_state_at, on_crtc}
 use Rattle.kms_model.proofs.MaskLemmas.{mask_set, mask_cleared, same_masks}
 use Rattle.kms_model.proofs.ValueLemmas.{Puts}
@@ -126,12 +126,14 @@ state_after t things before after Plane index prop c number routed planes room l
     same_crtc_state (crtc_state_at t things after (object_id Crtc c)) (with_mask Plane (on_crtc t after (object_id Crtc c) Plane) (crtc_state_at t things before (object_id Crtc c)))
     (ap (λ z. not (int_eq z (pos 0))) (puts.other_object (object_id Crtc c) ACTIVE (apart_from_crtc Plane index c routed low)))
     (ap (λ z. mode_of (thing_numbered things z)) (puts.other_object (object_id Crtc c) MODE_ID (apart_from_crtc Plane index c routed low)))
+    (ap (λ z. gamma_of (thing_numbered things z)) (puts.other_object (object_id Crtc c) GAMMA_LUT (apart_from_crtc Plane index c routed low)))
     refl
     (on_crtc-same t before after (object_id Crtc c) Conn (λ k within. crtc_at-other before after (object_id Plane index) prop (object_id Conn k) number puts (λ e. omega (arith, e))))
 state_after t things before after Conn index prop c number routed planes room low puts =
     same_crtc_state (crtc_state_at t things after (object_id Crtc c)) (with_mask Conn (on_crtc t after (object_id Crtc c) Conn) (crtc_state_at t things before (object_id Crtc c)))
     (ap (λ z. not (int_eq z (pos 0))) (puts.other_object (object_id Crtc c) ACTIVE (apart_from_crtc Conn index c routed low)))
     (ap (λ z. mode_of (thing_numbered things z)) (puts.other_object (object_id Crtc c) MODE_ID (apart_from_crtc Conn index c routed low)))
+    (ap (λ z. gamma_of (thing_numbered things z)) (puts.other_object (object_id Crtc c) GAMMA_LUT (apart_from_crtc Conn index c routed low)))
     (on_crtc-same t before after (object_id Crtc c) Plane (λ k within. crtc_at-other before after (object_id Conn index) prop (object_id Plane k) number puts (λ e. omega (arith, e, within))))
     refl
 state_after t things before after Enc index prop c number routed planes room low puts = absurd routed

@@ -6,12 +6,13 @@ use Rattle.std.specs.Ordering.{int_eq}
 use Rattle.std.proofs.lemmas.Bool.{cases_eq, cases_lt, eq-eqb, ne_eqb, eqb-true, lt-leb, false≢true, ltb-true, not-true}
 use Rattle.std.proofs.lemmas.Bool.Decides.{same_from_decides, Decides-eqb, Decides-int_eq, Decides-like}
 use Rattle.std.proofs.lemmas.Option.{slice_get_within}
+use Rattle.kms_model.specs.declared.objects.Gamma.{Gamma}
 use Rattle.kms_model.specs.declared.objects.Kind.{Kind}
 use Rattle.kms_model.specs.declared.objects.Kind.TheVariants.{Crtc, Plane, Conn, Enc}
 use Rattle.kms_model.specs.declared.objects.Mode.{Mode}
 use Rattle.kms_model.specs.declared.objects.Topology.{Topology}
 use Rattle.kms_model.specs.declared.pictures.FbInfo.{FbInfo}
-use Rattle.kms_model.specs.declared.properties.TheConstants.{FB_ID, CRTC_ID, ALPHA, BLEND, ZPOS, ACTIVE, MODE_ID}
+use Rattle.kms_model.specs.declared.properties.TheConstants.{FB_ID, CRTC_ID, ALPHA, BLEND, ZPOS, ACTIVE, MODE_ID, GAMMA_LUT}
 use Rattle.kms_model.specs.declared.sets.Set.{Set}
 use Rattle.kms_model.specs.declared.sets.SetValue.{SetValue}
 use Rattle.kms_model.specs.declared.sets.SetValue.TheVariants as to
@@ -24,7 +25,7 @@ use Rattle.kms_model.specs.declared.worlds.Setting.{Setting}
 use Rattle.kms_model.specs.declared.worlds.Thing.{Thing}
 use Rattle.kms_model.specs.Device.Objects.{first_id, object_id, count_of, exists, kind_of}
 use Rattle.kms_model.specs.Device.World.{put, thing_numbered, value}
-use Rattle.kms_model.specs.Device.States.{crtc_at, framebuffer_of, mode_of, natural, plane_at, plane_from}
+use Rattle.kms_model.specs.Device.States.{crtc_at, framebuffer_of, gamma_of, mode_of, natural, plane_at, plane_from}
 use Rattle.kms_model.specs.Request.Apply.{is_kept}
 use Rattle.kms_model.specs.Request.SetRanges.{may_set}
 use Rattle.kms_model.specs.Request.Agreement.{AgreesNew, AreNew, StandsFor, conn_state_at, crtc_state_at}
@@ -86,7 +87,7 @@ sets_plane d id prop value both other there old few states kept apart changes =
           (λ i h. ap (λ crtc. record { crtc = crtc }) (crtc_at-kept values after id prop (object_id Conn i) number puts apart));
     })
 
--- ACTIVE or MODE_ID of a CRTC
+-- ACTIVE, MODE_ID or GAMMA_LUT of a CRTC
 pub sets_crtc : (d : Duplicates) (id prop : ℕ) (value : SetValue) (both other : Both CrtcState) → IsAt Crtc d.crtcs id both → other.old ≡ both.old → length d.crtcs ≡ 4
     → record d { crtcs = set d.crtcs (id - first_id Crtc) (Some other) } ≡ after_value d id prop value
     → is_kept prop ≡ true → prop ≢ CRTC_ID
@@ -256,6 +257,7 @@ active_crtc t things before after object n number fits puts stands =
     sym (same_crtc_state (crtc_state_at t things after object) (record (crtc_state_at t things before object) { active = not (of_z w64 n == 0) })
     (ap (λ z. not (int_eq z (pos 0))) (puts.at ∙ stands) ∙ ap not (sym (is_zero n fits)))
     (ap (λ z. mode_of (thing_numbered things z)) (puts.other_prop MODE_ID (λ e. omega (arith, e))))
+    (ap (λ z. gamma_of (thing_numbered things z)) (puts.other_prop GAMMA_LUT (λ e. omega (arith, e))))
     (on_crtc-same t before after object Plane (λ k within. crtc_at-kept before after object ACTIVE (object_id Plane k) number puts apart))
     (on_crtc-same t before after object Conn (λ k within. crtc_at-kept before after object ACTIVE (object_id Conn k) number puts apart)))
 
@@ -267,8 +269,21 @@ mode_crtc t things before after object mode number puts stands =
     sym (same_crtc_state (crtc_state_at t things after object) (record (crtc_state_at t things before object) { mode = mode })
     (ap (λ z. not (int_eq z (pos 0))) (puts.other_prop ACTIVE (λ e. omega (arith, e))))
     (ap (λ z. mode_of (thing_numbered things z)) puts.at ∙ stands)
+    (ap (λ z. gamma_of (thing_numbered things z)) (puts.other_prop GAMMA_LUT (λ e. omega (arith, e))))
     (on_crtc-same t before after object Plane (λ k within. crtc_at-kept before after object MODE_ID (object_id Plane k) number puts apart))
     (on_crtc-same t before after object Conn (λ k within. crtc_at-kept before after object MODE_ID (object_id Conn k) number puts apart)))
+
+-- GAMMA_LUT of a CRTC
+pub gamma_crtc : (t : Topology) (things : List Thing) (before after : List Setting) (object : ℕ) (gamma : Option Gamma) (number : ℤ) → Puts before after object GAMMA_LUT number → gamma_of (thing_numbered things number) ≡ gamma
+    → record (crtc_state_at t things before object) { gamma = gamma } ≡ crtc_state_at t things after object
+gamma_crtc t things before after object gamma number puts stands =
+    let apart : GAMMA_LUT ≢ CRTC_ID = λ e. omega (arith, e) in
+    sym (same_crtc_state (crtc_state_at t things after object) (record (crtc_state_at t things before object) { gamma = gamma })
+    (ap (λ z. not (int_eq z (pos 0))) (puts.other_prop ACTIVE (λ e. omega (arith, e))))
+    (ap (λ z. mode_of (thing_numbered things z)) (puts.other_prop MODE_ID (λ e. omega (arith, e))))
+    (ap (λ z. gamma_of (thing_numbered things z)) puts.at ∙ stands)
+    (on_crtc-same t before after object Plane (λ k within. crtc_at-kept before after object GAMMA_LUT (object_id Plane k) number puts apart))
+    (on_crtc-same t before after object Conn (λ k within. crtc_at-kept before after object GAMMA_LUT (object_id Conn k) number puts apart)))
 
 -- a set of one property, as a set
 pub as_set : (d after : Duplicates) (s : Set) (prop : ℕ) (value : SetValue) → s.prop ≡ prop → s.value ≡ value → IsSet d (set_to s.object.0 prop value) after → IsSet d s after
@@ -288,6 +303,11 @@ active_after d id n both there few fits =
 pub mode_after : (d : Duplicates) (id : ℕ) (mode : Option Mode) (both : Both CrtcState) → IsAt Crtc d.crtcs id both
     → record d { crtcs = set d.crtcs (id - first_id Crtc) (Some (with_new (λ s. record s { mode = mode }) both)) } ≡ after_value d id MODE_ID (to.Mode mode)
 mode_after d id mode both there = ap (λ xs. record d { crtcs = xs }) (sym (changed-at Crtc d.crtcs id both (λ s. record s { mode = mode }) there.from there.at))
+
+-- GAMMA_LUT of a CRTC that is duplicated at its place
+pub gamma_after : (d : Duplicates) (id : ℕ) (gamma : Option Gamma) (both : Both CrtcState) → IsAt Crtc d.crtcs id both
+    → record d { crtcs = set d.crtcs (id - first_id Crtc) (Some (with_new (λ s. record s { gamma = gamma }) both)) } ≡ after_value d id GAMMA_LUT (to.Gamma gamma)
+gamma_after d id gamma both there = ap (λ xs. record d { crtcs = xs }) (sym (changed-at Crtc d.crtcs id both (λ s. record s { gamma = gamma }) there.from there.at))
 
 -- FB_ID of a plane that is duplicated at its place
 pub fb_after : (d : Duplicates) (id : ℕ) (fb : Option FbInfo) (both : Both PlaneState) → IsAt Plane d.planes id both
@@ -335,6 +355,12 @@ mode_kind Plane prop mode h = absurd (false≢true h)
 mode_kind Conn prop mode h = absurd (false≢true h)
 mode_kind Enc prop mode h = absurd (false≢true h)
 
+gamma_kind : (kind : Kind) (prop : ℕ) (gamma : Option Gamma) → takes kind prop (to.Gamma gamma) ≡ true → (kind ≡ Crtc) × (prop ≡ GAMMA_LUT)
+gamma_kind Crtc prop gamma h = (refl, eqb-true prop GAMMA_LUT h)
+gamma_kind Plane prop gamma h = absurd (false≢true h)
+gamma_kind Conn prop gamma h = absurd (false≢true h)
+gamma_kind Enc prop gamma h = absurd (false≢true h)
+
 -- a set of FB_ID is one of a plane
 pub fb_set : (d : Duplicates) (s : Set) (fb : Option FbInfo) → MaySet d s (to.Fb fb) → (is_some (state_of Plane d.planes s.object.0) ≡ true) × (s.prop ≡ FB_ID)
 fb_set d s fb may =
@@ -345,6 +371,12 @@ fb_set d s fb may =
 pub mode_set : (d : Duplicates) (s : Set) (mode : Option Mode) → MaySet d s (to.Mode mode) → (is_some (state_of Crtc d.crtcs s.object.0) ≡ true) × (s.prop ≡ MODE_ID)
 mode_set d s mode may =
     let kind : (kind_of s.object.0 ≡ Crtc) × (s.prop ≡ MODE_ID) = mode_kind (kind_of s.object.0) s.prop mode may.takes in
+    (there d s.object.0 Crtc kind.0 may.there, kind.1)
+
+-- a set of GAMMA_LUT is one of a CRTC
+pub gamma_set : (d : Duplicates) (s : Set) (gamma : Option Gamma) → MaySet d s (to.Gamma gamma) → (is_some (state_of Crtc d.crtcs s.object.0) ≡ true) × (s.prop ≡ GAMMA_LUT)
+gamma_set d s gamma may =
+    let kind : (kind_of s.object.0 ≡ Crtc) × (s.prop ≡ GAMMA_LUT) = gamma_kind (kind_of s.object.0) s.prop gamma may.takes in
     (there d s.object.0 Crtc kind.0 may.there, kind.1)
 
 -- a set of a number of a CRTC is one of ACTIVE

@@ -127,6 +127,8 @@ after_value d id prop (to.Fb fb) =
     record d { planes = changed Plane d.planes id (λ s. record s { fb = fb }) }
 after_value d id prop (to.Mode mode) =
     record d { crtcs = changed Crtc d.crtcs id (λ s. record s { mode = mode }) }
+after_value d id prop (to.Gamma gamma) =
+    record d { crtcs = changed Crtc d.crtcs id (λ s. record s { gamma = gamma }) }
 after_value d id prop (to.Crtc crtc) = after_crtc (kind_of id) d id crtc
 after_value d id prop to.Fence = d
 

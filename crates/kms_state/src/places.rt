@@ -12,7 +12,7 @@ ghost use Rattle.kms_model.specs.Device.Objects.{kind_of};
 ghost use Rattle.kms_state.specs.Places.{duplicated, is_duplicated, may_duplicate, none_duplicated, old_states, state_at};
 ghost use Rattle.kms_state.specs.StandsIn.{KeepsNew, KeepsOld};
 
-use crate::sets::{move_conn, move_plane, set_active, set_fb, set_mode, set_number};
+use crate::sets::{move_conn, move_plane, set_active, set_fb, set_gamma, set_mode, set_number};
 use kms_model::{
     Both, ConnState, CrtcState, Duplicates, FIRST_CONNECTOR_ID, FIRST_CRTC_ID, FIRST_PLANE_ID,
     Kind, ObjId, ObjState, PlaneState, Set, SetValue,
@@ -146,6 +146,7 @@ impl Duplicating for Duplicates {
             SetValue::Num(number) => set_number(self, id, set.prop, number),
             SetValue::Fb(fb) => set_fb(self, id, fb),
             SetValue::Mode(mode) => set_mode(self, id, mode),
+            SetValue::Gamma(gamma) => set_gamma(self, id, gamma),
             SetValue::Crtc(crtc) if id < FIRST_CONNECTOR_ID => move_plane(self, id, crtc),
             SetValue::Crtc(crtc) => move_conn(self, id, crtc),
             SetValue::Fence => {}

@@ -1,7 +1,7 @@
 //! Setting properties of duplicated states.
 ghost use Rattle.std.specs.Prelude.{◌≡◌, ◌<◌, IsTrue, is_some};
 ghost use Rattle.kms_model.specs.declared.objects.Kind.TheVariants.{Crtc, Plane, Conn};
-ghost use Rattle.kms_model.specs.declared.properties.TheConstants.{ACTIVE, CRTC_ID, FB_ID, MODE_ID};
+ghost use Rattle.kms_model.specs.declared.properties.TheConstants.{ACTIVE, CRTC_ID, FB_ID, GAMMA_LUT, MODE_ID};
 ghost use Rattle.kms_model.specs.declared.sets.SetValue.TheVariants as to;
 ghost use Rattle.kms_model.specs.Request.SetRanges.{may_set};
 ghost use Rattle.kms_state.specs.Places.{state_of};
@@ -12,8 +12,8 @@ use kms_model::properties::{
     ALPHA, BLEND, CRTC_H, CRTC_W, CRTC_X, CRTC_Y, SRC_H, SRC_W, SRC_X, SRC_Y, ZPOS,
 };
 use kms_model::{
-    CrtcState, Duplicates, FIRST_CONNECTOR_ID, FIRST_CRTC_ID, FIRST_PLANE_ID, FbInfo, Kind, Mode,
-    PlaneState,
+    CrtcState, Duplicates, FIRST_CONNECTOR_ID, FIRST_CRTC_ID, FIRST_PLANE_ID, FbInfo, Gamma, Kind,
+    Mode, PlaneState,
 };
 
 /// `ACTIVE` of a CRTC.
@@ -36,6 +36,18 @@ pub(crate) fn set_mode(states: &mut Duplicates, id: u32, mode: Option<Mode>)
     let index = id - FIRST_CRTC_ID;
     if let Some(mut both) = states.crtc(index) {
         both.new.mode = mode;
+        states.crtcs[index as usize] = Some(both);
+    }
+}
+
+/// `GAMMA_LUT` of a CRTC.
+pub(crate) fn set_gamma(states: &mut Duplicates, id: u32, gamma: Option<Gamma>)
+    requires { IsTrue (is_some (state_of Crtc states.old.crtcs id)) }
+    ensures { IsSet states.old (set_to id GAMMA_LUT (to.Gamma gamma)) states.new }
+{
+    let index = id - FIRST_CRTC_ID;
+    if let Some(mut both) = states.crtc(index) {
+        both.new.gamma = gamma;
         states.crtcs[index as usize] = Some(both);
     }
 }

@@ -4,12 +4,13 @@ ghost use Rattle.kms_model.specs.Device.Objects.{kind_of};
 
 use crate::Duplicating;
 use kms_model::properties::{
-    ACTIVE, ALPHA, BLEND, CRTC_H, CRTC_ID, CRTC_W, CRTC_X, CRTC_Y, FB_ID, IN_FENCE_FD, MODE_ID,
-    OUT_FENCE_PTR, SRC_H, SRC_W, SRC_X, SRC_Y, ZPOS,
+    ACTIVE, ALPHA, BLEND, CRTC_H, CRTC_ID, CRTC_W, CRTC_X, CRTC_Y, FB_ID, GAMMA_LUT, IN_FENCE_FD,
+    MODE_ID, OUT_FENCE_PTR, SRC_H, SRC_W, SRC_X, SRC_Y, ZPOS,
 };
 use kms_model::{
     ConnState, CrtcState, Duplicates, FIRST_CONNECTOR_ID, FIRST_CRTC_ID, FIRST_ENCODER_ID,
-    FIRST_PLANE_ID, FbInfo, Format, Kind, Mode, ObjId, ObjState, PlaneState, Rect, Set, SetValue,
+    FIRST_PLANE_ID, FbInfo, Format, Gamma, Kind, Mode, ObjId, ObjState, PlaneState, Rect, Set,
+    SetValue,
 };
 use std::process::Abort;
 
@@ -41,6 +42,7 @@ fn a_crtc(planes: u32, conns: u32) -> ObjState {
     ObjState::Crtc(CrtcState {
         active: false,
         mode: None,
+        gamma: None,
         planes,
         conns,
     })
@@ -224,6 +226,7 @@ fn a_crtc_is_lit_and_gets_a_mode(rt: HostRuntime) {
     let want = CrtcState {
         active: true,
         mode: Some(a_mode()),
+        gamma: None,
         planes: 0x8000,
         conns: 0x80,
     };
@@ -232,6 +235,41 @@ fn a_crtc_is_lit_and_gets_a_mode(rt: HostRuntime) {
     put(&rt, &mut states, CRTC + 3, ACTIVE, SetValue::Num(0));
     assert_eq!(rt; states.new_crtc(3).map(|c| c.active), Some(false));
     assert_eq!(rt; states.new_crtc(0).map(|c| c.active), Some(false));
+}
+
+/// A table of which each channel tells another one apart.
+fn a_gamma() -> Gamma {
+    let mut gamma = Gamma {
+        red: [1; 256],
+        green: [2; 256],
+        blue: [3; 256],
+    };
+    gamma.red[255] = 7;
+    gamma
+}
+
+#[test]
+fn a_table_is_set_and_kept_while_the_crtc_is_off(rt: HostRuntime) {
+    let mut states = device(&rt);
+    put(
+        &rt,
+        &mut states,
+        CRTC + 3,
+        GAMMA_LUT,
+        SetValue::Gamma(Some(a_gamma())),
+    );
+    put(&rt, &mut states, CRTC + 3, ACTIVE, SetValue::Num(1));
+    put(&rt, &mut states, CRTC + 3, ACTIVE, SetValue::Num(0));
+    put(&rt, &mut states, CRTC + 3, MODE_ID, SetValue::Mode(None));
+    assert!(rt;
+        states
+            .new_crtc(3)
+            .is_some_and(|c| c.gamma == Some(a_gamma()))
+    );
+    assert!(rt; states.crtc(3).is_some_and(|b| b.old.gamma.is_none()));
+    assert!(rt; states.new_crtc(0).is_some_and(|c| c.gamma.is_none()));
+    put(&rt, &mut states, CRTC + 3, GAMMA_LUT, SetValue::Gamma(None));
+    assert!(rt; states.new_crtc(3).is_some_and(|c| c.gamma.is_none()));
 }
 
 #[test]

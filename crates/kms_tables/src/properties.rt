@@ -2,8 +2,8 @@
 
 use crate::rows::{self, AtStart, Values};
 use kms_model::properties::{
-    ACTIVE, ALPHA, BLEND, CRTC_H, CRTC_W, CRTC_X, CRTC_Y, FB_ID, IN_FENCE_FD, MODE_ID, SRC_H,
-    SRC_W, SRC_X, SRC_Y, TYPE, ZPOS,
+    ACTIVE, ALPHA, BLEND, CRTC_H, CRTC_W, CRTC_X, CRTC_Y, FB_ID, GAMMA_LUT, IN_FENCE_FD, MODE_ID,
+    SRC_H, SRC_W, SRC_X, SRC_Y, TYPE, ZPOS,
 };
 use kms_model::{Kind, Range};
 use kms_props::{PropertyRow, Register, Start, property_table, register_table};
@@ -40,6 +40,7 @@ fn things(prop: u32) -> &'static str {
     match prop {
         FB_ID => "`@LABEL` of an open framebuffer",
         MODE_ID => "`@LABEL` of an open blob that holds a legal mode",
+        GAMMA_LUT => "`@LABEL` of an open blob of 2048 bytes",
         IN_FENCE_FD => "`@LABEL` of a fence",
         _ => "`+LABEL` of a fence that the commit makes",
     }
@@ -55,6 +56,8 @@ fn unit(prop: u32) -> &'static str {
         BLEND => "0 Pre-multiplied, 1 Coverage, 2 None",
         ZPOS => "from the lowest to the highest layer",
         ACTIVE => "0 off, 1 on",
+        GAMMA_LUT =>
+            "256 entries of red, green, blue and a reserved number, each of 16 bits; in profile 2 alone",
         _ => "",
     }
 }

@@ -27,7 +27,7 @@ use Rattle.kms_tails.proofs.InStepLemmas.{first_stands, pushed_stands}
 
 -- one CRTC, a plane of it and a connector of it
 abbrev pub one : Topology
-one = record { crtcs = 1; planes = record { kind = 1; crtcs = 1; formats = 1 } ∷ []; conns = 1 ∷ [] }
+one = record { profile = 1; crtcs = 1; planes = record { kind = 1; crtcs = 1; formats = 1 } ∷ []; conns = 1 ∷ [] }
 
 abbrev pub turns_off : Request
 turns_off = record { flags = 0x1; user_data = 9; assigns = record { kind = kind.Crtc; index = 0; prop = Known ACTIVE; value = value.Num (pos 0) } ∷ [] }
@@ -36,7 +36,7 @@ abbrev pub commit : Commit
 commit = record { client = 1; command = 1; request = turns_off; world = start one }
 
 abbrev off : CrtcState
-off = record { active = false; mode = None; planes = 0; conns = 0 }
+off = record { active = false; mode = None; gamma = None; planes = 0; conns = 0 }
 
 abbrev pub checked : Checked
 checked = record {

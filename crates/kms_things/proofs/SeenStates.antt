@@ -13,7 +13,7 @@ use Rattle.kms_model.specs.Device.States.{plane_at}
 use Rattle.kms_model.specs.Request.Agreement.{AgreesNew, AgreesOld, AreNew, AreOld, crtc_state_at}
 use Rattle.kms_model.specs.Request.Late.{duplicate_at}
 use Rattle.kms_model.proofs.Items.{ids-has}
-use Rattle.kms_model.proofs.SeenLemmas.{AreSeenAlike, mode-seen, plane-seen}
+use Rattle.kms_model.proofs.SeenLemmas.{AreSeenAlike, gamma-seen, mode-seen, plane-seen}
 use Rattle.kms_things.specs.Present.{AreWhole, IsPresent, IsWhole}
 
 there : {S : Type 0} (states : List (Option (Both S))) (index : ℕ) (both : Both S) → slice_get states index ≡ Some (Some both) → is_some (duplicate_at states index) ≡ true
@@ -26,7 +26,9 @@ new_same : {S : Type 0} (count : ℕ) (f g : ℕ → S) (states : List (Option (
 new_same count f g states whole same new index both at = new index both at ∙ same index (whole.only index (there states index both at))
 
 crtc_same : (t : Topology) (xs ys : List Thing) (values : List Setting) (index : ℕ) → AreSeenAlike t xs ys values → index < t.crtcs → crtc_state_at t xs values (object_id kind.Crtc index) ≡ crtc_state_at t ys values (object_id kind.Crtc index)
-crtc_same t xs ys values index alike lt = rw (mode-seen t xs ys values (object_id kind.Crtc index) alike (ids-has t kind.Crtc index lt)) refl
+crtc_same t xs ys values index alike lt =
+    let is = ids-has t kind.Crtc index lt in
+    rw (mode-seen t xs ys values (object_id kind.Crtc index) alike is, gamma-seen t xs ys values (object_id kind.Crtc index) alike is) refl
 
 plane_same : (t : Topology) (xs ys : List Thing) (values : List Setting) (index : ℕ) → AreSeenAlike t xs ys values → index < count_of t kind.Plane → plane_at xs values (object_id kind.Plane index) ≡ plane_at ys values (object_id kind.Plane index)
 plane_same t xs ys values index alike lt = plane-seen t xs ys values (object_id kind.Plane index) alike (ids-has t kind.Plane index lt)

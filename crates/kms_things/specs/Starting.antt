@@ -11,7 +11,7 @@ use Rattle.kms_model.specs.declared.states.PlaneState.{PlaneState}
 
 -- off, without a mode, and with no plane and no connector
 abbrev pub off_crtc : CrtcState
-off_crtc = record { active = false; mode = None; planes = 0; conns = 0 }
+off_crtc = record { active = false; mode = None; gamma = None; planes = 0; conns = 0 }
 
 abbrev pub nowhere : Rect
 nowhere = record { x = pos 0; y = pos 0; w = pos 0; h = pos 0 }

@@ -1,22 +1,40 @@
 //! What labels and ids name.
 ghost use Rattle.std.specs.Prelude.{◌≡◌};
+ghost use Rattle.kms_model.specs.declared.worlds.Content.TheVariants as content;
 ghost use Rattle.kms_model.specs.Device.World.{thing_labelled, thing_with_id};
-ghost use Rattle.kms_model.specs.Request.Lookups.{look_of, look_of_any, look_of_content, look_of_mode};
+ghost use Rattle.kms_model.specs.Request.Lookups.{look_of, look_of_any, look_of_blob, look_of_content, look_of_gamma};
 ghost use Rattle.kms_things.specs.Framebuffers.{framebuffer_entry};
 
 use crate::refusals::is_framebuffer;
 use crate::things::Things;
-use kms_blobs::{decode_mode, is_legal_mode};
-use kms_model::{Content, Look, Mode};
+use kms_blobs::{decode_mode, gamma_of_bytes, is_legal_mode};
+use kms_model::{Content, Gamma, Look, Mode};
 
-/// A blob of bytes, by the mode that they hold, if any.
-fn look_of_mode(id: u32, mode: Option<Mode>) -> Look
-    ensures { result ≡ look_of_mode id mode }
+/// A blob of bytes that are no legal mode, by the table of colour values that they hold, if any.
+fn look_of_gamma(id: u32, gamma: Option<Gamma>) -> Look
+    ensures { result ≡ look_of_gamma id gamma }
+{
+    match gamma {
+        Some(gamma) => Look::Gamma(gamma, id),
+        None => Look::Blob(id),
+    }
+}
+
+/// A blob of bytes, by the mode or the table of colour values that they hold, if any.
+fn look_of_blob(id: u32, mode: Option<Mode>, gamma: Option<Gamma>) -> Look
+    ensures { result ≡ look_of_blob id mode gamma }
 {
     match mode {
         Some(mode) => Look::Mode(mode, id),
-        None => Look::Blob(id),
+        None => look_of_gamma(id, gamma),
     }
+}
+
+/// What a blob of bytes is looked up as.
+fn look_of_bytes(id: u32, bytes: &[u8]) -> Look
+    ensures { result ≡ look_of_content id (content.Blob bytes.now) }
+{
+    look_of_blob(id, decode_mode(bytes).ok(), gamma_of_bytes(bytes))
 }
 
 /// An open thing by its kind.
@@ -28,7 +46,7 @@ fn look_of_content(id: u32, content: &Content) -> Look
         Content::Framebuffer { info, .. } => Look::Fb(*info),
         Content::Mode(mode) if is_legal_mode(mode) => Look::Mode(*mode, id),
         Content::Mode(_) => Look::Blob(id),
-        Content::Blob(bytes) => look_of_mode(id, decode_mode(bytes.as_slice()).ok()),
+        Content::Blob(bytes) => look_of_bytes(id, bytes.as_slice()),
         Content::Fence | Content::OutFence => Look::Fence(id),
     }
 }

@@ -1,6 +1,6 @@
 -- The tables of properties, formats and flags, and which devices there are. From: "KMS Properties", `drm_mode.h` and
 -- `drm_fourcc.h`; the ids of properties and the limits of a device are this project's own.
-use Rattle.std.specs.Prelude.{ℕ, ◌^◌, Bool, true, false, ◌&&◌, ◌==◌, bit_and, nat_lt, pos, negsuc, List, [], ◌∷◌, length, find, Option, is_some, option_map, codes}
+use Rattle.std.specs.Prelude.{ℕ, ◌^◌, Bool, true, false, ◌&&◌, ◌==◌, bit_and, nat_lt, pos, negsuc, List, [], ◌∷◌, length, find, Option, is_some, option_map, codes, nat_le}
 use Rattle.std.specs.List.{list_any, list_all}
 use Rattle.std.specs.Str.{bytes_eq}
 use Rattle.kms_model.specs.declared.objects.Format.{Format}
@@ -10,7 +10,7 @@ use Rattle.kms_model.specs.declared.objects.Kind.TheVariants.{Crtc, Plane, Conn,
 use Rattle.kms_model.specs.declared.objects.PlaneInfo.{PlaneInfo}
 use Rattle.kms_model.specs.declared.objects.Topology.{Topology}
 use Rattle.kms_model.specs.declared.objects.TheConstants.{MAX_CRTCS, MAX_PLANES, MAX_CONNECTORS}
-use Rattle.kms_model.specs.declared.properties.TheConstants.{TYPE, FB_ID, CRTC_ID, CRTC_X, CRTC_Y, CRTC_W, CRTC_H, SRC_X, SRC_Y, SRC_W, SRC_H, IN_FENCE_FD, ALPHA, BLEND, ZPOS, ACTIVE, MODE_ID, OUT_FENCE_PTR}
+use Rattle.kms_model.specs.declared.properties.TheConstants.{TYPE, FB_ID, CRTC_ID, CRTC_X, CRTC_Y, CRTC_W, CRTC_H, SRC_X, SRC_Y, SRC_W, SRC_H, IN_FENCE_FD, ALPHA, BLEND, ZPOS, ACTIVE, MODE_ID, OUT_FENCE_PTR, GAMMA_LUT}
 use Rattle.kms_model.specs.declared.ranges.Range.{Range}
 use Rattle.kms_model.specs.declared.ranges.Range.TheVariants.{Numbers, Thing, CrtcName}
 use Rattle.kms_model.specs.Script.Words.{between}
@@ -28,12 +28,14 @@ pub record Property : Type 0 where
   pub immutable : Bool
   -- what it may be set to
   pub range : Range
+  -- the first profile of the device that has it
+  pub since : ℕ
 
 abbrev pub immutable_row : List ℕ → ℕ → List Kind → Range → Property
-immutable_row name id kinds range = record { name = name; id = id; kinds = kinds; immutable = true; range = range }
+immutable_row name id kinds range = record { name = name; id = id; kinds = kinds; immutable = true; range = range; since = 1 }
 
 abbrev pub mutable_row : List ℕ → ℕ → List Kind → Range → Property
-mutable_row name id kinds range = record { name = name; id = id; kinds = kinds; immutable = false; range = range }
+mutable_row name id kinds range = record { name = name; id = id; kinds = kinds; immutable = false; range = range; since = 1 }
 
 -- The properties. From: "Plane Composition Properties" and "Standard CRTC Properties", "Standard Connector
 -- Properties", "Standard Plane Properties"; SRC_X to SRC_H are in 16.16 fixed point.
@@ -60,6 +62,8 @@ properties =
     ∷ mutable_row (codes "ACTIVE") ACTIVE (Crtc ∷ []) (Numbers (pos 0) (pos 1))
     ∷ mutable_row (codes "MODE_ID") MODE_ID (Crtc ∷ []) (Thing (pos 0))
     ∷ mutable_row (codes "OUT_FENCE_PTR") OUT_FENCE_PTR (Crtc ∷ []) (Thing (pos 0))
+    -- From: "Color Management Properties".
+    ∷ record { name = codes "GAMMA_LUT"; id = GAMMA_LUT; kinds = Crtc ∷ []; immutable = false; range = Thing (pos 0); since = 2 }
     ∷ []
 
 abbrev pub same_kind : Kind → Kind → Bool
@@ -69,24 +73,32 @@ same_kind Conn Conn = true
 same_kind Enc Enc = true
 same_kind _ _ = false
 
--- the row is of a kind of object, and has this name
-abbrev pub is_named : Kind → List ℕ → Property → Bool
-is_named kind name p = list_any (same_kind kind) p.kinds && bytes_eq p.name name
+-- a device of a profile has the property
+abbrev pub is_in_profile : ℕ → Property → Bool
+is_in_profile profile p = nat_le p.since profile
+
+-- the row is of a kind of object, has this name, and is in a profile
+abbrev pub is_named : ℕ → Kind → List ℕ → Property → Bool
+is_named profile kind name p = list_any (same_kind kind) p.kinds && (bytes_eq p.name name && is_in_profile profile p)
 
 abbrev pub has_id : ℕ → Property → Bool
 has_id id p = p.id == id
 
--- the row of the property of this name that a kind of object has
-abbrev pub property_named : Kind → List ℕ → Option Property
-property_named kind name = find (is_named kind name) properties
+-- the row of the property of this name that a kind of object has in a profile
+abbrev pub property_named : ℕ → Kind → List ℕ → Option Property
+property_named profile kind name = find (is_named profile kind name) properties
 
 -- its id
-abbrev pub property_id : Kind → List ℕ → Option ℕ
-property_id kind name = option_map (λ p. p.id) (property_named kind name)
+abbrev pub property_id : ℕ → Kind → List ℕ → Option ℕ
+property_id profile kind name = option_map (λ p. p.id) (property_named profile kind name)
 
 -- the row of an id
 abbrev pub property : ℕ → Option Property
 property id = find (has_id id) properties
+
+-- the row of an id that a device of a profile has
+abbrev pub property_in : ℕ → ℕ → Option Property
+property_in profile id = find (λ p. has_id id p && is_in_profile profile p) properties
 
 -- the id is in the table
 abbrev pub is_property : ℕ → Bool

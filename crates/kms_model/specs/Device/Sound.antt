@@ -1,6 +1,6 @@
 -- Sound worlds: those that hold what the device accepts. From: "Atomic Mode Setting": a state that was checked is one
 -- that the hardware can show.
-use Rattle.std.specs.Prelude.{◌≡◌, ◌<◌, ◌≤◌, ◌≤ℤ◌, ℕ, ◌+◌, Bool, false, ◌&&◌, ◌||◌, ◌==◌, ℤ, pos, negsuc, int_le, List, [], ◌∷◌, length, filter, is_some, Option, Some, None, IsTrue, All, ⊤}
+use Rattle.std.specs.Prelude.{◌≡◌, ◌<◌, ◌≤◌, ◌≤ℤ◌, ℕ, ◌+◌, Bool, false, ◌&&◌, ◌||◌, ◌==◌, ℤ, pos, negsuc, int_le, List, [], ◌∷◌, length, filter, is_some, Option, Some, None, IsTrue, All, ⊤, true}
 use Rattle.std.specs.List.{list_any, list_all}
 use Rattle.std.specs.Ordering.{int_eq}
 use Rattle.kms_model.specs.declared.objects.Kind.{Kind}
@@ -8,7 +8,7 @@ use Rattle.kms_model.specs.declared.objects.Kind.TheVariants.{Crtc, Plane, Conn}
 use Rattle.kms_model.specs.declared.objects.Mode.{Mode}
 use Rattle.kms_model.specs.declared.objects.PlaneInfo.{PlaneInfo}
 use Rattle.kms_model.specs.declared.objects.Topology.{Topology}
-use Rattle.kms_model.specs.declared.properties.TheConstants.{FB_ID, MODE_ID}
+use Rattle.kms_model.specs.declared.properties.TheConstants.{FB_ID, MODE_ID, GAMMA_LUT}
 use Rattle.kms_model.specs.declared.ranges.Range.{Range}
 use Rattle.kms_model.specs.declared.ranges.Range.TheVariants.{Numbers, Thing, CrtcName}
 use Rattle.kms_model.specs.declared.scripts.Request.{Request}
@@ -19,11 +19,12 @@ use Rattle.kms_model.specs.declared.states.PlaneState.{PlaneState}
 use Rattle.kms_model.specs.Device.Modes.{is_legal_mode}
 use Rattle.kms_model.specs.Device.Objects.{object_id, count_of, ids_of}
 use Rattle.kms_model.specs.Device.World.{value, thing_numbered}
-use Rattle.kms_model.specs.Device.States.{framebuffer_of, mode_of}
+use Rattle.kms_model.specs.Device.States.{framebuffer_of, mode_of, gamma_of}
 use Rattle.kms_model.specs.Device.Properties.{Property, properties, is_legal_device}
 use Rattle.kms_model.specs.Request.Apply.{is_kept}
 use Rattle.kms_model.specs.Request.Refusals.{is_of_kind}
 use Rattle.kms_model.specs.Request.Checks.{late_refusal}
+use Rattle.kms_model.specs.Script.Words.{between}
 
 -- a plane is an overlay, a primary plane or a cursor
 abbrev pub HasPlaneKind : PlaneInfo → Type 0
@@ -31,6 +32,7 @@ HasPlaneKind info = info.kind ≤ 2
 
 -- a device that a script can have
 pub record IsDevice (t : Topology) : Type 0 where
+  pub profile : between 1 2 t.profile ≡ true
   pub legal : IsTrue (is_legal_device t)
   pub kinds : All HasPlaneKind t.planes
 
@@ -44,13 +46,16 @@ abbrev pub has_legal_mode : Option Mode → Bool
 has_legal_mode None = false
 has_legal_mode (Some m) = is_legal_mode m
 
--- a value is the number of no thing, or that of a thing, open or closed, of the kind that the property takes: of a
--- framebuffer, or of a blob that holds a legal mode
+-- a property takes a thing, open or closed: a framebuffer, a blob that holds a legal mode, or a table of colour values
+abbrev pub is_taken : ℕ → Option worlds.Thing → Bool
+is_taken prop t =
+    ((prop == FB_ID) && is_some (framebuffer_of t))
+    || (((prop == MODE_ID) && has_legal_mode (mode_of t))
+    || ((prop == GAMMA_LUT) && is_some (gamma_of t)))
+
+-- a value is the number of no thing, or that of a thing that the property takes
 abbrev pub is_thing : List worlds.Thing → ℕ → ℤ → ℤ → Bool
-is_thing things prop none number =
-    int_eq number none
-    || (((prop == FB_ID) && is_some (framebuffer_of (thing_numbered things number)))
-    || ((prop == MODE_ID) && has_legal_mode (mode_of (thing_numbered things number))))
+is_thing things prop none number = int_eq number none || is_taken prop (thing_numbered things number)
 
 abbrev pub is_crtc : Topology → ℤ → Bool
 is_crtc t number = list_any (λ crtc. int_eq number (pos crtc)) (ids_of t Crtc)

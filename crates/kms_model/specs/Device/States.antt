@@ -2,7 +2,7 @@
 use Rattle.std.specs.Prelude.{ℕ, ◌==◌, ℤ, pos, negsuc, List, [], ◌∷◌, Option, Some, None, if◌then◌else◌}
 use Rattle.kms_model.specs.declared.objects.Mode.{Mode}
 use Rattle.kms_model.specs.declared.pictures.FbInfo.{FbInfo}
-use Rattle.kms_model.specs.declared.properties.TheConstants.{FB_ID, CRTC_ID, CRTC_X, CRTC_Y, CRTC_W, CRTC_H, SRC_X, SRC_Y, SRC_W, SRC_H, ALPHA, BLEND, ZPOS, MODE_ID}
+use Rattle.kms_model.specs.declared.properties.TheConstants.{FB_ID, CRTC_ID, CRTC_X, CRTC_Y, CRTC_W, CRTC_H, SRC_X, SRC_Y, SRC_W, SRC_H, ALPHA, BLEND, ZPOS, MODE_ID, GAMMA_LUT}
 use Rattle.kms_model.specs.declared.states.PlaneState.{PlaneState}
 use Rattle.kms_model.specs.declared.worlds.Content.{Content}
 use Rattle.kms_model.specs.declared.worlds.Content.TheVariants as content
@@ -11,6 +11,8 @@ use Rattle.kms_model.specs.declared.worlds.Thing.{Thing}
 use Rattle.std.specs.Result.{result_ok}
 use Rattle.kms_model.specs.Device.ModeBytes.{decoded}
 use Rattle.kms_model.specs.Device.World.{value, thing_numbered}
+use Rattle.kms_model.specs.Device.GammaBytes.{gamma_of_bytes}
+use Rattle.kms_model.specs.declared.objects.Gamma.{Gamma}
 
 -- a number that is not negative
 abbrev pub natural : ℤ → ℕ
@@ -34,6 +36,19 @@ mode_in _ = None
 abbrev pub mode_of : Option Thing → Option Mode
 mode_of (Some t) = mode_in t.content
 mode_of None = None
+
+-- the table of colour values that a blob holds, if any
+abbrev pub gamma_in : Content → Option Gamma
+gamma_in (content.Blob bytes) = gamma_of_bytes bytes
+gamma_in _ = None
+
+abbrev pub gamma_of : Option Thing → Option Gamma
+gamma_of (Some t) = gamma_in t.content
+gamma_of None = None
+
+-- the table of colour values of a CRTC, by its content
+abbrev pub gamma_at : List Thing → List Setting → ℕ → Option Gamma
+gamma_at things values crtc = gamma_of (thing_numbered things (value values crtc GAMMA_LUT))
 
 -- the mode of a CRTC, by its content
 abbrev pub mode_at : List Thing → List Setting → ℕ → Option Mode

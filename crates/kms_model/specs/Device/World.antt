@@ -6,7 +6,7 @@ use Rattle.std.specs.List.{range_with_len}
 use Rattle.kms_model.specs.declared.objects.Kind.TheVariants.{Crtc, Plane, Conn}
 use Rattle.kms_model.specs.declared.objects.PlaneInfo.{PlaneInfo}
 use Rattle.kms_model.specs.declared.objects.Topology.{Topology}
-use Rattle.kms_model.specs.declared.properties.TheConstants.{TYPE, FB_ID, CRTC_ID, CRTC_X, CRTC_Y, CRTC_W, CRTC_H, SRC_X, SRC_Y, SRC_W, SRC_H, ALPHA, BLEND, ZPOS, ACTIVE, MODE_ID}
+use Rattle.kms_model.specs.declared.properties.TheConstants.{TYPE, FB_ID, CRTC_ID, CRTC_X, CRTC_Y, CRTC_W, CRTC_H, SRC_X, SRC_Y, SRC_W, SRC_H, ALPHA, BLEND, ZPOS, ACTIVE, MODE_ID, GAMMA_LUT}
 use Rattle.kms_model.specs.declared.worlds.Setting.{Setting}
 use Rattle.kms_model.specs.declared.worlds.Thing.{Thing}
 use Rattle.kms_model.specs.declared.worlds.World.{World}
@@ -45,9 +45,9 @@ thing_numbered things number = find (λ t. int_eq (pos t.id) number) things
 abbrev pub settings : ℕ → List (ℕ × ℤ) → List Setting
 settings object all = map (λ p. setting object p.0 p.1) all
 
--- a CRTC at the start: off, with no mode
+-- a CRTC at the start: off, with no mode and no table of colour values
 abbrev pub start_crtc : ℕ → List Setting
-start_crtc index = settings (object_id Crtc index) ((ACTIVE, pos 0) ∷ (MODE_ID, pos 0) ∷ [])
+start_crtc index = settings (object_id Crtc index) ((ACTIVE, pos 0) ∷ (MODE_ID, pos 0) ∷ (GAMMA_LUT, pos 0) ∷ [])
 
 -- A plane at the start: its type by topology, no framebuffer and no CRTC, opaque, pre-multiplied, and its zpos is
 -- its index. (IN_FENCE_FD and OUT_FENCE_PTR belong to a request alone and have no setting.)

@@ -1,8 +1,9 @@
 -- The bytes of a frame, pixel by pixel. From: "Plane Composition Properties"; `drm_fourcc.h`.
-use Rattle.std.specs.Prelude.{ℕ, ◌+◌, ◌-◌, ◌*◌, ◌/◌, ◌%◌, Bool, false, ◌&&◌, ◌==◌, min, ℤ, pos, ◌+ℤ◌, ◌-ℤ◌, int_lt, int_le, int_div, List, [], ◌∷◌, Option, Some, None, if◌then◌else◌, slice_index}
+use Rattle.std.specs.Prelude.{ℕ, ◌+◌, ◌-◌, ◌*◌, ◌/◌, ◌%◌, Bool, false, ◌&&◌, ◌==◌, min, ℤ, pos, ◌+ℤ◌, ◌-ℤ◌, int_lt, int_le, List, [], ◌∷◌, Option, Some, None, if◌then◌else◌, slice_index}
 use Rattle.std.specs.List.{flat_map, range_with_len}
 use Rattle.kms_model.specs.declared.objects.Format.{Format}
 use Rattle.kms_model.specs.declared.objects.Format.TheVariants.{Xr24, Ar24, Rg16}
+use Rattle.kms_model.specs.declared.objects.Gamma.{Gamma}
 use Rattle.kms_model.specs.declared.pictures.Colour.{Colour}
 use Rattle.kms_model.specs.declared.pictures.Layer.{Layer}
 use Rattle.kms_model.specs.declared.pictures.Picture.{Picture}
@@ -64,9 +65,12 @@ abbrev pub is_covered : Option Rect → ℕ → ℕ → Bool
 is_covered None x y = false
 is_covered (Some r) x y = covers r x y
 
--- the place in the source that stands at a place of the destination
-abbrev pub source_at : ℤ → ℤ → ℕ → ℕ
-source_at src dst at = natural ((int_div src (pos 65536) +ℤ pos at) -ℤ dst)
+-- The place in the framebuffer that a pixel of the destination shows, along one axis: of as many parts as the destination
+-- has pixels, the middle of the pixel's part of the source. The source begins at `src` and is `long` (in 16.16 fixed
+-- point), the destination begins at `dst` and is `wide` (in pixels); each quotient is rounded down.
+abbrev pub source_at : ℤ → ℤ → ℤ → ℤ → ℕ → ℕ
+source_at src long dst wide at =
+    (natural src + (2 * natural (pos at -ℤ dst) + 1) * natural long / (2 * natural wide)) / 65536
 
 abbrev pub buffer_id_in : Content → Option ℕ
 buffer_id_in (content.Framebuffer info buffer) = Some buffer
@@ -89,7 +93,7 @@ word_of things fb x y = do
 abbrev pub layer_colour : (ℕ → ℕ → ℕ → Option ℕ) → ℕ → ℕ → Layer → Option Colour
 layer_colour words x y l =
     if is_covered l.visible x y then (do
-      word ← words l.fb.id (source_at l.src.x l.dst.x x) (source_at l.src.y l.dst.y y)
+      word ← words l.fb.id (source_at l.src.x l.src.w l.dst.x l.dst.w x) (source_at l.src.y l.src.h l.dst.y l.dst.h y)
       Some (colour_of l.fb.format word))
     else None
 
@@ -115,12 +119,22 @@ black = record { alpha = 255; red = 0; green = 0; blue = 0 }
 abbrev pub channels : Colour → List ℕ
 channels c = c.red ∷ c.green ∷ c.blue ∷ []
 
-abbrev pub pixel : (ℕ → ℕ → ℕ → Option ℕ) → List Layer → ℕ → ℕ → List ℕ
-pixel words layers x y = channels (composed words x y black layers)
+-- a colour through a table of colour values, where there is one
+abbrev pub through : Option Gamma → Colour → Colour
+through None c = c
+through (Some g) c = record {
+  alpha = c.alpha;
+  red = slice_index g.red c.red;
+  green = slice_index g.green c.green;
+  blue = slice_index g.blue c.blue;
+}
+
+abbrev pub pixel : (ℕ → ℕ → ℕ → Option ℕ) → Option Gamma → List Layer → ℕ → ℕ → List ℕ
+pixel words gamma layers x y = channels (through gamma (composed words x y black layers))
 
 -- one row of a frame
 abbrev pub row_bytes : (ℕ → ℕ → ℕ → Option ℕ) → Shown → ℕ → List ℕ
-row_bytes words p y = flat_map (λ x. pixel words p.layers x y) (range_with_len 0 p.mode.hdisplay)
+row_bytes words p y = flat_map (λ x. pixel words p.gamma p.layers x y) (range_with_len 0 p.mode.hdisplay)
 
 -- three bytes for each pixel, row by row; none where the CRTC is off
 abbrev pub frame_of : (ℕ → ℕ → ℕ → Option ℕ) → Picture → List ℕ

@@ -1,7 +1,7 @@
 -- The registers of planes and CRTCs, each with a shadow word, which workers write, and a live word, which a latch copies
 -- from it. All words have 32 bits. From: "Plane Helper Reference" and "Vertical Blanking": a display controller takes what
 -- was programmed at its next vertical blanking; the registers and their layout are this device's own.
-use Rattle.std.specs.Prelude.{ℕ, ◌==◌, ◌||◌, Bool, not, pos, List, [], ◌∷◌, replicate, Option, Some, None, if◌then◌else◌}
+use Rattle.std.specs.Prelude.{ℕ, ◌==◌, ◌||◌, Bool, not, pos, List, [], ◌∷◌, replicate, Option, Some, None, if◌then◌else◌, slice_range, is_some, ◌++◌}
 use Rattle.std.specs.List.{flat_map}
 use Rattle.std.specs.Int.{w32, to_le_bytes, from_le_bytes, cast_signed, cast_unsigned}
 use Rattle.std.specs.Option.{option_map_or}
@@ -20,6 +20,7 @@ use Rattle.kms_model.specs.Device.Objects.{ids_of, index_of}
 use Rattle.kms_model.specs.Device.Properties.{format_of}
 use Rattle.kms_model.specs.Device.States.{natural}
 use Rattle.kms_model.specs.Frames.Pictures.{layers_with, shown_with}
+use Rattle.kms_model.specs.declared.objects.Gamma.{Gamma}
 
 -- the words of a plane
 pub record PlaneWords : Type 0 where
@@ -52,6 +53,10 @@ pub record CrtcWords : Type 0 where
   pub conn : ℕ
   -- the 17 little-endian words of the bytes of its mode, all 0 without a mode
   pub mode : List ℕ
+  -- 0 or 1: whether it has a table of colour values
+  pub gamma_on : ℕ
+  -- the 192 little-endian words of the 256 values of red, of green and of blue, all 0 without a table
+  pub gamma : List ℕ
 
 -- The code of a format. From: `drm_fourcc.h`.
 abbrev pub code_of : Format → ℕ
@@ -119,16 +124,41 @@ abbrev pub mode_words : Option Mode → List ℕ
 mode_words None = no_mode_words
 mode_words (Some m) = words_of_bytes (mode_bytes m)
 
+-- the bytes of a table of colour values: the values of red, then those of green, then those of blue
+abbrev pub gamma_bytes : Gamma → List ℕ
+gamma_bytes g = g.red ++ (g.green ++ g.blue)
+
+abbrev pub no_gamma_words : List ℕ
+no_gamma_words = replicate 192 0
+
+abbrev pub gamma_words : Option Gamma → List ℕ
+gamma_words None = no_gamma_words
+gamma_words (Some g) = words_of_bytes (gamma_bytes g)
+
 abbrev pub flag_word : Bool → ℕ
 flag_word b = if b then 1 else 0
 
 -- the words of a CRTC in a state, with the connector whose CRTC it is, or 0
 unfoldable pub crtc_words : ℕ → CrtcState → CrtcWords
-crtc_words conn s = record { active = flag_word s.active; conn = conn; mode = mode_words s.mode }
+crtc_words conn s = record {
+  active = flag_word s.active;
+  conn = conn;
+  mode = mode_words s.mode;
+  gamma_on = flag_word (is_some s.gamma);
+  gamma = gamma_words s.gamma;
+}
 
 -- the mode that a CRTC's words hold
 abbrev pub mode_in_words : CrtcWords → Mode
 mode_in_words c = mode_held (bytes_of_words c.mode)
+
+-- the table of colour values that bytes hold, red before green before blue
+abbrev pub gamma_with : List ℕ → Gamma
+gamma_with bytes = record { red = slice_range bytes 0 256; green = slice_range bytes 256 512; blue = slice_range bytes 512 768 }
+
+-- the table of colour values that a CRTC's words hold, where it has one
+abbrev pub gamma_in_words : CrtcWords → Option Gamma
+gamma_in_words c = if c.gamma_on == 1 then Some (gamma_with (bytes_of_words c.gamma)) else None
 
 -- Tables by id: the newest row of an id counts, and a default where there is none
 
@@ -163,7 +193,7 @@ first_plane_words plane = record {
 }
 
 abbrev pub first_crtc_words : CrtcWords
-first_crtc_words = record { active = 0; conn = 0; mode = no_mode_words }
+first_crtc_words = record { active = 0; conn = 0; mode = no_mode_words; gamma_on = 0; gamma = no_gamma_words }
 
 abbrev pub first_registers : Registers
 first_registers = record { planes = []; crtcs = [] }
@@ -206,7 +236,7 @@ is_on_in rs crtc = not ((crtc_register rs crtc).active == 0)
 abbrev pub shown_in_words : Topology → Registers → ℕ → CrtcWords → Picture
 shown_in_words t rs crtc c =
     let m = mode_in_words c in
-    On (shown_with m c.conn (layers_with (λ plane. plane_in (plane_register rs plane)) m crtc (ids_of t Plane)))
+    On (shown_with m c.conn (gamma_in_words c) (layers_with (λ plane. plane_in (plane_register rs plane)) m crtc (ids_of t Plane)))
 
 -- the picture that words show at a CRTC
 unfoldable pub decoded_picture : Topology → Registers → ℕ → Picture

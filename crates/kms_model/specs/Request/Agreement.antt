@@ -14,7 +14,7 @@ use Rattle.kms_model.specs.declared.worlds.Setting.{Setting}
 use Rattle.kms_model.specs.declared.worlds.Thing.{Thing}
 use Rattle.kms_model.specs.Device.Objects.{object_id}
 use Rattle.kms_model.specs.Device.World.{thing_numbered}
-use Rattle.kms_model.specs.Device.States.{framebuffer_of, mode_of, mode_at, crtc_at, plane_at}
+use Rattle.kms_model.specs.Device.States.{framebuffer_of, mode_of, mode_at, crtc_at, plane_at, gamma_at, gamma_of}
 use Rattle.kms_model.specs.Request.Checks.{is_active}
 use Rattle.kms_model.specs.Request.Touched.{set_where}
 
@@ -27,6 +27,7 @@ abbrev pub crtc_state_at : Topology → List Thing → List Setting → ℕ → 
 crtc_state_at t things values crtc = record {
   active = is_active values crtc;
   mode = mode_at things values crtc;
+  gamma = gamma_at things values crtc;
   planes = on_crtc t values crtc Plane;
   conns = on_crtc t values crtc Conn;
 }
@@ -55,11 +56,12 @@ pub record AgreesNew (t : Topology) (things : List Thing) (values : List Setting
   pub planes : AreNew (λ index. plane_at things values (object_id Plane index)) d.planes
   pub conns : AreNew (λ index. conn_state_at values (object_id Conn index)) d.conns
 
--- What a property is set to stands for the number that its value then is: a framebuffer or a mode for the id of a thing
--- with it.
+-- What a property is set to stands for the number that its value then is: a framebuffer, a mode or a table of colour
+-- values for the id of a thing with it.
 abbrev pub StandsFor : List Thing → SetValue → ℤ → Type 0
 StandsFor things (to.Num n) number = number ≡ n
 StandsFor things (to.Fb fb) number = framebuffer_of (thing_numbered things number) ≡ fb
 StandsFor things (to.Mode mode) number = mode_of (thing_numbered things number) ≡ mode
+StandsFor things (to.Gamma gamma) number = gamma_of (thing_numbered things number) ≡ gamma
 StandsFor things (to.Crtc id) number = number ≡ pos id
 StandsFor things to.Fence number = ⊤

@@ -24,7 +24,7 @@ use Rattle.kms_model.specs.Device.Objects.{first_id, ids_of}
 use Rattle.kms_model.specs.Device.World.{value}
 use Rattle.kms_model.specs.Device.States.{natural, mode_at, crtc_at, plane_at}
 use Rattle.kms_model.specs.Request.Named.{names, needs_modeset, differs}
-use Rattle.kms_model.specs.Frames.Rectangles.{fits_source}
+use Rattle.kms_model.specs.Frames.Rectangles.{fits_source, is_scaled_little}
 use Rattle.kms_model.specs.Request.Touched.{asks_signal}
 
 -- a set of CRTCs has the CRTC with an id (which is 100 or more)
@@ -80,14 +80,23 @@ is_unscaled src dst = (natural src.w == 65536 * natural dst.w) && (natural src.h
 abbrev pub is_whole : ℤ → Bool
 is_whole z = natural z % 65536 == 0
 
--- What is wrong with a plane on a CRTC of a mode: 21, the CRTC is not enabled; 22, the sizes of source and destination
--- differ; 23, the source begins between pixels.
-unfoldable pub shown_refusal : Option Mode → PlaneState → Option ℕ
-shown_refusal mode s =
+-- the source and the destination of a plane have sizes that a device of a profile shows: in profile 1 the same, in
+-- profile 2 sizes of which neither is more than four times the other
+abbrev pub has_sizes : ℕ → Rect → Rect → Bool
+has_sizes profile src dst = if profile == 1 then is_unscaled src dst else is_scaled_little src.w dst.w && is_scaled_little src.h dst.h
+
+-- the source of a plane begins where a device of a profile lets it: in profile 1 at a pixel, in profile 2 anywhere
+abbrev pub has_start : ℕ → Rect → Bool
+has_start profile src = not (profile == 1) || (is_whole src.x && is_whole src.y)
+
+-- What is wrong with a plane on a CRTC of a mode, on a device of a profile: 21, the CRTC is not enabled; 22, the sizes of
+-- source and destination; 23, where the source begins.
+unfoldable pub shown_refusal : ℕ → Option Mode → PlaneState → Option ℕ
+shown_refusal profile mode s =
     if s.crtc == 0 then None
     else or_else (refused_if CRTC_NOT_ENABLED (is_none mode))
-    (or_else (refused_if SCALED (not (is_unscaled s.src s.dst)))
-    (refused_if FRACTIONAL_SOURCE (not (is_whole s.src.x && is_whole s.src.y))))
+    (or_else (refused_if SCALED (not (has_sizes profile s.src s.dst)))
+    (refused_if FRACTIONAL_SOURCE (not (has_start profile s.src))))
 
 -- items with ids, of which the first has this one
 abbrev pub with_ids : {A : Type 0} → ℕ → List A → List (ℕ × A)
@@ -119,8 +128,8 @@ clone_refusal_at t new crtc = refused_if CLONED_CONNECTORS (nat_lt 1 (length (co
 abbrev pub route_refusal_at : Topology → List Thing → List Setting → ℕ → Option ℕ
 route_refusal_at t things new crtc = refused_if MODE_XOR_CONNECTOR (differs (is_some (mode_at things new crtc)) (nat_lt 0 (length (conns_on t new crtc))))
 
-abbrev pub shown_refusal_at : List Thing → List Setting → ℕ → Option ℕ
-shown_refusal_at things new plane = let s = plane_at things new plane in shown_refusal (mode_at things new s.crtc) s
+abbrev pub shown_refusal_at : ℕ → List Thing → List Setting → ℕ → Option ℕ
+shown_refusal_at profile things new plane = let s = plane_at things new plane in shown_refusal profile (mode_at things new s.crtc) s
 
 -- 9: an event is asked for, and no CRTC is named
 abbrev pub event_refusal : Topology → List Setting → List Setting → Request → Option ℕ
@@ -139,5 +148,5 @@ late_refusal t things old new r =
     (or_else (first_some (conn_refusal_at new) (with_ids (first_id Conn) t.conns))
     (or_else (first_some (clone_refusal_at t new) (ids_of t Crtc))
     (or_else (first_some (route_refusal_at t things new) (ids_of t Crtc))
-    (or_else (first_some (shown_refusal_at things new) (ids_of t Plane))
+    (or_else (first_some (shown_refusal_at t.profile things new) (ids_of t Plane))
     (modeset_refusal t things old new r.flags)))))))

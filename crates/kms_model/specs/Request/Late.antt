@@ -55,8 +55,8 @@ route_refusal_of both = refused_if MODE_XOR_CONNECTOR (differs (is_some both.new
 abbrev pub new_mode : List (Option (Both CrtcState)) → ℕ → Option Mode
 new_mode crtcs id = option_and_then (λ both. both.new.mode) (duplicate_at crtcs (id - first_id Crtc))
 
-abbrev pub shown_refusal_of : List (Option (Both CrtcState)) → Both PlaneState → Option ℕ
-shown_refusal_of crtcs both = shown_refusal (new_mode crtcs both.new.crtc) both.new
+abbrev pub shown_refusal_of : ℕ → List (Option (Both CrtcState)) → Both PlaneState → Option ℕ
+shown_refusal_of profile crtcs both = shown_refusal profile (new_mode crtcs both.new.crtc) both.new
 
 -- a CRTC that goes from one state to another needs a modeset
 abbrev pub needs_modeset_between : Both CrtcState → Bool
@@ -79,7 +79,7 @@ late_of_states t d objects flags named fenced =
     (or_else (first_in objects.conns d.conns (conn_refusal_of t) (count_of t Conn))
     (or_else (first_in objects.crtcs d.crtcs (λ index both. clone_refusal_of t both) (count_of t Crtc))
     (or_else (first_in objects.crtcs d.crtcs (λ index both. route_refusal_of both) (count_of t Crtc))
-    (or_else (first_in objects.planes d.planes (λ index both. shown_refusal_of d.crtcs both) (count_of t Plane))
+    (or_else (first_in objects.planes d.planes (λ index both. shown_refusal_of t.profile d.crtcs both) (count_of t Plane))
     (refused_if MODESET_NOT_ALLOWED (not (allows_modeset flags) && list_any (λ index. needs_modeset_if (duplicate_in objects.crtcs d.crtcs index)) (range_with_len 0 (count_of t Crtc))))))))))
 
 -- the numbers of the planes of a set are in the ranges of their properties

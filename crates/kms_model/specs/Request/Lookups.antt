@@ -15,18 +15,25 @@ use Rattle.std.specs.Result.{result_ok}
 use Rattle.kms_model.specs.Device.ModeBytes.{decoded}
 use Rattle.kms_model.specs.Device.Modes.{is_legal_mode}
 use Rattle.kms_model.specs.Device.World.{thing_labelled}
+use Rattle.kms_model.specs.Device.GammaBytes.{gamma_of_bytes}
+use Rattle.kms_model.specs.declared.objects.Gamma.{Gamma}
+
+-- a blob of 2048 bytes is looked up as the table of colour values that they hold, in each profile
+abbrev pub look_of_gamma : ℕ → Option Gamma → Look
+look_of_gamma id (Some g) = look.Gamma g id
+look_of_gamma id None = look.Blob id
 
 -- a blob that holds a legal mode is looked up as that mode
-abbrev pub look_of_mode : ℕ → Option Mode → Look
-look_of_mode id (Some m) = look.Mode m id
-look_of_mode id None = look.Blob id
+abbrev pub look_of_blob : ℕ → Option Mode → Option Gamma → Look
+look_of_blob id (Some m) g = look.Mode m id
+look_of_blob id None g = look_of_gamma id g
 
 -- an open thing by its kind
 abbrev pub look_of_content : ℕ → Content → Look
 look_of_content id (content.Buffer width height format pattern) = look.Buffer id
 look_of_content id (content.Framebuffer info buffer) = look.Fb info
 look_of_content id (content.Mode m) = if is_legal_mode m then look.Mode m id else look.Blob id
-look_of_content id (content.Blob bytes) = look_of_mode id (result_ok (decoded bytes))
+look_of_content id (content.Blob bytes) = look_of_blob id (result_ok (decoded bytes)) (gamma_of_bytes bytes)
 look_of_content id content.Fence = look.Fence id
 look_of_content id content.OutFence = look.Fence id
 

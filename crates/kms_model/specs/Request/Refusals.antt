@@ -7,7 +7,7 @@ use Rattle.std.specs.Ordering.{int_eq}
 use Rattle.kms_model.specs.declared.objects.Kind.{Kind}
 use Rattle.kms_model.specs.declared.objects.Kind.TheVariants as kind
 use Rattle.kms_model.specs.declared.objects.Topology.{Topology}
-use Rattle.kms_model.specs.declared.properties.TheConstants.{FB_ID, IN_FENCE_FD, MODE_ID, OUT_FENCE_PTR}
+use Rattle.kms_model.specs.declared.properties.TheConstants.{FB_ID, GAMMA_LUT, IN_FENCE_FD, MODE_ID, OUT_FENCE_PTR}
 use Rattle.kms_model.specs.declared.ranges.Range.{Range}
 use Rattle.kms_model.specs.declared.ranges.Range.TheVariants.{Numbers, Thing, CrtcName}
 use Rattle.kms_model.specs.declared.scripts.Assign.{Assign}
@@ -22,7 +22,7 @@ use Rattle.kms_model.specs.declared.replies.TheConstants.Refusal.{UNKNOWN_FLAG, 
 use Rattle.kms_model.specs.Firsts.{or_else, refused_if}
 use Rattle.kms_model.specs.Request.Flags.{wants_event, is_async, is_test}
 use Rattle.kms_model.specs.Device.Objects.{exists}
-use Rattle.kms_model.specs.Device.Properties.{Property, property, same_kind, are_flags}
+use Rattle.kms_model.specs.Device.Properties.{Property, property, property_in, same_kind, are_flags}
 use Rattle.kms_model.specs.Request.Apply.{object_of, prop_of}
 
 -- what is wrong with the flags: 1, there is another bit; 2, PAGE_FLIP_ASYNC is set; 3, TEST_ONLY and PAGE_FLIP_EVENT
@@ -38,10 +38,10 @@ abbrev pub is_of_kind : Kind → Option Property → Bool
 is_of_kind kind None = false
 is_of_kind kind (Some p) = list_any (same_kind kind) p.kinds
 
--- an object of a kind has a property
-abbrev pub has_property : Kind → PropRef → Bool
-has_property kind (Known id) = is_of_kind kind (property id)
-has_property kind (Unknown name) = false
+-- an object of a kind has a property, on a device
+abbrev pub has_property : Topology → Kind → PropRef → Bool
+has_property t kind (Known id) = is_of_kind kind (property_in t.profile id)
+has_property t kind (Unknown name) = false
 
 abbrev pub is_immutable_row : Option Property → Bool
 is_immutable_row None = false
@@ -52,10 +52,11 @@ abbrev pub is_immutable : PropRef → Bool
 is_immutable prop = is_immutable_row (property (prop_of prop))
 
 -- What a label names is what the property takes: FB_ID an open framebuffer, MODE_ID an open blob that holds a legal
--- mode, IN_FENCE_FD a fence.
+-- mode, GAMMA_LUT an open blob of 2048 bytes, IN_FENCE_FD a fence.
 abbrev pub takes : ℕ → Look → Bool
 takes prop (look.Fb info) = prop == FB_ID
 takes prop (look.Mode m id) = prop == MODE_ID
+takes prop (look.Gamma g id) = prop == GAMMA_LUT
 takes prop (look.Fence id) = prop == IN_FENCE_FD
 takes prop (look.Blob id) = false
 takes prop (look.Buffer id) = false
@@ -104,7 +105,7 @@ is_second_fence earlier a = (prop_of a.prop == IN_FENCE_FD) && list_any (names_f
 unfoldable pub own_refusal : Topology → (ℕ → Look) → Assign → Option ℕ
 own_refusal t f a =
     or_else (refused_if NO_OBJECT (not (exists t a.kind a.index)))
-    (or_else (refused_if NO_PROPERTY (not (has_property a.kind a.prop)))
+    (or_else (refused_if NO_PROPERTY (not (has_property t a.kind a.prop)))
     (or_else (refused_if IMMUTABLE_PROPERTY (is_immutable a.prop))
     (refused_if INVALID_VALUE (not (is_value t f a.prop a.value)))))
 

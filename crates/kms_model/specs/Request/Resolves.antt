@@ -18,7 +18,7 @@ use Rattle.kms_model.specs.Request.Sets.{in_fences, last_sets, out_fences}
 -- the value is among the property's values.
 pub record IsAllowed (t : Topology) (f : ℕ → Look) (a : Assign) : Type 0 where
   pub exists : IsTrue (exists t a.kind a.index)
-  pub has : IsTrue (has_property a.kind a.prop)
+  pub has : IsTrue (has_property t a.kind a.prop)
   pub mutable : is_immutable a.prop ≡ false
   pub value : IsTrue (is_value t f a.prop a.value)
 
@@ -45,7 +45,7 @@ HasPlace kind.Enc index = ⊥
 pub record IsSettable (a : Assign) : Type 0 where
   pub place : HasPlace a.kind a.index
   pub index : a.index < 16
-  pub prop : prop_of a.prop ≤ 18
+  pub prop : prop_of a.prop ≤ 19
   pub value : IsSettableValue a.value
 
 -- What a request asks for, over a device and what labels name: none of refusals 1 to 8 is due, and the parts are those of

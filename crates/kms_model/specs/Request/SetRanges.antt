@@ -1,7 +1,7 @@
 -- What a property may be set to, with labels looked up. From: `drm_atomic_uapi.c`, drm_atomic_set_property.
 use Rattle.std.specs.Prelude.{ℕ, Bool, true, false, not, ◌&&◌, ◌==◌, int_le, Option, Some, None}
 use Rattle.kms_model.specs.declared.objects.Kind.{Kind}
-use Rattle.kms_model.specs.declared.properties.TheConstants.{FB_ID, MODE_ID}
+use Rattle.kms_model.specs.declared.properties.TheConstants.{FB_ID, MODE_ID, GAMMA_LUT}
 use Rattle.kms_model.specs.declared.ranges.Range.{Range}
 use Rattle.kms_model.specs.declared.ranges.Range.TheVariants.{Numbers, Thing, CrtcName}
 use Rattle.kms_model.specs.declared.sets.SetValue.{SetValue}
@@ -16,6 +16,7 @@ range_takes prop (Numbers low high) (to.Num n) = int_le low n && int_le n high
 range_takes prop CrtcName (to.Crtc id) = true
 range_takes prop (Thing none) (to.Fb fb) = prop == FB_ID
 range_takes prop (Thing none) (to.Mode mode) = prop == MODE_ID
+range_takes prop (Thing none) (to.Gamma gamma) = prop == GAMMA_LUT
 range_takes prop (Thing none) to.Fence = not (is_kept prop)
 range_takes _ _ _ = false
 

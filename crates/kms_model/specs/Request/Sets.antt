@@ -8,7 +8,7 @@ use Rattle.kms_model.specs.declared.objects.Mode.{Mode}
 use Rattle.kms_model.specs.declared.objects.ObjId.{ObjId}
 use Rattle.kms_model.specs.declared.objects.Topology.{Topology}
 use Rattle.kms_model.specs.declared.pictures.FbInfo.{FbInfo}
-use Rattle.kms_model.specs.declared.properties.TheConstants.{FB_ID, CRTC_ID, MODE_ID, IN_FENCE_FD}
+use Rattle.kms_model.specs.declared.properties.TheConstants.{FB_ID, CRTC_ID, MODE_ID, IN_FENCE_FD, GAMMA_LUT}
 use Rattle.kms_model.specs.declared.scripts.Assign.{Assign}
 use Rattle.kms_model.specs.declared.scripts.Value.{Value}
 use Rattle.kms_model.specs.declared.scripts.Value.TheVariants.{Num, Named, Crtc}
@@ -24,6 +24,7 @@ use Rattle.kms_model.specs.Device.World.{put}
 use Rattle.kms_model.specs.Request.Lookups.{label_of}
 use Rattle.kms_model.specs.Request.Apply.{object_of, prop_of, is_kept}
 use Rattle.kms_model.specs.Request.Touched.{last_value, out_fence_label}
+use Rattle.kms_model.specs.declared.objects.Gamma.{Gamma}
 
 -- what a label names in a list of labels with what they name
 unfoldable pub look_in : List (ℕ × Look) → ℕ → Look
@@ -38,6 +39,10 @@ abbrev pub mode_of_look : Look → Option Mode
 mode_of_look (look.Mode m id) = Some m
 mode_of_look _ = None
 
+abbrev pub gamma_of_look : Look → Option Gamma
+gamma_of_look (look.Gamma g id) = Some g
+gamma_of_look _ = None
+
 abbrev pub fence_of_look : Look → Option ℕ
 fence_of_look (look.Fence id) = Some id
 fence_of_look _ = None
@@ -49,6 +54,10 @@ fb_value f _ = None
 abbrev pub mode_value : (ℕ → Look) → Value → Option Mode
 mode_value f (Named label) = mode_of_look (f label)
 mode_value f _ = None
+
+abbrev pub gamma_value : (ℕ → Look) → Value → Option Gamma
+gamma_value f (Named label) = gamma_of_look (f label)
+gamma_value f _ = None
 
 abbrev pub crtc_value : Value → ℕ
 crtc_value (Crtc index) = object_id kind.Crtc index
@@ -63,9 +72,10 @@ abbrev pub set_value : (ℕ → Look) → ℕ → Value → SetValue
 set_value f prop v =
     if prop == FB_ID then to.Fb (fb_value f v)
     else (if prop == MODE_ID then to.Mode (mode_value f v)
+    else (if prop == GAMMA_LUT then to.Gamma (gamma_value f v)
     else (if prop == CRTC_ID then to.Crtc (crtc_value v)
     else (if is_kept prop then to.Num (number_value v)
-    else to.Fence)))
+    else to.Fence))))
 
 abbrev pub obj_id : ℕ → ObjId
 obj_id id = record { 0 = id }

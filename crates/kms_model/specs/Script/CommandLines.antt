@@ -30,6 +30,8 @@ pub record Name : Type 0 where
 
 -- the names so far
 pub record Names : Type 0 where
+  -- the profile of the script's device, by which a name is that of a property or not
+  pub profile : ℕ
   -- each once, in order of first occurrence: a name's number is its place here
   pub all : List Name
   -- how many labels were made
@@ -60,15 +62,15 @@ unfoldable pub saying : List ℕ → Names → Names
 saying word names = record names { all = said word names.all }
 
 unfoldable pub making : List ℕ → Names → Names
-making word names = record { all = made word names.all; made = names.made + 1; is_twice = names.is_twice || was_made word names.all }
+making word names = record { profile = names.profile; all = made word names.all; made = names.made + 1; is_twice = names.is_twice || was_made word names.all }
 
 -- the words of all names, as a script has them
 abbrev pub words_in : Names → List (List ℕ)
 words_in names = map (λ n. n.word) names.all
 
 -- names of which no line makes one
-abbrev pub unmade : List (List ℕ) → Names
-unmade words = record { all = map (λ w. record { word = w; is_made = false }) words; made = 0; is_twice = false }
+abbrev pub unmade : ℕ → List (List ℕ) → Names
+unmade profile words = record { profile = profile; all = map (λ w. record { word = w; is_made = false }) words; made = 0; is_twice = false }
 
 -- Commands: each with the names after it
 
@@ -202,7 +204,7 @@ assign_words word = do
 
 -- the property of a name
 unfoldable pub property_read : Names → List ℕ → PropRef × Names
-property_read names word = option_map_or (λ id. (Known id, names)) (known_property word) (Unknown (place word names), saying word names)
+property_read names word = option_map_or (λ id. (Known id, names)) (known_property names.profile word) (Unknown (place word names), saying word names)
 
 -- `@LABEL`, `+LABEL`, `crtc` with an index to 255, or a number
 unfoldable pub value_read : Names → List ℕ → Option (Value × Names)
@@ -279,9 +281,9 @@ is_over _ = false
 
 -- the command of a line behind names of which it may make each, with all names after it: two labels of the line that
 -- are equal are a fault, and more than 256 assignments
-unfoldable pub line_read : List (List ℕ) → List ℕ → Result (Command × List (List ℕ)) Why
-line_read words text =
-    or_form (command_read (unmade words) text) (λ c.
+unfoldable pub line_read : ℕ → List (List ℕ) → List ℕ → Result (Command × List (List ℕ)) Why
+line_read profile words text =
+    or_form (command_read (unmade profile words) text) (λ c.
     unless c.1.is_twice Label
     (unless (is_over c.0) Limit
     (Ok (c.0, words_in c.1))))

@@ -113,7 +113,7 @@ commands_for drawn crtc =
 
 -- two CRTCs, each with a primary plane and a connector of its own
 abbrev pub generated_device : Topology
-generated_device = record { crtcs = 2; planes = record { kind = 1; crtcs = 1; formats = 1 } ∷ record { kind = 1; crtcs = 2; formats = 1 } ∷ []; conns = 1 ∷ 2 ∷ [] }
+generated_device = record { profile = 1; crtcs = 2; planes = record { kind = 1; crtcs = 1; formats = 1 } ∷ record { kind = 1; crtcs = 2; formats = 1 } ∷ []; conns = 1 ∷ 2 ∷ [] }
 
 -- the script of a seed with a number of commits
 abbrev pub generated : ℕ → ℕ → Script

@@ -128,6 +128,6 @@ is_property_byte b = is_letter b || (between 65 90 b || (is_digit b || (b == 95)
 abbrev pub is_property_word : List ℕ → Bool
 is_property_word word = between 1 32 (length word) && list_all is_property_byte word
 
--- the id of the property of a name, which some kind of object has
-abbrev pub known_property : List ℕ → Option ℕ
-known_property name = or_else (property_id Plane name) (or_else (property_id Crtc name) (property_id Conn name))
+-- the id of the property of a name, which some kind of object has in a profile
+abbrev pub known_property : ℕ → List ℕ → Option ℕ
+known_property profile name = or_else (property_id profile Plane name) (or_else (property_id profile Crtc name) (property_id profile Conn name))

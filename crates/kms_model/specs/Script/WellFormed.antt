@@ -15,7 +15,7 @@ use Rattle.kms_model.specs.declared.scripts.PropRef.TheVariants.{Known, Unknown}
 use Rattle.kms_model.specs.declared.scripts.Script.{Script}
 use Rattle.kms_model.specs.declared.scripts.Value.{Value}
 use Rattle.kms_model.specs.declared.scripts.Value.TheVariants as value
-use Rattle.kms_model.specs.Device.Properties.{name_of}
+use Rattle.kms_model.specs.Device.Properties.{property_in}
 use Rattle.kms_model.specs.Device.Sound.{IsDevice}
 use Rattle.kms_model.specs.Script.Grammar.{digits_of, is_property_word, known_property}
 use Rattle.kms_model.specs.Script.Spelling.{Spells, name_word}
@@ -39,10 +39,10 @@ pub record IsFitClient (commands : List Command) : Type 0 where
 abbrev pub is_label_in : List (List ℕ) → ℕ → Bool
 is_label_in names n = is_label (name_word names n)
 
--- the property of an id, or a name among the names that no property has
-abbrev pub is_property_in : List (List ℕ) → PropRef → Bool
-is_property_in names (Known id) = is_some (name_of id)
-is_property_in names (Unknown n) = is_property_word (name_word names n) && not (is_some (known_property (name_word names n)))
+-- the property of an id that a profile has, or a name among the names that no property of it has
+abbrev pub is_property_in : ℕ → List (List ℕ) → PropRef → Bool
+is_property_in profile names (Known id) = is_some (property_in profile id)
+is_property_in profile names (Unknown n) = is_property_word (name_word names n) && not (is_some (known_property profile (name_word names n)))
 
 -- Values
 
@@ -92,21 +92,21 @@ is_value_in names (value.Named label) = is_label_in names label
 is_value_in names (value.New label) = is_label_in names label
 is_value_in names (value.Crtc index) = nat_le index 255
 
-abbrev pub is_assign_in : List (List ℕ) → Assign → Bool
-is_assign_in names a = nat_le a.index 255 && (is_property_in names a.prop && is_value_in names a.value)
+abbrev pub is_assign_in : ℕ → List (List ℕ) → Assign → Bool
+is_assign_in profile names a = nat_le a.index 255 && (is_property_in profile names a.prop && is_value_in names a.value)
 
--- a command that some words spell
-abbrev pub is_command_in : List (List ℕ) → Command → Bool
-is_command_in names (command.Buffer label width height format pattern) = is_label_in names label && (is_word32 width && (is_word32 height && is_pattern_of format width height pattern))
-is_command_in names (command.AddFb label buffer) = is_label_in names label && is_label_in names buffer
-is_command_in names (command.Mode label m) = is_label_in names label && (has_widths m && is_mode_name m.name)
-is_command_in names (command.Blob label bytes) = is_label_in names label && (between 1 2048 (length bytes) && list_all (λ b. nat_lt b 256) bytes)
-is_command_in names (command.Destroy label) = is_label_in names label
-is_command_in names (command.CloseFb label) = is_label_in names label
-is_command_in names (command.Fence label) = is_label_in names label
-is_command_in names (command.Signal label) = is_label_in names label
-is_command_in names (command.Atomic r) = is_word32 r.flags && (nat_lt r.user_data (2 ^ 64) && list_all (is_assign_in names) r.assigns)
-is_command_in names command.Wait = true
+-- a command that some words spell, of a script with a profile
+abbrev pub is_command_in : ℕ → List (List ℕ) → Command → Bool
+is_command_in profile names (command.Buffer label width height format pattern) = is_label_in names label && (is_word32 width && (is_word32 height && is_pattern_of format width height pattern))
+is_command_in profile names (command.AddFb label buffer) = is_label_in names label && is_label_in names buffer
+is_command_in profile names (command.Mode label m) = is_label_in names label && (has_widths m && is_mode_name m.name)
+is_command_in profile names (command.Blob label bytes) = is_label_in names label && (between 1 2048 (length bytes) && list_all (λ b. nat_lt b 256) bytes)
+is_command_in profile names (command.Destroy label) = is_label_in names label
+is_command_in profile names (command.CloseFb label) = is_label_in names label
+is_command_in profile names (command.Fence label) = is_label_in names label
+is_command_in profile names (command.Signal label) = is_label_in names label
+is_command_in profile names (command.Atomic r) = is_word32 r.flags && (nat_lt r.user_data (2 ^ 64) && list_all (is_assign_in profile names) r.assigns)
+is_command_in profile names command.Wait = true
 
 -- a plane that can be shown on a CRTC and takes a format
 abbrev pub has_choice : PlaneInfo → Bool
@@ -119,10 +119,10 @@ pub record IsWellFormed (s : Script) : Type 0 where
   pub device : IsDevice s.topology
   pub few : length s.clients ≤ 16
   pub clients : AllByRecursion IsFitClient s.clients
-  pub version : s.version ≡ 1
+  pub version : s.version ≡ s.topology.profile
   pub planes : list_all has_choice s.topology.planes ≡ true
   pub conns : list_all (λ mask. not (mask == 0)) s.topology.conns ≡ true
   pub differ : IsDistinct bytes_eq s.names
-  pub commands : list_all (list_all (is_command_in s.names)) s.clients ≡ true
+  pub commands : list_all (list_all (is_command_in s.topology.profile s.names)) s.clients ≡ true
   pub bytes : List ℕ
   pub spells : Spells bytes s

@@ -31,7 +31,7 @@ pub record Draft : Type 0 where
 
 -- what no line spells
 abbrev pub blank_draft : Draft
-blank_draft = record { head = 0; crtcs = 0; planes = []; conns = []; names = unmade []; clients = []; has_client = false; commands = []; size = 0 }
+blank_draft = record { head = 0; crtcs = 0; planes = []; conns = []; names = unmade 1 []; clients = []; has_client = false; commands = []; size = 0 }
 
 abbrev pub is_nil : {A : Type 0} → List A → Bool
 is_nil [] = true
@@ -74,8 +74,12 @@ conn_at crtcs bytes = do
 abbrev pub Lined : Type 0
 Lined = Result Draft Why
 
+-- the version that the first line tells, which is the profile of the device
+abbrev pub version_read : List ℕ → Option ℕ
+version_read text = if bytes_eq text (codes "kms 1") then Some 1 else (if bytes_eq text (codes "kms 2") then Some 2 else None)
+
 unfoldable pub first_line : Draft → List ℕ → Lined
-first_line d text = if bytes_eq text (codes "kms 1") then Ok (record d { head = 1 }) else Err Form
+first_line d text = or_form (version_read text) (λ version. Ok (record d { head = 1; names = record d.names { profile = version } }))
 
 unfoldable pub crtcs_line : Draft → List ℕ → Lined
 crtcs_line d text =
@@ -171,10 +175,10 @@ lines_after d line [] = if is_nil d.conns then Err (missing_line line) else Ok d
 lines_after d line (row ∷ rows) = or_fault line (line_after d row) (λ next. lines_after next (line + 1) rows)
 
 abbrev pub topology_in : Draft → Topology
-topology_in d = record { crtcs = d.crtcs; planes = d.planes; conns = d.conns }
+topology_in d = record { profile = d.names.profile; crtcs = d.crtcs; planes = d.planes; conns = d.conns }
 
 abbrev pub script_in : Draft → Script
-script_in d = record { version = 1; topology = topology_in d; names = words_in d.names; clients = clients_in d }
+script_in d = record { version = d.names.profile; topology = topology_in d; names = words_in d.names; clients = clients_in d }
 
 abbrev pub drafted : Result Draft Fault → Result Script Fault
 drafted (Ok d) = Ok (script_in d)

@@ -74,7 +74,7 @@ all_known c w r is known =
 pub returns-in-Some-clause-locks : goal.returns-in-Some-clause-locks
 returns-in-Some-clause-locks c = λ w r is.
     let found = set_found ((goal.at.returns-in-Some-clause-locks c).After-lacking) w r is in
-    first-set _ w r _ _ (found ∙ c.in-Some.is)
+    first-set c.args.topology.now w r _ _ (found ∙ c.in-Some.is)
 
 pub returns-in-Some-clause-refusal : goal.returns-in-Some-clause-refusal
 returns-in-Some-clause-refusal c = λ w r is none. asked-first _ _ _ _ (returns-in-Some-clause-locks c w r is) none
@@ -82,7 +82,7 @@ returns-in-Some-clause-refusal c = λ w r is none. asked-first _ _ _ _ (returns-
 pub returns-in-Some-lacking-clause-locks : goal.returns-in-Some-lacking-clause-locks
 returns-in-Some-lacking-clause-locks c = λ w r is.
     let known = named_known ((goal.at.returns-in-Some-lacking-clause-locks c).After-lacking-2) w r is in
-    first-named _ w r _ _ known.has.none (known.named_found ∙ c.in-Some-lacking.is)
+    first-named c.args.topology.now w r _ _ known.has.none (known.named_found ∙ c.in-Some-lacking.is)
 
 pub returns-in-Some-lacking-clause-refusal : goal.returns-in-Some-lacking-clause-refusal
 returns-in-Some-lacking-clause-refusal c = λ w r is none. asked-first _ _ _ _ (returns-in-Some-lacking-clause-locks c w r is) none
@@ -99,7 +99,7 @@ pub returns-in-Some-lacking-2-clause-locks : goal.returns-in-Some-lacking-2-clau
 returns-in-Some-lacking-2-clause-locks c = λ w r is.
     let at = goal.at.returns-in-Some-lacking-2-clause-locks c in
     let all = all_known at.After-lacking-3 w r is (named_known at.After-lacking-2 w r is) in
-    first-affected _ w r _ _ all.applied_to.has.none all.applied_to.none (all.affected_found ∙ c.in-Some-lacking-2.is)
+    first-affected c.args.topology.now w r _ _ all.applied_to.has.none all.applied_to.none (all.affected_found ∙ c.in-Some-lacking-2.is)
 
 pub returns-in-Some-lacking-2-clause-refusal : goal.returns-in-Some-lacking-2-clause-refusal
 returns-in-Some-lacking-2-clause-refusal c = λ w r is none. asked-first _ _ _ _ (returns-in-Some-lacking-2-clause-locks c w r is) none
@@ -134,13 +134,13 @@ pub returns-in-Some-late_refusal-clause-locks : goal.returns-in-Some-late_refusa
 returns-in-Some-late_refusal-clause-locks c = λ w r is.
     let at = goal.at.returns-in-Some-late_refusal-clause-locks c in
     let known = known at.After-union-touched w r is (all_known at.After-lacking-3 w r is (named_known at.After-lacking-2 w r is)) in
-    first-affected _ w r _ _ known.applied_to.has.none known.applied_to.none known.none
+    first-affected c.args.topology.now w r _ _ known.applied_to.has.none known.applied_to.none known.none
 
 pub returns-in-None-clause-locks : goal.returns-in-None-clause-locks
 returns-in-None-clause-locks c = λ w r is.
     let at = goal.at.returns-in-None-clause-locks c in
     let known = known at.After-union-touched w r is (all_known at.After-lacking-3 w r is (named_known at.After-lacking-2 w r is)) in
-    first-affected _ w r _ _ known.applied_to.has.none known.applied_to.none known.none
+    first-affected c.args.topology.now w r _ _ known.applied_to.has.none known.applied_to.none known.none
 
 pub returns-in-Some-late_refusal-clause-refusal : goal.returns-in-Some-late_refusal-clause-refusal
 returns-in-Some-late_refusal-clause-refusal c = λ w r is none.

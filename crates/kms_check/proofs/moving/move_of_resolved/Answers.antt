@@ -20,7 +20,7 @@ returns-in-Ok c = λ r used asks.
       asks = asks;
       gives = λ w is. c.in-Ok.ensures.checked w r is;
       passes = λ w is. sym (c.in-Ok.ensures.refusal w r is (sym (c.in-Ok.ensures.locks w r is)));
-      covers = λ w is. all-duplicated _ w r c.args.states is.device (room (goal.at.returns-in-Ok c).Start) (sym (c.in-Ok.ensures.locks w r is));
+      covers = λ w is. all-duplicated c.args.topology.now w r c.args.states is.device (room (goal.at.returns-in-Ok c).Start) (sym (c.in-Ok.ensures.locks w r is));
       kept = c.in-Ok.ensures.kept;
     }
 

@@ -5,4 +5,4 @@ use Rattle.kms_compose.specs.Parts.{part_pixel}
 use Rattle.kms_compose.proofs.frames.parts_bytes.Given as goal
 
 abbrev pub invariant-loop-y : goal.invariant-loop-y
-invariant-loop-y l = l.bytes.items ≡ flat_map (λ y. flat_map (part_pixel l.parts y) (range_with_len 0 l.width)) (range_with_len 0 l.y)
+invariant-loop-y l = l.bytes.items ≡ flat_map (λ y. flat_map (part_pixel l.gamma l.parts y) (range_with_len 0 l.width)) (range_with_len 0 l.y)

@@ -45,8 +45,19 @@ layer_added words x y parts new layers i d p whole below now colour own before =
 pub loop-layer-preserved : goal.loop-layer-preserved
 loop-layer-preserved c =
     let below : c.loop-layer.layer-index < length c.as_slice-layer-items.result.now = omega arith in
-    let showable = subst (λ (layers : List Layer). All (IsShowable c.args.shown.now.mode c.args.images.now) layers) (sym c.as_slice-layer-items.ensures) c.requires in
-    let now : c.push_part.new.parts.items ≡ c.loop-layer.parts.items ++ listed c.part_of.result = search rules in record {
-      parts = rw now (all_listed c.args.shown.now.mode.hdisplay _ _ c.loop-layer.invariant.parts (c.part_of.ensures.within c.args.shown.now.mode (showable c.loop-layer.layer-index _ below).placed));
-      colours = λ x y. layer_added (word_under c.args.images.now) x y _ _ _ _ _ _ _ below now (c.part_of.ensures.colours x y) c.part_of.ensures.layer (c.loop-layer.invariant.colours x y);
+    let showable = subst (λ (layers : List Layer). All (IsShowable c.args.shown.now.mode c.args.images.now) layers) (sym c.as_slice-layer-items.ensures) c.requires.layers in
+    let now : c.push_part.new.parts.items ≡ c.loop-layer.parts.items ++ listed c.in_ok-part_of.field-0 = search rules in record {
+      parts = rw now (all_listed c.args.shown.now.mode.hdisplay _ _ c.loop-layer.invariant.parts (c.in_ok-part_of.ensures.within c.args.shown.now.mode (showable c.loop-layer.layer-index _ below).placed));
+      colours = λ x y. layer_added (word_under c.args.images.now) x y _ _ _ _ _ _ _ below now (c.in_ok-part_of.ensures.colours x y) c.in_ok-part_of.ensures.layer (c.loop-layer.invariant.colours x y);
+    }
+
+pub part_of-requires : goal.part_of-requires
+part_of-requires c =
+    let below : c.loop-layer.layer-index < length c.as_slice-layer-items.result.now = omega arith in
+    let showable = subst (λ (layers : List Layer). All (IsShowable c.args.shown.now.mode c.args.images.now) layers) (sym c.as_slice-layer-items.ensures) c.requires.layers in
+    record {
+      mode = c.args.shown.now.mode;
+      narrow = c.requires.narrow;
+      low = c.requires.low;
+      showable = showable c.loop-layer.layer-index _ below;
     }

@@ -1,27 +1,26 @@
-use Rattle.std.proofs.Common.{◌≤◌, ◌<◌, ◌*◌, ◌+◌, ◌^◌, ℕ, arith}
-use Rattle.std.proofs.Math.Nat.{mul-le-mul_left}
-use Rattle.kms_compose.proofs.Stretches.{row_within}
+use Rattle.std.proofs.Common.{◌≡◌, ap, ◌∙◌, ◌+◌, rules}
+use Rattle.kms_model.specs.Device.States.{natural}
+use Rattle.kms_compose.specs.Sources.{place_at}
+use Rattle.kms_compose.proofs.Visible.{cut_is, size_some}
 use Rattle.kms_compose.proofs.parts.cut.Goals as goal
 
--- the first word shown has a place that fits
-first_fits : (row height column width stride side : ℕ) → row + height ≤ side → column + width ≤ stride → 0 < height → stride < 2 ^ 32 → side < 2 ^ 32 →
-    row * stride + column < 2 ^ 64
-first_fits row height column width stride side low right some wide high =
-    let within = row_within row column width height stride side 0 low right some in
-    let all : stride * side ≤ stride * 4294967295 = mul-le-mul_left stride (omega arith) in
-    omega (arith, within, all)
+pub columns_of-requires-clause-seen : goal.columns_of-requires-clause-seen
+columns_of-requires-clause-seen c =
+    let left : c.natural-left.result ≡ natural c.args.visible.now.x = search rules in
+    let width : c.natural-width.result ≡ natural c.args.visible.now.w = search rules in
+    rw (c.across.ensures, left, width) c.requires.visible.columns
 
-pub overflow_mul-result : goal.overflow_mul-result
-overflow_mul-result c =
-    let fits = first_fits _ _ _ _ _ _ c.requires.rows c.requires.columns c.requires.some (omega arith) (omega arith) in
-    omega (arith, fits)
+pub columns_of-requires-clause-some : goal.columns_of-requires-clause-some
+columns_of-requires-clause-some c =
+    let width : c.natural-width.result ≡ natural c.args.visible.now.w = search rules in
+    rw width (size_some c.args.visible.now.w c.requires.visible.wide)
 
-pub overflow_add-result : goal.overflow_add-result
-overflow_add-result c =
-    let fits = first_fits _ _ _ _ _ _ c.requires.rows c.requires.columns c.requires.some (omega arith) (omega arith) in
-    omega (arith, fits)
-
-pub returns-clause-words : goal.returns-clause-words
-returns-clause-words c = λ r h.
-    let within = row_within _ _ _ _ _ _ r c.requires.rows c.requires.columns h in
-    omega (arith, within, c.requires.words)
+pub returns : goal.returns
+returns c =
+    let left : c.natural-left.result ≡ natural c.args.visible.now.x = search rules in
+    let width : c.natural-width.result ≡ natural c.args.visible.now.w = search rules in
+    let top : c.natural-top.result ≡ natural c.args.visible.now.y = search rules in
+    let height : c.natural-height.result ≡ natural c.args.visible.now.h = search rules in
+    cut_is _ _ _ _ c.requires.visible c.requires.image (search rules) left top width height c.in_ok-columns.ensures.count
+    (λ k within. c.in_ok-columns.ensures.places k within ∙ ap (λ r. place_at r (c.natural-left.result + k)) c.across.ensures)
+    c.down.ensures (search rules) (search rules)

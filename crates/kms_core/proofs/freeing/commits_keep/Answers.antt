@@ -1,7 +1,7 @@
 use Rattle.std.proofs.Common.{arith, sym, ap, ◌∙◌}
 use Rattle.std.specs.Option.{option_copied}
 use Rattle.kms_core.proofs.FreedIds.{keeps_found, keeps_in, keeps_none, never_missing, tail_keeps}
-use Rattle.kms_core.proofs.Seeking.{goes_up, one_passed}
+use Rattle.kms_core.proofs.Seeking.{goes_up, less_left, one_passed}
 use Rattle.kms_core.proofs.freeing.commits_keep.Goals as goal
 
 pub unreachable-requires : goal.unreachable-requires
@@ -16,11 +16,7 @@ pub overflow_add-from : goal.overflow_add-from
 overflow_add-from c = let l = (goes_up c.args.tails.now c.seeking.from c.in-Some.commit c.requires c.in-Some.ensures.machine).fits in omega (arith, l)
 
 pub seeking-smaller : goal.seeking-smaller
-seeking-smaller c =
-    let up = goes_up c.args.tails.now c.seeking.from c.in-Some.commit c.requires c.in-Some.ensures.machine in
-    let low = up.up in
-    let fits = up.fits in
-    omega (arith, low, fits)
+seeking-smaller c = less_left c.args.tails.now c.seeking.from c.in-Some.commit c.requires c.in-Some.ensures.machine
 
 pub seeking-preserved : goal.seeking-preserved
 seeking-preserved c =

@@ -1,11 +1,9 @@
-use Rattle.std.proofs.Common.{◌∙◌, ap, refl, subst, sym}
+use Rattle.std.proofs.Common.{◌∙◌, ap, refl, sym}
 use Rattle.std.specs.Option.{option_copied}
 use Rattle.kms_model.specs.declared.replies.Step.TheVariants.{Cleanup}
-use Rattle.kms_core.specs.Run.{Run}
-use Rattle.kms_core.specs.Work.{MayCleanUp, is_over}
 use Rattle.kms_core.proofs.Insides.{run_of, stores_of}
-use Rattle.kms_core.proofs.Marking.{cleans_up, cleanup_legal, cleanup_places, few_cleaned, over_told, tail_keeps_all}
-use Rattle.kms_core.proofs.Spared.{own_room, own_spared, own_step}
+use Rattle.kms_core.proofs.Marking.{cleans_up, cleanup_places, few_cleaned, owns_cleanup, tail_keeps_all}
+use Rattle.kms_core.proofs.Spared.{own_room, own_spared}
 use Rattle.kms_core.proofs.machine.Core.cleanup.Goals as goal
 
 pub free-requires-clause-places : goal.free-requires-clause-places
@@ -22,30 +20,20 @@ push-requires c =
     let r = run_of c.self.inside in
     let st = stores_of c.self.inside in
     let k = c.args.commit in
-    let may = subst (λ (w : Run). MayCleanUp w k) (sym c.self.view_is) c.requires in
-    let over =
-    ap (λ (w : Run). is_over w k) c.self.view_is
-    ∙ sym (over_told r c.args.self.now st k c.self.invariant.stands c.self.view_is c.requires c.is_over.result c.is_over.ensures)
-    ∙ c.if-not-is_over.false in
-    let own = own_step r st (Cleanup k) k c.self.invariant.stands refl refl (cleanup_legal r k may over) in
-    (own_room r st (Cleanup k) k _ _ c.self.invariant.stands own c.self.invariant.spare).step
+    let owns = owns_cleanup r c.args.self.now st k c.self.invariant.stands c.self.view_is c.requires c.is_over.result c.is_over.ensures c.if-not-is_over.false in
+    (own_room r st (Cleanup k) k _ _ c.self.invariant.stands owns.own c.self.invariant.spare).step
 
 pub invariant_of-self : goal.invariant_of-self
 invariant_of-self c =
     let r = run_of c.self.inside in
     let st = stores_of c.self.inside in
     let k = c.args.commit in
-    let may = subst (λ (w : Run). MayCleanUp w k) (sym c.self.view_is) c.requires in
-    let over =
-    ap (λ (w : Run). is_over w k) c.self.view_is
-    ∙ sym (over_told r c.args.self.now st k c.self.invariant.stands c.self.view_is c.requires c.is_over.result c.is_over.ensures)
-    ∙ c.if-not-is_over.false in
-    let own = own_step r st (Cleanup k) k c.self.invariant.stands refl refl (cleanup_legal r k may over) in
+    let owns = owns_cleanup r c.args.self.now st k c.self.invariant.stands c.self.view_is c.requires c.is_over.result c.is_over.ensures c.if-not-is_over.false in
     let stands =
-    cleans_up r c.args.self.now st k c.cleanup.new.self c.remove.new.self r.steps c.push.new.self.items c.self.invariant.stands c.self.view_is c.requires over
+    cleans_up r c.args.self.now st k c.cleanup.new.self c.remove.new.self r.steps c.push.new.self.items c.self.invariant.stands c.self.view_is c.requires owns.over
     refl c.push.ensures.items (record { count = c.cleanup.ensures.count; lasts = c.cleanup.ensures.lasts; pending = c.cleanup.ensures.pending }) c.remove.ensures.stands
     c.as_slice.result.now c.free.new.freed
     (tail_keeps_all r c.args.self.now st k c.in-Some.tail.now c.kept_ids-kept_ids.result.items c.as_slice.result.now c.self.invariant.stands c.self.view_is c.requires
     (ap option_copied (sym c.in-Some.is) ∙ c.get.ensures.value) c.kept_ids-kept_ids.ensures c.as_slice.ensures.value)
     c.free.ensures in
-    record { stands = stands; spare = own_spared r st _ (Cleanup k) k c.push.new.self.items _ _ _ c.self.invariant.stands stands c.push.ensures.items own c.self.invariant.spare c.push.ensures.room }
+    record { stands = stands; spare = own_spared r st _ (Cleanup k) k c.push.new.self.items _ _ _ c.self.invariant.stands stands c.push.ensures.items owns.own c.self.invariant.spare c.push.ensures.room }

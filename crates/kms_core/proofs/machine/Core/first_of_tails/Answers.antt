@@ -2,7 +2,7 @@ use Rattle.std.proofs.Common.{arith, sym, ◌∙◌}
 use Rattle.kms_model.specs.declared.replies.Step.{Step}
 use Rattle.kms_core.proofs.FirstTails.{nothing_found, nothing_further, something_found}
 use Rattle.kms_core.proofs.Insides.{run_of, stores_of}
-use Rattle.kms_core.proofs.Seeking.{few_tails, goes_up}
+use Rattle.kms_core.proofs.Seeking.{few_tails, goes_up, less_left}
 use Rattle.kms_core.proofs.TailTurns.{cleaned_none, first_of}
 use Rattle.kms_core.proofs.machine.Core.first_of_tails.Goals as goal
 
@@ -19,11 +19,7 @@ overflow_add-from c =
     omega (arith, l)
 
 pub seeking-smaller : goal.seeking-smaller
-seeking-smaller c =
-    let up = goes_up c.self.inside.tails c.seeking.from c.in-Some.commit (few_tails (run_of c.self.inside) (stores_of c.self.inside) c.self.invariant.stands) c.in-Some.ensures.machine in
-    let low = up.up in
-    let fits = up.fits in
-    omega (arith, low, fits)
+seeking-smaller c = less_left c.self.inside.tails c.seeking.from c.in-Some.commit (few_tails (run_of c.self.inside) (stores_of c.self.inside) c.self.invariant.stands) c.in-Some.ensures.machine
 
 pub seeking-preserved : goal.seeking-preserved
 seeking-preserved c =

@@ -1,7 +1,7 @@
 use Rattle.std.proofs.Common.{arith, sym, ◌∙◌}
 use Rattle.kms_core.proofs.Insides.{run_of, stores_of}
 use Rattle.kms_core.proofs.Movers.{no_tail_step, rests_further, some_tail, tail_moved}
-use Rattle.kms_core.proofs.Seeking.{few_tails, goes_up}
+use Rattle.kms_core.proofs.Seeking.{few_tails, goes_up, less_left}
 use Rattle.kms_core.proofs.machine.Core.has_tail_step.Goals as goal
 
 pub returns-then-tail_moves : goal.returns-then-tail_moves
@@ -14,11 +14,7 @@ overflow_add-from c =
     omega (arith, l)
 
 pub seeking-smaller : goal.seeking-smaller
-seeking-smaller c =
-    let up = goes_up c.self.inside.tails c.seeking.from c.in-Some.commit (few_tails (run_of c.self.inside) (stores_of c.self.inside) c.self.invariant.stands) c.in-Some.ensures.machine in
-    let low = up.up in
-    let fits = up.fits in
-    omega (arith, low, fits)
+seeking-smaller c = less_left c.self.inside.tails c.seeking.from c.in-Some.commit (few_tails (run_of c.self.inside) (stores_of c.self.inside) c.self.invariant.stands) c.in-Some.ensures.machine
 
 pub seeking-preserved : goal.seeking-preserved
 seeking-preserved c =

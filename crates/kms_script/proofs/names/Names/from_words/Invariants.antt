@@ -3,4 +3,4 @@ use Rattle.kms_model.specs.Script.CommandLines.{unmade}
 use Rattle.kms_script.proofs.names.Names.from_words.Given as goal
 
 abbrev pub invariant-loop-word : goal.invariant-loop-word
-invariant-loop-word l = l.names.names ≡ unmade (take l.word-index l.words)
+invariant-loop-word l = l.names.names ≡ unmade l.profile (take l.word-index l.words)

@@ -1,4 +1,4 @@
-use Rattle.std.proofs.Common.{ap, sym, ◌∙◌}
+use Rattle.std.proofs.Common.{ap, ap₂, sym, ◌∙◌}
 use Rattle.std.proofs.Math.Seq.{take-length}
 use Rattle.kms_model.specs.Script.CommandLines.{words_in}
 use Rattle.kms_script.specs.Named.{is_in_numbers, kept}
@@ -7,4 +7,4 @@ use Rattle.kms_script.proofs.names.Names.keep.Goals as goal
 
 pub returns : goal.returns
 returns c =
-    c.undo.ensures ∙ ap kept (rw c.len-self-inside.ensures (take-length c.self.inside.numbering ∙ (sym (marked_words (is_in_numbers c.self.inside.made.keys) 0 c.self.inside.numbering) ∙ ap (λ h. words_in h.names) c.self.view_is)))
+    c.undo.ensures ∙ ap₂ kept (ap (λ h. h.names.profile) c.self.view_is) (rw c.len-self-inside.ensures (take-length c.self.inside.numbering ∙ (sym (marked_words (is_in_numbers c.self.inside.made.keys) 0 c.self.inside.numbering) ∙ ap (λ h. words_in h.names) c.self.view_is)))

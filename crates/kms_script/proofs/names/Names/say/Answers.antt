@@ -13,7 +13,7 @@ returns-in-Some-clause-number c =
 pub returns-in-Some-clause-names : goal.returns-in-Some-clause-names
 returns-in-Some-clause-names c =
     let at = c.self.inside in
-    sym (ap (λ h. h.names) c.self.view_is) ∙ (saying_there c.args.word.now at.numbering at.made.keys at.count at.is_twice c.in-Some.number (sym c.in-Some.ensures) ∙ ap (λ h. saying c.args.word.now h.names) c.self.view_is)
+    sym (ap (λ h. h.names) c.self.view_is) ∙ (saying_there at.profile c.args.word.now at.numbering at.made.keys at.count at.is_twice c.in-Some.number (sym c.in-Some.ensures) ∙ ap (λ h. saying c.args.word.now h.names) c.self.view_is)
 
 few : goal.push-requires-clause-few
 few c =
@@ -40,14 +40,14 @@ pub returns-clause-names : goal.returns-clause-names
 returns-clause-names c =
     let at = c.self.inside in
     let none : place_among c.args.word.now at.numbering ≡ None = search rules in
-    ap (λ ws. names_of ws at.made.keys at.count at.is_twice) c.in_ok-push.ensures.added
-    ∙ (saying_new c.args.word.now at.numbering at.made.keys at.count at.is_twice none c.self.invariant.below ∙ ap (λ h. saying c.args.word.now h.names) c.self.view_is)
+    ap (λ ws. names_of at.profile ws at.made.keys at.count at.is_twice) c.in_ok-push.ensures.added
+    ∙ (saying_new at.profile c.args.word.now at.numbering at.made.keys at.count at.is_twice none c.self.invariant.below ∙ ap (λ h. saying c.args.word.now h.names) c.self.view_is)
 
 pub returns-clause-grows : goal.returns-clause-grows
 returns-clause-grows c =
     let at = c.self.inside in
     let none : place_among c.args.word.now at.numbering ≡ None = search rules in
-    let is : names_of c.push.new.self at.made.keys at.count at.is_twice ≡ saying c.args.word.now c.args.self.now.names =
-    ap (λ ws. names_of ws at.made.keys at.count at.is_twice) c.in_ok-push.ensures.added
-    ∙ (saying_new c.args.word.now at.numbering at.made.keys at.count at.is_twice none c.self.invariant.below ∙ ap (λ h. saying c.args.word.now h.names) c.self.view_is) in
+    let is : names_of at.profile c.push.new.self at.made.keys at.count at.is_twice ≡ saying c.args.word.now c.args.self.now.names =
+    ap (λ ws. names_of at.profile ws at.made.keys at.count at.is_twice) c.in_ok-push.ensures.added
+    ∙ (saying_new at.profile c.args.word.now at.numbering at.made.keys at.count at.is_twice none c.self.invariant.below ∙ ap (λ h. saying c.args.word.now h.names) c.self.view_is) in
     subst (λ n. NamesGrow c.args.self.now.names n 1) (sym is) (saying_grows c.args.word.now c.args.self.now.names)

@@ -1,14 +1,14 @@
 -- A set by what it sets.
 use Rattle.std.proofs.Common.{◌≡◌, true, arith, refl, rules, subst, subst₂, sym, SFits, w64, to_z-of_z}
 use Rattle.kms_model.specs.declared.objects.Kind.TheVariants.{Plane}
-use Rattle.kms_model.specs.declared.properties.TheConstants.{ACTIVE, CRTC_ID, FB_ID, MODE_ID}
+use Rattle.kms_model.specs.declared.properties.TheConstants.{ACTIVE, CRTC_ID, FB_ID, GAMMA_LUT, MODE_ID}
 use Rattle.kms_model.specs.declared.sets.SetValue.TheVariants as to
 use Rattle.kms_model.specs.Request.SetRanges.{may_set}
 use Rattle.kms_state.specs.Changes.{IsSet, set_to}
 use Rattle.kms_state.proofs.Slots.{same_duplicated}
-use Rattle.kms_state.proofs.SetsProperty.{active_set, as_set, conn_move, fb_set, fence_set, made, mode_set, number_set, plane_move}
+use Rattle.kms_state.proofs.SetsProperty.{active_set, as_set, conn_move, fb_set, fence_set, gamma_set, made, mode_set, number_set, plane_move}
 use Rattle.kms_state.proofs.places.DuplicatesDuplicating.set.Goals as goal
-use Rattle.kms_state.proofs.places.DuplicatesDuplicating.set.Goals.{After-move_conn, After-move_plane, After-set_active, After-set_fb, After-set_mode, After-set_number}
+use Rattle.kms_state.proofs.places.DuplicatesDuplicating.set.Goals.{After-move_conn, After-move_plane, After-set_active, After-set_fb, After-set_gamma, After-set_mode, After-set_number}
 
 pub set_active-requires : goal.set_active-requires
 set_active-requires c = (active_set c.args.self.now c.args.set.now c.in-Num.number (omega arith) (made c.args.self.now c.args.set.now (to.Num c.in-Num.number) c.requires.object c.requires.value c.in-Num.is)).0
@@ -21,6 +21,9 @@ set_fb-requires c = (fb_set c.args.self.now c.args.set.now c.in-Fb.fb (made c.ar
 
 pub set_mode-requires : goal.set_mode-requires
 set_mode-requires c = (mode_set c.args.self.now c.args.set.now c.in-Mode.mode (made c.args.self.now c.args.set.now (to.Mode c.in-Mode.mode) c.requires.object c.requires.value c.in-Mode.is)).0
+
+pub set_gamma-requires : goal.set_gamma-requires
+set_gamma-requires c = (gamma_set c.args.self.now c.args.set.now c.in-Gamma.gamma (made c.args.self.now c.args.set.now (to.Gamma c.in-Gamma.gamma) c.requires.object c.requires.value c.in-Gamma.is)).0
 
 pub move_plane-requires : goal.move_plane-requires
 move_plane-requires c = (plane_move c.args.self.now c.args.set.now c.in-Crtc.crtc (omega arith) (made c.args.self.now c.args.set.now (to.Crtc c.in-Crtc.crtc) c.requires.object c.requires.value c.in-Crtc.is)).0
@@ -83,6 +86,18 @@ returns-in-Mode-clause-states c = (set_mode-sets ((goal.at.returns-in-Mode-claus
 pub returns-in-Mode-clause-new : goal.returns-in-Mode-clause-new
 returns-in-Mode-clause-new c = (set_mode-sets ((goal.at.returns-in-Mode-clause-new c).After-set_mode)).new
 
+set_gamma-sets : (c : After-set_gamma) → IsSet c.args.self.now c.args.set.now c.set_gamma.new.states
+set_gamma-sets c =
+    as_set c.args.self.now c.set_gamma.new.states c.args.set.now GAMMA_LUT (to.Gamma c.in-Gamma.gamma)
+    (gamma_set c.args.self.now c.args.set.now c.in-Gamma.gamma (made c.args.self.now c.args.set.now (to.Gamma c.in-Gamma.gamma) c.requires.object c.requires.value c.in-Gamma.is)).1
+    c.in-Gamma.is c.set_gamma.ensures
+
+pub returns-in-Gamma-clause-states : goal.returns-in-Gamma-clause-states
+returns-in-Gamma-clause-states c = (set_gamma-sets ((goal.at.returns-in-Gamma-clause-states c).After-set_gamma)).states
+
+pub returns-in-Gamma-clause-new : goal.returns-in-Gamma-clause-new
+returns-in-Gamma-clause-new c = (set_gamma-sets ((goal.at.returns-in-Gamma-clause-new c).After-set_gamma)).new
+
 move_plane-sets : (c : After-move_plane) → IsSet c.args.self.now c.args.set.now c.move_plane.new.states
 move_plane-sets c =
     as_set c.args.self.now c.move_plane.new.states c.args.set.now CRTC_ID (to.Crtc c.in-Crtc.crtc)
@@ -124,6 +139,9 @@ returns-in-Fb-clause-same c = λ o. same_duplicated c.args.self.now c.set_fb.new
 
 pub returns-in-Mode-clause-same : goal.returns-in-Mode-clause-same
 returns-in-Mode-clause-same c = λ o. same_duplicated c.args.self.now c.set_mode.new.states o c.set_mode.ensures.old
+
+pub returns-in-Gamma-clause-same : goal.returns-in-Gamma-clause-same
+returns-in-Gamma-clause-same c = λ o. same_duplicated c.args.self.now c.set_gamma.new.states o c.set_gamma.ensures.old
 
 pub returns-in-Crtc-clause-same : goal.returns-in-Crtc-clause-same
 returns-in-Crtc-clause-same c = λ o. same_duplicated c.args.self.now c.move_plane.new.states o c.move_plane.ensures.old

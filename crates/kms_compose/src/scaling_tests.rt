@@ -1,0 +1,394 @@
+//! What no clause says: scaled layers, sources that begin between pixels, and tables of colour values, worked out by hand.
+ghost use Rattle.std.specs.Prelude.{◌≡◌, ◌≤◌, All, length, true};
+ghost use Rattle.kms_compose.specs.Example.{IsDestination, IsOfTest, IsSource, MayShow};
+
+use super::*;
+use kms_geom::{clip, fits_source, is_scaled_little};
+use kms_model::{FbInfo, Format, Gamma, Image, Layer, Layers, Mode, Picture, Rect, Seq, Shown};
+use std::alloc::Global;
+use std::process::Abort;
+use std::test::Fail;
+
+/// One pixel in 16.16 fixed point.
+const PIXEL: i64 = 65536;
+
+/// Two pixels, a pixel each of the bytes `abc` and `foo`.
+const TWO: [u32; 2] = [0x0061_6263, 0x0066_6f6f];
+
+/// A mode of this size.
+fn mode(w: u16, h: u16) -> Mode {
+    Mode {
+        clock: 1,
+        hdisplay: w,
+        hsync_start: w,
+        hsync_end: w,
+        htotal: w,
+        hskew: 0,
+        vdisplay: h,
+        vsync_start: h,
+        vsync_end: h,
+        vtotal: h,
+        vscan: 0,
+        vrefresh: 60,
+        flags: 0,
+        kind: 0,
+        name: [0; 32],
+    }
+}
+
+/// A rectangle.
+fn rect(x: i64, y: i64, w: i64, h: i64) -> Rect
+    ensures { result ≡ record { x = x; y = y; w = w; h = h } }
+{
+    Rect { x, y, w, h }
+}
+
+/// Where a layer is taken from and shown, and the alpha of its plane.
+#[derive(Clone, Copy)]
+struct Place {
+    src: Rect,
+    dst: Rect,
+    alpha: u32,
+}
+
+/// An opaque layer.
+fn opaque(src: Rect, dst: Rect) -> Place {
+    Place {
+        src,
+        dst,
+        alpha: 65535,
+    }
+}
+
+/// Whether the numbers of a source are in their ranges.
+fn is_source(src: &Rect) -> bool
+    ensures { result ≡ true → IsSource src.now }
+{
+    if src.x < 0 || src.y < 0 {
+        return false;
+    }
+    if src.w < 0 || src.h < 0 {
+        return false;
+    }
+    if src.x > 4294967295 || src.y > 4294967295 {
+        return false;
+    }
+    if src.w > 4294967295 || src.h > 4294967295 {
+        return false;
+    }
+    true
+}
+
+/// Whether the numbers of a destination are in their ranges.
+fn is_destination(dst: &Rect) -> bool
+    ensures { result ≡ true → IsDestination dst.now }
+{
+    if dst.x < -2147483647 || dst.y < -2147483647 {
+        return false;
+    }
+    if dst.w < 0 || dst.h < 0 {
+        return false;
+    }
+    if dst.x > 2147483647 || dst.y > 2147483647 {
+        return false;
+    }
+    if dst.w > 2147483647 || dst.h > 2147483647 {
+        return false;
+    }
+    true
+}
+
+/// Whether a layer may be shown, of a framebuffer of this size.
+fn may_show(src: &Rect, dst: &Rect, width: u32, height: u32) -> bool
+    ensures { result ≡ true → MayShow src.now dst.now width height }
+{
+    if !is_source(src) {
+        return false;
+    }
+    if !is_destination(dst) {
+        return false;
+    }
+    if !is_scaled_little(src.w, dst.w) {
+        return false;
+    }
+    if !is_scaled_little(src.h, dst.h) {
+        return false;
+    }
+    fits_source(*src, width, height)
+}
+
+/// A layer of the framebuffer 1000, which has this size and the format XR24.
+fn layer(mode: &Mode, width: u32, height: u32, place: &Place) -> Layer
+    requires shown { MayShow place.now.src place.now.dst width height }
+    requires alpha { place.now.alpha ≤ 65535 }
+    ensures { IsOfTest mode.now width height result }
+{
+    let area = rect(0, 0, i64::from(mode.hdisplay), i64::from(mode.vdisplay));
+    Layer {
+        plane: 200,
+        fb: FbInfo {
+            id: 1000,
+            width,
+            height,
+            format: Format::Xr24,
+        },
+        dst: place.dst,
+        src: place.src,
+        visible: clip(place.dst, area),
+        alpha: place.alpha,
+        blend: 0,
+    }
+}
+
+/// The layers at some places of one framebuffer, from the lowest; the test ends where one may not be shown.
+fn layers(rt: &impl Abort, mode: &Mode, width: u32, height: u32, places: &[Place]) -> Layers
+    requires { length places.now ≤ 16 }
+    ensures { All (IsOfTest mode.now width height) result }
+{
+    let mut all = Layers::new();
+    for place in places {
+        assert!(rt; place.alpha <= 65535);
+        assert!(rt; may_show(&place.src, &place.dst, width, height));
+        all.push(layer(mode, width, height, place));
+    }
+    all
+}
+
+/// The frame of layers of one framebuffer, through a table.
+fn composed(
+    rt: &impl Abort,
+    alloc: Global,
+    shown: (Mode, Option<Gamma>),
+    fb: (u32, u32),
+    places: &[Place],
+    words: &[u32],
+) -> Result<Vec<u8>, Fail>
+    requires { length places.now ≤ 16 }
+{
+    let (mode, gamma) = shown;
+    let (width, height) = fb;
+    assert!(rt; width <= 65536);
+    assert!(rt; height <= 65536);
+    assert!(rt; words.len() == width as usize * height as usize);
+    let mut images = Seq::new(alloc);
+    images.push(FbImage {
+        fb: 1000,
+        image: Image {
+            width,
+            height,
+            format: Format::Xr24,
+            words,
+        },
+    })?;
+    let picture = Picture::On(Shown {
+        mode,
+        conn: 300,
+        gamma,
+        layers: layers(rt, &mode, width, height, places),
+    });
+    Ok(frame(alloc, &picture, &images)?.into_vec())
+}
+/// One layer of a framebuffer in a mode of this size, and the blue of each pixel that it is to show.
+#[derive(Clone, Copy)]
+struct Case<'a> {
+    size: (u16, u16),
+    fb: (u32, u32),
+    src: Rect,
+    dst: Rect,
+    words: &'a [u32],
+    blues: &'a [u8],
+}
+
+/// Whether the blue of each pixel of a frame is this one.
+fn has_blues(frame: &[u8], blues: &[u8]) -> bool {
+    if frame.len() / 3 != blues.len() {
+        return false;
+    }
+    for (i, blue) in blues.iter().enumerate() {
+        if frame[3 * i + 2] != *blue {
+            return false;
+        }
+    }
+    true
+}
+
+/// Ends the test where one of these is shown otherwise.
+fn are_shown(rt: &impl Abort, alloc: Global, cases: &[Case]) -> Result<(), Fail> {
+    for (i, case) in cases.iter().enumerate() {
+        let shown = (mode(case.size.0, case.size.1), None);
+        let place = opaque(case.src, case.dst);
+        let frame = composed(rt, alloc, shown, case.fb, &[place], case.words)?;
+        assert!(rt; has_blues(frame.as_slice(), case.blues), "case {i}");
+    }
+    Ok(())
+}
+
+#[test]
+fn two_pixels_are_shown_twice_each(rt: HostRuntime) -> Result<(), Fail> {
+    let wide = opaque(rect(0, 0, 2 * PIXEL, PIXEL), rect(0, 0, 4, 1));
+    let frame = composed(&rt, rt.alloc(), (mode(4, 1), None), (2, 1), &[wide], &TWO)?;
+    assert_eq!(rt;
+        frame.as_slice(),
+        [97, 98, 99, 97, 98, 99, 102, 111, 111, 102, 111, 111].as_slice()
+    );
+    Ok(())
+}
+
+// The middle of a source from half of the first pixel on is where the second begins; a step before it lies in the first.
+#[test]
+fn a_source_may_begin_between_two_pixels(rt: HostRuntime) -> Result<(), Fail> {
+    let starts = [(0, [99]), (32767, [99]), (32768, [111]), (65536, [111])];
+    for (start, blues) in &starts {
+        let case = Case {
+            size: (1, 1),
+            fb: (2, 1),
+            src: rect(*start, 0, PIXEL, PIXEL),
+            dst: rect(0, 0, 1, 1),
+            words: &TWO,
+            blues,
+        };
+        are_shown(&rt, rt.alloc(), &[case])?;
+    }
+    Ok(())
+}
+
+/// A row of a framebuffer that is shown on a row of the mode.
+fn row<'a>(
+    w: u16,
+    fb: u32,
+    long: i64,
+    dst: (i64, i64),
+    words: &'a [u32],
+    blues: &'a [u8],
+) -> Case<'a> {
+    Case {
+        size: (w, 1),
+        fb: (fb, 1),
+        src: rect(0, 0, long, PIXEL),
+        dst: rect(dst.0, 0, dst.1, 1),
+        words,
+        blues,
+    }
+}
+
+/// A column of a framebuffer that is shown on a column of the mode.
+fn column<'a>(
+    h: u16,
+    fb: u32,
+    long: i64,
+    dst: (i64, i64),
+    words: &'a [u32],
+    blues: &'a [u8],
+) -> Case<'a> {
+    Case {
+        size: (1, h),
+        fb: (1, fb),
+        src: rect(0, 0, PIXEL, long),
+        dst: rect(0, dst.0, 1, dst.1),
+        words,
+        blues,
+    }
+}
+
+// Of eight pixels on two, the middles of four each: 2 and 6. Of a source that is 1/65536 shorter, 1.99999 and 5.99996.
+#[test]
+fn four_pixels_become_one(rt: HostRuntime) -> Result<(), Fail> {
+    let words = [0, 1, 2, 3, 4, 5, 6, 7];
+    let cases = [
+        row(2, 8, 8 * PIXEL, (0, 2), &words, &[2, 6]),
+        row(2, 8, 8 * PIXEL - 1, (0, 2), &words, &[1, 5]),
+        column(2, 8, 8 * PIXEL, (0, 2), &words, &[2, 6]),
+    ];
+    are_shown(&rt, rt.alloc(), &cases)
+}
+
+// At the left, at the right, at the top and at the bottom.
+#[test]
+fn one_pixel_becomes_four_and_is_cut_at_the_edges(rt: HostRuntime) -> Result<(), Fail> {
+    let words = [10, 11];
+    let cases = [
+        row(4, 2, 2 * PIXEL, (-3, 8), &words, &[10, 11, 11, 11]),
+        row(6, 2, 2 * PIXEL, (1, 8), &words, &[0, 10, 10, 10, 10, 11]),
+        column(4, 2, 2 * PIXEL, (-3, 8), &words, &[10, 11, 11, 11]),
+        column(6, 2, 2 * PIXEL, (1, 8), &words, &[0, 10, 10, 10, 10, 11]),
+    ];
+    are_shown(&rt, rt.alloc(), &cases)
+}
+
+// Two and a half pixels from the middle of the first on, over three: their middles are at 0.9167, 1.75 and 2.5833.
+#[test]
+fn both_axes_are_scaled_by_themselves(rt: HostRuntime) -> Result<(), Fail> {
+    let words = [
+        0x00, 0x01, 0x02, 0x03, //
+        0x10, 0x11, 0x12, 0x13, //
+        0x20, 0x21, 0x22, 0x23, //
+        0x30, 0x31, 0x32, 0x33,
+    ];
+    let case = Case {
+        size: (3, 4),
+        fb: (4, 4),
+        src: rect(PIXEL / 2, PIXEL, 5 * PIXEL / 2, 2 * PIXEL),
+        dst: rect(0, 0, 3, 4),
+        words: &words,
+        blues: &[
+            0x10, 0x11, 0x12, 0x10, 0x11, 0x12, 0x20, 0x21, 0x22, 0x20, 0x21, 0x22,
+        ],
+    };
+    are_shown(&rt, rt.alloc(), &[case])
+}
+
+// The largest destination, of which the mode shows the last pixels, and the largest source.
+#[test]
+fn the_largest_numbers_are_shown(rt: HostRuntime) -> Result<(), Fail> {
+    let mut words = vec![in rt.alloc(); 0u32; 65534]?;
+    words.push(7)?;
+    words.push(8)?;
+    let last = row(
+        2,
+        65536,
+        4294967295,
+        (-262140, 262142),
+        words.as_slice(),
+        &[8, 8],
+    );
+    are_shown(&rt, rt.alloc(), &[last])
+}
+
+/// A table whose channels differ: red inverts, green adds 1 and blue halves.
+fn table() -> Gamma {
+    let mut gamma = Gamma {
+        red: [0; 256],
+        green: [0; 256],
+        blue: [0; 256],
+    };
+    for value in 0..256 {
+        gamma.red[value] = (255 - value) as u8;
+        gamma.green[value] = (value as u8).wrapping_add(1);
+        gamma.blue[value] = (value / 2) as u8;
+    }
+    gamma
+}
+
+// By hand: 200, 180, 160 under a half of 64, 32, 16 is 132, 106, 88, and under a half of that by plane's alpha 98, 69, 52.
+#[test]
+fn a_table_is_over_the_colour_of_all_layers(rt: HostRuntime) -> Result<(), Fail> {
+    let mode = mode(2, 1);
+    let dst = rect(0, 0, 1, 1);
+    let lower = opaque(rect(0, 0, PIXEL, PIXEL), dst);
+    let mut upper = opaque(rect(PIXEL, 0, PIXEL, PIXEL), dst);
+    upper.alpha = 32768;
+    let words = [0x00c8_b4a0, 0x0040_2010];
+    let places = [lower, upper, upper];
+    let without = composed(&rt, rt.alloc(), (mode, None), (2, 1), &places, &words)?;
+    assert!(rt; without.as_slice() == [98, 69, 52, 0, 0, 0].as_slice());
+    let through = composed(
+        &rt,
+        rt.alloc(),
+        (mode, Some(table())),
+        (2, 1),
+        &places,
+        &words,
+    )?;
+    assert!(rt; through.as_slice() == [157, 70, 26, 255, 1, 0].as_slice());
+    Ok(())
+}

@@ -1,7 +1,0 @@
-use Rattle.std.proofs.Common.{◌≡◌, ◌*◌, length, take}
-use Rattle.kms_model.specs.Machine.Registers.{bytes_of_words}
-use Rattle.kms_regs.proofs.words.bytes_of.Given as goal
-
--- the bytes so far are those of the words so far
-abbrev pub invariant-loop-i : goal.invariant-loop-i
-invariant-loop-i l = record { long : length l.bytes ≡ 68; so_far : take (4 * l.i) l.bytes ≡ bytes_of_words (take l.i l.words) }
