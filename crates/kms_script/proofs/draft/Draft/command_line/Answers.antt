@@ -17,7 +17,12 @@ returns-clause-keeps c =
         planes = old.planes;
         conns = old.conns;
       };
-      clients = search rules;
+      clients = record {
+        few = search rules;
+        clients = c.requires.sound.clients.clients;
+        few_commands = search rules;
+        commands = search rules;
+      };
       size = refl;
       names = c.in_ok-command.ensures.grows;
       once = c.in_ok-command.ensures.once;
