@@ -7,7 +7,7 @@ use Rattle.std.proofs.lemmas.List.Elements.{All-append, All-head, All-nil, All-c
 use Rattle.kms_model.specs.declared.objects.Kind.TheVariants.{Crtc}
 use Rattle.kms_model.specs.declared.replies.Step.{Step}
 use Rattle.kms_model.specs.declared.replies.Step.TheVariants.{Vblank, Stall}
-use Rattle.kms_core.specs.Run.{Run}
+use Rattle.kms_stores.specs.Run.{Run}
 use Rattle.kms_device.specs.Kernels.{AddsPlain, IsCounted, is_plain}
 use Rattle.kms_device.specs.Steps.{NeverEnds, blankings, is_blanking, is_stall, one_more_if}
 
