@@ -1,7 +1,7 @@
 //! The lines of latches.
 ghost use Rattle.std.specs.Prelude.{◌≡◌, ◌*◌, ◌++◌, ◌∷◌, [], codes, length, string_bytes, All, IfOk, OnOk};
 ghost use Rattle.std.specs.Fmt.{decimal};
-ghost use Rattle.kms_core.specs.Run.{machine};
+ghost use Rattle.kms_stores.specs.Run.{machine};
 ghost use Rattle.kms_model.specs.declared.pictures.Picture.TheVariants.{On};
 ghost use Rattle.kms_model.specs.Frames.Ppm.{ppm};
 ghost use Rattle.kms_model.specs.Frames.Shown.{EachCanBeShown};
