@@ -30,7 +30,7 @@ invariant_of-stores c =
     let k = c.args.commit in
     let owns = owns_cleanup r c.args.stores.now st k c.stores.invariant.stands c.stores.view_is c.requires c.is_over.result c.is_over.ensures c.if-not-is_over.false in
     let stands =
-    cleans_up r c.args.stores.now st k c.cleanup.new.stores c.remove.new.self r.steps c.push.new.self.items c.stores.invariant.stands c.stores.view_is c.requires owns.over
+    cleans_up r c.args.stores.now st k c.cleanup.new.self c.remove.new.self r.steps c.push.new.self.items c.stores.invariant.stands c.stores.view_is c.requires owns.over
     refl c.push.ensures.items (record { count = c.cleanup.ensures.count; lasts = c.cleanup.ensures.lasts; pending = c.cleanup.ensures.pending }) c.remove.ensures.stands
     c.as_slice.result.now c.free.new.freed
     (tail_keeps_all r c.args.stores.now st k c.in-Some.tail.now c.kept_ids-kept_ids.result.items c.as_slice.result.now c.stores.invariant.stands c.stores.view_is c.requires
