@@ -1,5 +1,5 @@
 //! Decisions on requests.
-ghost use Rattle.std.specs.Prelude.{◌≡◌, ◌<◌, ◌↔◌, [], ◌∷◌, IfOk, IsTrue};
+ghost use Rattle.std.specs.Prelude.{◌≡◌, ◌<◌, ◌↔◌, [], ◌∷◌, IfOk, None};
 ghost use Rattle.kms_model.specs.Device.World.{thing_labelled};
 ghost use Rattle.kms_model.specs.Request.Lookups.{look_of, look_up, lookups};
 ghost use Rattle.kms_model.specs.declared.replies.Reply.TheVariants as reply;
@@ -36,13 +36,14 @@ pub fn refuse(
         (steps_of (taker (machine stores.old) t.0)
         (step.Refuse (taker (machine stores.old) t.0)))) }
 {
-    if let Some(stale) = first_stale(&stores.things, used) {
-        return Ok(stale.again());
-    }
     let client = taker(&stores.clients, t);
-    let reply = Reply::Refused(why);
-    decide(stores, client, Step::Refuse { client }, reply)?;
-    Ok(Decided::Done { reply })
+    decide_fresh(
+        stores,
+        used,
+        client,
+        Step::Refuse { client },
+        Reply::Refused(why),
+    )
 }
 
 /// Tells that the request of the client whose context has a ticket and takes locks would be accepted. It is tested
@@ -63,14 +64,30 @@ pub fn test(
         (steps_of (taker (machine stores.old) t.0)
         (step.Test (taker (machine stores.old) t.0)))) }
 {
+    let client = taker(&stores.clients, t);
+    decide_fresh(stores, used, client, Step::Test { client }, Reply::Tested)
+}
+
+/// Decides a client's request by a step with a reply, where its labels name what `used` tells that they named; else `Again`
+/// comes, with the first that does not, and nothing changes.
+fn decide_fresh(
+    stores: &mut Stores,
+    used: &Lookups,
+    client: u32,
+    step: Step,
+    reply: Reply,
+) -> Result<Decided, NoMemory>
+    requires { IsFirstStale (look_up (world stores.old)) used.now None
+        → Decides stores.old client step reply }
+    ensures answer { IfOk result (IsDecided (look_up (world stores.old)) used.now
+        (decided.Done reply)) }
+    ensures history { stores.new ≡ gains stores.old (if_ok result (steps_of client step)) }
+{
     if let Some(stale) = first_stale(&stores.things, used) {
         return Ok(stale.again());
     }
-    let client = taker(&stores.clients, t);
-    decide(stores, client, Step::Test { client }, Reply::Tested)?;
-    Ok(Decided::Done {
-        reply: Reply::Tested,
-    })
+    decide(stores, client, step, reply)?;
+    Ok(Decided::Done { reply })
 }
 
 /// Decides a client's request by a step with a reply: it drops its locks and goes on to its next command.

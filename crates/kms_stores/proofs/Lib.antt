@@ -13,6 +13,7 @@ pub mod Recorded
 pub mod AfterCommit
 pub mod Committed
 pub mod Fencing
+pub mod WithRoom
 pub mod CommitStates
 pub mod Seeking
 pub mod Ranges
