@@ -19,7 +19,8 @@ use Rattle.kms_calls.specs.Locks.{lock_step, lock_steps, relock_steps}
 use Rattle.kms_stores.specs.Run.{Run, gains, if_ok}
 use Rattle.kms_stores.specs.Work.{claim_steps}
 use Rattle.kms_device.specs.Kernels.{AddsPlainOf, is_plain}
-use Rattle.kms_device.specs.Steps.{blankings, owner, step_if}
+use Rattle.kms_laws.specs.Blankings.{blankings}
+use Rattle.kms_device.specs.Steps.{owner, step_if}
 use Rattle.kms_device.specs.Turns.{Called, DevicePass, IsOpen, MayBeFound, Turn}
 
 abbrev pub entries : Run → List Step

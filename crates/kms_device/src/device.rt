@@ -8,7 +8,7 @@ ghost use Rattle.kms_model.specs.Machine.State.{place_at};
 ghost use Rattle.kms_model.specs.Script.WellFormed.{IsWellFormed};
 ghost use Rattle.kms_stores.specs.Run.{Run, machine};
 ghost use Rattle.kms_device.specs.Kernels.{AddsPlainOf};
-ghost use Rattle.kms_device.specs.Steps.{blankings};
+ghost use Rattle.kms_laws.specs.Blankings.{blankings};
 ghost use Rattle.kms_device.specs.Turns.{Called, MayBeFound, Turn};
 
 use crate::kernel::{Kernel, Pass};

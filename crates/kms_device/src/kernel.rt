@@ -43,7 +43,8 @@ impl Model for Kernel {
 
 impl Kept for Kernel {
     ghost use Rattle.kms_stores.specs.Run.{Run};
-    ghost use Rattle.kms_device.specs.Steps.{blankings, blankings-grow, owner};
+    ghost use Rattle.kms_laws.specs.Blankings.{blankings};
+    ghost use Rattle.kms_device.specs.Steps.{blankings-grow, owner};
     ghost use Rattle.kms_device.specs.Turns.{IsOpen};
 
     type Entry = Step;
