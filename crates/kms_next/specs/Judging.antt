@@ -4,7 +4,7 @@ use Rattle.std.specs.Prelude.{◌≡◌, ℕ, Bool, true, false, is_some, Option
 use Rattle.kms_model.specs.declared.objects.Topology.{Topology}
 use Rattle.kms_model.specs.declared.scripts.Request.{Request}
 use Rattle.kms_model.specs.declared.scripts.Script.{Script}
-use Rattle.kms_model.specs.Machine.State.{Machine, doing_at, holds, request_at}
+use Rattle.kms_model.specs.Machine.State.{Machine, doing_at, request_at}
 use Rattle.kms_model.specs.Machine.Steps.{holds_touched, is_ready, is_taking}
 use Rattle.kms_model.specs.Request.Verdict.{early_in, late_in}
 use Rattle.kms_request.specs.Answers.{refusal_number}
