@@ -37,7 +37,7 @@ use Rattle.kms_logs.specs.Logs.{Logged}
 use Rattle.kms_stores.specs.Run.{Run, machine}
 use Rattle.kms_stores.specs.Stands.{AreMadeFences, IsWorldOf, Stores, Stands, StandsAt}
 use Rattle.kms_stores.proofs.Beside.{moved, stands_moved}
-use Rattle.kms_stores.proofs.Fencing.{executed_fenced, executed_more, made_stand, same_fences, same_slots}
+use Rattle.kms_stores.proofs.Fencing.{executed_fenced, executed_more, made_stand}
 use Rattle.kms_stores.proofs.FreedCalls.{closed_place, made_freed, world_after}
 use Rattle.kms_stores.proofs.Histories.{goes_freeing, same_freed, with_freed}
 use Rattle.kms_stores.proofs.Places.{IsIdleAt, idle_there, not_ended}

@@ -75,7 +75,7 @@ use Rattle.kms_stores.proofs.WithRoom.{stands_with_room}
 use Rattle.kms_decide.proofs.Answering.{MayDecide, may_decide}
 use Rattle.kms_stores.proofs.Committed.{committed_present, has_plane}
 use Rattle.kms_once.proofs.Ended.{history_ended}
-use Rattle.kms_stores.proofs.Fencing.{same_fences, same_slots, thing_made as thing_under}
+use Rattle.kms_stores.proofs.Fencing.{thing_made as thing_under}
 use Rattle.kms_stores.proofs.Histories.{goes_on}
 use Rattle.kms_once.proofs.Labels.{asks_made, serial_absent}
 use Rattle.kms_once.specs.Once.{makes}

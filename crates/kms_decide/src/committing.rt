@@ -1,5 +1,5 @@
 //! What a commit leaves in the stores.
-ghost use Rattle.std.specs.Prelude.{ℕ, ◌≡◌, ◌<◌, ◌≤◌, ◌+◌, ◌*◌, ◌++◌, List, [], ◌∷◌, length, map, IfOk, IsSome, OnErr, OnOk, Some, option_copied, true, false};
+ghost use Rattle.std.specs.Prelude.{ℕ, ◌≡◌, ◌<◌, ◌≤◌, ◌+◌, ◌*◌, ◌++◌, List, [], ◌∷◌, length, map, IfOk, IsSome, OnErr, OnOk, Some, true, false};
 ghost use Rattle.kms_model.specs.declared.replies.Reply.TheVariants as reply;
 ghost use Rattle.kms_model.specs.declared.replies.Step.TheVariants as step;
 ghost use Rattle.kms_model.specs.declared.scripts.Assign.{Assign};
@@ -14,7 +14,7 @@ ghost use Rattle.kms_model.specs.Stores.Tables.{AreBelow};
 ghost use Rattle.kms_clients.specs.InStep.{AreClientsOf, IsTaking, after_decision, after_swap};
 ghost use Rattle.kms_clients.specs.Standing.{IsClient, place_of};
 ghost use Rattle.kms_signal.specs.Queues.{HasSpace};
-ghost use Rattle.kms_tails.specs.InStep.{StandsAfterSwap, StandsAlike};
+ghost use Rattle.kms_tails.specs.InStep.{StandsAfterSwap};
 ghost use Rattle.kms_things.specs.Made.{HasIds, with_made};
 ghost use Rattle.kms_track.specs.Tracking.{IsSetUp};
 ghost use Rattle.kms_stores.specs.Calls.{answered, joined};

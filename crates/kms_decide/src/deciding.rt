@@ -1,23 +1,15 @@
 //! Decisions on requests.
-ghost use Rattle.std.specs.Prelude.{◌≡◌, ◌<◌, ◌↔◌, [], ◌∷◌, IfOk, None};
-ghost use Rattle.kms_model.specs.Device.World.{thing_labelled};
-ghost use Rattle.kms_model.specs.Request.Lookups.{look_of, look_up, lookups};
+ghost use Rattle.std.specs.Prelude.{◌≡◌, ◌<◌, [], ◌∷◌, IfOk, None};
+ghost use Rattle.kms_model.specs.Request.Lookups.{look_up};
 ghost use Rattle.kms_model.specs.declared.replies.Reply.TheVariants as reply;
 ghost use Rattle.kms_model.specs.declared.replies.Step.TheVariants as step;
 ghost use Rattle.kms_stores.specs.declared.looking.Decided.TheVariants as decided;
 ghost use Rattle.kms_stores.specs.Decisions.{Decides, IsDecided, IsFirstStale, MayRefuse, MayTest};
-ghost use Rattle.kms_stores.specs.Decisions.{labels_of, looks_at, steps_of, taker, taker_at, taker_in, world};
+ghost use Rattle.kms_stores.specs.Decisions.{steps_of, taker, world};
 ghost use Rattle.kms_stores.specs.Run.{gains, if_ok, machine};
-ghost use Rattle.kms_clients.specs.Standing.{doing_in};
 
-use kms_clients::Clients;
-use kms_model::{
-    Answered, Assign, Checked, Doing, Look, Lookups, MAX_CLIENTS, NoMemory, ObjId, Refusal, Reply,
-    Request, Step, Ticket, Value,
-};
+use kms_model::{Answered, Checked, Lookups, NoMemory, Refusal, Reply, Step, Ticket};
 use kms_stores::{Decided, Stores, first_stale, make_step_room, taker};
-use kms_things::Things;
-use std::alloc::Global;
 
 /// Refuses the request of the client whose context has a ticket and takes locks. `used` tells what the request's labels
 /// named. `why` is the first of refusals 1 to 8 with that; or the first of refusals 9 to 24, as a check of present

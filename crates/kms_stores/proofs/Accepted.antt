@@ -37,7 +37,7 @@ use Rattle.kms_model.specs.Script.WellFormed.{IsWellFormed}
 use Rattle.kms_stores.specs.Stands.{Stores, Stands}
 use Rattle.kms_clients.specs.Standing.{doing_in}
 use Rattle.kms_stores.specs.Decisions.{taker_in}
-use Rattle.kms_stores.proofs.Fresh.{fresh_now, named_among, tells_now}
+use Rattle.kms_stores.proofs.Fresh.{tells_now}
 use Rattle.kms_stores.proofs.Takers.{taker_as}
 use Rattle.kms_stores.proofs.Verdicts.{Decider, decider, implied, of_request}
 

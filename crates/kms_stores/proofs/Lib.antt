@@ -1,4 +1,3 @@
-pub mod Insides
 pub mod Histories
 pub mod Spared
 pub mod Beside

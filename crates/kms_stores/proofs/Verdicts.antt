@@ -32,7 +32,7 @@ use Rattle.kms_stores.specs.Run.{Run, machine}
 use Rattle.kms_stores.specs.Stands.{Stores, Stands}
 use Rattle.kms_clients.specs.Standing.{doing_in}
 use Rattle.kms_stores.specs.Decisions.{taker_in}
-use Rattle.kms_stores.proofs.Fresh.{fresh_now, named_among, tells_now}
+use Rattle.kms_stores.proofs.Fresh.{tells_now}
 use Rattle.kms_stores.proofs.Takers.{IsTaker, taker_as, takes}
 
 -- what a check was given is of the request in the present world

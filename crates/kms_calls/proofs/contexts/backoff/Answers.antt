@@ -3,7 +3,7 @@ use Rattle.kms_clients.specs.Standing.{ticket_in}
 use Rattle.kms_model.specs.declared.replies.Step.TheVariants as step
 use Rattle.kms_stores.specs.Run.{machine}
 use Rattle.kms_calls.proofs.BackingOff.{client_of_context, is_found, must_place, backoff_goes_on, gains_step}
-use Rattle.kms_stores.proofs.Insides.{run_of, stores_of}
+use Rattle.kms_stores.specs.Insides.{run_of, stores_of}
 use Rattle.kms_stores.proofs.Spared.{other_spared}
 use Rattle.kms_calls.proofs.contexts.backoff.Goals as goal
 

@@ -1,7 +1,7 @@
 use Rattle.std.proofs.Common.{refl}
 use Rattle.kms_stores.specs.Run.{machine}
 use Rattle.kms_calls.proofs.Locking.{begins, begins_idle, tickets_fit}
-use Rattle.kms_stores.proofs.Insides.{run_of, stores_of}
+use Rattle.kms_stores.specs.Insides.{run_of, stores_of}
 use Rattle.kms_stores.proofs.Spared.{other_spared}
 use Rattle.kms_calls.proofs.contexts.begin.Goals as goal
 

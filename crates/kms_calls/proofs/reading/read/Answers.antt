@@ -4,7 +4,7 @@ use Rattle.kms_signal.specs.Queues.{Queue, after_read}
 use Rattle.kms_stores.specs.Calls.{read_reply}
 use Rattle.kms_stores.specs.Run.{machine}
 use Rattle.kms_calls.proofs.Delivered.{found_queue, has_queue, idle_reader, none_told, reads_event, told_reply}
-use Rattle.kms_stores.proofs.Insides.{run_of, stores_of}
+use Rattle.kms_stores.specs.Insides.{run_of, stores_of}
 use Rattle.kms_stores.proofs.Spared.{other_spared}
 use Rattle.kms_calls.proofs.reading.read.Goals as goal
 

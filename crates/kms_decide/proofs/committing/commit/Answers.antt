@@ -7,7 +7,7 @@ use Rattle.kms_tails.specs.InStep.{StandsAfterSwap}
 use Rattle.kms_stores.specs.Run.{machine}
 use Rattle.kms_stores.specs.Settled.{fences_under, labels_in}
 use Rattle.kms_decide.proofs.Commits.{again, below_tails, commits, decider, few_commits, few_waits, found_queue, has_ids, high, may_now, own, queues_same, roomy, set_up_same, space_again, there}
-use Rattle.kms_stores.proofs.Insides.{run_of, stores_of}
+use Rattle.kms_stores.specs.Insides.{run_of, stores_of}
 use Rattle.kms_stores.proofs.Spared.{still_spared, swap_spared, with_latches}
 use Rattle.kms_decide.proofs.committing.commit.Goals as goal
 

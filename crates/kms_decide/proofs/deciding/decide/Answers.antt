@@ -2,7 +2,7 @@ use Rattle.std.proofs.Common.{ap, length, subst, sym}
 use Rattle.kms_stores.specs.Decisions.{Decides}
 use Rattle.kms_stores.specs.Run.{Run, machine}
 use Rattle.kms_decide.proofs.Answering.{decided_stands, may_decide_as}
-use Rattle.kms_stores.proofs.Insides.{run_of, stores_of}
+use Rattle.kms_stores.specs.Insides.{run_of, stores_of}
 use Rattle.kms_stores.proofs.Spared.{decision_other, other_spared}
 use Rattle.kms_decide.proofs.deciding.decide.Goals as goal
 

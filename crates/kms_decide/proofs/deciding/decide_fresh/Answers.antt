@@ -1,7 +1,7 @@
 use Rattle.std.proofs.Common.{refl}
 use Rattle.kms_stores.specs.declared.looking.Decided.TheVariants as answer
 use Rattle.kms_stores.proofs.Fresh.{answers_again, fresh_now}
-use Rattle.kms_stores.proofs.Insides.{run_of, stores_of}
+use Rattle.kms_stores.specs.Insides.{run_of, stores_of}
 use Rattle.kms_decide.proofs.deciding.decide_fresh.Goals as goal
 
 pub returns-in-Some-clause-answer : goal.returns-in-Some-clause-answer

@@ -1,9 +1,8 @@
 use Rattle.std.proofs.Common.{ap, ◌∙◌}
-use Rattle.std.specs.Prelude.{Result}
 use Rattle.kms_model.specs.declared.replies.Step.TheVariants as step
 use Rattle.kms_stores.specs.Decisions.{steps_of}
 use Rattle.kms_stores.specs.Run.{gains, if_ok}
-use Rattle.kms_stores.proofs.Insides.{run_of, stores_of}
+use Rattle.kms_stores.specs.Insides.{run_of, stores_of}
 use Rattle.kms_stores.proofs.Takers.{taker_as}
 use Rattle.kms_stores.proofs.Verdicts.{refuses_as}
 use Rattle.kms_decide.proofs.deciding.refuse.Goals as goal

@@ -4,7 +4,7 @@ use Rattle.kms_model.specs.declared.replies.Step.TheVariants.{Flush}
 use Rattle.kms_model.specs.Device.Objects.{object_id}
 use Rattle.kms_work.proofs.Flushing.{few_flushed, flush_latches, flushes_next, flushes_off, flushes_on}
 use Rattle.kms_stores.proofs.FreedCalls.{live_all, live_few, live_places}
-use Rattle.kms_stores.proofs.Insides.{run_of, stores_of}
+use Rattle.kms_stores.specs.Insides.{run_of, stores_of}
 use Rattle.kms_stores.proofs.Spared.{own_room, own_spared, own_step, tail_spared}
 use Rattle.kms_work.proofs.latching.flush.Goals as goal
 

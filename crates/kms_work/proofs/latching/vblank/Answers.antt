@@ -5,7 +5,7 @@ use Rattle.kms_model.specs.declared.replies.Step.TheVariants.{Vblank}
 use Rattle.kms_model.specs.Device.Objects.{object_id}
 use Rattle.kms_work.proofs.Blanking.{blank_latches, blanks_crtc, blanks_for, blanks_legal, blanks_low, blanks_with, blanks_without, count_fits, few_blanked, goes_is, has_picture}
 use Rattle.kms_stores.proofs.FreedCalls.{live_all, live_few, live_places}
-use Rattle.kms_stores.proofs.Insides.{run_of, stores_of}
+use Rattle.kms_stores.specs.Insides.{run_of, stores_of}
 use Rattle.kms_stores.proofs.Spared.{other_spared, tail_room, tail_spared}
 use Rattle.kms_work.proofs.latching.vblank.Goals as goal
 

@@ -2,7 +2,7 @@ use Rattle.std.proofs.Common.{refl, sym, subst}
 use Rattle.kms_model.specs.declared.replies.Step.TheVariants.{HwDone}
 use Rattle.kms_stores.specs.Run.{Run}
 use Rattle.kms_stores.specs.Work.{MayBeDone}
-use Rattle.kms_stores.proofs.Insides.{run_of, stores_of}
+use Rattle.kms_stores.specs.Insides.{run_of, stores_of}
 use Rattle.kms_work.proofs.Marking.{ends_writing}
 use Rattle.kms_stores.proofs.Spared.{own_room, own_spared, own_step}
 use Rattle.kms_work.proofs.workers.hw_done.Goals as goal
