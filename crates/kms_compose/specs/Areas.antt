@@ -1,8 +1,7 @@
 -- Rectangles of pixels that are drawn anew, and frames as functions of the place.
-use Rattle.std.specs.Prelude.{◌≡◌, ◌≤◌, ℕ, ◌+◌, Bool, false, ◌&&◌, List, Option, Some, None, if◌then◌else◌}
+use Rattle.std.specs.Prelude.{◌≤◌, ℕ, ◌+◌, Bool, false, ◌&&◌, List, Option, Some, None, if◌then◌else◌}
 use Rattle.std.specs.List.{flat_map, range_with_len}
 use Rattle.kms_model.specs.declared.pictures.Colour.{Colour}
-use Rattle.kms_model.specs.declared.pictures.Shown.{Shown}
 use Rattle.kms_model.specs.Frames.FrameBytes.{channels}
 use Rattle.kms_compose.specs.declared.areas.Area.{Area}
 use Rattle.kms_compose.specs.Parts.{is_within}
@@ -27,9 +26,3 @@ drawn anew new old x y = if anew x y then new x y else old x y
 pub record FitsIn (width height : ℕ) (a : Area) : Type 0 where
   pub across : a.left + a.width ≤ width
   pub down : a.top + a.height ≤ height
-
--- two pictures have modes of one size and the same table of colour values
-pub record IsSameGround (old new : Shown) : Type 0 where
-  pub width : old.mode.hdisplay ≡ new.mode.hdisplay
-  pub height : old.mode.vdisplay ≡ new.mode.vdisplay
-  pub gamma : old.gamma ≡ new.gamma

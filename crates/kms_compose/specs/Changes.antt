@@ -1,11 +1,23 @@
 -- Layers that differ between two pictures.
-use Rattle.std.specs.Prelude.{◌≡◌, ℕ, false, List, Option, All}
+use Rattle.std.specs.Prelude.{◌≡◌, ℕ, Bool, false, ◌||◌, List, [], ◌∷◌, Option}
 use Rattle.kms_model.specs.declared.pictures.Colour.{Colour}
 use Rattle.kms_model.specs.declared.pictures.Layer.{Layer}
+use Rattle.kms_model.specs.declared.pictures.Shown.{Shown}
 use Rattle.kms_model.specs.Frames.FrameBytes.{composed, is_covered}
+
+-- one of some layers covers a pixel
+abbrev pub covered_by : List Layer → ℕ → ℕ → Bool
+covered_by [] x y = false
+covered_by (l ∷ ls) x y = is_covered l.visible x y || covered_by ls x y
 
 -- where none of some layers covers a pixel, two lists of layers have the same colour there
 abbrev pub AgreeBeside : List Layer → List Layer → List Layer → Type 0
 AgreeBeside changed old new =
-    (words : ℕ → ℕ → ℕ → Option ℕ) (x y : ℕ) (under : Colour) → All (λ l. is_covered l.visible x y ≡ false) changed
+    (words : ℕ → ℕ → ℕ → Option ℕ) (x y : ℕ) (under : Colour) → covered_by changed x y ≡ false
     → composed words x y under old ≡ composed words x y under new
+
+-- two pictures have modes of one size and the same table of colour values
+pub record IsSameGround (old new : Shown) : Type 0 where
+  pub width : old.mode.hdisplay ≡ new.mode.hdisplay
+  pub height : old.mode.vdisplay ≡ new.mode.vdisplay
+  pub gamma : old.gamma ≡ new.gamma

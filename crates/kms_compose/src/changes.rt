@@ -1,8 +1,7 @@
 //! Which layers differ between two pictures.
-ghost use Rattle.std.specs.Prelude.{◌≡◌, ◌++◌, ℕ, false, IsTrue, All, IfOk};
-ghost use Rattle.kms_model.specs.declared.pictures.Colour.{Colour};
-ghost use Rattle.kms_model.specs.declared.pictures.Layer.{Layer};
-ghost use Rattle.kms_model.specs.Frames.FrameBytes.{composed, is_covered};
+ghost use Rattle.std.specs.Prelude.{◌≡◌, IsTrue, All, IfOk};
+ghost use Rattle.kms_model.specs.declared.objects.Mode.{Mode};
+ghost use Rattle.kms_model.specs.Frames.Images.{FitsMode};
 ghost use Rattle.kms_compose.specs.Changes.{AgreeBeside};
 
 use kms_model::{Layer, NoMemory};
@@ -30,7 +29,8 @@ fn is_among(layer: &Layer, layers: &[Layer]) -> bool {
 /// among the others changed.
 pub fn changes(alloc: Global, old: &[Layer], new: &[Layer]) -> Result<Vec<Layer>, NoMemory>
     ensures agree { IfOk result (λ changed. AgreeBeside changed.items old.now new.now) }
-    ensures fit { IfOk result (λ changed. (P : Layer → Type 0) → All P old.now → All P new.now → All P changed.items) }
+    ensures fit { IfOk result (λ changed. (m : Mode)
+        → All (FitsMode m) old.now → All (FitsMode m) new.now → All (FitsMode m) changed.items) }
 {
     let mut changed = Vec::new(alloc);
     let mut left = 0;

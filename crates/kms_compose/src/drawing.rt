@@ -102,7 +102,7 @@ pub fn draw_area(
     requires parts { All IsPart parts.now }
     requires narrow { width < 65536 }
     requires across { area.now.left + area.now.width ≤ width }
-    requires long { 3 * (width * (area.now.top + area.now.height)) ≤ length bytes.old }
+    requires long { (area.now.top + area.now.height) * (width * 3) ≤ length bytes.old }
     requires low { area.now.top + area.now.height < 65536 }
     ensures { (height : ℕ) (before : ℕ → ℕ → Colour) → FitsIn width height area.now → bytes.old ≡ canvas width height before
         → bytes.new ≡ canvas width height

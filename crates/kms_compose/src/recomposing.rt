@@ -1,11 +1,15 @@
 //! Frames made of earlier ones.
 ghost use Rattle.std.specs.Prelude.{◌≡◌, ◌<◌, ◌≤◌, ◌*◌, ℕ, IsTrue, All, OnErr, OnOk, length};
+ghost use Rattle.kms_model.specs.declared.objects.Mode.{Mode};
 ghost use Rattle.kms_model.specs.declared.pictures.Colour.{Colour};
 ghost use Rattle.kms_model.specs.declared.pictures.Picture.TheVariants.{On};
 ghost use Rattle.kms_model.specs.declared.worlds.Thing.{Thing};
-ghost use Rattle.kms_model.specs.Frames.FrameBytes.{black, composed, frame_bytes, frame_of, through};
-ghost use Rattle.kms_compose.specs.Areas.{IsSameGround, canvas};
+ghost use Rattle.kms_model.specs.Frames.FrameBytes.{black, frame_bytes, frame_of, is_covered, through};
+ghost use Rattle.kms_model.specs.Frames.Images.{FitsMode};
+ghost use Rattle.kms_compose.specs.Areas.{canvas, drawn};
+ghost use Rattle.kms_compose.specs.Changes.{IsSameGround, covered_by};
 ghost use Rattle.kms_compose.specs.Images.{AreImagesIn, CanShow, IsShowable, word_under};
+ghost use Rattle.kms_compose.specs.Parts.{IsPart, parts_over};
 
 use crate::areas::area_of;
 use crate::changes::changes;
@@ -13,7 +17,7 @@ use crate::drawing::draw_area;
 use crate::frames::{Frame, frame as whole_frame, parts_of};
 use crate::images::{FbImage, Images};
 use crate::parts::Part;
-use kms_model::{Gamma, Layer, NoMemory, Picture, Seq, Shown};
+use kms_model::{Gamma, Layer, Mode, NoMemory, Picture, Seq, Shown};
 use std::alloc::Global;
 use std::mem;
 
@@ -103,14 +107,13 @@ fn redraw(
     ensures exact { OnOk result (frame.new ≡ frame_of (word_under images.now) (On new.now)) }
     ensures unchanged { OnErr result (frame.new ≡ frame.old) }
 {
-    let width = usize::from(new.mode.hdisplay);
     let changed = changes(alloc, old.layers.as_slice(), new.layers.as_slice())?;
     let parts = parts_of(alloc, new, images)?;
     let mut bytes = mem::replace(frame, Seq::new(alloc)).into_vec();
     draw_layers(
         &parts,
         &new.gamma,
-        width,
+        &new.mode,
         changed.as_slice(),
         bytes.as_mut_slice(),
     );
@@ -118,18 +121,46 @@ fn redraw(
     Ok(())
 }
 
-/// Draws the pixels that some layers cover, in a frame of a mode of this width.
+/// Draws the pixels that some layers cover, in a frame of a mode.
 fn draw_layers(
     parts: &[Part],
     gamma: &Option<Gamma>,
-    width: usize,
+    mode: &Mode,
     layers: &[Layer],
     bytes: &mut [u8],
 )
+    requires parts { All IsPart parts.now }
+    requires layers { All (FitsMode mode.now) layers.now }
+    requires narrow { mode.now.hdisplay < 65536 }
+    requires low { mode.now.vdisplay < 65536 }
+    requires long { length bytes.old ≡ mode.now.vdisplay * (mode.now.hdisplay * 3) }
+    ensures { (before : ℕ → ℕ → Colour) → bytes.old ≡ canvas mode.now.hdisplay mode.now.vdisplay before
+        → bytes.new ≡ canvas mode.now.hdisplay mode.now.vdisplay
+        (drawn (covered_by layers.now) (λ x y. through gamma.now (parts_over x y black parts.now)) before) }
 {
     for layer in layers {
-        if let Some(area) = area_of(layer) {
-            draw_area(parts, gamma, width, &area, bytes);
-        }
+        draw_layer(parts, gamma, mode, layer, bytes);
+    }
+}
+
+/// Draws the pixels that a layer covers, in a frame of a mode.
+fn draw_layer(
+    parts: &[Part],
+    gamma: &Option<Gamma>,
+    mode: &Mode,
+    layer: &Layer,
+    bytes: &mut [u8],
+)
+    requires parts { All IsPart parts.now }
+    requires layer { FitsMode mode.now layer.now }
+    requires narrow { mode.now.hdisplay < 65536 }
+    requires low { mode.now.vdisplay < 65536 }
+    requires long { length bytes.old ≡ mode.now.vdisplay * (mode.now.hdisplay * 3) }
+    ensures { (before : ℕ → ℕ → Colour) → bytes.old ≡ canvas mode.now.hdisplay mode.now.vdisplay before
+        → bytes.new ≡ canvas mode.now.hdisplay mode.now.vdisplay
+        (drawn (is_covered layer.now.visible) (λ x y. through gamma.now (parts_over x y black parts.now)) before) }
+{
+    if let Some(area) = area_of(layer) {
+        draw_area(parts, gamma, usize::from(mode.hdisplay), &area, bytes);
     }
 }
