@@ -29,7 +29,8 @@ range_moved f g a b (suc n) h =
 pub range_split : (f : ℕ → List ℕ) (a m n j : ℕ) → a + m ≡ j → flat_map f (range_with_len a (m + n)) ≡ flat_map f (range_with_len a m) ++ flat_map f (range_with_len j n)
 range_split f a zero n j e = ap (λ (k : ℕ). flat_map f (range_with_len k (zero + n))) (omega (arith, e)) ∙ ap (λ (k : ℕ). flat_map f (range_with_len j k)) (omega arith)
 range_split f a (suc m) n j e =
-    ap (λ (k : ℕ). flat_map f (range_with_len a k)) (omega arith : suc m + n ≡ suc (m + n))
+    let more : suc m + n ≡ suc (m + n) = omega arith in
+    ap (λ (k : ℕ). flat_map f (range_with_len a k)) more
     ∙ ap (λ (xs : List ℕ). f a ++ xs) (range_split f (a + 1) m n j (omega (arith, e)))
     ∙ sym (append_assoc (f a) (flat_map f (range_with_len (a + 1) m)) (flat_map f (range_with_len j n)))
 

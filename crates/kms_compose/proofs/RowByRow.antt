@@ -1,11 +1,12 @@
 -- A rectangle of a frame that is drawn row by row.
-use Rattle.std.proofs.Common.{◌≡◌, ◌<◌, ◌≤◌, ℕ, ◌+◌, ◌-◌, ◌*◌, Bool, true, false, ◌&&◌, ◌||◌, ◌==◌, cond, nat_le, nat_lt, List, ◌++◌, take, length, refl, sym, ap, ◌∙◌, ◌⊎◌, inl, inr, ⊎_elim, arith}
+use Rattle.std.proofs.Common.{◌≡◌, ◌<◌, ◌≤◌, ℕ, zero, suc, ◌+◌, ◌-◌, ◌*◌, Bool, true, false, ◌&&◌, ◌||◌, ◌==◌, cond, nat_le, nat_lt, List, ◌++◌, take, length, replicate, refl, sym, ap, ◌∙◌, ◌⊎◌, inl, inr, ⊎_elim, arith}
 use Rattle.std.specs.List.{flat_map, range_with_len}
 use Rattle.std.proofs.lemmas.Bool.{cases_lt}
 use Rattle.std.proofs.lemmas.Bool.Decides.{nat_tests}
+use Rattle.std.proofs.lemmas.List.{replicate-append-replicate}
 use borrow.Rule.Slice.PartMut.{put_mid}
 use Rattle.kms_model.specs.declared.pictures.Colour.{Colour}
-use Rattle.kms_model.specs.Frames.FrameBytes.{channels}
+use Rattle.kms_model.specs.Frames.FrameBytes.{black, channels}
 use Rattle.kms_compose.specs.declared.areas.Area.{Area}
 use Rattle.kms_compose.specs.Areas.{FitsIn, canvas, drawn, is_in}
 use Rattle.kms_compose.specs.Parts.{is_within}
@@ -84,3 +85,32 @@ module _ (new before : ℕ → ℕ → Colour) where
   rows_all a width height end e =
       let all : end - a.top ≡ a.height = omega (arith, e) in
       rw all refl
+
+-- The whole frame
+
+-- zeros are black
+zeros : (f : ℕ → List ℕ) (size a n : ℕ) → ((k : ℕ) → f k ≡ replicate size 0) → flat_map f (range_with_len a n) ≡ replicate (n * size) 0
+zeros f size a zero h = let none : 0 ≡ zero * size = omega arith in ap (λ (n : ℕ). replicate n 0) none
+zeros f size a (suc n) h =
+    let more : size + n * size ≡ suc n * size = omega arith in
+    ap (λ (xs : List ℕ). xs ++ flat_map f (range_with_len (a + 1) n)) (h a)
+    ∙ ap (λ (xs : List ℕ). replicate size 0 ++ xs) (zeros f size (a + 1) n h)
+    ∙ replicate-append-replicate size (n * size) 0
+    ∙ ap (λ (n : ℕ). replicate n 0) more
+
+pub blank : (width height n : ℕ) → n ≡ 3 * width * height → replicate n 0 ≡ canvas width height (λ x y. black)
+blank width height n e =
+    let same : 3 * width * height ≡ height * (width * 3) = omega arith in
+    ap (λ (n : ℕ). replicate n 0) (e ∙ same)
+    ∙ sym (zeros (λ y. flat_map (λ x. channels black) (range_with_len 0 width)) (width * 3) 0 height (λ y. zeros (λ x. channels black) 3 0 width (λ x. refl)))
+
+on_both : (a b : Bool) (n o : Colour) → a ≡ true → b ≡ true → cond (a && b) n o ≡ n
+on_both a b n o e f = rw (e, f) refl
+
+pub drawn_whole : (new before : ℕ → ℕ → Colour) (a : Area) (width height : ℕ) → a.left ≡ 0 → a.top ≡ 0 → a.width ≡ width → a.height ≡ height →
+    canvas width height (drawn (is_in a) new before) ≡ canvas width height new
+drawn_whole new before a width height left top wide high = canvas-same width height (drawn (is_in a) new before) new (λ x y h k.
+    on_both (is_within a.left a.width x) (is_within a.top a.height y) (new x y) (before x y) (inside a.left a.width x width left wide h) (inside a.top a.height y height top high k))
+  where
+    inside : (start size at end : ℕ) → start ≡ 0 → size ≡ end → at < end → is_within start size at ≡ true
+    inside start size at end e f h = grind (arith, nat_tests)

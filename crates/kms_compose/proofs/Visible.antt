@@ -24,7 +24,7 @@ use Rattle.kms_compose.specs.declared.parts.Columns.{Columns}
 use Rattle.kms_compose.specs.declared.parts.Columns.TheVariants.{From, At}
 use Rattle.kms_compose.specs.declared.parts.Part.{Part}
 use Rattle.kms_compose.specs.declared.sources.Reach.{Reach}
-use Rattle.kms_compose.specs.Areas.{FitsIn, is_in}
+use Rattle.kms_compose.specs.Areas.{FitsIn, IsNatural, is_in}
 use Rattle.kms_compose.specs.Images.{image_seen, seen_under, word_under}
 use Rattle.kms_compose.specs.Parts.{AreColumns, HasCount, IsCut, IsImageFor, IsPart, IsVisible, across, column_at, down, is_within, part_colour}
 use Rattle.kms_compose.specs.Sources.{IsReach, IsSeen, place_at}
@@ -236,6 +236,15 @@ cut_part m l v image p placed shown cut = record {
   columns = cut.has_columns;
   alpha = rw cut.layer placed.alpha;
   blend = rw cut.layer placed.blend;
+}
+
+-- what is visible of a layer begins on the mode
+pub is_natural : (m : Mode) (l : Layer) (v : Rect) → FitsMode m l → l.visible ≡ Some v → IsNatural v
+is_natural m l v placed seen = let both = axes m l v placed seen in record {
+  x = start_low _ _ _ _ _ both.x;
+  y = start_low _ _ _ _ _ both.y;
+  w = size_low _ _ _ _ _ both.x;
+  h = size_low _ _ _ _ _ both.y;
 }
 
 -- what is visible of a layer, in natural numbers, is what it covers, and within the mode

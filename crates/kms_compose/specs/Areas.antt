@@ -1,7 +1,8 @@
 -- Rectangles of pixels that are drawn anew, and frames as functions of the place.
-use Rattle.std.specs.Prelude.{◌≤◌, ℕ, ◌+◌, Bool, false, ◌&&◌, List, Option, Some, None, if◌then◌else◌}
+use Rattle.std.specs.Prelude.{◌≤◌, ◌≤ℤ◌, pos, ℕ, ◌+◌, Bool, false, ◌&&◌, List, Option, Some, None, if◌then◌else◌}
 use Rattle.std.specs.List.{flat_map, range_with_len}
 use Rattle.kms_model.specs.declared.pictures.Colour.{Colour}
+use Rattle.kms_model.specs.declared.pictures.Rect.{Rect}
 use Rattle.kms_model.specs.Frames.FrameBytes.{channels}
 use Rattle.kms_compose.specs.declared.areas.Area.{Area}
 use Rattle.kms_compose.specs.Parts.{is_within}
@@ -26,3 +27,10 @@ drawn anew new old x y = if anew x y then new x y else old x y
 pub record FitsIn (width height : ℕ) (a : Area) : Type 0 where
   pub across : a.left + a.width ≤ width
   pub down : a.top + a.height ≤ height
+
+-- a rectangle of numbers that are not negative
+pub record IsNatural (v : Rect) : Type 0 where
+  pub x : pos 0 ≤ℤ v.x
+  pub y : pos 0 ≤ℤ v.y
+  pub w : pos 0 ≤ℤ v.w
+  pub h : pos 0 ≤ℤ v.h

@@ -15,70 +15,51 @@ use kms_model::Gamma;
 /// How many pixels of a row are made at a time.
 const RUN: usize = 256;
 
-/// Room for what is made of some pixels of a row.
-#[derive(Drop)]
-pub struct Room {
-    words: [u32; RUN],
-    alpha: [u8; RUN],
-    own: [u8; RUN],
-    red: [u8; RUN],
-    green: [u8; RUN],
-    blue: [u8; RUN],
-}
-
-impl Room {
-    /// Room that nothing was made in.
-    pub fn new() -> Room {
-        Room {
-            words: [0; RUN],
-            alpha: [0; RUN],
-            own: [0; RUN],
-            red: [0; RUN],
-            green: [0; RUN],
-            blue: [0; RUN],
-        }
-    }
-}
-
-/// Draws so many pixels of a row, from `left` on.
+/// Draws so many pixels of a row, from `left` on. `words` and `channels` are room for a word and five channels of each.
 fn draw_run(
     parts: &[Part],
     gamma: &Option<Gamma>,
     y: usize,
     left: usize,
     count: usize,
-    room: &mut Room,
+    words: &mut [u32],
+    channels: &mut [u8],
     out: &mut [u8],
 )
     requires parts { All IsPart parts.now }
-    requires few { count ≤ 256 }
     requires narrow { left + count < 65536 }
+    requires words { count ≤ length words.old }
+    requires channels { 5 * count ≤ length channels.old }
     requires out { length out.old ≡ 3 * count }
     ensures { out.new ≡ flat_map (part_pixel gamma.now parts.now y) (range_with_len left count) }
 {
-    let words = &mut room.words[..count];
-    let alpha = &mut room.alpha[..count];
-    let own = &mut room.own[..count];
-    let red = &mut room.red[..count];
-    let green = &mut room.green[..count];
-    let blue = &mut room.blue[..count];
+    let words = &mut words[..count];
+    let (alpha, rest) = channels.split_at_mut(count);
+    let (own, rest) = rest.split_at_mut(count);
+    let (red, rest) = rest.split_at_mut(count);
+    let (green, rest) = rest.split_at_mut(count);
+    let blue = &mut rest[..count];
     make_run(parts, y, left, words, alpha, own, red, green, blue);
     through_gamma(gamma, red, green, blue);
     interleave(red, green, blue, out);
 }
 
-/// Draws so many pixels of a row, from `left` on.
-pub fn draw_row(
+/// Draws so many pixels of a row, from `left` on. `words` and `channels` are room for a word and five channels of as many
+/// pixels as are made at a time.
+fn draw_runs(
     parts: &[Part],
     gamma: &Option<Gamma>,
     y: usize,
     left: usize,
     count: usize,
-    room: &mut Room,
+    words: &mut [u32],
+    channels: &mut [u8],
     out: &mut [u8],
 )
     requires parts { All IsPart parts.now }
     requires narrow { left + count < 65536 }
+    requires words { length words.old ≡ 256 }
+    requires channels { length channels.old ≡ 1280 }
     requires out { length out.old ≡ 3 * count }
     ensures { out.new ≡ flat_map (part_pixel gamma.now parts.now y) (range_with_len left count) }
 {
@@ -86,9 +67,21 @@ pub fn draw_row(
     while done < count {
         let more = RUN.min(count - done);
         let run = &mut out[3 * done..3 * (done + more)];
-        draw_run(parts, gamma, y, left + done, more, room, run);
+        draw_run(parts, gamma, y, left + done, more, words, channels, run);
         done += more;
     }
+}
+
+/// Draws a row of a mode, which has so many pixels.
+pub fn draw_row(parts: &[Part], gamma: &Option<Gamma>, y: usize, count: usize, out: &mut [u8])
+    requires parts { All IsPart parts.now }
+    requires narrow { count < 65536 }
+    requires out { length out.old ≡ 3 * count }
+    ensures { out.new ≡ flat_map (part_pixel gamma.now parts.now y) (range_with_len 0 count) }
+{
+    let mut words = [0; RUN];
+    let mut channels = [0; 5 * RUN];
+    draw_runs(parts, gamma, y, 0, count, &mut words, &mut channels, out);
 }
 
 /// Draws the pixels of a rectangle, in a frame of a mode of this width.
@@ -108,10 +101,13 @@ pub fn draw_area(
         → bytes.new ≡ canvas width height
         (drawn (is_in area.now) (λ x y. through gamma.now (parts_over x y black parts.now)) before) }
 {
-    let mut room = Room::new();
+    let mut words = [0; RUN];
+    let mut channels = [0; 5 * RUN];
+    let words = words.as_mut_slice();
+    let channels = channels.as_mut_slice();
     for y in area.top..area.top + area.height {
         let start = 3 * (y * width + area.left);
         let row = &mut bytes[start..start + 3 * area.width];
-        draw_row(parts, gamma, y, area.left, area.width, &mut room, row);
+        draw_runs(parts, gamma, y, area.left, area.width, words, channels, row);
     }
 }

@@ -20,8 +20,6 @@ pub use recomposing::recompose;
 pub use threads::frame_rows;
 
 #[cfg(test)]
-mod recompose_tests;
-#[cfg(test)]
 mod scaling_tests;
 #[cfg(test)]
 mod tests;

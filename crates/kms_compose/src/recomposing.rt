@@ -1,5 +1,5 @@
 //! Frames made of earlier ones.
-ghost use Rattle.std.specs.Prelude.{◌≡◌, ◌<◌, ◌≤◌, ◌*◌, ℕ, IsTrue, All, OnErr, OnOk, length};
+ghost use Rattle.std.specs.Prelude.{◌≡◌, ◌<◌, ◌≤◌, ◌*◌, ℕ, List, IsTrue, All, OnErr, OnOk, length};
 ghost use Rattle.kms_model.specs.declared.objects.Mode.{Mode};
 ghost use Rattle.kms_model.specs.declared.pictures.Colour.{Colour};
 ghost use Rattle.kms_model.specs.declared.pictures.Picture.TheVariants.{On};

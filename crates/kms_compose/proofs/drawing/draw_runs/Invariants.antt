@@ -2,7 +2,7 @@
 use Rattle.std.proofs.Common.{◌≡◌, ◌≤◌, ◌*◌, ◌-◌, take}
 use Rattle.std.specs.List.{flat_map, range_with_len}
 use Rattle.kms_compose.specs.Parts.{part_pixel}
-use Rattle.kms_compose.proofs.drawing.draw_row.Given as goal
+use Rattle.kms_compose.proofs.drawing.draw_runs.Given as goal
 
 abbrev pub invariant-loop-done : goal.invariant-loop-done
 invariant-loop-done l = record {
