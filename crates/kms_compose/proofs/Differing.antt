@@ -1,8 +1,8 @@
 -- Two lists of layers, put beside one another from the lowest: what is left of both, and those that are in one alone.
-use Rattle.std.proofs.Common.{◌≡◌, ◌<◌, ◌≤◌, ℕ, ℤ, ◌+◌, Bool, true, false, ◌||◌, cond, List, [], ◌∷◌, ◌++◌, drop, length, slice_index_or, Option, Some, None, refl, sym, ap, ◌∙◌, arith}
+use Rattle.std.proofs.Common.{◌≡◌, ◌<◌, ◌≤◌, ℕ, ℤ, ◌+◌, ◌-◌, Bool, true, false, ◌||◌, cond, List, [], ◌∷◌, ◌++◌, take, drop, length, slice_index_or, Option, Some, None, refl, sym, ap, ◌∙◌, arith}
 use Rattle.std.specs.Prelude.{All}
 use Rattle.std.proofs.lemmas.Bool.{or_parts}
-use Rattle.std.proofs.lemmas.List.{at_drop_more}
+use Rattle.std.proofs.lemmas.List.{at_drop_more, length-drop, take_all}
 use Rattle.std.proofs.lemmas.List.Elements.{All-append, All-drop, All-push}
 use Rattle.kms_model.specs.declared.objects.Mode.{Mode}
 use Rattle.kms_model.specs.declared.pictures.Colour.{Colour}
@@ -115,3 +115,13 @@ module _ (old new changed : List Layer) (left came : ℕ) (on : AreOnOneMode old
 
 pub apart_first : (old new : List Layer) → IsApart old new [] 0 0
 apart_first old new = record { agree = λ words x y under off rest. rest under; fit = λ m was is k d below. absurd (omega arith) }
+
+rest_whole : (ls : List Layer) (n : ℕ) → take (length ls - n) (drop n ls) ≡ drop n ls
+rest_whole ls n = take_all (length ls - n) (drop n ls) (omega (arith, length-drop n ls))
+
+-- both rests behind the layers that changed
+pub with_rests : (changed old new between all : List Layer) (left came : ℕ) → between ≡ changed ++ take (length old - left) (drop left old) →
+    all ≡ between ++ take (length new - came) (drop came new) → all ≡ (changed ++ drop left old) ++ drop came new
+with_rests changed old new between all left came first second =
+    second ∙ ap (λ (ls : List Layer). between ++ ls) (rest_whole new came)
+    ∙ ap (λ (ls : List Layer). ls ++ drop came new) (first ∙ ap (λ (ls : List Layer). changed ++ ls) (rest_whole old left))

@@ -1,5 +1,5 @@
 -- A frame in which what changed layers cover was drawn anew is the new picture's.
-use Rattle.std.proofs.Common.{◌≡◌, ℕ, Bool, true, false, ◌||◌, cond, List, [], ◌∷◌, ◌++◌, slice_index_or, Option, refl, sym, ap, ◌∙◌}
+use Rattle.std.proofs.Common.{◌≡◌, ℕ, ◌*◌, length, Bool, true, false, ◌||◌, cond, List, [], ◌∷◌, ◌++◌, slice_index_or, Option, refl, sym, ap, ◌∙◌}
 use Rattle.std.specs.Prelude.{All}
 use Rattle.kms_model.specs.declared.objects.Mode.{Mode}
 use Rattle.kms_model.specs.declared.pictures.Colour.{Colour}
@@ -15,7 +15,7 @@ use Rattle.kms_compose.specs.Areas.{canvas, drawn}
 use Rattle.kms_compose.specs.Changes.{AgreeBeside, IsSameGround, covered_by}
 use Rattle.kms_compose.specs.Images.{IsShowable}
 use Rattle.kms_compose.specs.Parts.{parts_over}
-use Rattle.kms_compose.proofs.Canvas.{canvas-same}
+use Rattle.kms_compose.proofs.Canvas.{canvas-length, canvas-same}
 use Rattle.kms_compose.proofs.Differing.{covered_by-append}
 
 area_same : (m m' : Mode) → m.hdisplay ≡ m'.hdisplay → m.vdisplay ≡ m'.vdisplay → mode_area m ≡ mode_area m'
@@ -38,11 +38,27 @@ fits_other m m' l w h p = let area = area_same m m' w h in record {
   height = p.height;
 }
 
-pub all_fit : (m : Mode) (images : List FbImage) (ls : List Layer) → All (IsShowable m images) ls → All (FitsMode m) ls
+all_fit : (m : Mode) (images : List FbImage) (ls : List Layer) → All (IsShowable m images) ls → All (FitsMode m) ls
 all_fit m images ls all = λ k d below. (all k d below).placed
 
-pub all_fit_other : (m m' : Mode) (images : List FbImage) (ls : List Layer) → m.hdisplay ≡ m'.hdisplay → m.vdisplay ≡ m'.vdisplay → All (IsShowable m images) ls → All (FitsMode m') ls
+all_fit_other : (m m' : Mode) (images : List FbImage) (ls : List Layer) → m.hdisplay ≡ m'.hdisplay → m.vdisplay ≡ m'.vdisplay → All (IsShowable m images) ls → All (FitsMode m') ls
 all_fit_other m m' images ls w h all = λ k d below. fits_other m m' (slice_index_or ls k d) w h (all k d below).placed
+
+-- the layers of both pictures on the mode of the new one
+pub old_on : (images : List FbImage) (old new : Shown) (ls : List Layer) → IsSameGround old new → All (IsShowable old.mode images) old.layers → ls ≡ old.layers → All (FitsMode new.mode) ls
+old_on images old new ls ground all e = rw e (all_fit_other old.mode new.mode images old.layers ground.width ground.height all)
+
+pub new_on : (images : List FbImage) (new : Shown) (ls : List Layer) → All (IsShowable new.mode images) new.layers → ls ≡ new.layers → All (FitsMode new.mode) ls
+new_on images new ls all e = rw e (all_fit new.mode images new.layers all)
+
+pub agree_of : (changed xs ys changed' xs' ys' : List Layer) → changed' ≡ changed → xs ≡ xs' → ys ≡ ys' → AgreeBeside changed xs ys → AgreeBeside changed' xs' ys'
+agree_of changed xs ys changed' xs' ys' e f g agree = rw (e, ← f, ← g) agree
+
+pub frame-length : (words : ℕ → ℕ → ℕ → Option ℕ) (old new : Shown) (bytes : List ℕ) → IsSameGround old new → bytes ≡ frame_of words (On old) →
+    length bytes ≡ new.mode.vdisplay * (new.mode.hdisplay * 3)
+frame-length words old new bytes ground was =
+    ap length was ∙ canvas-length old.mode.hdisplay old.mode.vdisplay (λ x y. through old.gamma (composed words x y black old.layers))
+    ∙ ap (λ (h : ℕ). h * (old.mode.hdisplay * 3)) ground.height ∙ ap (λ (w : ℕ). new.mode.vdisplay * (w * 3)) ground.width
 
 pub recomposed : (words : ℕ → ℕ → ℕ → Option ℕ) (old new : Shown) (changed : List Layer) (parts : List Part) (bytes made : List ℕ) → IsSameGround old new →
     bytes ≡ frame_of words (On old) → AgreeBeside changed old.layers new.layers → ((x y : ℕ) → parts_over x y black parts ≡ composed words x y black new.layers) →

@@ -1,6 +1,6 @@
 -- Over images of framebuffers among the things, a frame is that of the things.
 use Rattle.std.proofs.Common.{◌≡◌, ◌<◌, ℕ, Bool, true, false, ◌==◌, cond, ◌*◌, pos, ◌+ℤ◌, int_le, List, [], ◌∷◌, suc, length, slice_index_or, Option, Some, None, Result, Ok, Err, refl, ap, ◌∙◌, arith}
-use Rattle.std.specs.Prelude.{All, IfOk}
+use Rattle.std.specs.Prelude.{All, IfOk, OnOk}
 use Rattle.std.proofs.lemmas.Bool.{and_parts, eqb-true}
 use Rattle.kms_model.specs.declared.copying.NoMemory.{NoMemory}
 use Rattle.kms_model.specs.declared.objects.Mode.{Mode}
@@ -79,3 +79,9 @@ pub made_of_things : (r : Result (List ℕ) NoMemory) (images : List FbImage) (p
     IfOk r (λ bytes. (things : List Thing) → AreImagesIn things images → bytes ≡ frame_bytes things p)
 made_of_things (Ok bytes) images p can exact = λ things are. exact ∙ frame_same things images p can are
 made_of_things (Err e) images p can exact = exact
+
+-- and so are those that it left
+pub left_of_things : {T : Type 0} (r : Result T NoMemory) (images : List FbImage) (p : Picture) (bytes : List ℕ) → CanShow images p → OnOk r (bytes ≡ frame_of (word_under images) p) →
+    OnOk r ((things : List Thing) → AreImagesIn things images → bytes ≡ frame_bytes things p)
+left_of_things (Ok done) images p bytes can exact = λ things are. exact ∙ frame_same things images p can are
+left_of_things (Err e) images p bytes can exact = exact

@@ -20,6 +20,8 @@ pub use recomposing::recompose;
 pub use threads::frame_rows;
 
 #[cfg(test)]
+mod recompose_tests;
+#[cfg(test)]
 mod scaling_tests;
 #[cfg(test)]
 mod tests;

@@ -107,6 +107,9 @@ fn redraw(
     ensures exact { OnOk result (frame.new ≡ frame_of (word_under images.now) (On new.now)) }
     ensures unchanged { OnErr result (frame.new ≡ frame.old) }
 {
+    // Read for their ranges alone.
+    let _width = new.mode.hdisplay;
+    let _height = new.mode.vdisplay;
     let changed = changes(alloc, old.layers.as_slice(), new.layers.as_slice())?;
     let parts = parts_of(alloc, new, images)?;
     let mut bytes = mem::replace(frame, Seq::new(alloc)).into_vec();
