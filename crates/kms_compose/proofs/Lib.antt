@@ -1,4 +1,10 @@
+pub mod Canvas
+pub mod Clipped
+pub mod Differing
 pub mod Places
+pub mod Recomposed
+pub mod RowByRow
 pub mod Runs
 pub mod SameFrames
+pub mod SharedRows
 pub mod Visible
