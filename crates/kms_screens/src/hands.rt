@@ -34,6 +34,7 @@ pub trait Hands {
 }
 
 /// One thread, which does one thing after the other.
+#[derive(Clone, Copy, Debug)]
 pub struct OneThread;
 
 impl Hands for OneThread {
@@ -56,6 +57,7 @@ impl Hands for OneThread {
 }
 
 /// As many threads as there are processors for the rows of a frame, and two for two digests.
+#[derive(Drop)]
 pub struct SeveralThreads<'a, R> {
     /// Where the threads come from.
     pub rt: &'a R,

@@ -3,7 +3,7 @@ use Rattle.std.proofs.lemmas.List.{take_all}
 use Rattle.kms_model.specs.declared.pictures.Layer.{Layer}
 use Rattle.kms_report.specs.Images.{AreSeen, things_of}
 use Rattle.kms_report.proofs.ImageLemmas.{pushed-images, pushed-more}
-use Rattle.kms_report.proofs.frames.layer_images.Goals as goal
+use Rattle.kms_report.proofs.images.push_layers.Goals as goal
 
 pub loop-layer-preserved : goal.loop-layer-preserved
 loop-layer-preserved c =
