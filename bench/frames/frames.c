@@ -1,26 +1,9 @@
 /* The ten frames of frames.kms, composed and digested by plain C: the digest of each on standard output, one a line,
    and the time on standard error. */
-#include <time.h>
-
 enum { WIDTH = 1920, HEIGHT = 1080, FRAMES = 10 };
 
 #include "../composing.h"
-
-static uint32_t *checker(int width, int height, uint32_t p, uint32_t q, int n)
-{
-    uint32_t *words = words_of(width, height);
-    for (int y = 0; y < height; y++)
-        for (int x = 0; x < width; x++)
-            words[y * width + x] = (x / n + y / n) % 2 == 0 ? p : q;
-    return words;
-}
-
-static double seconds(void)
-{
-    struct timespec now;
-    clock_gettime(CLOCK_MONOTONIC, &now);
-    return now.tv_sec + now.tv_nsec / 1e9;
-}
+#include "../timed.h"
 
 int main(void)
 {

@@ -1,19 +1,9 @@
 /* The ten frames of scaled.kms, composed and digested by plain C: the digest of each on standard output, one a line, and
    the time on standard error. The columns of the scaled layer are found once for a frame, and its row once for a row. */
-#include <time.h>
-
 enum { WIDTH = 1920, HEIGHT = 1080, FRAMES = 10, WIDE = 960, HIGH = 720, LEFT = 300, TOP = 200 };
 
 #include "../composing.h"
-
-static uint32_t *checker(int width, int height, uint32_t p, uint32_t q, int n)
-{
-    uint32_t *words = words_of(width, height);
-    for (int y = 0; y < height; y++)
-        for (int x = 0; x < width; x++)
-            words[y * width + x] = (x / n + y / n) % 2 == 0 ? p : q;
-    return words;
-}
+#include "../timed.h"
 
 /* The pixel of a framebuffer of so many that is shown at a place of so many, all of it being shown. */
 static int place(int long_, int wide, int at)
@@ -32,13 +22,6 @@ static void put_scaled(const struct layer *layer, const int *columns, uint8_t *f
         for (int c = 0; c < 3; c++)
             pixel[c] = blended(layer->blend, layer->alpha, q, word >> (16 - 8 * c) & 255, pixel[c]);
     }
-}
-
-static double seconds(void)
-{
-    struct timespec now;
-    clock_gettime(CLOCK_MONOTONIC, &now);
-    return now.tv_sec + now.tv_nsec / 1e9;
 }
 
 int main(void)

@@ -37,6 +37,9 @@ StandsOver images = Stands (CanShow images) (word_under images)
 abbrev pub IsKeptOf : List Thing → Kept → Type 0
 IsKeptOf things = IsKept (EachCanBeShown things) (word_of things)
 
+abbrev pub IsKeptOver : List FbImage → Kept → Type 0
+IsKeptOver images = IsKept (CanShow images) (word_under images)
+
 abbrev pub StandsOf : List Thing → Screen → Type 0
 StandsOf things = Stands (EachCanBeShown things) (word_of things)
 
