@@ -6,6 +6,7 @@
 #include <stdio.h>
 #include <stdlib.h>
 #include <string.h>
+#include <time.h>
 
 enum mode { PREMULTIPLIED, COVERAGE, NONE };
 
@@ -32,6 +33,15 @@ static uint32_t *ramp(int width, int height)
     for (int y = 0; y < height; y++)
         for (int x = 0; x < width; x++)
             words[y * width + x] = 0xff000000u + (x % 256) * 65536u + (y % 256) * 256u + (x + y) % 256;
+    return words;
+}
+
+static inline uint32_t *checker(int width, int height, uint32_t p, uint32_t q, int n)
+{
+    uint32_t *words = words_of(width, height);
+    for (int y = 0; y < height; y++)
+        for (int x = 0; x < width; x++)
+            words[y * width + x] = (x / n + y / n) % 2 == 0 ? p : q;
     return words;
 }
 
@@ -68,4 +78,11 @@ static void print_digest(const uint8_t *bytes, size_t length)
     for (int i = 0; i < SHA256_DIGEST_LENGTH; i++)
         printf("%02x", digest[i]);
     putchar('\n');
+}
+
+static inline double seconds(void)
+{
+    struct timespec now;
+    clock_gettime(CLOCK_MONOTONIC, &now);
+    return now.tv_sec + now.tv_nsec / 1e9;
 }

@@ -3,7 +3,6 @@
 enum { WIDTH = 1920, HEIGHT = 1080, FRAMES = 10 };
 
 #include "../composing.h"
-#include "../timed.h"
 
 int main(void)
 {

@@ -3,7 +3,6 @@
 enum { WIDTH = 1920, HEIGHT = 1080, FRAMES = 10, WIDE = 960, HIGH = 720, LEFT = 300, TOP = 200 };
 
 #include "../composing.h"
-#include "../timed.h"
 
 /* The pixel of a framebuffer of so many that is shown at a place of so many, all of it being shown. */
 static int place(int long_, int wide, int at)

@@ -3,7 +3,6 @@
 enum { WIDTH = 1920, HEIGHT = 1080, CRTCS = 4, COMMITS = 100 };
 
 #include "../composing.h"
-#include "../timed.h"
 
 int main(void)
 {

@@ -1,16 +1,1 @@
-pub mod Run
-pub mod Stands
-pub mod States
-pub mod Locks
-pub mod Calls
-pub mod Decisions
-pub mod Swaps
-pub mod Settled
-pub mod Work
-pub mod Latching
-pub mod Judging
 pub mod Promises
-pub mod Next
-pub mod Freeing
-pub mod Needs
-pub mod Order

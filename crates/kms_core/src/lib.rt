@@ -2,33 +2,12 @@
 #![tactic(auto)]
 
 mod applying;
-mod client_steps;
-mod committing;
-mod contexts;
-mod deciding;
-mod freeing;
-mod groups;
-mod judging;
-mod lacking;
-mod latching;
-mod legality;
-mod lookers;
+mod calls;
 mod machine;
-mod making;
-mod moving;
-mod ordering;
-mod present;
+mod orders;
 mod promises;
 mod queries;
-mod reading;
-mod records;
-mod settling;
-mod stalling;
-mod states;
-mod swapping;
-mod tail_steps;
-mod workers;
 
-pub use contexts::Locked;
-pub use deciding::Decided;
+pub use kms_calls::Locked;
+pub use kms_stores::Decided;
 pub use machine::Core;

@@ -1,69 +1,24 @@
 //! The core.
-ghost use Rattle.std.specs.Prelude.{◌≡◌, ◌≤◌, IfOk, [], replicate};
+ghost use Rattle.std.specs.Prelude.{◌≡◌, [], IfOk};
 ghost use Rattle.kms_model.specs.Script.WellFormed.{IsWellFormed};
-ghost use Rattle.kms_signal.specs.Queues.{empty_queue};
 
-use kms_clients::Clients;
-use kms_logs::{Ledger, Log};
-use kms_model::{Answered, Duplicates, Latch, NoMemory, Script, Step};
-use kms_regs::RegFile;
-use kms_signal::{EventQueue, Fences};
-use kms_tails::Tails;
-use kms_things::{Things, start_states};
-use kms_track::Tracker;
+use kms_model::{NoMemory, Script};
+use kms_stores::Stores;
 use std::alloc::Global;
 use std::marker::Model;
 
 /// The machine. Contracts see its script and its history.
 #[derive(Drop)]
 pub struct Core {
-    pub(crate) script: Script,
-    pub(crate) steps: Log<Step>,
-    pub(crate) clients: Clients,
-    pub(crate) journal: Log<(u32, u32)>,
-    pub(crate) replies: Log<Answered>,
-    pub(crate) latches: Log<Latch>,
-    pub(crate) things: Things,
-    // The present states of all objects, old and new alike.
-    pub(crate) present: Duplicates,
-    pub(crate) fences: Fences,
-    // The events of each client of the script.
-    pub(crate) queues: Vec<EventQueue>,
-    pub(crate) tracker: Tracker,
-    // What the tails of commits that are not cleaned still need.
-    pub(crate) tails: Tails,
-    pub(crate) registers: RegFile,
-    // The commit that each CRTC latches at its next vertical blanking.
-    pub(crate) goes: [Option<u32>; 4],
-    pub(crate) stalled: bool,
-    // The framebuffers that were freed, with a place for each that is needed.
-    pub(crate) freed: Ledger<(u32, u32)>,
+    pub(crate) stores: Stores,
 }
 
 impl Model for Core {
-    ghost use Rattle.kms_core.specs.Run.{Run};
-    ghost use Rattle.kms_core.specs.Stands.{Holds};
+    ghost use Rattle.kms_stores.specs.Run.{Run};
 
     ghost Value = { Run };
 
-    ghost view = { λ c. record { script = c.script; steps = c.steps.items } };
-
-    ghost invariant = { λ c. Holds (record { script = c.script; steps = c.steps.items }) (record {
-      clients = c.clients;
-      journal = c.journal;
-      replies = c.replies;
-      latches = c.latches;
-      made = c.things;
-      present = c.present;
-      fences = c.fences;
-      queues = c.queues.items;
-      tracker = c.tracker;
-      tails = c.tails;
-      registers = c.registers;
-      goes = c.goes;
-      stalled = c.stalled;
-      freed = c.freed;
-    }) c.steps.room };
+    ghost view = { λ c. c.stores };
 }
 
 impl Core {
@@ -72,38 +27,7 @@ impl Core {
         requires { IsWellFormed script }
         ensures { IfOk result (λ c. c ≡ record { script = script; steps = [] }) }
     {
-        let queues = empty_queues(alloc, script.clients.len())?;
-        let present = start_states(&script.topology);
-        let registers = RegFile::new(&script.topology);
-        Ok(Core {
-            script,
-            steps: Log::new(alloc),
-            clients: Clients::new(alloc),
-            journal: Log::new(alloc),
-            replies: Log::new(alloc),
-            latches: Log::new(alloc),
-            things: Things::new(alloc),
-            present,
-            fences: Fences::new(alloc),
-            queues,
-            tracker: Tracker::new(alloc),
-            tails: Tails::new(alloc),
-            registers,
-            goes: [None; 4],
-            stalled: false,
-            freed: Ledger::new(alloc),
-        })
+        let stores = Stores::new(alloc, script)?;
+        Ok(Core { stores })
     }
-}
-
-/// So many queues without events, at most 16.
-fn empty_queues(alloc: Global, count: usize) -> Result<Vec<EventQueue>, NoMemory>
-    requires { count ≤ 16 }
-    ensures { IfOk result (λ queues. queues.items ≡ replicate count empty_queue) }
-{
-    let mut queues = Vec::new(alloc);
-    for _client in 0..count {
-        queues.push(EventQueue::new(alloc))?;
-    }
-    Ok(queues)
 }

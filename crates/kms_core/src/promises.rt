@@ -2,7 +2,7 @@
 ghost use Rattle.kms_model.specs.Headline.{Headline};
 ghost use Rattle.kms_laws.specs.Laws.{ContextsStand, HasSerialWorld};
 ghost use Rattle.kms_core.specs.Promises.{AsksWithinItsReach, DeliversOnce, FramesWhatIsHeld, FreesOnce, GoesOn, IsBusyWithCause, LatchesWhole, NamesItsFence, ReservesEach, ShowsAllOnceCleaned, ShowsTheLast, TestsAlone, WaitsInNoCycle};
-ghost use Rattle.kms_core.specs.Run.{machine};
+ghost use Rattle.kms_stores.specs.Run.{machine};
 
 use crate::machine::Core;
 
@@ -13,7 +13,7 @@ impl Core {
     pub fn shows_its_journal(&self)
         ensures { Headline self.now.script self.now.steps }
     {
-        let _ = &self.script;
+        self.is_a_history();
         kms_laws::headline_holds();
     }
 
@@ -22,7 +22,7 @@ impl Core {
     pub fn shows_all_once_cleaned(&self)
         ensures { ShowsAllOnceCleaned self.now }
     {
-        let _ = &self.script;
+        self.is_a_history();
         kms_laws::all_is_shown_once_cleaned();
     }
 
@@ -31,7 +31,7 @@ impl Core {
     pub fn asks_within_its_reach(&self)
         ensures { AsksWithinItsReach self.now }
     {
-        let _ = &self.script;
+        self.is_a_history();
         kms_laws::old_look_ups_ask_within_reach();
     }
 
@@ -39,7 +39,7 @@ impl Core {
     pub fn is_serial(&self)
         ensures { HasSerialWorld self.now.script self.now.steps }
     {
-        let _ = &self.script;
+        self.is_a_history();
         kms_laws::world_is_serial();
     }
 
@@ -49,7 +49,7 @@ impl Core {
         ensures live { ShowsTheLast self.now }
         ensures latched { LatchesWhole self.now }
     {
-        let _ = &self.script;
+        self.is_a_history();
         kms_laws::pictures_are_whole();
     }
 
@@ -59,7 +59,7 @@ impl Core {
         ensures delivered { DeliversOnce self.now }
         ensures reserved { ReservesEach self.now }
     {
-        let _ = &self.script;
+        self.is_a_history();
         kms_laws::events_come_once();
     }
 
@@ -67,7 +67,7 @@ impl Core {
     pub fn frees_framebuffers_once(&self)
         ensures { FreesOnce self.now }
     {
-        let _ = &self.script;
+        self.is_a_history();
         kms_laws::framebuffers_are_freed_once();
     }
 
@@ -75,7 +75,6 @@ impl Core {
     pub fn tests_requests_alone(&self)
         ensures { TestsAlone self.now }
     {
-        let _ = &self.script;
         kms_laws::tests_change_nothing();
     }
 
@@ -85,7 +84,7 @@ impl Core {
     pub fn is_busy_with_cause(&self)
         ensures { IsBusyWithCause self.now }
     {
-        let _ = &self.script;
+        self.is_a_history();
         kms_laws::busy_has_its_cause();
     }
 
@@ -93,7 +92,7 @@ impl Core {
     pub fn waits_in_no_cycle(&self)
         ensures { WaitsInNoCycle self.now }
     {
-        let _ = &self.script;
+        self.is_a_history();
         kms_laws::waits_have_no_cycle();
     }
 
@@ -102,7 +101,7 @@ impl Core {
     pub fn frames_what_is_held(&self)
         ensures { FramesWhatIsHeld self.now }
     {
-        let _ = &self.script;
+        self.is_a_history();
         kms_laws::held_objects_are_framed();
     }
 
@@ -111,7 +110,7 @@ impl Core {
     pub fn has_sound_contexts(&self)
         ensures { ContextsStand self.now.script (machine self.now) }
     {
-        let _ = &self.script;
+        self.is_a_history();
         kms_laws::contexts_stand();
     }
 
@@ -120,7 +119,7 @@ impl Core {
     pub fn never_sticks(&self)
         ensures { GoesOn self.now }
     {
-        let _ = &self.script;
+        self.is_a_history();
         kms_laws::histories_go_on();
     }
 
@@ -129,7 +128,7 @@ impl Core {
     pub fn names_its_fence(&self)
         ensures { NamesItsFence self.now }
     {
-        let _ = &self.script;
+        self.is_a_history();
         kms_laws::dead_histories_name_a_fence();
     }
 }

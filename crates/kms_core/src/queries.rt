@@ -11,27 +11,27 @@ ghost use Rattle.kms_model.specs.Machine.Histories.{is_history};
 ghost use Rattle.kms_model.specs.Machine.State.{go_at, place_at};
 ghost use Rattle.kms_model.specs.Script.WellFormed.{IsWellFormed};
 ghost use Rattle.kms_laws.specs.TailsLeft.{all_left};
-ghost use Rattle.kms_core.specs.Calls.{idle_command_at};
+ghost use Rattle.kms_stores.specs.Calls.{idle_command_at};
 ghost use Rattle.kms_freeing.specs.Freeing.{label_and_id};
-ghost use Rattle.kms_core.specs.Run.{machine};
-ghost use Rattle.kms_core.specs.Stands.{entry_pair};
+ghost use Rattle.kms_stores.specs.Run.{machine};
+ghost use Rattle.kms_stores.specs.Stands.{entry_pair};
 
 use crate::machine::Core;
-use kms_model::{Answered, Command, Doing, Image, Latch, Place, Script, Step, command_of};
+use kms_model::{Answered, Command, Image, Latch, Place, Script, Step};
 
 impl Core {
     /// The script.
     pub fn script(&self) -> &Script
         ensures { result.now ≡ self.now.script }
     {
-        &self.script
+        &self.stores.script
     }
 
     /// The steps so far, the oldest first.
     pub fn history(&self) -> &[Step]
         ensures { result.now ≡ self.now.steps }
     {
-        self.steps.as_slice()
+        self.stores.steps.as_slice()
     }
 
     /// The script is well formed, and the steps so far are a history of it: each was legal after those before it.
@@ -39,28 +39,28 @@ impl Core {
         ensures formed { IsWellFormed self.now.script }
         ensures history { is_history self.now.script self.now.steps ≡ true }
     {
-        let _ = &self.script;
+        let _ = &self.stores.script;
     }
 
     /// The accepted commands in order of time, each by its client and its number, both counted from 1.
     pub fn journal(&self) -> &[(u32, u32)]
         ensures { result.now ≡ map entry_pair (told.journal (machine self.now)) }
     {
-        self.journal.as_slice()
+        self.stores.journal.as_slice()
     }
 
     /// The replies in order of time.
     pub fn replies(&self) -> &[Answered]
         ensures { result.now ≡ told.replies (machine self.now) }
     {
-        self.replies.as_slice()
+        self.stores.replies.as_slice()
     }
 
     /// The latches in order of time.
     pub fn latched(&self) -> &[Latch]
         ensures { result.now ≡ reverse (machine self.now).records.latches }
     {
-        self.latches.as_slice()
+        self.stores.latches.as_slice()
     }
 
     /// The framebuffers that were freed, in order of time, each by its label and its id; those of one step in order of id.
@@ -70,7 +70,7 @@ impl Core {
         ensures { result.now
             ≡ map label_and_id (framebuffers.freed self.now.script self.now.steps) }
     {
-        self.freed.as_slice()
+        self.stores.freed.as_slice()
     }
 
     /// Where a client stands, given by its number from 1 to that of the clients. At its end it is idle at the number after
@@ -80,7 +80,7 @@ impl Core {
         requires high { client ≤ length self.now.script.clients }
         ensures { result ≡ place_at (machine self.now) client }
     {
-        self.clients.place(client)
+        self.stores.clients.place(client)
     }
 
     /// The command at which a client is idle; none where it is at its end, has an acquire context or returns, and where
@@ -88,14 +88,7 @@ impl Core {
     pub fn idle_command(&self, client: u32) -> Option<&Command>
         ensures { option_copied result ≡ idle_command_at self.now client }
     {
-        if client == 0 || client as usize > self.script.clients.len() {
-            return None;
-        }
-        let place = self.clients.place(client);
-        match place.doing {
-            Doing::Idle => command_of(&self.script, client, place.command),
-            _ => None,
-        }
+        kms_next::idle_command(&self.stores, client)
     }
 
     /// For how many further steps, and latches, memory was taken: at least for all that the tails of commits which are not
@@ -103,14 +96,14 @@ impl Core {
     pub fn spare(&self) -> usize
         ensures { all_left self.now.script.topology (machine self.now) ≤ result }
     {
-        self.steps.room().min(self.latches.room())
+        self.stores.steps.room().min(self.stores.latches.room())
     }
 
     /// Whether the history was ended: no step is legal any more.
     pub fn is_stalled(&self) -> bool
         ensures { result ≡ (machine self.now).stalled }
     {
-        self.stalled
+        self.stores.stalled
     }
 
     /// Whether the CRTC with an index, from 0 to 3, latches a commit at its next vertical blanking.
@@ -118,7 +111,7 @@ impl Core {
         requires { crtc < 4 }
         ensures { result ≡ is_some (go_at (machine self.now).device (object_id Crtc crtc)) }
     {
-        self.goes[crtc as usize].is_some()
+        kms_next::has_go(&self.stores, crtc)
     }
 
     /// The words of a framebuffer's buffer, also after the framebuffer was closed; none exactly where no framebuffer ever
@@ -134,6 +127,6 @@ impl Core {
         ensures none { IfNone result
             (framebuffer_of (thing_with_id (machine self.now).device.world.things fb) ≡ None) }
     {
-        self.things.image(fb)
+        self.stores.things.image(fb)
     }
 }

@@ -2,7 +2,7 @@
 use Rattle.std.proofs.Common.{◌≡◌, ℕ, ◌+◌, ◌<◌, ◌≤◌, List, [], ◌∷◌, ◌++◌, length, get_or, take, refl, sym, ap, ◌∙◌, append_assoc, append-nil}
 use Rattle.std.proofs.lemmas.List.{take_all, take_more}
 use Rattle.kms_model.specs.declared.replies.Step.{Step}
-use Rattle.kms_core.specs.Run.{Run, gains}
+use Rattle.kms_stores.specs.Run.{Run, gains}
 
 pub none_done : (old : Run) (steps : List Step) → old ≡ gains old (take 0 steps)
 none_done old steps = ap (λ (xs : List Step). record old { steps = xs }) (sym (append-nil old.steps))

@@ -1,8 +1,7 @@
 -- Two worlds in which a request reaches the same: its labels name the same things, and the objects of the groups before have the
 -- same states.
 use Rattle.std.proofs.Common.{◌≡◌, ℕ, zero, suc, ◌<◌, Bool, true, false, List, Option, Some, None, refl, sym, ap, ◌∙◌, subst, arith, inl, inr}
-use Rattle.std.specs.Prelude.{ℤ, pos, negsuc, not, ◌&&◌, ◌||◌, ◌==◌, IfSome, int_le, is_none, is_some, if◌then◌else◌}
-use Rattle.std.specs.List.{list_any}
+use Rattle.std.specs.Prelude.{ℤ, pos, negsuc, not, ◌&&◌, ◌||◌, ◌==◌, IfSome, int_le, is_some, if◌then◌else◌}
 use Rattle.std.specs.Ordering.{int_eq}
 use Rattle.std.proofs.lemmas.Bool.Decides.{Decides-int_eq}
 use Rattle.std.proofs.lemmas.Bool.{and_from, and_parts, cases_Bool, eqb-true, false≢true, ltb-true, or_parts}
@@ -35,7 +34,7 @@ use Rattle.kms_model.specs.Request.Touched.{is_affected, last_value, sets, touch
 use Rattle.kms_model.proofs.ApplyLemmas.{number_or, value-apply}
 use Rattle.kms_model.proofs.AppliedValues.{value-apply_unset}
 use Rattle.kms_model.proofs.ThingLemmas.{thing_numbered-labelled}
-use Rattle.kms_model.proofs.HeldValues.{AreAllHeld, all_held-from}
+use Rattle.kms_model.proofs.HeldValues.{all_held-from}
 use Rattle.kms_model.proofs.Items.{IsIn, IsObject, ids-has, ids-in, list_any-at, list_any-has, list_any-none, list_any-same, list_any-some, number_if-none, or_else-none}
 use Rattle.kms_model.proofs.KindsOfIds.{kind_of-object}
 use Rattle.kms_model.proofs.LastLemmas.{set_by}
@@ -45,11 +44,7 @@ use Rattle.kms_model.proofs.SoundKept.{differs-self, same_mode-self}
 use Rattle.kms_model.proofs.StandsLemmas.{thing_numbered-zero}
 use Rattle.kms_model.proofs.StateLemmas.{natural-held}
 use Rattle.kms_model.proofs.TouchedLemmas.{few_objects, few_of}
-use Rattle.kms_laws.proofs.Fences.{Labelled}
-
--- what was under a label is there in a world, with its id and its content
-abbrev pub StayIn : List Thing → World → Type 0
-StayIn things w = (label : ℕ) (u : Thing) → thing_labelled things label ≡ Some u → Labelled w.things label u
+use Rattle.kms_laws.proofs.OldLookUps.{StayIn}
 
 -- each label that assignments name is made
 abbrev pub AreMade : World → List Assign → Type 0

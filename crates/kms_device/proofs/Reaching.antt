@@ -1,6 +1,6 @@
 -- An object that is next by the groups is in the reach of the request still, when its client's turn comes.
-use Rattle.std.proofs.Common.{◌≡◌, ◌≢◌, ℕ, ◌+◌, ◌-◌, ◌<◌, ◌≤◌, List, [], ◌∷◌, Bool, true, false, Option, Some, None, refl, sym, ap, ◌∙◌, subst, arith, inl, inr, ⊎_elim, All}
-use Rattle.std.specs.Prelude.{not, ◌&&◌, ◌||◌, ◌==◌, IfSome, filter, is_none, is_some, if◌then◌else◌}
+use Rattle.std.proofs.Common.{◌≡◌, ◌≢◌, ℕ, ◌-◌, ◌<◌, ◌≤◌, List, [], ◌∷◌, Bool, true, false, Option, Some, None, refl, sym, ap, ◌∙◌, subst, arith, inl, inr}
+use Rattle.std.specs.Prelude.{not, ◌&&◌, ◌||◌, ◌==◌, IfSome, is_none, is_some, if◌then◌else◌}
 use Rattle.std.proofs.lemmas.Bool.{and_from, cases_Bool, eq-eqb, false≢true, lt-ltb, ltb-true}
 use Rattle.std.proofs.lemmas.List.Elements.{All-cons, All-filter, All-nil, filter_passes}
 use Rattle.kms_model.specs.declared.objects.Kind.{Kind}
@@ -8,7 +8,6 @@ use Rattle.kms_model.specs.declared.objects.Kind.TheVariants as kind
 use Rattle.kms_model.specs.declared.objects.ObjId.{ObjId}
 use Rattle.kms_model.specs.declared.objects.Ticket.{Ticket}
 use Rattle.kms_model.specs.declared.objects.Topology.{Topology}
-use Rattle.kms_model.specs.declared.replies.Step.{Step}
 use Rattle.kms_model.specs.declared.scripts.Assign.{Assign}
 use Rattle.kms_model.specs.declared.scripts.Request.{Request}
 use Rattle.kms_model.specs.declared.scripts.Script.{Script}
@@ -18,13 +17,11 @@ use Rattle.kms_model.specs.declared.states.PlaneState.{PlaneState}
 use Rattle.kms_model.specs.declared.worlds.Look.{Look}
 use Rattle.kms_model.specs.declared.worlds.Thing.{Thing}
 use Rattle.kms_model.specs.declared.worlds.World.{World}
-use Rattle.kms_model.specs.Device.Execution.{committed, execute}
-use Rattle.kms_model.specs.Device.Objects.{count_of, exists, first_id, ids_of, index_of, kind_of, object_id}
+use Rattle.kms_model.specs.Device.Objects.{count_of, exists, first_id, ids_of, kind_of, object_id}
 use Rattle.kms_model.specs.Device.States.{crtc_at}
 use Rattle.kms_model.specs.Device.World.{thing_labelled}
 use Rattle.kms_model.specs.Firsts.{or_else}
-use Rattle.kms_model.specs.Machine.Histories.{at, legal}
-use Rattle.kms_model.specs.Machine.State.{Machine, holds}
+use Rattle.kms_model.specs.Machine.Histories.{at}
 use Rattle.kms_model.specs.Machine.Effects.{next}
 use Rattle.kms_model.specs.Machine.Steps.{is_lockable}
 use Rattle.kms_model.specs.Order.Turns.{in_named_group, in_set_group}
@@ -38,41 +35,18 @@ use Rattle.kms_model.specs.Request.SameLooks.{TellsLabel}
 use Rattle.kms_model.specs.Request.Touched.{is_affected, sets, touches, touches_of_kind}
 use Rattle.kms_model.proofs.CrtcLemmas.{all_in}
 use Rattle.kms_model.proofs.Items.{IsIn, filter-same, ids-has, list_any-has}
-use Rattle.kms_model.proofs.KindsOfIds.{kind_of-object}
 use Rattle.kms_model.proofs.SameLooks.{early-same}
-use Rattle.kms_model.proofs.TouchedLemmas.{few_objects, few_of}
-use Rattle.kms_laws.proofs.Fences.{Labelled, execute_labels, fences_labels}
+use Rattle.kms_laws.proofs.OldLookUps.{StayIn, stay_kept}
 use Rattle.kms_laws.proofs.Steps.{Holds, history_kept, step_kept}
-use Rattle.kms_laws.proofs.Traversal.{IsKept, step_keeps, world_kept}
-use Rattle.kms_core.specs.Decisions.{world}
-use Rattle.kms_core.specs.Locks.{IsTaking, MayLock}
-use Rattle.kms_core.specs.Run.{Run, machine}
+use Rattle.kms_laws.proofs.Traversal.{step_keeps}
+use Rattle.kms_stores.specs.Decisions.{world}
+use Rattle.kms_calls.specs.Locks.{IsTaking, MayLock}
+use Rattle.kms_stores.specs.Run.{Run, machine}
 use Rattle.kms_device.specs.Asking.{HoldsGroup, IsNextByGroups, MayTake}
 use Rattle.kms_device.specs.Turns.{DevicePass, MayBeFound, seen}
 use Rattle.kms_device.proofs.Deciding.{Kept, formed, kept, kind-is, lock_found, may_lock, plain, seen-history}
 use Rattle.kms_device.proofs.Found.{stays-found}
-use Rattle.kms_device.proofs.ReachStays.{AreMade, IsFine, StayIn, affected_still, crtc_touched, is_fine}
-
--- Things stay
-
-stays_later : (things : List Thing) (w v : World) → ((label : ℕ) (u : Thing) → thing_labelled w.things label ≡ Some u → Labelled v.things label u) → StayIn things w → StayIn things v
-stays_later things w v forth stay label u found =
-    let one = stay label u found in
-    let two = forth label one.thing one.found in
-    record { thing = two.thing; found = two.found; same_id = two.same_id ∙ one.same_id; same_content = two.same_content ∙ one.same_content }
-
-things_kept : (s : Script) (things : List Thing) → IsKept s (λ d ls. StayIn things d.world)
-things_kept s things =
-    world_kept s (StayIn things)
-    (λ m client c is other stay. stays_later things m.device.world (execute s.topology m.device.world client c).world (execute_labels s.topology m.device.world client c other).forth stay)
-    (λ w client r stay.
-    stays_later things w (committed s.topology w client r).world
-    (λ label u found. record {
-      thing = u;
-      found = (fences_labels client r.assigns (record w { values = after w r; commits = w.commits + 1 }) (ids_of s.topology kind.Crtc)).forth label u found;
-      same_id = refl;
-      same_content = refl;
-    }) stay)
+use Rattle.kms_device.proofs.ReachStays.{AreMade, IsFine, affected_still, crtc_touched, is_fine}
 
 -- What is wrong with an assignment by itself
 
@@ -120,7 +94,7 @@ module _ (script : Script) (pass : DevicePass) (found : Run) (f : MayBeFound scr
   later : Holds script (machine found) × StayIn W.things V
   later =
       stays-found script pass found f (λ m. Holds script m × StayIn W.things m.device.world)
-      (λ m x is others both. (step_kept script m x (plain script pass found f) both.0 is, step_keeps script (λ d ls. StayIn W.things d.world) (things_kept script W.things) m both.0 both.1 x is))
+      (λ m x is others both. (step_kept script m x (plain script pass found f) both.0 is, step_keeps script (λ d ls. StayIn W.things d.world) (stay_kept script W.things) m both.0 both.1 x is))
       (history_kept script pass.seen (plain script pass found f) (seen-history script pass found f), λ label u is. record { thing = u; found = is; same_id = refl; same_content = refl })
 
   before : Holds script (at script pass.seen)

@@ -2,8 +2,9 @@
 use Rattle.std.specs.Prelude.{◌≡◌, ◌⊎◌, ℕ, Bool, true, false, List, All, slice_index_or}
 use Rattle.kms_model.specs.declared.replies.Step.{Step}
 use Rattle.kms_model.specs.declared.replies.Step.TheVariants.{Stall, Vblank}
-use Rattle.kms_core.specs.Run.{Run, gains}
-use Rattle.kms_device.specs.Steps.{blankings, owner}
+use Rattle.kms_stores.specs.Run.{Run, gains}
+use Rattle.kms_laws.specs.Blankings.{blankings}
+use Rattle.kms_device.specs.Steps.{owner}
 
 -- numbers in their order are how many vertical blankings each CRTC had
 abbrev pub IsCounted : List ℕ → List Step → Type 0

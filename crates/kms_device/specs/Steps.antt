@@ -1,20 +1,21 @@
 -- Whose a step is, what is counted of a history, and the tail of a commit. From: `drm_vblank.c`, drm_crtc_vblank_count (the counts
 -- of CRTCs); `drm_atomic_helper.c`, commit_tail (the order of a tail).
-use Rattle.std.specs.Prelude.{ℕ, suc, ◌≤◌, ◌≡◌, ◌==◌, ◌&&◌, nat_le, Bool, true, false, List, [], ◌∷◌, ◌++◌, All}
+use Rattle.std.specs.Prelude.{ℕ, ◌≤◌, ◌≡◌, ◌&&◌, nat_le, Bool, true, false, List, [], ◌∷◌, ◌++◌, All}
 use Prim.Native.Nat.{zero-le, suc-le-suc}
 use Rattle.kms_model.specs.declared.objects.Kind.{Kind}
 use Rattle.kms_model.specs.declared.objects.Kind.TheVariants.{Crtc, Plane}
 use Rattle.kms_model.specs.declared.objects.ObjId.{ObjId}
 use Rattle.kms_model.specs.declared.objects.Topology.{Topology}
 use Rattle.kms_model.specs.declared.replies.Step.{Step}
-use Rattle.kms_model.specs.declared.replies.Step.TheVariants.{Cleanup, Flush, HwDone, Stall, Vblank, Write}
+use Rattle.kms_model.specs.declared.replies.Step.TheVariants.{Cleanup, Flush, HwDone, Stall, Write}
 use Rattle.kms_model.specs.Device.Objects.{exists, first_id, kind_of}
 use Rattle.kms_model.specs.Machine.Histories.{for_each, legal}
 use Rattle.kms_model.specs.Promises.{client_of_step}
-use Rattle.kms_core.specs.Decisions.{number_or_0}
-use Rattle.kms_core.specs.Latching.{goes_at}
-use Rattle.kms_core.specs.Run.{Run, machine}
-use Rattle.kms_core.specs.Work.{write_step}
+use Rattle.kms_laws.specs.Blankings.{blankings, is_blanking, one_more_if}
+use Rattle.kms_stores.specs.Decisions.{number_or_0}
+use Rattle.kms_work.specs.Latching.{goes_at}
+use Rattle.kms_stores.specs.Run.{Run, machine}
+use Rattle.kms_stores.specs.Work.{write_step}
 
 -- the client whose step it is; 0 for nobody's
 abbrev pub owner : Step → ℕ
@@ -24,20 +25,6 @@ owner step = number_or_0 (client_of_step step)
 abbrev pub is_stall : Step → Bool
 is_stall Stall = true
 is_stall _ = false
-
--- a vertical blanking of the CRTC with an index
-abbrev pub is_blanking : ℕ → Step → Bool
-is_blanking crtc (Vblank Crtc index) = index == crtc
-is_blanking crtc _ = false
-
-abbrev pub one_more_if : Bool → ℕ → ℕ
-one_more_if true n = suc n
-one_more_if false n = n
-
--- how many vertical blankings the CRTC with an index had
-abbrev pub blankings : ℕ → List Step → ℕ
-blankings crtc [] = 0
-blankings crtc (step ∷ steps) = one_more_if (is_blanking crtc step) (blankings crtc steps)
 
 one_more_if-grows : (b : Bool) (m n : ℕ) → m ≤ n → one_more_if b m ≤ one_more_if b n
 one_more_if-grows true m n l = suc-le-suc l

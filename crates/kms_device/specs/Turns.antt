@@ -6,9 +6,10 @@ use Rattle.kms_model.specs.declared.replies.Step.{Step}
 use Rattle.kms_model.specs.declared.scripts.Script.{Script}
 use Rattle.kms_model.specs.Machine.Histories.{is_history}
 use Rattle.kms_model.specs.Script.WellFormed.{IsWellFormed}
-use Rattle.kms_core.specs.Run.{Run}
+use Rattle.kms_stores.specs.Run.{Run}
 use Rattle.kms_histlock.specs.Passes.{IsFound, LockName, PassState}
-use Rattle.kms_device.specs.Steps.{NeverEnds, blankings, owner}
+use Rattle.kms_laws.specs.Blankings.{blankings}
+use Rattle.kms_device.specs.Steps.{NeverEnds, owner}
 
 -- what contracts see of a device: its lock's name, how many passes it was made with, and its script
 pub record DeviceState : Type 0 where

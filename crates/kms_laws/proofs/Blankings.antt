@@ -4,18 +4,22 @@ use Rattle.std.proofs.lemmas.Bool.{and_parts, cases_eq, eq-eqb, ne_eqb}
 use Rattle.kms_model.specs.declared.objects.Kind.{Kind}
 use Rattle.kms_model.specs.declared.objects.Kind.TheVariants.{Crtc, Plane, Conn, Enc}
 use Rattle.kms_model.specs.declared.replies.Step.{Step}
-use Rattle.kms_model.specs.declared.replies.Step.TheVariants.{Flush, Make, Signal, Swap, Vblank}
+use Rattle.kms_model.specs.declared.replies.Step.TheVariants.{Vblank}
 use Rattle.kms_model.specs.declared.scripts.Script.{Script}
-use Rattle.kms_model.specs.Device.Execution.{execute}
 use Rattle.kms_model.specs.Device.Objects.{object_id}
-use Rattle.kms_model.specs.Machine.Effects.{answers, counts_vblank, goes_on, next, signals}
+use Rattle.kms_model.specs.Machine.Effects.{counts_vblank, next}
 use Rattle.kms_model.specs.Machine.Histories.{are_legal, at, is_history, legal, run_steps}
 use Rattle.kms_model.specs.Machine.Registers.{read}
 use Rattle.kms_model.specs.Machine.State.{Machine, count_at, first_machine}
 use Rattle.kms_laws.specs.Blankings.{blankings, is_blanking, one_more_if}
 use Rattle.kms_laws.proofs.Basics.{read_other, read_same}
-use Rattle.kms_laws.proofs.EachStep.{Carries, by_bool, by_fence, by_latch, by_two, each_step, latched_as, made_as, swapped_as}
-use Rattle.kms_laws.proofs.Steps.{flushed_at}
+use Rattle.kms_laws.specs.TailsLeft.{is_swap}
+use Rattle.kms_laws.proofs.Counted.{counts_carried, is_vblank}
+use Rattle.kms_laws.proofs.EachStep.{Carries, each_step}
+
+of_no_crtc : (crtc : ℕ) (step : Step) → is_vblank step ≡ false → is_blanking crtc step ≡ false
+of_no_crtc crtc (Vblank kind index) no_blanking = absurd cc
+of_no_crtc crtc _ no_blanking = refl
 
 module _ (s : Script) (m : Machine) (crtc : ℕ) (few : crtc < 4) where
   -- a step adds one to the count where it is a vertical blanking of the CRTC
@@ -40,35 +44,11 @@ module _ (s : Script) (m : Machine) (crtc : ℕ) (few : crtc < 4) where
   blank_adds Conn index = counted_elsewhere (object_id Conn index) (λ same. omega (arith, same, few))
   blank_adds Enc index = counted_elsewhere (object_id Enc index) (λ same. omega (arith, same, few))
 
+  leaves : (step : Step) → is_swap step ≡ false → is_vblank step ≡ false → Adds step m
+  leaves step no_swap no_blanking = sym (ap (λ b. one_more_if b (count_at m.device (object_id Crtc crtc))) (of_no_crtc crtc step no_blanking))
+
   carries_adds : Carries s m Adds
-  carries_adds = record {
-    begins = λ client c e atomic idle. refl;
-    takes = λ client kind index is_there lock free. refl;
-    meets = λ client kind index holder is_there lock held. refl;
-    backs = λ client back. refl;
-    relocks = λ client object asked free. refl;
-    refuses = λ client r e taking may. refl;
-    tests = λ client r e taking may. refl;
-    swaps = λ client r e taking may b w eb ew. by_two (λ b w. Adds (Swap client) (swapped_as s.topology b w m client r)) refl refl refl refl b w;
-    makes = λ client c e making idle b eb. by_bool (λ b. Adds (Make client) (made_as b m client (execute s.topology m.device.world client c))) refl refl b;
-    signalled = λ client c e is_signal idle o.
-        by_fence (λ o. Adds (Signal client) (goes_on (signals (answers m client (execute s.topology m.device.world client c).reply) o) client)) refl (λ fence. refl) o;
-    read_none = λ client c e is_wait idle none. refl;
-    read_one = λ client c e is_wait idle event events some. refl;
-    claimed = λ k h. refl;
-    written = λ k kind index found. refl;
-    waits = λ k kind index written found. refl;
-    flushed = λ k kind index written found b o eb eo.
-        by_latch (λ b o. Adds (Flush k kind index) (latched_as s.topology b o (flushed_at m k (object_id kind index)) k (object_id kind index) (count_at m.device (object_id kind index)))) refl (λ fence. refl) refl (λ fence. refl) b o;
-    done = λ k a b c d. refl;
-    counted = λ kind index is none. blank_adds kind index;
-    blanked = λ kind index k is some b o eb eo.
-        let one = blank_adds kind index in
-        by_latch (λ b o. Adds (Vblank kind index) (latched_as s.topology b o (counts_vblank m (object_id kind index)) k (object_id kind index) (count_at m.device (object_id kind index) + 1))) one (λ fence. one) one (λ fence. one) b o;
-    cleaned = λ k a b c. refl;
-    returned = λ client k e clean. refl;
-    stalled = λ h. refl;
-  }
+  carries_adds = counts_carried s m (λ step n counts. read 0 counts (object_id Crtc crtc) ≡ one_more_if (is_blanking crtc step) (count_at m.device (object_id Crtc crtc))) leaves (λ client. refl) blank_adds
 
   step_adds : (step : Step) → legal s m step ≡ true → Adds step (next s m step)
   step_adds step h = each_step s m Adds carries_adds step h

@@ -6,21 +6,21 @@ use Rattle.kms_model.specs.declared.objects.Kind.TheVariants.{Crtc}
 use Rattle.kms_model.specs.declared.replies.Step.{Step}
 use Rattle.kms_model.specs.declared.replies.Step.TheVariants.{Begin, BackOff, Claim, Cleanup, Flush, HwDone, Lock, Make, Read, Refuse, Relock, Return, Signal, Stall, Swap, Test, Vblank, Write}
 use Rattle.kms_model.specs.declared.scripts.Script.{Script}
-use Rattle.kms_model.specs.Device.Execution.{execute}
-use Rattle.kms_model.specs.Device.Objects.{ids_of, object_id}
+use Rattle.kms_model.specs.Device.Objects.{ids_of}
 use Rattle.kms_model.specs.Machine.Commits.{commit_names, commit_touches, has_latched, has_number, has_pair, registered}
-use Rattle.kms_model.specs.Machine.Effects.{answers, counts_vblank, goes_on, next, signals}
+use Rattle.kms_model.specs.Machine.Effects.{next}
 use Rattle.kms_model.specs.Machine.Histories.{at, is_history, legal}
-use Rattle.kms_model.specs.Machine.State.{Machine, count_at}
+use Rattle.kms_model.specs.Machine.State.{Machine}
 use Rattle.kms_model.proofs.Items.{IsIn}
 use Rattle.kms_model.proofs.TouchedLemmas.{HasFewObjects}
 use Rattle.kms_laws.specs.TailsLeft.{LeavesLess, LeavesLessInAll, all_left, commit_of_step, is_swap, one_if, steps_left, sum, tail_left, unflushed, unlatched, unwritten}
 use Rattle.kms_laws.proofs.Basics.{both_bools}
 use Rattle.kms_laws.proofs.Drained.{flushed-test, written-test}
-use Rattle.kms_laws.proofs.EachStep.{Carries, by_bool, by_fence, by_latch, by_two, each_step, latched_as, made_as, swapped_as}
+use Rattle.kms_laws.proofs.Counted.{counts_carried, is_vblank}
+use Rattle.kms_laws.proofs.EachStep.{Carries, each_step}
 use Rattle.kms_laws.proofs.ShorterTails.{step_lowers, tails_short}
 use Rattle.kms_laws.proofs.Sizes.{sum-last, sum-more, sum-one}
-use Rattle.kms_laws.proofs.Steps.{Holds, IsPlainScript, flushed_at, history_kept}
+use Rattle.kms_laws.proofs.Steps.{Holds, IsPlainScript, history_kept}
 
 -- A commit that is cleaned
 
@@ -57,34 +57,11 @@ module _ (s : Script) (m : Machine) where
   abbrev Counts : Step → Machine → Type 0
   Counts step m2 = length m2.device.commits ≡ count_after step (length m.device.commits)
 
+  leaves : (step : Step) → is_swap step ≡ false → is_vblank step ≡ false → Counts step m
+  leaves step no_swap no_blanking = sym (ap (λ b. if b then suc (length m.device.commits) else length m.device.commits) no_swap)
+
   carries_count : Carries s m Counts
-  carries_count = record {
-    begins = λ client c e atomic idle. refl;
-    takes = λ client kind index is_there lock free. refl;
-    meets = λ client kind index holder is_there lock held. refl;
-    backs = λ client back. refl;
-    relocks = λ client object asked free. refl;
-    refuses = λ client r e taking may. refl;
-    tests = λ client r e taking may. refl;
-    swaps = λ client r e taking may b w eb ew. by_two (λ b w. Counts (Swap client) (swapped_as s.topology b w m client r)) refl refl refl refl b w;
-    makes = λ client c e making idle b eb. by_bool (λ b. Counts (Make client) (made_as b m client (execute s.topology m.device.world client c))) refl refl b;
-    signalled = λ client c e is_signal idle o.
-        by_fence (λ o. Counts (Signal client) (goes_on (signals (answers m client (execute s.topology m.device.world client c).reply) o) client)) refl (λ fence. refl) o;
-    read_none = λ client c e is_wait idle none. refl;
-    read_one = λ client c e is_wait idle event events some. refl;
-    claimed = λ k h. refl;
-    written = λ k kind index found. refl;
-    waits = λ k kind index written found. refl;
-    flushed = λ k kind index written found b o eb eo.
-        by_latch (λ b o. Counts (Flush k kind index) (latched_as s.topology b o (flushed_at m k (object_id kind index)) k (object_id kind index) (count_at m.device (object_id kind index)))) refl (λ fence. refl) refl (λ fence. refl) b o;
-    done = λ k a b c d. refl;
-    counted = λ kind index is none. refl;
-    blanked = λ kind index k is some b o eb eo.
-        by_latch (λ b o. Counts (Vblank kind index) (latched_as s.topology b o (counts_vblank m (object_id kind index)) k (object_id kind index) (count_at m.device (object_id kind index) + 1))) refl (λ fence. refl) refl (λ fence. refl) b o;
-    cleaned = λ k a b c. refl;
-    returned = λ client k e clean. refl;
-    stalled = λ h. refl;
-  }
+  carries_count = counts_carried s m (λ step n counts. n ≡ count_after step (length m.device.commits)) leaves (λ client. refl) (λ kind index. refl)
 
   pub commits_counted : (step : Step) → legal s m step ≡ true → Counts step (next s m step)
   commits_counted step h = each_step s m Counts carries_count step h

@@ -4,6 +4,7 @@ pub mod Blankings
 pub mod ClientProgress
 pub mod Contexts
 pub mod ContextsAtAll
+pub mod Counted
 pub mod DeadFence
 pub mod Drained
 pub mod EachStep

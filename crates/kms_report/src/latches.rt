@@ -2,7 +2,7 @@
 ghost use Rattle.std.specs.Prelude.{◌≡◌, ◌*◌, ◌++◌, ◌∷◌, [], codes, length, string_bytes, All, IfOk, OnOk};
 ghost use Rattle.std.specs.Fmt.{decimal};
 ghost use Rattle.sha2.specs.Sha256.{sha256};
-ghost use Rattle.kms_core.specs.Run.{machine};
+ghost use Rattle.kms_stores.specs.Run.{machine};
 ghost use Rattle.kms_model.specs.declared.pictures.Picture.TheVariants.{On};
 ghost use Rattle.kms_model.specs.Frames.Shown.{EachCanBeShown};
 ghost use Rattle.kms_model.specs.Report.History.{latch_line};

@@ -10,7 +10,7 @@ use Rattle.kms_model.specs.Order.Rounds.{IsFinished, ends, is_still, round, roun
 use Rattle.kms_model.specs.Order.Turns.{Progress, does}
 use Rattle.kms_model.specs.Script.WellFormed.{IsWellFormed}
 use Rattle.kms_laws.specs.Ends.{RoundsEnd}
-use Rattle.kms_core.specs.Run.{Run, gains, machine}
+use Rattle.kms_stores.specs.Run.{Run, gains, machine}
 use Rattle.kms_rounds.specs.Rounds.{GoesOn, progress}
 use Rattle.kms_rounds.proofs.Histories.{goes_then, progress_step, stays}
 

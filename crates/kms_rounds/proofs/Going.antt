@@ -10,7 +10,7 @@ use Rattle.kms_model.specs.Script.WellFormed.{IsWellFormed}
 use Rattle.kms_laws.proofs.Modes.{plain-from}
 use Rattle.kms_laws.proofs.NeverStuck.{history_along}
 use Rattle.kms_laws.proofs.Turning.{client-legal}
-use Rattle.kms_core.specs.Run.{Run, gains, machine}
+use Rattle.kms_stores.specs.Run.{Run, gains, machine}
 use Rattle.kms_rounds.specs.Rounds.{GoesOn, progress}
 use Rattle.kms_rounds.proofs.Histories.{goes_by, run_does, stays}
 

@@ -8,7 +8,7 @@ use Rattle.kms_model.specs.Machine.Histories.{run_steps}
 use Rattle.kms_model.specs.Machine.State.{Machine, first_machine}
 use Rattle.kms_model.specs.Order.Rounds.{run_of}
 use Rattle.kms_model.specs.Order.Turns.{does}
-use Rattle.kms_core.specs.Run.{Run, gains}
+use Rattle.kms_stores.specs.Run.{Run, gains}
 use Rattle.kms_rounds.specs.Rounds.{GoesOn, progress}
 
 pub run_more : (s : Script) (m : Machine) (h : List Step) (step : Step) → run_steps s m (h ++ step ∷ []) ≡ next s (run_steps s m h) step

@@ -8,7 +8,7 @@ use Rattle.kms_model.specs.declared.scripts.Script.{Script}
 use Rattle.kms_model.specs.Machine.Effects.{next}
 use Rattle.kms_model.specs.Machine.Histories.{first_illegal, legal}
 use Rattle.kms_model.specs.Machine.State.{Machine, first_machine}
-use Rattle.kms_core.specs.Run.{Run, gains, machine}
+use Rattle.kms_stores.specs.Run.{Run, gains, machine}
 use Rattle.kms_rounds.specs.Replays.{Did, StopsAt, illegal_behind}
 use Rattle.kms_rounds.proofs.Histories.{run_more}
 

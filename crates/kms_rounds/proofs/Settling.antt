@@ -27,7 +27,7 @@ use Rattle.kms_laws.proofs.Sizes.{sum-most}
 use Rattle.kms_laws.proofs.Steps.{Holds, history_kept}
 use Rattle.kms_laws.proofs.Swapped.{flush_within}
 use Rattle.kms_laws.proofs.Turning.{tail-legal}
-use Rattle.kms_core.specs.Run.{Run, gains, machine}
+use Rattle.kms_stores.specs.Run.{Run, gains, machine}
 use Rattle.kms_rounds.specs.Rounds.{GoesOn, progress}
 use Rattle.kms_rounds.proofs.Histories.{goes_by, run_does, run_more, stays}
 

@@ -8,7 +8,7 @@ use Rattle.kms_model.specs.declared.replies.Step.TheVariants.{Return}
 use Rattle.kms_model.specs.Device.Objects.{ids_of, object_id}
 use Rattle.kms_model.specs.Machine.Histories.{is_at_end, legal}
 use Rattle.kms_model.specs.Order.Turns.{does, most_of_turn, returns, settles, turn}
-use Rattle.kms_core.specs.Run.{Run, gains, machine}
+use Rattle.kms_stores.specs.Run.{Run, gains, machine}
 use Rattle.kms_rounds.specs.Rounds.{progress}
 use Rattle.kms_rounds.proofs.Going.{gone}
 use Rattle.kms_rounds.proofs.Histories.{progress_step}

@@ -2,7 +2,7 @@
 use Rattle.std.specs.Prelude.{◌≡◌, ◌≤◌, ℕ, ◌-◌, List, length, take, Option, Some}
 use Rattle.kms_model.specs.declared.replies.Step.{Step}
 use Rattle.kms_model.specs.Machine.Histories.{first_illegal}
-use Rattle.kms_core.specs.Run.{Run, gains, machine}
+use Rattle.kms_stores.specs.Run.{Run, gains, machine}
 use Rattle.kms_rounds.specs.declared.replaying.ReplayError.{ReplayError}
 use Rattle.kms_rounds.specs.declared.replaying.ReplayError.TheVariants.{Illegal, NoMemory}
 

@@ -1,6 +1,6 @@
 //! Schedules, replayed.
 ghost use Rattle.std.specs.Prelude.{◌≡◌, None, OnErr, OnOk, IfErr};
-ghost use Rattle.kms_core.specs.Run.{Run, gains};
+ghost use Rattle.kms_stores.specs.Run.{Run, gains};
 ghost use Rattle.kms_rounds.specs.Replays.{Stops, illegal_behind};
 
 use kms_core::Core;

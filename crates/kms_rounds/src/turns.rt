@@ -3,7 +3,7 @@
 ghost use Rattle.std.specs.Prelude.{◌≡◌, ◌≤◌, OnOk, length};
 ghost use Rattle.kms_model.specs.Machine.Histories as told;
 ghost use Rattle.kms_model.specs.Order.Turns as order;
-ghost use Rattle.kms_core.specs.Run.{machine};
+ghost use Rattle.kms_stores.specs.Run.{machine};
 ghost use Rattle.kms_rounds.specs.Rounds.{GoesOn, progress};
 
 use kms_core::Core;

@@ -1,7 +1,7 @@
 //! What `gen` writes: a generated script, or what one thread comes to that runs it.
 ghost use Rattle.std.specs.Prelude.{◌≡◌, ◌≤◌, ◌∷◌, IfOk, [], codes, length, string_bytes, true};
 ghost use Rattle.std.specs.List.{count_by};
-ghost use Rattle.kms_core.specs.Run.{machine};
+ghost use Rattle.kms_stores.specs.Run.{machine};
 ghost use Rattle.kms_model.specs.Machine.Histories.{is_drained};
 ghost use Rattle.kms_model.specs.Script.Generated.{generated};
 ghost use Rattle.kms_model.specs.Script.Spelling.{Spells};

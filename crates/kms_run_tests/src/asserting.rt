@@ -13,6 +13,9 @@ use std::thread::Threads;
 /// The bytes that a sink has room for.
 const ROOM: usize = 1 << 20;
 
+/// The words that ask for frames.
+pub(crate) const FRAMES: [&str; 2] = ["one", "--ppm"];
+
 /// The text of pieces, one after the other.
 pub(crate) fn joined(alloc: Global, pieces: &[&str]) -> Result<String, AllocError> {
     let mut text = String::new(alloc);
@@ -107,6 +110,16 @@ pub(crate) fn assert_lit_drains<R: Abort + AllocGlobal + Threads + Wait + Sync>(
 ) -> Result<(), Fail> {
     let text = lit(rt.alloc(), more)?;
     assert_answers(rt, &["one"], text.as_str(), Status::Ok, report)
+}
+
+/// Asserts that a script drains, and that its report has these frames.
+pub(crate) fn assert_shows<R: Abort + AllocGlobal + Threads + Wait + Sync>(
+    rt: &R,
+    text: &[&str],
+    report: &[&str],
+) -> Result<(), Fail> {
+    let text = joined(rt.alloc(), text)?;
+    assert_answers(rt, &FRAMES, text.as_str(), Status::Ok, report)
 }
 
 /// Asserts that a script with a schedule is replayed so, and writes this.

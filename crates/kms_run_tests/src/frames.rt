@@ -1,25 +1,8 @@
 //! Frames as text.
-use crate::asserting::{assert_answers, joined, lit};
+use crate::asserting::{assert_answers, assert_shows, lit, FRAMES};
 use crate::texts::{ABC, BLACK, HEAD, LIGHTS, LIT, LIT_REPLIES, MADE, MADE_MODE, SET, UNSET};
 use kms_run::Status;
-use std::alloc::AllocGlobal;
-use std::process::Abort;
-use std::sync::Wait;
 use std::test::Fail;
-use std::thread::Threads;
-
-/// The words that ask for frames.
-const FRAMES: [&str; 2] = ["one", "--ppm"];
-
-/// Asserts that a script drains, and that its report has these frames.
-fn assert_shows<R: Abort + AllocGlobal + Threads + Wait + Sync>(
-    rt: &R,
-    text: &[&str],
-    report: &[&str],
-) -> Result<(), Fail> {
-    let text = joined(rt.alloc(), text)?;
-    assert_answers(rt, &FRAMES, text.as_str(), Status::Ok, report)
-}
 
 #[test]
 fn a_plane_beside_the_mode_shows_nothing(rt: HostRuntime) -> Result<(), Fail> {

@@ -1,5 +1,5 @@
 //! Scripts of profile 2: scaled planes, sources that begin between pixels, and tables of colour values.
-use crate::asserting::{assert_answers, assert_drains, assert_replays, joined};
+use crate::asserting::{assert_answers, assert_drains, assert_replays, assert_shows, joined};
 use crate::texts::{ABC, LIGHTS, LIT, LIT_REPLIES, LIT_STEPS, MADE, SET, TAIL};
 use kms_run::Status;
 use std::alloc::{AllocError, AllocGlobal, Global};
@@ -31,16 +31,6 @@ const MADE_REPLIES: &str = "R 1 1 0 made 1000\nR 1 2 1 made 1001\nR 1 3 2 made 1
 
 /// The lines of the journal of a client's first three commands.
 const MADE_LINES: &str = "J 1 1\nJ 1 2\nJ 1 3\n";
-
-/// Asserts that a script drains, and that its report has these frames.
-fn assert_shows<R: Abort + AllocGlobal + Threads + Wait + Sync>(
-    rt: &R,
-    text: &[&str],
-    report: &[&str],
-) -> Result<(), Fail> {
-    let text = joined(rt.alloc(), text)?;
-    assert_answers(rt, &["one", "--ppm"], text.as_str(), Status::Ok, report)
-}
 
 /// Asserts how a client's fourth command, which sets also these columns, is refused in a profile.
 fn assert_refused<R: Abort + AllocGlobal + Threads + Wait + Sync>(

@@ -61,7 +61,7 @@ version_spelt : (text : List ℕ) (version : ℕ) → version_read text ≡ Some
 version_spelt text version e = elim (either_ok (bytes_eq text (codes "kms 1")) _ _ (Some version) e) [
   | inl first ↦ subst (λ v. line (kms_words v) ≡ text ++ 10 ∷ []) (some_same 1 version first.1) (version_one text ((bytes_eq-Decides text (codes "kms 1")).0 first.0))
   | inr other ↦ (let second = if_some (bytes_eq text (codes "kms 2")) (Some 2) version other.1 in
-    subst (λ v. line (kms_words v) ≡ text ++ 10 ∷ []) (some_same 2 version second.1) (version_two text ((bytes_eq-Decides text (codes "kms 2")).0 second.0)))
+      subst (λ v. line (kms_words v) ≡ text ++ 10 ∷ []) (some_same 2 version second.1) (version_two text ((bytes_eq-Decides text (codes "kms 2")).0 second.0)))
 ]
 
 -- a draft of a version behind the first line

@@ -1,6 +1,8 @@
 -- A command's line leaves the profile of the names as it was.
-use Rattle.std.proofs.Common.{◌≡◌, ℕ, inl, inr, Bool, List, [], ◌∷◌, Option, Some, None, Ok, cond, refl, sym, ap, subst, ◌∙◌}
-use Rattle.std.specs.Prelude.{codes, option_map}
+use Rattle.std.proofs.Common.{◌≡◌, ℕ, suc, inl, inr, Bool, true, false, List, [], ◌∷◌, ◌++◌, length, length-append, All, ◌<◌, ◌≤◌, arith, Option, Some, None, Ok, cond, refl, sym, ap, subst, ◌∙◌}
+use Rattle.std.specs.Prelude.{◌||◌, codes, nat_le, option_map}
+use Rattle.std.proofs.lemmas.Bool.{leb-false, or_parts}
+use Rattle.std.proofs.lemmas.List.Elements.{All-append, All-cons, All-nil}
 use Rattle.std.specs.Str.{bytes_eq}
 use Rattle.kms_model.specs.declared.scripts.Assign.{Assign}
 use Rattle.kms_model.specs.declared.scripts.Command.{Command}
@@ -10,6 +12,8 @@ use Rattle.kms_model.specs.declared.scripts.Value.TheVariants as value
 use Rattle.kms_model.specs.declared.scripts.Why.TheVariants.{Label, Limit}
 use Rattle.kms_model.specs.Script.CommandLines.{Names, addfb_read, assign_read, assign_words, assigns_read, atomic_read, blob_read, buffer_read, command_read, is_over, label_alone, label_read, making, making_read, mode_read, naming_read, property_read, saying, thing_read, value_read}
 use Rattle.kms_model.specs.Script.Grammar.{int, known_property}
+use Rattle.kms_model.specs.Script.WellFormed.{IsFitCommand}
+use Rattle.kms_model.specs.Script.WholeInput.{clients_of}
 use Rattle.kms_model.specs.Script.Words.{dec, end_at, from, is_label, label_at, strip, until}
 use Rattle.kms_script.specs.Fitting.{IsFitProfile}
 use Rattle.kms_script.specs.Lines.{line_of}
@@ -141,3 +145,20 @@ fit_profile names text c after e fit =
     let limit = unless_ok (is_over read.value.0) Limit _ (c, after) label.1 in
     let same : after.profile ≡ names.profile = ap (λ (r : Command × Names). r.1.profile) (sym (ok_same read.value (c, after) limit.1)) ∙ command_stays names text read.value read.given in
     subst (λ p. IsFitProfile p) (sym same) fit
+
+-- with a command more there are as many clients
+pub as_many : (clients : List (List Command)) (has : Bool) (xs ys : List Command) → length (clients ++ clients_of has xs) ≡ length (clients ++ clients_of has ys)
+as_many [] true xs ys = refl
+as_many [] false xs ys = refl
+as_many (c ∷ cs) has xs ys = ap suc (as_many cs has xs ys)
+
+-- where a client's commands are not too many with one more, they are few with it
+pub few_more : (commands new : List Command) (c : Command) (t : Bool) → new ≡ commands ++ c ∷ [] → (nat_le 4096 (length commands) || t) ≡ false → length new ≤ 4096
+few_more commands new c t pushed none =
+    let few : length commands < 4096 = leb-false 4096 (length commands) (or_parts (nat_le 4096 (length commands)) t none).0 in
+    let more = length-append commands (c ∷ []) in
+    subst (λ xs. length xs ≤ 4096) (sym pushed) (omega (arith, few, more))
+
+-- with a command more that is within the limits, all are
+pub fit_more : (commands new : List Command) (c : Command) → new ≡ commands ++ c ∷ [] → All IsFitCommand commands → IsFitCommand c → All IsFitCommand new
+fit_more commands new c pushed all one = subst (λ xs. All IsFitCommand xs) (sym pushed) (All-append IsFitCommand commands (c ∷ []) all (All-cons IsFitCommand c [] one (All-nil IsFitCommand)))

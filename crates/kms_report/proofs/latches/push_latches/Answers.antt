@@ -1,5 +1,5 @@
 use Rattle.std.proofs.Common.{◌++◌, [], ◌∷◌, ap, ◌∙◌}
-use Rattle.kms_core.specs.Run.{machine}
+use Rattle.kms_stores.specs.Run.{machine}
 use Rattle.kms_model.specs.declared.runs.Latch.{Latch}
 use Rattle.kms_report.specs.Telling.{latches_text}
 use Rattle.kms_report.proofs.Pieces.{at_last, latches-join, one_more}

@@ -1,5 +1,5 @@
 use Rattle.std.proofs.Common.{◌≡◌, ◌++◌, take}
-use Rattle.kms_core.specs.Run.{machine}
+use Rattle.kms_stores.specs.Run.{machine}
 use Rattle.kms_report.specs.Telling.{latches_text}
 use Rattle.kms_report.proofs.latches.push_latches.Given as goal
 

@@ -1,5 +1,5 @@
 use Rattle.kms_laws.specs.TailsLeft.{all_left}
-use Rattle.kms_core.specs.Run.{machine}
+use Rattle.kms_stores.specs.Run.{machine}
 use Rattle.kms_rounds.proofs.Settling.{IsSettling}
 use Rattle.kms_rounds.proofs.turns.settle.Given as goal
 

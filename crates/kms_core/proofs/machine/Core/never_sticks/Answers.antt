@@ -1,11 +1,4 @@
-use Rattle.std.proofs.Common.{subst}
-use Rattle.kms_core.specs.Promises.{GoesOn}
-use Rattle.kms_core.proofs.Insides.{run_of}
 use Rattle.kms_core.proofs.machine.Core.never_sticks.Goals as goal
 
 pub returns : goal.returns
-returns c =
-    let r = run_of c.self.inside in
-    let formed = c.self.invariant.stands.formed in
-    let history = c.self.invariant.stands.history in
-    subst GoesOn c.self.view_is (c.histories_go_on.ensures r.script r.steps formed history)
+returns c = c.histories_go_on.ensures c.args.self.now.script c.args.self.now.steps c.is_a_history.ensures.formed c.is_a_history.ensures.history

@@ -1,5 +1,5 @@
-use Rattle.std.proofs.Common.{refl, rules}
-use Rattle.kms_script.proofs.ProfileStays.{fit_profile}
+use Rattle.std.proofs.Common.{◌≤◌, ◌∙◌, refl, subst, sym}
+use Rattle.kms_script.proofs.ProfileStays.{as_many, few_more, fit_more, fit_profile}
 use Rattle.kms_script.proofs.draft.Draft.command_line.Goals as goal
 
 pub returns-clause-keeps : goal.returns-clause-keeps
@@ -17,7 +17,12 @@ returns-clause-keeps c =
         planes = old.planes;
         conns = old.conns;
       };
-      clients = search rules;
+      clients = record {
+        few = subst (λ n. n ≤ 16) (as_many c.args.self.now.clients c.args.self.now.has_client c.args.self.now.commands c.push.new.self) c.requires.sound.clients.few;
+        clients = c.requires.sound.clients.clients;
+        few_commands = few_more c.args.self.now.commands c.push.new.self c.in_ok-command.command _ c.in_ok-push.ensures.ok (sym c.is_full.ensures ∙ c.if-is_full.false);
+        commands = fit_more c.args.self.now.commands c.push.new.self c.in_ok-command.command c.in_ok-push.ensures.ok c.requires.sound.clients.commands c.in_ok-command.ensures.fit;
+      };
       size = refl;
       names = c.in_ok-command.ensures.grows;
       once = c.in_ok-command.ensures.once;

@@ -1,0 +1,214 @@
+-- Commands that are executed at once, and what they leave.
+use Rattle.std.proofs.Common.{◌≡◌, ℕ, Bool, true, false, List, [], ◌∷◌, ◌++◌, length, Option, Some, None, refl, sym, ap, ◌∙◌, subst, arith}
+use Rattle.std.specs.Option.{option_and_then}
+use Rattle.kms_model.specs.declared.objects.Topology.{Topology}
+use Rattle.kms_model.specs.declared.replies.Answered.{Answered}
+use Rattle.kms_model.specs.declared.replies.Reply.{Reply}
+use Rattle.kms_model.specs.declared.replies.Step.{Step}
+use Rattle.kms_model.specs.declared.replies.Step.TheVariants as step
+use Rattle.kms_model.specs.declared.scripts.Command.{Command}
+use Rattle.kms_model.specs.declared.scripts.Command.TheVariants as command
+use Rattle.kms_model.specs.declared.scripts.Script.{Script}
+use Rattle.kms_model.specs.declared.states.Duplicates.{Duplicates}
+use Rattle.kms_model.specs.declared.worlds.World.{World}
+use Rattle.kms_model.specs.Device.Execution.{Executed, execute}
+use Rattle.kms_model.specs.Device.Serial.{Entry, command_of, from_one, is_accepted}
+use Rattle.kms_model.specs.Machine.Effects.{answers, executed, joins_if, made_thing, next, goes_on as client_goes_on}
+use Rattle.kms_model.specs.Machine.Histories.{legal}
+use Rattle.kms_model.specs.Machine.State.{Machine, Records, command_at, place_at}
+use Rattle.kms_model.specs.Machine.Steps.{is_atomic, is_making, may}
+use Rattle.kms_model.specs.Script.WellFormed.{IsFitClient, IsFitCommand, IsWellFormed}
+use Rattle.kms_clients.specs.InStep.{AreClientsOf}
+use Rattle.kms_clients.specs.Standing.{Standing, place_of}
+use Rattle.kms_laws.proofs.Executed.{execute_follows}
+use Rattle.kms_laws.proofs.Modes.{from_one-in, plain-from}
+use Rattle.kms_laws.proofs.SmallNumbers.{numbers_fit}
+use Rattle.kms_laws.proofs.Steps.{history_kept, not_atomic}
+use Rattle.kms_laws.proofs.Words.{by_recursion-at}
+use Rattle.kms_signal.specs.FenceSets.{FenceSet}
+use Rattle.kms_things.proofs.SeenStates.{present_seen}
+use Rattle.kms_things.specs.Commands.{IsNoRequest}
+use Rattle.kms_things.specs.Made.{HasIds, Made, with_made}
+use Rattle.kms_things.specs.Present.{IsPresent}
+use Rattle.kms_stores.specs.Calls.{MayMake, answered, joined, reply_at, reply_to_command, with_fence_of}
+use Rattle.kms_logs.specs.Logs.{Reserved}
+use Rattle.kms_stores.specs.Needs.{Accounts, HasPlaceFor}
+use Rattle.kms_logs.specs.Logs.{Logged}
+use Rattle.kms_stores.specs.Run.{Run, machine}
+use Rattle.kms_stores.specs.Stands.{AreMadeFences, IsWorldOf, Stores, Stands, StandsAt}
+use Rattle.kms_stores.proofs.Beside.{moved, stands_moved}
+use Rattle.kms_stores.proofs.Fencing.{executed_fenced, executed_more, made_stand, same_fences, same_slots}
+use Rattle.kms_stores.proofs.FreedCalls.{closed_place, made_freed, world_after}
+use Rattle.kms_stores.proofs.Histories.{goes_freeing, same_freed, with_freed}
+use Rattle.kms_stores.proofs.Places.{IsIdleAt, idle_there, not_ended}
+use Rattle.kms_stores.proofs.Recorded.{joined_if, joined_more, records_answered}
+
+-- Commands
+
+pub fit_command : (s : Script) (e : Entry) (c : Command) → IsWellFormed s → command_of s e ≡ Some c → IsFitCommand c
+fit_command s e c formed is = go (from_one s.clients e.client) refl is where
+  go : (o : Option (List Command)) → from_one s.clients e.client ≡ o → option_and_then (λ commands. from_one commands e.command) o ≡ Some c → IsFitCommand c
+  go None found is = absurd cc
+  go (Some commands) found is =
+      by_recursion-at IsFitCommand commands c (by_recursion-at IsFitClient s.clients commands formed.clients (from_one-in s.clients e.client commands found)).fit (from_one-in commands e.command c is)
+
+pub no_request : (c : Command) → is_atomic c ≡ false → IsNoRequest c
+no_request (command.Buffer label width height format pattern) e = tt
+no_request (command.AddFb label buffer) e = tt
+no_request (command.Mode label m) e = tt
+no_request (command.Blob label bytes) e = tt
+no_request (command.Destroy label) e = tt
+no_request (command.CloseFb label) e = tt
+no_request (command.Fence label) e = tt
+no_request (command.Signal label) e = tt
+no_request (command.Atomic r) e = absurd cc
+no_request command.Wait e = tt
+
+-- a command that is found under the number of the client's place is the one at which the client stands
+pub found_command : (r : Run) (st : Stores) (client number : ℕ) (test : Command → Bool) (o : Option Command) → IsIdleAt r st client test → number ≡ (place_of st.clients client).command
+    → o ≡ command_of r.script (record { client = client; command = number }) → o ≡ command_at r.script (machine r) client
+found_command r st client number test o there same is = is ∙ ap (λ n. command_of r.script (record { client = client; command = n })) (same ∙ there.number)
+
+-- such a command passes the test, and may be executed
+pub record IsFound (r : Run) (st : Stores) (client : ℕ) (test : Command → Bool) (c : Command) : Type 0 where
+  pub at : command_at r.script (machine r) client ≡ Some c
+  pub passes : test c ≡ true
+  pub fit : IsFitCommand c
+
+pub is_found : (r : Run) (st : Stores) (client number : ℕ) (test : Command → Bool) (c : Command) → Stands r st → IsIdleAt r st client test → number ≡ (place_of st.clients client).command
+    → Some c ≡ command_of r.script (record { client = client; command = number }) → IsFound r st client test c
+is_found r st client number test c stands there same is =
+    let at = sym (found_command r st client number test (Some c) there same is) in
+    let one : Some there.command ≡ Some c = sym there.at ∙ at in
+    let same_command : there.command ≡ c = cc in
+    record { at = at; passes = subst (λ x. test x ≡ true) same_command there.passes; fit = fit_command r.script (record { client = client; command = number }) c stands.formed (sym is) }
+
+-- one is found
+pub never_absent : (r : Run) (st : Stores) (client number : ℕ) (test : Command → Bool) → IsIdleAt r st client test → number ≡ (place_of st.clients client).command → None ≡ command_of r.script (record { client = client; command = number }) → ⊥
+never_absent r st client number test there same is =
+    let none : None ≡ Some there.command = found_command r st client number test None there same is ∙ there.at in
+    cc
+
+-- there are ids for the things of a command more
+pub has_ids : (r : Run) (st : Stores) → Stands r st → HasIds st.made
+has_ids r st stands =
+    let fit = (numbers_fit r.script r.steps stands.formed stands.history).ids in
+    let same = stands.stores.world.next_id in
+    omega (arith, fit, same)
+
+-- Want of memory
+
+-- stores with other room stand as well
+pub stands_with_room : (r : Run) (st : Stores) (journal : Logged (ℕ × ℕ)) (replies : Logged Answered) (made : Made) (fences : FenceSet) (steps : List Step) → Stands r st → steps ≡ r.steps → journal.items ≡ st.journal.items → replies.items ≡ st.replies.items
+    → made ≡ st.made → fences.slots ≡ st.fences.slots → (freed : Reserved (ℕ × ℕ)) → freed.items ≡ st.freed.items → freed.places ≡ st.freed.places
+    → Stands (record { script = r.script; steps = steps }) (record st { journal = journal; replies = replies; made = made; fences = fences; freed = freed })
+stands_with_room r st journal replies made fences steps stands is same_journal same_replies same_made same_set freed same_freed_items same_places = record {
+  formed = stands.formed;
+  history = rw is stands.history;
+  freed = same_freed r.script r.steps steps st.freed freed is same_freed_items same_places stands.freed;
+  stores = rw is (record {
+    clients = stands.stores.clients;
+    recorded = rw (same_journal, same_replies) stands.stores.recorded;
+    world = rw same_made stands.stores.world;
+    fences = same_fences (machine r).device.signalled st.fences fences same_set stands.stores.fences;
+    fenced = same_slots (machine r).device.world (machine r).device.signalled st.fences fences same_set stands.stores.fenced;
+    out_fenced = λ k index id low few is. rw same_set (stands.stores.out_fenced k index id low few is);
+    queues = stands.stores.queues;
+    tracker = stands.stores.tracker;
+    tails = stands.stores.tails;
+    registers = stands.stores.registers;
+    going = stands.stores.going;
+    ended = stands.stores.ended;
+  });
+}
+
+-- A thing is made or closed
+
+pub idle_maker : (r v : Run) (st : Stores) (client : ℕ) → Stands r st → r ≡ v → MayMake v client → IsIdleAt r st client is_making
+unfolding legal may
+idle_maker r v st client stands same now = idle_there r st client is_making stands (not_ended (machine r).stalled _ (subst (λ (w : Run). MayMake w client) (sym same) now))
+
+-- the world of the machine is that of the things
+pub world_of : (t : Topology) (w : World) (made : Made) (present : Duplicates) → IsWorldOf t w made present → with_made w made ≡ w
+world_of t w made present stands = λ i. record w { things = sym stands.things i; next_id = sym stands.next_id i }
+
+execution_is : (t : Topology) (w : World) (made new : Made) (present : Duplicates) (client : ℕ) (c : Command) (reply : Reply) → IsWorldOf t w made present
+    → ((u : Topology) (v : World) → execute u (with_made v made) client c ≡ record { world = with_made v new; reply = reply }) → execute t w client c ≡ record { world = with_made w new; reply = reply }
+execution_is t w made new present client c reply stands executed = ap (λ v. execute t v client c) (sym (world_of t w made present stands)) ∙ executed t w
+
+executed_moved : (m : Machine) (client : ℕ) (reply : Reply) (v : World) (b : Bool)
+    → client_goes_on (record (joins_if b (answers m client reply) client) { device = record (joins_if b (answers m client reply) client).device { world = v } }) client
+    ≡ moved m client (joined_if (record m.records { replies = answered client (place_at m client).command (length m.records.journal) reply ∷ m.records.replies }) b client (place_at m client).command) v m.device.signalled m.events
+executed_moved m client reply v true = refl
+executed_moved m client reply v false = refl
+
+same_latches : (records : Records) (b : Bool) (client number : ℕ) → (joined_if records b client number).latches ≡ records.latches
+same_latches records true client number = refl
+same_latches records false client number = refl
+
+-- what the call leaves of the stores
+pub record HasMade (r : Run) (st : Stores) (client : ℕ) (c : Command) (reply : Reply) (clients : Standing) (journal : Logged (ℕ × ℕ)) (replies : Logged Answered) (made : Made) (fences : FenceSet) : Type 0 where
+  pub found : IsFound r st client is_making c
+  pub executed_as : (t : Topology) (w : World) → execute t (with_made w st.made) client c ≡ record { world = with_made w made; reply = reply }
+  pub fences_now : fences.slots ≡ with_fence_of c st.made.next_id st.fences.slots
+  pub clients_stand : AreClientsOf (client_goes_on (machine r) client).contexts clients
+  pub replies_more : replies.items ≡ st.replies.items ++ answered client (place_of st.clients client).command (length st.journal.items) reply ∷ []
+  pub journal_more : journal.items ≡ joined st.journal.items (is_accepted reply) client (place_of st.clients client).command
+
+pub tells_reply : (r v : Run) (st : Stores) (client : ℕ) (c : Command) (made : Made) (reply : Reply) → Stands r st → r ≡ v → command_at r.script (machine r) client ≡ Some c
+    → ((t : Topology) (w : World) → execute t (with_made w st.made) client c ≡ record { world = with_made w made; reply = reply }) → reply ≡ reply_at v client
+tells_reply r v st client c made reply stands same at executed =
+    sym (ap (λ (e : Executed). e.reply) (execution_is r.script.topology (machine r).device.world st.made made st.present client c reply stands.stores.world executed))
+    ∙ ap (λ o. reply_to_command r.script.topology (machine r).device.world client o) (sym at)
+    ∙ ap (λ (w : Run). reply_at w client) same
+
+made_stands : (r : Run) (st : Stores) (client : ℕ) (c : Command) (reply : Reply) (clients : Standing) (journal : Logged (ℕ × ℕ)) (replies : Logged Answered) (made : Made) (fences : FenceSet) → Stands r st → IsIdleAt r st client is_making
+    → HasMade r st client c reply clients journal replies made fences
+    → StandsAt r.script (next r.script (machine r) (step.Make client)) (record st { clients = clients; journal = journal; replies = replies; made = made; fences = fences })
+unfolding next made_thing
+made_stands r st client c reply clients journal replies made fences stands there has =
+    let m = machine r in
+    let t = r.script.topology in
+    let w = m.device.world in
+    let holds = (history_kept r.script r.steps (plain-from r.script stands.formed) stands.history).present in
+    let other = not_atomic c has.found.passes in
+    let is = execution_is t w st.made made st.present client c reply stands.stores.world has.executed_as in
+    let follows = execute_follows t w client c holds.sound holds.kept ((plain-from r.script stands.formed).modes (record { client = client; command = (place_at m client).command }) c has.found.at) other in
+    let slots : fences.slots ≡ with_fence_of c w.next_id st.fences.slots = has.fences_now ∙ ap (λ n. with_fence_of c n st.fences.slots) (sym stands.stores.world.next_id) in
+    let records : Records = record m.records { replies = answered client (place_at m client).command (length m.records.journal) reply ∷ m.records.replies } in
+    rw has.found.at (rw is (rw (executed_moved m client reply (with_made w made) (is_accepted reply))
+    (stands_moved r.script m client (joined_if records (is_accepted reply) client (place_at m client).command) (with_made w made) m.device.signalled m.events st clients journal replies made fences st.queues
+    (same_latches records (is_accepted reply) client (place_at m client).command) has.clients_stand
+    (rw (has.journal_more, there.number) (joined_more records st.journal.items replies.items st.latches.items (is_accepted reply) client (place_at m client).command
+    (records_answered m st client (place_of st.clients client).command reply st.journal.items replies.items refl has.replies_more there.number stands.stores.recorded)))
+    (record { things = refl; next_id = refl; states = subst (λ (e : Executed). IsPresent t e.world st.present) is (present_seen t w (execute t w client c).world st.present follows.like.values follows.like.alike stands.stores.world.states) })
+    (made_stand w c m.device.signalled st.fences fences slots stands.stores.fenced stands.stores.fences)
+    (subst (λ (e : Executed). AreMadeFences e.world m.device.signalled fences) is (executed_fenced t w client c m.device.signalled st.fences fences other slots stands.stores.fenced))
+    (executed_more w.next_id c st.fences fences slots) stands.stores.queues stands.stores)))
+
+pub makes : (r v : Run) (st : Stores) (client : ℕ) (c : Command) (reply : Reply) (clients : Standing) (journal : Logged (ℕ × ℕ)) (replies : Logged Answered) (made : Made) (fences : FenceSet) (before steps : List Step) → Stands r st → r ≡ v → MayMake v client
+    → HasMade r st client c reply clients journal replies made fences → before ≡ r.steps → steps ≡ before ++ step.Make client ∷ []
+    → (roomy freed : Reserved (ℕ × ℕ)) → roomy.items ≡ st.freed.items → roomy.places ≡ st.freed.places → Accounts made st.present st.registers st.tails r.script.topology.crtcs c reply roomy freed
+    → Stands (record { script = r.script; steps = steps }) (record st { clients = clients; journal = journal; replies = replies; made = made; fences = fences; freed = freed })
+makes r v st client c reply clients journal replies made fences before steps stands same now has is more roomy freed same_items same_places accounts =
+    let new : Stores = record st { clients = clients; journal = journal; replies = replies; made = made; fences = fences } in
+    let may = subst (λ (w : Run). MayMake w client) (sym same) now in
+    let told = ap (λ (e : Executed). e.reply) (execution_is r.script.topology (machine r).device.world st.made made st.present client c reply stands.stores.world has.executed_as) in
+    let after = made_stands r st client c reply clients journal replies made fences stands (idle_maker r v st client stands same now) has in
+    let with_room : Stands r (record st { freed = roomy }) = record {
+      formed = stands.formed;
+      history = stands.history;
+      stores = with_freed r.script (machine r) st roomy stands.stores;
+      freed = same_freed r.script r.steps r.steps st.freed roomy refl same_items same_places stands.freed;
+    } in
+    goes_freeing r st (record new { freed = freed }) (step.Make client) steps (more ∙ ap (λ (xs : List Step). xs ++ step.Make client ∷ []) is) stands may
+    (with_freed r.script (next r.script (machine r) (step.Make client)) new freed after) (made_freed r (record st { freed = roomy }) client c reply with_room may has.found.at told new freed after accounts)
+
+-- there is a place for a framebuffer that was closed
+pub place_for : (r v : Run) (st : Stores) (client : ℕ) (c : Command) (reply : Reply) (made : Made) → Stands r st → r ≡ v → MayMake v client → command_at r.script (machine r) client ≡ Some c
+    → ((t : Topology) (w : World) → execute t (with_made w st.made) client c ≡ record { world = with_made w made; reply = reply }) → HasPlaceFor made c reply st.freed.places
+place_for r v st client c reply made stands same now at executed_as =
+    let may = subst (λ (w : Run). MayMake w client) (sym same) now in
+    let executed_is = execution_is r.script.topology (machine r).device.world st.made made st.present client c reply stands.stores.world executed_as in
+    closed_place r st client c reply stands may at (ap (λ (e : Executed). e.reply) executed_is) made
+    (ap (λ (w : World). w.things) (world_after r st client c reply stands may at (ap (λ (e : Executed). e.reply) executed_is)) ∙ ap (λ (e : Executed). e.world.things) executed_is)

@@ -1,0 +1,7 @@
+pub mod Stored
+pub mod Locking
+pub mod BackingOff
+pub mod Returned
+pub mod Delivered
+pub mod Executed
+pub mod Signalled

@@ -1,0 +1,160 @@
+//! Acquire contexts and their locks.
+ghost use Rattle.std.specs.Prelude.{ℕ, ◌≡◌, IfOk, OnErr, [], ◌∷◌};
+ghost use Rattle.kms_model.specs.declared.objects.Topology.{Topology};
+ghost use Rattle.kms_model.specs.declared.replies.Step.TheVariants as step;
+ghost use Rattle.kms_model.specs.declared.worlds.World.{World};
+ghost use Rattle.kms_model.specs.Device.Objects.{kind_of};
+ghost use Rattle.kms_stores.specs.Run.{Run, machine, gains, if_ok};
+ghost use Rattle.kms_calls.specs.Locks.{MayBegin, MayLock, IsTaking, locked_answer, locked_as, lock_step, lock_steps, is_step, HasContext, MayBackOff, MayRelock, relocked_answer, relock_steps};
+
+use crate::states::present_state;
+use kms_model::{Doing, NoMemory, ObjId, ObjState, Step, Ticket};
+use kms_stores::{Stores, make_step_room};
+use kms_wwlock::{Lock, Relock};
+use std::alloc::Global;
+
+/// What is answered where a lock is asked for.
+#[derive(Clone, Copy, Debug, PartialEq, Eq)]
+pub enum Locked {
+    /// The object was free, and the context holds it now.
+    Got {
+        /// The object's present state.
+        state: ObjState,
+    },
+    /// The context holds it already.
+    Own {
+        /// The object's present state.
+        state: ObjState,
+    },
+    /// An older context holds it, and this one must back off.
+    Older {
+        /// The ticket of the context that holds it, a lower number than the asker's.
+        holder: Ticket,
+    },
+    /// A younger context holds it, and this one may ask again later.
+    Younger {
+        /// The ticket of the context that holds it, a higher number than the asker's.
+        holder: Ticket,
+    },
+    /// Another context holds the object that this one backed off for, and this one may ask again later.
+    Held {
+        /// The ticket of the context that holds it.
+        holder: Ticket,
+    },
+}
+
+/// Begins an acquire context for a client that is idle at an atomic request, and gives its ticket. Want of memory
+/// leaves all as it was. (Kernel: "KMS Locking", `drm_modeset_acquire_init`.)
+pub fn begin(stores: &mut Stores, alloc: Global, client: u32) -> Result<Ticket, NoMemory>
+    requires { MayBegin stores.old client }
+    ensures ticket { IfOk result (λ t. t.0 ≡ (machine stores.old).contexts.tickets) }
+    ensures history { stores.new ≡ gains stores.old (if_ok result (λ t. step.Begin client ∷ [])) }
+{
+    make_step_room(&mut stores.steps, &stores.tails)?;
+    let ticket = stores.clients.begin(alloc, client)?;
+    stores.steps.push(Step::Begin { client });
+    Ok(ticket)
+}
+
+/// Asks for an object in the context of a ticket, which takes locks. The object is in the reach of the request. `Got`
+/// and `Own` tell its present state. After `Older` the context must back off; `Own` and `Younger` change nothing. Want
+/// of memory leaves all as it was. (Kernel: `drm_modeset_lock`.)
+pub fn lock(stores: &mut Stores, t: Ticket, id: ObjId) -> Result<Locked, NoMemory>
+    requires { MayLock stores.old t id }
+    ensures answer { (client : ℕ) → IsTaking stores.old client t
+        → IfOk result (λ a. a ≡ locked_answer stores.old client id) }
+    ensures history { (client : ℕ) → IsTaking stores.old client t
+        → stores.new ≡ gains stores.old (if_ok result (lock_steps client id)) }
+    ensures unchanged { OnErr result (stores.new ≡ stores.old) }
+{
+    make_step_room(&mut stores.steps, &stores.tails)?;
+    let Some(client) = stores.clients.with_ticket(t) else {
+        unreachable!();
+    };
+    let Some(state) = present_state(&stores.present, id) else {
+        unreachable!();
+    };
+    let answer = stores.clients.lock(client, id);
+    if !is_step(answer) {
+        return Ok(locked_as(state, answer));
+    }
+    stores.steps.push(lock_step(client, id));
+    Ok(locked_as(state, answer))
+}
+
+/// Drops all locks of the context of a ticket, which must back off. Want of memory leaves all as it was. (Kernel:
+/// `drm_modeset_backoff`.)
+pub fn backoff(stores: &mut Stores, t: Ticket) -> Result<(), NoMemory>
+    requires { MayBackOff stores.old t }
+    ensures history { (client : ℕ) → HasContext stores.old client t
+        → stores.new ≡ gains stores.old (if_ok result (λ u. step.BackOff client ∷ [])) }
+    ensures unchanged { OnErr result (stores.new ≡ stores.old) }
+{
+    make_step_room(&mut stores.steps, &stores.tails)?;
+    let Some(client) = stores.clients.with_ticket(t) else {
+        unreachable!();
+    };
+    stores.clients.backoff(client);
+    stores.steps.push(Step::BackOff { client });
+    Ok(())
+}
+
+/// Asks, in the context of a ticket, which backed off, for the object that it backed off for. `Got` tells the object's
+/// present state, and the context takes locks again. `Held` changes nothing. No other answer comes. Want of memory
+/// leaves all as it was. (Kernel: `drm_modeset_backoff`, which waits for the object.)
+pub fn relock(stores: &mut Stores, t: Ticket) -> Result<Locked, NoMemory>
+    requires { MayRelock stores.old t }
+    ensures answer { (client : ℕ) → HasContext stores.old client t
+        → IfOk result (λ a. a ≡ relocked_answer stores.old client) }
+    ensures history { (client : ℕ) → HasContext stores.old client t
+        → stores.new ≡ gains stores.old (if_ok result (relock_steps client)) }
+    ensures unchanged { OnErr result (stores.new ≡ stores.old) }
+{
+    make_step_room(&mut stores.steps, &stores.tails)?;
+    let Some(client) = stores.clients.with_ticket(t) else {
+        unreachable!();
+    };
+    let Doing::BackedOff(_ticket, id) = stores.clients.place(client).doing else {
+        unreachable!();
+    };
+    let Some(state) = present_state(&stores.present, id) else {
+        unreachable!();
+    };
+    match stores.clients.relock(client) {
+        Relock::Held { holder } => Ok(Locked::Held { holder }),
+        Relock::Got => {
+            stores.steps.push(Step::Relock { client });
+            Ok(Locked::Got { state })
+        }
+    }
+}
+
+/// The step of a client that asks for an object.
+fn lock_step(client: u32, id: ObjId) -> Step
+    ensures { result ≡ lock_step client id }
+{
+    Step::Lock {
+        client,
+        kind: id.kind(),
+        index: id.index(),
+    }
+}
+
+/// Whether an answer is an event: the object was taken, or the context must back off.
+fn is_step(answer: Lock) -> bool
+    ensures { result ≡ is_step answer }
+{
+    matches!(answer, Lock::Got | Lock::Older { .. })
+}
+
+/// The answer with the object's state.
+fn locked_as(state: ObjState, answer: Lock) -> Locked
+    ensures { result ≡ locked_as state answer }
+{
+    match answer {
+        Lock::Got => Locked::Got { state },
+        Lock::Own => Locked::Own { state },
+        Lock::Older { holder } => Locked::Older { holder },
+        Lock::Younger { holder } => Locked::Younger { holder },
+    }
+}

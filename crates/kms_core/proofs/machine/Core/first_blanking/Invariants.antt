@@ -1,6 +1,0 @@
-use Rattle.std.proofs.Common.{ℕ, ◌≡◌, ◌<◌, false}
-use Rattle.kms_core.proofs.TailTurns.{has_go}
-use Rattle.kms_core.proofs.machine.Core.first_blanking.Given as goal
-
-abbrev pub invariant-loop-index : goal.invariant-loop-index
-invariant-loop-index l = (n : ℕ) → n < l.index → has_go l.self n ≡ false

@@ -1,9 +1,0 @@
-use Rattle.std.proofs.Common.{◌∙◌, sym}
-use Rattle.kms_core.proofs.ClientSteps.{back_not, back_told}
-use Rattle.kms_core.proofs.machine.Core.may_back_off.Goals as goal
-
-pub returns-in-MustBackOff : goal.returns-in-MustBackOff
-returns-in-MustBackOff c = back_told c.args.self.now c.args.client _ (sym c.in-MustBackOff.is ∙ c.doing.ensures)
-
-pub returns-in_default : goal.returns-in_default
-returns-in_default c = back_not c.args.self.now c.args.client c.doing.result c.in_default.not-MustBackOff c.doing.ensures

@@ -1,0 +1,240 @@
+//! The calls of clients and of workers, and steps that are done: each is a call on the stores.
+ghost use Rattle.std.specs.Prelude.{ℕ, ◌≡◌, IfOk, OnErr, [], ◌∷◌, ◌<◌, None, Some, IsOk, true};
+ghost use Rattle.kms_model.specs.declared.replies.Step.TheVariants as step;
+ghost use Rattle.kms_stores.specs.Run.{machine, gains, if_ok};
+ghost use Rattle.kms_calls.specs.Locks.{MayBegin, MayLock, IsTaking, locked_answer, lock_steps, HasContext, MayBackOff, MayRelock, relocked_answer, relock_steps};
+ghost use Rattle.kms_stores.specs.Calls.{MayMake, MaySignal, reply_at, MayRead, MayReturn, is_over_at, read_at, read_step, return_step};
+ghost use Rattle.kms_model.specs.Request.Lookups.{lookups, look_up};
+ghost use Rattle.kms_stores.specs.declared.looking.Decided.TheVariants as decided;
+ghost use Rattle.kms_stores.specs.Decisions.{world, IsDecided, MayRefuse, MayTest, steps_of, taker};
+ghost use Rattle.kms_model.specs.declared.replies.Reply.TheVariants as reply;
+ghost use Rattle.kms_laws.specs.TailsLeft.{commit_of_step};
+ghost use Rattle.kms_stores.specs.Swaps.{MaySwap, swap_answer};
+ghost use Rattle.kms_stores.specs.Work.{MayBeDone, MayCleanUp, MayWrite, claim_steps, cleanup_steps, first_claim, is_over, write_step};
+ghost use Rattle.kms_model.specs.declared.objects.Kind.TheVariants.{Crtc};
+ghost use Rattle.kms_work.specs.Latching.{MayBlank, MayFlush, goes_at};
+ghost use Rattle.kms_next.specs.Next.{IsLegal};
+
+use crate::applying;
+use crate::machine::Core;
+use kms_calls::Locked;
+use kms_model::{
+    Checked, Lookups, NoMemory, ObjId, Refusal, Reply, Request, Resolved, Step, Ticket,
+};
+use kms_stores::Decided;
+use std::alloc::Global;
+
+impl Core {
+    /// Begins an acquire context for a client that is idle at an atomic request, and gives its ticket. Want of memory
+    /// leaves all as it was.
+    pub fn begin(&mut self, alloc: Global, client: u32) -> Result<Ticket, NoMemory>
+        requires { MayBegin self.old client }
+        ensures ticket { IfOk result (λ t. t.0 ≡ (machine self.old).contexts.tickets) }
+        ensures history { self.new ≡ gains self.old (if_ok result (λ t. step.Begin client ∷ [])) }
+    {
+        kms_calls::begin(&mut self.stores, alloc, client)
+    }
+
+    /// Asks for an object in the context of a ticket, which takes locks, as `kms_calls::lock` tells. Want of memory leaves
+    /// all as it was.
+    pub fn lock(&mut self, t: Ticket, id: ObjId) -> Result<Locked, NoMemory>
+        requires { MayLock self.old t id }
+        ensures answer { (client : ℕ) → IsTaking self.old client t
+            → IfOk result (λ a. a ≡ locked_answer self.old client id) }
+        ensures history { (client : ℕ) → IsTaking self.old client t
+            → self.new ≡ gains self.old (if_ok result (lock_steps client id)) }
+        ensures unchanged { OnErr result (self.new ≡ self.old) }
+    {
+        kms_calls::lock(&mut self.stores, t, id)
+    }
+
+    /// Drops all locks of the context of a ticket, which must back off. Want of memory leaves all as it was.
+    pub fn backoff(&mut self, t: Ticket) -> Result<(), NoMemory>
+        requires { MayBackOff self.old t }
+        ensures history { (client : ℕ) → HasContext self.old client t
+            → self.new ≡ gains self.old (if_ok result (λ u. step.BackOff client ∷ [])) }
+        ensures unchanged { OnErr result (self.new ≡ self.old) }
+    {
+        kms_calls::backoff(&mut self.stores, t)
+    }
+
+    /// Asks again for the object that the context of a ticket backed off for: `Got` with its present state, or `Held`, which
+    /// changes nothing. Want of memory leaves all as it was.
+    pub fn relock(&mut self, t: Ticket) -> Result<Locked, NoMemory>
+        requires { MayRelock self.old t }
+        ensures answer { (client : ℕ) → HasContext self.old client t
+            → IfOk result (λ a. a ≡ relocked_answer self.old client) }
+        ensures history { (client : ℕ) → HasContext self.old client t
+            → self.new ≡ gains self.old (if_ok result (relock_steps client)) }
+        ensures unchanged { OnErr result (self.new ≡ self.old) }
+    {
+        kms_calls::relock(&mut self.stores, t)
+    }
+
+    /// Executes the command of a client that is idle at one which makes or closes a thing, and gives the reply: refusals 31
+    /// to 34 change no thing. Want of memory leaves all as it was.
+    pub fn make(&mut self, alloc: Global, client: u32) -> Result<Reply, NoMemory>
+        requires { MayMake self.old client }
+        ensures reply { IfOk result (λ reply. reply ≡ reply_at self.old client) }
+        ensures history { self.new
+            ≡ gains self.old (if_ok result (λ reply. step.Make client ∷ [])) }
+    {
+        kms_calls::make(&mut self.stores, alloc, client)
+    }
+
+    /// Signals the fence of a client that is idle at a `signal`, and gives the reply: refusal 35 signals nothing. Want of
+    /// memory leaves all as it was.
+    pub fn signal(&mut self, client: u32) -> Result<Reply, NoMemory>
+        requires { MaySignal self.old client }
+        ensures reply { IfOk result (λ reply. reply ≡ reply_at self.old client) }
+        ensures history { self.new
+            ≡ gains self.old (if_ok result (λ reply. step.Signal client ∷ [])) }
+    {
+        kms_calls::signal(&mut self.stores, client)
+    }
+
+    /// Reads the oldest unread event for a client that is idle at a `wait`, or answers that none will come; none where it has
+    /// to wait, or the history was ended. Want of memory leaves all as it was.
+    pub fn read(&mut self, client: u32) -> Result<Option<Reply>, NoMemory>
+        requires { MayRead self.old client }
+        ensures reply { IfOk result (λ reply. reply ≡ read_at self.old client) }
+        ensures history { self.new ≡ gains self.old (if_ok result (read_step client)) }
+    {
+        kms_calls::read(&mut self.stores, client)
+    }
+
+    /// Lets a client that waits for its commit go on, where the commit is cleaned and the history was not ended. Want of memory
+    /// leaves all as it was.
+    pub fn return_from(&mut self, client: u32) -> Result<bool, NoMemory>
+        requires { MayReturn self.old client }
+        ensures answer { IfOk result (λ over. over ≡ is_over_at self.old client) }
+        ensures history { self.new ≡ gains self.old (if_ok result (return_step client)) }
+    {
+        kms_calls::return_from(&mut self.stores, client)
+    }
+
+    /// For each label that a request names, what it names now. The only error is want of memory.
+    pub fn lookups(&self, alloc: Global, request: &Request) -> Result<Lookups, NoMemory>
+        ensures { IfOk result (λ found.
+            found ≡ lookups (world self.now) request.now) }
+    {
+        kms_stores::lookups(&self.stores, alloc, request)
+    }
+
+    /// Refuses the request of the client whose context has a ticket and takes locks, as `kms_decide::refuse` tells. Want of
+    /// memory leaves all as it was.
+    pub fn refuse(&mut self, t: Ticket, used: &Lookups, why: Refusal) -> Result<Decided, NoMemory>
+        requires { MayRefuse self.old t.0 used.now why }
+        ensures answer { IfOk result (IsDecided (look_up (world self.old)) used.now
+            (decided.Done (reply.Refused why))) }
+        ensures history { self.new ≡ gains self.old (if_ok result
+            (steps_of (taker (machine self.old) t.0)
+            (step.Refuse (taker (machine self.old) t.0)))) }
+    {
+        kms_decide::refuse(&mut self.stores, t, used, why)
+    }
+
+    /// Tells that the request of the client whose context has a ticket and takes locks would be accepted, as
+    /// `kms_decide::test` tells. Want of memory leaves all as it was.
+    pub fn test(
+        &mut self,
+        t: Ticket,
+        used: &Lookups,
+        checked: &Checked,
+    ) -> Result<Decided, NoMemory>
+        requires { MayTest self.old t.0 used.now checked.now }
+        ensures answer { IfOk result (IsDecided (look_up (world self.old)) used.now
+            (decided.Done reply.Tested)) }
+        ensures history { self.new ≡ gains self.old (if_ok result
+            (steps_of (taker (machine self.old) t.0)
+            (step.Test (taker (machine self.old) t.0)))) }
+    {
+        kms_decide::test(&mut self.stores, t, used, checked)
+    }
+
+    /// Commits the request of the client whose context has a ticket and takes locks, or refuses it, as `kms_decide::swap`
+    /// tells. Want of memory leaves all as it was.
+    pub fn swap(
+        &mut self,
+        alloc: Global,
+        t: Ticket,
+        used: &Lookups,
+        checked: &Checked,
+        resolved: &Resolved,
+    ) -> Result<Decided, NoMemory>
+        requires { MaySwap self.old t.0 used.now checked.now resolved.now }
+        ensures answer { IfOk result (IsDecided (look_up (world self.old)) used.now
+            (swap_answer self.old (taker (machine self.old) t.0))) }
+        ensures history { self.new ≡ gains self.old (if_ok result
+            (steps_of (taker (machine self.old) t.0)
+            (step.Swap (taker (machine self.old) t.0)))) }
+    {
+        kms_decide::swap(&mut self.stores, alloc, t, used, checked, resolved)
+    }
+
+    /// Claims the least commit whose tail may begin. None exactly where there is no such commit, as after the end of the
+    /// history.
+    pub fn claim(&mut self) -> Option<u32>
+        ensures answer { result ≡ first_claim self.old }
+        ensures history { self.new ≡ gains self.old (claim_steps result) }
+    {
+        kms_work::claim(&mut self.stores)
+    }
+
+    /// Writes the registers of the CRTC or the plane that a commit writes next.
+    pub fn write(&mut self, commit: u32, id: ObjId)
+        requires { MayWrite self.old commit id }
+        ensures history { self.new ≡ gains self.old (write_step commit id ∷ []) }
+    {
+        kms_work::write(&mut self.stores, commit, id);
+    }
+
+    /// Flushes the CRTC with an index for the commit that flushes it next; where it is off after the commit, it latches.
+    pub fn flush(&mut self, commit: u32, crtc: u32)
+        requires { MayFlush self.old commit crtc }
+        ensures history { self.new ≡ gains self.old (step.Flush commit Crtc crtc ∷ []) }
+    {
+        kms_work::flush(&mut self.stores, commit, crtc);
+    }
+
+    /// Tells that all registers of a commit are written and flushed.
+    pub fn hw_done(&mut self, commit: u32)
+        requires { MayBeDone self.old commit }
+        ensures history { self.new ≡ gains self.old (step.HwDone commit ∷ []) }
+    {
+        kms_work::hw_done(&mut self.stores, commit);
+    }
+
+    /// The CRTC with an index has a vertical blanking. True exactly where a commit latches, which takes no memory. Want of
+    /// memory leaves all as it was.
+    pub fn vblank(&mut self, crtc: u32) -> Result<bool, NoMemory>
+        requires { MayBlank self.old crtc }
+        ensures answer { IfOk result (λ went. went ≡ goes_at self.old crtc) }
+        ensures history { self.new ≡ gains self.old
+            (if_ok result (λ went. step.Vblank Crtc crtc ∷ [])) }
+        ensures no_memory { goes_at self.old crtc ≡ true → IsOk result }
+    {
+        kms_work::vblank(&mut self.stores, crtc)
+    }
+
+    /// Cleans a commit up; false, and nothing changes, exactly where it is not over.
+    pub fn cleanup(&mut self, commit: u32) -> bool
+        requires { MayCleanUp self.old commit }
+        ensures answer { result ≡ is_over self.old commit }
+        ensures history { self.new ≡ gains self.old (cleanup_steps commit result) }
+    {
+        kms_work::cleanup(&mut self.stores, commit)
+    }
+
+    /// Does a step that is legal next, as `legal` tells. A request is decided by the plain check of the whole device. Want of
+    /// memory leaves all as it was. A step of a commit's tail takes none: a claim, a write, a flush, a commit that is done or
+    /// cleaned up, and the vertical blanking of a CRTC that goes.
+    pub fn apply(&mut self, alloc: Global, step: &Step) -> Result<(), NoMemory>
+        requires { IsLegal self.old step.now }
+        ensures history { self.new ≡ gains self.old (if_ok result (λ u. step.now ∷ [])) }
+        ensures no_memory { (k : ℕ) → commit_of_step (machine self.old) step.now ≡ Some k
+            → IsOk result }
+    {
+        applying::apply(&mut self.stores, alloc, step)
+    }
+}

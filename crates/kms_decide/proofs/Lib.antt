@@ -1,0 +1,6 @@
+pub mod Answering
+pub mod Swaps
+pub mod OutFences
+pub mod OutLabels
+pub mod Commits
+pub mod Swapped

@@ -1,0 +1,134 @@
+use Rattle.std.proofs.Common.{◌∙◌, ◌+◌, ◌-◌, length, ap, sym, refl, subst, rules}
+use Rattle.std.specs.Prelude.{slice_set}
+use Rattle.kms_model.specs.declared.runs.Place.{Place}
+use Rattle.kms_signal.specs.FenceSets.{FenceSet}
+use Rattle.kms_signal.specs.Queues.{Queue, empty_queue}
+use Rattle.kms_tails.specs.InStep.{StandsAfterSwap}
+use Rattle.kms_stores.specs.Run.{machine}
+use Rattle.kms_stores.specs.Settled.{fences_under, labels_in}
+use Rattle.kms_decide.proofs.Commits.{again, below_tails, commits, decider, few_commits, few_waits, found_queue, has_ids, high, may_now, own, queues_same, roomy, set_up_same, space_again, there}
+use Rattle.kms_stores.proofs.Insides.{run_of, stores_of}
+use Rattle.kms_stores.proofs.Spared.{still_spared, swap_spared, with_latches}
+use Rattle.kms_decide.proofs.committing.commit.Goals as goal
+
+pub invariant_of-stores : goal.invariant_of-stores
+invariant_of-stores c =
+    let r = run_of c.stores.inside in
+    let st = record (stores_of c.stores.inside) { latches = c.make_commit_room.new.latches } in
+    let before = with_latches r (stores_of c.stores.inside) c.make_commit_room.new.latches c.stores.invariant.stands c.in_err-make_commit_room.ensures.latches in
+    let can = may_now r c.args.stores.now c.args.client c.args.checked.now c.args.resolved.now c.stores.view_is c.requires in
+    let queue = found_queue r st c.args.client c.args.checked.now c.args.resolved.now before can _ _ c.index_mut.ensures.value in
+    let stands =
+    roomy r st c.args.client c.args.checked.now c.args.resolved.now before can c.make_commit_room.new.journal c.make_commit_room.new.replies c.stores.inside.things c.make_commit_room.new.fences c.make_commit_room.new.queue c.make_commit_room.new.tracker c.make_commit_room.new.tails c.make_commit_room.new.steps.items
+    c.in_err-make_commit_room.ensures.steps c.in_err-make_commit_room.ensures.journal c.in_err-make_commit_room.ensures.replies refl c.in_err-make_commit_room.ensures.fences
+    (c.in_err-make_commit_room.ensures.reserved ∙ ap (λ (q : Queue). q.reserved) queue) (c.in_err-make_commit_room.ensures.unread ∙ ap (λ (q : Queue). q.unread) queue)
+    (record { count = c.in_err-make_commit_room.ensures.count; lasts = c.in_err-make_commit_room.ensures.lasts; pending = c.in_err-make_commit_room.ensures.pending })
+    (λ t commits marks latches was. c.in_err-make_commit_room.ensures.tails t commits marks latches was) in
+    record { stands = stands; spare = still_spared _ _ _ _ _ _ c.in_err-make_commit_room.ensures.steps c.stores.invariant.spare c.in_err-make_commit_room.ensures.steps_kept c.in_err-make_commit_room.ensures.latches_kept }
+
+pub make_out_fences-requires-clause-ids : goal.make_out_fences-requires-clause-ids
+make_out_fences-requires-clause-ids c =
+    has_ids (run_of c.stores.inside) (stores_of c.stores.inside) c.args.client c.args.checked.now c.args.resolved.now c.stores.invariant.stands (may_now (run_of c.stores.inside) c.args.stores.now c.args.client c.args.checked.now c.args.resolved.now c.stores.view_is c.requires)
+
+pub invariant_of-stores-in_err-make_out_fences : goal.invariant_of-stores-in_err-make_out_fences
+invariant_of-stores-in_err-make_out_fences c =
+    let r = run_of c.stores.inside in
+    let st = record (stores_of c.stores.inside) { latches = c.make_commit_room.new.latches } in
+    let before = with_latches r (stores_of c.stores.inside) c.make_commit_room.new.latches c.stores.invariant.stands c.in_ok-make_commit_room.ensures.latches in
+    let can = may_now r c.args.stores.now c.args.client c.args.checked.now c.args.resolved.now c.stores.view_is c.requires in
+    let queue = found_queue r st c.args.client c.args.checked.now c.args.resolved.now before can _ _ c.index_mut.ensures.value in
+    let stands =
+    roomy r st c.args.client c.args.checked.now c.args.resolved.now before can c.make_commit_room.new.journal c.make_commit_room.new.replies c.make_out_fences.new.things c.make_out_fences.new.fences c.make_commit_room.new.queue c.make_commit_room.new.tracker c.make_commit_room.new.tails c.make_commit_room.new.steps.items
+    c.in_ok-make_commit_room.ensures.steps c.in_ok-make_commit_room.ensures.journal c.in_ok-make_commit_room.ensures.replies c.in_err-make_out_fences.ensures.same_things (ap (λ (f : FenceSet). f.slots) c.in_err-make_out_fences.ensures.same_fences ∙ c.in_ok-make_commit_room.ensures.fences)
+    (c.in_ok-make_commit_room.ensures.reserved ∙ ap (λ (q : Queue). q.reserved) queue) (c.in_ok-make_commit_room.ensures.unread ∙ ap (λ (q : Queue). q.unread) queue)
+    (record { count = c.in_ok-make_commit_room.ensures.count; lasts = c.in_ok-make_commit_room.ensures.lasts; pending = c.in_ok-make_commit_room.ensures.pending })
+    (λ t commits marks latches was. c.in_ok-make_commit_room.ensures.tails t commits marks latches was) in
+    record { stands = stands; spare = still_spared _ _ _ _ _ _ c.in_ok-make_commit_room.ensures.steps c.stores.invariant.spare c.in_ok-make_commit_room.ensures.steps_kept c.in_ok-make_commit_room.ensures.latches_kept }
+
+pub index_mut-requires-2 : goal.index_mut-requires-2
+index_mut-requires-2 c =
+    let fits =
+    (own (run_of c.stores.inside) (stores_of c.stores.inside) c.args.client c.args.checked.now c.args.resolved.now c.stores.invariant.stands (may_now (run_of c.stores.inside) c.args.stores.now c.args.client c.args.checked.now c.args.resolved.now c.stores.view_is c.requires)).within
+    in search rules
+
+pub set_up-commit-requires-clause-count : goal.set_up-commit-requires-clause-count
+set_up-commit-requires-clause-count c =
+    rw c.in_ok-make_commit_room.ensures.count
+    (few_commits (run_of c.stores.inside) (stores_of c.stores.inside) c.args.client c.args.checked.now c.args.resolved.now c.stores.invariant.stands (may_now (run_of c.stores.inside) c.args.stores.now c.args.client c.args.checked.now c.args.resolved.now c.stores.view_is c.requires))
+
+pub set_up-commit-requires-clause-fences : goal.set_up-commit-requires-clause-fences
+set_up-commit-requires-clause-fences c =
+    few_waits (run_of c.stores.inside) (stores_of c.stores.inside) c.args.client c.args.checked.now c.args.resolved.now c.stores.invariant.stands (may_now (run_of c.stores.inside) c.args.stores.now c.args.client c.args.checked.now c.args.resolved.now c.stores.view_is c.requires)
+
+pub leave-requires-clause-command : goal.leave-requires-clause-command
+leave-requires-clause-command c =
+    (decider (run_of c.stores.inside) (stores_of c.stores.inside) c.args.client c.args.checked.now c.args.resolved.now c.stores.invariant.stands (may_now (run_of c.stores.inside) c.args.stores.now c.args.client c.args.checked.now c.args.resolved.now c.stores.view_is c.requires)).command_fits
+
+pub reserve_events-requires-clause-space : goal.reserve_events-requires-clause-space
+reserve_events-requires-clause-space c =
+    let r = run_of c.stores.inside in
+    let st = stores_of c.stores.inside in
+    let can = may_now r c.args.stores.now c.args.client c.args.checked.now c.args.resolved.now c.stores.view_is c.requires in
+    let first = found_queue r st c.args.client c.args.checked.now c.args.resolved.now c.stores.invariant.stands can _ _ c.index_mut.ensures.value in
+    let second = again r st c.args.client c.args.checked.now c.args.resolved.now c.stores.invariant.stands can c.make_commit_room.new.queue _ _ c.index_mut-2.ensures.value in
+    rw second
+    (space_again r st c.args.client c.args.checked.now c.args.resolved.now c.stores.invariant.stands can c.make_commit_room.new.queue c.events_of-events.result c.events_of-events.ensures.count
+    (c.in_ok-make_commit_room.ensures.reserved ∙ ap (λ (q : Queue). q.reserved) first) (c.in_ok-make_commit_room.ensures.unread ∙ ap (λ (q : Queue). q.unread) first))
+
+pub reserve_events-requires-clause-room : goal.reserve_events-requires-clause-room
+reserve_events-requires-clause-room c =
+    rw (again (run_of c.stores.inside) (stores_of c.stores.inside) c.args.client c.args.checked.now c.args.resolved.now c.stores.invariant.stands (may_now (run_of c.stores.inside) c.args.stores.now c.args.client c.args.checked.now c.args.resolved.now c.stores.view_is c.requires) c.make_commit_room.new.queue _ _ c.index_mut-2.ensures.value)
+    c.in_ok-make_commit_room.ensures.events_room
+
+pub keep_tail-requires-clause-below : goal.keep_tail-requires-clause-below
+keep_tail-requires-clause-below c =
+    below_tails (run_of c.stores.inside) (stores_of c.stores.inside) c.args.client c.args.checked.now c.args.resolved.now c.stores.invariant.stands (may_now (run_of c.stores.inside) c.args.stores.now c.args.client c.args.checked.now c.args.resolved.now c.stores.view_is c.requires)
+    _ c.make_commit_room.new.tails (c.set_up-commit.ensures.number ∙ c.in_ok-make_commit_room.ensures.count)
+    (λ t commits marks latches was. c.in_ok-make_commit_room.ensures.tails t commits marks latches was)
+
+pub keep_tail-requires-clause-there : goal.keep_tail-requires-clause-there
+keep_tail-requires-clause-there c =
+    there (run_of c.stores.inside) (stores_of c.stores.inside) c.args.client c.args.checked.now c.args.resolved.now c.stores.invariant.stands (may_now (run_of c.stores.inside) c.args.stores.now c.args.client c.args.checked.now c.args.resolved.now c.stores.view_is c.requires)
+    _ (ap (λ (p : Place). p.command) c.place-number.ensures)
+
+pub invariant_of-stores-2 : goal.invariant_of-stores-2
+invariant_of-stores-2 c =
+    let r = run_of c.stores.inside in
+    let st = record (stores_of c.stores.inside) { latches = c.make_commit_room.new.latches } in
+    let before = with_latches r (stores_of c.stores.inside) c.make_commit_room.new.latches c.stores.invariant.stands c.in_ok-make_commit_room.ensures.latches in
+    let m = machine r in
+    let can = may_now r c.args.stores.now c.args.client c.args.checked.now c.args.resolved.now c.stores.view_is c.requires in
+    let mine = own r st c.args.client c.args.checked.now c.args.resolved.now before can in
+    let most = high r st c.args.client c.args.checked.now c.args.resolved.now before can in
+    let first = found_queue r st c.args.client c.args.checked.now c.args.resolved.now before can _ _ c.index_mut.ensures.value in
+    let second = again r st c.args.client c.args.checked.now c.args.resolved.now before can c.make_commit_room.new.queue _ _ c.index_mut-2.ensures.value in
+    let third = again r st c.args.client c.args.checked.now c.args.resolved.now before can c.make_commit_room.new.queue _ empty_queue refl in
+    let stands =
+    commits r st c.args.client c.args.checked.now c.args.resolved.now before can c.set_up-commit.result c.leave.new.clients c.reply_commit.new.journal c.reply_commit.new.replies c.make_out_fences.new.things c.present_after-stores-inside.result c.make_out_fences.new.fences
+    (slice_set c.stores.inside.queues.items (c.args.client - 1) c.make_commit_room.new.queue) c.reserve_events.new.queue c.set_up-commit.new.tracker c.make_commit_room.new.tails c.keep_tail.new.tails
+    (record {
+      number = c.set_up-commit.ensures.number ∙ c.in_ok-make_commit_room.ensures.count;
+      goes = λ e. c.leave.ensures.goes e m before.stores.clients;
+      waits = λ e. c.leave.ensures.waits e m before.stores.clients;
+      replies_more = c.reply_commit.ensures.replies ∙ rw (c.in_ok-make_commit_room.ensures.replies, c.in_ok-make_commit_room.ensures.journal, c.place-number.ensures) refl;
+      journal_more = c.reply_commit.ensures.journal ∙ rw (c.in_ok-make_commit_room.ensures.journal, c.place-number.ensures) refl;
+      made_as = λ w assigns crtcs is. c.in_ok-make_out_fences.ensures.made w assigns crtcs (rw (c.out_labels-labels.ensures, c.as_slice.ensures.value) is);
+      settled = c.present_after-stores-inside.ensures;
+      fences_more = c.in_ok-make_out_fences.ensures.fences ∙ rw (c.in_ok-make_commit_room.ensures.fences, c.out_labels-labels.ensures, c.as_slice.ensures.value) refl;
+      queues_stand =
+          queues_same (length r.script.clients) m.events c.args.client st.queues c.make_commit_room.new.queue mine.low most
+          (c.in_ok-make_commit_room.ensures.reserved ∙ ap (λ (q : Queue). q.reserved) first) (c.in_ok-make_commit_room.ensures.unread ∙ ap (λ (q : Queue). q.unread) first) before.stores.queues;
+      reserved = c.reserve_events.ensures.reserved ∙ ap (λ (q : Queue). q.reserved + c.events_of-events.result) (second ∙ sym third) ∙ rw c.events_of-events.ensures.count refl;
+      unread = c.reserve_events.ensures.unread ∙ ap (λ (q : Queue). q.unread) (second ∙ sym third);
+      set_up =
+          set_up_same c.stores.inside.tracker c.make_commit_room.new.tracker c.set_up-commit.new.tracker c.args.checked.now _
+          (record { count = c.in_ok-make_commit_room.ensures.count; lasts = c.in_ok-make_commit_room.ensures.lasts; pending = c.in_ok-make_commit_room.ensures.pending })
+          c.set_up-commit.ensures.set_up;
+      tails_stand = λ t commits marks latches was. c.in_ok-make_commit_room.ensures.tails t commits marks latches was;
+      kept = λ q is.
+          subst (λ xs. StandsAfterSwap c.set_up-commit.result c.args.client q c.args.checked.now xs c.make_commit_room.new.tails c.keep_tail.new.tails)
+          (c.made_fences-out_fences.ensures ∙ ap (λ xs. fences_under c.make_out_fences.new.things.things xs) (c.out_labels-labels.ensures ∙ ap labels_in c.as_slice.ensures.value))
+          (c.keep_tail.ensures q (rw c.place-number.ensures is));
+    })
+    c.make_commit_room.new.steps.items c.push.new.self.items c.in_ok-make_commit_room.ensures.steps c.push.ensures.items in
+    record { stands = stands; spare = swap_spared _ _ _ _ _ _ _ _ _ c.stores.invariant.stands stands c.in_ok-make_commit_room.ensures.steps c.push.ensures.items c.in_ok-make_commit_room.ensures.steps_room c.push.ensures.room c.in_ok-make_commit_room.ensures.latches_room }

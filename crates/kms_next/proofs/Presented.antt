@@ -1,0 +1,34 @@
+-- The present states of a core's device, and what its labels name.
+use Rattle.std.proofs.Common.{List, sym, ap}
+use Rattle.kms_model.specs.declared.worlds.Thing.{Thing}
+use Rattle.kms_model.specs.Device.World.{thing_labelled}
+use Rattle.kms_model.specs.Request.Lookups.{look_of, look_of_any, look_up, look_up_any}
+use Rattle.kms_laws.proofs.Modes.{plain-from}
+use Rattle.kms_laws.proofs.Steps.{history_kept}
+use Rattle.kms_request.specs.Whole.{ArePresent, ArePresentSomewhere, TellSame}
+use Rattle.kms_stores.specs.Decisions.{world}
+use Rattle.kms_stores.specs.Run.{Run}
+use Rattle.kms_stores.specs.Stands.{Stores, Stands}
+
+pub presented : (r : Run) (st : Stores) → Stands r st → ArePresent r.script.topology (world r) st.present
+presented r st stands =
+    let states = stands.stores.world.states in
+    record {
+      device = stands.formed.device;
+      sound = (history_kept r.script r.steps (plain-from r.script stands.formed) stands.history).present.sound;
+      old = states.old;
+      new = states.new;
+      all = record { crtcs = states.whole.crtcs.there; planes = states.whole.planes.there; conns = states.whole.conns.there };
+    }
+
+pub tells_now : (r : Run) (st : Stores) → Stands r st → TellSame (λ label. look_of (thing_labelled st.made.things label)) (look_up (world r))
+tells_now r st stands label = ap (λ (things : List Thing). look_of (thing_labelled things label)) (sym stands.stores.world.things)
+
+pub tells_ever : (r : Run) (st : Stores) → Stands r st → TellSame (λ label. look_of_any (thing_labelled st.made.things label)) (look_up_any (world r))
+tells_ever r st stands label = ap (λ (things : List Thing). look_of_any (thing_labelled things label)) (sym stands.stores.world.things)
+
+pub somewhere_now : (r : Run) (st : Stores) → Stands r st → ArePresentSomewhere look_up r.script.topology (λ label. look_of (thing_labelled st.made.things label)) st.present
+somewhere_now r st stands = record { world = world r; present = presented r st stands; tells = tells_now r st stands }
+
+pub somewhere_ever : (r : Run) (st : Stores) → Stands r st → ArePresentSomewhere look_up_any r.script.topology (λ label. look_of_any (thing_labelled st.made.things label)) st.present
+somewhere_ever r st stands = record { world = world r; present = presented r st stands; tells = tells_ever r st stands }

@@ -1,0 +1,15 @@
+use Rattle.std.proofs.Common.{◌∙◌}
+use Rattle.kms_stores.specs.Run.{machine}
+use Rattle.kms_next.proofs.JudgedRequests.{no_swap, swap_early, swap_late}
+use Rattle.kms_next.proofs.judging.may_swap.Goals as goal
+
+pub returns-in_default : goal.returns-in_default
+returns-in_default c = no_swap c.args.stores.now.script (machine c.args.stores.now) c.args.client c.in_default.ensures
+
+pub returns-in-None : goal.returns-in-None
+returns-in-None c = swap_early c.args.stores.now.script (machine c.args.stores.now) c.args.client c.in-Some.request.now c.in-Some.ensures c.in-None.ensures
+
+pub returns-in-Some-judged : goal.returns-in-Some-judged
+returns-in-Some-judged c =
+    c.is_committed.ensures
+    ∙ swap_late c.args.stores.now.script (machine c.args.stores.now) c.args.client c.in-Some.request.now c.in-Some.ensures c.in-Some-judged.judged c.in-Some-judged.ensures c.is_test.result c.is_test.ensures

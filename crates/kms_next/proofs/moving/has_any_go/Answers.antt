@@ -1,0 +1,16 @@
+use Rattle.std.proofs.Common.{◌∙◌, ap, arith, sym}
+use Rattle.kms_stores.specs.Run.{Run}
+use Rattle.kms_next.proofs.Movers.{no_go, some_go}
+use Rattle.kms_next.proofs.moving.has_any_go.Goals as goal
+
+pub returns-then-has_go : goal.returns-then-has_go
+returns-then-has_go c =
+    let low = c.loop-crtc-test.true in
+    let size = ap (λ (w : Run). w.script.topology.crtcs) c.stores.view_is in
+    some_go c.args.stores.now c.loop-crtc.crtc (omega (arith, low, size)) (sym c.has_go.ensures ∙ c.if-has_go.true)
+
+pub returns : goal.returns
+returns c =
+    let over = c.loop-crtc-test.false in
+    let size = ap (λ (w : Run). w.script.topology.crtcs) c.stores.view_is in
+    no_go c.args.stores.now (λ index within. c.loop-crtc.invariant index (omega (arith, within, over, size)))

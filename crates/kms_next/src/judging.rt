@@ -1,0 +1,233 @@
+//! Which steps of a client that takes locks may follow. None of these calls takes memory.
+ghost use Rattle.std.specs.Prelude.{◌≡◌, ◌<◌, ◌&&◌, ◌||◌, not, IfOk, None, Some, is_none, is_some, option_copied, true};
+ghost use Rattle.kms_model.specs.declared.replies.Step.TheVariants as step;
+ghost use Rattle.kms_model.specs.Machine.Effects.{refusal_reply};
+ghost use Rattle.kms_model.specs.Machine.State.{Machine};
+ghost use Rattle.kms_model.specs.Machine.Steps.{is_lockable, may};
+ghost use Rattle.kms_model.specs.Request.Flags.{is_test};
+ghost use Rattle.kms_model.specs.Request.Deciding.{IsChecked};
+ghost use Rattle.kms_model.specs.Request.Lookups.{look_up};
+ghost use Rattle.kms_model.specs.Request.Resolves.{IsResolved};
+ghost use Rattle.kms_model.specs.Request.Verdict.{early_in, verdict};
+ghost use Rattle.kms_clients.specs.InStep.{AreClientsOf};
+ghost use Rattle.kms_request.specs.Whole.{is_member};
+ghost use Rattle.kms_track.specs.Places.{all_below};
+ghost use Rattle.kms_stores.specs.Decisions.{world};
+ghost use Rattle.kms_stores.specs.Swaps.{HasAllStates};
+ghost use Rattle.kms_next.specs.Judging.{IsJudged, request_taken};
+ghost use Rattle.kms_stores.specs.Decisions.{held_at};
+ghost use Rattle.kms_stores.specs.Run.{machine};
+
+use crate::judgement::Judged;
+use crate::lookers::{Ever, Now};
+use kms_clients::Clients;
+use kms_model::{
+    Checked, Command, Doing, Kind, Mask, NoMemory, ObjId, Refusal, Reply, Request, Resolved,
+    Topology, command_of, has_bit,
+};
+use kms_props::is_test;
+use kms_request::{RequestError, changed, early, exists, full_check, reach, resolve, spans};
+use kms_stores::{Stores, late_reply, lookups};
+use kms_track::{OBJECTS, has_object, object_at};
+use std::alloc::Global;
+
+/// Whether a client may ask for the object of a kind with an index: it takes locks for a request that reaches the
+/// object, which is free, or which an older context holds. Any numbers may be asked for. (Kernel: "KMS Locking",
+/// `drm_modeset_lock`.)
+pub(crate) fn may_lock(stores: &Stores, client: u32, kind: Kind, index: u32) -> bool
+    ensures { result ≡ may stores.now.script (machine stores.now) (step.Lock client kind index) }
+{
+    let Some(request) = request_taken(stores, client) else {
+        return false;
+    };
+    let topology = &stores.script.topology;
+    if !is_lockable(topology, kind, index) {
+        return false;
+    }
+    let reached = reach(topology, request, &Ever(&stores.things), &stores.present);
+    is_member(&reached, kind, index)
+        && stores
+            .clients
+            .is_free_or_older(client, ObjId::of(kind, index))
+}
+
+/// Whether the request of a client that takes locks may be refused: one of refusals 1 to 8 is due; or the client holds
+/// what the request touches, and one of refusals 9 to 24 is due, or it is no test, and there is no space for its events
+/// or it is busy. Any number may be asked for. (Kernel: `drm_atomic_check_only`, `drm_event_reserve_init`,
+/// `drm_atomic_helper_setup_commit`.)
+pub(crate) fn may_refuse(stores: &Stores, client: u32) -> bool
+    ensures { result ≡ may stores.now.script (machine stores.now) (step.Refuse client) }
+{
+    let Some(request) = request_taken(stores, client) else {
+        return false;
+    };
+    match judged(stores, client, request) {
+        None => true,
+        Some(judged) => judged.is_refused(is_test(request.flags)),
+    }
+}
+
+/// Whether the request of a client that takes locks may be told to be accepted: it is a test, the client holds what it
+/// touches, and none of refusals 1 to 24 is due. Any number may be asked for. (Kernel: `drm_mode_atomic_ioctl`,
+/// `DRM_MODE_ATOMIC_TEST_ONLY`.)
+pub(crate) fn may_test(stores: &Stores, client: u32) -> bool
+    ensures { result ≡ may stores.now.script (machine stores.now) (step.Test client) }
+{
+    let Some(request) = request_taken(stores, client) else {
+        return false;
+    };
+    match judged(stores, client, request) {
+        None => false,
+        Some(judged) => judged.is_accepted(is_test(request.flags)),
+    }
+}
+
+/// Whether the request of a client that takes locks may be committed: it is no test, the client holds what it touches,
+/// none of refusals 1 to 24 is due, there is space for its events, it is not busy, and its commit waits for no other.
+/// Any number may be asked for. (Kernel: `drm_atomic_helper_commit`, `drm_atomic_helper_swap_state`.)
+pub(crate) fn may_swap(stores: &Stores, client: u32) -> bool
+    ensures { result ≡ may stores.now.script (machine stores.now) (step.Swap client) }
+{
+    let Some(request) = request_taken(stores, client) else {
+        return false;
+    };
+    match judged(stores, client, request) {
+        None => false,
+        Some(judged) => judged.is_committed(is_test(request.flags)),
+    }
+}
+
+/// What is told of the request for which a client takes locks; none where one of refusals 1 to 8 is due.
+pub(crate) fn judged(stores: &Stores, client: u32, request: &Request) -> Option<Judged>
+    requires { Some request.now ≡ request_taken stores.now.script (machine stores.now) client }
+    ensures { IsJudged stores.now.script.topology (machine stores.now) client request.now result }
+{
+    let topology = &stores.script.topology;
+    let found = Now(&stores.things);
+    if early(topology, request, &found).is_some() {
+        return None;
+    }
+    let after = changed(topology, request, &found, &stores.present);
+    let (named, touched) = spans(&after, request);
+    let queue = &stores.queues[(client - 1) as usize];
+    Some(Judged {
+        holds: holds_all(&stores.clients, client, &touched),
+        late: full_check(topology, &after, request),
+        hindered: late_reply(queue, &stores.tracker, named, &touched, request.flags),
+        ready: stores.tracker.not_yet(named).is_none(),
+    })
+}
+
+/// The reply that refuses the request for which a client takes locks, where it may be refused.
+pub fn refusal_reply(stores: &Stores, client: u32, request: &Request) -> Reply
+    requires taken { Some request.now
+        ≡ request_taken stores.now.script (machine stores.now) client }
+    requires refused { may stores.now.script (machine stores.now) (step.Refuse client) ≡ true }
+    ensures { result
+        ≡ refusal_reply stores.now.script.topology (machine stores.now) client request.now
+        (verdict stores.now.script.topology (machine stores.now).device.world request.now) }
+{
+    if let Some(why) = early(&stores.script.topology, request, &Now(&stores.things)) {
+        return Reply::Refused(why);
+    }
+    let Some(judged) = judged(stores, client, request) else {
+        unreachable!();
+    };
+    match (judged.late, judged.hindered) {
+        (Some(why), _) => Reply::Refused(why),
+        (None, Some(reply)) => reply,
+        (None, None) => unreachable!(),
+    }
+}
+
+/// What a check gives for a request for which none of refusals 1 to 24 is due: the states of all objects before it and
+/// after it, and what it names and touches.
+pub fn checked(stores: &Stores, request: &Request) -> Checked
+    requires { early_in stores.now.script.topology (world stores.now) request.now ≡ None }
+    ensures checked { IsChecked stores.now.script.topology (world stores.now) request.now result }
+    ensures states { HasAllStates result }
+{
+    let states = changed(
+        &stores.script.topology,
+        request,
+        &Now(&stores.things),
+        &stores.present,
+    );
+    let (named, touched) = spans(&states, request);
+    Checked {
+        states,
+        named,
+        touched,
+    }
+}
+
+/// What such a request asks for.
+pub fn resolved(stores: &Stores, alloc: Global, request: &Request) -> Result<Resolved, NoMemory>
+    requires { early_in stores.now.script.topology (world stores.now) request.now ≡ None }
+    ensures { IfOk result
+        (IsResolved stores.now.script.topology (look_up (world stores.now)) request.now) }
+{
+    let found = lookups(stores, alloc, request)?;
+    match resolve(alloc, &stores.script.topology, request, &found) {
+        Ok(resolved) => Ok(resolved),
+        Err(RequestError::NoMemory) => Err(NoMemory),
+        Err(RequestError::Of(_why)) => unreachable!(),
+    }
+}
+
+/// The request for which a client takes locks; none where it takes none.
+pub fn request_taken(stores: &Stores, client: u32) -> Option<&Request>
+    ensures { option_copied result ≡ request_taken stores.now.script (machine stores.now) client }
+{
+    if client == 0 || client as usize > stores.script.clients.len() {
+        return None;
+    }
+    let place = stores.clients.place(client);
+    let Doing::Taking(_ticket) = place.doing else {
+        return None;
+    };
+    match command_of(&stores.script, client, place.command) {
+        Some(Command::Atomic(request)) => Some(request),
+        _ => None,
+    }
+}
+
+/// Whether a client's context holds each object of a set.
+fn holds_all(clients: &Clients, client: u32, objects: &Mask) -> bool
+    ensures { (m : Machine) → AreClientsOf m.contexts clients.now
+        → result ≡ all_below (held_at m client objects.now) 28 }
+{
+    let mut held = true;
+    for place in 0..OBJECTS {
+        held = held && holds_at(clients, client, objects, place);
+    }
+    held
+}
+
+/// Whether a client's context holds the object at a place, from 0 to 27, where the object is in a set.
+fn holds_at(clients: &Clients, client: u32, objects: &Mask, place: u32) -> bool
+    requires { place < 28 }
+    ensures { (m : Machine) → AreClientsOf m.contexts clients.now
+        → result ≡ held_at m client objects.now place }
+{
+    !has_object(objects, place) || clients.holder(object_at(place)) == Some(client)
+}
+
+/// Whether the object of a kind with an index has a lock: it is on the device, and is no encoder.
+fn is_lockable(topology: &Topology, kind: Kind, index: u32) -> bool
+    ensures { result ≡ is_lockable topology.now kind index }
+{
+    kind != Kind::Enc && exists(topology, kind, index)
+}
+
+/// Whether an object is in a set; no encoder is.
+pub(crate) fn is_member(objects: &Mask, kind: Kind, index: u32) -> bool
+    ensures { result ≡ is_member objects.now kind index }
+{
+    match kind {
+        Kind::Crtc => has_bit(objects.crtcs, index),
+        Kind::Plane => has_bit(objects.planes, index),
+        Kind::Conn => has_bit(objects.conns, index),
+        Kind::Enc => false,
+    }
+}

@@ -1,0 +1,23 @@
+//! What may be done next in a history, and what one thread does next.
+#![tactic(auto)]
+
+mod client_steps;
+mod groups;
+mod judgement;
+mod judging;
+mod lacking;
+mod legality;
+mod lookers;
+mod moving;
+mod ordering;
+mod settling;
+mod stalling;
+mod tail_steps;
+
+pub use client_steps::{doing, idle_command};
+pub use judging::{checked, refusal_reply, request_taken, resolved};
+pub use legality::{drained, enabled, legal};
+pub use ordering::client_step;
+pub use settling::tail_step;
+pub use stalling::{stall, stalled_on};
+pub use tail_steps::has_go;

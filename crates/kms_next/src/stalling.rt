@@ -1,0 +1,105 @@
+//! Dead histories: their end, and the fence that they wait for.
+ghost use Rattle.std.specs.Prelude.{◌≡◌, ◌<◌, ◌∷◌, [], find, length};
+ghost use Rattle.kms_model.specs.declared.replies.Step.TheVariants as step;
+ghost use Rattle.kms_model.specs.Device.World.{thing_with_id};
+ghost use Rattle.kms_model.specs.Firsts.{first_some};
+ghost use Rattle.kms_model.specs.Machine.Histories.{awaited_by, commit_numbers, is_awaited, label_of_thing, stalled_on};
+ghost use Rattle.kms_track.specs.Tracking.{fence_ids};
+ghost use Rattle.kms_next.specs.Next.{IsLegal, if_awaited};
+ghost use Rattle.kms_stores.specs.Run.{Run, machine, gains, if_ok};
+
+use crate::legality::is_dead;
+use kms_model::{Content, NoMemory, Step};
+use kms_stores::{Stores, make_step_room};
+
+/// Ends a history that is dead: no step is legal any more. Want of memory leaves all as it was.
+pub fn stall(stores: &mut Stores) -> Result<(), NoMemory>
+    requires { IsLegal stores.old step.Stall }
+    ensures history { stores.new ≡ gains stores.old (if_ok result (λ u. step.Stall ∷ [])) }
+{
+    make_step_room(&mut stores.steps, &stores.tails)?;
+    stores.stalled = true;
+    stores.steps.push(Step::Stall);
+    Ok(())
+}
+
+/// The label of the fence that a dead history waits for: the first in order of planes, of the least commit that is not
+/// claimed and waits for one that a `fence` made and that is not signalled. None where there is none, and where the
+/// history is not dead.
+pub fn stalled_on(stores: &Stores) -> Option<u32>
+    ensures { result ≡ stalled_on stores.now.script (machine stores.now) }
+{
+    if !is_dead(stores) {
+        return None;
+    }
+    match awaited_fence(stores) {
+        Some(fence) => label_of(stores, fence),
+        None => None,
+    }
+}
+
+/// The label of the thing with an id.
+fn label_of(stores: &Stores, id: u32) -> Option<u32>
+    ensures { result ≡ label_of_thing
+        (thing_with_id (machine stores.now).device.world.things id) }
+{
+    Some(stores.things.with_id(id)?.label)
+}
+
+/// The first such fence of the least commit that has one.
+fn awaited_fence(stores: &Stores) -> Option<u32>
+    ensures { result ≡ first_some (awaited_by stores.now.script.topology (machine stores.now))
+        (commit_numbers (machine stores.now)) }
+{
+    let mut from = 0;
+    'seeking: while let Some(commit) = stores.tails.first_from(from) {
+        if let Some(fence) = awaited_by(stores, commit) {
+            return Some(fence);
+        }
+        from = commit + 1;
+    }
+    None
+}
+
+/// The first such fence that a commit, which is not claimed, waits for.
+fn awaited_by(stores: &Stores, commit: u32) -> Option<u32>
+    requires { commit < length (machine stores.now).device.commits }
+    ensures { result ≡ awaited_by stores.now.script.topology (machine stores.now) commit }
+{
+    match stores.tracker.get(commit) {
+        Some(pending) if !pending.claimed => first_awaited(stores, &pending.fences),
+        _ => None,
+    }
+}
+
+/// The first fence, of those at their places, that a `fence` made and that is not signalled.
+fn first_awaited(stores: &Stores, fences: &[Option<u32>; 16]) -> Option<u32>
+    ensures { result ≡ find (is_awaited (machine stores.now)) (fence_ids fences.now) }
+{
+    for fence in fences {
+        if let Some(id) = if_awaited(stores, *fence) {
+            return Some(id);
+        }
+    }
+    None
+}
+
+/// A fence, if any, that a `fence` made and that is not signalled.
+fn if_awaited(stores: &Stores, fence: Option<u32>) -> Option<u32>
+    ensures { result ≡ if_awaited (machine stores.now) fence }
+{
+    match fence {
+        Some(id) if is_awaited(stores, id) => Some(id),
+        _ => None,
+    }
+}
+
+/// Whether a `fence` made the fence with an id, and it is not signalled.
+fn is_awaited(stores: &Stores, fence: u32) -> bool
+    ensures { result ≡ is_awaited (machine stores.now) fence }
+{
+    let Some(thing) = stores.things.with_id(fence) else {
+        return false;
+    };
+    matches!(thing.content, Content::Fence) && !stores.fences.is_signalled(fence)
+}

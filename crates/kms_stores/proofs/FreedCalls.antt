@@ -1,0 +1,181 @@
+-- Calls that may free framebuffers.
+use Rattle.std.proofs.Common.{◌≡◌, ℕ, ◌+◌, ◌<◌, ◌≤◌, List, [], ◌∷◌, ◌++◌, length, true, false, Option, Some, None, refl, sym, ap, ◌∙◌, subst, arith, inl, inr, ◌⊎◌}
+use Rattle.std.specs.Prelude.{filter}
+use Rattle.kms_model.specs.declared.objects.Kind.TheVariants.{Crtc}
+use Rattle.kms_model.specs.declared.objects.Topology.{Topology}
+use Rattle.kms_model.specs.declared.pictures.Picture.{Picture}
+use Rattle.kms_regs.specs.File.{StandsFor}
+use Rattle.kms_model.specs.declared.replies.Reply.{Reply}
+use Rattle.kms_model.specs.declared.replies.Reply.TheVariants as reply
+use Rattle.kms_model.specs.declared.scripts.Command.{Command}
+use Rattle.kms_model.specs.declared.scripts.Command.TheVariants as command
+use Rattle.kms_things.specs.Made.{Made}
+use Rattle.kms_model.specs.declared.replies.Step.{Step}
+use Rattle.kms_model.specs.declared.replies.Step.TheVariants as step
+use Rattle.kms_model.specs.declared.runs.Latch.{Latch}
+use Rattle.kms_model.specs.declared.scripts.Script.{Script}
+use Rattle.kms_model.specs.declared.worlds.Thing.{Thing}
+use Rattle.kms_model.specs.Device.Execution.{execute, is_framebuffer}
+use Rattle.kms_model.specs.Device.Objects.{ids_of, index_of}
+use Rattle.kms_model.specs.Device.Sound.{AreNumbered, IsDevice}
+use Rattle.kms_model.specs.Device.World.{thing_labelled, thing_with_id}
+use Rattle.kms_model.specs.Machine.Commits.{is_cleaned}
+use Rattle.kms_model.specs.Machine.Effects.{next}
+use Rattle.kms_model.specs.Machine.Framebuffers.{commit_keeps, is_needed, picture_names}
+use Rattle.kms_model.specs.Machine.Histories.{legal}
+use Rattle.kms_model.specs.Machine.Registers.{decoded_picture}
+use Rattle.kms_model.specs.Machine.State.{DeviceState, Machine, command_at}
+use Rattle.kms_model.proofs.Items.{IsIn}
+use Rattle.kms_laws.proofs.Headlines.{range-in}
+use Rattle.kms_laws.proofs.Modes.{plain-from}
+use Rattle.kms_laws.proofs.Steps.{IsPlainScript, history_kept}
+use Rattle.kms_freeing.specs.Freeing.{AreAllOf, AreFreed, AreRising, framebuffers_in, freed_among, is_framebuffer_in, layers_of}
+use Rattle.kms_logs.specs.Logs.{Reserved}
+use Rattle.kms_stores.specs.Needs.{Accounts, Frees, HasPlaceFor, TellNeeds}
+use Rattle.kms_stores.specs.Run.{Run, machine}
+use Rattle.kms_stores.specs.Stands.{Stores, Stands, StandsAt}
+use Rattle.kms_freeing.proofs.FreedBetween.{found_same}
+use Rattle.kms_freeing.proofs.FreedHistories.{Executes, Latches, added_freed, changes, latch_frees, make_frees, quiet_freed, told_freed}
+use Rattle.kms_freeing.proofs.PutIds.{shown_few}
+use Rattle.kms_freeing.proofs.FreedLatches.{live_by}
+use Rattle.kms_freeing.proofs.FreedLists.{as_many, filter-in, passes, rising_filter}
+use Rattle.kms_freeing.proofs.FreedMakes.{MadeFrees}
+use Rattle.kms_freeing.proofs.FreedSteps.{IsTold, SameNeeds, cleanup_told, each_of, keeps_by, needed_by}
+use Rattle.kms_stores.proofs.Histories.{goes_freeing, with_freed}
+
+-- the stores that stand for a machine tell what it needs
+pub tell_needs : (s : Script) (m : Machine) (st : Stores) → IsDevice s.topology → StandsAt s m st → TellNeeds s.topology m st.made st.present st.registers st.tails s.topology.crtcs
+tell_needs s m st device stands = record { device = device; count = refl; world = stands.world; written = stands.registers; kept = stands.tails }
+
+-- There are places for candidates that are needed.
+
+pub needed_places : (t : Topology) (m : Machine) (things : List Thing) (ids : List ℕ) → m.device.world.things ≡ things → AreNumbered 1000 m.device.world.things → AreRising 0 ids
+    → ((id : ℕ) → IsIn id ids → (x : Thing) → x.id ≡ id → is_framebuffer x.content ≡ true → is_needed t m x ≡ true) → framebuffers_in things ids ≤ length (filter (is_needed t m) m.device.world.things)
+needed_places t m things ids same numbered rising needed =
+    subst (λ all. framebuffers_in all ids ≤ length (filter (is_needed t m) m.device.world.things)) same
+    (as_many 1000 (is_needed t m) m.device.world.things 0 (filter (λ id. is_framebuffer_in (thing_with_id m.device.world.things id)) ids) numbered (rising_filter 0 _ ids rising) (λ id is.
+    let found = filter-in (λ id. is_framebuffer_in (thing_with_id m.device.world.things id)) ids id is in
+    at id (thing_with_id m.device.world.things id) refl found.1 (λ x own framebuffer. needed id found.0 x own framebuffer)))
+  where
+    at : (id : ℕ) (o : Option Thing) → thing_with_id m.device.world.things id ≡ o → is_framebuffer_in o ≡ true → ((x : Thing) → x.id ≡ id → is_framebuffer x.content ≡ true → is_needed t m x ≡ true) → passes (is_needed t m) o ≡ true
+    at id None found e needed = absurd cc
+    at id (Some x) found e needed = needed x (found_same m.device.world.things id x found) e
+
+numbered_of : (r : Run) (st : Stores) → Stands r st → AreNumbered 1000 (machine r).device.world.things
+numbered_of r st stands = (history_kept r.script r.steps (plain-from r.script stands.formed) stands.history).present.sound.numbered
+
+-- those of the picture that a CRTC shows
+pub live_places : (r : Run) (st : Stores) (c : ℕ) (ids : List ℕ) → Stands r st → IsIn c (ids_of r.script.topology Crtc) → AreAllOf ids (λ id. picture_names id (decoded_picture r.script.topology (machine r).device.live c)) → framebuffers_in st.made.things ids ≤ st.freed.places
+live_places r st c ids stands is_crtc A =
+    let t = r.script.topology in
+    let m = machine r in
+    let few = stands.freed.places in
+    let most = needed_places t m st.made.things ids stands.stores.world.things (numbered_of r st stands) A.rising (λ id is x own framebuffer.
+    needed_by t m x (record { framebuffer = framebuffer; why = inr (inr (inl (live_by t m.device x.id c is_crtc (subst (λ z. picture_names z (decoded_picture t m.device.live c) ≡ true) (sym own) (each_of ids _ A id is))))) })) in
+    omega (arith, few, most)
+
+-- what a register file tells of a picture is so
+pub live_all : (r : Run) (st : Stores) (c : ℕ) (p : Picture) (found ids : List ℕ) → Stands r st → AreAllOf found (λ id. picture_names id p) → ((t : Topology) (d : DeviceState) → StandsFor t d st.registers → p ≡ decoded_picture t d.live c) → ids ≡ found
+    → AreAllOf ids (λ id. picture_names id (decoded_picture r.script.topology (machine r).device.live c))
+live_all r st c p found ids stands all shows is =
+    rw is (subst (λ q. AreAllOf found (λ id. picture_names id q)) (shows r.script.topology (machine r).device stands.stores.registers) all)
+
+pub live_few : (r : Run) (st : Stores) (c : ℕ) (p : Picture) → Stands r st → ((t : Topology) (d : DeviceState) → StandsFor t d st.registers → p ≡ decoded_picture t d.live c) → length (layers_of p) ≤ 16
+live_few r st c p stands shows =
+    subst (λ q. length (layers_of q) ≤ 16) (sym (shows r.script.topology (machine r).device stands.stores.registers)) (shown_few r.script.topology (machine r).device.live c stands.formed.device)
+
+-- and those of a commit that is not cleaned
+pub kept_places : (r : Run) (st : Stores) (k : ℕ) (ids : List ℕ) → Stands r st → k < length (machine r).device.commits → is_cleaned (machine r).device k ≡ false → AreAllOf ids (λ id. commit_keeps r.script.topology (machine r).device id k)
+    → framebuffers_in st.made.things ids ≤ st.freed.places
+kept_places r st k ids stands within unclean A =
+    let t = r.script.topology in
+    let m = machine r in
+    let few = stands.freed.places in
+    let most = needed_places t m st.made.things ids stands.stores.world.things (numbered_of r st stands) A.rising (λ id is x own framebuffer.
+    needed_by t m x (record { framebuffer = framebuffer; why = inr (inr (inr (keeps_by t m x.id k (range-in 0 (length m.device.commits) k (omega arith) (omega (arith, within))) unclean (subst (λ z. commit_keeps t m.device z k ≡ true) (sym own) (each_of ids _ A id is))))) })) in
+    omega (arith, few, most)
+
+-- A history goes on by a step that frees some candidates.
+pub goes_told : (r : Run) (old new : Stores) (step : Step) (ids : List ℕ) (freed : Reserved (ℕ × ℕ)) → IsTold r.script.topology (machine r) (next r.script (machine r) step) ids
+    → Frees new.made new.present new.registers new.tails r.script.topology.crtcs ids old.freed freed → (steps : List Step) → steps ≡ r.steps ++ step ∷ [] → Stands r old → legal r.script (machine r) step ≡ true
+    → StandsAt r.script (next r.script (machine r) step) new → Stands (record { script = r.script; steps = steps }) (record new { freed = freed })
+goes_told r old new step ids freed told frees steps is stands is_legal after =
+    let n = next r.script (machine r) step in
+    let tell = tell_needs r.script n new stands.formed.device after in
+    goes_freeing r old (record new { freed = freed }) step steps is stands is_legal (with_freed r.script n new freed after)
+    (told_freed r.script r.steps step (plain-from r.script stands.formed) stands.history is_legal old.freed freed ids stands.freed told (frees.items r.script.topology n tell) (frees.places r.script.topology n tell))
+
+-- a latch
+pub latches_by : (s : Script) (m n : Machine) (c : ℕ) (l : Latch) → SameNeeds m n ⊎ Latches s m n c → l.crtc ≡ index_of c → IsIn c (ids_of s.topology Crtc) → n.records.latches ≡ l ∷ m.records.latches → Latches s m n c
+latches_by s m n c l (inl same) of_crtc is_crtc one = record { world = same.world; commits = same.commits; cleaned = same.cleaned; latch = l; of_crtc = of_crtc; is_crtc = is_crtc; recorded = one }
+latches_by s m n c l (inr latched) of_crtc is_crtc one = latched
+
+pub goes_latching : (r : Run) (old new : Stores) (step : Step) (c : ℕ) (ids : List ℕ) (freed : Reserved (ℕ × ℕ)) → Latches r.script (machine r) (next r.script (machine r) step) c
+    → AreAllOf ids (λ id. picture_names id (decoded_picture r.script.topology (machine r).device.live c)) → Frees new.made new.present new.registers new.tails r.script.topology.crtcs ids old.freed freed → (steps : List Step) → steps ≡ r.steps ++ step ∷ []
+    → Stands r old → legal r.script (machine r) step ≡ true → StandsAt r.script (next r.script (machine r) step) new → Stands (record { script = r.script; steps = steps }) (record new { freed = freed })
+goes_latching r old new step c ids freed L A frees steps is stands is_legal after =
+    goes_told r old new step ids freed (latch_frees r.script r.steps step (plain-from r.script stands.formed) stands.history is_legal c ids L A) frees steps is stands is_legal after
+
+-- a cleanup
+pub goes_cleaning : (r : Run) (old new : Stores) (k : ℕ) (ids : List ℕ) (freed : Reserved (ℕ × ℕ)) → k < length (machine r).device.commits → is_cleaned (machine r).device k ≡ false → AreAllOf ids (λ id. commit_keeps r.script.topology (machine r).device id k)
+    → Frees new.made new.present new.registers new.tails r.script.topology.crtcs ids old.freed freed → (steps : List Step) → steps ≡ r.steps ++ step.Cleanup k ∷ [] → Stands r old → legal r.script (machine r) (step.Cleanup k) ≡ true
+    → StandsAt r.script (next r.script (machine r) (step.Cleanup k)) new → Stands (record { script = r.script; steps = steps }) (record new { freed = freed })
+unfolding next
+goes_cleaning r old new k ids freed within unclean A frees steps is stands is_legal after =
+    goes_told r old new (step.Cleanup k) ids freed (cleanup_told r.script.topology (machine r) k ids (numbered_of r old stands) within unclean A) frees steps is stands is_legal after
+
+-- Commands that make and close things
+
+module _ (r : Run) (old : Stores) (client : ℕ) (c : Command) (told : Reply) (stands : Stands r old) (is_legal : legal r.script (machine r) (step.Make client) ≡ true) (at_place : command_at r.script (machine r) client ≡ Some c)
+    (answered : (execute r.script.topology (machine r).device.world client c).reply ≡ told) where
+  abbrev n : Machine
+  n = next r.script (machine r) (step.Make client)
+
+  X : Executes r.script (machine r) (next r.script (machine r) (step.Make client)) client
+  X = changes r.script (machine r) (step.Make client) is_legal
+
+  same_command : X.command ≡ c
+  unfolding X
+  same_command = let one : Some X.command ≡ Some c = sym X.at_place ∙ at_place in cc
+
+  pub world_after : (next r.script (machine r) (step.Make client)).device.world ≡ (execute r.script.topology (machine r).device.world client c).world
+  world_after = X.world ∙ ap (λ (x : Command). (execute r.script.topology (machine r).device.world client x).world) same_command
+
+  frees_made : MadeFrees r.script.topology (machine r) (next r.script (machine r) (step.Make client)) c told
+  frees_made =
+      subst (λ x. MadeFrees r.script.topology (machine r) (next r.script (machine r) (step.Make client)) c x) answered
+      (subst (λ x. MadeFrees r.script.topology (machine r) (next r.script (machine r) (step.Make client)) x (execute r.script.topology (machine r).device.world client x).reply) same_command
+      (make_frees r.script r.steps (step.Make client) (plain-from r.script stands.formed) stands.history is_legal client X))
+
+  -- there is a place for a framebuffer that was closed
+  pub closed_place : (made : Made) → (next r.script (machine r) (step.Make client)).device.world.things ≡ made.things → HasPlaceFor made c told old.freed.places
+  closed_place made same = at c told frees_made where
+    at : (c : Command) (a : Reply) → MadeFrees r.script.topology (machine r) (next r.script (machine r) (step.Make client)) c a → HasPlaceFor made c a old.freed.places
+    at (command.CloseFb label) reply.Done frees = λ u found.
+        let one : Some u ≡ Some frees.now = sym found ∙ ap (λ things. thing_labelled things label) (sym same) ∙ frees.found in
+        let is_now : u ≡ frees.now = cc in
+        let own : u.id ≡ frees.thing.id = ap (λ (x : Thing). x.id) is_now ∙ frees.same_id in
+        let few = stands.freed.places in
+        let room = frees.told.room in
+        let count : framebuffers_in made.things (u.id ∷ []) ≡ framebuffers_in (next r.script (machine r) (step.Make client)).device.world.things (frees.thing.id ∷ []) = (λ i. framebuffers_in (sym same i) (own i ∷ [])) in
+        omega (arith, few, room, count)
+    at _ _ frees = tt
+
+  -- what is freed stands after the step
+  pub made_freed : (new : Stores) (freed : Reserved (ℕ × ℕ)) → StandsAt r.script (next r.script (machine r) (step.Make client)) new → Accounts new.made new.present new.registers new.tails r.script.topology.crtcs c told old.freed freed
+      → AreFreed r.script (r.steps ++ step.Make client ∷ []) freed
+  made_freed new freed after accounts = at c told frees_made accounts where
+    plain : IsPlainScript r.script
+    plain = plain-from r.script stands.formed
+
+    at : (c : Command) (a : Reply) → MadeFrees r.script.topology (machine r) (next r.script (machine r) (step.Make client)) c a → Accounts new.made new.present new.registers new.tails r.script.topology.crtcs c a old.freed freed
+        → AreFreed r.script (r.steps ++ step.Make client ∷ []) freed
+    at (command.AddFb label buffer) (reply.Made id) frees kept =
+        added_freed r.script r.steps (step.Make client) plain stands.history is_legal old.freed freed stands.freed kept.items (let places = kept.places in omega (arith, places)) frees
+    at (command.CloseFb label) reply.Done frees records =
+        let tell = tell_needs r.script n new stands.formed.device after in
+        let now = records frees.now (ap (λ things. thing_labelled things label) (sym after.world.things) ∙ frees.found) in
+        told_freed r.script r.steps (step.Make client) plain stands.history is_legal old.freed freed (frees.thing.id ∷ []) stands.freed frees.told
+        (now.items r.script.topology n tell ∙ ap (λ id. old.freed.items ++ freed_among r.script.topology n (id ∷ [])) frees.same_id)
+        (now.places r.script.topology n tell ∙ ap (λ id. freed.places + length (freed_among r.script.topology n (id ∷ []))) frees.same_id)
+    at _ _ frees kept = quiet_freed r.script r.steps (step.Make client) plain stands.history is_legal old.freed freed stands.freed kept.items (let places = kept.places in omega (arith, places)) frees

@@ -1,0 +1,121 @@
+-- A history that goes on by a step.
+use Rattle.std.proofs.Common.{◌≡◌, ℕ, Bool, true, false, List, [], ◌∷◌, ◌++◌, refl, ap, ◌∙◌, arith}
+use Rattle.std.proofs.lemmas.Bool.{and_parts, and_from}
+use Rattle.kms_model.specs.declared.replies.Answered.{Answered}
+use Rattle.kms_model.specs.declared.replies.Step.{Step}
+use Rattle.kms_model.specs.declared.runs.Latch.{Latch}
+use Rattle.kms_model.specs.declared.scripts.Script.{Script}
+use Rattle.kms_model.specs.Machine.Effects.{next}
+use Rattle.kms_model.specs.Machine.Histories.{are_legal, at, is_history, legal, run_steps}
+use Rattle.kms_model.specs.Machine.Registers.{Registers}
+use Rattle.kms_model.specs.Machine.State.{Contexts, Machine, Marks, first_machine}
+use Rattle.kms_clients.specs.InStep.{AreClientsOf}
+use Rattle.kms_clients.specs.Standing.{Standing}
+use Rattle.kms_laws.proofs.Modes.{plain-from}
+use Rattle.kms_freeing.specs.Freeing.{AreFreed, may_free}
+use Rattle.kms_logs.specs.Logs.{Logged, Reserved}
+use Rattle.kms_regs.specs.File.{RegisterFile, StandsFor}
+use Rattle.kms_signal.specs.Rooms.{Rooms}
+use Rattle.kms_tails.specs.declared.tail.Tail.{Tail}
+use Rattle.kms_tails.specs.InStep.{AreTailsOf}
+use Rattle.kms_track.specs.InStep.{IsTrackerOf}
+use Rattle.kms_track.specs.Tracking.{Tracking}
+use Rattle.kms_stores.specs.Run.{Run, machine}
+use Rattle.kms_stores.specs.Stands.{AreRecords, Stores, StandsAt, Stands}
+use Rattle.kms_freeing.proofs.FreedHistories.{kind_freed, quiet_freed, quiet_needs}
+use Rattle.kms_freeing.proofs.FreedSteps.{SameNeeds}
+
+pub run_more : (s : Script) (m : Machine) (h : List Step) (step : Step) → run_steps s m (h ++ step ∷ []) ≡ next s (run_steps s m h) step
+unfolding run_steps
+run_more s m [] step = refl
+run_more s m (first ∷ h) step = run_more s (next s m first) h step
+
+legal_more : (s : Script) (m : Machine) (h : List Step) (step : Step) → are_legal s m h ≡ true → legal s (run_steps s m h) step ≡ true → are_legal s m (h ++ step ∷ []) ≡ true
+unfolding run_steps are_legal
+legal_more s m [] step all last = and_from (legal s m step) true last refl
+legal_more s m (first ∷ h) step all last =
+    let parts = and_parts (legal s m first) (are_legal s (next s m first) h) all in
+    and_from (legal s m first) _ parts.0 (legal_more s (next s m first) h step parts.1 last)
+
+-- the stores stand where they stand for the machine after the step, and for what is freed then
+pub goes_freeing : (r : Run) (old new : Stores) (step : Step) (steps : List Step) → steps ≡ r.steps ++ step ∷ [] → Stands r old → legal r.script (machine r) step ≡ true → StandsAt r.script (next r.script (machine r) step) new
+    → AreFreed r.script (r.steps ++ step ∷ []) new.freed → Stands (record { script = r.script; steps = steps }) new
+goes_freeing r old new step steps is stands is_legal after freed = record {
+  formed = stands.formed;
+  history = rw is (legal_more r.script (first_machine r.script.topology) r.steps step stands.history is_legal);
+  stores = rw (is, run_more r.script (first_machine r.script.topology) r.steps step) after;
+  freed = rw is freed;
+}
+
+legal_then : (s : Script) (m : Machine) (h : List Step) (step : Step) → are_legal s m (h ++ step ∷ []) ≡ true → legal s (run_steps s m h) step ≡ true
+unfolding run_steps are_legal
+legal_then s m [] step all = (and_parts (legal s m step) true all).0
+legal_then s m (first ∷ h) step all = legal_then s (next s m first) h step (and_parts (legal s m first) _ all).1
+
+-- the last step of a history was legal
+pub legal_last : (s : Script) (h steps : List Step) (step : Step) → steps ≡ h ++ step ∷ [] → is_history s steps ≡ true → legal s (at s h) step ≡ true
+legal_last s h steps step is all = legal_then s (first_machine s.topology) h step (rw is at all)
+
+-- the same of a step that frees nothing
+pub goes_on : (r : Run) (old new : Stores) (step : Step) → may_free step ≡ false → new.freed ≡ old.freed → (steps : List Step) → steps ≡ r.steps ++ step ∷ [] → Stands r old → legal r.script (machine r) step ≡ true
+    → StandsAt r.script (next r.script (machine r) step) new → Stands (record { script = r.script; steps = steps }) new
+goes_on r old new step quiet same steps is stands is_legal after =
+    goes_freeing r old new step steps is stands is_legal after
+    (kind_freed r.script r.steps step (plain-from r.script stands.formed) stands.history is_legal old.freed new.freed stands.freed (ap (λ (v : Reserved (ℕ × ℕ)). v.items) same)
+    (let places = ap (λ (v : Reserved (ℕ × ℕ)). v.places) same in omega (arith, places)) quiet)
+
+-- and of one that changes nothing that tells what is needed
+pub goes_same : (r : Run) (old new : Stores) (step : Step) → SameNeeds (machine r) (next r.script (machine r) step) → new.freed ≡ old.freed → (steps : List Step) → steps ≡ r.steps ++ step ∷ [] → Stands r old → legal r.script (machine r) step ≡ true
+    → StandsAt r.script (next r.script (machine r) step) new → Stands (record { script = r.script; steps = steps }) new
+goes_same r old new step needs same steps is stands is_legal after =
+    let plain = plain-from r.script stands.formed in
+    goes_freeing r old new step steps is stands is_legal after
+    (quiet_freed r.script r.steps step plain stands.history is_legal old.freed new.freed stands.freed (ap (λ (v : Reserved (ℕ × ℕ)). v.items) same)
+    (let places = ap (λ (v : Reserved (ℕ × ℕ)). v.places) same in omega (arith, places)) (quiet_needs r.script r.steps step plain stands.history is_legal needs))
+
+-- stores that stand do so where clients, answers, what was freed and the end are told anew, and latches have other memory
+pub told_anew : (s : Script) (m : Machine) (st : Stores) (contexts : Contexts) (replies : List Answered) (ended : Bool) (clients : Standing) (answers : Logged Answered) (shown : Logged Latch) (freed : Reserved (ℕ × ℕ)) (stalled : Bool)
+    → AreClientsOf contexts clients → AreRecords (record m.records { replies = replies }) st.journal.items answers.items shown.items → ended ≡ stalled → StandsAt s m st
+    → StandsAt s (record m { contexts = contexts; records = record m.records { replies = replies }; stalled = ended }) (record st { clients = clients; replies = answers; latches = shown; freed = freed; stalled = stalled })
+told_anew s m st contexts replies ended clients answers shown freed stalled in_step recorded is_ended stands = record {
+  clients = in_step;
+  recorded = recorded;
+  world = stands.world;
+  fences = stands.fences;
+  fenced = stands.fenced;
+  out_fenced = stands.out_fenced;
+  queues = stands.queues;
+  tracker = stands.tracker;
+  tails = stands.tails;
+  registers = stands.registers;
+  going = stands.going;
+  ended = is_ended;
+}
+
+-- stores that stand do so with any framebuffers that were freed
+pub with_freed : (s : Script) (m : Machine) (st : Stores) (freed : Reserved (ℕ × ℕ)) → StandsAt s m st → StandsAt s m (record st { freed = freed })
+with_freed s m st freed stands =
+    told_anew s m st m.contexts m.records.replies m.stalled st.clients st.replies st.latches freed st.stalled stands.clients stands.recorded stands.ended stands
+
+-- and where marks, shadow words and what follows these are told anew
+pub written_anew : (s : Script) (m : Machine) (shadow : Registers) (marks : Marks) (st : Stores) (tracker : Tracking) (v : Rooms Tail) (new : RegisterFile) → StandsFor s.topology (record m.device { shadow = shadow; marks = marks }) new
+    → IsTrackerOf s.topology m.device.commits marks m.records.latches tracker → AreTailsOf s.topology m.device.commits marks m.records.latches v → StandsAt s m st
+    → StandsAt s (record m { device = record m.device { shadow = shadow; marks = marks } }) (record st { tracker = tracker; tails = v; registers = new })
+written_anew s m shadow marks st tracker v new written tracked kept stands = record {
+  clients = stands.clients;
+  recorded = stands.recorded;
+  world = stands.world;
+  fences = stands.fences;
+  fenced = stands.fenced;
+  out_fenced = stands.out_fenced;
+  queues = stands.queues;
+  tracker = tracked;
+  tails = kept;
+  registers = written;
+  going = record { size = stands.going.size; go = stands.going.go };
+  ended = stands.ended;
+}
+
+-- what is freed stands for steps that are the same, with other room
+pub same_freed : (s : Script) (h steps : List Step) (old new : Reserved (ℕ × ℕ)) → steps ≡ h → new.items ≡ old.items → new.places ≡ old.places → AreFreed s h old → AreFreed s steps new
+same_freed s h steps old new is items places freed = rw is (record { items = items ∙ freed.items; places = (let few = freed.places in omega (arith, few, places)) })

@@ -1,0 +1,190 @@
+-- Memory for the steps that tails have left.
+use Rattle.std.proofs.Common.{◌≡◌, ℕ, zero, suc, ◌+◌, ◌*◌, ◌<◌, ◌≤◌, true, false, List, [], ◌∷◌, ◌++◌, length, Option, Some, None, inl, inr, refl, sym, ap, ◌∙◌, subst, arith}
+use Rattle.std.specs.Prelude.{◌==◌, is_some, if◌then◌else◌}
+use Rattle.std.proofs.lemmas.Bool.{cases_Bool, cases_eq, eq-eqb, ne_eqb}
+use Rattle.kms_model.specs.declared.replies.Reply.{Reply}
+use Rattle.kms_model.specs.declared.replies.Step.{Step}
+use Rattle.kms_model.specs.declared.runs.Latch.{Latch}
+use Rattle.kms_model.specs.declared.tables.Slot.{Slot}
+use Rattle.kms_model.specs.Machine.Commits.{commit_at}
+use Rattle.kms_model.specs.Machine.Histories.{at, legal}
+use Rattle.kms_model.specs.Machine.State.{Machine}
+use Rattle.kms_model.specs.Stores.Tables.{value_with_id}
+use Rattle.kms_model.proofs.TouchedLemmas.{few_objects}
+use Rattle.kms_laws.specs.TailsLeft.{LeavesLessInAll, all_left, commit_of_step, is_swap, one_if, sum, tail_left}
+use Rattle.kms_laws.proofs.LeftInAll.{all_shorter, cleaned_over, commits_counted}
+use Rattle.kms_laws.proofs.ShorterTails.{tails_short}
+use Rattle.kms_laws.proofs.Sizes.{sum-more}
+use Rattle.kms_tails.specs.declared.tail.Tail.{Tail}
+use Rattle.kms_tails.specs.InStep.{IsKept}
+use Rattle.kms_tails.specs.StepLaws.{commit_of}
+use Rattle.kms_tails.proofs.StepLemmas.{legal_below}
+use Rattle.kms_stores.specs.Decisions.{Decides}
+use Rattle.kms_logs.specs.Logs.{Logged}
+use Rattle.kms_stores.specs.Run.{Run, machine}
+use Rattle.kms_stores.specs.Stands.{HasSpare, Holds, Stands, Stores}
+use Rattle.kms_stores.proofs.CommitStates.{facts}
+use Rattle.kms_stores.proofs.Histories.{legal_last, run_more, told_anew}
+
+-- Each commit that has steps left has a tail
+
+sum_both : (f g : ℕ → ℕ) (from n : ℕ) → sum (λ k. f k + g k) from n ≡ sum f from n + sum g from n
+sum_both f g from zero = refl
+sum_both f g from (suc n) = (let rest = sum_both f g (from + 1) n in omega (arith, rest))
+
+sum_none : (f : ℕ → ℕ) (from n : ℕ) → ((k : ℕ) → from ≤ k → f k ≡ 0) → sum f from n ≡ 0
+sum_none f from zero fails = refl
+sum_none f from (suc n) fails = (let one = fails from (omega arith) in let rest = sum_none f (from + 1) n (λ k l. fails k (omega (arith, l))) in omega (arith, one, rest))
+
+-- 31 for one number
+abbrev at_number : ℕ → ℕ → ℕ
+at_number id k = 31 * one_if (id == k)
+
+sum_at : (id from n : ℕ) → sum (at_number id) from n ≤ 31
+sum_at id from zero = omega arith
+sum_at id from (suc n) =
+    elim (cases_eq id from) [
+      | inl same ↦
+          (let one : at_number id from ≡ 31 = ap (λ b. 31 * one_if b) (eq-eqb id from same) in
+          let rest = sum_none (at_number id) (from + 1) n (λ k l. ap (λ b. 31 * one_if b) (ne_eqb id k (λ e. absurd (omega (arith, e, same, l))))) in
+          omega (arith, one, rest))
+      | inr apart ↦
+          (let none : at_number id from ≡ 0 = ap (λ b. 31 * one_if b) (ne_eqb id from apart) in
+          let rest = sum_at id (from + 1) n in omega (arith, none, rest))
+    ]
+
+-- 31 for each number that a table has
+abbrev in_table : List (Slot Tail) → ℕ → ℕ
+in_table slots k = 31 * one_if (is_some (value_with_id slots k))
+
+one_slot : (s : Slot Tail) (slots : List (Slot Tail)) (k : ℕ) → in_table (s ∷ slots) k ≤ at_number s.id k + in_table slots k
+one_slot s slots k = elim (cases_Bool (s.id == k)) [ inl here ↦ rw here (omega arith) | inr away ↦ rw away (omega arith) ]
+
+sum_table : (slots : List (Slot Tail)) (from n : ℕ) → sum (in_table slots) from n ≤ 31 * length slots
+sum_table [] from n = (let none = sum_none (in_table []) from n (λ k l. refl) in omega (arith, none))
+sum_table (s ∷ slots) from n =
+    let more = sum-more (in_table (s ∷ slots)) (λ k. at_number s.id k + in_table slots k) from n (λ k a b. one_slot s slots k) in
+    let both = sum_both (at_number s.id) (in_table slots) from n in
+    let one = sum_at s.id from n in
+    let rest = sum_table slots from n in
+    omega (arith, more, both, one, rest)
+
+-- at most 31 steps are left for each tail that is kept
+pub few_left : (r : Run) (st : Stores) → Stands r st → all_left r.script.topology (machine r) ≤ 31 * length st.tails.slots
+few_left r st stands =
+    let t = r.script.topology in
+    let d = (machine r).device in
+    let each = sum-more (tail_left t (machine r)) (in_table st.tails.slots) 0 (length d.commits) (λ k a b. of_commit k (value_with_id st.tails.slots k) refl (stands.stores.tails.kept k (omega (arith, b)))) in
+    let all = sum_table st.tails.slots 0 (length d.commits) in
+    omega (arith, each, all)
+  where
+    of_commit : (k : ℕ) (o : Option Tail) → value_with_id st.tails.slots k ≡ o → IsKept r.script.topology (commit_at r.script.topology (machine r).device.commits k) (machine r).device.marks (machine r).records.latches k o
+        → tail_left r.script.topology (machine r) k ≤ in_table st.tails.slots k
+    of_commit k None is cleaned = (let none = cleaned_over r.script (machine r) k (facts r st stands).holds cleaned in omega (arith, none))
+    of_commit k (Some x) is kept =
+        let most = tails_short r.script.topology (machine r) k (few_objects r.script.topology stands.formed.device) in
+        let full : in_table st.tails.slots k ≡ 31 = ap (λ o. 31 * one_if (is_some o)) is in
+        omega (arith, most, full)
+
+-- Steps
+
+-- the run after one more step
+abbrev pub with_steps : Run → List Step → Run
+with_steps r steps = record { script = r.script; steps = steps }
+
+shorter : (r : Run) (old new : Stores) (step : Step) (before steps : List Step) → Stands r old → Stands (with_steps r steps) new → before ≡ r.steps → steps ≡ before ++ step ∷ [] → LeavesLessInAll r.script.topology (machine r) (machine (with_steps r steps)) step
+shorter r old new step before steps stands after was more =
+    let is : steps ≡ r.steps ++ step ∷ [] = more ∙ ap (λ (h : List Step). h ++ step ∷ []) was in
+    let allowed = legal_last r.script r.steps steps step is after.history in
+    subst (λ m. LeavesLessInAll r.script.topology (machine r) m step) (sym (ap (at r.script) is ∙ run_more r.script _ r.steps step)) (all_shorter r.script (machine r) (facts r old stands).holds step allowed)
+
+-- a step that is of no tail
+pub other_spared : (r : Run) (old new : Stores) (step : Step) (before steps : List Step) (was made room latches : ℕ) → Stands r old → Stands (with_steps r steps) new → before ≡ r.steps → steps ≡ before ++ step ∷ [] → is_swap step ≡ false
+    → HasSpare r was latches → 31 * length old.tails.slots < made → made ≤ room + 1 → HasSpare (with_steps r steps) room latches
+other_spared r old new step before steps was made room latches stands after same more other spare enough pushed =
+    let less = (shorter r old new step before steps stands after same more).of_others other in
+    let few = few_left r old stands in
+    let l = spare.latches in
+    record { steps = omega (arith, less, few, enough, pushed); latches = omega (arith, less, l) }
+
+-- a step of a tail, with or without a latch
+pub tail_spared : (r : Run) (old new : Stores) (step : Step) (k : ℕ) (before steps : List Step) (made shown room latches : ℕ) → Stands r old → Stands (with_steps r steps) new → before ≡ r.steps → steps ≡ before ++ step ∷ []
+    → k < length (machine r).device.commits → commit_of_step (machine r) step ≡ Some k → HasSpare r made shown → made ≤ room + 1 → shown ≤ latches + 1 → HasSpare (with_steps r steps) room latches
+tail_spared r old new step k before steps made shown room latches stands after same more within of spare pushed recorded =
+    let less = (shorter r old new step before steps stands after same more).of_tail k within of in
+    let s = spare.steps in
+    let l = spare.latches in
+    record { steps = omega (arith, less, s, pushed); latches = omega (arith, less, l, recorded) }
+
+-- a swap
+pub swap_spared : (r : Run) (old new : Stores) (step : Step) (before steps : List Step) (made room latches : ℕ) → Stands r old → Stands (with_steps r steps) new → before ≡ r.steps → steps ≡ before ++ step ∷ []
+    → 31 * length old.tails.slots + 32 ≤ made → made ≤ room + 1 → 31 * length old.tails.slots + 31 ≤ latches → HasSpare (with_steps r steps) room latches
+swap_spared r old new step before steps made room latches stands after same more enough pushed shown =
+    let less = (shorter r old new step before steps stands after same more).of_swap in
+    let few = few_left r old stands in
+    record { steps = omega (arith, less, few, enough, pushed); latches = omega (arith, less, few, shown) }
+
+-- no step, with more memory
+pub still_spared : (r : Run) (steps : List Step) (was room shown latches : ℕ) → steps ≡ r.steps → HasSpare r was shown → was ≤ room → shown ≤ latches → HasSpare (with_steps r steps) room latches
+still_spared r steps was room shown latches same spare more longer =
+    subst (λ h. HasSpare (with_steps r h) room latches) (sym same) (let s = spare.steps in let l = spare.latches in record { steps = omega (arith, s, more); latches = omega (arith, l, longer) })
+
+pub same_le : (n : ℕ) → n ≤ n
+same_le n = omega arith
+
+pub then_le : (a b c : ℕ) → a ≤ b → b ≤ c → a ≤ c
+then_le a b c first next = omega (arith, first, next)
+
+-- the stores stand where latches have other memory
+pub with_latches : (r : Run) (st : Stores) (shown : Logged Latch) → Stands r st → shown.items ≡ st.latches.items → Stands r (record st { latches = shown })
+with_latches r st shown stands is = record {
+  formed = stands.formed;
+  history = stands.history;
+  stores = told_anew r.script (machine r) st (machine r).contexts (machine r).records.replies (machine r).stalled st.clients st.replies shown st.freed st.stalled stands.stores.clients
+      (record { accepted = stands.stores.recorded.accepted; answered = stands.stores.recorded.answered; latched = is ∙ stands.stores.recorded.latched }) stands.stores.ended stands.stores;
+  freed = stands.freed;
+}
+
+-- all holds where nothing but memory for steps was taken
+pub still_holds : (r : Run) (st : Stores) (steps : List Step) (was room : ℕ) → Holds r st was → steps ≡ r.steps → was ≤ room → Holds (with_steps r steps) st room
+still_holds r st steps was room holds same more =
+    subst (λ h. Holds (with_steps r h) st room) (sym same) (record { stands = holds.stands; spare = (let s = holds.spare.steps in record { steps = omega (arith, s, more); latches = holds.spare.latches }) })
+
+-- there is memory for a step of a tail that is legal, and for its latch
+pub record HasRoom (room latches : ℕ) : Type 0 where
+  pub step : 0 < room
+  pub latch : 0 < latches
+
+pub tail_room : (r : Run) (st : Stores) (step : Step) (k room latches : ℕ) → Stands r st → legal r.script (machine r) step ≡ true → k < length (machine r).device.commits → commit_of_step (machine r) step ≡ Some k → HasSpare r room latches → HasRoom room latches
+tail_room r st step k room latches stands is within of spare =
+    let less = (all_shorter r.script (machine r) (facts r st stands).holds step is).of_tail k within of in
+    let s = spare.steps in
+    let l = spare.latches in
+    record { step = omega (arith, less, s); latch = omega (arith, less, l) }
+
+-- a step that tells its commit
+pub record IsOwn (r : Run) (step : Step) (k : ℕ) : Type 0 where
+  pub is_legal : legal r.script (machine r) step ≡ true
+  pub within : k < length (machine r).device.commits
+  pub of : commit_of_step (machine r) step ≡ Some k
+
+pub own_step : (r : Run) (st : Stores) (step : Step) (k : ℕ) → Stands r st → commit_of step ≡ Some k → commit_of_step (machine r) step ≡ Some k → legal r.script (machine r) step ≡ true → IsOwn r step k
+own_step r st step k stands told of is = record { is_legal = is; within = legal_below r.script (machine r) step k st.tails told is stands.stores.tails; of = of }
+
+pub own_room : (r : Run) (st : Stores) (step : Step) (k room latches : ℕ) → Stands r st → IsOwn r step k → HasSpare r room latches → HasRoom room latches
+own_room r st step k room latches stands own spare = tail_room r st step k room latches stands own.is_legal own.within own.of spare
+
+-- it takes one place, and no latch
+pub own_spared : (r : Run) (old new : Stores) (step : Step) (k : ℕ) (steps : List Step) (made shown room : ℕ) → Stands r old → Stands (with_steps r steps) new → steps ≡ r.steps ++ step ∷ [] → IsOwn r step k → HasSpare r made shown → made ≤ room + 1
+    → HasSpare (with_steps r steps) room shown
+own_spared r old new step k steps made shown room stands after more own spare pushed = tail_spared r old new step k r.steps steps made shown room shown stands after refl more own.within own.of spare pushed (omega arith)
+
+-- a decision is no swap: it leaves the commits
+pub decision_other : (r : Run) (client : ℕ) (step : Step) (reply : Reply) → Decides r client step reply → is_swap step ≡ false
+decision_other r client step reply decides =
+    let many : length (machine r).device.commits ≡ (if is_swap step then suc (length (machine r).device.commits) else length (machine r).device.commits) =
+    sym (ap (λ (m : Machine). length m.device.commits) decides.does) ∙ commits_counted r.script (machine r) step decides.legal in
+    elim (cases_Bool (is_swap step)) [
+      | inl swaps ↦ (let more : length (machine r).device.commits ≡ suc (length (machine r).device.commits) = rw swaps at many in absurd (omega (arith, more)))
+      | inr other ↦ other
+    ]

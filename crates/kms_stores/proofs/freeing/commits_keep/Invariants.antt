@@ -1,0 +1,11 @@
+use Rattle.std.proofs.Common.{◌-◌}
+use Rattle.kms_stores.proofs.FreedIds.{tail_keeps}
+use Rattle.kms_stores.proofs.Seeking.{ArePassed}
+use Rattle.kms_stores.proofs.freeing.commits_keep.Given as goal
+
+-- the commits so far are cleaned or do not keep it
+abbrev pub invariant-seeking : goal.invariant-seeking
+invariant-seeking l = ArePassed l.tails (tail_keeps l.tails l.id) l.from
+
+abbrev pub decreases-seeking : goal.decreases-seeking
+decreases-seeking l = 4294967296 - l.from

@@ -1,0 +1,7 @@
+use Rattle.std.proofs.Common.{◌≡◌, ◌++◌, drop}
+use Rattle.kms_stores.specs.Decisions.{labels_of, looks_at}
+use Rattle.kms_stores.proofs.looking.look_ups.Given as goal
+
+-- what was found, and what the rest names, are what all name
+abbrev pub invariant-loop-a : goal.invariant-loop-a
+invariant-loop-a l = l.found ++ looks_at l.things.things (labels_of (drop l.a-index l.assigns)) ≡ looks_at l.things.things (labels_of l.assigns)

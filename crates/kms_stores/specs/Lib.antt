@@ -1,0 +1,9 @@
+pub mod Run
+pub mod Stands
+pub mod Calls
+pub mod Decisions
+pub mod Swaps
+pub mod Settled
+pub mod Work
+pub mod Freeing
+pub mod Needs

@@ -1,0 +1,56 @@
+-- What tells which framebuffers are needed, as the stores of a core have it.
+use Rattle.std.specs.Prelude.{ℕ, ◌≡◌, ◌+◌, ◌≤◌, [], ◌∷◌, ◌++◌, List, length, Some, ⊤}
+use Rattle.kms_model.specs.declared.objects.Topology.{Topology}
+use Rattle.kms_model.specs.declared.replies.Reply.{Reply}
+use Rattle.kms_model.specs.declared.replies.Reply.TheVariants as reply
+use Rattle.kms_model.specs.declared.scripts.Command.{Command}
+use Rattle.kms_model.specs.declared.scripts.Command.TheVariants as command
+use Rattle.kms_model.specs.declared.states.Duplicates.{Duplicates}
+use Rattle.kms_model.specs.declared.worlds.Thing.{Thing}
+use Rattle.kms_model.specs.Device.Sound.{IsDevice}
+use Rattle.kms_model.specs.Device.World.{thing_labelled}
+use Rattle.kms_model.specs.Machine.State.{Machine}
+use Rattle.kms_regs.specs.File.{RegisterFile, StandsFor}
+use Rattle.kms_signal.specs.Rooms.{Rooms}
+use Rattle.kms_tails.specs.declared.tail.Tail.{Tail}
+use Rattle.kms_tails.specs.InStep.{AreTailsOf}
+use Rattle.kms_things.specs.Made.{Made}
+use Rattle.kms_freeing.specs.Freeing.{framebuffers_in, freed_among}
+use Rattle.kms_logs.specs.Logs.{Reserved}
+use Rattle.kms_stores.specs.Stands.{IsWorldOf}
+
+-- these stores stand for their parts of a machine, whose device has so many CRTCs
+pub record TellNeeds (t : Topology) (m : Machine) (made : Made) (present : Duplicates) (registers : RegisterFile) (tails : Rooms Tail) (crtcs : ℕ) : Type 0 where
+  pub device : IsDevice t
+  pub count : t.crtcs ≡ crtcs
+  pub world : IsWorldOf t m.device.world made present
+  pub written : StandsFor t m.device registers
+  pub kept : AreTailsOf t m.device.commits m.device.marks m.records.latches tails
+
+-- those of some framebuffers are recorded that these stores do not need
+pub record Frees (made : Made) (present : Duplicates) (registers : RegisterFile) (tails : Rooms Tail) (crtcs : ℕ) (ids : List ℕ) (old new : Reserved (ℕ × ℕ)) : Type 0 where
+  pub items : (t : Topology) (m : Machine) → TellNeeds t m made present registers tails crtcs → new.items ≡ old.items ++ freed_among t m ids
+  pub places : (t : Topology) (m : Machine) → TellNeeds t m made present registers tails crtcs → old.places ≡ new.places + length (freed_among t m ids)
+
+-- nothing is recorded, and as many places are kept
+pub record KeepsPlaces (old new : Reserved (ℕ × ℕ)) : Type 0 where
+  pub items : new.items ≡ old.items
+  pub places : new.places ≡ old.places
+
+-- a place more is kept
+pub record KeepsPlace (old new : Reserved (ℕ × ℕ)) : Type 0 where
+  pub items : new.items ≡ old.items
+  pub places : new.places ≡ old.places + 1
+
+-- A framebuffer that was added gets a place; one that was closed is freed where nothing needs it. Other commands free nothing.
+abbrev pub Accounts : Made → Duplicates → RegisterFile → Rooms Tail → ℕ → Command → Reply → Reserved (ℕ × ℕ) → Reserved (ℕ × ℕ) → Type 0
+Accounts made present registers tails crtcs (command.AddFb label buffer) (reply.Made id) old new = KeepsPlace old new
+Accounts made present registers tails crtcs (command.CloseFb label) reply.Done old new =
+    (u : Thing) → thing_labelled made.things label ≡ Some u → Frees made present registers tails crtcs (u.id ∷ []) old new
+Accounts made present registers tails crtcs _ _ old new = KeepsPlaces old new
+
+-- there is a place for the framebuffer that was closed
+abbrev pub HasPlaceFor : Made → Command → Reply → ℕ → Type 0
+HasPlaceFor made (command.CloseFb label) reply.Done places =
+    (u : Thing) → thing_labelled made.things label ≡ Some u → framebuffers_in made.things (u.id ∷ []) ≤ places
+HasPlaceFor made _ _ places = ⊤

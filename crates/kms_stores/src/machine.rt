@@ -1,0 +1,121 @@
+//! The stores of the machine.
+ghost use Rattle.std.specs.Prelude.{◌≡◌, ◌≤◌, IfOk, [], replicate};
+ghost use Rattle.kms_model.specs.Script.WellFormed.{IsWellFormed};
+ghost use Rattle.kms_signal.specs.Queues.{empty_queue};
+
+use kms_clients::Clients;
+use kms_logs::{Ledger, Log};
+use kms_model::{Answered, Duplicates, Latch, NoMemory, Script, Step};
+use kms_regs::RegFile;
+use kms_signal::{EventQueue, Fences};
+use kms_tails::Tails;
+use kms_things::{Things, start_states};
+use kms_track::Tracker;
+use std::alloc::Global;
+use std::marker::Model;
+
+/// The stores of the machine. Contracts see its script and its history. The fields are those of the crates that do its
+/// calls; what the stores stand for holds wherever they are changed.
+#[derive(Drop)]
+pub struct Stores {
+    /// The script.
+    pub script: Script,
+    /// The steps so far, with room for those that are left of all tails.
+    pub steps: Log<Step>,
+    /// Where clients stand, and the locks of their contexts.
+    pub clients: Clients,
+    /// The accepted commands, each by its client and its number.
+    pub journal: Log<(u32, u32)>,
+    /// The replies.
+    pub replies: Log<Answered>,
+    /// The latches, with room for those that are left of all tails.
+    pub latches: Log<Latch>,
+    /// The things that were made.
+    pub things: Things,
+    /// The present states of all objects, old and new alike.
+    pub present: Duplicates,
+    /// The fences.
+    pub fences: Fences,
+    /// The events of each client of the script.
+    pub queues: Vec<EventQueue>,
+    /// The commits that are not cleaned, and which were before them.
+    pub tracker: Tracker,
+    /// What the tails of commits that are not cleaned still need.
+    pub tails: Tails,
+    /// The registers.
+    pub registers: RegFile,
+    /// The commit that each CRTC latches at its next vertical blanking.
+    pub goes: [Option<u32>; 4],
+    /// Whether the history was ended.
+    pub stalled: bool,
+    /// The framebuffers that were freed, with a place for each that is needed.
+    pub freed: Ledger<(u32, u32)>,
+}
+
+impl Model for Stores {
+    ghost use Rattle.kms_stores.specs.Run.{Run};
+    ghost use Rattle.kms_stores.specs.Stands.{Holds};
+
+    ghost Value = { Run };
+
+    ghost view = { λ c. record { script = c.script; steps = c.steps.items } };
+
+    ghost invariant = { λ c. Holds (record { script = c.script; steps = c.steps.items }) (record {
+      clients = c.clients;
+      journal = c.journal;
+      replies = c.replies;
+      latches = c.latches;
+      made = c.things;
+      present = c.present;
+      fences = c.fences;
+      queues = c.queues.items;
+      tracker = c.tracker;
+      tails = c.tails;
+      registers = c.registers;
+      goes = c.goes;
+      stalled = c.stalled;
+      freed = c.freed;
+    }) c.steps.room };
+}
+
+impl Stores {
+    /// The stores of the machine of a script before its first step. The only error is want of memory.
+    pub fn new(alloc: Global, script: Script) -> Result<Stores, NoMemory>
+        requires { IsWellFormed script }
+        ensures { IfOk result (λ c. c ≡ record { script = script; steps = [] }) }
+    {
+        let queues = empty_queues(alloc, script.clients.len())?;
+        let present = start_states(&script.topology);
+        let registers = RegFile::new(&script.topology);
+        Ok(Stores {
+            script,
+            steps: Log::new(alloc),
+            clients: Clients::new(alloc),
+            journal: Log::new(alloc),
+            replies: Log::new(alloc),
+            latches: Log::new(alloc),
+            things: Things::new(alloc),
+            present,
+            fences: Fences::new(alloc),
+            queues,
+            tracker: Tracker::new(alloc),
+            tails: Tails::new(alloc),
+            registers,
+            goes: [None; 4],
+            stalled: false,
+            freed: Ledger::new(alloc),
+        })
+    }
+}
+
+/// So many queues without events, at most 16.
+fn empty_queues(alloc: Global, count: usize) -> Result<Vec<EventQueue>, NoMemory>
+    requires { count ≤ 16 }
+    ensures { IfOk result (λ queues. queues.items ≡ replicate count empty_queue) }
+{
+    let mut queues = Vec::new(alloc);
+    for _client in 0..count {
+        queues.push(EventQueue::new(alloc))?;
+    }
+    Ok(queues)
+}

@@ -1,0 +1,314 @@
+-- A CRTC has a vertical blanking.
+use Rattle.std.proofs.Common.{◌≡◌, ℕ, ◌+◌, ◌<◌, ◌≤◌, Bool, true, false, List, [], ◌∷◌, ◌++◌, length, length-append, reverse, Option, Some, None, inl, inr, refl, sym, ap, ◌∙◌, subst, arith}
+use Rattle.std.specs.Prelude.{if◌then◌else◌, is_some, not, slice_index_or, slice_set}
+use Rattle.std.proofs.lemmas.Bool.{and_parts, false_from_ne_true, ltb-true}
+use Rattle.std.proofs.lemmas.Bool.Decides.{eqb_tells}
+use Rattle.std.proofs.lemmas.List.{get_or_default}
+use Rattle.kms_model.specs.declared.objects.Kind.TheVariants.{Crtc}
+use Rattle.kms_model.specs.declared.objects.Topology.{Topology}
+use Rattle.kms_model.specs.declared.pictures.Picture.{Picture}
+use Rattle.kms_model.specs.declared.pictures.Picture.TheVariants.{Off}
+use Rattle.kms_model.specs.declared.replies.Step.{Step}
+use Rattle.kms_model.specs.declared.replies.Step.TheVariants as step
+use Rattle.kms_model.specs.declared.runs.Latch.{Latch}
+use Rattle.kms_model.specs.declared.scripts.Script.{Script}
+use Rattle.kms_model.specs.Device.Objects.{count_of, ids_of, index_of, object_id}
+use Rattle.kms_model.specs.Machine.Commits.{has_latched, has_number, has_pair, out_fence_of}
+use Rattle.kms_model.specs.Machine.Effects.{counts_vblank, next}
+use Rattle.kms_model.specs.Machine.Histories.{legal}
+use Rattle.kms_model.specs.Machine.Registers.{read}
+use Rattle.kms_model.specs.Machine.State.{DeviceState, Machine, count_at, go_at}
+use Rattle.kms_model.specs.Machine.Steps.{is_crtc_of, may}
+use Rattle.kms_model.specs.Stores.Tables.{value_with_id}
+use Rattle.kms_model.proofs.Items.{IsIn}
+use Rattle.kms_model.proofs.KindsOfIds.{index_of-object}
+use Rattle.kms_model.proofs.TouchedLemmas.{few_objects}
+use Rattle.kms_laws.proofs.Basics.{both_bools, read_other, read_same}
+use Rattle.kms_laws.proofs.EventsKept.{reserved_some}
+use Rattle.kms_laws.proofs.Modes.{plain-from}
+use Rattle.kms_laws.proofs.Objects.{crtc_registered, names-touches}
+use Rattle.kms_laws.proofs.SmallNumbers.{numbers_fit}
+use Rattle.kms_regs.specs.File.{RegisterFile, StandsFor, blanked, blanked_picture, count_in, counted, latched, latched_picture}
+use Rattle.kms_regs.specs.StepLaws.{Blanks}
+use Rattle.kms_regs.proofs.MachineEffects as registers_follow
+use Rattle.kms_signal.specs.FenceSets.{FenceSet}
+use Rattle.kms_signal.specs.Queues.{Queue}
+use Rattle.kms_signal.specs.Rooms.{Rooms}
+use Rattle.kms_signal.specs.StepLaws.{with_signal}
+use Rattle.kms_signal.proofs.StepLemmas as signals_follow
+use Rattle.kms_tails.specs.declared.tail.Tail.{Tail}
+use Rattle.kms_tails.specs.InStep.{StandsAfterLatch}
+use Rattle.kms_tails.proofs.StepLemmas as tails_follow
+use Rattle.kms_track.specs.Tracking.{Tracking, changed, with_latch}
+use Rattle.kms_track.proofs.StepLemmas as tracker_follows
+use Rattle.kms_work.specs.Latching.{IsLatching, MayBlank, event_told, goes_at, told_if}
+use Rattle.kms_logs.specs.Logs.{Logged}
+use Rattle.kms_stores.specs.Run.{Run, machine}
+use Rattle.kms_stores.specs.Stands.{AreGoing, Stores, Stands, queue_of}
+use Rattle.kms_stores.proofs.CommitStates.{commits_sound, facts}
+use Rattle.kms_freeing.specs.Freeing.{AreAllOf}
+use Rattle.kms_logs.specs.Logs.{Reserved}
+use Rattle.kms_stores.specs.Needs.{Frees}
+use Rattle.kms_stores.specs.Work.{AreFewTails}
+use Rattle.kms_stores.proofs.FreedCalls.{goes_latching, latches_by}
+use Rattle.kms_freeing.proofs.FreedHistories.{changes}
+use Rattle.kms_freeing.proofs.FreedSteps.{SameNeeds}
+use Rattle.kms_stores.proofs.Histories.{goes_same}
+use Rattle.kms_laws.proofs.SmallNumbers.{numbers_fit}
+use Rattle.kms_model.specs.Machine.Framebuffers.{picture_names}
+use Rattle.kms_model.specs.Machine.Registers.{decoded_picture}
+use Rattle.kms_work.proofs.Latched.{FoundTail, SameParts, fence_is, found_tail, going_set, is_latching, latched_shown, latches_go, latches_signalled, more_signalled, same_latches, stands_shown}
+
+-- What is asked
+
+pub blanks_legal : (r v : Run) (crtc : ℕ) → r ≡ v → MayBlank v crtc → legal r.script (machine r) (step.Vblank Crtc crtc) ≡ true
+blanks_legal r v crtc same asked = subst (λ (w : Run). MayBlank w crtc) (sym same) asked
+
+pub blanks_low : (r v : Run) (st : Stores) (crtc : ℕ) → Stands r st → r ≡ v → MayBlank v crtc → crtc < 4
+unfolding legal may
+blanks_low r v st crtc stands same asked =
+    let t = r.script.topology in
+    let m = machine r in
+    let is = blanks_legal r v crtc same asked in
+    let parts = and_parts (is_crtc_of t Crtc crtc) _ (and_parts (not m.stalled) _ is).1 in
+    let few = few_objects t stands.formed.device in
+    let there : crtc < count_of t Crtc = ltb-true crtc (count_of t Crtc) parts.0 in
+    omega (arith, there, few.crtcs)
+
+-- the count fits
+pub count_fits : (r : Run) (st : Stores) (crtc : ℕ) (step : Step) (before steps : List Step) → Stands r st → before ≡ r.steps → steps ≡ before ++ step ∷ [] → length steps ≤ 18446744073709551615
+    → count_in st.registers (object_id Crtc crtc) < 18446744073709551615
+count_fits r st crtc step before steps stands is more fits =
+    let few = (numbers_fit r.script r.steps stands.formed stands.history).counts (object_id Crtc crtc) in
+    let same = stands.stores.registers.counted crtc in
+    let long : length steps ≡ length r.steps + 1 = ap length more ∙ length-append before (step ∷ []) ∙ ap (λ (h : List Step). length h + 1) is in
+    omega (arith, few, same, long, fits)
+
+-- What the register file answers
+
+abbrev pub TellsBlank : RegisterFile → ℕ → Option Picture → Type 0
+TellsBlank f crtc o = (t : Topology) (d : DeviceState) → StandsFor t d f → o ≡ blanked_picture t d (object_id Crtc crtc)
+
+none_from : (o : Option ℕ) (p : Picture) → None ≡ (if is_some o then Some p else None) → o ≡ None
+none_from None p is = refl
+none_from (Some k) p is = absurd cc
+
+picture_from : (o : Option ℕ) (p q : Picture) → Some q ≡ (if is_some o then Some p else None) → q ≡ p
+picture_from None p q is = absurd cc
+picture_from (Some k) p q is = cc
+
+-- whether it goes is told by the commits that have GO
+pub goes_is : (r v : Run) (st : Stores) (crtc : ℕ) (o : Option ℕ) → Stands r st → r ≡ v → crtc < 4 → slice_index_or st.goes crtc None ≡ o → is_some o ≡ goes_at v crtc
+goes_is r v st crtc o stands same low is = ap (λ (p : Option ℕ). is_some p) (sym (stands.stores.going.go crtc low ∙ is)) ∙ ap (λ (w : Run). goes_at w crtc) same
+
+-- one that goes has a picture
+pub has_picture : (r : Run) (st : Stores) (k crtc : ℕ) → Stands r st → crtc < 4 → slice_index_or st.goes crtc None ≡ Some k → TellsBlank st.registers crtc None → ⊥
+has_picture r st k crtc stands low is tells =
+    let none : go_at (machine r).device (object_id Crtc crtc) ≡ None = none_from (go_at (machine r).device (object_id Crtc crtc)) _ (tells r.script.topology (machine r).device stands.stores.registers) in
+    let both : Some k ≡ None = sym (stands.stores.going.go crtc low ∙ is) ∙ none in
+    absurd cc
+
+-- an item of the list, by any default
+pub at_goes : (r : Run) (st : Stores) (crtc : ℕ) (e : Option ℕ) → Stands r st → crtc < 4 → slice_index_or st.goes crtc None ≡ slice_index_or st.goes crtc e
+at_goes r st crtc e stands low = let size = stands.stores.going.size in get_or_default st.goes crtc None e (omega (arith, size, low))
+
+-- Without GO
+
+record IsBlank (m : Machine) (crtc : ℕ) (n : Machine) : Type 0 where
+  same : SameParts m n
+  latches : n.records.latches ≡ m.records.latches
+  signalled : n.device.signalled ≡ m.device.signalled
+  go : n.device.go ≡ (object_id Crtc crtc, None) ∷ m.device.go
+  needs : SameNeeds m n
+
+blank_without : (s : Script) (m : Machine) (crtc : ℕ) → go_at m.device (object_id Crtc crtc) ≡ None → IsBlank m crtc (next s m (step.Vblank Crtc crtc))
+unfolding next
+blank_without s m crtc none = rw none (record { same = record { contexts = refl; world = refl; commits = refl; journal = refl; replies = refl; stalled = refl }; latches = refl; signalled = refl; go = refl; needs = record { world = refl; commits = refl; cleaned = refl; live = refl } })
+
+going_none : (d n : DeviceState) (goes : List (Option ℕ)) (crtc : ℕ) → n.go ≡ (object_id Crtc crtc, None) ∷ d.go → go_at d (object_id Crtc crtc) ≡ None → AreGoing d goes → AreGoing n goes
+going_none d n goes crtc is none stand = record {
+  size = stand.size;
+  go = λ index few.
+      elim (eqb_tells crtc index) [
+        | inl same ↦
+            subst (λ i. i < 4 → go_at n (object_id Crtc i) ≡ slice_index_or goes i None) same.1
+            (λ low. ap (λ rows. read None rows (object_id Crtc crtc)) is ∙ read_same None d.go (object_id Crtc crtc) None ∙ sym none ∙ stand.go crtc low) few
+        | inr different ↦
+            ap (λ rows. read None rows (object_id Crtc index)) is
+            ∙ read_other None d.go (object_id Crtc crtc) (object_id Crtc index) None (λ e. different.1 (omega (arith, e)))
+            ∙ stand.go index few
+      ];
+}
+
+pub blanks_without : (r v : Run) (st : Stores) (crtc : ℕ) (shown : Logged Latch) (new : RegisterFile) (before steps : List Step) → Stands r st → r ≡ v → MayBlank v crtc → before ≡ r.steps → steps ≡ before ++ step.Vblank Crtc crtc ∷ []
+    → shown.items ≡ st.latches.items → Blanks st.registers new crtc → slice_index_or st.goes crtc None ≡ None → Stands (record { script = r.script; steps = steps }) (record st { latches = shown; registers = new })
+blanks_without r v st crtc shown new before steps stands same asked was more is blanks off =
+    let s = r.script in
+    let m = machine r in
+    let S = stands.stores in
+    let none = S.going.go crtc (blanks_low r v st crtc stands same asked) ∙ off in
+    let B = blank_without s m crtc none in
+    let L = signals_follow.vblank_follows s m crtc none in
+    goes_same r st (record st { latches = shown; registers = new }) (step.Vblank Crtc crtc) B.needs refl steps (more ∙ ap (λ (xs : List Step). xs ++ step.Vblank Crtc crtc ∷ []) was) stands (blanks_legal r v crtc same asked)
+    (stands_shown s m (next s m (step.Vblank Crtc crtc)) st shown st.fences st.queues st.tracker st.tails new st.goes
+    (record {
+      same = B.same;
+      recorded = is ∙ S.recorded.latched ∙ ap reverse (sym B.latches);
+      signalled = L.fences st.fences S.fences;
+      fenced = rw B.signalled S.fenced;
+      told = record { size = S.queues.size; queue = λ client low high. L.queues (queue_of st.queues client) client (S.queues.queue client low high) };
+      tracked = tracker_follows.vblank_follows s m crtc st.tracker none S.tracker;
+      kept = tails_follow.vblank_follows s m crtc st.tails none S.tails;
+      written = registers_follow.vblank_follows s m crtc st.registers new S.registers blanks;
+      going = going_none m.device (next s m (step.Vblank Crtc crtc)).device st.goes crtc B.go none S.going;
+    })
+    (λ id made. made) S)
+
+-- With GO
+
+pub record BlanksFor (r : Run) (k crtc : ℕ) : Type 0 where
+  pub low : crtc < 4
+  pub go : go_at (machine r).device (object_id Crtc crtc) ≡ Some k
+  pub is_crtc : IsIn (object_id Crtc crtc) (ids_of r.script.topology Crtc)
+  pub flushed : has_pair (machine r).device.marks.flushed k (object_id Crtc crtc) ≡ true
+  pub unlatched : has_latched (machine r).records.latches k (object_id Crtc crtc) ≡ false
+  pub within : k < length (machine r).device.commits
+  pub kept : has_number (machine r).device.marks.cleaned k ≡ false
+
+pub blanks_for : (r v : Run) (st : Stores) (k crtc : ℕ) → Stands r st → r ≡ v → MayBlank v crtc → slice_index_or st.goes crtc None ≡ Some k → BlanksFor r k crtc
+blanks_for r v st k crtc stands same asked is =
+    let c = object_id Crtc crtc in
+    let low = blanks_low r v st crtc stands same asked in
+    let T = (facts r st stands).holds.tail in
+    let go = stands.stores.going.go crtc low ∙ is in
+    let pending = T.marks.go_is k c go in
+    let f = T.marks.flushed k c pending.flushed in
+    let written = f.written c (crtc_registered r.script.topology c f.is_crtc) (names-touches r.script.topology (machine r).device.commits k c T.few f.is_crtc f.names) in
+    record {
+      low = low;
+      go = go;
+      is_crtc = f.is_crtc;
+      flushed = pending.flushed;
+      unlatched = pending.unlatched;
+      within = T.marks.claimed k (T.marks.written k c written).0;
+      kept = false_from_ne_true _ (λ yes. both_bools _ (T.marks.cleaned k c yes f.is_crtc f.names) pending.unlatched);
+    }
+
+blank_tail : (r : Run) (st : Stores) (k crtc : ℕ) → Stands r st → BlanksFor r k crtc → FoundTail r.script.topology (machine r).device.commits (machine r).device.marks (machine r).records.latches st.tails k
+blank_tail r st k crtc stands B = found_tail r.script.topology (machine r).device.commits (machine r).device.marks (machine r).records.latches st.tails k B.within B.kept stands.stores.tails
+
+pub blank_latches : (r v : Run) (st : Stores) (k crtc count : ℕ) (picture : Picture) → Stands r st → r ≡ v → MayBlank v crtc → slice_index_or st.goes crtc None ≡ Some k
+    → IsLatching st.tails st.queues (record { crtc = crtc; commit = k; count = count; picture = picture })
+blank_latches r v st k crtc count picture stands same asked is =
+    let s = r.script in
+    let m = machine r in
+    let B = blanks_for r v st k crtc stands same asked is in
+    let F = facts r st stands in
+    let C = commits_sound s r.steps (plain-from s stands.formed) stands.history k B.within in
+    let l : Latch = record { crtc = crtc; commit = k; count = count; picture = picture } in
+    is_latching s.topology m.device.commits m.device.marks m.records.latches m.events st.tails st.queues (length s.clients) l (blank_tail r st k crtc stands B) stands.stores.queues C.low C.high
+    (reserved_some F.holds.tail k (object_id Crtc crtc) count l B.is_crtc B.flushed B.unlatched refl refl refl m.events F.events)
+
+record IsBlankFor (s : Script) (m : Machine) (k crtc : ℕ) (n : Machine) : Type 0 where
+  same : SameParts m n
+  signalled : n.device.signalled ≡ more_signalled m.device.signalled (out_fence_of s.topology m.device.commits k (object_id Crtc crtc))
+  go : n.device.go ≡ (object_id Crtc crtc, None) ∷ m.device.go
+
+blank_with : (s : Script) (m : Machine) (k crtc : ℕ) → go_at m.device (object_id Crtc crtc) ≡ Some k → IsBlankFor s m k crtc (next s m (step.Vblank Crtc crtc))
+unfolding next
+blank_with s m k crtc has =
+    let c = object_id Crtc crtc in
+    rw has (record {
+      same = same_latches s.topology m (counts_vblank m c) k c (count_at m.device c + 1) (record { contexts = refl; world = refl; commits = refl; journal = refl; replies = refl; stalled = refl });
+      signalled = latches_signalled s.topology (counts_vblank m c) k c (count_at m.device c + 1);
+      go = latches_go s.topology (counts_vblank m c) k c (count_at m.device c + 1);
+    })
+
+count_blanked : (t : Topology) (d : DeviceState) (c : ℕ) (b : Bool) → count_at (if b then latched t (counted d c) c else counted d c) c ≡ count_at d c + 1
+count_blanked t d c true = read_same 0 d.counts c (count_at d c + 1)
+count_blanked t d c false = read_same 0 d.counts c (count_at d c + 1)
+
+-- what the calls leave of the stores
+pub record HasBlanked (st : Stores) (k crtc : ℕ) (count : ℕ) (picture : Picture) (new : RegisterFile) (w : Rooms Tail) (tracker : Tracking) (fences : FenceSet) (queues : List Queue) (before shown : List Latch) : Type 0 where
+  pub go : slice_index_or st.goes crtc None ≡ Some k
+  pub blanks : Blanks st.registers new crtc
+  pub tells : TellsBlank st.registers crtc (Some picture)
+  pub counted : (t : Topology) (d : DeviceState) → StandsFor t d new → count ≡ count_at d (object_id Crtc crtc)
+  pub tails_now : StandsAfterLatch k crtc st.tails w
+  pub tracker_now : tracker ≡ changed st.tracker k (with_latch crtc)
+  pub fences_now : (x : Tail) → value_with_id st.tails.slots k ≡ Some x → fences ≡ with_signal st.fences (slice_index_or x.out_fences crtc None)
+  pub queues_now : (x : Tail) → value_with_id st.tails.slots k ≡ Some x → queues ≡ told_if x.wants_event x.client (event_told x (record { crtc = crtc; commit = k; count = count; picture = picture })) st.queues
+  pub recorded : before ≡ st.latches.items
+  pub recorded_now : shown ≡ before ++ record { crtc = crtc; commit = k; count = count; picture = picture } ∷ []
+
+pub blanks_with : (r v : Run) (st : Stores) (k crtc count : ℕ) (picture : Picture) (new : RegisterFile) (w : Rooms Tail) (tracker : Tracking) (fences : FenceSet) (queues : List Queue) (old_latches : List Latch) (shown : Logged Latch) (before steps : List Step)
+    → Stands r st → r ≡ v → MayBlank v crtc → before ≡ r.steps → steps ≡ before ++ step.Vblank Crtc crtc ∷ [] → HasBlanked st k crtc count picture new w tracker fences queues old_latches shown.items
+    → (ids : List ℕ) (freed : Reserved (ℕ × ℕ)) → AreAllOf ids (λ id. picture_names id (decoded_picture r.script.topology (machine r).device.live (object_id Crtc crtc))) → Frees st.made st.present new w r.script.topology.crtcs ids st.freed freed
+    → Stands (record { script = r.script; steps = steps }) (record st { latches = shown; fences = fences; queues = queues; tracker = tracker; tails = w; registers = new; goes = slice_set st.goes crtc None; freed = freed })
+blanks_with r v st k crtc count picture new w tracker fences queues old_latches shown before steps stands same asked was more has ids freed all frees =
+    let s = r.script in
+    let t = s.topology in
+    let m = machine r in
+    let d = m.device in
+    let c = object_id Crtc crtc in
+    let B = blanks_for r v st k crtc stands same asked has.go in
+    let S = stands.stores in
+    let n = next s m (step.Vblank Crtc crtc) in
+    let O = blank_with s m k crtc B.go in
+    let f = blank_tail r st k crtc stands B in
+    let x = f.tail in
+    let C = commits_sound s r.steps (plain-from s stands.formed) stands.history k B.within in
+    let l : Latch = record { crtc = crtc; commit = k; count = count; picture = picture } in
+    let low = B.low in
+    let index_is : crtc ≡ index_of c = sym (index_of-object Crtc crtc (omega (arith, low))) in
+    let count_is : count ≡ count_at d c + 1 = has.counted t (blanked t d c) (has.blanks t d S.registers) ∙ count_blanked t d c (is_some (go_at d c)) in
+    let picture_is : picture ≡ latched_picture t d c = picture_from (go_at d c) (latched_picture t d c) picture (has.tells t d S.registers) in
+    let one : n.records.latches ≡ l ∷ m.records.latches =
+    registers_follow.vblank_recorded s m k crtc B.go ∙ (λ i. record { crtc = sym index_is i; commit = k; count = sym count_is i; picture = sym picture_is i } ∷ m.records.latches) in
+    goes_latching r st (record st { latches = shown; fences = fences; queues = queues; tracker = tracker; tails = w; registers = new; goes = slice_set st.goes crtc None }) (step.Vblank Crtc crtc) c ids freed
+    (latches_by s m n c l (changes s m (step.Vblank Crtc crtc) (blanks_legal r v crtc same asked)) index_is B.is_crtc one) all frees steps
+    (more ∙ ap (λ (xs : List Step). xs ++ step.Vblank Crtc crtc ∷ []) was) stands (blanks_legal r v crtc same asked)
+    (latched_shown s m n st k crtc (count_at d c + 1) x l shown fences queues tracker w new (slice_set st.goes crtc None)
+    (record {
+      low = B.low;
+      signals = signals_follow.vblank_with_go_follows s m k crtc B.go;
+      same = O.same;
+      signalled = O.signalled;
+      recorded = one;
+      client_low = C.low;
+      client_high = C.high;
+      within = B.within;
+      of_crtc = refl;
+      of_count = count_is;
+      client = f.is.client;
+      event = f.is.event;
+      user_data = f.is.user_data;
+      fence = fence_is t d k crtc x B.low f.is.out_fences;
+      fences_now = has.fences_now x f.found;
+      queues_now = has.queues_now x f.found;
+      latched_now = has.recorded_now ∙ ap (λ (ls : List Latch). ls ++ l ∷ []) has.recorded;
+    })
+    (rw has.tracker_now (tracker_follows.vblank_with_go_follows s m k crtc st.tracker B.within B.low B.go S.tracker))
+    (tails_follow.vblank_with_go_follows s m k crtc st.tails w B.go B.within B.low S.tails has.tails_now)
+    (registers_follow.vblank_follows s m crtc st.registers new S.registers has.blanks)
+    (going_set d n.device st.goes crtc None O.go B.low S.going) S)
+
+-- the tails after it are few
+pub few_blanked : (r v : Run) (st : Stores) (k crtc : ℕ) (w : Rooms Tail) → Stands r st → r ≡ v → MayBlank v crtc → slice_index_or st.goes crtc None ≡ Some k → StandsAfterLatch k crtc st.tails w → AreFewTails w
+few_blanked r v st k crtc w stands same asked is latches =
+    let m = machine r in
+    let B = blanks_for r v st k crtc stands same asked is in
+    let fit = (numbers_fit r.script r.steps stands.formed stands.history).commits in
+    let l : Latch = record { crtc = crtc; commit = k; count = 0; picture = Off } in
+    record {
+      topology = r.script.topology;
+      commits = m.device.commits;
+      marks = m.device.marks;
+      latches = l ∷ m.records.latches;
+      stand = latches r.script.topology m.device.commits m.device.marks m.records.latches l B.within refl refl stands.stores.tails;
+      few = omega (arith, fit);
+    }
+
+-- a CRTC that blanks is one of the device
+pub blanks_crtc : (r v : Run) (st : Stores) (k crtc : ℕ) → Stands r st → r ≡ v → MayBlank v crtc → slice_index_or st.goes crtc None ≡ Some k → IsIn (object_id Crtc crtc) (ids_of r.script.topology Crtc)
+blanks_crtc r v st k crtc stands same asked is = (blanks_for r v st k crtc stands same asked is).is_crtc

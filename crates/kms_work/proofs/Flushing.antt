@@ -1,0 +1,281 @@
+-- A commit flushes a CRTC that it names.
+use Rattle.std.proofs.Common.{◌≡◌, ℕ, ◌<◌, Bool, true, false, List, [], ◌∷◌, ◌++◌, length, reverse, Option, Some, None, refl, sym, ap, ◌∙◌, subst, arith}
+use Rattle.std.specs.Prelude.{if◌then◌else◌, not, slice_index_or, slice_set, ◌||◌}
+use Rattle.std.proofs.lemmas.Bool.{and_parts, false_from_ne_true, ltb-true}
+use Rattle.kms_model.specs.declared.objects.Kind.TheVariants.{Crtc}
+use Rattle.kms_model.specs.declared.objects.Topology.{Topology}
+use Rattle.kms_model.specs.declared.pictures.Picture.{Picture}
+use Rattle.kms_model.specs.declared.pictures.Picture.TheVariants.{Off}
+use Rattle.kms_model.specs.declared.replies.Step.{Step}
+use Rattle.kms_model.specs.declared.replies.Step.TheVariants as step
+use Rattle.kms_model.specs.declared.runs.Latch.{Latch}
+use Rattle.kms_model.specs.declared.scripts.Script.{Script}
+use Rattle.kms_model.specs.Device.Objects.{count_of, exists, index_of, object_id}
+use Rattle.kms_model.specs.Machine.Commits.{commit_touches, has_number, has_pair, is_all_written, new_crtc, out_fence_of, registered}
+use Rattle.kms_model.specs.Machine.Effects.{next}
+use Rattle.kms_model.specs.Machine.Histories.{legal}
+use Rattle.kms_model.specs.Machine.Registers.{is_on_in, read}
+use Rattle.kms_model.specs.Machine.State.{DeviceState, Machine, count_at}
+use Rattle.kms_model.specs.Machine.Steps.{may, next_flush}
+use Rattle.kms_model.specs.Stores.Tables.{value_with_id}
+use Rattle.kms_model.proofs.Items.{list_all-at}
+use Rattle.kms_model.proofs.KindsOfIds.{index_of-object}
+use Rattle.kms_model.proofs.TouchedLemmas.{few_objects}
+use Rattle.kms_laws.proofs.Basics.{both_bools, implied, pair_now}
+use Rattle.kms_laws.proofs.EventsKept.{reserved_some}
+use Rattle.kms_laws.proofs.Modes.{plain-from}
+use Rattle.kms_laws.proofs.Objects.{crtc_registered, names-touches}
+use Rattle.kms_laws.proofs.Steps.{IsFlush, flush-found, flushed_at, flushed_holds, fresh-unlatched, value-is}
+use Rattle.kms_regs.specs.File.{RegisterFile, StandsFor, flushed, flushed_picture, latched, latched_picture}
+use Rattle.kms_regs.specs.StepLaws.{Flushes}
+use Rattle.kms_regs.proofs.MachineEffects as registers_follow
+use Rattle.kms_signal.specs.FenceSets.{FenceSet}
+use Rattle.kms_signal.specs.Queues.{Queue}
+use Rattle.kms_signal.specs.Rooms.{Rooms}
+use Rattle.kms_signal.specs.StepLaws.{with_signal}
+use Rattle.kms_signal.proofs.StepLemmas as signals_follow
+use Rattle.kms_tails.specs.declared.tail.Tail.{Tail}
+use Rattle.kms_tails.specs.InStep as tails
+use Rattle.kms_tails.specs.InStep.{StandsAfter, StandsAfterLatch}
+use Rattle.kms_tails.proofs.StepLemmas as tails_follow
+use Rattle.kms_track.specs.Tracking.{Tracking, changed, with_latch}
+use Rattle.kms_track.proofs.StepLemmas as tracker_follows
+use Rattle.kms_work.specs.Latching.{IsLatching, MayFlush, event_told, told_if}
+use Rattle.kms_logs.specs.Logs.{Logged}
+use Rattle.kms_stores.specs.Run.{Run, machine}
+use Rattle.kms_stores.specs.Stands.{Stores, Stands, queue_of}
+use Rattle.kms_stores.proofs.CommitStates.{commits_sound, facts}
+use Rattle.kms_freeing.specs.Freeing.{AreAllOf}
+use Rattle.kms_logs.specs.Logs.{Reserved}
+use Rattle.kms_stores.specs.Needs.{Frees}
+use Rattle.kms_stores.specs.Work.{AreFewTails}
+use Rattle.kms_stores.proofs.FreedCalls.{goes_latching, latches_by}
+use Rattle.kms_freeing.proofs.FreedHistories.{changes}
+use Rattle.kms_freeing.proofs.FreedSteps.{SameNeeds}
+use Rattle.kms_stores.proofs.Histories.{goes_same}
+use Rattle.kms_laws.proofs.SmallNumbers.{numbers_fit}
+use Rattle.kms_model.specs.Machine.Framebuffers.{picture_names}
+use Rattle.kms_model.specs.Machine.Registers.{decoded_picture}
+use Rattle.kms_work.proofs.Latched.{FoundTail, IsFlushed, fence_is, SameParts, found_tail, going_set, is_latching, latched_shown, latches_go, latches_signalled, more_signalled, same_either, same_latches, shadow_flushed, stands_shown}
+
+-- What is asked
+
+pub record FlushesNext (r : Run) (k crtc : ℕ) : Type 0 where
+  pub is_legal : legal r.script (machine r) (step.Flush k Crtc crtc) ≡ true
+  pub low : crtc < 4
+  pub all_written : is_all_written r.script.topology (machine r).device k ≡ true
+  pub flush : IsFlush r.script.topology (machine r) k (object_id Crtc crtc)
+  pub flushed : IsFlushed r.script.topology (machine r).device (machine r).records.latches k (object_id Crtc crtc)
+  pub within : k < length (machine r).device.commits
+  pub kept : has_number (machine r).device.marks.cleaned k ≡ false
+
+pub flushes_next : (r v : Run) (st : Stores) (k crtc : ℕ) → Stands r st → r ≡ v → MayFlush v k crtc → FlushesNext r k crtc
+unfolding legal may is_all_written
+flushes_next r v st k crtc stands same asked =
+    let t = r.script.topology in
+    let m = machine r in
+    let d = m.device in
+    let c = object_id Crtc crtc in
+    let is = subst (λ (w : Run). MayFlush w k crtc) (sym same) asked in
+    let parts = and_parts (is_all_written t d k) _ (and_parts (not m.stalled) _ is).1 in
+    let two = and_parts (exists t Crtc crtc) _ parts.1 in
+    let few = few_objects t stands.formed.device in
+    let there : crtc < count_of t Crtc = ltb-true crtc (count_of t Crtc) two.0 in
+    let f : IsFlush t m k c = flush-found t m k c (value-is c (next_flush t d k) two.1) in
+    let H = (facts r st stands).holds in
+    let T = H.tail in
+    let written : has_pair d.marks.written k c ≡ true =
+    implied (commit_touches t d.commits k c) (has_pair d.marks.written k c) (list_all-at (λ object. not (commit_touches t d.commits k object) || has_pair d.marks.written k object) (registered t) c parts.0 (crtc_registered t c f.is_crtc))
+    (names-touches t d.commits k c few f.is_crtc f.names) in
+    record {
+      is_legal = is;
+      low = omega (arith, there, few.crtcs);
+      all_written = parts.0;
+      flush = f;
+      flushed = record { is_crtc = f.is_crtc; names = f.names; written = written; unlatched = fresh-unlatched r.script m H k c f };
+      within = T.marks.claimed k (T.marks.written k c written).0;
+      kept = false_from_ne_true (has_number d.marks.cleaned k) (λ yes. both_bools _ (T.marks.latched k c (T.marks.cleaned k c yes f.is_crtc f.names)) f.fresh);
+    }
+
+-- The machine after a flush
+
+flush_same : (s : Script) (m : Machine) (k crtc : ℕ) → SameParts m (next s m (step.Flush k Crtc crtc))
+unfolding next
+flush_same s m k crtc =
+    same_either (new_crtc s.topology m.device.commits k (object_id Crtc crtc)).active m _ _ (record { contexts = refl; world = refl; commits = refl; journal = refl; replies = refl; stalled = refl })
+    (same_latches s.topology m (flushed_at m k (object_id Crtc crtc)) k (object_id Crtc crtc) (count_at m.device (object_id Crtc crtc)) (record { contexts = refl; world = refl; commits = refl; journal = refl; replies = refl; stalled = refl }))
+
+record IsOnFlush (s : Script) (m : Machine) (k crtc : ℕ) (n : Machine) : Type 0 where
+  latches : n.records.latches ≡ m.records.latches
+  signalled : n.device.signalled ≡ m.device.signalled
+  go : n.device.go ≡ (object_id Crtc crtc, Some k) ∷ m.device.go
+  needs : SameNeeds m n
+
+flush_on : (s : Script) (m : Machine) (k crtc : ℕ) → (new_crtc s.topology m.device.commits k (object_id Crtc crtc)).active ≡ true → IsOnFlush s m k crtc (next s m (step.Flush k Crtc crtc))
+unfolding next
+flush_on s m k crtc on = rw on (record { latches = refl; signalled = refl; go = refl; needs = record { world = refl; commits = refl; cleaned = refl; live = refl } })
+
+record IsOffFlush (s : Script) (m : Machine) (k crtc : ℕ) (n : Machine) : Type 0 where
+  signalled : n.device.signalled ≡ more_signalled m.device.signalled (out_fence_of s.topology m.device.commits k (object_id Crtc crtc))
+  go : n.device.go ≡ m.device.go
+
+flush_off : (s : Script) (m : Machine) (k crtc : ℕ) → (new_crtc s.topology m.device.commits k (object_id Crtc crtc)).active ≡ false → IsOffFlush s m k crtc (next s m (step.Flush k Crtc crtc))
+unfolding next
+flush_off s m k crtc off =
+    rw off (record {
+      signalled = latches_signalled s.topology (flushed_at m k (object_id Crtc crtc)) k (object_id Crtc crtc) (count_at m.device (object_id Crtc crtc));
+      go = latches_go s.topology (flushed_at m k (object_id Crtc crtc)) k (object_id Crtc crtc) (count_at m.device (object_id Crtc crtc));
+    })
+
+-- What the register file answers
+
+on_from : (b : Bool) (p : Picture) → None ≡ (if b then None else Some p) → b ≡ true
+on_from true p is = refl
+on_from false p is = absurd cc
+
+off_from : (b : Bool) (p q : Picture) → Some q ≡ (if b then None else Some p) → b ≡ false
+off_from true p q is = absurd cc
+off_from false p q is = refl
+
+abbrev pub TellsPicture : RegisterFile → ℕ → Option Picture → Type 0
+TellsPicture f crtc o = (t : Topology) (d : DeviceState) → StandsFor t d f → o ≡ flushed_picture d (object_id Crtc crtc)
+
+active_is : (r : Run) (st : Stores) (k crtc : ℕ) → Stands r st → FlushesNext r k crtc → is_on_in (machine r).device.shadow (object_id Crtc crtc) ≡ (new_crtc r.script.topology (machine r).device.commits k (object_id Crtc crtc)).active
+active_is r st k crtc stands N = shadow_flushed r.script.topology (machine r).device (machine r).records.latches k (object_id Crtc crtc) (facts r st stands).holds.tail N.flushed
+
+-- A CRTC that is on after the commit
+
+pub flushes_on : (r v : Run) (st : Stores) (k crtc : ℕ) (shown : Logged Latch) (new : RegisterFile) (u : Rooms Tail) (before steps : List Step) → Stands r st → r ≡ v → MayFlush v k crtc → before ≡ r.steps → steps ≡ before ++ step.Flush k Crtc crtc ∷ []
+    → shown.items ≡ st.latches.items → StandsAfter k st.tails u (tails.with_flushed k (object_id Crtc crtc)) → Flushes st.registers new crtc → TellsPicture st.registers crtc None
+    → Stands (record { script = r.script; steps = steps }) (record st { latches = shown; tails = u; registers = new; goes = slice_set st.goes crtc (Some k) })
+flushes_on r v st k crtc shown new u before steps stands same asked was more is after flushes tells =
+    let s = r.script in
+    let m = machine r in
+    let N = flushes_next r v st k crtc stands same asked in
+    let S = stands.stores in
+    let shadow = active_is r st k crtc stands N in
+    let on = sym shadow ∙ on_from (is_on_in m.device.shadow (object_id Crtc crtc)) _ (tells s.topology m.device S.registers) in
+    let O = flush_on s m k crtc on in
+    let L = signals_follow.flush_follows s m k crtc on in
+    goes_same r st (record st { latches = shown; tails = u; registers = new; goes = slice_set st.goes crtc (Some k) }) (step.Flush k Crtc crtc) O.needs refl steps (more ∙ ap (λ (xs : List Step). xs ++ step.Flush k Crtc crtc ∷ []) was) stands N.is_legal
+    (stands_shown s m (next s m (step.Flush k Crtc crtc)) st shown st.fences st.queues st.tracker u new (slice_set st.goes crtc (Some k))
+    (record {
+      same = flush_same s m k crtc;
+      recorded = is ∙ S.recorded.latched ∙ ap reverse (sym O.latches);
+      signalled = L.fences st.fences S.fences;
+      fenced = rw O.signalled S.fenced;
+      told = record { size = S.queues.size; queue = λ client low high. L.queues (queue_of st.queues client) client (S.queues.queue client low high) };
+      tracked = tracker_follows.flush_follows s m k crtc st.tracker on S.tracker;
+      kept = tails_follow.flush_follows s m k crtc st.tails u N.is_legal S.tails on after;
+      written = registers_follow.flush_follows s m k crtc st.registers new shadow S.registers flushes;
+      going = going_set m.device (next s m (step.Flush k Crtc crtc)).device st.goes crtc (Some k) O.go N.low S.going;
+    })
+    (λ id made. made) S)
+
+-- One that is off
+
+-- the tail of the commit, once the flush is marked
+pub flushed_tail : (r : Run) (st : Stores) (k crtc : ℕ) (u : Rooms Tail) → Stands r st → FlushesNext r k crtc → StandsAfter k st.tails u (tails.with_flushed k (object_id Crtc crtc))
+    → FoundTail r.script.topology (machine r).device.commits (tails.with_flushed k (object_id Crtc crtc) (machine r).device.marks) (machine r).records.latches u k
+flushed_tail r st k crtc u stands N after =
+    found_tail r.script.topology (machine r).device.commits (tails.with_flushed k (object_id Crtc crtc) (machine r).device.marks) (machine r).records.latches u k N.within N.kept
+    (after r.script.topology (machine r).device.commits (machine r).device.marks (machine r).records.latches N.within stands.stores.tails)
+
+pub flush_latches : (r v : Run) (st : Stores) (k crtc count : ℕ) (picture : Picture) (u : Rooms Tail) → Stands r st → r ≡ v → MayFlush v k crtc → StandsAfter k st.tails u (tails.with_flushed k (object_id Crtc crtc))
+    → IsLatching u st.queues (record { crtc = crtc; commit = k; count = count; picture = picture })
+flush_latches r v st k crtc count picture u stands same asked after =
+    let s = r.script in
+    let m = machine r in
+    let N = flushes_next r v st k crtc stands same asked in
+    let F = facts r st stands in
+    let C = commits_sound s r.steps (plain-from s stands.formed) stands.history k N.within in
+    let l : Latch = record { crtc = crtc; commit = k; count = count; picture = picture } in
+    is_latching s.topology m.device.commits (tails.with_flushed k (object_id Crtc crtc) m.device.marks) m.records.latches m.events u st.queues (length s.clients) l (flushed_tail r st k crtc u stands N after) stands.stores.queues C.low C.high
+    (reserved_some (flushed_holds s m F.holds k (object_id Crtc crtc) N.all_written N.flush).tail k (object_id Crtc crtc) count l N.flush.is_crtc (pair_now k (object_id Crtc crtc) m.device.marks.flushed) N.flushed.unlatched refl refl refl m.events F.events)
+
+count_flushed : (t : Topology) (d : DeviceState) (k c : ℕ) (b : Bool) → count_at (if b then record d { go = (c, Some k) ∷ d.go } else latched t d c) c ≡ count_at d c
+count_flushed t d k c true = refl
+count_flushed t d k c false = refl
+
+-- what the calls leave of the stores
+pub record HasFlushedOff (st : Stores) (k crtc : ℕ) (count : ℕ) (picture : Picture) (new : RegisterFile) (u w : Rooms Tail) (tracker : Tracking) (fences : FenceSet) (queues : List Queue) (before shown : List Latch) : Type 0 where
+  pub flushes : Flushes st.registers new crtc
+  pub tells : TellsPicture st.registers crtc (Some picture)
+  pub latched : (t : Topology) (d : DeviceState) → StandsFor t d st.registers → picture ≡ latched_picture t d (object_id Crtc crtc)
+  pub counted : (t : Topology) (d : DeviceState) → StandsFor t d new → count ≡ count_at d (object_id Crtc crtc)
+  pub marked : StandsAfter k st.tails u (tails.with_flushed k (object_id Crtc crtc))
+  pub tails_now : StandsAfterLatch k crtc u w
+  pub tracker_now : tracker ≡ changed st.tracker k (with_latch crtc)
+  pub fences_now : (x : Tail) → value_with_id u.slots k ≡ Some x → fences ≡ with_signal st.fences (slice_index_or x.out_fences crtc None)
+  pub queues_now : (x : Tail) → value_with_id u.slots k ≡ Some x → queues ≡ told_if x.wants_event x.client (event_told x (record { crtc = crtc; commit = k; count = count; picture = picture })) st.queues
+  pub recorded : before ≡ st.latches.items
+  pub recorded_now : shown ≡ before ++ record { crtc = crtc; commit = k; count = count; picture = picture } ∷ []
+
+pub flushes_off : (r v : Run) (st : Stores) (k crtc count : ℕ) (picture : Picture) (new : RegisterFile) (u w : Rooms Tail) (tracker : Tracking) (fences : FenceSet) (queues : List Queue) (old_latches : List Latch) (shown : Logged Latch) (before steps : List Step)
+    → Stands r st → r ≡ v → MayFlush v k crtc → before ≡ r.steps → steps ≡ before ++ step.Flush k Crtc crtc ∷ [] → HasFlushedOff st k crtc count picture new u w tracker fences queues old_latches shown.items
+    → (ids : List ℕ) (freed : Reserved (ℕ × ℕ)) → AreAllOf ids (λ id. picture_names id (decoded_picture r.script.topology (machine r).device.live (object_id Crtc crtc))) → Frees st.made st.present new w r.script.topology.crtcs ids st.freed freed
+    → Stands (record { script = r.script; steps = steps }) (record st { latches = shown; fences = fences; queues = queues; tracker = tracker; tails = w; registers = new; freed = freed })
+flushes_off r v st k crtc count picture new u w tracker fences queues old_latches shown before steps stands same asked was more has ids freed all frees =
+    let s = r.script in
+    let t = s.topology in
+    let m = machine r in
+    let d = m.device in
+    let c = object_id Crtc crtc in
+    let N = flushes_next r v st k crtc stands same asked in
+    let S = stands.stores in
+    let n = next s m (step.Flush k Crtc crtc) in
+    let shadow = active_is r st k crtc stands N in
+    let off = sym shadow ∙ off_from (is_on_in d.shadow c) _ picture (has.tells t d S.registers) in
+    let O = flush_off s m k crtc off in
+    let f = flushed_tail r st k crtc u stands N has.marked in
+    let x = f.tail in
+    let C = commits_sound s r.steps (plain-from s stands.formed) stands.history k N.within in
+    let l : Latch = record { crtc = crtc; commit = k; count = count; picture = picture } in
+    let low = N.low in
+    let index_is : crtc ≡ index_of c = sym (index_of-object Crtc crtc (omega (arith, low))) in
+    let count_is : count ≡ count_at d c = has.counted t (flushed t d k c) (has.flushes t d k S.registers) ∙ count_flushed t d k c (is_on_in d.shadow c) in
+    let picture_is : picture ≡ latched_picture t d c = has.latched t d S.registers in
+    let one : n.records.latches ≡ l ∷ m.records.latches =
+    registers_follow.flush_recorded s m k crtc off ∙ (λ i. record { crtc = sym index_is i; commit = k; count = sym count_is i; picture = sym picture_is i } ∷ m.records.latches) in
+    goes_latching r st (record st { latches = shown; fences = fences; queues = queues; tracker = tracker; tails = w; registers = new }) (step.Flush k Crtc crtc) c ids freed
+    (latches_by s m n c l (changes s m (step.Flush k Crtc crtc) N.is_legal) index_is N.flush.is_crtc one) all frees steps (more ∙ ap (λ (xs : List Step). xs ++ step.Flush k Crtc crtc ∷ []) was) stands N.is_legal
+    (latched_shown s m n st k crtc (count_at d c) x l shown fences queues tracker w new st.goes
+    (record {
+      low = N.low;
+      signals = signals_follow.flush_off_follows s m k crtc off;
+      same = flush_same s m k crtc;
+      signalled = O.signalled;
+      recorded = one;
+      client_low = C.low;
+      client_high = C.high;
+      within = N.within;
+      of_crtc = refl;
+      of_count = count_is;
+      client = f.is.client;
+      event = f.is.event;
+      user_data = f.is.user_data;
+      fence = fence_is t d k crtc x N.low f.is.out_fences;
+      fences_now = has.fences_now x f.found;
+      queues_now = has.queues_now x f.found;
+      latched_now = has.recorded_now ∙ ap (λ (ls : List Latch). ls ++ l ∷ []) has.recorded;
+    })
+    (rw has.tracker_now (tracker_follows.flush_off_follows s m k crtc st.tracker N.within N.low off S.tracker))
+    (tails_follow.flush_off_follows s m k crtc st.tails u w N.is_legal N.low S.tails off has.marked has.tails_now)
+    (registers_follow.flush_follows s m k crtc st.registers new shadow S.registers has.flushes)
+    (record { size = S.going.size; go = λ index few. ap (λ rows. read None rows (object_id Crtc index)) O.go ∙ S.going.go index few }) S)
+
+-- the tails after it are few
+pub few_flushed : (r v : Run) (st : Stores) (k crtc : ℕ) (u w : Rooms Tail) → Stands r st → r ≡ v → MayFlush v k crtc → StandsAfter k st.tails u (tails.with_flushed k (object_id Crtc crtc)) → StandsAfterLatch k crtc u w → AreFewTails w
+few_flushed r v st k crtc u w stands same asked marked latches =
+    let m = machine r in
+    let N = flushes_next r v st k crtc stands same asked in
+    let fit = (numbers_fit r.script r.steps stands.formed stands.history).commits in
+    let l : Latch = record { crtc = crtc; commit = k; count = 0; picture = Off } in
+    record {
+      topology = r.script.topology;
+      commits = m.device.commits;
+      marks = tails.with_flushed k (object_id Crtc crtc) m.device.marks;
+      latches = l ∷ m.records.latches;
+      stand = latches r.script.topology m.device.commits (tails.with_flushed k (object_id Crtc crtc) m.device.marks) m.records.latches l N.within refl refl (marked r.script.topology m.device.commits m.device.marks m.records.latches N.within stands.stores.tails);
+      few = omega (arith, fit);
+    }

@@ -1,0 +1,212 @@
+//! Flushes and vertical blankings, at which commits latch.
+ghost use Rattle.std.specs.Prelude.{◌≡◌, ◌<◌, ◌≤◌, IfOk, IsOk, [], ◌∷◌, None, Some, length, slice_index_or, true};
+ghost use Rattle.kms_model.specs.declared.objects.Kind.TheVariants.{Crtc};
+ghost use Rattle.kms_model.specs.declared.objects.Topology.{Topology};
+ghost use Rattle.kms_model.specs.declared.replies.Step.TheVariants as step;
+ghost use Rattle.kms_model.specs.Device.Objects.{object_id};
+ghost use Rattle.kms_model.specs.Machine.State.{DeviceState, count_at};
+ghost use Rattle.kms_model.specs.Stores.Tables.{value_with_id};
+ghost use Rattle.kms_regs.specs.File.{StandsFor};
+ghost use Rattle.kms_signal.specs.Rooms.{Rooms};
+ghost use Rattle.kms_signal.specs.StepLaws.{with_signal};
+ghost use Rattle.kms_tails.specs.declared.tail.Tail.{Tail as CommitTail};
+ghost use Rattle.kms_tails.specs.InStep.{StandsAfterLatch};
+ghost use Rattle.kms_track.specs.Tracking.{changed, with_latch};
+ghost use Rattle.kms_freeing.specs.Freeing.{framebuffers_in};
+ghost use Rattle.kms_work.specs.Latching.{IsLatching, MayBlank, MayFlush, event_told, goes_at, told_if};
+ghost use Rattle.kms_stores.specs.Needs.{Frees};
+ghost use Rattle.kms_stores.specs.Run.{Run, machine, gains, if_ok};
+ghost use Rattle.kms_stores.specs.Stands.{queue_of};
+ghost use Rattle.kms_stores.specs.Work.{AreFewTails};
+
+use kms_freeing::shown_ids;
+use kms_logs::Ledger;
+use kms_model::{Duplicates, Kind, Latch, NoMemory, ObjId, Picture, Step};
+use kms_regs::RegFile;
+use kms_signal::{EventQueue, Fences, flip_event};
+use kms_stores::{Stores, free, make_step_room, signal_fence};
+use kms_tails::{Tail, Tails};
+use kms_things::Things;
+use kms_track::Tracker;
+
+/// Flushes the CRTC with an index for the commit that flushes it next. A CRTC that is on after the commit then
+/// goes: it latches at its next vertical blanking. One that is off latches at once. It takes no memory. (Kernel:
+/// `drm_atomic_helper.c`, `drm_atomic_helper_commit_planes`, `atomic_flush`.)
+pub fn flush(stores: &mut Stores, commit: u32, crtc: u32)
+    requires { MayFlush stores.old commit crtc }
+    ensures history { stores.new ≡ gains stores.old (step.Flush commit Crtc crtc ∷ []) }
+{
+    stores.steps.push(Step::Flush {
+        commit,
+        kind: Kind::Crtc,
+        index: crtc,
+    });
+    stores.tails.flushed(commit, crtc);
+    let ids_before = shown_ids(&stores.registers.decode_live(crtc));
+    let Some(picture) = stores.registers.flush(crtc) else {
+        stores.goes[crtc as usize] = Some(commit);
+        return;
+    };
+    let shown = latch_of(&stores.registers, crtc, commit, picture);
+    show(
+        &mut stores.tails,
+        &mut stores.tracker,
+        &mut stores.fences,
+        &mut stores.queues,
+        &mut stores.freed,
+        &stores.things,
+        &stores.present,
+        &stores.registers,
+        stores.script.topology.crtcs,
+        &shown,
+        ids_before.as_slice(),
+    );
+    stores.latches.push(shown);
+}
+
+/// The CRTC with an index has a vertical blanking, which is counted. True exactly where it goes: the commit that
+/// flushed it last then latches, which takes no memory. Want of memory comes only where it does not go, and leaves all
+/// as it was. (Kernel: `drm_vblank.c`, `drm_crtc_handle_vblank`.)
+pub fn vblank(stores: &mut Stores, crtc: u32) -> Result<bool, NoMemory>
+    requires { MayBlank stores.old crtc }
+    ensures answer { IfOk result (λ went. went ≡ goes_at stores.old crtc) }
+    ensures history { stores.new ≡ gains stores.old
+        (if_ok result (λ went. step.Vblank Crtc crtc ∷ [])) }
+    ensures no_memory { goes_at stores.old crtc ≡ true → IsOk result }
+{
+    let step = Step::Vblank {
+        kind: Kind::Crtc,
+        index: crtc,
+    };
+    let Some(commit) = stores.goes[crtc as usize] else {
+        make_step_room(&mut stores.steps, &stores.tails)?;
+        stores.steps.push(step);
+        let _none = stores.registers.vblank(crtc);
+        return Ok(false);
+    };
+    stores.steps.push(step);
+    let ids_before = shown_ids(&stores.registers.decode_live(crtc));
+    let Some(picture) = stores.registers.vblank(crtc) else {
+        unreachable!();
+    };
+    stores.goes[crtc as usize] = None;
+    let shown = latch_of(&stores.registers, crtc, commit, picture);
+    show(
+        &mut stores.tails,
+        &mut stores.tracker,
+        &mut stores.fences,
+        &mut stores.queues,
+        &mut stores.freed,
+        &stores.things,
+        &stores.present,
+        &stores.registers,
+        stores.script.topology.crtcs,
+        &shown,
+        ids_before.as_slice(),
+    );
+    stores.latches.push(shown);
+    Ok(true)
+}
+
+/// What the CRTC with an index, from 0 to 3, latches: a picture of a commit, with its count of vertical blankings so far.
+fn latch_of(registers: &RegFile, crtc: u32, commit: u32, picture: Picture) -> Latch
+    requires { crtc < 4 }
+    ensures shown { result ≡ record {
+      crtc = crtc;
+      commit = commit;
+      count = result.count;
+      picture = picture;
+    } }
+    ensures count { (t : Topology) (d : DeviceState) → StandsFor t d registers.now
+        → result.count ≡ count_at d (object_id Crtc crtc) }
+{
+    Latch {
+        crtc,
+        commit,
+        count: registers.count(crtc),
+        picture,
+    }
+}
+
+/// A commit latches at a CRTC. Of the framebuffers that the picture before named, given by their ids, those are freed that
+/// nothing needs any more. There is a place for each.
+fn show(
+    tails: &mut Tails,
+    tracker: &mut Tracker,
+    fences: &mut Fences,
+    queues: &mut Vec<EventQueue>,
+    freed: &mut Ledger<(u32, u32)>,
+    things: &Things,
+    present: &Duplicates,
+    registers: &RegFile,
+    crtcs: u32,
+    shown: &Latch,
+    ids_before: &[u32],
+)
+    requires crtc { shown.now.crtc < 4 }
+    requires crtcs { crtcs ≤ 4 }
+    requires there { IsLatching tails.old queues.old.items shown.now }
+    requires few { (left : Rooms CommitTail)
+        → StandsAfterLatch shown.now.commit shown.now.crtc tails.old left → AreFewTails left }
+    requires places { framebuffers_in things.now.things ids_before.now ≤ freed.old.places }
+    ensures tails { StandsAfterLatch shown.now.commit shown.now.crtc tails.old tails.new }
+    ensures tracker { tracker.new
+        ≡ changed tracker.old shown.now.commit (with_latch shown.now.crtc) }
+    ensures fences { (x : CommitTail) → value_with_id tails.old.slots shown.now.commit ≡ Some x
+        → fences.new ≡ with_signal fences.old (slice_index_or x.out_fences shown.now.crtc None) }
+    ensures queues { (x : CommitTail) → value_with_id tails.old.slots shown.now.commit ≡ Some x
+        → queues.new.items
+        ≡ told_if x.wants_event x.client (event_told x shown.now) queues.old.items }
+    ensures freed { Frees things.now present.now registers.now tails.new crtcs ids_before.now
+        freed.old freed.new }
+{
+    latch(tails, tracker, fences, queues, shown);
+    free(freed, things, present, registers, tails, crtcs, ids_before);
+}
+
+/// A commit latches at a CRTC: its event for the CRTC is delivered if it asks for one, and its out-fence there is
+/// signalled if it has one. (Kernel: `drm_vblank.c`, `drm_crtc_send_vblank_event`.)
+fn latch(
+    tails: &mut Tails,
+    tracker: &mut Tracker,
+    fences: &mut Fences,
+    queues: &mut Vec<EventQueue>,
+    shown: &Latch,
+)
+    requires crtc { shown.now.crtc < 4 }
+    requires there { IsLatching tails.old queues.old.items shown.now }
+    ensures tails { StandsAfterLatch shown.now.commit shown.now.crtc tails.old tails.new }
+    ensures tracker { tracker.new
+        ≡ changed tracker.old shown.now.commit (with_latch shown.now.crtc) }
+    ensures fences { (x : CommitTail) → value_with_id tails.old.slots shown.now.commit ≡ Some x
+        → fences.new ≡ with_signal fences.old (slice_index_or x.out_fences shown.now.crtc None) }
+    ensures queues { (x : CommitTail) → value_with_id tails.old.slots shown.now.commit ≡ Some x
+        → queues.new.items
+        ≡ told_if x.wants_event x.client (event_told x shown.now) queues.old.items }
+{
+    let Some(tail) = tails.get(shown.commit) else {
+        unreachable!();
+    };
+    deliver(queues, tail, shown);
+    signal_fence(fences, tail.out_fence(shown.crtc));
+    tracker.flip_done(shown.commit, shown.crtc);
+    tails.latched(shown.commit, shown.crtc);
+}
+
+/// Delivers the event of a commit that latches to its client, if it asks for one.
+fn deliver(queues: &mut Vec<EventQueue>, tail: &Tail, shown: &Latch)
+    requires low { 1 ≤ tail.now.client }
+    requires high { tail.now.client ≤ length queues.old.items }
+    requires reserved { tail.now.wants_event ≡ true
+        → 0 < (queue_of queues.old.items tail.now.client).reserved }
+    requires crtc { shown.now.crtc < 4 }
+    ensures { queues.new.items ≡ told_if tail.now.wants_event tail.now.client
+        (event_told tail.now shown.now) queues.old.items }
+{
+    if !tail.wants_event {
+        return;
+    }
+    let crtc = ObjId::of(Kind::Crtc, shown.crtc).0;
+    let event = flip_event(tail.user_data, shown.count, crtc);
+    queues[(tail.client - 1) as usize].deliver(event);
+}

@@ -1,0 +1,8 @@
+//! The tails of commits: their registers, their latches and their end.
+#![tactic(auto)]
+
+mod latching;
+mod workers;
+
+pub use latching::{flush, vblank};
+pub use workers::{claim, claim_commit, cleanup, hw_done, write};

@@ -1,0 +1,174 @@
+//! The calls of workers, which do the tails of commits. They take no memory: `swap` took it.
+ghost use Rattle.std.specs.Prelude.{◌≡◌, ◌<◌, [], ◌∷◌, slice_index_or, None};
+ghost use Rattle.kms_model.specs.declared.replies.Step.TheVariants as step;
+ghost use Rattle.kms_model.specs.Device.Objects.{index_of, kind_of};
+ghost use Rattle.kms_track.specs.Tracking.{ready_of};
+ghost use Rattle.kms_stores.specs.Run.{Run, machine, gains};
+ghost use Rattle.kms_stores.specs.Work.{AreFewTails, FindsFirst, HoldsCrtc, HoldsOld, HoldsPlane, IsCrtcWritten, IsPlaneWritten, IsWritten, MayBeDone, MayClaim, MayCleanUp, MayWrite, TellsOver, claim_steps, cleanup_steps, first_claim, is_over, write_step};
+
+use kms_model::{Kind, ObjId, Step};
+use kms_regs::RegFile;
+use kms_signal::Fences;
+use kms_stores::{Stores, free, kept_ids};
+use kms_tails::{Tail, Tails};
+use kms_track::Tracker;
+
+/// Claims the least commit whose tail may begin: the fences that it waits for are signalled, and the commit before
+/// it on each object that it touches is done and has flipped there. None exactly where there is no such commit, as
+/// after the end of the history. (Kernel: `drm_atomic_helper.c`, `commit_work`, `drm_atomic_helper_wait_for_fences`,
+/// `drm_atomic_helper_wait_for_dependencies`.)
+pub fn claim(stores: &mut Stores) -> Option<u32>
+    ensures answer { result ≡ first_claim stores.old }
+    ensures history { stores.new ≡ gains stores.old (claim_steps result) }
+{
+    if stores.stalled {
+        return None;
+    }
+    let Some(commit) = first_ready(&stores.tails, &stores.tracker, &stores.fences) else {
+        return None;
+    };
+    claim_commit(stores, commit);
+    Some(commit)
+}
+
+/// Claims a commit whose tail may begin.
+pub fn claim_commit(stores: &mut Stores, commit: u32)
+    requires { MayClaim stores.old commit }
+    ensures history { stores.new ≡ gains stores.old (step.Claim commit ∷ []) }
+{
+    stores.tracker.claim(commit);
+    stores.tails.claim(commit);
+    stores.steps.push(Step::Claim { commit });
+}
+
+/// Writes the registers of the CRTC or the plane that a commit writes next: the words of its old state become those
+/// of the new one. (Kernel: `drm_atomic_helper.c`, `drm_atomic_helper_commit_modeset_enables`,
+/// `drm_atomic_helper_commit_planes`.)
+pub fn write(stores: &mut Stores, commit: u32, id: ObjId)
+    requires { MayWrite stores.old commit id }
+    ensures history { stores.new ≡ gains stores.old (write_step commit id ∷ []) }
+{
+    let Some(tail) = stores.tails.get(commit) else {
+        unreachable!();
+    };
+    write_registers(&mut stores.registers, tail, id);
+    stores.tails.wrote(commit, id);
+    stores.steps.push(write_step(commit, id));
+}
+
+/// Tells that all registers of a commit are written and flushed. (Kernel: `drm_atomic_helper.c`,
+/// `drm_atomic_helper_commit_hw_done`.)
+pub fn hw_done(stores: &mut Stores, commit: u32)
+    requires { MayBeDone stores.old commit }
+    ensures history { stores.new ≡ gains stores.old (step.HwDone commit ∷ []) }
+{
+    stores.tracker.hw_done(commit);
+    stores.tails.hw_done(commit);
+    stores.steps.push(Step::HwDone { commit });
+}
+
+/// Cleans a commit up, whose old states are then given up. It answers false, and changes nothing, exactly where
+/// its registers are not all written and flushed, or it has not latched at a CRTC that it names. (Kernel:
+/// `drm_atomic_helper.c`, `drm_atomic_helper_wait_for_flip_done`, `drm_atomic_helper_commit_cleanup_done`.)
+pub fn cleanup(stores: &mut Stores, commit: u32) -> bool
+    requires { MayCleanUp stores.old commit }
+    ensures answer { result ≡ is_over stores.old commit }
+    ensures history { stores.new ≡ gains stores.old (cleanup_steps commit result) }
+{
+    if !is_over(&stores.tails, commit) {
+        return false;
+    }
+    let Some(tail) = stores.tails.get(commit) else {
+        unreachable!();
+    };
+    let kept_ids = kept_ids(tail);
+    stores.tracker.cleanup(commit);
+    stores.tails.remove(commit);
+    free(
+        &mut stores.freed,
+        &stores.things,
+        &stores.present,
+        &stores.registers,
+        &stores.tails,
+        stores.script.topology.crtcs,
+        kept_ids.as_slice(),
+    );
+    stores.steps.push(Step::Cleanup { commit });
+    true
+}
+
+/// The least commit that is not cleaned and may be claimed.
+fn first_ready(tails: &Tails, tracker: &Tracker, fences: &Fences) -> Option<u32>
+    requires { AreFewTails tails.now }
+    ensures { FindsFirst tails.now (ready_of tracker.now fences.now) result }
+{
+    let mut from = 0;
+    'seeking: while let Some(commit) = tails.first_from(from) {
+        if tracker.ready(commit, fences) {
+            return Some(commit);
+        }
+        from = commit + 1;
+    }
+    None
+}
+
+/// The step of a commit that writes an object.
+fn write_step(commit: u32, id: ObjId) -> Step
+    ensures { result ≡ write_step commit id }
+{
+    Step::Write {
+        commit,
+        kind: id.kind(),
+        index: id.index(),
+    }
+}
+
+/// Writes the registers of a CRTC or a plane that a commit touches.
+fn write_registers(registers: &mut RegFile, tail: &Tail, id: ObjId)
+    requires { HoldsOld registers.old tail.now (kind_of id.0) (index_of id.0) }
+    ensures { IsWritten registers.old registers.new tail.now (kind_of id.0) (index_of id.0) }
+{
+    match id.kind() {
+        Kind::Crtc => write_crtc(registers, tail, id.index()),
+        Kind::Plane => write_plane(registers, tail, id.index()),
+        Kind::Conn | Kind::Enc => unreachable!(),
+    }
+}
+
+/// Writes those of the CRTC with an index, from 0 to 3.
+fn write_crtc(registers: &mut RegFile, tail: &Tail, index: u32)
+    requires index { index < 4 }
+    requires holds { HoldsCrtc registers.old index
+        (slice_index_or tail.now.checked.states.crtcs index None) }
+    ensures { IsCrtcWritten registers.old registers.new index
+        (slice_index_or tail.now.checked.states.crtcs index None) }
+{
+    let Some(both) = tail.crtc(index) else {
+        unreachable!();
+    };
+    registers.write_crtc(index, tail.connector(index), &both.old, &both.new);
+}
+
+/// Writes those of the plane with an index, from 0 to 15.
+fn write_plane(registers: &mut RegFile, tail: &Tail, index: u32)
+    requires index { index < 16 }
+    requires holds { HoldsPlane registers.old index
+        (slice_index_or tail.now.checked.states.planes index None) }
+    ensures { IsPlaneWritten registers.old registers.new index
+        (slice_index_or tail.now.checked.states.planes index None) }
+{
+    let Some(both) = tail.plane(index) else {
+        unreachable!();
+    };
+    registers.write_plane(index, &both.old, &both.new);
+}
+
+/// Whether all registers of a commit are written and flushed, and it has latched at each CRTC that it names.
+fn is_over(tails: &Tails, commit: u32) -> bool
+    ensures { TellsOver tails.now commit result }
+{
+    match tails.get(commit) {
+        Some(tail) => tail.progress.done && tail.is_latched(),
+        None => false,
+    }
+}
