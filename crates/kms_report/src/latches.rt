@@ -127,10 +127,9 @@ pub fn push_latches<H: Hands>(
         ++ latches_text (machine core.now) pixmap latches.now crtc) }
 {
     let mut screen = Screen::dark(alloc);
-    let mut place = 0;
-    for latch in latches {
-        place += 1;
-        let after = &latches[place..];
+    for place in 0..latches.len() {
+        let latch = &latches[place];
+        let after = &latches[place + 1..];
         screen = push_if_on(hands, alloc, text, core, screen, crtc, latch, after, pixmap)?;
     }
     Ok(())
