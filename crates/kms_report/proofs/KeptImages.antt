@@ -45,7 +45,7 @@ shown-still old new (On p) keeps can = λ k d within.
     let one = can k d within in
     record {
       placed = one.placed;
-      image = record { seen = one.image.seen; found = keeps d.fb.id one.image.seen one.image.found; width = one.image.width; height = one.image.height; words = one.image.words };
+      image = record { seen = one.image.seen; found = keeps _ one.image.seen one.image.found; width = one.image.width; height = one.image.height; words = one.image.words };
     }
 
 pub kept-still : (old new : List FbImage) (s : Screen) → Keeps old new → ShowsKept old s → ShowsKept new s
@@ -71,7 +71,7 @@ can-be-shown things images (On p) are can = λ k d within.
     let one = can k d within in
     record {
       placed = one.placed;
-      words = record { seen = one.image.seen; found = among things images d.fb.id one.image.seen are one.image.found; width = one.image.width; height = one.image.height; words = one.image.words };
+      words = record { seen = one.image.seen; found = among things images _ one.image.seen are one.image.found; width = one.image.width; height = one.image.height; words = one.image.words };
     }
 
 module _ (things : List Thing) (images : List FbImage) (are : AreImagesIn things images) where
