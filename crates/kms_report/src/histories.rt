@@ -120,7 +120,15 @@ fn report_by<H: Hands>(
     let mut text = Vec::new(alloc);
     push_journal(alloc, &mut text, core.journal())?;
     push_sections(alloc, &mut text, Section::Replies, clients, core.replies())?;
-    push_all_latches(hands, alloc, &mut text, core, crtcs, core.latched(), options.ppm)?;
+    push_all_latches(
+        hands,
+        alloc,
+        &mut text,
+        core,
+        crtcs,
+        core.latched(),
+        options.ppm,
+    )?;
     push_sections(alloc, &mut text, Section::Events, clients, core.replies())?;
     push_all_freed(alloc, &mut text, &script.names, core.freed())?;
     push_end(alloc, &mut text, &script.names, core)?;

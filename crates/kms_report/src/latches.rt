@@ -81,7 +81,14 @@ fn push_latch<H: Hands>(
     };
     let screen = showing(hands, alloc, core, screen, latch, after)?;
     let kept = screen.kept(&latch.picture);
-    push_frame(alloc, text, &kept.drawn.frame, &kept.digest, &shown.mode, pixmap)?;
+    push_frame(
+        alloc,
+        text,
+        &kept.drawn.frame,
+        &kept.digest,
+        &shown.mode,
+        pixmap,
+    )?;
     Ok(screen)
 }
 

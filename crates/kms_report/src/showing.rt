@@ -52,11 +52,7 @@ fn push_next<'a>(
 }
 
 /// The images of the framebuffers of what is kept of a CRTC.
-fn kept_images<'a>(
-    alloc: Global,
-    core: &'a Core,
-    screen: &Screen,
-) -> Result<Images<'a>, NoMemory>
+fn kept_images<'a>(alloc: Global, core: &'a Core, screen: &Screen) -> Result<Images<'a>, NoMemory>
     requires { StandsOf (things_of core.now) screen.now }
     ensures images { IfOk result (λ images. AreImagesIn (things_of core.now) images) }
     ensures kept { IfOk result (λ images. ShowsKept images screen.now) }

@@ -102,11 +102,7 @@ fn six_lines(alloc: Global, counts: &Counts, digest: &str) -> Result<String, All
 }
 
 /// What a history that is drained comes to.
-fn summary<R: Threads + Sync>(
-    rt: &R,
-    alloc: Global,
-    core: &Core,
-) -> Result<Seq<u8>, NoMemory>
+fn summary<R: Threads + Sync>(rt: &R, alloc: Global, core: &Core) -> Result<Seq<u8>, NoMemory>
     requires { is_drained core.now.script (machine core.now) ≡ true }
     ensures { IfOk result (λ text. text ≡ said.summary core.now.script core.now.steps) }
 {

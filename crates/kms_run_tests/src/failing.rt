@@ -32,7 +32,12 @@ fn one<R: Threads + Sync>(
 }
 
 /// Whether a failing read of this number ends the call, with nothing written.
-fn read_fails<R: Threads + Sync>(rt: &R, alloc: Global, text: &str, number: u32) -> Result<bool, Fail> {
+fn read_fails<R: Threads + Sync>(
+    rt: &R,
+    alloc: Global,
+    text: &str,
+    number: u32,
+) -> Result<bool, Fail> {
     let mut source = source(alloc, text, READ, &[number])?;
     let mut sink = sink(alloc, 64, &[])?;
     let status = one(rt, alloc, &mut source, &mut sink)?;

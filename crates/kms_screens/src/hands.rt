@@ -16,12 +16,7 @@ pub trait Hands {
     ghost can_work: { Self → Type 0 };
 
     /// The frame of a picture over the images of its framebuffers. The only error is want of memory.
-    fn frame(
-        &self,
-        alloc: Global,
-        picture: &Picture,
-        images: &Images,
-    ) -> Result<Frame, NoMemory>
+    fn frame(&self, alloc: Global, picture: &Picture, images: &Images) -> Result<Frame, NoMemory>
         requires hands { can_work self.now }
         requires picture { CanShow images.now picture.now }
         ensures { IfOk result (λ bytes. bytes ≡ frame_of (word_under images.now) picture.now) };
@@ -42,12 +37,7 @@ impl Hands for OneThread {
 
     ghost can_work = { λ _. ⊤ };
 
-    fn frame(
-        &self,
-        alloc: Global,
-        picture: &Picture,
-        images: &Images,
-    ) -> Result<Frame, NoMemory> {
+    fn frame(&self, alloc: Global, picture: &Picture, images: &Images) -> Result<Frame, NoMemory> {
         frame(alloc, picture, images)
     }
 
@@ -68,12 +58,7 @@ impl<'a, R: Threads + Sync> Hands for SeveralThreads<'a, R> {
 
     ghost can_work = { λ _. IsSync R.row };
 
-    fn frame(
-        &self,
-        alloc: Global,
-        picture: &Picture,
-        images: &Images,
-    ) -> Result<Frame, NoMemory> {
+    fn frame(&self, alloc: Global, picture: &Picture, images: &Images) -> Result<Frame, NoMemory> {
         frame_rows(self.rt, alloc, picture, images)
     }
 
