@@ -10,3 +10,6 @@ pub use digests::digest_of;
 pub use hands::{Hands, OneThread, SeveralThreads};
 pub use kept::{Drawn, Kept, is_same};
 pub use screen::Screen;
+
+#[cfg(test)]
+mod tests;

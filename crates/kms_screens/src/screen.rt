@@ -2,7 +2,8 @@
 ghost use Rattle.std.specs.Prelude.{◌≡◌, ◌⊎◌, ◌↔◌, List, IfOk, IfSome, IsTrue};
 ghost use Rattle.kms_model.specs.declared.worlds.Thing.{Thing};
 ghost use Rattle.kms_compose.specs.Images.{CanShow};
-ghost use Rattle.kms_screens.specs.Screens.{Has, IsHashed, IsKeptOf, StandsOf, StandsOver};
+ghost use Rattle.kms_compose.specs.declared.images.FbImage.{FbImage};
+ghost use Rattle.kms_screens.specs.Screens.{Has, IsHashed, IsKeptOf, IsKeptOver, StandsOf, StandsOver};
 
 use crate::digests::digest_of;
 use crate::hands::Hands;
@@ -22,7 +23,8 @@ pub struct Screen {
 
 /// The picture that is off, which has no byte.
 fn off(alloc: Global) -> Kept
-    ensures { (things : List Thing) → IsKeptOf things result }
+    ensures images { (images : List FbImage) → IsKeptOver images result }
+    ensures things { (things : List Thing) → IsKeptOf things result }
 {
     Kept {
         drawn: Drawn {
@@ -62,7 +64,8 @@ fn both_hashed<H: Hands>(hands: &H, one: Drawn, other: Drawn) -> Screen
 impl Screen {
     /// The screen of a CRTC that showed nothing yet.
     pub fn dark(alloc: Global) -> Screen
-        ensures { (things : List Thing) → StandsOf things result }
+        ensures images { (images : List FbImage) → StandsOver images result }
+        ensures things { (things : List Thing) → StandsOf things result }
     {
         Screen {
             first: off(alloc),

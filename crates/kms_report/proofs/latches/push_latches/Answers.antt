@@ -4,4 +4,4 @@ use Rattle.kms_report.specs.Images.{things_of}
 use Rattle.kms_report.proofs.latches.push_latches.Goals as goal
 
 pub loop-place-init : goal.loop-place-init
-loop-place-init g c = record { told = sym (append-nil c.args.text.now.items); stands = c.dark-screen.ensures (things_of c.args.core.now) }
+loop-place-init g c = record { told = sym (append-nil c.args.text.now.items); stands = c.dark-screen.ensures.things (things_of c.args.core.now) }
