@@ -99,5 +99,5 @@ pub length-frame : (words : ℕ → ℕ → ℕ → Option ℕ) (p : Shown) → 
 length-frame words p =
     let w = p.mode.hdisplay in
     let h = p.mode.vdisplay in
-    length-pieces (row_bytes words p) (w * 3) 0 h (λ y. length-pieces (λ (x : ℕ). pixel words p.layers x y) 3 0 w (λ x. refl))
+    length-pieces (row_bytes words p) (w * 3) 0 h (λ y. length-pieces (λ (x : ℕ). pixel words p.gamma p.layers x y) 3 0 w (λ x. refl))
     ∙ sym (mul_assoc h w 3) ∙ mul_comm (h * w) 3 ∙ ap (λ (k : ℕ). 3 * k) (mul_comm h w)

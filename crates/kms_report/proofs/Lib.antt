@@ -1,5 +1,6 @@
 pub mod Decimals
 pub mod ImageLemmas
+pub mod KeptImages
 pub mod LatchText
 pub mod Pieces
 pub mod Ranges

@@ -3,9 +3,11 @@ use Rattle.std.specs.Prelude.{◌≡◌, ℕ, List, [], ◌∷◌, ◌++◌, All
 use Rattle.kms_model.specs.declared.pictures.Layer.{Layer}
 use Rattle.kms_model.specs.declared.worlds.Thing.{Thing}
 use Rattle.kms_model.specs.Frames.Images.{image_of}
-use Rattle.kms_compose.specs.Images.{image_seen, seen_under}
+use Rattle.kms_compose.specs.Images.{CanShow, image_seen, seen_under}
 use Rattle.kms_compose.specs.declared.images.FbImage.{FbImage}
 use Rattle.kms_stores.specs.Run.{Run, machine}
+use Rattle.kms_model.specs.Stores.Kept.{Seen}
+use Rattle.kms_screens.specs.declared.screen.Screen.{Screen}
 
 -- the things that there are after the history
 abbrev pub things_of : Run → List Thing
@@ -21,3 +23,12 @@ pub record IsPushed (things : List Thing) (fb : ℕ) (old new : List FbImage) : 
   pub pushed : new ≡ old ++ image ∷ []
   pub id : image.fb ≡ fb
   pub found : image_of things fb ≡ Some (image_seen image.image)
+
+-- what is read of a framebuffer is still read of it
+abbrev pub Keeps : List FbImage → List FbImage → Type 0
+Keeps old new = (fb : ℕ) (s : Seen) → seen_under old fb ≡ Some s → seen_under new fb ≡ Some s
+
+-- both pictures that are kept can be shown over some images
+pub record ShowsKept (images : List FbImage) (s : Screen) : Type 0 where
+  pub one : CanShow images s.first.drawn.picture
+  pub other : CanShow images s.second.drawn.picture

@@ -13,7 +13,9 @@ use crate::latches::push_latches;
 use crate::lines::{push_entry, push_freed, push_step};
 use kms_core::Core;
 use kms_model::{Latch, NoMemory, Script, Seq, Step};
+use kms_screens::{Hands, OneThread, SeveralThreads};
 use std::alloc::Global;
+use std::thread::Threads;
 
 /// What a report has besides its lines.
 #[derive(Clone, Copy, Debug, PartialEq, Eq)]
@@ -36,7 +38,8 @@ fn push_journal(alloc: Global, text: &mut Vec<u8>, journal: &[(u32, u32)]) -> Re
 }
 
 /// Adds the latches of all CRTCs, of which there are so many.
-fn push_all_latches(
+fn push_all_latches<H: Hands>(
+    hands: &H,
     alloc: Global,
     text: &mut Vec<u8>,
     core: &Core,
@@ -44,13 +47,14 @@ fn push_all_latches(
     latches: &[Latch],
     pixmap: bool,
 ) -> Result<(), NoMemory>
-    requires { All (λ l. EachCanBeShown (things_of core.now) l.picture) latches.now }
+    requires hands { H.can_work hands.now }
+    requires can { All (λ l. EachCanBeShown (things_of core.now) l.picture) latches.now }
     ensures { OnOk result (text.new.items ≡ text.old.items
         ++ flat_map (latches_text (machine core.now) pixmap latches.now)
         (range_with_len 0 crtcs)) }
 {
     for crtc in 0..crtcs {
-        push_latches(alloc, text, core, crtc, latches, pixmap)?;
+        push_latches(hands, alloc, text, core, crtc, latches, pixmap)?;
     }
     Ok(())
 }
@@ -95,19 +99,16 @@ fn push_trace(alloc: Global, text: &mut Vec<u8>, core: &Core, wanted: bool) -> R
     push_steps(alloc, text, core.history())
 }
 
-/// The report of the history of a script: the journal, the replies by client, the latches by CRTC with the digest of each
-/// frame, the events read by client, the framebuffers freed, how the history ended, and what the options ask for besides.
-/// Lines of one kind are in order of time, but for their clients and CRTCs.
-///
-/// The only error is want of memory. The time is linear in the history, the frames and the text; besides the text there is
-/// one frame at a time.
-pub fn report(
+/// The report, by these hands.
+fn report_by<H: Hands>(
+    hands: &H,
     alloc: Global,
     script: &Script,
     core: &Core,
     options: Options,
 ) -> Result<Seq<u8>, NoMemory>
-    requires { script.now ≡ core.now.script }
+    requires hands { H.can_work hands.now }
+    requires script { script.now ≡ core.now.script }
     ensures { IfOk result (λ text. text
         ≡ history.text core.now.script core.now.steps (asked options)) }
 {
@@ -119,10 +120,54 @@ pub fn report(
     let mut text = Vec::new(alloc);
     push_journal(alloc, &mut text, core.journal())?;
     push_sections(alloc, &mut text, Section::Replies, clients, core.replies())?;
-    push_all_latches(alloc, &mut text, core, crtcs, core.latched(), options.ppm)?;
+    push_all_latches(
+        hands,
+        alloc,
+        &mut text,
+        core,
+        crtcs,
+        core.latched(),
+        options.ppm,
+    )?;
     push_sections(alloc, &mut text, Section::Events, clients, core.replies())?;
     push_all_freed(alloc, &mut text, &script.names, core.freed())?;
     push_end(alloc, &mut text, &script.names, core)?;
     push_trace(alloc, &mut text, core, options.trace)?;
     Ok(Seq::from_vec(text))
+}
+
+/// The report of the history of a script: the journal, the replies by client, the latches by CRTC with the digest of each
+/// frame, the events read by client, the framebuffers freed, how the history ended, and what the options ask for besides.
+/// Lines of one kind are in order of time, but for their clients and CRTCs.
+///
+/// The only error is want of memory. The time is linear in the history, the frames and the text; besides the text there are
+/// two frames at a time. A picture that is one of the two that its CRTC showed last has its frame and its digest there; else
+/// what differs from one of these is drawn.
+pub fn report(
+    alloc: Global,
+    script: &Script,
+    core: &Core,
+    options: Options,
+) -> Result<Seq<u8>, NoMemory>
+    requires { script.now ≡ core.now.script }
+    ensures { IfOk result (λ text. text
+        ≡ history.text core.now.script core.now.steps (asked options)) }
+{
+    report_by(&OneThread, alloc, script, core, options)
+}
+
+/// The same report, made by several threads that only compute: the first frame of a CRTC row by row in as many as there are
+/// processors, and two digests at a time.
+pub fn report_with<R: Threads + Sync>(
+    rt: &R,
+    alloc: Global,
+    script: &Script,
+    core: &Core,
+    options: Options,
+) -> Result<Seq<u8>, NoMemory>
+    requires { script.now ≡ core.now.script }
+    ensures { IfOk result (λ text. text
+        ≡ history.text core.now.script core.now.steps (asked options)) }
+{
+    report_by(&SeveralThreads { rt }, alloc, script, core, options)
 }

@@ -1,21 +1,21 @@
 //! The lines of latches.
 ghost use Rattle.std.specs.Prelude.{◌≡◌, ◌*◌, ◌++◌, ◌∷◌, [], codes, length, string_bytes, All, IfOk, OnOk};
 ghost use Rattle.std.specs.Fmt.{decimal};
+ghost use Rattle.sha2.specs.Sha256.{sha256};
 ghost use Rattle.kms_stores.specs.Run.{machine};
 ghost use Rattle.kms_model.specs.declared.pictures.Picture.TheVariants.{On};
-ghost use Rattle.kms_model.specs.Frames.Ppm.{ppm};
 ghost use Rattle.kms_model.specs.Frames.Shown.{EachCanBeShown};
-ghost use Rattle.kms_model.specs.Report.History.{digest_of};
-ghost use Rattle.kms_model.specs.Report.History.{if_wanted, latch_line};
+ghost use Rattle.kms_model.specs.Report.History.{latch_line};
 ghost use Rattle.kms_report.specs.Images.{things_of};
 ghost use Rattle.kms_report.specs.Telling.{latch_front, latches_text, lit_line};
+ghost use Rattle.kms_screens.specs.Screens.{StandsOf};
 
-use crate::digest;
-use crate::frames::frame_of;
 use crate::pixmaps::push_pixmap;
+use crate::showing::showing;
 use kms_compose::Frame;
 use kms_core::Core;
 use kms_model::{Latch, Mode, NoMemory, Picture};
+use kms_screens::{Hands, Screen};
 use std::alloc::{AllocError, Global};
 
 /// `L CRTC COMMIT COUNT `
@@ -28,19 +28,23 @@ fn front_of(alloc: Global, latch: &Latch) -> Result<String, AllocError>
     format!(in alloc; "L {crtc} {commit} {count} ")
 }
 
-/// Adds the end of the line of a latch that is on, and the frame as a pixmap where it is wanted.
+/// Adds the end of the line of a latch that is on, of its frame and the frame's SHA-256, and the frame as a pixmap where it is
+/// wanted.
 fn push_frame(
     alloc: Global,
     text: &mut Vec<u8>,
     frame: &Frame,
+    digest: &[u8; 32],
     mode: &Mode,
     pixmap: bool,
 ) -> Result<(), NoMemory>
-    requires { length frame.now ≡ 3 * (mode.now.hdisplay * mode.now.vdisplay) }
+    requires digest { digest.now ≡ sha256 frame.now }
+    requires size { length frame.now ≡ 3 * (mode.now.hdisplay * mode.now.vdisplay) }
     ensures { OnOk result (text.new.items
         ≡ text.old.items ++ lit_line pixmap mode.now frame.now) }
 {
-    text.extend_from_slice(digest(alloc, frame)?.as_slice())?;
+    let digits = hex::encode(alloc, digest.as_slice())?;
+    text.extend_from_slice(digits.as_bytes())?;
     text.push(b'\n')?;
     if !pixmap {
         return Ok(());
@@ -50,49 +54,73 @@ fn push_frame(
     push_pixmap(alloc, text, frame.as_slice(), width, height)
 }
 
-/// Adds the line of a latch, with its frame as a pixmap behind it where that is wanted.
-fn push_latch(
+/// Adds the line of a latch of a CRTC, with its frame as a pixmap behind it where that is wanted. The latches after it may be
+/// those of other CRTCs too. Gives what is kept of the CRTC's frames.
+fn push_latch<H: Hands>(
+    hands: &H,
     alloc: Global,
     text: &mut Vec<u8>,
     core: &Core,
+    screen: Screen,
     latch: &Latch,
+    after: &[Latch],
     pixmap: bool,
-) -> Result<(), NoMemory>
-    requires { EachCanBeShown (things_of core.now) latch.now.picture }
-    ensures { OnOk result (text.new.items
+) -> Result<Screen, NoMemory>
+    requires hands { H.can_work hands.now }
+    requires screen { StandsOf (things_of core.now) screen }
+    requires latch { EachCanBeShown (things_of core.now) latch.now.picture }
+    requires after { All (λ l. EachCanBeShown (things_of core.now) l.picture) after.now }
+    ensures text { OnOk result (text.new.items
         ≡ text.old.items ++ latch_line (machine core.now) pixmap latch.now) }
+    ensures screen { IfOk result (StandsOf (things_of core.now)) }
 {
     text.extend_from_slice(front_of(alloc, latch)?.as_bytes())?;
-    match &latch.picture {
-        Picture::Off => Ok(text.extend_from_slice(b"off\n")?),
-        Picture::On(shown) => {
-            let frame = frame_of(alloc, core, &latch.picture)?;
-            push_frame(alloc, text, &frame, &shown.mode, pixmap)
-        }
-    }
+    let Picture::On(shown) = &latch.picture else {
+        text.extend_from_slice(b"off\n")?;
+        return Ok(screen);
+    };
+    let screen = showing(hands, alloc, core, screen, latch, after)?;
+    let kept = screen.kept(&latch.picture);
+    push_frame(
+        alloc,
+        text,
+        &kept.drawn.frame,
+        &kept.digest,
+        &shown.mode,
+        pixmap,
+    )?;
+    Ok(screen)
 }
 
 /// Adds the line of a latch, where it is of this CRTC.
-fn push_if_on(
+fn push_if_on<H: Hands>(
+    hands: &H,
     alloc: Global,
     text: &mut Vec<u8>,
     core: &Core,
+    screen: Screen,
     crtc: u32,
     latch: &Latch,
+    after: &[Latch],
     pixmap: bool,
-) -> Result<(), NoMemory>
-    requires { EachCanBeShown (things_of core.now) latch.now.picture }
-    ensures { OnOk result (text.new.items ≡ text.old.items
-        ++ latches_text (machine core.now) pixmap (latch.now ∷ []) crtc) }
+) -> Result<Screen, NoMemory>
+    requires hands { H.can_work hands.now }
+    requires screen { StandsOf (things_of core.now) screen }
+    requires latch { EachCanBeShown (things_of core.now) latch.now.picture }
+    requires after { All (λ l. EachCanBeShown (things_of core.now) l.picture) after.now }
+    ensures text { OnOk result (text.new.items
+        ≡ text.old.items ++ latches_text (machine core.now) pixmap (latch.now ∷ []) crtc) }
+    ensures screen { IfOk result (StandsOf (things_of core.now)) }
 {
     if latch.crtc != crtc {
-        return Ok(());
+        return Ok(screen);
     }
-    push_latch(alloc, text, core, latch, pixmap)
+    push_latch(hands, alloc, text, core, screen, latch, after, pixmap)
 }
 
-/// Adds the lines of the latches of a CRTC, of all latches in order of time.
-pub fn push_latches(
+/// Adds the lines of the latches of a CRTC, of all latches in order of time. Each frame is made of one of the two before it.
+pub fn push_latches<H: Hands>(
+    hands: &H,
     alloc: Global,
     text: &mut Vec<u8>,
     core: &Core,
@@ -100,12 +128,16 @@ pub fn push_latches(
     latches: &[Latch],
     pixmap: bool,
 ) -> Result<(), NoMemory>
-    requires { All (λ l. EachCanBeShown (things_of core.now) l.picture) latches.now }
+    requires hands { H.can_work hands.now }
+    requires can { All (λ l. EachCanBeShown (things_of core.now) l.picture) latches.now }
     ensures { OnOk result (text.new.items ≡ text.old.items
         ++ latches_text (machine core.now) pixmap latches.now crtc) }
 {
-    for latch in latches {
-        push_if_on(alloc, text, core, crtc, latch, pixmap)?;
+    let mut screen = Screen::dark(alloc);
+    for place in 0..latches.len() {
+        let latch = &latches[place];
+        let after = &latches[place + 1..];
+        screen = push_if_on(hands, alloc, text, core, screen, crtc, latch, after, pixmap)?;
     }
     Ok(())
 }

@@ -8,16 +8,17 @@ ghost use Rattle.kms_model.specs.Frames.Ppm.{ppm};
 
 mod answers;
 mod ends;
-mod frames;
 mod histories;
+mod images;
 mod latches;
 mod lines;
 mod pixmaps;
+mod showing;
 
-pub use histories::{Options, report};
+pub use histories::{Options, report, report_with};
 use kms_compose::Frame;
 use kms_model::{NoMemory, Seq};
-use sha2::{Digest, Sha256};
+use kms_screens::digest_of;
 use std::alloc::Global;
 
 /// The SHA-256 of a frame's bytes (FIPS 180-4), as 64 lower-case hexadecimal digits. The only error is want of memory.
@@ -25,7 +26,7 @@ pub fn digest(alloc: Global, frame: &Frame) -> Result<Seq<u8>, NoMemory>
     ensures exact { IfOk result (λ text. text ≡ digest_of frame.now) }
     ensures digits { IfOk result (λ text. length text ≡ 64) }
 {
-    let text = hex::encode(alloc, Sha256::digest(frame.as_slice()).as_slice())?;
+    let text = hex::encode(alloc, digest_of(frame.as_slice()).as_slice())?;
     Ok(Seq::from_vec(text.into_bytes()))
 }
 

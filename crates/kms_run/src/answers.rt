@@ -7,10 +7,11 @@ ghost use Rattle.kms_run.specs.Words.{needs_threads};
 use crate::words::{Action, Execution};
 use kms_core::Core;
 use kms_model::{NoMemory, Seq, Step, Why};
-use kms_report::report;
+use kms_report::report_with;
 use kms_rounds::{End, ReplayError, end_of, finish, replay};
 use kms_script::{ParseError, Parsed, parse};
 use std::alloc::Global;
+use std::thread::Threads;
 
 /// A report, and how the history ended that it tells.
 #[derive(Drop)]
@@ -94,7 +95,8 @@ fn execute(
 }
 
 /// The report of the history that was made of a script and a schedule as was asked for.
-pub(crate) fn full_report(
+pub(crate) fn full_report<R: Threads + Sync>(
+    rt: &R,
     alloc: Global,
     core: &Core,
     asked: &Execution,
@@ -108,13 +110,14 @@ pub(crate) fn full_report(
     core.is_a_history();
     core.shows_its_journal();
     Ok(FullReport {
-        text: report(alloc, core.script(), core, asked.options)?,
+        text: report_with(rt, alloc, core.script(), core, asked.options)?,
         ended: end_of(core),
     })
 }
 
 /// Does what is asked for on a machine before its first step, and reports it.
-fn told(
+fn told<R: Threads + Sync>(
+    rt: &R,
     alloc: Global,
     core: &mut Core,
     asked: &Execution,
@@ -125,17 +128,22 @@ fn told(
     ensures { Tells asked.now core.old.script schedule.now result }
 {
     execute(alloc, core, asked.action, schedule)?;
-    Ok(full_report(alloc, core, asked, schedule)?)
+    Ok(full_report(rt, alloc, core, asked, schedule)?)
 }
 
 /// The report of what is asked for, but a run, with the script that an input spells; or the input's first fault, or the first
 /// step of its schedule that is not legal. The input's bytes are given up before anything is executed.
-pub fn answer(alloc: Global, input: Vec<u8>, asked: &Execution) -> Result<FullReport, NoAnswer>
+pub fn answer<R: Threads + Sync>(
+    rt: &R,
+    alloc: Global,
+    input: Vec<u8>,
+    asked: &Execution,
+) -> Result<FullReport, NoAnswer>
     requires { needs_threads asked.now.action ≡ false }
     ensures { Answers asked.now input.items result }
 {
     let parsed = parse(alloc, &input, asked.action.part())?;
     drop(input);
     let mut core = Core::new(alloc, parsed.script)?;
-    told(alloc, &mut core, asked, parsed.steps.as_slice())
+    told(rt, alloc, &mut core, asked, parsed.steps.as_slice())
 }

@@ -13,11 +13,12 @@ use crate::words::{Generation, NO_OPTIONS};
 use kms_core::Core;
 use kms_gen::generate;
 use kms_model::{Answered, NoMemory, Reply, Seq};
-use kms_report::report;
+use kms_report::report_with;
 use kms_rounds::finish;
 use kms_script::print;
 use sha2::{Digest, Sha256};
 use std::alloc::{AllocError, Global};
+use std::thread::Threads;
 
 /// How many entries the journal has, and how many latches, events read and framebuffers freed there are.
 #[derive(Clone, Copy)]
@@ -73,11 +74,11 @@ fn count_all(core: &Core) -> Counts
 }
 
 /// The SHA-256 (FIPS 180-4) of the report without options, in lower-case hexadecimal.
-fn report_digest(alloc: Global, core: &Core) -> Result<String, NoMemory>
+fn report_digest<R: Threads + Sync>(rt: &R, alloc: Global, core: &Core) -> Result<String, NoMemory>
     ensures { IfOk result (λ text. string_bytes text
         ≡ said.report_digest core.now.script core.now.steps) }
 {
-    let report = report(alloc, core.script(), core, NO_OPTIONS)?;
+    let report = report_with(rt, alloc, core.script(), core, NO_OPTIONS)?;
     Ok(hex::encode(alloc, Sha256::digest(report.as_slice()).as_slice())?)
 }
 
@@ -101,12 +102,12 @@ fn six_lines(alloc: Global, counts: &Counts, digest: &str) -> Result<String, All
 }
 
 /// What a history that is drained comes to.
-fn summary(alloc: Global, core: &Core) -> Result<Seq<u8>, NoMemory>
+fn summary<R: Threads + Sync>(rt: &R, alloc: Global, core: &Core) -> Result<Seq<u8>, NoMemory>
     requires { is_drained core.now.script (machine core.now) ≡ true }
     ensures { IfOk result (λ text. text ≡ said.summary core.now.script core.now.steps) }
 {
     let counts = count_all(core);
-    let digest = report_digest(alloc, core)?;
+    let digest = report_digest(rt, alloc, core)?;
     let text = six_lines(alloc, &counts, digest.as_str())?;
     Ok(Seq::from_vec(text.into_bytes()))
 }
@@ -121,7 +122,12 @@ fn script_text(alloc: Global, asks: &Generation) -> Result<Seq<u8>, NoMemory>
 }
 
 /// Runs a generated script on a machine before its first step, and sums it up.
-fn run_with(alloc: Global, core: &mut Core, asks: &Generation) -> Result<Seq<u8>, NoMemory>
+fn run_with<R: Threads + Sync>(
+    rt: &R,
+    alloc: Global,
+    core: &mut Core,
+    asks: &Generation,
+) -> Result<Seq<u8>, NoMemory>
     requires script { core.old.script ≡ generated asks.now.seed asks.now.commits }
     requires start { core.old.steps ≡ [] }
     ensures { IfOk result (said.IsSummaryOf (generated asks.now.seed asks.now.commits)) }
@@ -130,28 +136,36 @@ fn run_with(alloc: Global, core: &mut Core, asks: &Generation) -> Result<Seq<u8>
     core.is_a_history();
     core.shows_its_journal();
     kms_laws::generated_scripts_drain();
-    summary(alloc, core)
+    summary(rt, alloc, core)
 }
 
 /// The summary of a generated script that one thread runs.
-fn run_summary(alloc: Global, asks: &Generation) -> Result<Seq<u8>, NoMemory>
+fn run_summary<R: Threads + Sync>(
+    rt: &R,
+    alloc: Global,
+    asks: &Generation,
+) -> Result<Seq<u8>, NoMemory>
     requires { HasFewCommits asks.now }
     ensures { IfOk result (said.IsSummaryOf (generated asks.now.seed asks.now.commits)) }
 {
     let script = generate(alloc, asks.seed, asks.commits)?;
     let mut core = Core::new(alloc, script)?;
-    run_with(alloc, &mut core, asks)
+    run_with(rt, alloc, &mut core, asks)
 }
 
 /// What `gen` writes: the text of a generated script; or, where the script is run, how many entries the journal has, how many
 /// latches, events read and framebuffers freed there are, the digest of the report, and that the history is drained, as that
 /// of each generated script is. The only error is want of memory.
-pub fn generated_text(alloc: Global, asks: &Generation) -> Result<Seq<u8>, NoMemory>
+pub fn generated_text<R: Threads + Sync>(
+    rt: &R,
+    alloc: Global,
+    asks: &Generation,
+) -> Result<Seq<u8>, NoMemory>
     requires { HasFewCommits asks.now }
     ensures { IfOk result (said.IsGenerated asks.now) }
 {
     if asks.run {
-        run_summary(alloc, asks)
+        run_summary(rt, alloc, asks)
     } else {
         script_text(alloc, asks)
     }

@@ -141,5 +141,5 @@ pub(crate) fn run_answer<R: Threads + Wait + Sync, G: Gate + Sync>(
         action: Action::Run { threads },
         options,
     };
-    Ok(full_report(alloc, &core, &asked, parsed.steps.as_slice())?)
+    Ok(full_report(rt, alloc, &core, &asked, parsed.steps.as_slice())?)
 }

@@ -63,7 +63,8 @@ fn write_answer<K: Sink>(sink: &mut K, answer: Result<FullReport, NoAnswer>) -> 
 }
 
 /// What `one` and `replay` do, with all that is promised of the bytes in one clause by the status.
-fn executed<S: Source, K: Sink>(
+fn executed<R: Threads + Sync, S: Source, K: Sink>(
+    rt: &R,
     alloc: Global,
     asks: &Execution,
     source: &mut S,
@@ -79,7 +80,7 @@ fn executed<S: Source, K: Sink>(
         → Rose (K.faults sink.old) (K.faults sink.new) }
 {
     match read_input(alloc, source) {
-        Ok(input) => write_answer(sink, answer(alloc, input, asks)),
+        Ok(input) => write_answer(sink, answer(rt, alloc, input, asks)),
         Err(status) => status,
     }
 }
@@ -114,13 +115,18 @@ fn run_executed<R: Threads + Wait + Sync, S: Source, K: Sink, G: Gate + Sync>(
 }
 
 /// What `gen` does, which has no source to read.
-fn generated<K: Sink>(alloc: Global, asks: &Generation, sink: &mut K) -> Status
+fn generated<R: Threads + Sync, K: Sink>(
+    rt: &R,
+    alloc: Global,
+    asks: &Generation,
+    sink: &mut K,
+) -> Status
     requires { HasFewCommits asks.now }
     ensures put { Wrote (K.written sink.old) (K.written sink.new) (MeetsGenerated asks.now result) }
     ensures write_fault { result ≡ Status.WriteFault
         → Rose (K.faults sink.old) (K.faults sink.new) }
 {
-    let Ok(text) = generated_text(alloc, asks) else {
+    let Ok(text) = generated_text(rt, alloc, asks) else {
         return Status::NoMemory;
     };
     match write_all(sink, text.as_slice()) {
@@ -130,13 +136,13 @@ fn generated<K: Sink>(alloc: Global, asks: &Generation, sink: &mut K) -> Status
 }
 
 /// All that the program does for words that are no legal words of `run`. It waits for nobody. `rt` is for threads that
-/// only compute; there are none yet.
+/// only compute: they make the frames of a report, and their digests.
 ///
 /// The words are tried first. For `one` and `replay` the input is read to its end (or to one byte more than it may have),
 /// then the script is read and executed, and only then is the report written. For `gen` nothing is read; the generated
 /// script, or the six lines of its run, is written when it is whole.
-pub fn kms_plain<R: Threads, S: Source, K: Sink>(
-    _rt: &R,
+pub fn kms_plain<R: Threads + Sync, S: Source, K: Sink>(
+    rt: &R,
     alloc: Global,
     words: &[String],
     source: &mut S,
@@ -149,8 +155,8 @@ pub fn kms_plain<R: Threads, S: Source, K: Sink>(
 {
     match read_words(words) {
         None => Status::Usage,
-        Some(Asked::Execute(asks)) => executed(alloc, &asks, source, sink),
-        Some(Asked::Generate(asks)) => generated(alloc, &asks, sink),
+        Some(Asked::Execute(asks)) => executed(rt, alloc, &asks, source, sink),
+        Some(Asked::Generate(asks)) => generated(rt, alloc, &asks, sink),
     }
 }
 

@@ -18,7 +18,7 @@ const READS: u32 = 9;
 const WRITES: u32 = 12;
 
 /// What `one` answers, whose words are none of `run`.
-fn one<R: Threads>(
+fn one<R: Threads + Sync>(
     rt: &R,
     alloc: Global,
     source: &mut MemSource,
@@ -32,7 +32,12 @@ fn one<R: Threads>(
 }
 
 /// Whether a failing read of this number ends the call, with nothing written.
-fn read_fails<R: Threads>(rt: &R, alloc: Global, text: &str, number: u32) -> Result<bool, Fail> {
+fn read_fails<R: Threads + Sync>(
+    rt: &R,
+    alloc: Global,
+    text: &str,
+    number: u32,
+) -> Result<bool, Fail> {
     let mut source = source(alloc, text, READ, &[number])?;
     let mut sink = sink(alloc, 64, &[])?;
     let status = one(rt, alloc, &mut source, &mut sink)?;
@@ -40,7 +45,7 @@ fn read_fails<R: Threads>(rt: &R, alloc: Global, text: &str, number: u32) -> Res
 }
 
 /// Whether a failing write of this number ends the call, with what was written before it.
-fn write_fails<R: Threads>(
+fn write_fails<R: Threads + Sync>(
     rt: &R,
     alloc: Global,
     text: &str,

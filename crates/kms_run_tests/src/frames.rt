@@ -1,5 +1,5 @@
 //! Frames as text.
-use crate::asserting::{assert_answers, assert_shows, lit, FRAMES};
+use crate::asserting::{FRAMES, assert_answers, assert_shows, lit};
 use crate::texts::{ABC, BLACK, HEAD, LIGHTS, LIT, LIT_REPLIES, MADE, MADE_MODE, SET, UNSET};
 use kms_run::Status;
 use std::test::Fail;

@@ -9,7 +9,7 @@ use Rattle.kms_run.proofs.Summed.{summed}
 use Rattle.kms_run.proofs.generated.run_with.Goals as goal
 
 pub returns : goal.returns
-returns c =
+returns g c =
     let asks = c.args.asks.now in
     let s = generated asks.seed asks.commits in
     let h = c.finish.new.core.steps in

@@ -3,7 +3,8 @@ use Rattle.std.proofs.lemmas.List.{take_all}
 use Rattle.kms_model.specs.declared.pictures.Layer.{Layer}
 use Rattle.kms_report.specs.Images.{AreSeen, things_of}
 use Rattle.kms_report.proofs.ImageLemmas.{pushed-images, pushed-more}
-use Rattle.kms_report.proofs.frames.layer_images.Goals as goal
+use Rattle.kms_report.proofs.KeptImages.{keeps-then, pushed-keeps}
+use Rattle.kms_report.proofs.images.push_layers.Goals as goal
 
 pub loop-layer-preserved : goal.loop-layer-preserved
 loop-layer-preserved c =
@@ -13,6 +14,7 @@ loop-layer-preserved c =
     record {
       images = pushed-images things _ c.loop-layer.images c.push_image.new.images pushed before.images;
       seen = pushed-more things c.args.layers.now c.loop-layer.layer-index _ c.loop-layer.images c.push_image.new.images c.loop-layer-test.true pushed before.images before.seen;
+      kept = keeps-then c.args.images.now c.loop-layer.images c.push_image.new.images before.kept (pushed-keeps things _ c.loop-layer.images c.push_image.new.images pushed);
     }
 
 pub returns-clause-seen : goal.returns-clause-seen

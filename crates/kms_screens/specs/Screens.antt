@@ -1,0 +1,57 @@
+-- Frames that are kept, with their pictures and digests.
+use Rattle.std.specs.Prelude.{◌≡◌, ◌⊎◌, ℕ, List, Option}
+use Rattle.sha2.specs.Sha256.{sha256}
+use Rattle.kms_model.specs.declared.pictures.Picture.{Picture}
+use Rattle.kms_model.specs.declared.worlds.Thing.{Thing}
+use Rattle.kms_model.specs.Frames.FrameBytes.{frame_of, word_of}
+use Rattle.kms_model.specs.Frames.Shown.{EachCanBeShown}
+use Rattle.kms_compose.specs.Images.{CanShow, word_under}
+use Rattle.kms_compose.specs.declared.images.FbImage.{FbImage}
+use Rattle.kms_screens.specs.declared.kept.Drawn.{Drawn}
+use Rattle.kms_screens.specs.declared.kept.Kept.{Kept}
+use Rattle.kms_screens.specs.declared.screen.Screen.{Screen}
+
+-- A picture can be shown, and the frame beside it is its own, of these words of framebuffers.
+pub record IsDrawn (can_show : Picture → Type 0) (words : ℕ → ℕ → ℕ → Option ℕ) (d : Drawn) : Type 0 where
+  pub can : can_show d.picture
+  pub exact : d.frame ≡ frame_of words d.picture
+
+-- the same with the frame's digest
+pub record IsKept (can_show : Picture → Type 0) (words : ℕ → ℕ → ℕ → Option ℕ) (k : Kept) : Type 0 where
+  pub drawn : IsDrawn can_show words k.drawn
+  pub digest : k.digest ≡ sha256 k.drawn.frame
+
+-- what is kept of a CRTC
+pub record Stands (can_show : Picture → Type 0) (words : ℕ → ℕ → ℕ → Option ℕ) (s : Screen) : Type 0 where
+  pub first : IsKept can_show words s.first
+  pub second : IsKept can_show words s.second
+
+-- over images of framebuffers
+abbrev pub IsDrawnOver : List FbImage → Drawn → Type 0
+IsDrawnOver images = IsDrawn (CanShow images) (word_under images)
+
+abbrev pub StandsOver : List FbImage → Screen → Type 0
+StandsOver images = Stands (CanShow images) (word_under images)
+
+-- over the things of a machine
+abbrev pub IsKeptOf : List Thing → Kept → Type 0
+IsKeptOf things = IsKept (EachCanBeShown things) (word_of things)
+
+abbrev pub IsKeptOver : List FbImage → Kept → Type 0
+IsKeptOver images = IsKept (CanShow images) (word_under images)
+
+abbrev pub StandsOf : List Thing → Screen → Type 0
+StandsOf things = Stands (EachCanBeShown things) (word_of things)
+
+-- the picture is this one
+abbrev pub IsOf : Picture → Drawn → Type 0
+IsOf p d = d.picture ≡ p
+
+-- a picture is one of the two
+abbrev pub Has : Screen → Picture → Type 0
+Has s p = (s.first.drawn.picture ≡ p) ⊎ (s.second.drawn.picture ≡ p)
+
+-- a frame with its digest
+pub record IsHashed (d : Drawn) (k : Kept) : Type 0 where
+  pub own : k.drawn ≡ d
+  pub digest : k.digest ≡ sha256 d.frame

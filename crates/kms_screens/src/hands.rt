@@ -1,0 +1,68 @@
+//! Who makes frames and digests: one thread, or several.
+ghost use Rattle.std.specs.Prelude.{◌≡◌, IfOk};
+ghost use Rattle.sha2.specs.Sha256.{sha256};
+ghost use Rattle.kms_model.specs.Frames.FrameBytes.{frame_of};
+ghost use Rattle.kms_compose.specs.Images.{CanShow, word_under};
+
+use crate::digests::{both_digests, digest_of};
+use kms_compose::{Frame, Images, frame, frame_rows};
+use kms_model::{NoMemory, Picture};
+use std::alloc::Global;
+use std::thread::Threads;
+
+/// Who makes frames and digests.
+pub trait Hands {
+    // They may be at work in several threads.
+    ghost can_work: { Self → Type 0 };
+
+    /// The frame of a picture over the images of its framebuffers. The only error is want of memory.
+    fn frame(&self, alloc: Global, picture: &Picture, images: &Images) -> Result<Frame, NoMemory>
+        requires hands { can_work self.now }
+        requires picture { CanShow images.now picture.now }
+        ensures { IfOk result (λ bytes. bytes ≡ frame_of (word_under images.now) picture.now) };
+
+    /// The SHA-256 of each of two lists of bytes (FIPS 180-4).
+    fn digests(&self, one: &[u8], other: &[u8]) -> ([u8; 32], [u8; 32])
+        requires { can_work self.now }
+        ensures one { result.0 ≡ sha256 one.now }
+        ensures other { result.1 ≡ sha256 other.now };
+}
+
+/// One thread, which does one thing after the other.
+#[derive(Clone, Copy, Debug)]
+pub struct OneThread;
+
+impl Hands for OneThread {
+    ghost use Rattle.std.specs.Prelude.{⊤};
+
+    ghost can_work = { λ _. ⊤ };
+
+    fn frame(&self, alloc: Global, picture: &Picture, images: &Images) -> Result<Frame, NoMemory> {
+        frame(alloc, picture, images)
+    }
+
+    fn digests(&self, one: &[u8], other: &[u8]) -> ([u8; 32], [u8; 32]) {
+        (digest_of(one), digest_of(other))
+    }
+}
+
+/// As many threads as there are processors for the rows of a frame, and two for two digests.
+#[derive(Drop)]
+pub struct SeveralThreads<'a, R> {
+    /// Where the threads come from.
+    pub rt: &'a R,
+}
+
+impl<'a, R: Threads + Sync> Hands for SeveralThreads<'a, R> {
+    ghost use Rattle.std.specs.Thread.{IsSync};
+
+    ghost can_work = { λ _. IsSync R.row };
+
+    fn frame(&self, alloc: Global, picture: &Picture, images: &Images) -> Result<Frame, NoMemory> {
+        frame_rows(self.rt, alloc, picture, images)
+    }
+
+    fn digests(&self, one: &[u8], other: &[u8]) -> ([u8; 32], [u8; 32]) {
+        both_digests(self.rt, one, other)
+    }
+}

@@ -1,0 +1,15 @@
+//! What a CRTC showed last: two pictures, each with its frame and the frame's digest, of which the next ones are made.
+#![tactic(auto)]
+
+mod digests;
+mod hands;
+mod kept;
+mod screen;
+
+pub use digests::digest_of;
+pub use hands::{Hands, OneThread, SeveralThreads};
+pub use kept::{Drawn, Kept, is_same};
+pub use screen::Screen;
+
+#[cfg(test)]
+mod tests;

@@ -1,0 +1,182 @@
+//! The two frames that are kept of a CRTC.
+ghost use Rattle.std.specs.Prelude.{◌≡◌, ◌⊎◌, ◌↔◌, List, IfOk, IfSome, IsTrue};
+ghost use Rattle.kms_model.specs.declared.worlds.Thing.{Thing};
+ghost use Rattle.kms_compose.specs.Images.{CanShow};
+ghost use Rattle.kms_compose.specs.declared.images.FbImage.{FbImage};
+ghost use Rattle.kms_screens.specs.Screens.{Has, IsHashed, IsKeptOf, IsKeptOver, StandsOf, StandsOver};
+
+use crate::digests::digest_of;
+use crate::hands::Hands;
+use crate::kept::{Drawn, Kept, at_hand, is_same, redrawn};
+use kms_compose::Images;
+use kms_model::{NoMemory, Picture, Seq};
+use std::alloc::Global;
+
+/// Two pictures that a CRTC showed, or is about to show, each with its frame and the frame's digest.
+#[derive(Drop)]
+pub struct Screen {
+    /// One of them.
+    pub first: Kept,
+    /// The other.
+    pub second: Kept,
+}
+
+/// The picture that is off, which has no byte.
+fn off(alloc: Global) -> Kept
+    ensures images { (images : List FbImage) → IsKeptOver images result }
+    ensures things { (things : List Thing) → IsKeptOf things result }
+{
+    Kept {
+        drawn: Drawn {
+            picture: Picture::Off,
+            frame: Seq::new(alloc),
+        },
+        digest: digest_of(&[]),
+    }
+}
+
+/// A frame with its digest.
+fn hashed(drawn: Drawn) -> Kept
+    ensures { IsHashed drawn result }
+{
+    Kept {
+        digest: digest_of(drawn.frame.as_slice()),
+        drawn,
+    }
+}
+
+/// Two frames with their digests.
+fn both_hashed<H: Hands>(hands: &H, one: Drawn, other: Drawn) -> Screen
+    requires { H.can_work hands.now }
+    ensures first { IsHashed one result.first }
+    ensures second { IsHashed other result.second }
+{
+    let (digest, digest_of_other) = hands.digests(one.frame.as_slice(), other.frame.as_slice());
+    Screen {
+        first: Kept { drawn: one, digest },
+        second: Kept {
+            drawn: other,
+            digest: digest_of_other,
+        },
+    }
+}
+
+impl Screen {
+    /// The screen of a CRTC that showed nothing yet.
+    pub fn dark(alloc: Global) -> Screen
+        ensures images { (images : List FbImage) → StandsOver images result }
+        ensures things { (things : List Thing) → StandsOf things result }
+    {
+        Screen {
+            first: off(alloc),
+            second: off(alloc),
+        }
+    }
+
+    /// Whether a picture is one of the two.
+    pub fn has(&self, picture: &Picture) -> bool
+        ensures { IsTrue result ↔ Has self.now picture.now }
+    {
+        is_same(&self.first.drawn.picture, picture) || is_same(&self.second.drawn.picture, picture)
+    }
+
+    /// What is kept of a picture that is one of the two.
+    pub fn kept(&self, picture: &Picture) -> &Kept
+        requires { Has self.now picture.now }
+        ensures among { (result.now ≡ self.now.first) ⊎ (result.now ≡ self.now.second) }
+        ensures own { result.now.drawn.picture ≡ picture.now }
+    {
+        if is_same(&self.first.drawn.picture, picture) {
+            &self.first
+        } else {
+            &self.second
+        }
+    }
+
+    /// The same two, this picture in the second place.
+    fn with_last(self, picture: &Picture) -> Screen
+        requires { Has self picture.now }
+        ensures own { result.second.drawn.picture ≡ picture.now }
+        ensures same { ((result.first ≡ self.first) × (result.second ≡ self.second))
+            ⊎ ((result.first ≡ self.second) × (result.second ≡ self.first)) }
+    {
+        if is_same(&self.second.drawn.picture, picture) {
+            return self;
+        }
+        Screen {
+            first: self.second,
+            second: self.first,
+        }
+    }
+
+    /// This picture in the place of the first one.
+    fn with_one<H: Hands>(
+        self,
+        hands: &H,
+        alloc: Global,
+        picture: &Picture,
+        images: &Images,
+    ) -> Result<Screen, NoMemory>
+        requires hands { H.can_work hands.now }
+        requires screen { StandsOver images.now self }
+        requires picture { CanShow images.now picture.now }
+        ensures { IfOk result (λ s. StandsOver images.now s × Has s picture.now) }
+    {
+        let Screen { first, second } = self;
+        let drawn = redrawn(hands, alloc, first.drawn, picture, images)?;
+        Ok(Screen {
+            first: hashed(drawn),
+            second,
+        })
+    }
+
+    /// These two pictures in the place of both.
+    fn with_both<H: Hands>(
+        self,
+        hands: &H,
+        alloc: Global,
+        picture: &Picture,
+        next: &Picture,
+        images: &Images,
+    ) -> Result<Screen, NoMemory>
+        requires hands { H.can_work hands.now }
+        requires screen { StandsOver images.now self }
+        requires picture { CanShow images.now picture.now }
+        requires next { CanShow images.now next.now }
+        ensures { IfOk result (λ s. StandsOver images.now s × Has s picture.now) }
+    {
+        let Screen { first, second } = self;
+        let one = redrawn(hands, alloc, first.drawn, picture, images)?;
+        let hand = at_hand(alloc, second.drawn, &one, next)?;
+        let other = redrawn(hands, alloc, hand, next, images)?;
+        Ok(both_hashed(hands, one, other))
+    }
+
+    /// A screen that has this picture. Its frame is made of one that is kept, and so is that of the next picture where one is
+    /// given, so that the digests of both are made together. Two frames are alive at most. The only error is want of memory.
+    pub fn showing<H: Hands>(
+        self,
+        hands: &H,
+        alloc: Global,
+        picture: &Picture,
+        next: Option<&Picture>,
+        images: &Images,
+    ) -> Result<Screen, NoMemory>
+        requires hands { H.can_work hands.now }
+        requires screen { StandsOver images.now self }
+        requires picture { CanShow images.now picture.now }
+        requires next { IfSome next (λ p. CanShow images.now p.now) }
+        ensures { IfOk result (λ s. StandsOver images.now s × Has s picture.now) }
+    {
+        if self.has(picture) {
+            return Ok(self);
+        }
+        let Some(next) = next else {
+            return self.with_one(hands, alloc, picture, images);
+        };
+        if self.has(next) {
+            return self.with_last(next).with_one(hands, alloc, picture, images);
+        }
+        self.with_both(hands, alloc, picture, next, images)
+    }
+}
