@@ -169,5 +169,6 @@ placed blend q f old shown at room lanes = record {
   where
     from_chunk : (xs : List ℕ) (at k : ℕ) → at ≤ k → k - at < 16 → slice_index (chunk at 16 xs) (k - at) ≡ slice_index xs k
     from_chunk xs at k low j = get_or-chunk at 16 xs (k - at) 0 j ∙ ap (λ (m : ℕ). slice_index xs m) (omega (arith, low))
+
     same_blend : (blend : ℕ → ℕ → ℕ → ℕ) (q q' f f' b b' : ℕ) → q ≡ q' → f ≡ f' → b ≡ b' → blend q f b ≡ blend q' f' b'
     same_blend blend q q' f f' b b' e e' e'' = rw (e, e', e'') refl
