@@ -302,6 +302,19 @@ fn four_pixels_become_one(rt: HostRuntime) -> Result<(), Fail> {
     are_shown(&rt, rt.alloc(), &cases)
 }
 
+// The same, of which one pixel lies outside of the mode.
+#[test]
+fn four_pixels_become_one_at_the_edges(rt: HostRuntime) -> Result<(), Fail> {
+    let words = [0, 1, 2, 3, 4, 5, 6, 7];
+    let cases = [
+        row(2, 8, 8 * PIXEL, (-1, 2), &words, &[6, 0]),
+        row(2, 8, 8 * PIXEL, (1, 2), &words, &[0, 2]),
+        column(2, 8, 8 * PIXEL, (-1, 2), &words, &[6, 0]),
+        column(2, 8, 8 * PIXEL, (1, 2), &words, &[0, 2]),
+    ];
+    are_shown(&rt, rt.alloc(), &cases)
+}
+
 // At the left, at the right, at the top and at the bottom.
 #[test]
 fn one_pixel_becomes_four_and_is_cut_at_the_edges(rt: HostRuntime) -> Result<(), Fail> {
