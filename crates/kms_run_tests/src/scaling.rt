@@ -179,6 +179,30 @@ fn a_table_inverts_each_channel(rt: HostRuntime) -> Result<(), Fail> {
     assert_no_table(&rt, HEADS[0], 2048, "ENOENT 5")
 }
 
+/// What threads show where a CRTC has a table.
+#[test]
+fn a_table_is_shown_by_several_threads(rt: HostRuntime) -> Result<(), Fail> {
+    let blob = inverting(rt.alloc(), 2048)?;
+    let table = " crtc0.GAMMA_LUT=@g\n";
+    let text = joined(
+        rt.alloc(),
+        &[HEADS[1], MADE, blob.as_str(), LIGHTS, SET, table],
+    )?;
+    let report = [
+        LIT,
+        "J 1 5\n",
+        MADE_FOUR,
+        "R 1 5 4 commit 0\nL 0 0 1 8d7a83ff31a8b084d7c69c1ae6366858716612eca969680c5e43618552d574df\nD drained\n",
+    ];
+    assert_answers(
+        &rt,
+        &["run", "--threads", "4"],
+        text.as_str(),
+        Status::Ok,
+        &report,
+    )
+}
+
 /// A table comes and goes without a modeset, and its blob may be destroyed.
 #[test]
 fn a_changed_table_is_shown_from_its_commit_on(rt: HostRuntime) -> Result<(), Fail> {
