@@ -4,9 +4,8 @@ use Rattle.std.proofs.lemmas.List.{get_or-map, length-map}
 use Rattle.std.proofs.lemmas.Simd.{get_or-chunk, get_or-put_chunk_above, get_or-put_chunk_at, get_or-put_chunk_below, get_or-replicate, get_or-sel_l, get_or-zip2, length-replicate, length-sel_l, length-zip2, tops_compared}
 use Rattle.std.proofs.Math.Nat.{mul-le-mul}
 use lib.Lanes.{chunk, put_chunk, zip2, sel_l, top}
-use mir.Syntax.{Width, w16, w32}
+use mir.Syntax.{Width}
 use mir.Val.{bits, hbits}
-use Rattle.kms_model.specs.Frames.FrameBytes.{opaque}
 use Rattle.kms_blend.specs.Lanes.{AreBlended, HasLanes, bounded}
 
 -- each lane as it is
@@ -169,5 +168,6 @@ placed blend q f old shown at room lanes = record {
   where
     from_chunk : (xs : List ℕ) (at k : ℕ) → at ≤ k → k - at < 16 → slice_index (chunk at 16 xs) (k - at) ≡ slice_index xs k
     from_chunk xs at k low j = get_or-chunk at 16 xs (k - at) 0 j ∙ ap (λ (m : ℕ). slice_index xs m) (omega (arith, low))
+
     same_blend : (blend : ℕ → ℕ → ℕ → ℕ) (q q' f f' b b' : ℕ) → q ≡ q' → f ≡ f' → b ≡ b' → blend q f b ≡ blend q' f' b'
     same_blend blend q q' f f' b b' e e' e'' = rw (e, e', e'') refl

@@ -40,6 +40,7 @@ same_layer m words x y u a b p q s =
   where
     rect_of : (x y w h x' y' w' h' : ℤ) → x ≡ x' → y ≡ y' → w ≡ w' → h ≡ h' → ◌≡◌ {A = Rect} (record { x = x; y = y; w = w; h = h }) (record { x = x'; y = y'; w = w'; h = h' })
     rect_of x y w h x' y' w' h' e f g i = rw (e, f, g, i) refl
+
     same_rect : (a b : Rect) → IsSameRect a b → a ≡ b
     same_rect a b s = rect_of a.x a.y a.w a.h b.x b.y b.w b.h s.x s.y s.w s.h
 

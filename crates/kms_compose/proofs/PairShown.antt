@@ -24,12 +24,12 @@ pub has_pair : (i j : FbImage) → IsImageOf (small_fb 1000) i → IsImageOf (sm
 has_pair i j h k = record {
   first = has_first i (j ∷ []) (small_fb 1000) h;
   second = record {
-      seen = image_seen j.image;
-      found = found_later i (j ∷ []) 1001 1000 h.own refl ∙ found_first j [] 1001 k.own;
-      width = k.width;
-      height = k.height;
-      words = k.words;
-    };
+    seen = image_seen j.image;
+    found = found_later i (j ∷ []) 1001 1000 h.own refl ∙ found_first j [] 1001 k.own;
+    width = k.width;
+    height = k.height;
+    words = k.words;
+  };
 }
 
 pub has_dot : (i : FbImage) → IsImageOf dot_fb i → HasDot (i ∷ [])

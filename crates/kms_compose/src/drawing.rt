@@ -85,13 +85,7 @@ pub fn draw_row(parts: &[Part], gamma: &Option<Gamma>, y: usize, count: usize, o
 }
 
 /// Draws the pixels of a rectangle, in a frame of a mode of this width.
-pub fn draw_area(
-    parts: &[Part],
-    gamma: &Option<Gamma>,
-    width: usize,
-    area: &Area,
-    bytes: &mut [u8],
-)
+pub fn draw_area(parts: &[Part], gamma: &Option<Gamma>, width: usize, area: &Area, bytes: &mut [u8])
     requires parts { All IsPart parts.now }
     requires narrow { width < 65536 }
     requires across { area.now.left + area.now.width ≤ width }

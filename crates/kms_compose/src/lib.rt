@@ -10,9 +10,9 @@ mod images;
 mod parts;
 mod recomposing;
 mod rows;
-mod threads;
 mod sources;
 mod tables;
+mod threads;
 
 pub use frames::{Frame, frame};
 pub use images::{FbImage, Images};

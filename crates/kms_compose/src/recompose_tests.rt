@@ -25,10 +25,7 @@ impl Chance {
         requires { 0 < end }
         ensures { result < end }
     {
-        self.state = self
-            .state
-            .wrapping_mul(1664525)
-            .wrapping_add(1013904223);
+        self.state = self.state.wrapping_mul(1664525).wrapping_add(1013904223);
         self.state / 65536 % end
     }
 }

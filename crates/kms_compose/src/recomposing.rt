@@ -147,13 +147,7 @@ fn draw_layers(
 }
 
 /// Draws the pixels that a layer covers, in a frame of a mode.
-fn draw_layer(
-    parts: &[Part],
-    gamma: &Option<Gamma>,
-    mode: &Mode,
-    layer: &Layer,
-    bytes: &mut [u8],
-)
+fn draw_layer(parts: &[Part], gamma: &Option<Gamma>, mode: &Mode, layer: &Layer, bytes: &mut [u8])
     requires parts { All IsPart parts.now }
     requires layer { FitsMode mode.now layer.now }
     requires narrow { mode.now.hdisplay < 65536 }

@@ -165,7 +165,16 @@ fn put_part(
     };
     let words = &mut shown[..end - from];
     let words = words_of(part, row, from - part.left, words);
-    put_words(&part.layer, words, from - start, alpha, own, red, green, blue);
+    put_words(
+        &part.layer,
+        words,
+        from - start,
+        alpha,
+        own,
+        red,
+        green,
+        blue,
+    );
 }
 
 /// Makes some pixels of a row, of which `start` is the first, of the parts over black, by their channels. `shown`, `alpha` and
