@@ -4,9 +4,8 @@ use Rattle.std.proofs.lemmas.List.{get_or-map, length-map}
 use Rattle.std.proofs.lemmas.Simd.{get_or-chunk, get_or-put_chunk_above, get_or-put_chunk_at, get_or-put_chunk_below, get_or-replicate, get_or-sel_l, get_or-zip2, length-replicate, length-sel_l, length-zip2, tops_compared}
 use Rattle.std.proofs.Math.Nat.{mul-le-mul}
 use lib.Lanes.{chunk, put_chunk, zip2, sel_l, top}
-use mir.Syntax.{Width, w16, w32}
+use mir.Syntax.{Width}
 use mir.Val.{bits, hbits}
-use Rattle.kms_model.specs.Frames.FrameBytes.{opaque}
 use Rattle.kms_blend.specs.Lanes.{AreBlended, HasLanes, bounded}
 
 -- each lane as it is

@@ -1,8 +1,9 @@
 //! What no clause says: frames that are made of earlier ones, worked out by hand; and that such frames, and those that
 //! threads make, are those that are made whole, over pairs of pictures by chance.
-ghost use Rattle.std.specs.Prelude.{◌≡◌, ◌≤◌, ◌<◌, All, IfOk, length};
+ghost use Rattle.std.specs.Prelude.{◌≡◌, ◌≤◌, ◌<◌, ◌*◌, All, IfOk, length, true};
+ghost use Rattle.kms_model.specs.Frames.Rectangles.{IsNearRect};
 ghost use Rattle.kms_model.specs.Frames.Images.{FitsMode};
-ghost use Rattle.kms_compose.specs.Pairs.{HasPair, IsOfPair, ShowsDot, ShowsPair, small_fb};
+ghost use Rattle.kms_compose.specs.Pairs.{HasDot, HasPair, IsImageOf, IsOfPair, ShowsDot, ShowsPair, small_fb};
 
 use super::*;
 use kms_geom::{clip, fits_source, is_scaled_little};
@@ -57,7 +58,7 @@ fn scaled(chance: &mut Chance, n: u32) -> u16
 }
 
 /// A place by chance: up to four pixels that begin between two, each shown in up to four, within a mode of 20x9 or beside it.
-fn place(chance: &mut Chance) -> Place {
+fn by_chance(chance: &mut Chance) -> Place {
     let long = 1 + chance.below(4);
     let tall = 1 + chance.below(4);
     Place {
@@ -81,7 +82,7 @@ fn place(chance: &mut Chance) -> Place {
 
 /// One thing of a place is another: where it is shown, its alpha, its blend mode, its framebuffer, or all of it.
 fn changed(chance: &mut Chance, old: Place) -> Place {
-    let other = place(chance);
+    let other = by_chance(chance);
     let mut new = old;
     match chance.below(6) {
         0 => new.x = other.x,
@@ -105,7 +106,7 @@ fn next(chance: &mut Chance, old: [Place; 5]) -> [Place; 5] {
             new[4] = old[at];
         }
         2 => {
-            new = [old[1], old[2], old[3], old[4], place(chance)];
+            new = [old[1], old[2], old[3], old[4], by_chance(chance)];
         }
         _ => {
             new[at] = changed(chance, old[at]);
@@ -136,6 +137,25 @@ fn mode(w: u16, h: u16) -> Mode {
     }
 }
 
+/// Whether the numbers of a rectangle are near enough for its edges.
+fn is_near(rect: &Rect) -> bool
+    ensures { result ≡ true → IsNearRect rect.now }
+{
+    if rect.x < -4294967295 || rect.y < -4294967295 {
+        return false;
+    }
+    if rect.w < -4294967295 || rect.h < -4294967295 {
+        return false;
+    }
+    if rect.x > 4294967295 || rect.y > 4294967295 {
+        return false;
+    }
+    if rect.w > 4294967295 || rect.h > 4294967295 {
+        return false;
+    }
+    true
+}
+
 /// A layer of a framebuffer, at a place; the test ends where it may not be shown.
 fn layer(rt: &impl Abort, mode: &Mode, fb: FbInfo, place: &Place) -> Layer
     ensures fits { FitsMode mode.now result }
@@ -159,18 +179,22 @@ fn layer(rt: &impl Abort, mode: &Mode, fb: FbInfo, place: &Place) -> Layer
         w: i64::from(mode.hdisplay),
         h: i64::from(mode.vdisplay),
     };
+    assert!(rt; is_near(&dst));
     assert!(rt; fits_source(src, fb.width, fb.height));
     assert!(rt; is_scaled_little(src.w, dst.w));
     assert!(rt; is_scaled_little(src.h, dst.h));
-    assert!(rt; place.blend <= 2);
+    let alpha = u32::from(place.alpha);
+    let blend = u32::from(place.blend);
+    assert!(rt; alpha <= 65535);
+    assert!(rt; blend <= 2);
     Layer {
         plane: 200,
         fb,
         dst,
         src,
         visible: clip(dst, area),
-        alpha: u32::from(place.alpha),
-        blend: u32::from(place.blend),
+        alpha,
+        blend,
     }
 }
 
@@ -223,6 +247,22 @@ fn picture(rt: &impl Abort, gamma: Option<Gamma>, places: &[Place]) -> Picture
     })
 }
 
+/// An image of a framebuffer, of these words.
+fn image<'a>(fb: FbInfo, words: &'a [u32]) -> FbImage<'a>
+    requires { length words.now ≡ fb.width * fb.height }
+    ensures { IsImageOf fb result }
+{
+    FbImage {
+        fb: fb.id,
+        image: Image {
+            width: fb.width,
+            height: fb.height,
+            format: fb.format,
+            words,
+        },
+    }
+}
+
 /// The images of both framebuffers.
 fn images<'a>(
     alloc: Global,
@@ -231,29 +271,9 @@ fn images<'a>(
 ) -> Result<Images<'a>, Fail>
     ensures { IfOk result HasPair }
 {
-    let first = Image {
-        width: 8,
-        height: 8,
-        format: Format::Ar24,
-        words: first,
-    };
-    let second = Image {
-        width: 8,
-        height: 8,
-        format: Format::Ar24,
-        words: second,
-    };
-    let pair = [
-        FbImage {
-            fb: 1000,
-            image: first,
-        },
-        FbImage {
-            fb: 1001,
-            image: second,
-        },
-    ];
-    Ok(Seq::from_vec(Vec::from_array(alloc, pair)?))
+    let first = image(small_fb(1000), first);
+    let second = image(small_fb(1001), second);
+    Ok(Seq::from_vec(Vec::from_array(alloc, [first, second])?))
 }
 
 /// Ends the test where the frame of a picture, made of that of another one or by threads, is another than its whole one.
@@ -310,7 +330,7 @@ fn pictures_by_chance_are_made_of_earlier_ones(rt: HostRuntime) -> Result<(), Fa
     let first = words(&mut chance);
     let second = words(&mut chance);
     let images = images(rt.alloc(), &first, &second)?;
-    let mut places = [place(&mut chance); 5];
+    let mut places = [by_chance(&mut chance); 5];
     for _ in 0..200 {
         let old = picture(&rt, None, &places);
         places = next(&mut chance, places);
@@ -356,16 +376,18 @@ fn dot(rt: &impl Abort, x: i32) -> Picture
     })
 }
 
+/// The image of the framebuffer of one pixel.
+fn dot_images<'a>(alloc: Global, words: &'a [u32; 1]) -> Result<Images<'a>, Fail>
+    ensures { IfOk result HasDot }
+{
+    Ok(Seq::from_vec(Vec::from_array(alloc, [image(DOT, words)])?))
+}
+
 // The bytes `abc` move by a pixel.
 #[test]
 fn a_moved_pixel_leaves_black_behind(rt: HostRuntime) -> Result<(), Fail> {
-    let image = Image {
-        width: 1,
-        height: 1,
-        format: Format::Xr24,
-        words: &[0x0061_6263],
-    };
-    let images = Seq::from_vec(Vec::from_array(rt.alloc(), [FbImage { fb: 1000, image }])?);
+    let words = [0x0061_6263];
+    let images = dot_images(rt.alloc(), &words)?;
     let old = dot(&rt, 0);
     let new = dot(&rt, 1);
     let mut bytes = frame(rt.alloc(), &old, &images)?;

@@ -1,5 +1,5 @@
 -- The places before one are blended, and the others are as they were.
-use Rattle.std.proofs.Common.{◌≡◌, ◌≤◌, ◌<◌, ◌*◌, ℕ, List, length, slice_index}
+use Rattle.std.proofs.Common.{◌≡◌, ◌≤◌, ◌<◌, ◌*◌, ℕ, List, slice_index}
 use Rattle.kms_model.specs.Frames.FrameBytes.{blended}
 use Rattle.kms_blend.proofs.row_in.Given as goal
 

@@ -1,4 +1,4 @@
-use Rattle.std.proofs.Common.{◌≤◌, ℕ, List, slice_index, arith, w8, Fits}
+use Rattle.std.proofs.Common.{ℕ, List, slice_index, arith, w8, Fits}
 use Rattle.std.proofs.lemmas.Simd.{Each1-get_or}
 use mir.Syntax.{w32}
 use Rattle.kms_blend.proofs.LaneByLane.{add32, as_lanes, both, each, least, mul32, numerator32, own, splat, sub32}

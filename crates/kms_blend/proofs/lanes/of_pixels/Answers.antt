@@ -1,4 +1,4 @@
-use Rattle.std.proofs.Common.{◌≡◌, ◌≤◌, ℕ, ◌*◌, List, map, slice_index, arith, w8, Fits}
+use Rattle.std.proofs.Common.{ℕ, List, slice_index, arith, w8, Fits}
 use Rattle.std.proofs.lemmas.Simd.{Each1-get_or}
 use Rattle.kms_blend.proofs.LaneByLane.{as_lanes, both, each, mul32, own, product32, splat}
 use Rattle.kms_blend.proofs.lanes.of_pixels.Goals as goal

@@ -1,4 +1,4 @@
-use Rattle.std.proofs.Common.{◌≤◌, ℕ, ◌+◌, ◌-◌, ◌*◌, ◌/◌, min, List, replicate, slice_index, ap, sym, ◌∙◌, arith, w8, Fits}
+use Rattle.std.proofs.Common.{ℕ, ◌+◌, ◌-◌, ◌*◌, ◌/◌, min, List, slice_index, ap, sym, ◌∙◌, arith, w8, Fits}
 use Rattle.std.proofs.lemmas.Simd.{Each1-get_or, get_or-replicate}
 use Rattle.kms_blend.proofs.LaneByLane.{as_lanes, by_alpha}
 use Rattle.kms_blend.proofs.modes.PremultipliedBlendMode.blend_opaque.Goals as goal
