@@ -1,5 +1,5 @@
 -- Pictures of the framebuffers of tests can be shown over their images.
-use Rattle.std.proofs.Common.{◌≡◌, ◌<◌, ℕ, Bool, true, false, ◌==◌, cond, List, [], ◌∷◌, length, slice_index_or, Some, refl, ap, sym, ◌∙◌, ◌⊎◌, inl, inr, ⊎_elim, arith}
+use Rattle.std.proofs.Common.{◌≡◌, ℕ, true, false, ◌==◌, List, [], ◌∷◌, slice_index_or, Some, refl, ◌∙◌, ⊎_elim, arith}
 use Rattle.std.proofs.lemmas.Bool.Decides.{nat_tests}
 use Rattle.kms_model.specs.declared.objects.Mode.{Mode}
 use Rattle.kms_model.specs.declared.pictures.FbInfo.{FbInfo}
@@ -8,7 +8,7 @@ use Rattle.kms_model.specs.declared.pictures.Picture.{Picture}
 use Rattle.kms_model.specs.declared.pictures.Picture.TheVariants.{Off, On}
 use Rattle.kms_compose.specs.declared.images.FbImage.{FbImage}
 use Rattle.kms_compose.specs.Images.{CanShow, HasImage, IsShowable, image_seen, seen_under}
-use Rattle.kms_compose.specs.Pairs.{HasDot, HasPair, IsImageOf, IsOfDot, IsOfPair, ShowsDot, ShowsPair, dot_fb, small_fb}
+use Rattle.kms_compose.specs.Pairs.{HasDot, HasPair, IsImageOf, IsOfPair, ShowsDot, ShowsPair, dot_fb, small_fb}
 
 -- the first image, and one behind another framebuffer's
 found_first : (i : FbImage) (is : List FbImage) (id : ℕ) → i.fb ≡ id → seen_under (i ∷ is) id ≡ Some (image_seen i.image)

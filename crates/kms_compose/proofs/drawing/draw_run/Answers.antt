@@ -1,4 +1,4 @@
-use Rattle.std.proofs.Common.{◌≡◌, ℕ, ◌+◌, length, ap, ◌∙◌, arith}
+use Rattle.std.proofs.Common.{◌≡◌, ℕ, length, ap, ◌∙◌, arith}
 use Rattle.std.specs.List.{flat_map, range_with_len}
 use Rattle.kms_model.specs.Frames.FrameBytes.{black, channels, through}
 use Rattle.kms_compose.specs.Parts.{colour_at, part_pixel, parts_over}

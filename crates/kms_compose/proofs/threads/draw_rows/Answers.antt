@@ -1,6 +1,5 @@
-use Rattle.std.proofs.Common.{◌≡◌, ◌<◌, ℕ, ◌*◌, ◌/◌, length, sym, ap, ◌∙◌, arith}
+use Rattle.std.proofs.Common.{◌≡◌, ◌<◌, ℕ, ◌*◌, length, sym, ap, ◌∙◌, arith}
 use Rattle.std.specs.List.{flat_map, range_with_len}
-use Rattle.std.specs.Fork.{IsChunk}
 use Rattle.kms_model.specs.Frames.FrameBytes.{black, through}
 use Rattle.kms_compose.specs.Parts.{part_pixel, parts_over}
 use Rattle.kms_compose.proofs.Canvas.{canvas-length, row_of}
