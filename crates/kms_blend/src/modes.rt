@@ -1,17 +1,21 @@
 //! The blend modes. (Kernel: "Plane Composition Properties", `pixel blend mode`.)
-ghost use Rattle.std.specs.Prelude.{◌≡◌, ◌+◌, ◌-◌, ◌*◌, ◌/◌, ◌≤◌, ℕ, min};
+ghost use Rattle.std.specs.Prelude.{◌≡◌, ◌+◌, ◌-◌, ◌*◌, ◌/◌, ◌≤◌, ℕ, min, slice_index};
 ghost use Rattle.kms_model.specs.Frames.FrameBytes.{blended, opaque};
+ghost use Rattle.kms_blend.specs.Lanes.{HasLanes};
 
+use crate::lanes;
+use crate::lanes::{of_pixels, of_plane, weighted_by_pixels};
 use crate::quotients::over_opaque;
+use std::simd::prelude::*;
 
 /// An opaque plane's alpha with an opaque pixel's: 65535 * 255.
-const OPAQUE: u32 = 16711425;
+pub const OPAQUE: u32 = 16711425;
 
 /// Half of `OPAQUE`, rounded down.
-const HALF: u32 = 8355712;
+pub const HALF: u32 = 8355712;
 
 /// The numerator of the brightest channel, 255 * `OPAQUE`: more shows as this.
-const BRIGHTEST: u32 = 4261413375;
+pub const BRIGHTEST: u32 = 4261413375;
 
 /// A blend mode, whose number is the property's value.
 pub trait BlendMode {
@@ -25,6 +29,15 @@ pub trait BlendMode {
         requires f { f ≤ 255 }
         requires b { b ≤ 255 }
         ensures { result ≡ blended number a q f b };
+
+    /// The channels that show at 16 places.
+    fn blend_lanes(a: u32, q: u8x16, f: u8x16, b: u8x16) -> u8x16
+        requires { a ≤ 65535 }
+        ensures { HasLanes result (λ i. blended number a (slice_index q i) (slice_index f i) (slice_index b i)) };
+
+    /// The same where the plane is opaque, in half as many bits.
+    fn blend_opaque(q: u8x16, f: u8x16, b: u8x16) -> u8x16
+        ensures { HasLanes result (λ i. blended number 65535 (slice_index q i) (slice_index f i) (slice_index b i)) };
 }
 
 /// Pre-multiplied: the layer's channels have its pixels' alpha in them already.
@@ -42,6 +55,14 @@ impl BlendMode for Premultiplied {
     fn blend(a: u32, q: u32, f: u32, b: u32) -> u32 {
         weighted(a * 255, a * q, f, b)
     }
+
+    fn blend_lanes(a: u32, q: u8x16, f: u8x16, b: u8x16) -> u8x16 {
+        lanes::weighted(of_plane(a), of_pixels(a, q), f, b)
+    }
+
+    fn blend_opaque(q: u8x16, f: u8x16, b: u8x16) -> u8x16 {
+        weighted_by_pixels(u8x16::splat(255), q, f, b)
+    }
 }
 
 impl BlendMode for Coverage {
@@ -50,6 +71,15 @@ impl BlendMode for Coverage {
     fn blend(a: u32, q: u32, f: u32, b: u32) -> u32 {
         weighted(a * q, a * q, f, b)
     }
+
+    fn blend_lanes(a: u32, q: u8x16, f: u8x16, b: u8x16) -> u8x16 {
+        let shown = of_pixels(a, q);
+        lanes::weighted(shown, shown, f, b)
+    }
+
+    fn blend_opaque(q: u8x16, f: u8x16, b: u8x16) -> u8x16 {
+        weighted_by_pixels(q, q, f, b)
+    }
 }
 
 impl BlendMode for PlaneAlphaOnly {
@@ -57,6 +87,15 @@ impl BlendMode for PlaneAlphaOnly {
 
     fn blend(a: u32, _q: u32, f: u32, b: u32) -> u32 {
         weighted(a * 255, a * 255, f, b)
+    }
+
+    fn blend_lanes(a: u32, _q: u8x16, f: u8x16, b: u8x16) -> u8x16 {
+        let shown = of_plane(a);
+        lanes::weighted(shown, shown, f, b)
+    }
+
+    fn blend_opaque(_q: u8x16, f: u8x16, _b: u8x16) -> u8x16 {
+        f
     }
 }
 

@@ -1,4 +1,11 @@
+pub mod Canvas
+pub mod Clipped
+pub mod Differing
+pub mod PairShown
 pub mod Places
+pub mod Recomposed
+pub mod RowByRow
 pub mod Runs
 pub mod SameFrames
+pub mod SharedRows
 pub mod Visible

@@ -1,7 +1,8 @@
 -- Over images of framebuffers among the things, a frame is that of the things.
-use Rattle.std.proofs.Common.{◌≡◌, ◌<◌, ℕ, Bool, true, false, ◌==◌, cond, ◌*◌, pos, ◌+ℤ◌, int_le, List, [], ◌∷◌, suc, length, slice_index_or, Option, Some, None, refl, ap, ◌∙◌, arith}
-use Rattle.std.specs.Prelude.{All}
+use Rattle.std.proofs.Common.{◌≡◌, ◌<◌, ℕ, Bool, true, false, ◌==◌, cond, ◌*◌, pos, ◌+ℤ◌, int_le, List, [], ◌∷◌, suc, length, slice_index_or, Option, Some, None, Result, Ok, Err, refl, ap, ◌∙◌, arith}
+use Rattle.std.specs.Prelude.{All, IfOk, OnOk}
 use Rattle.std.proofs.lemmas.Bool.{and_parts, eqb-true}
+use Rattle.kms_model.specs.declared.copying.NoMemory.{NoMemory}
 use Rattle.kms_model.specs.declared.objects.Mode.{Mode}
 use Rattle.kms_model.specs.declared.pictures.Colour.{Colour}
 use Rattle.kms_model.specs.declared.pictures.Layer.{Layer}
@@ -72,3 +73,15 @@ shown_same things images p showable are = flat_map-range_same _ _ p.mode.vdispla
 pub frame_same : (things : List Thing) (images : List FbImage) (p : Picture) → CanShow images p → AreImagesIn things images → frame_of (word_under images) p ≡ frame_bytes things p
 frame_same things images Off can are = refl
 frame_same things images (On p) can are = shown_same things images p can are
+
+-- where the images are those of framebuffers among the things, so are frames that a call made over them
+pub made_of_things : (r : Result (List ℕ) NoMemory) (images : List FbImage) (p : Picture) → CanShow images p → IfOk r (λ bytes. bytes ≡ frame_of (word_under images) p) →
+    IfOk r (λ bytes. (things : List Thing) → AreImagesIn things images → bytes ≡ frame_bytes things p)
+made_of_things (Ok bytes) images p can exact = λ things are. exact ∙ frame_same things images p can are
+made_of_things (Err e) images p can exact = exact
+
+-- and so are those that it left
+pub left_of_things : {T : Type 0} (r : Result T NoMemory) (images : List FbImage) (p : Picture) (bytes : List ℕ) → CanShow images p → OnOk r (bytes ≡ frame_of (word_under images) p) →
+    OnOk r ((things : List Thing) → AreImagesIn things images → bytes ≡ frame_bytes things p)
+left_of_things (Ok done) images p bytes can exact = λ things are. exact ∙ frame_same things images p can are
+left_of_things (Err e) images p bytes can exact = exact

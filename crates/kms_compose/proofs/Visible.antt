@@ -18,11 +18,13 @@ use Rattle.kms_model.specs.Frames.Images.{FitsMode}
 use Rattle.kms_model.specs.Frames.Pictures.{between_edges, clip, mode_area}
 use Rattle.kms_model.specs.Frames.Rectangles.{is_scaled_little}
 use Rattle.kms_model.proofs.SourcePlaces.{IsAt, natural_pos}
+use Rattle.kms_compose.specs.declared.areas.Area.{Area}
 use Rattle.kms_compose.specs.declared.images.FbImage.{FbImage}
 use Rattle.kms_compose.specs.declared.parts.Columns.{Columns}
 use Rattle.kms_compose.specs.declared.parts.Columns.TheVariants.{From, At}
 use Rattle.kms_compose.specs.declared.parts.Part.{Part}
 use Rattle.kms_compose.specs.declared.sources.Reach.{Reach}
+use Rattle.kms_compose.specs.Areas.{FitsIn, IsNatural, is_in}
 use Rattle.kms_compose.specs.Images.{image_seen, seen_under, word_under}
 use Rattle.kms_compose.specs.Parts.{AreColumns, HasCount, IsCut, IsImageFor, IsPart, IsVisible, across, column_at, down, is_within, part_colour}
 use Rattle.kms_compose.specs.Sources.{IsReach, IsSeen, place_at}
@@ -226,14 +228,40 @@ cut_colour images l v image p found seen shown cut x y =
     let column = column_is l v image p x cut (inside_from p.left p.width x parts.0) in
     rw (cut.layer, cut.rows, cut.stride, cut.words, column) refl))
 
--- and that part is one of a mode
-pub cut_part : (m : Mode) (l : Layer) (v : Rect) (image : Image) (p : Part) → FitsMode m l → l.visible ≡ Some v → IsCut l v image p → IsPart m.hdisplay p
-cut_part m l v image p placed seen cut =
-    let a = axes m l v placed seen in
-    let ends = mode_end _ _ _ _ _ a.x in record {
-      within = omega (arith, ends, cut.left, cut.width);
-      words = cut.has_rows;
-      columns = cut.has_columns;
-      alpha = rw cut.layer placed.alpha;
-      blend = rw cut.layer placed.blend;
+-- and that part's rows and columns are those of its image
+pub cut_part : (m : Mode) (l : Layer) (v : Rect) (image : Image) (p : Part) → FitsMode m l → IsVisible l v → IsCut l v image p → IsPart p
+cut_part m l v image p placed shown cut = record {
+  narrow = omega (arith, shown.columns.few, cut.left, cut.width);
+  words = cut.has_rows;
+  columns = cut.has_columns;
+  alpha = rw cut.layer placed.alpha;
+  blend = rw cut.layer placed.blend;
+}
+
+-- what is visible of a layer begins on the mode
+pub is_natural : (m : Mode) (l : Layer) (v : Rect) → FitsMode m l → l.visible ≡ Some v → IsNatural v
+is_natural m l v placed seen = let both = axes m l v placed seen in record {
+  x = start_low _ _ _ _ _ both.x;
+  y = start_low _ _ _ _ _ both.y;
+  w = size_low _ _ _ _ _ both.x;
+  h = size_low _ _ _ _ _ both.y;
+}
+
+-- what is visible of a layer, in natural numbers, is what it covers, and within the mode
+pub record IsArea (m : Mode) (v : Rect) (a : Area) : Type 0 where
+  pub covers : (x y : ℕ) → is_in a x y ≡ covers v x y
+  pub fits : FitsIn m.hdisplay m.vdisplay a
+
+pub area_is : (m : Mode) (l : Layer) (v : Rect) (a : Area) → FitsMode m l → l.visible ≡ Some v →
+    a.left ≡ natural v.x → a.width ≡ natural v.w → a.top ≡ natural v.y → a.height ≡ natural v.h → IsArea m v a
+area_is m l v a placed seen left width top height =
+    let both = axes m l v placed seen in
+    let x = number_is v.x a.left left (start_low _ _ _ _ _ both.x) in
+    let w = number_is v.w a.width width (size_low _ _ _ _ _ both.x) in
+    let y = number_is v.y a.top top (start_low _ _ _ _ _ both.y) in
+    let h = number_is v.h a.height height (size_low _ _ _ _ _ both.y) in
+    let right = mode_end _ _ _ _ _ both.x in
+    let bottom = mode_end _ _ _ _ _ both.y in record {
+      covers = λ i j. sym (covered v a.left a.width a.top a.height i j x w y h);
+      fits = record { across = omega (arith, right, left, width); down = omega (arith, bottom, top, height) };
     }

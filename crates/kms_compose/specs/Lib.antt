@@ -1,4 +1,7 @@
+pub mod Areas
+pub mod Changes
 pub mod Example
 pub mod Images
+pub mod Pairs
 pub mod Parts
 pub mod Sources

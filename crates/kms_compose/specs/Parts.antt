@@ -101,9 +101,9 @@ pub record IsCut (l : Layer) (visible : Rect) (image : Image) (p : Part) : Type 
   pub has_columns : HasColumns p
   pub has_rows : HasRows p
 
--- a part of a mode of this width
-pub record IsPart (width : ℕ) (p : Part) : Type 0 where
-  pub within : p.left + p.width ≤ width
+-- a part whose rows and columns are those of its image, with numbers in their ranges
+pub record IsPart (p : Part) : Type 0 where
+  pub narrow : p.left + p.width < 65536
   pub words : HasRows p
   pub columns : HasColumns p
   pub alpha : p.layer.alpha ≤ 65535

@@ -3,14 +3,15 @@ ghost use Rattle.std.specs.Prelude.{◌≡◌, ◌<◌, ◌≤◌, ◌*◌, ◌+
 ghost use Rattle.std.specs.List.{flat_map, range_with_len};
 ghost use Rattle.kms_model.specs.declared.pictures.Picture.TheVariants.{On};
 ghost use Rattle.kms_model.specs.declared.worlds.Thing.{Thing};
-ghost use Rattle.kms_model.specs.Frames.FrameBytes.{black, composed, frame_bytes, frame_of, row_bytes};
+ghost use Rattle.kms_model.specs.Frames.FrameBytes.{black, composed, frame_bytes, frame_of, through};
 ghost use Rattle.kms_compose.specs.Images.{AreImagesIn, CanShow, IsShowable, word_under};
-ghost use Rattle.kms_compose.specs.Parts.{IsPart, listed, part_pixel, parts_over};
+ghost use Rattle.kms_compose.specs.Areas.{canvas};
+ghost use Rattle.kms_compose.specs.Parts.{IsPart, listed, parts_over};
 
+use crate::areas::Area;
+use crate::drawing::draw_area;
 use crate::images::{FbImage, Images};
 use crate::parts::{Part, part_of};
-use crate::rows::{interleave, make_row};
-use crate::tables::through_gamma;
 use kms_model::{Gamma, NoMemory, Picture, Seq, Shown};
 use std::alloc::Global;
 
@@ -53,7 +54,7 @@ fn shown_bytes(alloc: Global, shown: &Shown, images: &[FbImage]) -> Result<Frame
 }
 
 /// The visible parts of all layers, from the lowest.
-fn parts_of<'a>(
+pub fn parts_of<'a>(
     alloc: Global,
     shown: &Shown,
     images: &[FbImage<'a>],
@@ -61,7 +62,7 @@ fn parts_of<'a>(
     requires layers { All (IsShowable shown.now.mode images.now) shown.now.layers }
     requires narrow { shown.now.mode.hdisplay < 65536 }
     requires low { shown.now.mode.vdisplay < 65536 }
-    ensures parts { IfOk result (λ parts. All (IsPart shown.now.mode.hdisplay) parts.items) }
+    ensures parts { IfOk result (λ parts. All IsPart parts.items) }
     ensures colours { IfOk result (λ parts. (x y : ℕ)
         → parts_over x y black parts.items
         ≡ composed (word_under images.now) x y black shown.now.layers) }
@@ -91,28 +92,19 @@ fn parts_bytes(
     width: usize,
     height: usize,
 ) -> Result<Vec<u8>, NoMemory>
-    requires parts { All (IsPart width) parts.now }
+    requires parts { All IsPart parts.now }
     requires narrow { width < 65536 }
     requires low { height < 65536 }
     ensures { IfOk result (λ bytes. bytes.items
-        ≡ flat_map (λ y. flat_map (part_pixel gamma.now parts.now y) (range_with_len 0 width))
-        (range_with_len 0 height)) }
+        ≡ canvas width height (λ x y. through gamma.now (parts_over x y black parts.now))) }
 {
-    let mut bytes = Vec::with_capacity(alloc, 3 * width * height)?;
-    let mut words = vec![in alloc; 0u32; width]?;
-    let mut channels = vec![in alloc; 0u8; 5 * width]?;
-    let mut pixels = vec![in alloc; 0u8; 3 * width]?;
-    let (alpha, rest) = channels.split_at_mut(width);
-    let (own, rest) = rest.split_at_mut(width);
-    let (red, rest) = rest.split_at_mut(width);
-    let (green, blue) = rest.split_at_mut(width);
-    let words = words.as_mut_slice();
-    let pixels = pixels.as_mut_slice();
-    for y in 0..height {
-        make_row(parts, y, words, alpha, own, red, green, blue);
-        through_gamma(gamma, red, green, blue);
-        interleave(red, green, blue, pixels);
-        bytes.extend_from_slice(pixels)?;
-    }
+    let mut bytes = vec![in alloc; 0u8; 3 * width * height]?;
+    let whole = Area {
+        left: 0,
+        top: 0,
+        width,
+        height,
+    };
+    draw_area(parts, gamma, width, &whole, bytes.as_mut_slice());
     Ok(bytes)
 }

@@ -1,17 +1,26 @@
 //! Frames: the bytes of a picture over the images of its framebuffers.
 #![tactic(auto)]
 
+mod areas;
+mod changes;
 mod channels;
+mod drawing;
 mod frames;
 mod images;
 mod parts;
+mod recomposing;
 mod rows;
+mod threads;
 mod sources;
 mod tables;
 
 pub use frames::{Frame, frame};
 pub use images::{FbImage, Images};
+pub use recomposing::recompose;
+pub use threads::frame_rows;
 
+#[cfg(test)]
+mod recompose_tests;
 #[cfg(test)]
 mod scaling_tests;
 #[cfg(test)]

@@ -86,8 +86,7 @@ pub fn part_of<'a>(
     ensures colours { IfOk result (λ part. (x y : ℕ)
         → layer_colour (word_under images.now) x y layer.now ≡ seen_colour part x y) }
     ensures layer { IfOk result (λ part. IfSome part (λ p. p.layer ≡ layer.now)) }
-    ensures within { (m : Mode) → FitsMode m layer.now
-        → IfOk result (λ part. IfSome part (IsPart m.hdisplay)) }
+    ensures part { IfOk result (λ part. IfSome part IsPart) }
 {
     let Some(visible) = layer.visible else {
         return Ok(None);

@@ -2,7 +2,7 @@
 ghost use Rattle.std.specs.Prelude.{◌≡◌, ◌<◌, ◌≤◌, ◌+◌, ◌-◌, ◌*◌, ◌&&◌, ◌==◌, ◌||◌, false, ℕ, List, length, slice_index, EachIndex, All};
 ghost use Rattle.std.specs.List.{flat_map, range_with_len};
 ghost use Rattle.kms_model.specs.Frames.FrameBytes.{black, channels, colour_of, mixed};
-ghost use Rattle.kms_compose.specs.Parts.{IsPart, channel_over, colour_at, has_alpha, is_opaque, part_colour, parts_over, run_colour};
+ghost use Rattle.kms_compose.specs.Parts.{HasColumns, IsPart, channel_over, colour_at, column_at, has_alpha, is_opaque, part_colour, parts_over, run_colour};
 
 use crate::channels::{Alpha, Blue, Channel, Green, Red, unpack};
 use crate::parts::{Columns, Part, row_on};
@@ -79,39 +79,65 @@ fn gather(row: &[u32], columns: &[usize], out: &mut [u32])
     }
 }
 
-/// Puts the words that a part shows on a row, given by its channels. `alpha` and `own` are room for as many numbers.
+/// The words of a row of an image at some of the columns that a part shows, from the one of this number on, as many as there
+/// is `room` for. Those that do not stand side by side are read into it.
+fn words_of<'a>(part: &Part, row: &'a [u32], first: usize, room: &'a mut [u32]) -> &'a [u32]
+    requires columns { HasColumns part.now }
+    requires row { length row.now ≡ part.now.stride }
+    requires within { first + length room.old ≤ part.now.width }
+    ensures count { length result.now ≡ length room.old }
+    ensures words { (k : ℕ) → k < length room.old
+        → slice_index result.now k ≡ slice_index row.now (column_at part.now.columns (first + k)) }
+{
+    match &part.columns {
+        Columns::From(column) => {
+            let start = *column + first;
+            &row[start..start + room.len()]
+        }
+        Columns::At(columns) => {
+            gather(row, &columns.as_slice()[first..first + room.len()], room);
+            room
+        }
+    }
+}
+
+/// Puts words of a layer over some pixels of a row, given by their channels, from `left` of these on. `alpha` and `own` are
+/// room for as many numbers.
 fn put_words(
-    part: &Part,
+    layer: &Layer,
     words: &[u32],
+    left: usize,
     alpha: &mut [u8],
     own: &mut [u8],
     red: &mut [u8],
     green: &mut [u8],
     blue: &mut [u8],
 )
-    requires part { IsPart (length red.old) part.now }
-    requires words { length words.now ≡ part.now.width }
+    requires layer_alpha { layer.now.alpha ≤ 65535 }
+    requires blend { layer.now.blend ≤ 2 }
+    requires within { left + length words.now ≤ length red.old }
     requires alpha { length alpha.old ≡ length red.old }
     requires own { length own.old ≡ length red.old }
     requires green { length green.old ≡ length red.old }
     requires blue { length blue.old ≡ length red.old }
     ensures { (x : ℕ) → x < length red.old → colour_at red.new green.new blue.new x
-        ≡ mixed part.now.layer (colour_at red.old green.old blue.old x)
-        (run_colour part.now.layer.fb.format words.now part.now.left x) }
+        ≡ mixed layer.now (colour_at red.old green.old blue.old x)
+        (run_colour layer.now.fb.format words.now left x) }
 {
-    let layer = &part.layer;
     let alpha = &mut alpha[..words.len()];
     let own = &mut own[..words.len()];
     read_alpha(layer, words, alpha);
-    put_channel::<Red>(layer, words, part.left, alpha, own, red);
-    put_channel::<Green>(layer, words, part.left, alpha, own, green);
-    put_channel::<Blue>(layer, words, part.left, alpha, own, blue);
+    put_channel::<Red>(layer, words, left, alpha, own, red);
+    put_channel::<Green>(layer, words, left, alpha, own, green);
+    put_channel::<Blue>(layer, words, left, alpha, own, blue);
 }
 
-/// Puts a part on a row, given by its channels. `shown`, `alpha` and `own` are room for as many numbers.
+/// Puts a part on some pixels of a row, given by their channels, of which `start` is the first. `shown`, `alpha` and `own` are
+/// room for as many numbers.
 fn put_part(
     part: &Part,
     y: usize,
+    start: usize,
     shown: &mut [u32],
     alpha: &mut [u8],
     own: &mut [u8],
@@ -119,35 +145,35 @@ fn put_part(
     green: &mut [u8],
     blue: &mut [u8],
 )
-    requires part { IsPart (length red.old) part.now }
+    requires part { IsPart part.now }
+    requires narrow { start + length red.old < 65536 }
     requires shown { length shown.old ≡ length red.old }
     requires alpha { length alpha.old ≡ length red.old }
     requires own { length own.old ≡ length red.old }
     requires green { length green.old ≡ length red.old }
     requires blue { length blue.old ≡ length red.old }
     ensures { (x : ℕ) → x < length red.old → colour_at red.new green.new blue.new x
-        ≡ mixed part.now.layer (colour_at red.old green.old blue.old x) (part_colour part.now x y) }
+        ≡ mixed part.now.layer (colour_at red.old green.old blue.old x) (part_colour part.now (start + x) y) }
 {
+    let from = part.left.max(start);
+    let end = (part.left + part.width).min(start + red.len());
+    if from >= end {
+        return;
+    }
     let Some(row) = row_on(part, y) else {
         return;
     };
-    match &part.columns {
-        Columns::From(first) => {
-            let words = &row[*first..*first + part.width];
-            put_words(part, words, alpha, own, red, green, blue);
-        }
-        Columns::At(columns) => {
-            let words = &mut shown[..part.width];
-            gather(row, columns.as_slice(), words);
-            put_words(part, words, alpha, own, red, green, blue);
-        }
-    }
+    let words = &mut shown[..end - from];
+    let words = words_of(part, row, from - part.left, words);
+    put_words(&part.layer, words, from - start, alpha, own, red, green, blue);
 }
 
-/// Makes a row of the parts over black, by its channels. `shown`, `alpha` and `own` are room for as many numbers.
-pub fn make_row(
+/// Makes some pixels of a row, of which `start` is the first, of the parts over black, by their channels. `shown`, `alpha` and
+/// `own` are room for as many numbers.
+pub fn make_run(
     parts: &[Part],
     y: usize,
+    start: usize,
     shown: &mut [u32],
     alpha: &mut [u8],
     own: &mut [u8],
@@ -155,20 +181,21 @@ pub fn make_row(
     green: &mut [u8],
     blue: &mut [u8],
 )
-    requires parts { All (IsPart (length red.old)) parts.now }
+    requires parts { All IsPart parts.now }
+    requires narrow { start + length red.old < 65536 }
     requires shown { length shown.old ≡ length red.old }
     requires alpha { length alpha.old ≡ length red.old }
     requires own { length own.old ≡ length red.old }
     requires green { length green.old ≡ length red.old }
     requires blue { length blue.old ≡ length red.old }
     ensures { (x : ℕ) → x < length red.old
-        → colour_at red.new green.new blue.new x ≡ parts_over x y black parts.now }
+        → colour_at red.new green.new blue.new x ≡ parts_over (start + x) y black parts.now }
 {
     red.fill(0);
     green.fill(0);
     blue.fill(0);
     for part in parts {
-        put_part(part, y, shown, alpha, own, red, green, blue);
+        put_part(part, y, start, shown, alpha, own, red, green, blue);
     }
 }
 

@@ -10,9 +10,9 @@ use Rattle.kms_compose.specs.Images.{IsShowable, word_under}
 use Rattle.kms_compose.specs.Parts.{IsPart, listed, part_colour, parts_over, seen_colour}
 use Rattle.kms_compose.proofs.frames.parts_of.Goals as goal
 
-all_listed : (width : ℕ) (parts : List Part) (p : Option Part) → All (IsPart width) parts → IfSome p (IsPart width) → All (IsPart width) (parts ++ listed p)
-all_listed width parts None all one = rw (append-nil parts) all
-all_listed width parts (Some p) all one = All-push (IsPart width) parts p all one
+all_listed : (parts : List Part) (p : Option Part) → All IsPart parts → IfSome p IsPart → All IsPart (parts ++ listed p)
+all_listed parts None all one = rw (append-nil parts) all
+all_listed parts (Some p) all one = All-push IsPart parts p all one
 
 -- a part over the others, where there is one
 parts_over-push : (x y : ℕ) (under : Colour) (parts : List Part) (p : Part) → parts_over x y under (parts ++ p ∷ []) ≡ mixed p.layer (parts_over x y under parts) (part_colour p x y)
@@ -45,9 +45,8 @@ layer_added words x y parts new layers i d p whole below now colour own before =
 pub loop-layer-preserved : goal.loop-layer-preserved
 loop-layer-preserved c =
     let below : c.loop-layer.layer-index < length c.as_slice-layer-items.result.now = omega arith in
-    let showable = subst (λ (layers : List Layer). All (IsShowable c.args.shown.now.mode c.args.images.now) layers) (sym c.as_slice-layer-items.ensures) c.requires.layers in
     let now : c.push_part.new.parts.items ≡ c.loop-layer.parts.items ++ listed c.in_ok-part_of.field-0 = search rules in record {
-      parts = rw now (all_listed c.args.shown.now.mode.hdisplay _ _ c.loop-layer.invariant.parts (c.in_ok-part_of.ensures.within c.args.shown.now.mode (showable c.loop-layer.layer-index _ below).placed));
+      parts = rw now (all_listed _ _ c.loop-layer.invariant.parts c.in_ok-part_of.ensures.part);
       colours = λ x y. layer_added (word_under c.args.images.now) x y _ _ _ _ _ _ _ below now (c.in_ok-part_of.ensures.colours x y) c.in_ok-part_of.ensures.layer (c.loop-layer.invariant.colours x y);
     }
 

@@ -20,7 +20,8 @@ returns-clause-colours c = λ x y.
     cut_colour c.args.images.now c.args.layer.now c.in-Some.visible c.in-Some-image_of.image c.in_ok-cut.field-0 found shown
     (seen c.args.images.now c.args.layer.now c.in-Some.visible c.requires (search rules) (search rules) shown) c.in_ok-cut.ensures x y
 
-pub returns-clause-within : goal.returns-clause-within
-returns-clause-within c = λ m placed.
+pub returns-clause-part : goal.returns-clause-part
+returns-clause-part c =
     let shown : c.args.layer.now.visible ≡ Some c.in-Some.visible = search rules in
-    cut_part m c.args.layer.now c.in-Some.visible c.in-Some-image_of.image c.in_ok-cut.field-0 placed shown c.in_ok-cut.ensures
+    cut_part c.requires.mode c.args.layer.now c.in-Some.visible c.in-Some-image_of.image c.in_ok-cut.field-0 c.requires.showable.placed
+    (seen c.args.images.now c.args.layer.now c.in-Some.visible c.requires (search rules) (search rules) shown) c.in_ok-cut.ensures
