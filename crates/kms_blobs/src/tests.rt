@@ -59,7 +59,7 @@ fn entry(value: u8) -> [u8; 8] {
 #[test]
 fn a_table_keeps_the_upper_bytes_of_its_entries(rt: HostRuntime) -> Result<(), NoMemory> {
     let mut bytes = Vec::new(rt.alloc());
-    for value in 0..256 {
+    for value in 0..256u32 {
         bytes.extend_from_slice(&entry(value as u8))?;
     }
     let Some(gamma) = gamma_of_bytes(&bytes) else {

@@ -37,7 +37,7 @@ use Rattle.kms_logs.specs.Logs.{Logged}
 use Rattle.kms_stores.specs.Run.{Run, machine}
 use Rattle.kms_stores.specs.Stands.{AreMadeFences, IsWorldOf, Stores, Stands, StandsAt}
 use Rattle.kms_stores.proofs.Beside.{moved, stands_moved}
-use Rattle.kms_stores.proofs.Fencing.{executed_fenced, executed_more, made_stand, same_fences, same_slots}
+use Rattle.kms_stores.proofs.Fencing.{executed_fenced, executed_more, made_stand}
 use Rattle.kms_stores.proofs.FreedCalls.{closed_place, made_freed, world_after}
 use Rattle.kms_stores.proofs.Histories.{goes_freeing, same_freed, with_freed}
 use Rattle.kms_stores.proofs.Places.{IsIdleAt, idle_there, not_ended}
@@ -95,32 +95,6 @@ has_ids r st stands =
     let fit = (numbers_fit r.script r.steps stands.formed stands.history).ids in
     let same = stands.stores.world.next_id in
     omega (arith, fit, same)
-
--- Want of memory
-
--- stores with other room stand as well
-pub stands_with_room : (r : Run) (st : Stores) (journal : Logged (ℕ × ℕ)) (replies : Logged Answered) (made : Made) (fences : FenceSet) (steps : List Step) → Stands r st → steps ≡ r.steps → journal.items ≡ st.journal.items → replies.items ≡ st.replies.items
-    → made ≡ st.made → fences.slots ≡ st.fences.slots → (freed : Reserved (ℕ × ℕ)) → freed.items ≡ st.freed.items → freed.places ≡ st.freed.places
-    → Stands (record { script = r.script; steps = steps }) (record st { journal = journal; replies = replies; made = made; fences = fences; freed = freed })
-stands_with_room r st journal replies made fences steps stands is same_journal same_replies same_made same_set freed same_freed_items same_places = record {
-  formed = stands.formed;
-  history = rw is stands.history;
-  freed = same_freed r.script r.steps steps st.freed freed is same_freed_items same_places stands.freed;
-  stores = rw is (record {
-    clients = stands.stores.clients;
-    recorded = rw (same_journal, same_replies) stands.stores.recorded;
-    world = rw same_made stands.stores.world;
-    fences = same_fences (machine r).device.signalled st.fences fences same_set stands.stores.fences;
-    fenced = same_slots (machine r).device.world (machine r).device.signalled st.fences fences same_set stands.stores.fenced;
-    out_fenced = λ k index id low few is. rw same_set (stands.stores.out_fenced k index id low few is);
-    queues = stands.stores.queues;
-    tracker = stands.stores.tracker;
-    tails = stands.stores.tails;
-    registers = stands.stores.registers;
-    going = stands.stores.going;
-    ended = stands.stores.ended;
-  });
-}
 
 -- A thing is made or closed
 

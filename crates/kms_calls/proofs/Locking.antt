@@ -12,7 +12,7 @@ use Rattle.kms_model.specs.declared.objects.Ticket.{Ticket}
 use Rattle.kms_model.specs.declared.runs.Doing.{Doing}
 use Rattle.kms_model.specs.declared.runs.Doing.TheVariants as doing
 use Rattle.kms_model.specs.declared.runs.Place.{Place}
-use Rattle.kms_model.specs.Device.Objects.{first_id, index_of, kind_of, object_id}
+use Rattle.kms_model.specs.Device.Objects.{first_id, index_of, kind_of}
 use Rattle.kms_model.specs.Machine.State.{doing_at}
 use Rattle.kms_model.specs.Machine.Steps.{ticket_of, is_lockable}
 use Rattle.kms_model.specs.declared.objects.Kind.{Kind}

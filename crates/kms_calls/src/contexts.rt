@@ -1,10 +1,7 @@
 //! Acquire contexts and their locks.
 ghost use Rattle.std.specs.Prelude.{ℕ, ◌≡◌, IfOk, OnErr, [], ◌∷◌};
-ghost use Rattle.kms_model.specs.declared.objects.Topology.{Topology};
 ghost use Rattle.kms_model.specs.declared.replies.Step.TheVariants as step;
-ghost use Rattle.kms_model.specs.declared.worlds.World.{World};
-ghost use Rattle.kms_model.specs.Device.Objects.{kind_of};
-ghost use Rattle.kms_stores.specs.Run.{Run, machine, gains, if_ok};
+ghost use Rattle.kms_stores.specs.Run.{machine, gains, if_ok};
 ghost use Rattle.kms_calls.specs.Locks.{MayBegin, MayLock, IsTaking, locked_answer, locked_as, lock_step, lock_steps, is_step, HasContext, MayBackOff, MayRelock, relocked_answer, relock_steps};
 
 use crate::states::present_state;

@@ -1,15 +1,9 @@
 //! Commands that are executed at once: those that make and close things, and those that signal a fence.
 ghost use Rattle.std.specs.Prelude.{◌≡◌, ◌<◌, IfOk, [], ◌∷◌};
-ghost use Rattle.kms_model.specs.declared.objects.Topology.{Topology};
 ghost use Rattle.kms_model.specs.declared.replies.Step.TheVariants as step;
-ghost use Rattle.kms_model.specs.declared.worlds.World.{World};
-ghost use Rattle.kms_model.specs.Device.Execution.{execute};
 ghost use Rattle.kms_model.specs.Stores.Tables.{AreBelow};
-ghost use Rattle.kms_signal.specs.StepLaws.{with_signal};
-ghost use Rattle.kms_things.specs.Commands.{IsNoRequest};
-ghost use Rattle.kms_things.specs.Made.{with_made};
 ghost use Rattle.kms_stores.specs.Calls.{MayMake, MaySignal, fence_of, reply_at, with_fence_of};
-ghost use Rattle.kms_stores.specs.Run.{Run, machine, gains, if_ok};
+ghost use Rattle.kms_stores.specs.Run.{gains, if_ok};
 
 use kms_model::{Command, NoMemory, Reply, Step, command_of};
 use kms_signal::Fences;

@@ -1,4 +1,4 @@
-ghost use Rattle.std.specs.Prelude.{◌≡◌, ◌≤◌, ◌+◌, ◌*◌, length};
+ghost use Rattle.std.specs.Prelude.{◌≡◌, ◌≤◌, ◌+◌, ◌*◌, length, pos};
 ghost use Rattle.kms_model.specs.Frames.Images.{FitsMode};
 ghost use Rattle.kms_model.specs.Frames.Rectangles.{IsNear};
 
@@ -62,6 +62,40 @@ fn mode(w: u16, h: u16) -> Mode
     }
 }
 
+/// The part of its framebuffer that a plane shows, in 16.16 fixed point.
+fn source(plane: &Plane) -> Rect
+    ensures { result ≡ record {
+      x = pos (65536 * plane.now.column);
+      y = pos (65536 * plane.now.line);
+      w = pos (65536 * plane.now.w);
+      h = pos (65536 * plane.now.h);
+    } }
+{
+    Rect {
+        x: 65536 * i64::from(plane.column),
+        y: 65536 * i64::from(plane.line),
+        w: 65536 * i64::from(plane.w),
+        h: 65536 * i64::from(plane.h),
+    }
+}
+
+/// Where a plane shows it.
+fn destination(plane: &Plane) -> Rect
+    ensures { result ≡ record {
+      x = plane.now.x;
+      y = plane.now.y;
+      w = pos plane.now.w;
+      h = pos plane.now.h;
+    } }
+{
+    Rect {
+        x: plane.x,
+        y: plane.y,
+        w: i64::from(plane.w),
+        h: i64::from(plane.h),
+    }
+}
+
 /// The layer of a plane.
 fn layer(mode: &Mode, id: u32, plane: &Plane) -> Layer
     ensures placed { FitsMode mode.now result }
@@ -72,12 +106,7 @@ fn layer(mode: &Mode, id: u32, plane: &Plane) -> Layer
       format = plane.now.format;
     } }
 {
-    let dst = Rect {
-        x: plane.x,
-        y: plane.y,
-        w: i64::from(plane.w),
-        h: i64::from(plane.h),
-    };
+    let dst = destination(plane);
     let area = Rect {
         x: 0,
         y: 0,
@@ -93,12 +122,7 @@ fn layer(mode: &Mode, id: u32, plane: &Plane) -> Layer
             format: plane.format,
         },
         dst,
-        src: Rect {
-            x: 65536 * i64::from(plane.column),
-            y: 65536 * i64::from(plane.line),
-            w: 65536 * dst.w,
-            h: 65536 * dst.h,
-        },
+        src: source(plane),
         visible: clip(dst, area),
         alpha: plane.alpha,
         blend: plane.blend,

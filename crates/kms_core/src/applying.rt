@@ -3,7 +3,7 @@ ghost use Rattle.std.specs.Prelude.{ℕ, ◌≡◌, ◌∷◌, [], IsOk, Some, t
 ghost use Rattle.kms_laws.specs.TailsLeft.{commit_of_step};
 ghost use Rattle.kms_model.specs.declared.replies.Step.TheVariants as step;
 ghost use Rattle.kms_next.specs.Next.{IsLegal, is_of_worker};
-ghost use Rattle.kms_stores.specs.Run.{Run, gains, if_ok, machine};
+ghost use Rattle.kms_stores.specs.Run.{gains, if_ok, machine};
 
 use kms_calls::{backoff, begin, lock, make, read, relock, return_from, signal};
 use kms_decide::{commit, decide};

@@ -1,5 +1,5 @@
 //! The calls of clients and of workers, and steps that are done: each is a call on the stores.
-ghost use Rattle.std.specs.Prelude.{ℕ, ◌≡◌, IfOk, OnErr, [], ◌∷◌, ◌<◌, None, Some, IsOk, true};
+ghost use Rattle.std.specs.Prelude.{ℕ, ◌≡◌, IfOk, OnErr, [], ◌∷◌, ◌<◌, Some, IsOk, true};
 ghost use Rattle.kms_model.specs.declared.replies.Step.TheVariants as step;
 ghost use Rattle.kms_stores.specs.Run.{machine, gains, if_ok};
 ghost use Rattle.kms_calls.specs.Locks.{MayBegin, MayLock, IsTaking, locked_answer, lock_steps, HasContext, MayBackOff, MayRelock, relocked_answer, relock_steps};

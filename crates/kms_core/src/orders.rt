@@ -1,5 +1,5 @@
 //! What may be done next, and what one thread does next. None of these calls takes memory but the end of a dead history.
-ghost use Rattle.std.specs.Prelude.{◌≡◌, ◌≤◌, None, length, [], ◌∷◌, ◌<◌};
+ghost use Rattle.std.specs.Prelude.{◌≡◌, ◌≤◌, length, [], ◌∷◌, ◌<◌};
 ghost use Rattle.kms_model.specs.Machine.Histories.{is_drained, is_enabled, legal, stalled_on};
 ghost use Rattle.kms_stores.specs.Run.{machine, gains, if_ok};
 ghost use Rattle.kms_model.specs.Order.Turns.{client_step, tail_step};

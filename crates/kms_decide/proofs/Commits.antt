@@ -70,10 +70,12 @@ use Rattle.kms_stores.specs.Decisions.{world}
 use Rattle.kms_stores.specs.Settled.{IsSettled, events_of, fences_for, fences_under, id_under, label_in, labels_in}
 use Rattle.kms_stores.specs.Stands.{AreOutFencesMade, AreQueues, AreRecords, IsWorldOf, Stores, Stands, StandsAt, entry_pair, is_fence, queue_of}
 use Rattle.kms_stores.specs.Swaps.{MayCommit}
+use Rattle.kms_decide.specs.Room.{SameTracking}
+use Rattle.kms_stores.proofs.WithRoom.{stands_with_room}
 use Rattle.kms_decide.proofs.Answering.{MayDecide, may_decide}
 use Rattle.kms_stores.proofs.Committed.{committed_present, has_plane}
 use Rattle.kms_once.proofs.Ended.{history_ended}
-use Rattle.kms_stores.proofs.Fencing.{same_fences, same_slots, thing_made as thing_under}
+use Rattle.kms_stores.proofs.Fencing.{thing_made as thing_under}
 use Rattle.kms_stores.proofs.Histories.{goes_on}
 use Rattle.kms_once.proofs.Labels.{asks_made, serial_absent}
 use Rattle.kms_once.specs.Once.{makes}
@@ -117,13 +119,7 @@ queues_same clients events client queues new low high reserved unread stand = re
       ];
 }
 
--- the same commits are kept, with other room
-pub record SameTracking (old new : Tracking) : Type 0 where
-  pub count : new.count ≡ old.count
-  pub lasts : new.lasts ≡ old.lasts
-  pub pending : new.pending.slots ≡ old.pending.slots
-
--- it is set up with other room as well
+-- a commit is set up with other room as well
 pub set_up_same : (old middle new : Tracking) (checked : Checked) (fences : List ℕ) → SameTracking old middle → IsSetUp middle new checked fences → IsSetUp old new checked fences
 set_up_same old middle new checked fences same up = record {
   count = up.count ∙ ap (λ n. n + 1) same.count;
@@ -220,34 +216,38 @@ module _ (r : Run) (st : Stores) (client : ℕ) (checked : Checked) (resolved : 
   pub roomy : (journal : Logged (ℕ × ℕ)) (replies : Logged Answered) (made : Made) (fences : FenceSet) (queue : Queue) (tracker : Tracking) (tails : Rooms Tail) (steps : List Step) → steps ≡ r.steps → journal.items ≡ st.journal.items → replies.items ≡ st.replies.items
       → made ≡ st.made → fences.slots ≡ st.fences.slots → queue.reserved ≡ (queue_of st.queues client).reserved → queue.unread ≡ (queue_of st.queues client).unread → SameTracking st.tracker tracker → StandsAlike st.tails tails
       → Stands (record { script = r.script; steps = steps }) (record st { journal = journal; replies = replies; made = made; fences = fences; queues = slice_set st.queues (client - 1) queue; tracker = tracker; tails = tails })
-  roomy journal replies made fences queue tracker tails steps is same_journal same_replies same_made same_set reserved unread same_tracker alike = record {
-    formed = stands.formed;
-    history = rw is stands.history;
-    freed = rw is stands.freed;
-    stores = rw is (record {
-      clients = stands.stores.clients;
-      recorded = rw (same_journal, same_replies) stands.stores.recorded;
-      world = rw same_made stands.stores.world;
-      fences = same_fences (machine r).device.signalled st.fences fences same_set stands.stores.fences;
-      fenced = same_slots (machine r).device.world (machine r).device.signalled st.fences fences same_set stands.stores.fenced;
-      queues = queues_same (length r.script.clients) (machine r).events client st.queues queue own.low high reserved unread stands.stores.queues;
-      tracker = record {
-        keeps = record {
-          count = same_tracker.count ∙ stands.stores.tracker.keeps.count;
-          below = rw (same_tracker.count, same_tracker.pending) stands.stores.tracker.keeps.below;
-          last = rw same_tracker.lasts stands.stores.tracker.keeps.last;
-          before = rw same_tracker.lasts stands.stores.tracker.keeps.before;
-          commits = rw same_tracker.pending stands.stores.tracker.keeps.commits;
+  roomy journal replies made fences queue tracker tails steps is same_journal same_replies same_made same_set reserved unread same_tracker alike =
+      let base = stands_with_room r st journal replies made fences steps stands is same_journal same_replies same_made same_set st.freed refl refl in
+      record {
+        formed = base.formed;
+        history = base.history;
+        freed = base.freed;
+        stores = record {
+          clients = base.stores.clients;
+          recorded = base.stores.recorded;
+          world = base.stores.world;
+          fences = base.stores.fences;
+          fenced = base.stores.fenced;
+          out_fenced = base.stores.out_fenced;
+          queues = rw is (queues_same (length r.script.clients) (machine r).events client st.queues queue own.low high reserved unread stands.stores.queues);
+          tracker =
+              rw is
+              (record {
+                keeps = record {
+                  count = same_tracker.count ∙ stands.stores.tracker.keeps.count;
+                  below = rw (same_tracker.count, same_tracker.pending) stands.stores.tracker.keeps.below;
+                  last = rw same_tracker.lasts stands.stores.tracker.keeps.last;
+                  before = rw same_tracker.lasts stands.stores.tracker.keeps.before;
+                  commits = rw same_tracker.pending stands.stores.tracker.keeps.commits;
+                };
+                untouched = stands.stores.tracker.untouched;
+              });
+          tails = rw is (alike r.script.topology (machine r).device.commits (machine r).device.marks (machine r).records.latches stands.stores.tails);
+          registers = base.stores.registers;
+          going = base.stores.going;
+          ended = base.stores.ended;
         };
-        untouched = stands.stores.tracker.untouched;
-      };
-      out_fenced = λ k index id low few is. rw same_set (stands.stores.out_fenced k index id low few is);
-      tails = alike r.script.topology (machine r).device.commits (machine r).device.marks (machine r).records.latches stands.stores.tails;
-      registers = stands.stores.registers;
-      going = stands.stores.going;
-      ended = stands.stores.ended;
-    });
-  }
+      }
 
   -- What a commit leaves
 

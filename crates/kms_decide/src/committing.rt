@@ -1,5 +1,5 @@
 //! What a commit leaves in the stores.
-ghost use Rattle.std.specs.Prelude.{ℕ, ◌≡◌, ◌<◌, ◌≤◌, ◌+◌, ◌*◌, ◌++◌, List, [], ◌∷◌, length, map, IfOk, IsSome, OnErr, OnOk, Some, option_copied, true, false};
+ghost use Rattle.std.specs.Prelude.{ℕ, ◌≡◌, ◌<◌, ◌≤◌, ◌+◌, ◌*◌, ◌++◌, List, [], ◌∷◌, length, map, IfOk, IsSome, OnErr, OnOk, Some, true, false};
 ghost use Rattle.kms_model.specs.declared.replies.Reply.TheVariants as reply;
 ghost use Rattle.kms_model.specs.declared.replies.Step.TheVariants as step;
 ghost use Rattle.kms_model.specs.declared.scripts.Assign.{Assign};
@@ -14,11 +14,12 @@ ghost use Rattle.kms_model.specs.Stores.Tables.{AreBelow};
 ghost use Rattle.kms_clients.specs.InStep.{AreClientsOf, IsTaking, after_decision, after_swap};
 ghost use Rattle.kms_clients.specs.Standing.{IsClient, place_of};
 ghost use Rattle.kms_signal.specs.Queues.{HasSpace};
-ghost use Rattle.kms_tails.specs.InStep.{StandsAfterSwap, StandsAlike};
+ghost use Rattle.kms_tails.specs.InStep.{StandsAfterSwap};
 ghost use Rattle.kms_things.specs.Made.{HasIds, with_made};
 ghost use Rattle.kms_track.specs.Tracking.{IsSetUp};
 ghost use Rattle.kms_stores.specs.Calls.{answered, joined};
 ghost use Rattle.kms_stores.specs.Run.{gains, if_ok, machine};
+ghost use Rattle.kms_decide.specs.Room.{KeepsStored};
 ghost use Rattle.kms_stores.specs.Swaps.{MayCommit};
 ghost use Rattle.kms_stores.specs.Settled.{events_of, fences_for, fences_under, id_under, label_in, labels_in, next_after};
 
@@ -287,13 +288,8 @@ fn make_commit_room(
     ensures latches { latches.new.items ≡ latches.old.items }
     ensures steps_kept { steps.old.room ≤ steps.new.room }
     ensures latches_kept { latches.old.room ≤ latches.new.room }
-    ensures fences { fences.new.slots ≡ fences.old.slots }
-    ensures reserved { queue.new.reserved ≡ queue.old.reserved }
-    ensures unread { queue.new.unread ≡ queue.old.unread }
-    ensures count { tracker.new.count ≡ tracker.old.count }
-    ensures lasts { tracker.new.lasts ≡ tracker.old.lasts }
-    ensures pending { tracker.new.pending.slots ≡ tracker.old.pending.slots }
-    ensures tails { StandsAlike tails.old tails.new }
+    ensures kept { KeepsStored fences.old fences.new queue.old queue.new tracker.old tracker.new
+        tails.old tails.new }
     ensures journal_room { OnOk result (0 < journal.new.room) }
     ensures replies_room { OnOk result (0 < replies.new.room) }
     ensures steps_room { OnOk result (31 * length tails.old.slots + 32 ≤ steps.new.room) }
@@ -321,13 +317,8 @@ fn make_tail_room(
     in_fences: &Seq<(ObjId, u32)>,
     events: u32,
 ) -> Result<(), NoMemory>
-    ensures fences { fences.new.slots ≡ fences.old.slots }
-    ensures reserved { queue.new.reserved ≡ queue.old.reserved }
-    ensures unread { queue.new.unread ≡ queue.old.unread }
-    ensures count { tracker.new.count ≡ tracker.old.count }
-    ensures lasts { tracker.new.lasts ≡ tracker.old.lasts }
-    ensures pending { tracker.new.pending.slots ≡ tracker.old.pending.slots }
-    ensures tails { StandsAlike tails.old tails.new }
+    ensures kept { KeepsStored fences.old fences.new queue.old queue.new tracker.old tracker.new
+        tails.old tails.new }
     ensures fences_room { OnOk result (4 ≤ fences.new.room) }
     ensures events_room { OnOk result (events ≤ queue.new.room) }
     ensures commit_room { OnOk result (0 < tracker.new.pending.room) }

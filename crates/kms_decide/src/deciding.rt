@@ -1,23 +1,15 @@
 //! Decisions on requests.
-ghost use Rattle.std.specs.Prelude.{◌≡◌, ◌<◌, ◌↔◌, [], ◌∷◌, IfOk, IsTrue};
-ghost use Rattle.kms_model.specs.Device.World.{thing_labelled};
-ghost use Rattle.kms_model.specs.Request.Lookups.{look_of, look_up, lookups};
+ghost use Rattle.std.specs.Prelude.{◌≡◌, ◌<◌, [], ◌∷◌, IfOk, None};
+ghost use Rattle.kms_model.specs.Request.Lookups.{look_up};
 ghost use Rattle.kms_model.specs.declared.replies.Reply.TheVariants as reply;
 ghost use Rattle.kms_model.specs.declared.replies.Step.TheVariants as step;
 ghost use Rattle.kms_stores.specs.declared.looking.Decided.TheVariants as decided;
 ghost use Rattle.kms_stores.specs.Decisions.{Decides, IsDecided, IsFirstStale, MayRefuse, MayTest};
-ghost use Rattle.kms_stores.specs.Decisions.{labels_of, looks_at, steps_of, taker, taker_at, taker_in, world};
+ghost use Rattle.kms_stores.specs.Decisions.{steps_of, taker, world};
 ghost use Rattle.kms_stores.specs.Run.{gains, if_ok, machine};
-ghost use Rattle.kms_clients.specs.Standing.{doing_in};
 
-use kms_clients::Clients;
-use kms_model::{
-    Answered, Assign, Checked, Doing, Look, Lookups, MAX_CLIENTS, NoMemory, ObjId, Refusal, Reply,
-    Request, Step, Ticket, Value,
-};
+use kms_model::{Answered, Checked, Lookups, NoMemory, Refusal, Reply, Step, Ticket};
 use kms_stores::{Decided, Stores, first_stale, make_step_room, taker};
-use kms_things::Things;
-use std::alloc::Global;
 
 /// Refuses the request of the client whose context has a ticket and takes locks. `used` tells what the request's labels
 /// named. `why` is the first of refusals 1 to 8 with that; or the first of refusals 9 to 24, as a check of present
@@ -36,13 +28,14 @@ pub fn refuse(
         (steps_of (taker (machine stores.old) t.0)
         (step.Refuse (taker (machine stores.old) t.0)))) }
 {
-    if let Some(stale) = first_stale(&stores.things, used) {
-        return Ok(stale.again());
-    }
     let client = taker(&stores.clients, t);
-    let reply = Reply::Refused(why);
-    decide(stores, client, Step::Refuse { client }, reply)?;
-    Ok(Decided::Done { reply })
+    decide_fresh(
+        stores,
+        used,
+        client,
+        Step::Refuse { client },
+        Reply::Refused(why),
+    )
 }
 
 /// Tells that the request of the client whose context has a ticket and takes locks would be accepted. It is tested
@@ -63,14 +56,30 @@ pub fn test(
         (steps_of (taker (machine stores.old) t.0)
         (step.Test (taker (machine stores.old) t.0)))) }
 {
+    let client = taker(&stores.clients, t);
+    decide_fresh(stores, used, client, Step::Test { client }, Reply::Tested)
+}
+
+/// Decides a client's request by a step with a reply, where its labels name what `used` tells that they named; else `Again`
+/// comes, with the first that does not, and nothing changes.
+fn decide_fresh(
+    stores: &mut Stores,
+    used: &Lookups,
+    client: u32,
+    step: Step,
+    reply: Reply,
+) -> Result<Decided, NoMemory>
+    requires { IsFirstStale (look_up (world stores.old)) used.now None
+        → Decides stores.old client step reply }
+    ensures answer { IfOk result (IsDecided (look_up (world stores.old)) used.now
+        (decided.Done reply)) }
+    ensures history { stores.new ≡ gains stores.old (if_ok result (steps_of client step)) }
+{
     if let Some(stale) = first_stale(&stores.things, used) {
         return Ok(stale.again());
     }
-    let client = taker(&stores.clients, t);
-    decide(stores, client, Step::Test { client }, Reply::Tested)?;
-    Ok(Decided::Done {
-        reply: Reply::Tested,
-    })
+    decide(stores, client, step, reply)?;
+    Ok(Decided::Done { reply })
 }
 
 /// Decides a client's request by a step with a reply: it drops its locks and goes on to its next command.

@@ -1,25 +1,18 @@
 //! Requests that are committed.
-ghost use Rattle.std.specs.Prelude.{◌≡◌, ◌+◌, ◌*◌, ◌≤◌, ◌&&◌, nat_lt, length, IfOk, None, Some, if◌then◌else◌};
-ghost use Rattle.kms_laws.specs.TailsLeft.{one_if};
+ghost use Rattle.std.specs.Prelude.{◌≡◌, length, IfOk, None, Some};
 ghost use Rattle.kms_model.specs.declared.replies.Reply.TheVariants as reply;
 ghost use Rattle.kms_model.specs.declared.replies.Step.TheVariants as step;
-ghost use Rattle.kms_model.specs.Request.Flags.{is_nonblock, wants_event};
 ghost use Rattle.kms_model.specs.Request.Lookups.{look_up};
-ghost use Rattle.kms_signal.specs.Queues.{space_used};
-ghost use Rattle.kms_track.specs.Tracking.{busy_of};
 ghost use Rattle.kms_stores.specs.declared.looking.Decided.TheVariants as decided;
 ghost use Rattle.kms_stores.specs.Decisions.{IsDecided, steps_of, taker, world};
 ghost use Rattle.kms_stores.specs.Run.{gains, if_ok, machine};
-ghost use Rattle.kms_stores.specs.Swaps.{busy_as, count_in, hindered_steps, late_told, or_answer};
+ghost use Rattle.kms_stores.specs.Swaps.{hindered_steps, or_answer};
 ghost use Rattle.kms_stores.specs.Swaps.{IsReadyToCommit, MaySwap, MaySwapUnless, swap_answer};
 
 use crate::committing::commit;
 use crate::deciding::decide;
-use kms_model::{Checked, Lookups, Mask, NoMemory, Reply, Resolved, Step, Ticket, has_bit};
-use kms_props::{is_nonblock, wants_event};
-use kms_signal::{EVENT_BYTES, EVENT_SPACE, EventQueue};
+use kms_model::{Checked, Lookups, NoMemory, Reply, Resolved, Step, Ticket};
 use kms_stores::{Decided, Stores, first_stale, late_reply, taker};
-use kms_track::Tracker;
 use std::alloc::Global;
 
 /// Commits the request of the client whose context has a ticket and takes locks, or refuses it for want of space for its

@@ -95,7 +95,8 @@ fn resolves(
     looks: &Lookups,
 ) -> Result<bool, NoMemory>
     requires { IsTrue (keeps_limits topology.now) }
-    ensures { IfOk result (λ fine. fine ≡ true → Resolves topology.now (look_in looks.now) request.now) }
+    ensures { IfOk result (λ fine. fine ≡ true
+        → Resolves topology.now (look_in looks.now) request.now) }
 {
     match resolve(alloc, topology, request, looks) {
         Ok(_resolved) => Ok(true),

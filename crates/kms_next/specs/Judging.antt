@@ -1,15 +1,13 @@
 -- What is told of a client that takes locks for a request, as its next step needs it. From: "KMS Locking"; "Atomic Mode
 -- Setting"; `drm_atomic_helper.c`, drm_atomic_helper_setup_commit.
-use Rattle.std.specs.Prelude.{◌≡◌, ℕ, Bool, true, false, not, ◌||◌, is_some, Option, Some, None}
+use Rattle.std.specs.Prelude.{◌≡◌, ℕ, Bool, true, false, is_some, Option, Some, None}
 use Rattle.kms_model.specs.declared.objects.Topology.{Topology}
 use Rattle.kms_model.specs.declared.scripts.Request.{Request}
 use Rattle.kms_model.specs.declared.scripts.Script.{Script}
-use Rattle.kms_model.specs.declared.states.Mask.{Mask}
-use Rattle.kms_model.specs.Machine.State.{Machine, doing_at, holds, request_at}
+use Rattle.kms_model.specs.Machine.State.{Machine, doing_at, request_at}
 use Rattle.kms_model.specs.Machine.Steps.{holds_touched, is_ready, is_taking}
 use Rattle.kms_model.specs.Request.Verdict.{early_in, late_in}
 use Rattle.kms_request.specs.Answers.{refusal_number}
-use Rattle.kms_track.specs.Places.{mask_has, object_at}
 use Rattle.kms_next.specs.declared.judgement.Judged.{Judged}
 use Rattle.kms_stores.specs.Swaps.{late_reply}
 

@@ -1,5 +1,5 @@
 //! Which steps of a client that takes locks may follow. None of these calls takes memory.
-ghost use Rattle.std.specs.Prelude.{◌≡◌, ◌<◌, ◌&&◌, ◌||◌, not, IfOk, None, Some, is_none, is_some, option_copied, true};
+ghost use Rattle.std.specs.Prelude.{◌≡◌, ◌<◌, ◌&&◌, ◌||◌, IfOk, None, Some, option_copied, true};
 ghost use Rattle.kms_model.specs.declared.replies.Step.TheVariants as step;
 ghost use Rattle.kms_model.specs.Machine.Effects.{refusal_reply};
 ghost use Rattle.kms_model.specs.Machine.State.{Machine};
@@ -22,8 +22,8 @@ use crate::judgement::Judged;
 use crate::lookers::{Ever, Now};
 use kms_clients::Clients;
 use kms_model::{
-    Checked, Command, Doing, Kind, Mask, NoMemory, ObjId, Refusal, Reply, Request, Resolved,
-    Topology, command_of, has_bit,
+    Checked, Command, Doing, Kind, Mask, NoMemory, ObjId, Reply, Request, Resolved, Topology,
+    command_of, has_bit,
 };
 use kms_props::is_test;
 use kms_request::{RequestError, changed, early, exists, full_check, reach, resolve, spans};

@@ -6,7 +6,7 @@ ghost use Rattle.kms_model.specs.Firsts.{first_some};
 ghost use Rattle.kms_model.specs.Machine.Histories.{awaited_by, commit_numbers, is_awaited, label_of_thing, stalled_on};
 ghost use Rattle.kms_track.specs.Tracking.{fence_ids};
 ghost use Rattle.kms_next.specs.Next.{IsLegal, if_awaited};
-ghost use Rattle.kms_stores.specs.Run.{Run, machine, gains, if_ok};
+ghost use Rattle.kms_stores.specs.Run.{machine, gains, if_ok};
 
 use crate::legality::is_dead;
 use kms_model::{Content, NoMemory, Step};

@@ -37,7 +37,7 @@ use Rattle.kms_model.specs.Script.WellFormed.{IsWellFormed}
 use Rattle.kms_stores.specs.Stands.{Stores, Stands}
 use Rattle.kms_clients.specs.Standing.{doing_in}
 use Rattle.kms_stores.specs.Decisions.{taker_in}
-use Rattle.kms_stores.proofs.Fresh.{fresh_now, named_among, tells_now}
+use Rattle.kms_stores.proofs.Fresh.{tells_now}
 use Rattle.kms_stores.proofs.Takers.{taker_as}
 use Rattle.kms_stores.proofs.Verdicts.{Decider, decider, implied, of_request}
 
@@ -112,10 +112,10 @@ tests r st t used checked stands fresh asked =
     (accepted_now r t used asked.request asked.resolved checked stands.formed stands.history fresh asked.deciding asked.accepted) asked.test
 
 -- as the call finds it
-pub tests_as : (r v : Run) (st : Stores) (t : ℕ) (used : List (ℕ × Look)) (checked : Checked) (client : ℕ) → Stands r st → r ≡ v → IsFirstStale (named_among st.made.things) used None → MayTest v t used checked
+pub tests_as : (r v : Run) (st : Stores) (t : ℕ) (used : List (ℕ × Look)) (checked : Checked) (client : ℕ) → Stands r st → r ≡ v → IsFirstStale (look_up (world v)) used None → MayTest v t used checked
     → client ≡ taker_in (doing_in st.clients.places) t → Decides v client (step.Test client) reply.Tested
 tests_as r v st t used checked client stands same none asked is =
     let now = subst (λ (x : Run). MayTest x t used checked) (sym same) asked in
-    let done = tests r st t used checked stands (fresh_now r r st used stands refl none) now in
+    let done = tests r st t used checked stands (subst (λ (x : Run). IsFirstStale (look_up (world x)) used None) (sym same) none) now in
     let own = subst (λ n. Decides r n (step.Test n) reply.Tested) (sym (taker_as r r st t client stands refl is)) done in
     subst (λ (x : Run). Decides x client (step.Test client) reply.Tested) same own

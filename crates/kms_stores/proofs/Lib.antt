@@ -1,4 +1,3 @@
-pub mod Insides
 pub mod Histories
 pub mod Spared
 pub mod Beside
@@ -13,6 +12,7 @@ pub mod Recorded
 pub mod AfterCommit
 pub mod Committed
 pub mod Fencing
+pub mod WithRoom
 pub mod CommitStates
 pub mod Seeking
 pub mod Ranges

@@ -32,7 +32,7 @@ use Rattle.kms_stores.specs.Run.{Run, machine}
 use Rattle.kms_stores.specs.Stands.{Stores, Stands}
 use Rattle.kms_clients.specs.Standing.{doing_in}
 use Rattle.kms_stores.specs.Decisions.{taker_in}
-use Rattle.kms_stores.proofs.Fresh.{fresh_now, named_among, tells_now}
+use Rattle.kms_stores.proofs.Fresh.{tells_now}
 use Rattle.kms_stores.proofs.Takers.{IsTaker, taker_as, takes}
 
 -- what a check was given is of the request in the present world
@@ -106,10 +106,10 @@ refuses r t used why formed history fresh asked = by_due asked.due where
       (touched_held r.script.topology (machine r) (taker (machine r) t) asked.request (late.holds (world r) of))
 
 -- as the call finds it
-pub refuses_as : (r v : Run) (st : Stores) (t : ℕ) (used : List (ℕ × Look)) (why : Refusal) (client : ℕ) → Stands r st → r ≡ v → IsFirstStale (named_among st.made.things) used None → MayRefuse v t used why
+pub refuses_as : (r v : Run) (st : Stores) (t : ℕ) (used : List (ℕ × Look)) (why : Refusal) (client : ℕ) → Stands r st → r ≡ v → IsFirstStale (look_up (world v)) used None → MayRefuse v t used why
     → client ≡ taker_in (doing_in st.clients.places) t → Decides v client (step.Refuse client) (reply.Refused why)
 refuses_as r v st t used why client stands same none asked is =
     let now = subst (λ (x : Run). MayRefuse x t used why) (sym same) asked in
-    let done = refuses r t used why stands.formed stands.history (fresh_now r r st used stands refl none) now in
+    let done = refuses r t used why stands.formed stands.history (subst (λ (x : Run). IsFirstStale (look_up (world x)) used None) (sym same) none) now in
     let own = subst (λ n. Decides r n (step.Refuse n) (reply.Refused why)) (sym (taker_as r r st t client stands refl is)) done in
     subst (λ (x : Run). Decides x client (step.Refuse client) (reply.Refused why)) same own

@@ -1,5 +1,6 @@
 pub mod Run
 pub mod Stands
+pub mod Insides
 pub mod Calls
 pub mod Decisions
 pub mod Swaps

@@ -54,28 +54,14 @@ pub struct Stores {
 
 impl Model for Stores {
     ghost use Rattle.kms_stores.specs.Run.{Run};
-    ghost use Rattle.kms_stores.specs.Stands.{Holds};
 
     ghost Value = { Run };
 
-    ghost view = { λ c. record { script = c.script; steps = c.steps.items } };
+    ghost use Rattle.kms_stores.specs.Insides.{AreStanding, run_of};
 
-    ghost invariant = { λ c. Holds (record { script = c.script; steps = c.steps.items }) (record {
-      clients = c.clients;
-      journal = c.journal;
-      replies = c.replies;
-      latches = c.latches;
-      made = c.things;
-      present = c.present;
-      fences = c.fences;
-      queues = c.queues.items;
-      tracker = c.tracker;
-      tails = c.tails;
-      registers = c.registers;
-      goes = c.goes;
-      stalled = c.stalled;
-      freed = c.freed;
-    }) c.steps.room };
+    ghost view = { run_of };
+
+    ghost invariant = { AreStanding };
 }
 
 impl Stores {

@@ -15,7 +15,7 @@ ghost use Rattle.kms_track.specs.Tracking.{changed, with_latch};
 ghost use Rattle.kms_freeing.specs.Freeing.{framebuffers_in};
 ghost use Rattle.kms_work.specs.Latching.{IsLatching, MayBlank, MayFlush, event_told, goes_at, told_if};
 ghost use Rattle.kms_stores.specs.Needs.{Frees};
-ghost use Rattle.kms_stores.specs.Run.{Run, machine, gains, if_ok};
+ghost use Rattle.kms_stores.specs.Run.{gains, if_ok};
 ghost use Rattle.kms_stores.specs.Stands.{queue_of};
 ghost use Rattle.kms_stores.specs.Work.{AreFewTails};
 

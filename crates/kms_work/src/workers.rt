@@ -3,7 +3,7 @@ ghost use Rattle.std.specs.Prelude.{◌≡◌, ◌<◌, [], ◌∷◌, slice_ind
 ghost use Rattle.kms_model.specs.declared.replies.Step.TheVariants as step;
 ghost use Rattle.kms_model.specs.Device.Objects.{index_of, kind_of};
 ghost use Rattle.kms_track.specs.Tracking.{ready_of};
-ghost use Rattle.kms_stores.specs.Run.{Run, machine, gains};
+ghost use Rattle.kms_stores.specs.Run.{gains};
 ghost use Rattle.kms_stores.specs.Work.{AreFewTails, FindsFirst, HoldsCrtc, HoldsOld, HoldsPlane, IsCrtcWritten, IsPlaneWritten, IsWritten, MayBeDone, MayClaim, MayCleanUp, MayWrite, TellsOver, claim_steps, cleanup_steps, first_claim, is_over, write_step};
 
 use kms_model::{Kind, ObjId, Step};

@@ -3,7 +3,7 @@ use Rattle.kms_clients.specs.Standing.{ticket_in}
 use Rattle.kms_model.specs.declared.replies.Step.TheVariants as step
 use Rattle.kms_stores.specs.Run.{machine}
 use Rattle.kms_calls.proofs.BackingOff.{client_of_context, is_found, must_place, backoff_goes_on, gains_step}
-use Rattle.kms_stores.proofs.Insides.{run_of, stores_of}
+use Rattle.kms_stores.specs.Insides.{run_of, stores_of}
 use Rattle.kms_stores.proofs.Spared.{other_spared}
 use Rattle.kms_calls.proofs.contexts.backoff.Goals as goal
 
@@ -19,7 +19,7 @@ backoff-requires-clause-must c = must_place (run_of c.stores.inside) c.args.stor
 pub invariant_of-stores-2 : goal.invariant_of-stores-2
 invariant_of-stores-2 c =
     let stands =
-    backoff_goes_on (run_of c.stores.inside) c.args.stores.now (stores_of c.stores.inside) c.args.t c.stores.invariant.stands c.stores.view_is c.in-Some.client c.in-Some.ensures.some c.backoff.new.stores c.make_step_room.new.steps.items c.push.new.self.items c.requires
+    backoff_goes_on (run_of c.stores.inside) c.args.stores.now (stores_of c.stores.inside) c.args.t c.stores.invariant.stands c.stores.view_is c.in-Some.client c.in-Some.ensures.some c.backoff.new.self c.make_step_room.new.steps.items c.push.new.self.items c.requires
     c.in_ok-make_step_room.ensures.items c.push.ensures.items (c.backoff.ensures (machine (run_of c.stores.inside)) c.stores.invariant.stands.stores.clients) in
     record { stands = stands; spare = other_spared _ _ _ _ _ _ _ _ _ _ c.stores.invariant.stands stands c.in_ok-make_step_room.ensures.items c.push.ensures.items refl c.stores.invariant.spare c.in_ok-make_step_room.ensures.room c.push.ensures.room }
 

@@ -1,7 +1,7 @@
 use Rattle.std.proofs.Common.{refl}
 use Rattle.kms_stores.specs.Run.{machine}
 use Rattle.kms_calls.proofs.Locking.{begins, begins_idle, tickets_fit}
-use Rattle.kms_stores.proofs.Insides.{run_of, stores_of}
+use Rattle.kms_stores.specs.Insides.{run_of, stores_of}
 use Rattle.kms_stores.proofs.Spared.{other_spared}
 use Rattle.kms_calls.proofs.contexts.begin.Goals as goal
 
@@ -17,6 +17,6 @@ begin-requires-clause-ticket_left c = tickets_fit (run_of c.stores.inside) (stor
 pub invariant_of-stores-2 : goal.invariant_of-stores-2
 invariant_of-stores-2 c =
     let stands =
-    begins (run_of c.stores.inside) c.args.stores.now (stores_of c.stores.inside) c.args.client c.begin.new.stores c.make_step_room.new.steps.items c.push.new.self.items c.stores.invariant.stands c.stores.view_is c.requires
+    begins (run_of c.stores.inside) c.args.stores.now (stores_of c.stores.inside) c.args.client c.begin.new.self c.make_step_room.new.steps.items c.push.new.self.items c.stores.invariant.stands c.stores.view_is c.requires
     c.in_ok-make_step_room.ensures.items c.push.ensures.items (c.in_ok-ticket.ensures.stands (machine (run_of c.stores.inside)) c.stores.invariant.stands.stores.clients) in
     record { stands = stands; spare = other_spared _ _ _ _ _ _ _ _ _ _ c.stores.invariant.stands stands c.in_ok-make_step_room.ensures.items c.push.ensures.items refl c.stores.invariant.spare c.in_ok-make_step_room.ensures.room c.push.ensures.room }

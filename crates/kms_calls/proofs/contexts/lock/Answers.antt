@@ -2,7 +2,7 @@ use Rattle.std.proofs.Common.{◌∙◌, sym, ap, ◌++◌, ◌∷◌, [], refl}
 use Rattle.kms_model.specs.declared.replies.Step.{Step}
 use Rattle.kms_stores.specs.Run.{machine}
 use Rattle.kms_calls.proofs.Locking.{asks, locks_of, lock_answered, lock_goes_on, lock_history, lock_stays}
-use Rattle.kms_stores.proofs.Insides.{run_of, stores_of}
+use Rattle.kms_stores.specs.Insides.{run_of, stores_of}
 use Rattle.kms_stores.proofs.Spared.{other_spared, same_le, still_spared}
 use Rattle.kms_calls.proofs.contexts.lock.Goals as goal
 

@@ -13,7 +13,7 @@ use Rattle.kms_wwlock.specs.declared.table.Relock.{Relock}
 use Rattle.kms_calls.specs.States.{stored_state}
 use Rattle.kms_stores.specs.Run.{Run, machine}
 use Rattle.kms_calls.proofs.BackingOff.{client_of_context, is_found, off_place, off_stored, off_there, relock_answered, relock_goes_on, relock_stays, gains_step}
-use Rattle.kms_stores.proofs.Insides.{run_of, stores_of}
+use Rattle.kms_stores.specs.Insides.{run_of, stores_of}
 use Rattle.kms_stores.proofs.Spared.{other_spared, same_le, still_spared}
 use Rattle.kms_calls.proofs.contexts.relock.Goals as goal
 
@@ -43,8 +43,8 @@ relock-requires-clause-off c = off_place (run_of c.stores.inside) c.args.stores.
 pub invariant_of-stores-in-Held : goal.invariant_of-stores-in-Held
 invariant_of-stores-in-Held c =
     let stands =
-    relock_stays (run_of c.stores.inside) c.args.stores.now (stores_of c.stores.inside) c.args.t c.stores.invariant.stands c.stores.view_is c.in-Some.client c.in-Some.ensures.some c.relock.new.stores c.make_step_room.new.steps.items c.in-Held.holder c.in_ok-make_step_room.ensures.items
-    (subst (λ (a : Relock). Clients.AreClientsOf (Clients.after_relock (machine (run_of c.stores.inside)) c.in-Some.client a) c.relock.new.stores) c.in-Held.is (c.relock.ensures.stands (machine (run_of c.stores.inside)) c.stores.invariant.stands.stores.clients)) in
+    relock_stays (run_of c.stores.inside) c.args.stores.now (stores_of c.stores.inside) c.args.t c.stores.invariant.stands c.stores.view_is c.in-Some.client c.in-Some.ensures.some c.relock.new.self c.make_step_room.new.steps.items c.in-Held.holder c.in_ok-make_step_room.ensures.items
+    (subst (λ (a : Relock). Clients.AreClientsOf (Clients.after_relock (machine (run_of c.stores.inside)) c.in-Some.client a) c.relock.new.self) c.in-Held.is (c.relock.ensures.stands (machine (run_of c.stores.inside)) c.stores.invariant.stands.stores.clients)) in
     record { stands = stands; spare = still_spared _ _ _ _ _ _ c.in_ok-make_step_room.ensures.items c.stores.invariant.spare c.in_ok-make_step_room.ensures.kept (same_le _) }
 
 pub returns-in-Held-clause-answer : goal.returns-in-Held-clause-answer
@@ -59,9 +59,9 @@ pub invariant_of-stores-in-Got : goal.invariant_of-stores-in-Got
 invariant_of-stores-in-Got c =
     let r = run_of c.stores.inside in
     let stands =
-    relock_goes_on (run_of c.stores.inside) c.args.stores.now (stores_of c.stores.inside) c.args.t c.stores.invariant.stands c.stores.view_is c.in-Some.client c.in-Some.ensures.some c.relock.new.stores c.make_step_room.new.steps.items c.push.new.self.items c.requires
+    relock_goes_on (run_of c.stores.inside) c.args.stores.now (stores_of c.stores.inside) c.args.t c.stores.invariant.stands c.stores.view_is c.in-Some.client c.in-Some.ensures.some c.relock.new.self c.make_step_room.new.steps.items c.push.new.self.items c.requires
     (sym c.in-Got.is ∙ c.relock.ensures.answer (machine r) c.stores.invariant.stands.stores.clients) c.in_ok-make_step_room.ensures.items c.push.ensures.items
-    (subst (λ (a : Relock). Clients.AreClientsOf (Clients.after_relock (machine r) c.in-Some.client a) c.relock.new.stores) c.in-Got.is (c.relock.ensures.stands (machine r) c.stores.invariant.stands.stores.clients)) in
+    (subst (λ (a : Relock). Clients.AreClientsOf (Clients.after_relock (machine r) c.in-Some.client a) c.relock.new.self) c.in-Got.is (c.relock.ensures.stands (machine r) c.stores.invariant.stands.stores.clients)) in
     record { stands = stands; spare = other_spared _ _ _ _ _ _ _ _ _ _ c.stores.invariant.stands stands c.in_ok-make_step_room.ensures.items c.push.ensures.items refl c.stores.invariant.spare c.in_ok-make_step_room.ensures.room c.push.ensures.room }
 
 pub returns-in-Got-clause-answer : goal.returns-in-Got-clause-answer

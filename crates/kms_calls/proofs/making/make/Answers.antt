@@ -4,9 +4,10 @@ use Rattle.kms_model.specs.declared.runs.Place.{Place}
 use Rattle.kms_model.specs.Machine.Steps.{is_making}
 use Rattle.kms_laws.proofs.Steps.{not_atomic}
 use Rattle.kms_stores.specs.Run.{machine}
-use Rattle.kms_calls.proofs.Executed.{has_ids, idle_maker, is_found, makes, never_absent, no_request, place_for, stands_with_room, tells_reply}
+use Rattle.kms_calls.proofs.Executed.{has_ids, idle_maker, is_found, makes, never_absent, no_request, place_for, tells_reply}
+use Rattle.kms_stores.proofs.WithRoom.{stands_with_room}
 use Rattle.kms_stores.proofs.Seeking.{few_tails}
-use Rattle.kms_stores.proofs.Insides.{run_of, stores_of}
+use Rattle.kms_stores.specs.Insides.{run_of, stores_of}
 use Rattle.kms_stores.proofs.Spared.{other_spared, same_le, still_spared}
 use Rattle.kms_calls.proofs.making.make.Goals as goal
 

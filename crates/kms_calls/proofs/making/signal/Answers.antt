@@ -5,7 +5,7 @@ use Rattle.kms_model.specs.Machine.Steps.{is_signal}
 use Rattle.kms_laws.proofs.Steps.{signal-other}
 use Rattle.kms_stores.specs.Run.{machine}
 use Rattle.kms_calls.proofs.Executed.{is_found, never_absent, no_request}
-use Rattle.kms_stores.proofs.Insides.{run_of, stores_of}
+use Rattle.kms_stores.specs.Insides.{run_of, stores_of}
 use Rattle.kms_calls.proofs.Signalled.{idle_signaller, signals_one, tells_signal}
 use Rattle.kms_stores.proofs.Spared.{other_spared}
 use Rattle.kms_calls.proofs.making.signal.Goals as goal

@@ -4,7 +4,7 @@ use Rattle.kms_signal.specs.Queues.{Queue, after_read}
 use Rattle.kms_stores.specs.Calls.{read_reply}
 use Rattle.kms_stores.specs.Run.{machine}
 use Rattle.kms_calls.proofs.Delivered.{found_queue, has_queue, idle_reader, none_told, reads_event, told_reply}
-use Rattle.kms_stores.proofs.Insides.{run_of, stores_of}
+use Rattle.kms_stores.specs.Insides.{run_of, stores_of}
 use Rattle.kms_stores.proofs.Spared.{other_spared}
 use Rattle.kms_calls.proofs.reading.read.Goals as goal
 
@@ -32,7 +32,7 @@ returns-clause-reply c = sym c.in-Some.is ∙ c.next_reply.ensures ∙ told_repl
 pub invariant_of-stores-2 : goal.invariant_of-stores-2
 invariant_of-stores-2 c =
     let stands =
-    reads_event (run_of c.stores.inside) c.args.stores.now (stores_of c.stores.inside) c.args.client c.in-Some.reply c.go_on.new.self c.make_room.new.journal c.answer.new.replies (slice_set c.stores.inside.queues.items (c.args.client - 1) c.read.new.stores) c.make_room.new.steps.items c.push.new.self.items
+    reads_event (run_of c.stores.inside) c.args.stores.now (stores_of c.stores.inside) c.args.client c.in-Some.reply c.go_on.new.self c.make_room.new.journal c.answer.new.replies (slice_set c.stores.inside.queues.items (c.args.client - 1) c.read.new.self) c.make_room.new.steps.items c.push.new.self.items
     c.stores.invariant.stands c.stores.view_is c.requires c.if-stores.false
     (record {
       told = ap (λ (q : Queue). read_reply q.unread q.reserved) (sym (found_queue (run_of c.stores.inside) c.args.stores.now (stores_of c.stores.inside) c.args.client _ _ c.stores.invariant.stands c.stores.view_is c.requires c.index.ensures)) ∙ sym c.next_reply.ensures ∙ c.in-Some.is;

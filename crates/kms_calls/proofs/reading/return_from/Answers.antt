@@ -1,7 +1,7 @@
 use Rattle.std.proofs.Common.{◌∙◌, ◌&&◌, ap, not, sym, refl}
 use Rattle.kms_model.specs.declared.runs.Place.{Place}
 use Rattle.kms_stores.specs.Run.{machine}
-use Rattle.kms_stores.proofs.Insides.{run_of, stores_of}
+use Rattle.kms_stores.specs.Insides.{run_of, stores_of}
 use Rattle.kms_calls.proofs.Returned.{returns, tells_over, waits_for}
 use Rattle.kms_stores.proofs.Spared.{other_spared}
 use Rattle.kms_calls.proofs.reading.return_from.Goals as goal

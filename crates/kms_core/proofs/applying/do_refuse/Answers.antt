@@ -1,4 +1,4 @@
-use Rattle.kms_stores.proofs.Insides.{run_of, stores_of}
+use Rattle.kms_stores.specs.Insides.{run_of, stores_of}
 use Rattle.kms_next.proofs.Refusing.{decides_refuse, may_refuse_now, refuse_taken}
 use Rattle.kms_core.proofs.applying.do_refuse.Goals as goal
 

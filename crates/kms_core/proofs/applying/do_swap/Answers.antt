@@ -1,4 +1,4 @@
-use Rattle.kms_stores.proofs.Insides.{run_of, stores_of}
+use Rattle.kms_stores.specs.Insides.{run_of, stores_of}
 use Rattle.kms_next.proofs.Refusing.{commits_now, swap_early_none, swap_taken}
 use Rattle.kms_core.proofs.applying.do_swap.Goals as goal
 

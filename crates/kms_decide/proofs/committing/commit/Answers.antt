@@ -7,7 +7,7 @@ use Rattle.kms_tails.specs.InStep.{StandsAfterSwap}
 use Rattle.kms_stores.specs.Run.{machine}
 use Rattle.kms_stores.specs.Settled.{fences_under, labels_in}
 use Rattle.kms_decide.proofs.Commits.{again, below_tails, commits, decider, few_commits, few_waits, found_queue, has_ids, high, may_now, own, queues_same, roomy, set_up_same, space_again, there}
-use Rattle.kms_stores.proofs.Insides.{run_of, stores_of}
+use Rattle.kms_stores.specs.Insides.{run_of, stores_of}
 use Rattle.kms_stores.proofs.Spared.{still_spared, swap_spared, with_latches}
 use Rattle.kms_decide.proofs.committing.commit.Goals as goal
 
@@ -20,10 +20,10 @@ invariant_of-stores c =
     let queue = found_queue r st c.args.client c.args.checked.now c.args.resolved.now before can _ _ c.index_mut.ensures.value in
     let stands =
     roomy r st c.args.client c.args.checked.now c.args.resolved.now before can c.make_commit_room.new.journal c.make_commit_room.new.replies c.stores.inside.things c.make_commit_room.new.fences c.make_commit_room.new.queue c.make_commit_room.new.tracker c.make_commit_room.new.tails c.make_commit_room.new.steps.items
-    c.in_err-make_commit_room.ensures.steps c.in_err-make_commit_room.ensures.journal c.in_err-make_commit_room.ensures.replies refl c.in_err-make_commit_room.ensures.fences
-    (c.in_err-make_commit_room.ensures.reserved ∙ ap (λ (q : Queue). q.reserved) queue) (c.in_err-make_commit_room.ensures.unread ∙ ap (λ (q : Queue). q.unread) queue)
-    (record { count = c.in_err-make_commit_room.ensures.count; lasts = c.in_err-make_commit_room.ensures.lasts; pending = c.in_err-make_commit_room.ensures.pending })
-    (λ t commits marks latches was. c.in_err-make_commit_room.ensures.tails t commits marks latches was) in
+    c.in_err-make_commit_room.ensures.steps c.in_err-make_commit_room.ensures.journal c.in_err-make_commit_room.ensures.replies refl c.in_err-make_commit_room.ensures.kept.fences
+    (c.in_err-make_commit_room.ensures.kept.reserved ∙ ap (λ (q : Queue). q.reserved) queue) (c.in_err-make_commit_room.ensures.kept.unread ∙ ap (λ (q : Queue). q.unread) queue)
+    c.in_err-make_commit_room.ensures.kept.tracking
+    (λ t commits marks latches was. c.in_err-make_commit_room.ensures.kept.tails t commits marks latches was) in
     record { stands = stands; spare = still_spared _ _ _ _ _ _ c.in_err-make_commit_room.ensures.steps c.stores.invariant.spare c.in_err-make_commit_room.ensures.steps_kept c.in_err-make_commit_room.ensures.latches_kept }
 
 pub make_out_fences-requires-clause-ids : goal.make_out_fences-requires-clause-ids
@@ -39,10 +39,10 @@ invariant_of-stores-in_err-make_out_fences c =
     let queue = found_queue r st c.args.client c.args.checked.now c.args.resolved.now before can _ _ c.index_mut.ensures.value in
     let stands =
     roomy r st c.args.client c.args.checked.now c.args.resolved.now before can c.make_commit_room.new.journal c.make_commit_room.new.replies c.make_out_fences.new.things c.make_out_fences.new.fences c.make_commit_room.new.queue c.make_commit_room.new.tracker c.make_commit_room.new.tails c.make_commit_room.new.steps.items
-    c.in_ok-make_commit_room.ensures.steps c.in_ok-make_commit_room.ensures.journal c.in_ok-make_commit_room.ensures.replies c.in_err-make_out_fences.ensures.same_things (ap (λ (f : FenceSet). f.slots) c.in_err-make_out_fences.ensures.same_fences ∙ c.in_ok-make_commit_room.ensures.fences)
-    (c.in_ok-make_commit_room.ensures.reserved ∙ ap (λ (q : Queue). q.reserved) queue) (c.in_ok-make_commit_room.ensures.unread ∙ ap (λ (q : Queue). q.unread) queue)
-    (record { count = c.in_ok-make_commit_room.ensures.count; lasts = c.in_ok-make_commit_room.ensures.lasts; pending = c.in_ok-make_commit_room.ensures.pending })
-    (λ t commits marks latches was. c.in_ok-make_commit_room.ensures.tails t commits marks latches was) in
+    c.in_ok-make_commit_room.ensures.steps c.in_ok-make_commit_room.ensures.journal c.in_ok-make_commit_room.ensures.replies c.in_err-make_out_fences.ensures.same_things (ap (λ (f : FenceSet). f.slots) c.in_err-make_out_fences.ensures.same_fences ∙ c.in_ok-make_commit_room.ensures.kept.fences)
+    (c.in_ok-make_commit_room.ensures.kept.reserved ∙ ap (λ (q : Queue). q.reserved) queue) (c.in_ok-make_commit_room.ensures.kept.unread ∙ ap (λ (q : Queue). q.unread) queue)
+    c.in_ok-make_commit_room.ensures.kept.tracking
+    (λ t commits marks latches was. c.in_ok-make_commit_room.ensures.kept.tails t commits marks latches was) in
     record { stands = stands; spare = still_spared _ _ _ _ _ _ c.in_ok-make_commit_room.ensures.steps c.stores.invariant.spare c.in_ok-make_commit_room.ensures.steps_kept c.in_ok-make_commit_room.ensures.latches_kept }
 
 pub index_mut-requires-2 : goal.index_mut-requires-2
@@ -53,7 +53,7 @@ index_mut-requires-2 c =
 
 pub set_up-commit-requires-clause-count : goal.set_up-commit-requires-clause-count
 set_up-commit-requires-clause-count c =
-    rw c.in_ok-make_commit_room.ensures.count
+    rw c.in_ok-make_commit_room.ensures.kept.tracking.count
     (few_commits (run_of c.stores.inside) (stores_of c.stores.inside) c.args.client c.args.checked.now c.args.resolved.now c.stores.invariant.stands (may_now (run_of c.stores.inside) c.args.stores.now c.args.client c.args.checked.now c.args.resolved.now c.stores.view_is c.requires))
 
 pub set_up-commit-requires-clause-fences : goal.set_up-commit-requires-clause-fences
@@ -73,7 +73,7 @@ reserve_events-requires-clause-space c =
     let second = again r st c.args.client c.args.checked.now c.args.resolved.now c.stores.invariant.stands can c.make_commit_room.new.queue _ _ c.index_mut-2.ensures.value in
     rw second
     (space_again r st c.args.client c.args.checked.now c.args.resolved.now c.stores.invariant.stands can c.make_commit_room.new.queue c.events_of-events.result c.events_of-events.ensures.count
-    (c.in_ok-make_commit_room.ensures.reserved ∙ ap (λ (q : Queue). q.reserved) first) (c.in_ok-make_commit_room.ensures.unread ∙ ap (λ (q : Queue). q.unread) first))
+    (c.in_ok-make_commit_room.ensures.kept.reserved ∙ ap (λ (q : Queue). q.reserved) first) (c.in_ok-make_commit_room.ensures.kept.unread ∙ ap (λ (q : Queue). q.unread) first))
 
 pub reserve_events-requires-clause-room : goal.reserve_events-requires-clause-room
 reserve_events-requires-clause-room c =
@@ -83,8 +83,8 @@ reserve_events-requires-clause-room c =
 pub keep_tail-requires-clause-below : goal.keep_tail-requires-clause-below
 keep_tail-requires-clause-below c =
     below_tails (run_of c.stores.inside) (stores_of c.stores.inside) c.args.client c.args.checked.now c.args.resolved.now c.stores.invariant.stands (may_now (run_of c.stores.inside) c.args.stores.now c.args.client c.args.checked.now c.args.resolved.now c.stores.view_is c.requires)
-    _ c.make_commit_room.new.tails (c.set_up-commit.ensures.number ∙ c.in_ok-make_commit_room.ensures.count)
-    (λ t commits marks latches was. c.in_ok-make_commit_room.ensures.tails t commits marks latches was)
+    _ c.make_commit_room.new.tails (c.set_up-commit.ensures.number ∙ c.in_ok-make_commit_room.ensures.kept.tracking.count)
+    (λ t commits marks latches was. c.in_ok-make_commit_room.ensures.kept.tails t commits marks latches was)
 
 pub keep_tail-requires-clause-there : goal.keep_tail-requires-clause-there
 keep_tail-requires-clause-there c =
@@ -107,24 +107,24 @@ invariant_of-stores-2 c =
     commits r st c.args.client c.args.checked.now c.args.resolved.now before can c.set_up-commit.result c.leave.new.clients c.reply_commit.new.journal c.reply_commit.new.replies c.make_out_fences.new.things c.present_after-stores-inside.result c.make_out_fences.new.fences
     (slice_set c.stores.inside.queues.items (c.args.client - 1) c.make_commit_room.new.queue) c.reserve_events.new.queue c.set_up-commit.new.tracker c.make_commit_room.new.tails c.keep_tail.new.tails
     (record {
-      number = c.set_up-commit.ensures.number ∙ c.in_ok-make_commit_room.ensures.count;
+      number = c.set_up-commit.ensures.number ∙ c.in_ok-make_commit_room.ensures.kept.tracking.count;
       goes = λ e. c.leave.ensures.goes e m before.stores.clients;
       waits = λ e. c.leave.ensures.waits e m before.stores.clients;
       replies_more = c.reply_commit.ensures.replies ∙ rw (c.in_ok-make_commit_room.ensures.replies, c.in_ok-make_commit_room.ensures.journal, c.place-number.ensures) refl;
       journal_more = c.reply_commit.ensures.journal ∙ rw (c.in_ok-make_commit_room.ensures.journal, c.place-number.ensures) refl;
       made_as = λ w assigns crtcs is. c.in_ok-make_out_fences.ensures.made w assigns crtcs (rw (c.out_labels-labels.ensures, c.as_slice.ensures.value) is);
       settled = c.present_after-stores-inside.ensures;
-      fences_more = c.in_ok-make_out_fences.ensures.fences ∙ rw (c.in_ok-make_commit_room.ensures.fences, c.out_labels-labels.ensures, c.as_slice.ensures.value) refl;
+      fences_more = c.in_ok-make_out_fences.ensures.fences ∙ rw (c.in_ok-make_commit_room.ensures.kept.fences, c.out_labels-labels.ensures, c.as_slice.ensures.value) refl;
       queues_stand =
           queues_same (length r.script.clients) m.events c.args.client st.queues c.make_commit_room.new.queue mine.low most
-          (c.in_ok-make_commit_room.ensures.reserved ∙ ap (λ (q : Queue). q.reserved) first) (c.in_ok-make_commit_room.ensures.unread ∙ ap (λ (q : Queue). q.unread) first) before.stores.queues;
+          (c.in_ok-make_commit_room.ensures.kept.reserved ∙ ap (λ (q : Queue). q.reserved) first) (c.in_ok-make_commit_room.ensures.kept.unread ∙ ap (λ (q : Queue). q.unread) first) before.stores.queues;
       reserved = c.reserve_events.ensures.reserved ∙ ap (λ (q : Queue). q.reserved + c.events_of-events.result) (second ∙ sym third) ∙ rw c.events_of-events.ensures.count refl;
       unread = c.reserve_events.ensures.unread ∙ ap (λ (q : Queue). q.unread) (second ∙ sym third);
       set_up =
           set_up_same c.stores.inside.tracker c.make_commit_room.new.tracker c.set_up-commit.new.tracker c.args.checked.now _
-          (record { count = c.in_ok-make_commit_room.ensures.count; lasts = c.in_ok-make_commit_room.ensures.lasts; pending = c.in_ok-make_commit_room.ensures.pending })
+          c.in_ok-make_commit_room.ensures.kept.tracking
           c.set_up-commit.ensures.set_up;
-      tails_stand = λ t commits marks latches was. c.in_ok-make_commit_room.ensures.tails t commits marks latches was;
+      tails_stand = λ t commits marks latches was. c.in_ok-make_commit_room.ensures.kept.tails t commits marks latches was;
       kept = λ q is.
           subst (λ xs. StandsAfterSwap c.set_up-commit.result c.args.client q c.args.checked.now xs c.make_commit_room.new.tails c.keep_tail.new.tails)
           (c.made_fences-out_fences.ensures ∙ ap (λ xs. fences_under c.make_out_fences.new.things.things xs) (c.out_labels-labels.ensures ∙ ap labels_in c.as_slice.ensures.value))

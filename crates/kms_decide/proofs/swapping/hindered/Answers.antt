@@ -1,5 +1,5 @@
 use Rattle.std.proofs.Common.{Some, None}
-use Rattle.kms_stores.proofs.Insides.{run_of, stores_of}
+use Rattle.kms_stores.specs.Insides.{run_of, stores_of}
 use Rattle.kms_stores.proofs.Lates.{few_events, indexed_queue, late_decides, swap_answers, swap_may}
 use Rattle.kms_decide.proofs.swapping.hindered.Goals as goal
 

@@ -3,7 +3,7 @@ use Rattle.kms_stores.specs.Decisions.{taker}
 use Rattle.kms_stores.specs.Run.{machine}
 use Rattle.kms_stores.specs.Swaps.{swap_answer}
 use Rattle.kms_stores.proofs.Fresh.{answers_again, fresh_now}
-use Rattle.kms_stores.proofs.Insides.{run_of, stores_of}
+use Rattle.kms_stores.specs.Insides.{run_of, stores_of}
 use Rattle.kms_decide.proofs.Swapped.{commit_as, committed_as, gained_as, hindered_as, ready_as, steps_as}
 use Rattle.kms_decide.proofs.swapping.swap.Goals as goal
 

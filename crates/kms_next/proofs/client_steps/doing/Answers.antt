@@ -1,5 +1,5 @@
 use Rattle.kms_next.proofs.ClientSteps.{outside_idle}
-use Rattle.kms_stores.proofs.Insides.{run_of, stores_of}
+use Rattle.kms_stores.specs.Insides.{run_of, stores_of}
 use Rattle.kms_next.proofs.client_steps.doing.Goals as goal
 
 pub returns-else-has_client : goal.returns-else-has_client

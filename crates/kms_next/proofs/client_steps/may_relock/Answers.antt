@@ -1,6 +1,6 @@
 use Rattle.std.proofs.Common.{◌∙◌}
 use Rattle.kms_next.proofs.ClientSteps.{relock_outside, relock_told}
-use Rattle.kms_stores.proofs.Insides.{run_of, stores_of}
+use Rattle.kms_stores.specs.Insides.{run_of, stores_of}
 use Rattle.kms_next.proofs.client_steps.may_relock.Goals as goal
 
 pub returns-then-has_client : goal.returns-then-has_client

@@ -1,6 +1,6 @@
 use Rattle.std.proofs.Common.{◌∙◌, sym}
 use Rattle.kms_next.proofs.ClientSteps.{return_not, return_told, returning_not}
-use Rattle.kms_stores.proofs.Insides.{run_of, stores_of}
+use Rattle.kms_stores.specs.Insides.{run_of, stores_of}
 use Rattle.kms_next.proofs.client_steps.may_return.Goals as goal
 
 pub returns-in-Returning : goal.returns-in-Returning

@@ -1,4 +1,4 @@
-use Rattle.kms_stores.proofs.Insides.{run_of, stores_of}
+use Rattle.kms_stores.specs.Insides.{run_of, stores_of}
 use Rattle.kms_next.proofs.Presented.{somewhere_now}
 use Rattle.kms_next.proofs.Refusing.{checked_now, early_at, settable_now, spanned, states_now}
 use Rattle.kms_next.proofs.judging.checked.Goals as goal

@@ -4,7 +4,7 @@ use Rattle.kms_request.specs.Whole.{StandBetween}
 use Rattle.kms_track.specs.Tracking.{not_yet_of}
 use Rattle.kms_stores.specs.Decisions.{world}
 use Rattle.kms_stores.specs.Run.{machine}
-use Rattle.kms_stores.proofs.Insides.{run_of, stores_of}
+use Rattle.kms_stores.specs.Insides.{run_of, stores_of}
 use Rattle.kms_next.proofs.JudgedRequests.{early_none, judged_late, none_told, takes_at}
 use Rattle.kms_stores.proofs.Lates.{few_at, queue_at, queue_there}
 use Rattle.kms_next.proofs.Presented.{presented, somewhere_now, tells_now}

@@ -3,7 +3,7 @@ use Rattle.kms_model.specs.Machine.Steps.{is_lockable}
 use Rattle.kms_model.proofs.TouchedLemmas.{few_objects}
 use Rattle.kms_stores.specs.Decisions.{world}
 use Rattle.kms_stores.specs.Run.{Run, machine}
-use Rattle.kms_stores.proofs.Insides.{run_of, stores_of}
+use Rattle.kms_stores.specs.Insides.{run_of, stores_of}
 use Rattle.kms_next.proofs.Presented.{presented, somewhere_ever, tells_ever}
 use Rattle.kms_next.proofs.Taken.{lock_apart, lock_found, lockable_exists, lockable_of, no_lock, not_lockable, taker_number}
 use Rattle.kms_next.proofs.judging.may_lock.Goals as goal

@@ -1,5 +1,5 @@
 use Rattle.kms_stores.specs.Run.{machine}
-use Rattle.kms_stores.proofs.Insides.{run_of, stores_of}
+use Rattle.kms_stores.specs.Insides.{run_of, stores_of}
 use Rattle.kms_next.proofs.Refusing.{refused_early, refused_last, refused_late, refused_never}
 use Rattle.kms_next.proofs.judging.refusal_reply.Goals as goal
 

@@ -1,4 +1,4 @@
-use Rattle.kms_stores.proofs.Insides.{run_of}
+use Rattle.kms_stores.specs.Insides.{run_of}
 use Rattle.kms_next.proofs.Refusing.{resolved_never, resolved_now}
 use Rattle.kms_next.proofs.judging.resolved.Goals as goal
 

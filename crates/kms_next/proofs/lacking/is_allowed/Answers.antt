@@ -3,7 +3,7 @@ use Rattle.kms_model.specs.Machine.State.{doing_at, holder_at}
 use Rattle.kms_model.specs.Machine.Steps.{is_free_or_older, ticket_of}
 use Rattle.kms_stores.specs.Decisions.{world}
 use Rattle.kms_stores.specs.Run.{Run, machine}
-use Rattle.kms_stores.proofs.Insides.{run_of}
+use Rattle.kms_stores.specs.Insides.{run_of}
 use Rattle.kms_next.proofs.NextLocks.{allowed_told, touched_told}
 use Rattle.kms_next.proofs.lacking.is_allowed.Goals as goal
 

@@ -1,6 +1,6 @@
 use Rattle.std.proofs.Common.{◌∙◌, sym}
 use Rattle.kms_next.proofs.Drains.{cleaned_told, drained_both, drained_not}
-use Rattle.kms_stores.proofs.Insides.{run_of, stores_of}
+use Rattle.kms_stores.specs.Insides.{run_of, stores_of}
 use Rattle.kms_next.proofs.legality.drained.Goals as goal
 
 pub returns-then-are_at_end : goal.returns-then-are_at_end

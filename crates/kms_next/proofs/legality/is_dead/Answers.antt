@@ -2,7 +2,7 @@ use Rattle.std.proofs.Common.{◌∙◌, ap, refl, sym}
 use Rattle.std.specs.Prelude.{◌&&◌, ◌||◌, not}
 use Rattle.kms_model.specs.Machine.Histories.{is_drained, is_enabled}
 use Rattle.kms_stores.specs.Run.{machine}
-use Rattle.kms_stores.proofs.Insides.{run_of, stores_of}
+use Rattle.kms_stores.specs.Insides.{run_of, stores_of}
 use Rattle.kms_next.proofs.Legals.{dead_told, ended_told}
 use Rattle.kms_next.proofs.legality.is_dead.Goals as goal
 

@@ -3,7 +3,7 @@ use Rattle.std.specs.Prelude.{◌&&◌, not}
 use Rattle.kms_model.specs.Machine.Histories.{is_dead}
 use Rattle.kms_model.specs.Machine.Steps.{may}
 use Rattle.kms_stores.specs.Run.{machine}
-use Rattle.kms_stores.proofs.Insides.{run_of, stores_of}
+use Rattle.kms_stores.specs.Insides.{run_of, stores_of}
 use Rattle.kms_next.proofs.Legals.{ended_told, legal_told, stall_told}
 use Rattle.kms_next.proofs.legality.legal.Goals as goal
 

@@ -1,5 +1,5 @@
 use Rattle.std.proofs.Common.{arith, sym, ◌∙◌}
-use Rattle.kms_stores.proofs.Insides.{run_of, stores_of}
+use Rattle.kms_stores.specs.Insides.{run_of, stores_of}
 use Rattle.kms_next.proofs.Movers.{no_tail_step, rests_further, some_tail, tail_moved}
 use Rattle.kms_stores.proofs.Seeking.{few_tails, goes_up, less_left}
 use Rattle.kms_next.proofs.moving.has_tail_step.Goals as goal

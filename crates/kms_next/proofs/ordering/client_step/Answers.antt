@@ -1,5 +1,5 @@
 use Rattle.std.proofs.Common.{sym, ◌∙◌}
-use Rattle.kms_stores.proofs.Insides.{run_of, stores_of}
+use Rattle.kms_stores.specs.Insides.{run_of, stores_of}
 use Rattle.kms_next.proofs.Legals.{ended_told}
 use Rattle.kms_next.proofs.ClientTurns.{client_ended}
 use Rattle.kms_next.proofs.ordering.client_step.Goals as goal

@@ -1,7 +1,7 @@
 use Rattle.std.proofs.Common.{arith, sym, ◌∙◌}
 use Rattle.kms_model.specs.declared.replies.Step.{Step}
 use Rattle.kms_stores.proofs.FirstTails.{nothing_found, nothing_further, something_found}
-use Rattle.kms_stores.proofs.Insides.{run_of, stores_of}
+use Rattle.kms_stores.specs.Insides.{run_of, stores_of}
 use Rattle.kms_stores.proofs.Seeking.{few_tails, goes_up, less_left}
 use Rattle.kms_next.proofs.TailTurns.{cleaned_none, first_of}
 use Rattle.kms_next.proofs.settling.first_of_tails.Goals as goal

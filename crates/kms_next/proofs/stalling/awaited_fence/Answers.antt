@@ -1,5 +1,5 @@
 use Rattle.std.proofs.Common.{arith, sym, ◌∙◌}
-use Rattle.kms_stores.proofs.Insides.{run_of, stores_of}
+use Rattle.kms_stores.specs.Insides.{run_of, stores_of}
 use Rattle.kms_stores.proofs.FirstTails.{tail_within}
 use Rattle.kms_stores.proofs.Seeking.{few_tails, goes_up, less_left}
 use Rattle.kms_next.proofs.Stalls.{awaits_found, awaits_further, awaits_none}

@@ -1,5 +1,5 @@
 use Rattle.std.proofs.Common.{refl}
-use Rattle.kms_stores.proofs.Insides.{run_of, stores_of}
+use Rattle.kms_stores.specs.Insides.{run_of, stores_of}
 use Rattle.kms_stores.proofs.Spared.{other_spared}
 use Rattle.kms_next.proofs.Stalls.{stalls}
 use Rattle.kms_next.proofs.stalling.stall.Goals as goal

@@ -4,7 +4,7 @@ use Rattle.kms_model.specs.declared.replies.Step.TheVariants.{Flush}
 use Rattle.kms_model.specs.Device.Objects.{object_id}
 use Rattle.kms_work.proofs.Flushing.{few_flushed, flush_latches, flushes_next, flushes_off, flushes_on}
 use Rattle.kms_stores.proofs.FreedCalls.{live_all, live_few, live_places}
-use Rattle.kms_stores.proofs.Insides.{run_of, stores_of}
+use Rattle.kms_stores.specs.Insides.{run_of, stores_of}
 use Rattle.kms_stores.proofs.Spared.{own_room, own_spared, own_step, tail_spared}
 use Rattle.kms_work.proofs.latching.flush.Goals as goal
 
@@ -32,7 +32,7 @@ invariant_of-stores c =
     let step = Flush c.args.commit Crtc c.args.crtc in
     let own = own_step r st step c.args.commit c.stores.invariant.stands refl refl (flushes_next r c.args.stores.now st c.args.commit c.args.crtc c.stores.invariant.stands c.stores.view_is c.requires).is_legal in
     let stands =
-    flushes_on r c.args.stores.now st c.args.commit c.args.crtc c.stores.inside.latches c.flush.new.stores c.flushed.new.self r.steps c.push.new.self.items c.stores.invariant.stands c.stores.view_is c.requires
+    flushes_on r c.args.stores.now st c.args.commit c.args.crtc c.stores.inside.latches c.flush.new.self c.flushed.new.self r.steps c.push.new.self.items c.stores.invariant.stands c.stores.view_is c.requires
     refl c.push.ensures.items refl c.flushed.ensures.stands c.in_default.ensures.stands c.in_default.ensures.picture in
     record { stands = stands; spare = own_spared r st _ step c.args.commit c.push.new.self.items _ _ _ c.stores.invariant.stands stands c.push.ensures.items own c.stores.invariant.spare c.push.ensures.room }
 
@@ -80,7 +80,7 @@ invariant_of-stores-2 c =
     let shown = c.latch_of-shown.ensures.shown in
     let own = own_step r st step c.args.commit c.stores.invariant.stands refl refl (flushes_next r c.args.stores.now st c.args.commit c.args.crtc c.stores.invariant.stands c.stores.view_is c.requires).is_legal in
     let stands =
-    flushes_off r c.args.stores.now st c.args.commit c.args.crtc c.latch_of-shown.result.count c.in-Some.picture c.flush.new.stores c.flushed.new.self c.show.new.tails c.show.new.tracker c.show.new.fences
+    flushes_off r c.args.stores.now st c.args.commit c.args.crtc c.latch_of-shown.result.count c.in-Some.picture c.flush.new.self c.flushed.new.self c.show.new.tails c.show.new.tracker c.show.new.fences
     c.show.new.queues.items st.latches.items c.push-2.new.self r.steps c.push.new.self.items c.stores.invariant.stands c.stores.view_is c.requires refl c.push.ensures.items
     (record {
       flushes = c.in-Some.ensures.stands;

@@ -5,7 +5,7 @@ use Rattle.kms_model.specs.declared.replies.Step.TheVariants.{Vblank}
 use Rattle.kms_model.specs.Device.Objects.{object_id}
 use Rattle.kms_work.proofs.Blanking.{blank_latches, blanks_crtc, blanks_for, blanks_legal, blanks_low, blanks_with, blanks_without, count_fits, few_blanked, goes_is, has_picture}
 use Rattle.kms_stores.proofs.FreedCalls.{live_all, live_few, live_places}
-use Rattle.kms_stores.proofs.Insides.{run_of, stores_of}
+use Rattle.kms_stores.specs.Insides.{run_of, stores_of}
 use Rattle.kms_stores.proofs.Spared.{other_spared, tail_room, tail_spared}
 use Rattle.kms_work.proofs.latching.vblank.Goals as goal
 
@@ -101,7 +101,7 @@ invariant_of-stores-2 c =
     let shown = c.latch_of-shown.ensures.shown in
     let B = blanks_for r c.args.stores.now st c.in-Some.commit c.args.crtc c.stores.invariant.stands c.stores.view_is c.requires c.in-Some.is in
     let stands =
-    blanks_with r c.args.stores.now st c.in-Some.commit c.args.crtc c.latch_of-shown.result.count c.in-Some-vblank.picture c.vblank.new.stores c.show.new.tails c.show.new.tracker c.show.new.fences
+    blanks_with r c.args.stores.now st c.in-Some.commit c.args.crtc c.latch_of-shown.result.count c.in-Some-vblank.picture c.vblank.new.self c.show.new.tails c.show.new.tracker c.show.new.fences
     c.show.new.queues.items st.latches.items c.push-3.new.self r.steps c.push-2.new.self.items c.stores.invariant.stands c.stores.view_is c.requires refl c.push-2.ensures.items
     (record {
       go = c.in-Some.is;

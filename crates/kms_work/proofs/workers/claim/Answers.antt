@@ -1,7 +1,7 @@
 use Rattle.std.proofs.Common.{None, Some, subst}
 use Rattle.kms_stores.specs.Run.{Run}
 use Rattle.kms_stores.specs.Work.{MayClaim}
-use Rattle.kms_stores.proofs.Insides.{run_of, stores_of}
+use Rattle.kms_stores.specs.Insides.{run_of, stores_of}
 use Rattle.kms_stores.proofs.Seeking.{claim_found, claim_legal, claim_none, few_tails}
 use Rattle.kms_work.proofs.workers.claim.Goals as goal
 

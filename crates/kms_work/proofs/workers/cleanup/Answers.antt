@@ -1,7 +1,7 @@
 use Rattle.std.proofs.Common.{◌∙◌, ap, refl, sym}
 use Rattle.std.specs.Option.{option_copied}
 use Rattle.kms_model.specs.declared.replies.Step.TheVariants.{Cleanup}
-use Rattle.kms_stores.proofs.Insides.{run_of, stores_of}
+use Rattle.kms_stores.specs.Insides.{run_of, stores_of}
 use Rattle.kms_work.proofs.Marking.{cleans_up, cleanup_places, few_cleaned, owns_cleanup, tail_keeps_all}
 use Rattle.kms_stores.proofs.Spared.{own_room, own_spared}
 use Rattle.kms_work.proofs.workers.cleanup.Goals as goal
@@ -30,7 +30,7 @@ invariant_of-stores c =
     let k = c.args.commit in
     let owns = owns_cleanup r c.args.stores.now st k c.stores.invariant.stands c.stores.view_is c.requires c.is_over.result c.is_over.ensures c.if-not-is_over.false in
     let stands =
-    cleans_up r c.args.stores.now st k c.cleanup.new.stores c.remove.new.self r.steps c.push.new.self.items c.stores.invariant.stands c.stores.view_is c.requires owns.over
+    cleans_up r c.args.stores.now st k c.cleanup.new.self c.remove.new.self r.steps c.push.new.self.items c.stores.invariant.stands c.stores.view_is c.requires owns.over
     refl c.push.ensures.items (record { count = c.cleanup.ensures.count; lasts = c.cleanup.ensures.lasts; pending = c.cleanup.ensures.pending }) c.remove.ensures.stands
     c.as_slice.result.now c.free.new.freed
     (tail_keeps_all r c.args.stores.now st k c.in-Some.tail.now c.kept_ids-kept_ids.result.items c.as_slice.result.now c.stores.invariant.stands c.stores.view_is c.requires

@@ -1,7 +1,7 @@
 use Rattle.std.proofs.Common.{◌∙◌, ◌++◌, ◌∷◌, [], ap, refl}
 use Rattle.kms_model.specs.declared.replies.Step.{Step}
 use Rattle.kms_stores.specs.Work.{write_step}
-use Rattle.kms_stores.proofs.Insides.{run_of, stores_of}
+use Rattle.kms_stores.specs.Insides.{run_of, stores_of}
 use Rattle.kms_work.proofs.Writing.{has_registers, holds_old, tail_there, writes_next, writes_object}
 use Rattle.kms_stores.proofs.Spared.{own_room, own_spared, own_step}
 use Rattle.kms_work.proofs.workers.write.Goals as goal

@@ -1,7 +1,7 @@
--- The stores that a core has.
+-- What the fields of the stores are seen as: a script with a history, and the stores that stand for its machine.
 use Rattle.kms_stores.specs.declared.machine.Stores.TheInside.{Inside}
 use Rattle.kms_stores.specs.Run.{Run}
-use Rattle.kms_stores.specs.Stands.{Stores}
+use Rattle.kms_stores.specs.Stands.{Holds, Stores}
 
 abbrev pub run_of : Inside → Run
 run_of c = record { script = c.script; steps = c.steps.items }
@@ -23,3 +23,7 @@ stores_of c = record {
   stalled = c.stalled;
   freed = c.freed;
 }
+
+-- they stand, with memory for what the tails of commits have left
+abbrev pub AreStanding : Inside → Type 0
+AreStanding c = Holds (run_of c) (stores_of c) c.steps.room
