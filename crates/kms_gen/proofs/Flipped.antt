@@ -66,7 +66,7 @@ by_crtc P first second (suc (suc c)) lt = absurd (omega (arith, lt))
 
 -- names of labels that are all made
 abbrev all_made : List (List ℕ) → ℕ → Names
-all_made words count = record { all = map (λ w. record { word = w; is_made = true }) words; made = count; is_twice = false }
+all_made words count = record { profile = 1; all = map (λ w. record { word = w; is_made = true }) words; made = count; is_twice = false }
 
 -- the names before the commits of a client
 abbrev pub names_before : ℕ → Names
@@ -130,13 +130,13 @@ move_parts : (given : List ℕ) (crtc : ℕ) → crtc < 2 → assign_words (move
 unfolding on_scripts
 move_parts given crtc lt = by_crtc (λ c. assign_words (moves c ++ given) ≡ Some (Plane, c, codes "CRTC_X", given)) refl refl crtc lt
 
-of_alpha : (names : Names) → property_read names (codes "alpha") ≡ (Known ALPHA, names)
-unfolding property_read
-of_alpha names = refl
+of_alpha : (crtc : ℕ) → crtc < 2 → property_read (names_before crtc) (codes "alpha") ≡ (Known ALPHA, names_before crtc)
+unfolding property_read on_scripts
+of_alpha crtc lt = by_crtc (λ c. property_read (names_before c) (codes "alpha") ≡ (Known ALPHA, names_before c)) refl refl crtc lt
 
-of_left : (names : Names) → property_read names (codes "CRTC_X") ≡ (Known CRTC_X, names)
-unfolding property_read
-of_left names = refl
+of_left : (crtc : ℕ) → crtc < 2 → property_read (names_before crtc) (codes "CRTC_X") ≡ (Known CRTC_X, names_before crtc)
+unfolding property_read on_scripts
+of_left crtc lt = by_crtc (λ c. property_read (names_before c) (codes "CRTC_X") ≡ (Known CRTC_X, names_before c)) refl refl crtc lt
 
 alpha_small : (d : Drawn) → alpha d ≤ 18446744073709551615
 alpha_small d = omega arith
@@ -149,8 +149,8 @@ sets_read crtc d lt =
     let names = names_before crtc in
     three_read names _ _ _ _ _ _
     (show_read crtc lt (d.number % 2 == 0))
-    (set_read names _ (decimal (alpha d)) (codes "alpha") Plane crtc ALPHA _ (fade_parts (decimal (alpha d)) crtc lt) (of_alpha names) (number_value names (alpha d) (alpha_small d)))
-    (set_read names _ (decimal (left d)) (codes "CRTC_X") Plane crtc CRTC_X _ (move_parts (decimal (left d)) crtc lt) (of_left names) (number_value names (left d) (left_small d)))
+    (set_read names _ (decimal (alpha d)) (codes "alpha") Plane crtc ALPHA _ (fade_parts (decimal (alpha d)) crtc lt) (of_alpha crtc lt) (number_value names (alpha d) (alpha_small d)))
+    (set_read names _ (decimal (left d)) (codes "CRTC_X") Plane crtc CRTC_X _ (move_parts (decimal (left d)) crtc lt) (of_left crtc lt) (number_value names (left d) (left_small d)))
 
 -- Bytes
 

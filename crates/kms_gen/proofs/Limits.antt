@@ -85,7 +85,7 @@ distinct (w ∷ ws) all = let p = and_parts (list_all (λ v. not (bytes_eq w v))
 -- The device
 
 device : IsDevice generated_device
-device = record { legal = refl; kinds = kinds }
+device = record { profile = refl; legal = refl; kinds = kinds }
   where
     kinds : All HasPlaneKind generated_device.planes
     kinds zero d lt = omega arith
