@@ -1,6 +1,6 @@
 #!/bin/sh
-# Runs a built program on the examples and compares what it writes with their reports, the drawing among them. No part of the
-# gate.
+# Runs a built program on the examples and compares what it writes with their reports, the drawing among them. Each is run on
+# one, two and four processors, as far as they are there, since as many threads make a report. No part of the gate.
 #
 # usage: checks/examples.sh PROGRAM
 set -eu
@@ -11,8 +11,11 @@ top=$(cd "$(dirname "$0")/.." && pwd)
 compare() {
     input=$1 report=$2
     shift 2
-    "$program" "$@" <"$top/examples/$input" | cmp - "$top/examples/$report"
-    echo "$* < $input: as $report"
+    for processors in 1 2 4; do
+        [ "$processors" -le "$(nproc)" ] || continue
+        taskset -c 0-$((processors - 1)) "$program" "$@" <"$top/examples/$input" | cmp - "$top/examples/$report"
+        echo "$* < $input on $processors processors: as $report"
+    done
 }
 compare first_light.kms first_light.report one
 compare two_screens.kms two_screens.report one
