@@ -8,11 +8,11 @@ use std::sync::Wait;
 use std::test::Fail;
 use std::thread::Threads;
 
-/// A device with one CRTC, one plane and one connector, in each profile.
-const HEADS: [&str; 2] = [
-    "kms 1\ncrtcs 1\nplane primary 0 XR24\nconn 0\n",
-    "kms 2\ncrtcs 1\nplane primary 0 XR24\nconn 0\n",
-];
+/// A device of profile 1 with one CRTC, one plane and one connector.
+const PROFILE_1: &str = "kms 1\ncrtcs 1\nplane primary 0 XR24\nconn 0\n";
+
+/// The same of profile 2.
+const PROFILE_2: &str = "kms 2\ncrtcs 1\nplane primary 0 XR24\nconn 0\n";
 
 /// A client that makes a framebuffer of two pixels and a mode of four.
 const MADE_WIDE: &str =
@@ -51,21 +51,21 @@ fn two_pixels_are_shown_twice_each(rt: HostRuntime) -> Result<(), Fail> {
     let columns = " plane0.CRTC_W=4 plane0.SRC_W=131072";
     assert_shows(
         &rt,
-        &[HEADS[1], MADE_WIDE, LIGHTS, SET_ROWS, columns, "\n"],
+        &[PROFILE_2, MADE_WIDE, LIGHTS, SET_ROWS, columns, "\n"],
         &[
             LIT,
             LIT_REPLIES,
             "L 0 0 1 de5a6fb237d38c1df9e3176502b0d071f240fcea9e0f7334b38016f536fe617f\nP3\n4 1\n255\n97 98 99 97 98 99 102 111 111 102 111 111\nD drained\n",
         ],
     )?;
-    assert_refused(&rt, HEADS[0], columns, "ERANGE 22")
+    assert_refused(&rt, PROFILE_1, columns, "ERANGE 22")
 }
 
 /// The same history by a schedule, and by four threads.
 #[test]
 fn scaled_planes_are_replayed_and_run(rt: HostRuntime) -> Result<(), Fail> {
     let columns = " plane0.CRTC_W=4 plane0.SRC_W=131072";
-    let script = [HEADS[1], MADE_WIDE, LIGHTS, SET_ROWS, columns, "\n"];
+    let script = [PROFILE_2, MADE_WIDE, LIGHTS, SET_ROWS, columns, "\n"];
     let report = [
         LIT,
         LIT_REPLIES,
@@ -84,7 +84,7 @@ fn a_plane_is_at_most_four_times_as_wide_as_its_source(rt: HostRuntime) -> Resul
     let columns = " plane0.CRTC_W=8 plane0.SRC_W=131072";
     assert_shows(
         &rt,
-        &[HEADS[1], MADE_WIDE, LIGHTS, SET_ROWS, columns, "\n"],
+        &[PROFILE_2, MADE_WIDE, LIGHTS, SET_ROWS, columns, "\n"],
         &[
             LIT,
             LIT_REPLIES,
@@ -92,7 +92,7 @@ fn a_plane_is_at_most_four_times_as_wide_as_its_source(rt: HostRuntime) -> Resul
         ],
     )?;
     let wider = " plane0.CRTC_W=9 plane0.SRC_W=131072";
-    assert_refused(&rt, HEADS[1], wider, "ERANGE 22")
+    assert_refused(&rt, PROFILE_2, wider, "ERANGE 22")
 }
 
 #[test]
@@ -100,21 +100,21 @@ fn a_source_begins_between_two_pixels(rt: HostRuntime) -> Result<(), Fail> {
     let columns = " plane0.CRTC_W=1 plane0.SRC_X=32768 plane0.SRC_W=65536";
     assert_shows(
         &rt,
-        &[HEADS[1], MADE_NARROW, LIGHTS, SET_ROWS, columns, "\n"],
+        &[PROFILE_2, MADE_NARROW, LIGHTS, SET_ROWS, columns, "\n"],
         &[
             LIT,
             LIT_REPLIES,
             "L 0 0 1 2c26b46b68ffc68ff99b453c1d30413413422d706483bfa0f98a5e886266e7ae\nP3\n1 1\n255\n102 111 111\nD drained\n",
         ],
     )?;
-    assert_refused(&rt, HEADS[0], columns, "EINVAL 23")
+    assert_refused(&rt, PROFILE_1, columns, "EINVAL 23")
 }
 
 /// A line of a blob `g` of so many bytes of the table that inverts each channel.
 fn inverting(alloc: Global, count: usize) -> Result<String, AllocError> {
     let mut line = String::from_str(alloc, "blob g ")?;
     for byte in 0..count {
-        let value = 255 - byte / 8;
+        let value = 255usize.saturating_sub(byte / 8);
         let shown = if byte % 8 < 6 { value } else { 0 };
         line.push_str(format!(in alloc; "{shown:02x}")?.as_str())?;
     }
@@ -155,7 +155,7 @@ fn assert_table_shows<R: Abort + AllocGlobal + Threads + Wait + Sync>(
     report: &[&str],
 ) -> Result<(), Fail> {
     let blob = inverting(rt.alloc(), 2048)?;
-    let made = joined(rt.alloc(), &[HEADS[1], MADE, blob.as_str()])?;
+    let made = joined(rt.alloc(), &[PROFILE_2, MADE, blob.as_str()])?;
     let done = joined(rt.alloc(), commands)?;
     let rest = joined(rt.alloc(), report)?;
     assert_shows(
@@ -175,18 +175,24 @@ fn a_table_inverts_each_channel(rt: HostRuntime) -> Result<(), Fail> {
             "R 1 5 4 commit 0\nL 0 0 1 8d7a83ff31a8b084d7c69c1ae6366858716612eca969680c5e43618552d574df\nP3\n1 1\n255\n158 157 156\nD drained\n",
         ],
     )?;
-    assert_no_table(&rt, HEADS[1], 2047, "EINVAL 7")?;
-    assert_no_table(&rt, HEADS[0], 2048, "ENOENT 5")
+    assert_no_table(&rt, PROFILE_2, 2047, "EINVAL 7")?;
+    assert_no_table(&rt, PROFILE_1, 2048, "ENOENT 5")
 }
 
 /// What threads show where a CRTC has a table.
 #[test]
 fn a_table_is_shown_by_several_threads(rt: HostRuntime) -> Result<(), Fail> {
     let blob = inverting(rt.alloc(), 2048)?;
-    let table = " crtc0.GAMMA_LUT=@g\n";
     let text = joined(
         rt.alloc(),
-        &[HEADS[1], MADE, blob.as_str(), LIGHTS, SET, table],
+        &[
+            PROFILE_2,
+            MADE,
+            blob.as_str(),
+            LIGHTS,
+            SET,
+            " crtc0.GAMMA_LUT=@g\n",
+        ],
     )?;
     let report = [
         LIT,
