@@ -34,7 +34,8 @@ pub fn changed<L: Looker>(
     ensures new { (w : World) → ArePresent topology.now w states.now
         → TellSame (L.meaning found.now) (look_up w)
         → AgreesNew topology.now w.things
-        (apply w.things w.values (allowed_by topology.now (L.meaning found.now) request.now.assigns))
+        (apply w.things w.values
+        (allowed_by topology.now (L.meaning found.now) request.now.assigns))
         result }
     ensures between { (w : World) → ArePresent topology.now w states.now
         → TellSame (L.meaning found.now) (look_up w)

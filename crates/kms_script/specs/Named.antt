@@ -7,10 +7,15 @@ use Rattle.kms_model.specs.Script.CommandLines.{Name, Names, assigns_read, label
 use Rattle.kms_model.specs.Script.Grammar.{field_words}
 use Rattle.kms_model.specs.Script.Words.{◌>>=◌}
 
--- the names so far, and the words of those that were there before
+-- the words of the lines before, in a script with a profile
+pub record Indexed : Type 0 where
+  pub profile : ℕ
+  pub words : List (List ℕ)
+
+-- the names so far, and those that were there before
 pub record HeldNames : Type 0 where
   pub names : Names
-  pub before : List (List ℕ)
+  pub before : Indexed
 
 -- whether a number is among numbers
 abbrev pub is_in_numbers : List ℕ → ℕ → Bool
@@ -24,7 +29,7 @@ marked is_made n (w ∷ ws) = record { word = w; is_made = is_made n } ∷ marke
 -- a profile, words with their numbers, how many of them were there before, the numbers of labels that are made, how often
 -- one was made, and whether one was made twice
 abbrev pub held : ℕ → List (List ℕ) → ℕ → List ℕ → ℕ → Bool → HeldNames
-held profile words earlier numbers count twice = record { names = record { profile = profile; all = marked (is_in_numbers numbers) 0 words; made = count; is_twice = twice }; before = take earlier words }
+held profile words earlier numbers count twice = record { names = record { profile = profile; all = marked (is_in_numbers numbers) 0 words; made = count; is_twice = twice }; before = record { profile = profile; words = take earlier words } }
 
 -- the numbers are those of words, and so many were there before
 pub record AreMade (words : List (List ℕ)) (count : ℕ) (numbers : List ℕ) : Type 0 where
@@ -33,15 +38,7 @@ pub record AreMade (words : List (List ℕ)) (count : ℕ) (numbers : List ℕ) 
 
 -- words that were all there before, of which no line makes one
 abbrev pub kept : ℕ → List (List ℕ) → HeldNames
-kept profile words = record { names = unmade profile words; before = words }
-
--- the names of the lines of a script with a profile
-pub record Indexed : Type 0 where
-  pub profile : ℕ
-  pub words : List (List ℕ)
-
-abbrev pub indexed : ℕ → HeldNames → Indexed
-indexed profile n = record { profile = profile; words = n.before }
+kept profile words = record { names = unmade profile words; before = record { profile = profile; words = words } }
 
 -- So many names more have numbers below 2^32.
 pub record HasRoomForNames (names : Names) (more : ℕ) : Type 0 where

@@ -13,7 +13,8 @@ use kms_model::{Command, Why};
 use std::alloc::Global;
 
 /// The command that a line spells after the names so far, or its first fault in the order Form, Label, Limit: two
-/// labels made that are equal, and more than 256 assignments. Of a line with more no name is kept.
+/// labels made that are equal, and more than 256 assignments. Of a line with more no name is kept. The names that were
+/// there before stay, and the script's profile with them.
 pub fn read_line(names: &mut Names, alloc: Global, line: &[u8]) -> Result<Command, Stop>
     requires once { names.old.names.is_twice ≡ false }
     requires room { HasRoomForNames names.old.names (length line.now + 2) }

@@ -77,7 +77,7 @@ impl Names {
     /// Tells the profile of the script's device. The names stay.
     pub fn set_profile(&mut self, profile: u32)
         ensures names { self.new.names ≡ record self.old.names { profile = profile } }
-        ensures before { self.new.before ≡ self.old.before }
+        ensures before { self.new.before ≡ record self.old.before { profile = profile } }
     {
         self.profile = profile;
     }
@@ -149,7 +149,8 @@ impl Names {
 
     /// Lets all names stay: they are those before the next line, and no line makes one yet.
     pub fn keep(&mut self, alloc: Global)
-        ensures { self.new ≡ kept self.old.names.profile (words_in self.old.names) }
+        ensures names { self.new ≡ kept self.old.names.profile (words_in self.old.names) }
+        ensures profile { self.new.before.profile ≡ self.old.before.profile }
     {
         self.before = self.numbering.len();
         self.undo(alloc);
@@ -157,7 +158,7 @@ impl Names {
 
     /// Takes the names back that were not there before; no line makes one yet.
     pub fn undo(&mut self, alloc: Global)
-        ensures { self.new ≡ kept self.old.names.profile self.old.before }
+        ensures { self.new ≡ kept self.old.before.profile self.old.before.words }
     {
         self.numbering.shorten(self.before);
         self.made = BTreeSet::new(alloc);

@@ -53,20 +53,18 @@ fn line_error(stop: Stop) -> LineError
 /// has, each once in order of first occurrence.
 #[derive(Drop)]
 pub struct NameIndex {
-    /// The profile of the lines' script.
-    profile: u32,
     names: Names,
 }
 
 impl Model for NameIndex {
     ghost use Rattle.std.specs.Prelude.{◌≡◌};
-    ghost use Rattle.kms_script.specs.Named.{Indexed, indexed, kept};
+    ghost use Rattle.kms_script.specs.Named.{Indexed, kept};
 
     ghost Value = { Indexed };
 
-    ghost view = { λ n. indexed n.profile n.names };
+    ghost view = { λ n. n.names.before };
 
-    ghost invariant = { λ n. n.names ≡ kept n.profile n.names.before };
+    ghost invariant = { λ n. n.names ≡ kept n.names.before.profile n.names.before.words };
 }
 
 impl NameIndex {
@@ -75,7 +73,6 @@ impl NameIndex {
         ensures { result ≡ record { profile = profile; words = [] } }
     {
         NameIndex {
-            profile,
             names: Names::new(alloc, profile),
         }
     }
@@ -87,7 +84,6 @@ impl NameIndex {
         ensures { IfOk result (λ index. index ≡ record { profile = profile; words = names.now }) }
     {
         Ok(NameIndex {
-            profile,
             names: Names::from_words(alloc, profile, names)?,
         })
     }
@@ -114,12 +110,10 @@ impl NameIndex {
     {
         match read_line(&mut self.names, alloc, line) {
             Ok(command) => {
-                self.names.set_profile(self.profile);
                 self.names.keep(alloc);
                 Ok(command)
             }
             Err(stop) => {
-                self.names.set_profile(self.profile);
                 self.names.undo(alloc);
                 Err(line_error(stop))
             }
@@ -128,9 +122,9 @@ impl NameIndex {
 }
 
 /// The command that a line spells, without its line feed. The line's new labels and unknown names of properties go
-/// behind the names; a name is known where a property of the device's profile has it. The refusals come in the order Form, Label, Limit, and leave the names as they were; that
-/// earlier lines make the line's labels is no matter of this call. Each object may have any index to 255, whatever
-/// the device has.
+/// behind the names; a name is known where a property of the device's profile has it. The refusals come in the order
+/// Form, Label, Limit, and leave the names as they were; that earlier lines make the line's labels is no matter of this
+/// call. Each object may have any index to 255, whatever the device has.
 ///
 /// The names must differ, as they do after this call, and with the line's bytes be fewer than 4,294,967,295. A call
 /// goes over all of them: for many lines take a `NameIndex`.

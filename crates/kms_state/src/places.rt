@@ -1,5 +1,5 @@
 //! The calls of duplicates: duplicating states, finding them, and setting their properties.
-ghost use Rattle.std.specs.Prelude.{◌≡◌, ◌==◌, ◌||◌, ℕ, IsTrue, List, option_map};
+ghost use Rattle.std.specs.Prelude.{◌≡◌, ◌==◌, ◌||◌, ℕ, IsTrue, List, is_some, option_map};
 ghost use Rattle.kms_model.specs.declared.objects.Topology.{Topology};
 ghost use Rattle.kms_model.specs.declared.sets.SetValue.TheVariants as to;
 ghost use Rattle.kms_model.specs.declared.states.Duplicates.{Duplicates};
@@ -166,23 +166,40 @@ impl Duplicating for Duplicates {
     }
 
     fn new_crtc(&self, index: u32) -> Option<CrtcState> {
-        self.crtc(index).map(|both| both.new)
+        new_at(&self.crtcs, index)
     }
 
     fn new_plane(&self, index: u32) -> Option<PlaneState> {
-        self.plane(index).map(|both| both.new)
+        new_at(&self.planes, index)
     }
 
     fn new_conn(&self, index: u32) -> Option<ConnState> {
-        self.conn(index).map(|both| both.new)
+        new_at(&self.conns, index)
     }
 
     fn is_duplicated(&self, id: ObjId) -> bool {
         match id.kind() {
-            Kind::Crtc => id.0 >= FIRST_CRTC_ID && self.crtc(id.0 - FIRST_CRTC_ID).is_some(),
-            Kind::Plane => self.plane(id.0 - FIRST_PLANE_ID).is_some(),
-            Kind::Conn => self.conn(id.0 - FIRST_CONNECTOR_ID).is_some(),
+            Kind::Crtc => id.0 >= FIRST_CRTC_ID && is_at(&self.crtcs, id.0 - FIRST_CRTC_ID),
+            Kind::Plane => is_at(&self.planes, id.0 - FIRST_PLANE_ID),
+            Kind::Conn => is_at(&self.conns, id.0 - FIRST_CONNECTOR_ID),
             Kind::Enc => false,
         }
+    }
+}
+
+/// Whether the states of the object with an index are there, which copies neither.
+fn is_at<S: Copy>(states: &[Option<Both<S>>], index: u32) -> bool
+    ensures { result ≡ is_some (state_at states.now index) }
+{
+    matches!(states.get(index as usize), Some(Some(_)))
+}
+
+/// The new state of the object with an index, where its states are there, which copies no old one.
+fn new_at<S: Copy>(states: &[Option<Both<S>>], index: u32) -> Option<S>
+    ensures { result ≡ option_map (λ b. b.new) (state_at states.now index) }
+{
+    match states.get(index as usize) {
+        Some(Some(both)) => Some(both.new),
+        _ => None,
     }
 }

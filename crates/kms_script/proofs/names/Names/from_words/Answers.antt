@@ -19,4 +19,4 @@ pub returns : goal.returns
 returns c =
     let past : length c.args.words.now ≤ c.loop-word.word-index = search rules in
     let all : c.loop-word.names.names ≡ unmade c.args.profile c.args.words.now = c.loop-word.invariant ∙ ap (unmade c.args.profile) (take_all c.loop-word.word-index c.args.words.now past) in
-    c.keep.ensures ∙ ap₂ kept (ap (λ n. n.profile) all) (ap words_in all ∙ words_unmade c.args.profile c.args.words.now)
+    c.keep.ensures.names ∙ ap₂ kept (ap (λ n. n.profile) all) (ap words_in all ∙ words_unmade c.args.profile c.args.words.now)
