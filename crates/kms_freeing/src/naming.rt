@@ -1,11 +1,11 @@
-//! Whether states and pictures name a framebuffer. (Kernel: `drm_framebuffer.h`, `struct drm_framebuffer`, its references.)
+//! Whether states name a framebuffer. (Kernel: `drm_framebuffer.h`, `struct drm_framebuffer`, its references.)
 ghost use Rattle.std.specs.Prelude.{◌≡◌};
 ghost use Rattle.std.specs.List.{list_any};
 ghost use Rattle.kms_model.specs.Machine.Commits.{has_number};
-ghost use Rattle.kms_model.specs.Machine.Framebuffers.{is_fb, picture_names};
+ghost use Rattle.kms_model.specs.Machine.Framebuffers.{is_fb};
 ghost use Rattle.kms_freeing.specs.Freeing.{both_ids, state_names};
 
-use kms_model::{Both, FbInfo, Picture, PlaneState};
+use kms_model::{Both, FbInfo, PlaneState};
 
 /// Whether it is the framebuffer with an id.
 fn is_fb(fb: Option<FbInfo>, id: u32) -> bool
@@ -26,21 +26,6 @@ pub fn any_names(states: &[Option<Both<PlaneState>>], id: u32) -> bool
             if is_fb(both.new.fb, id) {
                 return true;
             }
-        }
-    }
-    false
-}
-
-/// Whether a layer of a picture shows the framebuffer with an id.
-pub fn picture_names(picture: &Picture, id: u32) -> bool
-    ensures { result ≡ picture_names id picture.now }
-{
-    let Picture::On(shown) = picture else {
-        return false;
-    };
-    for layer in shown.layers.as_slice() {
-        if layer.fb.id == id {
-            return true;
         }
     }
     false

@@ -1,7 +1,6 @@
-use crate::{any_names, both_name, picture_names, put_both, shown_ids};
+use crate::{any_names, both_name, put_both, shown_ids};
 use arrayvec::ArrayVec;
-use kms_model::{Both, FbInfo, Format, Layer, Layers, Picture, PlaneState, Shown};
-use kms_samples::tiny;
+use kms_model::{Both, FbInfo, Format, Layer, PlaneState};
 use std::test::Fail;
 
 /// A framebuffer with an id.
@@ -38,21 +37,9 @@ fn layer(id: u32) -> Layer {
 
 #[test]
 fn layers_give_their_framebuffers_in_order_of_id(rt: HostRuntime) -> Result<(), Fail> {
-    let mut layers = Layers::new();
-    layers.push(layer(1003));
-    layers.push(layer(1001));
-    layers.push(layer(1003));
-    let picture = Picture::On(Shown {
-        mode: tiny(),
-        conn: 300,
-        gamma: None,
-        layers,
-    });
-    assert!(rt; shown_ids(&picture).as_slice() == [1001, 1003].as_slice());
-    assert!(rt; shown_ids(&Picture::Off).as_slice().is_empty());
-    assert!(rt; picture_names(&picture, 1003));
-    assert!(rt; !picture_names(&picture, 1002));
-    assert!(rt; !picture_names(&Picture::Off, 1003));
+    let layers = [layer(1003), layer(1001), layer(1003)];
+    assert!(rt; shown_ids(&layers).as_slice() == [1001, 1003].as_slice());
+    assert!(rt; shown_ids(&[]).as_slice().is_empty());
     Ok(())
 }
 

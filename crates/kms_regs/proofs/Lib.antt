@@ -1,4 +1,5 @@
 pub mod BankLemmas
+pub mod FewLayers
 pub mod FileLemmas
 pub mod LatchLaw
 pub mod ModeWords
@@ -6,6 +7,7 @@ pub mod Pictured
 pub mod RewrittenWords
 pub mod Rows
 pub mod SameWords
+pub mod ShownWords
 pub mod Signed
 pub mod WordsBack
 pub mod MachineEffects

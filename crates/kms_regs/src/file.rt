@@ -4,15 +4,17 @@ ghost use Rattle.kms_model.specs.Device.Objects.{object_id};
 ghost use Rattle.kms_model.specs.Device.Sound.{IsPlaneInRange};
 ghost use Rattle.kms_model.specs.declared.objects.Kind.TheVariants.{Crtc, Plane};
 ghost use Rattle.kms_model.specs.declared.objects.Topology.{Topology};
+ghost use Rattle.kms_model.specs.Machine.Framebuffers.{picture_names};
 ghost use Rattle.kms_model.specs.Machine.Registers.{crtc_register, crtc_words, decoded_picture, is_on_in, plane_register, plane_words};
 ghost use Rattle.kms_model.specs.Machine.State.{DeviceState, count_at, first_machine, go_at};
 ghost use Rattle.kms_regs.specs.File.{StandsFor, blanked_picture, count_in, flushed_picture, has_go, latched_picture};
+ghost use Rattle.kms_regs.specs.Layers.{picture_layers};
 ghost use Rattle.kms_regs.specs.StepLaws.{Blanks, Flushes, RewritesCrtc, RewritesPlane, WritesCrtc, WritesPlane};
 
 use crate::banks::Bank;
-use crate::pictures::decoded_picture;
+use crate::pictures::{decoded_picture, is_shown, shown_layers};
 use crate::words::{CrtcWords, PlaneWords};
-use kms_model::{CrtcState, Picture, PlaneState, Topology};
+use kms_model::{CrtcState, Layers, Picture, PlaneState, Topology};
 use std::marker::Model;
 
 /// The registers of a device: shadow and live words, which CRTCs go at their next vertical blanking, and how many each
@@ -84,7 +86,8 @@ impl RegFile {
         requires old_range { IsPlaneInRange old.now }
         requires new_range { IsPlaneInRange new.now }
         ensures rewrites { RewritesPlane self.old self.new index old.now new.now }
-        ensures writes { plane_register self.old.shadow (object_id Plane index) ≡ plane_words old.now
+        ensures writes { plane_register self.old.shadow (object_id Plane index)
+            ≡ plane_words old.now
             → WritesPlane self.old self.new index new.now }
     {
         self.shadow
@@ -150,6 +153,35 @@ impl RegFile {
             → result ≡ decoded_picture t d.live (object_id Crtc crtc) }
     {
         decoded_picture(&self.live, self.planes, crtc)
+    }
+
+    /// The layers, from the lowest, of what the live words of the CRTC with an index, from 0 to 3, show: those of the
+    /// picture that [`RegFile::decode_live`] gives, without its table of colour values; none where the CRTC is off.
+    pub fn live_layers(&self, crtc: u32) -> Layers
+        requires { crtc < 4 }
+        ensures { (t : Topology) (d : DeviceState) → StandsFor t d self.now
+            → result ≡ picture_layers (decoded_picture t d.live (object_id Crtc crtc)) }
+    {
+        shown_layers(&self.live, self.planes, crtc)
+    }
+
+    /// Whether what the live words of the CRTC with an index, from 0 to 3, show names the framebuffer with an id: the
+    /// answer that [`RegFile::decode_live`] gives, without its mode and its table of colour values.
+    pub fn shows(&self, crtc: u32, fb: u32) -> bool
+        requires { crtc < 4 }
+        ensures { (t : Topology) (d : DeviceState) → StandsFor t d self.now
+            → result ≡ picture_names fb (decoded_picture t d.live (object_id Crtc crtc)) }
+    {
+        is_shown(&self.live, self.planes, crtc, fb)
+    }
+
+    /// Whether the CRTC with an index, from 0 to 3, is on in its shadow words: a flush there latches nothing yet.
+    pub fn is_on_in_shadow(&self, crtc: u32) -> bool
+        requires { crtc < 4 }
+        ensures { (t : Topology) (d : DeviceState) → StandsFor t d self.now
+            → result ≡ is_on_in d.shadow (object_id Crtc crtc) }
+    {
+        self.shadow.crtc(crtc).active != 0
     }
 
     /// Whether the CRTC with an index, from 0 to 3, is on in its live words: what it shows is no `Off`.

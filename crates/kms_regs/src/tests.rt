@@ -83,6 +83,7 @@ fn write_crtc(
     assert!(rt; regs.has_crtc(index, old));
     regs.write_crtc(index, conn, old, new);
     assert!(rt; regs.has_crtc(index, new));
+    assert_eq!(rt; regs.is_on_in_shadow(index), new.active);
 }
 
 /// A vertical blanking.
@@ -108,7 +109,9 @@ fn assert_shows(rt: &impl Abort, regs: &RegFile, crtc: u32, conn: u32, planes: &
             for (layer, plane) in layers.iter().zip(planes) {
                 assert_eq!(rt; layer.plane, *plane);
                 assert_eq!(rt; layer.fb.format, Format::Ar24);
+                assert!(rt; regs.shows(crtc, layer.fb.id));
             }
+            assert!(rt; !regs.shows(crtc, 0));
         }
     }
 }
@@ -258,6 +261,8 @@ fn a_crtc_latches_at_its_vertical_blanking_alone(rt: HostRuntime) -> Result<(), 
     let picture = blank(&rt, &mut regs, 0);
     assert_eq!(rt; picture, Some(regs.decode_live(0)));
     assert_shows(&rt, &regs, 0, 300, &[201]);
+    assert_eq!(rt; regs.live_layers(0).len(), 1);
+    assert_eq!(rt; regs.live_layers(1).len(), 0);
     assert!(rt; !regs.has_go(0));
     assert!(rt; blank(&rt, &mut regs, 0).is_none());
     assert_eq!(rt; regs.count(0), 3);

@@ -6,7 +6,9 @@ ghost use Rattle.kms_model.specs.Device.Objects.{object_id};
 ghost use Rattle.kms_model.specs.Device.Sound.{IsPlaneInRange};
 ghost use Rattle.kms_model.specs.Device.States.{natural};
 ghost use Rattle.kms_model.specs.declared.objects.Kind.TheVariants.{Plane};
+ghost use Rattle.kms_model.specs.Frames.Pictures.{seen_on};
 ghost use Rattle.kms_model.specs.Frames.Rectangles.{IsNearRect};
+ghost use Rattle.kms_model.specs.Machine.Framebuffers.{is_fb};
 ghost use Rattle.kms_model.specs.Machine.Registers.{bytes_of_words, code_of, crtc_words, fb_in, fb_number, flag_word, first_crtc_words, first_plane_words, gamma_bytes, gamma_in_words, gamma_with, gamma_words, mode_in_words, mode_words, plane_in, plane_words, words_of_bytes};
 ghost use Rattle.kms_regs.specs.Rewritten.{rewritten, rewritten_crtc, rewritten_plane, rewritten_words};
 
@@ -18,10 +20,11 @@ use std::marker::Model;
 /// How many words a mode has.
 const MODE_WORDS: usize = 17;
 
-/// How many words a table of colour values has, and how many bytes.
+/// How many words a table of colour values has.
 const GAMMA_WORDS: usize = 192;
 
-const GAMMA_BYTES: usize = 768;
+/// How many bytes these words have: the values of its three channels, with no padding.
+const GAMMA_VALUES: usize = 768;
 
 /// The words of a plane, by the table of registers. Contracts see them as the definitions' words.
 #[derive(Clone, Copy, Debug, PartialEq, Eq)]
@@ -303,6 +306,16 @@ impl PlaneWords {
         }
     }
 
+    /// Whether they tell of the framebuffer with an id on the CRTC with an id.
+    pub fn shows(&self, crtc: u32, fb: u32) -> bool
+        ensures { result ≡ is_fb fb (seen_on crtc (plane_in self.now)) }
+    {
+        if self.crtc != crtc {
+            return false;
+        }
+        self.fb != 0 && self.fb == fb
+    }
+
     /// The framebuffer that they tell of, if any.
     fn fb_info(&self) -> Option<FbInfo>
         ensures { result ≡ fb_in self.now }
@@ -449,7 +462,7 @@ fn gamma_bytes(gamma: &Gamma) -> [u8; 768]
 fn joined(red: &[u8; 256], green: &[u8; 256], blue: &[u8; 256]) -> [u8; 768]
     ensures { result ≡ red.now ++ (green.now ++ blue.now) }
 {
-    let mut bytes = [0; GAMMA_BYTES];
+    let mut bytes = [0; GAMMA_VALUES];
     put_values(&mut bytes, 0, red);
     put_values(&mut bytes, 256, green);
     put_values(&mut bytes, 512, blue);
@@ -498,7 +511,7 @@ fn mode_bytes(words: &[u32; 17]) -> [u8; 68]
 fn table_bytes(words: &[u32; 192]) -> [u8; 768]
     ensures { result ≡ bytes_of_words words.now }
 {
-    let mut bytes = [0; GAMMA_BYTES];
+    let mut bytes = [0; GAMMA_VALUES];
     put_bytes(words, &mut bytes);
     bytes
 }

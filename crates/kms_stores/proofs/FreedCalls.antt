@@ -3,7 +3,9 @@ use Rattle.std.proofs.Common.{◌≡◌, ℕ, ◌+◌, ◌<◌, ◌≤◌, List,
 use Rattle.std.specs.Prelude.{filter}
 use Rattle.kms_model.specs.declared.objects.Kind.TheVariants.{Crtc}
 use Rattle.kms_model.specs.declared.objects.Topology.{Topology}
+use Rattle.kms_model.specs.declared.pictures.Layer.{Layer}
 use Rattle.kms_model.specs.declared.pictures.Picture.{Picture}
+use Rattle.kms_model.specs.declared.pictures.Picture.TheVariants.{Off, On}
 use Rattle.kms_regs.specs.File.{StandsFor}
 use Rattle.kms_model.specs.declared.replies.Reply.{Reply}
 use Rattle.kms_model.specs.declared.replies.Reply.TheVariants as reply
@@ -29,14 +31,15 @@ use Rattle.kms_model.proofs.Items.{IsIn}
 use Rattle.kms_laws.proofs.Headlines.{range-in}
 use Rattle.kms_laws.proofs.Modes.{plain-from}
 use Rattle.kms_laws.proofs.Steps.{IsPlainScript, history_kept}
-use Rattle.kms_freeing.specs.Freeing.{AreAllOf, AreFreed, AreRising, framebuffers_in, freed_among, is_framebuffer_in, layers_of}
+use Rattle.kms_freeing.specs.Freeing.{AreAllOf, AreFreed, AreRising, framebuffers_in, freed_among, is_framebuffer_in, layers_name}
 use Rattle.kms_logs.specs.Logs.{Reserved}
 use Rattle.kms_stores.specs.Needs.{Accounts, Frees, HasPlaceFor, TellNeeds}
 use Rattle.kms_stores.specs.Run.{Run, machine}
 use Rattle.kms_stores.specs.Stands.{Stores, Stands, StandsAt}
 use Rattle.kms_freeing.proofs.FreedBetween.{found_same}
 use Rattle.kms_freeing.proofs.FreedHistories.{Executes, Latches, added_freed, changes, latch_frees, make_frees, quiet_freed, told_freed}
-use Rattle.kms_freeing.proofs.PutIds.{shown_few}
+use Rattle.kms_regs.specs.Layers.{picture_layers}
+use Rattle.kms_regs.proofs.FewLayers.{shown_few}
 use Rattle.kms_freeing.proofs.FreedLatches.{live_by}
 use Rattle.kms_freeing.proofs.FreedLists.{as_many, filter-in, passes, rising_filter}
 use Rattle.kms_freeing.proofs.FreedMakes.{MadeFrees}
@@ -74,15 +77,29 @@ live_places r st c ids stands is_crtc A =
     needed_by t m x (record { framebuffer = framebuffer; why = inr (inr (inl (live_by t m.device x.id c is_crtc (subst (λ z. picture_names z (decoded_picture t m.device.live c) ≡ true) (sym own) (each_of ids _ A id is))))) })) in
     omega (arith, few, most)
 
--- what a register file tells of a picture is so
-pub live_all : (r : Run) (st : Stores) (c : ℕ) (p : Picture) (found ids : List ℕ) → Stands r st → AreAllOf found (λ id. picture_names id p) → ((t : Topology) (d : DeviceState) → StandsFor t d st.registers → p ≡ decoded_picture t d.live c) → ids ≡ found
-    → AreAllOf ids (λ id. picture_names id (decoded_picture r.script.topology (machine r).device.live c))
-live_all r st c p found ids stands all shows is =
-    rw is (subst (λ q. AreAllOf found (λ id. picture_names id q)) (shows r.script.topology (machine r).device stands.stores.registers) all)
+-- a picture names what its layers name
+named_by : (id : ℕ) (p : Picture) → layers_name id (picture_layers p) ≡ picture_names id p
+named_by id Off = refl
+named_by id (On shown) = refl
 
-pub live_few : (r : Run) (st : Stores) (c : ℕ) (p : Picture) → Stands r st → ((t : Topology) (d : DeviceState) → StandsFor t d st.registers → p ≡ decoded_picture t d.live c) → length (layers_of p) ≤ 16
-live_few r st c p stands shows =
-    subst (λ q. length (layers_of q) ≤ 16) (sym (shows r.script.topology (machine r).device stands.stores.registers)) (shown_few r.script.topology (machine r).device.live c stands.formed.device)
+-- what a register file tells of a CRTC's layers is so
+abbrev TellsLayers : Stores → ℕ → List Layer → Type 0
+TellsLayers st c layers = (t : Topology) (d : DeviceState) → StandsFor t d st.registers → layers ≡ picture_layers (decoded_picture t d.live c)
+
+pub live_all : (r : Run) (st : Stores) (c : ℕ) (layers : List Layer) (found ids : List ℕ) → Stands r st → AreAllOf found (λ id. layers_name id layers) → TellsLayers st c layers → ids ≡ found
+    → AreAllOf ids (λ id. picture_names id (decoded_picture r.script.topology (machine r).device.live c))
+live_all r st c layers found ids stands all tells is =
+    let t = r.script.topology in
+    let d = (machine r).device in
+    rw is
+    (record {
+      rising = all.rising;
+      same = λ id. all.same id ∙ ap (layers_name id) (tells t d stands.stores.registers) ∙ named_by id (decoded_picture t d.live c);
+    })
+
+pub live_few : (r : Run) (st : Stores) (c : ℕ) (layers : List Layer) → Stands r st → TellsLayers st c layers → length layers ≤ 16
+live_few r st c layers stands tells =
+    subst (λ ls. length ls ≤ 16) (sym (tells r.script.topology (machine r).device stands.stores.registers)) (shown_few r.script.topology (machine r).device.live c stands.formed.device)
 
 -- and those of a commit that is not cleaned
 pub kept_places : (r : Run) (st : Stores) (k : ℕ) (ids : List ℕ) → Stands r st → k < length (machine r).device.commits → is_cleaned (machine r).device k ≡ false → AreAllOf ids (λ id. commit_keeps r.script.topology (machine r).device id k)

@@ -1,7 +1,7 @@
 -- A commit flushes a CRTC that it names.
 use Rattle.std.proofs.Common.{◌≡◌, ℕ, ◌<◌, Bool, true, false, List, [], ◌∷◌, ◌++◌, length, reverse, Option, Some, None, refl, sym, ap, ◌∙◌, subst, arith}
 use Rattle.std.specs.Prelude.{if◌then◌else◌, not, slice_index_or, slice_set, ◌||◌}
-use Rattle.std.proofs.lemmas.Bool.{and_parts, false_from_ne_true, ltb-true}
+use Rattle.std.proofs.lemmas.Bool.{and_parts, false_from_ne_true, false≢true, ltb-true}
 use Rattle.kms_model.specs.declared.objects.Kind.TheVariants.{Crtc}
 use Rattle.kms_model.specs.declared.objects.Topology.{Topology}
 use Rattle.kms_model.specs.declared.pictures.Picture.{Picture}
@@ -139,6 +139,17 @@ off_from false p q is = refl
 
 abbrev pub TellsPicture : RegisterFile → ℕ → Option Picture → Type 0
 TellsPicture f crtc o = (t : Topology) (d : DeviceState) → StandsFor t d f → o ≡ flushed_picture d (object_id Crtc crtc)
+
+-- a CRTC that is on in the shadow has no picture at its flush, and one that is off there has one
+pub tells_none : (f : RegisterFile) (crtc : ℕ) → ((t : Topology) (d : DeviceState) → StandsFor t d f → true ≡ is_on_in d.shadow (object_id Crtc crtc)) → TellsPicture f crtc None
+tells_none f crtc on = λ t d stands. ap (λ (b : Bool). if b then None else Some Off) (on t d stands)
+
+pub off_has_picture : (r : Run) (st : Stores) (crtc : ℕ) → Stands r st → ((t : Topology) (d : DeviceState) → StandsFor t d st.registers → false ≡ is_on_in d.shadow (object_id Crtc crtc)) → TellsPicture st.registers crtc None → ⊥
+off_has_picture r st crtc stands off none =
+    let t = r.script.topology in
+    let d = (machine r).device in
+    let found = stands.stores.registers in
+    false≢true (off t d found ∙ on_from (is_on_in d.shadow (object_id Crtc crtc)) Off (none t d found))
 
 active_is : (r : Run) (st : Stores) (k crtc : ℕ) → Stands r st → FlushesNext r k crtc → is_on_in (machine r).device.shadow (object_id Crtc crtc) ≡ (new_crtc r.script.topology (machine r).device.commits k (object_id Crtc crtc)).active
 active_is r st k crtc stands N = shadow_flushed r.script.topology (machine r).device (machine r).records.latches k (object_id Crtc crtc) (facts r st stands).holds.tail N.flushed

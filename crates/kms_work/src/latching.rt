@@ -42,10 +42,15 @@ pub fn flush(stores: &mut Stores, commit: u32, crtc: u32)
         index: crtc,
     });
     stores.tails.flushed(commit, crtc);
-    let ids_before = shown_ids(&stores.registers.decode_live(crtc));
-    let Some(picture) = stores.registers.flush(crtc) else {
+    if stores.registers.is_on_in_shadow(crtc) {
+        let _none = stores.registers.flush(crtc);
         stores.goes[crtc as usize] = Some(commit);
         return;
+    }
+    let before = stores.registers.live_layers(crtc);
+    let ids_before = shown_ids(before.as_slice());
+    let Some(picture) = stores.registers.flush(crtc) else {
+        unreachable!();
     };
     let shown = latch_of(&stores.registers, crtc, commit, picture);
     show(
@@ -85,7 +90,8 @@ pub fn vblank(stores: &mut Stores, crtc: u32) -> Result<bool, NoMemory>
         return Ok(false);
     };
     stores.steps.push(step);
-    let ids_before = shown_ids(&stores.registers.decode_live(crtc));
+    let before = stores.registers.live_layers(crtc);
+    let ids_before = shown_ids(before.as_slice());
     let Some(picture) = stores.registers.vblank(crtc) else {
         unreachable!();
     };

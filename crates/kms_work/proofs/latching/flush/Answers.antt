@@ -1,8 +1,8 @@
-use Rattle.std.proofs.Common.{refl}
+use Rattle.std.proofs.Common.{◌∙◌, refl}
 use Rattle.kms_model.specs.declared.objects.Kind.TheVariants.{Crtc}
 use Rattle.kms_model.specs.declared.replies.Step.TheVariants.{Flush}
 use Rattle.kms_model.specs.Device.Objects.{object_id}
-use Rattle.kms_work.proofs.Flushing.{few_flushed, flush_latches, flushes_next, flushes_off, flushes_on}
+use Rattle.kms_work.proofs.Flushing.{few_flushed, flush_latches, flushes_next, flushes_off, flushes_on, off_has_picture, tells_none}
 use Rattle.kms_stores.proofs.FreedCalls.{live_all, live_few, live_places}
 use Rattle.kms_stores.specs.Insides.{run_of, stores_of}
 use Rattle.kms_stores.proofs.Spared.{own_room, own_spared, own_step, tail_spared}
@@ -10,6 +10,12 @@ use Rattle.kms_work.proofs.latching.flush.Goals as goal
 
 pub flushed-requires : goal.flushed-requires
 flushed-requires c = (flushes_next (run_of c.stores.inside) c.args.stores.now (stores_of c.stores.inside) c.args.commit c.args.crtc c.stores.invariant.stands c.stores.view_is c.requires).low
+
+pub is_on_in_shadow-requires : goal.is_on_in_shadow-requires
+is_on_in_shadow-requires c = (flushes_next (run_of c.stores.inside) c.args.stores.now (stores_of c.stores.inside) c.args.commit c.args.crtc c.stores.invariant.stands c.stores.view_is c.requires).low
+
+pub flush-none-requires : goal.flush-none-requires
+flush-none-requires c = (flushes_next (run_of c.stores.inside) c.args.stores.now (stores_of c.stores.inside) c.args.commit c.args.crtc c.stores.invariant.stands c.stores.view_is c.requires).low
 
 pub flush-requires : goal.flush-requires
 flush-requires c = (flushes_next (run_of c.stores.inside) c.args.stores.now (stores_of c.stores.inside) c.args.commit c.args.crtc c.stores.invariant.stands c.stores.view_is c.requires).low
@@ -32,9 +38,14 @@ invariant_of-stores c =
     let step = Flush c.args.commit Crtc c.args.crtc in
     let own = own_step r st step c.args.commit c.stores.invariant.stands refl refl (flushes_next r c.args.stores.now st c.args.commit c.args.crtc c.stores.invariant.stands c.stores.view_is c.requires).is_legal in
     let stands =
-    flushes_on r c.args.stores.now st c.args.commit c.args.crtc c.stores.inside.latches c.flush.new.self c.flushed.new.self r.steps c.push.new.self.items c.stores.invariant.stands c.stores.view_is c.requires
-    refl c.push.ensures.items refl c.flushed.ensures.stands c.in_default.ensures.stands c.in_default.ensures.picture in
+    flushes_on r c.args.stores.now st c.args.commit c.args.crtc c.stores.inside.latches c.flush-none.new.self c.flushed.new.self r.steps c.push.new.self.items c.stores.invariant.stands c.stores.view_is c.requires
+    refl c.push.ensures.items refl c.flushed.ensures.stands c.flush-none.ensures.stands
+    (tells_none c.stores.inside.registers c.args.crtc (λ t d stand. c.if-is_on_in_shadow.ensures t d stand)) in
     record { stands = stands; spare = own_spared r st _ step c.args.commit c.push.new.self.items _ _ _ c.stores.invariant.stands stands c.push.ensures.items own c.stores.invariant.spare c.push.ensures.room }
+
+pub unreachable-requires : goal.unreachable-requires
+unreachable-requires c =
+    off_has_picture (run_of c.stores.inside) (stores_of c.stores.inside) c.args.crtc c.stores.invariant.stands (λ t d stand. c.if-is_on_in_shadow.ensures t d stand) c.in_default.ensures.picture
 
 pub latch_of-shown-requires : goal.latch_of-shown-requires
 latch_of-shown-requires c = (flushes_next (run_of c.stores.inside) c.args.stores.now (stores_of c.stores.inside) c.args.commit c.args.crtc c.stores.invariant.stands c.stores.view_is c.requires).low
@@ -55,17 +66,17 @@ push-requires-2 c =
     let own = own_step r st step c.args.commit c.stores.invariant.stands refl refl (flushes_next r c.args.stores.now st c.args.commit c.args.crtc c.stores.invariant.stands c.stores.view_is c.requires).is_legal in
     (own_room r st step c.args.commit _ _ c.stores.invariant.stands own c.stores.invariant.spare).latch
 
-pub decode_live-requires : goal.decode_live-requires
-decode_live-requires c = (flushes_next (run_of c.stores.inside) c.args.stores.now (stores_of c.stores.inside) c.args.commit c.args.crtc c.stores.invariant.stands c.stores.view_is c.requires).low
+pub live_layers-before-requires : goal.live_layers-before-requires
+live_layers-before-requires c = (flushes_next (run_of c.stores.inside) c.args.stores.now (stores_of c.stores.inside) c.args.commit c.args.crtc c.stores.invariant.stands c.stores.view_is c.requires).low
 
 pub shown_ids-ids_before-requires : goal.shown_ids-ids_before-requires
-shown_ids-ids_before-requires c = live_few (run_of c.stores.inside) (stores_of c.stores.inside) (object_id Crtc c.args.crtc) c.decode_live.result c.stores.invariant.stands (λ t d stand. c.decode_live.ensures t d stand)
+shown_ids-ids_before-requires c = live_few (run_of c.stores.inside) (stores_of c.stores.inside) (object_id Crtc c.args.crtc) c.as_slice.result.now c.stores.invariant.stands (λ t d stand. c.as_slice.ensures ∙ c.live_layers-before.ensures t d stand)
 
 pub show-requires-clause-places : goal.show-requires-clause-places
 show-requires-clause-places c =
-    live_places (run_of c.stores.inside) (stores_of c.stores.inside) (object_id Crtc c.args.crtc) c.as_slice.result.now c.stores.invariant.stands
+    live_places (run_of c.stores.inside) (stores_of c.stores.inside) (object_id Crtc c.args.crtc) c.as_slice-2.result.now c.stores.invariant.stands
     (flushes_next (run_of c.stores.inside) c.args.stores.now (stores_of c.stores.inside) c.args.commit c.args.crtc c.stores.invariant.stands c.stores.view_is c.requires).flush.is_crtc
-    (live_all (run_of c.stores.inside) (stores_of c.stores.inside) (object_id Crtc c.args.crtc) c.decode_live.result c.shown_ids-ids_before.result.items c.as_slice.result.now c.stores.invariant.stands c.shown_ids-ids_before.ensures (λ t d stand. c.decode_live.ensures t d stand) c.as_slice.ensures.value)
+    (live_all (run_of c.stores.inside) (stores_of c.stores.inside) (object_id Crtc c.args.crtc) c.as_slice.result.now c.shown_ids-ids_before.result.items c.as_slice-2.result.now c.stores.invariant.stands c.shown_ids-ids_before.ensures (λ t d stand. c.as_slice.ensures ∙ c.live_layers-before.ensures t d stand) c.as_slice-2.ensures.value)
 
 pub show-requires-clause-few : goal.show-requires-clause-few
 show-requires-clause-few c =
@@ -95,8 +106,8 @@ invariant_of-stores-2 c =
       recorded = refl;
       recorded_now = rw shown at c.push-2.ensures.items;
     })
-    c.as_slice.result.now c.show.new.freed
-    (live_all r st (object_id Crtc c.args.crtc) c.decode_live.result c.shown_ids-ids_before.result.items c.as_slice.result.now c.stores.invariant.stands c.shown_ids-ids_before.ensures (λ t d stand. c.decode_live.ensures t d stand) c.as_slice.ensures.value)
+    c.as_slice-2.result.now c.show.new.freed
+    (live_all r st (object_id Crtc c.args.crtc) c.as_slice.result.now c.shown_ids-ids_before.result.items c.as_slice-2.result.now c.stores.invariant.stands c.shown_ids-ids_before.ensures (λ t d stand. c.as_slice.ensures ∙ c.live_layers-before.ensures t d stand) c.as_slice-2.ensures.value)
     c.show.ensures.freed in
     record {
       stands = stands;

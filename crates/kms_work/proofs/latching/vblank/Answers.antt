@@ -74,19 +74,19 @@ returns-clause-answer c =
     goes_is (run_of c.stores.inside) c.args.stores.now (stores_of c.stores.inside) c.args.crtc (Some c.in-Some.commit) c.stores.invariant.stands c.stores.view_is
     (blanks_low (run_of c.stores.inside) c.args.stores.now (stores_of c.stores.inside) c.args.crtc c.stores.invariant.stands c.stores.view_is c.requires) c.in-Some.is
 
-pub decode_live-requires : goal.decode_live-requires
-decode_live-requires c = blanks_low (run_of c.stores.inside) c.args.stores.now (stores_of c.stores.inside) c.args.crtc c.stores.invariant.stands c.stores.view_is c.requires
+pub live_layers-before-requires : goal.live_layers-before-requires
+live_layers-before-requires c = blanks_low (run_of c.stores.inside) c.args.stores.now (stores_of c.stores.inside) c.args.crtc c.stores.invariant.stands c.stores.view_is c.requires
 
 pub shown_ids-ids_before-requires : goal.shown_ids-ids_before-requires
-shown_ids-ids_before-requires c = live_few (run_of c.stores.inside) (stores_of c.stores.inside) (object_id Crtc c.args.crtc) c.decode_live.result c.stores.invariant.stands (λ t d stand. c.decode_live.ensures t d stand)
+shown_ids-ids_before-requires c = live_few (run_of c.stores.inside) (stores_of c.stores.inside) (object_id Crtc c.args.crtc) c.as_slice.result.now c.stores.invariant.stands (λ t d stand. c.as_slice.ensures ∙ c.live_layers-before.ensures t d stand)
 
 pub show-requires-clause-places : goal.show-requires-clause-places
 show-requires-clause-places c =
     let r = run_of c.stores.inside in
     let st = stores_of c.stores.inside in
-    live_places r st (object_id Crtc c.args.crtc) c.as_slice.result.now c.stores.invariant.stands
+    live_places r st (object_id Crtc c.args.crtc) c.as_slice-2.result.now c.stores.invariant.stands
     (blanks_crtc r c.args.stores.now st c.in-Some.commit c.args.crtc c.stores.invariant.stands c.stores.view_is c.requires c.in-Some.is)
-    (live_all r st (object_id Crtc c.args.crtc) c.decode_live.result c.shown_ids-ids_before.result.items c.as_slice.result.now c.stores.invariant.stands c.shown_ids-ids_before.ensures (λ t d stand. c.decode_live.ensures t d stand) c.as_slice.ensures.value)
+    (live_all r st (object_id Crtc c.args.crtc) c.as_slice.result.now c.shown_ids-ids_before.result.items c.as_slice-2.result.now c.stores.invariant.stands c.shown_ids-ids_before.ensures (λ t d stand. c.as_slice.ensures ∙ c.live_layers-before.ensures t d stand) c.as_slice-2.ensures.value)
 
 pub show-requires-clause-few : goal.show-requires-clause-few
 show-requires-clause-few c =
@@ -115,8 +115,8 @@ invariant_of-stores-2 c =
       recorded = refl;
       recorded_now = rw shown at c.push-3.ensures.items;
     })
-    c.as_slice.result.now c.show.new.freed
-    (live_all r st (object_id Crtc c.args.crtc) c.decode_live.result c.shown_ids-ids_before.result.items c.as_slice.result.now c.stores.invariant.stands c.shown_ids-ids_before.ensures (λ t d stand. c.decode_live.ensures t d stand) c.as_slice.ensures.value)
+    c.as_slice-2.result.now c.show.new.freed
+    (live_all r st (object_id Crtc c.args.crtc) c.as_slice.result.now c.shown_ids-ids_before.result.items c.as_slice-2.result.now c.stores.invariant.stands c.shown_ids-ids_before.ensures (λ t d stand. c.as_slice.ensures ∙ c.live_layers-before.ensures t d stand) c.as_slice-2.ensures.value)
     c.show.ensures.freed in
     record {
       stands = stands;
