@@ -27,7 +27,8 @@ fn numerators(shown: u32x16, hidden: u32x16, f: u8x16, b: u8x16) -> u32x16
     requires shown { IsAtMost opaque shown }
     requires hidden { IsAtMost opaque hidden }
     ensures { HasLanes result (λ i. bounded 4261413375 8355712
-        (slice_index shown i * slice_index f i + (opaque - slice_index hidden i) * slice_index b i)) }
+        (slice_index shown i * slice_index f i
+        + (opaque - slice_index hidden i) * slice_index b i)) }
 {
     let layer = shown * f.cast::<u32>();
     let lower = (u32x16::splat(OPAQUE) - hidden) * b.cast::<u32>();

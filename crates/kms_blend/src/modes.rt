@@ -33,11 +33,13 @@ pub trait BlendMode {
     /// The channels that show at 16 places.
     fn blend_lanes(a: u32, q: u8x16, f: u8x16, b: u8x16) -> u8x16
         requires { a ≤ 65535 }
-        ensures { HasLanes result (λ i. blended number a (slice_index q i) (slice_index f i) (slice_index b i)) };
+        ensures { HasLanes result (λ i.
+            blended number a (slice_index q i) (slice_index f i) (slice_index b i)) };
 
     /// The same where the plane is opaque, in half as many bits.
     fn blend_opaque(q: u8x16, f: u8x16, b: u8x16) -> u8x16
-        ensures { HasLanes result (λ i. blended number 65535 (slice_index q i) (slice_index f i) (slice_index b i)) };
+        ensures { HasLanes result (λ i.
+            blended number 65535 (slice_index q i) (slice_index f i) (slice_index b i)) };
 }
 
 /// Pre-multiplied: the layer's channels have its pixels' alpha in them already.

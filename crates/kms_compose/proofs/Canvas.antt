@@ -79,6 +79,23 @@ canvas-same width height c d h =
     range_same (row_of width c) (row_of width d) 0 height (λ y _ low.
     range_same (λ x. channels (c x y)) (λ x. channels (d x y)) 0 width (λ x _ left. ap channels (h x y (omega (arith, left)) (omega (arith, low)))))
 
+-- the first rows of a frame
+canvas-rows : (width rows rest count : ℕ) (c : ℕ → ℕ → Colour) → count ≡ 3 * width * rows → take count (canvas width (rows + rest) c) ≡ canvas width rows c
+canvas-rows width rows rest count c size =
+    let long : rows * (width * 3) ≡ count = omega (arith, size) in
+    ap (take count) (range_split (row_of width c) 0 rows rest rows (omega arith))
+    ∙ take_at (canvas width rows c) (flat_map (row_of width c) (range_with_len rows rest)) count (canvas-length width rows c ∙ long)
+
+-- are the same where their pixels are
+pub canvas-front : (width height rows count : ℕ) (c d : ℕ → ℕ → Colour) → rows ≤ height → count ≡ 3 * width * rows → ((x y : ℕ) → y < rows → c x y ≡ d x y) →
+    take count (canvas width height c) ≡ take count (canvas width height d)
+canvas-front width height rows count c d low size same =
+    let whole : rows + (height - rows) ≡ height = omega (arith, low) in
+    subst (λ (h : ℕ). take count (canvas width h c) ≡ take count (canvas width h d)) whole
+    (canvas-rows width rows (height - rows) count c size
+    ∙ canvas-same width rows c d (λ x y _ above. same x y above)
+    ∙ sym (canvas-rows width rows (height - rows) count d size))
+
 -- some pixels of a row, from one on
 abbrev pub in_run : ℕ → ℕ → ℕ → ℕ → ℕ → Bool
 in_run left count row x y = is_within left count x && (y == row)
@@ -87,7 +104,7 @@ beside : (y row : ℕ) → (y < row) ⊎ (row < y) → (y == row) ≡ false
 beside y row (inl h) = grind (arith, nat_tests)
 beside y row (inr h) = grind (arith, nat_tests)
 
-before_run : (left count x : ℕ) → x < left → is_within left count x ≡ false
+pub before_run : (left count x : ℕ) → x < left → is_within left count x ≡ false
 before_run left count x h = grind (arith, nat_tests)
 
 behind_run : (left count x : ℕ) → left + count ≤ x → is_within left count x ≡ false

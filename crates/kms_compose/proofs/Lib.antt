@@ -1,7 +1,6 @@
 pub mod Canvas
 pub mod Clipped
 pub mod Differing
-pub mod PairShown
 pub mod Places
 pub mod Recomposed
 pub mod RowByRow

@@ -1,5 +1,5 @@
 -- A frame in which what changed layers cover was drawn anew is the new picture's.
-use Rattle.std.proofs.Common.{◌≡◌, ℕ, ◌*◌, length, Bool, true, false, ◌||◌, cond, List, [], ◌∷◌, ◌++◌, slice_index_or, Option, refl, sym, ap, ◌∙◌}
+use Rattle.std.proofs.Common.{◌≡◌, ◌<◌, ◌≤◌, ℕ, ◌*◌, length, take, Bool, true, false, ◌&&◌, ◌||◌, cond, List, [], ◌∷◌, ◌++◌, slice_index_or, Option, refl, sym, ap, ◌∙◌}
 use Rattle.std.specs.Prelude.{All}
 use Rattle.kms_model.specs.declared.objects.Mode.{Mode}
 use Rattle.kms_model.specs.declared.pictures.Colour.{Colour}
@@ -11,11 +11,12 @@ use Rattle.kms_model.specs.Frames.Images.{FitsMode}
 use Rattle.kms_model.specs.Frames.Pictures.{clip, mode_area}
 use Rattle.kms_compose.specs.declared.images.FbImage.{FbImage}
 use Rattle.kms_compose.specs.declared.parts.Part.{Part}
-use Rattle.kms_compose.specs.Areas.{canvas, drawn}
-use Rattle.kms_compose.specs.Changes.{AgreeBeside, IsSameGround, covered_by}
+use Rattle.kms_compose.specs.declared.areas.Area.{Area}
+use Rattle.kms_compose.specs.Areas.{canvas, drawn, is_in}
+use Rattle.kms_compose.specs.Changes.{DifferIn, IsSameSize, covered_by}
 use Rattle.kms_compose.specs.Images.{IsShowable}
-use Rattle.kms_compose.specs.Parts.{parts_over}
-use Rattle.kms_compose.proofs.Canvas.{canvas-length, canvas-same}
+use Rattle.kms_compose.specs.Parts.{is_within, parts_over}
+use Rattle.kms_compose.proofs.Canvas.{before_run, canvas-front, canvas-length, canvas-same}
 use Rattle.kms_compose.proofs.Differing.{covered_by-append}
 
 area_same : (m m' : Mode) → m.hdisplay ≡ m'.hdisplay → m.vdisplay ≡ m'.vdisplay → mode_area m ≡ mode_area m'
@@ -45,40 +46,65 @@ all_fit_other : (m m' : Mode) (images : List FbImage) (ls : List Layer) → m.hd
 all_fit_other m m' images ls w h all = λ k d below. fits_other m m' (slice_index_or ls k d) w h (all k d below).placed
 
 -- the layers of both pictures on the mode of the new one
-pub old_on : (images : List FbImage) (old new : Shown) (ls : List Layer) → IsSameGround old new → All (IsShowable old.mode images) old.layers → ls ≡ old.layers → All (FitsMode new.mode) ls
-old_on images old new ls ground all e = rw e (all_fit_other old.mode new.mode images old.layers ground.width ground.height all)
+pub old_on : (images : List FbImage) (old new : Shown) (ls : List Layer) → IsSameSize old.mode new.mode → All (IsShowable old.mode images) old.layers → ls ≡ old.layers → All (FitsMode new.mode) ls
+old_on images old new ls size all e = rw e (all_fit_other old.mode new.mode images old.layers size.width size.height all)
 
 pub new_on : (images : List FbImage) (new : Shown) (ls : List Layer) → All (IsShowable new.mode images) new.layers → ls ≡ new.layers → All (FitsMode new.mode) ls
 new_on images new ls all e = rw e (all_fit new.mode images new.layers all)
 
-pub agree_of : (changed xs ys changed' xs' ys' : List Layer) → changed' ≡ changed → xs ≡ xs' → ys ≡ ys' → AgreeBeside changed xs ys → AgreeBeside changed' xs' ys'
-agree_of changed xs ys changed' xs' ys' e f g agree = rw (e, ← f, ← g) agree
+pub differ_in : (changed xs ys changed' xs' ys' : List Layer) → changed' ≡ changed → xs ≡ xs' → ys ≡ ys' → DifferIn changed xs ys → DifferIn changed' xs' ys'
+differ_in changed xs ys changed' xs' ys' e f g differ = rw (e, ← f, ← g) differ
 
-pub frame-length : (words : ℕ → ℕ → ℕ → Option ℕ) (old new : Shown) (bytes : List ℕ) → IsSameGround old new → bytes ≡ frame_of words (On old) →
+-- Frames of pictures in modes of one size
+
+-- the colour of a picture at a pixel
+abbrev pub shown_at : (ℕ → ℕ → ℕ → Option ℕ) → Shown → ℕ → ℕ → Colour
+shown_at words p x y = through p.gamma (composed words x y black p.layers)
+
+pub frame-size : (words : ℕ → ℕ → ℕ → Option ℕ) (old new : Shown) (bytes : List ℕ) → IsSameSize old.mode new.mode → bytes ≡ frame_of words (On old) →
+    bytes ≡ canvas new.mode.hdisplay new.mode.vdisplay (shown_at words old)
+frame-size words old new bytes size was =
+    was
+    ∙ ap (λ (w : ℕ). canvas w old.mode.vdisplay (shown_at words old)) size.width
+    ∙ ap (λ (h : ℕ). canvas new.mode.hdisplay h (shown_at words old)) size.height
+
+pub frame-length : (words : ℕ → ℕ → ℕ → Option ℕ) (old new : Shown) (bytes : List ℕ) → IsSameSize old.mode new.mode → bytes ≡ frame_of words (On old) →
     length bytes ≡ new.mode.vdisplay * (new.mode.hdisplay * 3)
-frame-length words old new bytes ground was =
-    ap length was ∙ canvas-length old.mode.hdisplay old.mode.vdisplay (λ x y. through old.gamma (composed words x y black old.layers))
-    ∙ ap (λ (h : ℕ). h * (old.mode.hdisplay * 3)) ground.height ∙ ap (λ (w : ℕ). new.mode.vdisplay * (w * 3)) ground.width
+frame-length words old new bytes size was =
+    ap length (frame-size words old new bytes size was) ∙ canvas-length new.mode.hdisplay new.mode.vdisplay (shown_at words old)
 
-pub recomposed : (words : ℕ → ℕ → ℕ → Option ℕ) (old new : Shown) (changed : List Layer) (parts : List Part) (bytes made : List ℕ) → IsSameGround old new →
-    bytes ≡ frame_of words (On old) → AgreeBeside changed old.layers new.layers → ((x y : ℕ) → parts_over x y black parts ≡ composed words x y black new.layers) →
-    ((before : ℕ → ℕ → Colour) → bytes ≡ canvas new.mode.hdisplay new.mode.vdisplay before
-    → made ≡ canvas new.mode.hdisplay new.mode.vdisplay (drawn (covered_by changed) (λ x y. through new.gamma (parts_over x y black parts)) before)) →
-    made ≡ frame_of words (On new)
-recomposed words old new changed parts bytes made ground was agree colours drew =
-    let before : ℕ → ℕ → Colour = λ x y. through old.gamma (composed words x y black old.layers) in
-    let after : ℕ → ℕ → Colour = λ x y. through new.gamma (composed words x y black new.layers) in
-    let size : canvas old.mode.hdisplay old.mode.vdisplay before ≡ canvas new.mode.hdisplay new.mode.vdisplay before =
-    ap (λ (w : ℕ). canvas w old.mode.vdisplay before) ground.width ∙ ap (λ (h : ℕ). canvas new.mode.hdisplay h before) ground.height in
-    drew before (was ∙ size)
-    ∙ canvas-same new.mode.hdisplay new.mode.vdisplay (drawn (covered_by changed) (λ x y. through new.gamma (parts_over x y black parts)) before) after (λ x y _ _. pixel x y (covered_by changed x y) refl)
-  where
-    pixel : (x y : ℕ) (b : Bool) → covered_by changed x y ≡ b →
-        cond b (through new.gamma (parts_over x y black parts)) (through old.gamma (composed words x y black old.layers)) ≡ through new.gamma (composed words x y black new.layers)
-    pixel x y true e = ap (through new.gamma) (colours x y)
-    pixel x y false e =
-        ap (λ g. through g (composed words x y black old.layers)) ground.gamma
-        ∙ ap (through new.gamma) (agree words x y black e)
+-- where each pixel was drawn
+pub drawn_each : (words : ℕ → ℕ → ℕ → Option ℕ) (new : Shown) (parts : List Part) (made : List ℕ) → ((x y : ℕ) → parts_over x y black parts ≡ composed words x y black new.layers) →
+    made ≡ canvas new.mode.hdisplay new.mode.vdisplay (λ x y. through new.gamma (parts_over x y black parts)) → made ≡ frame_of words (On new)
+drawn_each words new parts made colours drew =
+    drew ∙ canvas-same new.mode.hdisplay new.mode.vdisplay (λ x y. through new.gamma (parts_over x y black parts)) (shown_at words new) (λ x y _ _. ap (through new.gamma) (colours x y))
+
+-- where only those were drawn that some layers cover
+module _ (words : ℕ → ℕ → ℕ → Option ℕ) (old new : Shown) (changed : List Layer) (parts : List Part) (bytes made : List ℕ)
+    (size : IsSameSize old.mode new.mode) (was : bytes ≡ frame_of words (On old))
+    (drew : (before : ℕ → ℕ → Colour) → bytes ≡ canvas new.mode.hdisplay new.mode.vdisplay before
+    → made ≡ canvas new.mode.hdisplay new.mode.vdisplay (drawn (covered_by changed) (λ x y. through new.gamma (parts_over x y black parts)) before)) where
+  abbrev anew : ℕ → ℕ → Colour
+  anew x y = through new.gamma (parts_over x y black parts)
+
+  -- the frame is that of the new picture, as both have one table
+  pub recomposed : old.gamma ≡ new.gamma → DifferIn changed old.layers new.layers → ((x y : ℕ) → parts_over x y black parts ≡ composed words x y black new.layers) → made ≡ frame_of words (On new)
+  recomposed table differ colours =
+      drew (shown_at words old) (frame-size words old new bytes size was)
+      ∙ canvas-same new.mode.hdisplay new.mode.vdisplay (drawn (covered_by changed) anew (shown_at words old)) (shown_at words new) (λ x y _ _. pixel x y (covered_by changed x y) refl)
+    where
+      pixel : (x y : ℕ) (b : Bool) → covered_by changed x y ≡ b → cond b (anew x y) (shown_at words old x y) ≡ shown_at words new x y
+      pixel x y true e = ap (through new.gamma) (colours x y)
+      pixel x y false e =
+          ap (λ g. through g (composed words x y black old.layers)) table
+          ∙ ap (through new.gamma) (differ.agree words x y black e)
+
+  -- its first rows stay, which no layer covers
+  pub front_stays : (rows count : ℕ) → rows ≤ new.mode.vdisplay → count ≡ 3 * new.mode.hdisplay * rows → ((x y : ℕ) → y < rows → covered_by changed x y ≡ false) → take count made ≡ take count bytes
+  front_stays rows count low long above =
+      ap (take count) (drew (shown_at words old) (frame-size words old new bytes size was))
+      ∙ canvas-front new.mode.hdisplay new.mode.vdisplay rows count (drawn (covered_by changed) anew (shown_at words old)) (shown_at words old) low long (λ x y high. rw (above x y high) refl)
+      ∙ ap (take count) (sym (frame-size words old new bytes size was))
 
 -- the layers before one, and then that one
 
@@ -97,3 +123,15 @@ module _ (new before : ℕ → ℕ → Colour) where
   -- no layer covers anything
   pub layers_none : (width height : ℕ) → canvas width height before ≡ canvas width height (drawn (covered_by []) new before)
   layers_none width height = refl
+
+-- layers and one more cover no pixel that none of them covers
+pub covered_none : (ls : List Layer) (l : Layer) (x y : ℕ) → covered_by ls x y ≡ false → is_covered l.visible x y ≡ false → covered_by (ls ++ l ∷ []) x y ≡ false
+covered_none ls l x y off own = covered_by-append ls (l ∷ []) x y ∙ rw (off, own) refl
+
+-- a rectangle has no pixel above it
+pub above_area : (a : Area) (x y : ℕ) → y < a.top → is_in a x y ≡ false
+above_area a x y high = above (is_within a.left a.width x) (before_run a.top a.height y high)
+  where
+    above : (b : Bool) {c : Bool} → c ≡ false → (b && c) ≡ false
+    above true e = e
+    above false e = refl

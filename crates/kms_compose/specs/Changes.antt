@@ -3,8 +3,6 @@ use Rattle.std.specs.Prelude.{◌≡◌, ℕ, Bool, false, ◌||◌, List, [], �
 use Rattle.kms_model.specs.declared.objects.Mode.{Mode}
 use Rattle.kms_model.specs.declared.pictures.Colour.{Colour}
 use Rattle.kms_model.specs.declared.pictures.Layer.{Layer}
-use Rattle.kms_model.specs.declared.pictures.Rect.{Rect}
-use Rattle.kms_model.specs.declared.pictures.Shown.{Shown}
 use Rattle.kms_model.specs.Frames.FrameBytes.{composed, is_covered}
 use Rattle.kms_model.specs.Frames.Images.{FitsMode}
 
@@ -19,30 +17,17 @@ AgreeBeside changed old new =
     (words : ℕ → ℕ → ℕ → Option ℕ) (x y : ℕ) (under : Colour) → covered_by changed x y ≡ false
     → composed words x y under old ≡ composed words x y under new
 
--- two pictures have modes of one size and the same table of colour values
-pub record IsSameGround (old new : Shown) : Type 0 where
-  pub width : old.mode.hdisplay ≡ new.mode.hdisplay
-  pub height : old.mode.vdisplay ≡ new.mode.vdisplay
-  pub gamma : old.gamma ≡ new.gamma
+-- some layers are those of a list with more listed: they cover what both cover, and can be shown where both can
+pub record Lists (old more new : List Layer) : Type 0 where
+  pub covers : (x y : ℕ) → covered_by new x y ≡ (covered_by old x y || covered_by more x y)
+  pub fit : (m : Mode) → All (FitsMode m) old → All (FitsMode m) more → All (FitsMode m) new
 
--- two rectangles are the same
-pub record IsSameRect (a b : Rect) : Type 0 where
-  pub x : a.x ≡ b.x
-  pub y : a.y ≡ b.y
-  pub w : a.w ≡ b.w
-  pub h : a.h ≡ b.h
+-- two lists of layers differ in some alone: where none of them covers, both have the same colour
+pub record DifferIn (changed old new : List Layer) : Type 0 where
+  pub agree : AgreeBeside changed old new
+  pub fit : (m : Mode) → All (FitsMode m) old → All (FitsMode m) new → All (FitsMode m) changed
 
--- two layers are the same but for what is visible of them
-pub record IsSameLayer (a b : Layer) : Type 0 where
-  pub plane : a.plane ≡ b.plane
-  pub alpha : a.alpha ≡ b.alpha
-  pub blend : a.blend ≡ b.blend
-  pub fb : a.fb ≡ b.fb
-  pub dst : IsSameRect a.dst b.dst
-  pub src : IsSameRect a.src b.src
-
--- the layers of two pictures can be shown in one mode
-pub record AreOnOneMode (old new : List Layer) : Type 0 where
-  pub mode : Mode
-  pub old_fit : All (FitsMode mode) old
-  pub new_fit : All (FitsMode mode) new
+-- two modes have one size
+pub record IsSameSize (old new : Mode) : Type 0 where
+  pub width : old.hdisplay ≡ new.hdisplay
+  pub height : old.vdisplay ≡ new.vdisplay

@@ -1,11 +1,7 @@
--- Layers of one framebuffer, which tests show.
-use Rattle.std.specs.Prelude.{◌≡◌, ◌≤◌, ℕ, pos, true}
-use Rattle.kms_model.specs.declared.objects.Format.TheVariants.{Xr24}
-use Rattle.kms_model.specs.declared.objects.Mode.{Mode}
-use Rattle.kms_model.specs.declared.pictures.Layer.{Layer}
+-- The numbers of layers that tests show.
+use Rattle.std.specs.Prelude.{◌≡◌, ℕ, pos, true}
 use Rattle.kms_model.specs.declared.pictures.Rect.{Rect}
 use Rattle.kms_model.specs.Device.Sound.{IsBetween}
-use Rattle.kms_model.specs.Frames.Images.{FitsMode}
 use Rattle.kms_model.specs.Frames.Rectangles.{IsNearRect, fits_source, is_scaled_little}
 
 -- the numbers of a source are in their ranges
@@ -29,8 +25,3 @@ pub record MayShow (src dst : Rect) (width height : ℕ) : Type 0 where
   pub wide : is_scaled_little src.w dst.w ≡ true
   pub high : is_scaled_little src.h dst.h ≡ true
   pub fits : fits_source src width height ≡ true
-
--- a layer of the framebuffer 1000, which has this size, that can be shown in a mode
-pub record IsOfTest (m : Mode) (width height : ℕ) (l : Layer) : Type 0 where
-  pub placed : FitsMode m l
-  pub fb : l.fb ≡ record { id = 1000; width = width; height = height; format = Xr24 }

@@ -2,6 +2,5 @@ pub mod Areas
 pub mod Changes
 pub mod Example
 pub mod Images
-pub mod Pairs
 pub mod Parts
 pub mod Sources

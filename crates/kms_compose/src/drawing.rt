@@ -91,9 +91,11 @@ pub fn draw_area(parts: &[Part], gamma: &Option<Gamma>, width: usize, area: &Are
     requires across { area.now.left + area.now.width ≤ width }
     requires long { (area.now.top + area.now.height) * (width * 3) ≤ length bytes.old }
     requires low { area.now.top + area.now.height < 65536 }
-    ensures { (height : ℕ) (before : ℕ → ℕ → Colour) → FitsIn width height area.now → bytes.old ≡ canvas width height before
+    ensures { (height : ℕ) (before : ℕ → ℕ → Colour)
+        → FitsIn width height area.now → bytes.old ≡ canvas width height before
         → bytes.new ≡ canvas width height
-        (drawn (is_in area.now) (λ x y. through gamma.now (parts_over x y black parts.now)) before) }
+        (drawn (is_in area.now)
+        (λ x y. through gamma.now (parts_over x y black parts.now)) before) }
 {
     let mut words = [0; RUN];
     let mut channels = [0; 5 * RUN];
@@ -104,4 +106,29 @@ pub fn draw_area(parts: &[Part], gamma: &Option<Gamma>, width: usize, area: &Are
         let row = &mut bytes[start..start + 3 * area.width];
         draw_runs(parts, gamma, y, area.left, area.width, words, channels, row);
     }
+}
+
+/// Draws each pixel of a frame of a mode of this size.
+pub fn draw_whole(
+    parts: &[Part],
+    gamma: &Option<Gamma>,
+    width: usize,
+    height: usize,
+    bytes: &mut [u8],
+)
+    requires parts { All IsPart parts.now }
+    requires narrow { width < 65536 }
+    requires low { height < 65536 }
+    requires long { length bytes.old ≡ height * (width * 3) }
+    ensures { (before : ℕ → ℕ → Colour) → bytes.old ≡ canvas width height before
+        → bytes.new
+        ≡ canvas width height (λ x y. through gamma.now (parts_over x y black parts.now)) }
+{
+    let whole = Area {
+        left: 0,
+        top: 0,
+        width,
+        height,
+    };
+    draw_area(parts, gamma, width, &whole, bytes);
 }

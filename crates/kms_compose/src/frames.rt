@@ -8,8 +8,7 @@ ghost use Rattle.kms_compose.specs.Images.{AreImagesIn, CanShow, IsShowable, wor
 ghost use Rattle.kms_compose.specs.Areas.{canvas};
 ghost use Rattle.kms_compose.specs.Parts.{IsPart, listed, parts_over};
 
-use crate::areas::Area;
-use crate::drawing::draw_area;
+use crate::drawing::draw_whole;
 use crate::images::{FbImage, Images};
 use crate::parts::{Part, part_of};
 use kms_model::{Gamma, NoMemory, Picture, Seq, Shown};
@@ -25,8 +24,8 @@ pub type Frame = Seq<u8>;
 /// 2147483647, neither is more than four times as wide or high as the other, and what is visible of it is the destination
 /// clipped to the mode. Each layer's framebuffer has an image in its size, with a word for each pixel.
 ///
-/// The only error is want of memory. The frame's memory is taken at once, and besides it a few rows, and for each scaled
-/// layer one.
+/// The only error is want of memory. The frame's memory is taken at once, and besides it that of the list of what is visible
+/// of each layer, and for each layer that is scaled from left to right eight bytes for each column of it that is visible.
 pub fn frame(alloc: Global, picture: &Picture, images: &Images) -> Result<Frame, NoMemory>
     requires { CanShow images.now picture.now }
     ensures exact { IfOk result (λ bytes. bytes ≡ frame_of (word_under images.now) picture.now) }
@@ -98,13 +97,17 @@ fn parts_bytes(
     ensures { IfOk result (λ bytes. bytes.items
         ≡ canvas width height (λ x y. through gamma.now (parts_over x y black parts.now))) }
 {
-    let mut bytes = vec![in alloc; 0u8; 3 * width * height]?;
-    let whole = Area {
-        left: 0,
-        top: 0,
-        width,
-        height,
-    };
-    draw_area(parts, gamma, width, &whole, bytes.as_mut_slice());
+    let mut bytes = blank(alloc, width, height)?;
+    draw_whole(parts, gamma, width, height, bytes.as_mut_slice());
+    Ok(bytes)
+}
+
+/// The bytes of black pixels, in a mode of this size.
+pub fn blank(alloc: Global, width: usize, height: usize) -> Result<Vec<u8>, NoMemory>
+    requires narrow { width < 65536 }
+    requires low { height < 65536 }
+    ensures { IfOk result (λ bytes. bytes.items ≡ canvas width height (λ x y. black)) }
+{
+    let bytes = vec![in alloc; 0u8; 3 * width * height]?;
     Ok(bytes)
 }

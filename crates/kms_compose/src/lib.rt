@@ -10,15 +10,19 @@ mod images;
 mod parts;
 mod recomposing;
 mod rows;
+mod sameness;
 mod sources;
 mod tables;
 mod threads;
 
 pub use frames::{Frame, frame};
 pub use images::{FbImage, Images};
-pub use recomposing::recompose;
+pub use recomposing::{recompose, recompose_kept};
+pub use sameness::is_same_layer;
 pub use threads::frame_rows;
 
+#[cfg(test)]
+mod fixtures;
 #[cfg(test)]
 mod recompose_tests;
 #[cfg(test)]

@@ -1,13 +1,11 @@
-//! What no clause says: frames that are made of earlier ones, worked out by hand; and that such frames, and those that
-//! threads make, are those that are made whole, over pairs of pictures by chance.
-ghost use Rattle.std.specs.Prelude.{◌≡◌, ◌≤◌, ◌<◌, ◌*◌, All, IfOk, length, true};
-ghost use Rattle.kms_model.specs.Frames.Rectangles.{IsNearRect};
-ghost use Rattle.kms_model.specs.Frames.Images.{FitsMode};
-ghost use Rattle.kms_compose.specs.Pairs.{HasDot, HasPair, IsImageOf, IsOfPair, ShowsDot, ShowsPair, small_fb};
+//! What no clause says: frames that are made of earlier ones, worked out by hand; how many bytes of them stay; and that such
+//! frames, and those that threads make, are those that are made whole, over pairs of pictures by chance.
+ghost use Rattle.std.specs.Prelude.{◌≤◌, ◌<◌};
+ghost use Rattle.kms_compose.specs.Images.{CanShow};
 
 use super::*;
-use kms_geom::{clip, fits_source, is_scaled_little};
-use kms_model::{FbInfo, Format, Gamma, Image, Layer, Layers, Mode, Picture, Rect, Seq, Shown};
+use crate::fixtures::{PIXEL, Place, image, mode, opaque, picture, rect};
+use kms_model::{Format, Gamma, Picture, Seq};
 use std::alloc::Global;
 use std::process::Abort;
 use std::test::Fail;
@@ -30,53 +28,38 @@ impl Chance {
     }
 }
 
-/// Where a layer of one of two framebuffers of 8x8 is taken from, in 16.16 fixed point, and where it is shown.
-#[derive(Clone, Copy)]
-struct Place {
-    is_second: bool,
-    left: u32,
-    top: u32,
-    long: u32,
-    tall: u32,
-    x: i32,
-    y: i32,
-    wide: u16,
-    high: u16,
-    alpha: u16,
-    blend: u8,
-}
-
 /// As many pixels as `n`, twice or four times as many, by chance.
-fn scaled(chance: &mut Chance, n: u32) -> u16
+fn scaled(chance: &mut Chance, n: u32) -> u32
     requires { n ≤ 4 }
 {
     match chance.below(3) {
-        0 => n as u16,
-        1 => (2 * n) as u16,
-        _ => (4 * n) as u16,
+        0 => n,
+        1 => 2 * n,
+        _ => 4 * n,
     }
 }
 
-/// A place by chance: up to four pixels that begin between two, each shown in up to four, within a mode of 20x9 or beside it.
+/// A place by chance, of one of three framebuffers: up to four pixels that begin between two, each shown in up to four, within a
+/// mode of 20x9 or beside it.
 fn by_chance(chance: &mut Chance) -> Place {
     let long = 1 + chance.below(4);
     let tall = 1 + chance.below(4);
+    let left = i64::from(chance.below(4 * 65536));
+    let top = i64::from(chance.below(4 * 65536));
+    let x = i64::from(chance.below(24));
+    let y = i64::from(chance.below(13));
+    let wide = i64::from(scaled(chance, long));
+    let high = i64::from(scaled(chance, tall));
     Place {
-        is_second: chance.below(2) == 1,
-        left: chance.below(4 * 65536),
-        top: chance.below(4 * 65536),
-        long: 65536 * long,
-        tall: 65536 * tall,
-        x: chance.below(24) as i32 - 4,
-        y: chance.below(13) as i32 - 4,
-        wide: scaled(chance, long),
-        high: scaled(chance, tall),
+        fb: 1000 + chance.below(3),
+        src: rect(left, top, PIXEL * i64::from(long), PIXEL * i64::from(tall)),
+        dst: rect(x - 4, y - 4, wide, high),
         alpha: if chance.below(2) == 0 {
             65535
         } else {
-            chance.below(65536) as u16
+            chance.below(65536)
         },
-        blend: chance.below(3) as u8,
+        blend: chance.below(3),
     }
 }
 
@@ -85,18 +68,18 @@ fn changed(chance: &mut Chance, old: Place) -> Place {
     let other = by_chance(chance);
     let mut new = old;
     match chance.below(6) {
-        0 => new.x = other.x,
+        0 => new.dst.x = other.dst.x,
         1 => new.alpha = other.alpha,
         2 => new.blend = other.blend,
-        3 => new.is_second = !old.is_second,
-        4 => new.left = other.left,
+        3 => new.fb = other.fb,
+        4 => new.src.x = other.src.x,
         _ => new = other,
     }
     new
 }
 
-/// The places of the layers of another picture: one changes, two change places, the lowest leaves, or all stay.
-fn next(chance: &mut Chance, old: [Place; 5]) -> [Place; 5] {
+/// The places of the layers of the next picture: one changes, two change places, the lowest leaves, or all stay.
+fn next_places(chance: &mut Chance, old: [Place; 5]) -> [Place; 5] {
     let mut new = old;
     let at = chance.below(5) as usize;
     match chance.below(4) {
@@ -116,164 +99,44 @@ fn next(chance: &mut Chance, old: [Place; 5]) -> [Place; 5] {
     new
 }
 
-/// A mode of this size.
-fn mode(w: u16, h: u16) -> Mode {
-    Mode {
-        clock: 1,
-        hdisplay: w,
-        hsync_start: w,
-        hsync_end: w,
-        htotal: w,
-        hskew: 0,
-        vdisplay: h,
-        vsync_start: h,
-        vsync_end: h,
-        vtotal: h,
-        vscan: 0,
-        vrefresh: 60,
-        flags: 0,
-        kind: 0,
-        name: [0; 32],
-    }
+/// A picture of five layers: whether it is on, whether its mode has 20x9 or 12x7 pixels, and which of three tables it has.
+#[derive(Clone, Copy)]
+struct Choice {
+    is_on: bool,
+    is_wide: bool,
+    table: u32,
+    places: [Place; 5],
 }
 
-/// Whether the numbers of a rectangle are near enough for its edges.
-fn is_near(rect: &Rect) -> bool
-    ensures { result ≡ true → IsNearRect rect.now }
-{
-    if rect.x < -4294967295 || rect.y < -4294967295 {
-        return false;
-    }
-    if rect.w < -4294967295 || rect.h < -4294967295 {
-        return false;
-    }
-    if rect.x > 4294967295 || rect.y > 4294967295 {
-        return false;
-    }
-    if rect.w > 4294967295 || rect.h > 4294967295 {
-        return false;
-    }
-    true
-}
-
-/// A layer of a framebuffer, at a place; the test ends where it may not be shown.
-fn layer(rt: &impl Abort, mode: &Mode, fb: FbInfo, place: &Place) -> Layer
-    ensures fits { FitsMode mode.now result }
-    ensures fb { result.fb ≡ fb }
-{
-    let src = Rect {
-        x: i64::from(place.left),
-        y: i64::from(place.top),
-        w: i64::from(place.long),
-        h: i64::from(place.tall),
-    };
-    let dst = Rect {
-        x: i64::from(place.x),
-        y: i64::from(place.y),
-        w: i64::from(place.wide),
-        h: i64::from(place.high),
-    };
-    let area = Rect {
-        x: 0,
-        y: 0,
-        w: i64::from(mode.hdisplay),
-        h: i64::from(mode.vdisplay),
-    };
-    assert!(rt; is_near(&dst));
-    assert!(rt; fits_source(src, fb.width, fb.height));
-    assert!(rt; is_scaled_little(src.w, dst.w));
-    assert!(rt; is_scaled_little(src.h, dst.h));
-    let alpha = u32::from(place.alpha);
-    let blend = u32::from(place.blend);
-    assert!(rt; alpha <= 65535);
-    assert!(rt; blend <= 2);
-    Layer {
-        plane: 200,
-        fb,
-        dst,
-        src,
-        visible: clip(dst, area),
-        alpha,
-        blend,
-    }
-}
-
-/// A framebuffer of 8x8.
-fn small_fb(id: u32) -> FbInfo
-    ensures { result ≡ small_fb id }
-{
-    FbInfo {
-        id,
-        width: 8,
-        height: 8,
-        format: Format::Ar24,
-    }
-}
-
-/// The layer of one of both framebuffers at a place.
-fn layer_of_pair(rt: &impl Abort, mode: &Mode, place: &Place) -> Layer
-    ensures { IsOfPair mode.now result }
-{
-    if place.is_second {
-        layer(rt, mode, small_fb(1001), place)
-    } else {
-        layer(rt, mode, small_fb(1000), place)
-    }
-}
-
-/// The layers at some places, from the lowest.
-fn layers(rt: &impl Abort, mode: &Mode, places: &[Place]) -> Layers
-    requires { length places.now ≤ 16 }
-    ensures { All (IsOfPair mode.now) result }
-{
-    let mut all = Layers::new();
-    for place in places {
-        all.push(layer_of_pair(rt, mode, place));
-    }
-    all
-}
-
-/// A picture of layers at some places, from the lowest, in a mode of 20x9.
-fn picture(rt: &impl Abort, gamma: Option<Gamma>, places: &[Place]) -> Picture
-    requires { length places.now ≤ 16 }
-    ensures { ShowsPair result }
-{
-    let mode = mode(20, 9);
-    Picture::On(Shown {
-        mode,
-        conn: 300,
-        gamma,
-        layers: layers(rt, &mode, places),
-    })
-}
-
-/// An image of a framebuffer, of these words.
-fn image<'a>(fb: FbInfo, words: &'a [u32]) -> FbImage<'a>
-    requires { length words.now ≡ fb.width * fb.height }
-    ensures { IsImageOf fb result }
-{
-    FbImage {
-        fb: fb.id,
-        image: Image {
-            width: fb.width,
-            height: fb.height,
-            format: fb.format,
-            words,
+/// The choice after another one: mostly both are on, with modes of one size, and half of the tables stay.
+fn next_choice(chance: &mut Chance, old: Choice) -> Choice {
+    let turned = chance.below(8) == 0;
+    Choice {
+        is_on: chance.below(8) > 0,
+        is_wide: old.is_wide != turned,
+        table: if chance.below(2) == 0 {
+            old.table
+        } else {
+            chance.below(3)
         },
+        places: next_places(chance, old.places),
     }
 }
 
-/// The images of both framebuffers.
-fn images<'a>(
-    alloc: Global,
-    first: &'a [u32; 64],
-    second: &'a [u32; 64],
-) -> Result<Images<'a>, Fail>
-    ensures { IfOk result HasPair }
+/// The picture of a choice, over the images of the three framebuffers.
+fn chosen(rt: &impl Abort, images: &Images, tables: (Gamma, Gamma), choice: &Choice) -> Picture
+    ensures { CanShow images.now result }
 {
-    let first = image(small_fb(1000), first);
-    let second = image(small_fb(1001), second);
-    Ok(Seq::from_vec(Vec::from_array(alloc, [first, second])?))
+    if !choice.is_on {
+        return Picture::Off;
+    }
+    let gamma = match choice.table {
+        0 => None,
+        1 => Some(tables.0),
+        _ => Some(tables.1),
+    };
+    let (w, h) = if choice.is_wide { (20, 9) } else { (12, 7) };
+    picture(rt, mode(w, h), gamma, images, &choice.places)
 }
 
 /// Ends the test where the frame of a picture, made of that of another one or by threads, is another than its whole one.
@@ -284,9 +147,8 @@ fn compare<R: Abort + Threads + Sync>(
     new: &Picture,
     images: &Images,
 ) -> Result<(), Fail>
-    requires old { ShowsPair old.now }
-    requires new { ShowsPair new.now }
-    requires images { HasPair images.now }
+    requires old { CanShow images.now old.now }
+    requires new { CanShow images.now new.now }
 {
     let mut bytes = frame(alloc, old, images)?;
     recompose(alloc, &mut bytes, old, new, images)?;
@@ -297,11 +159,8 @@ fn compare<R: Abort + Threads + Sync>(
     Ok(())
 }
 
-/// A table by chance, or none.
-fn table(chance: &mut Chance) -> Option<Gamma> {
-    if chance.below(4) > 0 {
-        return None;
-    }
+/// A table by chance.
+fn table(chance: &mut Chance) -> Gamma {
     let mut gamma = Gamma {
         red: [0; 256],
         green: [0; 256],
@@ -312,7 +171,7 @@ fn table(chance: &mut Chance) -> Option<Gamma> {
         gamma.green[value] = chance.below(256) as u8;
         gamma.blue[value] = chance.below(256) as u8;
     }
-    Some(gamma)
+    gamma
 }
 
 /// Words by chance.
@@ -324,75 +183,155 @@ fn words(chance: &mut Chance) -> [u32; 64] {
     words
 }
 
+/// The images of three framebuffers of 8x8, one in each format.
+fn three_images<'a>(
+    alloc: Global,
+    first: &'a [u32; 64],
+    second: &'a [u32; 64],
+    third: &'a [u32; 64],
+) -> Result<Images<'a>, Fail> {
+    let all = [
+        image(1000, (8, 8), Format::Ar24, first),
+        image(1001, (8, 8), Format::Xr24, second),
+        image(1002, (8, 8), Format::Rg16, third),
+    ];
+    Ok(Seq::from_vec(Vec::from_array(alloc, all)?))
+}
+
 #[test]
 fn pictures_by_chance_are_made_of_earlier_ones(rt: HostRuntime) -> Result<(), Fail> {
     let mut chance = Chance { state: 7 };
     let first = words(&mut chance);
     let second = words(&mut chance);
-    let images = images(rt.alloc(), &first, &second)?;
-    let mut places = [by_chance(&mut chance); 5];
+    let third = words(&mut chance);
+    let images = three_images(rt.alloc(), &first, &second, &third)?;
+    let tables = (table(&mut chance), table(&mut chance));
+    let mut new = Choice {
+        is_on: true,
+        is_wide: true,
+        table: 0,
+        places: [by_chance(&mut chance); 5],
+    };
     for _ in 0..200 {
-        let old = picture(&rt, None, &places);
-        places = next(&mut chance, places);
-        let new = picture(&rt, table(&mut chance), &places);
-        compare(&rt, rt.alloc(), &old, &new, &images)?;
+        let old = new;
+        new = next_choice(&mut chance, old);
+        let before = chosen(&rt, &images, tables, &old);
+        let after = chosen(&rt, &images, tables, &new);
+        compare(&rt, rt.alloc(), &before, &after, &images)?;
     }
     Ok(())
 }
 
-/// A framebuffer of one pixel.
-const DOT: FbInfo = FbInfo {
-    id: 1000,
-    width: 1,
-    height: 1,
-    format: Format::Xr24,
-};
-
-/// One pixel, shown at `x` in a mode of 2x1.
-fn dot(rt: &impl Abort, x: i32) -> Picture
-    ensures { ShowsDot result }
-{
-    let place = Place {
-        is_second: false,
-        left: 0,
-        top: 0,
-        long: 65536,
-        tall: 65536,
-        x,
-        y: 0,
-        wide: 1,
-        high: 1,
-        alpha: 65535,
-        blend: 0,
-    };
-    let mode = mode(2, 1);
-    let mut layers = Layers::new();
-    layers.push(layer(rt, &mode, DOT, &place));
-    Picture::On(Shown {
-        mode,
-        conn: 300,
-        gamma: None,
-        layers,
-    })
+// More pixels than are drawn at a time, and no whole number of lanes; the old layer ends where the second run begins.
+#[test]
+fn a_row_of_300_pixels_is_made_of_an_earlier_one(rt: HostRuntime) -> Result<(), Fail> {
+    let mut words = [0; 300];
+    for (i, word) in words.iter_mut().enumerate() {
+        *word = (i as u32).wrapping_mul(0x0103_0507);
+    }
+    let whole = [image(1000, (300, 1), Format::Ar24, &words)];
+    let images = Seq::from_vec(Vec::from_array(rt.alloc(), whole)?);
+    let mut lower = opaque(rect(0, 0, 256 * PIXEL, PIXEL), rect(0, 0, 256, 1));
+    let mut upper = opaque(rect(0, 0, 299 * PIXEL, PIXEL), rect(1, 0, 299, 1));
+    let old = picture(&rt, mode(300, 1), None, &images, &[lower, upper]);
+    lower.blend = 2;
+    upper.blend = 1;
+    upper.alpha = 40000;
+    let new = picture(&rt, mode(300, 1), None, &images, &[lower, upper]);
+    compare(&rt, rt.alloc(), &old, &new, &images)
 }
 
-/// The image of the framebuffer of one pixel.
-fn dot_images<'a>(alloc: Global, words: &'a [u32; 1]) -> Result<Images<'a>, Fail>
-    ensures { IfOk result HasDot }
-{
-    Ok(Seq::from_vec(Vec::from_array(alloc, [image(DOT, words)])?))
+/// One pixel of a framebuffer, shown at this place.
+fn dot(x: i64, y: i64) -> Place {
+    opaque(rect(0, 0, PIXEL, PIXEL), rect(x, y, 1, 1))
 }
 
 // The bytes `abc` move by a pixel.
 #[test]
 fn a_moved_pixel_leaves_black_behind(rt: HostRuntime) -> Result<(), Fail> {
     let words = [0x0061_6263];
-    let images = dot_images(rt.alloc(), &words)?;
-    let old = dot(&rt, 0);
-    let new = dot(&rt, 1);
+    let one = [image(1000, (1, 1), Format::Xr24, &words)];
+    let images = Seq::from_vec(Vec::from_array(rt.alloc(), one)?);
+    let old = picture(&rt, mode(2, 1), None, &images, &[dot(0, 0)]);
+    let new = picture(&rt, mode(2, 1), None, &images, &[dot(1, 0)]);
     let mut bytes = frame(rt.alloc(), &old, &images)?;
     assert!(rt; bytes.as_slice() == [97, 98, 99, 0, 0, 0].as_slice());
     recompose(rt.alloc(), &mut bytes, &old, &new, &images)?;
     assert!(rt; bytes.as_slice() == [0, 0, 0, 97, 98, 99].as_slice());
     Ok(())
+}
+
+/// Ends the test where the frame of a picture, made of that of another one, does not keep so many bytes.
+fn keeps(
+    rt: &impl Abort,
+    alloc: Global,
+    old: &Picture,
+    new: &Picture,
+    images: &Images,
+    count: usize,
+) -> Result<(), Fail>
+    requires old { CanShow images.now old.now }
+    requires new { CanShow images.now new.now }
+{
+    let mut bytes = frame(alloc, old, images)?;
+    let kept = recompose_kept(alloc, &mut bytes, old, new, images)?;
+    assert!(rt; kept == count, "{kept} bytes are kept, and not {count}");
+    Ok(())
+}
+
+/// A layer of two pixels, one above the other, shown at this place.
+fn pair(x: i64, y: i64) -> Place {
+    opaque(rect(0, 0, PIXEL, 2 * PIXEL), rect(x, y, 1, 2))
+}
+
+/// The same, half transparent.
+fn pale(place: Place) -> Place {
+    let mut pale = place;
+    pale.alpha = 32768;
+    pale
+}
+
+// A mode of 4x6, in which each row has 12 bytes.
+#[test]
+fn rows_above_all_that_is_drawn_are_kept(rt: HostRuntime) -> Result<(), Fail> {
+    let words = [0x0061_6263, 0x0066_6f6f];
+    let one = [image(1000, (1, 2), Format::Xr24, &words)];
+    let images = Seq::from_vec(Vec::from_array(rt.alloc(), one)?);
+    let two = [pair(0, 2), pair(1, 3)];
+    let cases = [
+        (two, two, 72),
+        (two, [pale(two[0]), two[1]], 24),
+        (two, [two[0], pale(two[1])], 36),
+        (two, [pale(two[0]), pale(two[1])], 24),
+        (two, [two[1], two[0]], 36),
+        (two, [two[0], pair(1, 1)], 12),
+        ([two[0], pair(1, 1)], two, 12),
+        (two, [two[0], pair(1, -1)], 0),
+        ([two[0], pair(1, 5)], [two[0], pale(pair(1, 5))], 60),
+        ([two[0], pair(1, -1)], [two[0], pale(pair(1, -1))], 0),
+        ([two[0], pair(1, 6)], [two[0], pale(pair(1, 6))], 72),
+    ];
+    for (before, after, count) in &cases {
+        let old = picture(&rt, mode(4, 6), None, &images, before);
+        let new = picture(&rt, mode(4, 6), None, &images, after);
+        keeps(&rt, rt.alloc(), &old, &new, &images, *count)?;
+    }
+    Ok(())
+}
+
+// The same picture through a table, in a mode of another size, and off.
+#[test]
+fn no_row_is_kept_where_each_is_made_anew(rt: HostRuntime) -> Result<(), Fail> {
+    let words = [0x0061_6263, 0x0066_6f6f];
+    let one = [image(1000, (1, 2), Format::Xr24, &words)];
+    let images = Seq::from_vec(Vec::from_array(rt.alloc(), one)?);
+    let places = [pair(0, 2)];
+    let old = picture(&rt, mode(4, 6), None, &images, &places);
+    let gamma = Some(table(&mut Chance { state: 7 }));
+    let through = picture(&rt, mode(4, 6), gamma, &images, &places);
+    let lower = picture(&rt, mode(4, 7), None, &images, &places);
+    for new in [through, lower, Picture::Off] {
+        keeps(&rt, rt.alloc(), &old, &new, &images, 0)?;
+    }
+    keeps(&rt, rt.alloc(), &Picture::Off, &old, &images, 0)
 }

@@ -1,5 +1,5 @@
 //! Frames made of earlier ones.
-ghost use Rattle.std.specs.Prelude.{◌≡◌, ◌<◌, ◌≤◌, ◌*◌, ℕ, List, IsTrue, All, OnErr, OnOk, length};
+ghost use Rattle.std.specs.Prelude.{◌≡◌, ◌<◌, ◌≤◌, ◌*◌, ℕ, List, IsTrue, All, IfOk, OnErr, OnOk, false, length, take};
 ghost use Rattle.kms_model.specs.declared.objects.Mode.{Mode};
 ghost use Rattle.kms_model.specs.declared.pictures.Colour.{Colour};
 ghost use Rattle.kms_model.specs.declared.pictures.Picture.TheVariants.{On};
@@ -7,13 +7,13 @@ ghost use Rattle.kms_model.specs.declared.worlds.Thing.{Thing};
 ghost use Rattle.kms_model.specs.Frames.FrameBytes.{black, frame_bytes, frame_of, is_covered, through};
 ghost use Rattle.kms_model.specs.Frames.Images.{FitsMode};
 ghost use Rattle.kms_compose.specs.Areas.{canvas, drawn};
-ghost use Rattle.kms_compose.specs.Changes.{IsSameGround, covered_by};
+ghost use Rattle.kms_compose.specs.Changes.{IsSameSize, covered_by};
 ghost use Rattle.kms_compose.specs.Images.{AreImagesIn, CanShow, IsShowable, word_under};
 ghost use Rattle.kms_compose.specs.Parts.{IsPart, parts_over};
 
 use crate::areas::area_of;
 use crate::changes::changes;
-use crate::drawing::draw_area;
+use crate::drawing::{draw_area, draw_whole};
 use crate::frames::{Frame, frame as whole_frame, parts_of};
 use crate::images::{FbImage, Images};
 use crate::parts::Part;
@@ -22,13 +22,14 @@ use std::alloc::Global;
 use std::mem;
 
 /// Makes the frame of a picture of that of another one: what the layers cover that left, came, or changed in framebuffer,
-/// source, destination, alpha, blend mode or place in the order is made anew, and the rest stays. Where the size of the mode
-/// or the table of colour values differs, and where the CRTC was off or is, the whole frame is made anew.
+/// source, destination, alpha, blend mode or place in the order is drawn anew, and the rest stays. Where the table of colour
+/// values differs, each pixel is drawn anew in the memory of the old frame. Where the size of the mode differs, and where the
+/// CRTC was off or is, the whole frame is made in memory of its own, beside the old one.
 ///
 /// Both pictures and the images are as [`frame`] asks, and the frame is that of the old picture.
 ///
-/// The only error is want of memory, and then the frame is as it was. No memory is taken for the pixels where only layers
-/// differ, but that of a row for each scaled layer.
+/// The only error is want of memory, and then the frame is as it was. No memory is taken for the pixels where the modes have
+/// one size.
 pub fn recompose(
     alloc: Global,
     frame: &mut Frame,
@@ -46,43 +47,67 @@ pub fn recompose(
         → AreImagesIn things images.now → frame.new ≡ frame_bytes things new.now) }
     ensures unchanged { OnErr result (frame.new ≡ frame.old) }
 {
-    match old {
-        Picture::Off => remake(alloc, frame, new, images),
-        Picture::On(before) => match new {
-            Picture::Off => remake(alloc, frame, new, images),
-            Picture::On(after) => {
-                if is_same_ground(before, after) {
-                    redraw(alloc, frame, before, after, images.as_slice())
-                } else {
-                    remake(alloc, frame, new, images)
-                }
+    recompose_kept(alloc, frame, old, new, images)?;
+    Ok(())
+}
+
+/// Does what [`recompose`] does, and tells how many bytes at the front of the frame it left as they were, so that a digest of
+/// them need not be made again.
+///
+/// They are those of the rows above each rectangle that was drawn: so a whole number of rows, the whole frame where nothing
+/// was drawn, and none where each pixel was drawn or the whole frame made. No clause holds the number to be large, since it is
+/// for speed alone.
+pub fn recompose_kept(
+    alloc: Global,
+    frame: &mut Frame,
+    old: &Picture,
+    new: &Picture,
+    images: &Images,
+) -> Result<usize, NoMemory>
+    requires old { CanShow images.now old.now }
+    requires new { CanShow images.now new.now }
+    requires frame { frame.old ≡ frame_of (word_under images.now) old.now }
+    ensures exact { OnOk result (frame.new ≡ frame_of (word_under images.now) new.now) }
+
+    // Where each image is that of a framebuffer among some things, the frame is theirs.
+    ensures things { OnOk result ((things : List Thing)
+        → AreImagesIn things images.now → frame.new ≡ frame_bytes things new.now) }
+    ensures kept { IfOk result (λ count. take count frame.new ≡ take count frame.old) }
+    ensures unchanged { OnErr result (frame.new ≡ frame.old) }
+{
+    match (old, new) {
+        (Picture::On(before), Picture::On(after)) => {
+            if is_same_size(&before.mode, &after.mode) {
+                redraw(alloc, frame, before, after, images.as_slice())
+            } else {
+                remake(alloc, frame, new, images)
             }
-        },
+        }
+        _ => remake(alloc, frame, new, images),
     }
 }
 
-/// Makes the whole frame of a picture.
+/// Makes the whole frame of a picture, which keeps no byte of another one.
 fn remake(
     alloc: Global,
     frame: &mut Frame,
     picture: &Picture,
     images: &Images,
-) -> Result<(), NoMemory>
+) -> Result<usize, NoMemory>
     requires { CanShow images.now picture.now }
     ensures exact { OnOk result (frame.new ≡ frame_of (word_under images.now) picture.now) }
+    ensures kept { IfOk result (λ count. take count frame.new ≡ take count frame.old) }
     ensures unchanged { OnErr result (frame.new ≡ frame.old) }
 {
     *frame = whole_frame(alloc, picture, images)?;
-    Ok(())
+    Ok(0)
 }
 
-/// Whether two modes have one size, and both pictures one table of colour values, or none.
-fn is_same_ground(old: &Shown, new: &Shown) -> bool
-    ensures { IsTrue result → IsSameGround old.now new.now }
+/// Whether two modes have one size.
+fn is_same_size(old: &Mode, new: &Mode) -> bool
+    ensures { IsTrue result → IsSameSize old.now new.now }
 {
-    old.mode.hdisplay == new.mode.hdisplay
-        && old.mode.vdisplay == new.mode.vdisplay
-        && is_same_table(&old.gamma, &new.gamma)
+    old.hdisplay == new.hdisplay && old.vdisplay == new.vdisplay
 }
 
 /// Whether two tables of colour values are the same.
@@ -92,36 +117,75 @@ fn is_same_table(old: &Option<Gamma>, new: &Option<Gamma>) -> bool
     old == new
 }
 
-/// Makes the frame of a picture of that of another one on the same ground: what changed layers cover is made anew.
+/// Makes the frame of a picture of that of another one in a mode of the same size, and tells how many bytes at its front stay:
+/// what changed layers cover is drawn anew, or each pixel where the tables of colour values differ. All memory is taken before
+/// a byte changes.
 fn redraw(
     alloc: Global,
     frame: &mut Frame,
     old: &Shown,
     new: &Shown,
     images: &[FbImage],
-) -> Result<(), NoMemory>
-    requires ground { IsSameGround old.now new.now }
+) -> Result<usize, NoMemory>
+    requires size { IsSameSize old.now.mode new.now.mode }
     requires old { All (IsShowable old.now.mode images.now) old.now.layers }
     requires new { All (IsShowable new.now.mode images.now) new.now.layers }
     requires frame { frame.old ≡ frame_of (word_under images.now) (On old.now) }
     ensures exact { OnOk result (frame.new ≡ frame_of (word_under images.now) (On new.now)) }
+    ensures kept { IfOk result (λ count. take count frame.new ≡ take count frame.old) }
     ensures unchanged { OnErr result (frame.new ≡ frame.old) }
 {
-    // Read for their ranges alone.
-    let _width = new.mode.hdisplay;
-    let _height = new.mode.vdisplay;
-    let changed = changes(alloc, old.layers.as_slice(), new.layers.as_slice())?;
+    let width = usize::from(new.mode.hdisplay);
+    let height = usize::from(new.mode.vdisplay);
     let parts = parts_of(alloc, new, images)?;
+    if is_same_table(&old.gamma, &new.gamma) {
+        let changed = changes(alloc, old.layers.as_slice(), new.layers.as_slice())?;
+        draw_changed(alloc, frame, &parts, new, changed.as_slice());
+        Ok(3 * width * first_row(changed.as_slice(), height))
+    } else {
+        draw_each(alloc, frame, &parts, new);
+        Ok(0)
+    }
+}
+
+/// Draws each pixel of a frame of a picture's mode.
+fn draw_each(alloc: Global, frame: &mut Frame, parts: &[Part], shown: &Shown)
+    requires parts { All IsPart parts.now }
+    requires long { length frame.old ≡ shown.now.mode.vdisplay * (shown.now.mode.hdisplay * 3) }
+    ensures { (before : ℕ → ℕ → Colour)
+        → frame.old ≡ canvas shown.now.mode.hdisplay shown.now.mode.vdisplay before
+        → frame.new ≡ canvas shown.now.mode.hdisplay shown.now.mode.vdisplay
+        (λ x y. through shown.now.gamma (parts_over x y black parts.now)) }
+{
+    let width = usize::from(shown.mode.hdisplay);
+    let height = usize::from(shown.mode.vdisplay);
+    let mut bytes = mem::replace(frame, Seq::new(alloc)).into_vec();
+    draw_whole(parts, &shown.gamma, width, height, bytes.as_mut_slice());
+    *frame = Seq::from_vec(bytes);
+}
+
+/// Draws the pixels that some layers cover, in a frame of a picture's mode.
+fn draw_changed(alloc: Global, frame: &mut Frame, parts: &[Part], shown: &Shown, changed: &[Layer])
+    requires parts { All IsPart parts.now }
+    requires changed { All (FitsMode shown.now.mode) changed.now }
+    requires long { length frame.old ≡ shown.now.mode.vdisplay * (shown.now.mode.hdisplay * 3) }
+    requires narrow { shown.now.mode.hdisplay < 65536 }
+    requires low { shown.now.mode.vdisplay < 65536 }
+    ensures { (before : ℕ → ℕ → Colour)
+        → frame.old ≡ canvas shown.now.mode.hdisplay shown.now.mode.vdisplay before
+        → frame.new ≡ canvas shown.now.mode.hdisplay shown.now.mode.vdisplay
+        (drawn (covered_by changed.now)
+        (λ x y. through shown.now.gamma (parts_over x y black parts.now)) before) }
+{
     let mut bytes = mem::replace(frame, Seq::new(alloc)).into_vec();
     draw_layers(
-        &parts,
-        &new.gamma,
-        &new.mode,
-        changed.as_slice(),
+        parts,
+        &shown.gamma,
+        &shown.mode,
+        changed,
         bytes.as_mut_slice(),
     );
     *frame = Seq::from_vec(bytes);
-    Ok(())
 }
 
 /// Draws the pixels that some layers cover, in a frame of a mode.
@@ -137,9 +201,11 @@ fn draw_layers(
     requires narrow { mode.now.hdisplay < 65536 }
     requires low { mode.now.vdisplay < 65536 }
     requires long { length bytes.old ≡ mode.now.vdisplay * (mode.now.hdisplay * 3) }
-    ensures { (before : ℕ → ℕ → Colour) → bytes.old ≡ canvas mode.now.hdisplay mode.now.vdisplay before
+    ensures { (before : ℕ → ℕ → Colour)
+        → bytes.old ≡ canvas mode.now.hdisplay mode.now.vdisplay before
         → bytes.new ≡ canvas mode.now.hdisplay mode.now.vdisplay
-        (drawn (covered_by layers.now) (λ x y. through gamma.now (parts_over x y black parts.now)) before) }
+        (drawn (covered_by layers.now)
+        (λ x y. through gamma.now (parts_over x y black parts.now)) before) }
 {
     for layer in layers {
         draw_layer(parts, gamma, mode, layer, bytes);
@@ -153,11 +219,38 @@ fn draw_layer(parts: &[Part], gamma: &Option<Gamma>, mode: &Mode, layer: &Layer,
     requires narrow { mode.now.hdisplay < 65536 }
     requires low { mode.now.vdisplay < 65536 }
     requires long { length bytes.old ≡ mode.now.vdisplay * (mode.now.hdisplay * 3) }
-    ensures { (before : ℕ → ℕ → Colour) → bytes.old ≡ canvas mode.now.hdisplay mode.now.vdisplay before
+    ensures { (before : ℕ → ℕ → Colour)
+        → bytes.old ≡ canvas mode.now.hdisplay mode.now.vdisplay before
         → bytes.new ≡ canvas mode.now.hdisplay mode.now.vdisplay
-        (drawn (is_covered layer.now.visible) (λ x y. through gamma.now (parts_over x y black parts.now)) before) }
+        (drawn (is_covered layer.now.visible)
+        (λ x y. through gamma.now (parts_over x y black parts.now)) before) }
 {
     if let Some(area) = area_of(layer) {
         draw_area(parts, gamma, usize::from(mode.hdisplay), &area, bytes);
+    }
+}
+
+/// The first row that one of some layers covers, in a mode of so many rows; their number where none covers any.
+fn first_row(layers: &[Layer], height: usize) -> usize
+    requires { (m : Mode) × All (FitsMode m) layers.now }
+    ensures within { result ≤ height }
+    ensures above { (x y : ℕ) → y < result → covered_by layers.now x y ≡ false }
+{
+    let mut first = height;
+    for layer in layers {
+        first = least_row(first, layer);
+    }
+    first
+}
+
+/// The lesser of a row and the first one that a layer covers.
+fn least_row(row: usize, layer: &Layer) -> usize
+    requires { (m : Mode) × FitsMode m layer.now }
+    ensures within { result ≤ row }
+    ensures above { (x y : ℕ) → y < result → is_covered layer.now.visible x y ≡ false }
+{
+    match area_of(layer) {
+        Some(area) => row.min(area.top),
+        None => row,
     }
 }

@@ -153,7 +153,8 @@ fn put_part(
     requires green { length green.old ≡ length red.old }
     requires blue { length blue.old ≡ length red.old }
     ensures { (x : ℕ) → x < length red.old → colour_at red.new green.new blue.new x
-        ≡ mixed part.now.layer (colour_at red.old green.old blue.old x) (part_colour part.now (start + x) y) }
+        ≡ mixed part.now.layer (colour_at red.old green.old blue.old x)
+        (part_colour part.now (start + x) y) }
 {
     let from = part.left.max(start);
     let end = (part.left + part.width).min(start + red.len());

@@ -1,160 +1,15 @@
 //! What no clause says: scaled layers, sources that begin between pixels, and tables of colour values, worked out by hand.
-ghost use Rattle.std.specs.Prelude.{◌≡◌, ◌≤◌, All, length, true};
-ghost use Rattle.kms_compose.specs.Example.{IsDestination, IsOfTest, IsSource, MayShow};
-
 use super::*;
-use kms_geom::{clip, fits_source, is_scaled_little};
-use kms_model::{FbInfo, Format, Gamma, Image, Layer, Layers, Mode, Picture, Rect, Seq, Shown};
+use crate::fixtures::{PIXEL, Place, image, mode, opaque, picture, rect};
+use kms_model::{Format, Gamma, Mode, Rect, Seq};
 use std::alloc::Global;
 use std::process::Abort;
 use std::test::Fail;
 
-/// One pixel in 16.16 fixed point.
-const PIXEL: i64 = 65536;
-
 /// Two pixels, a pixel each of the bytes `abc` and `foo`.
 const TWO: [u32; 2] = [0x0061_6263, 0x0066_6f6f];
 
-/// A mode of this size.
-fn mode(w: u16, h: u16) -> Mode {
-    Mode {
-        clock: 1,
-        hdisplay: w,
-        hsync_start: w,
-        hsync_end: w,
-        htotal: w,
-        hskew: 0,
-        vdisplay: h,
-        vsync_start: h,
-        vsync_end: h,
-        vtotal: h,
-        vscan: 0,
-        vrefresh: 60,
-        flags: 0,
-        kind: 0,
-        name: [0; 32],
-    }
-}
-
-/// A rectangle.
-fn rect(x: i64, y: i64, w: i64, h: i64) -> Rect
-    ensures { result ≡ record { x = x; y = y; w = w; h = h } }
-{
-    Rect { x, y, w, h }
-}
-
-/// Where a layer is taken from and shown, and the alpha of its plane.
-#[derive(Clone, Copy)]
-struct Place {
-    src: Rect,
-    dst: Rect,
-    alpha: u32,
-}
-
-/// An opaque layer.
-fn opaque(src: Rect, dst: Rect) -> Place {
-    Place {
-        src,
-        dst,
-        alpha: 65535,
-    }
-}
-
-/// Whether the numbers of a source are in their ranges.
-fn is_source(src: &Rect) -> bool
-    ensures { result ≡ true → IsSource src.now }
-{
-    if src.x < 0 || src.y < 0 {
-        return false;
-    }
-    if src.w < 0 || src.h < 0 {
-        return false;
-    }
-    if src.x > 4294967295 || src.y > 4294967295 {
-        return false;
-    }
-    if src.w > 4294967295 || src.h > 4294967295 {
-        return false;
-    }
-    true
-}
-
-/// Whether the numbers of a destination are in their ranges.
-fn is_destination(dst: &Rect) -> bool
-    ensures { result ≡ true → IsDestination dst.now }
-{
-    if dst.x < -2147483647 || dst.y < -2147483647 {
-        return false;
-    }
-    if dst.w < 0 || dst.h < 0 {
-        return false;
-    }
-    if dst.x > 2147483647 || dst.y > 2147483647 {
-        return false;
-    }
-    if dst.w > 2147483647 || dst.h > 2147483647 {
-        return false;
-    }
-    true
-}
-
-/// Whether a layer may be shown, of a framebuffer of this size.
-fn may_show(src: &Rect, dst: &Rect, width: u32, height: u32) -> bool
-    ensures { result ≡ true → MayShow src.now dst.now width height }
-{
-    if !is_source(src) {
-        return false;
-    }
-    if !is_destination(dst) {
-        return false;
-    }
-    if !is_scaled_little(src.w, dst.w) {
-        return false;
-    }
-    if !is_scaled_little(src.h, dst.h) {
-        return false;
-    }
-    fits_source(*src, width, height)
-}
-
-/// A layer of the framebuffer 1000, which has this size and the format XR24.
-fn layer(mode: &Mode, width: u32, height: u32, place: &Place) -> Layer
-    requires shown { MayShow place.now.src place.now.dst width height }
-    requires alpha { place.now.alpha ≤ 65535 }
-    ensures { IsOfTest mode.now width height result }
-{
-    let area = rect(0, 0, i64::from(mode.hdisplay), i64::from(mode.vdisplay));
-    Layer {
-        plane: 200,
-        fb: FbInfo {
-            id: 1000,
-            width,
-            height,
-            format: Format::Xr24,
-        },
-        dst: place.dst,
-        src: place.src,
-        visible: clip(place.dst, area),
-        alpha: place.alpha,
-        blend: 0,
-    }
-}
-
-/// The layers at some places of one framebuffer, from the lowest; the test ends where one may not be shown.
-fn layers(rt: &impl Abort, mode: &Mode, width: u32, height: u32, places: &[Place]) -> Layers
-    requires { length places.now ≤ 16 }
-    ensures { All (IsOfTest mode.now width height) result }
-{
-    let mut all = Layers::new();
-    for place in places {
-        assert!(rt; place.alpha <= 65535);
-        assert!(rt; may_show(&place.src, &place.dst, width, height));
-        all.push(layer(mode, width, height, place));
-    }
-    all
-}
-
-/// The frame of layers of one framebuffer, through a table.
+/// The frame of layers of the framebuffer 1000, which has this size and these words, through a table.
 fn composed(
     rt: &impl Abort,
     alloc: Global,
@@ -162,32 +17,14 @@ fn composed(
     fb: (u32, u32),
     places: &[Place],
     words: &[u32],
-) -> Result<Vec<u8>, Fail>
-    requires { length places.now ≤ 16 }
-{
+) -> Result<Vec<u8>, Fail> {
     let (mode, gamma) = shown;
-    let (width, height) = fb;
-    assert!(rt; width <= 65536);
-    assert!(rt; height <= 65536);
-    assert!(rt; words.len() == width as usize * height as usize);
     let mut images = Seq::new(alloc);
-    images.push(FbImage {
-        fb: 1000,
-        image: Image {
-            width,
-            height,
-            format: Format::Xr24,
-            words,
-        },
-    })?;
-    let picture = Picture::On(Shown {
-        mode,
-        conn: 300,
-        gamma,
-        layers: layers(rt, &mode, width, height, places),
-    });
+    images.push(image(1000, fb, Format::Xr24, words))?;
+    let picture = picture(rt, mode, gamma, &images, places);
     Ok(frame(alloc, &picture, &images)?.into_vec())
 }
+
 /// One layer of a framebuffer in a mode of this size, and the blue of each pixel that it is to show.
 #[derive(Clone, Copy)]
 struct Case<'a> {

@@ -1,16 +1,12 @@
-ghost use Rattle.std.specs.Prelude.{◌≡◌, ◌≤◌, ◌+◌, ◌*◌, length, pos};
-ghost use Rattle.kms_model.specs.Frames.Images.{FitsMode};
-ghost use Rattle.kms_model.specs.Frames.Rectangles.{IsNear};
-
+//! What no clause says: frames of layers that are not scaled, worked out by hand.
 use super::*;
-use kms_geom::clip;
-use kms_model::{
-    FbInfo, Format, Image, Kind, Layer, Layers, Mode, NoMemory, ObjId, Picture, Rect, Seq, Shown,
-};
+use crate::fixtures::{PIXEL, Place, image, mode, picture, rect};
+use kms_model::{Format, Picture, Seq};
 use std::alloc::Global;
+use std::process::Abort;
 use std::test::Fail;
 
-/// A plane with its framebuffer's words.
+/// A layer that is not scaled, with its framebuffer's size and words.
 #[derive(Clone, Copy)]
 struct Plane<'a> {
     format: Format,
@@ -18,174 +14,59 @@ struct Plane<'a> {
     fb_height: u32,
     words: &'a [u32],
     /// The first pixel shown of the framebuffer.
-    column: u32,
-    line: u32,
+    column: u16,
+    line: u16,
     /// Where it is shown, and in which size.
-    x: i64,
-    y: i64,
-    w: u32,
-    h: u32,
+    x: i32,
+    y: i32,
+    w: u16,
+    h: u16,
     alpha: u32,
     blend: u32,
-    ghost filled: { length words.now ≡ fb_width * fb_height },
-    ghost across: { column + w ≤ fb_width },
-    ghost down: { line + h ≤ fb_height },
-    ghost narrow: { w ≤ 65535 },
-    ghost low: { h ≤ 65535 },
-    ghost near_x: { IsNear x },
-    ghost near_y: { IsNear y },
-    ghost is_alpha: { alpha ≤ 65535 },
-    ghost is_blend: { blend ≤ 2 },
 }
 
-/// A mode of this size.
-fn mode(w: u16, h: u16) -> Mode
-    ensures width { result.hdisplay ≡ w }
-    ensures height { result.vdisplay ≡ h }
-{
-    Mode {
-        clock: 1,
-        hdisplay: w,
-        hsync_start: w,
-        hsync_end: w,
-        htotal: w,
-        hskew: 0,
-        vdisplay: h,
-        vsync_start: h,
-        vsync_end: h,
-        vtotal: h,
-        vscan: 0,
-        vrefresh: 60,
-        flags: 0,
-        kind: 0,
-        name: [0; 32],
-    }
-}
-
-/// The part of its framebuffer that a plane shows, in 16.16 fixed point.
-fn source(plane: &Plane) -> Rect
-    ensures { result ≡ record {
-      x = pos (65536 * plane.now.column);
-      y = pos (65536 * plane.now.line);
-      w = pos (65536 * plane.now.w);
-      h = pos (65536 * plane.now.h);
-    } }
-{
-    Rect {
-        x: 65536 * i64::from(plane.column),
-        y: 65536 * i64::from(plane.line),
-        w: 65536 * i64::from(plane.w),
-        h: 65536 * i64::from(plane.h),
-    }
-}
-
-/// Where a plane shows it.
-fn destination(plane: &Plane) -> Rect
-    ensures { result ≡ record {
-      x = plane.now.x;
-      y = plane.now.y;
-      w = pos plane.now.w;
-      h = pos plane.now.h;
-    } }
-{
-    Rect {
-        x: plane.x,
-        y: plane.y,
-        w: i64::from(plane.w),
-        h: i64::from(plane.h),
-    }
-}
-
-/// The layer of a plane.
-fn layer(mode: &Mode, id: u32, plane: &Plane) -> Layer
-    ensures placed { FitsMode mode.now result }
-    ensures fb { result.fb ≡ record {
-      id = id;
-      width = plane.now.fb_width;
-      height = plane.now.fb_height;
-      format = plane.now.format;
-    } }
-{
-    let dst = destination(plane);
-    let area = Rect {
-        x: 0,
-        y: 0,
-        w: i64::from(mode.hdisplay),
-        h: i64::from(mode.vdisplay),
-    };
-    Layer {
-        plane: ObjId::of(Kind::Plane, 0).0,
-        fb: FbInfo {
-            id,
-            width: plane.fb_width,
-            height: plane.fb_height,
-            format: plane.format,
-        },
-        dst,
-        src: source(plane),
-        visible: clip(dst, area),
+/// The place of a plane's layer, which shows the framebuffer of this id.
+fn place(fb: u32, plane: &Plane) -> Place {
+    let w = i64::from(plane.w);
+    let h = i64::from(plane.h);
+    let column = PIXEL * i64::from(plane.column);
+    let line = PIXEL * i64::from(plane.line);
+    Place {
+        fb,
+        src: rect(column, line, PIXEL * w, PIXEL * h),
+        dst: rect(i64::from(plane.x), i64::from(plane.y), w, h),
         alpha: plane.alpha,
         blend: plane.blend,
     }
 }
 
 /// The image of a plane's framebuffer.
-fn image<'a>(id: u32, plane: &Plane<'a>) -> FbImage<'a>
-    ensures { result ≡ record {
-      fb = id;
-      image = record {
-        width = plane.now.fb_width;
-        height = plane.now.fb_height;
-        format = plane.now.format;
-        words = plane.now.words;
-      };
-    } }
-{
-    FbImage {
-        fb: id,
-        image: Image {
-            width: plane.fb_width,
-            height: plane.fb_height,
-            format: plane.format,
-            words: plane.words,
-        },
-    }
+fn image_of_plane<'a>(fb: u32, plane: &Plane<'a>) -> FbImage<'a> {
+    let size = (plane.fb_width, plane.fb_height);
+    image(fb, size, plane.format, plane.words)
 }
 
 /// The frame of two planes in a mode of this size.
 fn two_planes(
+    rt: &impl Abort,
     alloc: Global,
     w: u16,
     h: u16,
     lower: &Plane,
     upper: &Plane,
-) -> Result<Vec<u8>, NoMemory> {
-    let mode = mode(w, h);
-    let mut layers = Layers::new();
-    layers.push(layer(&mode, 1000, lower));
-    layers.push(layer(&mode, 1001, upper));
-    let mut images = Seq::new(alloc);
-    images.push(image(1000, lower))?;
-    images.push(image(1001, upper))?;
-    let picture = Picture::On(Shown {
-        mode,
-        conn: ObjId::of(Kind::Conn, 0).0,
-        gamma: None,
-        layers,
-    });
-    let frame = frame(alloc, &picture, &images)?;
-    Ok(frame.into_vec())
+) -> Result<Vec<u8>, Fail> {
+    let both = [image_of_plane(1000, lower), image_of_plane(1001, upper)];
+    let images = Seq::from_vec(Vec::from_array(alloc, both)?);
+    let places = [place(1000, lower), place(1001, upper)];
+    let picture = picture(rt, mode(w, h), None, &images, &places);
+    Ok(frame(alloc, &picture, &images)?.into_vec())
 }
 
 #[test]
 fn no_plane_shows_black(rt: HostRuntime) -> Result<(), Fail> {
-    let picture = Picture::On(Shown {
-        mode: mode(2, 1),
-        conn: ObjId::of(Kind::Conn, 0).0,
-        gamma: None,
-        layers: Layers::new(),
-    });
-    let frame = frame(rt.alloc(), &picture, &Seq::new(rt.alloc()))?;
+    let images = Seq::new(rt.alloc());
+    let picture = picture(&rt, mode(2, 1), None, &images, &[]);
+    let frame = frame(rt.alloc(), &picture, &images)?;
     assert_eq!(rt; frame.as_slice(), [0, 0, 0, 0, 0, 0].as_slice());
     Ok(())
 }
@@ -198,11 +79,7 @@ fn off_shows_nothing(rt: HostRuntime) -> Result<(), Fail> {
 }
 
 /// A plane of one pixel in the upper left corner.
-fn dot<'a>(format: Format, words: &'a [u32], alpha: u32, blend: u32) -> Plane<'a>
-    requires one { length words.now ≡ 1 }
-    requires alpha { alpha ≤ 65535 }
-    requires blend { blend ≤ 2 }
-{
+fn dot<'a>(format: Format, words: &'a [u32], alpha: u32, blend: u32) -> Plane<'a> {
     Plane {
         format,
         fb_width: 1,
@@ -224,9 +101,9 @@ fn dot<'a>(format: Format, words: &'a [u32], alpha: u32, blend: u32) -> Plane<'a
 fn the_later_layer_lies_above(rt: HostRuntime) -> Result<(), Fail> {
     let red = dot(Format::Xr24, &[0x00ff0000], 65535, 0);
     let blue = dot(Format::Xr24, &[0x000000ff], 32768, 0);
-    let frame = two_planes(rt.alloc(), 1, 1, &red, &blue)?;
+    let frame = two_planes(&rt, rt.alloc(), 1, 1, &red, &blue)?;
     assert_eq!(rt; frame.as_slice(), [0x7f, 0x00, 0x80].as_slice());
-    let frame = two_planes(rt.alloc(), 1, 1, &blue, &red)?;
+    let frame = two_planes(&rt, rt.alloc(), 1, 1, &blue, &red)?;
     assert_eq!(rt; frame.as_slice(), [0xff, 0x00, 0x00].as_slice());
     Ok(())
 }
@@ -253,9 +130,8 @@ fn each_blend_mode_shows_at_each_alpha(rt: HostRuntime) -> Result<(), Fail> {
         (65535, 2, [64, 32, 16]),
     ];
     for (alpha, blend, pixel) in shown {
-        assert!(rt; alpha <= 65535 && blend <= 2);
         let upper = dot(Format::Ar24, &[0x80402010], alpha, blend);
-        let frame = two_planes(rt.alloc(), 1, 1, &lower, &upper)?;
+        let frame = two_planes(&rt, rt.alloc(), 1, 1, &lower, &upper)?;
         assert_eq!(rt;
             frame.as_slice(),
             pixel.as_slice(),
@@ -270,10 +146,10 @@ fn each_blend_mode_shows_at_each_alpha(rt: HostRuntime) -> Result<(), Fail> {
 fn the_last_step_of_alpha_shows(rt: HostRuntime) -> Result<(), Fail> {
     let black = dot(Format::Xr24, &[0], 65535, 0);
     let opaque = dot(Format::Ar24, &[0xfdbfbfbf], 65535, 1);
-    let frame = two_planes(rt.alloc(), 1, 1, &black, &opaque)?;
+    let frame = two_planes(&rt, rt.alloc(), 1, 1, &black, &opaque)?;
     assert_eq!(rt; frame.as_slice(), [190, 190, 190].as_slice());
     let below = dot(Format::Ar24, &[0xfdbfbfbf], 65534, 1);
-    let frame = two_planes(rt.alloc(), 1, 1, &black, &below)?;
+    let frame = two_planes(&rt, rt.alloc(), 1, 1, &black, &below)?;
     assert_eq!(rt; frame.as_slice(), [189, 189, 189].as_slice());
     Ok(())
 }
@@ -284,14 +160,14 @@ fn formats_without_alpha_are_opaque(rt: HostRuntime) -> Result<(), Fail> {
     let lower = dot(Format::Xr24, &[0x12345678], 65535, 1);
     let dark = dot(Format::Rg16, &[0x0821], 65535, 1);
     let red = dot(Format::Rg16, &[0xf800], 32768, 1);
-    let frame = two_planes(rt.alloc(), 1, 1, &dark, &lower)?;
+    let frame = two_planes(&rt, rt.alloc(), 1, 1, &dark, &lower)?;
     assert_eq!(rt; frame.as_slice(), [0x34, 0x56, 0x78].as_slice());
-    let frame = two_planes(rt.alloc(), 1, 1, &lower, &dark)?;
+    let frame = two_planes(&rt, rt.alloc(), 1, 1, &lower, &dark)?;
     assert_eq!(rt; frame.as_slice(), [8, 4, 8].as_slice());
-    let frame = two_planes(rt.alloc(), 1, 1, &dark, &red)?;
+    let frame = two_planes(&rt, rt.alloc(), 1, 1, &dark, &red)?;
     assert_eq!(rt; frame.as_slice(), [132, 2, 4].as_slice());
     let bright = dot(Format::Rg16, &[0xf800], 65535, 1);
-    let frame = two_planes(rt.alloc(), 1, 1, &lower, &bright)?;
+    let frame = two_planes(&rt, rt.alloc(), 1, 1, &lower, &bright)?;
     assert_eq!(rt; frame.as_slice(), [255, 0, 0].as_slice());
     Ok(())
 }
@@ -327,7 +203,7 @@ fn a_plane_is_cut_at_the_edges_of_the_mode(rt: HostRuntime) -> Result<(), Fail> 
         alpha: 65535,
         blend: 0,
     };
-    let frame = two_planes(rt.alloc(), 2, 2, &moved, &part)?;
+    let frame = two_planes(&rt, rt.alloc(), 2, 2, &moved, &part)?;
     assert_eq!(rt;
         frame.as_slice(),
         [10, 11, 12, 0, 0, 0, 0, 0, 0, 17, 18, 19].as_slice()
@@ -365,20 +241,16 @@ fn a_plane_outside_of_the_mode_shows_nothing(rt: HostRuntime) -> Result<(), Fail
         alpha: 65535,
         blend: 0,
     };
-    let frame = two_planes(rt.alloc(), 2, 1, &right, &above)?;
+    let frame = two_planes(&rt, rt.alloc(), 2, 1, &right, &above)?;
     assert_eq!(rt; frame.as_slice(), [0, 0, 0, 0, 0, 0].as_slice());
     Ok(())
 }
 
 #[test]
 fn the_largest_mode_has_50331648_bytes(rt: HostRuntime) -> Result<(), Fail> {
-    let picture = Picture::On(Shown {
-        mode: mode(4096, 4096),
-        conn: ObjId::of(Kind::Conn, 0).0,
-        gamma: None,
-        layers: Layers::new(),
-    });
-    let frame = frame(rt.alloc(), &picture, &Seq::new(rt.alloc()))?;
+    let images = Seq::new(rt.alloc());
+    let picture = picture(&rt, mode(4096, 4096), None, &images, &[]);
+    let frame = frame(rt.alloc(), &picture, &images)?;
     assert_eq!(rt; frame.len(), 50331648);
     assert_eq!(rt; frame.get(50331647), Some(&0));
     Ok(())

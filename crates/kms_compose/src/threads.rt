@@ -9,7 +9,7 @@ ghost use Rattle.kms_compose.specs.Images.{AreImagesIn, CanShow, IsShowable, wor
 ghost use Rattle.kms_compose.specs.Parts.{IsPart, part_pixel, parts_over};
 
 use crate::drawing::draw_row;
-use crate::frames::{Frame, parts_of};
+use crate::frames::{Frame, blank, parts_of};
 use crate::images::{FbImage, Images};
 use crate::parts::Part;
 use kms_model::{Gamma, NoMemory, Picture, Seq, Shown};
@@ -72,7 +72,7 @@ fn rows_bytes(
     ensures { IfOk result (λ bytes. bytes.items
         ≡ canvas width height (λ x y. through gamma.now (parts_over x y black parts.now))) }
 {
-    let mut bytes = vec![in alloc; 0u8; 3 * width * height]?;
+    let mut bytes = blank(alloc, width, height)?;
     draw_rows(rt, parts, gamma, width, bytes.as_mut_slice());
     Ok(bytes)
 }
@@ -89,7 +89,8 @@ fn draw_rows(
     requires narrow { width < 65536 }
     requires whole { (height : ℕ) × (length bytes.old ≡ height * (width * 3)) }
     ensures { (height : ℕ) → length bytes.old ≡ height * (width * 3)
-        → bytes.new ≡ canvas width height (λ x y. through gamma.now (parts_over x y black parts.now)) }
+        → bytes.new
+        ≡ canvas width height (λ x y. through gamma.now (parts_over x y black parts.now)) }
 {
     if width == 0 {
         return;
@@ -99,8 +100,11 @@ fn draw_rows(
         bytes,
         3 * width,
         |start: usize, row: &mut [u8]|
-            requires { All IsPart parts.now × (0 < width) × (width < 65536) × (length row.old ≡ 3 * width) }
-            ensures { row.new ≡ flat_map (part_pixel gamma.entry.now parts.entry.now (start / (3 * width))) (range_with_len 0 width) }
+            requires { All IsPart parts.now × (0 < width) × (width < 65536)
+                × (length row.old ≡ 3 * width) }
+            ensures { row.new
+                ≡ flat_map (part_pixel gamma.entry.now parts.entry.now (start / (3 * width)))
+                (range_with_len 0 width) }
         {
             let y = start / (3 * width);
             draw_row(parts, gamma, y, width, row);

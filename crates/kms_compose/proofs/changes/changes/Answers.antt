@@ -1,45 +1,31 @@
-use Rattle.std.proofs.Common.{◌≡◌, List, ◌++◌, drop, sym, ap, subst, ◌∙◌, arith, rules}
-use Rattle.std.specs.Prelude.{All}
-use Rattle.kms_model.specs.declared.pictures.Layer.{Layer}
-use Rattle.kms_model.specs.Frames.Images.{FitsMode}
-use Rattle.kms_compose.specs.Changes.{covered_by}
-use Rattle.kms_compose.proofs.Differing.{came_more, left_more, rests_agree, rests_fit, same_more, with_rests}
+use Rattle.std.proofs.Common.{arith, rules}
+use Rattle.kms_compose.proofs.Differing.{came_more, left_more, rests_listed, same_more}
 use Rattle.kms_compose.proofs.changes.changes.Goals as goal
 
-pub loop-left-preserved-then-is_same : goal.loop-left-preserved-then-is_same
-loop-left-preserved-then-is_same c = record {
-  apart = same_more c.args.old.now c.args.new.now c.loop-left.changed.items c.loop-left.left c.loop-left.came c.requires c.loop-left.invariant.apart _
-      (omega (arith, c.loop-left-test.true)) (omega (arith, c.if-came-new.true)) (c.is_same.ensures (search rules));
+pub loop-left-preserved-then-is_same_layer : goal.loop-left-preserved-then-is_same_layer
+loop-left-preserved-then-is_same_layer c = record {
+  apart = same_more c.args.old.now c.args.new.now c.loop-left.changed.items c.loop-left.left c.loop-left.came c.loop-left.invariant.apart _
+      (omega (arith, c.loop-left-test.true)) (omega (arith, c.if-came-new.true)) (c.is_same_layer.ensures.0 (search rules));
   left_in = omega (arith, c.loop-left-test.true);
   came_in = omega (arith, c.if-came-new.true);
 }
 
 pub loop-left-preserved-then-is_among : goal.loop-left-preserved-then-is_among
 loop-left-preserved-then-is_among c = record {
-  apart = rw c.in_ok-push.ensures.items
-      (came_more c.args.old.now c.args.new.now c.loop-left.changed.items c.loop-left.left c.loop-left.came c.requires c.loop-left.invariant.apart _ (omega (arith, c.if-came-new.true)));
+  apart = came_more c.args.old.now c.args.new.now c.loop-left.changed.items c.loop-left.left c.loop-left.came c.loop-left.invariant.apart c.list.new.listed.items _
+      (omega (arith, c.if-came-new.true)) c.in_ok-list.ensures;
   left_in = c.loop-left.invariant.left_in;
   came_in = omega (arith, c.if-came-new.true);
 }
 
 pub loop-left-preserved : goal.loop-left-preserved
 loop-left-preserved c = record {
-  apart = rw c.in_ok-push-2.ensures.items
-      (left_more c.args.old.now c.args.new.now c.loop-left.changed.items c.loop-left.left c.loop-left.came c.requires c.loop-left.invariant.apart _ (omega (arith, c.loop-left-test.true)));
+  apart = left_more c.args.old.now c.args.new.now c.loop-left.changed.items c.loop-left.left c.loop-left.came c.loop-left.invariant.apart c.list-else-is_among.new.listed.items _
+      (omega (arith, c.loop-left-test.true)) c.in_ok-list-2.ensures;
   left_in = omega (arith, c.loop-left-test.true);
   came_in = c.loop-left.invariant.came_in;
 }
 
-pub returns-clause-agree : goal.returns-clause-agree
-returns-clause-agree c = λ words x y under off.
-    let all : c.extend_from_slice-2.new.self.items ≡ (c.loop-left.changed.items ++ drop c.loop-left.left c.args.old.now) ++ drop c.loop-left.came c.args.new.now =
-    with_rests c.loop-left.changed.items c.args.old.now c.args.new.now _ _ c.loop-left.left c.loop-left.came c.in_ok-extend_from_slice.ensures.items c.in_ok-extend_from_slice-2.ensures.items in
-    rests_agree c.args.old.now c.args.new.now c.loop-left.changed.items c.loop-left.left c.loop-left.came c.requires c.loop-left.invariant.apart words x y under
-    (sym (ap (λ (ls : List Layer). covered_by ls x y) all) ∙ off)
-
-pub returns-clause-fit : goal.returns-clause-fit
-returns-clause-fit c = λ m was is.
-    let all : c.extend_from_slice-2.new.self.items ≡ (c.loop-left.changed.items ++ drop c.loop-left.left c.args.old.now) ++ drop c.loop-left.came c.args.new.now =
-    with_rests c.loop-left.changed.items c.args.old.now c.args.new.now _ _ c.loop-left.left c.loop-left.came c.in_ok-extend_from_slice.ensures.items c.in_ok-extend_from_slice-2.ensures.items in
-    subst (λ (ls : List Layer). All (FitsMode m) ls) (sym all)
-    (rests_fit c.args.old.now c.args.new.now c.loop-left.changed.items c.loop-left.left c.loop-left.came c.requires c.loop-left.invariant.apart m was is)
+pub returns : goal.returns
+returns c = rests_listed c.args.old.now c.args.new.now c.loop-left.changed.items c.loop-left.left c.loop-left.came c.loop-left.invariant.apart c.list_all.new.listed.items c.list_all-2.new.listed.items
+    (search rules) (search rules)
