@@ -1,6 +1,6 @@
 -- Images to which more are added, and what is kept over images and over the things of a machine.
-use Rattle.std.proofs.Common.{◌≡◌, ◌⊎◌, inl, inr, ℕ, Bool, true, false, cond, eqb, List, [], ◌∷◌, ◌++◌, length, Option, Some, None, Result, Ok, Err, refl, sym, ap, ◌∙◌, subst}
-use Rattle.std.specs.Prelude.{All, IfOk}
+use Rattle.std.proofs.Common.{◌≡◌, ◌⊎◌, inl, inr, ℕ, Bool, true, false, cond, eqb, List, [], ◌∷◌, ◌++◌, Option, Some, Result, Ok, Err, refl, sym, ap, ◌∙◌, subst}
+use Rattle.std.specs.Prelude.{IfOk}
 use Rattle.std.proofs.lemmas.Bool.{cond-true, cond-false, eqb-true}
 use Rattle.std.proofs.lemmas.List.Elements.{All-head, All-tail}
 use Rattle.kms_model.specs.declared.copying.NoMemory.{NoMemory}
@@ -77,12 +77,16 @@ can-be-shown things images (On p) are can = λ k d within.
 module _ (things : List Thing) (images : List FbImage) (are : AreImagesIn things images) where
   kept_over : (k : Kept) → CanShow images k.drawn.picture → IsKeptOf things k → IsKeptOver images k
   kept_over k can kept =
-      record { drawn = record { can = can; exact = kept.drawn.exact ∙ sym (frame_same things images k.drawn.picture can are) }; digest = kept.digest }
+      record { drawn = record { can = can; exact = kept.drawn.exact ∙ sym (frame_same things images k.drawn.picture can are); fronts = kept.drawn.fronts }; digest = kept.digest }
 
   kept_of : (k : Kept) → IsKeptOver images k → IsKeptOf things k
   kept_of k kept =
       record {
-        drawn = record { can = can-be-shown things images k.drawn.picture are kept.drawn.can; exact = kept.drawn.exact ∙ frame_same things images k.drawn.picture kept.drawn.can are };
+        drawn = record {
+          can = can-be-shown things images k.drawn.picture are kept.drawn.can;
+          exact = kept.drawn.exact ∙ frame_same things images k.drawn.picture kept.drawn.can are;
+          fronts = kept.drawn.fronts;
+        };
         digest = kept.digest;
       }
 

@@ -140,9 +140,9 @@ fn report_by<H: Hands>(
 /// frame, the events read by client, the framebuffers freed, how the history ended, and what the options ask for besides.
 /// Lines of one kind are in order of time, but for their clients and CRTCs.
 ///
-/// The only error is want of memory. The time is linear in the history, the frames and the text; besides the text there are
-/// two frames at a time. A picture that is one of the two that its CRTC showed last has its frame and its digest there; else
-/// what differs from one of these is drawn.
+/// The only error is want of memory. The time is linear in the history, the frames and the text. Besides the text there are two
+/// frames at a time, kept or being made, and no other. A picture that is one of the two that its CRTC showed last has its frame
+/// and its digest there; else what differs from one of these is drawn, and digested from the first difference on.
 pub fn report(
     alloc: Global,
     script: &Script,
@@ -156,8 +156,8 @@ pub fn report(
     report_by(&OneThread, alloc, script, core, options)
 }
 
-/// The same report, made by several threads that only compute: the first frame of a CRTC row by row in as many as there are
-/// processors, and two digests at a time.
+/// The same report, made by several threads that only compute: the first frame of a CRTC, and each of another size or with
+/// another table of colour values, row by row in two for each processor, up to 64, and two digests at a time.
 pub fn report_with<R: Threads + Sync>(
     rt: &R,
     alloc: Global,

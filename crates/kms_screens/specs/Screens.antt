@@ -1,5 +1,7 @@
 -- Frames that are kept, with their pictures and digests.
-use Rattle.std.specs.Prelude.{◌≡◌, ◌⊎◌, ℕ, List, Option}
+use Rattle.std.specs.Prelude.{◌≡◌, ◌<◌, ◌≤◌, ◌+◌, ◌*◌, ◌⊎◌, ℕ, List, length, take, slice_get, Option, Some}
+use Rattle.sha2.specs.declared.Sha256.{Sha256}
+use Rattle.sha2.specs.Hashers.{Holds256}
 use Rattle.sha2.specs.Sha256.{sha256}
 use Rattle.kms_model.specs.declared.pictures.Picture.{Picture}
 use Rattle.kms_model.specs.declared.worlds.Thing.{Thing}
@@ -7,14 +9,23 @@ use Rattle.kms_model.specs.Frames.FrameBytes.{frame_of, word_of}
 use Rattle.kms_model.specs.Frames.Shown.{EachCanBeShown}
 use Rattle.kms_compose.specs.Images.{CanShow, word_under}
 use Rattle.kms_compose.specs.declared.images.FbImage.{FbImage}
+use Rattle.kms_screens.specs.declared.fronts.Fronts.{Fronts}
 use Rattle.kms_screens.specs.declared.kept.Drawn.{Drawn}
 use Rattle.kms_screens.specs.declared.kept.Kept.{Kept}
 use Rattle.kms_screens.specs.declared.screen.Screen.{Screen}
 
--- A picture can be shown, and the frame beside it is its own, of these words of framebuffers.
+-- Of the states of a frame's digest the first holds the first step of the frame, and each other one holds a step more than the
+-- one before it.
+pub record AreFronts (f : Fronts) (frame : List ℕ) : Type 0 where
+  pub wide : 0 < f.step
+  pub fits : length f.states.items * f.step ≤ length frame
+  pub each : (k : ℕ) (s : Sha256) → slice_get f.states.items k ≡ Some s → Holds256 s (take ((k + 1) * f.step) frame)
+
+-- A picture can be shown, the frame beside it is its own, of these words of framebuffers, and so are the states of its digest.
 pub record IsDrawn (can_show : Picture → Type 0) (words : ℕ → ℕ → ℕ → Option ℕ) (d : Drawn) : Type 0 where
   pub can : can_show d.picture
   pub exact : d.frame ≡ frame_of words d.picture
+  pub fronts : AreFronts d.fronts d.frame
 
 -- the same with the frame's digest
 pub record IsKept (can_show : Picture → Type 0) (words : ℕ → ℕ → ℕ → Option ℕ) (k : Kept) : Type 0 where
@@ -50,8 +61,3 @@ IsOf p d = d.picture ≡ p
 -- a picture is one of the two
 abbrev pub Has : Screen → Picture → Type 0
 Has s p = (s.first.drawn.picture ≡ p) ⊎ (s.second.drawn.picture ≡ p)
-
--- a frame with its digest
-pub record IsHashed (d : Drawn) (k : Kept) : Type 0 where
-  pub own : k.drawn ≡ d
-  pub digest : k.digest ≡ sha256 d.frame

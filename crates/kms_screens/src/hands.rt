@@ -3,8 +3,10 @@ ghost use Rattle.std.specs.Prelude.{◌≡◌, IfOk};
 ghost use Rattle.sha2.specs.Sha256.{sha256};
 ghost use Rattle.kms_model.specs.Frames.FrameBytes.{frame_of};
 ghost use Rattle.kms_compose.specs.Images.{CanShow, word_under};
+ghost use Rattle.kms_screens.specs.Screens.{AreFronts};
 
-use crate::digests::{both_digests, digest_of};
+use crate::digests::{both_digests, digest_of_frame};
+use crate::fronts::Fronts;
 use kms_compose::{Frame, Images, frame, frame_rows};
 use kms_model::{NoMemory, Picture};
 use std::alloc::Global;
@@ -21,11 +23,22 @@ pub trait Hands {
         requires picture { CanShow images.now picture.now }
         ensures { IfOk result (λ bytes. bytes ≡ frame_of (word_under images.now) picture.now) };
 
-    /// The SHA-256 of each of two lists of bytes (FIPS 180-4).
-    fn digests(&self, one: &[u8], other: &[u8]) -> ([u8; 32], [u8; 32])
-        requires { can_work self.now }
+    /// The SHA-256 of each of two frames (FIPS 180-4). Each begins with the last of its own states that is there, and adds those
+    /// that are not.
+    fn digests(
+        &self,
+        one: &[u8],
+        fronts: &mut Fronts,
+        other: &[u8],
+        others: &mut Fronts,
+    ) -> ([u8; 32], [u8; 32])
+        requires hands { can_work self.now }
+        requires one { AreFronts fronts.old one.now }
+        requires other { AreFronts others.old other.now }
         ensures one { result.0 ≡ sha256 one.now }
-        ensures other { result.1 ≡ sha256 other.now };
+        ensures fronts { AreFronts fronts.new one.now }
+        ensures other { result.1 ≡ sha256 other.now }
+        ensures others { AreFronts others.new other.now };
 }
 
 /// One thread, which does one thing after the other.
@@ -41,12 +54,19 @@ impl Hands for OneThread {
         frame(alloc, picture, images)
     }
 
-    fn digests(&self, one: &[u8], other: &[u8]) -> ([u8; 32], [u8; 32]) {
-        (digest_of(one), digest_of(other))
+    fn digests(
+        &self,
+        one: &[u8],
+        fronts: &mut Fronts,
+        other: &[u8],
+        others: &mut Fronts,
+    ) -> ([u8; 32], [u8; 32]) {
+        let digest = digest_of_frame(one, fronts);
+        (digest, digest_of_frame(other, others))
     }
 }
 
-/// As many threads as there are processors for the rows of a frame, and two for two digests.
+/// Two threads for each processor, up to 64, for the rows of a frame, and two for two digests.
 #[derive(Drop)]
 pub struct SeveralThreads<'a, R> {
     /// Where the threads come from.
@@ -62,7 +82,13 @@ impl<'a, R: Threads + Sync> Hands for SeveralThreads<'a, R> {
         frame_rows(self.rt, alloc, picture, images)
     }
 
-    fn digests(&self, one: &[u8], other: &[u8]) -> ([u8; 32], [u8; 32]) {
-        both_digests(self.rt, one, other)
+    fn digests(
+        &self,
+        one: &[u8],
+        fronts: &mut Fronts,
+        other: &[u8],
+        others: &mut Fronts,
+    ) -> ([u8; 32], [u8; 32]) {
+        both_digests(self.rt, one, fronts, other, others)
     }
 }

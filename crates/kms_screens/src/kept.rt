@@ -3,9 +3,10 @@ ghost use Rattle.std.specs.Prelude.{◌≡◌, ◌⊎◌, ◌↔◌, IfOk, IsTru
 ghost use Rattle.kms_compose.specs.Images.{CanShow};
 ghost use Rattle.kms_screens.specs.Screens.{IsDrawnOver, IsOf};
 
+use crate::fronts::Fronts;
 use crate::hands::Hands;
-use kms_compose::{Frame, Images, recompose};
-use kms_model::{Gamma, Layer, Mode, NoMemory, Picture, Rect, Seq, Shown};
+use kms_compose::{Frame, Images, is_same_layer, recompose_kept};
+use kms_model::{Gamma, Layer, Mode, NoMemory, Picture, Seq, Shown};
 use std::alloc::Global;
 
 /// A picture with its frame.
@@ -15,6 +16,8 @@ pub struct Drawn {
     pub picture: Picture,
     /// Its frame: three bytes for each pixel, row by row; no byte where it is off.
     pub frame: Frame,
+    /// States of the frame's digest at places within it: those that are known.
+    pub fronts: Fronts,
 }
 
 /// A picture with its frame, and the frame's digest.
@@ -24,37 +27,6 @@ pub struct Kept {
     pub drawn: Drawn,
     /// The SHA-256 of the frame's bytes (FIPS 180-4).
     pub digest: [u8; 32],
-}
-
-/// Whether two rectangles are the same.
-fn is_same_rect(one: &Rect, other: &Rect) -> bool
-    ensures { IsTrue result ↔ (one.now ≡ other.now) }
-{
-    *one == *other
-}
-
-/// Whether two rectangles are the same, or both are missing.
-fn is_same_part(one: &Option<Rect>, other: &Option<Rect>) -> bool
-    ensures { IsTrue result ↔ (one.now ≡ other.now) }
-{
-    match (one, other) {
-        (None, None) => true,
-        (Some(one), Some(other)) => is_same_rect(one, other),
-        _ => false,
-    }
-}
-
-/// Whether two layers show the same in the same way.
-fn is_same_layer(one: &Layer, other: &Layer) -> bool
-    ensures { IsTrue result ↔ (one.now ≡ other.now) }
-{
-    one.plane == other.plane
-        && one.fb == other.fb
-        && one.alpha == other.alpha
-        && one.blend == other.blend
-        && is_same_rect(&one.dst, &other.dst)
-        && is_same_rect(&one.src, &other.src)
-        && is_same_part(&one.visible, &other.visible)
 }
 
 /// Whether layers, in their order, are the same.
@@ -107,17 +79,20 @@ pub fn is_same(one: &Picture, other: &Picture) -> bool
     }
 }
 
-/// Whether two pictures are on, in frames of one size.
-fn is_as_large(one: &Picture, other: &Picture) -> bool {
+/// Whether two pictures are on, in modes of one size and with one table of colour values, or none: then the frame of one is that
+/// of the other but for what layers cover that differ.
+fn is_same_size_and_table(one: &Picture, other: &Picture) -> bool {
     match (one, other) {
         (Picture::On(one), Picture::On(other)) => {
-            one.mode.hdisplay == other.mode.hdisplay && one.mode.vdisplay == other.mode.vdisplay
+            is_same_gamma(&one.gamma, &other.gamma)
+                && one.mode.hdisplay == other.mode.hdisplay
+                && one.mode.vdisplay == other.mode.vdisplay
         }
         _ => false,
     }
 }
 
-/// A frame, changed to that of another picture where these differ.
+/// A frame, changed to that of another picture where these differ. The states of its digest before the first change stay.
 fn changed(
     alloc: Global,
     drawn: Drawn,
@@ -131,11 +106,14 @@ fn changed(
     let Drawn {
         picture: old,
         mut frame,
+        mut fronts,
     } = drawn;
-    recompose(alloc, &mut frame, &old, picture, images)?;
+    let count = recompose_kept(alloc, &mut frame, &old, picture, images)?;
+    fronts.keep(count);
     Ok(Drawn {
         picture: *picture,
         frame,
+        fronts,
     })
 }
 
@@ -150,14 +128,16 @@ fn made<H: Hands>(
     requires picture { CanShow images.now picture.now }
     ensures { IfOk result (λ d. IsDrawnOver images.now d × IsOf picture.now d) }
 {
+    let frame = hands.frame(alloc, picture, images)?;
     Ok(Drawn {
         picture: *picture,
-        frame: hands.frame(alloc, picture, images)?,
+        fronts: Fronts::none(frame.len()),
+        frame,
     })
 }
 
-/// The frame of a picture. Where a frame of its size is at hand, only what differs is drawn; else the one at hand is given up
-/// first, and all is drawn.
+/// The frame of a picture. Where a frame of its size and its table of colour values is at hand, only what differs is drawn; else
+/// the one at hand is given up first, and all is drawn.
 pub fn redrawn<H: Hands>(
     hands: &H,
     alloc: Global,
@@ -170,7 +150,7 @@ pub fn redrawn<H: Hands>(
     requires can { CanShow images.now picture.now }
     ensures { IfOk result (λ d. IsDrawnOver images.now d × IsOf picture.now d) }
 {
-    if is_as_large(&drawn.picture, picture) {
+    if is_same_size_and_table(&drawn.picture, picture) {
         return changed(alloc, drawn, picture, images);
     }
     drop(drawn);
@@ -186,7 +166,8 @@ fn copied(alloc: Global, bytes: &[u8]) -> Result<Frame, NoMemory>
     Ok(Seq::from_vec(copy))
 }
 
-/// What is at hand for a picture, beside another frame: where only the other one has the picture's size, a copy of it.
+/// What is at hand for a picture, beside another frame: where only the other one has the picture's size and table of colour
+/// values, a copy of it, with the states of its digest that are known.
 pub fn at_hand(
     alloc: Global,
     drawn: Drawn,
@@ -195,12 +176,15 @@ pub fn at_hand(
 ) -> Result<Drawn, NoMemory>
     ensures { IfOk result (λ d. (d ≡ drawn) ⊎ (d ≡ beside.now)) }
 {
-    if is_as_large(&drawn.picture, picture) || !is_as_large(&beside.picture, picture) {
+    if is_same_size_and_table(&drawn.picture, picture)
+        || !is_same_size_and_table(&beside.picture, picture)
+    {
         return Ok(drawn);
     }
     drop(drawn);
     Ok(Drawn {
         picture: beside.picture,
         frame: copied(alloc, beside.frame.as_slice())?,
+        fronts: beside.fronts.copied()?,
     })
 }

@@ -2,11 +2,13 @@
 #![tactic(auto)]
 
 mod digests;
+mod fronts;
 mod hands;
 mod kept;
 mod screen;
 
 pub use digests::digest_of;
+pub use fronts::Fronts;
 pub use hands::{Hands, OneThread, SeveralThreads};
 pub use kept::{Drawn, Kept, is_same};
 pub use screen::Screen;

@@ -3,9 +3,10 @@ ghost use Rattle.std.specs.Prelude.{◌≡◌, ◌⊎◌, ◌↔◌, List, IfOk,
 ghost use Rattle.kms_model.specs.declared.worlds.Thing.{Thing};
 ghost use Rattle.kms_compose.specs.Images.{CanShow};
 ghost use Rattle.kms_compose.specs.declared.images.FbImage.{FbImage};
-ghost use Rattle.kms_screens.specs.Screens.{Has, IsHashed, IsKeptOf, IsKeptOver, StandsOf, StandsOver};
+ghost use Rattle.kms_screens.specs.Screens.{AreFronts, Has, IsDrawnOver, IsKeptOf, IsKeptOver, StandsOf, StandsOver};
 
-use crate::digests::digest_of;
+use crate::digests::{digest_of, digest_of_frame};
+use crate::fronts::Fronts;
 use crate::hands::Hands;
 use crate::kept::{Drawn, Kept, at_hand, is_same, redrawn};
 use kms_compose::Images;
@@ -30,6 +31,7 @@ fn off(alloc: Global) -> Kept
         drawn: Drawn {
             picture: Picture::Off,
             frame: Seq::new(alloc),
+            fronts: Fronts::none(0),
         },
         digest: digest_of(&[]),
     }
@@ -37,21 +39,42 @@ fn off(alloc: Global) -> Kept
 
 /// A frame with its digest.
 fn hashed(drawn: Drawn) -> Kept
-    ensures { IsHashed drawn result }
+    requires { AreFronts drawn.fronts drawn.frame }
+    ensures kept { (images : List FbImage) → IsDrawnOver images drawn → IsKeptOver images result }
+    ensures own { result.drawn.picture ≡ drawn.picture }
 {
+    let Drawn {
+        picture,
+        frame,
+        mut fronts,
+    } = drawn;
+    let digest = digest_of_frame(frame.as_slice(), &mut fronts);
     Kept {
-        digest: digest_of(drawn.frame.as_slice()),
-        drawn,
+        drawn: Drawn {
+            picture,
+            frame,
+            fronts,
+        },
+        digest,
     }
 }
 
 /// Two frames with their digests.
-fn both_hashed<H: Hands>(hands: &H, one: Drawn, other: Drawn) -> Screen
-    requires { H.can_work hands.now }
-    ensures first { IsHashed one result.first }
-    ensures second { IsHashed other result.second }
+fn both_hashed<H: Hands>(hands: &H, mut one: Drawn, mut other: Drawn) -> Screen
+    requires hands { H.can_work hands.now }
+    requires one { AreFronts one.fronts one.frame }
+    requires other { AreFronts other.fronts other.frame }
+    ensures kept { (images : List FbImage) → IsDrawnOver images one → IsDrawnOver images other
+        → StandsOver images result }
+    ensures first { result.first.drawn.picture ≡ one.picture }
+    ensures second { result.second.drawn.picture ≡ other.picture }
 {
-    let (digest, digest_of_other) = hands.digests(one.frame.as_slice(), other.frame.as_slice());
+    let (digest, digest_of_other) = hands.digests(
+        one.frame.as_slice(),
+        &mut one.fronts,
+        other.frame.as_slice(),
+        &mut other.fronts,
+    );
     Screen {
         first: Kept { drawn: one, digest },
         second: Kept {
@@ -153,7 +176,8 @@ impl Screen {
     }
 
     /// A screen that has this picture. Its frame is made of one that is kept, and so is that of the next picture where one is
-    /// given, so that the digests of both are made together. Two frames are alive at most. The only error is want of memory.
+    /// given, so that the digests of both are made together. There are two frames at a time, kept or being made, and none
+    /// besides. The only error is want of memory.
     pub fn showing<H: Hands>(
         self,
         hands: &H,
