@@ -6,26 +6,17 @@ ghost use Rattle.kms_compose.specs.Images.{CanShow};
 use super::*;
 use crate::fixtures::{PIXEL, Place, image, mode, opaque, picture, rect};
 use kms_model::{Format, Gamma, Picture, Seq};
+use kms_samples::Chance;
 use std::alloc::Global;
 use std::process::Abort;
 use std::test::Fail;
 use std::thread::Threads;
 
-/// Numbers by chance.
-#[derive(Drop)]
-struct Chance {
-    state: u32,
-}
-
-impl Chance {
-    /// A number below another one.
-    fn below(&mut self, end: u32) -> u32
-        requires { 0 < end }
-        ensures { result < end }
-    {
-        self.state = self.state.wrapping_mul(1664525).wrapping_add(1013904223);
-        self.state / 65536 % end
-    }
+/// A number from 1 to 4, by chance.
+fn one_to_four(chance: &mut Chance) -> u32
+    ensures { result ≤ 4 }
+{
+    1 + chance.below(4)
 }
 
 /// As many pixels as `n`, twice or four times as many, by chance.
@@ -42,8 +33,8 @@ fn scaled(chance: &mut Chance, n: u32) -> u32
 /// A place by chance, of one of three framebuffers: up to four pixels that begin between two, each shown in up to four, within a
 /// mode of 20x9 or beside it.
 fn by_chance(chance: &mut Chance) -> Place {
-    let long = 1 + chance.below(4);
-    let tall = 1 + chance.below(4);
+    let long = one_to_four(chance);
+    let tall = one_to_four(chance);
     let left = i64::from(chance.below(4 * 65536));
     let top = i64::from(chance.below(4 * 65536));
     let x = i64::from(chance.below(24));

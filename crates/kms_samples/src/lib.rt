@@ -1,11 +1,13 @@
-//! Modes, devices and requests that tests are about, each with its exact value. Nothing but tests, and definitions for
+//! Modes, devices and requests that tests are about, each with its exact value, and numbers by chance. Nothing but tests, and definitions for
 //! tests, calls this crate.
 #![tactic(auto)]
 
+mod chance;
 mod devices;
 mod modes;
 mod requests;
 
+pub use chance::Chance;
 pub use devices::{cloned, double, in_profile_2, pair, plane_of, single, split};
 pub use modes::{full_hd, sized_mode, tiny};
 pub use requests::{ALLOW_MODESET, light, on_crtc, on_plane, request, set};

@@ -13,7 +13,7 @@ use kms_geom::clip;
 use kms_model::{
     FbInfo, Format, Gamma, Image, Layer, Layers, Mode, NoMemory, Picture, Rect, Seq, Shown,
 };
-use kms_samples::sized_mode;
+use kms_samples::{Chance, sized_mode};
 use std::alloc::Global;
 use std::process::Abort;
 use std::test::Fail;
@@ -175,7 +175,7 @@ fn a_table_changes_each_pixel(rt: HostRuntime) -> Result<(), Fail> {
 }
 
 // A row has 192 bytes and a frame 12,288, so that its places are 832 bytes from one another: 14 fit. The 13th ends at 10,816,
-// before row 60 at 11,520; the 9th at 7,488, before row 40 at 7,680.
+// before y = 60, which begins at 11,520; the 9th at 7,488, before y = 40, at 7,680.
 #[test]
 fn states_above_the_first_change_stay(rt: HostRuntime) -> Result<(), Fail> {
     let alloc = rt.alloc();
@@ -193,41 +193,24 @@ fn states_above_the_first_change_stay(rt: HostRuntime) -> Result<(), Fail> {
     Ok(())
 }
 
-/// Numbers by chance.
-#[derive(Drop)]
-struct Chance {
-    state: u32,
+/// A place by chance within 32 columns and 32 rows.
+fn any_place(chance: &mut Chance) -> (u16, u16) {
+    (chance.below(32) as u16, chance.below(32) as u16)
 }
 
-impl Chance {
-    /// A number below another one.
-    fn below(&mut self, end: u32) -> u32
-        requires { 0 < end }
-        ensures { result < end }
-    {
-        self.state = self.state.wrapping_mul(1664525).wrapping_add(1013904223);
-        self.state / 65536 % end
-    }
-
-    /// A place within 32 columns and 32 rows.
-    fn place(&mut self) -> (u16, u16) {
-        (self.below(32) as u16, self.below(32) as u16)
-    }
-
-    /// A picture of one pixel at two places, in one of two sizes, and one in eight with a table.
-    fn picture(&mut self) -> Picture
-        ensures { ShowsDot result }
-    {
-        let rows = if self.below(8) == 0 { 31 } else { 32 };
-        let gamma = if self.below(8) == 0 {
-            Some(inverse())
-        } else {
-            None
-        };
-        let one = self.place();
-        let other = self.place();
-        dots((32, rows), one, other, gamma)
-    }
+/// A picture by chance of one pixel at two places, in one of two sizes, and one in eight with a table.
+fn any_picture(chance: &mut Chance) -> Picture
+    ensures { ShowsDot result }
+{
+    let rows = if chance.below(8) == 0 { 31 } else { 32 };
+    let gamma = if chance.below(8) == 0 {
+        Some(inverse())
+    } else {
+        None
+    };
+    let one = any_place(chance);
+    let other = any_place(chance);
+    dots((32, rows), one, other, gamma)
 }
 
 /// Whether a screen has a picture with the frame and the digest that it has where its frame is made whole.
@@ -255,8 +238,8 @@ fn asked(
     requires screen { StandsOver images.now screen }
     ensures { IfOk result (StandsOver images.now) }
 {
-    let picture = chance.picture();
-    let next = chance.picture();
+    let picture = any_picture(chance);
+    let next = any_picture(chance);
     let screen = screen.showing(&OneThread, alloc, &picture, Some(&next), images)?;
     assert!(rt; shows_whole(alloc, &screen, &picture, images)?);
     Ok(screen)
