@@ -4,7 +4,7 @@ use Rattle.std.proofs.lemmas.Bool.{cases_lt}
 use Rattle.std.proofs.lemmas.Bool.Decides.{nat_tests}
 use Rattle.kms_model.specs.Frames.FrameBytes.{colour_of}
 use Rattle.kms_compose.specs.declared.parts.Part.{Part}
-use Rattle.kms_compose.specs.Parts.{column_at, is_within, on_row, part_colour, run_colour}
+use Rattle.kms_compose.specs.Parts.{shown_at, is_within, on_row, part_colour, run_colour}
 
 within-before : (start size at : ℕ) → at < start → is_within start size at ≡ false
 within-before start size at h = grind (arith, nat_tests)
@@ -26,7 +26,7 @@ none_there p y start from end long x first last empty below =
 
 -- the words of a row of the image that a part shows on some pixels, of which the first is `from`
 pub run_there : (p : Part) (row words : List ℕ) (start from end long x : ℕ) → from ≡ max p.left start → end ≡ min (p.left + p.width) (start + long) → from < end → x < long →
-    length words ≡ end - from → ((k : ℕ) → k < end - from → slice_index words k ≡ slice_index row (column_at p.columns (from - p.left + k))) →
+    length words ≡ end - from → ((k : ℕ) → k < end - from → slice_index words k ≡ slice_index row (shown_at p.columns (from - p.left + k))) →
     run_colour p.layer.fb.format words (from - start) x ≡ on_row p (Some row) (start + x)
 run_there p row words start from end long x first last some below count each =
     ⊎_elim
@@ -40,7 +40,7 @@ run_there p row words start from end long x first last some below count each =
     let there = within-inside p.left p.width (start + x) (omega (arith, h, first)) (omega (arith, k, last)) in
     let word = each (x - (from - start)) (omega (arith, h, k, first)) in
     let column : from - p.left + (x - (from - start)) ≡ start + x - p.left = omega (arith, h, first) in
-    rw (here, there) (ap (λ (w : ℕ). Some (colour_of p.layer.fb.format w)) (word ∙ ap (λ (j : ℕ). slice_index row (column_at p.columns j)) column)))
+    rw (here, there) (ap (λ (w : ℕ). Some (colour_of p.layer.fb.format w)) (word ∙ ap (λ (j : ℕ). slice_index row (shown_at p.columns j)) column)))
     (λ k.
     let here = within-behind (from - start) (length words) x (omega (arith, k, count, first, some)) in
     let there = within-behind p.left p.width (start + x) (omega (arith, k, last, below)) in

@@ -20,13 +20,13 @@ use Rattle.kms_model.specs.Frames.Rectangles.{is_scaled_little}
 use Rattle.kms_model.proofs.SourcePlaces.{IsAt, natural_pos}
 use Rattle.kms_compose.specs.declared.areas.Area.{Area}
 use Rattle.kms_compose.specs.declared.images.FbImage.{FbImage}
-use Rattle.kms_compose.specs.declared.parts.Columns.{Columns}
-use Rattle.kms_compose.specs.declared.parts.Columns.TheVariants.{From, At}
+use Rattle.kms_compose.specs.declared.parts.Places.{Places}
+use Rattle.kms_compose.specs.declared.parts.Places.TheVariants.{From, At}
 use Rattle.kms_compose.specs.declared.parts.Part.{Part}
 use Rattle.kms_compose.specs.declared.sources.Reach.{Reach}
 use Rattle.kms_compose.specs.Areas.{FitsIn, IsNatural, is_in}
 use Rattle.kms_compose.specs.Images.{image_seen, seen_under, word_under}
-use Rattle.kms_compose.specs.Parts.{AreColumns, HasCount, IsCut, IsImageFor, IsPart, IsVisible, across, column_at, down, is_within, part_colour}
+use Rattle.kms_compose.specs.Parts.{AreColumns, HasCount, IsCut, IsImageFor, IsPart, IsVisible, across, shown_at, down, is_within, part_colour}
 use Rattle.kms_compose.specs.Sources.{IsReach, IsSeen, place_at}
 use Rattle.kms_compose.proofs.Places.{place_below, seen_at}
 
@@ -157,29 +157,31 @@ row_end place stride side total below long =
     let rows : (place + 1) * stride ≤ side * stride = mul-le-mul_right stride (omega (arith, below)) in
     omega (arith, rows, long)
 
-are_columns : (c : Columns) (count width : ℕ) → HasCount c count → 0 < count → ((k : ℕ) → k < count → column_at c k < width) → AreColumns c count width
+are_columns : (c : Places) (count width : ℕ) → HasCount c count → 0 < count → ((k : ℕ) → k < count → shown_at c k < width) → AreColumns c count width
 are_columns (From first) count width has some below = let last = below (count - 1) (omega (arith, some)) in omega (arith, last, some)
 are_columns (At columns) count width has some below = (has, λ k d inside. let default = get_or_default columns.items k d 0 inside in rw default (below k (omega (arith, has, inside))))
 
 pub size_some : (z : ℤ) → pos 0 <ℤ z → 0 < natural z
 size_some z some = let same = natural_pos z (omega (arith, ints, some)) in omega (arith, ints, same, some)
 
--- a part of what is visible of a layer, with some columns of its image
+-- a part of what is visible of a layer, with some columns and rows of its image
 pub cut_is : (l : Layer) (v : Rect) (image : Image) (p : Part) → IsVisible l v → IsImageFor l image
     → p.layer ≡ l → p.left ≡ natural v.x → p.top ≡ natural v.y → p.width ≡ natural v.w → p.height ≡ natural v.h
-    → HasCount p.columns p.width → ((k : ℕ) → k < p.width → column_at p.columns k ≡ place_at (across l) (p.left + k))
-    → p.rows ≡ down l → p.stride ≡ image.width → p.words.now ≡ image.words.now → IsCut l v image p
-cut_is l v image p shown its layer left top width height count places rows stride words =
+    → HasCount p.columns p.width → ((k : ℕ) → k < p.width → shown_at p.columns k ≡ place_at (across l) (p.left + k))
+    → HasCount p.rows p.height → ((k : ℕ) → k < p.height → shown_at p.rows k ≡ place_at (down l) (p.top + k))
+    → p.stride ≡ image.width → p.words.now ≡ image.words.now → IsCut l v image p
+cut_is l v image p shown its layer left top width height count places counted rows stride words =
     let ends = and_parts (int_le (l.src.x +ℤ l.src.w) (pos (65536 * image.width))) (int_le (l.src.y +ℤ l.src.h) (pos (65536 * image.height))) its.fits in
     let some = size_some v.w shown.wide in
-    let below : (k : ℕ) → k < p.width → column_at p.columns k < image.width = λ k within.
+    let below : (k : ℕ) → k < p.width → shown_at p.columns k < image.width = λ k within.
     (let seen = seen_at (across l) (natural v.x) (natural v.w) (p.left + k) shown.columns (omega (arith, left)) (omega (arith, left, width, within)) in
     let small = place_below (across l) (p.left + k) image.width seen ends.0 in
     omega (arith, places k within, small)) in
-    let low : (y : ℕ) → is_within p.top p.height y ≡ true → place_at (down l) y < image.height = λ y within.
-    (let inside = inside_from p.top p.height y within in
-    let seen = seen_at (down l) (natural v.y) (natural v.h) y shown.rows (omega (arith, top, inside.low)) (omega (arith, top, height, inside.high)) in
-    place_below (down l) y image.height seen ends.1) in
+    let low : (k : ℕ) → k < p.height → shown_at p.rows k < image.height = λ k within.
+    (let seen = seen_at (down l) (natural v.y) (natural v.h) (p.top + k) shown.rows (omega (arith, top)) (omega (arith, top, height, within)) in
+    let small = place_below (down l) (p.top + k) image.height seen ends.1 in
+    omega (arith, rows k within, small)) in
+    let wide : 0 < image.width = (let first = below 0 (omega (arith, width, some)) in omega (arith, first)) in
     record {
       layer = layer;
       left = left;
@@ -192,8 +194,9 @@ cut_is l v image p shown its layer left top width height count places rows strid
       words = words;
       has_columns = rw stride (are_columns p.columns p.width image.width count (omega (arith, width, some)) below);
       has_rows = record {
-        seen = rw (rows, top, height) shown.rows;
-        within = λ y within. rw (rows, stride, words) (row_end (place_at (down l) y) image.width image.height (length image.words.now) (low y within) its.words);
+        count = counted;
+        within = λ k within. rw (stride, words) (row_end (shown_at p.rows k) image.width image.height (length image.words.now) (low k within) its.words);
+        some = rw stride wide;
       };
     }
 
@@ -210,9 +213,14 @@ number_is : (z : ℤ) (n : ℕ) → n ≡ natural z → pos 0 ≤ℤ z → pos n
 number_is z n same low = ap pos same ∙ sym (natural_pos z low)
 
 -- the column that a pixel of a part shows
-column_is : (l : Layer) (v : Rect) (image : Image) (p : Part) (x : ℕ) → IsCut l v image p → IsInside p.left p.width x → column_at p.columns (x - p.left) ≡ place_at (across l) x
+column_is : (l : Layer) (v : Rect) (image : Image) (p : Part) (x : ℕ) → IsCut l v image p → IsInside p.left p.width x → shown_at p.columns (x - p.left) ≡ place_at (across l) x
 column_is l v image p x cut inside =
     cut.columns (x - p.left) (omega (arith, inside.low, inside.high)) ∙ ap (place_at (across l)) (omega (arith, inside.low))
+
+-- and the row
+row_is : (l : Layer) (v : Rect) (image : Image) (p : Part) (y : ℕ) → IsCut l v image p → IsInside p.top p.height y → shown_at p.rows (y - p.top) ≡ place_at (down l) y
+row_is l v image p y cut inside =
+    cut.rows (y - p.top) (omega (arith, inside.low, inside.high)) ∙ ap (place_at (down l)) (omega (arith, inside.low))
 
 -- a layer has the colours of the part that is cut out of its image
 pub cut_colour : (images : List FbImage) (l : Layer) (v : Rect) (image : Image) (p : Part) → seen_under images l.fb.id ≡ Some (image_seen image) → l.visible ≡ Some v →
@@ -226,7 +234,8 @@ cut_colour images l v image p found seen shown cut x y =
     (cond_under (is_within p.left p.width x && is_within p.top p.height y) _ _ None (λ both.
     let parts = and_parts (is_within p.left p.width x) (is_within p.top p.height y) both in
     let column = column_is l v image p x cut (inside_from p.left p.width x parts.0) in
-    rw (cut.layer, cut.rows, cut.stride, cut.words, column) refl))
+    let row = row_is l v image p y cut (inside_from p.top p.height y parts.1) in
+    rw (cut.layer, row, cut.stride, cut.words, column) refl))
 
 -- and that part's rows and columns are those of its image
 pub cut_part : (m : Mode) (l : Layer) (v : Rect) (image : Image) (p : Part) → FitsMode m l → IsVisible l v → IsCut l v image p → IsPart p

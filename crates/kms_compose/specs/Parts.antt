@@ -10,8 +10,8 @@ use Rattle.kms_model.specs.Device.States.{natural}
 use Rattle.kms_model.specs.declared.objects.Gamma.{Gamma}
 use Rattle.kms_model.specs.declared.pictures.Rect.{Rect}
 use Rattle.kms_model.specs.declared.stores.Image.{Image}
-use Rattle.kms_compose.specs.declared.parts.Columns.{Columns}
-use Rattle.kms_compose.specs.declared.parts.Columns.TheVariants.{From, At}
+use Rattle.kms_compose.specs.declared.parts.Places.{Places}
+use Rattle.kms_compose.specs.declared.parts.Places.TheVariants.{From, At}
 use Rattle.kms_compose.specs.declared.parts.Part.{Part}
 use Rattle.kms_compose.specs.declared.sources.Reach.{Reach}
 use Rattle.kms_compose.specs.Sources.{IsSeen, place_at}
@@ -24,14 +24,14 @@ is_within start size at = nat_le start at && nat_lt at (start + size)
 abbrev pub run_colour : Format → List ℕ → ℕ → ℕ → Option Colour
 run_colour format words left x = if is_within left (length words) x then Some (colour_of format (slice_index words (x - left))) else None
 
--- the column of the image that a pixel of a part shows, by its place from the left
-abbrev pub column_at : Columns → ℕ → ℕ
-column_at (From first) k = first + k
-column_at (At columns) k = slice_index columns.items k
+-- the column, or row, of the image that a column, or row, of a part shows, by its place from the first on
+abbrev pub shown_at : Places → ℕ → ℕ
+shown_at (From first) k = first + k
+shown_at (At columns) k = slice_index columns.items k
 
 -- the words of a part on a row
 abbrev pub part_word : Part → ℕ → ℕ → ℕ
-part_word p x y = slice_index p.words.now (place_at p.rows y * p.stride + column_at p.columns (x - p.left))
+part_word p x y = slice_index p.words.now (shown_at p.rows (y - p.top) * p.stride + shown_at p.columns (x - p.left))
 
 -- the colour of a part at a pixel
 abbrev pub part_colour : Part → ℕ → ℕ → Option Colour
@@ -45,7 +45,7 @@ seen_colour (Some p) x y = part_colour p x y
 -- the colour at a place of a row of a part, of whose image this is the row that it shows there
 abbrev pub on_row : Part → Option (List ℕ) → ℕ → Option Colour
 on_row p None x = None
-on_row p (Some row) x = if is_within p.left p.width x then Some (colour_of p.layer.fb.format (slice_index row (column_at p.columns (x - p.left)))) else None
+on_row p (Some row) x = if is_within p.left p.width x then Some (colour_of p.layer.fb.format (slice_index row (shown_at p.columns (x - p.left)))) else None
 
 -- what a layer shows from left to right, and from top to bottom
 abbrev pub across : Layer → Reach
@@ -68,13 +68,13 @@ pub record IsImageFor (l : Layer) (image : Image) : Type 0 where
   pub words : length image.words.now ≡ image.width * image.height
   pub fits : fits_source l.src image.width image.height ≡ true
 
--- so many columns are told
-abbrev pub HasCount : Columns → ℕ → Type 0
+-- so many columns or rows are told
+abbrev pub HasCount : Places → ℕ → Type 0
 HasCount (From first) count = ⊤
 HasCount (At columns) count = length columns.items ≡ count
 
 -- so many columns, each of an image of this width
-abbrev pub AreColumns : Columns → ℕ → ℕ → Type 0
+abbrev pub AreColumns : Places → ℕ → ℕ → Type 0
 AreColumns (From first) count width = first + count ≤ width
 AreColumns (At columns) count width = (length columns.items ≡ count) × All (λ column. column < width) columns.items
 
@@ -82,10 +82,11 @@ AreColumns (At columns) count width = (length columns.items ≡ count) × All (�
 abbrev pub HasColumns : Part → Type 0
 HasColumns p = AreColumns p.columns p.width p.stride
 
--- each row of the image that a part shows is within the image's words
+-- the rows of a part are some of its image, one for each of its rows, and none of them is empty
 pub record HasRows (p : Part) : Type 0 where
-  pub seen : IsSeen p.rows p.top p.height
-  pub within : (y : ℕ) → is_within p.top p.height y ≡ true → place_at p.rows y * p.stride + p.stride ≤ length p.words.now
+  pub count : HasCount p.rows p.height
+  pub within : (k : ℕ) → k < p.height → shown_at p.rows k * p.stride + p.stride ≤ length p.words.now
+  pub some : 0 < p.stride
 
 -- the part of an image that a layer shows, of which this is visible
 pub record IsCut (l : Layer) (visible : Rect) (image : Image) (p : Part) : Type 0 where
@@ -94,8 +95,8 @@ pub record IsCut (l : Layer) (visible : Rect) (image : Image) (p : Part) : Type 
   pub top : p.top ≡ natural visible.y
   pub width : p.width ≡ natural visible.w
   pub height : p.height ≡ natural visible.h
-  pub columns : (k : ℕ) → k < p.width → column_at p.columns k ≡ place_at (across l) (p.left + k)
-  pub rows : p.rows ≡ down l
+  pub columns : (k : ℕ) → k < p.width → shown_at p.columns k ≡ place_at (across l) (p.left + k)
+  pub rows : (k : ℕ) → k < p.height → shown_at p.rows k ≡ place_at (down l) (p.top + k)
   pub stride : p.stride ≡ image.width
   pub words : p.words.now ≡ image.words.now
   pub has_columns : HasColumns p

@@ -4,7 +4,7 @@ ghost use Rattle.kms_model.specs.declared.objects.Mode.{Mode};
 ghost use Rattle.kms_model.specs.Frames.FrameBytes.{layer_colour};
 ghost use Rattle.kms_model.specs.Frames.Images.{FitsMode};
 ghost use Rattle.kms_compose.specs.Images.{IsShown, word_under};
-ghost use Rattle.kms_compose.specs.Parts.{HasColumns, HasCount, HasRows, IsCut, IsImageFor, IsPart, IsVisible, across, column_at, down, on_row, part_colour, seen_colour};
+ghost use Rattle.kms_compose.specs.Parts.{HasColumns, HasCount, HasRows, IsCut, IsImageFor, IsPart, IsVisible, across, shown_at, down, on_row, part_colour, seen_colour};
 ghost use Rattle.kms_compose.specs.Sources.{IsSeen, place_at};
 
 use crate::images::{FbImage, image_of};
@@ -12,12 +12,12 @@ use crate::sources::{Reach, is_unscaled, natural, place_at, places};
 use kms_model::{Image, Layer, NoMemory, Rect};
 use std::alloc::Global;
 
-/// The columns of an image that a part shows.
+/// Which columns of an image a part shows, or which rows.
 #[derive(Drop)]
-pub enum Columns {
-    /// One beside the other, from this one on.
+pub enum Places {
+    /// One behind the other, from this one on.
     From(usize),
-    /// These, one for each pixel of a row of the part.
+    /// These, one for each column or row of the part.
     At(Vec<usize>),
 }
 
@@ -29,9 +29,9 @@ pub struct Part<'a> {
     pub top: usize,
     pub width: usize,
     pub height: usize,
-    pub columns: Columns,
-    // Which row of the image each of its rows shows, and how many words a row of the image has.
-    pub rows: Reach,
+    pub columns: Places,
+    pub rows: Places,
+    // How many words a row of the image has.
     pub stride: usize,
     pub words: &'a [u32],
 }
@@ -60,19 +60,19 @@ fn down(layer: &Layer) -> Reach
     }
 }
 
-/// The columns that so many pixels of the mode from `left` on show. Those of a scaled layer are found here, once for all
-/// rows.
-fn columns_of(alloc: Global, reach: &Reach, left: usize, width: usize) -> Result<Columns, NoMemory>
-    requires seen { IsSeen reach.now left width }
-    requires some { 0 < width }
-    ensures count { IfOk result (λ columns. HasCount columns width) }
-    ensures places { IfOk result (λ columns. (k : ℕ) → k < width
-        → column_at columns k ≡ place_at reach.now (left + k)) }
+/// The columns, or rows, of an image that so many columns, or rows, of the mode from `first` on show. Those of a scaled layer
+/// are found here, once for a frame.
+fn places_of(alloc: Global, reach: &Reach, first: usize, count: usize) -> Result<Places, NoMemory>
+    requires seen { IsSeen reach.now first count }
+    requires some { 0 < count }
+    ensures count { IfOk result (λ found. HasCount found count) }
+    ensures places { IfOk result (λ found. (k : ℕ) → k < count
+        → shown_at found k ≡ place_at reach.now (first + k)) }
 {
     if is_unscaled(reach) {
-        Ok(Columns::From(place_at(reach, left)))
+        Ok(Places::From(place_at(reach, first)))
     } else {
-        Ok(Columns::At(places(alloc, reach, left, width)?))
+        Ok(Places::At(places(alloc, reach, first, count)?))
     }
 }
 
@@ -112,7 +112,8 @@ fn cut<'a>(
     let width = natural(visible.w);
     let top = natural(visible.y);
     let height = natural(visible.h);
-    let columns = columns_of(alloc, &across(layer), left, width)?;
+    let columns = places_of(alloc, &across(layer), left, width)?;
+    let rows = places_of(alloc, &down(layer), top, height)?;
     Ok(Part {
         layer: *layer,
         left,
@@ -120,14 +121,25 @@ fn cut<'a>(
         width,
         height,
         columns,
-        rows: down(layer),
+        rows,
         stride: image.width as usize,
         words: image.words,
     })
 }
 
+/// The column, or row, of its image that a column, or row, of a part shows, by its place from the first on.
+fn shown_at(places: &Places, k: usize) -> usize
+    requires inside { (count : ℕ) × (HasCount places.now count × (k < count)) }
+    requires fits { shown_at places.now k < 18446744073709551616 }
+    ensures { result ≡ shown_at places.now k }
+{
+    match places {
+        Places::From(first) => first + k,
+        Places::At(all) => all[k],
+    }
+}
+
 /// The words of the row of its image that a part shows on a row of the mode; none where the row is above or below the part.
-/// Which row of the image it is, is found here, once for the row.
 pub fn row_on<'a>(part: &Part<'a>, y: usize) -> Option<&'a [u32]>
     requires rows { HasRows part.now }
     requires columns { HasColumns part.now }
@@ -138,9 +150,10 @@ pub fn row_on<'a>(part: &Part<'a>, y: usize) -> Option<&'a [u32]>
     if y < part.top {
         return None;
     }
-    if y - part.top >= part.height {
+    let row = y - part.top;
+    if row >= part.height {
         return None;
     }
-    let start = place_at(&part.rows, y) * part.stride;
+    let start = shown_at(&part.rows, row) * part.stride;
     Some(&part.words[start..start + part.stride])
 }

@@ -2,10 +2,10 @@
 ghost use Rattle.std.specs.Prelude.{◌≡◌, ◌<◌, ◌≤◌, ◌+◌, ◌-◌, ◌*◌, ◌&&◌, ◌==◌, ◌||◌, false, ℕ, List, length, slice_index, EachIndex, All};
 ghost use Rattle.std.specs.List.{flat_map, range_with_len};
 ghost use Rattle.kms_model.specs.Frames.FrameBytes.{black, channels, colour_of, mixed};
-ghost use Rattle.kms_compose.specs.Parts.{HasColumns, IsPart, channel_over, colour_at, column_at, has_alpha, is_opaque, part_colour, parts_over, run_colour};
+ghost use Rattle.kms_compose.specs.Parts.{HasColumns, IsPart, channel_over, colour_at, shown_at, has_alpha, is_opaque, part_colour, parts_over, run_colour};
 
 use crate::channels::{Alpha, Blue, Channel, Green, Red, unpack};
-use crate::parts::{Columns, Part, row_on};
+use crate::parts::{Part, Places, row_on};
 use kms_blend::blend_row;
 use kms_model::{Format, Layer};
 
@@ -87,14 +87,14 @@ fn words_of<'a>(part: &Part, row: &'a [u32], first: usize, room: &'a mut [u32]) 
     requires within { first + length room.old ≤ part.now.width }
     ensures count { length result.now ≡ length room.old }
     ensures words { (k : ℕ) → k < length room.old
-        → slice_index result.now k ≡ slice_index row.now (column_at part.now.columns (first + k)) }
+        → slice_index result.now k ≡ slice_index row.now (shown_at part.now.columns (first + k)) }
 {
     match &part.columns {
-        Columns::From(column) => {
+        Places::From(column) => {
             let start = *column + first;
             &row[start..start + room.len()]
         }
-        Columns::At(columns) => {
+        Places::At(columns) => {
             gather(row, &columns.as_slice()[first..first + room.len()], room);
             room
         }
