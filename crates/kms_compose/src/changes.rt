@@ -1,5 +1,5 @@
 //! Which layers differ between two pictures.
-ghost use Rattle.std.specs.Prelude.{◌≡◌, ◌∷◌, [], ℕ, true, IsTrue, IfOk, OnOk};
+ghost use Rattle.std.specs.Prelude.{◌≡◌, ◌∷◌, ◌↔◌, [], ℕ, true, Any, IsTrue, IfOk, OnOk};
 ghost use Rattle.kms_model.specs.Frames.FrameBytes.{is_covered};
 ghost use Rattle.kms_compose.specs.Changes.{DifferIn, Lists, covered_by};
 
@@ -8,13 +8,10 @@ use kms_model::{Layer, NoMemory, Rect};
 use std::alloc::Global;
 
 /// Whether a layer is among others.
-fn is_among(layer: &Layer, layers: &[Layer]) -> bool {
-    for other in layers {
-        if is_same_layer(layer, other) {
-            return true;
-        }
-    }
-    false
+fn is_among(layer: &Layer, layers: &[Layer]) -> bool
+    ensures { IsTrue result ↔ Any (λ l. layer.now ≡ l) layers.now }
+{
+    layers.iter().any(|other| is_same_layer(layer, other))
 }
 
 /// Whether a rectangle, or nothing, is what is visible of one of some layers.
@@ -52,8 +49,9 @@ fn list_all(listed: &mut Vec<Layer>, layers: &[Layer]) -> Result<(), NoMemory>
 }
 
 /// The layers that left or came, where a picture's layers are these in place of those, each from the lowest: the layers of
-/// both are put beside one another in their order, and a layer that changed both leaves and comes, and so does one whose place
-/// among the others changed. Of layers that cover the same rectangle the first one alone is listed.
+/// both are put beside one another in their order. A layer that changed both leaves and comes, and is listed as it was and as it
+/// is. One that stands lower among the others than before comes, and so is listed as well; what it passed stays. Of layers
+/// that cover the same rectangle the first one alone is listed.
 pub fn changes(alloc: Global, old: &[Layer], new: &[Layer]) -> Result<Vec<Layer>, NoMemory>
     ensures { IfOk result (λ changed. DifferIn changed.items old.now new.now) }
 {

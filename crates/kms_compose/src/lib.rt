@@ -18,7 +18,7 @@ mod threads;
 pub use frames::{Frame, frame};
 pub use images::{FbImage, Images};
 pub use recomposing::{recompose, recompose_kept};
-pub use sameness::is_same_layer;
+pub use sameness::{is_same_layer, is_same_size, is_same_table};
 pub use threads::frame_rows;
 
 #[cfg(test)]

@@ -1,5 +1,5 @@
 //! Frames made of earlier ones.
-ghost use Rattle.std.specs.Prelude.{◌≡◌, ◌<◌, ◌≤◌, ◌*◌, ℕ, List, IsTrue, All, IfOk, OnErr, OnOk, false, length, take};
+ghost use Rattle.std.specs.Prelude.{◌≡◌, ◌<◌, ◌≤◌, ◌*◌, ℕ, List, All, IfOk, OnErr, OnOk, false, length, take};
 ghost use Rattle.kms_model.specs.declared.objects.Mode.{Mode};
 ghost use Rattle.kms_model.specs.declared.pictures.Colour.{Colour};
 ghost use Rattle.kms_model.specs.declared.pictures.Picture.TheVariants.{On};
@@ -17,6 +17,7 @@ use crate::drawing::{draw_area, draw_whole};
 use crate::frames::{Frame, frame as whole_frame, parts_of};
 use crate::images::{FbImage, Images};
 use crate::parts::Part;
+use crate::sameness::{is_same_size, is_same_table};
 use kms_model::{Gamma, Layer, Mode, NoMemory, Picture, Seq, Shown};
 use std::alloc::Global;
 use std::mem;
@@ -101,20 +102,6 @@ fn remake(
 {
     *frame = whole_frame(alloc, picture, images)?;
     Ok(0)
-}
-
-/// Whether two modes have one size.
-fn is_same_size(old: &Mode, new: &Mode) -> bool
-    ensures { IsTrue result → IsSameSize old.now new.now }
-{
-    old.hdisplay == new.hdisplay && old.vdisplay == new.vdisplay
-}
-
-/// Whether two tables of colour values are the same.
-fn is_same_table(old: &Option<Gamma>, new: &Option<Gamma>) -> bool
-    ensures { IsTrue result → old.now ≡ new.now }
-{
-    old == new
 }
 
 /// Makes the frame of a picture of that of another one in a mode of the same size, and tells how many bytes at its front stay:

@@ -1,7 +1,8 @@
-//! Whether layers are the same.
+//! Whether layers, sizes of modes and tables of colour values are the same.
 ghost use Rattle.std.specs.Prelude.{◌≡◌, ◌↔◌, IsTrue};
+ghost use Rattle.kms_compose.specs.Changes.{IsSameSize};
 
-use kms_model::{Layer, Rect};
+use kms_model::{Gamma, Layer, Mode, Rect};
 
 /// Whether two rectangles are the same.
 fn is_same_rect(one: &Rect, other: &Rect) -> bool
@@ -21,7 +22,21 @@ pub fn is_same_part(one: &Option<Rect>, other: &Option<Rect>) -> bool
     }
 }
 
-/// Whether two layers show the same in the same way.
+/// Whether two modes have one size.
+pub fn is_same_size(one: &Mode, other: &Mode) -> bool
+    ensures { IsTrue result ↔ IsSameSize one.now other.now }
+{
+    one.hdisplay == other.hdisplay && one.vdisplay == other.vdisplay
+}
+
+/// Whether two tables of colour values are the same, or both are missing.
+pub fn is_same_table(one: &Option<Gamma>, other: &Option<Gamma>) -> bool
+    ensures { IsTrue result ↔ (one.now ≡ other.now) }
+{
+    one == other
+}
+
+/// Whether two layers are the same.
 pub fn is_same_layer(one: &Layer, other: &Layer) -> bool
     ensures { IsTrue result ↔ (one.now ≡ other.now) }
 {

@@ -17,8 +17,8 @@ use rayon::prelude::*;
 use std::alloc::Global;
 use std::thread::Threads;
 
-/// Makes the same frame as [`frame`](crate::frame), and asks for the same, but shares the rows among threads, two for each
-/// processor.
+/// Makes the same frame as [`frame`](crate::frame), and asks for the same, but shares the rows among threads, at most two for each
+/// processor and 64 in all.
 ///
 /// The only error is want of memory.
 pub fn frame_rows(

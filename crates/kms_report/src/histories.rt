@@ -142,7 +142,8 @@ fn report_by<H: Hands>(
 ///
 /// The only error is want of memory. The time is linear in the history, the frames and the text. Besides the text there are two
 /// frames at a time, kept or being made, and no other. A picture that is one of the two that its CRTC showed last has its frame
-/// and its digest there; else what differs from one of these is drawn, and digested from the first difference on.
+/// and its digest there; else what differs from one of these is drawn, and digested
+/// from the last kept place before the first row drawn.
 pub fn report(
     alloc: Global,
     script: &Script,

@@ -4,9 +4,11 @@ use Rattle.sha2.specs.declared.Sha256.{Sha256}
 use Rattle.sha2.specs.Hashers.{Holds256}
 use Rattle.sha2.specs.Sha256.{sha256}
 use Rattle.kms_model.specs.declared.pictures.Picture.{Picture}
+use Rattle.kms_model.specs.declared.pictures.Picture.TheVariants.{Off, On}
 use Rattle.kms_model.specs.declared.worlds.Thing.{Thing}
 use Rattle.kms_model.specs.Frames.FrameBytes.{frame_of, word_of}
 use Rattle.kms_model.specs.Frames.Shown.{EachCanBeShown}
+use Rattle.kms_compose.specs.Changes.{IsSameSize}
 use Rattle.kms_compose.specs.Images.{CanShow, word_under}
 use Rattle.kms_compose.specs.declared.images.FbImage.{FbImage}
 use Rattle.kms_screens.specs.declared.fronts.Fronts.{Fronts}
@@ -53,6 +55,12 @@ IsKeptOver images = IsKept (CanShow images) (word_under images)
 
 abbrev pub StandsOf : List Thing → Screen → Type 0
 StandsOf things = Stands (EachCanBeShown things) (word_of things)
+
+-- two pictures are on, in modes of one size and with one table of colour values, or none
+abbrev pub AreOfOneSizeAndTable : Picture → Picture → Type 0
+AreOfOneSizeAndTable Off other = ⊥
+AreOfOneSizeAndTable (On one) Off = ⊥
+AreOfOneSizeAndTable (On one) (On other) = IsSameSize one.mode other.mode × (one.gamma ≡ other.gamma)
 
 -- the picture is this one
 abbrev pub IsOf : Picture → Drawn → Type 0

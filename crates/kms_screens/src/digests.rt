@@ -1,5 +1,5 @@
 //! Digests, two at a time.
-ghost use Rattle.std.specs.Prelude.{◌≡◌};
+ghost use Rattle.std.specs.Prelude.{◌≡◌, ◌-◌, ◌*◌, length};
 ghost use Rattle.sha2.specs.Sha256.{sha256};
 ghost use Rattle.kms_screens.specs.Screens.{AreFronts};
 
@@ -41,6 +41,7 @@ pub fn digest_of_frame(frame: &[u8], fronts: &mut Fronts) -> [u8; 32]
 /// How many bytes of a frame its digest has still to take in.
 fn left(frame: &[u8], fronts: &Fronts) -> usize
     requires { AreFronts fronts.now frame.now }
+    ensures { result ≡ length frame.now - length fronts.now.states.items * fronts.now.step }
 {
     frame.len() - fronts.end(frame)
 }

@@ -26,7 +26,7 @@ pub struct Fronts {
 }
 
 impl Fronts {
-    /// No state yet, of a frame of so many bytes, which its places cut into pieces of one size.
+    /// No state yet, of a frame of so many bytes, which its places cut into pieces of one size but for the last.
     pub fn none(length: usize) -> Fronts
         ensures { (frame : List ℕ) → AreFronts result frame }
     {

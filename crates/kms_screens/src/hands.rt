@@ -66,7 +66,8 @@ impl Hands for OneThread {
     }
 }
 
-/// Two threads for each processor, up to 64, for the rows of a frame, and two for two digests.
+/// Several threads: at most two for each processor, up to 64, for the rows of a frame, and two for two digests where both have
+/// much to take in.
 #[derive(Drop)]
 pub struct SeveralThreads<'a, R> {
     /// Where the threads come from.

@@ -1,12 +1,12 @@
 //! Frames that are kept.
 ghost use Rattle.std.specs.Prelude.{◌≡◌, ◌⊎◌, ◌↔◌, IfOk, IsTrue};
 ghost use Rattle.kms_compose.specs.Images.{CanShow};
-ghost use Rattle.kms_screens.specs.Screens.{IsDrawnOver, IsOf};
+ghost use Rattle.kms_screens.specs.Screens.{AreOfOneSizeAndTable, IsDrawnOver, IsOf};
 
 use crate::fronts::Fronts;
 use crate::hands::Hands;
-use kms_compose::{Frame, Images, is_same_layer, recompose_kept};
-use kms_model::{Gamma, Layer, Mode, NoMemory, Picture, Seq, Shown};
+use kms_compose::{Frame, Images, is_same_layer, is_same_size, is_same_table, recompose_kept};
+use kms_model::{Layer, Mode, NoMemory, Picture, Seq, Shown};
 use std::alloc::Global;
 
 /// A picture with its frame.
@@ -51,20 +51,13 @@ fn is_same_mode(one: &Mode, other: &Mode) -> bool
     *one == *other
 }
 
-/// Whether two tables of colour values are the same, or both are missing.
-fn is_same_gamma(one: &Option<Gamma>, other: &Option<Gamma>) -> bool
-    ensures { IsTrue result ↔ (one.now ≡ other.now) }
-{
-    *one == *other
-}
-
-/// The same of what is shown where both are on.
+/// Whether two CRTCs that are on show the same.
 fn is_same_shown(one: &Shown, other: &Shown) -> bool
     ensures { IsTrue result ↔ (one.now ≡ other.now) }
 {
     one.conn == other.conn
         && is_same_mode(&one.mode, &other.mode)
-        && is_same_gamma(&one.gamma, &other.gamma)
+        && is_same_table(&one.gamma, &other.gamma)
         && are_same_layers(one.layers.as_slice(), other.layers.as_slice())
 }
 
@@ -81,12 +74,12 @@ pub fn is_same(one: &Picture, other: &Picture) -> bool
 
 /// Whether two pictures are on, in modes of one size and with one table of colour values, or none: then the frame of one is that
 /// of the other but for what layers cover that differ.
-fn is_same_size_and_table(one: &Picture, other: &Picture) -> bool {
+fn is_same_size_and_table(one: &Picture, other: &Picture) -> bool
+    ensures { IsTrue result ↔ AreOfOneSizeAndTable one.now other.now }
+{
     match (one, other) {
         (Picture::On(one), Picture::On(other)) => {
-            is_same_gamma(&one.gamma, &other.gamma)
-                && one.mode.hdisplay == other.mode.hdisplay
-                && one.mode.vdisplay == other.mode.vdisplay
+            is_same_size(&one.mode, &other.mode) && is_same_table(&one.gamma, &other.gamma)
         }
         _ => false,
     }

@@ -166,7 +166,8 @@ impl Screen {
         requires screen { StandsOver images.now self }
         requires picture { CanShow images.now picture.now }
         requires next { CanShow images.now next.now }
-        ensures { IfOk result (λ s. StandsOver images.now s × Has s picture.now) }
+        ensures stands { IfOk result (StandsOver images.now) }
+        ensures both { IfOk result (λ s. Has s picture.now × Has s next.now) }
     {
         let Screen { first, second } = self;
         let one = redrawn(hands, alloc, first.drawn, picture, images)?;
@@ -175,9 +176,10 @@ impl Screen {
         Ok(both_hashed(hands, one, other))
     }
 
-    /// A screen that has this picture. Its frame is made of one that is kept, and so is that of the next picture where one is
-    /// given, so that the digests of both are made together. There are two frames at a time, kept or being made, and none
-    /// besides. The only error is want of memory.
+    /// A screen that has this picture. Where a frame of its size and with its table of colour values is kept, its frame is made of
+    /// that, else anew. Where the next picture is given, its frame is there too, made likewise or of a copy of the first one, so
+    /// that the digests of both are made together. There are two frames at a time, kept or being made, and none besides. The only
+    /// error is want of memory.
     pub fn showing<H: Hands>(
         self,
         hands: &H,

@@ -29,7 +29,7 @@ first_row-requires c = (
 pub returns-then-is_same_table-clause-exact : goal.returns-then-is_same_table-clause-exact
 returns-then-is_same_table-clause-exact c =
     recomposed (word_under c.args.images.now) c.args.old.now c.args.new.now c.as_slice-then-is_same_table-2.result.now c.deref.result.now c.args.frame.now c.draw_changed.new.frame c.requires.size c.requires.frame
-    c.draw_changed.ensures (c.is_same_table.ensures (search rules))
+    c.draw_changed.ensures (c.is_same_table.ensures.0 (search rules))
     (differ_in _ _ _ c.as_slice-then-is_same_table-2.result.now c.args.old.now.layers c.args.new.now.layers c.as_slice-then-is_same_table-2.ensures.value c.as_slice.ensures c.as_slice-then-is_same_table.ensures c.in_ok-changed.ensures)
     (λ x y. ap (parts_over x y black) c.deref.ensures.value ∙ c.in_ok-parts.ensures.colours x y)
 

@@ -1,6 +1,9 @@
-use Rattle.std.proofs.Common.{inl, ◌∙◌}
+use Rattle.std.proofs.Common.{inl, inr, ◌∙◌}
 use Rattle.kms_screens.proofs.screen.Screen.with_both.Goals as goal
 
-pub returns : goal.returns
-returns g c =
-    (c.both_hashed.ensures.kept c.args.images.now c.in_ok-one.ensures.0 c.in_ok-other.ensures.0, inl (c.both_hashed.ensures.first ∙ c.in_ok-one.ensures.1))
+pub returns-clause-stands : goal.returns-clause-stands
+returns-clause-stands g c = c.both_hashed.ensures.kept c.args.images.now c.in_ok-one.ensures.0 c.in_ok-other.ensures.0
+
+pub returns-clause-both : goal.returns-clause-both
+returns-clause-both g c =
+    (inl (c.both_hashed.ensures.first ∙ c.in_ok-one.ensures.1), inr (c.both_hashed.ensures.second ∙ c.in_ok-other.ensures.1))
