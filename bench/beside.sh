@@ -6,7 +6,8 @@ median() {
 
 # beside KIND C KMS [PROGRAM]: compiles and runs plain C (with the SHA-256 of libcrypto), which prints a digest for each frame.
 # Given the path of the program, runs it on a script too, on all processors and on one, in turn with plain C seven times, since a
-# machine may be slower a minute later; compares the digests of its latches, and prints the median times and their ratios.
+# machine may be slower a minute later; compares the digests of its latches, and prints the median times and their ratios. A
+# folder $work is there; least.sh was read.
 beside() {
     ${CC:-cc} -O3 -Wall -Wextra -o "$work/$1" "$2" -lcrypto
     "$work/$1" >"$work/expected"
@@ -14,9 +15,9 @@ beside() {
     [ -n "${4-}" ] || return 0
     rm -f "$work"/times.*
     for _ in 1 2 3 4 5 6 7; do
-        once /dev/null "$work/expected" "$work/$1" >>"$work/times.plain"
+        time_of /dev/null "$work/expected" "$work/$1" >>"$work/times.plain"
         for processors in "$(nproc)" 1; do
-            once "$3" "$work/report" taskset -c 0-$((processors - 1)) "$4" one >>"$work/times.$processors"
+            time_of "$3" "$work/report" taskset -c 0-$((processors - 1)) "$4" one >>"$work/times.$processors"
             awk '$1 == "L" { print $5 }' "$work/report" >"$work/digests"
             cmp "$work/expected" "$work/digests"
         done

@@ -1,6 +1,6 @@
 #!/bin/sh
 # The time in microseconds of the words after the first two, from the file $1 into the file $2.
-once() (
+time_of() (
     from=$1 into=$2
     shift 2
     start=$(date +%s%N)
@@ -12,7 +12,7 @@ once() (
 least() (
     best=
     for _ in 1 2 3 4 5; do
-        took=$(once "$@")
+        took=$(time_of "$@")
         if [ -z "$best" ] || [ "$took" -lt "$best" ]; then best=$took; fi
     done
     echo "$best"

@@ -58,26 +58,26 @@ differ_in changed xs ys changed' xs' ys' e f g differ = rw (e, ← f, ← g) dif
 -- Frames of pictures in modes of one size
 
 -- the colour of a picture at a pixel
-abbrev pub shown_at : (ℕ → ℕ → ℕ → Option ℕ) → Shown → ℕ → ℕ → Colour
-shown_at words p x y = through p.gamma (composed words x y black p.layers)
+abbrev pub colour_shown : (ℕ → ℕ → ℕ → Option ℕ) → Shown → ℕ → ℕ → Colour
+colour_shown words p x y = through p.gamma (composed words x y black p.layers)
 
 pub frame-size : (words : ℕ → ℕ → ℕ → Option ℕ) (old new : Shown) (bytes : List ℕ) → IsSameSize old.mode new.mode → bytes ≡ frame_of words (On old) →
-    bytes ≡ canvas new.mode.hdisplay new.mode.vdisplay (shown_at words old)
+    bytes ≡ canvas new.mode.hdisplay new.mode.vdisplay (colour_shown words old)
 frame-size words old new bytes size was =
     was
-    ∙ ap (λ (w : ℕ). canvas w old.mode.vdisplay (shown_at words old)) size.width
-    ∙ ap (λ (h : ℕ). canvas new.mode.hdisplay h (shown_at words old)) size.height
+    ∙ ap (λ (w : ℕ). canvas w old.mode.vdisplay (colour_shown words old)) size.width
+    ∙ ap (λ (h : ℕ). canvas new.mode.hdisplay h (colour_shown words old)) size.height
 
 pub frame-length : (words : ℕ → ℕ → ℕ → Option ℕ) (old new : Shown) (bytes : List ℕ) → IsSameSize old.mode new.mode → bytes ≡ frame_of words (On old) →
     length bytes ≡ new.mode.vdisplay * (new.mode.hdisplay * 3)
 frame-length words old new bytes size was =
-    ap length (frame-size words old new bytes size was) ∙ canvas-length new.mode.hdisplay new.mode.vdisplay (shown_at words old)
+    ap length (frame-size words old new bytes size was) ∙ canvas-length new.mode.hdisplay new.mode.vdisplay (colour_shown words old)
 
 -- where each pixel was drawn
 pub drawn_each : (words : ℕ → ℕ → ℕ → Option ℕ) (new : Shown) (parts : List Part) (made : List ℕ) → ((x y : ℕ) → parts_over x y black parts ≡ composed words x y black new.layers) →
     made ≡ canvas new.mode.hdisplay new.mode.vdisplay (λ x y. through new.gamma (parts_over x y black parts)) → made ≡ frame_of words (On new)
 drawn_each words new parts made colours drew =
-    drew ∙ canvas-same new.mode.hdisplay new.mode.vdisplay (λ x y. through new.gamma (parts_over x y black parts)) (shown_at words new) (λ x y _ _. ap (through new.gamma) (colours x y))
+    drew ∙ canvas-same new.mode.hdisplay new.mode.vdisplay (λ x y. through new.gamma (parts_over x y black parts)) (colour_shown words new) (λ x y _ _. ap (through new.gamma) (colours x y))
 
 -- where only those were drawn that some layers cover
 module _ (words : ℕ → ℕ → ℕ → Option ℕ) (old new : Shown) (changed : List Layer) (parts : List Part) (bytes made : List ℕ)
@@ -90,10 +90,10 @@ module _ (words : ℕ → ℕ → ℕ → Option ℕ) (old new : Shown) (changed
   -- the frame is that of the new picture, as both have one table
   pub recomposed : old.gamma ≡ new.gamma → DifferIn changed old.layers new.layers → ((x y : ℕ) → parts_over x y black parts ≡ composed words x y black new.layers) → made ≡ frame_of words (On new)
   recomposed table differ colours =
-      drew (shown_at words old) (frame-size words old new bytes size was)
-      ∙ canvas-same new.mode.hdisplay new.mode.vdisplay (drawn (covered_by changed) anew (shown_at words old)) (shown_at words new) (λ x y _ _. pixel x y (covered_by changed x y) refl)
+      drew (colour_shown words old) (frame-size words old new bytes size was)
+      ∙ canvas-same new.mode.hdisplay new.mode.vdisplay (drawn (covered_by changed) anew (colour_shown words old)) (colour_shown words new) (λ x y _ _. pixel x y (covered_by changed x y) refl)
     where
-      pixel : (x y : ℕ) (b : Bool) → covered_by changed x y ≡ b → cond b (anew x y) (shown_at words old x y) ≡ shown_at words new x y
+      pixel : (x y : ℕ) (b : Bool) → covered_by changed x y ≡ b → cond b (anew x y) (colour_shown words old x y) ≡ colour_shown words new x y
       pixel x y true e = ap (through new.gamma) (colours x y)
       pixel x y false e =
           ap (λ g. through g (composed words x y black old.layers)) table
@@ -102,8 +102,8 @@ module _ (words : ℕ → ℕ → ℕ → Option ℕ) (old new : Shown) (changed
   -- its first rows stay, which no layer covers
   pub front_stays : (rows count : ℕ) → rows ≤ new.mode.vdisplay → count ≡ 3 * new.mode.hdisplay * rows → ((x y : ℕ) → y < rows → covered_by changed x y ≡ false) → take count made ≡ take count bytes
   front_stays rows count low long above =
-      ap (take count) (drew (shown_at words old) (frame-size words old new bytes size was))
-      ∙ canvas-front new.mode.hdisplay new.mode.vdisplay rows count (drawn (covered_by changed) anew (shown_at words old)) (shown_at words old) low long (λ x y high. rw (above x y high) refl)
+      ap (take count) (drew (colour_shown words old) (frame-size words old new bytes size was))
+      ∙ canvas-front new.mode.hdisplay new.mode.vdisplay rows count (drawn (covered_by changed) anew (colour_shown words old)) (colour_shown words old) low long (λ x y high. rw (above x y high) refl)
       ∙ ap (take count) (sym (frame-size words old new bytes size was))
 
 -- the layers before one, and then that one

@@ -1,5 +1,5 @@
-//! Modes, devices and requests that tests are about, each with its exact value, and numbers by chance. Nothing but tests, and definitions for
-//! tests, calls this crate.
+//! Modes, devices and requests that tests are about, each with its exact value, and numbers by chance. Nothing but tests, and
+//! definitions for tests, calls this crate.
 #![tactic(auto)]
 
 mod chance;

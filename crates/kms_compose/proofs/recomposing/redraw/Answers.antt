@@ -4,7 +4,7 @@ use Rattle.kms_model.specs.Frames.FrameBytes.{black}
 use Rattle.kms_compose.specs.Changes.{covered_by}
 use Rattle.kms_compose.specs.Images.{word_under}
 use Rattle.kms_compose.specs.Parts.{parts_over}
-use Rattle.kms_compose.proofs.Recomposed.{differ_in, drawn_each, frame-length, frame-size, front_stays, new_on, old_on, recomposed, shown_at}
+use Rattle.kms_compose.proofs.Recomposed.{differ_in, drawn_each, frame-length, frame-size, front_stays, new_on, old_on, recomposed, colour_shown}
 use Rattle.kms_compose.proofs.recomposing.redraw.Goals as goal
 
 pub draw_changed-requires-clause-changed : goal.draw_changed-requires-clause-changed
@@ -49,4 +49,4 @@ pub returns-clause-exact : goal.returns-clause-exact
 returns-clause-exact c =
     drawn_each (word_under c.args.images.now) c.args.new.now c.deref-else-is_same_table.result.now c.draw_each.new.frame
     (λ x y. ap (parts_over x y black) c.deref-else-is_same_table.ensures.value ∙ c.in_ok-parts.ensures.colours x y)
-    (c.draw_each.ensures (shown_at (word_under c.args.images.now) c.args.old.now) (frame-size (word_under c.args.images.now) c.args.old.now c.args.new.now c.args.frame.now c.requires.size c.requires.frame))
+    (c.draw_each.ensures (colour_shown (word_under c.args.images.now) c.args.old.now) (frame-size (word_under c.args.images.now) c.args.old.now c.args.new.now c.args.frame.now c.requires.size c.requires.frame))
