@@ -66,6 +66,10 @@ AreOfOneSizeAndTable (On one) (On other) = IsSameSize one.mode other.mode × (on
 abbrev pub IsOf : Picture → Drawn → Type 0
 IsOf p d = d.picture ≡ p
 
+-- a picture's frame, over images of framebuffers, and its digest
+abbrev pub IsRenewed : List FbImage → Picture → Drawn → List ℕ → Type 0
+IsRenewed images p d digest = IsDrawnOver images d × IsOf p d × (digest ≡ sha256 d.frame)
+
 -- a picture is one of the two
 abbrev pub Has : Screen → Picture → Type 0
 Has s p = (s.first.drawn.picture ≡ p) ⊎ (s.second.drawn.picture ≡ p)

@@ -8,7 +8,7 @@ use sha2::{Digest, Sha256};
 use std::thread::{Threads, join_mut};
 
 /// How many bytes are worth a thread of their own: a quarter of a MiB, whose digest takes about a millisecond.
-const WORTH_A_THREAD: usize = 262_144;
+pub const WORTH_A_THREAD: usize = 262_144;
 
 /// The SHA-256 of bytes (FIPS 180-4).
 pub fn digest_of(bytes: &[u8]) -> [u8; 32]

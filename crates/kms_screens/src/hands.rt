@@ -3,10 +3,11 @@ ghost use Rattle.std.specs.Prelude.{◌≡◌, IfOk};
 ghost use Rattle.sha2.specs.Sha256.{sha256};
 ghost use Rattle.kms_model.specs.Frames.FrameBytes.{frame_of};
 ghost use Rattle.kms_compose.specs.Images.{CanShow, word_under};
-ghost use Rattle.kms_screens.specs.Screens.{AreFronts};
+ghost use Rattle.kms_screens.specs.Screens.{AreFronts, IsDrawnOver, IsRenewed};
 
 use crate::digests::{both_digests, digest_of_frame};
 use crate::fronts::Fronts;
+use crate::kept::{Drawn, renew, renew_both};
 use kms_compose::{Frame, Images, frame, frame_rows};
 use kms_model::{NoMemory, Picture};
 use std::alloc::Global;
@@ -39,6 +40,24 @@ pub trait Hands {
         ensures fronts { AreFronts fronts.new one.now }
         ensures other { result.1 ≡ sha256 other.now }
         ensures others { AreFronts others.new other.now };
+
+    /// Changes each of two frames to that of another picture, and gives their digests. The only error is want of memory.
+    fn renew(
+        &self,
+        alloc: Global,
+        one: &mut Drawn,
+        picture: &Picture,
+        other: &mut Drawn,
+        next: &Picture,
+        images: &Images,
+    ) -> (Result<[u8; 32], NoMemory>, Result<[u8; 32], NoMemory>)
+        requires hands { can_work self.now }
+        requires one { IsDrawnOver images.now one.old }
+        requires picture { CanShow images.now picture.now }
+        requires other { IsDrawnOver images.now other.old }
+        requires next { CanShow images.now next.now }
+        ensures one { IfOk result.0 (IsRenewed images.now picture.now one.new) }
+        ensures other { IfOk result.1 (IsRenewed images.now next.now other.new) };
 }
 
 /// One thread, which does one thing after the other.
@@ -64,10 +83,23 @@ impl Hands for OneThread {
         let digest = digest_of_frame(one, fronts);
         (digest, digest_of_frame(other, others))
     }
+
+    fn renew(
+        &self,
+        alloc: Global,
+        one: &mut Drawn,
+        picture: &Picture,
+        other: &mut Drawn,
+        next: &Picture,
+        images: &Images,
+    ) -> (Result<[u8; 32], NoMemory>, Result<[u8; 32], NoMemory>) {
+        let digest = renew(alloc, one, picture, images);
+        (digest, renew(alloc, other, next, images))
+    }
 }
 
-/// Several threads: at most two for each processor, up to 64, for the rows of a frame, and two for two digests where both have
-/// much to take in.
+/// Several threads: at most two for each processor, up to 64, for the rows of a frame that is made anew; two for two digests where
+/// both have much to take in, and for two frames that are changed where both are large.
 #[derive(Drop)]
 pub struct SeveralThreads<'a, R> {
     /// Where the threads come from.
@@ -91,5 +123,17 @@ impl<'a, R: Threads + Sync> Hands for SeveralThreads<'a, R> {
         others: &mut Fronts,
     ) -> ([u8; 32], [u8; 32]) {
         both_digests(self.rt, one, fronts, other, others)
+    }
+
+    fn renew(
+        &self,
+        alloc: Global,
+        one: &mut Drawn,
+        picture: &Picture,
+        other: &mut Drawn,
+        next: &Picture,
+        images: &Images,
+    ) -> (Result<[u8; 32], NoMemory>, Result<[u8; 32], NoMemory>) {
+        renew_both(self.rt, alloc, one, picture, other, next, images)
     }
 }

@@ -1,13 +1,15 @@
 //! Frames that are kept.
-ghost use Rattle.std.specs.Prelude.{◌≡◌, ◌⊎◌, ◌↔◌, IfOk, IsTrue};
+ghost use Rattle.std.specs.Prelude.{◌≡◌, ◌⊎◌, ◌↔◌, IfOk, IsTrue, OnOk};
 ghost use Rattle.kms_compose.specs.Images.{CanShow};
-ghost use Rattle.kms_screens.specs.Screens.{AreOfOneSizeAndTable, IsDrawnOver, IsOf};
+ghost use Rattle.kms_screens.specs.Screens.{AreOfOneSizeAndTable, IsDrawnOver, IsOf, IsRenewed};
 
+use crate::digests::{WORTH_A_THREAD, digest_of_frame};
 use crate::fronts::Fronts;
 use crate::hands::Hands;
 use kms_compose::{Frame, Images, is_same_layer, is_same_size, is_same_table, recompose_kept};
 use kms_model::{Layer, Mode, NoMemory, Picture, Seq, Shown};
 use std::alloc::Global;
+use std::thread::{Threads, join_mut};
 
 /// A picture with its frame.
 #[derive(Drop)]
@@ -74,7 +76,7 @@ pub fn is_same(one: &Picture, other: &Picture) -> bool
 
 /// Whether two pictures are on, in modes of one size and with one table of colour values, or none: then the frame of one is that
 /// of the other but for what layers cover that differ.
-fn is_same_size_and_table(one: &Picture, other: &Picture) -> bool
+pub fn is_same_size_and_table(one: &Picture, other: &Picture) -> bool
     ensures { IsTrue result ↔ AreOfOneSizeAndTable one.now other.now }
 {
     match (one, other) {
@@ -85,29 +87,68 @@ fn is_same_size_and_table(one: &Picture, other: &Picture) -> bool
     }
 }
 
-/// A frame, changed to that of another picture where these differ. The states of its digest before the first change stay.
-fn changed(
+/// Changes a frame to that of another picture where these differ. The states of its digest before the first change stay.
+fn change(
     alloc: Global,
-    drawn: Drawn,
+    drawn: &mut Drawn,
     picture: &Picture,
     images: &Images,
-) -> Result<Drawn, NoMemory>
-    requires drawn { IsDrawnOver images.now drawn }
+) -> Result<(), NoMemory>
+    requires drawn { IsDrawnOver images.now drawn.old }
     requires can { CanShow images.now picture.now }
-    ensures { IfOk result (λ d. IsDrawnOver images.now d × IsOf picture.now d) }
+    ensures { OnOk result (IsDrawnOver images.now drawn.new × IsOf picture.now drawn.new) }
 {
-    let Drawn {
-        picture: old,
-        mut frame,
-        mut fronts,
-    } = drawn;
-    let count = recompose_kept(alloc, &mut frame, &old, picture, images)?;
-    fronts.keep(count);
-    Ok(Drawn {
-        picture: *picture,
-        frame,
-        fronts,
-    })
+    let count = recompose_kept(alloc, &mut drawn.frame, &drawn.picture, picture, images)?;
+    drawn.picture = *picture;
+    drawn.fronts.keep(count);
+    Ok(())
+}
+
+/// Changes a frame to that of another picture, and gives its digest.
+pub fn renew(
+    alloc: Global,
+    drawn: &mut Drawn,
+    picture: &Picture,
+    images: &Images,
+) -> Result<[u8; 32], NoMemory>
+    requires drawn { IsDrawnOver images.now drawn.old }
+    requires can { CanShow images.now picture.now }
+    ensures { IfOk result (IsRenewed images.now picture.now drawn.new) }
+{
+    change(alloc, drawn, picture, images)?;
+    Ok(digest_of_frame(drawn.frame.as_slice(), &mut drawn.fronts))
+}
+
+/// Changes two frames to those of other pictures, and gives their digests: side by side where both are large.
+pub fn renew_both<R: Threads>(
+    rt: &R,
+    alloc: Global,
+    one: &mut Drawn,
+    picture: &Picture,
+    other: &mut Drawn,
+    next: &Picture,
+    images: &Images,
+) -> (Result<[u8; 32], NoMemory>, Result<[u8; 32], NoMemory>)
+    requires one { IsDrawnOver images.now one.old }
+    requires picture { CanShow images.now picture.now }
+    requires other { IsDrawnOver images.now other.old }
+    requires next { CanShow images.now next.now }
+    ensures one { IfOk result.0 (IsRenewed images.now picture.now one.new) }
+    ensures other { IfOk result.1 (IsRenewed images.now next.now other.new) }
+{
+    if one.frame.len().min(other.frame.len()) < WORTH_A_THREAD {
+        let digest = renew(alloc, one, picture, images);
+        return (digest, renew(alloc, other, next, images));
+    }
+    let mut first = || -> Result<[u8; 32], NoMemory>
+        requires { IsDrawnOver images.now one.now × CanShow images.now picture.now }
+        ensures { IfOk result (IsRenewed images.entry.now picture.entry.now one.exit.now) }
+    { renew(alloc, one, picture, images) };
+    let mut second = || -> Result<[u8; 32], NoMemory>
+        requires { IsDrawnOver images.now other.now × CanShow images.now next.now }
+        ensures { IfOk result (IsRenewed images.entry.now next.entry.now other.exit.now) }
+    { renew(alloc, other, next, images) };
+    join_mut(rt, &mut first, &mut second)
 }
 
 /// The frame of a picture, made anew.
@@ -134,7 +175,7 @@ fn made<H: Hands>(
 pub fn redrawn<H: Hands>(
     hands: &H,
     alloc: Global,
-    drawn: Drawn,
+    mut drawn: Drawn,
     picture: &Picture,
     images: &Images,
 ) -> Result<Drawn, NoMemory>
@@ -144,7 +185,8 @@ pub fn redrawn<H: Hands>(
     ensures { IfOk result (λ d. IsDrawnOver images.now d × IsOf picture.now d) }
 {
     if is_same_size_and_table(&drawn.picture, picture) {
-        return changed(alloc, drawn, picture, images);
+        change(alloc, &mut drawn, picture, images)?;
+        return Ok(drawn);
     }
     drop(drawn);
     made(hands, alloc, picture, images)

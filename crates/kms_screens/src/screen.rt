@@ -8,7 +8,7 @@ ghost use Rattle.kms_screens.specs.Screens.{AreFronts, Has, IsDrawnOver, IsKeptO
 use crate::digests::{digest_of, digest_of_frame};
 use crate::fronts::Fronts;
 use crate::hands::Hands;
-use crate::kept::{Drawn, Kept, at_hand, is_same, redrawn};
+use crate::kept::{Drawn, Kept, at_hand, is_same, is_same_size_and_table, redrawn};
 use kms_compose::Images;
 use kms_model::{NoMemory, Picture, Seq};
 use std::alloc::Global;
@@ -84,6 +84,37 @@ fn both_hashed<H: Hands>(hands: &H, mut one: Drawn, mut other: Drawn) -> Screen
     }
 }
 
+/// Two frames, each changed to that of another picture, with their digests.
+fn both_renewed<H: Hands>(
+    hands: &H,
+    alloc: Global,
+    mut one: Drawn,
+    picture: &Picture,
+    mut other: Drawn,
+    next: &Picture,
+    images: &Images,
+) -> Result<Screen, NoMemory>
+    requires hands { H.can_work hands.now }
+    requires one { IsDrawnOver images.now one }
+    requires picture { CanShow images.now picture.now }
+    requires other { IsDrawnOver images.now other }
+    requires next { CanShow images.now next.now }
+    ensures stands { IfOk result (StandsOver images.now) }
+    ensures both { IfOk result (λ s. Has s picture.now × Has s next.now) }
+{
+    let (digest, digest_of_other) = hands.renew(alloc, &mut one, picture, &mut other, next, images);
+    Ok(Screen {
+        first: Kept {
+            drawn: one,
+            digest: digest?,
+        },
+        second: Kept {
+            drawn: other,
+            digest: digest_of_other?,
+        },
+    })
+}
+
 impl Screen {
     /// The screen of a CRTC that showed nothing yet.
     pub fn dark(alloc: Global) -> Screen
@@ -153,7 +184,7 @@ impl Screen {
         })
     }
 
-    /// These two pictures in the place of both.
+    /// These two pictures in the place of both. Where each frame is made of the kept one in its place, neither needs the other.
     fn with_both<H: Hands>(
         self,
         hands: &H,
@@ -170,8 +201,14 @@ impl Screen {
         ensures both { IfOk result (λ s. Has s picture.now × Has s next.now) }
     {
         let Screen { first, second } = self;
-        let one = redrawn(hands, alloc, first.drawn, picture, images)?;
-        let hand = at_hand(alloc, second.drawn, &one, next)?;
+        let (first, second) = (first.drawn, second.drawn);
+        if is_same_size_and_table(&first.picture, picture)
+            && is_same_size_and_table(&second.picture, next)
+        {
+            return both_renewed(hands, alloc, first, picture, second, next, images);
+        }
+        let one = redrawn(hands, alloc, first, picture, images)?;
+        let hand = at_hand(alloc, second, &one, next)?;
         let other = redrawn(hands, alloc, hand, next, images)?;
         Ok(both_hashed(hands, one, other))
     }

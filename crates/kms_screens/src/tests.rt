@@ -288,3 +288,23 @@ fn large_frames_are_digested_side_by_side(rt: HostRuntime) -> Result<(), Fail> {
     assert!(rt; keeps(alloc, &screen, &other, 308736)?);
     Ok(())
 }
+
+/// A picture of one pixel at two places of a column, in a mode whose frame has 307,200 bytes.
+fn spots(column: u16) -> Picture
+    ensures { ShowsDot result }
+{
+    dots((512, 200), (column, 100), (column, 199), None)
+}
+
+#[test]
+fn large_frames_are_changed_side_by_side(rt: HostRuntime) -> Result<(), Fail> {
+    let alloc = rt.alloc();
+    let images = images(alloc, &ABC)?;
+    let hands = SeveralThreads { rt: &rt };
+    let screen = dark(alloc, &images);
+    let screen = screen.showing(&hands, alloc, &spots(0), Some(&spots(1)), &images)?;
+    let screen = screen.showing(&hands, alloc, &spots(2), Some(&spots(3)), &images)?;
+    assert!(rt; shows_whole(alloc, &screen, &spots(2), &images)?);
+    assert!(rt; shows_whole(alloc, &screen, &spots(3), &images)?);
+    Ok(())
+}
