@@ -1,5 +1,5 @@
 -- The steps of a history have numbers that a line can spell.
-use Rattle.std.proofs.Common.{◌≡◌, ℕ, suc, ◌*◌, ◌<◌, ◌≤◌, List, [], ◌∷◌, length, Bool, true, Option, Some, None, refl, ap, arith}
+use Rattle.std.proofs.Common.{◌≡◌, ℕ, suc, ◌*◌, ◌<◌, ◌≤◌, List, [], ◌∷◌, length, Bool, true, false, Option, Some, None, refl, sym, ap, ◌∙◌, arith}
 use Rattle.std.specs.List.{AllByRecursion}
 use Rattle.std.proofs.lemmas.Bool.{and_parts, false≢true, ltb-true}
 use Rattle.kms_model.specs.declared.objects.Kind.{Kind}
@@ -37,27 +37,10 @@ few_of_kind t Plane few = few.planes
 few_of_kind t Conn few = omega (arith, few.conns)
 few_of_kind t Enc few = omega (arith, few.conns)
 
--- the client is doing something, and is not idle
-taking-busy : (d : Doing) → is_taking d ≡ true → 1 ≤ busy d
-taking-busy doing.Idle h = absurd (false≢true h)
-taking-busy (doing.Taking ticket) h = omega arith
-taking-busy (doing.MustBackOff ticket object) h = omega arith
-taking-busy (doing.BackedOff ticket object) h = omega arith
-taking-busy (doing.Returning k) h = omega arith
-
-backing-busy : (d : Doing) → must_back_off d ≡ true → 1 ≤ busy d
-backing-busy doing.Idle h = absurd (false≢true h)
-backing-busy (doing.Taking ticket) h = omega arith
-backing-busy (doing.MustBackOff ticket object) h = omega arith
-backing-busy (doing.BackedOff ticket object) h = omega arith
-backing-busy (doing.Returning k) h = omega arith
-
-free-busy : (m : Machine) (d : Doing) → is_free_for m (contended d) ≡ true → 1 ≤ busy d
-free-busy m doing.Idle h = absurd (false≢true h)
-free-busy m (doing.Taking ticket) h = omega arith
-free-busy m (doing.MustBackOff ticket object) h = omega arith
-free-busy m (doing.BackedOff ticket object) h = omega arith
-free-busy m (doing.Returning k) h = omega arith
+-- a client that passes a test which idle ones fail is doing something
+busy-if : (test : Doing → Bool) → test doing.Idle ≡ false → (d : Doing) → test d ≡ true → 1 ≤ busy d
+busy-if test idle doing.Idle h = absurd (false≢true (sym idle ∙ h))
+busy-if test idle _ h = omega arith
 
 module _ (s : Script) (formed : IsWellFormed s) (n : ℕ) (m : Machine) (C : Counted s n m) where
   number-exists : (kind : Kind) (index : ℕ) → exists s.topology kind index ≡ true → IsFitIndex index
@@ -91,7 +74,7 @@ module _ (s : Script) (formed : IsWellFormed s) (n : ℕ) (m : Machine) (C : Cou
       has_command client (omega (arith, S.low client, S.bound client, some))
 
   taking : (client : ℕ) (test : Request → Bool) → taking_at s m client test ≡ true → IsFitNumber client
-  taking client test h = is_busy client (taking-busy (doing_at m client) ((and_parts _ _ h).0))
+  taking client test h = is_busy client (busy-if is_taking refl (doing_at m client) (and_parts _ _ h).0)
 
   idle : (client : ℕ) (test : Command → Bool) → idle_at s m client test ≡ true → IsFitNumber client
   idle client test h = go (command_at s m client) refl
@@ -145,8 +128,8 @@ module _ (s : Script) (formed : IsWellFormed s) (n : ℕ) (m : Machine) (C : Cou
   step_fits (Lock client kind index) h =
       let both = and_parts (is_lockable s.topology kind index) _ (and_parts _ _ h).1 in
       (locking client (object_id kind index) both.1, lockable-exists kind index both.0)
-  step_fits (BackOff client) h = is_busy client (backing-busy (doing_at m client) (and_parts _ _ h).1)
-  step_fits (Relock client) h = is_busy client (free-busy m (doing_at m client) (and_parts _ _ h).1)
+  step_fits (BackOff client) h = is_busy client (busy-if must_back_off refl (doing_at m client) (and_parts _ _ h).1)
+  step_fits (Relock client) h = is_busy client (busy-if (λ d. is_free_for m (contended d)) refl (doing_at m client) (and_parts _ _ h).1)
   step_fits (Refuse client) h = taking client (may_refuse s.topology m client) (and_parts _ _ h).1
   step_fits (Test client) h = taking client (may_test s.topology m client) (and_parts _ _ h).1
   step_fits (Swap client) h = taking client (may_swap s.topology m client) (and_parts _ _ h).1

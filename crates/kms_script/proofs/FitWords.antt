@@ -20,7 +20,7 @@ use Rattle.kms_model.specs.Script.WellFormed.{are_words16, has_widths, is_intege
 use Rattle.kms_model.specs.Script.Words.{between, dec, dec_at, end_at, field_at, hex_from, hex_value, is_digit, is_hex, is_label, is_name_byte, label_at, name_at, strip}
 use Rattle.kms_script.proofs.Decimals.{dec_at_most}
 use Rattle.kms_script.proofs.Inverted.{bind_some, choice_some, from_bind, if_some, map_some, or_some, some_same}
-use Rattle.kms_script.proofs.ReadParts.{checker_parts, hex_parts, mode_parts, name_parts}
+use Rattle.kms_script.proofs.ReadParts.{checker_parts, five_parts, hex_parts, mode_parts, name_parts}
 use Rattle.kms_script.proofs.SpeltFields.{name_ends}
 use Rattle.kms_script.proofs.SpeltWords.{nothing_read}
 
@@ -195,18 +195,13 @@ word32_fit : (n : ℕ) → n ≤ 4294967295 → is_word32 n ≡ true
 word32_fit n few = lt_test n (2 ^ 32) (omega (arith, few))
 
 five_fit : (bytes : List ℕ) (r : ℕ × ℕ × ℕ × ℕ × ℕ × List ℕ) → five_at bytes ≡ Some r → are_words16 r.0 r.1 r.2 r.3 r.4 ≡ true
-unfolding five_at
 five_fit bytes r e =
-    from_bind (dec_at 65535 bytes) _ r e (λ a first more.
-    from_bind (dec_at 65535 a.1) _ r more (λ b second more.
-    from_bind (dec_at 65535 b.1) _ r more (λ c third more.
-    from_bind (dec_at 65535 c.1) _ r more (λ d fourth more.
-    from_bind (dec_at 65535 d.1) _ r more (λ n fifth more.
-    rw (← some_same _ r more)
-    (both (is_word16 a.0) (is_word16 b.0 && (is_word16 c.0 && (is_word16 d.0 && is_word16 n.0))) (word16_fit a.0 (dec_at_fit 65535 bytes a first))
-    (both (is_word16 b.0) (is_word16 c.0 && (is_word16 d.0 && is_word16 n.0)) (word16_fit b.0 (dec_at_fit 65535 a.1 b second))
-    (both (is_word16 c.0) (is_word16 d.0 && is_word16 n.0) (word16_fit c.0 (dec_at_fit 65535 b.1 c third))
-    (both (is_word16 d.0) (is_word16 n.0) (word16_fit d.0 (dec_at_fit 65535 c.1 d fourth)) (word16_fit n.0 (dec_at_fit 65535 d.1 n fifth)))))))))))
+    let p = five_parts bytes r e in
+    rw (← p.makes)
+    (both (is_word16 p.a.0) (is_word16 p.b.0 && (is_word16 p.c.0 && (is_word16 p.d.0 && is_word16 p.e.0))) (word16_fit p.a.0 (dec_at_fit 65535 bytes p.a p.first))
+    (both (is_word16 p.b.0) (is_word16 p.c.0 && (is_word16 p.d.0 && is_word16 p.e.0)) (word16_fit p.b.0 (dec_at_fit 65535 p.a.1 p.b p.second))
+    (both (is_word16 p.c.0) (is_word16 p.d.0 && is_word16 p.e.0) (word16_fit p.c.0 (dec_at_fit 65535 p.b.1 p.c p.third))
+    (both (is_word16 p.d.0) (is_word16 p.e.0) (word16_fit p.d.0 (dec_at_fit 65535 p.c.1 p.d p.fourth)) (word16_fit p.e.0 (dec_at_fit 65535 p.d.1 p.e p.fifth))))))
 
 pub mode_fit : (bytes : List ℕ) (m : Mode × List ℕ) → mode_fields bytes ≡ Some m → (has_widths m.0 && is_mode_name m.0.name) ≡ true
 mode_fit bytes m e =

@@ -1,7 +1,8 @@
 -- The faults of a command's line.
-use Rattle.std.proofs.Common.{◌≡◌, ℕ, ◌+◌, ◌≤◌, ◌⊎◌, inl, inr, Bool, true, false, List, length, cond, Option, Some, None, Ok, Err, refl, sym, ap, ◌∙◌, arith}
+use Rattle.std.proofs.Common.{◌≡◌, ℕ, ◌+◌, ◌≤◌, inl, inr, Bool, true, false, List, length, cond, Option, Some, None, Ok, Err, refl, sym, ap, ◌∙◌, arith}
 use Rattle.std.specs.Prelude.{◌&&◌, codes, nat_lt, option_map, Result}
 use Rattle.std.specs.Str.{bytes_eq}
+use Rattle.std.proofs.lemmas.Bool.{false≢true}
 use Rattle.std.proofs.lemmas.Bool.Decides.{nat_tests}
 use Rattle.kms_model.specs.declared.scripts.Command.{Command}
 use Rattle.kms_model.specs.declared.scripts.Command.TheVariants as command
@@ -176,18 +177,26 @@ pub alone_read : (profile : ℕ) (words : List (List ℕ)) (text : List ℕ) (c 
 unfolding line_read
 alone_read profile words text c after e = read_step (command_read (unmade profile words) text) c after e
 
--- a fault is one of three, and the same
+-- a line of a command has one of three faults
+abbrev is_of_line : Why → Bool
+is_of_line Form = true
+is_of_line Label = true
+is_of_line Limit = true
+is_of_line Bytes = false
+is_of_line Cut = false
+
+-- a fault is one of these, and the same
 record FaultAlone (stated : Result (Command × List (List ℕ)) Why) (why : Why) : Type 0 where
   same : stated ≡ Err why
-  one : (why ≡ Form) ⊎ ((why ≡ Label) ⊎ (why ≡ Limit))
+  of_line : is_of_line why ≡ true
 
 fault_step : (o : Option (Command × Names)) (why : Why) → checked o ≡ Err why → FaultAlone (alone o) why
-fault_step None why e = let is : Form ≡ why = cc in record { same = ap Err is; one = inl (sym is) }
+fault_step None why e = let is : Form ≡ why = cc in record { same = ap Err is; of_line = sym (ap is_of_line is) }
 fault_step (Some r) why e = step r.1.is_twice (is_over r.0) e
   where
     step : (twice over : Bool) → unless twice Label (unless over Limit (Ok r)) ≡ Err why → FaultAlone (unless twice Label (unless over Limit (with_words r))) why
-    step true over e = let is : Label ≡ why = cc in record { same = ap Err is; one = inr (inl (sym is)) }
-    step false true e = let is : Limit ≡ why = cc in record { same = ap Err is; one = inr (inr (sym is)) }
+    step true over e = let is : Label ≡ why = cc in record { same = ap Err is; of_line = sym (ap is_of_line is) }
+    step false true e = let is : Limit ≡ why = cc in record { same = ap Err is; of_line = sym (ap is_of_line is) }
     step false false e = absurd (none e)
       where
         none : Ok r ≡ Err why → ⊥
@@ -197,18 +206,8 @@ error_step : (stated : Result (Command × List (List ℕ)) Why) (after : List (L
 error_step stated after Form f = f.same
 error_step stated after Label f = f.same
 error_step stated after Limit f = f.same
-error_step stated after Bytes f = absurd (other f.one)
-  where
-    other : (Bytes ≡ Form) ⊎ ((Bytes ≡ Label) ⊎ (Bytes ≡ Limit)) → ⊥
-    other (inl e) = cc
-    other (inr (inl e)) = cc
-    other (inr (inr e)) = cc
-error_step stated after Cut f = absurd (other f.one)
-  where
-    other : (Cut ≡ Form) ⊎ ((Cut ≡ Label) ⊎ (Cut ≡ Limit)) → ⊥
-    other (inl e) = cc
-    other (inr (inl e)) = cc
-    other (inr (inr e)) = cc
+error_step stated after Bytes f = absurd (false≢true f.of_line)
+error_step stated after Cut f = absurd (false≢true f.of_line)
 
 -- the error of a line
 pub alone_stopped : (profile : ℕ) (words after : List (List ℕ)) (text : List ℕ) (names : Names) (stop : Stop) → GivesLine (Err stop) (line_of (unmade profile words) text) names → GivesCommand (Err (line_error stop)) (line_read profile words text) after

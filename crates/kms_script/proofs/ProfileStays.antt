@@ -8,7 +8,6 @@ use Rattle.kms_model.specs.declared.scripts.Assign.{Assign}
 use Rattle.kms_model.specs.declared.scripts.Command.{Command}
 use Rattle.kms_model.specs.declared.scripts.Command.TheVariants as command
 use Rattle.kms_model.specs.declared.scripts.Value.{Value}
-use Rattle.kms_model.specs.declared.scripts.Value.TheVariants as value
 use Rattle.kms_model.specs.declared.scripts.Why.TheVariants.{Label, Limit}
 use Rattle.kms_model.specs.Script.CommandLines.{Names, addfb_read, assign_read, assign_words, assigns_read, atomic_read, blob_read, buffer_read, command_read, is_over, label_alone, label_read, making, making_read, mode_read, naming_read, property_read, saying, thing_read, value_read}
 use Rattle.kms_model.specs.Script.Grammar.{int, known_property}

@@ -19,6 +19,29 @@ use Rattle.kms_script.proofs.Inverted.{bind_some, from_bind, if_some, some_same}
 abbrev pub Five : Type 0
 Five = ℕ × ℕ × ℕ × ℕ × ℕ × List ℕ
 
+pub record AreFive (bytes : List ℕ) (v : Five) : Type 0 where
+  pub a : ℕ × List ℕ
+  pub b : ℕ × List ℕ
+  pub c : ℕ × List ℕ
+  pub d : ℕ × List ℕ
+  pub e : ℕ × List ℕ
+  pub first : dec_at 65535 bytes ≡ Some a
+  pub second : dec_at 65535 a.1 ≡ Some b
+  pub third : dec_at 65535 b.1 ≡ Some c
+  pub fourth : dec_at 65535 c.1 ≡ Some d
+  pub fifth : dec_at 65535 d.1 ≡ Some e
+  pub makes : (a.0, b.0, c.0, d.0, e.0, e.1) ≡ v
+
+pub five_parts : (bytes : List ℕ) (v : Five) → five_at bytes ≡ Some v → AreFive bytes v
+unfolding five_at
+five_parts bytes v is =
+    from_bind (dec_at 65535 bytes) _ v is (λ a first more.
+    from_bind (dec_at 65535 a.1) _ v more (λ b second more.
+    from_bind (dec_at 65535 b.1) _ v more (λ c third more.
+    from_bind (dec_at 65535 c.1) _ v more (λ d fourth more.
+    from_bind (dec_at 65535 d.1) _ v more (λ e fifth more.
+    record { a = a; b = b; c = c; d = d; e = e; first = first; second = second; third = third; fourth = fourth; fifth = fifth; makes = some_same _ v more })))))
+
 -- a mode
 pub record IsMode (bytes : List ℕ) (m : Mode × List ℕ) : Type 0 where
   pub clock : ℕ × List ℕ

@@ -12,9 +12,9 @@ use Rattle.kms_model.specs.Script.Words.{◌>>=◌, until, dec, is_label, is_nam
 use Rattle.kms_model.specs.Script.Spelling.{hex_word, pixel_word, format_word, spelt_mode}
 use Rattle.kms_script.proofs.Decimals.{dec_spelt}
 use Rattle.kms_script.proofs.Hexadecimals.{hex_spelt, pixel_spelt}
-use Rattle.kms_script.proofs.Inverted.{bind_some, from_bind, if_some, some_same}
+use Rattle.kms_script.proofs.Inverted.{bind_some, if_some, some_same}
 use Rattle.kms_script.proofs.LineFields.{fields_to, then_fields, field_spelt, end_spelt}
-use Rattle.kms_script.proofs.ReadParts.{Five, mode_parts, name_parts}
+use Rattle.kms_script.proofs.ReadParts.{Five, five_parts, mode_parts, name_parts}
 use Rattle.kms_script.proofs.SpeltWords.{format_spelt}
 
 -- a field whose word stands for a value that is written as the word
@@ -93,19 +93,14 @@ five_joined a b c d e bytes first second third fourth fifth = rw (fifth, fourth,
 
 -- five numbers
 five_spelt : (bytes : List ℕ) (v : Five) → five_at bytes ≡ Some v → fields_to (five_words v []) v.5 ≡ bytes
-unfolding five_at
 five_spelt bytes v h =
-    from_bind (dec_at 65535 bytes) _ v h (λ a first more.
-    from_bind (dec_at 65535 a.1) _ v more (λ b second more.
-    from_bind (dec_at 65535 b.1) _ v more (λ c third more.
-    from_bind (dec_at 65535 c.1) _ v more (λ d fourth more.
-    from_bind (dec_at 65535 d.1) _ v more (λ e fifth more.
-    rw (← some_same _ v more) (five_joined a b c d e bytes
-    (dec_at_spelt 65535 bytes a (omega arith) first)
-    (dec_at_spelt 65535 a.1 b (omega arith) second)
-    (dec_at_spelt 65535 b.1 c (omega arith) third)
-    (dec_at_spelt 65535 c.1 d (omega arith) fourth)
-    (dec_at_spelt 65535 d.1 e (omega arith) fifth)))))))
+    let p = five_parts bytes v h in
+    rw (← p.makes) (five_joined p.a p.b p.c p.d p.e bytes
+    (dec_at_spelt 65535 bytes p.a (omega arith) p.first)
+    (dec_at_spelt 65535 p.a.1 p.b (omega arith) p.second)
+    (dec_at_spelt 65535 p.b.1 p.c (omega arith) p.third)
+    (dec_at_spelt 65535 p.c.1 p.d (omega arith) p.fourth)
+    (dec_at_spelt 65535 p.d.1 p.e (omega arith) p.fifth))
 
 -- fields behind five
 then_five : (v : Five) (ws : List (List ℕ)) (after bytes : List ℕ) → fields_to (five_words v []) v.5 ≡ bytes → fields_to ws after ≡ v.5 → fields_to (five_words v ws) after ≡ bytes

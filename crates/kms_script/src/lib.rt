@@ -24,20 +24,12 @@ mod patterns;
 mod printing;
 mod printing_commands;
 mod printing_steps;
-#[cfg(test)]
-mod printing_tests;
 mod printing_words;
 mod requests;
 mod rows;
-#[cfg(test)]
-mod schedule_tests;
 mod schedules;
-#[cfg(test)]
-mod step_tests;
 mod steps;
 mod stop;
-#[cfg(test)]
-mod tests;
 mod words;
 
 pub use devices::{TopologyRead, read_topology};

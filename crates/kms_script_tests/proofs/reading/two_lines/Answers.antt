@@ -1,5 +1,5 @@
 use Rattle.std.specs.List.{IsDistinct}
-use Rattle.kms_script.proofs.tests.two_lines.Goals as goal
+use Rattle.kms_script_tests.proofs.reading.two_lines.Goals as goal
 
 pub read_command-requires-clause-differ : goal.read_command-requires-clause-differ
 unfolding IsDistinct

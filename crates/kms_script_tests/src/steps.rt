@@ -1,6 +1,6 @@
 //! The lines of steps: each kind read and printed, and lines that are nearly such lines.
-use crate::{print_step, read_step};
 use kms_model::{Kind, Step};
+use kms_script::{print_step, read_step};
 use std::alloc::{AllocError, Global};
 use std::test::Fail;
 

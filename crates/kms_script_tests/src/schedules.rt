@@ -1,7 +1,7 @@
 //! Inputs in which a schedule or a report follows the script.
-use crate::tests::{HEAD, part_fault, repeated, script};
-use crate::{Parsed, Why, parse, print, print_step};
+use crate::reading::{HEAD, part_fault, repeated, script};
 use kms_model::{Kind, Part, Step};
+use kms_script::{Parsed, Why, parse, print, print_step};
 use std::alloc::{AllocError, Global};
 use std::test::Fail;
 

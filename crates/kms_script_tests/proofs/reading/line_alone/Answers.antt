@@ -1,5 +1,5 @@
 use Rattle.std.specs.List.{IsDistinct}
-use Rattle.kms_script.proofs.tests.line_alone.Goals as goal
+use Rattle.kms_script_tests.proofs.reading.line_alone.Goals as goal
 
 pub read_command-requires-clause-differ : goal.read_command-requires-clause-differ
 unfolding IsDistinct

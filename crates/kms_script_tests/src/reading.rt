@@ -1,11 +1,11 @@
 //! What a reader answers: worked scripts, each fault, each limit at its edge, and numbers at theirs.
 ghost use Rattle.std.specs.Prelude.{◌<◌, length};
 
-use crate::{
+use kms_model::{Part, Script, Seq, Topology};
+use kms_script::{
     LineError, NameIndex, ParseError, Why, is_label, parse, print, read_command, read_dec,
     read_int, read_topology,
 };
-use kms_model::{Part, Script, Seq, Topology};
 use std::alloc::{AllocError, Global};
 use std::test::Fail;
 

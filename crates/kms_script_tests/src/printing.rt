@@ -1,10 +1,10 @@
 //! What `print` writes: texts that were read, and a script that no text spells.
-use crate::print;
-use crate::tests::script;
+use crate::reading::script;
 use kms_model::{
     Assign, Command, Format, Kind, Pattern, PlaneInfo, PropRef, Request, Script, Seq, Topology,
     Value,
 };
+use kms_script::print;
 use std::alloc::{AllocError, Global};
 use std::test::Fail;
 
