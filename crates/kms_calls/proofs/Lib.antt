@@ -1,4 +1,5 @@
 pub mod Stored
+pub mod HeldStates
 pub mod Locking
 pub mod BackingOff
 pub mod Returned

@@ -1,14 +1,16 @@
 -- What calls on locks ask for and answer. From: "KMS Locking", `drm_modeset_lock.c`.
-use Rattle.std.specs.Prelude.{Option, Some, None, ℕ, ◌≡◌, ◌≤◌, Bool, true, false, List, [], ◌∷◌}
+use Rattle.std.specs.Prelude.{Option, Some, None, ℕ, ◌≡◌, ◌≤◌, ◌&&◌, nat_le, Bool, true, false, List, [], ◌∷◌}
+use Rattle.std.specs.Bool.{then_some}
 use Rattle.kms_model.specs.declared.objects.ObjId.{ObjId}
 use Rattle.kms_model.specs.declared.objects.Ticket.{Ticket}
+use Rattle.kms_model.specs.declared.objects.Topology.{Topology}
 use Rattle.kms_model.specs.declared.replies.Step.{Step}
 use Rattle.kms_model.specs.declared.replies.Step.TheVariants.{Begin, Lock, Relock}
 use Rattle.kms_model.specs.declared.runs.Doing.TheVariants as doing
 use Rattle.kms_model.specs.declared.states.ObjState.{ObjState}
 use Rattle.kms_model.specs.Device.Objects.{first_id, index_of, kind_of}
 use Rattle.kms_model.specs.Machine.Histories.{legal}
-use Rattle.kms_model.specs.Machine.State.{doing_at, holder_at}
+use Rattle.kms_model.specs.Machine.State.{doing_at, holder_at, holds}
 use Rattle.kms_model.specs.Machine.Steps.{contended, is_lockable, taking_at}
 use Rattle.kms_model.specs.Request.Reach.{reaches}
 use Rattle.kms_clients.specs.InStep.{lock_answer, relock_answer, holder_of_contended}
@@ -45,6 +47,14 @@ pub record MayLock (r : Run) (t : Ticket) (id : ObjId) : Type 0 where
 -- the present state of an object
 abbrev pub present_state : Run → ObjId → ObjState
 present_state r id = state_of_kind r.script.topology (machine r).device.world (kind_of id.0) id.0
+
+-- the id is that of an object of the device that has a lock
+abbrev pub has_lock : Topology → ℕ → Bool
+has_lock t object = nat_le (first_id (kind_of object)) object && is_lockable t (kind_of object) (index_of object)
+
+-- the present state of such an object, where a client's context holds it
+abbrev pub held_state : Run → ℕ → ObjId → Option ObjState
+held_state r client id = then_some (has_lock r.script.topology id.0 && holds (machine r) client id.0) (present_state r id)
 
 abbrev pub locked_as : ObjState → TableLock → Locked
 locked_as s table.Got = locked.Got s

@@ -9,3 +9,4 @@ mod states;
 pub use contexts::{Locked, backoff, begin, lock, relock};
 pub use making::{make, signal};
 pub use reading::{read, return_from};
+pub use states::{has_lock, held_state};

@@ -1,1 +1,1 @@
-mod Applied
+pub mod Applied

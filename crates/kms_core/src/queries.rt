@@ -11,13 +11,14 @@ ghost use Rattle.kms_model.specs.Machine.Histories.{is_history};
 ghost use Rattle.kms_model.specs.Machine.State.{go_at, place_at};
 ghost use Rattle.kms_model.specs.Script.WellFormed.{IsWellFormed};
 ghost use Rattle.kms_laws.specs.TailsLeft.{all_left};
+ghost use Rattle.kms_calls.specs.Locks.{held_state};
 ghost use Rattle.kms_stores.specs.Calls.{idle_command_at};
 ghost use Rattle.kms_freeing.specs.Freeing.{label_and_id};
 ghost use Rattle.kms_stores.specs.Run.{machine};
 ghost use Rattle.kms_stores.specs.Stands.{entry_pair};
 
 use crate::machine::Core;
-use kms_model::{Answered, Command, Image, Latch, Place, Script, Step};
+use kms_model::{Answered, Command, Image, Latch, ObjId, ObjState, Place, Script, Step};
 
 impl Core {
     /// The script.
@@ -89,6 +90,14 @@ impl Core {
         ensures { option_copied result ≡ idle_command_at self.now client }
     {
         kms_next::idle_command(&self.stores, client)
+    }
+
+    /// The present state of an object that a client's context holds. None exactly where it holds no such object; any numbers
+    /// may be asked for.
+    pub fn held_state(&self, client: u32, id: ObjId) -> Option<ObjState>
+        ensures { result ≡ held_state self.now client id }
+    {
+        kms_calls::held_state(&self.stores, client, id)
     }
 
     /// For how many further steps, and latches, memory was taken: at least for all that the tails of commits which are not
