@@ -21,11 +21,13 @@
 //! | `next 1 T begin 1`, `tail T claim 0` | what is next in the order of one thread is this step, which is done |
 //! | `next 1 none`, `tail none` | nothing is next |
 //! | `D open`, `D drained`, `D stalled n`, `D ended n` | how the history ends, before and after a dead one is ended |
+use crate::calls::call_again;
 use crate::ends::ends;
 use crate::lists::{Told, counts, is_told};
 use crate::moves::{do_step, goes, next_of, place_of};
+use crate::pieces::{END_0, LIGHT, WRITE_0};
 use crate::refusing::is_refused;
-use crate::texts::{lighting, started_from};
+use crate::texts::{lighting_script, started_from};
 use kms_core::Core;
 use kms_model::Step;
 use kms_script::read_step;
@@ -161,20 +163,41 @@ pub fn follow(core: &mut Core, alloc: Global, course: &[&str]) -> Result<(), Fai
     Ok(())
 }
 
-/// Follows a course from the start of the script that some pieces spell.
-pub fn play(rt: &impl AllocGlobal, script: &[&str], course: &[&str]) -> Result<(), Fail> {
+/// Follows two courses, one after the other, from the start of the script that some pieces spell. Their history is then made
+/// again by single calls.
+fn play_both(
+    rt: &impl AllocGlobal,
+    script: &[&str],
+    front: &[&str],
+    course: &[&str],
+) -> Result<(), Fail> {
     let mut core = started_from(rt, script)?;
-    follow(&mut core, rt.alloc(), course)
+    follow(&mut core, rt.alloc(), front)?;
+    follow(&mut core, rt.alloc(), course)?;
+    call_again(rt, script, &core)
+}
+
+/// Follows a course from the start of the script that some pieces spell. Its history is then made again by single calls.
+pub fn play(rt: &impl AllocGlobal, script: &[&str], course: &[&str]) -> Result<(), Fail> {
+    play_both(rt, script, &[], course)
 }
 
 /// Follows a course of a client that lights the one CRTC by a request with these flags as its fourth command, and of what
-/// follows.
+/// follows. Its history is then made again by single calls.
 pub fn play_lighting(
     rt: &impl AllocGlobal,
     flags: &str,
     more: &str,
     course: &[&str],
 ) -> Result<(), Fail> {
-    let mut core = lighting(rt, flags, more)?;
-    follow(&mut core, rt.alloc(), course)
+    play(rt, &lighting_script(flags, more), course)
+}
+
+/// What lights the one CRTC, to the end of its commit.
+pub(crate) const LIGHTS: [&str; 3] = [LIGHT, WRITE_0, END_0];
+
+/// Follows a course of a client that has lit the one CRTC by its fourth command, and of what follows. The history is then made
+/// again by single calls.
+pub fn play_lit(rt: &impl AllocGlobal, more: &str, course: &[&str]) -> Result<(), Fail> {
+    play_both(rt, &lighting_script("0x400", more), &LIGHTS, course)
 }

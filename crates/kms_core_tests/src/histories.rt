@@ -1,8 +1,10 @@
 //! Histories of one client, worked out by hand.
-use crate::courses::{follow, play, play_lighting};
-use crate::pieces::{CHANGE, END_0, END_1, LIGHT, LIT, LIT_TWICE, TAKE, WRITE_0, WRITE_1};
-use crate::texts::{MADE, SET, SINGLE, UNSET, WRONG, started_from};
+use crate::calls::call_again;
+use crate::courses::{LIGHTS, follow, play, play_lighting, play_lit};
+use crate::pieces::{CHANGE, END_1, LIGHT, LIT, LIT_TWICE, TAKE, WRITE_0, WRITE_1};
+use crate::texts::{GOES_OFF, SINGLE, WRONG, lighting_script, started_from};
 use kms_core::Core;
+use std::alloc::{AllocError, Global};
 use std::test::Fail;
 
 #[test]
@@ -45,9 +47,6 @@ fn a_client_lights_the_crtc(rt: HostRuntime) -> Result<(), Fail> {
 fn an_equal_mode_in_another_blob_is_no_modeset(rt: HostRuntime) -> Result<(), Fail> {
     let more = "mode m2 1 1 1 1 1 0 1 1 1 1 0 60 0 0 tiny\natomic 0x0 0 crtc0.MODE_ID=@m2\n";
     let course = [
-        LIGHT,
-        WRITE_0,
-        END_0,
         "T make 1\nT begin 1\nT lock 1 crtc0\nT swap 1",
         "T claim 1\nT write 1 crtc0\nT flush 1 crtc0\nT hwdone 1",
         END_1,
@@ -55,26 +54,13 @@ fn an_equal_mode_in_another_blob_is_no_modeset(rt: HostRuntime) -> Result<(), Fa
         "R 1 5 4 made 1003\nR 1 6 5 commit 1\ncount R 6",
         LIT_TWICE,
     ];
-    play_lighting(&rt, "0x400", more, &course)
+    play_lit(&rt, more, &course)
 }
 
 /// A commit after which the CRTC is off latches where it is flushed, with the count as it is, and its event comes then.
 #[test]
 fn a_crtc_goes_off_at_its_flush(rt: HostRuntime) -> Result<(), Fail> {
-    let script = [
-        SINGLE,
-        "client\n",
-        MADE,
-        "atomic 0x400 0 ",
-        SET,
-        "\natomic 0x401 9 ",
-        UNSET,
-        "\nwait\n",
-    ];
     let course = [
-        LIGHT,
-        WRITE_0,
-        END_0,
         "T begin 1\nT lock 1 crtc0\nT lock 1 plane0\nT lock 1 conn0\nT swap 1",
         WRITE_1,
         "rests 0\nno T vblank crtc0: it is off",
@@ -83,7 +69,7 @@ fn a_crtc_goes_off_at_its_flush(rt: HostRuntime) -> Result<(), Fail> {
         "R 1 5 4 commit 1\nR 1 6 5 event 9 1 100\ncount R 6",
         "L 0 0 1 1x1 1001\nL 0 1 1 off\ncount L 2",
     ];
-    play(&rt, &script, &course)
+    play_lit(&rt, GOES_OFF, &course)
 }
 
 /// Whether an event is asked for a CRTC that is off needs its lock; flags, and assignments, are refused without one. A
@@ -122,7 +108,7 @@ fn flip(rt: &impl AllocGlobal, core: &mut Core, commit: u32) -> Result<(), Fail>
 
 /// The client fills the space for its events, and goes on once it reads one.
 fn fill(rt: &impl AllocGlobal, core: &mut Core) -> Result<(), Fail> {
-    follow(core, rt.alloc(), &[LIGHT, WRITE_0, END_0])?;
+    follow(core, rt.alloc(), &LIGHTS)?;
     for commit in 1..129 {
         flip(rt, core, commit)?;
     }
@@ -141,32 +127,23 @@ fn fill(rt: &impl AllocGlobal, core: &mut Core) -> Result<(), Fail> {
 /// A commit that asks for an event.
 const EVENT: &str = "atomic 0x1 0 plane0.alpha=65535\n";
 
-/// Sixteen of them.
-const EVENTS: &str =
-    "atomic 0x1 0 plane0.alpha=65535\natomic 0x1 0 plane0.alpha=65535\natomic 0x1 0 plane0.alpha=65535\natomic 0x1 0 plane0.alpha=65535\natomic 0x1 0 plane0.alpha=65535\natomic 0x1 0 plane0.alpha=65535\natomic 0x1 0 plane0.alpha=65535\natomic 0x1 0 plane0.alpha=65535\natomic 0x1 0 plane0.alpha=65535\natomic 0x1 0 plane0.alpha=65535\natomic 0x1 0 plane0.alpha=65535\natomic 0x1 0 plane0.alpha=65535\natomic 0x1 0 plane0.alpha=65535\natomic 0x1 0 plane0.alpha=65535\natomic 0x1 0 plane0.alpha=65535\natomic 0x1 0 plane0.alpha=65535\n";
+/// The lines of a client that asks for 129 events without reading one, reads one, and asks for one more.
+fn many_events(alloc: Global) -> Result<String, AllocError> {
+    let mut text = String::new(alloc);
+    for _commit in 0..129 {
+        text.push_str(EVENT)?;
+    }
+    text.push_str("wait\n")?;
+    text.push_str(EVENT)?;
+    Ok(text)
+}
 
 /// A client has room for 128 events that it did not read. Reading one makes room for one.
 #[test]
 fn events_fill_their_space(rt: HostRuntime) -> Result<(), Fail> {
-    let script = [
-        SINGLE,
-        "client\n",
-        MADE,
-        "atomic 0x400 0 ",
-        SET,
-        "\n",
-        EVENTS,
-        EVENTS,
-        EVENTS,
-        EVENTS,
-        EVENTS,
-        EVENTS,
-        EVENTS,
-        EVENTS,
-        EVENT,
-        "wait\n",
-        EVENT,
-    ];
+    let more = many_events(rt.alloc())?;
+    let script = lighting_script("0x400", more.as_str());
     let mut core = started_from(&rt, &script)?;
-    fill(&rt, &mut core)
+    fill(&rt, &mut core)?;
+    call_again(&rt, &script, &core)
 }

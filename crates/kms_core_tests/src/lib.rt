@@ -2,6 +2,8 @@
 //! machine share with them. A test is text: a script, and a course of what is done on its machine and of what it tells.
 #![tactic(auto)]
 
+mod calls;
+mod comparing;
 mod courses;
 mod ends;
 #[cfg(test)]
@@ -23,17 +25,15 @@ mod things;
 #[cfg(test)]
 mod turns;
 
-pub use courses::{follow, holds, play, play_lighting, step_of};
-pub use moves::{do_step, do_steps, goes, next_of, place_of, tells_same};
+pub use calls::{call_again, call_decision};
+pub use comparing::{looks_same, tells_same};
+pub use courses::{follow, holds, play, play_lighting, play_lit, step_of};
+pub use moves::{do_step, do_steps, goes, next_of, place_of};
 pub use pieces::{
     CHANGE, END_0, END_1, LIGHT, LIGHT_PAIR, LIT, LIT_TWICE, TAIL_2, TAKE, WRITE_0, WRITE_1,
 };
-pub use steps::{
-    Object, all, back_off, begin, both, claim, cleanup, conn, crtc, encoder, flush, hw_done,
-    light_steps, lock, make, plane, read, refuse, relock, return_from, signal, swap, test, vblank,
-    write,
-};
+pub use steps::{Object, crtc, flush, lock, plane, vblank, write};
 pub use texts::{
-    AWAITS, CLOSING, CROSSING, FLIPS, MADE, MOVING, OTHER, PAIR, SET, SINGLE, UNSET, WRONG,
-    lighting, started, started_from,
+    AWAITS, CLOSING, CROSSING, FLIPS, GOES_OFF, MADE, MOVING, OTHER, PAIR, SET, SINGLE, WRONG,
+    lighting, lighting_script, started, started_from,
 };

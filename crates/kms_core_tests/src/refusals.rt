@@ -1,6 +1,5 @@
 //! Steps that are not legal, by the condition that fails: requests, contexts and the commands of clients.
-use crate::courses::{play, play_lighting};
-use crate::pieces::{END_0, LIGHT, WRITE_0};
+use crate::courses::{play, play_lighting, play_lit};
 use crate::texts::{CROSSING, SINGLE};
 use std::test::Fail;
 
@@ -33,12 +32,14 @@ fn each_command_has_its_step(rt: HostRuntime) -> Result<(), Fail> {
         "no T signal 1: a fence\nno T read 1: a fence\nno T begin 1: a fence\nT make 1",
         "no T make 1: a signal\nno T read 1: a signal\nno T begin 1: a signal\nT signal 1",
         "no T make 1: a wait\nno T signal 1: a wait\nno T begin 1: a wait\nT read 1",
-        "no T make 1: a request\nno T signal 1: a request\nno T read 1: a request\nT begin 1",
+        "no T make 1: a request\nno T signal 1: a request\nno T read 1: a request",
+        "no taking 1: it has no context\nno waiting 1: it has no context\nT begin 1",
         "no idle 1: it takes locks\nno T test 1: it is no test\nT swap 1",
         "no idle 1: it returns\nno taking 1: it returns",
         "no waiting 1: the commit is not cleaned",
         "T claim 0\nT hwdone 0\nT cleanup 0\nT return 1",
-        "no idle 1: it is at its end\nno T stall: the history is drained",
+        "no idle 1: it is at its end\nno taking 1: it is at its end\nno waiting 1: it is at its end",
+        "no T stall: the history is drained",
     ];
     play(&rt, &script, &course)
 }
@@ -47,9 +48,6 @@ fn each_command_has_its_step(rt: HostRuntime) -> Result<(), Fail> {
 #[test]
 fn locks_are_refused_out_of_reach(rt: HostRuntime) -> Result<(), Fail> {
     let course = [
-        LIGHT,
-        WRITE_0,
-        END_0,
         "T begin 1",
         "no T lock 1 conn0: no modeset is needed\nno T lock 1 enc0: an encoder has no lock",
         "no T lock 1 crtc1: there is no such CRTC\nno T lock 1 crtc100: it has a plane's number",
@@ -61,7 +59,7 @@ fn locks_are_refused_out_of_reach(rt: HostRuntime) -> Result<(), Fail> {
         "T lock 1 crtc0",
         "no T test 1: it is no test\nno T refuse 1: it is accepted",
     ];
-    play_lighting(&rt, "0x400", "atomic 0x0 0 plane0.alpha=1\n", &course)
+    play_lit(&rt, "atomic 0x0 0 plane0.alpha=1\n", &course)
 }
 
 /// A context that must back off, or did, takes no lock but the one that it backed off for.
@@ -72,7 +70,7 @@ fn contexts_back_off_first(rt: HostRuntime) -> Result<(), Fail> {
         "T begin 2\nT lock 2 crtc0\nT lock 2 plane0",
         "no T lock 1 crtc0: a younger one holds it",
         "no T test 1: it does not hold the CRTC\nno T relock 2: it has not backed off",
-        "no taking 2: it must back off\nno idle 2: it must back off",
+        "no taking 2: it must back off\nno idle 2: it must back off\nno T return 2: it must back off",
         "T backoff 2",
         "no taking 2: it backed off\nno idle 2: it backed off",
         "no waiting 2: it backed off, and the plane is held",

@@ -1,16 +1,18 @@
 //! Lines of a course on steps that are not legal.
 use crate::courses::step_of;
-use crate::steps::{
-    back_off, begin, claim, cleanup, crtc, flush, hw_done, lock, make, plane, read, refuse, relock,
-    return_from, signal, swap, test, write,
-};
+use crate::steps::{crtc, flush, lock, plane, write};
 use kms_core::Core;
 use kms_model::Step;
 use std::test::Fail;
 
 /// The steps of a client that is idle at a command.
 fn idle_steps(client: u32) -> [Step; 4] {
-    [begin(client), make(client), signal(client), read(client)]
+    [
+        Step::Begin { client },
+        Step::Make { client },
+        Step::Signal { client },
+        Step::Read { client },
+    ]
 }
 
 /// The steps of a context that takes locks, on the device with one CRTC.
@@ -18,25 +20,29 @@ fn taking_steps(client: u32) -> [Step; 5] {
     [
         lock(client, crtc(0)),
         lock(client, plane(0)),
-        refuse(client),
-        test(client),
-        swap(client),
+        Step::Refuse { client },
+        Step::Test { client },
+        Step::Swap { client },
     ]
 }
 
 /// The steps of a context that met an older one, and of a commit's client.
 fn waiting_steps(client: u32) -> [Step; 3] {
-    [back_off(client), relock(client), return_from(client)]
+    [
+        Step::BackOff { client },
+        Step::Relock { client },
+        Step::Return { client },
+    ]
 }
 
 /// The steps of a commit's tail, on the device with one CRTC.
 fn tail_steps(commit: u32) -> [Step; 5] {
     [
-        claim(commit),
+        Step::Claim { commit },
         write(commit, crtc(0)),
         flush(commit, crtc(0)),
-        hw_done(commit),
-        cleanup(commit),
+        Step::HwDone { commit },
+        Step::Cleanup { commit },
     ]
 }
 

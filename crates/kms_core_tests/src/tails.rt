@@ -1,6 +1,6 @@
 //! Steps of tails that are not legal, by the condition that fails, and of clients that wait for tails.
-use crate::courses::{play, play_lighting};
-use crate::pieces::{CHANGE, END_0, END_1, LIGHT, LIGHT_PAIR, TAKE, WRITE_0, WRITE_1};
+use crate::courses::{play, play_lighting, play_lit};
+use crate::pieces::{CHANGE, END_1, LIGHT, LIGHT_PAIR, TAKE, WRITE_0, WRITE_1};
 use crate::texts::MOVING;
 use std::test::Fail;
 
@@ -109,9 +109,6 @@ fn swaps_wait_for_a_cleanup(rt: HostRuntime) -> Result<(), Fail> {
 #[test]
 fn reads_wait_for_reserved_events(rt: HostRuntime) -> Result<(), Fail> {
     let course = [
-        LIGHT,
-        WRITE_0,
-        END_0,
         CHANGE,
         "no T read 1: the event is to come",
         WRITE_1,
@@ -119,7 +116,7 @@ fn reads_wait_for_reserved_events(rt: HostRuntime) -> Result<(), Fail> {
         "T vblank crtc0\nT read 1\nT read 1",
     ];
     let more = "atomic 0x201 0 plane0.alpha=1\nwait\nwait\n";
-    play_lighting(&rt, "0x400", more, &course)
+    play_lit(&rt, more, &course)
 }
 
 /// Nothing is legal once a dead history was ended.
@@ -128,9 +125,6 @@ fn nothing_is_legal_after_the_end(rt: HostRuntime) -> Result<(), Fail> {
     let more =
         "fence n\natomic 0x200 0 plane0.alpha=1 plane0.IN_FENCE_FD=@n\natomic 0x0 0 plane0.alpha=2\nclient\nfence o\nsignal o\nwait\n";
     let course = [
-        LIGHT,
-        WRITE_0,
-        END_0,
         "T make 1",
         CHANGE,
         TAKE,
@@ -142,5 +136,5 @@ fn nothing_is_legal_after_the_end(rt: HostRuntime) -> Result<(), Fail> {
         "no tail 0: it was ended\nno tail 1: it was ended\nno tail 2: it was ended",
         "no T vblank crtc0: it was ended\nno T stall: it is ended already",
     ];
-    play_lighting(&rt, "0x400", more, &course)
+    play_lit(&rt, more, &course)
 }

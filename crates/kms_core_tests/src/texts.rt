@@ -20,9 +20,9 @@ pub const MADE: &str =
 pub const SET: &str =
     "crtc0.ACTIVE=1 crtc0.MODE_ID=@m conn0.CRTC_ID=crtc0 plane0.FB_ID=@f plane0.CRTC_ID=crtc0 plane0.CRTC_W=1 plane0.CRTC_H=1 plane0.SRC_W=65536 plane0.SRC_H=65536";
 
-/// What a request sets that turns the first CRTC off.
-pub const UNSET: &str =
-    "crtc0.ACTIVE=0 crtc0.MODE_ID=0 conn0.CRTC_ID=0 plane0.FB_ID=0 plane0.CRTC_ID=0";
+/// The lines of a client that turns the first CRTC off and reads the event of that.
+pub const GOES_OFF: &str =
+    "atomic 0x401 9 crtc0.ACTIVE=0 crtc0.MODE_ID=0 conn0.CRTC_ID=0 plane0.FB_ID=0 plane0.CRTC_ID=0\nwait\n";
 
 /// The lines of a client on the device of one CRTC, each of which is refused but the sixth.
 pub const WRONG: &str =
@@ -83,11 +83,15 @@ pub fn started_from(rt: &impl AllocGlobal, script: &[&str]) -> Result<Core, Fail
     started(rt, text.as_str())
 }
 
-/// The machine of a client that lights the one CRTC by a request with these flags as its fourth command, and of what
+/// The pieces of a script whose client lights the one CRTC by a request with these flags as its fourth command, and of what
 /// follows.
-pub fn lighting(rt: &impl AllocGlobal, flags: &str, more: &str) -> Result<Core, Fail> {
-    let script = [
+pub fn lighting_script<'a>(flags: &'a str, more: &'a str) -> [&'a str; 9] {
+    [
         SINGLE, "client\n", MADE, "atomic ", flags, " 0 ", SET, "\n", more,
-    ];
-    started_from(rt, &script)
+    ]
+}
+
+/// The machine of that script, before the first step.
+pub fn lighting(rt: &impl AllocGlobal, flags: &str, more: &str) -> Result<Core, Fail> {
+    started_from(rt, &lighting_script(flags, more))
 }
