@@ -1,61 +1,70 @@
 #!/bin/sh
-# Refuses each allocation of two runs of the machine in turn: the run in which a client lights a CRTC, and the one in which an
-# event is read and a framebuffer freed. A step that finds no memory leaves the machine as it was, as a second machine
-# beside it tells, and is done at the second try; the tests (allocations/memory.rt.txt) ask for both. They are run as they are
-# built once they are proved, with a library before the C library's `malloc` (refuse_allocation.c); `rt test` proves and builds
-# them first, in a copy of the crates, unless a file of them is given. For each run it says how often it saw what. Skipped
-# where a C compiler is missing.
-#     checks/allocations.sh [TESTS]
-# runs the tests of a file that was built elsewhere.
+# Refuses each allocation of three runs of the machine in turn: the run in which a client lights a CRTC, the one in which an
+# event is read and a framebuffer freed, and one of two clients that test the same, with a refused request. A step that finds no memory leaves the machine as it was, as a second machine
+# beside it tells, and is done at the second try; both then answer each question in the same way, and their reports have the
+# same bytes. The tests (allocations/memory.rt.txt) ask for that. The toolchain refuses the allocation of one number in each
+# test (`rt try --test --fail-alloc`, which proves nothing). So that one build does, there is a test for each allocation of a
+# run, which first takes memory so often that the number falls on it. For each run it says how often it saw what.
+#     checks/allocations.sh [MOST]
+# has as many tests of each run, which must be more than the run has allocations.
 set -eu
 here=$(cd "$(dirname "$0")" && pwd)
 top=$(cd "$here/.." && pwd)
+most=${1:-400}
 work=$(mktemp -d)
 trap 'rm -rf "$work"' EXIT
-program=${1:-$work/crates/memory_tests/out/memory_tests_tests}
-for compiler in cc gcc clang; do
-    command -v "$compiler" >/dev/null 2>&1 && break
-    compiler=
-done
-if [ -z "$compiler" ]; then
-    echo "allocations: skipped, there is no C compiler"
-    exit 0
-fi
-if [ ! -x "$program" ]; then
-    (cd "$top" && tar -cf - --exclude=out HANDLES crates.txt crates) | tar -xf - -C "$work"
-    mkdir -p "$work/crates/memory_tests/src"
-    echo "memory_tests: kms_model kms_core kms_core_tests" >>"$work/crates.txt"
-    cp "$here/allocations/memory.rt.txt" "$work/crates/memory_tests/src/memory.rt"
-    printf '//! Want of memory.\n#![tactic(auto)]\n\n#[cfg(test)]\nmod memory;\n' >"$work/crates/memory_tests/src/lib.rt"
-    (cd "$work/crates/memory_tests" && rt test >&2)
-fi
-refuse=$work/refuse_allocation.so
-"$compiler" -O1 -shared -fPIC -o "$refuse" "$here/refuse_allocation.c"
+tests=$work/crates/memory_tests
+(cd "$top" && tar -cf - --exclude=out HANDLES crates.txt crates) | tar -xf - -C "$work"
+mkdir -p "$tests/src"
+echo "memory_tests: kms_model kms_core kms_core_tests kms_report" >>"$work/crates.txt"
+printf '//! Want of memory.\n#![tactic(auto)]\n\n#[cfg(test)]\nmod memory;\n' >"$tests/src/lib.rt"
 
-# What a run of a test says with one allocation refused.
-run() {
-    REFUSE=$2 LD_PRELOAD=$refuse "$program" "$1" 2>&1
-}
-
-# Refuses each allocation of a test, and tells how it went.
-sweep() {
-    number=1
-    before=0
-    again=0
-    while said=$(run "$1" "$number" || true) && [ "${said#*an allocation is refused}" != "$said" ]; do
-        case $said in
-        *"found no memory, and was done at the second try"*) again=$((again + 1)) ;;
-        *"error: NoMemory"* | *"error: AllocError"*)
-            [ "$again" -eq 0 ] || return 1
-            before=$((before + 1))
-            ;;
-        *) echo "$1: allocation $number: $said" && return 1 ;;
-        esac
-        number=$((number + 1))
+# The tests of a run, that of its last allocation first; they are done in the order of their names.
+write_tests() {
+    times=0
+    while [ "$times" -lt "$most" ]; do
+        printf '\n#[test]\nfn %s_after_%04d(rt: HostRuntime) -> Result<(), Fail> {\n    %s(&rt, %d)\n}\n' \
+            "$1" "$times" "$1" "$times"
+        times=$((times + 1))
     done
-    run "$1" "$number" >/dev/null || return 1
-    echo "$1: $((number - 1)) allocations refused, $before before the first step, $again at a step that was done at the second try"
 }
 
-sweep memory::a_crtc_is_lit_with_all_memory
-sweep memory::an_event_is_read_with_all_memory
+# How the tests of a run ended. From the last allocation on there are those that the run does not come to, those of answers at
+# its end, those of steps, and those before the first step.
+judge() {
+    awk -v run="$1" -v most="$most" '
+        $1 == "test" { is_of_run = index($2, "::" run "_after_") }
+        is_of_run && /^    / {
+            is_of_run = 0
+            ended = 5
+            if (/all memory was there/) ended = 1
+            if (/an answer found no memory/) ended = 2
+            if (/a step found no memory/) ended = 3
+            if (/error: (NoMemory|AllocError)$/) ended = 4
+            if (ended == 5 || ended < last) print run ": " $0
+            if (ended == 5 || ended < last) is_wrong = 1
+            last = ended
+            count[ended]++
+        }
+        END {
+            refused = count[2] + count[3] + count[4]
+            if (is_wrong || !count[1] || !count[3] || count[1] + refused != most) exit 1
+            print run ": " refused " allocations refused: " count[4] " before the first step, " count[3] \
+                " at a step and " count[2] " at an answer, which were there at the second try"
+        }' "$work/said" || {
+        echo "$1: not each of $most tests ended as it should:"
+        tail -n 5 "$work/said"
+        return 1
+    }
+}
+
+{
+    cat "$here/allocations/memory.rt.txt"
+    write_tests lights
+    write_tests reads
+    write_tests crosses
+} >"$tests/src/memory.rt"
+(cd "$tests" && rt try --test --fail-alloc "$most") >"$work/said" 2>&1 || true
+judge lights
+judge reads
+judge crosses

@@ -8,7 +8,7 @@ pub(crate) const STALL: u32 = 0x20000;
 pub(crate) const BUT_STALL: u32 = 0x1ffff;
 
 /// The bit of a step's kind.
-fn kind_bit(step: &Step) -> u32 {
+pub(crate) fn kind_bit(step: &Step) -> u32 {
     match step {
         Step::Begin { .. } => 0x1,
         Step::Lock { .. } => 0x2,

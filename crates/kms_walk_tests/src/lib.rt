@@ -3,10 +3,18 @@
 #![tactic(auto)]
 
 #[cfg(test)]
+mod asking;
+#[cfg(test)]
 mod crowds;
 #[cfg(test)]
+mod dice;
+#[cfg(test)]
 mod kinds;
+#[cfg(test)]
+mod long_walks;
 #[cfg(test)]
 mod turns;
 #[cfg(test)]
 mod walks;
+#[cfg(test)]
+mod whole_walks;

@@ -1,23 +1,21 @@
 //! The next steps in the order of one thread, beside the steps that are legal.
+use crate::asking::Commits;
 use kms_core::Core;
-use kms_core_tests::{
-    Object, back_off, begin, claim, cleanup, crtc, flush, goes, hw_done, lock, make, next_of, read,
-    refuse, relock, signal, swap, test, vblank, write,
-};
+use kms_core_tests::{Object, crtc, flush, goes, lock, next_of, vblank, write};
 use kms_model::Step;
 
 /// The steps of a client but for its locks and its return, as they come in one thread.
 fn decisions(client: u32) -> [Step; 9] {
     [
-        refuse(client),
-        test(client),
-        swap(client),
-        begin(client),
-        make(client),
-        signal(client),
-        read(client),
-        back_off(client),
-        relock(client),
+        Step::Refuse { client },
+        Step::Test { client },
+        Step::Swap { client },
+        Step::Begin { client },
+        Step::Make { client },
+        Step::Signal { client },
+        Step::Read { client },
+        Step::BackOff { client },
+        Step::Relock { client },
     ]
 }
 
@@ -33,8 +31,9 @@ fn first_legal(core: &Core, steps: &[Step]) -> Option<Step> {
 
 /// The first step of a commit that is legal, of those with these objects.
 fn first_of_tail(core: &Core, commit: u32, objects: &[Object]) -> Option<Step> {
-    if core.legal(&claim(commit)) {
-        return Some(claim(commit));
+    let claim = Step::Claim { commit };
+    if core.legal(&claim) {
+        return Some(claim);
     }
     for object in objects {
         if core.legal(&write(commit, *object)) {
@@ -46,12 +45,12 @@ fn first_of_tail(core: &Core, commit: u32, objects: &[Object]) -> Option<Step> {
             return Some(flush(commit, *object));
         }
     }
-    first_legal(core, &[hw_done(commit), cleanup(commit)])
+    first_legal(core, &[Step::HwDone { commit }, Step::Cleanup { commit }])
 }
 
-/// The first step of a tail that is legal, of so many commits, or else the first CRTC that goes.
-fn first_of_tails(core: &Core, commits: u32, objects: &[Object]) -> Option<Step> {
-    for commit in 0..commits {
+/// The first step of a tail that is legal, of these commits, or else the first CRTC that goes.
+fn first_of_tails(core: &Core, commits: &Commits, objects: &[Object]) -> Option<Step> {
+    for commit in commits.first..commits.count {
         if let Some(step) = first_of_tail(core, commit, objects) {
             return Some(step);
         }
@@ -87,9 +86,9 @@ fn is_next(core: &Core, client: u32, objects: &[Object]) -> bool {
     }
 }
 
-/// Whether the machine tells the next steps in the order of one thread, where the device has these objects and there were so
-/// many commits.
-pub(crate) fn is_in_order(core: &Core, commits: u32, objects: &[Object]) -> bool {
+/// Whether the machine tells the next steps in the order of one thread, where the device has these objects and there were
+/// these commits.
+pub(crate) fn is_in_order(core: &Core, commits: &Commits, objects: &[Object]) -> bool {
     // A script has at most 16 clients.
     core.is_a_history();
     for client in 0..core.script().clients.len() as u32 {
