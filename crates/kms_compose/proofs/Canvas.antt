@@ -107,10 +107,10 @@ beside y row (inr h) = grind (arith, nat_tests)
 pub before_run : (left count x : ℕ) → x < left → is_within left count x ≡ false
 before_run left count x h = grind (arith, nat_tests)
 
-behind_run : (left count x : ℕ) → left + count ≤ x → is_within left count x ≡ false
+pub behind_run : (left count x : ℕ) → left + count ≤ x → is_within left count x ≡ false
 behind_run left count x h = grind (arith, nat_tests)
 
-inside_run : (left count x : ℕ) → left ≤ x → x < left + count → is_within left count x ≡ true
+pub inside_run : (left count x : ℕ) → left ≤ x → x < left + count → is_within left count x ≡ true
 inside_run left count x h k = grind (arith, nat_tests)
 
 here : (row : ℕ) → (row == row) ≡ true

@@ -1,7 +1,6 @@
 -- A run of words put over a row, and opaque layers.
 use Rattle.std.proofs.Common.{◌≡◌, ◌<◌, ◌≤◌, ℕ, ◌+◌, ◌-◌, Bool, true, false, not, ◌||◌, ◌==◌, cond, List, length, take, drop, slice_index, Some, ◌⊎◌, inl, inr, ⊎_elim, arith, rules, refl, ap, ◌∙◌}
 use Rattle.std.proofs.lemmas.Bool.{and_parts, cases_lt, eqb-true, not-true}
-use Rattle.std.proofs.lemmas.Bool.Decides.{nat_tests}
 use Rattle.std.proofs.lemmas.List.{places}
 use borrow.Rule.Slice.PartMut.{put_mid}
 use Rattle.kms_model.specs.declared.objects.Format.{Format}
@@ -9,7 +8,8 @@ use Rattle.kms_model.specs.declared.objects.Format.TheVariants.{Xr24, Ar24, Rg16
 use Rattle.kms_model.specs.declared.pictures.Colour.{Colour}
 use Rattle.kms_model.specs.declared.pictures.Layer.{Layer}
 use Rattle.kms_model.specs.Frames.FrameBytes.{blended, colour_of}
-use Rattle.kms_compose.specs.Parts.{channel_over, has_alpha, is_opaque, is_within, run_colour}
+use Rattle.kms_compose.specs.Parts.{channel_over, has_alpha, is_opaque, run_colour}
+use Rattle.kms_compose.proofs.Canvas.{before_run, behind_run, inside_run}
 
 module _ (old run : List ℕ) (left n x : ℕ) (long : length run ≡ n) (fits : left + n ≤ length old) where
   before : x < left → slice_index (put_mid left n old run) x ≡ slice_index old x
@@ -21,26 +21,17 @@ module _ (old run : List ℕ) (left n x : ℕ) (long : length run ≡ n) (fits :
   behind : left + n ≤ x → slice_index (put_mid left n old run) x ≡ slice_index old x
   behind h = search (rules, places)
 
-within-before : (start size at : ℕ) → at < start → is_within start size at ≡ false
-within-before start size at h = grind (arith, nat_tests)
-
-within-inside : (start size at : ℕ) → start ≤ at → at < start + size → is_within start size at ≡ true
-within-inside start size at h k = grind (arith, nat_tests)
-
-within-behind : (start size at : ℕ) → start + size ≤ at → is_within start size at ≡ false
-within-behind start size at h = grind (arith, nat_tests)
-
 -- what a row has after a run of words was put over a part of it, of which n is the length
 pub run_over : (l : Layer) (channel : Colour → ℕ) (words old run : List ℕ) (left n : ℕ) → n ≡ length words → length run ≡ length words → left + length words ≤ length old →
     ((k : ℕ) → k < length words → slice_index run k ≡ channel_over l channel (Some (colour_of l.fb.format (slice_index words k))) (slice_index old (left + k))) →
     (x : ℕ) → slice_index (put_mid left n old run) x ≡ channel_over l channel (run_colour l.fb.format words left x) (slice_index old x)
 run_over l channel words old run left n e long fits each x =
     ⊎_elim
-    (λ h. let none = within-before left (length words) x h in rw none (before old run left n x (omega arith) (omega arith) h))
+    (λ h. let none = before_run left (length words) x h in rw none (before old run left n x (omega arith) (omega arith) h))
     (λ h. ⊎_elim
-    (λ k. let some = within-inside left (length words) x h k in
+    (λ k. let some = inside_run left (length words) x h k in
     rw some (inside old run left n x (omega arith) (omega arith) h (omega arith) ∙ each (x - left) (omega arith) ∙ ap (λ (i : ℕ). channel_over l channel (Some (colour_of l.fb.format (slice_index words (x - left)))) (slice_index old i)) (omega arith)))
-    (λ k. let none = within-behind left (length words) x k in rw none (behind old run left n x (omega arith) (omega arith) (omega arith)))
+    (λ k. let none = behind_run left (length words) x k in rw none (behind old run left n x (omega arith) (omega arith) (omega arith)))
     (cases_lt x (left + length words)))
     (cases_lt x left)
 

@@ -8,7 +8,7 @@ use kms_model::{Layer, NoMemory, Rect};
 use std::alloc::Global;
 
 /// Whether a layer is among others.
-fn is_among(layer: &Layer, layers: &[Layer]) -> bool
+fn is_one_of(layer: &Layer, layers: &[Layer]) -> bool
     ensures { IsTrue result ↔ Any (λ l. layer.now ≡ l) layers.now }
 {
     layers.iter().any(|other| is_same_layer(layer, other))
@@ -62,7 +62,7 @@ pub fn changes(alloc: Global, old: &[Layer], new: &[Layer]) -> Result<Vec<Layer>
         if is_same_layer(&old[left], &new[came]) {
             left += 1;
             came += 1;
-        } else if is_among(&old[left], &new[came + 1..]) {
+        } else if is_one_of(&old[left], &new[came + 1..]) {
             list(&mut changed, &new[came])?;
             came += 1;
         } else {

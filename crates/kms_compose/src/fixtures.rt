@@ -11,27 +11,6 @@ use std::process::Abort;
 /// One pixel in 16.16 fixed point.
 pub const PIXEL: i64 = 65536;
 
-/// A mode of this size.
-pub fn mode(w: u16, h: u16) -> Mode {
-    Mode {
-        clock: 1,
-        hdisplay: w,
-        hsync_start: w,
-        hsync_end: w,
-        htotal: w,
-        hskew: 0,
-        vdisplay: h,
-        vsync_start: h,
-        vsync_end: h,
-        vtotal: h,
-        vscan: 0,
-        vrefresh: 60,
-        flags: 0,
-        kind: 0,
-        name: [0; 32],
-    }
-}
-
 /// A rectangle.
 pub fn rect(x: i64, y: i64, w: i64, h: i64) -> Rect
     ensures { result ≡ record { x = x; y = y; w = w; h = h } }

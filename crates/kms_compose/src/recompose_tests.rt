@@ -4,9 +4,9 @@ ghost use Rattle.std.specs.Prelude.{◌≤◌, ◌<◌};
 ghost use Rattle.kms_compose.specs.Images.{CanShow};
 
 use super::*;
-use crate::fixtures::{PIXEL, Place, image, mode, opaque, picture, rect};
+use crate::fixtures::{PIXEL, Place, image, opaque, picture, rect};
 use kms_model::{Format, Gamma, Picture, Seq};
-use kms_samples::Chance;
+use kms_samples::{Chance, sized_mode};
 use std::alloc::Global;
 use std::process::Abort;
 use std::test::Fail;
@@ -127,7 +127,7 @@ fn chosen(rt: &impl Abort, images: &Images, tables: (Gamma, Gamma), choice: &Cho
         _ => Some(tables.1),
     };
     let (w, h) = if choice.is_wide { (20, 9) } else { (12, 7) };
-    picture(rt, mode(w, h), gamma, images, &choice.places)
+    picture(rt, sized_mode(w, h), gamma, images, &choice.places)
 }
 
 /// Ends the test where the frame of a picture, made of that of another one or by threads, is another than its whole one.
@@ -224,11 +224,11 @@ fn a_row_of_300_pixels_is_made_of_an_earlier_one(rt: HostRuntime) -> Result<(), 
     let images = Seq::from_vec(Vec::from_array(rt.alloc(), whole)?);
     let mut lower = opaque(rect(0, 0, 256 * PIXEL, PIXEL), rect(0, 0, 256, 1));
     let mut upper = opaque(rect(0, 0, 299 * PIXEL, PIXEL), rect(1, 0, 299, 1));
-    let old = picture(&rt, mode(300, 1), None, &images, &[lower, upper]);
+    let old = picture(&rt, sized_mode(300, 1), None, &images, &[lower, upper]);
     lower.blend = 2;
     upper.blend = 1;
     upper.alpha = 40000;
-    let new = picture(&rt, mode(300, 1), None, &images, &[lower, upper]);
+    let new = picture(&rt, sized_mode(300, 1), None, &images, &[lower, upper]);
     compare(&rt, rt.alloc(), &old, &new, &images)
 }
 
@@ -243,8 +243,8 @@ fn a_moved_pixel_leaves_black_behind(rt: HostRuntime) -> Result<(), Fail> {
     let words = [0x0061_6263];
     let one = [image(1000, (1, 1), Format::Xr24, &words)];
     let images = Seq::from_vec(Vec::from_array(rt.alloc(), one)?);
-    let old = picture(&rt, mode(2, 1), None, &images, &[dot(0, 0)]);
-    let new = picture(&rt, mode(2, 1), None, &images, &[dot(1, 0)]);
+    let old = picture(&rt, sized_mode(2, 1), None, &images, &[dot(0, 0)]);
+    let new = picture(&rt, sized_mode(2, 1), None, &images, &[dot(1, 0)]);
     let mut bytes = frame(rt.alloc(), &old, &images)?;
     assert!(rt; bytes.as_slice() == [97, 98, 99, 0, 0, 0].as_slice());
     recompose(rt.alloc(), &mut bytes, &old, &new, &images)?;
@@ -303,8 +303,8 @@ fn rows_above_all_that_is_drawn_are_kept(rt: HostRuntime) -> Result<(), Fail> {
         ([two[0], pair(1, 6)], [two[0], pale(pair(1, 6))], 72),
     ];
     for (before, after, count) in &cases {
-        let old = picture(&rt, mode(4, 6), None, &images, before);
-        let new = picture(&rt, mode(4, 6), None, &images, after);
+        let old = picture(&rt, sized_mode(4, 6), None, &images, before);
+        let new = picture(&rt, sized_mode(4, 6), None, &images, after);
         keeps(&rt, rt.alloc(), &old, &new, &images, *count)?;
     }
     Ok(())
@@ -317,10 +317,10 @@ fn no_row_is_kept_where_each_is_made_anew(rt: HostRuntime) -> Result<(), Fail> {
     let one = [image(1000, (1, 2), Format::Xr24, &words)];
     let images = Seq::from_vec(Vec::from_array(rt.alloc(), one)?);
     let places = [pair(0, 2)];
-    let old = picture(&rt, mode(4, 6), None, &images, &places);
+    let old = picture(&rt, sized_mode(4, 6), None, &images, &places);
     let gamma = Some(table(&mut Chance { state: 7 }));
-    let through = picture(&rt, mode(4, 6), gamma, &images, &places);
-    let lower = picture(&rt, mode(4, 7), None, &images, &places);
+    let through = picture(&rt, sized_mode(4, 6), gamma, &images, &places);
+    let lower = picture(&rt, sized_mode(4, 7), None, &images, &places);
     for new in [through, lower, Picture::Off] {
         keeps(&rt, rt.alloc(), &old, &new, &images, 0)?;
     }

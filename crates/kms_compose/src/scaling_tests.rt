@@ -1,7 +1,8 @@
 //! What no clause says: scaled layers, sources that begin between pixels, and tables of colour values, worked out by hand.
 use super::*;
-use crate::fixtures::{PIXEL, Place, image, mode, opaque, picture, rect};
+use crate::fixtures::{PIXEL, Place, image, opaque, picture, rect};
 use kms_model::{Format, Gamma, Mode, Rect, Seq};
+use kms_samples::sized_mode;
 use std::alloc::Global;
 use std::process::Abort;
 use std::test::Fail;
@@ -52,7 +53,7 @@ fn has_blues(frame: &[u8], blues: &[u8]) -> bool {
 /// Ends the test where one of these is shown otherwise.
 fn are_shown(rt: &impl Abort, alloc: Global, cases: &[Case]) -> Result<(), Fail> {
     for (i, case) in cases.iter().enumerate() {
-        let shown = (mode(case.size.0, case.size.1), None);
+        let shown = (sized_mode(case.size.0, case.size.1), None);
         let place = opaque(case.src, case.dst);
         let frame = composed(rt, alloc, shown, case.fb, &[place], case.words)?;
         assert!(rt; has_blues(frame.as_slice(), case.blues), "case {i}");
@@ -63,7 +64,14 @@ fn are_shown(rt: &impl Abort, alloc: Global, cases: &[Case]) -> Result<(), Fail>
 #[test]
 fn two_pixels_are_shown_twice_each(rt: HostRuntime) -> Result<(), Fail> {
     let wide = opaque(rect(0, 0, 2 * PIXEL, PIXEL), rect(0, 0, 4, 1));
-    let frame = composed(&rt, rt.alloc(), (mode(4, 1), None), (2, 1), &[wide], &TWO)?;
+    let frame = composed(
+        &rt,
+        rt.alloc(),
+        (sized_mode(4, 1), None),
+        (2, 1),
+        &[wide],
+        &TWO,
+    )?;
     assert_eq!(rt;
         frame.as_slice(),
         [97, 98, 99, 97, 98, 99, 102, 111, 111, 102, 111, 111].as_slice()
@@ -108,22 +116,20 @@ fn row<'a>(
     }
 }
 
-/// A column of a framebuffer that is shown on a column of the mode.
-fn column<'a>(
-    h: u16,
-    fb: u32,
-    long: i64,
-    dst: (i64, i64),
-    words: &'a [u32],
-    blues: &'a [u8],
-) -> Case<'a> {
+/// A rectangle with its columns in the place of its rows.
+fn turned(area: Rect) -> Rect {
+    rect(area.y, area.x, area.h, area.w)
+}
+
+/// The case of a row, of a column instead.
+fn as_column<'a>(row: Case<'a>) -> Case<'a> {
     Case {
-        size: (1, h),
-        fb: (1, fb),
-        src: rect(0, 0, PIXEL, long),
-        dst: rect(0, dst.0, 1, dst.1),
-        words,
-        blues,
+        size: (row.size.1, row.size.0),
+        fb: (row.fb.1, row.fb.0),
+        src: turned(row.src),
+        dst: turned(row.dst),
+        words: row.words,
+        blues: row.blues,
     }
 }
 
@@ -134,7 +140,7 @@ fn four_pixels_become_one(rt: HostRuntime) -> Result<(), Fail> {
     let cases = [
         row(2, 8, 8 * PIXEL, (0, 2), &words, &[2, 6]),
         row(2, 8, 8 * PIXEL - 1, (0, 2), &words, &[1, 5]),
-        column(2, 8, 8 * PIXEL, (0, 2), &words, &[2, 6]),
+        as_column(row(2, 8, 8 * PIXEL, (0, 2), &words, &[2, 6])),
     ];
     are_shown(&rt, rt.alloc(), &cases)
 }
@@ -146,8 +152,8 @@ fn four_pixels_become_one_at_the_edges(rt: HostRuntime) -> Result<(), Fail> {
     let cases = [
         row(2, 8, 8 * PIXEL, (-1, 2), &words, &[6, 0]),
         row(2, 8, 8 * PIXEL, (1, 2), &words, &[0, 2]),
-        column(2, 8, 8 * PIXEL, (-1, 2), &words, &[6, 0]),
-        column(2, 8, 8 * PIXEL, (1, 2), &words, &[0, 2]),
+        as_column(row(2, 8, 8 * PIXEL, (-1, 2), &words, &[6, 0])),
+        as_column(row(2, 8, 8 * PIXEL, (1, 2), &words, &[0, 2])),
     ];
     are_shown(&rt, rt.alloc(), &cases)
 }
@@ -156,12 +162,9 @@ fn four_pixels_become_one_at_the_edges(rt: HostRuntime) -> Result<(), Fail> {
 #[test]
 fn one_pixel_becomes_four_and_is_cut_at_the_edges(rt: HostRuntime) -> Result<(), Fail> {
     let words = [10, 11];
-    let cases = [
-        row(4, 2, 2 * PIXEL, (-3, 8), &words, &[10, 11, 11, 11]),
-        row(6, 2, 2 * PIXEL, (1, 8), &words, &[0, 10, 10, 10, 10, 11]),
-        column(4, 2, 2 * PIXEL, (-3, 8), &words, &[10, 11, 11, 11]),
-        column(6, 2, 2 * PIXEL, (1, 8), &words, &[0, 10, 10, 10, 10, 11]),
-    ];
+    let at_left = row(4, 2, 2 * PIXEL, (-3, 8), &words, &[10, 11, 11, 11]);
+    let at_right = row(6, 2, 2 * PIXEL, (1, 8), &words, &[0, 10, 10, 10, 10, 11]);
+    let cases = [at_left, at_right, as_column(at_left), as_column(at_right)];
     are_shown(&rt, rt.alloc(), &cases)
 }
 
@@ -222,7 +225,7 @@ fn table() -> Gamma {
 // By hand: 200, 180, 160 under a half of 64, 32, 16 is 132, 106, 88, and under a half of that by plane's alpha 98, 69, 52.
 #[test]
 fn a_table_is_over_the_colour_of_all_layers(rt: HostRuntime) -> Result<(), Fail> {
-    let mode = mode(2, 1);
+    let mode = sized_mode(2, 1);
     let dst = rect(0, 0, 1, 1);
     let lower = opaque(rect(0, 0, PIXEL, PIXEL), dst);
     let mut upper = opaque(rect(PIXEL, 0, PIXEL, PIXEL), dst);

@@ -1,7 +1,8 @@
 //! What no clause says: frames of layers that are not scaled, worked out by hand.
 use super::*;
-use crate::fixtures::{PIXEL, Place, image, mode, picture, rect};
+use crate::fixtures::{PIXEL, Place, image, picture, rect};
 use kms_model::{Format, Picture, Seq};
+use kms_samples::sized_mode;
 use std::alloc::Global;
 use std::process::Abort;
 use std::test::Fail;
@@ -58,14 +59,14 @@ fn two_planes(
     let both = [image_of_plane(1000, lower), image_of_plane(1001, upper)];
     let images = Seq::from_vec(Vec::from_array(alloc, both)?);
     let places = [place(1000, lower), place(1001, upper)];
-    let picture = picture(rt, mode(w, h), None, &images, &places);
+    let picture = picture(rt, sized_mode(w, h), None, &images, &places);
     Ok(frame(alloc, &picture, &images)?.into_vec())
 }
 
 #[test]
 fn no_plane_shows_black(rt: HostRuntime) -> Result<(), Fail> {
     let images = Seq::new(rt.alloc());
-    let picture = picture(&rt, mode(2, 1), None, &images, &[]);
+    let picture = picture(&rt, sized_mode(2, 1), None, &images, &[]);
     let frame = frame(rt.alloc(), &picture, &images)?;
     assert_eq!(rt; frame.as_slice(), [0, 0, 0, 0, 0, 0].as_slice());
     Ok(())
@@ -96,16 +97,26 @@ fn dot<'a>(format: Format, words: &'a [u32], alpha: u32, blend: u32) -> Plane<'a
     }
 }
 
+/// Ends the test where one plane over another shows another pixel than this one, in a mode of one.
+fn assert_pixel(
+    rt: &impl Abort,
+    alloc: Global,
+    lower: &Plane,
+    upper: &Plane,
+    pixel: [u8; 3],
+) -> Result<(), Fail> {
+    let frame = two_planes(rt, alloc, 1, 1, lower, upper)?;
+    assert_eq!(rt; frame.as_slice(), pixel.as_slice());
+    Ok(())
+}
+
 // 32767 * 65025 = 2130674175, plus 8355712, over 16711425, is 127; 32768 * 65025 is likewise 128.
 #[test]
 fn the_later_layer_lies_above(rt: HostRuntime) -> Result<(), Fail> {
     let red = dot(Format::Xr24, &[0x00ff0000], 65535, 0);
     let blue = dot(Format::Xr24, &[0x000000ff], 32768, 0);
-    let frame = two_planes(&rt, rt.alloc(), 1, 1, &red, &blue)?;
-    assert_eq!(rt; frame.as_slice(), [0x7f, 0x00, 0x80].as_slice());
-    let frame = two_planes(&rt, rt.alloc(), 1, 1, &blue, &red)?;
-    assert_eq!(rt; frame.as_slice(), [0xff, 0x00, 0x00].as_slice());
-    Ok(())
+    assert_pixel(&rt, rt.alloc(), &red, &blue, [0x7f, 0x00, 0x80])?;
+    assert_pixel(&rt, rt.alloc(), &blue, &red, [0xff, 0x00, 0x00])
 }
 
 // 80402010 over 00c8b4a0, which is 200, 180, 160.
@@ -146,12 +157,9 @@ fn each_blend_mode_shows_at_each_alpha(rt: HostRuntime) -> Result<(), Fail> {
 fn the_last_step_of_alpha_shows(rt: HostRuntime) -> Result<(), Fail> {
     let black = dot(Format::Xr24, &[0], 65535, 0);
     let opaque = dot(Format::Ar24, &[0xfdbfbfbf], 65535, 1);
-    let frame = two_planes(&rt, rt.alloc(), 1, 1, &black, &opaque)?;
-    assert_eq!(rt; frame.as_slice(), [190, 190, 190].as_slice());
+    assert_pixel(&rt, rt.alloc(), &black, &opaque, [190, 190, 190])?;
     let below = dot(Format::Ar24, &[0xfdbfbfbf], 65534, 1);
-    let frame = two_planes(&rt, rt.alloc(), 1, 1, &black, &below)?;
-    assert_eq!(rt; frame.as_slice(), [189, 189, 189].as_slice());
-    Ok(())
+    assert_pixel(&rt, rt.alloc(), &black, &below, [189, 189, 189])
 }
 
 // 0821 is 8, 4, 8 and f800 is 255, 0, 0; the first byte of 12345678 is no alpha in XR24.
@@ -160,16 +168,11 @@ fn formats_without_alpha_are_opaque(rt: HostRuntime) -> Result<(), Fail> {
     let lower = dot(Format::Xr24, &[0x12345678], 65535, 1);
     let dark = dot(Format::Rg16, &[0x0821], 65535, 1);
     let red = dot(Format::Rg16, &[0xf800], 32768, 1);
-    let frame = two_planes(&rt, rt.alloc(), 1, 1, &dark, &lower)?;
-    assert_eq!(rt; frame.as_slice(), [0x34, 0x56, 0x78].as_slice());
-    let frame = two_planes(&rt, rt.alloc(), 1, 1, &lower, &dark)?;
-    assert_eq!(rt; frame.as_slice(), [8, 4, 8].as_slice());
-    let frame = two_planes(&rt, rt.alloc(), 1, 1, &dark, &red)?;
-    assert_eq!(rt; frame.as_slice(), [132, 2, 4].as_slice());
     let bright = dot(Format::Rg16, &[0xf800], 65535, 1);
-    let frame = two_planes(&rt, rt.alloc(), 1, 1, &lower, &bright)?;
-    assert_eq!(rt; frame.as_slice(), [255, 0, 0].as_slice());
-    Ok(())
+    assert_pixel(&rt, rt.alloc(), &dark, &lower, [0x34, 0x56, 0x78])?;
+    assert_pixel(&rt, rt.alloc(), &lower, &dark, [8, 4, 8])?;
+    assert_pixel(&rt, rt.alloc(), &dark, &red, [132, 2, 4])?;
+    assert_pixel(&rt, rt.alloc(), &lower, &bright, [255, 0, 0])
 }
 
 // The four words of a framebuffer of 2x2, moved up and left by a pixel, and two of another from its second row on.
@@ -213,34 +216,9 @@ fn a_plane_is_cut_at_the_edges_of_the_mode(rt: HostRuntime) -> Result<(), Fail> 
 
 #[test]
 fn a_plane_outside_of_the_mode_shows_nothing(rt: HostRuntime) -> Result<(), Fail> {
-    let right = Plane {
-        format: Format::Xr24,
-        fb_width: 1,
-        fb_height: 1,
-        words: &[0x00ffffff],
-        column: 0,
-        line: 0,
-        x: 2,
-        y: 0,
-        w: 1,
-        h: 1,
-        alpha: 65535,
-        blend: 0,
-    };
-    let above = Plane {
-        format: Format::Xr24,
-        fb_width: 1,
-        fb_height: 1,
-        words: &[0x00ffffff],
-        column: 0,
-        line: 0,
-        x: 0,
-        y: -1,
-        w: 1,
-        h: 1,
-        alpha: 65535,
-        blend: 0,
-    };
+    let white = dot(Format::Xr24, &[0x00ffffff], 65535, 0);
+    let right = Plane { x: 2, ..white };
+    let above = Plane { y: -1, ..white };
     let frame = two_planes(&rt, rt.alloc(), 2, 1, &right, &above)?;
     assert_eq!(rt; frame.as_slice(), [0, 0, 0, 0, 0, 0].as_slice());
     Ok(())
@@ -249,7 +227,7 @@ fn a_plane_outside_of_the_mode_shows_nothing(rt: HostRuntime) -> Result<(), Fail
 #[test]
 fn the_largest_mode_has_50331648_bytes(rt: HostRuntime) -> Result<(), Fail> {
     let images = Seq::new(rt.alloc());
-    let picture = picture(&rt, mode(4096, 4096), None, &images, &[]);
+    let picture = picture(&rt, sized_mode(4096, 4096), None, &images, &[]);
     let frame = frame(rt.alloc(), &picture, &images)?;
     assert_eq!(rt; frame.len(), 50331648);
     assert_eq!(rt; frame.get(50331647), Some(&0));

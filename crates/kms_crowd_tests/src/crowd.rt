@@ -6,8 +6,9 @@ ghost use Rattle.kms_crowd_tests.specs.Pairs.{AreOf, AreSame};
 use crate::scripts::{CLIENTS, COMMITS, script};
 use crate::{Two, commit_and_finish, prepare};
 use kms_core::Core;
+use kms_core_tests::tells_same;
 use kms_device::Device;
-use kms_device_tests::{again, tell_the_same};
+use kms_device_tests::again;
 use kms_model::{Part, Reply, Script, Seq};
 use kms_script::parse;
 use std::alloc::Global;
@@ -159,7 +160,7 @@ fn assert_all(rt: &(impl Abort + AllocGlobal), core: &Core) {
     let Ok(new) = again(rt.alloc(), core) else {
         panic!(rt; "each step is legal")
     };
-    assert!(rt; tell_the_same(core, &new));
+    assert!(rt; tells_same(core, &new));
 }
 
 /// Eight clients in four threads make their commits over one device. No client's commit waits for one that nobody

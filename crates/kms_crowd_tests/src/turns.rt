@@ -66,7 +66,7 @@ fn finish<W: Wait>(rt: &W, device: &Device, pass: &mut Pass, commit: u32) -> Res
         if return_from(rt, device, pass)? {
             return Ok(true);
         }
-        blank(rt, device, pass);
+        vblank_each(rt, device, pass);
         work(rt, device, pass, commit);
     }
     Ok(false)
@@ -86,7 +86,7 @@ fn work<W: Wait>(rt: &W, device: &Device, pass: &mut Pass, commit: u32)
 }
 
 /// A vertical blanking of each CRTC that goes.
-fn blank<W: Wait>(rt: &W, device: &Device, pass: &mut Pass)
+fn vblank_each<W: Wait>(rt: &W, device: &Device, pass: &mut Pass)
     requires own { pass.old.lock ≡ device.now.lock }
     ensures same { IsSamePass pass.old pass.new }
 {

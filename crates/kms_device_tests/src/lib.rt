@@ -21,4 +21,4 @@ mod texts;
 pub use calling::{Call, Told, make_call};
 pub use calls::{commit, make, return_from};
 pub use locks::{back_off, begin, lock, relock};
-pub use replays::{again, anew, tell_the_same};
+pub use replays::{again, anew};

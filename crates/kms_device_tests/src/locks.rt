@@ -1,18 +1,17 @@
 //! Calls of the client of a pass on its context and its locks, which are made where it stands at them.
-ghost use Rattle.std.specs.Prelude.{◌≡◌, ◌==◌, ◌&&◌, nat_le, true, IfOk, IsTrue};
+ghost use Rattle.std.specs.Prelude.{◌≡◌, ◌==◌, true, IfOk, IsTrue};
 ghost use Rattle.kms_histlock.specs.Passes.{IsSamePass};
-ghost use Rattle.kms_model.specs.Device.Objects.{first_id, index_of, kind_of};
 ghost use Rattle.kms_model.specs.Device.Properties.{keeps_limits};
-ghost use Rattle.kms_model.specs.Machine.Steps.{is_lockable};
 ghost use Rattle.kms_model.specs.Request.Apply.{object_of};
 ghost use Rattle.kms_model.specs.Request.Sets.{look_in};
 ghost use Rattle.kms_model.specs.Request.Touched.{sets};
 ghost use Rattle.kms_device_tests.specs.Resolving.{Resolves};
 
 use crate::places::at_request;
+use kms_calls::has_lock;
 use kms_core::Locked;
 use kms_device::{Device, Pass};
-use kms_model::{Assign, Doing, Kind, Lookups, NoMemory, ObjId, Request, Ticket, Topology};
+use kms_model::{Assign, Doing, Lookups, NoMemory, ObjId, Request, Ticket, Topology};
 use kms_request::{RequestError, resolve};
 use std::alloc::Global;
 use std::sync::Wait;
@@ -121,24 +120,4 @@ fn is_of(assign: &Assign, id: ObjId) -> bool
     ensures { result ≡ (object_of assign.now == id.0) }
 {
     assign.kind.first_id().checked_add(assign.index) == Some(id.0)
-}
-
-/// Whether an id is that of an object of a device which has a lock.
-fn has_lock(topology: &Topology, id: ObjId) -> bool
-    ensures { result ≡ (nat_le (first_id (kind_of id.0)) id.0
-        && is_lockable topology.now (kind_of id.0) (index_of id.0)) }
-{
-    id.kind().first_id() <= id.0 && is_lockable(topology, id.kind(), id.index())
-}
-
-/// Whether a device has the object of a kind with an index, and it has a lock.
-fn is_lockable(topology: &Topology, kind: Kind, index: u32) -> bool
-    ensures { result ≡ is_lockable topology.now kind index }
-{
-    match kind {
-        Kind::Crtc => index < topology.crtcs,
-        Kind::Plane => (index as usize) < topology.planes.len(),
-        Kind::Conn => (index as usize) < topology.conns.len(),
-        Kind::Enc => false,
-    }
 }

@@ -2,8 +2,9 @@
 ghost use Rattle.std.specs.Prelude.{◌≡◌};
 ghost use Rattle.kms_histlock.specs.Passes.{IsSamePass, new_pass};
 
-use crate::{Call, Told, again, anew, make_call, tell_the_same};
+use crate::{Call, Told, again, anew, make_call};
 use kms_core::Core;
+use kms_core_tests::tells_same;
 use kms_device::{Device, Pass};
 use kms_model::{NoMemory, Part, Seq};
 use kms_script::parse;
@@ -57,7 +58,7 @@ pub(crate) fn assert_again(rt: &(impl Abort + AllocGlobal), core: &Core) {
     let Ok(new) = again(rt.alloc(), core) else {
         panic!(rt; "each step is legal")
     };
-    assert!(rt; tell_the_same(core, &new));
+    assert!(rt; tells_same(core, &new));
 }
 
 /// Asserts that a new machine of the same script, on which nothing was done, does not tell the same.
@@ -65,7 +66,7 @@ fn assert_differs(rt: &(impl Abort + AllocGlobal), core: &Core) {
     let Ok(new) = anew(rt.alloc(), core) else {
         panic!(rt; "there is memory")
     };
-    assert!(rt; !tell_the_same(core, &new));
+    assert!(rt; !tells_same(core, &new));
 }
 
 /// Makes a call through one of two passes: the first, or any other number for the other.

@@ -14,15 +14,15 @@ use Rattle.kms_regs.specs.Words.{ReadSame, bank_of, latched_plane}
 use Rattle.kms_regs.proofs.Rows.{four_alike, read-set, read-with_ids, read_here, read_past}
 
 -- what stands at an index is what is read
-pub plane_at : (planes : List PlaneWords) (crtcs : List CrtcWords) (r : Registers) (index : ℕ) (d : PlaneWords) → bank_of planes crtcs ≡ r → index < length planes
+pub plane_of_bank : (planes : List PlaneWords) (crtcs : List CrtcWords) (r : Registers) (index : ℕ) (d : PlaneWords) → bank_of planes crtcs ≡ r → index < length planes
     → get_or planes index d ≡ plane_register r (object_id Plane index)
-plane_at planes crtcs r index d is low =
+plane_of_bank planes crtcs r index d is low =
     let first : PlaneWords = first_plane_words (object_id Plane index) in
     get_or_default planes index d first low ∙ sym (read-with_ids first planes (object_id Plane 0) index (object_id Plane index) refl) ∙ ap (λ (x : Registers). plane_register x (object_id Plane index)) is
 
-pub crtc_at : (planes : List PlaneWords) (crtcs : List CrtcWords) (r : Registers) (index : ℕ) (d : CrtcWords) → bank_of planes crtcs ≡ r → index < length crtcs
+pub crtc_of_bank : (planes : List PlaneWords) (crtcs : List CrtcWords) (r : Registers) (index : ℕ) (d : CrtcWords) → bank_of planes crtcs ≡ r → index < length crtcs
     → get_or crtcs index d ≡ crtc_register r (object_id Crtc index)
-crtc_at planes crtcs r index d is low =
+crtc_of_bank planes crtcs r index d is low =
     get_or_default crtcs index d first_crtc_words low ∙ sym (read-with_ids first_crtc_words crtcs (object_id Crtc 0) index (object_id Crtc index) refl) ∙ ap (λ (x : Registers). crtc_register x (object_id Crtc index)) is
 
 -- a write at an index

@@ -87,7 +87,7 @@ fn write_crtc(
 }
 
 /// A vertical blanking.
-fn blank(rt: &impl Abort, regs: &mut RegFile, crtc: u32) -> Option<Picture>
+fn meet_vblank(rt: &impl Abort, regs: &mut RegFile, crtc: u32) -> Option<Picture>
     requires { crtc < 4 }
 {
     assert!(rt; regs.count(crtc) < 100);
@@ -218,17 +218,17 @@ fn a_changed_table_is_shown_from_its_latch_on(rt: HostRuntime) -> Result<(), Fai
     let mut regs = RegFile::new(&split(rt.alloc())?);
     write_crtc(&rt, &mut regs, 1, 300, &CrtcState::OFF, &lit());
     assert!(rt; regs.flush(1).is_none());
-    assert!(rt; blank(&rt, &mut regs, 1).is_some());
+    assert!(rt; meet_vblank(&rt, &mut regs, 1).is_some());
     assert!(rt; shows_gamma(&regs, 1, None));
     write_crtc(&rt, &mut regs, 1, 300, &lit(), &lit_with_gamma());
     assert!(rt; shows_gamma(&regs, 1, None), "written");
     assert!(rt; regs.flush(1).is_none());
     assert!(rt; shows_gamma(&regs, 1, None), "flushed");
-    assert!(rt; blank(&rt, &mut regs, 1).is_some());
+    assert!(rt; meet_vblank(&rt, &mut regs, 1).is_some());
     assert!(rt; shows_gamma(&regs, 1, Some(a_gamma())), "latched");
     write_crtc(&rt, &mut regs, 1, 300, &lit_with_gamma(), &lit());
     assert!(rt; regs.flush(1).is_none());
-    assert!(rt; blank(&rt, &mut regs, 1).is_some());
+    assert!(rt; meet_vblank(&rt, &mut regs, 1).is_some());
     assert!(rt; shows_gamma(&regs, 1, None), "taken away");
     Ok(())
 }
@@ -251,20 +251,20 @@ fn a_crtc_latches_at_its_vertical_blanking_alone(rt: HostRuntime) -> Result<(), 
     let mut regs = RegFile::new(&split(rt.alloc())?);
     write_crtc(&rt, &mut regs, 0, 300, &CrtcState::OFF, &lit());
     write_plane(&rt, &mut regs, 1, &no_plane(1), &a_plane(100, 1000, 0, 0));
-    assert!(rt; blank(&rt, &mut regs, 0).is_none());
+    assert!(rt; meet_vblank(&rt, &mut regs, 0).is_none());
     assert_off(&rt, &regs, 0);
     assert!(rt; regs.flush(0).is_none());
     assert!(rt; regs.has_go(0));
     assert!(rt; !regs.has_go(1));
-    assert!(rt; blank(&rt, &mut regs, 1).is_none());
+    assert!(rt; meet_vblank(&rt, &mut regs, 1).is_none());
     assert_off(&rt, &regs, 0);
-    let picture = blank(&rt, &mut regs, 0);
+    let picture = meet_vblank(&rt, &mut regs, 0);
     assert_eq!(rt; picture, Some(regs.decode_live(0)));
     assert_shows(&rt, &regs, 0, 300, &[201]);
     assert_eq!(rt; regs.live_layers(0).len(), 1);
     assert_eq!(rt; regs.live_layers(1).len(), 0);
     assert!(rt; !regs.has_go(0));
-    assert!(rt; blank(&rt, &mut regs, 0).is_none());
+    assert!(rt; meet_vblank(&rt, &mut regs, 0).is_none());
     assert_eq!(rt; regs.count(0), 3);
     assert_eq!(rt; regs.count(1), 1);
     Ok(())
@@ -280,18 +280,18 @@ fn a_plane_moves_over_two_latches(rt: HostRuntime) -> Result<(), Fail> {
     write_plane(&rt, &mut regs, 0, &no_plane(0), &first);
     assert!(rt; regs.flush(0).is_none());
     assert!(rt; regs.flush(1).is_none());
-    assert!(rt; blank(&rt, &mut regs, 0).is_some());
-    assert!(rt; blank(&rt, &mut regs, 1).is_some());
+    assert!(rt; meet_vblank(&rt, &mut regs, 0).is_some());
+    assert!(rt; meet_vblank(&rt, &mut regs, 1).is_some());
     assert_shows(&rt, &regs, 0, 300, &[200]);
     assert_shows(&rt, &regs, 1, 0, &[]);
     write_plane(&rt, &mut regs, 0, &first, &no_plane(0));
     assert!(rt; regs.flush(0).is_none());
     assert_shows(&rt, &regs, 0, 300, &[200]);
-    assert!(rt; blank(&rt, &mut regs, 0).is_some());
+    assert!(rt; meet_vblank(&rt, &mut regs, 0).is_some());
     assert_shows(&rt, &regs, 0, 300, &[]);
     write_plane(&rt, &mut regs, 0, &no_plane(0), &second);
     assert!(rt; regs.flush(1).is_none());
-    assert!(rt; blank(&rt, &mut regs, 1).is_some());
+    assert!(rt; meet_vblank(&rt, &mut regs, 1).is_some());
     assert_shows(&rt, &regs, 0, 300, &[]);
     assert_shows(&rt, &regs, 1, 0, &[200]);
     Ok(())
@@ -305,7 +305,7 @@ fn layers_stand_by_zpos_and_then_by_plane(rt: HostRuntime) -> Result<(), Fail> {
     write_plane(&rt, &mut regs, 0, &no_plane(0), &plane);
     write_plane(&rt, &mut regs, 1, &no_plane(1), &plane);
     assert!(rt; regs.flush(0).is_none());
-    assert!(rt; blank(&rt, &mut regs, 0).is_some());
+    assert!(rt; meet_vblank(&rt, &mut regs, 0).is_some());
     assert_shows(&rt, &regs, 0, 300, &[200, 201]);
     Ok(())
 }
@@ -315,8 +315,8 @@ fn a_crtc_that_is_off_latches_at_once_and_its_count_goes_on(rt: HostRuntime) -> 
     let mut regs = RegFile::new(&split(rt.alloc())?);
     write_crtc(&rt, &mut regs, 1, 300, &CrtcState::OFF, &lit());
     assert!(rt; regs.flush(1).is_none());
-    assert!(rt; blank(&rt, &mut regs, 1).is_some());
-    assert!(rt; blank(&rt, &mut regs, 1).is_none());
+    assert!(rt; meet_vblank(&rt, &mut regs, 1).is_some());
+    assert!(rt; meet_vblank(&rt, &mut regs, 1).is_none());
     write_crtc(&rt, &mut regs, 1, 0, &lit(), &CrtcState::OFF);
     assert_shows(&rt, &regs, 1, 300, &[]);
     assert_eq!(rt; regs.flush(1), Some(Picture::Off));
@@ -325,7 +325,7 @@ fn a_crtc_that_is_off_latches_at_once_and_its_count_goes_on(rt: HostRuntime) -> 
     assert_eq!(rt; regs.count(1), 2);
     write_crtc(&rt, &mut regs, 1, 300, &CrtcState::OFF, &lit());
     assert!(rt; regs.flush(1).is_none());
-    assert!(rt; blank(&rt, &mut regs, 1).is_some());
+    assert!(rt; meet_vblank(&rt, &mut regs, 1).is_some());
     assert_eq!(rt; regs.count(1), 3);
     Ok(())
 }

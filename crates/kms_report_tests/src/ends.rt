@@ -1,14 +1,14 @@
 //! How histories end.
-use crate::following::{PLAIN, TRACED, assert_report, follow, started};
-use crate::texts::{ABC, LIGHT, LIT, MADE, SET, SINGLE, TAIL};
+use crate::comparing::{PLAIN, TRACED, assert_report};
+use crate::texts::{ABC, LIT};
 use kms_core::Core;
+use kms_core_tests::{CHANGE, END_0, LIGHT, SINGLE, WRITE_0, follow, lighting, started};
 use std::process::Abort;
 use std::test::Fail;
 
 #[test]
 fn a_client_lights_a_crtc(rt: HostRuntime) -> Result<(), Fail> {
-    let script = format!(in rt.alloc(); "{SINGLE}{MADE}atomic 0x400 0 {SET}\n")?;
-    let mut core = started(&rt, script.as_str())?;
+    let mut core = lighting(&rt, "0x400", "")?;
     a_client_lights_a_crtc_with(&rt, &mut core)
 }
 
@@ -18,28 +18,27 @@ fn a_client_lights_a_crtc_with(
     core: &mut Core,
 ) -> Result<(), Fail> {
     assert_report(rt, core, PLAIN, "D open 0\n")?;
-    follow(rt, core, LIGHT)?;
+    follow(core, rt.alloc(), &[LIGHT])?;
     let [journal, replies] = LIT;
-    let open = format!(in rt.alloc(); "{journal}{replies}D open 8\n{LIGHT}")?;
+    let open = format!(in rt.alloc(); "{journal}{replies}D open 8\n{LIGHT}\n")?;
     assert_report(rt, core, TRACED, open.as_str())?;
-    follow(rt, core, TAIL)?;
+    follow(core, rt.alloc(), &[WRITE_0, END_0])?;
     let drained = format!(in rt.alloc(); "{journal}{replies}L 0 0 1 {ABC}\nD drained\n")?;
     assert_report(rt, core, PLAIN, drained.as_str())?;
-    let traced = format!(in rt.alloc(); "{drained}{LIGHT}{TAIL}")?;
+    let traced = format!(in rt.alloc(); "{drained}{LIGHT}\n{WRITE_0}\n{END_0}\n")?;
     assert_report(rt, core, TRACED, traced.as_str())
 }
 
 #[test]
 fn a_script_without_clients_is_drained(rt: HostRuntime) -> Result<(), Fail> {
-    let core = started(&rt, "kms 1\ncrtcs 1\nplane primary 0 XR24\nconn 0\n")?;
+    let core = started(&rt, SINGLE)?;
     assert_report(&rt, &core, TRACED, "D drained\n")
 }
 
 #[test]
 fn a_commit_waits_for_a_fence(rt: HostRuntime) -> Result<(), Fail> {
     let more = "fence n\natomic 0x200 0 plane0.alpha=65535 plane0.IN_FENCE_FD=@n\n";
-    let script = format!(in rt.alloc(); "{SINGLE}{MADE}atomic 0x400 0 {SET}\n{more}")?;
-    let mut core = started(&rt, script.as_str())?;
+    let mut core = lighting(&rt, "0x400", more)?;
     a_commit_waits_for_a_fence_with(&rt, &mut core)
 }
 
@@ -48,12 +47,10 @@ fn a_commit_waits_for_a_fence_with(
     rt: &(impl Abort + AllocGlobal),
     core: &mut Core,
 ) -> Result<(), Fail> {
-    follow(rt, core, LIGHT)?;
-    follow(rt, core, TAIL)?;
     follow(
-        rt,
         core,
-        "T make 1\nT begin 1\nT lock 1 plane0\nT lock 1 crtc0\nT swap 1\n",
+        rt.alloc(),
+        &[LIGHT, WRITE_0, END_0, "T make 1", CHANGE],
     )?;
     let [journal, replies] = LIT;
     let front = format!(in rt.alloc();
@@ -61,6 +58,6 @@ fn a_commit_waits_for_a_fence_with(
     )?;
     let dead = format!(in rt.alloc(); "{front}D stalled n\n")?;
     assert_report(rt, core, PLAIN, dead.as_str())?;
-    follow(rt, core, "T stall\n")?;
+    follow(core, rt.alloc(), &["T stall"])?;
     assert_report(rt, core, PLAIN, dead.as_str())
 }

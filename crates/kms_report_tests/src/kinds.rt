@@ -1,22 +1,16 @@
 //! Lines of each kind.
-use crate::following::{DRAWN, PLAIN, assert_report, follow, started};
-use crate::texts::{ABC, FOO, LIGHT, LIT, MADE, SET, SINGLE, TAIL, UNSET};
+use crate::comparing::{DRAWN, PLAIN, assert_report};
+use crate::texts::{ABC, FOO, LIT};
 use kms_core::Core;
+use kms_core_tests::{
+    CHANGE, END_0, END_1, FLIPS, GOES_OFF, LIGHT, WRITE_0, WRITE_1, follow, lighting, started,
+};
 use std::process::Abort;
 use std::test::Fail;
 
-/// The steps of the second commit, which touches the CRTC and the plane, and the return of its client.
-const CHANGE: &str =
-    "T begin 1\nT lock 1 plane0\nT lock 1 crtc0\nT swap 1\nT claim 1\nT write 1 crtc0\nT write 1 plane0\nT flush 1 crtc0\nT hwdone 1\nT vblank crtc0\nT cleanup 1\nT return 1\n";
-
-/// The lines of a client that flips to another framebuffer, reads the event, closes the first and reads again.
-const FLIPS: &str =
-    "buffer b2 1 1 XR24 solid 00666f6f\naddfb f2 b2\natomic 0x1 7 plane0.FB_ID=@f2\nwait\nclosefb f\nwait\n";
-
 #[test]
 fn an_event_is_read_and_a_framebuffer_freed(rt: HostRuntime) -> Result<(), Fail> {
-    let script = format!(in rt.alloc(); "{SINGLE}{MADE}atomic 0x400 0 {SET}\n{FLIPS}")?;
-    let mut core = started(&rt, script.as_str())?;
+    let mut core = lighting(&rt, "0x400", FLIPS)?;
     an_event_is_read_and_a_framebuffer_freed_with(&rt, &mut core)
 }
 
@@ -24,11 +18,17 @@ fn an_event_is_read_and_a_framebuffer_freed_with(
     rt: &(impl Abort + AllocGlobal),
     core: &mut Core,
 ) -> Result<(), Fail> {
-    follow(rt, core, LIGHT)?;
-    follow(rt, core, TAIL)?;
-    follow(rt, core, "T make 1\nT make 1\n")?;
-    follow(rt, core, CHANGE)?;
-    follow(rt, core, "T read 1\nT make 1\nT read 1\n")?;
+    let course = [
+        LIGHT,
+        WRITE_0,
+        END_0,
+        "T make 1\nT make 1",
+        CHANGE,
+        WRITE_1,
+        END_1,
+        "T read 1\nT make 1\nT read 1",
+    ];
+    follow(core, rt.alloc(), &course)?;
     let [journal, replies] = LIT;
     let more =
         "R 1 5 4 made 1003\nR 1 6 5 made 1004\nR 1 7 6 commit 1\nR 1 8 7 event 7 2 100\nR 1 9 7 done\nR 1 10 8 none\n";
@@ -38,25 +38,23 @@ fn an_event_is_read_and_a_framebuffer_freed_with(
     assert_report(rt, core, PLAIN, want.as_str())
 }
 
-/// The steps of the second commit, which turns the CRTC off, and the return of its client.
-const TURN_OFF: &str =
-    "T begin 1\nT lock 1 plane0\nT lock 1 crtc0\nT lock 1 conn0\nT swap 1\nT claim 1\nT write 1 crtc0\nT write 1 plane0\nT flush 1 crtc0\nT hwdone 1\nT cleanup 1\nT return 1\n";
-
 #[test]
 fn a_crtc_goes_off(rt: HostRuntime) -> Result<(), Fail> {
-    let script = format!(in rt.alloc();
-        "{SINGLE}{MADE}atomic 0x400 0 {SET}\natomic 0x401 9 {UNSET}\nwait\n"
-    )?;
-    let mut core = started(&rt, script.as_str())?;
+    let mut core = lighting(&rt, "0x400", GOES_OFF)?;
     a_crtc_goes_off_with(&rt, &mut core)
 }
 
 /// A latch that is off has no pixmap, and each other latch has one.
 fn a_crtc_goes_off_with(rt: &(impl Abort + AllocGlobal), core: &mut Core) -> Result<(), Fail> {
-    follow(rt, core, LIGHT)?;
-    follow(rt, core, TAIL)?;
-    follow(rt, core, TURN_OFF)?;
-    follow(rt, core, "T read 1\n")?;
+    let course = [
+        LIGHT,
+        WRITE_0,
+        END_0,
+        "T begin 1\nT lock 1 plane0\nT lock 1 crtc0\nT lock 1 conn0\nT swap 1",
+        WRITE_1,
+        "T cleanup 1\nT return 1\nT read 1",
+    ];
+    follow(core, rt.alloc(), &course)?;
     let [journal, replies] = LIT;
     let front = format!(in rt.alloc();
         "{journal}J 1 5\n{replies}R 1 5 4 commit 1\nR 1 6 5 event 9 1 100\nL 0 0 1 {ABC}\n"
@@ -87,7 +85,7 @@ fn clients_and_crtcs_stand_in_order_with(
     rt: &(impl Abort + AllocGlobal),
     core: &mut Core,
 ) -> Result<(), Fail> {
-    follow(rt, core, CROSSED)?;
+    follow(core, rt.alloc(), &[CROSSED])?;
     let black = "709e80c88487a2411e1ee4dfb9f22a861492d20c4765150c0c794abd70f8147c";
     let replies =
         "R 1 1 2 made 1001\nR 1 2 3 commit 1\nR 1 3 4 event 5 1 100\nR 2 1 0 made 1000\nR 2 2 1 commit 0\nR 2 3 4 event 6 1 101\n";

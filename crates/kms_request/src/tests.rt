@@ -108,6 +108,11 @@ fn assert_early<R: Abort>(
     assert_early_on(rt, alloc, &topology, flags, assigns, want)
 }
 
+/// Asserts that an assignment's value is none that its property takes, on the same device.
+fn assert_no_value<R: Abort>(rt: &R, alloc: Global, assign: Assign) -> Result<(), NoMemory> {
+    assert_early(rt, alloc, 0, &[assign], Some(Refusal::INVALID_VALUE))
+}
+
 #[test]
 fn small_requests_are_refused_on_the_smallest_device(rt: HostRuntime) -> Result<(), NoMemory> {
     let a = rt.alloc();
@@ -401,28 +406,15 @@ fn numbers_are_not_cut_to_fewer_bits(rt: HostRuntime) -> Result<(), NoMemory> {
         for prop in [
             FB_ID, CRTC_ID, CRTC_X, CRTC_W, SRC_X, SRC_W, ALPHA, BLEND, ZPOS,
         ] {
-            assert_early(
-                &rt,
-                a,
-                0,
-                &[on_plane(prop, value)],
-                Some(Refusal::INVALID_VALUE),
-            )?;
+            assert_no_value(&rt, a, on_plane(prop, value))?;
         }
         for prop in [ACTIVE, MODE_ID, OUT_FENCE_PTR] {
-            assert_early(
-                &rt,
-                a,
-                0,
-                &[on_crtc(prop, value)],
-                Some(Refusal::INVALID_VALUE),
-            )?;
+            assert_no_value(&rt, a, on_crtc(prop, value))?;
         }
     }
     // -1 in its lower 64 bits, and in its lower 32.
     for number in [18446744073709551615, 4294967295] {
-        let fence = on_plane(IN_FENCE_FD, Value::Num(number));
-        assert_early(&rt, a, 0, &[fence], Some(Refusal::INVALID_VALUE))?;
+        assert_no_value(&rt, a, on_plane(IN_FENCE_FD, Value::Num(number)))?;
     }
     Ok(())
 }
@@ -485,101 +477,62 @@ fn assert_numbers<R: Abort>(
     Ok(())
 }
 
+/// How a label is refused where a property takes another one alone.
+fn unless(label: u32, taken: u32) -> Option<Refusal> {
+    if label == taken {
+        None
+    } else {
+        Some(Refusal::INVALID_VALUE)
+    }
+}
+
 #[test]
 fn labels_name_what_their_property_takes(rt: HostRuntime) -> Result<(), NoMemory> {
     let a = rt.alloc();
     for label in [FB, MODE, BLOB, FENCE, BUFFER, CLOSED, MISSING] {
         let named = Value::Named(label);
-        let fb = if label == FB {
-            None
-        } else {
-            Some(Refusal::INVALID_VALUE)
-        };
-        let mode = if label == MODE {
-            None
-        } else {
-            Some(Refusal::INVALID_VALUE)
-        };
-        let fence = if label == FENCE {
-            None
-        } else {
-            Some(Refusal::INVALID_VALUE)
-        };
-        assert_early(&rt, a, 0, &[on_plane(FB_ID, named)], fb)?;
-        assert_early(&rt, a, 0, &[on_crtc(MODE_ID, named)], mode)?;
-        assert_early(&rt, a, 0, &[on_plane(IN_FENCE_FD, named)], fence)?;
+        assert_early(&rt, a, 0, &[on_plane(FB_ID, named)], unless(label, FB))?;
+        assert_early(&rt, a, 0, &[on_crtc(MODE_ID, named)], unless(label, MODE))?;
         assert_early(
             &rt,
             a,
             0,
-            &[on_crtc(OUT_FENCE_PTR, named)],
-            Some(Refusal::INVALID_VALUE),
+            &[on_plane(IN_FENCE_FD, named)],
+            unless(label, FENCE),
         )?;
-        assert_early(
-            &rt,
-            a,
-            0,
-            &[on_plane(ZPOS, named)],
-            Some(Refusal::INVALID_VALUE),
-        )?;
-        assert_early(
-            &rt,
-            a,
-            0,
-            &[on_plane(CRTC_ID, named)],
-            Some(Refusal::INVALID_VALUE),
-        )?;
-        assert_early(
-            &rt,
-            a,
-            0,
-            &[on_crtc(ACTIVE, named)],
-            Some(Refusal::INVALID_VALUE),
-        )?;
+        for never in [
+            on_crtc(OUT_FENCE_PTR, named),
+            on_plane(ZPOS, named),
+            on_plane(CRTC_ID, named),
+            on_crtc(ACTIVE, named),
+        ] {
+            assert_no_value(&rt, a, never)?;
+        }
     }
-    assert_early(&rt, a, 0, &[on_crtc(OUT_FENCE_PTR, Value::New(9))], None)?;
-    assert_early(
-        &rt,
-        a,
-        0,
-        &[on_crtc(MODE_ID, Value::New(9))],
-        Some(Refusal::INVALID_VALUE),
-    )?;
-    assert_early(
-        &rt,
-        a,
-        0,
-        &[on_crtc(ACTIVE, Value::New(9))],
-        Some(Refusal::INVALID_VALUE),
-    )?;
-    assert_early(
-        &rt,
-        a,
-        0,
-        &[on_plane(FB_ID, Value::New(9))],
-        Some(Refusal::INVALID_VALUE),
-    )?;
-    assert_early(
-        &rt,
-        a,
-        0,
-        &[on_plane(IN_FENCE_FD, Value::New(9))],
-        Some(Refusal::INVALID_VALUE),
-    )?;
-    assert_early(
-        &rt,
-        a,
-        0,
-        &[on_plane(FB_ID, Value::Crtc(0))],
-        Some(Refusal::INVALID_VALUE),
-    )?;
-    assert_early(
-        &rt,
-        a,
-        0,
-        &[on_plane(ZPOS, Value::Crtc(0))],
-        Some(Refusal::INVALID_VALUE),
-    )
+    Ok(())
+}
+
+#[test]
+fn new_labels_are_taken_for_an_out_fence_alone(rt: HostRuntime) -> Result<(), NoMemory> {
+    let a = rt.alloc();
+    let new = Value::New(9);
+    assert_early(&rt, a, 0, &[on_crtc(OUT_FENCE_PTR, new)], None)?;
+    for never in [
+        on_crtc(MODE_ID, new),
+        on_crtc(ACTIVE, new),
+        on_plane(FB_ID, new),
+        on_plane(IN_FENCE_FD, new),
+    ] {
+        assert_no_value(&rt, a, never)?;
+    }
+    Ok(())
+}
+
+#[test]
+fn crtcs_are_taken_for_a_crtc_alone(rt: HostRuntime) -> Result<(), NoMemory> {
+    let a = rt.alloc();
+    assert_no_value(&rt, a, on_plane(FB_ID, Value::Crtc(0)))?;
+    assert_no_value(&rt, a, on_plane(ZPOS, Value::Crtc(0)))
 }
 
 #[test]
