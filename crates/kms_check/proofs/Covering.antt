@@ -29,7 +29,7 @@ use Rattle.kms_model.proofs.TouchedLemmas.{few_objects, few_of}
 use Rattle.kms_laws.proofs.Basics.{in_either}
 use Rattle.kms_state.specs.Places.{is_duplicated}
 use Rattle.kms_state.proofs.Slots.{same_duplicated}
-use Rattle.kms_track.specs.InStep.{is_on}
+use Rattle.kms_track.specs.InStep.{is_of_device}
 use Rattle.kms_track.specs.Places.{mask_has, object_at}
 use Rattle.kms_track.specs.StepLaws.{HasStates}
 use Rattle.kms_track.proofs.CheckedLemmas.{in_touched}
@@ -93,28 +93,28 @@ some_there {S} states i there = go (slice_get states i) refl there
 module _ (t : Topology) (r : Request) (used : List (ℕ × Look)) (d : Duplicates) (checked : Checked) (resolved : Resolved) (w : World) (accepted : AcceptedAs t r used d checked resolved) (is : IsOfRequest t w r resolved d) where
   given_at : (p : ℕ) → p < 28 → mask_has checked.touched p ≡ true → is_duplicated d (object_at p) ≡ true
   given_at p place has =
-      let here : (is_on t (object_at p) && touches t w r (object_at p)) ≡ true = in_touched t w r p place ∙ ap (λ (m : Mask). mask_has m p) (sym (accepted.gives w is).touched) ∙ has in
-      let both = and_parts (is_on t (object_at p)) (touches t w r (object_at p)) here in
+      let here : (is_of_device t (object_at p) && touches t w r (object_at p)) ≡ true = in_touched t w r p place ∙ ap (λ (m : Mask). mask_has m p) (sym (accepted.gives w is).touched) ∙ has in
+      let both = and_parts (is_of_device t (object_at p)) (touches t w r (object_at p)) here in
       accepted.covers w is (object_at p) (place_lockable t p place (sym (on_place t p place) ∙ both.0)) both.1
 
   -- a state that was given is among those that were checked
   kept_at : (k : Kind) (i : ℕ) → i < 16 → is_duplicated d (object_id k i) ≡ true → is_kind_duplicated k checked.states i ≡ true
   kept_at k i few there = sym (is_duplicated-object k checked.states i few) ∙ same_duplicated d checked.states (object_id k i) accepted.kept ∙ there
 
-  crtc_at : (i : ℕ) → i < 4 → has_bit checked.touched.crtcs i ≡ true → is_some (duplicate_at checked.states.crtcs i) ≡ true
-  crtc_at i few has =
+  crtc_covered : (i : ℕ) → i < 4 → has_bit checked.touched.crtcs i ≡ true → is_some (duplicate_at checked.states.crtcs i) ≡ true
+  crtc_covered i few has =
       let first : nat_lt i 4 ≡ true = lt-ltb i 4 few in
       kept_at kind.Crtc i (omega (arith, few)) (rw first at (given_at i (omega (arith, few)) (rw first has)))
 
-  plane_at : (i : ℕ) → i < 16 → has_bit checked.touched.planes i ≡ true → is_some (duplicate_at checked.states.planes i) ≡ true
-  plane_at i few has =
+  plane_covered : (i : ℕ) → i < 16 → has_bit checked.touched.planes i ≡ true → is_some (duplicate_at checked.states.planes i) ≡ true
+  plane_covered i few has =
       let index : (4 + i) - 4 ≡ i = omega arith in
       let past : nat_lt (4 + i) 4 ≡ false = le-ltb (4 + i) 4 (omega arith) in
       let first : nat_lt (4 + i) 20 ≡ true = lt-ltb (4 + i) 20 (omega (arith, few)) in
       kept_at kind.Plane i few (rw (past, first, index) at (given_at (4 + i) (omega (arith, few)) (rw (past, first, index) has)))
 
-  conn_at : (i : ℕ) → i < 8 → has_bit checked.touched.conns i ≡ true → is_some (duplicate_at checked.states.conns i) ≡ true
-  conn_at i few has =
+  conn_covered : (i : ℕ) → i < 8 → has_bit checked.touched.conns i ≡ true → is_some (duplicate_at checked.states.conns i) ≡ true
+  conn_covered i few has =
       let index : (20 + i) - 20 ≡ i = omega arith in
       let past : nat_lt (20 + i) 4 ≡ false = le-ltb (20 + i) 4 (omega arith) in
       let beyond : nat_lt (20 + i) 20 ≡ false = le-ltb (20 + i) 20 (omega arith) in
@@ -122,7 +122,7 @@ module _ (t : Topology) (r : Request) (used : List (ℕ × Look)) (d : Duplicate
 
   pub accepted-states : HasAll d checked
   accepted-states = record {
-    states = record { planes = plane_at; conns = conn_at };
-    crtcs = λ i few has. some_there checked.states.crtcs i (crtc_at i few has);
+    states = record { planes = plane_covered; conns = conn_covered };
+    crtcs = λ i few has. some_there checked.states.crtcs i (crtc_covered i few has);
     given = given_at;
   }

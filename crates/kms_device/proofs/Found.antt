@@ -1,6 +1,6 @@
 -- From what a pass has seen to what its turn finds.
 use Rattle.std.proofs.Common.{◌≡◌, ◌≢◌, ℕ, ◌≤◌, length, Some, Bool, true, false, refl, sym, ap, ◌∙◌, subst}
-use Rattle.std.specs.Prelude.{not}
+use Rattle.std.specs.Prelude.{◌&&◌, not}
 use Rattle.std.proofs.lemmas.Bool.{and_from, and_parts}
 use Rattle.kms_model.specs.declared.objects.Ticket.{Ticket}
 use Rattle.kms_model.specs.declared.replies.Step.{Step}
@@ -60,23 +60,21 @@ module _ (script : Script) (pass : DevicePass) (found : Run) (f : MayBeFound scr
   idle-found : (test : Command → Bool) → idle_at script (at script pass.seen) pass.rank test ≡ true → idle_at found.script (machine found) pass.rank test ≡ true
   idle-found test h = subst (λ s. idle_at s (machine found) pass.rank test ≡ true) (sym f.same) (idle-same script (at script pass.seen) (machine found) pass.rank test place-found h)
 
+  -- a step that idle clients may do
+  may-idle : (test : Command → Bool) → (not (at script pass.seen).stalled && idle_at script (at script pass.seen) pass.rank test) ≡ true → (not (machine found).stalled && idle_at found.script (machine found) pass.rank test) ≡ true
+  may-idle test h = and_from (not (machine found).stalled) _ (ap not going-found) (idle-found test (and_parts (not (at script pass.seen).stalled) _ h).1)
+
   pub may_make : (client : ℕ) → pass.rank ≡ client → MayMake (seen script pass) client → MayMake found client
   unfolding legal may
-  may_make client whose h =
-      subst (MayMake found) whose
-      (and_from (not (machine found).stalled) _ (ap not going-found) (idle-found is_making (and_parts (not (at script pass.seen).stalled) _ (subst (MayMake (seen script pass)) (sym whose) h)).1))
+  may_make client whose h = subst (MayMake found) whose (may-idle is_making (subst (MayMake (seen script pass)) (sym whose) h))
 
   pub may_signal : (client : ℕ) → pass.rank ≡ client → MaySignal (seen script pass) client → MaySignal found client
   unfolding legal may
-  may_signal client whose h =
-      subst (MaySignal found) whose
-      (and_from (not (machine found).stalled) _ (ap not going-found) (idle-found is_signal (and_parts (not (at script pass.seen).stalled) _ (subst (MaySignal (seen script pass)) (sym whose) h)).1))
+  may_signal client whose h = subst (MaySignal found) whose (may-idle is_signal (subst (MaySignal (seen script pass)) (sym whose) h))
 
   pub may_begin : (client : ℕ) → pass.rank ≡ client → MayBegin (seen script pass) client → MayBegin found client
   unfolding legal may
-  may_begin client whose h =
-      subst (MayBegin found) whose
-      (and_from (not (machine found).stalled) _ (ap not going-found) (idle-found is_atomic (and_parts (not (at script pass.seen).stalled) _ (subst (MayBegin (seen script pass)) (sym whose) h)).1))
+  may_begin client whose h = subst (MayBegin found) whose (may-idle is_atomic (subst (MayBegin (seen script pass)) (sym whose) h))
 
   pub may_read : (client : ℕ) → pass.rank ≡ client → MayRead (seen script pass) client → MayRead found client
   may_read client whose h = subst (MayRead found) whose (idle-found is_wait (subst (MayRead (seen script pass)) (sym whose) h))

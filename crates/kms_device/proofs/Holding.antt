@@ -1,21 +1,22 @@
 -- What a client's context holds stays, and so do the states of it, while others make steps.
-use Rattle.std.proofs.Common.{◌≡◌, ◌≢◌, ℕ, ◌+◌, ◌∷◌, true, Some, None, refl, sym, ap, ◌∙◌}
+use Rattle.std.proofs.Common.{◌≡◌, ◌≢◌, ℕ, ◌∷◌, true, Some, None, refl, sym, ap, ◌∙◌}
 use Rattle.std.proofs.lemmas.Bool.{eq-eqb}
 use Rattle.kms_model.specs.declared.replies.Step.{Step}
 use Rattle.kms_model.specs.declared.scripts.Script.{Script}
 use Rattle.kms_model.specs.declared.worlds.World.{World}
 use Rattle.kms_model.specs.Device.Execution.{execute}
 use Rattle.kms_model.specs.Device.Objects.{object_id}
-use Rattle.kms_model.specs.Machine.Effects.{answers, counts_vblank, dropped, goes_on, next, signals}
+use Rattle.kms_model.specs.Machine.Effects.{answers, dropped, goes_on, next, signals}
 use Rattle.kms_model.specs.Machine.Histories.{legal}
-use Rattle.kms_model.specs.Machine.State.{Machine, count_at, has_value, holder_at, holds}
+use Rattle.kms_model.specs.Machine.Registers.{read}
+use Rattle.kms_model.specs.Machine.State.{Machine, has_value, holder_at, holds}
 use Rattle.kms_model.specs.Promises.{HasSameState, client_of_step}
 use Rattle.kms_laws.proofs.Basics.{read_other}
 use Rattle.kms_laws.proofs.Contexts.{dropped-keeps}
-use Rattle.kms_laws.proofs.EachStep.{Carries, by_bool, by_fence, by_latch, by_two, each_step, latched_as, made_as, swapped_as}
+use Rattle.kms_laws.proofs.EachStep.{Carries, by_bool, by_fence, by_two, each_step, made_as, swapped_as, tails_leave}
 use Rattle.kms_laws.proofs.HeldFrames.{held_same}
 use Rattle.kms_laws.proofs.NeverStuck.{Along, step_along}
-use Rattle.kms_laws.proofs.Steps.{IsPlainScript, flushed_at}
+use Rattle.kms_laws.proofs.Steps.{IsPlainScript}
 
 module _ (s : Script) (m : Machine) (client object : ℕ) (held : holder_at m object ≡ Some client) where
   abbrev Held : Machine → Type 0
@@ -34,32 +35,27 @@ module _ (s : Script) (m : Machine) (client object : ℕ) (held : holder_at m ob
 
   carries_held : Carries s m (λ step m2. client_of_step step ≢ Some client → Held m2)
   carries_held = record {
-    begins = λ c command e atomic idle others. held;
-    takes = λ c kind index is_there lock free others. takes c (object_id kind index) free;
-    meets = λ c kind index holder is_there lock taken others. held;
-    backs = λ c back others. drops c others;
-    relocks = λ c o asked free others. takes c o free;
-    refuses = λ c r e taking may others. drops c others;
-    tests = λ c r e taking may others. drops c others;
-    swaps = λ c r e taking may b w eb ew others.
-        by_two (λ b w. Held (swapped_as s.topology b w m c r)) (drops c others) (drops c others) (drops c others) (drops c others) b w;
-    makes = λ c command e making idle b eb others.
-        by_bool (λ b. Held (made_as b m c (execute s.topology m.device.world c command))) held held b;
-    signalled = λ c command e is_signal idle o others.
-        by_fence (λ o. Held (goes_on (signals (answers m c (execute s.topology m.device.world c command).reply) o) c)) held (λ fence. held) o;
-    read_none = λ c command e is_wait idle none others. held;
-    read_one = λ c command e is_wait idle event events some others. held;
-    claimed = λ k h others. held;
-    written = λ k kind index found others. held;
-    waits = λ k kind index written found others. held;
-    flushed = λ k kind index written found b o eb eo others.
-        by_latch (λ b o. Held (latched_as s.topology b o (flushed_at m k (object_id kind index)) k (object_id kind index) (count_at m.device (object_id kind index)))) held (λ fence. held) held (λ fence. held) b o;
-    done = λ k a b c d others. held;
-    counted = λ kind index is none others. held;
-    blanked = λ kind index k is some b o eb eo others.
-        by_latch (λ b o. Held (latched_as s.topology b o (counts_vblank m (object_id kind index)) k (object_id kind index) (count_at m.device (object_id kind index) + 1))) held (λ fence. held) held (λ fence. held) b o;
-    cleaned = λ k a b c others. held;
-    returned = λ c k e clean others. held;
+    locks = record {
+      begins = λ c command e atomic idle others. held;
+      takes = λ c kind index is_there lock free others. takes c (object_id kind index) free;
+      meets = λ c kind index holder is_there lock taken others. held;
+      backs = λ c back others. drops c others;
+      relocks = λ c o asked free others. takes c o free;
+      returned = λ c k e clean others. held;
+    };
+    answers = record {
+      refuses = λ c r e taking may others. drops c others;
+      tests = λ c r e taking may others. drops c others;
+      swaps = λ c r e taking may b w eb ew others.
+          by_two (λ b w. Held (swapped_as s.topology b w m c r)) (drops c others) (drops c others) (drops c others) (drops c others) b w;
+      makes = λ c command e making idle b eb others.
+          by_bool (λ b. Held (made_as b m c (execute s.topology m.device.world c command))) held held b;
+      signalled = λ c command e is_signal idle o others.
+          by_fence (λ o. Held (goes_on (signals (answers m c (execute s.topology m.device.world c command).reply) o) c)) held (λ fence. held) o;
+      read_none = λ c command e is_wait idle none others. held;
+      read_one = λ c command e is_wait idle event events some others. held;
+    };
+    tails = tails_leave s m (λ step left. client_of_step step ≢ Some client → read None left.contexts.locks object ≡ Some client) (λ step others. held);
     stalled = λ h others. held;
   }
 

@@ -1,17 +1,17 @@
 -- What steps of others leave of a client.
-use Rattle.std.proofs.Common.{◌≡◌, ◌≢◌, ℕ, ◌+◌, ◌∷◌, true, Some, refl, ap}
+use Rattle.std.proofs.Common.{◌≡◌, ◌≢◌, ℕ, ◌∷◌, true, Some, refl, ap}
 use Rattle.kms_model.specs.declared.replies.Step.{Step}
 use Rattle.kms_model.specs.declared.runs.Place.{Place}
 use Rattle.kms_model.specs.declared.scripts.Script.{Script}
 use Rattle.kms_model.specs.Device.Execution.{execute}
-use Rattle.kms_model.specs.Device.Objects.{object_id}
-use Rattle.kms_model.specs.Machine.Effects.{answers, counts_vblank, goes_on, next, signals}
+use Rattle.kms_model.specs.Machine.Effects.{answers, goes_on, next, signals}
 use Rattle.kms_model.specs.Machine.Histories.{legal}
-use Rattle.kms_model.specs.Machine.State.{Machine, count_at, place_at}
+use Rattle.kms_model.specs.Machine.Registers.{read}
+use Rattle.kms_model.specs.Machine.State.{Machine, place_at}
 use Rattle.kms_model.specs.Promises.{client_of_step}
+use Rattle.kms_clients.specs.Standing.{first_place}
 use Rattle.kms_laws.proofs.Basics.{read_other}
-use Rattle.kms_laws.proofs.EachStep.{Carries, by_bool, by_fence, by_latch, by_two, each_step, latched_as, made_as, swapped_as}
-use Rattle.kms_laws.proofs.Steps.{flushed_at}
+use Rattle.kms_laws.proofs.EachStep.{Carries, by_bool, by_fence, by_two, each_step, made_as, swapped_as, tails_leave}
 
 module _ (s : Script) (m : Machine) (client : ℕ) where
   abbrev Same : Machine → Type 0
@@ -25,32 +25,27 @@ module _ (s : Script) (m : Machine) (client : ℕ) where
 
   carries_place : Carries s m (λ step m2. client_of_step step ≢ Some client → Same m2)
   carries_place = record {
-    begins = λ c command e atomic idle others. moves c _ others;
-    takes = λ c kind index is_there lock free others. refl;
-    meets = λ c kind index holder is_there lock held others. moves c _ others;
-    backs = λ c back others. moves c _ others;
-    relocks = λ c object asked free others. moves c _ others;
-    refuses = λ c r e taking may others. moves c _ others;
-    tests = λ c r e taking may others. moves c _ others;
-    swaps = λ c r e taking may b w eb ew others.
-        by_two (λ b w. Same (swapped_as s.topology b w m c r)) (moves c _ others) (moves c _ others) (moves c _ others) (moves c _ others) b w;
-    makes = λ c command e making idle b eb others.
-        by_bool (λ b. Same (made_as b m c (execute s.topology m.device.world c command))) (moves c _ others) (moves c _ others) b;
-    signalled = λ c command e is_signal idle o others.
-        by_fence (λ o. Same (goes_on (signals (answers m c (execute s.topology m.device.world c command).reply) o) c)) (moves c _ others) (λ fence. moves c _ others) o;
-    read_none = λ c command e is_wait idle none others. moves c _ others;
-    read_one = λ c command e is_wait idle event events some others. moves c _ others;
-    claimed = λ k h others. refl;
-    written = λ k kind index found others. refl;
-    waits = λ k kind index written found others. refl;
-    flushed = λ k kind index written found b o eb eo others.
-        by_latch (λ b o. Same (latched_as s.topology b o (flushed_at m k (object_id kind index)) k (object_id kind index) (count_at m.device (object_id kind index)))) refl (λ fence. refl) refl (λ fence. refl) b o;
-    done = λ k a b c d others. refl;
-    counted = λ kind index is none others. refl;
-    blanked = λ kind index k is some b o eb eo others.
-        by_latch (λ b o. Same (latched_as s.topology b o (counts_vblank m (object_id kind index)) k (object_id kind index) (count_at m.device (object_id kind index) + 1))) refl (λ fence. refl) refl (λ fence. refl) b o;
-    cleaned = λ k a b c others. refl;
-    returned = λ c k e clean others. moves c _ others;
+    locks = record {
+      begins = λ c command e atomic idle others. moves c _ others;
+      takes = λ c kind index is_there lock free others. refl;
+      meets = λ c kind index holder is_there lock held others. moves c _ others;
+      backs = λ c back others. moves c _ others;
+      relocks = λ c object asked free others. moves c _ others;
+      returned = λ c k e clean others. moves c _ others;
+    };
+    answers = record {
+      refuses = λ c r e taking may others. moves c _ others;
+      tests = λ c r e taking may others. moves c _ others;
+      swaps = λ c r e taking may b w eb ew others.
+          by_two (λ b w. Same (swapped_as s.topology b w m c r)) (moves c _ others) (moves c _ others) (moves c _ others) (moves c _ others) b w;
+      makes = λ c command e making idle b eb others.
+          by_bool (λ b. Same (made_as b m c (execute s.topology m.device.world c command))) (moves c _ others) (moves c _ others) b;
+      signalled = λ c command e is_signal idle o others.
+          by_fence (λ o. Same (goes_on (signals (answers m c (execute s.topology m.device.world c command).reply) o) c)) (moves c _ others) (λ fence. moves c _ others) o;
+      read_none = λ c command e is_wait idle none others. moves c _ others;
+      read_one = λ c command e is_wait idle event events some others. moves c _ others;
+    };
+    tails = tails_leave s m (λ step left. client_of_step step ≢ Some client → read first_place left.contexts.places client ≡ place_at m client) (λ step others. refl);
     stalled = λ h others. refl;
   }
 

@@ -104,29 +104,35 @@ module _ (s : Script) (m : Machine) where
 
   carries_changes : Carries s m (Changes s m)
   carries_changes = record {
-    begins = λ client c e atomic idle. record { world = refl; commits = refl; cleaned = refl; live = refl };
-    takes = λ client kind index is_there lock free. record { world = refl; commits = refl; cleaned = refl; live = refl };
-    meets = λ client kind index holder is_there lock held. record { world = refl; commits = refl; cleaned = refl; live = refl };
-    backs = λ client back. record { world = refl; commits = refl; cleaned = refl; live = refl };
-    relocks = λ client object asked free. record { world = refl; commits = refl; cleaned = refl; live = refl };
-    refuses = λ client r e taking may. record { world = refl; commits = refl; cleaned = refl; live = refl };
-    tests = λ client r e taking may. record { world = refl; commits = refl; cleaned = refl; live = refl };
-    swaps = λ client r e taking may b w eb ew. committing client r b w;
-    makes = λ client c e making idle b eb. executing client c e making b;
-    signalled = λ client c e is_signal idle o.
-        by_fence (λ o. SameNeeds m (goes_on (signals (answers m client (execute s.topology m.device.world client c).reply) o) client))
-        (record { world = refl; commits = refl; cleaned = refl; live = refl }) (λ fence. record { world = refl; commits = refl; cleaned = refl; live = refl }) o;
-    read_none = λ client c e is_wait idle none. record { world = refl; commits = refl; cleaned = refl; live = refl };
-    read_one = λ client c e is_wait idle event events some. record { world = refl; commits = refl; cleaned = refl; live = refl };
-    claimed = λ k h. record { world = refl; commits = refl; cleaned = refl; live = refl };
-    written = λ k kind index found. record { world = refl; commits = refl; cleaned = refl; live = refl };
-    waits = λ k kind index written found. inl (record { world = refl; commits = refl; cleaned = refl; live = refl });
-    flushed = λ k kind index written found b o eb eo. inr (flushing k (object_id kind index) found.is_crtc b o);
-    done = λ k a b c d. record { world = refl; commits = refl; cleaned = refl; live = refl };
-    counted = λ kind index is none. inl (record { world = refl; commits = refl; cleaned = refl; live = refl });
-    blanked = λ kind index k is some b o eb eo. inr (blanking k (object_id kind index) is b o);
-    cleaned = λ k a b c. refl;
-    returned = λ client k e clean. record { world = refl; commits = refl; cleaned = refl; live = refl };
+    locks = record {
+      begins = λ client c e atomic idle. record { world = refl; commits = refl; cleaned = refl; live = refl };
+      takes = λ client kind index is_there lock free. record { world = refl; commits = refl; cleaned = refl; live = refl };
+      meets = λ client kind index holder is_there lock held. record { world = refl; commits = refl; cleaned = refl; live = refl };
+      backs = λ client back. record { world = refl; commits = refl; cleaned = refl; live = refl };
+      relocks = λ client object asked free. record { world = refl; commits = refl; cleaned = refl; live = refl };
+      returned = λ client k e clean. record { world = refl; commits = refl; cleaned = refl; live = refl };
+    };
+    answers = record {
+      refuses = λ client r e taking may. record { world = refl; commits = refl; cleaned = refl; live = refl };
+      tests = λ client r e taking may. record { world = refl; commits = refl; cleaned = refl; live = refl };
+      swaps = λ client r e taking may b w eb ew. committing client r b w;
+      makes = λ client c e making idle b eb. executing client c e making b;
+      signalled = λ client c e is_signal idle o.
+          by_fence (λ o. SameNeeds m (goes_on (signals (answers m client (execute s.topology m.device.world client c).reply) o) client))
+          (record { world = refl; commits = refl; cleaned = refl; live = refl }) (λ fence. record { world = refl; commits = refl; cleaned = refl; live = refl }) o;
+      read_none = λ client c e is_wait idle none. record { world = refl; commits = refl; cleaned = refl; live = refl };
+      read_one = λ client c e is_wait idle event events some. record { world = refl; commits = refl; cleaned = refl; live = refl };
+    };
+    tails = record {
+      claimed = λ k h. record { world = refl; commits = refl; cleaned = refl; live = refl };
+      written = λ k kind index found. record { world = refl; commits = refl; cleaned = refl; live = refl };
+      waits = λ k kind index written found. inl (record { world = refl; commits = refl; cleaned = refl; live = refl });
+      flushed = λ k kind index written found b o eb eo. inr (flushing k (object_id kind index) found.is_crtc b o);
+      done = λ k a b c d. record { world = refl; commits = refl; cleaned = refl; live = refl };
+      counted = λ kind index is none. inl (record { world = refl; commits = refl; cleaned = refl; live = refl });
+      blanked = λ kind index k is some b o eb eo. inr (blanking k (object_id kind index) is b o);
+      cleaned = λ k a b c. refl;
+    };
     stalled = λ h. record { world = refl; commits = refl; cleaned = refl; live = refl };
   }
 

@@ -20,8 +20,10 @@ use Rattle.kms_model.specs.Device.World.{thing_labelled, thing_with_id}
 use Rattle.kms_model.specs.Machine.Framebuffers.{is_needed}
 use Rattle.kms_model.specs.Machine.State.{Machine}
 use Rattle.kms_model.specs.Machine.Steps.{is_making}
+use Rattle.kms_model.proofs.FramedLemmas.{closed_same}
 use Rattle.kms_model.proofs.Items.{IsIn}
 use Rattle.kms_model.proofs.ThingLemmas.{find-in, numbered-closed}
+use Rattle.kms_laws.proofs.Closed.{closed_labelled, closed_with_id}
 use Rattle.kms_laws.proofs.Executed.{IsLike, plane_like}
 use Rattle.kms_freeing.specs.Freeing.{AreRising}
 use Rattle.kms_freeing.proofs.FreedLists.{filter-none, passes, with_own_id}
@@ -80,34 +82,9 @@ pushed_added t m n w u X more =
 
 -- A thing is closed
 
-with_closed : (things : List Thing) (id at : ℕ) → thing_with_id (closed_in things id) at ≡ option_map (closed_if id) (thing_with_id things at)
-with_closed [] id at = refl
-with_closed (u ∷ us) id at = by_id ((closed_if id u).id == at) (u.id == at) (ap (λ n. n == at) (same_id (u.id == id))) (with_closed us id at) where
-  same_id : (b : Bool) → (if b then record u { is_open = false } else u).id ≡ u.id
-  same_id true = refl
-  same_id false = refl
-
-  by_id : (a b : Bool) → a ≡ b → thing_with_id (closed_in us id) at ≡ option_map (closed_if id) (thing_with_id us at)
-      → (if a then Some (closed_if id u) else thing_with_id (closed_in us id) at) ≡ option_map (closed_if id) (if b then Some u else thing_with_id us at)
-  by_id true true e rest = refl
-  by_id false false e rest = rest
-  by_id true false e rest = absurd (false≢true (sym e))
-  by_id false true e rest = absurd (false≢true e)
-
-closed_same : (id : ℕ) (o : Option Thing) → IsSameOrNone o (option_map (closed_if id) o)
-closed_same id None = refl
-closed_same id (Some x) = record { thing = closed_if id x; found = refl; label = label (x.id == id); id = same_id (x.id == id); content = same_content (x.id == id) } where
-  label : (b : Bool) → (if b then record x { is_open = false } else x).label ≡ x.label
-  label true = refl
-  label false = refl
-
-  same_id : (b : Bool) → (if b then record x { is_open = false } else x).id ≡ x.id
-  same_id true = refl
-  same_id false = refl
-
-  same_content : (b : Bool) → (if b then record x { is_open = false } else x).content ≡ x.content
-  same_content true = refl
-  same_content false = refl
+closed_or_none : (id : ℕ) (o : Option Thing) → IsSameOrNone o (option_map (closed_if id) o)
+closed_or_none id None = refl
+closed_or_none id (Some x) = let same = closed_same id x in record { thing = closed_if id x; found = refl; label = same.label; id = same.id; content = same.content }
 
 module _ (t : Topology) (m n : Machine) (w : World) (u : Thing) (X : IsExecuted t m n w) (is : w.things ≡ closed_in m.device.world.things u.id) (u_in : IsIn u m.device.world.things) where
   now : n.device.world.things ≡ closed_in m.device.world.things u.id
@@ -117,12 +94,12 @@ module _ (t : Topology) (m n : Machine) (w : World) (u : Thing) (X : IsExecuted 
   numbered_now = subst (AreNumbered 1000) (sym now) (numbered-closed 1000 m.device.world.things u.id X.numbered)
 
   stay : (id : ℕ) → IsSameOrNone (thing_with_id m.device.world.things id) (thing_with_id n.device.world.things id)
-  stay id = subst (λ o. IsSameOrNone (thing_with_id m.device.world.things id) o) (sym (ap (λ things. thing_with_id things id) now ∙ with_closed m.device.world.things u.id id)) (closed_same u.id (thing_with_id m.device.world.things id))
+  stay id = subst (λ o. IsSameOrNone (thing_with_id m.device.world.things id) o) (sym (ap (λ things. thing_with_id things id) now ∙ closed_with_id m.device.world.things u.id id)) (closed_or_none u.id (thing_with_id m.device.world.things id))
 
   -- another thing is as it was
   other_same : (x : Thing) → IsIn x m.device.world.things → (x.id ≡ u.id → ⊥) → thing_with_id n.device.world.things x.id ≡ Some x
   other_same x x_in apart =
-      ap (λ things. thing_with_id things x.id) now ∙ with_closed m.device.world.things u.id x.id ∙ ap (option_map (closed_if u.id)) (with_own_id 1000 m.device.world.things x X.numbered x_in)
+      ap (λ things. thing_with_id things x.id) now ∙ closed_with_id m.device.world.things u.id x.id ∙ ap (option_map (closed_if u.id)) (with_own_id 1000 m.device.world.things x X.numbered x_in)
       ∙ ap Some (cond-false (x.id == u.id) (record x { is_open = false }) x (ne_eqb x.id u.id apart))
 
   only_this : (x : Thing) → IsIn x m.device.world.things → is_needed t m x ≡ true → passes (is_needed t n) (thing_with_id n.device.world.things x.id) ≡ false → x.id ≡ u.id
@@ -140,7 +117,7 @@ module _ (t : Topology) (m n : Machine) (w : World) (u : Thing) (X : IsExecuted 
 
   back : (y : Thing) → IsIn y n.device.world.things → is_needed t n y ≡ true → passes (is_needed t m) (thing_with_id m.device.world.things y.id) ≡ true
   back y y_in needed =
-      let found = sym (with_closed m.device.world.things u.id y.id) ∙ ap (λ things. thing_with_id things y.id) (sym now) ∙ with_own_id 1000 n.device.world.things y numbered_now y_in in
+      let found = sym (closed_with_id m.device.world.things u.id y.id) ∙ ap (λ things. thing_with_id things y.id) (sym now) ∙ with_own_id 1000 n.device.world.things y numbered_now y_in in
       at (thing_with_id m.device.world.things y.id) found
     where
       at : (o : Option Thing) → option_map (closed_if u.id) o ≡ Some y → passes (is_needed t m) o ≡ true
@@ -189,20 +166,6 @@ module _ (t : Topology) (m n : Machine) (w : World) (u : Thing) (X : IsExecuted 
             absurd (false≢true (sym none ∙ ap (λ (z : Thing). is_framebuffer z.content) (sym is_u) ∙ (needs_of t m x both.0).framebuffer))
 
 -- Commands
-
-labelled_closed : (things : List Thing) (id label : ℕ) → thing_labelled (closed_in things id) label ≡ option_map (closed_if id) (thing_labelled things label)
-labelled_closed [] id label = refl
-labelled_closed (u ∷ us) id label = by_label ((closed_if id u).label == label) (u.label == label) (ap (λ n. n == label) (same_label (u.id == id))) (labelled_closed us id label) where
-  same_label : (b : Bool) → (if b then record u { is_open = false } else u).label ≡ u.label
-  same_label true = refl
-  same_label false = refl
-
-  by_label : (a b : Bool) → a ≡ b → thing_labelled (closed_in us id) label ≡ option_map (closed_if id) (thing_labelled us label)
-      → (if a then Some (closed_if id u) else thing_labelled (closed_in us id) label) ≡ option_map (closed_if id) (if b then Some u else thing_labelled us label)
-  by_label true true e rest = refl
-  by_label false false e rest = rest
-  by_label true false e rest = absurd (false≢true (sym e))
-  by_label false true e rest = absurd (false≢true e)
 
 -- a framebuffer is closed
 pub record IsClosed (t : Topology) (m n : Machine) (label : ℕ) : Type 0 where
@@ -262,7 +225,7 @@ module _ (t : Topology) (m n : Machine) where
       record {
         thing = u;
         now = closed_if u.id u;
-        found = ap (λ (w : World). thing_labelled w.things label) X.world ∙ labelled_closed m.device.world.things u.id label ∙ ap (option_map (closed_if u.id)) found;
+        found = ap (λ (w : World). thing_labelled w.things label) X.world ∙ closed_labelled m.device.world.things u.id label ∙ ap (option_map (closed_if u.id)) found;
         same_id = same_id (u.id == u.id);
         told = closed_told t m n _ u X refl (find-in (λ x. x.label == label) m.device.world.things u found) (open_only client u refusal);
       }

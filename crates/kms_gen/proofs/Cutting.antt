@@ -51,11 +51,11 @@ unfolding field_at
 field_of w ws inner = let c = cut w (fields ws) inner (after_word ws) in rw (c.front, c.back) refl
 
 -- all of them
-pub words_of : (ws : List (List ℕ)) → list_all (list_all is_inner) ws ≡ true → field_words (fields ws) ≡ Some ws
-words_of [] inner = refl
-words_of (w ∷ ws) inner =
+pub words_of_fields : (ws : List (List ℕ)) → list_all (list_all is_inner) ws ≡ true → field_words (fields ws) ≡ Some ws
+words_of_fields [] inner = refl
+words_of_fields (w ∷ ws) inner =
     let p = and_parts (list_all is_inner w) (list_all (list_all is_inner) ws) inner in
-    first_word (fields (w ∷ ws)) w (fields ws) (sym (field_of w ws p.0)) ∙ rw (words_of ws p.1) refl
+    first_word (fields (w ∷ ws)) w (fields ws) (sym (field_of w ws p.0)) ∙ rw (words_of_fields ws p.1) refl
 
 -- Numbers
 

@@ -22,7 +22,7 @@ use Rattle.kms_model.specs.Script.Words.{is_digit}
 use Rattle.kms_model.proofs.OnScripts.{on_scripts}
 use Rattle.kms_script.specs.Printed.{fields}
 use Rattle.kms_script.proofs.Decimals.{dec_read, decimal_digits}
-use Rattle.kms_gen.proofs.Cutting.{each, field_of, is_inner, no_front, number_inner, number_of, words_of}
+use Rattle.kms_gen.proofs.Cutting.{each, field_of, is_inner, no_front, number_inner, number_of, words_of_fields}
 
 -- Values
 
@@ -51,7 +51,7 @@ request_read : (names : Names) (index : ℕ) (ws : List (List ℕ)) (sets : List
     → atomic_read names (fields (codes "0x1" ∷ decimal index ∷ ws)) ≡ Some (Atomic (record { flags = 1; user_data = index; assigns = sets }), names)
 unfolding atomic_read hex
 request_read names index ws sets le inner given =
-    rw (field_of (codes "0x1") (decimal index ∷ ws) refl, number_of 18446744073709551615 index ws (omega arith) le, words_of ws inner, given) refl
+    rw (field_of (codes "0x1") (decimal index ∷ ws) refl, number_of 18446744073709551615 index ws (omega arith) le, words_of_fields ws inner, given) refl
 
 three_read : (names : Names) (u v w : List ℕ) (a b c : Assign) → assign_read names u ≡ Some (a, names) → assign_read names v ≡ Some (b, names) → assign_read names w ≡ Some (c, names)
     → assigns_read names (u ∷ v ∷ w ∷ []) ≡ Some (a ∷ b ∷ c ∷ [], names)

@@ -40,8 +40,8 @@ module _ {E X : Type 0} where
   made_put : (vs : List (View E X)) (me : ℕ) (v w : View E X) (n : ℕ) → At vs me v → w.made ≡ v.made → sum_by (λ z. z.made) vs ≡ n → sum_by (λ z. z.made) (set vs me w) ≡ n
   made_put vs me v w n at same all = let p = sum_put (λ z. z.made) vs me v w at in omega arith
 
-abbrev blank : List ℕ
-blank = 0 ∷ 0 ∷ 0 ∷ 0 ∷ []
+abbrev four_zeros : List ℕ
+four_zeros = 0 ∷ 0 ∷ 0 ∷ 0 ∷ []
 
 only_item : {X : Type 0} {x y : X} → x ∷ [] ≡ y ∷ [] → x ≡ y
 only_item e = cc
@@ -461,13 +461,13 @@ module _ {T E X : Type 0} (owner : E → ℕ) (entries : T → List E) (counted 
     };
     sights = record {
       begins = λ j v e h. subst (λ z. GoesOnFrom owner z.rank z.seen []) (only_first me j v e).1 ([], refl, All-nil (λ e. owner e ≢ 1));
-      counted_in = λ j v e h. subst (λ z. (k : ℕ) → k < 4 → k < due z.stage → counted k z.seen ≤ get_or blank k 0) (only_first me j v e).1 (λ k l _. let a = none_yet k l in omega arith);
+      counted_in = λ j v e h. subst (λ z. (k : ℕ) → k < 4 → k < due z.stage → counted k z.seen ≤ get_or four_zeros k 0) (only_first me j v e).1 (λ k l _. let a = none_yet k l in omega arith);
       joined = λ j v e. subst (λ z. All (λ xs. IsStart xs []) z.joined) (only_first me j v e).1 (All-nil (λ xs. IsStart xs []));
     };
     made = refl;
   }
     where
-      zeros : (k : ℕ) → get_or blank k 0 ≡ 0
+      zeros : (k : ℕ) → get_or four_zeros k 0 ≡ 0
       zeros zero = refl
       zeros (suc zero) = refl
       zeros (suc (suc zero)) = refl

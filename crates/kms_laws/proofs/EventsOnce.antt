@@ -18,7 +18,7 @@ use Rattle.kms_model.specs.Promises.{awaited_events, delivered, events_of}
 use Rattle.kms_model.specs.Request.Flags.{wants_event}
 use Rattle.kms_model.proofs.Items.{IsIn}
 use Rattle.kms_laws.proofs.Basics.{pair_now}
-use Rattle.kms_laws.proofs.EachStep.{Carries, by_bool, by_fence, by_latch, by_two, each_step, latched_as, made_as, swapped_as}
+use Rattle.kms_laws.proofs.EachStep.{Carries, by_bool, by_fence, by_latch, by_two, each_step, latched_as, locks_leave, made_as, swapped_as}
 use Rattle.kms_laws.proofs.EventsKept.{EventsStand, latch_events, read_events, swap_events}
 use Rattle.kms_laws.proofs.Objects.{crtc_index}
 use Rattle.kms_laws.proofs.Steps.{Holds, IsFlush, IsPlainScript, along, first_kept, flushed_at, flushed_holds, fresh-unlatched, step_kept}
@@ -37,27 +37,26 @@ module _ (s : Script) (m : Machine) (Q : List Commit → List Latch → Events �
       → ((k c : ℕ) → IsIn c (ids_of s.topology Crtc) → go_at m.device c ≡ Some k → (b : Bool) (o : Option ℕ) → asks_event s.topology m.device.commits k ≡ b
       → Of (latched_as s.topology b o (counts_vblank m c) k c (count_at m.device c + 1))) → Carries s m (λ step m2. Of m2)
   events_carried p swap_keeps read_keeps flush_keeps vblank_keeps = record {
-    begins = λ client c e atomic idle. p;
-    takes = λ client kind index is_there lock free. p;
-    meets = λ client kind index holder is_there lock held. p;
-    backs = λ client back. p;
-    relocks = λ client object asked free. p;
-    refuses = λ client r e taking may. p;
-    tests = λ client r e taking may. p;
-    swaps = λ client r e taking may b w eb ew. swap_keeps client r may b w eb;
-    makes = λ client c e making idle b eb. by_bool (λ b. Of (made_as b m client (execute s.topology m.device.world client c))) p p b;
-    signalled = λ client c e is_signal idle o. by_fence (λ o. Of (goes_on (signals (answers m client (execute s.topology m.device.world client c).reply) o) client)) p (λ fence. p) o;
-    read_none = λ client c e is_wait idle none. p;
-    read_one = λ client c e is_wait idle event events some. read_keeps client event events some;
-    claimed = λ k h. p;
-    written = λ k kind index found. p;
-    waits = λ k kind index written found. p;
-    flushed = λ k kind index written found b o eb eo. flush_keeps k (object_id kind index) written found b o eb;
-    done = λ k a b c d. p;
-    counted = λ kind index is none. p;
-    blanked = λ kind index k is some b o eb eo. vblank_keeps k (object_id kind index) is some b o eb;
-    cleaned = λ k a b c. p;
-    returned = λ client k e clean. p;
+    locks = locks_leave s m (λ step m2. Of m2) (λ step contexts. p);
+    answers = record {
+      refuses = λ client r e taking may. p;
+      tests = λ client r e taking may. p;
+      swaps = λ client r e taking may b w eb ew. swap_keeps client r may b w eb;
+      makes = λ client c e making idle b eb. by_bool (λ b. Of (made_as b m client (execute s.topology m.device.world client c))) p p b;
+      signalled = λ client c e is_signal idle o. by_fence (λ o. Of (goes_on (signals (answers m client (execute s.topology m.device.world client c).reply) o) client)) p (λ fence. p) o;
+      read_none = λ client c e is_wait idle none. p;
+      read_one = λ client c e is_wait idle event events some. read_keeps client event events some;
+    };
+    tails = record {
+      claimed = λ k h. p;
+      written = λ k kind index found. p;
+      waits = λ k kind index written found. p;
+      flushed = λ k kind index written found b o eb eo. flush_keeps k (object_id kind index) written found b o eb;
+      done = λ k a b c d. p;
+      counted = λ kind index is none. p;
+      blanked = λ kind index k is some b o eb eo. vblank_keeps k (object_id kind index) is some b o eb;
+      cleaned = λ k a b c. p;
+    };
     stalled = λ h. p;
   }
 

@@ -1,6 +1,7 @@
 -- What a command that makes or closes a thing leaves of the states, and what a commit's out-fences leave.
 use Rattle.std.proofs.Common.{List, None, Option, Some, [], ap, arith, false, inl, inr, refl, subst, sym, true, ℕ, ◌++◌, ◌<◌, ◌∙◌, ◌∷◌, ◌≡◌, ◌≤◌}
 use Rattle.std.specs.Prelude.{ℤ, if◌then◌else◌, ⊤, ◌==◌}
+use Rattle.std.specs.Option.{option_map}
 use Rattle.std.proofs.lemmas.Bool.{cases_Bool, cond-true, cond-false, false≢true, ne_eqb}
 use Rattle.kms_model.specs.declared.objects.Kind.TheVariants as kind
 use Rattle.kms_model.specs.declared.objects.Topology.{Topology}
@@ -25,6 +26,7 @@ use Rattle.kms_model.proofs.Items.{IsIn}
 use Rattle.kms_model.proofs.SeenLemmas.{AreSeenAlike, alike-closed, alike-push, gamma-seen, mode-seen, plane-seen}
 use Rattle.kms_model.proofs.SoundKept.{sound-make}
 use Rattle.kms_model.proofs.ThingLemmas.{IsSeenAlike}
+use Rattle.kms_laws.proofs.Closed.{closed_with_id}
 use Rattle.kms_laws.proofs.Requests.{words_at, words_same}
 use Rattle.kms_laws.proofs.Words.{AreKept, KeepsMode}
 
@@ -110,17 +112,11 @@ closed_if-open id u shut = elim (cases_Bool (u.id == id)) [
 ]
 
 shut-closed : (things : List Thing) (at id : ℕ) → IsShut things id → IsShut (closed_in things at) id
-shut-closed [] at id shut thing found = absurd cc
-shut-closed (x ∷ xs) at id shut thing found =
-    let same : (closed_if at x).id ≡ x.id = (closed_same at x).id in
-    elim (cases_Bool (x.id == id)) [
-      | inl here ↦ (
-          let e : Some (closed_if at x) ≡ Some thing = sym (cond-true ((closed_if at x).id == id) (Some (closed_if at x)) (thing_with_id (closed_in xs at) id) (ap (λ n. n == id) same ∙ here)) ∙ found in
-          let is : closed_if at x ≡ thing = cc in
-          ap (λ (z : Thing). z.is_open) (sym is) ∙ closed_if-open at x (shut x (cond-true (x.id == id) (Some x) (thing_with_id xs id) here)))
-      | inr away ↦ shut-closed xs at id (λ later e. shut later (cond-false (x.id == id) (Some x) (thing_with_id xs id) away ∙ e)) thing
-          (sym (cond-false ((closed_if at x).id == id) (Some (closed_if at x)) (thing_with_id (closed_in xs at) id) (ap (λ n. n == id) same ∙ away)) ∙ found)
-    ]
+shut-closed things at id shut thing found = by_found (thing_with_id things id) refl (sym (closed_with_id things at id) ∙ found)
+  where
+    by_found : (o : Option Thing) → thing_with_id things id ≡ o → option_map (closed_if at) o ≡ Some thing → thing.is_open ≡ false
+    by_found None e is = absurd cc
+    by_found (Some x) e is = let same : closed_if at x ≡ thing = cc in ap (λ (z : Thing). z.is_open) (sym same) ∙ closed_if-open at x (shut x e)
 
 -- what a command leaves of a sound world, where it is no request
 pub record Follows (t : Topology) (w v : World) : Type 0 where

@@ -23,7 +23,7 @@ use Rattle.kms_model.specs.declared.worlds.Look.{Look}
 use Rattle.kms_model.specs.declared.worlds.Look.TheVariants as look
 use Rattle.kms_model.specs.declared.worlds.Thing.{Thing}
 use Rattle.kms_model.specs.declared.worlds.World.{World}
-use Rattle.kms_model.specs.Device.Closing.{closed_if, closed_in}
+use Rattle.kms_model.specs.Device.Closing.{closed_if}
 use Rattle.kms_model.specs.Device.Execution.{BufferInfo, add_fb, buffer_of, close, close_refusal, close_unless, committed, destroy_refusal, execute, make, make_out_fence, make_out_fences, make_unless, new_buffer_refusal, signal_refusal, signal_unless}
 use Rattle.kms_model.specs.Device.Modes.{is_legal_mode}
 use Rattle.kms_model.specs.Device.GammaBytes.{gamma_of_bytes}
@@ -41,6 +41,7 @@ use Rattle.kms_model.proofs.FramedLemmas.{closed_same}
 use Rattle.kms_model.proofs.Items.{IsIn, list_any-has}
 use Rattle.kms_model.proofs.LastLemmas.{SetBy, set_by}
 use Rattle.kms_laws.proofs.Basics.{both_bools}
+use Rattle.kms_laws.proofs.Closed.{closed_labelled}
 use Rattle.kms_laws.proofs.Numbered.{commit_new, commit_old, names_new, names_old}
 use Rattle.kms_laws.proofs.Requests.{set-named}
 
@@ -78,18 +79,6 @@ push-found (y ∷ ys) x label u e =
           (push-found ys x label u (sym (cond-false (y.label == label) (Some y) (thing_labelled (ys ++ x ∷ []) label) away) ∙ e))
     ]
 
-labelled-closed : (things : List Thing) (at label : ℕ) → thing_labelled (closed_in things at) label ≡ option_map (closed_if at) (thing_labelled things label)
-labelled-closed [] at label = refl
-labelled-closed (x ∷ xs) at label =
-    let same : (closed_if at x).label ≡ x.label = (closed_same at x).label in
-    ap (λ n. if n == label then Some (closed_if at x) else thing_labelled (closed_in xs at) label) same
-    ∙ ap (λ o. if x.label == label then Some (closed_if at x) else o) (labelled-closed xs at label)
-    ∙ by_test (x.label == label)
-  where
-    by_test : (b : Bool) → (if b then Some (closed_if at x) else option_map (closed_if at) (thing_labelled xs label)) ≡ option_map (closed_if at) (if b then Some x else thing_labelled xs label)
-    by_test true = refl
-    by_test false = refl
-
 keeps-self : (w : World) → KeepsLabels w w
 keeps-self w = record {
   forth = λ label u found. record { thing = u; found = found; same_id = refl; same_content = refl };
@@ -111,8 +100,8 @@ keeps-make w owner label c other =
 keeps-close : (w : World) (o : Option Thing) → KeepsLabels w (close w o)
 keeps-close w None = keeps-self w
 keeps-close w (Some x) = record {
-  forth = λ l u found. record { thing = closed_if x.id u; found = labelled-closed w.things x.id l ∙ ap (option_map (closed_if x.id)) found; same_id = (closed_same x.id u).id; same_content = (closed_same x.id u).content };
-  back = λ l u found. inl (old l u (thing_labelled w.things l) refl (sym (labelled-closed w.things x.id l) ∙ found));
+  forth = λ l u found. record { thing = closed_if x.id u; found = closed_labelled w.things x.id l ∙ ap (option_map (closed_if x.id)) found; same_id = (closed_same x.id u).id; same_content = (closed_same x.id u).content };
+  back = λ l u found. inl (old l u (thing_labelled w.things l) refl (sym (closed_labelled w.things x.id l) ∙ found));
 }
   where
     old : (l : ℕ) (u : Thing) (o : Option Thing) → thing_labelled w.things l ≡ o → option_map (closed_if x.id) o ≡ Some u → Labelled w.things l u

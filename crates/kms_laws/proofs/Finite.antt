@@ -38,7 +38,7 @@ use Rattle.kms_laws.proofs.LeftInAll.{left_any, left_less}
 use Rattle.kms_laws.proofs.LockSteps.{lockable-has}
 use Rattle.kms_laws.proofs.Measure.{IsOwnStep, backoffs-below, contexts_left, own_step_less, phases-below, times-less}
 use Rattle.kms_laws.proofs.ShorterTails.{step_lowers, tails_short}
-use Rattle.kms_laws.proofs.Sizes.{IsThere, answered, begun_at, busy, command-there, ended_at, from_one-within, has_commands, length_of, place_of, sum-last, sum-more, sum-most, sum-one}
+use Rattle.kms_laws.proofs.Sizes.{IsThere, answered, begun_at, busy, command-there, ended_at, from_one-within, has_commands, length_of, place_of, sum-more, sum-most, sum-one}
 use Rattle.kms_laws.proofs.SmallNumbers.{Counted, answered-busy, few_commands}
 use Rattle.kms_laws.proofs.Stalled.{legal-going}
 use Rattle.kms_laws.proofs.Steps.{flushed_at, flushed_holds, taking-none}
@@ -148,53 +148,59 @@ module _ (s : Script) (m : Machine) (n : ℕ) (C : Counted s n m) where
 
   carries_falls : Carries s m (λ step m2. is_moving m step ≡ true → Falls s m step m2)
   carries_falls = record {
-    begins = λ client c e atomic idle mv.
-        let i = idle-busy (doing_at m client) idle in
-        Answers (done-one s m.contexts.places client (record { command = (place_at m client).command; doing = doing.Taking (record { 0 = m.contexts.tickets }) })
-        (let a = i.0 in let b = i.1 in omega (arith, a, b)) (there client c e).low (there client c e).high) (inl refl);
-    takes = λ client kind index is_lock lock free mv.
-        Locks client (omega arith) refl refl refl (take_step s m client (object_id kind index) (lockable-has s.topology kind index is_lock) (lock-is client (object_id kind index) lock) free) (lock-client client (object_id kind index) lock);
-    meets = λ client kind index holder is_lock lock held mv.
-        Locks client (same_done client (doing.MustBackOff (record { 0 = ticket_of (doing_at m client) }) (obj_id (object_id kind index))) (taking-busy (doing_at m client) (lock-is client (object_id kind index) lock)) (refl, refl)) refl refl refl
-        (meet_step s m client (object_id kind index) holder (lock-is client (object_id kind index) lock) held (lock-older client (object_id kind index) holder lock held)) (lock-client client (object_id kind index) lock);
-    backs = λ client back mv.
-        let step = back_step s m client back in
-        Locks client (same_done client (backed_off (doing_at m client)) (back-busy (doing_at m client) back).0 (back-busy (doing_at m client) back).1) refl refl refl step (ticket-client client step.ticket);
-    relocks = λ client object asked free mv.
-        let step = relock_step s m client object asked free in
-        Locks client (same_done client (doing.Taking (record { 0 = ticket_of (doing_at m client) })) (contended-busy (doing_at m client) object asked) (refl, refl)) refl refl refl step (ticket-client client step.ticket);
-    refuses = λ client r e taking may mv. Answers (taking_done client (command.Atomic r) e taking) (inl refl);
-    tests = λ client r e taking may mv. Answers (taking_done client (command.Atomic r) e taking) (inl refl);
-    swaps = λ client r e taking may b w eb ew mv.
-        let on = taking_done client (command.Atomic r) e taking in
-        let t = taking-busy (doing_at m client) taking in
-        let back : all_done s m.contexts.places + 1 ≤ all_done s ((client, record { command = (place_at m client).command; doing = doing.Returning (length m.device.commits) }) ∷ m.contexts.places) =
-        done-one s m.contexts.places client (record { command = (place_at m client).command; doing = doing.Returning (length m.device.commits) })
-        (let a = t.0 in let b2 = t.1 in omega (arith, a, b2)) (there client (command.Atomic r) e).low (there client (command.Atomic r) e).high in
-        by_two (λ b w. Falls s m (Swap client) (swapped_as s.topology b w m client r)) (Answers on (inr refl)) (Answers back (inr refl)) (Answers on (inr refl)) (Answers back (inr refl)) b w;
-    makes = λ client c e making idle b eb mv.
-        let on = idle_done client c e idle in
-        by_bool (λ b. Falls s m (Make client) (made_as b m client (execute s.topology m.device.world client c))) (Answers on (inl refl)) (Answers on (inl refl)) b;
-    signalled = λ client c e is_signal idle o mv.
-        let on = idle_done client c e idle in
-        by_fence (λ o. Falls s m (Signal client) (goes_on (signals (answers m client (execute s.topology m.device.world client c).reply) o) client)) (Answers on (inl refl)) (λ fence. Answers on (inl refl)) o;
-    read_none = λ client c e is_wait idle none mv. Answers (idle_done client c e idle) (inl refl);
-    read_one = λ client c e is_wait idle event events some mv. Answers (idle_done client c e idle) (inl refl);
-    claimed = λ k h mv. Tails k (claim-low k h) refl refl refl refl;
-    written = λ k kind index found mv. Tails k (C.facts.holds.tail.marks.claimed k found.claimed) refl refl refl refl;
-    waits = λ k kind index written found mv. Tails k (flush_within (flushed_holds s m C.facts.holds k (object_id kind index) written found).tail k (object_id kind index) (pair_now k (object_id kind index) m.device.marks.flushed)) refl refl refl refl;
-    flushed = λ k kind index written found b o eb eo mv.
-        let low = flush_within (flushed_holds s m C.facts.holds k (object_id kind index) written found).tail k (object_id kind index) (pair_now k (object_id kind index) m.device.marks.flushed) in
-        by_latch (λ b o. Falls s m (Flush k kind index) (latched_as s.topology b o (flushed_at m k (object_id kind index)) k (object_id kind index) (count_at m.device (object_id kind index))))
-        (Tails k low refl refl refl refl) (λ fence. Tails k low refl refl refl refl) (Tails k low refl refl refl refl) (λ fence. Tails k low refl refl refl refl) b o;
-    done = λ k a b c d mv. Tails k (C.facts.holds.tail.marks.claimed k a) refl refl refl refl;
-    counted = λ kind index is none mv. absurd (false≢true (sym (ap is_some none) ∙ mv));
-    blanked = λ kind index k is some b o eb eo mv.
-        let low = flush_within C.facts.holds.tail k (object_id kind index) (C.facts.holds.tail.marks.go_is k (object_id kind index) some).flushed in
-        by_latch (λ b o. Falls s m (Vblank kind index) (latched_as s.topology b o (counts_vblank m (object_id kind index)) k (object_id kind index) (count_at m.device (object_id kind index) + 1)))
-        (Tails k low some refl refl refl) (λ fence. Tails k low some refl refl refl) (Tails k low some refl refl refl) (λ fence. Tails k low some refl refl refl) b o;
-    cleaned = λ k a b c mv. Tails k (C.facts.holds.tail.marks.claimed k (C.facts.holds.tail.marks.done k a).0) refl refl refl refl;
-    returned = λ client k e clean mv. Answers (return_done client k e) (inl refl);
+    locks = record {
+      begins = λ client c e atomic idle mv.
+          let i = idle-busy (doing_at m client) idle in
+          Answers (done-one s m.contexts.places client (record { command = (place_at m client).command; doing = doing.Taking (record { 0 = m.contexts.tickets }) })
+          (let a = i.0 in let b = i.1 in omega (arith, a, b)) (there client c e).low (there client c e).high) (inl refl);
+      takes = λ client kind index is_lock lock free mv.
+          Locks client (omega arith) refl refl refl (take_step s m client (object_id kind index) (lockable-has s.topology kind index is_lock) (lock-is client (object_id kind index) lock) free) (lock-client client (object_id kind index) lock);
+      meets = λ client kind index holder is_lock lock held mv.
+          Locks client (same_done client (doing.MustBackOff (record { 0 = ticket_of (doing_at m client) }) (obj_id (object_id kind index))) (taking-busy (doing_at m client) (lock-is client (object_id kind index) lock)) (refl, refl)) refl refl refl
+          (meet_step s m client (object_id kind index) holder (lock-is client (object_id kind index) lock) held (lock-older client (object_id kind index) holder lock held)) (lock-client client (object_id kind index) lock);
+      backs = λ client back mv.
+          let step = back_step s m client back in
+          Locks client (same_done client (backed_off (doing_at m client)) (back-busy (doing_at m client) back).0 (back-busy (doing_at m client) back).1) refl refl refl step (ticket-client client step.ticket);
+      relocks = λ client object asked free mv.
+          let step = relock_step s m client object asked free in
+          Locks client (same_done client (doing.Taking (record { 0 = ticket_of (doing_at m client) })) (contended-busy (doing_at m client) object asked) (refl, refl)) refl refl refl step (ticket-client client step.ticket);
+      returned = λ client k e clean mv. Answers (return_done client k e) (inl refl);
+    };
+    answers = record {
+      refuses = λ client r e taking may mv. Answers (taking_done client (command.Atomic r) e taking) (inl refl);
+      tests = λ client r e taking may mv. Answers (taking_done client (command.Atomic r) e taking) (inl refl);
+      swaps = λ client r e taking may b w eb ew mv.
+          let on = taking_done client (command.Atomic r) e taking in
+          let t = taking-busy (doing_at m client) taking in
+          let back : all_done s m.contexts.places + 1 ≤ all_done s ((client, record { command = (place_at m client).command; doing = doing.Returning (length m.device.commits) }) ∷ m.contexts.places) =
+          done-one s m.contexts.places client (record { command = (place_at m client).command; doing = doing.Returning (length m.device.commits) })
+          (let a = t.0 in let b2 = t.1 in omega (arith, a, b2)) (there client (command.Atomic r) e).low (there client (command.Atomic r) e).high in
+          by_two (λ b w. Falls s m (Swap client) (swapped_as s.topology b w m client r)) (Answers on (inr refl)) (Answers back (inr refl)) (Answers on (inr refl)) (Answers back (inr refl)) b w;
+      makes = λ client c e making idle b eb mv.
+          let on = idle_done client c e idle in
+          by_bool (λ b. Falls s m (Make client) (made_as b m client (execute s.topology m.device.world client c))) (Answers on (inl refl)) (Answers on (inl refl)) b;
+      signalled = λ client c e is_signal idle o mv.
+          let on = idle_done client c e idle in
+          by_fence (λ o. Falls s m (Signal client) (goes_on (signals (answers m client (execute s.topology m.device.world client c).reply) o) client)) (Answers on (inl refl)) (λ fence. Answers on (inl refl)) o;
+      read_none = λ client c e is_wait idle none mv. Answers (idle_done client c e idle) (inl refl);
+      read_one = λ client c e is_wait idle event events some mv. Answers (idle_done client c e idle) (inl refl);
+    };
+    tails = record {
+      claimed = λ k h mv. Tails k (claim-low k h) refl refl refl refl;
+      written = λ k kind index found mv. Tails k (C.facts.holds.tail.marks.claimed k found.claimed) refl refl refl refl;
+      waits = λ k kind index written found mv. Tails k (flush_within (flushed_holds s m C.facts.holds k (object_id kind index) written found).tail k (object_id kind index) (pair_now k (object_id kind index) m.device.marks.flushed)) refl refl refl refl;
+      flushed = λ k kind index written found b o eb eo mv.
+          let low = flush_within (flushed_holds s m C.facts.holds k (object_id kind index) written found).tail k (object_id kind index) (pair_now k (object_id kind index) m.device.marks.flushed) in
+          by_latch (λ b o. Falls s m (Flush k kind index) (latched_as s.topology b o (flushed_at m k (object_id kind index)) k (object_id kind index) (count_at m.device (object_id kind index))))
+          (Tails k low refl refl refl refl) (λ fence. Tails k low refl refl refl refl) (Tails k low refl refl refl refl) (λ fence. Tails k low refl refl refl refl) b o;
+      done = λ k a b c d mv. Tails k (C.facts.holds.tail.marks.claimed k a) refl refl refl refl;
+      counted = λ kind index is none mv. absurd (false≢true (sym (ap is_some none) ∙ mv));
+      blanked = λ kind index k is some b o eb eo mv.
+          let low = flush_within C.facts.holds.tail k (object_id kind index) (C.facts.holds.tail.marks.go_is k (object_id kind index) some).flushed in
+          by_latch (λ b o. Falls s m (Vblank kind index) (latched_as s.topology b o (counts_vblank m (object_id kind index)) k (object_id kind index) (count_at m.device (object_id kind index) + 1)))
+          (Tails k low some refl refl refl) (λ fence. Tails k low some refl refl refl) (Tails k low some refl refl refl) (λ fence. Tails k low some refl refl refl) b o;
+      cleaned = λ k a b c mv. Tails k (C.facts.holds.tail.marks.claimed k (C.facts.holds.tail.marks.done k a).0) refl refl refl refl;
+    };
     stalled = λ h mv. Ends (legal-going s m Stall h) refl;
   }
 
@@ -310,27 +316,33 @@ module _ (s : Script) (formed : IsWellFormed s) (m : Machine) (n : ℕ) (C : Cou
 module _ (s : Script) (m : Machine) where
   carries_left : Carries s m (λ step m2. is_moving m step ≡ false → left s m2 ≡ left s m)
   carries_left = record {
-    begins = λ client c e atomic idle mv. absurd (false≢true (sym mv));
-    takes = λ client kind index is_lock lock free mv. absurd (false≢true (sym mv));
-    meets = λ client kind index holder is_lock lock held mv. absurd (false≢true (sym mv));
-    backs = λ client back mv. absurd (false≢true (sym mv));
-    relocks = λ client object asked free mv. absurd (false≢true (sym mv));
-    refuses = λ client r e taking may mv. absurd (false≢true (sym mv));
-    tests = λ client r e taking may mv. absurd (false≢true (sym mv));
-    swaps = λ client r e taking may b w eb ew mv. absurd (false≢true (sym mv));
-    makes = λ client c e making idle b eb mv. absurd (false≢true (sym mv));
-    signalled = λ client c e is_signal idle o mv. absurd (false≢true (sym mv));
-    read_none = λ client c e is_wait idle none mv. absurd (false≢true (sym mv));
-    read_one = λ client c e is_wait idle event events some mv. absurd (false≢true (sym mv));
-    claimed = λ k h mv. absurd (false≢true (sym mv));
-    written = λ k kind index found mv. absurd (false≢true (sym mv));
-    waits = λ k kind index written found mv. absurd (false≢true (sym mv));
-    flushed = λ k kind index written found b o eb eo mv. absurd (false≢true (sym mv));
-    done = λ k a b c d mv. absurd (false≢true (sym mv));
-    counted = λ kind index is none mv. refl;
-    blanked = λ kind index k is some b o eb eo mv. absurd (false≢true (sym mv ∙ ap is_some some));
-    cleaned = λ k a b c mv. absurd (false≢true (sym mv));
-    returned = λ client k e clean mv. absurd (false≢true (sym mv));
+    locks = record {
+      begins = λ client c e atomic idle mv. absurd (false≢true (sym mv));
+      takes = λ client kind index is_lock lock free mv. absurd (false≢true (sym mv));
+      meets = λ client kind index holder is_lock lock held mv. absurd (false≢true (sym mv));
+      backs = λ client back mv. absurd (false≢true (sym mv));
+      relocks = λ client object asked free mv. absurd (false≢true (sym mv));
+      returned = λ client k e clean mv. absurd (false≢true (sym mv));
+    };
+    answers = record {
+      refuses = λ client r e taking may mv. absurd (false≢true (sym mv));
+      tests = λ client r e taking may mv. absurd (false≢true (sym mv));
+      swaps = λ client r e taking may b w eb ew mv. absurd (false≢true (sym mv));
+      makes = λ client c e making idle b eb mv. absurd (false≢true (sym mv));
+      signalled = λ client c e is_signal idle o mv. absurd (false≢true (sym mv));
+      read_none = λ client c e is_wait idle none mv. absurd (false≢true (sym mv));
+      read_one = λ client c e is_wait idle event events some mv. absurd (false≢true (sym mv));
+    };
+    tails = record {
+      claimed = λ k h mv. absurd (false≢true (sym mv));
+      written = λ k kind index found mv. absurd (false≢true (sym mv));
+      waits = λ k kind index written found mv. absurd (false≢true (sym mv));
+      flushed = λ k kind index written found b o eb eo mv. absurd (false≢true (sym mv));
+      done = λ k a b c d mv. absurd (false≢true (sym mv));
+      counted = λ kind index is none mv. refl;
+      blanked = λ kind index k is some b o eb eo mv. absurd (false≢true (sym mv ∙ ap is_some some));
+      cleaned = λ k a b c mv. absurd (false≢true (sym mv));
+    };
     stalled = λ h mv. absurd (false≢true (sym mv));
   }
 

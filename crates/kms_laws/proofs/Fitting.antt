@@ -262,30 +262,36 @@ module _ (s : Script) (m : Machine) (n : ℕ) (few : s.topology.crtcs ≤ 4) (S 
 
   pub carries_sizes : Carries s m (λ step m2. HasSizes s (suc n) m2)
   carries_sizes = record {
-    begins = λ client c e atomic idle. begin_case client c e idle;
-    takes = λ client kind index is_there lock free. as_it_is;
-    meets = λ client kind index holder is_there lock held.
-        record { places_stand = keeps_on client (doing.MustBackOff (record { 0 = ticket_of (doing_at m client) }) (obj_id (object_id kind index))) (taking-busy (doing_at m client) (lock-taking client (object_id kind index) lock)) (refl, refl); counts_few = counts_now; latches_few = latches_now };
-    backs = λ client back. record { places_stand = keeps_on client (backed_off (doing_at m client)) (back-busy (doing_at m client) back).0 (back-busy (doing_at m client) back).1; counts_few = counts_now; latches_few = latches_now };
-    relocks = λ client object asked free.
-        record { places_stand = keeps_on client (doing.Taking (record { 0 = ticket_of (doing_at m client) })) (contended-busy (doing_at m client) object asked) (refl, refl); counts_few = counts_now; latches_few = latches_now };
-    refuses = λ client r e taking may. decide_case client (command.Atomic r) e taking (refusal_reply s.topology m client r (verdict s.topology m.device.world r));
-    tests = λ client r e taking may. decide_case client (command.Atomic r) e taking reply.Tested;
-    swaps = λ client r e taking may b w eb ew. swap_case client r e taking b w;
-    makes = λ client c e making idle b eb. make_case client c e making idle b;
-    signalled = λ client c e is_signal idle o.
-        let now : HasSizes s (suc n) (goes_on (answers m client (execute s.topology m.device.world client c).reply) client) = record { places_stand = act_places client c e idle; counts_few = counts_now; latches_few = latches_now } in
-        by_fence (λ o. HasSizes s (suc n) (goes_on (signals (answers m client (execute s.topology m.device.world client c).reply) o) client)) now (λ fence. now) o;
-    read_none = λ client c e is_wait idle none. record { places_stand = act_places client c e idle; counts_few = counts_now; latches_few = latches_now };
-    read_one = λ client c e is_wait idle event events some. record { places_stand = act_places client c e idle; counts_few = counts_now; latches_few = latches_now };
-    claimed = λ k h. as_it_is;
-    written = λ k kind index found. as_it_is;
-    waits = λ k kind index written found. as_it_is;
-    flushed = λ k kind index written found b o eb eo. flush_case k (object_id kind index) b o;
-    done = λ k a b c d. as_it_is;
-    counted = λ kind index is none. record { places_stand = S.places_stand; counts_few = counted_now (object_id kind index); latches_few = latches_now };
-    blanked = λ kind index k is some b o eb eo. vblank_case k (object_id kind index) b o;
-    cleaned = λ k a b c. as_it_is;
-    returned = λ client k e clean. return_case client k e;
+    locks = record {
+      begins = λ client c e atomic idle. begin_case client c e idle;
+      takes = λ client kind index is_there lock free. as_it_is;
+      meets = λ client kind index holder is_there lock held.
+          record { places_stand = keeps_on client (doing.MustBackOff (record { 0 = ticket_of (doing_at m client) }) (obj_id (object_id kind index))) (taking-busy (doing_at m client) (lock-taking client (object_id kind index) lock)) (refl, refl); counts_few = counts_now; latches_few = latches_now };
+      backs = λ client back. record { places_stand = keeps_on client (backed_off (doing_at m client)) (back-busy (doing_at m client) back).0 (back-busy (doing_at m client) back).1; counts_few = counts_now; latches_few = latches_now };
+      relocks = λ client object asked free.
+          record { places_stand = keeps_on client (doing.Taking (record { 0 = ticket_of (doing_at m client) })) (contended-busy (doing_at m client) object asked) (refl, refl); counts_few = counts_now; latches_few = latches_now };
+      returned = λ client k e clean. return_case client k e;
+    };
+    answers = record {
+      refuses = λ client r e taking may. decide_case client (command.Atomic r) e taking (refusal_reply s.topology m client r (verdict s.topology m.device.world r));
+      tests = λ client r e taking may. decide_case client (command.Atomic r) e taking reply.Tested;
+      swaps = λ client r e taking may b w eb ew. swap_case client r e taking b w;
+      makes = λ client c e making idle b eb. make_case client c e making idle b;
+      signalled = λ client c e is_signal idle o.
+          let now : HasSizes s (suc n) (goes_on (answers m client (execute s.topology m.device.world client c).reply) client) = record { places_stand = act_places client c e idle; counts_few = counts_now; latches_few = latches_now } in
+          by_fence (λ o. HasSizes s (suc n) (goes_on (signals (answers m client (execute s.topology m.device.world client c).reply) o) client)) now (λ fence. now) o;
+      read_none = λ client c e is_wait idle none. record { places_stand = act_places client c e idle; counts_few = counts_now; latches_few = latches_now };
+      read_one = λ client c e is_wait idle event events some. record { places_stand = act_places client c e idle; counts_few = counts_now; latches_few = latches_now };
+    };
+    tails = record {
+      claimed = λ k h. as_it_is;
+      written = λ k kind index found. as_it_is;
+      waits = λ k kind index written found. as_it_is;
+      flushed = λ k kind index written found b o eb eo. flush_case k (object_id kind index) b o;
+      done = λ k a b c d. as_it_is;
+      counted = λ kind index is none. record { places_stand = S.places_stand; counts_few = counted_now (object_id kind index); latches_few = latches_now };
+      blanked = λ kind index k is some b o eb eo. vblank_case k (object_id kind index) b o;
+      cleaned = λ k a b c. as_it_is;
+    };
     stalled = λ h. as_it_is;
   }

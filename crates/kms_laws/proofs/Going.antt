@@ -14,7 +14,7 @@ use Rattle.kms_model.specs.Machine.Registers.{read}
 use Rattle.kms_model.specs.Machine.State.{DeviceState, Machine, count_at, go_at}
 use Rattle.kms_model.proofs.Items.{IsIn}
 use Rattle.kms_laws.proofs.Basics.{both_bools, pair_cases, pair_now, read_other, read_same}
-use Rattle.kms_laws.proofs.EachStep.{Carries, by_bool, by_fence, by_latch, by_two, each_step, latched_as, made_as, swapped_as}
+use Rattle.kms_laws.proofs.EachStep.{Carries, by_bool, by_fence, by_latch, by_two, each_step, latched_as, locks_leave, made_as, swapped_as}
 use Rattle.kms_laws.proofs.Latching.{latched_before}
 use Rattle.kms_laws.proofs.Objects.{crtc_index}
 use Rattle.kms_laws.proofs.Steps.{Holds, IsFlush, flushed_at, flushed_holds, fresh-unlatched}
@@ -87,31 +87,30 @@ module _ (s : Script) (m : Machine) (H : Holds s m) (G : Going m) where
 
   carries_going : Carries s m (λ step m2. Going m2)
   carries_going = record {
-    begins = λ client c e atomic idle. G;
-    takes = λ client kind index is_there lock free. G;
-    meets = λ client kind index holder is_there lock held. G;
-    backs = λ client back. G;
-    relocks = λ client object asked free. G;
-    refuses = λ client r e taking may. G;
-    tests = λ client r e taking may. G;
-    swaps = λ client r e taking may b w eb ew. by_two (λ b w. Going (swapped_as s.topology b w m client r)) G G G G b w;
-    makes = λ client c e making idle b eb. by_bool (λ b. Going (made_as b m client (execute s.topology m.device.world client c))) G G b;
-    signalled = λ client c e is_signal idle o. by_fence (λ o. Going (goes_on (signals (answers m client (execute s.topology m.device.world client c).reply) o) client)) G (λ fence. G) o;
-    read_none = λ client c e is_wait idle none. G;
-    read_one = λ client c e is_wait idle event events some. G;
-    claimed = λ k h. G;
-    written = λ k kind index found. G;
-    waits = λ k kind index written found. flush_on k (object_id kind index) written found;
-    flushed = λ k kind index written found b o eb eo.
-        let now = flush_off k (object_id kind index) found in
-        by_latch (λ b o. Going (latched_as s.topology b o (flushed_at m k (object_id kind index)) k (object_id kind index) (count_at m.device (object_id kind index)))) now (λ fence. now) now (λ fence. now) b o;
-    done = λ k a b c d. G;
-    counted = λ kind index is none. blank_none (object_id kind index) none;
-    blanked = λ kind index k is some b o eb eo.
-        let now = blank_some (object_id kind index) k (latch_of s.topology (counts_vblank m (object_id kind index)).device k (object_id kind index) (count_at m.device (object_id kind index) + 1)) refl (crtc_index s.topology (object_id kind index) H.tail.few is) some in
-        by_latch (λ b o. Going (latched_as s.topology b o (counts_vblank m (object_id kind index)) k (object_id kind index) (count_at m.device (object_id kind index) + 1))) now (λ fence. now) now (λ fence. now) b o;
-    cleaned = λ k a b c. G;
-    returned = λ client k e clean. G;
+    locks = locks_leave s m (λ step m2. Going m2) (λ step contexts. G);
+    answers = record {
+      refuses = λ client r e taking may. G;
+      tests = λ client r e taking may. G;
+      swaps = λ client r e taking may b w eb ew. by_two (λ b w. Going (swapped_as s.topology b w m client r)) G G G G b w;
+      makes = λ client c e making idle b eb. by_bool (λ b. Going (made_as b m client (execute s.topology m.device.world client c))) G G b;
+      signalled = λ client c e is_signal idle o. by_fence (λ o. Going (goes_on (signals (answers m client (execute s.topology m.device.world client c).reply) o) client)) G (λ fence. G) o;
+      read_none = λ client c e is_wait idle none. G;
+      read_one = λ client c e is_wait idle event events some. G;
+    };
+    tails = record {
+      claimed = λ k h. G;
+      written = λ k kind index found. G;
+      waits = λ k kind index written found. flush_on k (object_id kind index) written found;
+      flushed = λ k kind index written found b o eb eo.
+          let now = flush_off k (object_id kind index) found in
+          by_latch (λ b o. Going (latched_as s.topology b o (flushed_at m k (object_id kind index)) k (object_id kind index) (count_at m.device (object_id kind index)))) now (λ fence. now) now (λ fence. now) b o;
+      done = λ k a b c d. G;
+      counted = λ kind index is none. blank_none (object_id kind index) none;
+      blanked = λ kind index k is some b o eb eo.
+          let now = blank_some (object_id kind index) k (latch_of s.topology (counts_vblank m (object_id kind index)).device k (object_id kind index) (count_at m.device (object_id kind index) + 1)) refl (crtc_index s.topology (object_id kind index) H.tail.few is) some in
+          by_latch (λ b o. Going (latched_as s.topology b o (counts_vblank m (object_id kind index)) k (object_id kind index) (count_at m.device (object_id kind index) + 1))) now (λ fence. now) now (λ fence. now) b o;
+      cleaned = λ k a b c. G;
+    };
     stalled = λ h. G;
   }
 

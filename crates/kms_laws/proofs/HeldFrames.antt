@@ -19,9 +19,9 @@ use Rattle.kms_model.specs.Device.Execution.{committed, execute}
 use Rattle.kms_model.specs.Device.Objects.{count_of, ids_of, kind_of, object_id}
 use Rattle.kms_model.specs.Device.States.{crtc_at}
 use Rattle.kms_model.specs.Machine.Commits.{lockable}
-use Rattle.kms_model.specs.Machine.Effects.{answers, counts_vblank, goes_on, next, signals}
+use Rattle.kms_model.specs.Machine.Effects.{answers, goes_on, next, signals}
 use Rattle.kms_model.specs.Machine.Histories.{at, is_history, legal}
-use Rattle.kms_model.specs.Machine.State.{Machine, command_at, count_at, holder_at, holds}
+use Rattle.kms_model.specs.Machine.State.{Machine, command_at, holder_at, holds}
 use Rattle.kms_model.specs.Machine.Steps.{holds_touched, is_making}
 use Rattle.kms_model.specs.Promises.{HasSameState, client_of_step}
 use Rattle.kms_model.specs.Request.Agreement.{crtc_state_at}
@@ -36,13 +36,13 @@ use Rattle.kms_model.proofs.SeenLemmas.{gamma-seen, mode-seen}
 use Rattle.kms_model.proofs.SoundKept.{accepted-parts, sound-apply}
 use Rattle.kms_model.proofs.TouchedLemmas.{HasFewObjects, IsRequestAt, crtc_at-unset, few_objects, gamma_at-unset, mode_at-unset, routed-unnamed}
 use Rattle.kms_laws.proofs.Basics.{implied, in_either}
-use Rattle.kms_laws.proofs.EachStep.{Carries, IsSwap, by_bool, by_fence, by_latch, by_two, each_step, latched_as, made_as, swap-found, swapped_as}
+use Rattle.kms_laws.proofs.EachStep.{Carries, IsSwap, by_bool, by_fence, by_two, each_step, locks_leave, made_as, swap-found, swapped_as, tails_leave}
 use Rattle.kms_laws.proofs.Executed.{IsLike, execute_follows, follows-out_fences, plane_like}
 use Rattle.kms_laws.proofs.LockSteps.{HasLocks}
 use Rattle.kms_laws.proofs.NeverStuck.{history_facts}
 use Rattle.kms_laws.proofs.Objects.{conn_kind, crtc_kind, plane_kind}
 use Rattle.kms_laws.proofs.Requests.{plane_frame}
-use Rattle.kms_laws.proofs.Steps.{Holds, flushed_at, IsPlainScript, not_atomic, value-is}
+use Rattle.kms_laws.proofs.Steps.{Holds, IsPlainScript, not_atomic, value-is}
 
 -- an object with a lock that is of a kind is one of that kind
 in_kind : (t : Topology) (k : Kind) (o : ℕ) → HasFewObjects t → IsIn o (lockable t) → kind_of o ≡ k → IsIn o (ids_of t k)
@@ -154,31 +154,19 @@ module _ (s : Script) (m : Machine) (plain : IsPlainScript s) (H : Holds s m) (L
 
   carries_same : Carries s m (λ step m2. client_of_step step ≢ Some holder → Of m2)
   carries_same = record {
-    begins = λ client c e atomic idle others. as_it_was;
-    takes = λ client kind index is_lock lock free others. as_it_was;
-    meets = λ client kind index other is_lock lock taken others. as_it_was;
-    backs = λ client back others. as_it_was;
-    relocks = λ client object asked free others. as_it_was;
-    refuses = λ client r e taking may others. as_it_was;
-    tests = λ client r e taking may others. as_it_was;
-    swaps = λ client r e taking may b w eb ew others.
-        let now = swap_same client r others (swap-found s.topology m client r may) in by_two (λ b w. Of (swapped_as s.topology b w m client r)) now now now now b w;
-    makes = λ client c e making idle b eb others.
-        let now = make_same client c e making in by_bool (λ b. Of (made_as b m client (execute s.topology m.device.world client c))) now now b;
-    signalled = λ client c e is_signal idle q others. by_fence (λ q. Of (goes_on (signals (answers m client (execute s.topology m.device.world client c).reply) q) client)) as_it_was (λ fence. as_it_was) q;
-    read_none = λ client c e is_wait idle none others. as_it_was;
-    read_one = λ client c e is_wait idle event events some others. as_it_was;
-    claimed = λ k h others. as_it_was;
-    written = λ k kind index found others. as_it_was;
-    waits = λ k kind index written found others. as_it_was;
-    flushed = λ k kind index written found b q eb eo others.
-        by_latch (λ b q. Of (latched_as s.topology b q (flushed_at m k (object_id kind index)) k (object_id kind index) (count_at m.device (object_id kind index)))) as_it_was (λ fence. as_it_was) as_it_was (λ fence. as_it_was) b q;
-    done = λ k a b c d others. as_it_was;
-    counted = λ kind index is none others. as_it_was;
-    blanked = λ kind index k is some b q eb eo others.
-        by_latch (λ b q. Of (latched_as s.topology b q (counts_vblank m (object_id kind index)) k (object_id kind index) (count_at m.device (object_id kind index) + 1))) as_it_was (λ fence. as_it_was) as_it_was (λ fence. as_it_was) b q;
-    cleaned = λ k a b c others. as_it_was;
-    returned = λ client k e clean others. as_it_was;
+    locks = locks_leave s m (λ step m2. client_of_step step ≢ Some holder → Of m2) (λ step contexts others. as_it_was);
+    answers = record {
+      refuses = λ client r e taking may others. as_it_was;
+      tests = λ client r e taking may others. as_it_was;
+      swaps = λ client r e taking may b w eb ew others.
+          let now = swap_same client r others (swap-found s.topology m client r may) in by_two (λ b w. Of (swapped_as s.topology b w m client r)) now now now now b w;
+      makes = λ client c e making idle b eb others.
+          let now = make_same client c e making in by_bool (λ b. Of (made_as b m client (execute s.topology m.device.world client c))) now now b;
+      signalled = λ client c e is_signal idle q others. by_fence (λ q. Of (goes_on (signals (answers m client (execute s.topology m.device.world client c).reply) q) client)) as_it_was (λ fence. as_it_was) q;
+      read_none = λ client c e is_wait idle none others. as_it_was;
+      read_one = λ client c e is_wait idle event events some others. as_it_was;
+    };
+    tails = tails_leave s m (λ step left. client_of_step step ≢ Some holder → HasSameState s.topology m.device.world left.world o) (λ step others. as_it_was);
     stalled = λ h others. as_it_was;
   }
 

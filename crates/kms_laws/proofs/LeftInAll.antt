@@ -1,5 +1,5 @@
 -- What is left of all tails, step by step, and that nothing is left of a commit that is cleaned.
-use Rattle.std.proofs.Common.{◌≡◌, ℕ, zero, suc, ◌+◌, ◌<◌, ◌≤◌, List, [], ◌∷◌, length, Bool, true, false, not, ◌&&◌, Option, Some, None, refl, sym, ap, ◌∙◌, subst, arith, inl, inr, ◌⊎◌}
+use Rattle.std.proofs.Common.{◌≡◌, ℕ, suc, ◌+◌, ◌<◌, ◌≤◌, List, [], ◌∷◌, length, Bool, true, false, not, ◌&&◌, Some, refl, sym, ap, ◌∙◌, arith, inl, inr, ◌⊎◌}
 use Rattle.std.specs.Prelude.{filter, if◌then◌else◌}
 use Rattle.std.proofs.lemmas.Bool.{and_parts, false_from_ne_true, false≢true}
 use Rattle.kms_model.specs.declared.objects.Kind.TheVariants.{Crtc}
@@ -9,18 +9,18 @@ use Rattle.kms_model.specs.declared.scripts.Script.{Script}
 use Rattle.kms_model.specs.Device.Objects.{ids_of}
 use Rattle.kms_model.specs.Machine.Commits.{commit_names, commit_touches, has_latched, has_number, has_pair, registered}
 use Rattle.kms_model.specs.Machine.Effects.{next}
-use Rattle.kms_model.specs.Machine.Histories.{at, is_history, legal}
+use Rattle.kms_model.specs.Machine.Histories.{legal}
 use Rattle.kms_model.specs.Machine.State.{Machine}
 use Rattle.kms_model.proofs.Items.{IsIn}
 use Rattle.kms_model.proofs.TouchedLemmas.{HasFewObjects}
-use Rattle.kms_laws.specs.TailsLeft.{LeavesLess, LeavesLessInAll, all_left, commit_of_step, is_swap, one_if, steps_left, sum, tail_left, unflushed, unlatched, unwritten}
+use Rattle.kms_laws.specs.TailsLeft.{LeavesLess, LeavesLessInAll, all_left, commit_of_step, is_swap, one_if, sum, tail_left}
 use Rattle.kms_laws.proofs.Basics.{both_bools}
 use Rattle.kms_laws.proofs.Drained.{flushed-test, written-test}
 use Rattle.kms_laws.proofs.Counted.{counts_carried, is_vblank}
 use Rattle.kms_laws.proofs.EachStep.{Carries, each_step}
 use Rattle.kms_laws.proofs.ShorterTails.{step_lowers, tails_short}
 use Rattle.kms_laws.proofs.Sizes.{sum-last, sum-more, sum-one}
-use Rattle.kms_laws.proofs.Steps.{Holds, IsPlainScript, history_kept}
+use Rattle.kms_laws.proofs.Steps.{Holds}
 
 -- A commit that is cleaned
 

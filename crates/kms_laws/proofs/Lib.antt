@@ -2,6 +2,7 @@ pub mod Apart
 pub mod Basics
 pub mod Blankings
 pub mod ClientProgress
+pub mod Closed
 pub mod Contexts
 pub mod ContextsAtAll
 pub mod Counted

@@ -16,10 +16,10 @@ use Rattle.kms_model.specs.declared.scripts.Script.{Script}
 use Rattle.kms_model.specs.Device.Execution.{execute}
 use Rattle.kms_model.specs.Device.Objects.{count_of, ids_of, object_id}
 use Rattle.kms_model.specs.Machine.Commits.{lockable}
-use Rattle.kms_model.specs.Machine.Effects.{answers, backed_off, counts_vblank, dropped, drops_locks, goes_on, next, now_doing, relocked, signals}
+use Rattle.kms_model.specs.Machine.Effects.{answers, backed_off, dropped, drops_locks, goes_on, next, now_doing, relocked, signals}
 use Rattle.kms_model.specs.Machine.Histories.{legal}
 use Rattle.kms_model.specs.Machine.Registers.{read}
-use Rattle.kms_model.specs.Machine.State.{Contexts, Machine, command_at, count_at, doing_at, first_machine, place_at, request_in}
+use Rattle.kms_model.specs.Machine.State.{Contexts, Machine, command_at, doing_at, first_machine, place_at, request_in}
 use Rattle.kms_model.specs.Machine.Steps.{contended, is_atomic, is_idle, is_lockable, is_taking, may_lock, must_back_off, returning_of, taking_at, ticket_of}
 use Rattle.kms_model.specs.Request.Reach.{reaches}
 use Rattle.kms_model.specs.Request.Sets.{obj_id}
@@ -27,8 +27,7 @@ use Rattle.kms_model.proofs.Items.{IsIn, ids-has}
 use Rattle.kms_laws.specs.Laws.{has_context}
 use Rattle.kms_laws.proofs.Basics.{both_bools, in_left, in_right, read_other, read_same}
 use Rattle.kms_laws.proofs.Contexts.{asked_of, HasRequest, LocksStand, doing_in, dropped-other, dropped-own, holder_in, may_hold, moved, place_in}
-use Rattle.kms_laws.proofs.EachStep.{Carries, by_bool, by_fence, by_latch, by_two, each_step, latched_as, made_as, swapped_as}
-use Rattle.kms_laws.proofs.Steps.{flushed_at}
+use Rattle.kms_laws.proofs.EachStep.{Carries, by_bool, by_fence, by_two, each_step, made_as, swapped_as, tails_leave}
 
 abbrev pub HasLocks : Script → Machine → Type 0
 HasLocks s m = LocksStand s m.contexts (length m.device.commits)
@@ -244,31 +243,26 @@ module _ (s : Script) (m : Machine) (L : HasLocks s m) where
 
   carries_locks : Carries s m (λ step m2. HasLocks s m2)
   carries_locks = record {
-    begins = λ client c e atomic idle.
-        let r = atomic-request (command_at s m client) c e atomic in
-        begins s m.contexts (length m.device.commits) L client (idle-free (doing_at m client) idle) (record { request = r.0; at = r.1 });
-    takes = λ client kind index is_lock lock free. takes s m.contexts (length m.device.commits) L client (object_id kind index) (lock-taking client (object_id kind index) lock).0 (lockable-has s.topology kind index is_lock);
-    meets = λ client kind index holder is_lock lock held. meet_locks client (object_id kind index) (lockable-has s.topology kind index is_lock) lock;
-    backs = λ client back. back_locks client back;
-    relocks = λ client object asked free. relock_locks client (Some object) asked;
-    refuses = λ client r e taking may. decided_from client;
-    tests = λ client r e taking may. decided_from client;
-    swaps = λ client r e taking may b w eb ew. swap_locks client r b w;
-    makes = λ client c e making idle b eb. by_bool (λ b. HasLocks s (made_as b m client (execute s.topology m.device.world client c))) (act_locks client idle) (act_locks client idle) b;
-    signalled = λ client c e is_signal idle o. by_fence (λ o. HasLocks s (goes_on (signals (answers m client (execute s.topology m.device.world client c).reply) o) client)) (act_locks client idle) (λ fence. act_locks client idle) o;
-    read_none = λ client c e is_wait idle none. act_locks client idle;
-    read_one = λ client c e is_wait idle event events some. act_locks client idle;
-    claimed = λ k h. L;
-    written = λ k kind index found. L;
-    waits = λ k kind index written found. L;
-    flushed = λ k kind index written found b o eb eo.
-        by_latch (λ b o. HasLocks s (latched_as s.topology b o (flushed_at m k (object_id kind index)) k (object_id kind index) (count_at m.device (object_id kind index)))) L (λ fence. L) L (λ fence. L) b o;
-    done = λ k a b c d. L;
-    counted = λ kind index is none. L;
-    blanked = λ kind index k is some b o eb eo.
-        by_latch (λ b o. HasLocks s (latched_as s.topology b o (counts_vblank m (object_id kind index)) k (object_id kind index) (count_at m.device (object_id kind index) + 1))) L (λ fence. L) L (λ fence. L) b o;
-    cleaned = λ k a b c. L;
-    returned = λ client k e clean. on_from client (returning-free (doing_at m client) (ap is_some e));
+    locks = record {
+      begins = λ client c e atomic idle.
+          let r = atomic-request (command_at s m client) c e atomic in
+          begins s m.contexts (length m.device.commits) L client (idle-free (doing_at m client) idle) (record { request = r.0; at = r.1 });
+      takes = λ client kind index is_lock lock free. takes s m.contexts (length m.device.commits) L client (object_id kind index) (lock-taking client (object_id kind index) lock).0 (lockable-has s.topology kind index is_lock);
+      meets = λ client kind index holder is_lock lock held. meet_locks client (object_id kind index) (lockable-has s.topology kind index is_lock) lock;
+      backs = λ client back. back_locks client back;
+      relocks = λ client object asked free. relock_locks client (Some object) asked;
+      returned = λ client k e clean. on_from client (returning-free (doing_at m client) (ap is_some e));
+    };
+    answers = record {
+      refuses = λ client r e taking may. decided_from client;
+      tests = λ client r e taking may. decided_from client;
+      swaps = λ client r e taking may b w eb ew. swap_locks client r b w;
+      makes = λ client c e making idle b eb. by_bool (λ b. HasLocks s (made_as b m client (execute s.topology m.device.world client c))) (act_locks client idle) (act_locks client idle) b;
+      signalled = λ client c e is_signal idle o. by_fence (λ o. HasLocks s (goes_on (signals (answers m client (execute s.topology m.device.world client c).reply) o) client)) (act_locks client idle) (λ fence. act_locks client idle) o;
+      read_none = λ client c e is_wait idle none. act_locks client idle;
+      read_one = λ client c e is_wait idle event events some. act_locks client idle;
+    };
+    tails = tails_leave s m (λ step left. LocksStand s left.contexts (length left.commits)) (λ step. L);
     stalled = λ h. L;
   }
 

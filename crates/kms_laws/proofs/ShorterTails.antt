@@ -268,30 +268,36 @@ module _ (s : Script) (m : Machine) (H : Holds s m) where
 
   carries_lower : Carries s m (λ step m2. Lowers step m2)
   carries_lower = record {
-    begins = λ client c e atomic idle k old. record { no_more = omega arith; less = λ e. absurd cc };
-    takes = λ client kind index is_there lock free k old. record { no_more = omega arith; less = λ e. absurd cc };
-    meets = λ client kind index holder is_there lock held k old. record { no_more = omega arith; less = λ e. absurd cc };
-    backs = λ client back k old. record { no_more = omega arith; less = λ e. absurd cc };
-    relocks = λ client object asked free k old. record { no_more = omega arith; less = λ e. absurd cc };
-    refuses = λ client r e taking may k old. record { no_more = omega arith; less = λ e. absurd cc };
-    tests = λ client r e taking may k old. record { no_more = omega arith; less = λ e. absurd cc };
-    swaps = λ client r e taking may b w eb ew. swap_case client r b w;
-    makes = λ client c e making idle b eb k old.
-        by_bool (λ b. LeavesLess s.topology m (made_as b m client (execute s.topology m.device.world client c)) (Make client) k) (record { no_more = omega arith; less = λ e. absurd cc }) (record { no_more = omega arith; less = λ e. absurd cc }) b;
-    signalled = λ client c e is_signal idle o k old.
-        by_fence (λ o. LeavesLess s.topology m (goes_on (signals (answers m client (execute s.topology m.device.world client c).reply) o) client) (Signal client) k)
-        (record { no_more = omega arith; less = λ e. absurd cc }) (λ fence. record { no_more = omega arith; less = λ e. absurd cc }) o;
-    read_none = λ client c e is_wait idle none k old. record { no_more = omega arith; less = λ e. absurd cc };
-    read_one = λ client c e is_wait idle event events some k old. record { no_more = omega arith; less = λ e. absurd cc };
-    claimed = λ k h. claim_case k h;
-    written = λ k kind index found. write_case k kind index found;
-    waits = λ k kind index written found. flush_case k kind index found (record (flushed_at m k (object_id kind index)) { device = record (flushed_at m k (object_id kind index)).device { go = (object_id kind index, Some k) ∷ m.device.go } }) refl refl (λ j. omega arith);
-    flushed = λ k kind index written found b o eb eo. flush_latch k kind index found b o;
-    done = λ k a b c d. done_case k d;
-    counted = λ kind index is none. count_case kind index none;
-    blanked = λ kind index k is some b o eb eo. blank_latch kind index k is some b o;
-    cleaned = λ k a b c. clean_case k c;
-    returned = λ client k e clean j old. record { no_more = omega arith; less = λ e. absurd cc };
+    locks = record {
+      begins = λ client c e atomic idle k old. record { no_more = omega arith; less = λ e. absurd cc };
+      takes = λ client kind index is_there lock free k old. record { no_more = omega arith; less = λ e. absurd cc };
+      meets = λ client kind index holder is_there lock held k old. record { no_more = omega arith; less = λ e. absurd cc };
+      backs = λ client back k old. record { no_more = omega arith; less = λ e. absurd cc };
+      relocks = λ client object asked free k old. record { no_more = omega arith; less = λ e. absurd cc };
+      returned = λ client k e clean j old. record { no_more = omega arith; less = λ e. absurd cc };
+    };
+    answers = record {
+      refuses = λ client r e taking may k old. record { no_more = omega arith; less = λ e. absurd cc };
+      tests = λ client r e taking may k old. record { no_more = omega arith; less = λ e. absurd cc };
+      swaps = λ client r e taking may b w eb ew. swap_case client r b w;
+      makes = λ client c e making idle b eb k old.
+          by_bool (λ b. LeavesLess s.topology m (made_as b m client (execute s.topology m.device.world client c)) (Make client) k) (record { no_more = omega arith; less = λ e. absurd cc }) (record { no_more = omega arith; less = λ e. absurd cc }) b;
+      signalled = λ client c e is_signal idle o k old.
+          by_fence (λ o. LeavesLess s.topology m (goes_on (signals (answers m client (execute s.topology m.device.world client c).reply) o) client) (Signal client) k)
+          (record { no_more = omega arith; less = λ e. absurd cc }) (λ fence. record { no_more = omega arith; less = λ e. absurd cc }) o;
+      read_none = λ client c e is_wait idle none k old. record { no_more = omega arith; less = λ e. absurd cc };
+      read_one = λ client c e is_wait idle event events some k old. record { no_more = omega arith; less = λ e. absurd cc };
+    };
+    tails = record {
+      claimed = λ k h. claim_case k h;
+      written = λ k kind index found. write_case k kind index found;
+      waits = λ k kind index written found. flush_case k kind index found (record (flushed_at m k (object_id kind index)) { device = record (flushed_at m k (object_id kind index)).device { go = (object_id kind index, Some k) ∷ m.device.go } }) refl refl (λ j. omega arith);
+      flushed = λ k kind index written found b o eb eo. flush_latch k kind index found b o;
+      done = λ k a b c d. done_case k d;
+      counted = λ kind index is none. count_case kind index none;
+      blanked = λ kind index k is some b o eb eo. blank_latch kind index k is some b o;
+      cleaned = λ k a b c. clean_case k c;
+    };
     stalled = λ h k old. record { no_more = omega arith; less = λ e. absurd cc };
   }
 

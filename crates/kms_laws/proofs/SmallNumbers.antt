@@ -12,10 +12,9 @@ use Rattle.kms_model.specs.declared.runs.Latch.{Latch}
 use Rattle.kms_model.specs.declared.scripts.Command.{Command}
 use Rattle.kms_model.specs.declared.scripts.Script.{Script}
 use Rattle.kms_model.specs.Device.Serial.{from_one}
-use Rattle.kms_model.specs.Machine.Commits.{out_fence_of}
 use Rattle.kms_model.specs.Machine.Effects.{next}
 use Rattle.kms_model.specs.Machine.Histories.{are_legal, at, is_history, legal, run_steps}
-use Rattle.kms_model.specs.Machine.Registers.{latched_registers, read}
+use Rattle.kms_model.specs.Machine.Registers.{read}
 use Rattle.kms_model.specs.Machine.State.{DeviceState, Machine, doing_at, first_machine}
 use Rattle.kms_model.specs.Machine.Steps.{ticket_of}
 use Rattle.kms_model.specs.Script.WellFormed.{IsFitClient, IsWellFormed}
@@ -34,7 +33,7 @@ use Rattle.kms_laws.proofs.Objects.{crtc_index}
 use Rattle.kms_laws.proofs.Sizes.{all_begun, all_ended, answered, begun_at, busy, ended_at, first_places, has_commands, length_of, place_of, sum-most}
 use Rattle.kms_laws.proofs.Steps.{IsPlainScript}
 use Rattle.kms_laws.proofs.Swapped.{flush_within}
-use Rattle.kms_laws.proofs.Traversal.{IsKept, IsLatch, TailOf, along_history, latch_of, latched_any}
+use Rattle.kms_laws.proofs.Traversal.{IsKept, IsLatch, TailOf, along_history, few_kept, latch_of}
 
 -- Latches
 
@@ -51,21 +50,9 @@ latch-is t d ls k c count T found =
     (flush_within T k c found.flushed, (let e = crtc_index t c T.few found.is_crtc in omega (arith, e, o.same, o.within)))
 
 latches_kept : (s : Script) → IsKept s (λ d ls. AllByRecursion (LatchIs s.topology (length d.commits)) ls)
-latches_kept s = record {
-  made = λ m client c H is other all. all;
-  swapped = λ m client r H is none no_test all. latches-later s.topology (length m.device.commits) m.records.latches all;
-  claimed = λ m k H h all. all;
-  written = λ d ls k o T found all. all;
-  flushed = λ d ls k c all. all;
-  done = λ d ls k all. all;
-  cleaned = λ d ls k a b all. all;
-  waits = λ d ls c o all. all;
-  counted = λ d ls c n all. all;
-  latched = λ d ls k c count T found all.
-      latched_any (λ d2 ls2. AllByRecursion (LatchIs s.topology (length d2.commits)) ls2) (λ d2 ls2 fence p. p) (record d { live = latched_registers s.topology d.shadow d.live c })
-      (latch_of s.topology d k c count ∷ ls) (out_fence_of s.topology d.commits k c) (latch-is s.topology d ls k c count T found, all);
-  signalled = λ d ls fence all. all;
-}
+latches_kept s =
+    few_kept s (λ w cs ls. AllByRecursion (LatchIs s.topology (length cs)) ls) (λ m client c is other all. all)
+    (λ m client r H is none all. latches-later s.topology (length m.device.commits) m.records.latches all) (λ d ls k c count T found all. (latch-is s.topology d ls k c count T found, all))
 
 latches-fit : (s : Script) (h : List Step) (n : ℕ) (ls : List Latch) → AllByRecursion (LatchIs s.topology (length (at s h).device.commits)) ls → n ≡ length h → AllByRecursion (λ (l : Latch). l.count ≤ n) ls → AllByRecursion (LatchFits s h) ls
 latches-fit s h n [] is e all = tt

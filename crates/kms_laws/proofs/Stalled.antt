@@ -1,16 +1,14 @@
 -- Nothing but the end of a dead history ends a history.
-use Rattle.std.proofs.Common.{◌≡◌, ◌+◌, true, false, not, refl, inl, inr, ◌⊎◌}
+use Rattle.std.proofs.Common.{◌≡◌, true, false, not, refl, inl, inr, ◌⊎◌}
 use Rattle.std.proofs.lemmas.Bool.{and_parts, not-true}
 use Rattle.kms_model.specs.declared.replies.Step.{Step}
 use Rattle.kms_model.specs.declared.replies.Step.TheVariants.{Begin, Lock, BackOff, Relock, Refuse, Test, Swap, Make, Signal, Claim, Write, Flush, HwDone, Vblank, Cleanup, Read, Return, Stall}
 use Rattle.kms_model.specs.declared.scripts.Script.{Script}
 use Rattle.kms_model.specs.Device.Execution.{execute}
-use Rattle.kms_model.specs.Device.Objects.{object_id}
-use Rattle.kms_model.specs.Machine.Effects.{answers, counts_vblank, goes_on, next, signals}
+use Rattle.kms_model.specs.Machine.Effects.{answers, goes_on, next, signals}
 use Rattle.kms_model.specs.Machine.Histories.{legal}
-use Rattle.kms_model.specs.Machine.State.{Machine, count_at}
-use Rattle.kms_laws.proofs.EachStep.{Carries, by_bool, by_fence, by_latch, by_two, each_step, latched_as, made_as, swapped_as}
-use Rattle.kms_laws.proofs.Steps.{flushed_at}
+use Rattle.kms_model.specs.Machine.State.{Machine}
+use Rattle.kms_laws.proofs.EachStep.{Carries, by_bool, by_fence, by_two, each_step, locks_leave, made_as, swapped_as, tails_leave}
 
 -- a step is the end, or it leaves the end as it was
 abbrev pub Ending : Machine → Step → Machine → Type 0
@@ -19,29 +17,17 @@ Ending m step m2 = (step ≡ Stall) ⊎ (m2.stalled ≡ m.stalled)
 module _ (s : Script) (m : Machine) where
   carries_ending : Carries s m (Ending m)
   carries_ending = record {
-    begins = λ client c e atomic idle. inr refl;
-    takes = λ client kind index is_there lock free. inr refl;
-    meets = λ client kind index holder is_there lock held. inr refl;
-    backs = λ client back. inr refl;
-    relocks = λ client object asked free. inr refl;
-    refuses = λ client r e taking may. inr refl;
-    tests = λ client r e taking may. inr refl;
-    swaps = λ client r e taking may b w eb ew. by_two (λ b w. Ending m (Swap client) (swapped_as s.topology b w m client r)) (inr refl) (inr refl) (inr refl) (inr refl) b w;
-    makes = λ client c e making idle b eb. by_bool (λ b. Ending m (Make client) (made_as b m client (execute s.topology m.device.world client c))) (inr refl) (inr refl) b;
-    signalled = λ client c e is_signal idle o. by_fence (λ o. Ending m (Signal client) (goes_on (signals (answers m client (execute s.topology m.device.world client c).reply) o) client)) (inr refl) (λ fence. inr refl) o;
-    read_none = λ client c e is_wait idle none. inr refl;
-    read_one = λ client c e is_wait idle event events some. inr refl;
-    claimed = λ k h. inr refl;
-    written = λ k kind index found. inr refl;
-    waits = λ k kind index written found. inr refl;
-    flushed = λ k kind index written found b o eb eo.
-        by_latch (λ b o. Ending m (Flush k kind index) (latched_as s.topology b o (flushed_at m k (object_id kind index)) k (object_id kind index) (count_at m.device (object_id kind index)))) (inr refl) (λ fence. inr refl) (inr refl) (λ fence. inr refl) b o;
-    done = λ k a b c d. inr refl;
-    counted = λ kind index is none. inr refl;
-    blanked = λ kind index k is some b o eb eo.
-        by_latch (λ b o. Ending m (Vblank kind index) (latched_as s.topology b o (counts_vblank m (object_id kind index)) k (object_id kind index) (count_at m.device (object_id kind index) + 1))) (inr refl) (λ fence. inr refl) (inr refl) (λ fence. inr refl) b o;
-    cleaned = λ k a b c. inr refl;
-    returned = λ client k e clean. inr refl;
+    locks = locks_leave s m (Ending m) (λ step contexts. inr refl);
+    answers = record {
+      refuses = λ client r e taking may. inr refl;
+      tests = λ client r e taking may. inr refl;
+      swaps = λ client r e taking may b w eb ew. by_two (λ b w. Ending m (Swap client) (swapped_as s.topology b w m client r)) (inr refl) (inr refl) (inr refl) (inr refl) b w;
+      makes = λ client c e making idle b eb. by_bool (λ b. Ending m (Make client) (made_as b m client (execute s.topology m.device.world client c))) (inr refl) (inr refl) b;
+      signalled = λ client c e is_signal idle o. by_fence (λ o. Ending m (Signal client) (goes_on (signals (answers m client (execute s.topology m.device.world client c).reply) o) client)) (inr refl) (λ fence. inr refl) o;
+      read_none = λ client c e is_wait idle none. inr refl;
+      read_one = λ client c e is_wait idle event events some. inr refl;
+    };
+    tails = tails_leave s m (λ step left. (step ≡ Stall) ⊎ (left.stalled ≡ m.stalled)) (λ step. inr refl);
     stalled = λ h. inl refl;
   }
 

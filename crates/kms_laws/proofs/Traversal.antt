@@ -21,7 +21,7 @@ use Rattle.kms_model.specs.Request.Flags.{is_test}
 use Rattle.kms_model.specs.Request.Verdict.{verdict}
 use Rattle.kms_model.proofs.Items.{IsIn}
 use Rattle.kms_laws.proofs.Basics.{pair_now}
-use Rattle.kms_laws.proofs.EachStep.{Carries, IsSwap, IsWrite, by_bool, by_fence, by_latch, by_two, each_step, latched_as, made_as, swap-found, swapped_as}
+use Rattle.kms_laws.proofs.EachStep.{Carries, IsSwap, IsWrite, by_bool, by_fence, by_latch, by_two, each_step, latched_as, locks_leave, made_as, swap-found, swapped_as}
 use Rattle.kms_laws.proofs.Invariants.{Tail}
 use Rattle.kms_laws.proofs.Steps.{Holds, IsFlush, IsPlainScript, along, counted_holds, first_kept, flushed_at, flushed_holds, fresh-unlatched, not_atomic, step_kept}
 
@@ -105,29 +105,28 @@ module _ (s : Script) (P : DeviceState → List Latch → Type 0) (K : IsKept s 
 
   carries_kept : Carries s m (λ step m2. P m2.device m2.records.latches)
   carries_kept = record {
-    begins = λ client c e atomic idle. p;
-    takes = λ client kind index is_there lock free. p;
-    meets = λ client kind index holder is_there lock held. p;
-    backs = λ client back. p;
-    relocks = λ client object asked free. p;
-    refuses = λ client r e taking may. p;
-    tests = λ client r e taking may. p;
-    swaps = λ client r e taking may b w eb ew. swap_keeps client r e (swap-found s.topology m client r may) b w;
-    makes = λ client c e making idle b eb.
-        by_bool (λ b. Of (made_as b m client (execute s.topology m.device.world client c))) (K.made m client c H e (not_atomic c making) p) (K.made m client c H e (not_atomic c making) p) b;
-    signalled = λ client c e is_signal idle o.
-        by_fence (λ o. Of (goes_on (signals (answers m client (execute s.topology m.device.world client c).reply) o) client)) p (λ fence. K.signalled m.device m.records.latches fence p) o;
-    read_none = λ client c e is_wait idle none. p;
-    read_one = λ client c e is_wait idle event events some. p;
-    claimed = λ k h. K.claimed m k H h p;
-    written = λ k kind index found. K.written m.device m.records.latches k (object_id kind index) H.tail found p;
-    waits = λ k kind index written found. K.waits (flushed_at m k (object_id kind index)).device m.records.latches (object_id kind index) (Some k) (K.flushed m.device m.records.latches k (object_id kind index) p);
-    flushed = λ k kind index written found b o eb eo. flush_keeps k (object_id kind index) written found b o eo;
-    done = λ k a b c d. K.done m.device m.records.latches k p;
-    counted = λ kind index is none. counted_keeps (object_id kind index);
-    blanked = λ kind index k is some b o eb eo. vblank_keeps k (object_id kind index) is some b o eo;
-    cleaned = λ k a b c. K.cleaned m.device m.records.latches k a b p;
-    returned = λ client k e clean. p;
+    locks = locks_leave s m (λ step m2. P m2.device m2.records.latches) (λ step contexts. p);
+    answers = record {
+      refuses = λ client r e taking may. p;
+      tests = λ client r e taking may. p;
+      swaps = λ client r e taking may b w eb ew. swap_keeps client r e (swap-found s.topology m client r may) b w;
+      makes = λ client c e making idle b eb.
+          by_bool (λ b. Of (made_as b m client (execute s.topology m.device.world client c))) (K.made m client c H e (not_atomic c making) p) (K.made m client c H e (not_atomic c making) p) b;
+      signalled = λ client c e is_signal idle o.
+          by_fence (λ o. Of (goes_on (signals (answers m client (execute s.topology m.device.world client c).reply) o) client)) p (λ fence. K.signalled m.device m.records.latches fence p) o;
+      read_none = λ client c e is_wait idle none. p;
+      read_one = λ client c e is_wait idle event events some. p;
+    };
+    tails = record {
+      claimed = λ k h. K.claimed m k H h p;
+      written = λ k kind index found. K.written m.device m.records.latches k (object_id kind index) H.tail found p;
+      waits = λ k kind index written found. K.waits (flushed_at m k (object_id kind index)).device m.records.latches (object_id kind index) (Some k) (K.flushed m.device m.records.latches k (object_id kind index) p);
+      flushed = λ k kind index written found b o eb eo. flush_keeps k (object_id kind index) written found b o eo;
+      done = λ k a b c d. K.done m.device m.records.latches k p;
+      counted = λ kind index is none. counted_keeps (object_id kind index);
+      blanked = λ kind index k is some b o eb eo. vblank_keeps k (object_id kind index) is some b o eo;
+      cleaned = λ k a b c. K.cleaned m.device m.records.latches k a b p;
+    };
     stalled = λ h. p;
   }
 
@@ -147,13 +146,17 @@ pub latched_any : (P : DeviceState → List Latch → Type 0) → ((d : DeviceSt
 latched_any P keeps d ls None p = p
 latched_any P keeps d ls (Some fence) p = keeps d ls fence p
 
--- what speaks of the present world alone
-pub world_kept : (s : Script) (Q : World → Type 0)
-    → ((m : Machine) (client : ℕ) (c : Command) → command_at s m client ≡ Some c → is_atomic c ≡ false → Q m.device.world → Q (execute s.topology m.device.world client c).world)
-    → ((w : World) (client : ℕ) (r : Request) → Q w → Q (committed s.topology w client r).world) → IsKept s (λ d ls. Q d.world)
-world_kept s Q made swapped = record {
+-- what speaks of the present world, of commits and of latches alone is kept where commands, swaps and latches keep it
+pub few_kept : (s : Script) (Q : World → List Commit → List Latch → Type 0)
+    → ((m : Machine) (client : ℕ) (c : Command) → command_at s m client ≡ Some c → is_atomic c ≡ false → Q m.device.world m.device.commits m.records.latches
+    → Q (execute s.topology m.device.world client c).world m.device.commits m.records.latches)
+    → ((m : Machine) (client : ℕ) (r : Request) → Holds s m → command_at s m client ≡ Some (command.Atomic r) → verdict s.topology m.device.world r ≡ None → Q m.device.world m.device.commits m.records.latches
+    → Q (committed s.topology m.device.world client r).world (commit_of m client r ∷ m.device.commits) m.records.latches)
+    → ((d : DeviceState) (ls : List Latch) (k c count : ℕ) → TailOf s.topology d ls → IsLatch s.topology d ls k c → Q d.world d.commits ls → Q d.world d.commits (latch_of s.topology d k c count ∷ ls))
+    → IsKept s (λ d ls. Q d.world d.commits ls)
+few_kept s Q made swapped latched = record {
   made = λ m client c H is other q. made m client c is other q;
-  swapped = λ m client r H is none no_test q. swapped m.device.world client r q;
+  swapped = λ m client r H is none no_test q. swapped m client r H is none q;
   claimed = λ m k H h q. q;
   written = λ d ls k o T found q. q;
   flushed = λ d ls k c q. q;
@@ -162,6 +165,13 @@ world_kept s Q made swapped = record {
   waits = λ d ls c o q. q;
   counted = λ d ls c n q. q;
   latched = λ d ls k c count T found q.
-      latched_any (λ d2 ls2. Q d2.world) (λ d2 ls2 fence q2. q2) (record d { live = latched_registers s.topology d.shadow d.live c }) (latch_of s.topology d k c count ∷ ls) (out_fence_of s.topology d.commits k c) q;
+      latched_any (λ d2 ls2. Q d2.world d2.commits ls2) (λ d2 ls2 fence q2. q2) (record d { live = latched_registers s.topology d.shadow d.live c }) (latch_of s.topology d k c count ∷ ls) (out_fence_of s.topology d.commits k c)
+      (latched d ls k c count T found q);
   signalled = λ d ls fence q. q;
 }
+
+-- what speaks of the present world alone
+pub world_kept : (s : Script) (Q : World → Type 0)
+    → ((m : Machine) (client : ℕ) (c : Command) → command_at s m client ≡ Some c → is_atomic c ≡ false → Q m.device.world → Q (execute s.topology m.device.world client c).world)
+    → ((w : World) (client : ℕ) (r : Request) → Q w → Q (committed s.topology w client r).world) → IsKept s (λ d ls. Q d.world)
+world_kept s Q made swapped = few_kept s (λ w cs ls. Q w) made (λ m client r H is none q. swapped m.device.world client r q) (λ d ls k c count T found q. q)

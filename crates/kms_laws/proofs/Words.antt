@@ -127,19 +127,20 @@ pub record KeepsMode (c : Content) : Type 0 where
 abbrev pub AreKept : List Thing → Type 0
 AreKept things = AllByRecursion (λ thing. KeepsMode thing.content) things
 
-kept_mode : (things : List Thing) (number : ℤ) (m : Mode) → AreKept things → mode_of (thing_numbered things number) ≡ Some m → IsKeptMode m
-kept_mode things number m kept e = go (thing_numbered things number) refl e
+-- what a numbered thing has is kept where each thing keeps it
+kept_of : {V : Type 0} (of : Option Thing → Option V) (Q : V → Type 0) → of None ≡ None → ((thing : Thing) → KeepsMode thing.content → (v : V) → of (Some thing) ≡ Some v → Q v)
+    → (things : List Thing) (number : ℤ) (v : V) → AreKept things → of (thing_numbered things number) ≡ Some v → Q v
+kept_of of Q none each things number v kept e = go (thing_numbered things number) refl e
   where
-    go : (o : Option Thing) → thing_numbered things number ≡ o → mode_of o ≡ Some m → IsKeptMode m
-    go None found e = absurd cc
-    go (Some thing) found e = (by_recursion-at (λ u. KeepsMode u.content) things thing kept (find-in (λ u. int_eq (pos u.id) number) things thing found)).mode m e
+    go : (o : Option Thing) → thing_numbered things number ≡ o → of o ≡ Some v → Q v
+    go None found is = let never : None ≡ Some v = sym none ∙ is in absurd cc
+    go (Some thing) found is = each thing (by_recursion-at (λ u. KeepsMode u.content) things thing kept (find-in (λ u. int_eq (pos u.id) number) things thing found)) v is
+
+kept_mode : (things : List Thing) (number : ℤ) (m : Mode) → AreKept things → mode_of (thing_numbered things number) ≡ Some m → IsKeptMode m
+kept_mode = kept_of mode_of IsKeptMode refl (λ thing keeps. keeps.mode)
 
 kept_gamma : (things : List Thing) (number : ℤ) (g : Gamma) → AreKept things → gamma_of (thing_numbered things number) ≡ Some g → IsKeptGamma g
-kept_gamma things number g kept e = go (thing_numbered things number) refl e
-  where
-    go : (o : Option Thing) → thing_numbered things number ≡ o → gamma_of o ≡ Some g → IsKeptGamma g
-    go None found e = absurd cc
-    go (Some thing) found e = (by_recursion-at (λ u. KeepsMode u.content) things thing kept (find-in (λ u. int_eq (pos u.id) number) things thing found)).gamma g e
+kept_gamma = kept_of gamma_of IsKeptGamma refl (λ thing keeps. keeps.gamma)
 
 -- Pictures
 

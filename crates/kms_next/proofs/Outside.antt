@@ -1,5 +1,5 @@
 -- Numbers that the script has no client for: such a client is idle at its first command, after any steps.
-use Rattle.std.proofs.Common.{◌≡◌, ℕ, ◌+◌, true, List, ◌∷◌, Some, None, refl, sym, ap, ◌∙◌, subst, ⊎_elim}
+use Rattle.std.proofs.Common.{◌≡◌, ℕ, true, List, ◌∷◌, Some, None, refl, sym, ap, ◌∙◌, subst, ⊎_elim}
 use Rattle.std.proofs.lemmas.Bool.{and_parts, cases_eq, false≢true}
 use Rattle.kms_model.specs.declared.replies.Step.{Step}
 use Rattle.kms_model.specs.declared.runs.Doing.{Doing}
@@ -9,16 +9,16 @@ use Rattle.kms_model.specs.declared.scripts.Command.{Command}
 use Rattle.kms_model.specs.declared.scripts.Script.{Script}
 use Rattle.kms_model.specs.Device.Execution.{execute}
 use Rattle.kms_model.specs.Device.Objects.{object_id}
-use Rattle.kms_model.specs.Machine.Effects.{answers, counts_vblank, goes_on, signals}
+use Rattle.kms_model.specs.Machine.Effects.{answers, goes_on, signals}
 use Rattle.kms_model.specs.Machine.Histories.{at, is_history}
 use Rattle.kms_model.specs.Machine.Registers.{read}
-use Rattle.kms_model.specs.Machine.State.{Machine, command_at, count_at, doing_at, first_machine, place_at}
+use Rattle.kms_model.specs.Machine.State.{Machine, command_at, doing_at, first_machine, place_at}
 use Rattle.kms_model.specs.Machine.Steps.{contended, is_taking, may_lock, must_back_off, returning_of, taking_at}
 use Rattle.kms_model.specs.Request.Reach.{reaches}
 use Rattle.kms_clients.specs.Standing.{first_place}
 use Rattle.kms_laws.proofs.Basics.{read_other}
-use Rattle.kms_laws.proofs.EachStep.{Carries, by_bool, by_fence, by_latch, by_two, each_step, latched_as, made_as, swapped_as}
-use Rattle.kms_laws.proofs.Steps.{along, flushed_at}
+use Rattle.kms_laws.proofs.EachStep.{Carries, by_bool, by_fence, by_two, each_step, made_as, swapped_as, tails_leave}
+use Rattle.kms_laws.proofs.Steps.{along}
 use Rattle.kms_next.specs.Next.{IsOutside}
 use Rattle.kms_stores.proofs.Places.{client_there}
 
@@ -55,32 +55,27 @@ module _ (s : Script) (m : Machine) (all : AreOutside s m.contexts.places) where
 
   carries_outside : Carries s m (λ step n. AreOutside s n.contexts.places)
   carries_outside = record {
-    begins = λ client c e atomic idle. by_command client c e _;
-    takes = λ client kind index is_there lock free. all;
-    meets = λ client kind index holder is_there lock held. by_doing client (taking_busy _ (lock_taking client (object_id kind index) lock)) _;
-    backs = λ client back. by_doing client (back_busy _ back) _;
-    relocks = λ client object asked free. by_doing client (contended_busy _ object asked) _;
-    refuses = λ client r e taking may. by_command client _ e _;
-    tests = λ client r e taking may. by_command client _ e _;
-    swaps = λ client r e taking may b w eb ew.
-        by_two (λ b w. AreOutside s (swapped_as s.topology b w m client r).contexts.places) (by_command client _ e _) (by_command client _ e _) (by_command client _ e _) (by_command client _ e _) b w;
-    makes = λ client c e making idle b eb.
-        by_bool (λ b. AreOutside s (made_as b m client (execute s.topology m.device.world client c)).contexts.places) (by_command client c e _) (by_command client c e _) b;
-    signalled = λ client c e is_signal idle o.
-        by_fence (λ o. AreOutside s (goes_on (signals (answers m client (execute s.topology m.device.world client c).reply) o) client).contexts.places) (by_command client c e _) (λ fence. by_command client c e _) o;
-    read_none = λ client c e is_wait idle none. by_command client c e _;
-    read_one = λ client c e is_wait idle event events some. by_command client c e _;
-    claimed = λ k h. all;
-    written = λ k kind index found. all;
-    waits = λ k kind index written found. all;
-    flushed = λ k kind index written found b o eb eo.
-        by_latch (λ b o. AreOutside s (latched_as s.topology b o (flushed_at m k (object_id kind index)) k (object_id kind index) (count_at m.device (object_id kind index))).contexts.places) all (λ fence. all) all (λ fence. all) b o;
-    done = λ k a b c d. all;
-    counted = λ kind index is none. all;
-    blanked = λ kind index k is some b o eb eo.
-        by_latch (λ b o. AreOutside s (latched_as s.topology b o (counts_vblank m (object_id kind index)) k (object_id kind index) (count_at m.device (object_id kind index) + 1)).contexts.places) all (λ fence. all) all (λ fence. all) b o;
-    cleaned = λ k a b c. all;
-    returned = λ client k e clean. by_doing client (returning_busy _ k e) _;
+    locks = record {
+      begins = λ client c e atomic idle. by_command client c e _;
+      takes = λ client kind index is_there lock free. all;
+      meets = λ client kind index holder is_there lock held. by_doing client (taking_busy _ (lock_taking client (object_id kind index) lock)) _;
+      backs = λ client back. by_doing client (back_busy _ back) _;
+      relocks = λ client object asked free. by_doing client (contended_busy _ object asked) _;
+      returned = λ client k e clean. by_doing client (returning_busy _ k e) _;
+    };
+    answers = record {
+      refuses = λ client r e taking may. by_command client _ e _;
+      tests = λ client r e taking may. by_command client _ e _;
+      swaps = λ client r e taking may b w eb ew.
+          by_two (λ b w. AreOutside s (swapped_as s.topology b w m client r).contexts.places) (by_command client _ e _) (by_command client _ e _) (by_command client _ e _) (by_command client _ e _) b w;
+      makes = λ client c e making idle b eb.
+          by_bool (λ b. AreOutside s (made_as b m client (execute s.topology m.device.world client c)).contexts.places) (by_command client c e _) (by_command client c e _) b;
+      signalled = λ client c e is_signal idle o.
+          by_fence (λ o. AreOutside s (goes_on (signals (answers m client (execute s.topology m.device.world client c).reply) o) client).contexts.places) (by_command client c e _) (λ fence. by_command client c e _) o;
+      read_none = λ client c e is_wait idle none. by_command client c e _;
+      read_one = λ client c e is_wait idle event events some. by_command client c e _;
+    };
+    tails = tails_leave s m (λ step left. AreOutside s left.contexts.places) (λ step. all);
     stalled = λ h. all;
   }
 

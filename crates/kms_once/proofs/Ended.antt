@@ -9,18 +9,18 @@ use Rattle.kms_model.specs.declared.scripts.Script.{Script}
 use Rattle.kms_model.specs.Device.Execution.{execute}
 use Rattle.kms_model.specs.Device.Objects.{object_id}
 use Rattle.kms_model.specs.Device.Serial.{Entry}
-use Rattle.kms_model.specs.Machine.Effects.{answers, backed_off, counts_vblank, goes_on, signals}
+use Rattle.kms_model.specs.Machine.Effects.{answers, backed_off, goes_on, signals}
 use Rattle.kms_model.specs.Machine.Histories.{at, is_history}
-use Rattle.kms_model.specs.Machine.State.{Machine, count_at, doing_at, first_machine, place_at}
+use Rattle.kms_model.specs.Machine.State.{Machine, doing_at, first_machine, place_at}
 use Rattle.kms_model.specs.Machine.Steps.{is_taking, may_lock, taking_at, ticket_of}
 use Rattle.kms_model.specs.Request.Reach.{reaches}
 use Rattle.kms_model.specs.Request.Sets.{obj_id}
 use Rattle.kms_model.proofs.Items.{IsIn}
 use Rattle.kms_laws.proofs.Basics.{read_other, read_same}
-use Rattle.kms_laws.proofs.EachStep.{Carries, by_bool, by_fence, by_latch, by_two, each_step, latched_as, made_as, swapped_as}
+use Rattle.kms_laws.proofs.EachStep.{Carries, by_bool, by_fence, by_two, each_step, made_as, swapped_as, tails_leave}
 use Rattle.kms_laws.proofs.Fitting.{back-busy, contended-busy, idle-busy, returning-busy, taking-busy}
 use Rattle.kms_laws.proofs.Sizes.{answered, ended_at, place_of}
-use Rattle.kms_laws.proofs.Steps.{along, flushed_at}
+use Rattle.kms_laws.proofs.Steps.{along}
 
 -- each entry's client has its answer
 abbrev pub AreEnded : List (ℕ × Place) → List Entry → Type 0
@@ -76,36 +76,31 @@ module _ (s : Script) (m : Machine) (all : HasEnded m) where
 
   pub carries_ended : Carries s m (λ step n. HasEnded n)
   carries_ended = record {
-    begins = λ client c e atomic idle. keeps_on client (doing.Taking (record { 0 = m.contexts.tickets })) (idle-busy (doing_at m client) idle).1;
-    takes = λ client kind index is_there lock free. all;
-    meets = λ client kind index holder is_there lock held.
-        keeps_on client (doing.MustBackOff (record { 0 = ticket_of (doing_at m client) }) (obj_id (object_id kind index))) (taking-busy (doing_at m client) (lock-taking client (object_id kind index) lock)).1;
-    backs = λ client back. keeps_on client (backed_off (doing_at m client)) (back-busy (doing_at m client) back).0.1;
-    relocks = λ client object asked free. keeps_on client (doing.Taking (record { 0 = ticket_of (doing_at m client) })) (contended-busy (doing_at m client) object asked).1;
-    refuses = λ client r e taking may. next_of client (taking-busy (doing_at m client) taking).1;
-    tests = λ client r e taking may. next_of client (taking-busy (doing_at m client) taking).1;
-    swaps = λ client r e taking may b w eb ew.
-        let none = (taking-busy (doing_at m client) taking).1 in
-        by_two (λ b w. HasEnded (swapped_as s.topology b w m client r)) (joins_on client none) (joins_back client (length m.device.commits) none) (joins_on client none) (joins_back client (length m.device.commits) none) b w;
-    makes = λ client c e making idle b eb.
-        let none = (idle-busy (doing_at m client) idle).1 in
-        by_bool (λ b. HasEnded (made_as b m client (execute s.topology m.device.world client c))) (joins_on client none) (next_of client none) b;
-    signalled = λ client c e is_signal idle o.
-        let now = next_of client (idle-busy (doing_at m client) idle).1 in
-        by_fence (λ o. HasEnded (goes_on (signals (answers m client (execute s.topology m.device.world client c).reply) o) client)) now (λ fence. now) o;
-    read_none = λ client c e is_wait idle none. next_of client (idle-busy (doing_at m client) idle).1;
-    read_one = λ client c e is_wait idle event events some. next_of client (idle-busy (doing_at m client) idle).1;
-    claimed = λ k h. all;
-    written = λ k kind index found. all;
-    waits = λ k kind index written found. all;
-    flushed = λ k kind index written found b o eb eo.
-        by_latch (λ b o. HasEnded (latched_as s.topology b o (flushed_at m k (object_id kind index)) k (object_id kind index) (count_at m.device (object_id kind index)))) all (λ fence. all) all (λ fence. all) b o;
-    done = λ k a b c d. all;
-    counted = λ kind index is none. all;
-    blanked = λ kind index k is some b o eb eo.
-        by_latch (λ b o. HasEnded (latched_as s.topology b o (counts_vblank m (object_id kind index)) k (object_id kind index) (count_at m.device (object_id kind index) + 1))) all (λ fence. all) all (λ fence. all) b o;
-    cleaned = λ k a b c. all;
-    returned = λ client k e clean. goes client (let one = (returning-busy (doing_at m client) k e).1 in omega (arith, one));
+    locks = record {
+      begins = λ client c e atomic idle. keeps_on client (doing.Taking (record { 0 = m.contexts.tickets })) (idle-busy (doing_at m client) idle).1;
+      takes = λ client kind index is_there lock free. all;
+      meets = λ client kind index holder is_there lock held.
+          keeps_on client (doing.MustBackOff (record { 0 = ticket_of (doing_at m client) }) (obj_id (object_id kind index))) (taking-busy (doing_at m client) (lock-taking client (object_id kind index) lock)).1;
+      backs = λ client back. keeps_on client (backed_off (doing_at m client)) (back-busy (doing_at m client) back).0.1;
+      relocks = λ client object asked free. keeps_on client (doing.Taking (record { 0 = ticket_of (doing_at m client) })) (contended-busy (doing_at m client) object asked).1;
+      returned = λ client k e clean. goes client (let one = (returning-busy (doing_at m client) k e).1 in omega (arith, one));
+    };
+    answers = record {
+      refuses = λ client r e taking may. next_of client (taking-busy (doing_at m client) taking).1;
+      tests = λ client r e taking may. next_of client (taking-busy (doing_at m client) taking).1;
+      swaps = λ client r e taking may b w eb ew.
+          let none = (taking-busy (doing_at m client) taking).1 in
+          by_two (λ b w. HasEnded (swapped_as s.topology b w m client r)) (joins_on client none) (joins_back client (length m.device.commits) none) (joins_on client none) (joins_back client (length m.device.commits) none) b w;
+      makes = λ client c e making idle b eb.
+          let none = (idle-busy (doing_at m client) idle).1 in
+          by_bool (λ b. HasEnded (made_as b m client (execute s.topology m.device.world client c))) (joins_on client none) (next_of client none) b;
+      signalled = λ client c e is_signal idle o.
+          let now = next_of client (idle-busy (doing_at m client) idle).1 in
+          by_fence (λ o. HasEnded (goes_on (signals (answers m client (execute s.topology m.device.world client c).reply) o) client)) now (λ fence. now) o;
+      read_none = λ client c e is_wait idle none. next_of client (idle-busy (doing_at m client) idle).1;
+      read_one = λ client c e is_wait idle event events some. next_of client (idle-busy (doing_at m client) idle).1;
+    };
+    tails = tails_leave s m (λ step left. AreEnded left.contexts.places left.journal) (λ step. all);
     stalled = λ h. all;
   }
 

@@ -1,7 +1,8 @@
 -- Labels under which no thing was made.
-use Rattle.std.proofs.Common.{◌≡◌, ℕ, Bool, true, false, List, [], ◌∷◌, ◌++◌, Option, Some, None, inl, inr, refl, sym, ap, ◌∙◌}
+use Rattle.std.proofs.Common.{◌≡◌, ℕ, true, false, List, [], ◌∷◌, ◌++◌, Option, Some, None, inl, inr, refl, sym, ap, ◌∙◌}
 use Rattle.std.specs.Prelude.{◌==◌}
 use Rattle.std.specs.List.{list_any}
+use Rattle.std.specs.Option.{option_map}
 use Rattle.std.proofs.lemmas.Bool.{cases_Bool, eq-eqb, eqb-true, false≢true}
 use Rattle.kms_model.specs.declared.objects.Topology.{Topology}
 use Rattle.kms_model.specs.declared.properties.TheConstants.{OUT_FENCE_PTR}
@@ -16,7 +17,7 @@ use Rattle.kms_model.specs.declared.worlds.Content.{Content}
 use Rattle.kms_model.specs.declared.worlds.Content.TheVariants as content
 use Rattle.kms_model.specs.declared.worlds.Thing.{Thing}
 use Rattle.kms_model.specs.declared.worlds.World.{World}
-use Rattle.kms_model.specs.Device.Closing.{closed_in}
+use Rattle.kms_model.specs.Device.Closing.{closed_if, closed_in}
 use Rattle.kms_model.specs.Device.Execution.{BufferInfo, add_fb, buffer_of, close_refusal, close_unless, commit, destroy_refusal, execute, make_out_fence, make_out_fences, make_unless, new_buffer_refusal, signal_refusal, signal_unless}
 use Rattle.kms_model.specs.Device.Objects.{ids_of}
 use Rattle.kms_model.specs.declared.objects.Kind.TheVariants.{Crtc}
@@ -25,9 +26,9 @@ use Rattle.kms_model.specs.Device.World.{thing_labelled}
 use Rattle.kms_model.specs.Request.Flags.{is_test}
 use Rattle.kms_model.specs.Request.Touched.{last_value, new_label, out_fence_label}
 use Rattle.kms_model.specs.Request.Verdict.{verdict}
-use Rattle.kms_model.proofs.FramedLemmas.{closed_same}
 use Rattle.kms_model.proofs.Items.{IsIn, list_any-has}
 use Rattle.kms_model.proofs.LastLemmas.{SetBy, set_by}
+use Rattle.kms_laws.proofs.Closed.{closed_labelled}
 use Rattle.kms_once.specs.Once.{is_new, makes}
 
 new_is : (v : Value) (label : ℕ) → new_label (Some v) ≡ Some label → is_new v label ≡ true
@@ -56,12 +57,7 @@ absent_push (y ∷ ys) x label other none =
     ]
 
 absent_closed : (things : List Thing) (id label : ℕ) → thing_labelled things label ≡ None → thing_labelled (closed_in things id) label ≡ None
-absent_closed [] id label none = refl
-absent_closed (y ∷ ys) id label none =
-    elim (cases_Bool (y.label == label)) [
-      | inl here ↦ (let some : Some y ≡ None = rw here at none in absurd cc)
-      | inr away ↦ rw (closed_same id y).label (rw away (absent_closed ys id label (rw away at none)))
-    ]
+absent_closed things id label none = closed_labelled things id label ∙ ap (option_map (closed_if id)) none
 
 -- Commands
 

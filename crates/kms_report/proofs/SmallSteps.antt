@@ -7,7 +7,7 @@ use Rattle.kms_model.specs.declared.objects.Kind.{Kind}
 use Rattle.kms_model.specs.declared.objects.Kind.TheVariants.{Crtc, Plane, Conn, Enc}
 use Rattle.kms_model.specs.declared.objects.Topology.{Topology}
 use Rattle.kms_model.specs.declared.replies.Step.{Step}
-use Rattle.kms_model.specs.declared.replies.Step.TheVariants.{Begin, Lock, BackOff, Relock, Refuse, Test, Swap, Make, Signal, Claim, Write, Flush, HwDone, Vblank, Cleanup, Read, Return, Stall}
+use Rattle.kms_model.specs.declared.replies.Step.TheVariants.{Lock, Write, Flush, Vblank, Stall}
 use Rattle.kms_model.specs.declared.scripts.Script.{Script}
 use Rattle.kms_model.specs.Device.Objects.{count_of, exists}
 use Rattle.kms_model.specs.Device.Sound.{IsDevice}
@@ -51,20 +51,7 @@ module _ (s : Script) (device : IsDevice s.topology) (m : Machine) where
   may-small (Write k kind index) h = small s.topology device kind index (and_parts (exists s.topology kind index) _ (and_parts (is_claimed m.device k) _ h).1).0
   may-small (Flush k kind index) h = small s.topology device kind index (and_parts (exists s.topology kind index) _ (and_parts (is_all_written s.topology m.device k) _ h).1).0
   may-small (Vblank kind index) h = small s.topology device kind index (crtc-there s.topology device kind index (and_parts (is_crtc_of s.topology kind index) _ h).0)
-  may-small (Begin client) h = no_index
-  may-small (BackOff client) h = no_index
-  may-small (Relock client) h = no_index
-  may-small (Refuse client) h = no_index
-  may-small (Test client) h = no_index
-  may-small (Swap client) h = no_index
-  may-small (Make client) h = no_index
-  may-small (Signal client) h = no_index
-  may-small (Claim k) h = no_index
-  may-small (HwDone k) h = no_index
-  may-small (Cleanup k) h = no_index
-  may-small (Read client) h = no_index
-  may-small (Return client) h = no_index
-  may-small Stall h = no_index
+  may-small _ h = no_index
 
   legal-small : (step : Step) → legal s m step ≡ true → HasSmallIndex step
   legal-small step h = by_case step (legal-cases s m step h) where

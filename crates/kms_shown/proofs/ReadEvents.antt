@@ -1,5 +1,5 @@
 -- The events that were read are those that replies tell: each step that answers with an event reads it, and no other reads one.
-use Rattle.std.proofs.Common.{◌≡◌, ℕ, Bool, true, false, cond, ◌==◌, List, [], ◌∷◌, ◌++◌, length, map, Option, Some, None, refl, sym, ap, ◌∙◌, ◌+◌, append-nil}
+use Rattle.std.proofs.Common.{◌≡◌, ℕ, Bool, true, false, cond, ◌==◌, List, [], ◌∷◌, ◌++◌, length, map, Option, Some, None, refl, sym, ap, ◌∙◌, append-nil}
 use Rattle.std.specs.Prelude.{filter, reverse}
 use Rattle.std.specs.List.{cons_option, filter_map}
 use Rattle.std.proofs.lemmas.List.Elements.{filter_map-append}
@@ -17,17 +17,16 @@ use Rattle.kms_model.specs.declared.worlds.Content.{Content}
 use Rattle.kms_model.specs.declared.worlds.Thing.{Thing}
 use Rattle.kms_model.specs.declared.worlds.World.{World}
 use Rattle.kms_model.specs.Device.Execution.{BufferInfo, add_fb, answer, buffer_of, close_refusal, close_unless, commit, committed, destroy_refusal, execute, make_unless, new_buffer_refusal, signal_refusal, signal_unless}
-use Rattle.kms_model.specs.Device.Objects.{object_id}
 use Rattle.kms_model.specs.Device.World.{thing_labelled}
-use Rattle.kms_model.specs.Machine.Effects.{answers, busy_reply, counts_vblank, goes_on, next, refusal_reply, signals}
+use Rattle.kms_model.specs.Machine.Effects.{answers, busy_reply, goes_on, next, refusal_reply, signals}
 use Rattle.kms_model.specs.Machine.Histories.{at, is_history, legal, read_by, replies}
-use Rattle.kms_model.specs.Machine.State.{Machine, count_at, first_machine, place_at}
+use Rattle.kms_model.specs.Machine.State.{Machine, first_machine, place_at}
 use Rattle.kms_model.specs.Machine.Steps.{first_pending, lacks_space, space_used}
 use Rattle.kms_model.specs.Request.Flags.{is_test}
 use Rattle.kms_model.specs.Request.Verdict.{verdict}
-use Rattle.kms_laws.proofs.EachStep.{Carries, by_bool, by_fence, by_latch, by_two, each_step, latched_as, made_as, swapped_as}
+use Rattle.kms_laws.proofs.EachStep.{Carries, by_bool, by_fence, by_two, each_step, locks_leave, made_as, swapped_as, tails_leave}
 use Rattle.kms_laws.proofs.Present.{reverse_more}
-use Rattle.kms_laws.proofs.Steps.{along, flushed_at}
+use Rattle.kms_laws.proofs.Steps.{along}
 use Rattle.kms_shown.specs.Told.{event_in, events_told}
 
 abbrev pair_if : ℕ → Option Event → Option (ℕ × Event)
@@ -105,33 +104,21 @@ module _ (s : Script) (m : Machine) (T : AreTold m) where
 
   carries_told : Carries s m (λ step m2. AreTold m2)
   carries_told = record {
-    begins = λ client c e atomic idle. T;
-    takes = λ client kind index is_lock lock free. T;
-    meets = λ client kind index other is_lock lock taken. T;
-    backs = λ client back. T;
-    relocks = λ client object asked free. T;
-    refuses = λ client r e taking may. silently client _ (refusal-none s.topology m client r (verdict s.topology m.device.world r));
-    tests = λ client r e taking may. T;
-    swaps = λ client r e taking may b w eb ew. by_two (λ b w. AreTold (swapped_as s.topology b w m client r)) T T T T b w;
-    makes = λ client c e making idle b eb.
-        let now = silently client (execute s.topology m.device.world client c).reply (execute-none s.topology m.device.world client c) in
-        by_bool (λ b. AreTold (made_as b m client (execute s.topology m.device.world client c))) now now b;
-    signalled = λ client c e is_signal idle q.
-        let now = silently client (execute s.topology m.device.world client c).reply (execute-none s.topology m.device.world client c) in
-        by_fence (λ q. AreTold (goes_on (signals (answers m client (execute s.topology m.device.world client c).reply) q) client)) now (λ fence. now) q;
-    read_none = λ client c e is_wait idle none. T;
-    read_one = λ client c e is_wait idle event events some. ap (λ (xs : List (ℕ × Event)). (client, event) ∷ xs) T;
-    claimed = λ k h. T;
-    written = λ k kind index found. T;
-    waits = λ k kind index written found. T;
-    flushed = λ k kind index written found b q eb eo.
-        by_latch (λ b q. AreTold (latched_as s.topology b q (flushed_at m k (object_id kind index)) k (object_id kind index) (count_at m.device (object_id kind index)))) T (λ fence. T) T (λ fence. T) b q;
-    done = λ k a b c d. T;
-    counted = λ kind index is none. T;
-    blanked = λ kind index k is some b q eb eo.
-        by_latch (λ b q. AreTold (latched_as s.topology b q (counts_vblank m (object_id kind index)) k (object_id kind index) (count_at m.device (object_id kind index) + 1))) T (λ fence. T) T (λ fence. T) b q;
-    cleaned = λ k a b c. T;
-    returned = λ client k e clean. T;
+    locks = locks_leave s m (λ step m2. AreTold m2) (λ step contexts. T);
+    answers = record {
+      refuses = λ client r e taking may. silently client _ (refusal-none s.topology m client r (verdict s.topology m.device.world r));
+      tests = λ client r e taking may. T;
+      swaps = λ client r e taking may b w eb ew. by_two (λ b w. AreTold (swapped_as s.topology b w m client r)) T T T T b w;
+      makes = λ client c e making idle b eb.
+          let now = silently client (execute s.topology m.device.world client c).reply (execute-none s.topology m.device.world client c) in
+          by_bool (λ b. AreTold (made_as b m client (execute s.topology m.device.world client c))) now now b;
+      signalled = λ client c e is_signal idle q.
+          let now = silently client (execute s.topology m.device.world client c).reply (execute-none s.topology m.device.world client c) in
+          by_fence (λ q. AreTold (goes_on (signals (answers m client (execute s.topology m.device.world client c).reply) q) client)) now (λ fence. now) q;
+      read_none = λ client c e is_wait idle none. T;
+      read_one = λ client c e is_wait idle event events some. ap (λ (xs : List (ℕ × Event)). (client, event) ∷ xs) T;
+    };
+    tails = tails_leave s m (λ step left. filter_map pair_in left.replies ≡ left.events_read) (λ step. T);
     stalled = λ h. T;
   }
 

@@ -1,5 +1,6 @@
 -- Things stay, with their content, under each command; so does what is read of a framebuffer.
 use Rattle.std.proofs.Common.{◌≡◌, ℕ, ◌+◌, Bool, true, false, cond, ◌==◌, List, [], ◌∷◌, ◌++◌, Option, Some, None, refl, sym, ap, ◌∙◌, inl, inr}
+use Rattle.std.specs.Option.{option_map}
 use Rattle.std.proofs.lemmas.Bool.{cases_Bool, cond-true, cond-false}
 use Rattle.kms_model.specs.declared.objects.Kind.TheVariants.{Crtc}
 use Rattle.kms_model.specs.declared.objects.Topology.{Topology}
@@ -27,6 +28,7 @@ use Rattle.kms_model.specs.Request.Verdict.{verdict}
 use Rattle.kms_model.specs.Script.Words.{◌>>=◌}
 use Rattle.kms_model.specs.Stores.Kept.{Seen}
 use Rattle.kms_model.proofs.FramedLemmas.{closed_same}
+use Rattle.kms_laws.proofs.Closed.{closed_with_id}
 
 -- there is a thing with an id and a content
 pub record HasContent (things : List Thing) (id : ℕ) (c : Content) : Type 0 where
@@ -64,26 +66,7 @@ stay-push things u id t found = record { thing = t; found = found-push things u 
 -- a thing that is closed
 
 stay-closed : (things : List Thing) (at : ℕ) → Stay things (closed_in things at)
-stay-closed [] at id t found = absurd cc
-stay-closed (x ∷ xs) at id t found =
-    let same : ((closed_if at x).id == id) ≡ (x.id == id) = ap (λ n. n == id) (closed_same at x).id in
-    elim (cases_Bool (x.id == id)) [
-      | inl here ↦ (
-          let is : Some x ≡ Some t = sym (cond-true (x.id == id) (Some x) (thing_with_id xs id) here) ∙ found in
-          let xt : x ≡ t = cc in
-          record {
-            thing = closed_if at x;
-            found = cond-true ((closed_if at x).id == id) (Some (closed_if at x)) (thing_with_id (closed_in xs at) id) (same ∙ here);
-            same = (closed_same at x).content ∙ ap (λ (z : Thing). z.content) xt;
-          })
-      | inr away ↦ (
-          let later = stay-closed xs at id t (sym (cond-false (x.id == id) (Some x) (thing_with_id xs id) away) ∙ found) in
-          record {
-            thing = later.thing;
-            found = cond-false ((closed_if at x).id == id) (Some (closed_if at x)) (thing_with_id (closed_in xs at) id) (same ∙ away) ∙ later.found;
-            same = later.same;
-          })
-    ]
+stay-closed things at id t found = record { thing = closed_if at t; found = closed_with_id things at id ∙ ap (option_map (closed_if at)) found; same = (closed_same at t).content }
 
 -- Commands
 

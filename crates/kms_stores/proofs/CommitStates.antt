@@ -1,6 +1,6 @@
 -- The worlds that commits start from are sound, and so are those after them; a CRTC's words are those after the commits
 -- before, and the client is one of the script's.
-use Rattle.std.proofs.Common.{◌≡◌, ℕ, ◌+◌, ◌<◌, ◌≤◌, List, ◌∷◌, length, true, Option, Some, None, sym, ap, ◌∙◌, subst, arith, ⊎_elim}
+use Rattle.std.proofs.Common.{◌≡◌, ℕ, ◌+◌, ◌<◌, ◌≤◌, List, ◌∷◌, length, true, sym, ap, ◌∙◌, subst, arith, ⊎_elim}
 use Rattle.std.proofs.lemmas.Bool.{cases_lt, false_from_ne_true}
 use Rattle.kms_model.specs.declared.objects.Kind.TheVariants.{Crtc}
 use Rattle.kms_model.specs.declared.objects.Topology.{Topology}
@@ -10,7 +10,7 @@ use Rattle.kms_model.specs.declared.scripts.Command.TheVariants as command
 use Rattle.kms_model.specs.declared.scripts.Script.{Script}
 use Rattle.kms_model.specs.Device.Objects.{ids_of}
 use Rattle.kms_model.specs.Device.Sound.{IsSound}
-use Rattle.kms_model.specs.Machine.Commits.{commit_at, commit_names, commit_touches, has_pair, lockable, new_values, out_fence_of, old_values}
+use Rattle.kms_model.specs.Machine.Commits.{commit_at, commit_names, commit_touches, has_pair, lockable, new_values, old_values}
 use Rattle.kms_model.specs.Machine.Histories.{at, is_history}
 use Rattle.kms_model.specs.Machine.Registers.{CrtcWords, crtc_register}
 use Rattle.kms_model.specs.Machine.State.{Commit, DeviceState, Machine, first_machine}
@@ -27,7 +27,7 @@ use Rattle.kms_laws.proofs.Objects.{crtc_lockable, names-touches}
 use Rattle.kms_laws.proofs.Present.{is_old}
 use Rattle.kms_laws.proofs.Requests.{words_at}
 use Rattle.kms_laws.proofs.Steps.{Holds, IsPlainScript, along, first_kept, step_kept}
-use Rattle.kms_laws.proofs.Traversal.{IsKept, step_keeps, with_signal}
+use Rattle.kms_laws.proofs.Traversal.{IsKept, commit_of, few_kept, step_keeps}
 use Rattle.kms_stores.specs.Run.{Run, machine}
 use Rattle.kms_stores.specs.Stands.{Stores, Stands}
 use Rattle.kms_stores.proofs.Places.{client_there}
@@ -59,25 +59,12 @@ one_more t clients x cs all one k low =
 abbrev Sound : Script → DeviceState → List Latch → Type 0
 Sound s d ls = AreSoundCommits s.topology (length s.clients) d.commits
 
-with_fence : (t : Topology) (clients : ℕ) (d : DeviceState) (fence : Option ℕ) → AreSoundCommits t clients d.commits → AreSoundCommits t clients (with_signal d fence).commits
-with_fence t clients d None all = all
-with_fence t clients d (Some id) all = all
-
 sound_kept : (s : Script) → IsKept s (Sound s)
-sound_kept s = record {
-  made = λ m client c H is other all. all;
-  swapped = λ m client r H is none no_test all. one_more s.topology (length s.clients) (record { client = client; command = _; request = r; world = m.device.world }) m.device.commits all
-      (record { low = (client_there s m client (command.Atomic r) is).0; high = (client_there s m client (command.Atomic r) is).1; sound = H.present.sound; sound_after = sound-apply s.topology m.device.world r (m.device.world.commits + 1) H.present.sound none; old_words = H.present.states.crtc });
-  claimed = λ m k H may all. all;
-  written = λ d ls k o T W all. all;
-  flushed = λ d ls k c all. all;
-  done = λ d ls k all. all;
-  cleaned = λ d ls k done every all. all;
-  waits = λ d ls c o all. all;
-  counted = λ d ls c n all. all;
-  latched = λ d ls k c count T found all. with_fence s.topology (length s.clients) _ (out_fence_of s.topology d.commits k c) all;
-  signalled = λ d ls fence all. all;
-}
+sound_kept s =
+    few_kept s (λ w cs ls. AreSoundCommits s.topology (length s.clients) cs) (λ m client c is other all. all)
+    (λ m client r H is none all. one_more s.topology (length s.clients) (commit_of m client r) m.device.commits all
+    (record { low = (client_there s m client (command.Atomic r) is).0; high = (client_there s m client (command.Atomic r) is).1; sound = H.present.sound; sound_after = sound-apply s.topology m.device.world r (m.device.world.commits + 1) H.present.sound none; old_words = H.present.states.crtc }))
+    (λ d ls k c count T found all. all)
 
 record AlsoSound (s : Script) (m : Machine) : Type 0 where
   holds : Holds s m

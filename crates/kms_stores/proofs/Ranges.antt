@@ -1,8 +1,8 @@
 -- Tests of all numbers of a range, and of some.
 use Rattle.std.proofs.Common.{◌≡◌, ℕ, zero, suc, ◌+◌, ◌<◌, ◌≤◌, Bool, true, false, List, [], ◌∷◌, map, Option, Some, None, inl, inr, refl, ap, ◌∙◌, arith}
-use Rattle.std.specs.Prelude.{◌||◌, filter, if◌then◌else◌}
+use Rattle.std.specs.Prelude.{◌&&◌, ◌||◌, filter, if◌then◌else◌, not}
 use Rattle.std.specs.List.{flat_map, list_all, list_any, range_with_len}
-use Rattle.std.proofs.lemmas.Bool.{and_from, and_left, and_right, cases_lt, or_from, or_left, or_right}
+use Rattle.std.proofs.lemmas.Bool.{and_from, and_left, and_right, cases_lt, or_left}
 use Rattle.std.proofs.lemmas.List.Folds.{list_any-append}
 use Rattle.kms_model.specs.Firsts.{first_some}
 
@@ -20,17 +20,20 @@ one_fails test a (suc n) j low high fails =
 
 -- A test of some number
 
+-- an item passes where not all fail
+any_not_all : {A : Type 0} (test : A → Bool) (xs : List A) → list_any test xs ≡ not (list_all (λ x. not (test x)) xs)
+any_not_all test [] = refl
+any_not_all test (x ∷ xs) = ap (λ b. test x || b) (any_not_all test xs) ∙ either (test x) (list_all (λ y. not (test y)) xs)
+  where
+    either : (b rest : Bool) → (b || not rest) ≡ not (not b && rest)
+    either true rest = refl
+    either false rest = refl
+
 pub none_pass : (test : ℕ → Bool) (a n : ℕ) → ((j : ℕ) → a ≤ j → j < a + n → test j ≡ false) → list_any test (range_with_len a n) ≡ false
-none_pass test a zero fails = refl
-none_pass test a (suc n) fails = or_from (test a) _ (fails a (omega arith) (omega arith)) (none_pass test (a + 1) n (λ j low high. fails j (omega (arith, low)) (omega (arith, high))))
+none_pass test a n fails = any_not_all test (range_with_len a n) ∙ ap not (all_pass (λ j. not (test j)) a n (λ j low high. ap not (fails j low high)))
 
 pub one_passes : (test : ℕ → Bool) (a n j : ℕ) → a ≤ j → j < a + n → test j ≡ true → list_any test (range_with_len a n) ≡ true
-one_passes test a zero j low high passes = absurd (omega (arith, low, high))
-one_passes test a (suc n) j low high passes =
-    elim (cases_lt a j) [
-      | inl before ↦ or_right (test a) _ (one_passes test (a + 1) n j (omega (arith, before)) (omega (arith, high)) passes)
-      | inr behind ↦ (let same : a ≡ j = omega (arith, low, behind) in or_left (test a) _ (ap test same ∙ passes))
-    ]
+one_passes test a n j low high passes = any_not_all test (range_with_len a n) ∙ ap not (one_fails (λ i. not (test i)) a n j low high (ap not passes))
 
 -- Tests of some item of many lists, and of a list that is made item by item
 

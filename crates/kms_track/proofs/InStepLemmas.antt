@@ -11,7 +11,7 @@ use Rattle.kms_model.specs.Machine.Commits.{has_latched, commit_at, commit_touch
 use Rattle.kms_model.specs.Machine.State.{Commit, Marks, no_marks}
 use Rattle.kms_model.specs.Request.Touched.{touches}
 use Rattle.kms_model.specs.Stores.Tables.{without_id}
-use Rattle.kms_track.specs.InStep.{told_of, IsUntouched, IsTrackerOf, IsCheckedFor, is_on}
+use Rattle.kms_track.specs.InStep.{told_of, IsUntouched, IsTrackerOf, IsCheckedFor, is_of_device}
 use Rattle.kms_track.specs.Laws.{no_tracking}
 use Rattle.kms_track.specs.Places.{object_at, crtc_id}
 use Rattle.kms_track.specs.Told.{IsOver, TellsOfSetup}
@@ -119,15 +119,15 @@ pub tells_of_commit : (t : Topology) (c : Commit) (cs : List Commit) (marks : Ma
     → IsUntouched marks latches (length cs) → TellsOfSetup (told_of t cs marks latches) (told_of t (c ∷ cs) marks latches) checked fences
 tells_of_commit t c cs marks latches checked fences for fresh = record {
   count = sym (add-one (length cs));
-  touches = λ k object within. ap (λ b. is_on t object && b) (touches_before t c cs k object within);
-  concerns = λ k object crtc within. ap (λ b. is_on t crtc && b) (concerns_before t c cs k object crtc within);
+  touches = λ k object within. ap (λ b. is_of_device t object && b) (touches_before t c cs k object within);
+  concerns = λ k object crtc within. ap (λ b. is_of_device t crtc && b) (concerns_before t c cs k object crtc within);
   fences_are = λ k within. fences_before t c cs k within;
   claimed = λ k within. refl;
   hw_done = λ k within. refl;
   latched = λ k crtc within. refl;
   cleaned = λ k within. refl;
-  touches_new = λ p place. ap (λ b. is_on t (object_at p) && b) (touches_now t c cs (object_at p)) ∙ for.touched p place;
-  concerns_new = λ p crtc place within has. ap (λ b. is_on t (crtc_id crtc) && b) (concerns_now t c cs (object_at p) (crtc_id crtc)) ∙ for.on p crtc place within has;
+  touches_new = λ p place. ap (λ b. is_of_device t (object_at p) && b) (touches_now t c cs (object_at p)) ∙ for.touched p place;
+  concerns_new = λ p crtc place within has. ap (λ b. is_of_device t (crtc_id crtc) && b) (concerns_now t c cs (object_at p) (crtc_id crtc)) ∙ for.on p crtc place within has;
   fences_new = fences_now t c cs fences checked for;
   unclaimed = fresh.claimed;
   not_done = fresh.hw_done;

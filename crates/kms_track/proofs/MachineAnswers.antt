@@ -20,7 +20,7 @@ use Rattle.kms_model.specs.Request.Sets.{obj_id}
 use Rattle.kms_model.specs.Request.Touched.{touches}
 use Rattle.kms_model.proofs.Items.{IsIn}
 use Rattle.kms_signal.specs.FenceSets.{FenceSet, is_signalled}
-use Rattle.kms_track.specs.InStep.{told_of, IsInStep, IsWithinPlaces, is_on, pending_pair, busy_answer}
+use Rattle.kms_track.specs.InStep.{told_of, IsInStep, IsWithinPlaces, is_of_device, pending_pair, busy_answer}
 use Rattle.kms_track.specs.Places.{object_at, mask_has, all_below}
 use Rattle.kms_track.specs.Told.{Told, KeepsCommit, has_flipped, previous, is_settled_for, pending_at, pending_of}
 use Rattle.kms_track.specs.Tracking.{Tracking, cleaned_of, commit_of, is_gone, ready_of, busy_of, with_object, unless}
@@ -34,7 +34,7 @@ all_alike f g [] same = refl
 all_alike f g (x ∷ xs) same = rw (same x (inl refl), all_alike f g xs (λ y there. same y (inr there))) refl
 
 flipped_machine-in : (t : Topology) (commits : List Commit) (latches : List Latch) (k object : ℕ) → IsWithinPlaces t
-    → list_all (λ crtc. not (is_on t crtc && commit_concerns t commits k object crtc) || has_latched latches k crtc) (ids_of t Crtc) ≡ machine.has_flipped t commits latches k object
+    → list_all (λ crtc. not (is_of_device t crtc && commit_concerns t commits k object crtc) || has_latched latches k crtc) (ids_of t Crtc) ≡ machine.has_flipped t commits latches k object
 unfolding machine.has_flipped
 flipped_machine-in t commits latches k object limits =
     all_alike _ (λ crtc. not (commit_concerns t commits k object crtc) || has_latched latches k crtc) (ids_of t Crtc) (λ crtc is. rw (crtc_on t crtc limits is) refl)
@@ -42,10 +42,10 @@ flipped_machine-in t commits latches k object limits =
 pub flipped_machine : (t : Topology) (commits : List Commit) (marks : Marks) (latches : List Latch) (k object : ℕ) → IsWithinPlaces t
     → has_flipped (told_of t commits marks latches) k object ≡ machine.has_flipped t commits latches k object
 flipped_machine t commits marks latches k object limits =
-    sym (crtcs_all (λ crtc. not (is_on t crtc && commit_concerns t commits k object crtc) || has_latched latches k crtc) (count_of t Crtc) limits.crtcs (λ i low high. rw (crtc_off t i low high) refl))
+    sym (crtcs_all (λ crtc. not (is_of_device t crtc && commit_concerns t commits k object crtc) || has_latched latches k crtc) (count_of t Crtc) limits.crtcs (λ i low high. rw (crtc_off t i low high) refl))
     ∙ flipped_machine-in t commits latches k object limits
 
-pub previous_machine : (t : Topology) (commits : List Commit) (marks : Marks) (latches : List Latch) (n object : ℕ) → is_on t object ≡ true → previous (told_of t commits marks latches) n object ≡ machine.previous t commits n object
+pub previous_machine : (t : Topology) (commits : List Commit) (marks : Marks) (latches : List Latch) (n object : ℕ) → is_of_device t object ≡ true → previous (told_of t commits marks latches) n object ≡ machine.previous t commits n object
 unfolding machine.previous
 previous_machine t commits marks latches n object on = rw on refl
 
@@ -53,7 +53,7 @@ there_same : (a b : ℕ → Bool) (o : Option ℕ) → ((j : ℕ) → a j ≡ b 
 there_same a b None same = refl
 there_same a b (Some j) same = same j
 
-settled_machine : (t : Topology) (m : Machine) (k p : ℕ) → is_on t (object_at p) ≡ true → IsWithinPlaces t
+settled_machine : (t : Topology) (m : Machine) (k p : ℕ) → is_of_device t (object_at p) ≡ true → IsWithinPlaces t
     → is_settled_for (told_of t m.device.commits m.device.marks m.records.latches) k (object_at p) ≡ steps.is_settled_for t m k (object_at p)
 settled_machine t m k p on limits =
     ap (λ o. if_there (λ j. is_hw_done m.device j && has_flipped (told_of t m.device.commits m.device.marks m.records.latches) j (object_at p)) o) (previous_machine t m.device.commits m.device.marks m.records.latches k (object_at p) on)
@@ -66,12 +66,12 @@ unfolding steps.may_claim
 ready_machine t m v fences k step limits signals =
     let told : Told = told_of t m.device.commits m.device.marks m.records.latches in
     let waited : list_all (is_signalled fences) (waited_fences t m.device.commits k) ≡ list_all (has_number m.device.signalled) (waited_fences t m.device.commits k) = all_alike _ _ (waited_fences t m.device.commits k) signals in
-    let settled : all_below (λ p. not (is_on t (object_at p) && commit_touches t m.device.commits k (object_at p)) || is_settled_for told k (object_at p)) 28
+    let settled : all_below (λ p. not (is_of_device t (object_at p) && commit_touches t m.device.commits k (object_at p)) || is_settled_for told k (object_at p)) 28
     ≡ list_all (λ object. not (commit_touches t m.device.commits k object) || steps.is_settled_for t m k object) (lockable t) =
-    all_lockable t _ _ limits (λ p within there. (let on : is_on t (object_at p) ≡ true = on_place t p within ∙ there in
+    all_lockable t _ _ limits (λ p within there. (let on : is_of_device t (object_at p) ≡ true = on_place t p within ∙ there in
     ap (λ b. not (b && commit_touches t m.device.commits k (object_at p)) || is_settled_for told k (object_at p)) on ∙ ap (λ b. not (commit_touches t m.device.commits k (object_at p)) || b) (settled_machine t m k p on limits))) (λ p within gone. rw (on_place t p within ∙ gone) refl) in
     ready_told told v fences k step.keeps
-    ∙ (ap (λ b. nat_lt k (length m.device.commits) && (not (has_number m.device.marks.claimed k) && (b && all_below (λ p. not (is_on t (object_at p) && commit_touches t m.device.commits k (object_at p)) || is_settled_for told k (object_at p)) 28))) waited
+    ∙ (ap (λ b. nat_lt k (length m.device.commits) && (not (has_number m.device.marks.claimed k) && (b && all_below (λ p. not (is_of_device t (object_at p) && commit_touches t m.device.commits k (object_at p)) || is_settled_for told k (object_at p)) 28))) waited
     ∙ ap (λ b. nat_lt k (length m.device.commits) && (not (has_number m.device.marks.claimed k) && (list_all (has_number m.device.signalled) (waited_fences t m.device.commits k) && b))) settled)
 
 -- `is_cleaned` tells whether a commit is cleaned
@@ -122,7 +122,7 @@ find_first t commits test (x ∷ xs) =
 
 -- `busy` of the objects that a request touches tells the first that is pending, and its last commit.
 pub busy_machine : (t : Topology) (m : Machine) (v : Tracking) (mask : Mask) (r : Request) → IsInStep t m v → IsWithinPlaces t
-    → ((p : ℕ) → p < 28 → mask_has mask p ≡ (is_on t (object_at p) && touches t m.device.world r (object_at p)))
+    → ((p : ℕ) → p < 28 → mask_has mask p ≡ (is_of_device t (object_at p) && touches t m.device.world r (object_at p)))
     → busy_of v mask ≡ busy_answer t m.device.commits (steps.first_pending t m r)
 unfolding steps.first_pending steps.is_pending machine.previous
 busy_machine t m v mask r step limits named =
@@ -130,7 +130,7 @@ busy_machine t m v mask r step limits named =
     busy_told told v mask step.keeps
     ∙ (first_lockable t _ (λ o. if touches t m.device.world r o && steps.is_pending t m o then busy_answer t m.device.commits (Some o) else None) limits
     (λ p within there.
-    (let on : is_on t (object_at p) ≡ true = on_place t p within ∙ there in
+    (let on : is_of_device t (object_at p) ≡ true = on_place t p within ∙ there in
     chosen p (mask_has mask p) (pending_at told (object_at p))
     ∙ (ap (λ b. (if b then pending_pair (object_at p) (pending_at told (object_at p)) else None)) (named p within ∙ ap (λ b. b && touches t m.device.world r (object_at p)) on)
     ∙ (ap (λ o. (if touches t m.device.world r (object_at p) then pending_pair (object_at p) (pending_of told (object_at p) o) else None)) (previous_machine t m.device.commits m.device.marks m.records.latches (length m.device.commits) (object_at p) on)

@@ -18,7 +18,7 @@ use Rattle.kms_model.specs.Request.Apply.{after}
 use Rattle.kms_model.specs.Request.Named.{named, names}
 use Rattle.kms_model.specs.Request.Touched.{named_by}
 use Rattle.kms_model.proofs.MaskLemmas.{has_bit-mask_below}
-use Rattle.kms_track.specs.InStep.{told_of, IsInStep, IsWithinPlaces, awaited_answer, awaited_commit, is_on, pending_pair}
+use Rattle.kms_track.specs.InStep.{told_of, IsInStep, IsWithinPlaces, awaited_answer, awaited_commit, is_of_device, pending_pair}
 use Rattle.kms_track.specs.Places.{object_at}
 use Rattle.kms_track.specs.Told.{Told, previous_of, not_marked, awaited_at}
 use Rattle.kms_track.specs.Tracking.{Tracking, not_yet_of, with_object, unless, or_other}
@@ -29,11 +29,11 @@ use Rattle.kms_track.proofs.There.{on_index}
 
 -- the commit that is waited for at a CRTC
 
-second_machine : (t : Topology) (m : Machine) (o : Option ℕ) (crtc : ℕ) → is_on t crtc ≡ true → previous_of (told_of t m.device.commits m.device.marks m.records.latches) o crtc ≡ machine.previous_of t m.device.commits o crtc
+second_machine : (t : Topology) (m : Machine) (o : Option ℕ) (crtc : ℕ) → is_of_device t crtc ≡ true → previous_of (told_of t m.device.commits m.device.marks m.records.latches) o crtc ≡ machine.previous_of t m.device.commits o crtc
 second_machine t m None crtc on = refl
 second_machine t m (Some k) crtc on = previous_machine t m.device.commits m.device.marks m.records.latches k crtc on
 
-awaited_machine : (t : Topology) (m : Machine) (crtc : ℕ) → is_on t crtc ≡ true → awaited_at (told_of t m.device.commits m.device.marks m.records.latches) crtc ≡ awaited_commit t m crtc
+awaited_machine : (t : Topology) (m : Machine) (crtc : ℕ) → is_of_device t crtc ≡ true → awaited_at (told_of t m.device.commits m.device.marks m.records.latches) crtc ≡ awaited_commit t m crtc
 awaited_machine t m crtc on =
     let told : Told = told_of t m.device.commits m.device.marks m.records.latches in
     let last : Option ℕ = machine.previous t m.device.commits (length m.device.commits) crtc in
@@ -67,7 +67,7 @@ awaited_told t m v r step limits =
     here i within =
         (let few : i < 4 = omega (arith, within, limits.crtcs) in
         let there : nat_lt i (count_of t Crtc) ≡ true = lt-ltb i (count_of t Crtc) within in
-        let on : is_on t (object_id Crtc i) ≡ true = on_index t Crtc i (omega (arith, few)) ∙ there in
+        let on : is_of_device t (object_id Crtc i) ≡ true = on_index t Crtc i (omega (arith, few)) ∙ there in
         let at : object_at i ≡ object_id Crtc i = rw (lt-ltb i 4 few) refl in
         chosen i (has_bit (named_by t m.device.world r) i) (awaited_at (told_of t m.device.commits m.device.marks m.records.latches) (object_at i))
         ∙ (ap (λ b. if b then pending_pair (object_at i) (awaited_at (told_of t m.device.commits m.device.marks m.records.latches) (object_at i)) else None) (has i ∙ ap (λ b. b && is_named (object_id Crtc i)) there)

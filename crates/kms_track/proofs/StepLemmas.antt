@@ -21,7 +21,7 @@ use Rattle.kms_model.specs.Stores.Tables.{without_id}
 use Rattle.kms_model.proofs.Items.{IsIn, list_all-at, list_all-from}
 use Rattle.kms_model.proofs.KindsOfIds.{index_of-object}
 use Rattle.kms_signal.proofs.CommitsLeft.{commits_left, latch_leaves, swap_adds}
-use Rattle.kms_track.specs.InStep.{IsInStep, IsTrackerOf, IsCheckedFor, IsWithinPlaces, is_on, told_of}
+use Rattle.kms_track.specs.InStep.{IsInStep, IsTrackerOf, IsCheckedFor, IsWithinPlaces, is_of_device, told_of}
 use Rattle.kms_track.specs.Places.{object_at}
 use Rattle.kms_track.specs.StepLaws.{HasNames, new_commit, tells_nothing}
 use Rattle.kms_track.specs.Told.{IsOver}
@@ -136,7 +136,7 @@ unfolding is_all_latched has_flipped
 over_of t m k within done latched names limits = record {
   claimed = names.done_claimed k done;
   hw_done = done;
-  flipped = λ p place touched. (let both = and_parts (is_on t (object_at p)) _ touched in
+  flipped = λ p place touched. (let both = and_parts (is_of_device t (object_at p)) _ touched in
       flipped_machine t m.device.commits m.device.marks m.records.latches k (object_at p) limits
       ∙ flips p (place_lockable t p place (sym (on_place t p place) ∙ both.0)) both.1);
 } where

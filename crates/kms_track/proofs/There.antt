@@ -10,7 +10,7 @@ use Rattle.kms_model.specs.Device.Objects.{count_of, ids_of, index_of, object_id
 use Rattle.kms_model.specs.Machine.Commits.{lockable}
 use Rattle.kms_model.proofs.Items.{IsIn, IsObject, ids-has, ids-in}
 use Rattle.kms_model.proofs.KindsOfIds.{index_of-object, kind_of-object}
-use Rattle.kms_track.specs.InStep.{IsWithinPlaces, is_on, is_there}
+use Rattle.kms_track.specs.InStep.{IsWithinPlaces, is_of_device, is_there}
 use Rattle.kms_track.specs.Places.{object_at}
 
 -- what holds of an object that is there, and of one that is not
@@ -19,10 +19,10 @@ where_there true there gone = there refl
 where_there false there gone = gone refl
 
 -- an object of an index is on the device
-pub on_index : (t : Topology) (kind : Kind) (i : ℕ) → i < 100 → is_on t (object_id kind i) ≡ nat_lt i (count_of t kind)
+pub on_index : (t : Topology) (kind : Kind) (i : ℕ) → i < 100 → is_of_device t (object_id kind i) ≡ nat_lt i (count_of t kind)
 on_index t kind i few = ap (λ (k : Kind). nat_lt (index_of (object_id kind i)) (count_of t k)) (kind_of-object kind i few) ∙ ap (λ n. nat_lt n (count_of t kind)) (index_of-object kind i few)
 
-pub on_place : (t : Topology) (p : ℕ) → p < 28 → is_on t (object_at p) ≡ is_there t p
+pub on_place : (t : Topology) (p : ℕ) → p < 28 → is_of_device t (object_at p) ≡ is_there t p
 on_place t p place =
     elim (cases_lt p 4) [
       | inl crtc ↦ rw (lt-ltb p 4 crtc) (on_index t Crtc p (omega arith))
@@ -33,12 +33,12 @@ on_place t p place =
     ]
 
 -- a CRTC of the device is on it, and one beyond is not
-pub crtc_on : (t : Topology) (crtc : ℕ) → IsWithinPlaces t → IsIn crtc (ids_of t Crtc) → is_on t crtc ≡ true
+pub crtc_on : (t : Topology) (crtc : ℕ) → IsWithinPlaces t → IsIn crtc (ids_of t Crtc) → is_of_device t crtc ≡ true
 crtc_on t crtc limits is =
     let o : IsObject t Crtc crtc = ids-in t Crtc crtc is in
     rw o.same (on_index t Crtc o.index (omega (arith, o.within, limits.crtcs)) ∙ lt-ltb o.index (count_of t Crtc) o.within)
 
-pub crtc_off : (t : Topology) (i : ℕ) → count_of t Crtc ≤ i → i < 4 → is_on t (object_id Crtc i) ≡ false
+pub crtc_off : (t : Topology) (i : ℕ) → count_of t Crtc ≤ i → i < 4 → is_of_device t (object_id Crtc i) ≡ false
 crtc_off t i beyond within = on_index t Crtc i (omega arith) ∙ le-ltb i (count_of t Crtc) beyond
 
 pub in_left : (xs ys : List ℕ) (o : ℕ) → IsIn o xs → IsIn o (xs ++ ys)

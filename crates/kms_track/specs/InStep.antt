@@ -20,15 +20,15 @@ use Rattle.kms_track.specs.Told.{Told, Keeps, not_marked}
 use Rattle.kms_track.specs.Tracking.{Tracking, or_other}
 
 -- an object is on the device, by its id
-abbrev pub is_on : Topology → ℕ → Bool
-is_on t object = exists t (kind_of object) (index_of object)
+abbrev pub is_of_device : Topology → ℕ → Bool
+is_of_device t object = exists t (kind_of object) (index_of object)
 
 -- commits, their marks and latches, as a tracker is told of them: of the objects of the device alone
 abbrev pub told_of : Topology → List Commit → Marks → List Latch → Told
 told_of t commits marks latches = record {
   count = length commits;
-  touches = λ k object. is_on t object && commit_touches t commits k object;
-  concerns = λ k object crtc. is_on t crtc && commit_concerns t commits k object crtc;
+  touches = λ k object. is_of_device t object && commit_touches t commits k object;
+  concerns = λ k object crtc. is_of_device t crtc && commit_concerns t commits k object crtc;
   fences = λ k. waited_fences t commits k;
   claimed = λ k. has_number marks.claimed k;
   hw_done = λ k. has_number marks.done k;
@@ -53,9 +53,9 @@ IsInStep t m v = IsTrackerOf t m.device.commits m.device.marks m.records.latches
 
 -- What was checked, and the fences, are those of a commit.
 pub record IsCheckedFor (t : Topology) (c : Commit) (checked : Checked) (fences : List ℕ) : Type 0 where
-  pub touched : (p : ℕ) → p < 28 → (is_on t (object_at p) && touches t c.world c.request (object_at p)) ≡ mask_has checked.touched p
+  pub touched : (p : ℕ) → p < 28 → (is_of_device t (object_at p) && touches t c.world c.request (object_at p)) ≡ mask_has checked.touched p
   pub on : (p crtc : ℕ) → p < 28 → crtc < 4 → mask_has checked.touched p ≡ true
-      → (is_on t (crtc_id crtc) && is_on_before_or_after (kind_of (object_at p)) c (object_at p) (crtc_id crtc)) ≡ is_side (sides_at checked.states p) (crtc_id crtc)
+      → (is_of_device t (crtc_id crtc) && is_on_before_or_after (kind_of (object_at p)) c (object_at p) (crtc_id crtc)) ≡ is_side (sides_at checked.states p) (crtc_id crtc)
   pub fences_are : map (λ f. f.1) (in_fences t (look_up c.world) c.request.assigns) ≡ fences
 
 -- the device is one that a tracker can follow: at most 4 CRTCs, 16 planes and 8 connectors

@@ -13,7 +13,7 @@ use Rattle.kms_model.specs.Request.Touched.{touches, named_by}
 use Rattle.kms_model.specs.Stores.Tables.{without_id}
 use Rattle.kms_signal.specs.FenceSets.{FenceSet, is_made}
 use Rattle.kms_signal.specs.InStep.{AreFencesOf}
-use Rattle.kms_track.specs.InStep.{told_of, IsTrackerOf, IsInStep, IsCheckedFor, IsWithinPlaces, is_on, awaited_answer, busy_answer}
+use Rattle.kms_track.specs.InStep.{told_of, IsTrackerOf, IsInStep, IsCheckedFor, IsWithinPlaces, is_of_device, awaited_answer, busy_answer}
 use Rattle.kms_track.specs.Laws.{no_tracking}
 use Rattle.kms_track.specs.Places.{object_at, mask_has}
 use Rattle.kms_track.specs.Told.{IsOver}
@@ -79,7 +79,7 @@ abbrev pub TellsPending : Type 0
 TellsPending =
     (t : Topology) (m : Machine) (v : Tracking) (mask : Mask) (r : Request)
     → IsInStep t m v → IsWithinPlaces t
-    → ((p : ℕ) → p < 28 → mask_has mask p ≡ (is_on t (object_at p) && touches t m.device.world r (object_at p)))
+    → ((p : ℕ) → p < 28 → mask_has mask p ≡ (is_of_device t (object_at p) && touches t m.device.world r (object_at p)))
     → busy_of v mask ≡ busy_answer t m.device.commits (steps.first_pending t m r)
 
 -- `not_yet`, of the CRTCs that a request names, tells the first at which its swap waits, with the commit that it waits for.

@@ -24,7 +24,7 @@ use Rattle.kms_model.specs.Request.Verdict.{verdict}
 use Rattle.kms_model.specs.Stores.Tables.{without_id}
 use Rattle.kms_model.proofs.Items.{IsIn}
 use Rattle.kms_signal.specs.StepLaws.{leaves_commits}
-use Rattle.kms_track.specs.InStep.{IsInStep, IsCheckedFor, IsWithinPlaces, is_on}
+use Rattle.kms_track.specs.InStep.{IsInStep, IsCheckedFor, IsWithinPlaces, is_of_device}
 use Rattle.kms_track.specs.Places.{mask_has, object_at}
 use Rattle.kms_track.specs.Tracking.{Tracking, IsSetUp, changed, with_claim, with_done, with_latch}
 
@@ -124,7 +124,7 @@ ChecksAreFollowed =
 abbrev pub TouchesAreFollowed : Type 0
 TouchesAreFollowed =
     (t : Topology) (w : World) (r : Request) (p : ℕ)
-    → p < 28 → mask_has (touched_by t w r) p ≡ (is_on t (object_at p) && touches t w r (object_at p))
+    → p < 28 → mask_has (touched_by t w r) p ≡ (is_of_device t (object_at p) && touches t w r (object_at p))
 
 -- A device that a script can have is one that a tracker can follow.
 abbrev pub DevicesAreFollowed : Type 0
