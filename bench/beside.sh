@@ -1,4 +1,9 @@
 #!/bin/sh
+# What the timings share that stand beside plain C. The caller is in the folder $here, below this one; files go into $work.
+work=$(mktemp -d)
+trap 'rm -rf "$work"' EXIT
+. "$here/../least.sh"
+
 # The median of the numbers in a file.
 median() {
     sort -n "$1" | awk '{ all[NR] = $1 } END { print all[int((NR + 1) / 2)] }'
@@ -6,8 +11,7 @@ median() {
 
 # beside KIND C KMS [PROGRAM]: compiles and runs plain C (with the SHA-256 of libcrypto), which prints a digest for each frame.
 # Given the path of the program, runs it on a script too, on all processors and on one, in turn with plain C seven times, since a
-# machine may be slower a minute later; compares the digests of its latches, and prints the median times and their ratios. A
-# folder $work is there; least.sh was read.
+# machine may be slower a minute later; compares the digests of its latches, and prints the median times and their ratios.
 beside() {
     ${CC:-cc} -O3 -Wall -Wextra -o "$work/$1" "$2" -lcrypto
     "$work/$1" >"$work/expected"

@@ -1,9 +1,9 @@
 #!/usr/bin/env python3
-"""Times how long the program takes to read scripts, and how much memory it takes.
+"""Times how long the program takes to read scripts and schedules, and how much memory it takes.
 
 usage: bench/reading.py PROGRAM [RUNS]
 
-PROGRAM is the built program `kms`. No input is a script, so that the program reads it, tells its first fault and executes
+PROGRAM is the built program `kms`. Each input has a fault, so that the program reads it, tells its first fault and executes
 nothing. Printed are, for each input, its bytes, its lines, the labels that are made, the shortest of RUNS runs (5 unless
 told), the time for each KiB, the greatest memory that a run took, and that memory over the input's size.
 
@@ -16,8 +16,14 @@ rising, falling, and from both ends to the middle.
 
 Then come inputs with one line that is far too long, of 8 MiB and of the most bytes that an input may have: with labels that
 are made, all different or the last one twice; with names that are said; with a last word that is no assignment; with blanks
-alone; with a blob; and with no line feed. Nothing may take more than 3 seconds, or more than three times the input's size
-beside what the program itself takes.
+alone; with a blob; and with no line feed.
+
+All these are read by `one`. At last come, for `replay`, inputs of the same two sizes whose script has no command: with a
+schedule of as many lines as fit, of the shortest step and of vertical blankings, the last of no form; and with one line of
+a schedule that is far too long: with a number, with an object's index, with blanks alone, with a byte of no line at its end,
+and with no line feed.
+
+Nothing may take more than 3 seconds, or more than three times the input's size beside what the program itself takes.
 """
 import os
 import subprocess
@@ -29,6 +35,7 @@ HEAD = "kms 1\ncrtcs 1\nplane primary 0 XR24\nconn 0\nclient\n"
 SIZES = [65536, 262144, 1048576]
 LABELS = 4096
 MOST = 64 * 1024 * 1024
+LONG_SIZES = [8 * 1024 * 1024, MOST]
 LETTERS = "abcdefghijklmnopqrstuvwxyz"
 REST = "0123456789_" + LETTERS
 
@@ -114,6 +121,14 @@ def overlong(size, front, words, last):
     return ("".join(pieces) + last + "\n").encode()
 
 
+def scheduled(size, step):
+    """An input of at most `size` bytes, a script without commands and a schedule of one step's line as often as it fits; the last
+    line is of no form."""
+    front, last = HEAD + "schedule\n", "wrong\n"
+    text = front + step * ((size - len(front) - len(last)) // len(step)) + last
+    return text.encode(), text.count("\n"), 0
+
+
 def fault(line, why):
     """What the program says of a fault."""
     return f"kms: line {line}: {why}\n"
@@ -138,13 +153,13 @@ def prepared(path, make):
     return int(size), int(lines), int(made), why
 
 
-def measured(program, path, wanted, runs):
-    """The shortest of several runs, in seconds, and the greatest memory of one, in bytes."""
+def measured(program, word, path, wanted, runs):
+    """The shortest of several runs by a word, in seconds, and the greatest memory of one, in bytes."""
     best, memory = None, 0
     for _ in range(runs):
         with open(path, "rb") as stdin, tempfile.TemporaryFile() as told:
             begin = time.perf_counter()
-            child = subprocess.Popen([program, "one"], stdin=stdin, stdout=subprocess.DEVNULL, stderr=told)
+            child = subprocess.Popen([program, word], stdin=stdin, stdout=subprocess.DEVNULL, stderr=told)
             _, status, usage = os.wait4(child.pid, 0)
             taken = time.perf_counter() - begin
             child.returncode = os.waitstatus_to_exitcode(status)
@@ -157,14 +172,14 @@ def measured(program, path, wanted, runs):
     return best, memory
 
 
-def show(name, program, runs, make):
+def show(name, program, runs, make, word="one"):
     """Measures one input and prints its row."""
     with tempfile.TemporaryDirectory() as folder:
         path = os.path.join(folder, "input")
         size, lines, made, why = prepared(path, make)
-        taken, memory = measured(program, path, fault(lines, why), runs)
+        taken, memory = measured(program, word, path, fault(lines, why), runs)
     print(
-        f"{name:<34} {size:>9} {lines:>7} {made:>8} {taken * 1e3:>9.2f} {taken * 1e6 / (size / 1024):>10.2f}"
+        f"{name:<38} {size:>9} {lines:>7} {made:>8} {taken * 1e3:>9.2f} {taken * 1e6 / (size / 1024):>10.2f}"
         f" {memory / 2**20:>8.1f} {memory / size:>7.2f}",
         flush=True,
     )
@@ -200,7 +215,7 @@ def long_lines(program, runs):
     def blob(size):
         return ("00" for _ in range(size // 2))
 
-    for size in (8 * 1024 * 1024, MOST):
+    for size in LONG_SIZES:
         count = (size - len(HEAD) - len("atomic 0x0 0\n")) // 15
         cases = {
             "labels made": lambda: (overlong(size, "atomic 0x0 0", made(size), ""), line, count, "limit"),
@@ -215,13 +230,38 @@ def long_lines(program, runs):
             show(f"{size // 2**20} MiB, {name}", program, runs, make)
 
 
+def schedules(program, runs):
+    """Schedules of many lines, and one line of a schedule that is far too long."""
+    line = HEAD.count("\n") + 2
+
+    def many(step):
+        return lambda size: (*scheduled(size, step), "form")
+
+    def long(front, byte, last, why):
+        return lambda size: (overlong(size, "schedule\n" + front, (byte for _ in range(size)), last), line, 0, why)
+
+    for size in LONG_SIZES:
+        cases = {
+            "stalls": many("T stall\n"),
+            "blankings": many("T vblank crtc0\n"),
+            "a number": long("T make 1", "0", "", "form"),
+            "an index": long("T lock 1 crtc1", "0", "", "form"),
+            "blanks": long("T make", " ", "", "form"),
+            "a byte of no line": long("T make 1", "0", "\x7f", "bytes"),
+            "no line feed": lambda size: (f"{HEAD}schedule\n".encode().ljust(size, b"T"), line, 0, "cut"),
+        }
+        for name, make in cases.items():
+            show(f"schedule of {size // 2**20} MiB, {name}", program, runs, lambda: make(size), "replay")
+
+
 def main():
     if len(sys.argv) not in (2, 3):
         sys.exit(__doc__)
     runs = int(sys.argv[2]) if len(sys.argv) == 3 else 5
-    print(f"{'input':<34} {'bytes':>9} {'lines':>7} {'labels':>8} {'ms':>9} {'us per KiB':>10} {'MiB':>8} {'memory':>7}")
+    print(f"{'input':<38} {'bytes':>9} {'lines':>7} {'labels':>8} {'ms':>9} {'us per KiB':>10} {'MiB':>8} {'memory':>7}")
     scripts(sys.argv[1], runs)
     long_lines(sys.argv[1], min(runs, 3))
+    schedules(sys.argv[1], min(runs, 3))
 
 
 if __name__ == "__main__":

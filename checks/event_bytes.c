@@ -1,7 +1,7 @@
 /* The bytes of a flip event as the C compiler lays out the kernel's own struct. */
 #include <stdio.h>
 #include <string.h>
-#include DRM_HEADER
+#include HEADER
 
 int main(void) {
     struct drm_event_vblank event;

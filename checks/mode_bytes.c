@@ -1,7 +1,7 @@
 /* The bytes of a mode as the C compiler lays out the kernel's own struct. */
 #include <stdio.h>
 #include <string.h>
-#include DRM_MODE_HEADER
+#include HEADER
 
 int main(void) {
     struct drm_mode_modeinfo mode;

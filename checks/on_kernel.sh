@@ -6,14 +6,8 @@
 set -eu
 top=$(cd "$(dirname "$0")/.." && pwd)
 source=$top/tools/on_kernel/on_kernel.c
-for compiler in cc gcc clang; do
-    command -v "$compiler" >/dev/null 2>&1 && break
-    compiler=
-done
-if [ -z "$compiler" ]; then
-    echo "on_kernel: skipped, there is no C compiler"
-    exit 0
-fi
+. "$top/checks/compiling.sh"
+find_compiler on_kernel
 flags="-O2 -std=gnu11 -Wall -Wextra -Werror -I/usr/include/libdrm"
 if ! printf '#include <xf86drm.h>\n#include <xf86drmMode.h>\n' | "$compiler" -I/usr/include/libdrm -E - >/dev/null 2>&1; then
     echo "on_kernel: skipped, there are no headers of libdrm"

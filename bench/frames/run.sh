@@ -4,9 +4,6 @@
 # compared with plain C, where the path of the program is given.
 set -eu
 here=$(dirname "$0")
-work=$(mktemp -d)
-trap 'rm -rf "$work"' EXIT
-. "$here/../least.sh"
 . "$here/../beside.sh"
 for kind in frames scaled; do
     beside "$kind" "$here/$kind.c" "$here/$kind.kms" "${1-}"

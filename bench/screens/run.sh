@@ -3,8 +3,5 @@
 # the cursor of the next CRTC: 104 frames, compared with plain C, where the path of the program is given.
 set -eu
 here=$(dirname "$0")
-work=$(mktemp -d)
-trap 'rm -rf "$work"' EXIT
-. "$here/../least.sh"
 . "$here/../beside.sh"
 beside screens "$here/screens.c" "$here/screens.kms" "${1-}"

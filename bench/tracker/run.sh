@@ -5,16 +5,6 @@
 # the commits that are over.
 set -eu
 here=$(cd "$(dirname "$0")" && pwd)
-top=$(cd "$here/../.." && pwd)
-work=$(mktemp -d)
-trap 'rm -rf "$work"' EXIT
-mkdir -p "$work/crates/bench_tracker/src"
-for crate in kms_model kms_signal kms_track; do
-    cp -r "$top/crates/$crate" "$work/crates/"
-    grep "^$crate:" "$top/crates.txt" >>"$work/crates.txt"
-done
-echo "bench_tracker: kms_model kms_signal kms_track" >>"$work/crates.txt"
-cp "$top/HANDLES" "$work/"
-cp "$here/main.rt.txt" "$work/crates/bench_tracker/src/main.rt"
-cd "$work/crates/bench_tracker"
+. "$here/../program.sh"
+program bench_tracker kms_model kms_signal kms_track
 rt run 2>&1 | grep "commits in"

@@ -4,12 +4,7 @@
 # copies of the crates that it uses, in a folder of its own. It builds without a proof, and without optimisation, as `rt try` does.
 set -eu
 here=$(cd "$(dirname "$0")" && pwd)
-top=$(cd "$here/../.." && pwd)
-work=$(mktemp -d)
-trap 'rm -rf "$work"' EXIT
+. "$here/../program.sh"
 (cd "$top" && tar -cf - --exclude=out HANDLES crates.txt crates) | tar -xf - -C "$work"
-mkdir -p "$work/crates/bench_turns/src"
-echo "bench_turns: kms_model kms_device kms_crowd_tests kms_script" >>"$work/crates.txt"
-cp "$here/main.rt.txt" "$work/crates/bench_turns/src/main.rt"
-cd "$work/crates/bench_turns"
+program bench_turns kms_model kms_device kms_crowd_tests kms_script
 rt try 2>&1 | grep "passes:\|error"
