@@ -19,7 +19,7 @@ use Rattle.kms_model.specs.Stores.OpenThings.{denial, value_if_open}
 use Rattle.kms_model.specs.Stores.Tables.{IsRising, slot, value_with_id}
 use Rattle.kms_model.proofs.OpenLemmas.{found_open}
 use Rattle.kms_model.proofs.TableLemmas.{others_behind, value-absent}
-use Rattle.kms_buffers.specs.Things.{fb_in, open_fbs, open_fbs_of, open_slot}
+use Rattle.kms_buffers.specs.Things.{fb_of_content, open_fbs, open_fbs_of, open_slot}
 
 -- what is wrong with closing an open framebuffer: it is not there, or another client's
 abbrev wrong_with : ℕ → Option Framebuffer → Option ℕ
@@ -76,7 +76,7 @@ refused_fb : (b : Bool) → denied_if NOT_FOUND (not b) ≡ (if b then None else
 refused_fb true = refl
 refused_fb false = refl
 
-refused_if_open : (owner : ℕ) (t : Thing) (b : Bool) (c : Content) → t.is_open ≡ b → t.content ≡ c → close_refusal owner (Some t) ≡ wrong_with owner (value_if_open fb_in t)
+refused_if_open : (owner : ℕ) (t : Thing) (b : Bool) (c : Content) → t.is_open ≡ b → t.content ≡ c → close_refusal owner (Some t) ≡ wrong_with owner (value_if_open fb_of_content t)
 refused_if_open owner t true (content.Framebuffer info of) opened is = rw (opened, is) (refused_fb (t.owner == owner))
 refused_if_open owner t false (content.Framebuffer info of) opened is = rw (opened, is) refl
 refused_if_open owner t true (content.Buffer width height format pattern) opened is = rw (opened, is) refl
@@ -90,7 +90,7 @@ refused_if_open owner t false content.Fence opened is = rw (opened, is) refl
 refused_if_open owner t true content.OutFence opened is = rw (opened, is) refl
 refused_if_open owner t false content.OutFence opened is = rw (opened, is) refl
 
-refusal_is : (owner : ℕ) (o : Option Thing) → close_refusal owner o ≡ wrong_with owner (option_and_then (value_if_open fb_in) o)
+refusal_is : (owner : ℕ) (o : Option Thing) → close_refusal owner o ≡ wrong_with owner (option_and_then (value_if_open fb_of_content) o)
 refusal_is owner None = refl
 refusal_is owner (Some t) = refused_if_open owner t t.is_open t.content refl refl
 
@@ -99,5 +99,5 @@ pub closes_alike : (fbs : List (Slot Framebuffer)) (owner id : ℕ) (things : Li
     → denial (close_answer owner (value_with_id fbs id)) ≡ close_refusal owner (thing_with_id things id)
 closes_alike fbs owner id things rising numbered same =
     answer_is owner (value_with_id fbs id)
-    ∙ ap (wrong_with owner) (sym (open_found fbs id rising) ∙ ap (λ xs. value_with_id xs id) (sym same) ∙ found_open fb_in 1000 id things numbered)
+    ∙ ap (wrong_with owner) (sym (open_found fbs id rising) ∙ ap (λ xs. value_with_id xs id) (sym same) ∙ found_open fb_of_content 1000 id things numbered)
     ∙ sym (refusal_is owner (thing_with_id things id))

@@ -16,14 +16,14 @@ use Rattle.kms_model.specs.Device.Execution.{make}
 use Rattle.kms_model.specs.Stores.Kept.{buffer, framebuffer, with_fewer, MayGive}
 use Rattle.kms_model.specs.Stores.Tables.{slot, put_in, with_value, without_id, value_with_id, IsRising}
 use Rattle.kms_model.proofs.OpenLemmas.{without_id-same, without_id-other}
-use Rattle.kms_buffers.specs.Things.{buffer_in, buffers_of, fb_in, open_fbs_of, open_slot, open_fbs}
+use Rattle.kms_buffers.specs.Things.{buffer_in, buffers_of, fb_of_content, open_fbs_of, open_slot, open_fbs}
 
 pub made_buffer : (w : World) (owner label width height : ℕ) (format : Format) (pattern : Pattern)
     → buffers_of (make w owner label (content.Buffer width height format pattern)).world.things ≡ buffers_of w.things ++ slot w.next_id (buffer owner width height format pattern) ∷ []
 made_buffer w owner label width height format pattern = filter_map-append (λ t. buffer_in t.id t.owner t.content) w.things _
 
 pub made_fb : (w : World) (owner label of : ℕ) (info : FbInfo) → open_fbs_of (make w owner label (content.Framebuffer info of)).world.things ≡ open_fbs_of w.things ++ slot w.next_id (framebuffer owner of info) ∷ []
-made_fb w owner label of info = filter_map-append (open_value fb_in) w.things _
+made_fb w owner label of info = filter_map-append (open_value fb_of_content) w.things _
 
 pub added_fb : (fbs : List (Slot Framebuffer)) (id owner of : ℕ) (info : FbInfo) → open_fbs (fbs ++ slot id (framebuffer owner of info) ∷ []) ≡ open_fbs fbs ++ slot id (framebuffer owner of info) ∷ []
 added_fb fbs id owner of info = filter_map-append open_slot fbs _

@@ -26,17 +26,17 @@ abbrev pub buffers_of : List Thing → List (Slot Buffer)
 buffers_of things = filter_map (λ t. buffer_in t.id t.owner t.content) things
 
 -- the framebuffer that a content is, as it was added
-abbrev pub fb_in : ℕ → Content → Option Framebuffer
-fb_in owner (content.Framebuffer info of) = Some (framebuffer owner of info)
-fb_in owner (content.Buffer width height format pattern) = None
-fb_in owner (content.Mode m) = None
-fb_in owner (content.Blob bytes) = None
-fb_in owner content.Fence = None
-fb_in owner content.OutFence = None
+abbrev pub fb_of_content : ℕ → Content → Option Framebuffer
+fb_of_content owner (content.Framebuffer info of) = Some (framebuffer owner of info)
+fb_of_content owner (content.Buffer width height format pattern) = None
+fb_of_content owner (content.Mode m) = None
+fb_of_content owner (content.Blob bytes) = None
+fb_of_content owner content.Fence = None
+fb_of_content owner content.OutFence = None
 
 -- the open framebuffers among things
 abbrev pub open_fbs_of : List Thing → List (Slot Framebuffer)
-open_fbs_of things = open_values fb_in things
+open_fbs_of things = open_values fb_of_content things
 
 -- an open framebuffer of a store, as it was added
 abbrev pub open_slot : Slot Framebuffer → Option (Slot Framebuffer)

@@ -31,7 +31,7 @@ use Rattle.kms_calls.specs.States.{stored_state}
 use Rattle.kms_calls.proofs.Locking.{stays}
 use Rattle.kms_calls.proofs.Stored.{stored, on_device}
 use Rattle.kms_model.proofs.TouchedLemmas.{few_objects}
-use Rattle.kms_calls.specs.Locks.{MayBackOff, MayRelock, HasContext, present_state, relocked_as, relocked_answer, object_of}
+use Rattle.kms_calls.specs.Locks.{MayBackOff, MayRelock, HasContext, present_state, relocked_as, relocked_answer, object_or_zero}
 use Rattle.kms_stores.specs.Run.{Run, machine, gains}
 use Rattle.kms_stores.specs.Stands.{Stores, Stands}
 use Rattle.kms_stores.proofs.Beside.{stands_beside, same_relocked}
@@ -129,10 +129,10 @@ module _ (r v : Run) (st : Stores) (t : Ticket) (stands : Stands r st) (same : r
   relock_answered may id state answer id_is at told client context =
       let there : Some state ≡ Some (present_state r (relocks may).object) = sym at ∙ ap (λ (o : ObjId). stored_state st.present o.0) id_is ∙ off_there may in
       let state_is : state ≡ present_state r (relocks may).object = cc in
-      let asked : object_of (contended (doing_at (machine r) found)) ≡ (relocks may).object = ap (λ d. object_of (contended d)) (off may) in
+      let asked : object_or_zero (contended (doing_at (machine r) found)) ≡ (relocks may).object = ap (λ d. object_or_zero (contended d)) (off may) in
       subst (λ (w : Run). relocked_as state answer ≡ relocked_answer w client) same
       (subst (λ (c : ℕ). relocked_as state answer ≡ relocked_answer r c) (found_alone r v st t stands same found client has context)
-      (ap (λ s. relocked_as s answer) (state_is ∙ ap (present_state r) (sym asked)) ∙ ap (relocked_as (present_state r (object_of (contended (doing_at (machine r) found))))) told))
+      (ap (λ s. relocked_as s answer) (state_is ∙ ap (present_state r) (sym asked)) ∙ ap (relocked_as (present_state r (object_or_zero (contended (doing_at (machine r) found))))) told))
 
   pub relock_stays : (clients : Standing) (steps : List Step) (holder : Ticket) → steps ≡ r.steps → Clients.AreClientsOf (Clients.after_relock (machine r) found (again.Held holder)) clients
       → Stands (record { script = r.script; steps = steps }) (record st { clients = clients })

@@ -20,7 +20,7 @@ use Rattle.kms_clients.specs.Standing.{Standing, place_of}
 use Rattle.kms_signal.proofs.StepLemmas.{queues_follow_others_read, queues_follow_read}
 use Rattle.kms_signal.specs.InStep.{IsQueueOf}
 use Rattle.kms_signal.specs.Queues.{Queue, after_read, empty_queue}
-use Rattle.kms_stores.specs.Calls.{MayRead, answered, read_at, read_reply, unless_ended}
+use Rattle.kms_stores.specs.Calls.{MayRead, answered, read_reply_at, read_reply, unless_ended}
 use Rattle.kms_logs.specs.Logs.{Logged}
 use Rattle.kms_stores.specs.Run.{Run, machine}
 use Rattle.kms_stores.specs.Stands.{Stores, Stands, StandsAt, AreQueues, AreRecords, queue_of}
@@ -41,26 +41,26 @@ has_queue r v st client stands same now =
     omega (arith, low, high, size)
 
 -- what the client's queue tells is what the machine does while the history goes on
-pub reply_told : (r v : Run) (st : Stores) (client : ℕ) → Stands r st → r ≡ v → MayRead v client → st.stalled ≡ false → read_reply (queue_of st.queues client).unread (queue_of st.queues client).reserved ≡ read_at v client
+pub reply_told : (r v : Run) (st : Stores) (client : ℕ) → Stands r st → r ≡ v → MayRead v client → st.stalled ≡ false → read_reply (queue_of st.queues client).unread (queue_of st.queues client).reserved ≡ read_reply_at v client
 reply_told r v st client stands same now going =
     let there = idle_reader r v st client stands same now in
     let queue = stands.stores.queues.queue client there.low there.high in
     ap (λ events. read_reply events (queue_of st.queues client).reserved) queue.unread
     ∙ ap (λ n. read_reply (unread_at (machine r).events client) n) queue.reserved
     ∙ ap (λ b. unless_ended b (read_reply (unread_at (machine r).events client) (reserved_at (machine r).events client))) (sym (stands.stores.ended ∙ going))
-    ∙ ap (λ (w : Run). read_at w client) same
+    ∙ ap (λ (w : Run). read_reply_at w client) same
 
 -- nothing is answered after its end
-pub none_told : (r v : Run) (st : Stores) (client : ℕ) → Stands r st → r ≡ v → st.stalled ≡ true → None ≡ read_at v client
+pub none_told : (r v : Run) (st : Stores) (client : ℕ) → Stands r st → r ≡ v → st.stalled ≡ true → None ≡ read_reply_at v client
 none_told r v st client stands same ended =
     ap (λ b. unless_ended b (read_reply (unread_at (machine r).events client) (reserved_at (machine r).events client))) (sym (stands.stores.ended ∙ ended))
-    ∙ ap (λ (w : Run). read_at w client) same
+    ∙ ap (λ (w : Run). read_reply_at w client) same
 
 -- the queue that is found at the client's place
 pub found_queue : (r v : Run) (st : Stores) (client : ℕ) (q d : Queue) → Stands r st → r ≡ v → MayRead v client → q ≡ get_or st.queues (client - 1) d → q ≡ queue_of st.queues client
 found_queue r v st client q d stands same now is = is ∙ get_or_default st.queues (client - 1) d empty_queue (has_queue r v st client stands same now)
 
-pub told_reply : (r v : Run) (st : Stores) (client : ℕ) (q d : Queue) → Stands r st → r ≡ v → MayRead v client → q ≡ get_or st.queues (client - 1) d → st.stalled ≡ false → read_reply q.unread q.reserved ≡ read_at v client
+pub told_reply : (r v : Run) (st : Stores) (client : ℕ) (q d : Queue) → Stands r st → r ≡ v → MayRead v client → q ≡ get_or st.queues (client - 1) d → st.stalled ≡ false → read_reply q.unread q.reserved ≡ read_reply_at v client
 told_reply r v st client q d stands same now is going = ap (λ (x : Queue). read_reply x.unread x.reserved) (found_queue r v st client q d stands same now is) ∙ reply_told r v st client stands same now going
 
 -- a wait that is answered may be read

@@ -16,7 +16,7 @@ use Rattle.kms_clients.specs.Standing.{Standing, IsClient, place_of}
 use Rattle.kms_laws.proofs.SmallNumbers.{numbers_fit}
 use Rattle.kms_track.proofs.MachineAnswers.{cleaned_machine}
 use Rattle.kms_track.specs.Tracking.{cleaned_of}
-use Rattle.kms_stores.specs.Calls.{MayReturn, is_over, is_over_at}
+use Rattle.kms_stores.specs.Calls.{MayReturn, is_some_cleaned, is_over_at}
 use Rattle.kms_stores.specs.Run.{Run, machine}
 use Rattle.kms_stores.specs.Stands.{Stores, Stands}
 use Rattle.kms_stores.proofs.Beside.{stands_beside}
@@ -60,13 +60,13 @@ tells_over r v st client commit stands same now place =
     let does : doing_at (machine r) client ≡ doing.Returning commit = waits.doing_is ∙ sym waits.waits ∙ place in
     ap (λ b. not b && cleaned_of st.tracker commit) (sym stands.stores.ended)
     ∙ ap (λ b. not (machine r).stalled && b)
-    (cleaned_machine r.script.topology (machine r) st.tracker commit stands.stores.tracker ∙ ap (λ d. is_over (machine r) (returning_of d)) (sym does))
+    (cleaned_machine r.script.topology (machine r) st.tracker commit stands.stores.tracker ∙ ap (λ d. is_some_cleaned (machine r) (returning_of d)) (sym does))
     ∙ ap (λ (w : Run). is_over_at w client) same
 
 -- no commit is told to be over after the end of the history
 pub ended_over : (r v : Run) (st : Stores) (client : ℕ) → Stands r st → r ≡ v → st.stalled ≡ true → false ≡ is_over_at v client
 ended_over r v st client stands same ended =
-    ap (λ b. not b && is_over (machine r) (returning_of (doing_at (machine r) client))) (sym (stands.stores.ended ∙ ended))
+    ap (λ b. not b && is_some_cleaned (machine r) (returning_of (doing_at (machine r) client))) (sym (stands.stores.ended ∙ ended))
     ∙ ap (λ (w : Run). is_over_at w client) same
 
 pub returns : (r v : Run) (st : Stores) (client : ℕ) (clients : Standing) (before steps : List Step) → Stands r st → r ≡ v → MayReturn v client → is_over_at v client ≡ true → before ≡ r.steps → steps ≡ before ++ step.Return client ∷ []
@@ -77,5 +77,5 @@ returns r v st client clients before steps stands same now over is more after =
     let over_now : is_over_at r client ≡ true = ap (λ (w : Run). is_over_at w client) same ∙ over in
     goes_on r st (record st { clients = clients }) (step.Return client) refl refl steps (more ∙ ap (λ (xs : List Step). xs ++ step.Return client ∷ []) is) stands
     (let parts = and_parts (not (machine r).stalled) _ over_now in
-    and_from (not (machine r).stalled) _ parts.0 (rw asked.returning (ap (is_over (machine r)) (sym asked.returning) ∙ parts.1)))
+    and_from (not (machine r).stalled) _ parts.0 (rw asked.returning (ap (is_some_cleaned (machine r)) (sym asked.returning) ∙ parts.1)))
     (stands_beside r.script (machine r) (client_goes_on (machine r) client) st clients (record { device = refl; records = refl; events = refl; stalled = refl }) after stands.stores)

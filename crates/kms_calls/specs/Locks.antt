@@ -109,15 +109,15 @@ relocked_as s again.Got = locked.Got s
 relocked_as s (again.Held holder) = locked.Held holder
 
 -- the object that a client backed off for, by a number that stands for none
-abbrev pub object_of : Option ℕ → ObjId
-object_of None = record { 0 = 0 }
-object_of (Some object) = record { 0 = object }
+abbrev pub object_or_zero : Option ℕ → ObjId
+object_or_zero None = record { 0 = 0 }
+object_or_zero (Some object) = record { 0 = object }
 
 -- what a client is told that asks again for the object that it backed off for
 abbrev pub relocked_answer : Run → ℕ → Locked
 relocked_answer r client =
     let asked = contended (doing_at (machine r) client) in
-    relocked_as (present_state r (object_of asked)) (relock_answer (machine r) (holder_of_contended (machine r) asked))
+    relocked_as (present_state r (object_or_zero asked)) (relock_answer (machine r) (holder_of_contended (machine r) asked))
 
 -- the step that the answer tells: the object was taken
 abbrev pub relock_steps : ℕ → Locked → List Step

@@ -1,6 +1,6 @@
 //! Events that clients read, and commits that they wait for.
 ghost use Rattle.std.specs.Prelude.{◌≡◌, IfOk};
-ghost use Rattle.kms_stores.specs.Calls.{MayRead, MayReturn, is_over_at, read_at, read_step, return_step};
+ghost use Rattle.kms_stores.specs.Calls.{MayRead, MayReturn, is_over_at, read_reply_at, read_step, return_step};
 ghost use Rattle.kms_stores.specs.Run.{gains, if_ok};
 
 use kms_model::{Doing, NoMemory, Reply, Step};
@@ -11,7 +11,7 @@ use kms_stores::{Stores, answer, make_room, make_step_room, next_reply};
 /// was ended: then nothing changes. Want of memory leaves all as it was. (Kernel: `drm_file.c`, `drm_read`.)
 pub fn read(stores: &mut Stores, client: u32) -> Result<Option<Reply>, NoMemory>
     requires { MayRead stores.old client }
-    ensures reply { IfOk result (λ reply. reply ≡ read_at stores.old client) }
+    ensures reply { IfOk result (λ reply. reply ≡ read_reply_at stores.old client) }
     ensures history { stores.new ≡ gains stores.old (if_ok result (read_step client)) }
 {
     if stores.stalled {

@@ -20,7 +20,7 @@ use Rattle.kms_model.proofs.Items.{IsIn, ids-has}
 use Rattle.kms_model.proofs.KindsOfIds.{index_of-object, kind_of-object}
 use Rattle.kms_model.proofs.TouchedLemmas.{few_objects, few_of}
 use Rattle.kms_state.specs.Places.{is_duplicated}
-use Rattle.kms_track.specs.Places.{mask_has, object_at}
+use Rattle.kms_track.specs.Places.{mask_has, object_at_place}
 use Rattle.kms_track.proofs.There.{in_left, in_right}
 use Rattle.kms_check.specs.Lacking.{first_lacking}
 use Rattle.kms_check.proofs.Readiness.{is_duplicated-object, is_kind_duplicated}
@@ -68,7 +68,7 @@ asked_object t w r d k i device routed touched absent =
     }
 
 -- the object at a place of a set that is lacking
-asked_at : (t : Topology) (w : World) (r : Request) (d : Duplicates) (m : Mask) (p : ℕ) → IsDevice t → IsLacking t w r d m → p < 28 → mask_has m p ≡ true → IsAsked t w r d (object_at p)
+asked_at : (t : Topology) (w : World) (r : Request) (d : Duplicates) (m : Mask) (p : ℕ) → IsDevice t → IsLacking t w r d m → p < 28 → mask_has m p ≡ true → IsAsked t w r d (object_at_place p)
 asked_at t w r d m p device lacks place has =
     elim (cases_lt p 4) [
       | inl crtc ↦ (

@@ -30,7 +30,7 @@ use Rattle.kms_laws.proofs.Basics.{in_either}
 use Rattle.kms_state.specs.Places.{is_duplicated}
 use Rattle.kms_state.proofs.Slots.{same_duplicated}
 use Rattle.kms_track.specs.InStep.{is_of_device}
-use Rattle.kms_track.specs.Places.{mask_has, object_at}
+use Rattle.kms_track.specs.Places.{mask_has, object_at_place}
 use Rattle.kms_track.specs.StepLaws.{HasStates}
 use Rattle.kms_track.proofs.CheckedLemmas.{in_touched}
 use Rattle.kms_track.proofs.There.{on_place, place_lockable}
@@ -80,7 +80,7 @@ all-duplicated t w r d device room none object is touched =
 pub record HasAll (d : Duplicates) (checked : Checked) : Type 0 where
   pub states : HasStates checked
   pub crtcs : (i : ℕ) → i < 4 → has_bit checked.touched.crtcs i ≡ true → is_some (slice_index_or checked.states.crtcs i None) ≡ true
-  pub given : (p : ℕ) → p < 28 → mask_has checked.touched p ≡ true → is_duplicated d (object_at p) ≡ true
+  pub given : (p : ℕ) → p < 28 → mask_has checked.touched p ≡ true → is_duplicated d (object_at_place p) ≡ true
 
 some_there : {S : Type 0} (states : List (Option S)) (i : ℕ) → is_some (option_flatten (slice_get states i)) ≡ true → is_some (slice_index_or states i None) ≡ true
 some_there {S} states i there = go (slice_get states i) refl there
@@ -91,11 +91,11 @@ some_there {S} states i there = go (slice_get states i) refl there
     go (Some (Some s)) is e = ap is_some (get_or_from_slice_get states i (Some s) None is)
 
 module _ (t : Topology) (r : Request) (used : List (ℕ × Look)) (d : Duplicates) (checked : Checked) (resolved : Resolved) (w : World) (accepted : AcceptedAs t r used d checked resolved) (is : IsOfRequest t w r resolved d) where
-  given_at : (p : ℕ) → p < 28 → mask_has checked.touched p ≡ true → is_duplicated d (object_at p) ≡ true
+  given_at : (p : ℕ) → p < 28 → mask_has checked.touched p ≡ true → is_duplicated d (object_at_place p) ≡ true
   given_at p place has =
-      let here : (is_of_device t (object_at p) && touches t w r (object_at p)) ≡ true = in_touched t w r p place ∙ ap (λ (m : Mask). mask_has m p) (sym (accepted.gives w is).touched) ∙ has in
-      let both = and_parts (is_of_device t (object_at p)) (touches t w r (object_at p)) here in
-      accepted.covers w is (object_at p) (place_lockable t p place (sym (on_place t p place) ∙ both.0)) both.1
+      let here : (is_of_device t (object_at_place p) && touches t w r (object_at_place p)) ≡ true = in_touched t w r p place ∙ ap (λ (m : Mask). mask_has m p) (sym (accepted.gives w is).touched) ∙ has in
+      let both = and_parts (is_of_device t (object_at_place p)) (touches t w r (object_at_place p)) here in
+      accepted.covers w is (object_at_place p) (place_lockable t p place (sym (on_place t p place) ∙ both.0)) both.1
 
   -- a state that was given is among those that were checked
   kept_at : (k : Kind) (i : ℕ) → i < 16 → is_duplicated d (object_id k i) ≡ true → is_kind_duplicated k checked.states i ≡ true

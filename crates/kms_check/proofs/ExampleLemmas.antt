@@ -17,7 +17,7 @@ use Rattle.kms_model.specs.Device.Sound.{IsSound}
 use Rattle.kms_model.specs.Request.Deciding.{AreFresh, AreFreshIn}
 use Rattle.kms_samples.specs.Samples.{double, in_profile_2}
 use Rattle.kms_request.specs.Whole.{ArePresent}
-use Rattle.kms_check.specs.Example.{alike, conn, crtc, if_given, lit_world, plane, states, things, two, world_of}
+use Rattle.kms_check.specs.Example.{some_alike, conn, crtc, if_given, lit_world, plane, states, things, two, world_of}
 
 -- what the labels of some things name, as a list
 abbrev pub seen : Thing → ℕ × Look
@@ -67,7 +67,7 @@ given_fresh true n state (suc zero) both at = let same : both ≡ record { old =
 given_fresh true n state (suc (suc index)) both at = absurd (no_state n index both at)
 given_fresh false n state index both at = absurd (no_state (2 + n) index both at)
 
-pub given_is : {S : Type 0} (given : Bool) (n : ℕ) (state : ℕ → S) (first second : Option (Both S)) → not given ≡ false → first ≡ alike (state 0) → second ≡ alike (state 1) → (first ∷ second ∷ replicate n None) ≡ if_given given n state
+pub given_is : {S : Type 0} (given : Bool) (n : ℕ) (state : ℕ → S) (first second : Option (Both S)) → not given ≡ false → first ≡ some_alike (state 0) → second ≡ some_alike (state 1) → (first ∷ second ∷ replicate n None) ≡ if_given given n state
 given_is true n state first second there one other = rw (one, other) refl
 given_is false n state first second there one other = absurd cc
 

@@ -23,7 +23,7 @@ use Rattle.kms_model.specs.Request.Touched.{is_affected, set_where, sets, touche
 use Rattle.kms_model.proofs.Items.{or_else-none}
 use Rattle.kms_model.proofs.MaskLemmas.{has_bit-below, has_bit-mask_below, mask_from}
 use Rattle.kms_model.proofs.UnionLemmas.{has_bit-zero}
-use Rattle.kms_track.specs.Places.{first_below, mask_has, object_at}
+use Rattle.kms_track.specs.Places.{first_below, mask_has, object_at_place}
 use Rattle.kms_check.specs.Lacking.{first_lacking, is_empty, lacking, missing_in, not_duplicated}
 use Rattle.kms_check.proofs.Readiness.{HasRoom}
 use Rattle.kms_check.specs.Moves.{least_of, member_at}
@@ -52,23 +52,23 @@ pub record HasLeast (m : Mask) (id : ℕ) : Type 0 where
   pub place : ℕ
   pub within : place < 28
   pub member : mask_has m place ≡ true
-  pub same : id ≡ object_at place
+  pub same : id ≡ object_at_place place
 
 pub least-member : (m : Mask) (id : ℕ) → least_of m ≡ Some id → HasLeast m id
 least-member m id least =
     let at : IsPlace (member_at m) 28 id = place_of (member_at m) 28 id least in
     go at (mask_has m at.place) refl at.gives
   where
-    go : (at : IsPlace (member_at m) 28 id) (b : Bool) → mask_has m at.place ≡ b → (if b then Some (object_at at.place) else None) ≡ Some id → HasLeast m id
-    go at true has is = record { place = at.place; within = at.within; member = has; same = sym (same_Some (object_at at.place) id is) }
+    go : (at : IsPlace (member_at m) 28 id) (b : Bool) → mask_has m at.place ≡ b → (if b then Some (object_at_place at.place) else None) ≡ Some id → HasLeast m id
+    go at true has is = record { place = at.place; within = at.within; member = has; same = sym (same_Some (object_at_place at.place) id is) }
     go at false has is = absurd cc
 
 -- the object at a place, of a set that has it, and of one that does not
-pub member-here : (m : Mask) (p : ℕ) → mask_has m p ≡ true → member_at m p ≡ Some (object_at p)
-member-here m p has = ap (λ b. if b then Some (object_at p) else None) has
+pub member-here : (m : Mask) (p : ℕ) → mask_has m p ≡ true → member_at m p ≡ Some (object_at_place p)
+member-here m p has = ap (λ b. if b then Some (object_at_place p) else None) has
 
 pub member-not : (m : Mask) (p : ℕ) → mask_has m p ≡ false → member_at m p ≡ None
-member-not m p has = ap (λ b. if b then Some (object_at p) else None) has
+member-not m p has = ap (λ b. if b then Some (object_at_place p) else None) has
 
 -- The objects that are lacking of a group
 
@@ -163,7 +163,7 @@ none_at f (suc n) p none within =
 not_member : (m : Mask) (p : ℕ) → least_of m ≡ None → p < 28 → mask_has m p ≡ false
 not_member m p none place = go (mask_has m p) (none_at (member_at m) 28 p none place)
   where
-    go : (b : Bool) → (if b then Some (object_at p) else None) ≡ None → b ≡ false
+    go : (b : Bool) → (if b then Some (object_at_place p) else None) ≡ None → b ≡ false
     go true e = absurd cc
     go false e = refl
 

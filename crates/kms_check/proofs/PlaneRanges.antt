@@ -25,7 +25,7 @@ use Rattle.kms_model.specs.Device.Sound.{IsBetween, IsPlaneInRange, IsSound}
 use Rattle.kms_model.specs.Device.States.{natural}
 use Rattle.kms_model.proofs.LateLemmas.{flatten-some}
 use Rattle.kms_model.proofs.StateLemmas.{natural-held, sound-plane_in_range}
-use Rattle.kms_state.specs.Changes.{Sets, after_crtc, after_number, after_set, after_value, changed, plane_with}
+use Rattle.kms_state.specs.Changes.{Sets, after_crtc, after_number, after_set, after_value, changed, plane_after_set}
 use Rattle.kms_state.proofs.Slots.{AreNew-changed}
 use Rattle.kms_model.specs.Request.Deciding.{AreFresh}
 use Rattle.kms_check.specs.Applying.{HasPlanesInRange, IsApplicable}
@@ -53,7 +53,7 @@ one_set_natural prop p n old most may here before = elim (cases_Bool (prop == p)
 ]
 
 -- a plane's state stays in range with a number that its property may have
-number-in_range : (prop : ℕ) (n : ℤ) (s : PlaneState) → may_set Plane prop (to.Num n) ≡ true → IsPlaneInRange s → IsPlaneInRange (plane_with prop n s)
+number-in_range : (prop : ℕ) (n : ℤ) (s : PlaneState) → may_set Plane prop (to.Num n) ≡ true → IsPlaneInRange s → IsPlaneInRange (plane_after_set prop n s)
 number-in_range prop n s may in_range = record {
   x = one_set (IsBetween (negsuc 2147483647) (pos 2147483647)) prop CRTC_X n s.dst.x may (number_between (negsuc 2147483647) (pos 2147483647) n) in_range.x;
   y = one_set (IsBetween (negsuc 2147483647) (pos 2147483647)) prop CRTC_Y n s.dst.y may (number_between (negsuc 2147483647) (pos 2147483647) n) in_range.y;
@@ -134,7 +134,7 @@ same_numbers s u dst src alpha blend zpos held = record {
 
 number-after : (m : ℕ) (k : Kind) (d : Duplicates) (id prop : ℕ) (n : ℤ) → may_set k prop (to.Num n) ≡ true → HasPlanesInRange m d → HasPlanesInRange m (after_number k d id prop n)
 number-after m Crtc d id prop n may before = before
-number-after m Plane d id prop n may before = changed-in_range m d id (plane_with prop n) (λ s held. number-in_range prop n s may held) before
+number-after m Plane d id prop n may before = changed-in_range m d id (plane_after_set prop n) (λ s held. number-in_range prop n s may held) before
 number-after m Conn d id prop n may before = before
 number-after m Enc d id prop n may before = before
 

@@ -51,12 +51,12 @@ world_of false = dark_world
 
 -- The states of all objects of a kind, old and new alike, and of none
 
-abbrev pub alike : {S : Type 0} → S → Option (Both S)
-alike state = Some (record { old = state; new = state })
+abbrev pub some_alike : {S : Type 0} → S → Option (Both S)
+some_alike state = Some (record { old = state; new = state })
 
 -- two objects, in room for n more
 abbrev pub two : {S : Type 0} → ℕ → (ℕ → S) → List (Option (Both S))
-two n state = alike (state 0) ∷ alike (state 1) ∷ replicate n None
+two n state = some_alike (state 0) ∷ some_alike (state 1) ∷ replicate n None
 
 abbrev pub if_given : {S : Type 0} → Bool → ℕ → (ℕ → S) → List (Option (Both S))
 if_given given n state = if given then two n state else replicate (2 + n) None

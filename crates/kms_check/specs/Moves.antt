@@ -22,13 +22,13 @@ use Rattle.kms_model.specs.Request.Verdict.{late_in}
 use Rattle.kms_model.proofs.Items.{IsIn}
 use Rattle.kms_check.specs.Lacking.{first_lacking}
 use Rattle.kms_state.specs.Places.{is_duplicated, old_states}
-use Rattle.kms_track.specs.Places.{first_below, mask_has, object_at}
+use Rattle.kms_track.specs.Places.{first_below, mask_has, object_at_place}
 use Rattle.kms_check.specs.declared.moving.Move.{Move}
 use Rattle.kms_check.specs.declared.moving.Move.TheVariants.{Refuse, Lock, Accept}
 
 -- the id of the object at a place, if a set has it
 abbrev pub member_at : Mask → ℕ → Option ℕ
-member_at m p = if mask_has m p then Some (object_at p) else None
+member_at m p = if mask_has m p then Some (object_at_place p) else None
 
 -- the least id of the objects of a set
 abbrev pub least_of : Mask → Option ℕ
@@ -39,8 +39,8 @@ abbrev pub least_lacking : Topology → World → Request → Duplicates → Opt
 least_lacking t w r d = option_and_then least_of (first_lacking t w r d)
 
 -- In each world that duplicates and what a request asks for are of, each object of the device that it touches is duplicated.
-abbrev pub Covers : Topology → Request → Resolved → Duplicates → Type 0
-Covers t r resolved d =
+abbrev pub CoversTouched : Topology → Request → Resolved → Duplicates → Type 0
+CoversTouched t r resolved d =
     (w : World) → IsOfRequest t w r resolved d
     → (object : ℕ) → IsIn object (lockable t) → touches t w r object ≡ true → is_duplicated d object ≡ true
 
@@ -57,7 +57,7 @@ pub record RefusedLate (t : Topology) (r : Request) (used : List (ℕ × Look)) 
   pub resolved : Resolved
   pub asks : IsResolved t (look_in used) r resolved
   pub gives : GivesRefusal t r resolved d why
-  pub covers : Covers t r resolved d
+  pub covers : CoversTouched t r resolved d
 
 -- a request is refused by itself, or by the state after it
 abbrev pub RefusedBy : Topology → Request → List (ℕ × Look) → Duplicates → Refusal → Type 0
@@ -68,7 +68,7 @@ pub record AcceptedAs (t : Topology) (r : Request) (used : List (ℕ × Look)) (
   pub asks : IsResolved t (look_in used) r resolved
   pub gives : GivesChecked t r resolved d checked
   pub passes : (w : World) → IsOfRequest t w r resolved d → late_in t w r ≡ None
-  pub covers : Covers t r resolved d
+  pub covers : CoversTouched t r resolved d
   pub kept : old_states checked.states ≡ old_states d
 
 -- a move is the next one

@@ -22,7 +22,7 @@ fn bit_if(wanted: bool, index: usize) -> u32
 }
 
 /// Whether an object of a set is not duplicated.
-fn is_missing<S: Copy>(mask: u32, states: &[Option<Both<S>>], index: usize) -> bool
+fn is_not_duplicated<S: Copy>(mask: u32, states: &[Option<Both<S>>], index: usize) -> bool
     requires { index < 32 }
     ensures { result ≡ (has_bit mask index && is_none (duplicate_at states.now index)) }
 {
@@ -36,7 +36,7 @@ fn missing_in<S: Copy>(mask: u32, states: &[Option<Both<S>>]) -> u32
 {
     let mut missing = 0;
     for index in 0..states.len() {
-        missing |= bit_if(is_missing(mask, states, index), index);
+        missing |= bit_if(is_not_duplicated(mask, states, index), index);
     }
     missing
 }

@@ -3,7 +3,7 @@ ghost use Rattle.std.specs.Prelude.{◌≡◌, option_map};
 ghost use Rattle.kms_check.specs.Moves.{least_of};
 
 use kms_model::{Mask, ObjId};
-use kms_track::{OBJECTS, has_object, object_at};
+use kms_track::{OBJECTS, has_object, object_at_place};
 
 /// The object of a set with the least id, if it has any.
 pub(crate) fn least_of(objects: &Mask) -> Option<ObjId>
@@ -11,7 +11,7 @@ pub(crate) fn least_of(objects: &Mask) -> Option<ObjId>
 {
     for place in 0..OBJECTS {
         if has_object(objects, place) {
-            return Some(object_at(place));
+            return Some(object_at_place(place));
         }
     }
     None

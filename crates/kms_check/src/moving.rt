@@ -14,7 +14,7 @@ use kms_model::{
     Checked, Duplicates, Lookups, NoMemory, ObjId, Refusal, Request, Resolved, Topology,
 };
 use kms_request::{RequestError, resolve};
-use kms_track::object_at;
+use kms_track::object_at_place;
 use std::alloc::Global;
 
 /// What a client that takes locks for a request does next.
@@ -72,7 +72,7 @@ fn move_of_resolved(topology: &Topology, states: Duplicates, resolved: Resolved)
             Some(id) => Move::Lock(id),
             // In each world that the request and the states are of the set has an object; where there is no such world,
             // any object will do.
-            None => Move::Lock(object_at(0)),
+            None => Move::Lock(object_at_place(0)),
         },
     }
 }

@@ -59,8 +59,8 @@ pub(crate) fn found(alloc: Global) -> Result<Lookups, NoMemory>
 }
 
 /// A state, old and new alike.
-fn alike<S: Copy>(state: S) -> Option<Both<S>>
-    ensures { result ≡ example.alike state }
+fn some_alike<S: Copy>(state: S) -> Option<Both<S>>
+    ensures { result ≡ example.some_alike state }
 {
     Some(Both {
         old: state,
@@ -143,8 +143,8 @@ fn crtcs(given: Given) -> [Option<Both<CrtcState>>; 4]
         return [None; 4];
     }
     [
-        alike(first_crtc(given.lit)),
-        alike(CrtcState::OFF),
+        some_alike(first_crtc(given.lit)),
+        some_alike(CrtcState::OFF),
         None,
         None,
     ]
@@ -157,8 +157,8 @@ fn planes(given: Given) -> [Option<Both<PlaneState>>; 16]
     if !given.planes {
         return planes;
     }
-    planes[0] = alike(first_plane(given.lit));
-    planes[1] = alike(PlaneState {
+    planes[0] = some_alike(first_plane(given.lit));
+    planes[1] = some_alike(PlaneState {
         zpos: 1,
         ..PlaneState::OFF
     });
@@ -172,8 +172,8 @@ fn conns(given: Given) -> [Option<Both<ConnState>>; 8]
     if !given.conns {
         return conns;
     }
-    conns[0] = alike(first_conn(given.lit));
-    conns[1] = alike(ConnState { crtc: 0 });
+    conns[0] = some_alike(first_conn(given.lit));
+    conns[1] = some_alike(ConnState { crtc: 0 });
     conns
 }
 

@@ -18,7 +18,7 @@ use Rattle.kms_wwlock.specs.Table.{Table, holder_of}
 use Rattle.kms_wwlock.specs.declared.table.Lock.{Lock}
 use Rattle.kms_wwlock.specs.declared.table.Lock.TheVariants as lock
 use Rattle.kms_wwlock.specs.declared.table.Relock.{Relock}
-use Rattle.kms_wwlock.specs.Calls.{AreFreed, IsTakenBy, lock_answer as table_answer, after_lock as table_after, relock_from}
+use Rattle.kms_wwlock.specs.Calls.{AreUnlocked, IsTakenBy, lock_answer as table_answer, after_lock as table_after, relock_from}
 use Rattle.kms_clients.specs.Standing.{Standing, IsClient, first_place, no_place, no_clients, place_in, doing_in, ticket_in, put_doing, AreTied}
 use Rattle.kms_clients.specs.InStep.{AreClientsOf, IsHeldAs, ticket_at, lock_answer, relock_answer, holder_of_contended, after_lock, after_backoff}
 use Rattle.kms_clients.proofs.Places.{HasContext, Moves, moves, each, SameTickets, same_tickets}
@@ -53,7 +53,7 @@ held_taken old new before after locks client t id is same own taken held = λ ot
 -- a client's locks are dropped
 pub held_dropped : (old new : List Place) (before after : Table) (locks : List (ℕ × Option ℕ)) (client : ℕ) (t : Ticket) → AreTied old before.contexts → IsClient client → ticket_in (doing_in old client) ≡ Some t
     → ((a : ℕ) → IsClient a → a ≢ client → ticket_in (doing_in new a) ≡ ticket_in (doing_in old a))
-    → AreFreed before after t → AreHeld old before locks → AreHeld new after (dropped client locks)
+    → AreUnlocked before after t → AreHeld old before locks → AreHeld new after (dropped client locks)
 held_dropped old new before after locks client t tied is own there freed held = λ id lockable.
     rw (freed id, read_dropped client locks id.0)
     (held_beside old new client _ (free_of client (read None locks id.0)) there (not_own (read None locks id.0))
@@ -123,7 +123,7 @@ module _ (m : Machine) (v : Standing) (stand : AreClientsOf m.contexts v) (clien
         (held_taken v.places new v.table table m.contexts.locks client t id found.client_is (same_tickets v.places new client place at (keeps ∙ sym found.own)) (ap (λ (p : Place). ticket_in p.doing) at.here ∙ keeps) taken stand.holders)
 
     -- its place is new, and its locks are dropped
-    pub drops : (change : Place → Place) → new ≡ set v.places (client - 1) (change (place_in v.places client)) → AreFreed v.table table t
+    pub drops : (change : Place → Place) → new ≡ set v.places (client - 1) (change (place_in v.places client)) → AreUnlocked v.table table t
         → AreClientsOf (record { places = (client, change (place_at m client)) ∷ m.contexts.places; locks = dropped client m.contexts.locks; tickets = m.contexts.tickets }) (record { places = new; table = table })
     drops change is freed =
         let at = moved_in m.contexts v stand found.tied.size client found.client_is new change is in
@@ -156,7 +156,7 @@ module _ (m : Machine) (v : Standing) (stand : AreClientsOf m.contexts v) (clien
 
   -- it backs off
   pub backs_off : (object : ObjId) (new : List Place) (table : Table) → now ≡ doing.MustBackOff t object → table.drawn ≡ v.table.drawn → new ≡ put_doing v.places client (doing.BackedOff t object)
-      → AreFreed v.table table t → AreClientsOf (after_backoff m client) (record { places = new; table = table })
+      → AreUnlocked v.table table t → AreClientsOf (after_backoff m client) (record { places = new; table = table })
   backs_off object new table is drawn put freed =
       subst (λ (d : Doing). AreClientsOf (record { places = (client, record { command = (place_at m client).command; doing = backed_off d }) ∷ m.contexts.places; locks = dropped client m.contexts.locks; tickets = m.contexts.tickets }) (record { places = new; table = table }))
       (sym (found.does ∙ is) ∙ at_places client found.client_is) (drops new table drawn (λ (p : Place). record p { doing = doing.BackedOff t object }) put freed)

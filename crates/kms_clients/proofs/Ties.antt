@@ -8,16 +8,16 @@ use Rattle.kms_model.specs.declared.runs.Doing.{Doing}
 use Rattle.kms_model.specs.declared.runs.Doing.TheVariants as doing
 use Rattle.kms_model.specs.declared.runs.Place.{Place}
 use Rattle.kms_wwlock.specs.declared.contexts.Context.{Context}
-use Rattle.kms_wwlock.specs.declared.contexts.Doing.{Doing as ContextDoing}
-use Rattle.kms_wwlock.specs.declared.contexts.Doing.TheVariants as context
-use Rattle.kms_wwlock.specs.Table.{Table, doing_in as doing_in_context}
+use Rattle.kms_wwlock.specs.declared.contexts.ContextDoing.{ContextDoing}
+use Rattle.kms_wwlock.specs.declared.contexts.ContextDoing.TheVariants as context
+use Rattle.kms_wwlock.specs.Table.{Table, doing_in_contexts}
 use Rattle.kms_wwlock.specs.Calls.{after_drop_all, with_doing}
 use Rattle.kms_clients.specs.Standing.{Standing, IsClient, doing_in, ticket_in, IsBegun, NamesLockable, IsKnown, AreTied, first_place, no_place}
 use Rattle.kms_clients.proofs.Places.{HasContext, Moves, moves, each, SameTickets, same_tickets}
 
 -- each context goes on, but that of one ticket
 abbrev pub OthersGoOn : List Context → List Context → Ticket → Type 0
-OthersGoOn old new t = (other : Ticket) → other.0 ≢ t.0 → doing_in_context new other ≡ doing_in_context old other
+OthersGoOn old new t = (other : Ticket) → other.0 ≢ t.0 → doing_in_contexts new other ≡ doing_in_contexts old other
 
 -- a client whose ticket is another one goes on as it did
 pub begun_still : (old new : List Context) (t : Ticket) (d : Doing) → OthersGoOn old new t
@@ -44,7 +44,7 @@ names_none (doing.BackedOff u object) none = absurd cc
 names_none (doing.Returning k) none = cc
 
 -- the context of a client's ticket has begun
-pub has_begun : (contexts : List Context) (d : Doing) (t : Ticket) → ticket_in d ≡ Some t → IsBegun contexts d → doing_in_context contexts t ≢ None
+pub has_begun : (contexts : List Context) (d : Doing) (t : Ticket) → ticket_in d ≡ Some t → IsBegun contexts d → doing_in_contexts contexts t ≢ None
 has_begun contexts doing.Idle t e is = λ none. cc
 has_begun contexts (doing.Taking u) t e is = λ none. cc
 has_begun contexts (doing.MustBackOff u object) t e is = λ none. cc
@@ -139,13 +139,13 @@ module _ (v : Standing) (new : List Place) (table : Table) (client : ℕ) (place
 -- A context begins
 
 module _ (old new : List Place) (contexts : List Context) (tied : AreTied old contexts) (client : ℕ) (client_is : IsClient client) (place : Place)
-    (moves : Moves old new client place) (t : Ticket) (fresh : doing_in_context contexts t ≡ None) where
+    (moves : Moves old new client place) (t : Ticket) (fresh : doing_in_contexts contexts t ≡ None) where
   -- the ticket is no other client's
   unlike : (a : ℕ) → IsClient a → (u : Ticket) → ticket_in (doing_in old a) ≡ Some u → u.0 ≢ t.0
   unlike a is u e = λ same. has_begun contexts (doing_in old a) t (rw (← same_ticket u t same) e) (tied.begun a is) fresh
 
   pub tied_begun : (d : ContextDoing) → ticket_in (doing_in old client) ≡ None → place.doing ≡ doing.Taking t → OthersGoOn contexts (contexts ++ record { ticket = t; client = client; doing = d } ∷ []) t
-      → doing_in_context (contexts ++ record { ticket = t; client = client; doing = d } ∷ []) t ≡ Some context.Taking
+      → doing_in_contexts (contexts ++ record { ticket = t; client = client; doing = d } ∷ []) t ≡ Some context.Taking
       → AreTied new (contexts ++ record { ticket = t; client = client; doing = d } ∷ [])
   tied_begun d idle taking on now = record {
     size = moves.size;

@@ -6,9 +6,9 @@ use Rattle.kms_model.specs.declared.runs.Doing.{Doing}
 use Rattle.kms_model.specs.declared.runs.Doing.TheVariants as doing
 use Rattle.kms_model.specs.declared.runs.Place.{Place}
 use Rattle.kms_wwlock.specs.declared.contexts.Context.{Context}
-use Rattle.kms_wwlock.specs.declared.contexts.Doing.TheVariants as context
+use Rattle.kms_wwlock.specs.declared.contexts.ContextDoing.TheVariants as context
 use Rattle.kms_wwlock.specs.Objects.{IsLockable}
-use Rattle.kms_wwlock.specs.Table.{Table, doing_in as doing_in_context}
+use Rattle.kms_wwlock.specs.Table.{Table, doing_in_contexts}
 use Rattle.kms_wwlock.specs.Waits.{empty_table}
 
 -- the places of 16 clients, in order of their numbers, and the table of locks
@@ -66,9 +66,9 @@ pub record HasTicket (v : Standing) (t : Ticket) (client : ℕ) : Type 0 where
 -- a client's context does what the client does
 abbrev pub IsBegun : List Context → Doing → Type 0
 IsBegun contexts doing.Idle = Unit {0}
-IsBegun contexts (doing.Taking t) = doing_in_context contexts t ≡ Some context.Taking
-IsBegun contexts (doing.MustBackOff t object) = doing_in_context contexts t ≡ Some (context.MustBackOff object)
-IsBegun contexts (doing.BackedOff t object) = doing_in_context contexts t ≡ Some (context.BackedOff object)
+IsBegun contexts (doing.Taking t) = doing_in_contexts contexts t ≡ Some context.Taking
+IsBegun contexts (doing.MustBackOff t object) = doing_in_contexts contexts t ≡ Some (context.MustBackOff object)
+IsBegun contexts (doing.BackedOff t object) = doing_in_contexts contexts t ≡ Some (context.BackedOff object)
 IsBegun contexts (doing.Returning k) = Unit {0}
 
 -- what a client backs off for has a lock

@@ -8,7 +8,7 @@ use Rattle.kms_model.specs.Device.Sound.{IsBetween}
 use Rattle.kms_model.specs.Device.States.{natural}
 use Rattle.kms_model.proofs.SourcePlaces.{IsAt, IsBehind, behind, natural_pos, source-within}
 use Rattle.kms_compose.specs.declared.sources.Reach.{Reach}
-use Rattle.kms_compose.specs.Sources.{IsSeen, IsSeenAt, is_unscaled, place_at}
+use Rattle.kms_compose.specs.Sources.{IsSeen, IsSeenAt, is_unscaled, source_place}
 
 -- a number between 0 and another one
 pub natural_most : (z : ℤ) (most : ℕ) → IsBetween (pos 0) (pos most) z → natural z ≤ most
@@ -32,7 +32,7 @@ pixel_low r at s = omega (arith, ints, s.from)
 pub pixel_below : (r : Reach) (at : ℕ) → IsSeenAt r at → natural (pos at -ℤ r.dst) < natural r.wide
 pixel_below r at s = (behind r.dst r.wide at (is_at r at s)).within
 
-pub place_below : (r : Reach) (at side : ℕ) → IsSeenAt r at → int_le (r.src +ℤ r.long) (pos (65536 * side)) ≡ true → place_at r at < side
+pub place_below : (r : Reach) (at side : ℕ) → IsSeenAt r at → int_le (r.src +ℤ r.long) (pos (65536 * side)) ≡ true → source_place r at < side
 place_below r at side s fits = source-within r.src r.long r.dst r.wide side at s.reach.src s.reach.long.low s.reach.little fits (is_at r at s)
 
 le_true : (a b : ℤ) → a ≤ℤ b → int_le a b ≡ true
@@ -52,7 +52,7 @@ module _ (r : Reach) (at src long wide pixel : ℕ) (s : src ≡ natural r.src) 
   pub room : IsSeenAt r at → src + (2 * pixel + 1) * long / (2 * wide) < 281474976645120
   room seen = rw (s, l, w, p) (sum_fits r at seen)
 
-  pub place_is : (result : ℕ) → result ≡ (src + (2 * pixel + 1) * long / (2 * wide)) / 65536 → result ≡ place_at r at
+  pub place_is : (result : ℕ) → result ≡ (src + (2 * pixel + 1) * long / (2 * wide)) / 65536 → result ≡ source_place r at
   place_is result is = is ∙ rw (s, l, w, p) refl
 
 pub product_fits : (a b : ℕ) → a ≤ 4294967295 → b ≤ 4294967295 → a * b ≤ 18446744065119617025
@@ -70,7 +70,7 @@ unscaled_next n i k w long some same =
     ap (λ q. (n + q) / 65536) quotient ∙ place_more n ((2 * i + 1) * long / (2 * w)) k
 
 -- one pixel behind the other
-pub unscaled_place : (r : Reach) (start size k : ℕ) → IsSeen r start size → is_unscaled r ≡ true → k < size → place_at r start + k ≡ place_at r (start + k)
+pub unscaled_place : (r : Reach) (start size k : ℕ) → IsSeen r start size → is_unscaled r ≡ true → k < size → source_place r start + k ≡ source_place r (start + k)
 unscaled_place r start size k s same within =
     let b : IsBehind r.dst r.wide start = behind r.dst r.wide start (is_at r start (seen_at r start size start s (omega arith) (omega (arith, within)))) in
     let i : ℕ = natural (pos start -ℤ r.dst) in

@@ -10,7 +10,7 @@ use Rattle.kms_model.specs.Frames.FrameBytes.{black, composed, frame_of, is_cove
 use Rattle.kms_model.specs.Frames.Images.{FitsMode}
 use Rattle.kms_model.specs.Frames.Pictures.{clip, mode_area}
 use Rattle.kms_compose.specs.declared.images.FbImage.{FbImage}
-use Rattle.kms_compose.specs.declared.parts.Part.{Part}
+use Rattle.kms_compose.specs.declared.parts.VisiblePart.{VisiblePart}
 use Rattle.kms_compose.specs.declared.areas.Area.{Area}
 use Rattle.kms_compose.specs.Areas.{canvas, drawn, is_in}
 use Rattle.kms_compose.specs.Changes.{DifferIn, IsSameSize, covered_by}
@@ -74,13 +74,13 @@ frame-length words old new bytes size was =
     ap length (frame-size words old new bytes size was) ∙ canvas-length new.mode.hdisplay new.mode.vdisplay (colour_shown words old)
 
 -- where each pixel was drawn
-pub drawn_each : (words : ℕ → ℕ → ℕ → Option ℕ) (new : Shown) (parts : List Part) (made : List ℕ) → ((x y : ℕ) → parts_over x y black parts ≡ composed words x y black new.layers) →
+pub drawn_each : (words : ℕ → ℕ → ℕ → Option ℕ) (new : Shown) (parts : List VisiblePart) (made : List ℕ) → ((x y : ℕ) → parts_over x y black parts ≡ composed words x y black new.layers) →
     made ≡ canvas new.mode.hdisplay new.mode.vdisplay (λ x y. through new.gamma (parts_over x y black parts)) → made ≡ frame_of words (On new)
 drawn_each words new parts made colours drew =
     drew ∙ canvas-same new.mode.hdisplay new.mode.vdisplay (λ x y. through new.gamma (parts_over x y black parts)) (colour_shown words new) (λ x y _ _. ap (through new.gamma) (colours x y))
 
 -- where only those were drawn that some layers cover
-module _ (words : ℕ → ℕ → ℕ → Option ℕ) (old new : Shown) (changed : List Layer) (parts : List Part) (bytes made : List ℕ)
+module _ (words : ℕ → ℕ → ℕ → Option ℕ) (old new : Shown) (changed : List Layer) (parts : List VisiblePart) (bytes made : List ℕ)
     (size : IsSameSize old.mode new.mode) (was : bytes ≡ frame_of words (On old))
     (drew : (before : ℕ → ℕ → Colour) → bytes ≡ canvas new.mode.hdisplay new.mode.vdisplay before
     → made ≡ canvas new.mode.hdisplay new.mode.vdisplay (drawn (covered_by changed) (λ x y. through new.gamma (parts_over x y black parts)) before)) where

@@ -22,12 +22,12 @@ use Rattle.kms_compose.specs.declared.areas.Area.{Area}
 use Rattle.kms_compose.specs.declared.images.FbImage.{FbImage}
 use Rattle.kms_compose.specs.declared.parts.Places.{Places}
 use Rattle.kms_compose.specs.declared.parts.Places.TheVariants.{From, At}
-use Rattle.kms_compose.specs.declared.parts.Part.{Part}
+use Rattle.kms_compose.specs.declared.parts.VisiblePart.{VisiblePart}
 use Rattle.kms_compose.specs.declared.sources.Reach.{Reach}
 use Rattle.kms_compose.specs.Areas.{FitsIn, IsNatural, is_in}
 use Rattle.kms_compose.specs.Images.{image_seen, seen_under, word_under}
 use Rattle.kms_compose.specs.Parts.{AreColumns, HasCount, IsCut, IsImageFor, IsPart, IsVisible, across, shown_at, down, is_within, part_colour}
-use Rattle.kms_compose.specs.Sources.{IsReach, IsSeen, place_at}
+use Rattle.kms_compose.specs.Sources.{IsReach, IsSeen, source_place}
 use Rattle.kms_compose.proofs.Places.{place_below, seen_at}
 
 -- what is visible along an axis: from the greater of both starts to the lesser of both ends, and not empty
@@ -165,10 +165,10 @@ pub size_some : (z : ℤ) → pos 0 <ℤ z → 0 < natural z
 size_some z some = let same = natural_pos z (omega (arith, ints, some)) in omega (arith, ints, same, some)
 
 -- a part of what is visible of a layer, with some columns and rows of its image
-pub cut_is : (l : Layer) (v : Rect) (image : Image) (p : Part) → IsVisible l v → IsImageFor l image
+pub cut_is : (l : Layer) (v : Rect) (image : Image) (p : VisiblePart) → IsVisible l v → IsImageFor l image
     → p.layer ≡ l → p.left ≡ natural v.x → p.top ≡ natural v.y → p.width ≡ natural v.w → p.height ≡ natural v.h
-    → HasCount p.columns p.width → ((k : ℕ) → k < p.width → shown_at p.columns k ≡ place_at (across l) (p.left + k))
-    → HasCount p.rows p.height → ((k : ℕ) → k < p.height → shown_at p.rows k ≡ place_at (down l) (p.top + k))
+    → HasCount p.columns p.width → ((k : ℕ) → k < p.width → shown_at p.columns k ≡ source_place (across l) (p.left + k))
+    → HasCount p.rows p.height → ((k : ℕ) → k < p.height → shown_at p.rows k ≡ source_place (down l) (p.top + k))
     → p.stride ≡ image.width → p.words.now ≡ image.words.now → IsCut l v image p
 cut_is l v image p shown its layer left top width height count places counted rows stride words =
     let ends = and_parts (int_le (l.src.x +ℤ l.src.w) (pos (65536 * image.width))) (int_le (l.src.y +ℤ l.src.h) (pos (65536 * image.height))) its.fits in
@@ -213,17 +213,17 @@ number_is : (z : ℤ) (n : ℕ) → n ≡ natural z → pos 0 ≤ℤ z → pos n
 number_is z n same low = ap pos same ∙ sym (natural_pos z low)
 
 -- the column that a pixel of a part shows
-column_is : (l : Layer) (v : Rect) (image : Image) (p : Part) (x : ℕ) → IsCut l v image p → IsInside p.left p.width x → shown_at p.columns (x - p.left) ≡ place_at (across l) x
+column_is : (l : Layer) (v : Rect) (image : Image) (p : VisiblePart) (x : ℕ) → IsCut l v image p → IsInside p.left p.width x → shown_at p.columns (x - p.left) ≡ source_place (across l) x
 column_is l v image p x cut inside =
-    cut.columns (x - p.left) (omega (arith, inside.low, inside.high)) ∙ ap (place_at (across l)) (omega (arith, inside.low))
+    cut.columns (x - p.left) (omega (arith, inside.low, inside.high)) ∙ ap (source_place (across l)) (omega (arith, inside.low))
 
 -- and the row
-row_is : (l : Layer) (v : Rect) (image : Image) (p : Part) (y : ℕ) → IsCut l v image p → IsInside p.top p.height y → shown_at p.rows (y - p.top) ≡ place_at (down l) y
+row_is : (l : Layer) (v : Rect) (image : Image) (p : VisiblePart) (y : ℕ) → IsCut l v image p → IsInside p.top p.height y → shown_at p.rows (y - p.top) ≡ source_place (down l) y
 row_is l v image p y cut inside =
-    cut.rows (y - p.top) (omega (arith, inside.low, inside.high)) ∙ ap (place_at (down l)) (omega (arith, inside.low))
+    cut.rows (y - p.top) (omega (arith, inside.low, inside.high)) ∙ ap (source_place (down l)) (omega (arith, inside.low))
 
 -- a layer has the colours of the part that is cut out of its image
-pub cut_colour : (images : List FbImage) (l : Layer) (v : Rect) (image : Image) (p : Part) → seen_under images l.fb.id ≡ Some (image_seen image) → l.visible ≡ Some v →
+pub cut_colour : (images : List FbImage) (l : Layer) (v : Rect) (image : Image) (p : VisiblePart) → seen_under images l.fb.id ≡ Some (image_seen image) → l.visible ≡ Some v →
     IsVisible l v → IsCut l v image p → (x y : ℕ) → layer_colour (word_under images) x y l ≡ part_colour p x y
 cut_colour images l v image p found seen shown cut x y =
     let left = number_is v.x p.left cut.left shown.left in
@@ -238,7 +238,7 @@ cut_colour images l v image p found seen shown cut x y =
     rw (cut.layer, row, cut.stride, cut.words, column) refl))
 
 -- and that part's rows and columns are those of its image
-pub cut_part : (m : Mode) (l : Layer) (v : Rect) (image : Image) (p : Part) → FitsMode m l → IsVisible l v → IsCut l v image p → IsPart p
+pub cut_part : (m : Mode) (l : Layer) (v : Rect) (image : Image) (p : VisiblePart) → FitsMode m l → IsVisible l v → IsCut l v image p → IsPart p
 cut_part m l v image p placed shown cut = record {
   narrow = omega (arith, shown.columns.few, cut.left, cut.width);
   words = cut.has_rows;

@@ -12,9 +12,9 @@ use Rattle.kms_model.specs.declared.pictures.Rect.{Rect}
 use Rattle.kms_model.specs.declared.stores.Image.{Image}
 use Rattle.kms_compose.specs.declared.parts.Places.{Places}
 use Rattle.kms_compose.specs.declared.parts.Places.TheVariants.{From, At}
-use Rattle.kms_compose.specs.declared.parts.Part.{Part}
+use Rattle.kms_compose.specs.declared.parts.VisiblePart.{VisiblePart}
 use Rattle.kms_compose.specs.declared.sources.Reach.{Reach}
-use Rattle.kms_compose.specs.Sources.{IsSeen, place_at}
+use Rattle.kms_compose.specs.Sources.{IsSeen, source_place}
 
 -- from a place on, so many
 abbrev pub is_within : ℕ → ℕ → ℕ → Bool
@@ -30,20 +30,20 @@ shown_at (From first) k = first + k
 shown_at (At columns) k = slice_index columns.items k
 
 -- the words of a part on a row
-abbrev pub part_word : Part → ℕ → ℕ → ℕ
+abbrev pub part_word : VisiblePart → ℕ → ℕ → ℕ
 part_word p x y = slice_index p.words.now (shown_at p.rows (y - p.top) * p.stride + shown_at p.columns (x - p.left))
 
 -- the colour of a part at a pixel
-abbrev pub part_colour : Part → ℕ → ℕ → Option Colour
+abbrev pub part_colour : VisiblePart → ℕ → ℕ → Option Colour
 part_colour p x y = if is_within p.left p.width x && is_within p.top p.height y then Some (colour_of p.layer.fb.format (part_word p x y)) else None
 
 -- the colour at a pixel of a layer whose visible part this is, where anything of it is visible
-abbrev pub seen_colour : Option Part → ℕ → ℕ → Option Colour
+abbrev pub seen_colour : Option VisiblePart → ℕ → ℕ → Option Colour
 seen_colour None x y = None
 seen_colour (Some p) x y = part_colour p x y
 
 -- the colour at a place of a row of a part, of whose image this is the row that it shows there
-abbrev pub on_row : Part → Option (List ℕ) → ℕ → Option Colour
+abbrev pub on_row : VisiblePart → Option (List ℕ) → ℕ → Option Colour
 on_row p None x = None
 on_row p (Some row) x = if is_within p.left p.width x then Some (colour_of p.layer.fb.format (slice_index row (shown_at p.columns (x - p.left)))) else None
 
@@ -79,31 +79,31 @@ AreColumns (From first) count width = first + count ≤ width
 AreColumns (At columns) count width = (length columns.items ≡ count) × All (λ column. column < width) columns.items
 
 -- the columns of a part are some of its image, one for each pixel of a row
-abbrev pub HasColumns : Part → Type 0
+abbrev pub HasColumns : VisiblePart → Type 0
 HasColumns p = AreColumns p.columns p.width p.stride
 
 -- the rows of a part are some of its image, one for each of its rows, and none of them is empty
-pub record HasRows (p : Part) : Type 0 where
+pub record HasRows (p : VisiblePart) : Type 0 where
   pub count : HasCount p.rows p.height
   pub within : (k : ℕ) → k < p.height → shown_at p.rows k * p.stride + p.stride ≤ length p.words.now
   pub some : 0 < p.stride
 
 -- the part of an image that a layer shows, of which this is visible
-pub record IsCut (l : Layer) (visible : Rect) (image : Image) (p : Part) : Type 0 where
+pub record IsCut (l : Layer) (visible : Rect) (image : Image) (p : VisiblePart) : Type 0 where
   pub layer : p.layer ≡ l
   pub left : p.left ≡ natural visible.x
   pub top : p.top ≡ natural visible.y
   pub width : p.width ≡ natural visible.w
   pub height : p.height ≡ natural visible.h
-  pub columns : (k : ℕ) → k < p.width → shown_at p.columns k ≡ place_at (across l) (p.left + k)
-  pub rows : (k : ℕ) → k < p.height → shown_at p.rows k ≡ place_at (down l) (p.top + k)
+  pub columns : (k : ℕ) → k < p.width → shown_at p.columns k ≡ source_place (across l) (p.left + k)
+  pub rows : (k : ℕ) → k < p.height → shown_at p.rows k ≡ source_place (down l) (p.top + k)
   pub stride : p.stride ≡ image.width
   pub words : p.words.now ≡ image.words.now
   pub has_columns : HasColumns p
   pub has_rows : HasRows p
 
 -- a part whose rows and columns are those of its image, with numbers in their ranges
-pub record IsPart (p : Part) : Type 0 where
+pub record IsPart (p : VisiblePart) : Type 0 where
   pub narrow : p.left + p.width < 65536
   pub words : HasRows p
   pub columns : HasColumns p
@@ -111,16 +111,16 @@ pub record IsPart (p : Part) : Type 0 where
   pub blend : p.layer.blend ≤ 2
 
 -- the parts over a colour, from the lowest
-abbrev pub parts_over : ℕ → ℕ → Colour → List Part → Colour
+abbrev pub parts_over : ℕ → ℕ → Colour → List VisiblePart → Colour
 parts_over x y under [] = under
 parts_over x y under (p ∷ ps) = parts_over x y (mixed p.layer under (part_colour p x y)) ps
 
 -- the bytes of a pixel of the parts over black, through a table of colour values
-abbrev pub part_pixel : Option Gamma → List Part → ℕ → ℕ → List ℕ
+abbrev pub part_pixel : Option Gamma → List VisiblePart → ℕ → ℕ → List ℕ
 part_pixel gamma parts y x = channels (through gamma (parts_over x y black parts))
 
 -- the part, if there is one
-abbrev pub listed : Option Part → List Part
+abbrev pub listed : Option VisiblePart → List VisiblePart
 listed None = []
 listed (Some p) = p ∷ []
 

@@ -19,8 +19,8 @@ abbrev pub is_unscaled : Reach → Bool
 is_unscaled r = natural r.long == 65536 * natural r.wide
 
 -- the pixel of the framebuffer that a pixel of the mode shows
-abbrev pub place_at : Reach → ℕ → ℕ
-place_at r at = source_at r.src r.long r.dst r.wide at
+abbrev pub source_place : Reach → ℕ → ℕ
+source_place r at = source_at r.src r.long r.dst r.wide at
 
 -- the pixels of the mode from a place on, so many, are some of the destination
 pub record IsSeen (r : Reach) (start size : ℕ) : Type 0 where

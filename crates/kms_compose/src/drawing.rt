@@ -7,7 +7,7 @@ ghost use Rattle.kms_compose.specs.Areas.{canvas, drawn, FitsIn, is_in};
 ghost use Rattle.kms_compose.specs.Parts.{IsPart, part_pixel, parts_over};
 
 use crate::areas::Area;
-use crate::parts::Part;
+use crate::parts::VisiblePart;
 use crate::rows::{interleave, make_run};
 use crate::tables::through_gamma;
 use kms_model::Gamma;
@@ -17,7 +17,7 @@ const RUN: usize = 256;
 
 /// Draws so many pixels of a row, from `left` on. `words` and `channels` are room for a word and five channels of each.
 fn draw_run(
-    parts: &[Part],
+    parts: &[VisiblePart],
     gamma: &Option<Gamma>,
     y: usize,
     left: usize,
@@ -47,7 +47,7 @@ fn draw_run(
 /// Draws so many pixels of a row, from `left` on. `words` and `channels` are room for a word and five channels of as many
 /// pixels as are made at a time.
 fn draw_runs(
-    parts: &[Part],
+    parts: &[VisiblePart],
     gamma: &Option<Gamma>,
     y: usize,
     left: usize,
@@ -73,7 +73,13 @@ fn draw_runs(
 }
 
 /// Draws a row of a mode, which has so many pixels.
-pub fn draw_row(parts: &[Part], gamma: &Option<Gamma>, y: usize, count: usize, out: &mut [u8])
+pub fn draw_row(
+    parts: &[VisiblePart],
+    gamma: &Option<Gamma>,
+    y: usize,
+    count: usize,
+    out: &mut [u8],
+)
     requires parts { All IsPart parts.now }
     requires narrow { count < 65536 }
     requires out { length out.old ≡ 3 * count }
@@ -85,7 +91,13 @@ pub fn draw_row(parts: &[Part], gamma: &Option<Gamma>, y: usize, count: usize, o
 }
 
 /// Draws the pixels of a rectangle, in a frame of a mode of this width.
-pub fn draw_area(parts: &[Part], gamma: &Option<Gamma>, width: usize, area: &Area, bytes: &mut [u8])
+pub fn draw_area(
+    parts: &[VisiblePart],
+    gamma: &Option<Gamma>,
+    width: usize,
+    area: &Area,
+    bytes: &mut [u8],
+)
     requires parts { All IsPart parts.now }
     requires narrow { width < 65536 }
     requires across { area.now.left + area.now.width ≤ width }
@@ -110,7 +122,7 @@ pub fn draw_area(parts: &[Part], gamma: &Option<Gamma>, width: usize, area: &Are
 
 /// Draws each pixel of a frame of a mode of this size.
 pub fn draw_whole(
-    parts: &[Part],
+    parts: &[VisiblePart],
     gamma: &Option<Gamma>,
     width: usize,
     height: usize,

@@ -21,7 +21,7 @@ pub fn rect(x: i64, y: i64, w: i64, h: i64) -> Rect
 /// Which framebuffer a layer shows, from where, in 16.16 fixed point, and where on the mode, with its plane's alpha and blend
 /// mode.
 #[derive(Clone, Copy)]
-pub struct Place {
+pub struct LayerPlace {
     pub fb: u32,
     pub src: Rect,
     pub dst: Rect,
@@ -30,8 +30,8 @@ pub struct Place {
 }
 
 /// An opaque layer of the framebuffer 1000.
-pub fn opaque(src: Rect, dst: Rect) -> Place {
-    Place {
+pub fn opaque(src: Rect, dst: Rect) -> LayerPlace {
+    LayerPlace {
         fb: 1000,
         src,
         dst,
@@ -111,7 +111,7 @@ fn may_show(src: &Rect, dst: &Rect, width: u32, height: u32) -> bool
 }
 
 /// The layer at a place; the test ends where it cannot be shown over these images.
-fn layer(rt: &impl Abort, mode: &Mode, images: &Images, place: &Place) -> Layer
+fn layer(rt: &impl Abort, mode: &Mode, images: &Images, place: &LayerPlace) -> Layer
     ensures { IsShowable mode.now images.now result }
 {
     let Some(image) = image_of(images.as_slice(), place.fb) else {
@@ -141,7 +141,7 @@ fn layer(rt: &impl Abort, mode: &Mode, images: &Images, place: &Place) -> Layer
 }
 
 /// The layers at some places, from the lowest.
-fn layers(rt: &impl Abort, mode: &Mode, images: &Images, places: &[Place]) -> Layers
+fn layers(rt: &impl Abort, mode: &Mode, images: &Images, places: &[LayerPlace]) -> Layers
     requires { length places.now ≤ 16 }
     ensures { All (IsShowable mode.now images.now) result }
 {
@@ -158,7 +158,7 @@ pub fn picture(
     mode: Mode,
     gamma: Option<Gamma>,
     images: &Images,
-    places: &[Place],
+    places: &[LayerPlace],
 ) -> Picture
     ensures { CanShow images.now result }
 {

@@ -10,7 +10,7 @@ ghost use Rattle.kms_compose.specs.Parts.{IsPart, listed, parts_over};
 
 use crate::drawing::draw_whole;
 use crate::images::{FbImage, Images};
-use crate::parts::{Part, part_of};
+use crate::parts::{VisiblePart, part_of};
 use kms_model::{Gamma, NoMemory, Picture, Seq, Shown};
 use std::alloc::Global;
 
@@ -57,7 +57,7 @@ pub fn parts_of<'a>(
     alloc: Global,
     shown: &Shown,
     images: &[FbImage<'a>],
-) -> Result<Vec<Part<'a>>, NoMemory>
+) -> Result<Vec<VisiblePart<'a>>, NoMemory>
     requires layers { All (IsShowable shown.now.mode images.now) shown.now.layers }
     requires narrow { shown.now.mode.hdisplay < 65536 }
     requires low { shown.now.mode.vdisplay < 65536 }
@@ -74,7 +74,10 @@ pub fn parts_of<'a>(
 }
 
 /// Adds a part, where there is one.
-fn push_part<'a>(parts: &mut Vec<Part<'a>>, part: Option<Part<'a>>) -> Result<(), NoMemory>
+fn push_part<'a>(
+    parts: &mut Vec<VisiblePart<'a>>,
+    part: Option<VisiblePart<'a>>,
+) -> Result<(), NoMemory>
     ensures { OnOk result (parts.new.items ≡ parts.old.items ++ listed part.entry) }
 {
     if let Some(part) = part {
@@ -86,7 +89,7 @@ fn push_part<'a>(parts: &mut Vec<Part<'a>>, part: Option<Part<'a>>) -> Result<()
 /// The bytes of parts over black, through a table of colour values if there is one, in a mode of this size.
 fn parts_bytes(
     alloc: Global,
-    parts: &[Part],
+    parts: &[VisiblePart],
     gamma: &Option<Gamma>,
     width: usize,
     height: usize,

@@ -5,10 +5,10 @@ ghost use Rattle.kms_model.specs.Frames.FrameBytes.{layer_colour};
 ghost use Rattle.kms_model.specs.Frames.Images.{FitsMode};
 ghost use Rattle.kms_compose.specs.Images.{IsShown, word_under};
 ghost use Rattle.kms_compose.specs.Parts.{HasColumns, HasCount, HasRows, IsCut, IsImageFor, IsPart, IsVisible, across, shown_at, down, on_row, part_colour, seen_colour};
-ghost use Rattle.kms_compose.specs.Sources.{IsSeen, place_at};
+ghost use Rattle.kms_compose.specs.Sources.{IsSeen, source_place};
 
 use crate::images::{FbImage, image_of};
-use crate::sources::{Reach, is_unscaled, natural, place_at, places};
+use crate::sources::{Reach, is_unscaled, natural, places, source_place};
 use kms_model::{Image, Layer, NoMemory, Rect};
 use std::alloc::Global;
 
@@ -23,7 +23,7 @@ pub enum Places {
 
 /// The visible part of a layer, in pixels of the mode, with the words of its image.
 #[derive(Drop)]
-pub struct Part<'a> {
+pub struct VisiblePart<'a> {
     pub layer: Layer,
     pub left: usize,
     pub top: usize,
@@ -67,10 +67,10 @@ fn places_of(alloc: Global, reach: &Reach, first: usize, count: usize) -> Result
     requires some { 0 < count }
     ensures count { IfOk result (λ found. HasCount found count) }
     ensures places { IfOk result (λ found. (k : ℕ) → k < count
-        → shown_at found k ≡ place_at reach.now (first + k)) }
+        → shown_at found k ≡ source_place reach.now (first + k)) }
 {
     if is_unscaled(reach) {
-        Ok(Places::From(place_at(reach, first)))
+        Ok(Places::From(source_place(reach, first)))
     } else {
         Ok(Places::At(places(alloc, reach, first, count)?))
     }
@@ -81,7 +81,7 @@ pub fn part_of<'a>(
     alloc: Global,
     layer: &Layer,
     images: &[FbImage<'a>],
-) -> Result<Option<Part<'a>>, NoMemory>
+) -> Result<Option<VisiblePart<'a>>, NoMemory>
     requires { IsShown images.now layer.now }
     ensures colours { IfOk result (λ part. (x y : ℕ)
         → layer_colour (word_under images.now) x y layer.now ≡ seen_colour part x y) }
@@ -103,7 +103,7 @@ fn cut<'a>(
     layer: &Layer,
     visible: &Rect,
     image: Image<'a>,
-) -> Result<Part<'a>, NoMemory>
+) -> Result<VisiblePart<'a>, NoMemory>
     requires visible { IsVisible layer.now visible.now }
     requires image { IsImageFor layer.now image }
     ensures { IfOk result (λ p. IsCut layer.now visible.now image.entry p) }
@@ -114,7 +114,7 @@ fn cut<'a>(
     let height = natural(visible.h);
     let columns = places_of(alloc, &across(layer), left, width)?;
     let rows = places_of(alloc, &down(layer), top, height)?;
-    Ok(Part {
+    Ok(VisiblePart {
         layer: *layer,
         left,
         top,
@@ -140,7 +140,7 @@ fn shown_at(places: &Places, k: usize) -> usize
 }
 
 /// The words of the row of its image that a part shows on a row of the mode; none where the row is above or below the part.
-pub fn row_on<'a>(part: &Part<'a>, y: usize) -> Option<&'a [u32]>
+pub fn row_on<'a>(part: &VisiblePart<'a>, y: usize) -> Option<&'a [u32]>
     requires rows { HasRows part.now }
     requires columns { HasColumns part.now }
     ensures colours { (x : ℕ)

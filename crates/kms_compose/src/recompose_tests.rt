@@ -4,7 +4,7 @@ ghost use Rattle.std.specs.Prelude.{◌≤◌, ◌<◌};
 ghost use Rattle.kms_compose.specs.Images.{CanShow};
 
 use super::*;
-use crate::fixtures::{PIXEL, Place, image, opaque, picture, rect};
+use crate::fixtures::{LayerPlace, PIXEL, image, opaque, picture, rect};
 use kms_model::{Format, Gamma, Picture, Seq};
 use kms_samples::{Chance, sized_mode};
 use std::alloc::Global;
@@ -32,7 +32,7 @@ fn scaled(chance: &mut Chance, n: u32) -> u32
 
 /// A place by chance, of one of three framebuffers: up to four pixels that begin between two, each shown in up to four, within a
 /// mode of 20x9 or beside it.
-fn by_chance(chance: &mut Chance) -> Place {
+fn by_chance(chance: &mut Chance) -> LayerPlace {
     let long = one_to_four(chance);
     let tall = one_to_four(chance);
     let left = i64::from(chance.below(4 * 65536));
@@ -41,7 +41,7 @@ fn by_chance(chance: &mut Chance) -> Place {
     let y = i64::from(chance.below(13));
     let wide = i64::from(scaled(chance, long));
     let high = i64::from(scaled(chance, tall));
-    Place {
+    LayerPlace {
         fb: 1000 + chance.below(3),
         src: rect(left, top, PIXEL * i64::from(long), PIXEL * i64::from(tall)),
         dst: rect(x - 4, y - 4, wide, high),
@@ -55,7 +55,7 @@ fn by_chance(chance: &mut Chance) -> Place {
 }
 
 /// One thing of a place is another: where it is shown, its alpha, its blend mode, its framebuffer, or all of it.
-fn changed(chance: &mut Chance, old: Place) -> Place {
+fn changed(chance: &mut Chance, old: LayerPlace) -> LayerPlace {
     let other = by_chance(chance);
     let mut new = old;
     match chance.below(6) {
@@ -70,7 +70,7 @@ fn changed(chance: &mut Chance, old: Place) -> Place {
 }
 
 /// The places of the layers of the next picture: one changes, two change places, the lowest leaves, or all stay.
-fn next_places(chance: &mut Chance, old: [Place; 5]) -> [Place; 5] {
+fn next_places(chance: &mut Chance, old: [LayerPlace; 5]) -> [LayerPlace; 5] {
     let mut new = old;
     let at = chance.below(5) as usize;
     match chance.below(4) {
@@ -96,7 +96,7 @@ struct Choice {
     is_on: bool,
     is_wide: bool,
     table: u32,
-    places: [Place; 5],
+    places: [LayerPlace; 5],
 }
 
 /// The choice after another one: mostly both are on, with modes of one size, and half of the tables stay.
@@ -233,7 +233,7 @@ fn a_row_of_300_pixels_is_made_of_an_earlier_one(rt: HostRuntime) -> Result<(), 
 }
 
 /// One pixel of a framebuffer, shown at this place.
-fn dot(x: i64, y: i64) -> Place {
+fn dot(x: i64, y: i64) -> LayerPlace {
     opaque(rect(0, 0, PIXEL, PIXEL), rect(x, y, 1, 1))
 }
 
@@ -271,12 +271,12 @@ fn keeps(
 }
 
 /// A layer of two pixels, one above the other, shown at this place.
-fn pair(x: i64, y: i64) -> Place {
+fn pair(x: i64, y: i64) -> LayerPlace {
     opaque(rect(0, 0, PIXEL, 2 * PIXEL), rect(x, y, 1, 2))
 }
 
 /// The same, half transparent.
-fn pale(place: Place) -> Place {
+fn pale(place: LayerPlace) -> LayerPlace {
     let mut pale = place;
     pale.alpha = 32768;
     pale

@@ -16,7 +16,7 @@ use crate::changes::changes;
 use crate::drawing::{draw_area, draw_whole};
 use crate::frames::{Frame, frame as whole_frame, parts_of};
 use crate::images::{FbImage, Images};
-use crate::parts::Part;
+use crate::parts::VisiblePart;
 use crate::sameness::{is_same_size, is_same_table};
 use kms_model::{Gamma, Layer, Mode, NoMemory, Picture, Seq, Shown};
 use std::alloc::Global;
@@ -136,7 +136,7 @@ fn redraw(
 }
 
 /// Draws each pixel of a frame of a picture's mode.
-fn draw_each(alloc: Global, frame: &mut Frame, parts: &[Part], shown: &Shown)
+fn draw_each(alloc: Global, frame: &mut Frame, parts: &[VisiblePart], shown: &Shown)
     requires parts { All IsPart parts.now }
     requires long { length frame.old ≡ shown.now.mode.vdisplay * (shown.now.mode.hdisplay * 3) }
     ensures { (before : ℕ → ℕ → Colour)
@@ -152,7 +152,13 @@ fn draw_each(alloc: Global, frame: &mut Frame, parts: &[Part], shown: &Shown)
 }
 
 /// Draws the pixels that some layers cover, in a frame of a picture's mode.
-fn draw_changed(alloc: Global, frame: &mut Frame, parts: &[Part], shown: &Shown, changed: &[Layer])
+fn draw_changed(
+    alloc: Global,
+    frame: &mut Frame,
+    parts: &[VisiblePart],
+    shown: &Shown,
+    changed: &[Layer],
+)
     requires parts { All IsPart parts.now }
     requires changed { All (FitsMode shown.now.mode) changed.now }
     requires long { length frame.old ≡ shown.now.mode.vdisplay * (shown.now.mode.hdisplay * 3) }
@@ -177,7 +183,7 @@ fn draw_changed(alloc: Global, frame: &mut Frame, parts: &[Part], shown: &Shown,
 
 /// Draws the pixels that some layers cover, in a frame of a mode.
 fn draw_layers(
-    parts: &[Part],
+    parts: &[VisiblePart],
     gamma: &Option<Gamma>,
     mode: &Mode,
     layers: &[Layer],
@@ -200,7 +206,13 @@ fn draw_layers(
 }
 
 /// Draws the pixels that a layer covers, in a frame of a mode.
-fn draw_layer(parts: &[Part], gamma: &Option<Gamma>, mode: &Mode, layer: &Layer, bytes: &mut [u8])
+fn draw_layer(
+    parts: &[VisiblePart],
+    gamma: &Option<Gamma>,
+    mode: &Mode,
+    layer: &Layer,
+    bytes: &mut [u8],
+)
     requires parts { All IsPart parts.now }
     requires layer { FitsMode mode.now layer.now }
     requires narrow { mode.now.hdisplay < 65536 }

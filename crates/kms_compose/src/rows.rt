@@ -5,7 +5,7 @@ ghost use Rattle.kms_model.specs.Frames.FrameBytes.{black, channels, colour_of, 
 ghost use Rattle.kms_compose.specs.Parts.{HasColumns, IsPart, channel_over, colour_at, shown_at, has_alpha, is_opaque, part_colour, parts_over, run_colour};
 
 use crate::channels::{Alpha, Blue, Channel, Green, Red, unpack};
-use crate::parts::{Part, Places, row_on};
+use crate::parts::{Places, VisiblePart, row_on};
 use kms_blend::blend_row;
 use kms_model::{Format, Layer};
 
@@ -81,7 +81,7 @@ fn gather(row: &[u32], columns: &[usize], out: &mut [u32])
 
 /// The words of a row of an image at some of the columns that a part shows, from the one of this number on, as many as there
 /// is `room` for. Those that do not stand side by side are read into it.
-fn words_of<'a>(part: &Part, row: &'a [u32], first: usize, room: &'a mut [u32]) -> &'a [u32]
+fn words_of<'a>(part: &VisiblePart, row: &'a [u32], first: usize, room: &'a mut [u32]) -> &'a [u32]
     requires columns { HasColumns part.now }
     requires row { length row.now ≡ part.now.stride }
     requires within { first + length room.old ≤ part.now.width }
@@ -135,7 +135,7 @@ fn put_words(
 /// Puts a part on some pixels of a row, given by their channels, of which `start` is the first. `shown`, `alpha` and `own` are
 /// room for as many numbers.
 fn put_part(
-    part: &Part,
+    part: &VisiblePart,
     y: usize,
     start: usize,
     shown: &mut [u32],
@@ -181,7 +181,7 @@ fn put_part(
 /// Makes some pixels of a row, of which `start` is the first, of the parts over black, by their channels. `shown`, `alpha` and
 /// `own` are room for as many numbers.
 pub fn make_run(
-    parts: &[Part],
+    parts: &[VisiblePart],
     y: usize,
     start: usize,
     shown: &mut [u32],

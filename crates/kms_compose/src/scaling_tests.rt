@@ -1,6 +1,6 @@
 //! What no clause says: scaled layers, sources that begin between pixels, and tables of colour values, worked out by hand.
 use super::*;
-use crate::fixtures::{PIXEL, Place, image, opaque, picture, rect};
+use crate::fixtures::{LayerPlace, PIXEL, image, opaque, picture, rect};
 use kms_model::{Format, Gamma, Mode, Rect, Seq};
 use kms_samples::sized_mode;
 use std::alloc::Global;
@@ -16,7 +16,7 @@ fn composed(
     alloc: Global,
     shown: (Mode, Option<Gamma>),
     fb: (u32, u32),
-    places: &[Place],
+    places: &[LayerPlace],
     words: &[u32],
 ) -> Result<Vec<u8>, Fail> {
     let (mode, gamma) = shown;

@@ -3,7 +3,7 @@
 ghost use Rattle.std.specs.Prelude.{◌≡◌, ◌<◌, ◌≤◌, ◌≤ℤ◌, ◌-ℤ◌, ◌+◌, ◌*◌, ◌/◌, pos, IfOk, map};
 ghost use Rattle.std.specs.List.{range_with_len};
 ghost use Rattle.kms_model.specs.Device.States.{natural};
-ghost use Rattle.kms_compose.specs.Sources.{IsReach, IsSeen, IsSeenAt, is_unscaled, place_at};
+ghost use Rattle.kms_compose.specs.Sources.{IsReach, IsSeen, IsSeenAt, is_unscaled, source_place};
 
 use kms_model::NoMemory;
 use std::alloc::Global;
@@ -64,9 +64,9 @@ fn pixel_of(reach: &Reach, at: usize) -> usize
 
 /// The pixel of the framebuffer that a pixel of the mode shows, along one axis: the middle of its part of the source, of as
 /// many parts as the destination has pixels.
-pub fn place_at(reach: &Reach, at: usize) -> usize
+pub fn source_place(reach: &Reach, at: usize) -> usize
     requires { IsSeenAt reach.now at }
-    ensures { result ≡ place_at reach.now at }
+    ensures { result ≡ source_place reach.now at }
 {
     let src = natural(reach.src);
     let long = natural(reach.long);
@@ -84,11 +84,11 @@ pub fn places(
 ) -> Result<Vec<usize>, NoMemory>
     requires { IsSeen reach.now start count }
     ensures { IfOk result (λ places.
-        places.items ≡ map (place_at reach.now) (range_with_len start count)) }
+        places.items ≡ map (source_place reach.now) (range_with_len start count)) }
 {
     let mut places = Vec::with_capacity(alloc, count)?;
     for at in start..start + count {
-        places.push(place_at(reach, at))?;
+        places.push(source_place(reach, at))?;
     }
     Ok(places)
 }

@@ -1,6 +1,6 @@
 //! What no clause says: frames of layers that are not scaled, worked out by hand.
 use super::*;
-use crate::fixtures::{PIXEL, Place, image, picture, rect};
+use crate::fixtures::{LayerPlace, PIXEL, image, picture, rect};
 use kms_model::{Format, Picture, Seq};
 use kms_samples::sized_mode;
 use std::alloc::Global;
@@ -27,12 +27,12 @@ struct Plane<'a> {
 }
 
 /// The place of a plane's layer, which shows the framebuffer of this id.
-fn place(fb: u32, plane: &Plane) -> Place {
+fn place(fb: u32, plane: &Plane) -> LayerPlace {
     let w = i64::from(plane.w);
     let h = i64::from(plane.h);
     let column = PIXEL * i64::from(plane.column);
     let line = PIXEL * i64::from(plane.line);
-    Place {
+    LayerPlace {
         fb,
         src: rect(column, line, PIXEL * w, PIXEL * h),
         dst: rect(i64::from(plane.x), i64::from(plane.y), w, h),

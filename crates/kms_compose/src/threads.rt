@@ -11,7 +11,7 @@ ghost use Rattle.kms_compose.specs.Parts.{IsPart, part_pixel, parts_over};
 use crate::drawing::draw_row;
 use crate::frames::{Frame, blank, parts_of};
 use crate::images::{FbImage, Images};
-use crate::parts::Part;
+use crate::parts::VisiblePart;
 use kms_model::{Gamma, NoMemory, Picture, Seq, Shown};
 use rayon::prelude::*;
 use std::alloc::Global;
@@ -61,7 +61,7 @@ fn shown_rows(
 fn rows_bytes(
     rt: &(impl Threads + Sync),
     alloc: Global,
-    parts: &[Part],
+    parts: &[VisiblePart],
     gamma: &Option<Gamma>,
     width: usize,
     height: usize,
@@ -80,7 +80,7 @@ fn rows_bytes(
 /// Draws all rows of parts over black, through a table of colour values if there is one, in a frame of a mode of this width.
 fn draw_rows(
     rt: &(impl Threads + Sync),
-    parts: &[Part],
+    parts: &[VisiblePart],
     gamma: &Option<Gamma>,
     width: usize,
     bytes: &mut [u8],

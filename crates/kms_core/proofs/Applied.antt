@@ -31,13 +31,13 @@ use Rattle.kms_laws.proofs.Stalled.{legal-going}
 use Rattle.kms_laws.proofs.Steps.{flush-found, value-is}
 use Rattle.kms_wwlock.specs.declared.table.Lock.TheVariants as table
 use Rattle.kms_wwlock.specs.declared.table.Relock.TheVariants as again
-use Rattle.kms_stores.specs.Calls.{MayRead, MayReturn, is_over_at, read_at, read_reply, read_step, unless_ended}
-use Rattle.kms_calls.specs.Locks.{MayBackOff, MayLock, MayRelock, is_step, lock_steps, locked_answer, object_of, present_state, relock_steps, relocked_answer, relocked_as}
+use Rattle.kms_stores.specs.Calls.{MayRead, MayReturn, is_over_at, read_reply_at, read_reply, read_step, unless_ended}
+use Rattle.kms_calls.specs.Locks.{MayBackOff, MayLock, MayRelock, is_step, lock_steps, locked_answer, object_or_zero, present_state, relock_steps, relocked_answer, relocked_as}
 use Rattle.kms_calls.specs.declared.contexts.Locked.{Locked}
 use Rattle.kms_next.specs.Next.{IsLegal}
 use Rattle.kms_stores.specs.Run.{Run, machine}
 use Rattle.kms_stores.specs.Stands.{Stores, Stands}
-use Rattle.kms_stores.specs.Work.{MayCleanUp, MayWrite, is_over, write_step}
+use Rattle.kms_stores.specs.Work.{MayCleanUp, MayWrite, is_commit_over, write_step}
 use Rattle.kms_next.proofs.ClientSteps.{answered_is, must_not}
 use Rattle.kms_calls.proofs.Locking.{steps_of_lock}
 use Rattle.kms_next.proofs.Outside.{outside}
@@ -112,7 +112,7 @@ module _ (v : Run) where
   pub relock_done : (client : ℕ) (answer : Locked) → IsLegal v (step.Relock client) → answer ≡ relocked_answer v client → relock_steps client answer ≡ step.Relock client ∷ []
   relock_done client answer asked is =
       ap (relock_steps client)
-      (is ∙ ap (λ a. relocked_as (present_state v (object_of (contended (doing_at (machine v) client)))) a) (free_got (contended (doing_at (machine v) client)) (relock_is client asked)))
+      (is ∙ ap (λ a. relocked_as (present_state v (object_or_zero (contended (doing_at (machine v) client)))) a) (free_got (contended (doing_at (machine v) client)) (relock_is client asked)))
 
   pub read_asked : (client : ℕ) → IsLegal v (step.Read client) → MayRead v client
   unfolding legal may
@@ -122,7 +122,7 @@ module _ (v : Run) where
   stepped client None e = absurd (false≢true e)
   stepped client (Some r) e = refl
 
-  pub read_done : (client : ℕ) (o : Option Reply) → IsLegal v (step.Read client) → o ≡ read_at v client → read_step client o ≡ step.Read client ∷ []
+  pub read_done : (client : ℕ) (o : Option Reply) → IsLegal v (step.Read client) → o ≡ read_reply_at v client → read_step client o ≡ step.Read client ∷ []
   unfolding legal may
   read_done client o asked is =
       stepped client o
@@ -196,7 +196,7 @@ module _ (v : Run) where
 
   -- Cleanups
 
-  pub cleanup_done : (k : ℕ) → IsLegal v (step.Cleanup k) → is_over v k ≡ true
+  pub cleanup_done : (k : ℕ) → IsLegal v (step.Cleanup k) → is_commit_over v k ≡ true
   unfolding legal may
   cleanup_done k asked =
       let d = (machine v).device in

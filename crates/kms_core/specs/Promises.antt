@@ -71,8 +71,8 @@ FramesWhatIsHeld r =
     → HasSameState r.script.topology (machine r).device.world (next r.script (machine r) step).device.world object
 
 -- it is drained, or a step may be done, or a commit waits for a fence whose label is told
-abbrev pub GoesOn : Run → Type 0
-GoesOn r = (is_drained r.script (machine r) ≡ true) ⊎ ((can_move r.script (machine r) ≡ true) ⊎ TellsFence r.script (machine r))
+abbrev pub CanGoOn : Run → Type 0
+CanGoOn r = (is_drained r.script (machine r) ≡ true) ⊎ ((can_move r.script (machine r) ≡ true) ⊎ TellsFence r.script (machine r))
 
 -- where it is dead, it tells the label of the fence that the least commit which is not cleaned waits for
 abbrev pub NamesItsFence : Run → Type 0

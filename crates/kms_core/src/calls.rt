@@ -3,14 +3,14 @@ ghost use Rattle.std.specs.Prelude.{ℕ, ◌≡◌, IfOk, OnErr, [], ◌∷◌, 
 ghost use Rattle.kms_model.specs.declared.replies.Step.TheVariants as step;
 ghost use Rattle.kms_stores.specs.Run.{machine, gains, if_ok};
 ghost use Rattle.kms_calls.specs.Locks.{MayBegin, MayLock, IsTaking, locked_answer, lock_steps, HasContext, MayBackOff, MayRelock, relocked_answer, relock_steps};
-ghost use Rattle.kms_stores.specs.Calls.{MayMake, MaySignal, reply_at, MayRead, MayReturn, is_over_at, read_at, read_step, return_step};
+ghost use Rattle.kms_stores.specs.Calls.{MayMake, MaySignal, reply_at, MayRead, MayReturn, is_over_at, read_reply_at, read_step, return_step};
 ghost use Rattle.kms_model.specs.Request.Lookups.{lookups, look_up};
 ghost use Rattle.kms_stores.specs.declared.looking.Decided.TheVariants as decided;
 ghost use Rattle.kms_stores.specs.Decisions.{world, IsDecided, MayRefuse, MayTest, steps_of, taker};
 ghost use Rattle.kms_model.specs.declared.replies.Reply.TheVariants as reply;
 ghost use Rattle.kms_laws.specs.TailsLeft.{commit_of_step};
 ghost use Rattle.kms_stores.specs.Swaps.{MaySwap, swap_answer};
-ghost use Rattle.kms_stores.specs.Work.{MayBeDone, MayCleanUp, MayWrite, claim_steps, cleanup_steps, first_claim, is_over, write_step};
+ghost use Rattle.kms_stores.specs.Work.{MayBeDone, MayCleanUp, MayWrite, claim_steps, cleanup_steps, first_claim, is_commit_over, write_step};
 ghost use Rattle.kms_model.specs.declared.objects.Kind.TheVariants.{Crtc};
 ghost use Rattle.kms_work.specs.Latching.{MayBlank, MayFlush, goes_at};
 ghost use Rattle.kms_next.specs.Next.{IsLegal};
@@ -97,7 +97,7 @@ impl Core {
     /// to wait, or the history was ended. Want of memory leaves all as it was.
     pub fn read(&mut self, client: u32) -> Result<Option<Reply>, NoMemory>
         requires { MayRead self.old client }
-        ensures reply { IfOk result (λ reply. reply ≡ read_at self.old client) }
+        ensures reply { IfOk result (λ reply. reply ≡ read_reply_at self.old client) }
         ensures history { self.new ≡ gains self.old (if_ok result (read_step client)) }
     {
         kms_calls::read(&mut self.stores, client)
@@ -220,7 +220,7 @@ impl Core {
     /// Cleans a commit up; false, and nothing changes, exactly where it is not over.
     pub fn cleanup(&mut self, commit: u32) -> bool
         requires { MayCleanUp self.old commit }
-        ensures answer { result ≡ is_over self.old commit }
+        ensures answer { result ≡ is_commit_over self.old commit }
         ensures history { self.new ≡ gains self.old (cleanup_steps commit result) }
     {
         kms_work::cleanup(&mut self.stores, commit)

@@ -1,7 +1,7 @@
 //! The laws of the machine, of the history that a core has: each is the contract of a call that does nothing but cite it.
 ghost use Rattle.kms_model.specs.Headline.{Headline};
 ghost use Rattle.kms_laws.specs.Laws.{ContextsStand, HasSerialWorld};
-ghost use Rattle.kms_core.specs.Promises.{AsksWithinItsReach, DeliversOnce, FramesWhatIsHeld, FreesOnce, GoesOn, IsBusyWithCause, LatchesWhole, NamesItsFence, ReservesEach, ShowsAllOnceCleaned, ShowsTheLast, TestsAlone, WaitsInNoCycle};
+ghost use Rattle.kms_core.specs.Promises.{AsksWithinItsReach, DeliversOnce, FramesWhatIsHeld, FreesOnce, CanGoOn, IsBusyWithCause, LatchesWhole, NamesItsFence, ReservesEach, ShowsAllOnceCleaned, ShowsTheLast, TestsAlone, WaitsInNoCycle};
 ghost use Rattle.kms_stores.specs.Run.{machine};
 
 use crate::machine::Core;
@@ -117,7 +117,7 @@ impl Core {
     /// The history is drained, or a step other than `stall` and a vertical blanking without GO may be done in it, or a commit
     /// waits for a fence whose label is told.
     pub fn never_sticks(&self)
-        ensures { GoesOn self.now }
+        ensures { CanGoOn self.now }
     {
         self.is_a_history();
         kms_laws::histories_go_on();

@@ -16,7 +16,7 @@ fn a_client_lights_the_crtc_in_its_turns(rt: HostRuntime) -> Result<(), Fail> {
     play_lighting(&rt, "0x400", "", &course)
 }
 
-/// What a request sets is locked first, then the CRTCs that it names, then what a modeset remakes.
+/// What a request sets is locked first, then the CRTCs that it names, then the planes and connectors that a modeset affects.
 #[test]
 fn locks_go_by_groups(rt: HostRuntime) -> Result<(), Fail> {
     let more = "atomic 0x0 0 plane0.alpha=9\natomic 0x500 0 crtc0.ACTIVE=0\n";

@@ -1,11 +1,11 @@
 -- The passes that a thread drives.
 use Rattle.std.specs.Prelude.{◌≡◌}
 use Rattle.kms_histlock.specs.Passes.{IsSamePass}
-use Rattle.kms_device.specs.Turns.{DeviceState}
+use Rattle.kms_device.specs.Turns.{SharedDevice}
 use Rattle.kms_crowd_tests.specs.declared.two.Two.{Two}
 
 -- both are passes of a device
-abbrev pub AreOf : DeviceState → Two → Type 0
+abbrev pub AreOf : SharedDevice → Two → Type 0
 AreOf device two = (two.one.lock ≡ device.lock) × (two.other.lock ≡ device.lock)
 
 -- both are the same passes, which may have seen and made more

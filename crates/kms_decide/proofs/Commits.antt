@@ -53,7 +53,7 @@ use Rattle.kms_signal.specs.FenceSets.{FenceSet, is_made}
 use Rattle.kms_signal.specs.InStep.{IsQueueOf}
 use Rattle.kms_signal.specs.Queues.{HasSpace, Queue, empty_queue}
 use Rattle.kms_signal.specs.Rooms.{Rooms}
-use Rattle.kms_signal.specs.StepLaws.{swapped_queue}
+use Rattle.kms_signal.specs.StepLaws.{new_commit, swapped_queue}
 use Rattle.kms_tails.specs.declared.tail.Tail.{Tail}
 use Rattle.kms_tails.specs.InStep.{AreTailsOf, IsTailFor, StandsAfterSwap, StandsAlike, out_fence_at}
 use Rattle.kms_tails.proofs.StepLemmas as tails_follow
@@ -61,13 +61,12 @@ use Rattle.kms_things.specs.Made.{HasIds, Made, with_made}
 use Rattle.kms_track.proofs.CheckedLemmas.{checked_for}
 use Rattle.kms_track.proofs.StepLemmas.{swap_follows}
 use Rattle.kms_track.specs.InStep.{IsInStep}
-use Rattle.kms_track.specs.StepLaws.{new_commit}
 use Rattle.kms_track.specs.Tracking.{IsSetUp, Tracking}
 use Rattle.kms_stores.specs.Calls.{answered}
 use Rattle.kms_logs.specs.Logs.{Logged}
 use Rattle.kms_stores.specs.Run.{Run, machine}
 use Rattle.kms_stores.specs.Decisions.{world}
-use Rattle.kms_stores.specs.Settled.{IsSettled, events_of, fences_for, fences_under, id_under, label_in, labels_in}
+use Rattle.kms_stores.specs.SwappedIn.{IsSwappedIn, events_asked_for, fences_for, fences_under, id_under, label_in, labels_in}
 use Rattle.kms_stores.specs.Stands.{AreOutFencesMade, AreQueues, AreRecords, IsWorldOf, Stores, Stands, StandsAt, entry_pair, is_fence, queue_of}
 use Rattle.kms_stores.specs.Swaps.{MayCommit}
 use Rattle.kms_decide.specs.Room.{SameTracking}
@@ -180,7 +179,7 @@ module _ (r : Run) (st : Stores) (client : ℕ) (checked : Checked) (resolved : 
       (taking-some r.script (machine r) client (may_swap r.script.topology (machine r) client) can.ready.request can.ready.at (and_parts (not (machine r).stalled) _ can.legal).1)
 
   -- as many events as the machine reserves
-  pub events_named : (if wants_event can.ready.request.flags then length (named r.script.topology (world r) can.ready.request) else 0) ≡ events_of resolved.flags checked.named
+  pub events_named : (if wants_event can.ready.request.flags then length (named r.script.topology (world r) can.ready.request) else 0) ≡ events_asked_for resolved.flags checked.named
   events_named =
       rw (can.ready.flags_are, can.ready.checked_as.named)
       (ap (λ n. if wants_event can.ready.request.flags then n else 0)
@@ -194,7 +193,7 @@ module _ (r : Run) (st : Stores) (client : ℕ) (checked : Checked) (resolved : 
         | inr fits ↦ fits
       ]
 
-  pub has_space : HasSpace (queue_of st.queues client) (events_of resolved.flags checked.named)
+  pub has_space : HasSpace (queue_of st.queues client) (events_asked_for resolved.flags checked.named)
   unfolding lacks_space
   has_space =
       let fit = (numbers_fit r.script r.steps stands.formed stands.history).events client in
@@ -205,7 +204,7 @@ module _ (r : Run) (st : Stores) (client : ℕ) (checked : Checked) (resolved : 
   pub again : (new q d : Queue) → q ≡ slice_index_or (slice_set st.queues (client - 1) new) (client - 1) d → q ≡ new
   again new q d is = is ∙ get_or-set_same st.queues (client - 1) new d own.within
 
-  pub space_again : (q : Queue) (events : ℕ) → events ≡ events_of resolved.flags checked.named → q.reserved ≡ (queue_of st.queues client).reserved → q.unread ≡ (queue_of st.queues client).unread → HasSpace q events
+  pub space_again : (q : Queue) (events : ℕ) → events ≡ events_asked_for resolved.flags checked.named → q.reserved ≡ (queue_of st.queues client).reserved → q.unread ≡ (queue_of st.queues client).unread → HasSpace q events
   space_again q events is reserved unread = rw (is, reserved, unread) has_space
 
   pub labels_are : take r.script.topology.crtcs (labels_in resolved.out_fences) ≡ map (out_fence_label can.ready.request.assigns) (ids_of r.script.topology Crtc)
@@ -261,7 +260,7 @@ module _ (r : Run) (st : Stores) (client : ℕ) (checked : Checked) (resolved : 
   unread_kept q false events = refl
 
   queues_committed : (queues : List Queue) (new : Queue) → AreQueues (length r.script.clients) (machine r).events queues
-      → new.reserved ≡ (queue_of queues client).reserved + events_of resolved.flags checked.named → new.unread ≡ (queue_of queues client).unread
+      → new.reserved ≡ (queue_of queues client).reserved + events_asked_for resolved.flags checked.named → new.unread ≡ (queue_of queues client).unread
       → AreQueues (length r.script.clients) (next r.script (machine r) (step.Swap client)).events (slice_set queues (client - 1) new)
   queues_committed queues new stand reserved unread = record {
     size = length-set queues (client - 1) new ∙ stand.size;
@@ -290,10 +289,10 @@ pub record HasCommitted (r : Run) (st : Stores) (client : ℕ) (checked : Checke
   pub replies_more : replies.items ≡ st.replies.items ++ answered client (place_of st.clients client).command (length st.journal.items) (reply.Commit commit) ∷ []
   pub journal_more : journal.items ≡ st.journal.items ++ (client, (place_of st.clients client).command) ∷ []
   pub made_as : (w : World) (assigns : List Assign) (crtcs : List ℕ) → take r.script.topology.crtcs (labels_in resolved.out_fences) ≡ map (out_fence_label assigns) crtcs → make_out_fences client assigns (with_made w st.made) crtcs ≡ with_made w made
-  pub settled : IsSettled st.present checked.states present
+  pub present_swapped : IsSwappedIn st.present checked.states present
   pub fences_more : fences.slots ≡ st.fences.slots ++ fences_for st.made.next_id (take r.script.topology.crtcs (labels_in resolved.out_fences))
   pub queues_stand : AreQueues (length r.script.clients) (machine r).events queues
-  pub reserved : queue.reserved ≡ (queue_of queues client).reserved + events_of resolved.flags checked.named
+  pub reserved : queue.reserved ≡ (queue_of queues client).reserved + events_asked_for resolved.flags checked.named
   pub unread : queue.unread ≡ (queue_of queues client).unread
   pub set_up : IsSetUp st.tracker tracker checked (map (λ f. f.1) resolved.in_fences)
   pub tails_stand : StandsAlike st.tails roomy_tails
@@ -353,7 +352,7 @@ module _ (r : Run) (st : Stores) (client : ℕ) (checked : Checked) (resolved : 
   world_stands = record {
     things = ap (λ (x : World). x.things) (left.world ∙ world_is);
     next_id = ap (λ (x : World). x.next_id) (left.world ∙ world_is);
-    states = rw left.world (committed_present r.script.topology (world r) can.ready.request at checked can.ready.checked_as can.states client st.present present can.ready.none holds.present.kept stands.stores.world.states has.settled);
+    states = rw left.world (committed_present r.script.topology (world r) can.ready.request at checked can.ready.checked_as can.states client st.present present can.ready.none holds.present.kept stands.stores.world.states has.present_swapped);
   }
 
   fences_stand : FencesStand (committed r.script.topology (world r) client can.ready.request).world (machine r).device.signalled fences

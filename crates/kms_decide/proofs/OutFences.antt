@@ -14,7 +14,7 @@ use Rattle.kms_model.specs.Stores.Tables.{slot}
 use Rattle.kms_signal.proofs.InStepLemmas.{fence_made}
 use Rattle.kms_signal.specs.FenceSets.{FenceSet, is_made}
 use Rattle.kms_signal.specs.InStep.{AreFencesOf}
-use Rattle.kms_stores.specs.Settled.{fences_for, next_after}
+use Rattle.kms_stores.specs.SwappedIn.{fences_for, next_after}
 use Rattle.kms_stores.specs.Stands.{AreMadeFences}
 use Rattle.kms_stores.proofs.Fencing.{fence_fenced, fresh, pushed_more, same_fences, same_slots}
 

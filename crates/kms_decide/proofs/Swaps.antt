@@ -12,7 +12,7 @@ use Rattle.kms_model.specs.Machine.State.{Machine, entry_at, place_at, request_a
 use Rattle.kms_model.specs.Request.Flags.{is_nonblock, wants_event}
 use Rattle.kms_clients.specs.InStep.{AreClientsOf, after_decision, after_swap}
 use Rattle.kms_clients.specs.Standing.{Standing}
-use Rattle.kms_tails.specs.StepLaws.{new_commit}
+use Rattle.kms_signal.specs.StepLaws.{new_commit}
 use Rattle.kms_stores.specs.Calls.{answered}
 use Rattle.std.specs.Prelude.{Some}
 

@@ -21,7 +21,7 @@ ghost use Rattle.kms_stores.specs.Calls.{answered, joined};
 ghost use Rattle.kms_stores.specs.Run.{gains, if_ok, machine};
 ghost use Rattle.kms_decide.specs.Room.{KeepsStored};
 ghost use Rattle.kms_stores.specs.Swaps.{MayCommit};
-ghost use Rattle.kms_stores.specs.Settled.{events_of, fences_for, fences_under, id_under, label_in, labels_in, next_after};
+ghost use Rattle.kms_stores.specs.SwappedIn.{events_asked_for, fences_for, fences_under, id_under, label_in, labels_in, next_after};
 
 use crate::present::present_after;
 use kms_clients::Clients;
@@ -52,7 +52,7 @@ pub fn commit(
     ensures number { IfOk result (λ k. k ≡ length (machine stores.old).device.commits) }
     ensures history { stores.new ≡ gains stores.old (if_ok result (λ k. step.Swap client ∷ [])) }
 {
-    let events = events_of(resolved.flags, checked.named);
+    let events = events_asked_for(resolved.flags, checked.named);
     let labels = out_labels(resolved.out_fences.as_slice());
     make_commit_room(
         alloc,
@@ -255,8 +255,8 @@ fn reply_commit(
 }
 
 /// How many events a request asks for: one for each CRTC that it names, or none.
-fn events_of(flags: u32, named: u32) -> u32
-    ensures count { result ≡ events_of flags named }
+fn events_asked_for(flags: u32, named: u32) -> u32
+    ensures count { result ≡ events_asked_for flags named }
     ensures most { result ≤ 4 }
 {
     if wants_event(flags) {

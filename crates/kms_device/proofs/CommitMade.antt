@@ -10,9 +10,9 @@ use Rattle.kms_stores.specs.Run.{machine}
 use Rattle.kms_device.specs.declared.attempt.Attempt.{Attempt}
 use Rattle.kms_device.specs.declared.attempt.Attempted.{Attempted}
 use Rattle.kms_device.specs.declared.attempt.Attempted.TheVariants as attempted
-use Rattle.kms_device.specs.Attempts.{BrokenOff, Committed, GoesOnAt, IsAttempt, MayAttempt, Records, Serves, StaysAt, Went, new_attempt}
+use Rattle.kms_device.specs.Attempts.{BrokenOff, Committed, GoesOnAt, IsAttempt, MayAttempt, IsLastReply, Serves, StaysAt, Went, new_attempt}
 use Rattle.kms_device.specs.Committing.{GoesOnWith}
-use Rattle.kms_device.specs.Turns.{DevicePass, seen}
+use Rattle.kms_device.specs.Turns.{DevicePass, run_seen}
 use Rattle.kms_device.proofs.Serving.{serves_new}
 use Rattle.kms_device.proofs.Stepping.{may_again}
 use Rattle.kms_device.proofs.Went.{went_before, went_both, went_not}
@@ -22,17 +22,17 @@ on_err (Ok a) p = tt
 on_err (Err e) p = p
 
 -- before the first attempt
-pub made_none : (script : Script) (client : ℕ) (p : DevicePass) (kept : Attempt) → kept ≡ new_attempt → MayAttempt (seen script p) client → GoesOnWith script client p p kept
+pub made_none : (script : Script) (client : ℕ) (p : DevicePass) (kept : Attempt) → kept ≡ new_attempt → MayAttempt (run_seen script p) client → GoesOnWith script client p p kept
 made_none script client p kept is_new may = record {
   steps = [];
   went = went_not p;
   stays = record { may = may; command = refl };
-  serves = subst (Serves (seen script p) client) (sym is_new) (serves_new (seen script p) client);
+  serves = subst (Serves (run_seen script p) client) (sym is_new) (serves_new (run_seen script p) client);
 }
 
 module _ (script : Script) (client : ℕ) (p m q : DevicePass) (kept : Attempt) (on : GoesOnWith script client p m kept) where
   -- an attempt that made some steps, or none
-  further : (xs : List Step) (keeps : Attempt) → Went xs m q → StaysAt (seen script m) (seen script q) client → Serves (seen script q) client keeps → GoesOnWith script client p q keeps
+  further : (xs : List Step) (keeps : Attempt) → Went xs m q → StaysAt (run_seen script m) (run_seen script q) client → Serves (run_seen script q) client keeps → GoesOnWith script client p q keeps
   further xs keeps went stays serves = record {
     steps = on.steps ++ xs;
     went = went_both on.steps xs p m q on.went went;
@@ -41,7 +41,7 @@ module _ (script : Script) (client : ℕ) (p m q : DevicePass) (kept : Attempt) 
   }
 
   -- an attempt that gave no reply
-  pub made_more : (did : Attempted) (keeps : Attempt) → ((r : Reply) → did ≢ attempted.Answered r) → IsAttempt script client m kept q keeps did → GoesOnAt (seen script m) (seen script q) client did → Serves (seen script q) client keeps
+  pub made_more : (did : Attempted) (keeps : Attempt) → ((r : Reply) → did ≢ attempted.Answered r) → IsAttempt script client m kept q keeps did → GoesOnAt (run_seen script m) (run_seen script q) client did → Serves (run_seen script q) client keeps
       → GoesOnWith script client p q keeps
   made_more attempted.Did keeps other is stays serves = elim is [
     | inl stepped ↦ further (stepped.stepped.next ∷ []) keeps stepped.stepped.went stays serves
@@ -61,12 +61,12 @@ module _ (script : Script) (client : ℕ) (p m q : DevicePass) (kept : Attempt) 
         same = by.stepped.finds.same;
         left = by.stepped.left;
         stays = record {
-          may = may_again (seen script m) by.stepped.found client by.stepped.finds.same (ap (λ (x : Place). x.command) by.stepped.finds.place) (ap (λ (x : Place). returning_of x.doing) by.stepped.finds.place ∙ on.stays.may.awake) on.stays.may;
+          may = may_again (run_seen script m) by.stepped.found client by.stepped.finds.same (ap (λ (x : Place). x.command) by.stepped.finds.place) (ap (λ (x : Place). returning_of x.doing) by.stepped.finds.place ∙ on.stays.may.awake) on.stays.may;
           command = ap (λ (x : Place). x.command) by.stepped.finds.place ∙ on.stays.command;
         };
-        records = subst (λ n. Records (machine (seen script q)) client n r) on.stays.command by.records;
+        records = subst (λ n. IsLastReply (machine (run_seen script q)) client n r) on.stays.command by.records;
       }
 
   -- no memory
-  pub broken : Went [] m q → StaysAt (seen script m) (seen script q) client → BrokenOff script client p q
+  pub broken : Went [] m q → StaysAt (run_seen script m) (run_seen script q) client → BrokenOff script client p q
   broken went stays = record { steps = on.steps; went = went_before on.steps p m q on.went went; again = record { may = stays.may; command = stays.command ∙ on.stays.command } }

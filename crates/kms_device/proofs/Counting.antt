@@ -8,7 +8,7 @@ use Rattle.kms_model.specs.declared.objects.Kind.TheVariants.{Crtc}
 use Rattle.kms_model.specs.declared.replies.Step.{Step}
 use Rattle.kms_model.specs.declared.replies.Step.TheVariants.{Vblank, Stall}
 use Rattle.kms_stores.specs.Run.{Run}
-use Rattle.kms_device.specs.Kernels.{AddsPlain, IsCounted, is_plain}
+use Rattle.kms_device.specs.Kernels.{AddsPlain, AreBlankingCounts, is_plain}
 use Rattle.kms_laws.specs.Blankings.{blankings, is_blanking, one_more_if}
 use Rattle.kms_device.specs.Steps.{NeverEnds, is_stall}
 
@@ -53,7 +53,7 @@ blankings-few crtc [] = omega arith
 blankings-few crtc (x ∷ xs) = let l = one_more-few (is_blanking crtc x) (blankings crtc xs) (length xs) (blankings-few crtc xs) in omega (arith, l)
 
 -- plain steps keep what the lock keeps
-pub plain-keeps : (counts : List ℕ) (old new : Run) → NeverEnds old.steps × IsCounted counts old.steps → AddsPlain old new → NeverEnds new.steps × IsCounted counts new.steps
+pub plain-keeps : (counts : List ℕ) (old new : Run) → NeverEnds old.steps × AreBlankingCounts counts old.steps → AddsPlain old new → NeverEnds new.steps × AreBlankingCounts counts new.steps
 plain-keeps counts old new kept adds =
     let steps : new.steps ≡ old.steps ++ adds.steps = ap (λ (r : Run). r.steps) adds.now in (
       subst NeverEnds (sym steps) (All-append IsNoEnd old.steps adds.steps kept.0 (none-ends adds.steps adds.plain)),
@@ -64,8 +64,8 @@ plain-keeps counts old new kept adds =
     counted crtc = let none = none-counted crtc adds.steps adds.plain in let more = blankings-append crtc old.steps adds.steps in let is = kept.1 crtc in omega arith
 
 -- a vertical blanking is counted
-pub blank-keeps : (counts : List ℕ) (old new : Run) (crtc : ℕ) → crtc < length counts → NeverEnds old.steps × IsCounted counts old.steps → new.steps ≡ old.steps ++ Vblank Crtc crtc ∷ []
-    → NeverEnds new.steps × IsCounted (slice_set counts crtc (slice_index_or counts crtc 0 + 1)) new.steps
+pub blank-keeps : (counts : List ℕ) (old new : Run) (crtc : ℕ) → crtc < length counts → NeverEnds old.steps × AreBlankingCounts counts old.steps → new.steps ≡ old.steps ++ Vblank Crtc crtc ∷ []
+    → NeverEnds new.steps × AreBlankingCounts (slice_set counts crtc (slice_index_or counts crtc 0 + 1)) new.steps
 blank-keeps counts old new crtc few kept steps = (
   subst NeverEnds (sym steps) (All-append IsNoEnd old.steps (Vblank Crtc crtc ∷ []) kept.0 (All-cons IsNoEnd (Vblank Crtc crtc) [] refl (All-nil IsNoEnd))),
   λ k. at k ∙ ap (blankings k) (sym steps),

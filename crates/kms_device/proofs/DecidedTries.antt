@@ -21,10 +21,10 @@ use Rattle.kms_stores.specs.declared.looking.Decided.TheVariants as answer
 use Rattle.kms_stores.specs.Run.{Run, machine}
 use Rattle.kms_device.specs.declared.attempt.Attempt.{Attempt}
 use Rattle.kms_device.specs.declared.attempt.Attempted.TheVariants as attempted
-use Rattle.kms_device.specs.Attempts.{ComesNext, MayAttempt, Records, Serves, is_lock, new_attempt}
+use Rattle.kms_device.specs.Attempts.{ComesNext, MayAttempt, IsLastReply, Serves, is_lock, new_attempt}
 use Rattle.kms_device.specs.Steps.{owner}
 use Rattle.kms_device.specs.Trying.{DidAndKeeps, DidNothing, IsReady}
-use Rattle.kms_device.specs.Turns.{DevicePass, Turn, seen}
+use Rattle.kms_device.specs.Turns.{DevicePass, DeviceTurn, run_seen}
 use Rattle.kms_device.proofs.Deciding.{request-found}
 use Rattle.kms_device.proofs.Stepping.{found-is, next-after, rank-after, seen-after, start_refl}
 use Rattle.kms_device.proofs.Serving.{serves_new}
@@ -35,7 +35,7 @@ use Rattle.kms_device.proofs.Went.{went_later}
 -- What is recorded
 
 -- a decision records its reply
-pub recorded : (m : Machine) (client : ℕ) (r : Reply) → Records (decided m client r) client (place_at m client).command r
+pub recorded : (m : Machine) (client : ℕ) (r : Reply) → IsLastReply (decided m client r) client (place_at m client).command r
 recorded m client r = record { place = length m.records.journal; before = m.records.replies; last = refl }
 
 reserved_same : (t : Topology) (m : Machine) (client : ℕ) (r : Request) (b : Bool) → wants_event r.flags ≡ b → (reserves t m client r).records ≡ m.records
@@ -47,7 +47,7 @@ waits_same m client k r true is = rw is refl
 waits_same m client k r false is = rw is refl
 
 -- a swap records the commit's number
-pub swap_recorded : (t : Topology) (m : Machine) (client : ℕ) (r : Request) → Records (swapped_state t m client (Some r)) client (place_at m client).command (reply.Commit (length m.device.commits))
+pub swap_recorded : (t : Topology) (m : Machine) (client : ℕ) (r : Request) → IsLastReply (swapped_state t m client (Some r)) client (place_at m client).command (reply.Commit (length m.device.commits))
 unfolding swapped_state
 swap_recorded t m client r = record {
   place = length m.records.journal;
@@ -73,8 +73,8 @@ stale_one now (l ∷ ls) label was current decision (inr other) = (0, l, omega a
 
 module _ (script : Script) (p m : DevicePass) (kept : Attempt) (ticket : Ticket) (request : Request) (used : List (ℕ × Look)) (c : TakesFor script p kept ticket request used) where
   -- the step that comes next was made, and recorded a reply
-  pub answered_by : (says : Run → Type 0) (x : Step) (own : owner x ≡ p.rank) (t : Turn script says (x ∷ []) p m) (r : Reply) → ComesNext p.seen t.found p.rank kept used x
-      → Records (next script (machine t.found) x) p.rank (place_at (machine t.found) p.rank).command r → DidAndKeeps script p kept m (attempted.Answered r) new_attempt
+  pub answered_by : (says : Run → Type 0) (x : Step) (own : owner x ≡ p.rank) (t : DeviceTurn script says (x ∷ []) p m) (r : Reply) → ComesNext p.seen t.found p.rank kept used x
+      → IsLastReply (next script (machine t.found) x) p.rank (place_at (machine t.found) p.rank).command r → DidAndKeeps script p kept m (attempted.Answered r) new_attempt
   answered_by says x own t r comes records = record {
     is_attempt = record {
       stepped = stepped script says p m kept c.ready x own t used comes;
@@ -88,11 +88,11 @@ module _ (script : Script) (p m : DevicePass) (kept : Attempt) (ticket : Ticket)
       anew = refl;
     };
     goes_on = tt;
-    serves = serves_new (seen script m) p.rank;
+    serves = serves_new (run_seen script m) p.rank;
   }
 
   -- a label named something else: all look-ups were made anew, in a turn of their own
-  module _ (q : DevicePass) (says : Run → Type 0) (t : Turn script says [] p m) (told : List (ℕ × Look)) (t2 : Turn script (λ found. told ≡ lookups (world found) request) [] m q) where
+  module _ (q : DevicePass) (says : Run → Type 0) (t : DeviceTurn script says [] p m) (told : List (ℕ × Look)) (t2 : DeviceTurn script (λ found. told ≡ lookups (world found) request) [] m q) where
     abbrev Says2 : Run → Type 0
     Says2 found = told ≡ lookups (world found) request
 
@@ -102,24 +102,24 @@ module _ (script : Script) (p m : DevicePass) (kept : Attempt) (ticket : Ticket)
     ready2 : IsReady script m kept
     ready2 = ready_after script says p m kept c.ready t
 
-    at2 : request_at script (machine (seen script q)) p.rank ≡ Some request
+    at2 : request_at script (machine (run_seen script q)) p.rank ≡ Some request
     at2 =
-        subst (λ n. request_at script (machine (seen script q)) n ≡ Some request) rank
+        subst (λ n. request_at script (machine (run_seen script q)) n ≡ Some request) rank
         (ap (λ (r : Run). request_at r.script (machine r) m.rank) (found-is script Says2 m q t2)
         ∙ (request-found script m t2.found t2.finds
-        ∙ (ap (λ n. request_at script (machine (seen script m)) n) rank
+        ∙ (ap (λ n. request_at script (machine (run_seen script m)) n) rank
         ∙ (ap (λ (r : Run). request_at r.script (machine r) p.rank) (found-is script says p m t) ∙ (request-found script p t.found t.finds ∙ c.at)))))
 
-    command2 : (place_at (machine (seen script q)) p.rank).command ≡ (place_at (machine (seen script p)) p.rank).command
+    command2 : (place_at (machine (run_seen script q)) p.rank).command ≡ (place_at (machine (run_seen script p)) p.rank).command
     command2 =
-        subst (λ n. (place_at (machine (seen script q)) n).command ≡ (place_at (machine (seen script m)) n).command) rank (command-after script Says2 m q kept ready2 t2)
+        subst (λ n. (place_at (machine (run_seen script q)) n).command ≡ (place_at (machine (run_seen script m)) n).command) rank (command-after script Says2 m q kept ready2 t2)
         ∙ command-after script says p m kept c.ready t
 
-    told2 : told ≡ lookups (world (seen script q)) request
+    told2 : told ≡ lookups (world (run_seen script q)) request
     told2 = t2.said ∙ ap {B = List (ℕ × Look)} (λ (r : Run). lookups (world r) request) (sym (found-is script Says2 m q t2))
 
-    serves2 : Serves (seen script q) p.rank kept
-    serves2 = subst (λ n. Serves (seen script q) n kept) rank (serves_after script Says2 m q kept ready2 t2)
+    serves2 : Serves (run_seen script q) p.rank kept
+    serves2 = subst (λ n. Serves (run_seen script q) n kept) rank (serves_after script Says2 m q kept ready2 t2)
 
     pub looked_again : (asks : Move) → IsMove script.topology request used kept.states asks → is_lock asks ≡ false → (label : ℕ) (was current : Look) (decision : Decided) → IsDecided (look_up (world t.found)) used decision (answer.Again label was current) → DidAndKeeps script p kept q attempted.Did (record kept { looks = Some told })
     looked_again asks is_move no_lock label was current decision is_stale = record {
@@ -137,23 +137,23 @@ module _ (script : Script) (p m : DevicePass) (kept : Attempt) (ticket : Ticket)
         looks = ap Some told2;
         states = refl;
       }));
-      goes_on = record { may = subst (MayAttempt (seen script q)) rank (may_after script Says2 m q kept ready2 t2); command = command2 };
+      goes_on = record { may = subst (MayAttempt (run_seen script q)) rank (may_after script Says2 m q kept ready2 t2); command = command2 };
       serves = record {
-        looks = λ looks is. record { request = request; at = at2; early = (seen script q).steps; begins = start_refl (seen script q).steps; told = sym (some_in told looks is) ∙ told2 };
+        looks = λ looks is. record { request = request; at = at2; early = (run_seen script q).steps; begins = start_refl (run_seen script q).steps; told = sym (some_in told looks is) ∙ told2 };
         states = serves2.states;
         fresh = serves2.fresh;
       };
     }
 
 -- two turns that added nothing
-pub in_vain : (script : Script) (says says2 : Run → Type 0) (p m q : DevicePass) (kept : Attempt) → IsReady script p kept → Turn script says [] p m → Turn script says2 [] m q → DidNothing script p q
+pub in_vain : (script : Script) (says says2 : Run → Type 0) (p m q : DevicePass) (kept : Attempt) → IsReady script p kept → DeviceTurn script says [] p m → DeviceTurn script says2 [] m q → DidNothing script p q
 in_vain script says says2 p m q kept ready t t2 =
     let ready2 : IsReady script m kept = ready_after script says p m kept ready t in record {
       went = went_later [] p m q (went_on script says p m kept ready t) (went_on script says2 m q kept ready2 t2);
       stays = record {
-        may = subst (MayAttempt (seen script q)) (rank-after script says [] p m t) (may_after script says2 m q kept ready2 t2);
+        may = subst (MayAttempt (run_seen script q)) (rank-after script says [] p m t) (may_after script says2 m q kept ready2 t2);
         command =
-            subst (λ n. (place_at (machine (seen script q)) n).command ≡ (place_at (machine (seen script m)) n).command) (rank-after script says [] p m t) (command-after script says2 m q kept ready2 t2)
+            subst (λ n. (place_at (machine (run_seen script q)) n).command ≡ (place_at (machine (run_seen script m)) n).command) (rank-after script says [] p m t) (command-after script says2 m q kept ready2 t2)
             ∙ command-after script says p m kept ready t;
       };
     }

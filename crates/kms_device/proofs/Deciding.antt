@@ -40,13 +40,13 @@ use Rattle.kms_laws.proofs.NeverStuck.{history_along}
 use Rattle.kms_laws.proofs.OldLookUps.{ask_within_reach}
 use Rattle.kms_laws.proofs.Sizes.{command-there}
 use Rattle.kms_laws.proofs.Steps.{IsPlainScript, request-is, value-is}
-use Rattle.kms_track.specs.Places.{object_at}
+use Rattle.kms_track.specs.Places.{object_at_place}
 use Rattle.kms_stores.specs.Decisions.{IsAccepted, IsDeciding, IsRefusedLate, MayRefuse, MayTest, taker, world}
 use Rattle.kms_calls.specs.Locks.{IsTaking, MayLock}
 use Rattle.kms_stores.specs.Run.{Run, machine}
 use Rattle.kms_stores.specs.Swaps.{MaySwap}
 use Rattle.kms_device.specs.Asking.{AreOfLocks, HoldsEach, IsAcceptedWith, IsDecidingFor, IsRefusedWith, MayAskFor, MayBeRefused, MayBeSwapped, MayBeTested, TakesLocks}
-use Rattle.kms_device.specs.Turns.{DevicePass, MayBeFound, seen}
+use Rattle.kms_device.specs.Turns.{DevicePass, MayBeFound, run_seen}
 use Rattle.kms_device.proofs.Found.{going-found, history, place-found, stays-found}
 use Rattle.kms_device.proofs.Holding.{Keeps, holds-is, keeps_step}
 use Rattle.kms_device.proofs.Runs.{legal-before, legal-behind, run-append}
@@ -87,13 +87,13 @@ module _ (script : Script) (pass : DevicePass) (found : Run) (f : MayBeFound scr
       let few = few_of script.topology kind (few_objects script.topology plain.device) in
       let l = ltb-true index (count_of script.topology kind) there in kind_of-object kind index (omega (arith, few, l))
 
-  holds_each : {S : Type 0} (kind : Kind) (states : List (Option (Both S))) → HoldsEach (seen script pass) pass.rank kind states → HoldsEach found pass.rank kind states
+  holds_each : {S : Type 0} (kind : Kind) (states : List (Option (Both S))) → HoldsEach (run_seen script pass) pass.rank kind states → HoldsEach found pass.rank kind states
   holds_each kind states each index both is =
       let one = each index both is in
       (subst (λ (s : Script). exists s.topology kind index ≡ true) (sym f.same) one.0, held-found (object_id kind index) one.1)
 
   -- duplicates that were of the locks of the client of the pass are so still
-  pub of_locks : (d : Duplicates) → AreOfLocks (seen script pass) pass.rank d → AreOfLocks found pass.rank d
+  pub of_locks : (d : Duplicates) → AreOfLocks (run_seen script pass) pass.rank d → AreOfLocks found pass.rank d
   of_locks d own = record {
     crtcs = holds_each Crtc d.crtcs own.crtcs;
     planes = holds_each Plane d.planes own.planes;
@@ -119,7 +119,7 @@ module _ (script : Script) (pass : DevicePass) (found : Run) (f : MayBeFound scr
       ∙ ap (λ (p : Place). request_in (command_of script (record { client = pass.rank; command = p.command }))) (place-found script pass found f)
 
   -- the client of the pass is the one whose context has the ticket
-  module _ (t : Ticket) (used : List (ℕ × Look)) (request : Request) (d : IsDecidingFor (seen script pass) pass.rank t used request) where
+  module _ (t : Ticket) (used : List (ℕ × Look)) (request : Request) (d : IsDecidingFor (run_seen script pass) pass.rank t used request) where
     taking : doing_at (machine found) pass.rank ≡ doing.Taking t
     taking = ap (λ (p : Place). p.doing) (place-found script pass found f) ∙ d.taking
 
@@ -144,7 +144,7 @@ module _ (script : Script) (pass : DevicePass) (found : Run) (f : MayBeFound scr
       going = going-found script pass found f;
     }
 
-    refused_late : (why : Refusal) → IsRefusedWith (seen script pass) pass.rank used request why → IsRefusedLate found t.0 used request why
+    refused_late : (why : Refusal) → IsRefusedWith (run_seen script pass) pass.rank used request why → IsRefusedLate found t.0 used request why
     refused_late why r =
         let own = of_locks r.duplicates r.taken in
         record {
@@ -160,7 +160,7 @@ module _ (script : Script) (pass : DevicePass) (found : Run) (f : MayBeFound scr
               (subst (λ (s : Script). touches s.topology w request object ≡ true) f.same touch)));
         }
 
-    accepted : (resolved : Resolved) (checked : Checked) → IsAcceptedWith (seen script pass) pass.rank used request resolved checked → IsAccepted found t.0 used request resolved checked
+    accepted : (resolved : Resolved) (checked : Checked) → IsAcceptedWith (run_seen script pass) pass.rank used request resolved checked → IsAccepted found t.0 used request resolved checked
     accepted resolved checked a =
         let own = of_locks a.duplicates a.taken in
         record {
@@ -168,10 +168,10 @@ module _ (script : Script) (pass : DevicePass) (found : Run) (f : MayBeFound scr
           given = record { asks = subst (λ (s : Script). IsResolved s.topology (look_in used) request resolved) (sym f.same) a.asks; old = own.old };
           gives = subst (λ (s : Script). GivesChecked s.topology request resolved a.duplicates checked) (sym f.same) a.gives;
           passes = subst (λ (s : Script). (w : World) → IsOfRequest s.topology w request resolved a.duplicates → late_in s.topology w request ≡ None) (sym f.same) a.passes;
-          holds = λ p l has. subst (λ c. holds (machine found) c (object_at p) ≡ true) (sym the_taker) (held-found (object_at p) (a.holds p l has));
+          holds = λ p l has. subst (λ c. holds (machine found) c (object_at_place p) ≡ true) (sym the_taker) (held-found (object_at_place p) (a.holds p l has));
         }
 
-  pub may_refuse : (t : Ticket) (used : List (ℕ × Look)) (why : Refusal) → MayBeRefused (seen script pass) pass.rank t used why → MayRefuse found t.0 used why
+  pub may_refuse : (t : Ticket) (used : List (ℕ × Look)) (why : Refusal) → MayBeRefused (run_seen script pass) pass.rank t used why → MayRefuse found t.0 used why
   may_refuse t used why h = record {
     request = h.request;
     deciding = is_deciding t used h.request h.deciding;
@@ -180,7 +180,7 @@ module _ (script : Script) (pass : DevicePass) (found : Run) (f : MayBeFound scr
         (λ late. inr (refused_late t used h.request h.deciding why late)) h.due;
   }
 
-  pub may_test : (t : Ticket) (used : List (ℕ × Look)) (checked : Checked) → MayBeTested (seen script pass) pass.rank t used checked → MayTest found t.0 used checked
+  pub may_test : (t : Ticket) (used : List (ℕ × Look)) (checked : Checked) → MayBeTested (run_seen script pass) pass.rank t used checked → MayTest found t.0 used checked
   may_test t used checked h = record {
     request = h.request;
     deciding = is_deciding t used h.request h.deciding;
@@ -189,7 +189,7 @@ module _ (script : Script) (pass : DevicePass) (found : Run) (f : MayBeFound scr
     test = h.test;
   }
 
-  pub may_swap : (t : Ticket) (used : List (ℕ × Look)) (checked : Checked) (resolved : Resolved) → MayBeSwapped (seen script pass) pass.rank t used checked resolved → MaySwap found t.0 used checked resolved
+  pub may_swap : (t : Ticket) (used : List (ℕ × Look)) (checked : Checked) (resolved : Resolved) → MayBeSwapped (run_seen script pass) pass.rank t used checked resolved → MaySwap found t.0 used checked resolved
   may_swap t used checked resolved h = record {
     request = h.request;
     deciding = is_deciding t used h.request h.deciding;
@@ -199,7 +199,7 @@ module _ (script : Script) (pass : DevicePass) (found : Run) (f : MayBeFound scr
   }
 
   -- an object that the request touches wherever it was resolved and checked as it was is in its reach
-  reach-found : (t : Ticket) (id : ObjId) (h : MayAskFor (seen script pass) pass.rank t id) → reaches found.script.topology (world found) h.takes.request id.0 ≡ true
+  reach-found : (t : Ticket) (id : ObjId) (h : MayAskFor (run_seen script pass) pass.rank t id) → reaches found.script.topology (world found) h.takes.request id.0 ≡ true
   reach-found t id h =
       let rest = f.history.begins.0 in
       let late = h.begins.0 ++ rest in
@@ -216,7 +216,7 @@ module _ (script : Script) (pass : DevicePass) (found : Run) (f : MayBeFound scr
       (subst (λ (m : Machine). reaches script.topology m.device.world h.takes.request id.0 ≡ true) now there)
 
   -- an object that is in the reach of the request may be asked for
-  pub lock_found : (t : Ticket) (id : ObjId) (h : TakesLocks (seen script pass) pass.rank t id) → reaches found.script.topology (world found) h.request id.0 ≡ true → MayLock found t id × IsTaking found pass.rank t
+  pub lock_found : (t : Ticket) (id : ObjId) (h : TakesLocks (run_seen script pass) pass.rank t id) → reaches found.script.topology (world found) h.request id.0 ≡ true → MayLock found t id × IsTaking found pass.rank t
   lock_found t id h reach =
       let taking = ap (λ (p : Place). p.doing) (place-found script pass found f) ∙ h.taking in (
         record {
@@ -230,5 +230,5 @@ module _ (script : Script) (pass : DevicePass) (found : Run) (f : MayBeFound scr
         taking,
       )
 
-  pub may_lock : (t : Ticket) (id : ObjId) → MayAskFor (seen script pass) pass.rank t id → MayLock found t id × IsTaking found pass.rank t
+  pub may_lock : (t : Ticket) (id : ObjId) → MayAskFor (run_seen script pass) pass.rank t id → MayLock found t id × IsTaking found pass.rank t
   may_lock t id h = lock_found t id h.takes (reach-found t id h)

@@ -41,11 +41,11 @@ use Rattle.kms_stores.proofs.Verdicts.{refuses}
 use Rattle.kms_device.specs.declared.attempt.Attempt.{Attempt}
 use Rattle.kms_device.specs.declared.attempt.Attempted.{Attempted}
 use Rattle.kms_device.specs.declared.attempt.Attempted.TheVariants as attempted
-use Rattle.kms_device.specs.Attempts.{ComesNext, Records, WaitsAt, is_lock, new_attempt, step_of_move}
+use Rattle.kms_device.specs.Attempts.{ComesNext, IsLastReply, WaitsAt, is_lock, new_attempt, step_of_move}
 use Rattle.kms_device.specs.Asking.{MayBeRefused, MayBeSwapped}
 use Rattle.kms_device.specs.Steps.{owner}
 use Rattle.kms_device.specs.Trying.{Concludes, DidAndKeeps, DidNothing, IsTold, LooksAnew, LooksInVain}
-use Rattle.kms_device.specs.Turns.{DevicePass, Turn, seen}
+use Rattle.kms_device.specs.Turns.{DevicePass, DeviceTurn, run_seen}
 use Rattle.kms_device.proofs.Deciding as at_turn
 use Rattle.kms_device.proofs.Deciding.{may_refuse, request-found, the_taker}
 use Rattle.kms_device.proofs.DecidedTries.{answered_by, in_vain, looked_again, recorded, swap_recorded}
@@ -134,15 +134,15 @@ as_told script p kept m q told did given keeps is did_so =
 
 module _ (script : Script) (p m q : DevicePass) (kept : Attempt) (ticket : Ticket) (request : Request) (used : List (ℕ × Look)) (c : TakesFor script p kept ticket request used) (did : Attempted) (keeps : Attempt) where
   -- a decision with a reply, by the lemma of the core
-  by_decision : (says : Run → Type 0) (x : Step) (own : owner x ≡ p.rank) (t : Turn script says (x ∷ []) p m) (r : Reply) → ComesNext p.seen t.found p.rank kept used x → next script (machine t.found) x ≡ decided (machine t.found) p.rank r
+  by_decision : (says : Run → Type 0) (x : Step) (own : owner x ≡ p.rank) (t : DeviceTurn script says (x ∷ []) p m) (r : Reply) → ComesNext p.seen t.found p.rank kept used x → next script (machine t.found) x ≡ decided (machine t.found) p.rank r
       → IsTold m q did (attempted.Answered r) keeps new_attempt → DidAndKeeps script p kept q did keeps
   by_decision says x own t r comes does told =
       as_told script p kept m q (attempted.Answered r) did new_attempt keeps told
       (answered_by script p m kept ticket request used c says x own t r comes
-      (subst (λ (z : Machine). Records z p.rank (place_at (machine t.found) p.rank).command r) (sym does) (recorded (machine t.found) p.rank r)))
+      (subst (λ (z : Machine). IsLastReply z p.rank (place_at (machine t.found) p.rank).command r) (sym does) (recorded (machine t.found) p.rank r)))
 
   -- look-ups that grew old
-  again : (asks : Move) → IsMove script.topology request used kept.states asks → is_lock asks ≡ false → (says : Run → Type 0) (t : Turn script says [] p m) (label : ℕ) (was now : Look) (decision : Decided) → IsDecided (look_up (world t.found)) used decision (answer.Again label was now)
+  again : (asks : Move) → IsMove script.topology request used kept.states asks → is_lock asks ≡ false → (says : Run → Type 0) (t : DeviceTurn script says [] p m) (label : ℕ) (was now : Look) (decision : Decided) → IsDecided (look_up (world t.found)) used decision (answer.Again label was now)
       → LooksAnew script request kept m q did keeps → DidAndKeeps script p kept q did keeps
   again asks is_move no_lock says t label was now decision stale anew =
       subst (λ x. DidAndKeeps script p kept q x keeps) (sym anew.did_is)
@@ -151,7 +151,7 @@ module _ (script : Script) (p m q : DevicePass) (kept : Attempt) (ticket : Ticke
 
   -- `refuse`
   module _ (why : Refusal) (refused : RefusedBy script.topology request used kept.states why) where
-    pub refuses_so : (a : Decided) → Turn script (λ found. IsDecided (look_up (world found)) used (answer.Done (reply.Refused why)) a) (steps_of p.rank (step.Refuse p.rank) a) p m
+    pub refuses_so : (a : Decided) → DeviceTurn script (λ found. IsDecided (look_up (world found)) used (answer.Done (reply.Refused why)) a) (steps_of p.rank (step.Refuse p.rank) a) p m
         → Concludes script request kept m a q did keeps → DidAndKeeps script p kept q did keeps
     refuses_so (answer.Done r) t told =
         by_decision (λ found. IsDecided (look_up (world found)) used (answer.Done (reply.Refused why)) (answer.Done r)) (step.Refuse p.rank) refl t r
@@ -161,7 +161,7 @@ module _ (script : Script) (p m q : DevicePass) (kept : Attempt) (ticket : Ticke
         same : r ≡ reply.Refused why
         same = (let e = t.said.1 in cc)
 
-        may_be : MayBeRefused (seen script p) p.rank ticket used why
+        may_be : MayBeRefused (run_seen script p) p.rank ticket used why
         may_be = may_refuse_by script p kept ticket request used c why refused
 
         does : next t.found.script (machine t.found) (step.Refuse p.rank) ≡ decided (machine t.found) p.rank (reply.Refused why)
@@ -177,7 +177,7 @@ module _ (script : Script) (p m q : DevicePass) (kept : Attempt) (ticket : Ticke
     abbrev asks : Move
     asks = move.Accept checked resolved
 
-    pub tests_so : is_test request.flags ≡ true → (a : Decided) → Turn script (λ found. IsDecided (look_up (world found)) used (answer.Done reply.Tested) a) (steps_of p.rank (step.Test p.rank) a) p m
+    pub tests_so : is_test request.flags ≡ true → (a : Decided) → DeviceTurn script (λ found. IsDecided (look_up (world found)) used (answer.Done reply.Tested) a) (steps_of p.rank (step.Test p.rank) a) p m
         → Concludes script request kept m a q did keeps → DidAndKeeps script p kept q did keeps
     unfolding next
     tests_so test (answer.Done r) t told =
@@ -197,11 +197,11 @@ module _ (script : Script) (p m q : DevicePass) (kept : Attempt) (ticket : Ticke
       abbrev Swaps : Run → Type 0
       Swaps found = IsDecided (look_up (world found)) used (swap_answer found p.rank) a
 
-      at_found : (xs : List Step) (t : Turn script Swaps xs p m) → request_at t.found.script (machine t.found) p.rank ≡ Some request
+      at_found : (xs : List Step) (t : DeviceTurn script Swaps xs p m) → request_at t.found.script (machine t.found) p.rank ≡ Some request
       at_found xs t = request-found script p t.found t.finds ∙ c.at
 
       -- what it answers, in the machine's words
-      answer_is : (xs : List Step) (t : Turn script Swaps xs p m) → swap_answer t.found p.rank
+      answer_is : (xs : List Step) (t : DeviceTurn script Swaps xs p m) → swap_answer t.found p.rank
           ≡ refused_or (late_reply t.found.script.topology (machine t.found) p.rank request) (waits_or_commits (awaited_answer t.found.script.topology (machine t.found) request) (length (machine t.found).device.commits))
       answer_is xs t = ap (swap_answer_of t.found.script.topology (machine t.found) p.rank) (at_found xs t)
 
@@ -211,15 +211,15 @@ module _ (script : Script) (p m q : DevicePass) (kept : Attempt) (ticket : Ticke
           ap (λ b. if b then step.Test p.rank else (if is_some (late_reply r.script.topology (machine r) p.rank request) then step.Refuse p.rank else step.Swap p.rank)) no_test
           ∙ ap (λ o. if is_some o then step.Refuse p.rank else step.Swap p.rank) is
 
-    pub swaps_so : is_test request.flags ≡ false → (a : Decided) → Turn script (λ found. IsDecided (look_up (world found)) used (swap_answer found p.rank) a) (steps_of p.rank (step.Swap p.rank) a) p m
+    pub swaps_so : is_test request.flags ≡ false → (a : Decided) → DeviceTurn script (λ found. IsDecided (look_up (world found)) used (swap_answer found p.rank) a) (steps_of p.rank (step.Swap p.rank) a) p m
         → Concludes script request kept m a q did keeps → DidAndKeeps script p kept q did keeps
     unfolding next
     swaps_so no_test (answer.Done r) t told =
         as_told script p kept m q (attempted.Answered r) did new_attempt keeps told
         (answered_by script p m kept ticket request used c _ (step.Swap p.rank) refl t r
         (subst (λ x. ComesNext p.seen t.found p.rank kept used x) (step_is no_test (answer.Done r) t.found None commits.none_late) (comes_found script p m kept ticket request used c _ (step.Swap p.rank ∷ []) t asks accepted))
-        (subst (λ (z : Machine). Records z p.rank (place_at (machine t.found) p.rank).command r) (sym swapped)
-        (subst (λ x. Records (swapped_state script.topology (machine t.found) p.rank (Some request)) p.rank (place_at (machine t.found) p.rank).command x) (sym commits.is_number) (swap_recorded script.topology (machine t.found) p.rank request))))
+        (subst (λ (z : Machine). IsLastReply z p.rank (place_at (machine t.found) p.rank).command r) (sym swapped)
+        (subst (λ x. IsLastReply (swapped_state script.topology (machine t.found) p.rank (Some request)) p.rank (place_at (machine t.found) p.rank).command x) (sym commits.is_number) (swap_recorded script.topology (machine t.found) p.rank request))))
       where
         commits : Commits (late_reply t.found.script.topology (machine t.found) p.rank request) (awaited_answer t.found.script.topology (machine t.found) request) (length (machine t.found).device.commits) r
         commits = done_of (late_reply t.found.script.topology (machine t.found) p.rank request) (awaited_answer t.found.script.topology (machine t.found) request) (length (machine t.found).device.commits) r (t.said.1 ∙ answer_is no_test (answer.Done r) _ t)
@@ -234,7 +234,7 @@ module _ (script : Script) (p m q : DevicePass) (kept : Attempt) (ticket : Ticke
         late : late_reply t.found.script.topology (machine t.found) p.rank request ≡ Some r
         late = refused_of (late_reply t.found.script.topology (machine t.found) p.rank request) (awaited_answer t.found.script.topology (machine t.found) request) (length (machine t.found).device.commits) r (t.said.1 ∙ answer_is no_test (answer.Refused r) _ t)
 
-        may_be : MayBeSwapped (seen script p) p.rank ticket used checked resolved
+        may_be : MayBeSwapped (run_seen script p) p.rank ticket used checked resolved
         may_be = may_swap_by script p kept ticket request used c checked resolved accepted no_test
 
         ready : IsReadyToCommit t.found p.rank checked resolved.flags
@@ -260,7 +260,7 @@ module _ (script : Script) (p m q : DevicePass) (kept : Attempt) (ticket : Ticke
 
 -- no memory for new look-ups: nothing was done
 pub vain_so : (script : Script) (p m q : DevicePass) (kept : Attempt) (ticket : Ticket) (request : Request) (used : List (ℕ × Look)) (c : TakesFor script p kept ticket request used) (says : Run → Type 0) (x : Step) (a : Decided)
-    → Turn script says (steps_of p.rank x a) p m → LooksInVain script a m q → DidNothing script p q
+    → DeviceTurn script says (steps_of p.rank x a) p m → LooksInVain script a m q → DidNothing script p q
 vain_so script p m q kept ticket request used c says x (answer.Again label was now) t vain = in_vain script says (λ found. ⊤) p m q kept c.ready t vain.turn
 vain_so script p m q kept ticket request used c says x (answer.Done r) t vain = (let e = vain.again in absurd cc)
 vain_so script p m q kept ticket request used c says x (answer.Refused r) t vain = (let e = vain.again in absurd cc)

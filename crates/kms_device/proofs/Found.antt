@@ -16,8 +16,8 @@ use Rattle.kms_stores.specs.Calls.{MayMake, MayRead, MayReturn, MaySignal}
 use Rattle.kms_calls.specs.Locks.{HasContext, MayBackOff, MayBegin, MayRelock}
 use Rattle.kms_stores.specs.Run.{Run, machine}
 use Rattle.kms_clients.specs.Standing.{ticket_in}
-use Rattle.kms_device.specs.Asking.{HasBackedOff, MustBackOff}
-use Rattle.kms_device.specs.Turns.{DevicePass, MayBeFound, seen}
+use Rattle.kms_device.specs.Asking.{ContextBackedOff, ContextMustBackOff}
+use Rattle.kms_device.specs.Turns.{DevicePass, MayBeFound, run_seen}
 use Rattle.kms_device.proofs.Runs.{legal-behind, open-at, run-append, stays}
 use Rattle.kms_device.proofs.Staying.{same_place}
 
@@ -64,22 +64,22 @@ module _ (script : Script) (pass : DevicePass) (found : Run) (f : MayBeFound scr
   may-idle : (test : Command → Bool) → (not (at script pass.seen).stalled && idle_at script (at script pass.seen) pass.rank test) ≡ true → (not (machine found).stalled && idle_at found.script (machine found) pass.rank test) ≡ true
   may-idle test h = and_from (not (machine found).stalled) _ (ap not going-found) (idle-found test (and_parts (not (at script pass.seen).stalled) _ h).1)
 
-  pub may_make : (client : ℕ) → pass.rank ≡ client → MayMake (seen script pass) client → MayMake found client
+  pub may_make : (client : ℕ) → pass.rank ≡ client → MayMake (run_seen script pass) client → MayMake found client
   unfolding legal may
-  may_make client whose h = subst (MayMake found) whose (may-idle is_making (subst (MayMake (seen script pass)) (sym whose) h))
+  may_make client whose h = subst (MayMake found) whose (may-idle is_making (subst (MayMake (run_seen script pass)) (sym whose) h))
 
-  pub may_signal : (client : ℕ) → pass.rank ≡ client → MaySignal (seen script pass) client → MaySignal found client
+  pub may_signal : (client : ℕ) → pass.rank ≡ client → MaySignal (run_seen script pass) client → MaySignal found client
   unfolding legal may
-  may_signal client whose h = subst (MaySignal found) whose (may-idle is_signal (subst (MaySignal (seen script pass)) (sym whose) h))
+  may_signal client whose h = subst (MaySignal found) whose (may-idle is_signal (subst (MaySignal (run_seen script pass)) (sym whose) h))
 
-  pub may_begin : (client : ℕ) → pass.rank ≡ client → MayBegin (seen script pass) client → MayBegin found client
+  pub may_begin : (client : ℕ) → pass.rank ≡ client → MayBegin (run_seen script pass) client → MayBegin found client
   unfolding legal may
-  may_begin client whose h = subst (MayBegin found) whose (may-idle is_atomic (subst (MayBegin (seen script pass)) (sym whose) h))
+  may_begin client whose h = subst (MayBegin found) whose (may-idle is_atomic (subst (MayBegin (run_seen script pass)) (sym whose) h))
 
-  pub may_read : (client : ℕ) → pass.rank ≡ client → MayRead (seen script pass) client → MayRead found client
-  may_read client whose h = subst (MayRead found) whose (idle-found is_wait (subst (MayRead (seen script pass)) (sym whose) h))
+  pub may_read : (client : ℕ) → pass.rank ≡ client → MayRead (run_seen script pass) client → MayRead found client
+  may_read client whose h = subst (MayRead found) whose (idle-found is_wait (subst (MayRead (run_seen script pass)) (sym whose) h))
 
-  pub may_return : (client : ℕ) → pass.rank ≡ client → MayReturn (seen script pass) client → MayReturn found client
+  pub may_return : (client : ℕ) → pass.rank ≡ client → MayReturn (run_seen script pass) client → MayReturn found client
   may_return client whose h = record {
     low = h.low;
     high = subst (λ (s : Script). client ≤ length s.clients) (sym f.same) h.high;
@@ -89,12 +89,12 @@ module _ (script : Script) (pass : DevicePass) (found : Run) (f : MayBeFound scr
         (ap (λ (p : Place). returning_of p.doing) place-found ∙ subst (λ c. returning_of (doing_at (at script pass.seen) c) ≡ Some h.commit) (sym whose) h.returning);
   }
 
-  pub may_back_off : (t : Ticket) → MustBackOff (seen script pass) pass.rank t → MayBackOff found t × HasContext found pass.rank t
+  pub may_back_off : (t : Ticket) → ContextMustBackOff (run_seen script pass) pass.rank t → MayBackOff found t × HasContext found pass.rank t
   may_back_off t h =
       let must = ap (λ (p : Place). p.doing) place-found ∙ h.must in
       (record { client = pass.rank; object = h.object; must = must; goes_on = going-found }, ap ticket_in must)
 
-  pub may_relock : (t : Ticket) → HasBackedOff (seen script pass) pass.rank t → MayRelock found t × HasContext found pass.rank t
+  pub may_relock : (t : Ticket) → ContextBackedOff (run_seen script pass) pass.rank t → MayRelock found t × HasContext found pass.rank t
   may_relock t h =
       let off = ap (λ (p : Place). p.doing) place-found ∙ h.off in
       (record { client = pass.rank; object = h.object; off = off; goes_on = going-found }, ap ticket_in off)

@@ -26,9 +26,9 @@ use Rattle.kms_stores.specs.Swaps.{late_reply}
 use Rattle.kms_device.specs.declared.attempt.Attempt.{Attempt}
 use Rattle.kms_device.specs.declared.attempt.Attempted.{Attempted}
 use Rattle.kms_device.specs.declared.attempt.Attempted.TheVariants as attempted
-use Rattle.kms_device.specs.Attempts.{AreLookedUp, AsksNext, ComesNext, ComesNextAt, ComesNextTaking, FindsRequest, GoesOnAt, IsAttempt, Records, Serves, StaysAt, Stepped, Uses, WaitsAt, Went, looks_after, states_after, step_of_move}
-use Rattle.kms_device.specs.Trying.{IsReady, Takes, Tried, with_looks}
-use Rattle.kms_device.specs.Turns.{DevicePass, Turn, seen}
+use Rattle.kms_device.specs.Attempts.{AreLookedUp, AsksNext, ComesNext, ComesNextAt, ComesNextTaking, FindsRequest, GoesOnAt, IsAttempt, IsLastReply, Serves, StaysAt, Stepped, Uses, WaitsAt, Went, looks_after, states_after, step_of_move}
+use Rattle.kms_device.specs.Trying.{IsReady, TakesLocksFor, Tried, with_looks}
+use Rattle.kms_device.specs.Turns.{DevicePass, DeviceTurn, run_seen}
 use Rattle.kms_device.proofs.Deciding.{request-found}
 use Rattle.kms_device.proofs.Stepping.{found-is, found-place, rank-after, request-same, start_refl, start_trans}
 use Rattle.kms_device.proofs.TurnsTried.{ready_after, went_on}
@@ -82,11 +82,11 @@ looks_of_move r client request kept used (move.Accept checked resolved) = by (is
 
 -- A turn that added nothing, and then the rest of an attempt
 
-module _ (script : Script) (says : Run → Type 0) (p m q : DevicePass) (first : Attempt) (ready : IsReady script p first) (t : Turn script says [] p m) where
+module _ (script : Script) (says : Run → Type 0) (p m q : DevicePass) (first : Attempt) (ready : IsReady script p first) (t : DeviceTurn script says [] p m) where
   went : Went [] p m
   went = went_on script says p m first ready t
 
-  place : place_at (machine (seen script m)) p.rank ≡ place_at (machine (seen script p)) p.rank
+  place : place_at (machine (run_seen script m)) p.rank ≡ place_at (machine (run_seen script p)) p.rank
   place = ap (λ (r : Run). place_at (machine r) p.rank) (found-is script says p m t) ∙ found-place script says [] p m t
 
   since : (xs : List Step) → IsStart m.seen xs → IsStart p.seen xs
@@ -127,13 +127,13 @@ module _ (script : Script) (says : Run → Type 0) (p m q : DevicePass) (first :
         | inl took ↦ inl (record {
           went = went_later [] p m q went took.went;
           object = took.object;
-          finds = finds_earlier (seen script q) took.finds;
+          finds = finds_earlier (run_seen script q) took.finds;
           used = took.used;
-          comes = comes_earlier (seen script q) took.used (lock_step p.rank took.object) took.finds took.comes;
+          comes = comes_earlier (run_seen script q) took.used (lock_step p.rank took.object) took.finds took.comes;
           held = took.held;
           lacked = ap (λ d. is_duplicated d took.object.0) states ∙ took.lacked;
           looks = took.looks;
-          has = took.has ∙ ap (λ d. duplicated d took.object.0 (present_state (seen script q) took.object)) (sym states);
+          has = took.has ∙ ap (λ d. duplicated d took.object.0 (present_state (run_seen script q) took.object)) (sym states);
         })
         | inr looked ↦ inr (record {
           went = went_later [] p m q went looked.went;
@@ -166,14 +166,14 @@ module _ (script : Script) (says : Run → Type 0) (p m q : DevicePass) (first :
     }
     attempt_earlier new (attempted.Answered r) is = record {
       stepped = stepped_earlier is.stepped;
-      records = subst (λ n. Records (machine (seen script q)) p.rank n r) (ap (λ (x : Place). x.command) place) is.records;
+      records = subst (λ n. IsLastReply (machine (run_seen script q)) p.rank n r) (ap (λ (x : Place). x.command) place) is.records;
       anew = is.anew;
     }
 
-    stays_earlier : StaysAt (seen script m) (seen script q) p.rank → StaysAt (seen script p) (seen script q) p.rank
+    stays_earlier : StaysAt (run_seen script m) (run_seen script q) p.rank → StaysAt (run_seen script p) (run_seen script q) p.rank
     stays_earlier stays = record { may = stays.may; command = stays.command ∙ ap (λ (x : Place). x.command) place }
 
-    goes_earlier : (did : Attempted) → GoesOnAt (seen script m) (seen script q) p.rank did → GoesOnAt (seen script p) (seen script q) p.rank did
+    goes_earlier : (did : Attempted) → GoesOnAt (run_seen script m) (run_seen script q) p.rank did → GoesOnAt (run_seen script p) (run_seen script q) p.rank did
     goes_earlier attempted.Did on = stays_earlier on
     goes_earlier (attempted.NotYet n) on = stays_earlier on
     goes_earlier (attempted.Answered r) on = tt
@@ -184,12 +184,12 @@ module _ (script : Script) (says : Run → Type 0) (p m q : DevicePass) (first :
     tried_earlier : {E : Type 0} (r : Result (Attempted × Attempt) E) → Tried script m kept q r → Tried script p kept2 q r
     tried_earlier (Ok did) is = record {
       is_attempt = attempt_earlier did.1 did.0 (subst (λ n. IsAttempt script n m kept q did.1 did.0) rank is.is_attempt);
-      goes_on = goes_earlier did.0 (subst (λ n. GoesOnAt (seen script m) (seen script q) n did.0) rank is.goes_on);
-      serves = subst (λ n. Serves (seen script q) n did.1) rank is.serves;
+      goes_on = goes_earlier did.0 (subst (λ n. GoesOnAt (run_seen script m) (run_seen script q) n did.0) rank is.goes_on);
+      serves = subst (λ n. Serves (run_seen script q) n did.1) rank is.serves;
     }
     tried_earlier (Err e) is = record {
       went = went_later [] p m q went is.went;
-      stays = stays_earlier (subst (StaysAt (seen script m) (seen script q)) rank is.stays);
+      stays = stays_earlier (subst (StaysAt (run_seen script m) (run_seen script q)) rank is.stays);
     }
 
   -- with the same that was kept
@@ -200,27 +200,27 @@ module _ (script : Script) (says : Run → Type 0) (p m q : DevicePass) (first :
       (λ r used x f comes. refl) r is
 
   -- where the client takes locks still
-  pub takes_later : (ticket : Ticket) (request : Request) → Takes script p ticket request → Takes script m ticket request
+  pub takes_later : (ticket : Ticket) (request : Request) → TakesLocksFor script p ticket request → TakesLocksFor script m ticket request
   takes_later ticket request takes =
       let rank : m.rank ≡ p.rank = rank-after script says [] p m t in record {
-        taking = subst (λ n. doing_at (machine (seen script m)) n ≡ doing.Taking ticket) (sym rank) (ap (λ (x : Place). x.doing) place ∙ takes.taking);
-        at = subst (λ n. request_at script (machine (seen script m)) n ≡ Some request) (sym rank)
+        taking = subst (λ n. doing_at (machine (run_seen script m)) n ≡ doing.Taking ticket) (sym rank) (ap (λ (x : Place). x.doing) place ∙ takes.taking);
+        at = subst (λ n. request_at script (machine (run_seen script m)) n ≡ Some request) (sym rank)
             (ap (λ (r : Run). request_at r.script (machine r) p.rank) (found-is script says p m t) ∙ (request-found script p t.found t.finds ∙ takes.at));
       }
 
 -- Look-ups that were made in a turn of their own serve.
-module _ (script : Script) (p m q : DevicePass) (kept : Attempt) (ready : IsReady script p kept) (none : kept.looks ≡ None) (ticket : Ticket) (request : Request) (takes : Takes script p ticket request)
-    (told : List (ℕ × Look)) (t : Turn script (λ found. told ≡ lookups (world found) request) [] p m) where
+module _ (script : Script) (p m q : DevicePass) (kept : Attempt) (ready : IsReady script p kept) (none : kept.looks ≡ None) (ticket : Ticket) (request : Request) (takes : TakesLocksFor script p ticket request)
+    (told : List (ℕ × Look)) (t : DeviceTurn script (λ found. told ≡ lookups (world found) request) [] p m) where
   abbrev Says : Run → Type 0
   Says found = told ≡ lookups (world found) request
 
-  takes_with : Takes script m ticket request
+  takes_with : TakesLocksFor script m ticket request
   takes_with = takes_later script Says p m q kept ready t ticket request takes
 
   ready2 : IsReady script m kept
   ready2 = ready_after script Says p m kept ready t
 
-  told_then : told ≡ lookups (world (seen script m)) request
+  told_then : told ≡ lookups (world (run_seen script m)) request
   told_then = t.said ∙ ap {B = List (ℕ × Look)} (λ (r : Run). lookups (world r) request) (sym (found-is script Says p m t))
 
   -- they are of what the pass has seen since
@@ -233,13 +233,13 @@ module _ (script : Script) (p m q : DevicePass) (kept : Attempt) (ready : IsRead
     told = told_then ∙ ap {B = List (ℕ × Look)} (λ s. lookups (world (record { script = s; steps = m.seen })) request) (sym same);
   }
 
-  pub ready_with : IsReady script m (with_looks told kept.states) × Takes script m ticket request
+  pub ready_with : IsReady script m (with_looks told kept.states) × TakesLocksFor script m ticket request
   ready_with = (
     record {
       is_open = ready2.is_open;
       may = ready2.may;
       serves = record {
-        looks = λ looks is. subst (AreLookedUp (seen script m) m.rank) (told_in looks is) (looked_then (seen script m) m.rank refl (start_refl m.seen) takes_with.at);
+        looks = λ looks is. subst (AreLookedUp (run_seen script m) m.rank) (told_in looks is) (looked_then (run_seen script m) m.rank refl (start_refl m.seen) takes_with.at);
         states = ready2.serves.states;
         fresh = ready2.serves.fresh;
       };
@@ -263,8 +263,8 @@ module _ (script : Script) (p m q : DevicePass) (kept : Attempt) (ready : IsRead
       at : request_at r.script (machine r) p.rank ≡ Some request
       at =
           ap (λ s. request_at s (machine r) p.rank) f.same
-          ∙ (request-same script (machine (seen script m)) (machine r) p.rank (ap (λ (x : Place). x.command) f.place)
-          ∙ subst (λ n. request_at script (machine (seen script m)) n ≡ Some request) (rank-after script Says [] p m t) takes_with.at)
+          ∙ (request-same script (machine (run_seen script m)) (machine r) p.rank (ap (λ (x : Place). x.command) f.place)
+          ∙ subst (λ n. request_at script (machine (run_seen script m)) n ≡ Some request) (rank-after script Says [] p m t) takes_with.at)
 
   -- while it takes locks, it keeps what it used
   looks_then : (r : Run) (used : List (ℕ × Look)) (x : Step) → FindsRequest script p.rank m r → ComesNext m.seen r p.rank (with_looks told kept.states) used x
@@ -278,7 +278,7 @@ module _ (script : Script) (p m q : DevicePass) (kept : Attempt) (ready : IsRead
       here =
           subst (λ d. ComesNextAt d m.seen r p.rank (with_looks told kept.states) used x)
           (ap (λ (z : Place). z.doing) f.place
-          ∙ subst (λ n. doing_at (machine (seen script m)) n ≡ doing.Taking ticket) (rank-after script Says [] p m t) takes_with.taking)
+          ∙ subst (λ n. doing_at (machine (run_seen script m)) n ≡ doing.Taking ticket) (rank-after script Says [] p m t) takes_with.taking)
           comes
 
   pub tried_with : {E : Type 0} (r : Result (Attempted × Attempt) E) → Tried script m (with_looks told kept.states) q r → Tried script p kept q r

@@ -16,7 +16,7 @@ use Rattle.kms_laws.proofs.Stalled.{legal-going}
 use Rattle.kms_laws.proofs.Steps.{history_kept}
 use Rattle.kms_work.specs.Latching.{MayBlank, goes_at}
 use Rattle.kms_stores.specs.Run.{Run, machine}
-use Rattle.kms_stores.specs.Work.{MayCleanUp, is_over}
+use Rattle.kms_stores.specs.Work.{MayCleanUp, is_commit_over}
 use Rattle.kms_device.specs.Steps.{NeverEnds, blanks_at, is_legal}
 use Rattle.kms_device.proofs.Runs.{open-at}
 
@@ -54,5 +54,5 @@ module _ (r : Run) (k : ℕ) (legal_step : is_legal r (step.Cleanup k) ≡ true)
     going = legal-going r.script (machine r) (step.Cleanup k) legal_step;
   }
 
-  pub clean-over : is_over r k ≡ true
+  pub clean-over : is_commit_over r k ≡ true
   clean-over = and_from (is_hw_done (machine r).device k) _ (and_parts (is_hw_done (machine r).device k) _ done).0 (and_parts (is_all_latched r.script.topology (machine r).device (machine r).records.latches k) _ latched).0

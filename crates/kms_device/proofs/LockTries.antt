@@ -22,7 +22,7 @@ use Rattle.kms_clients.specs.InStep.{holder_of_contended, relock_answer}
 use Rattle.kms_calls.specs.declared.contexts.Locked.{Locked}
 use Rattle.kms_calls.specs.declared.contexts.Locked.TheVariants as answer
 use Rattle.kms_stores.specs.Decisions.{world}
-use Rattle.kms_calls.specs.Locks.{object_of, present_state, relock_steps, relocked_answer, relocked_as}
+use Rattle.kms_calls.specs.Locks.{object_or_zero, present_state, relock_steps, relocked_answer, relocked_as}
 use Rattle.kms_stores.specs.Run.{Run, machine}
 use Rattle.kms_calls.specs.States.{state_of_kind}
 use Rattle.kms_device.specs.declared.attempt.Attempt.{Attempt}
@@ -30,7 +30,7 @@ use Rattle.kms_device.specs.declared.attempt.Attempted.TheVariants as attempted
 use Rattle.kms_device.specs.Attempts.{ComesNextAt, Serves, WaitsAt, taken_in}
 use Rattle.kms_device.specs.Steps.{owner}
 use Rattle.kms_device.specs.Trying.{DidAndKeeps, IsReady, attempted_of, kept_of, with_state}
-use Rattle.kms_device.specs.Turns.{DevicePass, Turn, seen}
+use Rattle.kms_device.specs.Turns.{DevicePass, DeviceTurn, run_seen}
 use Rattle.kms_device.proofs.HeldObjects.{IsLockableId, held_object}
 use Rattle.kms_device.proofs.Serving.{serves_more}
 use Rattle.kms_device.proofs.Stepping.{found-is, next-after, open-after}
@@ -55,24 +55,24 @@ state-same r r2 id scripts worlds =
 
 module _ (script : Script) (p q : DevicePass) (kept : Attempt) (ready : IsReady script p kept) where
   -- An object was taken, with its state, and nothing else changed.
-  module _ (says : Run → Type 0) (x : Step) (own : owner x ≡ p.rank) (t : Turn script says (x ∷ []) p q) (id : ObjId) where
+  module _ (says : Run → Type 0) (x : Step) (own : owner x ≡ p.rank) (t : DeviceTurn script says (x ∷ []) p q) (id : ObjId) where
     pub serves-taken : (next script (machine t.found) x).device.world ≡ (machine t.found).device.world
         → ((object : ℕ) → holds (machine t.found) p.rank object ≡ true → holds (next script (machine t.found) x) p.rank object ≡ true)
         → (place_at (next script (machine t.found) x) p.rank).command ≡ (place_at (machine t.found) p.rank).command
         → holds (next script (machine t.found) x) p.rank id.0 ≡ true
-        → Serves (seen script q) p.rank (with_state kept id (present_state t.found id))
+        → Serves (run_seen script q) p.rank (with_state kept id (present_state t.found id))
     serves-taken same keeps command held =
-        let now : machine (seen script q) ≡ next script (machine t.found) x = next-after script says x p q t in
-        let there : holds (machine (seen script q)) p.rank id.0 ≡ true = ap (λ m. holds m p.rank id.0) now ∙ held in
-        let object : IsLockableId script.topology id.0 = held_object (seen script q) p.rank id.0 (open-after script says (x ∷ []) p q t) there in
-        subst (λ s. Serves (seen script q) p.rank (with_state kept id s))
-        (state-same t.found (seen script q) id (sym t.finds.same) (ap (λ (m : Machine). m.device.world) now ∙ same))
-        (serves_more (seen script q) p.rank kept id there object.can_lock object.is_id (serves-next script says p q kept ready x own t same keeps command))
+        let now : machine (run_seen script q) ≡ next script (machine t.found) x = next-after script says x p q t in
+        let there : holds (machine (run_seen script q)) p.rank id.0 ≡ true = ap (λ m. holds m p.rank id.0) now ∙ held in
+        let object : IsLockableId script.topology id.0 = held_object (run_seen script q) p.rank id.0 (open-after script says (x ∷ []) p q t) there in
+        subst (λ s. Serves (run_seen script q) p.rank (with_state kept id s))
+        (state-same t.found (run_seen script q) id (sym t.finds.same) (ap (λ (m : Machine). m.device.world) now ∙ same))
+        (serves_more (run_seen script q) p.rank kept id there object.can_lock object.is_id (serves-next script says p q kept ready x own t same keeps command))
 
   -- The object that a context backed off for was asked for again.
-  module _ (ticket : Ticket) (object : ObjId) (off : doing_at (machine (seen script p)) p.rank ≡ doing.BackedOff ticket object) where
+  module _ (ticket : Ticket) (object : ObjId) (off : doing_at (machine (run_seen script p)) p.rank ≡ doing.BackedOff ticket object) where
     answer-is : (m : Machine) (r : Run) → doing_at (machine r) p.rank ≡ doing.BackedOff ticket object → relocked_answer r p.rank ≡ relocked_as (present_state r object) (relock_answer (machine r) (holder_at (machine r) object.0))
-    answer-is m r is = ap (λ d. relocked_as (present_state r (object_of (contended d))) (relock_answer (machine r) (holder_of_contended (machine r) (contended d)))) is
+    answer-is m r is = ap (λ d. relocked_as (present_state r (object_or_zero (contended d))) (relock_answer (machine r) (holder_of_contended (machine r) (contended d)))) is
 
     -- who took it found it free
     got-is : (r : Run) (s : ObjState) (h : Option ℕ) → answer.Got s ≡ relocked_as (present_state r object) (relock_answer (machine r) h) → s ≡ present_state r object
@@ -97,8 +97,8 @@ module _ (script : Script) (p q : DevicePass) (kept : Attempt) (ready : IsReady 
     only r a None said = ap is_relocked said
     only r a (Some holder) said = ap is_relocked said
 
-    module _ (a : Locked) (t : Turn script (λ found. a ≡ relocked_answer found p.rank) [] p q) where
-      here : doing_at (machine (seen script q)) p.rank ≡ doing.BackedOff ticket object
+    module _ (a : Locked) (t : DeviceTurn script (λ found. a ≡ relocked_answer found p.rank) [] p q) where
+      here : doing_at (machine (run_seen script q)) p.rank ≡ doing.BackedOff ticket object
       here = doing-after script (λ found. a ≡ relocked_answer found p.rank) p q kept ready t ∙ off
 
       said : a ≡ relocked_as (present_state t.found object) (relock_answer (machine t.found) (holder_at (machine t.found) object.0))
@@ -117,12 +117,12 @@ module _ (script : Script) (p q : DevicePass) (kept : Attempt) (ready : IsReady 
           and-no true = refl
           and-no false = refl
 
-    pub relocked : (a : Locked) → Turn script (λ found. a ≡ relocked_answer found p.rank) (relock_steps p.rank a) p q → DidAndKeeps script p kept q (attempted_of (length q.seen) a) (kept_of object a kept)
+    pub relocked : (a : Locked) → DeviceTurn script (λ found. a ≡ relocked_answer found p.rank) (relock_steps p.rank a) p q → DidAndKeeps script p kept q (attempted_of (length q.seen) a) (kept_of object a kept)
     unfolding next
     relocked (answer.Got s) t =
         subst (λ x. DidAndKeeps script p kept q attempted.Did (with_state kept object x)) (sym (got-is t.found s (holder_at (machine t.found) object.0) (t.said ∙ answer-is (machine t.found) t.found there)))
         (stepped_on script says p q kept ready (step.Relock p.rank) refl t (with_state kept object (present_state t.found object)) [] refl
-        (sym (ap (λ d. taken_in kept.states (object_of (contended d)).0 (present_state t.found (object_of (contended d)))) there))
+        (sym (ap (λ d. taken_in kept.states (object_or_zero (contended d)).0 (present_state t.found (object_or_zero (contended d)))) there))
         (subst (λ d. ComesNextAt d p.seen t.found p.rank kept [] (step.Relock p.rank)) (sym there) refl)
         (ap (λ (m : Machine). m.records.replies) taken) command
         (ap (λ m. returning_of (doing_at m p.rank)) taken ∙ ap (λ (z : Place). returning_of z.doing) place)

@@ -48,7 +48,7 @@ use Rattle.kms_stores.specs.Run.{Run, machine}
 use Rattle.kms_device.specs.declared.attempt.Attempt.{Attempt}
 use Rattle.kms_device.specs.Asking.{AreOfLocks, HoldsEach, IsAcceptedWith, IsDecidingFor, MayAskFor, MayBeRefused, MayBeSwapped, MayBeTested}
 use Rattle.kms_device.specs.Attempts.{AreLookedUp}
-use Rattle.kms_device.specs.Turns.{DevicePass, seen}
+use Rattle.kms_device.specs.Turns.{DevicePass, run_seen}
 use Rattle.kms_device.proofs.Runs.{legal-before, legal-behind, run-append}
 use Rattle.kms_device.proofs.TakingTries.{TakesFor}
 
@@ -123,7 +123,7 @@ has_in xs object has = (let at = list_any-some (λ n. n == object) xs has in sub
 
 module _ (script : Script) (p : DevicePass) (kept : Attempt) (ticket : Ticket) (request : Request) (used : List (ℕ × Look)) (c : TakesFor script p kept ticket request used) where
   abbrev R : Run
-  R = seen script p
+  R = run_seen script p
 
   looked : AreLookedUp R p.rank used
   looked = c.ready.serves.looks used c.has

@@ -42,8 +42,8 @@ use Rattle.kms_laws.proofs.Traversal.{step_keeps}
 use Rattle.kms_stores.specs.Decisions.{world}
 use Rattle.kms_calls.specs.Locks.{IsTaking, MayLock}
 use Rattle.kms_stores.specs.Run.{Run, machine}
-use Rattle.kms_device.specs.Asking.{HoldsGroup, IsNextByGroups, MayTake}
-use Rattle.kms_device.specs.Turns.{DevicePass, MayBeFound, seen}
+use Rattle.kms_device.specs.Asking.{HoldsGroup, IsNextByGroups, MayLockNext}
+use Rattle.kms_device.specs.Turns.{DevicePass, MayBeFound, run_seen}
 use Rattle.kms_device.proofs.Deciding.{Kept, formed, kept, kind-is, lock_found, may_lock, plain, seen-history}
 use Rattle.kms_device.proofs.Found.{stays-found}
 use Rattle.kms_device.proofs.ReachStays.{AreMade, IsFine, affected_still, crtc_touched, is_fine}
@@ -72,7 +72,7 @@ none_is (Some x) e = absurd (false≢true e)
 
 -- Two worlds
 
-module _ (script : Script) (pass : DevicePass) (found : Run) (f : MayBeFound script pass found) (t : Ticket) (id : ObjId) (h : IsNextByGroups (seen script pass) pass.rank t id) where
+module _ (script : Script) (pass : DevicePass) (found : Run) (f : MayBeFound script pass found) (t : Ticket) (id : ObjId) (h : IsNextByGroups (run_seen script pass) pass.rank t id) where
   abbrev T : Topology
   T = script.topology
 
@@ -133,7 +133,7 @@ module _ (script : Script) (pass : DevicePass) (found : Run) (f : MayBeFound scr
   lockable_of kind.Enc index r there = absurd (false≢true r)
 
   -- where the first group is held, what it sets is where it was
-  module _ (set_held : HoldsGroup (seen script pass) pass.rank (in_set_group Q)) where
+  module _ (set_held : HoldsGroup (run_seen script pass) pass.rank (in_set_group Q)) where
     routed : (a : Assign) → IsIn a Items → is_routed a.kind ≡ true → crtc_at V.values (object_of a) ≡ crtc_at W.values (object_of a)
     routed a is r = by a.kind refl
       where
@@ -152,7 +152,7 @@ module _ (script : Script) (pass : DevicePass) (found : Run) (f : MayBeFound scr
         by kind.Crtc e = absurd (false≢true (sym (ap is_routed e) ∙ r))
         by kind.Enc e = absurd (false≢true (sym (ap is_routed e) ∙ r))
 
-    module _ (named_held : HoldsGroup (seen script pass) pass.rank (in_named_group T W Q)) where
+    module _ (named_held : HoldsGroup (run_seen script pass) pass.rank (in_named_group T W Q)) where
       states : (index : ℕ) → index < count_of T kind.Crtc → names W.values (after W Q) Items (object_id kind.Crtc index) ≡ true
           → crtc_state_at T V.things V.values (object_id kind.Crtc index) ≡ crtc_state_at T W.things W.values (object_id kind.Crtc index)
       states index within is =
@@ -208,6 +208,6 @@ module _ (script : Script) (pass : DevicePass) (found : Run) (f : MayBeFound scr
   next_found = lock_found script pass found f t id h.takes reach_still
 
 -- by either condition
-pub may_take : (script : Script) (pass : DevicePass) (found : Run) → MayBeFound script pass found → (t : Ticket) (id : ObjId) → MayTake (seen script pass) pass.rank t id → MayLock found t id × IsTaking found pass.rank t
+pub may_take : (script : Script) (pass : DevicePass) (found : Run) → MayBeFound script pass found → (t : Ticket) (id : ObjId) → MayLockNext (run_seen script pass) pass.rank t id → MayLock found t id × IsTaking found pass.rank t
 may_take script pass found f t id (inl next) = next_found script pass found f t id next
 may_take script pass found f t id (inr asked) = may_lock script pass found f t id asked

@@ -31,7 +31,7 @@ use Rattle.kms_device.specs.declared.attempt.Attempt.{Attempt}
 use Rattle.kms_device.specs.Asking.{AreOfLocks, HoldsEach}
 use Rattle.kms_device.specs.Attempts.{AreLookedUp, Serves, new_attempt, taken_in}
 use Rattle.kms_device.specs.Trying.{with_state}
-use Rattle.kms_device.specs.Turns.{DevicePass, MayBeFound, seen}
+use Rattle.kms_device.specs.Turns.{DevicePass, MayBeFound, run_seen}
 use Rattle.kms_device.proofs.Deciding.{of_locks, request-found}
 use Rattle.kms_device.proofs.Stepping.{request-same}
 
@@ -175,7 +175,7 @@ fresh_more d id s fresh = by (may_duplicate d id s) refl
 -- Both
 
 -- what serves where a pass has seen so much serves in what its turn finds
-pub serves_found : (script : Script) (p : DevicePass) (found : Run) → MayBeFound script p found → (kept : Attempt) → Serves (seen script p) p.rank kept → Serves found p.rank kept
+pub serves_found : (script : Script) (p : DevicePass) (found : Run) → MayBeFound script p found → (kept : Attempt) → Serves (run_seen script p) p.rank kept → Serves found p.rank kept
 serves_found script p found f kept serves = record {
   looks = λ used is.
       (let looked = serves.looks used is in

@@ -11,7 +11,7 @@ use Rattle.kms_model.specs.Machine.Steps.{returning_of}
 use Rattle.kms_stores.specs.Run.{Run, machine}
 use Rattle.kms_histlock.specs.Rules.{IsStart}
 use Rattle.kms_device.specs.Attempts.{MayAttempt}
-use Rattle.kms_device.specs.Turns.{DevicePass, IsOpen, Turn, seen}
+use Rattle.kms_device.specs.Turns.{DevicePass, IsOpen, DeviceTurn, run_seen}
 use Rattle.kms_device.proofs.Found.{place-found}
 use Rattle.kms_device.proofs.Runs.{legal-behind, run-append}
 
@@ -34,7 +34,7 @@ start_refl xs = ([], sym (append-nil xs))
 pub start_trans : {A : Type 0} (xs ys zs : List A) → IsStart xs ys → IsStart ys zs → IsStart xs zs
 start_trans xs ys zs a b = (a.0 ++ b.0, b.1 ∙ (ap (λ us. us ++ b.0) a.1 ∙ append_assoc xs a.0 b.0))
 
-module _ (script : Script) (says : Run → Type 0) (xs : List Step) (p q : DevicePass) (t : Turn script says xs p q) where
+module _ (script : Script) (says : Run → Type 0) (xs : List Step) (p q : DevicePass) (t : DeviceTurn script says xs p q) where
   pub seen-after : q.seen ≡ t.found.steps ++ xs
   seen-after = ap (λ (z : DevicePass). z.seen) t.now
 
@@ -45,23 +45,23 @@ module _ (script : Script) (says : Run → Type 0) (xs : List Step) (p q : Devic
   found-place = place-found script p t.found t.finds
 
   -- the machine after the turn
-  pub machine-after : machine (seen script q) ≡ run_steps script (machine t.found) xs
+  pub machine-after : machine (run_seen script q) ≡ run_steps script (machine t.found) xs
   machine-after =
       ap (at script) seen-after
       ∙ (run-append script (first_machine script.topology) t.found.steps xs ∙ ap (λ m. run_steps script m xs) (ap (λ s. at s t.found.steps) (sym t.finds.same)))
 
-  pub open-after : IsOpen (seen script q)
+  pub open-after : IsOpen (run_seen script q)
   open-after = subst IsOpen (ap {B = Run} (λ s. record { script = s; steps = t.found.steps ++ xs }) t.finds.same ∙ ap {B = Run} (λ h. record { script = script; steps = h }) (sym seen-after)) t.left
 
 -- a turn that added nothing
-module _ (script : Script) (says : Run → Type 0) (p q : DevicePass) (t : Turn script says [] p q) where
-  pub found-is : seen script q ≡ t.found
+module _ (script : Script) (says : Run → Type 0) (p q : DevicePass) (t : DeviceTurn script says [] p q) where
+  pub found-is : run_seen script q ≡ t.found
   found-is =
       ap {B = Run} (λ h. record { script = script; steps = h }) (seen-after script says [] p q t ∙ append-nil t.found.steps)
       ∙ ap {B = Run} (λ s. record { script = s; steps = t.found.steps }) (sym t.finds.same)
 
 -- a turn that added one step
-module _ (script : Script) (says : Run → Type 0) (x : Step) (p q : DevicePass) (t : Turn script says (x ∷ []) p q) where
+module _ (script : Script) (says : Run → Type 0) (x : Step) (p q : DevicePass) (t : DeviceTurn script says (x ∷ []) p q) where
   whole : is_history script (t.found.steps ++ x ∷ []) ≡ true
   whole = subst (λ s. is_history s (t.found.steps ++ x ∷ []) ≡ true) t.finds.same t.left.history
 
@@ -71,6 +71,6 @@ module _ (script : Script) (says : Run → Type 0) (x : Step) (p q : DevicePass)
       subst (λ m. legal script m x ≡ true) (ap (λ s. at s t.found.steps) (sym t.finds.same))
       (and_parts _ _ (legal-behind script (first_machine script.topology) t.found.steps (x ∷ []) whole)).0
 
-  pub next-after : machine (seen script q) ≡ next script (machine t.found) x
+  pub next-after : machine (run_seen script q) ≡ next script (machine t.found) x
   unfolding run_steps
   next-after = machine-after script says (x ∷ []) p q t

@@ -34,7 +34,7 @@ use Rattle.kms_device.specs.declared.attempt.Attempted.TheVariants as attempted
 use Rattle.kms_device.specs.Steps.{owner}
 use Rattle.kms_device.specs.Attempts.{AreLookedUp, AsksNext, ComesNext, ComesNextAt, FindsRequest, IsInVain, WaitsAt, states_after, step_of_move, taken_in}
 use Rattle.kms_device.specs.Trying.{DidAndKeeps, IsReady, attempted_of, kept_of, with_state}
-use Rattle.kms_device.specs.Turns.{DevicePass, Turn, seen}
+use Rattle.kms_device.specs.Turns.{DevicePass, DeviceTurn, run_seen}
 use Rattle.kms_device.proofs.Deciding.{request-found}
 use Rattle.kms_device.proofs.LockTries.{now_held, serves-taken, still_held}
 use Rattle.kms_device.proofs.Serving.{serves_found, serves_more}
@@ -111,8 +111,8 @@ and-no false = refl
 
 pub record TakesFor (script : Script) (p : DevicePass) (kept : Attempt) (ticket : Ticket) (request : Request) (used : List (ℕ × Look)) : Type 0 where
   pub ready : IsReady script p kept
-  pub taking : doing_at (machine (seen script p)) p.rank ≡ doing.Taking ticket
-  pub at : request_at script (machine (seen script p)) p.rank ≡ Some request
+  pub taking : doing_at (machine (run_seen script p)) p.rank ≡ doing.Taking ticket
+  pub at : request_at script (machine (run_seen script p)) p.rank ≡ Some request
   pub has : kept.looks ≡ Some used
 
 module _ (script : Script) (p q : DevicePass) (kept : Attempt) (ticket : Ticket) (request : Request) (used : List (ℕ × Look)) (c : TakesFor script p kept ticket request used) where
@@ -132,7 +132,7 @@ module _ (script : Script) (p q : DevicePass) (kept : Attempt) (ticket : Ticket)
   }
 
   -- in what a turn found
-  module _ (says : Run → Type 0) (xs : List Step) (t : Turn script says xs p q) where
+  module _ (says : Run → Type 0) (xs : List Step) (t : DeviceTurn script says xs p q) where
     pub looked_found : AreLookedUp t.found p.rank used
     looked_found = (serves_found script p t.found t.finds kept c.ready.serves).looks used c.has
 
@@ -155,7 +155,7 @@ module _ (script : Script) (p q : DevicePass) (kept : Attempt) (ticket : Ticket)
         (record { comes = record { move = asks_found asks is_move; next_is = refl }; in_vain = in_vain })
 
   -- after a turn that added nothing
-  pub comes_after : (says : Run → Type 0) (asks : Move) (t : Turn script says [] p q) → IsMove script.topology request used kept.states asks → ComesNext p.seen (seen script q) p.rank kept used (step_of_move (seen script q) p.rank request asks)
+  pub comes_after : (says : Run → Type 0) (asks : Move) (t : DeviceTurn script says [] p q) → IsMove script.topology request used kept.states asks → ComesNext p.seen (run_seen script q) p.rank kept used (step_of_move (run_seen script q) p.rank request asks)
   comes_after says asks t is_move =
       subst (λ r. ComesNext p.seen r p.rank kept used (step_of_move r p.rank request asks)) (sym (found-is script says p q t)) (comes_found says [] t asks is_move)
 
@@ -173,7 +173,7 @@ module _ (script : Script) (p q : DevicePass) (kept : Attempt) (ticket : Ticket)
       Says found = a ≡ locked_answer found p.rank id
 
       -- one that a younger context holds cannot be had
-      no_lock : (t : Turn script Says [] p q) → OneOf (holder_at (machine t.found) id.0) (λ holder. ((holder == p.rank) ≡ false) × (nat_lt (ticket_at (machine t.found) holder).0 (ticket_at (machine t.found) p.rank).0 ≡ false))
+      no_lock : (t : DeviceTurn script Says [] p q) → OneOf (holder_at (machine t.found) id.0) (λ holder. ((holder == p.rank) ≡ false) × (nat_lt (ticket_at (machine t.found) holder).0 (ticket_at (machine t.found) p.rank).0 ≡ false))
           → legal t.found.script (machine t.found) (lock_step p.rank id) ≡ false
       unfolding legal may may_lock
       no_lock t younger =
@@ -185,7 +185,7 @@ module _ (script : Script) (p q : DevicePass) (kept : Attempt) (ticket : Ticket)
           ∙ (ap (λ b. not (machine t.found).stalled && (is_lockable script.topology (kind_of id.0) (index_of id.0) && b)) (and-no _)
           ∙ (ap (λ b. not (machine t.found).stalled && b) (and-no _) ∙ and-no _)))
 
-    pub locked : (a : Locked) → Turn script (λ found. a ≡ locked_answer found p.rank id) (lock_steps p.rank id a) p q → DidAndKeeps script p kept q (attempted_of (length q.seen) a) (kept_of id a kept)
+    pub locked : (a : Locked) → DeviceTurn script (λ found. a ≡ locked_answer found p.rank id) (lock_steps p.rank id a) p q → DidAndKeeps script p kept q (attempted_of (length q.seen) a) (kept_of id a kept)
     unfolding next
     locked (answer.Got s) t =
         subst (λ x. DidAndKeeps script p kept q attempted.Did (with_state kept id x)) (sym got.1)
@@ -244,21 +244,21 @@ module _ (script : Script) (p q : DevicePass) (kept : Attempt) (ticket : Ticket)
             comes = comes_after (Says (answer.Own s)) (move.Lock id) t asks;
             held = held;
             lacked = absent;
-            has = ap (λ b. if b then duplicated kept.states id.0 (present_state (seen script q) id) else kept.states) (room (seen script q));
+            has = ap (λ b. if b then duplicated kept.states id.0 (present_state (run_seen script q) id) else kept.states) (room (run_seen script q));
           }));
           goes_on = stays_after script (Says (answer.Own s)) p q kept c.ready t;
-          serves = serves_more (seen script q) p.rank kept id held object.can_lock is_id (serves_after script (Says (answer.Own s)) p q kept c.ready t);
+          serves = serves_more (run_seen script q) p.rank kept id held object.can_lock is_id (serves_after script (Says (answer.Own s)) p q kept c.ready t);
         })
       where
-        same : seen script q ≡ t.found
+        same : run_seen script q ≡ t.found
         same = found-is script (Says (answer.Own s)) p q t
 
         own : (has_value p.rank (holder_at (machine t.found) id.0) ≡ true) × (s ≡ present_state t.found id)
         own = own-of (machine t.found) p.rank (present_state t.found id) s (holder_at (machine t.found) id.0) t.said
 
-        held : holds (machine (seen script q)) p.rank id.0 ≡ true
+        held : holds (machine (run_seen script q)) p.rank id.0 ≡ true
         held = ap (λ (r : Run). holds (machine r) p.rank id.0) same ∙ own.0
 
         object : IsLockableId script.topology id.0
-        object = held_object (seen script q) p.rank id.0 (open-after script (Says (answer.Own s)) [] p q t) held
+        object = held_object (run_seen script q) p.rank id.0 (open-after script (Says (answer.Own s)) [] p q t) held
     locked (answer.Held h) t = absurd (held-of (machine t.found) p.rank (present_state t.found id) h (holder_at (machine t.found) id.0) t.said)

@@ -41,8 +41,8 @@ use Rattle.kms_device.specs.declared.attempt.Attempted.{Attempted}
 use Rattle.kms_device.specs.declared.attempt.Attempted.TheVariants as attempted
 use Rattle.kms_device.specs.Attempts.{MayAttempt, Serves, new_attempt}
 use Rattle.kms_device.specs.Steps.{NeverEnds, is_stall}
-use Rattle.kms_device.specs.Trying.{Concludes, DidAndKeeps, DidNothing, IsReady, LooksInVain, Takes, Tried, attempted_of, kept_of, with_looks}
-use Rattle.kms_device.specs.Turns.{DevicePass, Turn, seen}
+use Rattle.kms_device.specs.Trying.{Concludes, DidAndKeeps, DidNothing, IsReady, LooksInVain, TakesLocksFor, Tried, attempted_of, kept_of, with_looks}
+use Rattle.kms_device.specs.Turns.{DevicePass, DeviceTurn, run_seen}
 use Rattle.kms_device.proofs.Deciding.{seen-history}
 use Rattle.kms_device.proofs.Found.{place-found}
 use Rattle.kms_device.proofs.Joining.{tried_later}
@@ -60,19 +60,19 @@ tried_err script p q kept (Ok did) e nothing = absurd (false≢true e)
 tried_err script p q kept (Err x) e nothing = nothing
 
 -- a client that is idle at a request may begin a context
-pub may_begin_at : (script : Script) (p : DevicePass) (kept : Attempt) → IsReady script p kept → doing_at (machine (seen script p)) p.rank ≡ doing.Idle → MayBegin (seen script p) p.rank
+pub may_begin_at : (script : Script) (p : DevicePass) (kept : Attempt) → IsReady script p kept → doing_at (machine (run_seen script p)) p.rank ≡ doing.Idle → MayBegin (run_seen script p) p.rank
 unfolding legal may
 may_begin_at script p kept ready idle =
-    and_from (not (machine (seen script p)).stalled) _ (ap not (open-at script p.seen ready.is_open.history ready.is_open.goes_on))
-    (and_from (is_idle (doing_at (machine (seen script p)) p.rank)) _ (ap is_idle idle)
-    (rw (request-is (command_at script (machine (seen script p)) p.rank) ready.may.request ready.may.at) refl))
+    and_from (not (machine (run_seen script p)).stalled) _ (ap not (open-at script p.seen ready.is_open.history ready.is_open.goes_on))
+    (and_from (is_idle (doing_at (machine (run_seen script p)) p.rank)) _ (ap is_idle idle)
+    (rw (request-is (command_at script (machine (run_seen script p)) p.rank) ready.may.request ready.may.at) refl))
 
 -- a context began
-pub began_as : (script : Script) (says : Run → Type 0) (p q : DevicePass) (kept keeps : Attempt) (client : ℕ) → IsReady script p kept → doing_at (machine (seen script p)) p.rank ≡ doing.Idle → p.rank ≡ client → keeps ≡ new_attempt
-    → Turn script says (step.Begin client ∷ []) p q → DidAndKeeps script p kept q attempted.Did keeps
+pub began_as : (script : Script) (says : Run → Type 0) (p q : DevicePass) (kept keeps : Attempt) (client : ℕ) → IsReady script p kept → doing_at (machine (run_seen script p)) p.rank ≡ doing.Idle → p.rank ≡ client → keeps ≡ new_attempt
+    → DeviceTurn script says (step.Begin client ∷ []) p q → DidAndKeeps script p kept q attempted.Did keeps
 began_as script says p q kept keeps client ready idle whose is_new t =
     subst (DidAndKeeps script p kept q attempted.Did) (sym is_new)
-    (began script says p q kept ready idle (subst (λ n. Turn script says (step.Begin n ∷ []) p q) (sym whose) t))
+    (began script says p q kept ready idle (subst (λ n. DeviceTurn script says (step.Begin n ∷ []) p q) (sym whose) t))
 
 -- a lock was asked for
 pub as_locked : (script : Script) (p q : DevicePass) (kept : Attempt) (id : ObjId) (a : Locked) (n : ℕ) (did : Attempted) (keeps : Attempt) → n ≡ length q.seen → did ≡ attempted_of n a → keeps ≡ kept_of id a kept
@@ -83,12 +83,12 @@ as_locked script p q kept id a n did keeps length_is did_is keeps_is h =
 -- the states are those of a sound world
 pub of_sound_world : (script : Script) (p : DevicePass) (kept : Attempt) → IsReady script p kept → AreOfSoundWorld script.topology kept.states
 of_sound_world script p kept ready = record {
-  world = world (seen script p);
+  world = world (run_seen script p);
   sound = (history_kept script p.seen (plain-from script ready.is_open.formed) ready.is_open.history).present.sound;
   old = ready.serves.states.old;
 }
 
-module _ (script : Script) (p : DevicePass) (ticket : Ticket) (request : Request) (used : List (ℕ × Look)) (states : Duplicates) (ready : IsReady script p (with_looks used states)) (takes : Takes script p ticket request) where
+module _ (script : Script) (p : DevicePass) (ticket : Ticket) (request : Request) (used : List (ℕ × Look)) (states : Duplicates) (ready : IsReady script p (with_looks used states)) (takes : TakesLocksFor script p ticket request) where
   abbrev Kept : Attempt
   Kept = with_looks used states
 
@@ -96,7 +96,7 @@ module _ (script : Script) (p : DevicePass) (ticket : Ticket) (request : Request
   takes_for = record { ready = ready; taking = takes.taking; at = takes.at; has = refl }
 
   module _ (q : DevicePass) (id : ObjId) (asks : AsksFor script.topology request used states id) (room : HasRoom states) where
-    pub locks_so : (a : Locked) → Turn script (λ found. a ≡ locked_answer found p.rank id) (lock_steps p.rank id a) p q → DidAndKeeps script p (with_looks used states) q (attempted_of (length q.seen) a) (kept_of id a (with_looks used states))
+    pub locks_so : (a : Locked) → DeviceTurn script (λ found. a ≡ locked_answer found p.rank id) (lock_steps p.rank id a) p q → DidAndKeeps script p (with_looks used states) q (attempted_of (length q.seen) a) (kept_of id a (with_looks used states))
     locks_so a t =
         let is = asked_at script p (with_looks used states) ticket request used takes_for id asks in
         taking.locked script p q (with_looks used states) ticket request used takes_for id asks is.is_id is.absent
@@ -104,7 +104,7 @@ module _ (script : Script) (p : DevicePass) (ticket : Ticket) (request : Request
 
   module _ {E : Type 0} (m q : DevicePass) (a : Decided) (r : Result (Attempted × Attempt) E) where
     -- by what its conclusion tells
-    module _ (says : Run → Type 0) (x : Step) (t : Turn script says (steps_of p.rank x a) p m) where
+    module _ (says : Run → Type 0) (x : Step) (t : DeviceTurn script says (steps_of p.rank x a) p m) where
       concluded : (r : Result (Attempted × Attempt) E) → ((did : Attempted × Attempt) → Concludes script request Kept m a q did.0 did.1 → DidAndKeeps script p Kept q did.0 did.1)
           → IfOk r (λ did. Concludes script request Kept m a q did.0 did.1) → OnErr r (LooksInVain script a m q) → Tried script p Kept q r
       concluded (Ok did) tells told vain = tells did told
@@ -112,15 +112,15 @@ module _ (script : Script) (p : DevicePass) (ticket : Ticket) (request : Request
 
     module _ (told : IfOk r (λ did. Concludes script request (with_looks used states) m a q did.0 did.1)) (vain : OnErr r (LooksInVain script a m q)) where
       pub refused_so : (why : Refusal) → RefusedBy script.topology request used states why
-          → Turn script (λ found. IsDecided (look_up (world found)) used (answer.Done (reply.Refused why)) a) (steps_of p.rank (step.Refuse p.rank) a) p m → Tried script p (with_looks used states) q r
+          → DeviceTurn script (λ found. IsDecided (look_up (world found)) used (answer.Done (reply.Refused why)) a) (steps_of p.rank (step.Refuse p.rank) a) p m → Tried script p (with_looks used states) q r
       refused_so why refused t = concluded _ (step.Refuse p.rank) t r (λ did told. refuses_so script p m q Kept ticket request used takes_for did.0 did.1 why refused a t told) told vain
 
       module _ (checked : Checked) (resolved : Resolved) (accepted : AcceptedAs script.topology request used states checked resolved) where
-        pub tested_so : is_test request.flags ≡ true → Turn script (λ found. IsDecided (look_up (world found)) used (answer.Done reply.Tested) a) (steps_of p.rank (step.Test p.rank) a) p m
+        pub tested_so : is_test request.flags ≡ true → DeviceTurn script (λ found. IsDecided (look_up (world found)) used (answer.Done reply.Tested) a) (steps_of p.rank (step.Test p.rank) a) p m
             → Tried script p (with_looks used states) q r
         tested_so test t = concluded _ (step.Test p.rank) t r (λ did told. tests_so script p m q Kept ticket request used takes_for did.0 did.1 checked resolved accepted test a t told) told vain
 
-        pub swapped_so : is_test request.flags ≡ false → Turn script (λ found. IsDecided (look_up (world found)) used (swap_answer found p.rank) a) (steps_of p.rank (step.Swap p.rank) a) p m
+        pub swapped_so : is_test request.flags ≡ false → DeviceTurn script (λ found. IsDecided (look_up (world found)) used (swap_answer found p.rank) a) (steps_of p.rank (step.Swap p.rank) a) p m
             → Tried script p (with_looks used states) q r
         swapped_so no_test t = concluded _ (step.Swap p.rank) t r (λ did told. swaps_so script p m q Kept ticket request used takes_for did.0 did.1 checked resolved accepted no_test a t told) told vain
 
@@ -131,7 +131,7 @@ all-front : {A : Type 0} (P : A → Type 0) (xs ys : List A) → All P (xs ++ ys
 all-front P [] ys h = All-nil P
 all-front P (x ∷ xs) ys h = All-cons P x xs (All-head P x (xs ++ ys) h) (all-front P xs ys (All-tail P x (xs ++ ys) h))
 
-module _ (script : Script) (says : Run → Type 0) (p q : DevicePass) (kept : Attempt) (client : ℕ) (whose : p.rank ≡ client) (may : MayAttempt (seen script p) client) (serves : Serves (seen script p) client kept) (t : Turn script says [] p q) where
+module _ (script : Script) (says : Run → Type 0) (p q : DevicePass) (kept : Attempt) (client : ℕ) (whose : p.rank ≡ client) (may : MayAttempt (run_seen script p) client) (serves : Serves (run_seen script p) client kept) (t : DeviceTurn script says [] p q) where
   pub ready_first : IsReady script p kept
   ready_first = record {
     is_open = record {
@@ -139,8 +139,8 @@ module _ (script : Script) (says : Run → Type 0) (p q : DevicePass) (kept : At
       history = seen-history script p t.found t.finds;
       goes_on = all-front (λ x. is_stall x ≡ false) p.seen t.finds.history.begins.0 (subst NeverEnds t.finds.history.begins.1 t.finds.is_open.goes_on);
     };
-    may = subst (MayAttempt (seen script p)) (sym whose) may;
-    serves = subst (λ n. Serves (seen script p) n kept) (sym whose) serves;
+    may = subst (MayAttempt (run_seen script p)) (sym whose) may;
+    serves = subst (λ n. Serves (run_seen script p) n kept) (sym whose) serves;
   }
 
   pub ready_then : IsReady script q kept
@@ -151,18 +151,18 @@ module _ (script : Script) (says : Run → Type 0) (p q : DevicePass) (kept : At
   tried_first r result is = tried_later script says p q r kept ready_first t kept result is
 
 -- the place that was told
-pub place_told : (script : Script) (p q : DevicePass) (client : ℕ) (place : Place) → p.rank ≡ client → (t : Turn script (λ found. place ≡ place_at (machine found) client) [] p q) → place ≡ place_at (machine (seen script p)) client
-place_told script p q client place whose t = t.said ∙ subst (λ n. place_at (machine t.found) n ≡ place_at (machine (seen script p)) n) whose (place-found script p t.found t.finds)
+pub place_told : (script : Script) (p q : DevicePass) (client : ℕ) (place : Place) → p.rank ≡ client → (t : DeviceTurn script (λ found. place ≡ place_at (machine found) client) [] p q) → place ≡ place_at (machine (run_seen script p)) client
+place_told script p q client place whose t = t.said ∙ subst (λ n. place_at (machine t.found) n ≡ place_at (machine (run_seen script p)) n) whose (place-found script p t.found t.finds)
 
 -- the client stands at a request
-pub no_request : (script its : Script) (p q : DevicePass) (client : ℕ) (place : Place) → its ≡ script → p.rank ≡ client → Turn script (λ found. place ≡ place_at (machine found) client) [] p q → MayAttempt (seen script p) client
+pub no_request : (script its : Script) (p q : DevicePass) (client : ℕ) (place : Place) → its ≡ script → p.rank ≡ client → DeviceTurn script (λ found. place ≡ place_at (machine found) client) [] p q → MayAttempt (run_seen script p) client
     → None ≡ request_in (command_of its (record { client = client; command = place.command })) → ⊥
 no_request script its p q client place same whose t may none_its =
     let none : None ≡ request_in (command_of script (record { client = client; command = place.command })) = none_its ∙ ap (λ (s : Script). request_in (command_of s (record { client = client; command = place.command }))) same in
     let there : Some may.request ≡ None = sym may.at ∙ (ap (λ (x : Place). request_in (command_of script (record { client = client; command = x.command }))) (sym (place_told script p q client place whose t)) ∙ sym none) in absurd cc
 
 -- it does not wait for a commit
-pub not_waiting : (script : Script) (p q : DevicePass) (client k : ℕ) (place : Place) → p.rank ≡ client → Turn script (λ found. place ≡ place_at (machine found) client) [] p q → MayAttempt (seen script p) client
+pub not_waiting : (script : Script) (p q : DevicePass) (client k : ℕ) (place : Place) → p.rank ≡ client → DeviceTurn script (λ found. place ≡ place_at (machine found) client) [] p q → MayAttempt (run_seen script p) client
     → place.doing ≡ doing.Returning k → ⊥
 not_waiting script p q client k place whose t may waits =
     let there : Some k ≡ None = sym (ap returning_of waits) ∙ (ap (λ (x : Place). returning_of x.doing) (place_told script p q client place whose t) ∙ may.awake) in absurd cc

@@ -21,7 +21,7 @@ use Rattle.kms_stores.specs.Work.{claim_steps}
 use Rattle.kms_device.specs.Kernels.{AddsPlainOf, is_plain}
 use Rattle.kms_laws.specs.Blankings.{blankings}
 use Rattle.kms_device.specs.Steps.{owner, step_if}
-use Rattle.kms_device.specs.Turns.{Called, DevicePass, IsOpen, MayBeFound, Turn}
+use Rattle.kms_device.specs.Turns.{Called, DevicePass, IsOpen, MayBeFound, DeviceTurn}
 
 abbrev pub entries : Run → List Step
 entries r = r.steps
@@ -36,7 +36,7 @@ finds_of script its pass x same f = record { history = f.history; same = f.same 
 -- What a call added, by the steps that its answer names.
 pub turn_of : {F R : Type 0} (g : Once F (MutBor Run × Unit {0}) (R × (MutBor Run × Unit {0}))) (f : F) (r : R) (script : Script) (says : Run → Type 0) (es : List Step) (before after : DevicePass)
     → Called script g f r before after
-    → ((x y : Run) → MayBeFound script before x → FnOnceReturnsAtMut g f x r y → says x × (y ≡ gains x es)) → Turn script says es before after
+    → ((x y : Run) → MayBeFound script before x → FnOnceReturnsAtMut g f x r y → says x × (y ≡ gains x es)) → DeviceTurn script says es before after
 turn_of {F} {R} g f r script says es before after t tells =
     let told = tells t.found t.left t.finds t.called in
     let steps : t.left.steps ≡ t.found.steps ++ es = ap entries told.1 in
@@ -88,7 +88,7 @@ adds_none client x y same = adds_of client x y [] (none_of client) (same ∙ non
 
 pub turn_same : {F R : Type 0} (g : Once F (MutBor Run × Unit {0}) (R × (MutBor Run × Unit {0}))) (f : F) (r : R) (script : Script) (says : Run → Type 0) (before after : DevicePass)
     → Called script g f r before after
-    → ((x y : Run) → MayBeFound script before x → FnOnceReturnsAtMut g f x r y → says x × (y ≡ x)) → Turn script says [] before after
+    → ((x y : Run) → MayBeFound script before x → FnOnceReturnsAtMut g f x r y → says x × (y ≡ x)) → DeviceTurn script says [] before after
 turn_same g f r script says before after t tells =
     turn_of g f r script says [] before after t
     (λ x y finds called. let told = tells x y finds called in (told.0, told.1 ∙ none_more x))

@@ -21,13 +21,13 @@ use Rattle.kms_device.specs.declared.attempt.Attempted.TheVariants as attempted
 use Rattle.kms_device.specs.Attempts.{ComesNext, ComesNextAt, FindsRequest, MayAttempt, Serves, StaysAt, Stepped, WaitsAt, looks_after, states_after, Went, new_attempt}
 use Rattle.kms_device.specs.Steps.{owner}
 use Rattle.kms_device.specs.Trying.{DidAndKeeps, DidNothing, IsReady}
-use Rattle.kms_device.specs.Turns.{DevicePass, Turn, seen}
+use Rattle.kms_device.specs.Turns.{DevicePass, DeviceTurn, run_seen}
 use Rattle.kms_device.proofs.Serving.{none_fresh, none_of_locks, looked_later, serves_found, serves_later, serves_new}
 use Rattle.kms_device.proofs.Stepping.{found-is, found-place, legal-found, may_again, next-after, open-after, seen-after}
 use Rattle.kms_device.proofs.Went.{one_own, went_turn}
 
 -- what a turn finds: the client stands where it stood
-pub finds_request : (script : Script) (says : Run → Type 0) (xs : List Step) (p q : DevicePass) (t : Turn script says xs p q) → FindsRequest script p.rank p t.found
+pub finds_request : (script : Script) (says : Run → Type 0) (xs : List Step) (p q : DevicePass) (t : DeviceTurn script says xs p q) → FindsRequest script p.rank p t.found
 finds_request script says xs p q t = record {
   same = t.finds.same;
   is_open = t.finds.is_open;
@@ -41,23 +41,23 @@ place-now m client d = read_same _ m.contexts.places client _
 
 module _ (script : Script) (says : Run → Type 0) (p q : DevicePass) (kept : Attempt) (ready : IsReady script p kept) where
   -- A turn that added nothing.
-  module _ (t : Turn script says [] p q) where
+  module _ (t : DeviceTurn script says [] p q) where
     pub went_on : Went [] p q
     went_on = went_turn script says [] p q refl t
 
-    pub doing-after : doing_at (machine (seen script q)) p.rank ≡ doing_at (machine (seen script p)) p.rank
+    pub doing-after : doing_at (machine (run_seen script q)) p.rank ≡ doing_at (machine (run_seen script p)) p.rank
     doing-after = ap (λ (r : Run). doing_at (machine r) p.rank) (found-is script says p q t) ∙ ap (λ (x : Place). x.doing) (found-place script says [] p q t)
 
-    pub command-after : (place_at (machine (seen script q)) p.rank).command ≡ (place_at (machine (seen script p)) p.rank).command
+    pub command-after : (place_at (machine (run_seen script q)) p.rank).command ≡ (place_at (machine (run_seen script p)) p.rank).command
     command-after = ap (λ (r : Run). (place_at (machine r) p.rank).command) (found-is script says p q t) ∙ ap (λ (x : Place). x.command) (found-place script says [] p q t)
 
-    pub may_after : MayAttempt (seen script q) p.rank
-    may_after = may_again (seen script p) (seen script q) p.rank refl command-after (ap returning_of doing-after ∙ ready.may.awake) ready.may
+    pub may_after : MayAttempt (run_seen script q) p.rank
+    may_after = may_again (run_seen script p) (run_seen script q) p.rank refl command-after (ap returning_of doing-after ∙ ready.may.awake) ready.may
 
-    pub stays_after : StaysAt (seen script p) (seen script q) p.rank
+    pub stays_after : StaysAt (run_seen script p) (run_seen script q) p.rank
     stays_after = record { may = may_after; command = command-after }
 
-    pub serves_after : Serves (seen script q) p.rank kept
+    pub serves_after : Serves (run_seen script q) p.rank kept
     serves_after = subst (λ r. Serves r p.rank kept) (sym (found-is script says p q t)) (serves_found script p t.found t.finds kept ready.serves)
 
     pub nothing_done : DidNothing script p q
@@ -67,8 +67,8 @@ module _ (script : Script) (says : Run → Type 0) (p q : DevicePass) (kept : At
     pub ready_after : IsReady script q kept
     ready_after = record {
       is_open = open-after script says [] p q t;
-      may = subst (MayAttempt (seen script q)) (sym rank) may_after;
-      serves = subst (λ n. Serves (seen script q) n kept) (sym rank) serves_after;
+      may = subst (MayAttempt (run_seen script q)) (sym rank) may_after;
+      serves = subst (λ n. Serves (run_seen script q) n kept) (sym rank) serves_after;
     }
       where
         rank : q.rank ≡ p.rank
@@ -99,11 +99,11 @@ module _ (script : Script) (says : Run → Type 0) (p q : DevicePass) (kept : At
         left = seen-after script says [] p q t ∙ append-nil t.found.steps
 
   -- A turn that added one step of the client's.
-  module _ (x : Step) (own : owner x ≡ p.rank) (t : Turn script says (x ∷ []) p q) where
-    pub doing-found : doing_at (machine t.found) p.rank ≡ doing_at (machine (seen script p)) p.rank
+  module _ (x : Step) (own : owner x ≡ p.rank) (t : DeviceTurn script says (x ∷ []) p q) where
+    pub doing-found : doing_at (machine t.found) p.rank ≡ doing_at (machine (run_seen script p)) p.rank
     doing-found = ap (λ (z : Place). z.doing) (found-place script says (x ∷ []) p q t)
 
-    pub command-found : (place_at (machine t.found) p.rank).command ≡ (place_at (machine (seen script p)) p.rank).command
+    pub command-found : (place_at (machine t.found) p.rank).command ≡ (place_at (machine (run_seen script p)) p.rank).command
     command-found = ap (λ (z : Place). z.command) (found-place script says (x ∷ []) p q t)
 
     pub serves-found : Serves t.found p.rank kept
@@ -121,39 +121,39 @@ module _ (script : Script) (says : Run → Type 0) (p q : DevicePass) (kept : At
       went = went_turn script says (x ∷ []) p q (one_own p.rank x own) t;
     }
 
-    pub begins : IsStart t.found.steps (seen script q).steps
+    pub begins : IsStart t.found.steps (run_seen script q).steps
     begins = (x ∷ [], seen-after script says (x ∷ []) p q t)
 
     -- it goes on at its command
     pub stepped_on : (keeps : Attempt) (used : List (ℕ × Look)) → keeps.looks ≡ looks_after kept used x → keeps.states ≡ states_after t.found p.rank kept.states x → ComesNext p.seen t.found p.rank kept used x → (next script (machine t.found) x).records.replies ≡ (machine t.found).records.replies
         → (place_at (next script (machine t.found) x) p.rank).command ≡ (place_at (machine t.found) p.rank).command
         → returning_of (doing_at (next script (machine t.found) x) p.rank) ≡ None
-        → Serves (seen script q) p.rank keeps → DidAndKeeps script p kept q attempted.Did keeps
+        → Serves (run_seen script q) p.rank keeps → DidAndKeeps script p kept q attempted.Did keeps
     stepped_on keeps used looks states comes silent command awake serves = record {
       is_attempt = inl (record { stepped = stepped used comes; looks = looks; states = states; silent = ap (λ (m : Machine). m.records.replies) now ∙ silent });
-      goes_on = record { may = may_again (seen script p) (seen script q) p.rank refl same_command (ap (λ m. returning_of (doing_at m p.rank)) now ∙ awake) ready.may; command = same_command };
+      goes_on = record { may = may_again (run_seen script p) (run_seen script q) p.rank refl same_command (ap (λ m. returning_of (doing_at m p.rank)) now ∙ awake) ready.may; command = same_command };
       serves = serves;
     }
       where
-        now : machine (seen script q) ≡ next script (machine t.found) x
+        now : machine (run_seen script q) ≡ next script (machine t.found) x
         now = next-after script says x p q t
 
-        same_command : (place_at (machine (seen script q)) p.rank).command ≡ (place_at (machine (seen script p)) p.rank).command
+        same_command : (place_at (machine (run_seen script q)) p.rank).command ≡ (place_at (machine (run_seen script p)) p.rank).command
         same_command = ap (λ m. (place_at m p.rank).command) now ∙ (command ∙ command-found)
 
     -- what was kept serves after a step that changes no state and drops no lock
     pub serves-next : (next script (machine t.found) x).device.world ≡ (machine t.found).device.world
         → ((object : ℕ) → holds (machine t.found) p.rank object ≡ true → holds (next script (machine t.found) x) p.rank object ≡ true)
-        → (place_at (next script (machine t.found) x) p.rank).command ≡ (place_at (machine t.found) p.rank).command → Serves (seen script q) p.rank kept
+        → (place_at (next script (machine t.found) x) p.rank).command ≡ (place_at (machine t.found) p.rank).command → Serves (run_seen script q) p.rank kept
     serves-next same keeps command =
-        serves_later t.found (seen script q) p.rank kept (sym t.finds.same) begins (ap (λ m. (place_at m p.rank).command) now ∙ command) (ap (λ (m : Machine). m.device.world) now ∙ same)
+        serves_later t.found (run_seen script q) p.rank kept (sym t.finds.same) begins (ap (λ m. (place_at m p.rank).command) now ∙ command) (ap (λ (m : Machine). m.device.world) now ∙ same)
         (λ object held. ap (λ m. holds m p.rank object) now ∙ keeps object held) serves-found
       where
-        now : machine (seen script q) ≡ next script (machine t.found) x
+        now : machine (run_seen script q) ≡ next script (machine t.found) x
         now = next-after script says x p q t
 
   -- A context begins.
-  pub began : doing_at (machine (seen script p)) p.rank ≡ doing.Idle → Turn script says (step.Begin p.rank ∷ []) p q → DidAndKeeps script p kept q attempted.Did new_attempt
+  pub began : doing_at (machine (run_seen script p)) p.rank ≡ doing.Idle → DeviceTurn script says (step.Begin p.rank ∷ []) p q → DidAndKeeps script p kept q attempted.Did new_attempt
   unfolding next
   began idle t =
       stepped_on (step.Begin p.rank) refl t new_attempt [] refl refl
@@ -161,10 +161,10 @@ module _ (script : Script) (says : Run → Type 0) (p q : DevicePass) (kept : At
       refl
       (ap (λ (z : Place). z.command) (place-now (machine t.found) p.rank (doing.Taking (record { 0 = (machine t.found).contexts.tickets }))))
       (ap (λ (z : Place). returning_of z.doing) (place-now (machine t.found) p.rank (doing.Taking (record { 0 = (machine t.found).contexts.tickets }))))
-      (serves_new (seen script q) p.rank)
+      (serves_new (run_seen script q) p.rank)
 
   -- It gives way.
-  pub gave_way : (ticket : Ticket) (object : ObjId) → doing_at (machine (seen script p)) p.rank ≡ doing.MustBackOff ticket object → Turn script says (step.BackOff p.rank ∷ []) p q
+  pub gave_way : (ticket : Ticket) (object : ObjId) → doing_at (machine (run_seen script p)) p.rank ≡ doing.MustBackOff ticket object → DeviceTurn script says (step.BackOff p.rank ∷ []) p q
       → DidAndKeeps script p kept q attempted.Did (record kept { states = new_attempt.states })
   unfolding next
   gave_way ticket object must t =
@@ -173,8 +173,8 @@ module _ (script : Script) (says : Run → Type 0) (p q : DevicePass) (kept : At
       refl command
       (ap (λ (z : Place). returning_of z.doing) place ∙ ap (λ d. returning_of (backed_off d)) there)
       (record {
-        looks = λ used is. looked_later t.found (seen script q) p.rank used (sym t.finds.same) (begins (step.BackOff p.rank) refl t) (ap (λ m. (place_at m p.rank).command) (next-after script says (step.BackOff p.rank) p q t) ∙ command) ((serves-found (step.BackOff p.rank) refl t).looks used is);
-        states = none_of_locks (seen script q) p.rank;
+        looks = λ used is. looked_later t.found (run_seen script q) p.rank used (sym t.finds.same) (begins (step.BackOff p.rank) refl t) (ap (λ m. (place_at m p.rank).command) (next-after script says (step.BackOff p.rank) p q t) ∙ command) ((serves-found (step.BackOff p.rank) refl t).looks used is);
+        states = none_of_locks (run_seen script q) p.rank;
         fresh = none_fresh;
       })
     where

@@ -8,7 +8,7 @@ use Rattle.kms_model.specs.declared.scripts.Script.{Script}
 use Rattle.kms_stores.specs.Run.{Run}
 use Rattle.kms_device.specs.Attempts.{Went, own_steps}
 use Rattle.kms_device.specs.Steps.{owner}
-use Rattle.kms_device.specs.Turns.{DevicePass, Turn}
+use Rattle.kms_device.specs.Turns.{DevicePass, DeviceTurn}
 
 -- steps of others are none of the client's
 pub none_own : (client : ℕ) (xs : List Step) → All (λ x. owner x ≢ client) xs → own_steps client xs ≡ []
@@ -41,7 +41,7 @@ went_both xs ys p q r w v = record {
 }
 
 -- one turn
-pub went_turn : (script : Script) (says : Run → Type 0) (xs : List Step) (p q : DevicePass) → own_steps p.rank xs ≡ xs → Turn script says xs p q → Went xs p q
+pub went_turn : (script : Script) (says : Run → Type 0) (xs : List Step) (p q : DevicePass) → own_steps p.rank xs ≡ xs → DeviceTurn script says xs p q → Went xs p q
 went_turn script says xs p q own t =
     let rest = t.finds.history.begins.0 in record {
       lock = ap (λ (z : DevicePass). z.lock) t.now;

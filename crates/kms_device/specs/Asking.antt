@@ -38,12 +38,12 @@ use Rattle.kms_stores.specs.Swaps.{HasAllStates}
 -- Contexts
 
 -- the context of a client, with a ticket, must back off
-pub record MustBackOff (r : Run) (client : ℕ) (t : Ticket) : Type 0 where
+pub record ContextMustBackOff (r : Run) (client : ℕ) (t : Ticket) : Type 0 where
   pub object : ObjId
   pub must : doing_at (machine r) client ≡ doing.MustBackOff t object
 
 -- it backed off
-pub record HasBackedOff (r : Run) (client : ℕ) (t : Ticket) : Type 0 where
+pub record ContextBackedOff (r : Run) (client : ℕ) (t : Ticket) : Type 0 where
   pub object : ObjId
   pub off : doing_at (machine r) client ≡ doing.BackedOff t object
 
@@ -107,8 +107,8 @@ pub record MayAskFor (r : Run) (client : ℕ) (t : Ticket) (id : ObjId) : Type 0
   pub touched : (w : World) → IsOfRequest r.script.topology w takes.request resolved duplicates → touches r.script.topology w takes.request id.0 ≡ true
 
 -- the object is next by the groups, or a check has asked for it
-abbrev pub MayTake : Run → ℕ → Ticket → ObjId → Type 0
-MayTake r client t id = IsNextByGroups r client t id ⊎ MayAskFor r client t id
+abbrev pub MayLockNext : Run → ℕ → Ticket → ObjId → Type 0
+MayLockNext r client t id = IsNextByGroups r client t id ⊎ MayAskFor r client t id
 
 -- Decisions
 

@@ -27,7 +27,7 @@ use Rattle.kms_check.specs.declared.moving.Move.TheVariants as move
 use Rattle.kms_check.specs.Moves.{IsMove}
 use Rattle.kms_stores.specs.Calls.{answered}
 use Rattle.kms_stores.specs.Decisions.{world}
-use Rattle.kms_calls.specs.Locks.{lock_step, object_of, present_state}
+use Rattle.kms_calls.specs.Locks.{lock_step, object_or_zero, present_state}
 use Rattle.kms_stores.specs.Run.{Run, machine}
 use Rattle.kms_stores.specs.Swaps.{late_reply}
 use Rattle.kms_device.specs.declared.attempt.Attempt.{Attempt}
@@ -35,7 +35,7 @@ use Rattle.kms_device.specs.declared.attempt.Attempted.{Attempted}
 use Rattle.kms_device.specs.declared.attempt.Attempted.TheVariants as attempted
 use Rattle.kms_device.specs.Asking.{AreOfLocks}
 use Rattle.kms_device.specs.Steps.{owner}
-use Rattle.kms_device.specs.Turns.{DevicePass, IsOpen, seen}
+use Rattle.kms_device.specs.Turns.{DevicePass, IsOpen, run_seen}
 
 -- Several turns of a pass
 
@@ -150,7 +150,7 @@ abbrev pub states_after : Run → ℕ → Duplicates → Step → Duplicates
 states_after r client d (step.Lock c kind index) =
     if is_none (holder_at (machine r) (object_id kind index)) then taken_in d (object_id kind index) (present_state r (record { 0 = object_id kind index })) else d
 states_after r client d (step.Relock c) =
-    taken_in d (object_of (contended (doing_at (machine r) client))).0 (present_state r (object_of (contended (doing_at (machine r) client))))
+    taken_in d (object_or_zero (contended (doing_at (machine r) client))).0 (present_state r (object_or_zero (contended (doing_at (machine r) client))))
 states_after r client d _ = none_duplicated
 
 -- What an attempt did
@@ -165,7 +165,7 @@ pub record FindsRequest (script : Script) (client : ℕ) (before : DevicePass) (
   pub same : found.script ≡ script
   pub is_open : IsOpen found
   pub begins : IsStart before.seen found.steps
-  pub place : place_at (machine found) client ≡ place_at (machine (seen script before)) client
+  pub place : place_at (machine found) client ≡ place_at (machine (run_seen script before)) client
 
 -- The step that comes next was made in the history that was found.
 pub record Stepped (script : Script) (client : ℕ) (before after : DevicePass) (old : Attempt) : Type 0 where
@@ -183,19 +183,19 @@ pub record SteppedOn (script : Script) (client : ℕ) (before after : DevicePass
   pub stepped : Stepped script client before after old
   pub looks : new.looks ≡ looks_after old stepped.used stepped.next
   pub states : new.states ≡ states_after stepped.found client old.states stepped.next
-  pub silent : (machine (seen script after)).records.replies ≡ (machine stepped.found).records.replies
+  pub silent : (machine (run_seen script after)).records.replies ≡ (machine stepped.found).records.replies
 
 -- No step was made: the object that is asked for next is the client's already, and gave the state that was lacking.
 pub record TookAgain (script : Script) (client : ℕ) (before after : DevicePass) (old new : Attempt) : Type 0 where
   pub went : Went [] before after
   pub object : ObjId
-  pub finds : FindsRequest script client before (seen script after)
+  pub finds : FindsRequest script client before (run_seen script after)
   pub used : List (ℕ × Look)
-  pub comes : ComesNext before.seen (seen script after) client old used (lock_step client object)
-  pub held : holds (machine (seen script after)) client object.0 ≡ true
+  pub comes : ComesNext before.seen (run_seen script after) client old used (lock_step client object)
+  pub held : holds (machine (run_seen script after)) client object.0 ≡ true
   pub lacked : is_duplicated old.states object.0 ≡ false
   pub looks : new.looks ≡ looks_after old used (lock_step client object)
-  pub has : new.states ≡ duplicated old.states object.0 (present_state (seen script after) object)
+  pub has : new.states ≡ duplicated old.states object.0 (present_state (run_seen script after) object)
 
 -- No step was made: a decision is asked for next, and a label named something else, in the history that was found, than the
 -- look-ups told that were used. All look-ups were made anew.
@@ -209,8 +209,8 @@ pub record LookedAgain (script : Script) (client : ℕ) (before after : DevicePa
   pub decides : is_lock move.asks ≡ false
   pub stale : Any (λ told. told.1 ≢ look_up (world found) told.0) used
   pub request : Request
-  pub at : request_at script (machine (seen script after)) client ≡ Some request
-  pub looks : new.looks ≡ Some (lookups (world (seen script after)) request)
+  pub at : request_at script (machine (run_seen script after)) client ≡ Some request
+  pub looks : new.looks ≡ Some (lookups (world (run_seen script after)) request)
   pub states : new.states ≡ old.states
 
 -- what was asked for in vain: a lock of an object that the client does not hold, or a decision with look-ups that tell what their
@@ -230,7 +230,7 @@ WaitsAt (doing.BackedOff t object) from r client kept used next = next ≡ step.
 WaitsAt _ from r client kept used next = ⊥
 
 -- No step was made: the one that comes next is not legal in the history that was found, of this length.
-pub record Waits (script : Script) (client length_found : ℕ) (before after : DevicePass) (old new : Attempt) : Type 0 where
+pub record AttemptWaits (script : Script) (client length_found : ℕ) (before after : DevicePass) (old new : Attempt) : Type 0 where
   pub went : Went [] before after
   pub found : Run
   pub finds : FindsRequest script client before found
@@ -244,7 +244,7 @@ pub record Waits (script : Script) (client length_found : ℕ) (before after : D
   pub states : new.states ≡ old.states
 
 -- a reply to a client's command is the last that is recorded
-pub record Records (m : Machine) (client command : ℕ) (reply : Reply) : Type 0 where
+pub record IsLastReply (m : Machine) (client command : ℕ) (reply : Reply) : Type 0 where
   pub place : ℕ
   pub before : List Answered
   pub last : m.records.replies ≡ answered client command place reply ∷ before
@@ -252,14 +252,14 @@ pub record Records (m : Machine) (client command : ℕ) (reply : Reply) : Type 0
 -- the step that comes next was made, and it records the reply to the client's command
 pub record AnsweredBy (script : Script) (client : ℕ) (reply : Reply) (before after : DevicePass) (old new : Attempt) : Type 0 where
   pub stepped : Stepped script client before after old
-  pub records : Records (machine (seen script after)) client (place_at (machine (seen script before)) client).command reply
+  pub records : IsLastReply (machine (run_seen script after)) client (place_at (machine (run_seen script before)) client).command reply
   pub anew : new ≡ new_attempt
 
 -- what an attempt did that answers so
 abbrev pub IsAttempt : Script → ℕ → DevicePass → Attempt → DevicePass → Attempt → Attempted → Type 0
 IsAttempt script client before old after new attempted.Did =
     SteppedOn script client before after old new ⊎ (TookAgain script client before after old new ⊎ LookedAgain script client before after old new)
-IsAttempt script client before old after new (attempted.NotYet n) = Waits script client n before after old new
+IsAttempt script client before old after new (attempted.NotYet n) = AttemptWaits script client n before after old new
 IsAttempt script client before old after new (attempted.Answered reply) = AnsweredBy script client reply before after old new
 
 -- it does so after an attempt that gave no reply
@@ -278,11 +278,11 @@ pub record Committed (script : Script) (client : ℕ) (reply : Reply) (before af
   pub found : Run
   pub same : found.script ≡ script
   pub left : after.seen ≡ found.steps ++ last ∷ []
-  pub stays : StaysAt (seen script before) found client
-  pub records : Records (machine (seen script after)) client (place_at (machine (seen script before)) client).command reply
+  pub stays : StaysAt (run_seen script before) found client
+  pub records : IsLastReply (machine (run_seen script after)) client (place_at (machine (run_seen script before)) client).command reply
 
 -- some steps of a client, after which it stands at its request still, which can be tried again
 pub record BrokenOff (script : Script) (client : ℕ) (before after : DevicePass) : Type 0 where
   pub steps : List Step
   pub went : Went steps before after
-  pub again : StaysAt (seen script before) (seen script after) client
+  pub again : StaysAt (run_seen script before) (run_seen script after) client

@@ -4,11 +4,11 @@ use Rattle.kms_model.specs.declared.replies.Step.{Step}
 use Rattle.kms_model.specs.declared.scripts.Script.{Script}
 use Rattle.kms_device.specs.declared.attempt.Attempt.{Attempt}
 use Rattle.kms_device.specs.Attempts.{Serves, StaysAt, Went}
-use Rattle.kms_device.specs.Turns.{DevicePass, seen}
+use Rattle.kms_device.specs.Turns.{DevicePass, run_seen}
 
 -- It made some steps, gave no reply yet, and can go on with what it keeps.
 pub record GoesOnWith (script : Script) (client : ℕ) (before after : DevicePass) (kept : Attempt) : Type 0 where
   pub steps : List Step
   pub went : Went steps before after
-  pub stays : StaysAt (seen script before) (seen script after) client
-  pub serves : Serves (seen script after) client kept
+  pub stays : StaysAt (run_seen script before) (run_seen script after) client
+  pub serves : Serves (run_seen script after) client kept

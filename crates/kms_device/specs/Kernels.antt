@@ -7,8 +7,8 @@ use Rattle.kms_laws.specs.Blankings.{blankings}
 use Rattle.kms_device.specs.Steps.{owner}
 
 -- numbers in their order are how many vertical blankings each CRTC had
-abbrev pub IsCounted : List ℕ → List Step → Type 0
-IsCounted counts steps = (crtc : ℕ) → slice_index_or counts crtc 0 ≡ blankings crtc steps
+abbrev pub AreBlankingCounts : List ℕ → List Step → Type 0
+AreBlankingCounts counts steps = (crtc : ℕ) → slice_index_or counts crtc 0 ≡ blankings crtc steps
 
 -- a step neither ends the history nor is a vertical blanking
 abbrev pub is_plain : Step → Bool

@@ -60,9 +60,9 @@ abbrev pub may_write : Run → ℕ → ObjId → Bool
 may_write r k id = nat_le (first_id (kind_of id.0)) id.0 && is_legal r (write_step k id)
 
 -- the step of a commit that flushes an object, or else writes it
-abbrev pub part_of : Bool → ℕ → Kind → ℕ → Step
-part_of true k kind index = Flush k kind index
-part_of false k kind index = Write k kind index
+abbrev pub write_or_flush : Bool → ℕ → Kind → ℕ → Step
+write_or_flush true k kind index = Flush k kind index
+write_or_flush false k kind index = Write k kind index
 
 -- What a worker may do for a commit that it claimed, in order: the writes of CRTCs and of planes, the flushes, and the end. The
 -- first that is legal is the first that is left.

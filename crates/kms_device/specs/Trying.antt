@@ -23,18 +23,18 @@ use Rattle.kms_device.specs.declared.attempt.Attempted.{Attempted}
 use Rattle.kms_device.specs.declared.attempt.Attempted.TheVariants as attempted
 use Rattle.kms_device.specs.declared.tries.Work.{Work}
 use Rattle.kms_device.specs.Attempts.{GoesOnAt, IsAttempt, MayAttempt, Serves, StaysAt, Went, new_attempt, taken_in}
-use Rattle.kms_device.specs.Turns.{DevicePass, IsOpen, Turn, seen}
+use Rattle.kms_device.specs.Turns.{DevicePass, IsOpen, DeviceTurn, run_seen}
 
 -- What an attempt is given, once a turn has shown where the client of the pass stands.
 pub record IsReady (script : Script) (pass : DevicePass) (kept : Attempt) : Type 0 where
-  pub is_open : IsOpen (seen script pass)
-  pub may : MayAttempt (seen script pass) pass.rank
-  pub serves : Serves (seen script pass) pass.rank kept
+  pub is_open : IsOpen (run_seen script pass)
+  pub may : MayAttempt (run_seen script pass) pass.rank
+  pub serves : Serves (run_seen script pass) pass.rank kept
 
 -- The client of the pass takes locks for a request in the context of a ticket.
-pub record Takes (script : Script) (pass : DevicePass) (t : Ticket) (request : Request) : Type 0 where
-  pub taking : doing_at (machine (seen script pass)) pass.rank ≡ doing.Taking t
-  pub at : request_at script (machine (seen script pass)) pass.rank ≡ Some request
+pub record TakesLocksFor (script : Script) (pass : DevicePass) (t : Ticket) (request : Request) : Type 0 where
+  pub taking : doing_at (machine (run_seen script pass)) pass.rank ≡ doing.Taking t
+  pub at : request_at script (machine (run_seen script pass)) pass.rank ≡ Some request
 
 abbrev pub with_looks : List (ℕ × Look) → Duplicates → Attempt
 with_looks looks states = record { looks = Some looks; states = states }
@@ -46,18 +46,18 @@ kept_in work = with_looks work.looks work.states
 -- The client takes locks for the request in the context, and the look-ups and the states serve.
 pub record Works (script : Script) (pass : DevicePass) (work : Work) : Type 0 where
   pub ready : IsReady script pass (kept_in work)
-  pub takes : Takes script pass work.t work.request.now
+  pub takes : TakesLocksFor script pass work.t work.request.now
 
 -- What an attempt did and keeps: the next can be made with it.
 pub record DidAndKeeps (script : Script) (before : DevicePass) (kept : Attempt) (after : DevicePass) (did : Attempted) (keeps : Attempt) : Type 0 where
   pub is_attempt : IsAttempt script before.rank before kept after keeps did
-  pub goes_on : GoesOnAt (seen script before) (seen script after) before.rank did
-  pub serves : Serves (seen script after) before.rank keeps
+  pub goes_on : GoesOnAt (run_seen script before) (run_seen script after) before.rank did
+  pub serves : Serves (run_seen script after) before.rank keeps
 
 -- no step was made, and the next attempt can be made
 pub record DidNothing (script : Script) (before after : DevicePass) : Type 0 where
   pub went : Went [] before after
-  pub stays : StaysAt (seen script before) (seen script after) before.rank
+  pub stays : StaysAt (run_seen script before) (run_seen script after) before.rank
 
 abbrev pub Tried : {E : Type 0} → Script → DevicePass → Attempt → DevicePass → Result (Attempted × Attempt) E → Type 0
 Tried script before kept after (Ok did) = DidAndKeeps script before kept after did.0 did.1
@@ -84,7 +84,7 @@ kept_of id (locked.Held holder) kept = kept
 -- What came of an answer to a call that decides a request: the reply; or the look-ups were made anew, in a turn of their own.
 pub record LooksAnew (script : Script) (request : Request) (kept : Attempt) (before after : DevicePass) (did : Attempted) (keeps : Attempt) : Type 0 where
   pub told : List (ℕ × Look)
-  pub turn : Turn script (λ found. told ≡ lookups (world found) request) [] before after
+  pub turn : DeviceTurn script (λ found. told ≡ lookups (world found) request) [] before after
   pub did_is : did ≡ attempted.Did
   pub keeps_is : keeps ≡ record kept { looks = Some told }
 
@@ -103,4 +103,4 @@ Concludes script request kept before (decided.Again label was now) after did kee
 -- no memory for new look-ups
 pub record LooksInVain (script : Script) (answer : Decided) (before after : DevicePass) : Type 0 where
   pub again : steps_of 0 step.Stall answer ≡ []
-  pub turn : Turn script (λ found. ⊤) [] before after
+  pub turn : DeviceTurn script (λ found. ⊤) [] before after

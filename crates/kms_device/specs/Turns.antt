@@ -12,7 +12,7 @@ use Rattle.kms_laws.specs.Blankings.{blankings}
 use Rattle.kms_device.specs.Steps.{NeverEnds, owner}
 
 -- what contracts see of a device: its lock's name, how many passes it was made with, and its script
-pub record DeviceState : Type 0 where
+pub record SharedDevice : Type 0 where
   pub lock : LockName Script
   pub seats : ℕ
   pub script : Script
@@ -22,8 +22,8 @@ abbrev pub DevicePass : Type 0
 DevicePass = PassState Step Script
 
 -- the script with the history that a pass has seen
-abbrev pub seen : Script → DevicePass → Run
-seen script pass = record { script = script; steps = pass.seen }
+abbrev pub run_seen : Script → DevicePass → Run
+run_seen script pass = record { script = script; steps = pass.seen }
 
 -- the script is well formed, and the steps are a history of it that was not ended
 pub record IsOpen (r : Run) : Type 0 where
@@ -40,7 +40,7 @@ pub record MayBeFound (script : Script) (pass : DevicePass) (found : Run) : Type
 
 -- A call took the turn once. Of the history that it found `says` holds. It added these steps, which the pass has then made, and the
 -- pass has seen what it left, which is a history of the script.
-pub record Turn (script : Script) (says : Run → Type 0) (steps : List Step) (before after : DevicePass) : Type 0 where
+pub record DeviceTurn (script : Script) (says : Run → Type 0) (steps : List Step) (before after : DevicePass) : Type 0 where
   pub found : Run
   pub finds : MayBeFound script before found
   pub said : says found

@@ -2,7 +2,7 @@
 ghost use Rattle.std.specs.Prelude.{◌≡◌, ℕ, [], IfOk, OnErr};
 ghost use Rattle.kms_stores.specs.Run.{Run};
 ghost use Rattle.kms_device.specs.Attempts.{BrokenOff, Committed, GoesOnAt, IsAttempt, MayAttempt, Serves, StaysAt, Went, new_attempt};
-ghost use Rattle.kms_device.specs.Turns.{seen};
+ghost use Rattle.kms_device.specs.Turns.{run_seen};
 
 use crate::device::Device;
 use crate::kernel::Pass;
@@ -68,16 +68,16 @@ impl Device {
     ) -> Result<Attempted, NoMemory>
         requires own { pass.old.lock ≡ self.now.lock }
         requires whose { pass.old.rank ≡ client }
-        requires may { MayAttempt (seen self.now.script pass.old) client }
-        requires serves { Serves (seen self.now.script pass.old) client kept.old }
+        requires may { MayAttempt (run_seen self.now.script pass.old) client }
+        requires serves { Serves (run_seen self.now.script pass.old) client kept.old }
         ensures did { IfOk result
             (IsAttempt self.now.script client pass.old kept.old pass.new kept.new) }
-        ensures goes_on { IfOk result (GoesOnAt (seen self.now.script pass.old)
-            (seen self.now.script pass.new) client) }
-        ensures serves { Serves (seen self.now.script pass.new) client kept.new }
+        ensures goes_on { IfOk result (GoesOnAt (run_seen self.now.script pass.old)
+            (run_seen self.now.script pass.new) client) }
+        ensures serves { Serves (run_seen self.now.script pass.new) client kept.new }
         ensures no_step { OnErr result (Went [] pass.old pass.new) }
-        ensures stays { OnErr result (StaysAt (seen self.now.script pass.old)
-            (seen self.now.script pass.new) client) }
+        ensures stays { OnErr result (StaysAt (run_seen self.now.script pass.old)
+            (run_seen self.now.script pass.new) client) }
         ensures anew { OnErr result (kept.new ≡ new_attempt) }
     {
         let old = replace(kept, Attempt::new());
@@ -99,7 +99,7 @@ impl Device {
     ) -> Result<Reply, NoMemory>
         requires own { pass.old.lock ≡ self.now.lock }
         requires whose { pass.old.rank ≡ client }
-        requires may { MayAttempt (seen self.now.script pass.old) client }
+        requires may { MayAttempt (run_seen self.now.script pass.old) client }
         ensures committed { IfOk result
             (λ reply. Committed self.now.script client reply pass.old pass.new) }
         ensures broken_off { OnErr result (BrokenOff self.now.script client pass.old pass.new) }

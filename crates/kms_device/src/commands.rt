@@ -2,10 +2,10 @@
 ghost use Rattle.std.specs.Prelude.{◌≡◌, ◌∷◌, [], IfOk};
 ghost use Rattle.kms_model.specs.declared.replies.Step.TheVariants as step;
 ghost use Rattle.kms_model.specs.Request.Lookups.{lookups};
-ghost use Rattle.kms_stores.specs.Calls.{MayMake, MayRead, MayReturn, MaySignal, is_over_at, read_at, read_step, reply_at, return_step};
+ghost use Rattle.kms_stores.specs.Calls.{MayMake, MayRead, MayReturn, MaySignal, is_over_at, read_reply_at, read_step, reply_at, return_step};
 ghost use Rattle.kms_stores.specs.Decisions.{world};
 ghost use Rattle.kms_stores.specs.Run.{if_ok};
-ghost use Rattle.kms_device.specs.Turns.{Turn, seen};
+ghost use Rattle.kms_device.specs.Turns.{DeviceTurn, run_seen};
 
 use crate::device::Device;
 use crate::kernel::Pass;
@@ -24,7 +24,7 @@ impl Device {
         request: &Request,
     ) -> Result<Lookups, NoMemory>
         requires own { pass.old.lock ≡ self.now.lock }
-        ensures { Turn self.now.script
+        ensures { DeviceTurn self.now.script
             (λ found. IfOk result (λ told. told ≡ lookups (world found) request.now)) []
             pass.old pass.new }
     {
@@ -42,8 +42,8 @@ impl Device {
     ) -> Result<Reply, NoMemory>
         requires own { pass.old.lock ≡ self.now.lock }
         requires whose { pass.old.rank ≡ client }
-        requires may { MayMake (seen self.now.script pass.old) client }
-        ensures { Turn self.now.script
+        requires may { MayMake (run_seen self.now.script pass.old) client }
+        ensures { DeviceTurn self.now.script
             (λ found. IfOk result (λ reply. reply ≡ reply_at found client))
             (if_ok result (λ reply. step.Make client ∷ [])) pass.old pass.new }
     {
@@ -54,8 +54,8 @@ impl Device {
     pub fn signal<W: Wait>(&self, rt: &W, pass: &mut Pass, client: u32) -> Result<Reply, NoMemory>
         requires own { pass.old.lock ≡ self.now.lock }
         requires whose { pass.old.rank ≡ client }
-        requires may { MaySignal (seen self.now.script pass.old) client }
-        ensures { Turn self.now.script
+        requires may { MaySignal (run_seen self.now.script pass.old) client }
+        ensures { DeviceTurn self.now.script
             (λ found. IfOk result (λ reply. reply ≡ reply_at found client))
             (if_ok result (λ reply. step.Signal client ∷ [])) pass.old pass.new }
     {
@@ -72,9 +72,9 @@ impl Device {
     ) -> Result<Option<Reply>, NoMemory>
         requires own { pass.old.lock ≡ self.now.lock }
         requires whose { pass.old.rank ≡ client }
-        requires may { MayRead (seen self.now.script pass.old) client }
-        ensures { Turn self.now.script
-            (λ found. IfOk result (λ reply. reply ≡ read_at found client))
+        requires may { MayRead (run_seen self.now.script pass.old) client }
+        ensures { DeviceTurn self.now.script
+            (λ found. IfOk result (λ reply. reply ≡ read_reply_at found client))
             (if_ok result (read_step client)) pass.old pass.new }
     {
         self.turn(rt, pass, |core: &mut Core| core.read(client))
@@ -90,8 +90,8 @@ impl Device {
     ) -> Result<bool, NoMemory>
         requires own { pass.old.lock ≡ self.now.lock }
         requires whose { pass.old.rank ≡ client }
-        requires may { MayReturn (seen self.now.script pass.old) client }
-        ensures { Turn self.now.script
+        requires may { MayReturn (run_seen self.now.script pass.old) client }
+        ensures { DeviceTurn self.now.script
             (λ found. IfOk result (λ over. over ≡ is_over_at found client))
             (if_ok result (return_step client)) pass.old pass.new }
     {

@@ -3,8 +3,8 @@ ghost use Rattle.std.specs.Prelude.{◌≡◌, ◌∷◌, [], IfOk, ⊤};
 ghost use Rattle.kms_model.specs.declared.replies.Step.TheVariants as step;
 ghost use Rattle.kms_calls.specs.Locks.{MayBegin, lock_steps, locked_answer, relock_steps, relocked_answer};
 ghost use Rattle.kms_stores.specs.Run.{if_ok, machine};
-ghost use Rattle.kms_device.specs.Asking.{HasBackedOff, MayTake, MustBackOff};
-ghost use Rattle.kms_device.specs.Turns.{Turn, seen};
+ghost use Rattle.kms_device.specs.Asking.{ContextBackedOff, MayLockNext, ContextMustBackOff};
+ghost use Rattle.kms_device.specs.Turns.{DeviceTurn, run_seen};
 
 use crate::device::Device;
 use crate::kernel::Pass;
@@ -25,8 +25,8 @@ impl Device {
     ) -> Result<Ticket, NoMemory>
         requires own { pass.old.lock ≡ self.now.lock }
         requires whose { pass.old.rank ≡ client }
-        requires may { MayBegin (seen self.now.script pass.old) client }
-        ensures { Turn self.now.script
+        requires may { MayBegin (run_seen self.now.script pass.old) client }
+        ensures { DeviceTurn self.now.script
             (λ found. IfOk result (λ t. t.0 ≡ (machine found).contexts.tickets))
             (if_ok result (λ t. step.Begin client ∷ [])) pass.old pass.new }
     {
@@ -45,8 +45,8 @@ impl Device {
         id: ObjId,
     ) -> Result<Locked, NoMemory>
         requires own { pass.old.lock ≡ self.now.lock }
-        requires may { MayTake (seen self.now.script pass.old) pass.old.rank t id }
-        ensures { Turn self.now.script
+        requires may { MayLockNext (run_seen self.now.script pass.old) pass.old.rank t id }
+        ensures { DeviceTurn self.now.script
             (λ found. IfOk result (λ a. a ≡ locked_answer found pass.old.rank id))
             (if_ok result (lock_steps pass.old.rank id)) pass.old pass.new }
     {
@@ -57,8 +57,8 @@ impl Device {
     /// client of the pass. Want of memory makes no step.
     pub fn backoff<W: Wait>(&self, rt: &W, pass: &mut Pass, t: Ticket) -> Result<(), NoMemory>
         requires own { pass.old.lock ≡ self.now.lock }
-        requires must { MustBackOff (seen self.now.script pass.old) pass.old.rank t }
-        ensures { Turn self.now.script (λ found. ⊤)
+        requires must { ContextMustBackOff (run_seen self.now.script pass.old) pass.old.rank t }
+        ensures { DeviceTurn self.now.script (λ found. ⊤)
             (if_ok result (λ u. step.BackOff pass.old.rank ∷ [])) pass.old pass.new }
     {
         self.turn(rt, pass, |core: &mut Core| core.backoff(t))
@@ -68,8 +68,8 @@ impl Device {
     /// The context is that of the client of the pass. `Held` makes no step, nor does want of memory.
     pub fn relock<W: Wait>(&self, rt: &W, pass: &mut Pass, t: Ticket) -> Result<Locked, NoMemory>
         requires own { pass.old.lock ≡ self.now.lock }
-        requires off { HasBackedOff (seen self.now.script pass.old) pass.old.rank t }
-        ensures { Turn self.now.script
+        requires off { ContextBackedOff (run_seen self.now.script pass.old) pass.old.rank t }
+        ensures { DeviceTurn self.now.script
             (λ found. IfOk result (λ a. a ≡ relocked_answer found pass.old.rank))
             (if_ok result (relock_steps pass.old.rank)) pass.old pass.new }
     {

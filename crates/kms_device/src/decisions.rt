@@ -9,7 +9,7 @@ ghost use Rattle.kms_stores.specs.Decisions.{IsDecided, steps_of, world};
 ghost use Rattle.kms_stores.specs.Run.{if_ok};
 ghost use Rattle.kms_stores.specs.Swaps.{swap_answer};
 ghost use Rattle.kms_device.specs.Asking.{MayBeRefused, MayBeSwapped, MayBeTested};
-ghost use Rattle.kms_device.specs.Turns.{Turn, seen};
+ghost use Rattle.kms_device.specs.Turns.{DeviceTurn, run_seen};
 
 use crate::device::Device;
 use crate::kernel::Pass;
@@ -30,8 +30,8 @@ impl Device {
         why: Refusal,
     ) -> Result<Decided, NoMemory>
         requires own { pass.old.lock ≡ self.now.lock }
-        requires may { MayBeRefused (seen self.now.script pass.old) pass.old.rank t used.now why }
-        ensures { Turn self.now.script
+        requires may { MayBeRefused (run_seen self.now.script pass.old) pass.old.rank t used.now why }
+        ensures { DeviceTurn self.now.script
             (λ found. IfOk result (IsDecided (look_up (world found)) used.now
             (decided.Done (reply.Refused why))))
             (if_ok result (steps_of pass.old.rank (step.Refuse pass.old.rank)))
@@ -51,9 +51,9 @@ impl Device {
         checked: &Checked,
     ) -> Result<Decided, NoMemory>
         requires own { pass.old.lock ≡ self.now.lock }
-        requires may { MayBeTested (seen self.now.script pass.old) pass.old.rank t used.now
+        requires may { MayBeTested (run_seen self.now.script pass.old) pass.old.rank t used.now
             checked.now }
-        ensures { Turn self.now.script
+        ensures { DeviceTurn self.now.script
             (λ found. IfOk result (IsDecided (look_up (world found)) used.now
             (decided.Done reply.Tested)))
             (if_ok result (steps_of pass.old.rank (step.Test pass.old.rank)))
@@ -75,9 +75,9 @@ impl Device {
         resolved: &Resolved,
     ) -> Result<Decided, NoMemory>
         requires own { pass.old.lock ≡ self.now.lock }
-        requires may { MayBeSwapped (seen self.now.script pass.old) pass.old.rank t used.now
+        requires may { MayBeSwapped (run_seen self.now.script pass.old) pass.old.rank t used.now
             checked.now resolved.now }
-        ensures { Turn self.now.script
+        ensures { DeviceTurn self.now.script
             (λ found. IfOk result (IsDecided (look_up (world found)) used.now
             (swap_answer found pass.old.rank)))
             (if_ok result (steps_of pass.old.rank (step.Swap pass.old.rank)))

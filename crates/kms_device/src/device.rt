@@ -9,7 +9,7 @@ ghost use Rattle.kms_model.specs.Script.WellFormed.{IsWellFormed};
 ghost use Rattle.kms_stores.specs.Run.{Run, machine};
 ghost use Rattle.kms_device.specs.Kernels.{AddsPlainOf};
 ghost use Rattle.kms_laws.specs.Blankings.{blankings};
-ghost use Rattle.kms_device.specs.Turns.{Called, MayBeFound, Turn};
+ghost use Rattle.kms_device.specs.Turns.{Called, MayBeFound, DeviceTurn};
 
 use crate::kernel::{Kernel, Pass};
 use kms_core::Core;
@@ -29,9 +29,9 @@ pub struct Device {
 
 impl Model for Device {
     ghost use Rattle.std.specs.Prelude.{◌≡◌};
-    ghost use Rattle.kms_device.specs.Turns.{DeviceState};
+    ghost use Rattle.kms_device.specs.Turns.{SharedDevice};
 
-    ghost Value = { DeviceState };
+    ghost Value = { SharedDevice };
 
     ghost view = { λ d. record { lock = d.lock.lock; seats = d.lock.seats; script = d.script } };
 
@@ -103,7 +103,7 @@ impl Device {
         requires own { pass.old.lock ≡ self.now.lock }
         requires low { 1 ≤ client }
         requires high { client ≤ length self.now.script.clients }
-        ensures { Turn self.now.script (λ found. result ≡ place_at (machine found) client) []
+        ensures { DeviceTurn self.now.script (λ found. result ≡ place_at (machine found) client) []
             pass.old pass.new }
     {
         self.turn(rt, pass, |core: &mut Core| core.place(client))
@@ -112,7 +112,7 @@ impl Device {
     /// Whether every client is at its end, with no command left, and every commit is cleaned.
     pub fn ended<W: Wait>(&self, rt: &W, pass: &mut Pass) -> bool
         requires own { pass.old.lock ≡ self.now.lock }
-        ensures { Turn self.now.script
+        ensures { DeviceTurn self.now.script
             (λ found. result ≡ is_drained found.script (machine found)) [] pass.old pass.new }
     {
         self.turn(rt, pass, |core: &mut Core| core.drained())

@@ -31,14 +31,14 @@ pub type Pass = kms_histlock::Pass<Kernel>;
 
 impl Model for Kernel {
     ghost use Rattle.kms_stores.specs.Run.{Run};
-    ghost use Rattle.kms_device.specs.Kernels.{IsCounted};
+    ghost use Rattle.kms_device.specs.Kernels.{AreBlankingCounts};
     ghost use Rattle.kms_device.specs.Steps.{NeverEnds};
 
     ghost Value = { Run };
 
     ghost view = { λ k. k.core.value };
 
-    ghost invariant = { λ k. NeverEnds k.core.value.steps × IsCounted k.counts k.core.value.steps };
+    ghost invariant = { λ k. NeverEnds k.core.value.steps × AreBlankingCounts k.counts k.core.value.steps };
 }
 
 impl Kept for Kernel {

@@ -6,8 +6,8 @@ ghost use Rattle.kms_model.specs.Request.Flags.{is_test};
 ghost use Rattle.kms_check.specs.Moves.{AcceptedAs, AsksFor, RefusedBy};
 ghost use Rattle.kms_stores.specs.Run.{machine};
 ghost use Rattle.kms_device.specs.Attempts.{MayAttempt, Serves};
-ghost use Rattle.kms_device.specs.Trying.{Concludes, IsReady, LooksInVain, Takes, Tried, Works, attempted_of, kept_in, kept_of, with_state};
-ghost use Rattle.kms_device.specs.Turns.{seen};
+ghost use Rattle.kms_device.specs.Trying.{Concludes, IsReady, LooksInVain, TakesLocksFor, Tried, Works, attempted_of, kept_in, kept_of, with_state};
+ghost use Rattle.kms_device.specs.Turns.{run_seen};
 
 use crate::attempt::{Attempt, Attempted};
 use crate::device::Device;
@@ -37,8 +37,8 @@ impl Device {
     ) -> Result<(Attempted, Attempt), NoMemory>
         requires own { pass.old.lock ≡ self.now.lock }
         requires whose { pass.old.rank ≡ client }
-        requires may { MayAttempt (seen self.now.script pass.old) client }
-        requires serves { Serves (seen self.now.script pass.old) client kept }
+        requires may { MayAttempt (run_seen self.now.script pass.old) client }
+        requires serves { Serves (run_seen self.now.script pass.old) client kept }
         ensures { Tried self.now.script pass.old kept pass.new result }
     {
         let place = self.place(rt, pass, client);
@@ -69,7 +69,7 @@ impl Device {
         requires own { pass.old.lock ≡ self.now.lock }
         requires whose { pass.old.rank ≡ client }
         requires ready { IsReady self.now.script pass.old kept }
-        requires idle { doing_at (machine (seen self.now.script pass.old)) pass.old.rank
+        requires idle { doing_at (machine (run_seen self.now.script pass.old)) pass.old.rank
             ≡ doing.Idle }
         ensures { Tried self.now.script pass.old kept pass.new result }
     {
@@ -89,7 +89,7 @@ impl Device {
     ) -> Result<(Attempted, Attempt), NoMemory>
         requires own { pass.old.lock ≡ self.now.lock }
         requires ready { IsReady self.now.script pass.old kept }
-        requires must { doing_at (machine (seen self.now.script pass.old)) pass.old.rank
+        requires must { doing_at (machine (run_seen self.now.script pass.old)) pass.old.rank
             ≡ doing.MustBackOff t object }
         ensures { Tried self.now.script pass.old kept pass.new result }
     {
@@ -110,7 +110,7 @@ impl Device {
     ) -> Result<(Attempted, Attempt), NoMemory>
         requires own { pass.old.lock ≡ self.now.lock }
         requires ready { IsReady self.now.script pass.old kept }
-        requires off { doing_at (machine (seen self.now.script pass.old)) pass.old.rank
+        requires off { doing_at (machine (run_seen self.now.script pass.old)) pass.old.rank
             ≡ doing.BackedOff t object }
         ensures { Tried self.now.script pass.old kept pass.new result }
     {
@@ -130,7 +130,7 @@ impl Device {
     ) -> Result<(Attempted, Attempt), NoMemory>
         requires own { pass.old.lock ≡ self.now.lock }
         requires ready { IsReady self.now.script pass.old kept }
-        requires takes { Takes self.now.script pass.old t request.now }
+        requires takes { TakesLocksFor self.now.script pass.old t request.now }
         ensures { Tried self.now.script pass.old kept pass.new result }
     {
         let Attempt { looks, states } = kept;

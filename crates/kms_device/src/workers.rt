@@ -6,8 +6,8 @@ ghost use Rattle.kms_model.specs.declared.objects.Kind.TheVariants.{Crtc};
 ghost use Rattle.kms_model.specs.declared.replies.Step.TheVariants as step;
 ghost use Rattle.kms_stores.specs.Run.{Run, gains};
 ghost use Rattle.kms_stores.specs.Work.{claim_steps, first_claim, write_step};
-ghost use Rattle.kms_device.specs.Steps.{blanks_at, is_legal, may_write, part_of, step_if, tail_of};
-ghost use Rattle.kms_device.specs.Turns.{Turn};
+ghost use Rattle.kms_device.specs.Steps.{blanks_at, is_legal, may_write, write_or_flush, step_if, tail_of};
+ghost use Rattle.kms_device.specs.Turns.{DeviceTurn};
 
 use crate::device::Device;
 use crate::kernel::{Kernel, Pass};
@@ -20,7 +20,7 @@ impl Device {
     /// that was found.
     pub fn claim<W: Wait>(&self, rt: &W, pass: &mut Pass) -> Option<u32>
         requires own { pass.old.lock ≡ self.now.lock }
-        ensures { Turn self.now.script (λ found. result ≡ first_claim found) (claim_steps result)
+        ensures { DeviceTurn self.now.script (λ found. result ≡ first_claim found) (claim_steps result)
             pass.old pass.new }
     {
         self.turn(rt, pass, |core: &mut Core| core.claim())
@@ -30,7 +30,7 @@ impl Device {
     /// exactly where it is not the next in the history that was found.
     pub fn write<W: Wait>(&self, rt: &W, pass: &mut Pass, commit: u32, id: ObjId) -> bool
         requires own { pass.old.lock ≡ self.now.lock }
-        ensures { Turn self.now.script (λ found. result ≡ may_write found commit id)
+        ensures { DeviceTurn self.now.script (λ found. result ≡ may_write found commit id)
             (step_if result (write_step commit id)) pass.old pass.new }
     {
         self.turn(rt, pass, |core: &mut Core| write(core, commit, id))
@@ -40,7 +40,7 @@ impl Device {
     /// not flush it next in the history that was found.
     pub fn flush<W: Wait>(&self, rt: &W, pass: &mut Pass, commit: u32, crtc: u32) -> bool
         requires own { pass.old.lock ≡ self.now.lock }
-        ensures { Turn self.now.script
+        ensures { DeviceTurn self.now.script
             (λ found. result ≡ is_legal found (step.Flush commit Crtc crtc))
             (step_if result (step.Flush commit Crtc crtc)) pass.old pass.new }
     {
@@ -51,7 +51,7 @@ impl Device {
     /// where they are not, or it was told, in the history that was found.
     pub fn hw_done<W: Wait>(&self, rt: &W, pass: &mut Pass, commit: u32) -> bool
         requires own { pass.old.lock ≡ self.now.lock }
-        ensures { Turn self.now.script (λ found. result ≡ is_legal found (step.HwDone commit))
+        ensures { DeviceTurn self.now.script (λ found. result ≡ is_legal found (step.HwDone commit))
             (step_if result (step.HwDone commit)) pass.old pass.new }
     {
         self.turn(rt, pass, |core: &mut Core| hw_done(core, commit))
@@ -61,7 +61,7 @@ impl Device {
     /// up, in the history that was found.
     pub fn cleanup<W: Wait>(&self, rt: &W, pass: &mut Pass, commit: u32) -> bool
         requires own { pass.old.lock ≡ self.now.lock }
-        ensures { Turn self.now.script (λ found. result ≡ is_legal found (step.Cleanup commit))
+        ensures { DeviceTurn self.now.script (λ found. result ≡ is_legal found (step.Cleanup commit))
             (step_if result (step.Cleanup commit)) pass.old pass.new }
     {
         self.turn(rt, pass, |core: &mut Core| clean_up(core, commit))
@@ -71,7 +71,7 @@ impl Device {
     /// it is not legal in the history that was found, or none is left. (Kernel: `drm_atomic_helper.c`, `commit_tail`.)
     pub fn work_on<W: Wait>(&self, rt: &W, pass: &mut Pass, commit: u32) -> Option<Step>
         requires own { pass.old.lock ≡ self.now.lock }
-        ensures { Turn self.now.script
+        ensures { DeviceTurn self.now.script
             (λ found. result ≡ find (is_legal found) (tail_of found.script.topology commit))
             (option_to_list result) pass.old pass.new }
     {
@@ -82,7 +82,7 @@ impl Device {
     /// step, exactly where it latches none then in the history that was found, or the device has no such CRTC.
     pub fn vblank<W: Wait>(&self, rt: &W, pass: &mut Pass, crtc: u32) -> bool
         requires own { pass.old.lock ≡ self.now.lock }
-        ensures { Turn self.now.script (λ found. result ≡ blanks_at found crtc)
+        ensures { DeviceTurn self.now.script (λ found. result ≡ blanks_at found crtc)
             (step_if result (step.Vblank Crtc crtc)) pass.old pass.new }
     {
         self.lock
@@ -179,7 +179,7 @@ fn work_on(core: &mut Core, commit: u32) -> Option<Step>
 
 /// The index of the first object of a kind, of so many, that a commit may flush, or else write.
 fn first_left(core: &Core, commit: u32, kind: Kind, count: u32, flushes: bool) -> Option<u32>
-    ensures { result ≡ find (λ index. is_legal core.now (part_of flushes commit kind index))
+    ensures { result ≡ find (λ index. is_legal core.now (write_or_flush flushes commit kind index))
         (range_with_len 0 count) }
 {
     (0..count).find(|index| core.legal(&part(flushes, commit, kind, *index)))
@@ -187,7 +187,7 @@ fn first_left(core: &Core, commit: u32, kind: Kind, count: u32, flushes: bool) -
 
 /// The step of a commit that flushes an object, or else writes it.
 fn part(flushes: bool, commit: u32, kind: Kind, index: u32) -> Step
-    ensures { result ≡ part_of flushes commit kind index }
+    ensures { result ≡ write_or_flush flushes commit kind index }
 {
     if flushes {
         return Step::Flush {

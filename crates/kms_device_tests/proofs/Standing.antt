@@ -34,7 +34,7 @@ use Rattle.kms_stores.specs.Run.{Run, machine}
 use Rattle.kms_device.specs.Asking.{MayAskFor, TakesLocks}
 use Rattle.kms_device.specs.Attempts.{new_attempt}
 use Rattle.kms_device.specs.Trying.{IsReady}
-use Rattle.kms_device.specs.Turns.{DevicePass, IsOpen, Turn, seen}
+use Rattle.kms_device.specs.Turns.{DevicePass, IsOpen, DeviceTurn, run_seen}
 use Rattle.kms_device.proofs.Runs.{open-at}
 use Rattle.kms_device.proofs.Serving.{serves_new}
 use Rattle.kms_device.proofs.Stepping.{found-is, open-after, rank-after, request-same, start_refl}
@@ -52,42 +52,42 @@ making_of command.Wait asks signals waits = absurd (waits refl)
 making_of c asks signals waits = refl
 
 -- The client of the pass was told where it stands.
-module _ (script : Script) (client : ℕ) (place : Place) (p q : DevicePass) (whose : client ≡ p.rank) (t : Turn script (λ found. place ≡ place_at (machine found) client) [] p q) where
-  stands : place_at (machine (seen script q)) client ≡ place
+module _ (script : Script) (client : ℕ) (place : Place) (p q : DevicePass) (whose : client ≡ p.rank) (t : DeviceTurn script (λ found. place ≡ place_at (machine found) client) [] p q) where
+  stands : place_at (machine (run_seen script q)) client ≡ place
   stands = ap (λ (r : Run). place_at (machine r) client) (found-is script (λ found. place ≡ place_at (machine found) client) p q t) ∙ sym t.said
 
-  is_open : IsOpen (seen script q)
+  is_open : IsOpen (run_seen script q)
   is_open = open-after script (λ found. place ≡ place_at (machine found) client) [] p q t
 
   pub rank_told : client ≡ q.rank
   rank_told = whose ∙ sym (rank-after script (λ found. place ≡ place_at (machine found) client) [] p q t)
 
-  pub doing_told : doing_at (machine (seen script q)) q.rank ≡ place.doing
-  doing_told = subst (λ n. doing_at (machine (seen script q)) n ≡ place.doing) rank_told (ap (λ (x : Place). x.doing) stands)
+  pub doing_told : doing_at (machine (run_seen script q)) q.rank ≡ place.doing
+  doing_told = subst (λ n. doing_at (machine (run_seen script q)) n ≡ place.doing) rank_told (ap (λ (x : Place). x.doing) stands)
 
   -- the command at which it stands
-  command_told : (its : Script) → its ≡ script → command_at script (machine (seen script q)) client ≡ command_of its (record { client = client; command = place.command })
+  command_told : (its : Script) → its ≡ script → command_at script (machine (run_seen script q)) client ≡ command_of its (record { client = client; command = place.command })
   command_told its same =
       ap (λ (x : Place). command_of script (record { client = client; command = x.command })) stands
       ∙ ap (λ (s : Script). command_of s (record { client = client; command = place.command })) (sym same)
 
   module _ (its : Script) (same : its ≡ script) (request : Request) (is : Some request ≡ request_in (command_of its (record { client = client; command = place.command }))) where
-    pub request_told : request_at script (machine (seen script q)) q.rank ≡ Some request
-    request_told = subst (λ n. request_at script (machine (seen script q)) n ≡ Some request) rank_told (ap request_in (command_told its same) ∙ sym is)
+    pub request_told : request_at script (machine (run_seen script q)) q.rank ≡ Some request
+    request_told = subst (λ n. request_at script (machine (run_seen script q)) n ≡ Some request) rank_told (ap request_in (command_told its same) ∙ sym is)
 
     pub ready_told : returning_of place.doing ≡ None → IsReady script q new_attempt
     ready_told awake = record {
       is_open = is_open;
       may = record { request = request; at = request_told; awake = ap returning_of doing_told ∙ awake };
-      serves = serves_new (seen script q) q.rank;
+      serves = serves_new (run_seen script q) q.rank;
     }
 
-  pub may_make_told : (its : Script) → its ≡ script → (c : Command) → Some c ≡ command_of its (record { client = client; command = place.command }) → place.doing ≡ doing.Idle → is_making c ≡ true → MayMake (seen script q) client
+  pub may_make_told : (its : Script) → its ≡ script → (c : Command) → Some c ≡ command_of its (record { client = client; command = place.command }) → place.doing ≡ doing.Idle → is_making c ≡ true → MayMake (run_seen script q) client
   unfolding legal may
   may_make_told its same c is idle h =
-      let stood : command_at script (machine (seen script q)) client ≡ Some c = command_told its same ∙ sym is in
-      and_from (not (machine (seen script q)).stalled) _ (ap not (open-at script q.seen is_open.history is_open.goes_on))
-      (and_from (is_idle (doing_at (machine (seen script q)) client)) _ (ap (λ (x : Place). is_idle x.doing) stands ∙ ap is_idle idle) (rw stood h))
+      let stood : command_at script (machine (run_seen script q)) client ≡ Some c = command_told its same ∙ sym is in
+      and_from (not (machine (run_seen script q)).stalled) _ (ap not (open-at script q.seen is_open.history is_open.goes_on))
+      (and_from (is_idle (doing_at (machine (run_seen script q)) client)) _ (ap (λ (x : Place). is_idle x.doing) stands ∙ ap is_idle idle) (rw stood h))
 
 -- an object that a request sets is touched by it
 touched_of : (k : Kind) (t : Topology) (w : World) (r : Request) (index object : ℕ) → is_lockable t k index ≡ true → sets r.assigns object ≡ true → touches_of_kind k t w r object ≡ true
@@ -101,23 +101,23 @@ unfolding touches
 touched_set t w r object there set = touched_of (kind_of object) t w r (index_of object) object there set
 
 -- The client was told what the labels of its request name, and then asks for an object that the request sets.
-module _ (script : Script) (p q : DevicePass) (request : Request) (used : List (ℕ × Look)) (ready : IsReady script p new_attempt) (t : Turn script (λ found. used ≡ lookups (world found) request) [] p q) where
-  told : used ≡ lookups (world (seen script q)) request
+module _ (script : Script) (p q : DevicePass) (request : Request) (used : List (ℕ × Look)) (ready : IsReady script p new_attempt) (t : DeviceTurn script (λ found. used ≡ lookups (world found) request) [] p q) where
+  told : used ≡ lookups (world (run_seen script q)) request
   told = t.said ∙ ap (λ (r : Run). lookups (world r) request) (sym (found-is script (λ found. used ≡ lookups (world found) request) p q t))
 
   rank_same : p.rank ≡ q.rank
   rank_same = sym (rank-after script (λ found. used ≡ lookups (world found) request) [] p q t)
 
-  pub may_ask_told : (ticket : Ticket) (id : ObjId) → doing_at (machine (seen script p)) p.rank ≡ doing.Taking ticket → request_at script (machine (seen script p)) p.rank ≡ Some request
+  pub may_ask_told : (ticket : Ticket) (id : ObjId) → doing_at (machine (run_seen script p)) p.rank ≡ doing.Taking ticket → request_at script (machine (run_seen script p)) p.rank ≡ Some request
       → (nat_le (first_id (kind_of id.0)) id.0 && is_lockable script.topology (kind_of id.0) (index_of id.0)) ≡ true → sets request.assigns id.0 ≡ true
-      → Resolves script.topology (look_in used) request → MayAskFor (seen script q) q.rank ticket id
+      → Resolves script.topology (look_in used) request → MayAskFor (run_seen script q) q.rank ticket id
   may_ask_told ticket id taking at there set fine =
       let both = and_parts (nat_le (first_id (kind_of id.0)) id.0) (is_lockable script.topology (kind_of id.0) (index_of id.0)) there in
-      let takes : TakesLocks (seen script q) q.rank ticket id = record {
+      let takes : TakesLocks (run_seen script q) q.rank ticket id = record {
         request = request;
-        taking = subst (λ n. doing_at (machine (seen script q)) n ≡ doing.Taking ticket) rank_same (doing-after script (λ found. used ≡ lookups (world found) request) p q new_attempt ready t ∙ taking);
-        at = subst (λ n. request_at script (machine (seen script q)) n ≡ Some request) rank_same
-            (request-same script (machine (seen script p)) (machine (seen script q)) p.rank (command-after script (λ found. used ≡ lookups (world found) request) p q new_attempt ready t) ∙ at);
+        taking = subst (λ n. doing_at (machine (run_seen script q)) n ≡ doing.Taking ticket) rank_same (doing-after script (λ found. used ≡ lookups (world found) request) p q new_attempt ready t ∙ taking);
+        at = subst (λ n. request_at script (machine (run_seen script q)) n ≡ Some request) rank_same
+            (request-same script (machine (run_seen script p)) (machine (run_seen script q)) p.rank (command-after script (λ found. used ≡ lookups (world found) request) p q new_attempt ready t) ∙ at);
         is_id = leb-true (first_id (kind_of id.0)) id.0 both.0;
         lockable = both.1;
       } in record {
@@ -125,9 +125,9 @@ module _ (script : Script) (p q : DevicePass) (request : Request) (used : List (
         early = q.seen;
         begins = start_refl q.seen;
         resolved = fine.resolved;
-        asks = resolved-same script.topology (look_in used) (look_up (world (seen script q))) request fine.resolved
-            (subst (λ looks. TellsLabels (look_in looks) (look_up (world (seen script q))) request.assigns) (sym told) (world_tells (world (seen script q)) request)) fine.asks;
+        asks = resolved-same script.topology (look_in used) (look_up (world (run_seen script q))) request fine.resolved
+            (subst (λ looks. TellsLabels (look_in looks) (look_up (world (run_seen script q))) request.assigns) (sym told) (world_tells (world (run_seen script q)) request)) fine.asks;
         duplicates = new_attempt.states;
-        taken = (serves_new (seen script q) q.rank).states;
+        taken = (serves_new (run_seen script q) q.rank).states;
         touched = λ w is. touched_set script.topology w request id.0 both.1 set;
       }

@@ -2,7 +2,7 @@
 ghost use Rattle.std.specs.Prelude.{◌≡◌, true, IfSome};
 ghost use Rattle.kms_histlock.specs.Passes.{IsSamePass};
 ghost use Rattle.kms_stores.specs.Calls.{MayMake, MayReturn};
-ghost use Rattle.kms_device.specs.Turns.{seen};
+ghost use Rattle.kms_device.specs.Turns.{run_seen};
 
 use crate::places::{at_request, client_of};
 use kms_device::{Device, Pass};
@@ -65,7 +65,7 @@ fn at_making<W: Wait>(rt: &W, device: &Device, pass: &mut Pass) -> Option<u32>
     requires own { pass.old.lock ≡ device.now.lock }
     ensures same { IsSamePass pass.old pass.new }
     ensures whose { IfSome result (λ client. pass.new.rank ≡ client) }
-    ensures may { IfSome result (MayMake (seen device.now.script pass.new)) }
+    ensures may { IfSome result (MayMake (run_seen device.now.script pass.new)) }
 {
     let client = client_of(device, pass)?;
     let place = device.place(rt, pass, client);
@@ -83,7 +83,7 @@ fn returning<W: Wait>(rt: &W, device: &Device, pass: &mut Pass) -> Option<u32>
     requires own { pass.old.lock ≡ device.now.lock }
     ensures same { IsSamePass pass.old pass.new }
     ensures whose { IfSome result (λ client. pass.new.rank ≡ client) }
-    ensures may { IfSome result (MayReturn (seen device.now.script pass.new)) }
+    ensures may { IfSome result (MayReturn (run_seen device.now.script pass.new)) }
 {
     let client = client_of(device, pass)?;
     let place = device.place(rt, pass, client);

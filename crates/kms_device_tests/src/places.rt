@@ -5,7 +5,7 @@ ghost use Rattle.kms_model.specs.Machine.State.{doing_at, request_at};
 ghost use Rattle.kms_stores.specs.Run.{machine};
 ghost use Rattle.kms_device.specs.Attempts.{new_attempt};
 ghost use Rattle.kms_device.specs.Trying.{IsReady};
-ghost use Rattle.kms_device.specs.Turns.{seen};
+ghost use Rattle.kms_device.specs.Turns.{run_seen};
 
 use kms_device::{Device, Pass};
 use kms_model::{Doing, Request, request_of};
@@ -34,9 +34,9 @@ pub(crate) fn at_request<'a, W: Wait>(
     ensures same { IsSamePass pass.old pass.new }
     ensures ready { IfSome result (λ at. IsReady device.now.script pass.new new_attempt) }
     ensures doing { IfSome result (λ at.
-        doing_at (machine (seen device.now.script pass.new)) pass.new.rank ≡ at.0) }
+        doing_at (machine (run_seen device.now.script pass.new)) pass.new.rank ≡ at.0) }
     ensures request { IfSome result (λ at.
-        request_at device.now.script (machine (seen device.now.script pass.new)) pass.new.rank
+        request_at device.now.script (machine (run_seen device.now.script pass.new)) pass.new.rank
         ≡ Some at.1.now) }
 {
     let client = client_of(device, pass)?;

@@ -4,16 +4,16 @@ use Rattle.std.proofs.lemmas.List.Elements.{All-head, All-tail}
 use mathlib.Core.Logic.{dite}
 use native.Mathlib.Decide.{ℕ_discrete}
 use Rattle.kms_histlock.specs.declared.view.View.{View}
-use Rattle.kms_histlock.specs.declared.view.Turn.{Turn}
+use Rattle.kms_histlock.specs.declared.view.ServedTurn.{ServedTurn}
 use Rattle.kms_histlock.specs.Rules.{Fits, IsStart}
 use Rattle.kms_histlock.specs.Steps.{Sat, lengthened, recounted, merged, Finds}
-use Rattle.kms_histlock.specs.Seats.{Lengthens, served, HasTurn, MayGive, Recounts, gave, HoldsAll}
+use Rattle.kms_histlock.specs.Seats.{Lengthens, served, HasTurn, MayGiveTurn, Recounts, gave, HasAllSeen}
 use Rattle.kms_histlock.specs.Passes.{PassState, pass_state, IsReached, IsFound, MayFind, GoesOn, LockState}
 use Rattle.atomic_table.specs.Seated.{TableId}
 use Rattle.atomic_table.specs.declared.shared.Seat.{Seat}
 
 module _ {T E X : Type 0} (owner : E → ℕ) (entries : T → List E) (counted : ℕ → List E → ℕ) (fixed : T → X) (grows : (k : ℕ) (xs ys : List E) → counted k xs ≤ counted k (xs ++ ys)) where
-  pub may_give : (m m' : Sat T E X) (t y : T) (found : ℕ) → HasTurn owner entries counted fixed m t m' → found ≡ length (entries t) → GoesOn owner entries fixed m.0.rank t y → MayGive owner entries counted fixed found y m'
+  pub may_give : (m m' : Sat T E X) (t y : T) (found : ℕ) → HasTurn owner entries counted fixed m t m' → found ≡ length (entries t) → GoesOn owner entries fixed m.0.rank t y → MayGiveTurn owner entries counted fixed found y m'
   may_give m m' t y found took is goes =
       let q = took.0 in let log = took.2.fits.0 in let longer = goes.longer in record {
         turn = q;
@@ -26,7 +26,7 @@ module _ {T E X : Type 0} (owner : E → ℕ) (entries : T → List E) (counted 
         same = ap (λ z. z.0.fixed) took.1 ∙ (took.2.same ∙ ap (λ x. x ∷ []) (sym goes.same));
       }
 
-  pub recounts_first : (found : ℕ) (y : T) (m m' : Sat T E X) (counts : List ℕ) (may : MayGive owner entries counted fixed found y m) → m' ≡ (lengthened (entries y) m.0 may.turn, m.1) → ((k : ℕ) → k < 4 → get_or counts k 0 ≡ counted k (entries y))
+  pub recounts_first : (found : ℕ) (y : T) (m m' : Sat T E X) (counts : List ℕ) (may : MayGiveTurn owner entries counted fixed found y m) → m' ≡ (lengthened (entries y) m.0 may.turn, m.1) → ((k : ℕ) → k < 4 → get_or counts k 0 ≡ counted k (entries y))
       → Recounts counted counts 0 m'
   recounts_first found y m m' counts may is right = subst (Recounts counted counts 0) (sym is) record {
     turn = record may.turn { log = entries y; stored = 0 };
@@ -60,7 +60,7 @@ recounts_fits entries counted counts m y r seen = (sym seen ∙ r.seen, r.done)
 
 module _ {E X : Type 0} (counted : ℕ → List E → ℕ) where
   -- a history that covers the seat after a join covers both, and reaches the pass of the one that was joined
-  pub covers_both : (v w : View E X) (xs : List E) → HoldsAll counted (merged v w) xs → HoldsAll counted v xs × IsStart w.seen xs × (w.length ≤ length xs) × ((k : ℕ) → k < 4 → get_or w.counts k 0 ≤ counted k xs)
+  pub covers_both : (v w : View E X) (xs : List E) → HasAllSeen counted (merged v w) xs → HasAllSeen counted v xs × IsStart w.seen xs × (w.length ≤ length xs) × ((k : ℕ) → k < 4 → get_or w.counts k 0 ≤ counted k xs)
   covers_both v w xs c = (
     record {
       seen = c.seen;
@@ -81,7 +81,7 @@ module _ {E X : Type 0} (counted : ℕ → List E → ℕ) where
       each (suc (suc (suc (suc k)))) l = absurd (omega arith)
 
 -- the value that a seat finds has a history that its pass may find
-pub found_at : {T E X : Type 0} (owner : E → ℕ) (entries : T → List E) (counted : ℕ → List E → ℕ) (fixed : T → X) (s : Seat (Option T) (View E X)) (q : Turn E) (t : T) (p : PassState E X) → Finds owner entries counted fixed s.me q t → pass_state s ≡ p
+pub found_at : {T E X : Type 0} (owner : E → ℕ) (entries : T → List E) (counted : ℕ → List E → ℕ) (fixed : T → X) (s : Seat (Option T) (View E X)) (q : ServedTurn E) (t : T) (p : PassState E X) → Finds owner entries counted fixed s.me q t → pass_state s ≡ p
     → IsFound owner counted p (entries t)
 found_at owner entries counted fixed s q t p f is = subst (λ (z : PassState _ _ × List _). IsFound owner counted z.0 z.1) (λ i. (is i, sym f.fits.0 i)) record {
   begins = f.begins;
@@ -96,7 +96,7 @@ only_item : {X : Type 0} {x y : X} → x ∷ [] ≡ y ∷ [] → x ≡ y
 only_item e = cc
 
 -- a value that a seat finds, and of which what holds of each value was shown, is one that its pass may find
-pub may_find : {T E X : Type 0} (owner : E → ℕ) (entries : T → List E) (counted : ℕ → List E → ℕ) (fixed : T → X) (sound : T → Type 0) (s : Seat (Option T) (View E X)) (q : Turn E) (t : T) (p : PassState E X) (l l' : LockState X)
+pub may_find : {T E X : Type 0} (owner : E → ℕ) (entries : T → List E) (counted : ℕ → List E → ℕ) (fixed : T → X) (sound : T → Type 0) (s : Seat (Option T) (View E X)) (q : ServedTurn E) (t : T) (p : PassState E X) (l l' : LockState X)
     → Finds owner entries counted fixed s.me q t → pass_state s ≡ p → p.lock ≡ l.lock → l' ≡ l → l'.lock.fixed ≡ l'.fixed ∷ [] → sound t → MayFind owner entries counted fixed sound l.fixed p t
 may_find owner entries counted fixed sound s q t p l l' f is own same keeps shown = record {
   history = found_at owner entries counted fixed s q t p f is;
@@ -105,18 +105,18 @@ may_find owner entries counted fixed sound s q t p l l' f is own same keeps show
 }
 
 -- what covers the seat of a pass reaches the pass
-pub reached_by : {T E X : Type 0} (counted : ℕ → List E → ℕ) (seat : Seat (Option T) (View E X)) (p : PassState E X) (xs : List E) → pass_state seat ≡ p → HoldsAll counted seat.me.0 xs → IsReached counted p xs
+pub reached_by : {T E X : Type 0} (counted : ℕ → List E → ℕ) (seat : Seat (Option T) (View E X)) (p : PassState E X) (xs : List E) → pass_state seat ≡ p → HasAllSeen counted seat.me.0 xs → IsReached counted p xs
 reached_by counted seat p xs is c = subst (λ q. IsReached counted q xs) is record { seen = c.seen; length_read = c.length_read; counts_read = c.counts_read }
 
 -- what covers the seat that has taken another in covers it before, and reaches the pass of the other
-pub reached_both : {T E X : Type 0} (counted : ℕ → List E → ℕ) (m m' : Sat T E X) (seat : Seat (Option T) (View E X)) (p : PassState E X) (xs : List E) → pass_state seat ≡ p → m' ≡ (merged m.0 seat.me.0, m.1) → HoldsAll counted m'.0 xs
-    → HoldsAll counted m.0 xs × IsReached counted p xs
+pub reached_both : {T E X : Type 0} (counted : ℕ → List E → ℕ) (m m' : Sat T E X) (seat : Seat (Option T) (View E X)) (p : PassState E X) (xs : List E) → pass_state seat ≡ p → m' ≡ (merged m.0 seat.me.0, m.1) → HasAllSeen counted m'.0 xs
+    → HasAllSeen counted m.0 xs × IsReached counted p xs
 reached_both counted m m' seat p xs is now c =
-    let both = covers_both counted m.0 seat.me.0 xs (subst (λ (z : Sat _ _ _). HoldsAll counted z.0 xs) now c) in
+    let both = covers_both counted m.0 seat.me.0 xs (subst (λ (z : Sat _ _ _). HasAllSeen counted z.0 xs) now c) in
     (both.0, subst (λ q. IsReached counted q xs) is record { seen = both.1; length_read = both.2; counts_read = both.3 })
 
 -- what contracts see of a pass, after a taking of the turn
-pub turned_now : {T E X : Type 0} (s s1 s2 : Seat (Option T) (View E X)) (p : PassState E X) (xs : List E) (q : Turn E) (cs : List (ℕ × Option T)) (found size : ℕ) → pass_state s ≡ p → s1.table_id ≡ s.table_id → s1.me ≡ (served s.me.0 q, cs)
+pub turned_now : {T E X : Type 0} (s s1 s2 : Seat (Option T) (View E X)) (p : PassState E X) (xs : List E) (q : ServedTurn E) (cs : List (ℕ × Option T)) (found size : ℕ) → pass_state s ≡ p → s1.table_id ≡ s.table_id → s1.me ≡ (served s.me.0 q, cs)
     → s2.table_id ≡ s1.table_id → s2.me ≡ (gave xs found s1.me.0, []) → found ≡ size → pass_state s2 ≡ record p { seen = xs; made = p.made + (length xs - size); turns = p.turns + 1 }
 turned_now {T} {E} {X} s s1 s2 p xs q cs found size is same turn same' rests long =
     let f : TableId → View E X → PassState E X = λ t v. record { lock = record { table = t; fixed = v.fixed }; rank = v.rank; seen = v.seen; made = v.made; turns = v.turns; length_read = v.length; counts_read = v.counts } in

@@ -12,26 +12,26 @@ use prog.Atomic.{either}
 use Rattle.atomic_table.specs.Table.{State, step, Act, keeps, takes, gives, Valid, homes_after, carried_after, Allows, Splits, Joins, opening, Final, Seen}
 use Rattle.atomic_table.proofs.Lists.{at_snoc, set_else}
 use Rattle.kms_histlock.specs.declared.view.View.{View}
-use Rattle.kms_histlock.specs.declared.view.Turn.{Turn}
+use Rattle.kms_histlock.specs.declared.view.ServedTurn.{ServedTurn}
 use Rattle.kms_histlock.specs.declared.view.Stage.{Stage}
 use Rattle.kms_histlock.specs.declared.view.Stage.TheVariants.{Idle, Waits, Serves}
-use Rattle.kms_histlock.specs.Rules.{drawn, number, serving, due, having, At, AtMost, Fits, IsAtHome, Ranks, GoesOnFrom, IsStart, Sights, IsUpheld}
+use Rattle.kms_histlock.specs.Rules.{turns_drawn, number, serving, due, having, At, AtMost, Fits, IsAtHome, Ranks, GoesOnFrom, IsStart, Sights, IsUpheld}
 use Rattle.kms_histlock.specs.Steps.{Sat, opened, standing, waiting, kept_back, split_off, merged, spent, lengthened, recounted, drew, looked, passed, stored_length, stored_count, read_length, read_count}
-use Rattle.kms_histlock.specs.Seats.{Lengthens, HoldsAll}
+use Rattle.kms_histlock.specs.Seats.{Lengthens, HasAllSeen}
 use Rattle.kms_histlock.proofs.Lists.{put, put_else, sum_put, sum_snoc, sum_only, sum_two, each_put, one_at}
 use Rattle.kms_histlock.proofs.Numbering.{mirrors_put, mirrors_snoc, mirrors_more, numbers_stay, numbers_drawn, numbers_passed, is_first}
 use Rattle.kms_histlock.proofs.Holding.{untagged, serving_drawn, held_stays, at_home, held_taken, held_given, held_refit, one_serves, parts_put, not_spent, parts_split, parts_join, leads_put, is_lead, leads_split, leads_join}
 use Rattle.kms_histlock.proofs.Seeing.{at_most_set, at_most_raised, words_put, words_join, ranks_put, ranks_longer, ranks_split, ranks_join, sights_same, sights_longer, sights_recounted, sights_split, sights_join, knows_put, knows_split, knows_join}
 
 module _ {E : Type 0} where
-  abbrev turn_of : Turn E → Stage E → Turn E
+  abbrev turn_of : ServedTurn E → Stage E → ServedTurn E
   turn_of d Idle = d
   turn_of d (Waits n) = d
   turn_of d (Serves q) = q
 
 module _ {E X : Type 0} where
-  same_stage : (vs : List (View E X)) (me : ℕ) (v w : View E X) → At vs me v → drawn w.stage ≡ drawn v.stage → having (set vs me w) ≡ having vs
-  same_stage vs me v w at same = let p = sum_put (λ z. drawn z.stage) vs me v w at in omega arith
+  same_stage : (vs : List (View E X)) (me : ℕ) (v w : View E X) → At vs me v → turns_drawn w.stage ≡ turns_drawn v.stage → having (set vs me w) ≡ having vs
+  same_stage vs me v w at same = let p = sum_put (λ z. turns_drawn z.stage) vs me v w at in omega arith
 
   only_first : (first : View E X) (j : ℕ) (v : View E X) → At (first ∷ []) j v → (j ≡ 0) × (first ≡ v)
   only_first first zero v e = (refl, some-injective first v e)
@@ -47,7 +47,7 @@ only_item : {X : Type 0} {x y : X} → x ∷ [] ≡ y ∷ [] → x ≡ y
 only_item e = cc
 
 -- whether a stage has the turn, as a test
-not_serving : {E : Type 0} (st : Stage E) (q : Turn E) → serving st ≡ 0 → st ≡ Serves q → ⊥
+not_serving : {E : Type 0} (st : Stage E) (q : ServedTurn E) → serving st ≡ 0 → st ≡ Serves q → ⊥
 not_serving st q h e = let g = ap serving e in omega arith
 
 module _ {T E X : Type 0} (owner : E → ℕ) (entries : T → List E) (counted : ℕ → List E → ℕ) (fixed : T → X) (grows : (k : ℕ) (xs ys : List E) → counted k xs ≤ counted k (xs ++ ys)) (seats : ℕ) (its : X) where
@@ -111,7 +111,7 @@ module _ {T E X : Type 0} (owner : E → ℕ) (entries : T → List E) (counted 
     words_are = refl;
     homes_are = refl;
     few = let l = length-set s.views id w in let f = r.few in omega arith;
-    numbers = numbers_stay r.tickets r.served s.views (set s.views id w) r.place (mirrors_put drawn number s.views id v w at (ap drawn stage) (ap number stage)) (same_stage s.views id v w at (ap drawn stage)) r.numbers;
+    numbers = numbers_stay r.tickets r.served s.views (set s.views id w) r.place (mirrors_put turns_drawn number s.views id v w at (ap turns_drawn stage) (ap number stage)) (same_stage s.views id v w at (ap turns_drawn stage)) r.numbers;
     value = held_stays (IsAtHome entries counted fixed its r.log r.counts) r.slot s.views (set s.views id w) r.place r.place (mirrors_put serving untagged s.views id v w at (ap serving stage) refl) (λ _ _ _ _. refl) r.value;
     knows = knows_put its s.views id v w at parts same_fixed r.knows;
     parts = parts_put seats s.views id v w at parts (λ z. let b = r.parts.spent id v at (sym parts ∙ z) in (stage ∙ b.0, made ∙ b.1)) r.parts;
@@ -128,13 +128,13 @@ module _ {T E X : Type 0} (owner : E → ℕ) (entries : T → List E) (counted 
       (dite (ℕ_discrete r.served x)
       (λ is.
       let fit : T → Type 0 = IsAtHome entries counted fixed its r.log r.counts in
-      let one : drawn me.0.stage ≡ 1 = ap drawn waits in
+      let one : turns_drawn me.0.stage ≡ 1 = ap turns_drawn waits in
       let dues : due me.0.stage ≡ 4 = ap due waits in
       let small : r.served < 2 ^ 64 = subst (λ ws. get_or ws 1 0 < 2 ^ 64) r.words_are fits in
       let first : r.place id ≡ 0 = is_first r.tickets r.served s.views r.place id me.0 r.few small r.numbers at one (ap number waits ∙ sym is) in
       let found = at_home fit r.tickets r.served r.slot s.views r.place id me.0 at one (ap serving waits) first r.numbers r.value in
       let live : me.0.parts ≢ 0 = not_spent seats s.views id me.0 at one r.parts in
-      let q : Turn E = record { number = x; log = r.log; counts = r.counts; stored = 4 } in
+      let q : ServedTurn E = record { number = x; log = r.log; counts = r.counts; stored = 4 } in
       let w : View E X = standing me.0 (Serves q) in (
         w,
         takes 0 (Some found.0),
@@ -149,7 +149,7 @@ module _ {T E X : Type 0} (owner : E → ℕ) (entries : T → List E) (counted 
           words_are = refl;
           homes_are = refl;
           few = let l = length-set s.views id w in let f = r.few in omega arith;
-          numbers = numbers_stay r.tickets r.served s.views (set s.views id w) r.place (mirrors_put drawn number s.views id me.0 w at (sym one) (sym (ap number waits))) (same_stage s.views id me.0 w at (sym one)) r.numbers;
+          numbers = numbers_stay r.tickets r.served s.views (set s.views id w) r.place (mirrors_put turns_drawn number s.views id me.0 w at (sym one) (sym (ap number waits))) (same_stage s.views id me.0 w at (sym one)) r.numbers;
           value = held_taken fit r.slot s.views r.place id me.0 w found.0 at found.1 refl first r.value;
           knows = knows_put its s.views id me.0 w at refl refl r.knows;
           parts = parts_put seats s.views id me.0 w at refl (λ z. absurd (live z)) r.parts;
@@ -179,7 +179,7 @@ module _ {T E X : Type 0} (owner : E → ℕ) (entries : T → List E) (counted 
       )))
 
   -- what the served seat has after its store is what the rule has
-  pub stores_length : (slots id : ℕ) (v : View E X) (cs : List (ℕ × Option T)) (q : Turn E) (t : T) (old new : ℕ) → v.stage ≡ Serves q → Lengthens owner v.rank q.log (entries t) → old ≡ length q.log → new ≡ length (entries t)
+  pub stores_length : (slots id : ℕ) (v : View E X) (cs : List (ℕ × Option T)) (q : ServedTurn E) (t : T) (old new : ℕ) → v.stage ≡ Serves q → Lengthens owner v.rank q.log (entries t) → old ≡ length q.log → new ≡ length (entries t)
       → Allows Rule slots id (v, cs) 2 (λ n. either (eqb n old) new n) (stored_length entries (step slots 2 old new (some (Some t))) (v, cs))
   stores_length slots id v cs q t old new serves longer old_is new_is s r deep at fits =
       let me : Sat T E X = (v, cs) in
@@ -193,7 +193,7 @@ module _ {T E X : Type 0} (owner : E → ℕ) (entries : T → List E) (counted 
       let grown : entries t ≡ r.log ++ more = longer.1 ∙ ap (λ l. l ++ more) known.0 in
       let long : length r.log ≤ length (entries t) = let a = ap length grown in let b = length-append r.log more in omega arith in
       let hit : f (length r.log) ≡ length (entries t) = ap (λ b. either b new (length r.log)) (eq-eqb (length r.log) old (sym (old_is ∙ ap length known.0))) ∙ new_is in
-      let others : (j : ℕ) (d : View E X) → j ≢ id → At s.views j d → (p : Turn E) → d.stage ≡ Serves p → ⊥ = λ j d ne e p h. ne (one_serves (IsAtHome entries counted fixed its r.log r.counts) r.tickets r.served r.slot s.views r.place j id d v e at (ap serving h) one r.numbers r.value) in
+      let others : (j : ℕ) (d : View E X) → j ≢ id → At s.views j d → (p : ServedTurn E) → d.stage ≡ Serves p → ⊥ = λ j d ne e p h. ne (one_serves (IsAtHome entries counted fixed its r.log r.counts) r.tickets r.served r.slot s.views r.place j id d v e at (ap serving h) one r.numbers r.value) in
       owed s.views id me 2 f (stored_length entries (step slots 2 old new (some (Some t))) me) s.words _ s.homes _ r.words_are r.homes_are (
         w,
         keeps,
@@ -208,14 +208,14 @@ module _ {T E X : Type 0} (owner : E → ℕ) (entries : T → List E) (counted 
           words_are = ap (λ n. r.tickets ∷ r.served ∷ n ∷ r.counts) hit;
           homes_are = refl;
           few = let l = length-set s.views id w in let f = r.few in omega arith;
-          numbers = numbers_stay r.tickets r.served s.views (set s.views id w) r.place (mirrors_put drawn number s.views id v w at (sym (ap drawn serves)) (sym (ap number serves))) (same_stage s.views id v w at (sym (ap drawn serves))) r.numbers;
+          numbers = numbers_stay r.tickets r.served s.views (set s.views id w) r.place (mirrors_put turns_drawn number s.views id v w at (sym (ap turns_drawn serves)) (sym (ap number serves))) (same_stage s.views id v w at (sym (ap turns_drawn serves))) r.numbers;
           value = held_refit (IsAtHome entries counted fixed its r.log r.counts) (IsAtHome entries counted fixed its (entries t) r.counts) r.slot s.views r.place id v w at one refl r.value;
           knows = knows_put its s.views id v w at refl refl r.knows;
           parts = parts_put seats s.views id v w at refl (λ z. absurd (live z)) r.parts;
           leads = leads_put s.views id v w at refl r.leads;
           words = record {
             four = r.words.four;
-            turn = each_put (λ j u. (p : Turn E) → u.stage ≡ Serves p → (p.log ≡ entries t) × (p.counts ≡ r.counts)) s.views id w
+            turn = each_put (λ j u. (p : ServedTurn E) → u.stage ≡ Serves p → (p.log ≡ entries t) × (p.counts ≡ r.counts)) s.views id w
                 (λ p e. let same = ap (turn_of q) e in (ap (λ z. z.log) (sym same), ap (λ z. z.counts) (sym same) ∙ known.1)) (λ j d ne e p h. absurd (others j d ne e p h));
             read = each_put (λ j u. (u.length ≤ length (entries t)) × AtMost u.counts r.counts) s.views id w
                 (let g = (r.words.read id v at).0 in omega arith, (r.words.read id v at).1) (λ j d _ e. let g = (r.words.read j d e).0 in (omega arith, (r.words.read j d e).1));
@@ -236,7 +236,7 @@ module _ {T E X : Type 0} (owner : E → ℕ) (entries : T → List E) (counted 
       some_of : (x y : T) → some (Some x) ≡ some (Some y) → x ≡ y
       some_of x y e = ap (value_or x) e
 
-  pub stores_count : (slots id : ℕ) (v : View E X) (cs : List (ℕ × Option T)) (q : Turn E) (k n i : ℕ) → v.stage ≡ Serves q → i ≡ k + 3 → k < 4 → q.stored ≡ k → v.seen ≡ q.log → n ≡ counted k q.log → get_or q.counts k 0 ≤ n
+  pub stores_count : (slots id : ℕ) (v : View E X) (cs : List (ℕ × Option T)) (q : ServedTurn E) (k n i : ℕ) → v.stage ≡ Serves q → i ≡ k + 3 → k < 4 → q.stored ≡ k → v.seen ≡ q.log → n ≡ counted k q.log → get_or q.counts k 0 ≤ n
       → Allows Rule slots id (v, cs) i (λ _. n) (λ _. stored_count (step slots i n 0 none) (v, cs) n)
   stores_count slots id v cs q k n i serves word small stored seen is up s r deep at fits =
       let me : Sat T E X = (v, cs) in
@@ -249,7 +249,7 @@ module _ {T E X : Type 0} (owner : E → ℕ) (entries : T → List E) (counted 
       let grew : get_or r.counts k 0 ≤ n = subst (λ c. get_or c k 0 ≤ n) known.1 up in
       let at_word : set (r.tickets ∷ r.served ∷ length r.log ∷ r.counts) i n ≡ r.tickets ∷ r.served ∷ length r.log ∷ set r.counts k n
       = let e : i ≡ suc (suc (suc k)) = omega arith in ap (λ j. set (r.tickets ∷ r.served ∷ length r.log ∷ r.counts) j n) e in
-      let others : (j : ℕ) (d : View E X) → j ≢ id → At s.views j d → (p : Turn E) → d.stage ≡ Serves p → ⊥ = λ j d ne e p h. ne (one_serves (IsAtHome entries counted fixed its r.log r.counts) r.tickets r.served r.slot s.views r.place j id d v e at (ap serving h) one r.numbers r.value) in
+      let others : (j : ℕ) (d : View E X) → j ≢ id → At s.views j d → (p : ServedTurn E) → d.stage ≡ Serves p → ⊥ = λ j d ne e p h. ne (one_serves (IsAtHome entries counted fixed its r.log r.counts) r.tickets r.served r.slot s.views r.place j id d v e at (ap serving h) one r.numbers r.value) in
       owed s.views id me i (λ _. n) (λ _. stored_count (step slots i n 0 none) me n) s.words _ s.homes _ r.words_are r.homes_are (
         w,
         keeps,
@@ -264,14 +264,14 @@ module _ {T E X : Type 0} (owner : E → ℕ) (entries : T → List E) (counted 
           words_are = at_word;
           homes_are = refl;
           few = let l = length-set s.views id w in let f = r.few in omega arith;
-          numbers = numbers_stay r.tickets r.served s.views (set s.views id w) r.place (mirrors_put drawn number s.views id v w at (sym (ap drawn serves)) (sym (ap number serves))) (same_stage s.views id v w at (sym (ap drawn serves))) r.numbers;
+          numbers = numbers_stay r.tickets r.served s.views (set s.views id w) r.place (mirrors_put turns_drawn number s.views id v w at (sym (ap turns_drawn serves)) (sym (ap number serves))) (same_stage s.views id v w at (sym (ap turns_drawn serves))) r.numbers;
           value = held_refit (IsAtHome entries counted fixed its r.log r.counts) (IsAtHome entries counted fixed its r.log (set r.counts k n)) r.slot s.views r.place id v w at one refl r.value;
           knows = knows_put its s.views id v w at refl refl r.knows;
           parts = parts_put seats s.views id v w at refl (λ z. absurd (live z)) r.parts;
           leads = leads_put s.views id v w at refl r.leads;
           words = record {
             four = length-set r.counts k n ∙ r.words.four;
-            turn = each_put (λ j u. (p : Turn E) → u.stage ≡ Serves p → (p.log ≡ r.log) × (p.counts ≡ set r.counts k n)) s.views id w
+            turn = each_put (λ j u. (p : ServedTurn E) → u.stage ≡ Serves p → (p.log ≡ r.log) × (p.counts ≡ set r.counts k n)) s.views id w
                 (λ p e. let same = ap (turn_of q) e in (ap (λ z. z.log) (sym same) ∙ known.0, ap (λ z. z.counts) (sym same) ∙ ap (λ c. set c k n) known.1)) (λ j d ne e p h. absurd (others j d ne e p h));
             read = each_put (λ j u. (u.length ≤ length r.log) × AtMost u.counts (set r.counts k n)) s.views id w
                 ((r.words.read id v at).0, at_most_raised v.counts r.counts k n inside (r.words.read id v at).1 grew)
@@ -284,7 +284,7 @@ module _ {T E X : Type 0} (owner : E → ℕ) (entries : T → List E) (counted 
         (λ p j e there. let same : q ≡ p = ap (turn_of q) (sym serves ∙ e) in let place : k ≡ j = omega arith in λ h. (recounted (place h) n v (same h), cs)),
       )
 
-  pub passes : (slots id : ℕ) (v : View E X) (q : Turn E) (x : T) → v.stage ≡ Serves q → q.stored ≡ 4 → Fits entries counted q.log q.counts x → v.fixed ≡ fixed x ∷ []
+  pub passes : (slots id : ℕ) (v : View E X) (q : ServedTurn E) (x : T) → v.stage ≡ Serves q → q.stored ≡ 4 → Fits entries counted q.log q.counts x → v.fixed ≡ fixed x ∷ []
       → Allows Rule slots id (v, (0, Some x) ∷ []) 1 (λ n. (n + 1) % 2 ^ 64) (passed (step slots 1 1 0 none) (v, (0, Some x) ∷ []))
   passes slots id v q x serves stored fit same s r deep at fits =
       let me : Sat T E X = (v, (0, Some x) ∷ []) in
@@ -370,8 +370,8 @@ module _ {T E X : Type 0} (owner : E → ℕ) (entries : T → List E) (counted 
         words_are = r.words_are;
         homes_are = r.homes_are;
         few = let a = length-append us (split_off v ∷ []) in let b = length-set s.views id (kept_back v) in omega arith;
-        numbers = numbers_stay r.tickets r.served s.views zs r.place (mirrors_more drawn number s.views us zs (mirrors_put drawn number s.views id v (kept_back v) at refl refl) (mirrors_snoc drawn number us (split_off v) refl))
-            (let p = sum_snoc (λ z. drawn z.stage) us (split_off v) in let q = same_stage s.views id v (kept_back v) at refl in omega arith) r.numbers;
+        numbers = numbers_stay r.tickets r.served s.views zs r.place (mirrors_more turns_drawn number s.views us zs (mirrors_put turns_drawn number s.views id v (kept_back v) at refl refl) (mirrors_snoc turns_drawn number us (split_off v) refl))
+            (let p = sum_snoc (λ z. turns_drawn z.stage) us (split_off v) in let q = same_stage s.views id v (kept_back v) at refl in omega arith) r.numbers;
         value = held_stays (IsAtHome entries counted fixed its r.log r.counts) r.slot s.views zs r.place r.place (mirrors_more serving untagged s.views us zs (mirrors_put serving untagged s.views id v (kept_back v) at refl refl) (mirrors_snoc serving untagged us (split_off v) refl))
             (λ _ _ _ _. refl) r.value;
         knows = knows_split its s.views id v at live r.knows;
@@ -402,8 +402,8 @@ module _ {T E X : Type 0} (owner : E → ℕ) (entries : T → List E) (counted 
         words_are = r.words_are;
         homes_are = r.homes_are;
         few = let a = length-set us other spent in let b = length-set s.views id (merged v w) in let f = r.few in omega arith;
-        numbers = numbers_stay r.tickets r.served s.views zs r.place (mirrors_more drawn number s.views us zs (mirrors_put drawn number s.views id v (merged v w) at refl refl) (mirrors_put drawn number us other w spent there' (sym (ap drawn rests)) (sym (ap number rests))))
-            (same_stage us other w spent there' (sym (ap drawn rests)) ∙ same_stage s.views id v (merged v w) at refl) r.numbers;
+        numbers = numbers_stay r.tickets r.served s.views zs r.place (mirrors_more turns_drawn number s.views us zs (mirrors_put turns_drawn number s.views id v (merged v w) at refl refl) (mirrors_put turns_drawn number us other w spent there' (sym (ap turns_drawn rests)) (sym (ap number rests))))
+            (same_stage us other w spent there' (sym (ap turns_drawn rests)) ∙ same_stage s.views id v (merged v w) at refl) r.numbers;
         value = held_stays (IsAtHome entries counted fixed its r.log r.counts) r.slot s.views zs r.place r.place (mirrors_more serving untagged s.views us zs (mirrors_put serving untagged s.views id v (merged v w) at refl refl) (mirrors_put serving untagged us other w spent there' (sym (ap serving rests)) refl))
             (λ _ _ _ _. refl) r.value;
         knows = knows_join its s.views id other v w at live r.knows;
@@ -428,8 +428,8 @@ module _ {T E X : Type 0} (owner : E → ℕ) (entries : T → List E) (counted 
     few = omega arith;
     numbers = record {
       next = refl;
-      within = λ j v e h. let o = ap (λ z. drawn z.stage) (only_first me j v e).1 in absurd (omega arith);
-      counted = λ j v e h. let o = ap (λ z. drawn z.stage) (only_first me j v e).1 in absurd (omega arith);
+      within = λ j v e h. let o = ap (λ z. turns_drawn z.stage) (only_first me j v e).1 in absurd (omega arith);
+      counted = λ j v e h. let o = ap (λ z. turns_drawn z.stage) (only_first me j v e).1 in absurd (omega arith);
       apart = λ i j v w e d h g _. (only_first me i v e).0 ∙ sym (only_first me j w d).0;
       filled = λ k l. absurd (omega arith);
     };
@@ -476,7 +476,7 @@ module _ {T E X : Type 0} (owner : E → ℕ) (entries : T → List E) (counted 
 
   -- the seat that stands for all seats finds the value at home when the table is closed, with all that was made
   pub closes : (id : ℕ) (v : View E X) (ws : List ℕ) (xs : List (Option T)) → v.parts ≡ seats → 0 < seats → v.stage ≡ Idle → Final (Seen Rule id v) ws xs
-      → (t : T) × (get_elem? xs 0 ≡ some (Some t)) × (length (entries t) ≡ v.made) × HoldsAll counted v (entries t) × (fixed t ≡ its)
+      → (t : T) × (get_elem? xs 0 ≡ some (Some t)) × (length (entries t) ≡ v.made) × HasAllSeen counted v (entries t) × (fixed t ≡ its)
   closes id v ws xs all some_seats idle f =
       let s = f.0 in let r = f.1.0 in let at = f.1.1 in
       let bare : (j : ℕ) (u : View E X) → j ≢ id → At s.views j u → (u.stage ≡ Idle) × (u.made ≡ 0) = λ j u ne e.
@@ -493,7 +493,7 @@ module _ {T E X : Type 0} (owner : E → ℕ) (entries : T → List E) (counted 
         x.0,
         f.4 0 (Some x.0) (subst (λ hs. get_elem? hs 0 ≡ some (some (Some x.0))) (sym r.homes_are) (ap some x.1)),
         ap length (sym log) ∙ made,
-        subst (HoldsAll counted v) log record {
+        subst (HasAllSeen counted v) log record {
           seen = (b.0, b.1);
           joined = r.sights.joined id v at;
           length_read = read.0;

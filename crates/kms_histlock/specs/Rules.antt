@@ -9,15 +9,15 @@ use lib.ListN.{get_elem?}
 use Rattle.atomic_table.specs.Table.{State}
 use Rattle.kms_histlock.specs.declared.view.View.{View}
 use Rattle.kms_histlock.specs.declared.view.Stage.{Stage}
-use Rattle.kms_histlock.specs.declared.view.Turn.{Turn}
+use Rattle.kms_histlock.specs.declared.view.ServedTurn.{ServedTurn}
 use Rattle.kms_histlock.specs.declared.view.Stage.TheVariants.{Idle, Waits, Serves}
 
 module _ {E : Type 0} where
   -- 1 where the seat has a number, else 0
-  abbrev pub drawn : Stage E → ℕ
-  drawn Idle = 0
-  drawn (Waits n) = 1
-  drawn (Serves q) = 1
+  abbrev pub turns_drawn : Stage E → ℕ
+  turns_drawn Idle = 0
+  turns_drawn (Waits n) = 1
+  turns_drawn (Serves q) = 1
 
   -- its number; 0 where it has none
   abbrev pub number : Stage E → ℕ
@@ -39,7 +39,7 @@ module _ {E : Type 0} where
 
   -- how many seats have a number
   abbrev pub having : {X : Type 0} → List (View E X) → ℕ
-  having views = sum_by (λ v. drawn v.stage) views
+  having views = sum_by (λ v. turns_drawn v.stage) views
 
   -- the seat j knows v
   abbrev pub At : {X : Type 0} → List (View E X) → ℕ → View E X → Type 0
@@ -49,10 +49,10 @@ module _ {E : Type 0} where
 -- `place` says which of these a seat's number is, and two seats have two places.
 pub record Numbers {E X : Type 0} (tickets served : ℕ) (views : List (View E X)) (place : ℕ → ℕ) : Type 0 where
   pub next : tickets ≡ (served + having views) % 2 ^ 64
-  pub within : (j : ℕ) (v : View E X) → At views j v → drawn v.stage ≡ 1 → place j < having views
-  pub counted : (j : ℕ) (v : View E X) → At views j v → drawn v.stage ≡ 1 → number v.stage ≡ (served + place j) % 2 ^ 64
-  pub apart : (i j : ℕ) (v w : View E X) → At views i v → At views j w → drawn v.stage ≡ 1 → drawn w.stage ≡ 1 → place i ≡ place j → i ≡ j
-  pub filled : (k : ℕ) → k < having views → (j : ℕ) × (v : View E X) × At views j v × (drawn v.stage ≡ 1) × (place j ≡ k)
+  pub within : (j : ℕ) (v : View E X) → At views j v → turns_drawn v.stage ≡ 1 → place j < having views
+  pub counted : (j : ℕ) (v : View E X) → At views j v → turns_drawn v.stage ≡ 1 → number v.stage ≡ (served + place j) % 2 ^ 64
+  pub apart : (i j : ℕ) (v w : View E X) → At views i v → At views j w → turns_drawn v.stage ≡ 1 → turns_drawn w.stage ≡ 1 → place i ≡ place j → i ≡ j
+  pub filled : (k : ℕ) → k < having views → (j : ℕ) × (v : View E X) × At views j v × (turns_drawn v.stage ≡ 1) × (place j ≡ k)
 
 -- The value. It is out only with the seat whose number is served, and else it is at home, where it `fits`.
 pub record Held {T E X : Type 0} (fits : T → Type 0) (slot : maybe.Option (Option T)) (views : List (View E X)) (place : ℕ → ℕ) : Type 0 where
@@ -60,7 +60,7 @@ pub record Held {T E X : Type 0} (fits : T → Type 0) (slot : maybe.Option (Opt
   pub home : ((t : T) × (slot ≡ some (Some t)) × fits t) ⊎ ((j : ℕ) × (v : View E X) × At views j v × (serving v.stage ≡ 1))
 
 -- The seats. Each stands for a part of those that the lock was made for; a spent seat stands for none, has no number and has made nothing.
-pub record Parts {E X : Type 0} (seats : ℕ) (views : List (View E X)) : Type 0 where
+pub record PartsOfSeats {E X : Type 0} (seats : ℕ) (views : List (View E X)) : Type 0 where
   pub all : sum_by (λ v. v.parts) views ≡ seats
   pub spent : (j : ℕ) (v : View E X) → At views j v → v.parts ≡ 0 → (v.stage ≡ Idle) × (v.made ≡ 0)
 
@@ -80,7 +80,7 @@ AtMost xs ys = (k : ℕ) → k < 4 → slice_index xs k ≤ slice_index ys k
 -- The words are at least what any seat has read of them.
 pub record Words {E X : Type 0} (log : List E) (counts : List ℕ) (views : List (View E X)) : Type 0 where
   pub four : length counts ≡ 4
-  pub turn : (j : ℕ) (v : View E X) → At views j v → (q : Turn E) → v.stage ≡ Serves q → (q.log ≡ log) × (q.counts ≡ counts)
+  pub turn : (j : ℕ) (v : View E X) → At views j v → (q : ServedTurn E) → v.stage ≡ Serves q → (q.log ≡ log) × (q.counts ≡ counts)
   pub read : (j : ℕ) (v : View E X) → At views j v → (v.length ≤ length log) × AtMost v.counts counts
 
 -- a value with the history that was stored last, and the stored counts
@@ -128,7 +128,7 @@ pub record IsUpheld {T E X : Type 0} (owner : E → ℕ) (entries : T → List E
   pub numbers : Numbers tickets served s.views place
   pub value : Held (IsAtHome entries counted fixed stays log counts) slot s.views place
   pub knows : Knows stays s.views
-  pub parts : Parts seats s.views
+  pub parts : PartsOfSeats seats s.views
   pub leads : Leads s.views
   pub words : Words log counts s.views
   pub ranks : Ranks owner log s.views

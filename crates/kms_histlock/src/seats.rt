@@ -3,12 +3,12 @@ ghost use Rattle.std.specs.Prelude.{◌≡◌, ℕ, ◌≤◌, ◌<◌, List, []
 ghost use Rattle.std.specs.List.{sum_by};
 ghost use Rattle.kms_histlock.specs.declared.view.Stage.TheVariants.{Idle};
 ghost use Rattle.kms_histlock.specs.Passes.{lock_name, pass_state, new_pass, new_passes, IsReached};
-ghost use Rattle.kms_histlock.specs.Seats.{IsSized, HoldsAll};
+ghost use Rattle.kms_histlock.specs.Seats.{IsSized, HasAllSeen};
 ghost use Rattle.kms_histlock.specs.Steps.{opened};
 
 use crate::kept::Kept;
 use crate::pass::Pass;
-use crate::rules::{Board, OneMore, Place, TakeIn, VALUE, Words};
+use crate::rules::{Board, OneMore, TableSeat, TakeIn, VALUE, Words};
 use kms_model::NoMemory;
 use std::alloc::Global;
 use std::snapshot::Snapshot;
@@ -18,7 +18,7 @@ pub(crate) fn lay<T: Kept>(
     alloc: Global,
     value: T,
     seats: u64,
-) -> Result<(Board<T>, Place<T>), NoMemory>
+) -> Result<(Board<T>, TableSeat<T>), NoMemory>
     requires empty { T.entries value ≡ [] }
     requires uncounted { (k : ℕ) → k < 4 → T.counted k [] ≡ 0 }
     ensures sized { IfOk result (λ r. IsSized r.0.shared.table_id) }
@@ -40,7 +40,7 @@ pub(crate) fn lay<T: Kept>(
 pub(crate) fn split_off<T: Kept>(
     alloc: Global,
     words: &Words<T>,
-    first: &mut Place<T>,
+    first: &mut TableSeat<T>,
     seats: u32,
 ) -> Result<Vec<Pass<T>>, NoMemory>
     requires own { (first.old.table_id ≡ words.now.table_id) × IsSized words.now.table_id }
@@ -78,7 +78,7 @@ fn take_first<T: Kept>(passes: &mut Vec<Pass<T>>) -> Pass<T>
 }
 
 /// The first seat, once it has taken in those of all other passes: it then stands for all.
-pub(crate) fn take_in<T: Kept>(words: &Words<T>, mut passes: Vec<Pass<T>>) -> Place<T>
+pub(crate) fn take_in<T: Kept>(words: &Words<T>, mut passes: Vec<Pass<T>>) -> TableSeat<T>
     requires sized { IsSized words.now.table_id }
     requires first { Any (λ p. p.rank ≡ 1) passes.items }
     requires own { All (λ p. p.lock.table ≡ words.now.table_id) passes.items }
@@ -86,7 +86,7 @@ pub(crate) fn take_in<T: Kept>(words: &Words<T>, mut passes: Vec<Pass<T>>) -> Pl
     ensures rests { (result.me.1 ≡ []) × (result.me.0.stage ≡ Idle) }
     ensures all { result.me.0.parts ≡ length passes.items }
     ensures made { result.me.0.made ≡ sum_by (λ p. p.made) passes.items }
-    ensures covers { (xs : List T.Entry) → HoldsAll T.counted result.me.0 xs
+    ensures covers { (xs : List T.Entry) → HasAllSeen T.counted result.me.0 xs
         → All (λ p. IsReached T.counted p xs) passes.items }
 {
     let mut seat = take_first(&mut passes).into_seat();
@@ -97,12 +97,12 @@ pub(crate) fn take_in<T: Kept>(words: &Words<T>, mut passes: Vec<Pass<T>>) -> Pl
 }
 
 /// The value of a table whose only seat this is.
-pub(crate) fn take_out<T: Kept>(table: Board<T>, seat: Place<T>) -> T
+pub(crate) fn take_out<T: Kept>(table: Board<T>, seat: TableSeat<T>) -> T
     requires own { (seat.table_id ≡ table.shared.table_id) × IsSized table.shared.table_id }
     requires rests { (seat.me.1 ≡ []) × (seat.me.0.stage ≡ Idle) }
     requires all { (seat.me.0.parts ≡ table.shared.key.0) × (0 < table.shared.key.0) }
     ensures made { length (T.entries result) ≡ seat.me.0.made }
-    ensures covers { HoldsAll T.counted seat.me.0 (T.entries result) }
+    ensures covers { HasAllSeen T.counted seat.me.0 (T.entries result) }
     ensures fixed { T.fixed result ≡ T.fixed table.shared.key.1.value }
 {
     let mut closed = table.close_with(seat);

@@ -2,12 +2,12 @@
 ghost use Rattle.std.specs.Prelude.{◌≡◌, ◌<◌, [], length};
 ghost use Rattle.kms_histlock.specs.declared.view.Stage.TheVariants.{Idle, Waits};
 ghost use Rattle.kms_histlock.specs.Steps.{Takes};
-ghost use Rattle.kms_histlock.specs.Seats.{IsSized, IsSameSeat, HasTurn, MayGive, Stores, HasStored, Recounts, IsSameButTurn, gave};
+ghost use Rattle.kms_histlock.specs.Seats.{IsSized, IsSameSeat, HasTurn, MayGiveTurn, MayStoreLength, HasStored, Recounts, IsSameButTurn, gave};
 
 use crate::kept::Kept;
 use crate::rules::{
-    COUNTS, Draw, LENGTH, Look, PassOn, Place, SERVED, StoreCount, StoreLength, TICKETS, VALUE,
-    Words,
+    COUNTS, Draw, LENGTH, LookForTurn, PassOn, SERVED, StoreCount, StoreLength, TICKETS, TableSeat,
+    VALUE, Words,
 };
 use std::hint::spin_loop;
 use std::sync::Wait;
@@ -32,7 +32,7 @@ fn pause<W: Wait>(rt: &W, bed: &AtomicU64, looks: u32) {
 }
 
 // Looks at the served word again and again, until it is the seat's number.
-fn wait<T: Kept, W: Wait>(rt: &W, words: &Words<T>, seat: &mut Place<T>, number: u64)
+fn wait<T: Kept, W: Wait>(rt: &W, words: &Words<T>, seat: &mut TableSeat<T>, number: u64)
     requires own { (seat.old.table_id ≡ words.now.table_id) × IsSized words.now.table_id }
     requires waits { seat.old.me.0.stage ≡ Waits number }
     ensures same { IsSameSeat seat.old seat.new }
@@ -41,7 +41,7 @@ fn wait<T: Kept, W: Wait>(rt: &W, words: &Words<T>, seat: &mut Place<T>, number:
     let bed = AtomicU64::new(0);
     let mut looks = 0u32;
     for _ in rt.forever() {
-        if words.load::<Look>(seat, SERVED) == number {
+        if words.load::<LookForTurn>(seat, SERVED) == number {
             return;
         }
         pause(rt, &bed, looks);
@@ -51,7 +51,7 @@ fn wait<T: Kept, W: Wait>(rt: &W, words: &Words<T>, seat: &mut Place<T>, number:
 }
 
 /// Waits for the turn, and takes the value.
-pub(crate) fn take<T: Kept, W: Wait>(rt: &W, words: &Words<T>, seat: &mut Place<T>) -> T
+pub(crate) fn take<T: Kept, W: Wait>(rt: &W, words: &Words<T>, seat: &mut TableSeat<T>) -> T
     requires own { (seat.old.table_id ≡ words.now.table_id) × IsSized words.now.table_id }
     requires rests { (seat.old.me.0.stage ≡ Idle) × (seat.old.me.1 ≡ [])
         × (0 < seat.old.me.0.parts) }
@@ -67,13 +67,13 @@ pub(crate) fn take<T: Kept, W: Wait>(rt: &W, words: &Words<T>, seat: &mut Place<
 // to write, so it holds `found` still. It is exchanged, and not stored, so that the proof is told of `value`.
 fn store_length<T: Kept>(
     words: &Words<T>,
-    seat: &mut Place<T>,
+    seat: &mut TableSeat<T>,
     found: u64,
     length: u64,
     value: &Option<T>,
 )
     requires own { (seat.old.table_id ≡ words.now.table_id) × IsSized words.now.table_id }
-    requires turn { Stores T.owner T.entries found length value.now seat.old.me }
+    requires turn { MayStoreLength T.owner T.entries found length value.now seat.old.me }
     ensures same { IsSameSeat seat.old seat.new }
     ensures stored { HasStored T.entries value.now seat.old.me seat.new.me }
 {
@@ -81,7 +81,7 @@ fn store_length<T: Kept>(
 }
 
 // Stores the counts of the history whose length is stored.
-fn store_counts<T: Kept>(words: &Words<T>, seat: &mut Place<T>, counts: &[u64; 4])
+fn store_counts<T: Kept>(words: &Words<T>, seat: &mut TableSeat<T>, counts: &[u64; 4])
     requires own { (seat.old.table_id ≡ words.now.table_id) × IsSized words.now.table_id }
     requires turn { Recounts T.counted counts.now 0 seat.old.me }
     ensures same { IsSameSeat seat.old seat.new }
@@ -95,9 +95,9 @@ fn store_counts<T: Kept>(words: &Words<T>, seat: &mut Place<T>, counts: &[u64; 4
 
 /// Stores the length and the counts of the value's history, gives the value back, and passes the turn on.
 /// Answers the length. It was `found` when the turn came.
-pub(crate) fn give<T: Kept>(words: &Words<T>, seat: &mut Place<T>, found: u64, value: T) -> u64
+pub(crate) fn give<T: Kept>(words: &Words<T>, seat: &mut TableSeat<T>, found: u64, value: T) -> u64
     requires own { (seat.old.table_id ≡ words.now.table_id) × IsSized words.now.table_id }
-    requires turn { MayGive T.owner T.entries T.counted T.fixed found value seat.old.me }
+    requires turn { MayGiveTurn T.owner T.entries T.counted T.fixed found value seat.old.me }
     ensures same { IsSameSeat seat.old seat.new }
     ensures length { result ≡ length (T.entries value) }
     ensures rests { seat.new.me ≡ (gave (T.entries value) found seat.old.me.0, []) }

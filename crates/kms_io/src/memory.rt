@@ -2,7 +2,7 @@
 ghost use Rattle.std.specs.Prelude.{◌≡◌, ◌-◌, ◌<◌, ◌≤◌, ◌↔◌, ◌⊎◌, IsTrue, [], ℕ, List, length, min, drop, IfOk, IsErr, OnErr, Contains, Some, vec_capacity};
 ghost use Rattle.std.specs.Io.{ReadsAtMost};
 ghost use Rattle.std.specs.Io.KnownBytes.{ReadConsumes, WriteAppends};
-ghost use Rattle.kms_io.specs.Causes.{next, CountsFault, HasCause};
+ghost use Rattle.kms_io.specs.Causes.{one_more, CountsFault, HasCause};
 ghost use Rattle.kms_io.specs.Bytes.{EndsExactly, WritesSome};
 ghost use Rattle.kms_io.specs.Memory.{SourceState, SinkState};
 
@@ -79,10 +79,10 @@ impl Source for MemSource {
         ensures count { IfOk result (λ n.
             n ≡ min self.old.step (min (length into.old) (length self.old.left))) }
         ensures behind { IfOk result (λ n. drop n into.new ≡ drop n into.old) }
-        ensures fails { IsErr result ↔ Contains self.old.fails (next self.old.calls) }
+        ensures fails { IsErr result ↔ Contains self.old.fails (one_more self.old.calls) }
         ensures untouched { OnErr result (into.new ≡ into.old) }
         ensures faults { CountsFault self.old.faults self.new.faults result }
-        ensures calls { self.new.calls ≡ next self.old.calls }
+        ensures calls { self.new.calls ≡ one_more self.old.calls }
         ensures same { (self.new.step ≡ self.old.step) × (self.new.fails ≡ self.old.fails) }
     {
         self.calls = self.calls.saturating_add(1);
@@ -189,10 +189,10 @@ impl Sink for MemSink {
         ensures count { IfOk result (λ n.
             n ≡ min self.old.step (min (length piece.now)
             (self.old.room - length self.old.written))) }
-        ensures fails { IsErr result ↔ (Contains self.old.fails (next self.old.calls)
+        ensures fails { IsErr result ↔ (Contains self.old.fails (one_more self.old.calls)
             ⊎ (self.old.room ≤ length self.old.written)) }
         ensures faults { CountsFault self.old.faults self.new.faults result }
-        ensures calls { self.new.calls ≡ next self.old.calls }
+        ensures calls { self.new.calls ≡ one_more self.old.calls }
         ensures same { (self.new.room ≡ self.old.room) × (self.new.step ≡ self.old.step)
             × (self.new.fails ≡ self.old.fails) }
     {

@@ -21,7 +21,7 @@ use Rattle.kms_clients.specs.Standing.{place_of}
 use Rattle.kms_signal.specs.Queues.{Queue, empty_queue}
 use Rattle.kms_track.specs.Tracking.{cleaned_of}
 use Rattle.kms_track.proofs.MachineAnswers.{cleaned_machine}
-use Rattle.kms_stores.specs.Calls.{idle_command_at, is_over, only_if, read_reply}
+use Rattle.kms_stores.specs.Calls.{idle_command_at, is_some_cleaned, only_if, read_reply}
 use Rattle.kms_next.specs.Next.{IsOutside}
 use Rattle.kms_stores.specs.Run.{Run, machine}
 use Rattle.kms_stores.specs.Stands.{Stores, Stands, queue_of}
@@ -114,7 +114,7 @@ pub return_told : (r v : Run) (st : Stores) (client commit : ℕ) → Stands r s
 unfolding may
 return_told r v st client commit stands same is =
     cleaned_machine r.script.topology (machine r) st.tracker commit stands.stores.tracker
-    ∙ ap (λ (w : Run). is_over (machine w) (Some commit)) same
+    ∙ ap (λ (w : Run). is_some_cleaned (machine w) (Some commit)) same
     ∙ (let e : returning_of (doing_at (machine v) client) ≡ Some commit = sym (ap returning_of is) in rw e refl)
 
 pub return_not : (r : Run) (client : ℕ) (d : Doing) → returning_of d ≡ None → d ≡ doing_at (machine r) client → false ≡ may r.script (machine r) (step.Return client)

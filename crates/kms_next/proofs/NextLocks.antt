@@ -85,10 +85,10 @@ lockable_few t Plane i device on = let lt = ltb-true i (length t.planes) on in o
 lockable_few t Conn i device on = let lt = ltb-true i (length t.conns) on in omega (arith, lt, (few_objects t device).conns)
 lockable_few t Enc i device on = absurd (false≢true on)
 
--- what the states of a check tell to be remade is what the request remakes
-pub remade : (r : Run) (st : Stores) (request : Request) (checked : Checked) → Stands r st → early_in r.script.topology (world r) request ≡ None → IsChecked r.script.topology (world r) request checked → HasAllStates checked
+-- what the states of a check tell to be affected is what the request affects
+pub affected_alike : (r : Run) (st : Stores) (request : Request) (checked : Checked) → Stands r st → early_in r.script.topology (world r) request ≡ None → IsChecked r.script.topology (world r) request checked → HasAllStates checked
     → affected_below checked.states.crtcs checked.named 4 ≡ affected_group r.script.topology (world r) request
-remade r st request checked stands none is all =
+affected_alike r st request checked stands none is all =
     let t = r.script.topology in
     let w = world r in
     let there : (i : ℕ) → i < t.crtcs → names w.values (after w request) request.assigns (object_id Crtc i) ≡ true → is_some (duplicate_at checked.states.crtcs i) ≡ true =
@@ -109,13 +109,13 @@ pub needs_at : (r v : Run) (st : Stores) (client : ℕ) (n : Needs) (checked : C
     → n.named ≡ record { crtcs = checked.named; planes = 0; conns = 0 } → n.affected ≡ affected_below checked.states.crtcs checked.named 4 → n.touched ≡ checked.touched → NeedsLocks v client n
 needs_at r v st client n checked stands same taken none is all named_is affected_is touched_is =
     let q = n.request.now in
-    let remakes = remade r st q checked stands (early_at r v q same none) (subst (λ (w : Run). IsChecked w.script.topology (world w) q checked) (sym same) is) all in
+    let alike = affected_alike r st q checked stands (early_at r v q same none) (subst (λ (w : Run). IsChecked w.script.topology (world w) q checked) (sym same) is) all in
     record {
       taken = taken;
       none = none;
       needs = record {
         named = named_is ∙ ap only_crtcs is.named;
-        affected = affected_is ∙ remakes ∙ ap (λ (w : Run). affected_group w.script.topology (world w) q) same;
+        affected = affected_is ∙ alike ∙ ap (λ (w : Run). affected_group w.script.topology (world w) q) same;
         touched = touched_is ∙ is.touched;
       };
       device = subst (λ (w : Run). IsDevice w.script.topology) same stands.formed.device;

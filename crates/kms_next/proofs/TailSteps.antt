@@ -20,7 +20,7 @@ use Rattle.kms_signal.proofs.SlotLemmas.{value_above}
 use Rattle.kms_tails.specs.declared.tail.Tail.{Tail}
 use Rattle.kms_tails.specs.InStep.{IsKept, IsTailOf}
 use Rattle.kms_tails.specs.Remaining.{next_flush_of, next_latch_of, next_write_of}
-use Rattle.kms_tails.specs.StepLaws.{commit_of}
+use Rattle.kms_tails.specs.StepLaws.{commit_of_tail_step}
 use Rattle.kms_tails.proofs.Queries.{all_flushed_is, all_latched_is, flush_is, write_is, written_is}
 use Rattle.kms_tails.proofs.StepLemmas.{legal_below}
 use Rattle.kms_track.specs.Tracking.{pending_ready, ready_of}
@@ -53,7 +53,7 @@ module _ (r v : Run) (st : Stores) (k : ℕ) (stands : Stands r st) (same : r �
       ]
 
   -- a commit that has no tail is cleaned, or was not set up
-  absent : (step : Step) → commit_of step ≡ Some k → None ≡ value_with_id st.tails.slots k → legal r.script (going (machine r)) step ≡ may r.script (machine r) step
+  absent : (step : Step) → commit_of_tail_step step ≡ Some k → None ≡ value_with_id st.tails.slots k → legal r.script (going (machine r)) step ≡ may r.script (machine r) step
       → (has_number (machine r).device.marks.cleaned k ≡ true → may r.script (machine r) step ≡ false) → false ≡ may v.script (machine v) step
   absent step of_commit gone is_legal cleaned =
       sym

@@ -49,7 +49,7 @@ lacks t m client r g = lacks_some t m client r g Crtc || (lacks_some t m client 
 abbrev pub first_lacked : Topology → Machine → ℕ → Request → Group
 first_lacked t m client r = if lacks t m client r group.Set then group.Set else (if lacks t m client r group.Named then group.Named else group.Affected)
 
--- what a request names, remakes and touches
+-- what a request names, affects and touches
 pub record AreNeeds (t : Topology) (w : World) (n : Needs) : Type 0 where
   pub named : n.named ≡ named_group t w n.request.now
   pub affected : n.affected ≡ affected_group t w n.request.now

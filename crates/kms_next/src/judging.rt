@@ -28,7 +28,7 @@ use kms_model::{
 use kms_props::is_test;
 use kms_request::{RequestError, changed, early, exists, full_check, reach, resolve, spans};
 use kms_stores::{Stores, late_reply, lookups};
-use kms_track::{OBJECTS, has_object, object_at};
+use kms_track::{OBJECTS, has_object, object_at_place};
 use std::alloc::Global;
 
 /// Whether a client may ask for the object of a kind with an index: it takes locks for a request that reaches the
@@ -210,7 +210,7 @@ fn holds_at(clients: &Clients, client: u32, objects: &Mask, place: u32) -> bool
     ensures { (m : Machine) → AreClientsOf m.contexts clients.now
         → result ≡ held_at m client objects.now place }
 {
-    !has_object(objects, place) || clients.holder(object_at(place)) == Some(client)
+    !has_object(objects, place) || clients.holder(object_at_place(place)) == Some(client)
 }
 
 /// Whether the object of a kind with an index has a lock: it is on the device, and is no encoder.

@@ -59,7 +59,7 @@ pub(crate) fn may_clean_up(stores: &Stores, commit: u32) -> bool
     ensures { result ≡ may stores.now.script (machine stores.now) (step.Cleanup commit) }
 {
     match stores.tails.get(commit) {
-        Some(tail) => is_over(tail),
+        Some(tail) => is_over_tail(tail),
         None => false,
     }
 }
@@ -129,7 +129,7 @@ fn ends_next(tail: &Tail) -> bool
 }
 
 /// Whether a commit is done and has latched at each CRTC that it names.
-fn is_over(tail: &Tail) -> bool
+fn is_over_tail(tail: &Tail) -> bool
     ensures { result ≡ is_over_tail tail.now }
 {
     tail.progress.done && tail.is_latched()

@@ -23,7 +23,7 @@ use Rattle.kms_model.proofs.StateLemmas.{sound-plane_in_range}
 use Rattle.kms_model.proofs.TouchedLemmas.{HasFewObjects, few_objects}
 use Rattle.kms_state.specs.Places.{state_at}
 use Rattle.kms_state.proofs.Slots.{slot_at}
-use Rattle.kms_picture.specs.Covered.{FitsDuplicates, are_placeable, is_placeable, is_near, is_near_rect, is_ready, may_picture}
+use Rattle.kms_picture.specs.Covered.{FitsDuplicates, are_placeable, is_placeable, is_near, is_near_rect, is_near_plane, may_picture}
 
 -- a device has no more objects than duplicates have room for
 pub has_room : (t : Topology) → IsDevice t → FitsDuplicates t
@@ -48,14 +48,14 @@ list_all-from : (f : ℕ → Bool) (start n : ℕ) → ((i : ℕ) → f i ≡ tr
 list_all-from f start zero each = refl
 list_all-from f start (suc n) each = and_from (f start) (list_all f (range_with_len (start + 1) n)) (each start) (list_all-from f (start + 1) n each)
 
-covered-from : (planes : List (Option (Both PlaneState))) (mask index : ℕ) → (has_bit mask index ≡ true → is_ready (state_at planes index) ≡ true) → is_placeable planes mask index ≡ true
+covered-from : (planes : List (Option (Both PlaneState))) (mask index : ℕ) → (has_bit mask index ≡ true → is_near_plane (state_at planes index) ≡ true) → is_placeable planes mask index ≡ true
 covered-from planes mask index h =
     elim (cases_Bool (has_bit mask index)) [
       | inl has ↦ rw has (h has)
       | inr other ↦ rw other refl
     ]
 
-ready-from : (slot : Option (Both PlaneState)) → is_some slot ≡ true → ((both : Both PlaneState) → slot ≡ Some both → is_near_rect both.new.dst ≡ true) → is_ready slot ≡ true
+ready-from : (slot : Option (Both PlaneState)) → is_some slot ≡ true → ((both : Both PlaneState) → slot ≡ Some both → is_near_rect both.new.dst ≡ true) → is_near_plane slot ≡ true
 ready-from None there near = absurd (false≢true there)
 ready-from (Some both) there near = near both refl
 

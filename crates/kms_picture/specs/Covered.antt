@@ -24,13 +24,13 @@ is_near z = int_le (negsuc 2147483647) z && int_le z (pos 2147483647)
 abbrev pub is_near_rect : Rect → Bool
 is_near_rect r = is_near r.x && (is_near r.y && (is_near r.w && is_near r.h))
 
-abbrev pub is_ready : Option (Both PlaneState) → Bool
-is_ready None = false
-is_ready (Some both) = is_near_rect both.new.dst
+abbrev pub is_near_plane : Option (Both PlaneState) → Bool
+is_near_plane None = false
+is_near_plane (Some both) = is_near_rect both.new.dst
 
 -- a plane, if it is in a set, is duplicated, and its destination has the numbers that a property can have
 abbrev pub is_placeable : List (Option (Both PlaneState)) → ℕ → ℕ → Bool
-is_placeable planes mask index = not (has_bit mask index) || is_ready (state_at planes index)
+is_placeable planes mask index = not (has_bit mask index) || is_near_plane (state_at planes index)
 
 abbrev pub are_placeable : List (Option (Both PlaneState)) → Option (Both CrtcState) → Bool
 are_placeable planes None = false

@@ -12,19 +12,19 @@ use Rattle.kms_pool.specs.declared.player.Turn.TheVariants.{Did, Ended, NotYet}
 use Rattle.kms_stores.specs.Run.{Run, machine}
 use Rattle.kms_stores.specs.Work.{first_claim}
 use Rattle.kms_device.specs.Steps.{blanks_at, is_legal, tail_of}
-use Rattle.kms_device.specs.Turns.{DevicePass, Turn}
-use Rattle.kms_players.specs.PlayerTurns.{Rests, TickTurn, WorkerTurn, step_of_tick, step_of_worker, told_at}
-use Rattle.kms_players.specs.Players.{name_of}
+use Rattle.kms_device.specs.Turns.{DevicePass, DeviceTurn}
+use Rattle.kms_players.specs.PlayerTurns.{FindsNoStep, TickTurn, WorkerTurn, step_of_tick, step_of_worker, told_at}
+use Rattle.kms_players.specs.Players.{name_of_pass}
 use Rattle.kms_players.proofs.Waits.{turn_name, turn_says}
 
 -- such a turn by its answer
 abbrev pub RestTurn : Script → (Run → Option Step) → DevicePass → DevicePass → pool.Turn → Type 0
 RestTurn script step_in before after Did = ⊥
-RestTurn script step_in before after (NotYet n) = Rests script step_in n false before after
-RestTurn script step_in before after Ended = (n : ℕ) × Rests script step_in n true before after
+RestTurn script step_in before after (NotYet n) = FindsNoStep script step_in n false before after
+RestTurn script step_in before after Ended = (n : ℕ) × FindsNoStep script step_in n true before after
 
-module _ (script : Script) (step_in : Run → Option Step) (before told after : DevicePass) (n : ℕ) (waits : Turn script (λ found. step_in found ≡ None) [] before told) (long : n ≡ length told.seen) where
-  found_none : Turn script (λ found. (step_in found ≡ None) × (length found.steps ≡ n)) [] before told
+module _ (script : Script) (step_in : Run → Option Step) (before told after : DevicePass) (n : ℕ) (waits : DeviceTurn script (λ found. step_in found ≡ None) [] before told) (long : n ≡ length told.seen) where
+  found_none : DeviceTurn script (λ found. (step_in found ≡ None) × (length found.steps ≡ n)) [] before told
   found_none = record {
     found = waits.found;
     finds = waits.finds;
@@ -33,18 +33,18 @@ module _ (script : Script) (step_in : Run → Option Step) (before told after : 
     left = waits.left;
   }
 
-  by_drained : (b : Bool) (answer : pool.Turn) (asked : Turn script (λ found. is_drained found.script (machine found) ≡ b) [] told after) → answer ≡ told_at n b → RestTurn script step_in before after answer
+  by_drained : (b : Bool) (answer : pool.Turn) (asked : DeviceTurn script (λ found. is_drained found.script (machine found) ≡ b) [] told after) → answer ≡ told_at n b → RestTurn script step_in before after answer
   by_drained false answer asked e = subst (RestTurn script step_in before after) (sym e) (record { told = told; waits = found_none; asked = asked })
   by_drained true answer asked e = subst (RestTurn script step_in before after) (sym e) (n, record { told = told; waits = found_none; asked = asked })
 
-  pub rests : (answer : pool.Turn) → Turn script (λ found. answer ≡ told_at n (is_drained found.script (machine found))) [] told after → RestTurn script step_in before after answer
+  pub rests : (answer : pool.Turn) → DeviceTurn script (λ found. answer ≡ told_at n (is_drained found.script (machine found))) [] told after → RestTurn script step_in before after answer
   rests answer t =
       by_drained (is_drained t.found.script (machine t.found)) answer
       (record { found = t.found; finds = t.finds; said = refl; now = t.now; left = t.left }) t.said
 
-module _ (script : Script) (before told after : DevicePass) (n : ℕ) (answer : pool.Turn) (long : n ≡ length told.seen) (asked : Turn script (λ found. answer ≡ told_at n (is_drained found.script (machine found))) [] told after) where
+module _ (script : Script) (before told after : DevicePass) (n : ℕ) (answer : pool.Turn) (long : n ≡ length told.seen) (asked : DeviceTurn script (λ found. answer ≡ told_at n (is_drained found.script (machine found))) [] told after) where
   -- what ticks found no commit that the CRTC latches
-  pub tick_rests : (crtc : ℕ) → Turn script (λ found. false ≡ blanks_at found crtc) [] before told → TickTurn script crtc before after answer
+  pub tick_rests : (crtc : ℕ) → DeviceTurn script (λ found. false ≡ blanks_at found crtc) [] before told → TickTurn script crtc before after answer
   tick_rests crtc t =
       of answer
       (rests script (step_of_tick crtc) before told after n
@@ -60,14 +60,14 @@ module _ (script : Script) (before told after : DevicePass) (n : ℕ) (answer : 
   worker_of hand Ended r = (r, refl)
 
   -- a worker found nothing to claim
-  pub claim_rests : Turn script (λ found. None ≡ first_claim found) [] before told → WorkerTurn script before None after None answer
+  pub claim_rests : DeviceTurn script (λ found. None ≡ first_claim found) [] before told → WorkerTurn script before None after None answer
   claim_rests t =
       worker_of None answer
       (rests script (step_of_worker None) before told after n
       (turn_says script (λ found. None ≡ first_claim found) (λ found. step_of_worker None found ≡ None) [] before told (λ found finds left said. ap (option_map step.Claim) (sym said)) t) long answer asked)
 
   -- a worker found nothing to do for the commit in its hand
-  pub work_rests : (k : ℕ) → Turn script (λ found. None ≡ find (is_legal found) (tail_of found.script.topology k)) [] before told → WorkerTurn script before (Some k) after (Some k) answer
+  pub work_rests : (k : ℕ) → DeviceTurn script (λ found. None ≡ find (is_legal found) (tail_of found.script.topology k)) [] before told → WorkerTurn script before (Some k) after (Some k) answer
   work_rests k t =
       worker_of (Some k) answer
       (rests script (step_of_worker (Some k)) before told after n
@@ -75,17 +75,17 @@ module _ (script : Script) (before told after : DevicePass) (n : ℕ) (answer : 
 
 -- the pass is that of the same player
 
-rest_name : (script : Script) (step_in : Run → Option Step) (n : ℕ) (b : Bool) (before after : DevicePass) → Rests script step_in n b before after → name_of after ≡ name_of before
+rest_name : (script : Script) (step_in : Run → Option Step) (n : ℕ) (b : Bool) (before after : DevicePass) → FindsNoStep script step_in n b before after → name_of_pass after ≡ name_of_pass before
 rest_name script step_in n b before after r =
     turn_name script (λ found. is_drained found.script (machine found) ≡ b) [] r.told after r.asked
     ∙ turn_name script (λ found. (step_in found ≡ None) × (length found.steps ≡ n)) [] before r.told r.waits
 
-pub tick_name : (script : Script) (crtc : ℕ) (before after : DevicePass) (answer : pool.Turn) → TickTurn script crtc before after answer → name_of after ≡ name_of before
+pub tick_name : (script : Script) (crtc : ℕ) (before after : DevicePass) (answer : pool.Turn) → TickTurn script crtc before after answer → name_of_pass after ≡ name_of_pass before
 tick_name script crtc before after Did t = turn_name script (λ found. step_of_tick crtc found ≡ Some (step.Vblank Crtc crtc)) (step.Vblank Crtc crtc ∷ []) before after t
 tick_name script crtc before after (NotYet n) t = rest_name script (step_of_tick crtc) n false before after t
 tick_name script crtc before after Ended t = rest_name script (step_of_tick crtc) t.0 true before after t.1
 
-pub worker_name : (script : Script) (before after : DevicePass) (old new : Option ℕ) (answer : pool.Turn) → WorkerTurn script before old after new answer → name_of after ≡ name_of before
+pub worker_name : (script : Script) (before after : DevicePass) (old new : Option ℕ) (answer : pool.Turn) → WorkerTurn script before old after new answer → name_of_pass after ≡ name_of_pass before
 worker_name script before after old new Did t = turn_name script (λ found. step_of_worker old found ≡ Some t.0) (t.0 ∷ []) before after t.1
 worker_name script before after old new (NotYet n) t = rest_name script (step_of_worker old) n false before after t.0
 worker_name script before after old new Ended t = rest_name script (step_of_worker old) t.0.0 true before after t.0.1

@@ -14,10 +14,10 @@ use Rattle.kms_model.specs.declared.scripts.Script.{Script}
 use Rattle.kms_model.specs.Machine.Histories.{are_legal, legal}
 use Rattle.kms_model.specs.Machine.State.{Machine, command_at, doing_at, first_machine, request_in, reserved_at, unread_at}
 use Rattle.kms_model.specs.Machine.Steps.{idle_at, is_idle, is_making, is_signal, is_wait, may, returning_of}
-use Rattle.kms_stores.specs.Calls.{MayMake, MayRead, MaySignal, MayReturn, idle_command_at, is_over_at, only_if, read_at, read_reply, unless_ended}
+use Rattle.kms_stores.specs.Calls.{MayMake, MayRead, MaySignal, MayReturn, idle_command_at, is_over_at, only_if, read_reply_at, read_reply, unless_ended}
 use Rattle.kms_stores.specs.Run.{Run, machine}
 use Rattle.kms_device.specs.Steps.{is_legal}
-use Rattle.kms_device.specs.Turns.{DevicePass, IsOpen, MayBeFound, Turn, seen}
+use Rattle.kms_device.specs.Turns.{DevicePass, IsOpen, MayBeFound, DeviceTurn, run_seen}
 use Rattle.kms_device.proofs.Found.{going-found, may_read, may_return}
 use Rattle.kms_device.proofs.Runs.{legal-behind, open-at}
 use Rattle.kms_players.specs.PlayerTurns.{LacksStep, MakesStep, plain_step, step_of_command, step_of_place}
@@ -112,36 +112,36 @@ comes_signal found client h = comes_idle found.script (machine found) client is_
 
 module _ (script : Script) (says : Run → Type 0) (client : ℕ) (before after : DevicePass) where
   makes : (next : Step) → ((found : Run) → is_legal found next ≡ true → MayBeFound script before found → plain_step found client ≡ Some next)
-      → Turn script says (next ∷ []) before after → MakesStep script client before after next
+      → DeviceTurn script says (next ∷ []) before after → MakesStep script client before after next
   makes next comes t =
       let legal_next = legal_there t.found next t.left in
       record { found = t.found; finds = t.finds; said = (comes t.found legal_next t.finds, legal_next); now = t.now; left = t.left }
 
-  pub made_it : Turn script says (step.Make client ∷ []) before after → MakesStep script client before after (step.Make client)
+  pub made_it : DeviceTurn script says (step.Make client ∷ []) before after → MakesStep script client before after (step.Make client)
   made_it t = makes (step.Make client) (λ found h finds. comes_make found client h) t
 
-  pub signalled_it : Turn script says (step.Signal client ∷ []) before after → MakesStep script client before after (step.Signal client)
+  pub signalled_it : DeviceTurn script says (step.Signal client ∷ []) before after → MakesStep script client before after (step.Signal client)
   signalled_it t = makes (step.Signal client) (λ found h finds. comes_signal found client h) t
 
   module _ (whose : before.rank ≡ client) where
     -- the client waits for an event, or for its commit, in what it found, as in what it had seen
 
-    comes_read : MayRead (seen script before) client → (found : Run) → MayBeFound script before found → plain_step found client ≡ Some (step.Read client)
+    comes_read : MayRead (run_seen script before) client → (found : Run) → MayBeFound script before found → plain_step found client ≡ Some (step.Read client)
     comes_read h found finds = comes_idle found.script (machine found) client is_wait (step.Read client) (wait_step client) (may_read script before found finds client whose h)
 
-    comes_return : MayReturn (seen script before) client → (found : Run) → MayBeFound script before found → plain_step found client ≡ Some (step.Return client)
+    comes_return : MayReturn (run_seen script before) client → (found : Run) → MayBeFound script before found → plain_step found client ≡ Some (step.Return client)
     comes_return h found finds =
         let there = may_return script before found finds client whose h in
         return_comes client (doing_at (machine found) client) (command_at found.script (machine found) client) there.commit there.returning
 
-    pub read_it : MayRead (seen script before) client → Turn script says (step.Read client ∷ []) before after → MakesStep script client before after (step.Read client)
+    pub read_it : MayRead (run_seen script before) client → DeviceTurn script says (step.Read client ∷ []) before after → MakesStep script client before after (step.Read client)
     read_it h t = makes (step.Read client) (λ found is_legal finds. comes_read h found finds) t
 
-    pub returned_it : MayReturn (seen script before) client → Turn script says (step.Return client ∷ []) before after → MakesStep script client before after (step.Return client)
+    pub returned_it : MayReturn (run_seen script before) client → DeviceTurn script says (step.Return client ∷ []) before after → MakesStep script client before after (step.Return client)
     returned_it h t = makes (step.Return client) (λ found is_legal finds. comes_return h found finds) t
 
     lacks : (next : Step) (n : ℕ) → ((found : Run) → MayBeFound script before found → says found → (plain_step found client ≡ Some next) × (is_legal found next ≡ false))
-        → n ≡ length after.seen → Turn script says [] before after → LacksStep script client n before after next
+        → n ≡ length after.seen → DeviceTurn script says [] before after → LacksStep script client n before after next
     lacks next n tells long t =
         let told = tells t.found t.finds t.said in
         let size : length after.seen ≡ length t.found.steps = ap length (ap (λ p. p.seen) t.now ∙ append-nil t.found.steps) in
@@ -160,7 +160,7 @@ both_false true true x e = e
 both_false true false x e = refl
 both_false false b x e = refl
 
-read_illegal : (r : Run) (client : ℕ) → (machine r).stalled ≡ false → read_at r client ≡ None → is_legal r (step.Read client) ≡ false
+read_illegal : (r : Run) (client : ℕ) → (machine r).stalled ≡ false → read_reply_at r client ≡ None → is_legal r (step.Read client) ≡ false
 unfolding legal may
 read_illegal r client goes_on none =
     both_false (not (machine r).stalled) (idle_at r.script (machine r) client is_wait) _
@@ -171,12 +171,12 @@ unfolding legal may
 return_same r client k e = rw e refl
 
 module _ (script : Script) (client n : ℕ) (before after : DevicePass) (whose : before.rank ≡ client) (long : n ≡ length after.seen) where
-  pub unread_yet : MayRead (seen script before) client → Turn script (λ found. None ≡ read_at found client) [] before after → LacksStep script client n before after (step.Read client)
+  pub unread_yet : MayRead (run_seen script before) client → DeviceTurn script (λ found. None ≡ read_reply_at found client) [] before after → LacksStep script client n before after (step.Read client)
   unread_yet h t =
-      lacks script (λ found. None ≡ read_at found client) client before after whose (step.Read client) n
-      (λ found finds none. (comes_read script (λ found. None ≡ read_at found client) client before after whose h found finds, read_illegal found client (going-found script before found finds) (sym none))) long t
+      lacks script (λ found. None ≡ read_reply_at found client) client before after whose (step.Read client) n
+      (λ found finds none. (comes_read script (λ found. None ≡ read_reply_at found client) client before after whose h found finds, read_illegal found client (going-found script before found finds) (sym none))) long t
 
-  pub kept_waiting : MayReturn (seen script before) client → Turn script (λ found. false ≡ is_over_at found client) [] before after → LacksStep script client n before after (step.Return client)
+  pub kept_waiting : MayReturn (run_seen script before) client → DeviceTurn script (λ found. false ≡ is_over_at found client) [] before after → LacksStep script client n before after (step.Return client)
   kept_waiting h t =
       lacks script (λ found. false ≡ is_over_at found client) client before after whose (step.Return client) n
       (λ found finds none. (

@@ -24,8 +24,8 @@ use Rattle.kms_stores.specs.Calls.{idle_command_at, only_if}
 use Rattle.kms_stores.specs.Run.{Run, machine}
 use Rattle.kms_device.specs.declared.attempt.Attempt.{Attempt}
 use Rattle.kms_device.specs.Attempts.{MayAttempt, Serves, StaysAt, Went, new_attempt}
-use Rattle.kms_device.specs.Turns.{DevicePass, IsOpen, Turn, seen}
-use Rattle.kms_players.specs.Players.{name_of}
+use Rattle.kms_device.specs.Turns.{DevicePass, IsOpen, DeviceTurn, run_seen}
+use Rattle.kms_players.specs.Players.{name_of_pass}
 use Rattle.kms_players.specs.PlayerTurns.{AttemptTurn, ClientTurn, PlainTurn, Plays, RequestTurn}
 use Rattle.kms_players.specs.UnderWay.{IsAttempting}
 use Rattle.kms_players.proofs.Waits.{seen-found, turn_name, went_name}
@@ -91,46 +91,46 @@ request_not (command.Atomic r) other = absurd (other r refl)
 request_not c other = refl
 
 -- A client was told where it stands.
-module _ (script : Script) (client : ℕ) (place : Place) (before told : DevicePass) (t : Turn script (λ found. place ≡ place_at (machine found) client) [] before told) where
-  is_seen : seen script told ≡ t.found
+module _ (script : Script) (client : ℕ) (place : Place) (before told : DevicePass) (t : DeviceTurn script (λ found. place ≡ place_at (machine found) client) [] before told) where
+  is_seen : run_seen script told ≡ t.found
   is_seen = seen-found script (λ found. place ≡ place_at (machine found) client) before told t
 
-  pub open_told : IsOpen (seen script told)
+  pub open_told : IsOpen (run_seen script told)
   open_told = subst IsOpen (sym is_seen) t.finds.is_open
 
-  stands : place_at (machine (seen script told)) client ≡ place
+  stands : place_at (machine (run_seen script told)) client ≡ place
   stands = ap (λ r. place_at (machine r) client) is_seen ∙ sym t.said
 
-  commands : command_at script (machine (seen script told)) client ≡ command_of script (record { client = client; command = place.command })
+  commands : command_at script (machine (run_seen script told)) client ≡ command_of script (record { client = client; command = place.command })
   commands = ap (λ (p : Place). command_of script (record { client = client; command = p.command })) stands
 
-  pub at_command : (place_at (machine (seen script told)) client).command ≡ place.command
+  pub at_command : (place_at (machine (run_seen script told)) client).command ≡ place.command
   at_command = ap (λ (p : Place). p.command) stands
 
   module _ (awake : (k : ℕ) → place.doing ≡ doing.Returning k → ⊥) where
-    awake_told : returning_of (doing_at (machine (seen script told)) client) ≡ None
+    awake_told : returning_of (doing_at (machine (run_seen script told)) client) ≡ None
     awake_told = ap (λ (p : Place). returning_of p.doing) stands ∙ returning_not place.doing awake
 
-    pub may_attempt : (r : Request) → command_of script (record { client = client; command = place.command }) ≡ Some (command.Atomic r) → MayAttempt (seen script told) client
+    pub may_attempt : (r : Request) → command_of script (record { client = client; command = place.command }) ≡ Some (command.Atomic r) → MayAttempt (run_seen script told) client
     may_attempt r e = record { request = r; at = ap request_in (commands ∙ e); awake = awake_told }
 
     pub attempting_anew : (r : Request) (kept : Attempt) → command_of script (record { client = client; command = place.command }) ≡ Some (command.Atomic r) → kept ≡ new_attempt
-        → IsAttempting (seen script told) client kept place.command
+        → IsAttempting (run_seen script told) client kept place.command
     attempting_anew r kept e anew =
-        subst (λ kept. IsAttempting (seen script told) client kept place.command) (sym anew)
-        (record { may = may_attempt r e; at = at_command; serves = serves_new (seen script told) client })
+        subst (λ kept. IsAttempting (run_seen script told) client kept place.command) (sym anew)
+        (record { may = may_attempt r e; at = at_command; serves = serves_new (run_seen script told) client })
 
     pub idle_told : (c : Command) → ((r : Request) → c ≡ command.Atomic r → ⊥) → command_of script (record { client = client; command = place.command }) ≡ Some c
-        → (idle_command_at (seen script told) client ≡ Some c) × (request_in (Some c) ≡ None)
+        → (idle_command_at (run_seen script told) client ≡ Some c) × (request_in (Some c) ≡ None)
     idle_told c other e =
-        let idles = idle (seen script told) client open_told awake_told (ap request_in (commands ∙ e) ∙ request_not c other) in
-        (ap (λ b. only_if b (command_at script (machine (seen script told)) client)) idles ∙ (commands ∙ e), request_not c other)
+        let idles = idle (run_seen script told) client open_told awake_told (ap request_in (commands ∙ e) ∙ request_not c other) in
+        (ap (λ b. only_if b (command_at script (machine (run_seen script told)) client)) idles ∙ (commands ∙ e), request_not c other)
 
-    pub ends : command_of script (record { client = client; command = place.command }) ≡ None → Turn script (λ found. is_at_end found.script (machine found) client ≡ true) [] before told
+    pub ends : command_of script (record { client = client; command = place.command }) ≡ None → DeviceTurn script (λ found. is_at_end found.script (machine found) client ≡ true) [] before told
     ends e = record {
       found = t.found;
       finds = t.finds;
-      said = subst (λ r. is_at_end r.script (machine r) client ≡ true) is_seen (at_end (seen script told) client open_told awake_told (commands ∙ e));
+      said = subst (λ r. is_at_end r.script (machine r) client ≡ true) is_seen (at_end (run_seen script told) client open_told awake_told (commands ∙ e));
       now = t.now;
       left = t.left;
     }
@@ -153,12 +153,12 @@ plays_attempt script client before told after old new Ended went did = absurd di
 
 -- the pass is that of the same player
 
-plain_name : (script : Script) (client : ℕ) (before after : DevicePass) (answer : pool.Turn) → PlainTurn script client before after answer → name_of after ≡ name_of before
+plain_name : (script : Script) (client : ℕ) (before after : DevicePass) (answer : pool.Turn) → PlainTurn script client before after answer → name_of_pass after ≡ name_of_pass before
 plain_name script client before after Did t = turn_name script _ (t.0 ∷ []) before after t.1
 plain_name script client before after (NotYet n) t = turn_name script _ [] before after t.1
 plain_name script client before after Ended t = absurd t
 
-attempt_name : (script : Script) (client : ℕ) (before : DevicePass) (old : Attempt) (after : DevicePass) (new : Attempt) (answer : pool.Turn) → AttemptTurn script client before old after new answer → name_of after ≡ name_of before
+attempt_name : (script : Script) (client : ℕ) (before : DevicePass) (old : Attempt) (after : DevicePass) (new : Attempt) (answer : pool.Turn) → AttemptTurn script client before old after new answer → name_of_pass after ≡ name_of_pass before
 attempt_name script client before old after new Did (inl (inl s)) = went_name _ before after s.stepped.went
 attempt_name script client before old after new Did (inl (inr (inl s))) = went_name _ before after s.went
 attempt_name script client before old after new Did (inl (inr (inr s))) = went_name _ before after s.went
@@ -166,13 +166,13 @@ attempt_name script client before old after new Did (inr s) = went_name _ before
 attempt_name script client before old after new (NotYet n) s = went_name _ before after s.went
 attempt_name script client before old after new Ended s = absurd s
 
-plays_name : (script : Script) (client : ℕ) (before : DevicePass) (old : Attempt) (after : DevicePass) (new : Attempt) (answer : pool.Turn) → Plays script client before old after new answer → name_of after ≡ name_of before
+plays_name : (script : Script) (client : ℕ) (before : DevicePass) (old : Attempt) (after : DevicePass) (new : Attempt) (answer : pool.Turn) → Plays script client before old after new answer → name_of_pass after ≡ name_of_pass before
 plays_name script client before old after new answer t = did t.did ∙ went_name [] before t.told t.went where
-  did : (PlainTurn script client t.told after answer × (new ≡ old)) ⊎ RequestTurn script client t.told old after new answer → name_of after ≡ name_of t.told
+  did : (PlainTurn script client t.told after answer × (new ≡ old)) ⊎ RequestTurn script client t.told old after new answer → name_of_pass after ≡ name_of_pass t.told
   did (inl s) = plain_name script client t.told after answer s.0
   did (inr s) = attempt_name script client t.told old after new answer s.attempt
 
-pub client_name : (script : Script) (client : ℕ) (before : DevicePass) (old : Attempt) (after : DevicePass) (new : Attempt) (answer : pool.Turn) → ClientTurn script client before old after new answer → name_of after ≡ name_of before
+pub client_name : (script : Script) (client : ℕ) (before : DevicePass) (old : Attempt) (after : DevicePass) (new : Attempt) (answer : pool.Turn) → ClientTurn script client before old after new answer → name_of_pass after ≡ name_of_pass before
 client_name script client before old after new Ended t = turn_name script _ [] before after t.0
 client_name script client before old after new Did t = plays_name script client before old after new Did t
 client_name script client before old after new (NotYet n) t = plays_name script client before old after new (NotYet n) t
@@ -180,7 +180,7 @@ client_name script client before old after new (NotYet n) t = plays_name script 
 -- the same by the whole answer, which may be want of memory
 
 module _ {E : Type 0} (script : Script) (client : ℕ) (before told after : DevicePass) (old new : Attempt) (r : Result (pool.Turn × Option ℕ) E) where
-  pub ok_attempt : Went [] before told → MayAttempt (seen script told) client → IfOk r (λ x. AttemptTurn script client told old after new x.0) → IfOk r (λ x. ClientTurn script client before old after new x.0)
+  pub ok_attempt : Went [] before told → MayAttempt (run_seen script told) client → IfOk r (λ x. AttemptTurn script client told old after new x.0) → IfOk r (λ x. ClientTurn script client before old after new x.0)
   ok_attempt went may h = of r h where
     of : (r : Result (pool.Turn × Option ℕ) E) → IfOk r (λ x. AttemptTurn script client told old after new x.0) → IfOk r (λ x. ClientTurn script client before old after new x.0)
     of (Ok x) h = plays_attempt script client before told after old new x.0 went (record { may = may; attempt = h })
@@ -191,6 +191,6 @@ err_then (Ok x) f p = tt
 err_then (Err e) f p = f p
 
 pub answer_name : {E : Type 0} (script : Script) (client : ℕ) (before after : DevicePass) (old new : Attempt) (r : Result (pool.Turn × Option ℕ) E)
-    → IfOk r (λ x. ClientTurn script client before old after new x.0) → OnErr r (Went [] before after) → name_of after ≡ name_of before
+    → IfOk r (λ x. ClientTurn script client before old after new x.0) → OnErr r (Went [] before after) → name_of_pass after ≡ name_of_pass before
 answer_name script client before after old new (Ok x) h went = client_name script client before old after new x.0 h
 answer_name script client before after old new (Err e) h went = went_name [] before after went

@@ -4,29 +4,29 @@ use Rattle.kms_model.specs.declared.replies.Step.{Step}
 use Rattle.kms_model.specs.declared.scripts.Script.{Script}
 use Rattle.kms_stores.specs.Run.{Run}
 use Rattle.kms_device.specs.Attempts.{Went}
-use Rattle.kms_device.specs.Turns.{DevicePass, IsOpen, MayBeFound, Turn, seen}
+use Rattle.kms_device.specs.Turns.{DevicePass, IsOpen, MayBeFound, DeviceTurn, run_seen}
 use Rattle.kms_device.proofs.Went.{went_turn}
-use Rattle.kms_players.specs.Players.{name_of}
+use Rattle.kms_players.specs.Players.{name_of_pass}
 
 -- a turn tells what follows of what it found
 pub turn_says : (script : Script) (says tells : Run → Type 0) (steps : List Step) (before after : DevicePass)
     → ((found : Run) → MayBeFound script before found → IsOpen (record found { steps = found.steps ++ steps }) → says found → tells found)
-    → Turn script says steps before after → Turn script tells steps before after
+    → DeviceTurn script says steps before after → DeviceTurn script tells steps before after
 turn_says script says tells steps before after f t =
     record { found = t.found; finds = t.finds; said = f t.found t.finds t.left t.said; now = t.now; left = t.left }
 
 -- the pass is that of the same player
-pub turn_name : (script : Script) (says : Run → Type 0) (steps : List Step) (before after : DevicePass) → Turn script says steps before after → name_of after ≡ name_of before
-turn_name script says steps before after t = ap name_of t.now
+pub turn_name : (script : Script) (says : Run → Type 0) (steps : List Step) (before after : DevicePass) → DeviceTurn script says steps before after → name_of_pass after ≡ name_of_pass before
+turn_name script says steps before after t = ap name_of_pass t.now
 
-pub went_name : (steps : List Step) (before after : DevicePass) → Went steps before after → name_of after ≡ name_of before
+pub went_name : (steps : List Step) (before after : DevicePass) → Went steps before after → name_of_pass after ≡ name_of_pass before
 went_name steps before after w = λ i. record { lock = w.lock i; rank = w.rank i }
 
 -- where a turn made no step, the pass has seen what was found
-pub seen-found : (script : Script) (says : Run → Type 0) (before after : DevicePass) → (t : Turn script says [] before after) → seen script after ≡ t.found
+pub seen-found : (script : Script) (says : Run → Type 0) (before after : DevicePass) → (t : DeviceTurn script says [] before after) → run_seen script after ≡ t.found
 seen-found script says before after t =
     let steps : after.seen ≡ t.found.steps = ap (λ p. p.seen) t.now ∙ append-nil t.found.steps in
     λ i. record { script = sym t.finds.same i; steps = steps i }
 
-pub went_none : (script : Script) (says : Run → Type 0) (before after : DevicePass) → Turn script says [] before after → Went [] before after
+pub went_none : (script : Script) (says : Run → Type 0) (before after : DevicePass) → DeviceTurn script says [] before after → Went [] before after
 went_none script says before after t = went_turn script says [] before after refl t

@@ -22,7 +22,7 @@ use Rattle.kms_device.specs.declared.attempt.Attempted.{Attempted}
 use Rattle.kms_device.specs.declared.attempt.Attempted.TheVariants as attempted
 use Rattle.kms_device.specs.Attempts.{IsAttempt, MayAttempt, Went}
 use Rattle.kms_device.specs.Steps.{blanks_at, is_legal, step_if, tail_of}
-use Rattle.kms_device.specs.Turns.{DevicePass, Turn, seen}
+use Rattle.kms_device.specs.Turns.{DevicePass, DeviceTurn, run_seen}
 
 -- A client's turn
 
@@ -45,12 +45,12 @@ plain_step r client = step_of_place client (doing_at (machine r) client) (comman
 -- its next step was legal in the history that was found, and was made
 abbrev pub MakesStep : Script → ℕ → DevicePass → DevicePass → Step → Type 0
 MakesStep script client before after next =
-    Turn script (λ found. (plain_step found client ≡ Some next) × (is_legal found next ≡ true)) (next ∷ []) before after
+    DeviceTurn script (λ found. (plain_step found client ≡ Some next) × (is_legal found next ≡ true)) (next ∷ []) before after
 
 -- its next step was not legal in the history of a length that was found
 abbrev pub LacksStep : Script → ℕ → ℕ → DevicePass → DevicePass → Step → Type 0
 LacksStep script client length_found before after next =
-    Turn script (λ found. (plain_step found client ≡ Some next) × (is_legal found next ≡ false) × (length found.steps ≡ length_found)) [] before after
+    DeviceTurn script (λ found. (plain_step found client ≡ Some next) × (is_legal found next ≡ false) × (length found.steps ≡ length_found)) [] before after
 
 -- what became of the step of a client that is at no request, by the answer
 abbrev pub PlainTurn : Script → ℕ → DevicePass → DevicePass → pool.Turn → Type 0
@@ -68,7 +68,7 @@ AttemptTurn script client before old after new Ended = ⊥
 
 -- a client that stands at a request, and does not wait for a commit of its own, made an attempt at it
 pub record RequestTurn (script : Script) (client : ℕ) (before : DevicePass) (old : Attempt) (after : DevicePass) (new : Attempt) (answer : pool.Turn) : Type 0 where
-  pub may : MayAttempt (seen script before) client
+  pub may : MayAttempt (run_seen script before) client
   pub attempt : AttemptTurn script client before old after new answer
 
 -- It was told where it stands, unless it knew, which makes no step: then it made its step, and keeps what it kept, or an attempt.
@@ -80,20 +80,20 @@ pub record Plays (script : Script) (client : ℕ) (before : DevicePass) (old : A
 -- a client's turn, by its answer
 abbrev pub ClientTurn : Script → ℕ → DevicePass → Attempt → DevicePass → Attempt → pool.Turn → Type 0
 ClientTurn script client before old after new Ended =
-    Turn script (λ found. is_at_end found.script (machine found) client ≡ true) [] before after × (new ≡ old)
+    DeviceTurn script (λ found. is_at_end found.script (machine found) client ≡ true) [] before after × (new ≡ old)
 ClientTurn script client before old after new answer = Plays script client before old after new answer
 
 -- A turn of a worker, or of what ticks
 
 -- The one step that it may do in a history is done in the history that was found.
 abbrev pub DoesStep : Script → (Run → Option Step) → DevicePass → DevicePass → Step → Type 0
-DoesStep script step_in before after next = Turn script (λ found. step_in found ≡ Some next) (next ∷ []) before after
+DoesStep script step_in before after next = DeviceTurn script (λ found. step_in found ≡ Some next) (next ∷ []) before after
 
 -- It found that it may do none, in a history of a length, and then whether the history is drained.
-pub record Rests (script : Script) (step_in : Run → Option Step) (length_found : ℕ) (drained : Bool) (before after : DevicePass) : Type 0 where
+pub record FindsNoStep (script : Script) (step_in : Run → Option Step) (length_found : ℕ) (drained : Bool) (before after : DevicePass) : Type 0 where
   pub told : DevicePass
-  pub waits : Turn script (λ found. (step_in found ≡ None) × (length found.steps ≡ length_found)) [] before told
-  pub asked : Turn script (λ found. is_drained found.script (machine found) ≡ drained) [] told after
+  pub waits : DeviceTurn script (λ found. (step_in found ≡ None) × (length found.steps ≡ length_found)) [] before told
+  pub asked : DeviceTurn script (λ found. is_drained found.script (machine found) ≡ drained) [] told after
 
 -- what a turn comes to that found nothing to do in a history of a length, by whether the history is drained
 abbrev pub told_at : ℕ → Bool → pool.Turn
@@ -115,8 +115,8 @@ hand_after hand _ = hand
 abbrev pub WorkerTurn : Script → DevicePass → Option ℕ → DevicePass → Option ℕ → pool.Turn → Type 0
 WorkerTurn script before old after new Did =
     (next : Step) × DoesStep script (step_of_worker old) before after next × (new ≡ hand_after old next)
-WorkerTurn script before old after new (NotYet n) = Rests script (step_of_worker old) n false before after × (new ≡ old)
-WorkerTurn script before old after new Ended = ((n : ℕ) × Rests script (step_of_worker old) n true before after) × (new ≡ old)
+WorkerTurn script before old after new (NotYet n) = FindsNoStep script (step_of_worker old) n false before after × (new ≡ old)
+WorkerTurn script before old after new Ended = ((n : ℕ) × FindsNoStep script (step_of_worker old) n true before after) × (new ≡ old)
 
 -- what may be ticked: a vertical blanking at which the CRTC latches a commit
 abbrev pub step_of_tick : ℕ → Run → Option Step
@@ -125,5 +125,5 @@ step_of_tick crtc r = if blanks_at r crtc then Some (step.Vblank Crtc crtc) else
 -- a turn of what ticks, by its answer
 abbrev pub TickTurn : Script → ℕ → DevicePass → DevicePass → pool.Turn → Type 0
 TickTurn script crtc before after Did = DoesStep script (step_of_tick crtc) before after (step.Vblank Crtc crtc)
-TickTurn script crtc before after (NotYet n) = Rests script (step_of_tick crtc) n false before after
-TickTurn script crtc before after Ended = (n : ℕ) × Rests script (step_of_tick crtc) n true before after
+TickTurn script crtc before after (NotYet n) = FindsNoStep script (step_of_tick crtc) n false before after
+TickTurn script crtc before after Ended = (n : ℕ) × FindsNoStep script (step_of_tick crtc) n true before after

@@ -4,10 +4,10 @@ use Rattle.kms_model.specs.Machine.State.{place_at}
 use Rattle.kms_stores.specs.Run.{Run, machine}
 use Rattle.kms_device.specs.declared.attempt.Attempt.{Attempt}
 use Rattle.kms_device.specs.Attempts.{MayAttempt, Serves, new_attempt}
-use Rattle.kms_device.specs.Turns.{DevicePass, DeviceState}
+use Rattle.kms_device.specs.Turns.{DevicePass, SharedDevice}
 
 -- a pass of the device, and the client of the device's script whose number is its rank
-pub record IsAtDevice (device : DeviceState) (client : ℕ) (pass : DevicePass) : Type 0 where
+pub record IsAtDevice (device : SharedDevice) (client : ℕ) (pass : DevicePass) : Type 0 where
   pub own : pass.lock ≡ device.lock
   pub whose : pass.rank ≡ client
   pub low : 1 ≤ client

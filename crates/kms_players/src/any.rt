@@ -1,6 +1,6 @@
 //! Players of every kind.
 ghost use Rattle.std.specs.Prelude.{◌≡◌};
-ghost use Rattle.kms_players.specs.Players.{name_of};
+ghost use Rattle.kms_players.specs.Players.{name_of_pass};
 ghost use Rattle.kms_players.specs.AnyPlayers.{Took, answer_of, pass_of};
 
 use crate::client::Client;
@@ -41,7 +41,7 @@ impl<'a, G: Gate> AnyPlayer<'a, G> {
 impl<'a, G: Gate> Player for AnyPlayer<'a, G> {
     type Name = Name;
 
-    ghost name = { λ p. name_of (pass_of p) };
+    ghost name = { λ p. name_of_pass (pass_of p) };
 
     ghost answer = { answer_of };
 

@@ -1,7 +1,7 @@
 //! Clients.
 ghost use Rattle.std.specs.Prelude.{◌≡◌, ◌≤◌, [], length, Some, None, IfOk, OnErr};
 ghost use Rattle.kms_device.specs.Attempts.{Went, new_attempt};
-ghost use Rattle.kms_players.specs.Players.{name_of};
+ghost use Rattle.kms_players.specs.Players.{name_of_pass};
 ghost use Rattle.kms_players.specs.PlayerTurns.{ClientTurn};
 ghost use Rattle.kms_players.specs.Took.{ClientTook};
 
@@ -29,14 +29,14 @@ pub struct Client<'a, G: Gate> {
 impl<'a, G: Gate> Model for Client<'a, G> {
     ghost use Rattle.kms_players.specs.Players.{ClientState};
     ghost use Rattle.kms_players.specs.UnderWay.{IsAtDevice, IsUnderWay};
-    ghost use Rattle.kms_device.specs.Turns.{seen};
+    ghost use Rattle.kms_device.specs.Turns.{run_seen};
 
     ghost Value = { ClientState };
 
     ghost view = { λ c. record { device = c.site.device.now; client = c.site.client; pass = c.pass; kept = c.kept; last = c.last } };
 
     ghost invariant = { λ c. IsAtDevice c.site.device.now c.site.client c.pass
-        × IsUnderWay (seen c.site.device.now.script c.pass) c.site.client c.kept c.under_way };
+        × IsUnderWay (run_seen c.site.device.now.script c.pass) c.site.client c.kept c.under_way };
 }
 
 impl<'a, G: Gate> Client<'a, G> {
@@ -74,7 +74,7 @@ impl<'a, G: Gate> Client<'a, G> {
     pub fn play<W: Wait>(&mut self, rt: &W, alloc: Global) -> Result<Turn, NoMemory>
         ensures turn { IfOk result (ClientTurn self.old.device.script self.old.client self.old.pass
             self.old.kept self.new.pass self.new.kept) }
-        ensures name { name_of self.new.pass ≡ name_of self.old.pass }
+        ensures name { name_of_pass self.new.pass ≡ name_of_pass self.old.pass }
         ensures same { (self.new.device ≡ self.old.device) × (self.new.client ≡ self.old.client) }
         ensures last { IfOk result (λ turn. self.new.last ≡ Some turn) }
         ensures no_step { OnErr result (Went [] self.old.pass self.new.pass) }
@@ -99,7 +99,7 @@ impl<'a, G: Gate> Client<'a, G> {
 impl<'a, G: Gate> Player for Client<'a, G> {
     type Name = Name;
 
-    ghost name = { λ c. name_of c.pass };
+    ghost name = { λ c. name_of_pass c.pass };
 
     ghost answer = { λ c. c.last };
 

@@ -9,9 +9,9 @@ pub struct Name {
 }
 
 impl Model for Name {
-    ghost use Rattle.kms_players.specs.Players.{PlayerName, name_of};
+    ghost use Rattle.kms_players.specs.Players.{PlayerName, name_of_pass};
 
     ghost Value = { PlayerName };
 
-    ghost view = { λ n. name_of n.pass };
+    ghost view = { λ n. name_of_pass n.pass };
 }

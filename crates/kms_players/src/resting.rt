@@ -2,7 +2,7 @@
 ghost use Rattle.std.specs.Prelude.{◌≡◌, [], true};
 ghost use Rattle.kms_model.specs.Machine.Histories.{is_drained};
 ghost use Rattle.kms_stores.specs.Run.{machine};
-ghost use Rattle.kms_device.specs.Turns.{Turn as DeviceTurn};
+ghost use Rattle.kms_device.specs.Turns.{DeviceTurn};
 ghost use Rattle.kms_players.specs.PlayerTurns.{told_at};
 
 use kms_device::{Device, Pass};

@@ -6,8 +6,8 @@ ghost use Rattle.kms_pool.specs.declared.player.Turn.TheVariants.{Did};
 ghost use Rattle.kms_stores.specs.Calls.{MayRead, MayReturn, idle_command_at};
 ghost use Rattle.kms_stores.specs.Run.{machine};
 ghost use Rattle.kms_device.specs.Attempts.{Went, new_attempt};
-ghost use Rattle.kms_device.specs.Turns.{IsOpen, seen};
-ghost use Rattle.kms_players.specs.Players.{name_of};
+ghost use Rattle.kms_device.specs.Turns.{IsOpen, run_seen};
+ghost use Rattle.kms_players.specs.Players.{name_of_pass};
 ghost use Rattle.kms_players.specs.PlayerTurns.{AttemptTurn, ClientTurn, PlainTurn};
 ghost use Rattle.kms_players.specs.UnderWay.{IsAtDevice, IsAttempting, IsUnderWay};
 
@@ -38,15 +38,15 @@ impl<'a, G: Gate> Site<'a, G> {
         under_way: Option<u32>,
     ) -> Result<(Turn, Option<u32>), NoMemory>
         requires at { IsAtDevice self.now.device.now self.now.client pass.old }
-        requires under_way { IsUnderWay (seen self.now.device.now.script pass.old)
+        requires under_way { IsUnderWay (run_seen self.now.device.now.script pass.old)
             self.now.client kept.old under_way }
         ensures turn { IfOk result (λ r. ClientTurn self.now.device.now.script self.now.client
             pass.old kept.old pass.new kept.new r.0) }
-        ensures under_way { IfOk result (λ r. IsUnderWay (seen self.now.device.now.script pass.new)
+        ensures under_way { IfOk result (λ r. IsUnderWay (run_seen self.now.device.now.script pass.new)
             self.now.client kept.new r.1) }
-        ensures name { name_of pass.new ≡ name_of pass.old }
+        ensures name { name_of_pass pass.new ≡ name_of_pass pass.old }
         ensures no_step { OnErr result (Went [] pass.old pass.new) }
-        ensures still { OnErr result (IsUnderWay (seen self.now.device.now.script pass.new)
+        ensures still { OnErr result (IsUnderWay (run_seen self.now.device.now.script pass.new)
             self.now.client kept.new under_way) }
         ensures anew { OnErr result (kept.new ≡ new_attempt) }
     {
@@ -69,7 +69,7 @@ impl<'a, G: Gate> Site<'a, G> {
         requires new { kept.old ≡ new_attempt }
         ensures turn { IfOk result (λ r. ClientTurn self.now.device.now.script self.now.client
             pass.old kept.old pass.new kept.new r.0) }
-        ensures under_way { IfOk result (λ r. IsUnderWay (seen self.now.device.now.script pass.new)
+        ensures under_way { IfOk result (λ r. IsUnderWay (run_seen self.now.device.now.script pass.new)
             self.now.client kept.new r.1) }
         ensures no_step { OnErr result (Went [] pass.old pass.new) }
         ensures anew { OnErr result (kept.new ≡ new_attempt) }
@@ -100,14 +100,14 @@ impl<'a, G: Gate> Site<'a, G> {
     ) -> Result<(Turn, Option<u32>), NoMemory>
         requires own { pass.old.lock ≡ self.now.device.now.lock }
         requires whose { pass.old.rank ≡ self.now.client }
-        requires attempting { IsAttempting (seen self.now.device.now.script pass.old)
+        requires attempting { IsAttempting (run_seen self.now.device.now.script pass.old)
             self.now.client kept.old number }
         ensures turn { IfOk result (λ r. AttemptTurn self.now.device.now.script self.now.client
             pass.old kept.old pass.new kept.new r.0) }
-        ensures under_way { IfOk result (λ r. IsUnderWay (seen self.now.device.now.script pass.new)
+        ensures under_way { IfOk result (λ r. IsUnderWay (run_seen self.now.device.now.script pass.new)
             self.now.client kept.new r.1) }
         ensures no_step { OnErr result (Went [] pass.old pass.new) }
-        ensures attempting { OnErr result (IsAttempting (seen self.now.device.now.script pass.new)
+        ensures attempting { OnErr result (IsAttempting (run_seen self.now.device.now.script pass.new)
             self.now.client kept.new number) }
         ensures anew { OnErr result (kept.new ≡ new_attempt) }
     {
@@ -128,7 +128,7 @@ impl<'a, G: Gate> Site<'a, G> {
     fn go_on<W: Wait>(&self, rt: &W, pass: &mut Pass) -> Result<Turn, NoMemory>
         requires own { pass.old.lock ≡ self.now.device.now.lock }
         requires whose { pass.old.rank ≡ self.now.client }
-        requires may { MayReturn (seen self.now.device.now.script pass.old) self.now.client }
+        requires may { MayReturn (run_seen self.now.device.now.script pass.old) self.now.client }
         ensures turn { IfOk result
             (PlainTurn self.now.device.now.script self.now.client pass.old pass.new) }
         ensures no_step { OnErr result (Went [] pass.old pass.new) }
@@ -153,11 +153,11 @@ impl<'a, G: Gate> Site<'a, G> {
     ) -> Result<Turn, NoMemory>
         requires own { pass.old.lock ≡ self.now.device.now.lock }
         requires whose { pass.old.rank ≡ self.now.client }
-        requires is_open { IsOpen (seen self.now.device.now.script pass.old) }
-        requires idle { idle_command_at (seen self.now.device.now.script pass.old) self.now.client
+        requires is_open { IsOpen (run_seen self.now.device.now.script pass.old) }
+        requires idle { idle_command_at (run_seen self.now.device.now.script pass.old) self.now.client
             ≡ Some command.now }
         requires no_request { request_in (Some command.now) ≡ None }
-        requires at { (place_at (machine (seen self.now.device.now.script pass.old))
+        requires at { (place_at (machine (run_seen self.now.device.now.script pass.old))
             self.now.client).command ≡ number }
         ensures turn { IfOk result
             (PlainTurn self.now.device.now.script self.now.client pass.old pass.new) }
@@ -181,8 +181,8 @@ impl<'a, G: Gate> Site<'a, G> {
     fn read<W: Wait>(&self, rt: &W, pass: &mut Pass, number: u32) -> Result<Turn, NoMemory>
         requires own { pass.old.lock ≡ self.now.device.now.lock }
         requires whose { pass.old.rank ≡ self.now.client }
-        requires may { MayRead (seen self.now.device.now.script pass.old) self.now.client }
-        requires at { (place_at (machine (seen self.now.device.now.script pass.old))
+        requires may { MayRead (run_seen self.now.device.now.script pass.old) self.now.client }
+        requires at { (place_at (machine (run_seen self.now.device.now.script pass.old))
             self.now.client).command ≡ number }
         ensures turn { IfOk result
             (PlainTurn self.now.device.now.script self.now.client pass.old pass.new) }

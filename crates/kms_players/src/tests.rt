@@ -2,7 +2,7 @@
 ghost use Rattle.std.specs.Prelude.{◌≡◌, length, IfOk};
 ghost use Rattle.kms_histlock.specs.Passes.{IsSamePass, new_pass};
 ghost use Rattle.kms_model.specs.Script.WellFormed.{IsWellFormed};
-ghost use Rattle.kms_players.specs.Players.{name_of};
+ghost use Rattle.kms_players.specs.Players.{name_of_pass};
 
 use crate::{Client, VblankTick, Worker};
 use kms_core::Core;
@@ -151,7 +151,7 @@ struct Players<'a, G: Gate> {
 impl<'a, G: Gate> Players<'a, G> {
     ghost use Rattle.std.specs.Prelude.{◌≡◌, length};
     ghost use Rattle.kms_histlock.specs.Passes.{IsSamePass};
-    ghost use Rattle.kms_players.specs.Players.{name_of};
+    ghost use Rattle.kms_players.specs.Players.{name_of_pass};
 
     fn new(device: &'a Device, gate: &'a G, passes: Four) -> Players<'a, G>
         requires clients { length device.now.script.clients ≡ 2 }
@@ -175,10 +175,10 @@ impl<'a, G: Gate> Players<'a, G> {
 
     /// A turn of each, one after the other. Tells whether all have ended.
     fn round<W: Wait>(&mut self, rt: &W, alloc: Global) -> Result<bool, NoMemory>
-        ensures one { name_of self.new.one.pass ≡ name_of self.old.one.pass }
-        ensures other { name_of self.new.other.pass ≡ name_of self.old.other.pass }
-        ensures worker { name_of self.new.worker.pass ≡ name_of self.old.worker.pass }
-        ensures tick { name_of self.new.tick.pass ≡ name_of self.old.tick.pass }
+        ensures one { name_of_pass self.new.one.pass ≡ name_of_pass self.old.one.pass }
+        ensures other { name_of_pass self.new.other.pass ≡ name_of_pass self.old.other.pass }
+        ensures worker { name_of_pass self.new.worker.pass ≡ name_of_pass self.old.worker.pass }
+        ensures tick { name_of_pass self.new.tick.pass ≡ name_of_pass self.old.tick.pass }
     {
         let one = self.one.turn(rt, alloc)?;
         let other = self.other.turn(rt, alloc)?;
@@ -194,10 +194,10 @@ impl<'a, G: Gate> Players<'a, G> {
 
     /// Rounds until all have ended, a thousand at most. Tells whether they have.
     fn finish<W: Wait>(&mut self, rt: &W, alloc: Global) -> Result<bool, NoMemory>
-        ensures one { name_of self.new.one.pass ≡ name_of self.old.one.pass }
-        ensures other { name_of self.new.other.pass ≡ name_of self.old.other.pass }
-        ensures worker { name_of self.new.worker.pass ≡ name_of self.old.worker.pass }
-        ensures tick { name_of self.new.tick.pass ≡ name_of self.old.tick.pass }
+        ensures one { name_of_pass self.new.one.pass ≡ name_of_pass self.old.one.pass }
+        ensures other { name_of_pass self.new.other.pass ≡ name_of_pass self.old.other.pass }
+        ensures worker { name_of_pass self.new.worker.pass ≡ name_of_pass self.old.worker.pass }
+        ensures tick { name_of_pass self.new.tick.pass ≡ name_of_pass self.old.tick.pass }
     {
         for _ in 0..1000 {
             if self.round(rt, alloc)? {
@@ -231,7 +231,7 @@ impl<'a, G: Gate> Players<'a, G> {
 
 /// Turns of a worker until one does nothing, a hundred at most. Tells how many did something.
 fn work<W: Wait, G: Gate>(rt: &W, worker: &mut Worker<'_, G>) -> u32
-    ensures { name_of worker.new.pass ≡ name_of worker.old.pass }
+    ensures { name_of_pass worker.new.pass ≡ name_of_pass worker.old.pass }
 {
     let mut did = 0u32;
     for _ in 0..100 {

@@ -1,6 +1,6 @@
 //! What ticks for a CRTC.
 ghost use Rattle.std.specs.Prelude.{◌≡◌, ◌<◌, length, Some, None};
-ghost use Rattle.kms_players.specs.Players.{name_of};
+ghost use Rattle.kms_players.specs.Players.{name_of_pass};
 ghost use Rattle.kms_players.specs.PlayerTurns.{TickTurn};
 ghost use Rattle.kms_players.specs.Took.{TickTook};
 
@@ -57,7 +57,7 @@ impl<'a, G: Gate> VblankTick<'a, G> {
     pub fn play<W: Wait>(&mut self, rt: &W) -> Turn
         ensures turn { TickTurn self.old.device.script self.old.crtc self.old.pass self.new.pass
             result }
-        ensures name { name_of self.new.pass ≡ name_of self.old.pass }
+        ensures name { name_of_pass self.new.pass ≡ name_of_pass self.old.pass }
         ensures same { (self.new.device ≡ self.old.device) × (self.new.crtc ≡ self.old.crtc) }
         ensures last { self.new.last ≡ Some result }
     {
@@ -78,7 +78,7 @@ impl<'a, G: Gate> VblankTick<'a, G> {
 impl<'a, G: Gate> Player for VblankTick<'a, G> {
     type Name = Name;
 
-    ghost name = { λ t. name_of t.pass };
+    ghost name = { λ t. name_of_pass t.pass };
 
     ghost answer = { λ t. t.last };
 

@@ -1,6 +1,6 @@
 //! Workers, which do the tails of commits.
 ghost use Rattle.std.specs.Prelude.{◌≡◌, ◌<◌, length, Some, None};
-ghost use Rattle.kms_players.specs.Players.{name_of};
+ghost use Rattle.kms_players.specs.Players.{name_of_pass};
 ghost use Rattle.kms_players.specs.PlayerTurns.{WorkerTurn, hand_after};
 ghost use Rattle.kms_players.specs.Took.{WorkerTook};
 
@@ -65,7 +65,7 @@ impl<'a, G: Gate> Worker<'a, G> {
     pub fn play<W: Wait>(&mut self, rt: &W) -> Turn
         ensures turn { WorkerTurn self.old.device.script self.old.pass self.old.hand self.new.pass
             self.new.hand result }
-        ensures name { name_of self.new.pass ≡ name_of self.old.pass }
+        ensures name { name_of_pass self.new.pass ≡ name_of_pass self.old.pass }
         ensures same { (self.new.device ≡ self.old.device) × (self.new.number ≡ self.old.number) }
         ensures last { self.new.last ≡ Some result }
     {
@@ -89,7 +89,7 @@ impl<'a, G: Gate> Worker<'a, G> {
 impl<'a, G: Gate> Player for Worker<'a, G> {
     type Name = Name;
 
-    ghost name = { λ w. name_of w.pass };
+    ghost name = { λ w. name_of_pass w.pass };
 
     ghost answer = { λ w. w.last };
 

@@ -17,7 +17,7 @@ use std::thread::Threads;
 
 // What one thread has: its pass of the queue, and what came of its work.
 #[derive(Drop)]
-struct Worker<P: Player> {
+struct PoolThread<P: Player> {
     pass: QueuePass<P>,
     came: Result<(), NoMemory>,
 }
@@ -132,7 +132,7 @@ fn hired<P: Player>(
     queue: &Queue<P>,
     pass: &mut QueuePass<P>,
     threads: u32,
-) -> Result<Vec<Worker<P>>, NoMemory>
+) -> Result<Vec<PoolThread<P>>, NoMemory>
     requires own { IsPassOf queue.now pass.old }
     requires whole { (view pass.old).parts ≡ ALL_PARTS }
     requires few { threads ≤ 16 }
@@ -145,7 +145,7 @@ fn hired<P: Player>(
 {
     let mut workers = Vec::with_capacity(alloc, threads as usize)?;
     for _ in 0..threads {
-        workers.push(Worker {
+        workers.push(PoolThread {
             pass: queue.another::<OneMore>(pass),
             came: Ok(()),
         })?;
@@ -159,7 +159,7 @@ fn run<P: Player + Send, R: Threads + Wait + Sync>(
     alloc: Global,
     queue: &Queue<P>,
     quiet: &Quiet,
-    workers: &mut [Worker<P>],
+    workers: &mut [PoolThread<P>],
 )
     requires some { 0 < length workers.old }
     requires ready { All (λ w.
@@ -172,7 +172,7 @@ fn run<P: Player + Send, R: Threads + Wait + Sync>(
         rt,
         workers,
         threads,
-        &|_, worker: &mut Worker<P>|
+        &|_, worker: &mut PoolThread<P>|
             requires { IsPassOf queue.now worker.now.pass × (view worker.now.pass ≡ hand 1 [] []) }
             ensures { IsPassOf queue.entry.now worker.exit.now.pass
                 × (view worker.exit.now.pass ≡ hand 1 [] []) }
@@ -184,7 +184,7 @@ fn run<P: Player + Send, R: Threads + Wait + Sync>(
 fn dismiss<P: Player>(
     queue: &Queue<P>,
     pass: &mut QueuePass<P>,
-    workers: Vec<Worker<P>>,
+    workers: Vec<PoolThread<P>>,
 ) -> Result<(), NoMemory>
     requires own { IsPassOf queue.now pass.old }
     requires some { 0 < (view pass.old).parts }

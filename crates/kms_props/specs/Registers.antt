@@ -42,12 +42,12 @@ registers =
     ∷ crtc_row GAMMA 192
     ∷ []
 
-abbrev pub is_of : Register → RegisterRow → Bool
-is_of register row = row.register.0 == register.0
+abbrev pub is_row_of : Register → RegisterRow → Bool
+is_row_of register row = row.register.0 == register.0
 
 -- what the words of a register are at the start
 abbrev pub start_of : Register → Option Start
-start_of register = option_map (λ row. row.start) (find (is_of register) registers)
+start_of register = option_map (λ row. row.start) (find (is_row_of register) registers)
 
 -- the register is in the table
 abbrev pub is_register : Register → Bool

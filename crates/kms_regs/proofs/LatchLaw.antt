@@ -10,7 +10,7 @@ use Rattle.kms_model.specs.declared.objects.Topology.{Topology}
 use Rattle.kms_model.specs.declared.pictures.Layer.{Layer}
 use Rattle.kms_model.specs.Frames.Pictures.{put_plane, seen_on}
 use Rattle.kms_model.specs.Machine.Registers.{PlaneWords, Registers, crtc_register, first_crtc_words, first_plane_words, is_copied, latched_registers, plane_in, plane_register}
-use Rattle.kms_regs.specs.Latches.{LeavesTheOthers, Moves, NoPlaneMoves, ShowsTheShadow}
+use Rattle.kms_regs.specs.Latches.{LeavesTheOthers, MovesCrtc, NoPlaneMoves, ShowsTheShadow}
 use Rattle.kms_regs.proofs.BankLemmas.{copied-copied, kept-copied}
 use Rattle.kms_regs.proofs.Rows.{other_id, read_here, read_past}
 use Rattle.kms_regs.proofs.SameWords.{decoded_alike}
@@ -55,7 +55,7 @@ equal_of : (a b : ℕ) → (a == b) ≡ true → a ≡ b
 equal_of a b is = elim (eqb_tells a b) [ inl same ↦ same.1 | inr other ↦ cc ]
 
 -- a plane that a latch copies is on no other CRTC
-on_none : (shadow live : Registers) (plane crtc other : ℕ) → crtc ≢ 0 → other ≢ 0 → other ≢ crtc → ¬ Moves shadow live plane → is_copied shadow live crtc plane ≡ true
+on_none : (shadow live : Registers) (plane crtc other : ℕ) → crtc ≢ 0 → other ≢ 0 → other ≢ crtc → ¬ MovesCrtc shadow live plane → is_copied shadow live crtc plane ≡ true
     → ((plane_register live plane).crtc ≢ other) × ((plane_register shadow plane).crtc ≢ other)
 on_none shadow live plane crtc other some some_other differ still is =
     elim (or_cases ((plane_register live plane).crtc == crtc) ((plane_register shadow plane).crtc == crtc) is) [

@@ -34,8 +34,8 @@ abbrev pub has_go : RegisterFile → ℕ → Bool
 has_go f crtc = read false f.go crtc
 
 -- the count of a CRTC's vertical blankings, by id
-abbrev pub count_in : RegisterFile → ℕ → ℕ
-count_in f crtc = read 0 f.counts crtc
+abbrev pub blanking_count : RegisterFile → ℕ → ℕ
+blanking_count f crtc = read 0 f.counts crtc
 
 -- a register file holds these registers, GO where a commit has it, and these counts
 pub record Holds (t : Topology) (shadow live : Registers) (go : List (ℕ × Option ℕ)) (counts : List (ℕ × ℕ)) (f : RegisterFile) : Type 0 where
@@ -43,11 +43,11 @@ pub record Holds (t : Topology) (shadow live : Registers) (go : List (ℕ × Opt
   pub shadow_words : ReadSame shadow f.shadow
   pub live_words : ReadSame live f.live
   pub goes : (index : ℕ) → is_some (read None go (object_id Crtc index)) ≡ has_go f (object_id Crtc index)
-  pub counted : (index : ℕ) → read 0 counts (object_id Crtc index) ≡ count_in f (object_id Crtc index)
+  pub counted : (index : ℕ) → read 0 counts (object_id Crtc index) ≡ blanking_count f (object_id Crtc index)
 
 -- a register file stands for a machine's device
-abbrev pub StandsFor : Topology → DeviceState → RegisterFile → Type 0
-StandsFor t d f = Holds t d.shadow d.live d.go d.counts f
+abbrev pub StandsForDevice : Topology → DeviceState → RegisterFile → Type 0
+StandsForDevice t d f = Holds t d.shadow d.live d.go d.counts f
 
 -- What the calls do to a device
 
@@ -56,12 +56,12 @@ abbrev pub with_shadow : DeviceState → Registers → DeviceState
 with_shadow d shadow = record d { shadow = shadow }
 
 -- a CRTC latches
-abbrev pub latched : Topology → DeviceState → ℕ → DeviceState
-latched t d crtc = record d { live = latched_registers t d.shadow d.live crtc }
+abbrev pub latched_device : Topology → DeviceState → ℕ → DeviceState
+latched_device t d crtc = record d { live = latched_registers t d.shadow d.live crtc }
 
 -- A flush for a commit: a CRTC that is on in the shadow gets GO, and one that is off latches at once.
 abbrev pub flushed : Topology → DeviceState → ℕ → ℕ → DeviceState
-flushed t d k crtc = if is_on_in d.shadow crtc then record d { go = (crtc, Some k) ∷ d.go } else latched t d crtc
+flushed t d k crtc = if is_on_in d.shadow crtc then record d { go = (crtc, Some k) ∷ d.go } else latched_device t d crtc
 
 -- a vertical blanking is counted, and takes GO away
 abbrev pub counted : DeviceState → ℕ → DeviceState
@@ -69,7 +69,7 @@ counted d crtc = record d { counts = (crtc, count_at d crtc + 1) ∷ d.counts; g
 
 -- a vertical blanking, at which a CRTC with GO latches
 abbrev pub blanked : Topology → DeviceState → ℕ → DeviceState
-blanked t d crtc = if is_some (go_at d crtc) then latched t (counted d crtc) crtc else counted d crtc
+blanked t d crtc = if is_some (go_at d crtc) then latched_device t (counted d crtc) crtc else counted d crtc
 
 -- What the calls answer
 

@@ -9,14 +9,14 @@ use Rattle.kms_model.specs.Machine.Registers.{Registers, decoded_picture, latche
 use Rattle.kms_regs.specs.Written.{AreWritten, picture_of_states}
 
 -- a plane is live on one CRTC and in the shadow on another
-pub record Moves (shadow live : Registers) (plane : ℕ) : Type 0 where
+pub record MovesCrtc (shadow live : Registers) (plane : ℕ) : Type 0 where
   pub live_on_one : (plane_register live plane).crtc ≢ 0
   pub shadow_on_one : (plane_register shadow plane).crtc ≢ 0
   pub on_another : (plane_register live plane).crtc ≢ (plane_register shadow plane).crtc
 
 -- no plane of the device does
 abbrev pub NoPlaneMoves : Topology → Registers → Registers → Type 0
-NoPlaneMoves t shadow live = (index : ℕ) → index < length t.planes → ¬ Moves shadow live (object_id Plane index)
+NoPlaneMoves t shadow live = (index : ℕ) → index < length t.planes → ¬ MovesCrtc shadow live (object_id Plane index)
 
 -- after a latch at the CRTC with an index its live picture is that of the shadow words
 abbrev pub ShowsTheShadow : Topology → Registers → Registers → ℕ → Type 0

@@ -14,74 +14,74 @@ use Rattle.kms_model.specs.Machine.Effects.{next}
 use Rattle.kms_model.specs.Machine.Registers.{crtc_register, crtc_words, is_on_in, plane_register, plane_words, write_crtc, write_plane}
 use Rattle.kms_model.specs.Machine.State.{DeviceState, Machine, count_at, go_at}
 use Rattle.kms_regs.specs.Rewritten.{rewrite_crtc, rewrite_plane}
-use Rattle.kms_regs.specs.File.{RegisterFile, StandsFor, blanked, flushed, latched_picture, with_shadow}
+use Rattle.kms_regs.specs.File.{RegisterFile, StandsForDevice, blanked, flushed, latched_picture, with_shadow}
 
 -- What calls make of a register file, for each device that it stands for
 
 -- of the plane with an index the shadow words that differ between two states become those of the second, and no others
 abbrev pub RewritesPlane : RegisterFile → RegisterFile → ℕ → PlaneState → PlaneState → Type 0
 RewritesPlane old new index before state =
-    (t : Topology) (d : DeviceState) → StandsFor t d old
-    → StandsFor t (with_shadow d (rewrite_plane d.shadow (object_id Plane index) (plane_words before) (plane_words state))) new
+    (t : Topology) (d : DeviceState) → StandsForDevice t d old
+    → StandsForDevice t (with_shadow d (rewrite_plane d.shadow (object_id Plane index) (plane_words before) (plane_words state))) new
 
 -- the same of the CRTC with an index, whose words have a connector before and after
 abbrev pub RewritesCrtc : RegisterFile → RegisterFile → ℕ → ℕ → ℕ → CrtcState → CrtcState → Type 0
 RewritesCrtc old new index conn_before conn before state =
-    (t : Topology) (d : DeviceState) → StandsFor t d old
-    → StandsFor t (with_shadow d (rewrite_crtc d.shadow (object_id Crtc index) (crtc_words conn_before before) (crtc_words conn state))) new
+    (t : Topology) (d : DeviceState) → StandsForDevice t d old
+    → StandsForDevice t (with_shadow d (rewrite_crtc d.shadow (object_id Crtc index) (crtc_words conn_before before) (crtc_words conn state))) new
 
 -- the shadow words of the plane with an index are those of a state
 abbrev pub WritesPlane : RegisterFile → RegisterFile → ℕ → PlaneState → Type 0
 WritesPlane old new index state =
-    (t : Topology) (d : DeviceState) → StandsFor t d old
-    → StandsFor t (with_shadow d (write_plane d.shadow (object_id Plane index) (plane_words state))) new
+    (t : Topology) (d : DeviceState) → StandsForDevice t d old
+    → StandsForDevice t (with_shadow d (write_plane d.shadow (object_id Plane index) (plane_words state))) new
 
 -- the shadow words of the CRTC with an index are those of a state with a connector
 abbrev pub WritesCrtc : RegisterFile → RegisterFile → ℕ → ℕ → CrtcState → Type 0
 WritesCrtc old new index conn state =
-    (t : Topology) (d : DeviceState) → StandsFor t d old
-    → StandsFor t (with_shadow d (write_crtc d.shadow (object_id Crtc index) (crtc_words conn state))) new
+    (t : Topology) (d : DeviceState) → StandsForDevice t d old
+    → StandsForDevice t (with_shadow d (write_crtc d.shadow (object_id Crtc index) (crtc_words conn state))) new
 
 -- the CRTC with an index is flushed, for any commit
 abbrev pub Flushes : RegisterFile → RegisterFile → ℕ → Type 0
 Flushes old new index =
-    (t : Topology) (d : DeviceState) (k : ℕ) → StandsFor t d old → StandsFor t (flushed t d k (object_id Crtc index)) new
+    (t : Topology) (d : DeviceState) (k : ℕ) → StandsForDevice t d old → StandsForDevice t (flushed t d k (object_id Crtc index)) new
 
 -- the CRTC with an index has a vertical blanking
 abbrev pub Blanks : RegisterFile → RegisterFile → ℕ → Type 0
 Blanks old new index =
-    (t : Topology) (d : DeviceState) → StandsFor t d old → StandsFor t (blanked t d (object_id Crtc index)) new
+    (t : Topology) (d : DeviceState) → StandsForDevice t d old → StandsForDevice t (blanked t d (object_id Crtc index)) new
 
 -- Steps. A commit writes the new states of what it touches.
 
 abbrev pub FollowsPlaneWrite : Type 0
 FollowsPlaneWrite =
     (s : Script) (m : Machine) (k index : ℕ) (old new : RegisterFile)
-    → StandsFor s.topology m.device old
+    → StandsForDevice s.topology m.device old
     → WritesPlane old new index (new_plane s.topology m.device.commits k (object_id Plane index))
-    → StandsFor s.topology (next s m (Write k Plane index)).device new
+    → StandsForDevice s.topology (next s m (Write k Plane index)).device new
 
 abbrev pub FollowsCrtcWrite : Type 0
 FollowsCrtcWrite =
     (s : Script) (m : Machine) (k index : ℕ) (old new : RegisterFile)
-    → index < 4 → StandsFor s.topology m.device old
+    → index < 4 → StandsForDevice s.topology m.device old
     → WritesCrtc old new index (new_connector s.topology m.device.commits k (object_id Crtc index))
     (new_crtc s.topology m.device.commits k (object_id Crtc index))
-    → StandsFor s.topology (next s m (Write k Crtc index)).device new
+    → StandsForDevice s.topology (next s m (Write k Crtc index)).device new
 
 -- the CRTC is on in its shadow words exactly where it is in the commit's new state
 abbrev pub FollowsFlush : Type 0
 FollowsFlush =
     (s : Script) (m : Machine) (k index : ℕ) (old new : RegisterFile)
     → is_on_in m.device.shadow (object_id Crtc index) ≡ (new_crtc s.topology m.device.commits k (object_id Crtc index)).active
-    → StandsFor s.topology m.device old → Flushes old new index
-    → StandsFor s.topology (next s m (Flush k Crtc index)).device new
+    → StandsForDevice s.topology m.device old → Flushes old new index
+    → StandsForDevice s.topology (next s m (Flush k Crtc index)).device new
 
 abbrev pub FollowsVblank : Type 0
 FollowsVblank =
     (s : Script) (m : Machine) (index : ℕ) (old new : RegisterFile)
-    → StandsFor s.topology m.device old → Blanks old new index
-    → StandsFor s.topology (next s m (Vblank Crtc index)).device new
+    → StandsForDevice s.topology m.device old → Blanks old new index
+    → StandsForDevice s.topology (next s m (Vblank Crtc index)).device new
 
 -- What a machine records of a latch: a CRTC that is off latches at its flush, and one with GO at its vertical blanking. The
 -- picture is that of the calls.
@@ -113,7 +113,7 @@ keeps_registers _ = true
 abbrev pub FollowsTheOthers : Type 0
 FollowsTheOthers =
     (s : Script) (m : Machine) (step : Step) (f : RegisterFile)
-    → keeps_registers step ≡ true → StandsFor s.topology m.device f → StandsFor s.topology (next s m step).device f
+    → keeps_registers step ≡ true → StandsForDevice s.topology m.device f → StandsForDevice s.topology (next s m step).device f
 
 -- What the calls ask for, in the machine's words
 
@@ -121,14 +121,14 @@ FollowsTheOthers =
 abbrev pub HoldsOldPlane : Type 0
 HoldsOldPlane =
     (t : Topology) (d : DeviceState) (f : RegisterFile) (index : ℕ) (state : PlaneState)
-    → StandsFor t d f → plane_register d.shadow (object_id Plane index) ≡ plane_words state
+    → StandsForDevice t d f → plane_register d.shadow (object_id Plane index) ≡ plane_words state
     → plane_register f.shadow (object_id Plane index) ≡ plane_words state
 
 -- those of a CRTC, with whatever connector
 abbrev pub HoldsOldCrtc : Type 0
 HoldsOldCrtc =
     (t : Topology) (d : DeviceState) (f : RegisterFile) (index conn : ℕ) (state : CrtcState)
-    → StandsFor t d f → crtc_register d.shadow (object_id Crtc index) ≡ crtc_words conn state
+    → StandsForDevice t d f → crtc_register d.shadow (object_id Crtc index) ≡ crtc_words conn state
     → crtc_register f.shadow (object_id Crtc index) ≡ crtc_words (crtc_register f.shadow (object_id Crtc index)).conn state
 
 -- a CRTC whose words are those of a state is on where the state is

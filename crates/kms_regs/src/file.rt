@@ -7,7 +7,7 @@ ghost use Rattle.kms_model.specs.declared.objects.Topology.{Topology};
 ghost use Rattle.kms_model.specs.Machine.Framebuffers.{picture_names};
 ghost use Rattle.kms_model.specs.Machine.Registers.{crtc_register, crtc_words, decoded_picture, is_on_in, plane_register, plane_words};
 ghost use Rattle.kms_model.specs.Machine.State.{DeviceState, count_at, first_machine, go_at};
-ghost use Rattle.kms_regs.specs.File.{StandsFor, blanked_picture, count_in, flushed_picture, has_go, latched_picture};
+ghost use Rattle.kms_regs.specs.File.{StandsForDevice, blanked_picture, blanking_count, flushed_picture, has_go, latched_picture};
 ghost use Rattle.kms_regs.specs.Layers.{picture_layers};
 ghost use Rattle.kms_regs.specs.StepLaws.{Blanks, Flushes, RewritesCrtc, RewritesPlane, WritesCrtc, WritesPlane};
 
@@ -46,7 +46,7 @@ impl RegFile {
     /// The registers before anything is written, of a device with at most 16 planes.
     pub fn new(topology: &Topology) -> RegFile
         requires { length topology.now.planes ≤ 16 }
-        ensures { StandsFor topology.now (first_machine topology.now).device result }
+        ensures { StandsForDevice topology.now (first_machine topology.now).device result }
     {
         RegFile {
             planes: topology.planes.as_slice().len() as u32,
@@ -115,9 +115,9 @@ impl RegFile {
     pub fn flush(&mut self, crtc: u32) -> Option<Picture>
         requires { crtc < 4 }
         ensures stands { Flushes self.old self.new crtc }
-        ensures picture { (t : Topology) (d : DeviceState) → StandsFor t d self.old
+        ensures picture { (t : Topology) (d : DeviceState) → StandsForDevice t d self.old
             → result ≡ flushed_picture d (object_id Crtc crtc) }
-        ensures latched { (t : Topology) (d : DeviceState) → StandsFor t d self.old
+        ensures latched { (t : Topology) (d : DeviceState) → StandsForDevice t d self.old
             → IfSome result (λ p. p ≡ latched_picture t d (object_id Crtc crtc)) }
     {
         if self.shadow.crtc(crtc).active != 0 {
@@ -132,9 +132,9 @@ impl RegFile {
     /// The count is below 18446744073709551615.
     pub fn vblank(&mut self, crtc: u32) -> Option<Picture>
         requires crtc { crtc < 4 }
-        requires count { count_in self.old (object_id Crtc crtc) < 18446744073709551615 }
+        requires count { blanking_count self.old (object_id Crtc crtc) < 18446744073709551615 }
         ensures stands { Blanks self.old self.new crtc }
-        ensures picture { (t : Topology) (d : DeviceState) → StandsFor t d self.old
+        ensures picture { (t : Topology) (d : DeviceState) → StandsForDevice t d self.old
             → result ≡ blanked_picture t d (object_id Crtc crtc) }
     {
         self.counts[crtc as usize] += 1;
@@ -149,7 +149,7 @@ impl RegFile {
     /// What the live words of the CRTC with an index, from 0 to 3, show.
     pub fn decode_live(&self, crtc: u32) -> Picture
         requires { crtc < 4 }
-        ensures { (t : Topology) (d : DeviceState) → StandsFor t d self.now
+        ensures { (t : Topology) (d : DeviceState) → StandsForDevice t d self.now
             → result ≡ decoded_picture t d.live (object_id Crtc crtc) }
     {
         decoded_picture(&self.live, self.planes, crtc)
@@ -159,7 +159,7 @@ impl RegFile {
     /// picture that [`RegFile::decode_live`] gives, without its table of colour values; none where the CRTC is off.
     pub fn live_layers(&self, crtc: u32) -> Layers
         requires { crtc < 4 }
-        ensures { (t : Topology) (d : DeviceState) → StandsFor t d self.now
+        ensures { (t : Topology) (d : DeviceState) → StandsForDevice t d self.now
             → result ≡ picture_layers (decoded_picture t d.live (object_id Crtc crtc)) }
     {
         shown_layers(&self.live, self.planes, crtc)
@@ -169,7 +169,7 @@ impl RegFile {
     /// answer that [`RegFile::decode_live`] gives, without its mode and its table of colour values.
     pub fn shows(&self, crtc: u32, fb: u32) -> bool
         requires { crtc < 4 }
-        ensures { (t : Topology) (d : DeviceState) → StandsFor t d self.now
+        ensures { (t : Topology) (d : DeviceState) → StandsForDevice t d self.now
             → result ≡ picture_names fb (decoded_picture t d.live (object_id Crtc crtc)) }
     {
         is_shown(&self.live, self.planes, crtc, fb)
@@ -178,7 +178,7 @@ impl RegFile {
     /// Whether the CRTC with an index, from 0 to 3, is on in its shadow words: a flush there latches nothing yet.
     pub fn is_on_in_shadow(&self, crtc: u32) -> bool
         requires { crtc < 4 }
-        ensures { (t : Topology) (d : DeviceState) → StandsFor t d self.now
+        ensures { (t : Topology) (d : DeviceState) → StandsForDevice t d self.now
             → result ≡ is_on_in d.shadow (object_id Crtc crtc) }
     {
         self.shadow.crtc(crtc).active != 0
@@ -187,7 +187,7 @@ impl RegFile {
     /// Whether the CRTC with an index, from 0 to 3, is on in its live words: what it shows is no `Off`.
     pub fn is_on(&self, crtc: u32) -> bool
         requires { crtc < 4 }
-        ensures { (t : Topology) (d : DeviceState) → StandsFor t d self.now
+        ensures { (t : Topology) (d : DeviceState) → StandsForDevice t d self.now
             → result ≡ is_on_in d.live (object_id Crtc crtc) }
     {
         self.live.crtc(crtc).active != 0
@@ -196,8 +196,8 @@ impl RegFile {
     /// How many vertical blankings the CRTC with an index, from 0 to 3, has had.
     pub fn count(&self, crtc: u32) -> u64
         requires { crtc < 4 }
-        ensures own { result ≡ count_in self.now (object_id Crtc crtc) }
-        ensures device { (t : Topology) (d : DeviceState) → StandsFor t d self.now
+        ensures own { result ≡ blanking_count self.now (object_id Crtc crtc) }
+        ensures device { (t : Topology) (d : DeviceState) → StandsForDevice t d self.now
             → result ≡ count_at d (object_id Crtc crtc) }
     {
         self.counts[crtc as usize]
@@ -207,7 +207,7 @@ impl RegFile {
     pub fn has_go(&self, crtc: u32) -> bool
         requires { crtc < 4 }
         ensures own { result ≡ has_go self.now (object_id Crtc crtc) }
-        ensures device { (t : Topology) (d : DeviceState) → StandsFor t d self.now
+        ensures device { (t : Topology) (d : DeviceState) → StandsForDevice t d self.now
             → result ≡ is_some (go_at d (object_id Crtc crtc)) }
     {
         self.go[crtc as usize]

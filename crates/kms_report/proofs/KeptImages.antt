@@ -13,10 +13,10 @@ use Rattle.kms_model.specs.Stores.Kept.{Seen}
 use Rattle.kms_compose.specs.Images.{AreImagesIn, CanShow, image_seen, seen_under}
 use Rattle.kms_compose.specs.declared.images.FbImage.{FbImage}
 use Rattle.kms_compose.proofs.SameFrames.{frame_same}
-use Rattle.kms_screens.specs.declared.kept.Kept.{Kept}
+use Rattle.kms_screens.specs.declared.kept.KeptFrame.{KeptFrame}
 use Rattle.kms_screens.specs.declared.screen.Screen.{Screen}
-use Rattle.kms_screens.specs.Screens.{Has, IsKeptOf, IsKeptOver, StandsOf, StandsOver}
-use Rattle.kms_report.specs.Images.{IsPushed, Keeps, ShowsKept}
+use Rattle.kms_screens.specs.Screens.{Has, IsKeptFrameOf, IsKeptFrameOver, AreKeptFramesOf, AreKeptFramesOver}
+use Rattle.kms_report.specs.Images.{IsPushed, KeepsImages, ShowsKept}
 
 -- what a choice comes to, by its test
 choice : (b : Bool) (x y : Option Seen) (s : Seen) (Z : Type 0) → (b ≡ true → x ≡ Some s → Z) → (b ≡ false → y ≡ Some s → Z) → cond b x y ≡ Some s → Z
@@ -25,7 +25,7 @@ choice false x y s Z one other h = other refl h
 
 -- More images
 
-behind : (old more : List FbImage) → Keeps old (old ++ more)
+behind : (old more : List FbImage) → KeepsImages old (old ++ more)
 behind [] more fb s h = cc
 behind (j ∷ js) more fb s h =
     choice (eqb j.fb fb) (Some (image_seen j.image)) (seen_under js fb) s (seen_under ((j ∷ js) ++ more) fb ≡ Some s)
@@ -33,13 +33,13 @@ behind (j ∷ js) more fb s h =
     (λ is rest. cond-false (eqb j.fb fb) (Some (image_seen j.image)) (seen_under (js ++ more) fb) is ∙ behind js more fb s rest)
     h
 
-pub pushed-keeps : (things : List Thing) (fb : ℕ) (old new : List FbImage) → IsPushed things fb old new → Keeps old new
-pushed-keeps things fb old new p = subst (Keeps old) (sym p.pushed) (behind old (p.image ∷ []))
+pub pushed-keeps : (things : List Thing) (fb : ℕ) (old new : List FbImage) → IsPushed things fb old new → KeepsImages old new
+pushed-keeps things fb old new p = subst (KeepsImages old) (sym p.pushed) (behind old (p.image ∷ []))
 
-pub keeps-then : (one two three : List FbImage) → Keeps one two → Keeps two three → Keeps one three
+pub keeps-then : (one two three : List FbImage) → KeepsImages one two → KeepsImages two three → KeepsImages one three
 keeps-then one two three first second fb s h = second fb s (first fb s h)
 
-pub shown-still : (old new : List FbImage) (p : Picture) → Keeps old new → CanShow old p → CanShow new p
+pub shown-still : (old new : List FbImage) (p : Picture) → KeepsImages old new → CanShow old p → CanShow new p
 shown-still old new Off keeps can = tt
 shown-still old new (On p) keeps can = λ k d within.
     let one = can k d within in
@@ -48,7 +48,7 @@ shown-still old new (On p) keeps can = λ k d within.
       image = record { seen = one.image.seen; found = keeps _ one.image.seen one.image.found; width = one.image.width; height = one.image.height; words = one.image.words };
     }
 
-pub kept-still : (old new : List FbImage) (s : Screen) → Keeps old new → ShowsKept old s → ShowsKept new s
+pub kept-still : (old new : List FbImage) (s : Screen) → KeepsImages old new → ShowsKept old s → ShowsKept new s
 kept-still old new s keeps shows =
     record { one = shown-still old new s.first.drawn.picture keeps shows.one; other = shown-still old new s.second.drawn.picture keeps shows.other }
 
@@ -75,11 +75,11 @@ can-be-shown things images (On p) are can = λ k d within.
     }
 
 module _ (things : List Thing) (images : List FbImage) (are : AreImagesIn things images) where
-  kept_over : (k : Kept) → CanShow images k.drawn.picture → IsKeptOf things k → IsKeptOver images k
+  kept_over : (k : KeptFrame) → CanShow images k.drawn.picture → IsKeptFrameOf things k → IsKeptFrameOver images k
   kept_over k can kept =
       record { drawn = record { can = can; exact = kept.drawn.exact ∙ sym (frame_same things images k.drawn.picture can are); fronts = kept.drawn.fronts }; digest = kept.digest }
 
-  kept_of : (k : Kept) → IsKeptOver images k → IsKeptOf things k
+  kept_of : (k : KeptFrame) → IsKeptFrameOver images k → IsKeptFrameOf things k
   kept_of k kept =
       record {
         drawn = record {
@@ -90,17 +90,17 @@ module _ (things : List Thing) (images : List FbImage) (are : AreImagesIn things
         digest = kept.digest;
       }
 
-  pub over-images : (s : Screen) → ShowsKept images s → StandsOf things s → StandsOver images s
+  pub over-images : (s : Screen) → ShowsKept images s → AreKeptFramesOf things s → AreKeptFramesOver images s
   over-images s shows stands = record { first = kept_over s.first shows.one stands.first; second = kept_over s.second shows.other stands.second }
 
-  of_things : (s : Screen) → StandsOver images s → StandsOf things s
+  of_things : (s : Screen) → AreKeptFramesOver images s → AreKeptFramesOf things s
   of_things s stands = record { first = kept_of s.first stands.first; second = kept_of s.second stands.second }
 
-  pub showing-of : (r : Result Screen NoMemory) (p : Picture) → IfOk r (λ s. StandsOver images s × Has s p) → IfOk r (λ s. StandsOf things s × Has s p)
+  pub showing-of : (r : Result Screen NoMemory) (p : Picture) → IfOk r (λ s. AreKeptFramesOver images s × Has s p) → IfOk r (λ s. AreKeptFramesOf things s × Has s p)
   showing-of (Ok s) p both = (of_things s both.0, both.1)
   showing-of (Err e) p both = both
 
 -- either of the two stands
-pub kept-stands : (things : List Thing) (s : Screen) (k : Kept) → StandsOf things s → (k ≡ s.first) ⊎ (k ≡ s.second) → IsKeptOf things k
-kept-stands things s k stands (inl is) = subst (IsKeptOf things) (sym is) stands.first
-kept-stands things s k stands (inr is) = subst (IsKeptOf things) (sym is) stands.second
+pub kept-stands : (things : List Thing) (s : Screen) (k : KeptFrame) → AreKeptFramesOf things s → (k ≡ s.first) ⊎ (k ≡ s.second) → IsKeptFrameOf things k
+kept-stands things s k stands (inl is) = subst (IsKeptFrameOf things) (sym is) stands.first
+kept-stands things s k stands (inr is) = subst (IsKeptFrameOf things) (sym is) stands.second

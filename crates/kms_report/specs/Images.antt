@@ -25,8 +25,8 @@ pub record IsPushed (things : List Thing) (fb : ℕ) (old new : List FbImage) : 
   pub found : image_of things fb ≡ Some (image_seen image.image)
 
 -- what is read of a framebuffer is still read of it
-abbrev pub Keeps : List FbImage → List FbImage → Type 0
-Keeps old new = (fb : ℕ) (s : Seen) → seen_under old fb ≡ Some s → seen_under new fb ≡ Some s
+abbrev pub KeepsImages : List FbImage → List FbImage → Type 0
+KeepsImages old new = (fb : ℕ) (s : Seen) → seen_under old fb ≡ Some s → seen_under new fb ≡ Some s
 
 -- both pictures that are kept can be shown over some images
 pub record ShowsKept (images : List FbImage) (s : Screen) : Type 0 where

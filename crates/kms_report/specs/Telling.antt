@@ -12,15 +12,15 @@ use Rattle.kms_model.specs.Machine.State.{Machine}
 use Rattle.kms_model.specs.Report.History.{digest_of}
 use Rattle.kms_model.specs.Report.History as history
 use Rattle.kms_model.specs.Report.TextLines.{line}
-use Rattle.kms_script.specs.Scheduled.{index_of}
+use Rattle.kms_script.specs.Scheduled.{index_in_step}
 use Rattle.kms_shown.specs.Told.{events_told}
 use Rattle.kms_report.specs.declared.answers.Section.{Section}
 use Rattle.kms_report.specs.declared.answers.Section.TheVariants.{Events, Replies}
 use Rattle.kms_report.specs.declared.histories.Options.{Options}
 
 -- what is asked for besides the lines, in the words of the definition of a report
-abbrev pub asked : Options → history.Options
-asked o = record { trace = o.trace; ppm = o.ppm }
+abbrev pub history_options : Options → history.Options
+history_options o = record { trace = o.trace; ppm = o.ppm }
 
 -- `J CLIENT COMMAND`, of an entry's client and command
 abbrev pub entry_text : ℕ × ℕ → List ℕ
@@ -57,4 +57,4 @@ freed_text names fb = line (codes "X" ∷ slice_index_or names fb.0 [] ∷ decim
 
 -- the index of the object that a step names, where it names one, is at most 255
 abbrev pub HasSmallIndex : Step → Type 0
-HasSmallIndex step = ForSome (index_of step) (λ index. index ≤ 255)
+HasSmallIndex step = ForSome (index_in_step step) (λ index. index ≤ 255)

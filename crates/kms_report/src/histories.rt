@@ -5,7 +5,7 @@ ghost use Rattle.kms_stores.specs.Run.{machine};
 ghost use Rattle.kms_model.specs.Frames.Shown.{EachCanBeShown};
 ghost use Rattle.kms_model.specs.Report.History as history;
 ghost use Rattle.kms_report.specs.Images.{things_of};
-ghost use Rattle.kms_report.specs.Telling.{HasSmallIndex, asked, entry_text, freed_text, latches_text};
+ghost use Rattle.kms_report.specs.Telling.{HasSmallIndex, history_options, entry_text, freed_text, latches_text};
 
 use crate::answers::{Section, push_sections};
 use crate::ends::push_end;
@@ -110,7 +110,7 @@ fn report_by<H: Hands>(
     requires hands { H.can_work hands.now }
     requires script { script.now ≡ core.now.script }
     ensures { IfOk result (λ text. text
-        ≡ history.text core.now.script core.now.steps (asked options)) }
+        ≡ history.text core.now.script core.now.steps (history_options options)) }
 {
     core.is_a_history();
     kms_shown::what_was_latched_can_be_composed();
@@ -152,7 +152,7 @@ pub fn report(
 ) -> Result<Seq<u8>, NoMemory>
     requires { script.now ≡ core.now.script }
     ensures { IfOk result (λ text. text
-        ≡ history.text core.now.script core.now.steps (asked options)) }
+        ≡ history.text core.now.script core.now.steps (history_options options)) }
 {
     report_by(&OneThread, alloc, script, core, options)
 }
@@ -168,7 +168,7 @@ pub fn report_with<R: Threads + Sync>(
 ) -> Result<Seq<u8>, NoMemory>
     requires { script.now ≡ core.now.script }
     ensures { IfOk result (λ text. text
-        ≡ history.text core.now.script core.now.steps (asked options)) }
+        ≡ history.text core.now.script core.now.steps (history_options options)) }
 {
     report_by(&SeveralThreads { rt }, alloc, script, core, options)
 }

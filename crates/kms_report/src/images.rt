@@ -2,7 +2,7 @@
 ghost use Rattle.std.specs.Prelude.{All, OnOk};
 ghost use Rattle.kms_compose.specs.Images.{AreImagesIn, CanShow};
 ghost use Rattle.kms_model.specs.Frames.Shown.{EachCanBeShown, HasWords};
-ghost use Rattle.kms_report.specs.Images.{AreSeen, IsPushed, Keeps, things_of};
+ghost use Rattle.kms_report.specs.Images.{AreSeen, IsPushed, KeepsImages, things_of};
 
 use kms_compose::{FbImage, Images};
 use kms_core::Core;
@@ -30,7 +30,7 @@ fn push_layers<'a>(
     requires images { AreImagesIn (things_of core.now) images.old }
     ensures images { OnOk result (AreImagesIn (things_of core.now) images.new) }
     ensures seen { OnOk result (AreSeen (things_of core.now) images.new layers.now) }
-    ensures kept { OnOk result (Keeps images.old images.new) }
+    ensures kept { OnOk result (KeepsImages images.old images.new) }
 {
     for layer in layers {
         push_image(images, core, layer)?;
@@ -48,7 +48,7 @@ pub fn push_images<'a>(
     requires images { AreImagesIn (things_of core.now) images.old }
     ensures images { OnOk result (AreImagesIn (things_of core.now) images.new) }
     ensures shown { OnOk result (CanShow images.new picture.now) }
-    ensures kept { OnOk result (Keeps images.old images.new) }
+    ensures kept { OnOk result (KeepsImages images.old images.new) }
 {
     match picture {
         Picture::On(shown) => push_layers(images, core, shown.layers.as_slice()),

@@ -8,7 +8,7 @@ ghost use Rattle.kms_model.specs.Frames.Shown.{EachCanBeShown};
 ghost use Rattle.kms_model.specs.Report.History.{latch_line};
 ghost use Rattle.kms_report.specs.Images.{things_of};
 ghost use Rattle.kms_report.specs.Telling.{latch_front, latches_text, lit_line};
-ghost use Rattle.kms_screens.specs.Screens.{StandsOf};
+ghost use Rattle.kms_screens.specs.Screens.{AreKeptFramesOf};
 
 use crate::pixmaps::push_pixmap;
 use crate::showing::showing;
@@ -67,12 +67,12 @@ fn push_latch<H: Hands>(
     pixmap: bool,
 ) -> Result<Screen, NoMemory>
     requires hands { H.can_work hands.now }
-    requires screen { StandsOf (things_of core.now) screen }
+    requires screen { AreKeptFramesOf (things_of core.now) screen }
     requires latch { EachCanBeShown (things_of core.now) latch.now.picture }
     requires after { All (λ l. EachCanBeShown (things_of core.now) l.picture) after.now }
     ensures text { OnOk result (text.new.items
         ≡ text.old.items ++ latch_line (machine core.now) pixmap latch.now) }
-    ensures screen { IfOk result (StandsOf (things_of core.now)) }
+    ensures screen { IfOk result (AreKeptFramesOf (things_of core.now)) }
 {
     text.extend_from_slice(front_of(alloc, latch)?.as_bytes())?;
     let Picture::On(shown) = &latch.picture else {
@@ -105,12 +105,12 @@ fn push_if_on<H: Hands>(
     pixmap: bool,
 ) -> Result<Screen, NoMemory>
     requires hands { H.can_work hands.now }
-    requires screen { StandsOf (things_of core.now) screen }
+    requires screen { AreKeptFramesOf (things_of core.now) screen }
     requires latch { EachCanBeShown (things_of core.now) latch.now.picture }
     requires after { All (λ l. EachCanBeShown (things_of core.now) l.picture) after.now }
     ensures text { OnOk result (text.new.items
         ≡ text.old.items ++ latches_text (machine core.now) pixmap (latch.now ∷ []) crtc) }
-    ensures screen { IfOk result (StandsOf (things_of core.now)) }
+    ensures screen { IfOk result (AreKeptFramesOf (things_of core.now)) }
 {
     if latch.crtc != crtc {
         return Ok(screen);

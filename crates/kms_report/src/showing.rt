@@ -3,8 +3,8 @@ ghost use Rattle.std.specs.Prelude.{◌≡◌, List, All, IfOk, IfSome, OnOk};
 ghost use Rattle.kms_compose.specs.Images.{AreImagesIn, CanShow};
 ghost use Rattle.kms_model.specs.declared.worlds.Thing.{Thing};
 ghost use Rattle.kms_model.specs.Frames.Shown.{EachCanBeShown};
-ghost use Rattle.kms_report.specs.Images.{Keeps, ShowsKept, things_of};
-ghost use Rattle.kms_screens.specs.Screens.{Has, StandsOf};
+ghost use Rattle.kms_report.specs.Images.{KeepsImages, ShowsKept, things_of};
+ghost use Rattle.kms_screens.specs.Screens.{Has, AreKeptFramesOf};
 
 use crate::images::push_images;
 use kms_compose::Images;
@@ -43,7 +43,7 @@ fn push_next<'a>(
     requires images { AreImagesIn (things_of core.now) images.old }
     ensures images { OnOk result (AreImagesIn (things_of core.now) images.new) }
     ensures shown { OnOk result (IfSome next.entry (λ p. CanShow images.new p.now)) }
-    ensures kept { OnOk result (Keeps images.old images.new) }
+    ensures kept { OnOk result (KeepsImages images.old images.new) }
 {
     match next {
         Some(picture) => push_images(images, core, picture),
@@ -53,7 +53,7 @@ fn push_next<'a>(
 
 /// The images of the framebuffers of what is kept of a CRTC.
 fn kept_images<'a>(alloc: Global, core: &'a Core, screen: &Screen) -> Result<Images<'a>, NoMemory>
-    requires { StandsOf (things_of core.now) screen.now }
+    requires { AreKeptFramesOf (things_of core.now) screen.now }
     ensures images { IfOk result (λ images. AreImagesIn (things_of core.now) images) }
     ensures kept { IfOk result (λ images. ShowsKept images screen.now) }
 {
@@ -74,10 +74,10 @@ pub fn showing<H: Hands>(
     after: &[Latch],
 ) -> Result<Screen, NoMemory>
     requires hands { H.can_work hands.now }
-    requires screen { StandsOf (things_of core.now) screen }
+    requires screen { AreKeptFramesOf (things_of core.now) screen }
     requires latch { EachCanBeShown (things_of core.now) latch.now.picture }
     requires after { All (λ l. EachCanBeShown (things_of core.now) l.picture) after.now }
-    ensures { IfOk result (λ s. StandsOf (things_of core.now) s × Has s latch.now.picture) }
+    ensures { IfOk result (λ s. AreKeptFramesOf (things_of core.now) s × Has s latch.now.picture) }
 {
     let picture = &latch.picture;
     if screen.has(picture) {

@@ -1,4 +1,4 @@
--- The planes and connectors that a request remakes, as masks of states tell them.
+-- The planes and connectors that a request affects, as masks of states tell them.
 use Rattle.std.proofs.Common.{◌≡◌, ◌∙◌, ℕ, zero, suc, ◌+◌, ◌<◌, ◌≤◌, Bool, true, false, List, [], ◌∷◌, ◌++◌, map, Option, Some, None, inl, inr, refl, sym, ap, arith, add-one}
 use Rattle.std.specs.Prelude.{◌&&◌, ◌||◌, ◌==◌, nat_lt, bit_or, slice_get, is_some, if◌then◌else◌}
 use Rattle.std.specs.Int.Bits.{or_zero_r}
@@ -87,9 +87,9 @@ unnamed-unset w r crtc unnamed = items.list_any-none (λ a. object_of a == crtc)
 pub unnamed-unneeded : (t : Topology) (w : World) (r : Request) (crtc : ℕ) → IsRequestAt t w r → names w.values (after w r) r.assigns crtc ≡ false → needs_modeset t w.things w.values (after w r) crtc ≡ false
 unnamed-unneeded t w r crtc at unnamed = untouched-modeset t w r crtc at (or_from (sets r.assigns crtc) _ (unnamed-unset w r crtc unnamed) unnamed)
 
--- what a request remakes of a kind of objects by one CRTC
-abbrev remakes : Topology → World → Request → Kind → ℕ → ℕ → Bool
-remakes t w r k c i = nat_lt c t.crtcs && (needs_modeset t w.things w.values (after w r) (object_id kind.Crtc c) && moves_on w.values (after w r) (object_id kind.Crtc c) (object_id k i))
+-- what a request affects of a kind of objects by one CRTC
+abbrev affects : Topology → World → Request → Kind → ℕ → ℕ → Bool
+affects t w r k c i = nat_lt c t.crtcs && (needs_modeset t w.things w.values (after w r) (object_id kind.Crtc c) && moves_on w.values (after w r) (object_id kind.Crtc c) (object_id k i))
 
 pub named_bit : (t : Topology) (w : World) (r : Request) (c : ℕ) → has_bit (named_set t w.values (after w r) r.assigns) c ≡ (nat_lt c t.crtcs && names w.values (after w r) r.assigns (object_id kind.Crtc c))
 named_bit t w r c = has_bit-mask_below (λ i. names w.values (after w r) r.assigns (object_id kind.Crtc i)) t.crtcs c
@@ -103,7 +103,7 @@ pub record IsPart (t : Topology) (k : Kind) (part : Mask → ℕ) (routed : Crtc
 
 part-of_crtc : (t : Topology) (w : World) (r : Request) (d : Duplicates) (k : Kind) (part : Mask → ℕ) (routed : CrtcState → ℕ) (c : ℕ) → StandAt t w r d → IsPart t k part routed
     → ((i : ℕ) → i < t.crtcs → names w.values (after w r) r.assigns (object_id kind.Crtc i) ≡ true → is_some (duplicate_at d.crtcs i) ≡ true)
-    → part (affected_with (duplicate_in (named_set t w.values (after w r) r.assigns) d.crtcs c)) ≡ mask_below (remakes t w r k c) (count_of t k)
+    → part (affected_with (duplicate_in (named_set t w.values (after w r) r.assigns) d.crtcs c)) ≡ mask_below (affects t w r k c) (count_of t k)
 part-of_crtc t w r d k part routed c stand is there = go (has_bit named c) refl (duplicate_at d.crtcs c) refl
   where
     named : ℕ
@@ -112,10 +112,10 @@ part-of_crtc t w r d k part routed c stand is there = go (has_bit named c) refl 
     crtc : ℕ
     crtc = object_id kind.Crtc c
 
-    empty : ((i : ℕ) → i < count_of t k → remakes t w r k c i ≡ false) → 0 ≡ mask_below (remakes t w r k c) (count_of t k)
+    empty : ((i : ℕ) → i < count_of t k → affects t w r k c i ≡ false) → 0 ≡ mask_below (affects t w r k c) (count_of t k)
     empty out = none_yet (count_of t k) ∙ same_masks _ _ (count_of t k) (λ i h. sym (out i h))
 
-    outside : has_bit (named_set t w.values (after w r) r.assigns) c ≡ false → (i : ℕ) → remakes t w r k c i ≡ false
+    outside : has_bit (named_set t w.values (after w r) r.assigns) c ≡ false → (i : ℕ) → affects t w r k c i ≡ false
     outside out i = elim (cases_lt c t.crtcs) [
       | inl within ↦ (let unnamed : names w.values (after w r) r.assigns (object_id kind.Crtc c) ≡ false = ap (λ b. b && names w.values (after w r) r.assigns (object_id kind.Crtc c)) (sym (lt-ltb c t.crtcs within)) ∙ sym (named_bit t w r c) ∙ out in
           and_right (nat_lt c t.crtcs) _ (and_left (needs_modeset t w.things w.values (after w r) (object_id kind.Crtc c)) _ (unnamed-unneeded t w r (object_id kind.Crtc c) stand.at unnamed)))
@@ -123,7 +123,7 @@ part-of_crtc t w r d k part routed c stand is there = go (has_bit named c) refl 
     ]
 
     inside : (s : Both CrtcState) → c < t.crtcs → s.old ≡ crtc_state_at t w.things w.values (object_id kind.Crtc c) → s.new ≡ crtc_state_at t w.things (after w r) (object_id kind.Crtc c)
-        → (needs : Bool) → needs_modeset_between s ≡ needs → part (if needs then record { crtcs = 0; planes = bit_or s.old.planes s.new.planes; conns = bit_or s.old.conns s.new.conns } else no_objects) ≡ mask_below (remakes t w r k c) (count_of t k)
+        → (needs : Bool) → needs_modeset_between s ≡ needs → part (if needs then record { crtcs = 0; planes = bit_or s.old.planes s.new.planes; conns = bit_or s.old.conns s.new.conns } else no_objects) ≡ mask_below (affects t w r k c) (count_of t k)
     inside s within old new false unneeded = is.none ∙ empty (λ i h. and_right (nat_lt c t.crtcs) _ (and_left (needs_modeset t w.things w.values (after w r) (object_id kind.Crtc c)) _ (sym (needs_modeset-states t w r c s stand.at within old new) ∙ unneeded)))
     inside s within old new true needed =
         let need : needs_modeset t w.things w.values (after w r) (object_id kind.Crtc c) ≡ true = sym (needs_modeset-states t w r c s stand.at within old new) ∙ needed in
@@ -133,14 +133,14 @@ part-of_crtc t w r d k part routed c stand is there = go (has_bit named c) refl 
         ∙ or_masks (λ i. crtc_at w.values (object_id k i) == object_id kind.Crtc c) (λ i. crtc_at (after w r) (object_id k i) == object_id kind.Crtc c) (count_of t k)
         ∙ same_masks _ _ (count_of t k) (λ i h. sym (rw (lt-ltb c t.crtcs within, need) refl))
 
-    go : (b : Bool) → has_bit (named_set t w.values (after w r) r.assigns) c ≡ b → (o : Option (Both CrtcState)) → duplicate_at d.crtcs c ≡ o → part (affected_with (if b then o else None)) ≡ mask_below (remakes t w r k c) (count_of t k)
+    go : (b : Bool) → has_bit (named_set t w.values (after w r) r.assigns) c ≡ b → (o : Option (Both CrtcState)) → duplicate_at d.crtcs c ≡ o → part (affected_with (if b then o else None)) ≡ mask_below (affects t w r k c) (count_of t k)
     go false out o at = is.none ∙ empty (λ i h. outside out i)
     go true member o at =
         let both = Rattle.std.proofs.lemmas.Bool.and_parts (nat_lt c t.crtcs) (names w.values (after w r) r.assigns (object_id kind.Crtc c)) (sym (named_bit t w r c) ∙ member) in
         let within : c < t.crtcs = Rattle.std.proofs.lemmas.Bool.ltb-true c t.crtcs both.0 in
         present o at within both.1
       where
-        present : (o : Option (Both CrtcState)) → duplicate_at d.crtcs c ≡ o → c < t.crtcs → names w.values (after w r) r.assigns (object_id kind.Crtc c) ≡ true → part (affected_with o) ≡ mask_below (remakes t w r k c) (count_of t k)
+        present : (o : Option (Both CrtcState)) → duplicate_at d.crtcs c ≡ o → c < t.crtcs → names w.values (after w r) r.assigns (object_id kind.Crtc c) ≡ true → part (affected_with o) ≡ mask_below (affects t w r k c) (count_of t k)
         present None at within named_there = absurd (false≢true (ap is_some (sym at) ∙ there c within named_there))
         present (Some s) at within named_there =
             let here = flatten-some (slice_get d.crtcs c) s at in
@@ -165,10 +165,10 @@ affected-kind : (t : Topology) (w : World) (r : Request) (d : Duplicates) (k : K
     → ((i : ℕ) → i < t.crtcs → names w.values (after w r) r.assigns (object_id kind.Crtc i) ≡ true → is_some (duplicate_at d.crtcs i) ≡ true)
     → part (affected_below d.crtcs (named_set t w.values (after w r) r.assigns) 4) ≡ set_where t k (is_affected t w.things w.values (after w r))
 affected-kind t w r d k part routed stand is there =
-    affected-part part is.none is.both d.crtcs (named_set t w.values (after w r) r.assigns) 4 (count_of t k) (remakes t w r k) (λ c h. part-of_crtc t w r d k part routed c stand is there)
+    affected-part part is.none is.both d.crtcs (named_set t w.values (after w r) r.assigns) 4 (count_of t k) (affects t w r k) (λ c h. part-of_crtc t w r d k part routed c stand is there)
     ∙ same_masks _ _ (count_of t k) (λ i h. any_crtc t (λ crtc. needs_modeset t w.things w.values (after w r) crtc && moves_on w.values (after w r) crtc (object_id k i)) (few_objects t stand.at.device).crtcs)
 
--- What the states of named CRTCs tell is what the request remakes.
+-- What the states of named CRTCs tell is what the request affects.
 pub affected-is : (t : Topology) (w : World) (r : Request) (d : Duplicates) → StandAt t w r d
     → ((i : ℕ) → i < t.crtcs → names w.values (after w r) r.assigns (object_id kind.Crtc i) ≡ true → is_some (duplicate_at d.crtcs i) ≡ true)
     → affected_below d.crtcs (named_set t w.values (after w r) r.assigns) 4 ≡ affected_group t w r

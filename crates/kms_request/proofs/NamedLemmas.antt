@@ -40,7 +40,7 @@ use Rattle.kms_model.proofs.HeldValues.{AreAllHeld, all_held-from}
 use Rattle.kms_model.proofs.CrtcLemmas.{all_in, crtc_after, crtc_after_held, crtc_before_held, routed}
 use Rattle.kms_model.proofs.LastLemmas.{IsIn, from_last, has_last, in_passes, set_by, some_in}
 use Rattle.kms_model.proofs.MaskLemmas.{mask_from}
-use Rattle.kms_request.specs.Naming.{AreCrtcs, Covers, is_routed_duplicated, set_names, new_crtc, next_crtc, number_in, old_crtc, routed_number}
+use Rattle.kms_request.specs.Naming.{AreCrtcs, Covers, is_routed_duplicated, set_names, new_crtc_id, next_crtc, number_in, old_crtc_id, routed_number}
 
 -- The old CRTC
 
@@ -82,7 +82,7 @@ numbers_conn plane conn value d index numbers less duplicated =
 numbers_none : (plane : Both PlaneState → ℕ) (conn : Both ConnState → ℕ) (d : Duplicates) (index : ℕ) → index < 4 → routed_number plane conn d (100 + index) ≡ 0
 numbers_none plane conn d index less = rw (beneath Plane (100 + index) (omega arith), beneath Conn (100 + index) (omega arith)) refl
 
-pub old_none : (d : Duplicates) (index : ℕ) → index < 4 → old_crtc d (100 + index) ≡ 0
+pub old_none : (d : Duplicates) (index : ℕ) → index < 4 → old_crtc_id d (100 + index) ≡ 0
 old_none d index less = numbers_none (λ both. both.old.crtc) (λ both. both.old.crtc) d index less
 
 pub next_none : (d : Duplicates) (index : ℕ) → index < 4 → next_crtc d (100 + index) ≡ 0
@@ -107,7 +107,7 @@ are_numbers of_plane of_conn things values d planes conns = record {
 
 -- an object that is duplicated is on the CRTC that it was on before, and comes to be on the one that it is on after
 pub old_is : (t : Topology) (things : List worlds.Thing) (old : List Setting) (d : Duplicates) (k : Kind) (i : ℕ) → AgreesOld t things old d → is_routed k ≡ true → HasPlace k i → is_routed_duplicated d (object_id k i) ≡ true
-    → old_crtc d (object_id k i) ≡ crtc_at old (object_id k i)
+    → old_crtc_id d (object_id k i) ≡ crtc_at old (object_id k i)
 old_is t things old d k i agrees = numbers_routed (λ both. both.old.crtc) (λ both. both.old.crtc) (crtc_at old) d k i (are_numbers (λ both. both.old) (λ both. both.old) things old d agrees.planes agrees.conns)
 
 pub next_is : (t : Topology) (things : List worlds.Thing) (new : List Setting) (d : Duplicates) (k : Kind) (i : ℕ) → AgreesNew t things new d → is_routed k ≡ true → HasPlace k i → is_routed_duplicated d (object_id k i) ≡ true
@@ -115,7 +115,7 @@ pub next_is : (t : Topology) (things : List worlds.Thing) (new : List Setting) (
 next_is t things new d k i agrees = numbers_routed (λ both. both.new.crtc) (λ both. both.new.crtc) (crtc_at new) d k i (are_numbers (λ both. both.new) (λ both. both.new) things new d agrees.planes agrees.conns)
 
 -- only planes and connectors have an old CRTC
-old_routes : (d : Duplicates) (k : Kind) (i crtc : ℕ) → HasPlace k i → 0 < crtc → old_crtc d (object_id k i) ≡ crtc → is_routed k ≡ true
+old_routes : (d : Duplicates) (k : Kind) (i crtc : ℕ) → HasPlace k i → 0 < crtc → old_crtc_id d (object_id k i) ≡ crtc → is_routed k ≡ true
 old_routes d Crtc i crtc placed some is = absurd (omega (arith, old_none d i placed, is))
 old_routes d Plane i crtc placed some is = refl
 old_routes d Conn i crtc placed some is = refl
@@ -123,7 +123,7 @@ old_routes d Enc i crtc placed some is = absurd placed
 
 -- The new CRTC
 
-no_crtc_set : (f : ℕ → Look) (prop : ℕ) (v : Value) → (prop == CRTC_ID) ≡ false → new_crtc (set_value f prop v) ≡ 0
+no_crtc_set : (f : ℕ → Look) (prop : ℕ) (v : Value) → (prop == CRTC_ID) ≡ false → new_crtc_id (set_value f prop v) ≡ 0
 no_crtc_set f prop v other = elim (cases_Bool (prop == FB_ID)) [
   | inl fb ↦ rw fb refl
   | inr no_fb ↦ elim (cases_Bool (prop == MODE_ID)) [
@@ -138,11 +138,11 @@ no_crtc_set f prop v other = elim (cases_Bool (prop == FB_ID)) [
   ]
 ]
 
-crtc_set : (f : ℕ → Look) (prop : ℕ) (v : Value) → prop ≡ CRTC_ID → new_crtc (set_value f prop v) ≡ crtc_value v
+crtc_set : (f : ℕ → Look) (prop : ℕ) (v : Value) → prop ≡ CRTC_ID → new_crtc_id (set_value f prop v) ≡ crtc_value v
 crtc_set f prop v is = rw is refl
 
 -- a set that puts something on a CRTC is one of CRTC_ID
-sets_crtc : (f : ℕ → Look) (prop crtc : ℕ) (v : Value) → 0 < crtc → new_crtc (set_value f prop v) ≡ crtc → (prop ≡ CRTC_ID) × (crtc_value v ≡ crtc)
+sets_crtc : (f : ℕ → Look) (prop crtc : ℕ) (v : Value) → 0 < crtc → new_crtc_id (set_value f prop v) ≡ crtc → (prop ≡ CRTC_ID) × (crtc_value v ≡ crtc)
 sets_crtc f prop crtc v some is = elim (eqb_tells prop CRTC_ID) [
   | inl same ↦ (same.1, sym (crtc_set f prop v same.1) ∙ is)
   | inr other ↦ absurd (omega (arith, no_crtc_set f prop v other.0, is))
@@ -164,15 +164,15 @@ module _ (t : Topology) (things : List worlds.Thing) (old : List Setting) (f : �
   set_is_named b crtc some member last duplicated named =
       let fits = all_in IsSettable assigns b settable member in
       let may = all_in (IsAllowed t f) assigns b allowed member in
-      elim (or_cases ((object_of b == crtc) || (old_crtc d (object_of b) == crtc)) (new_crtc (set_value f (prop_of b.prop) b.value) == crtc) named) [
-        | inl first ↦ elim (or_cases (object_of b == crtc) (old_crtc d (object_of b) == crtc) first) [
+      elim (or_cases ((object_of b == crtc) || (old_crtc_id d (object_of b) == crtc)) (new_crtc_id (set_value f (prop_of b.prop) b.value) == crtc) named) [
+        | inl first ↦ elim (or_cases (object_of b == crtc) (old_crtc_id d (object_of b) == crtc) first) [
           | inl itself ↦ or_left (object_of b == crtc) _ itself
-          | inr was ↦ (let is : old_crtc d (object_of b) ≡ crtc = eqb-true (old_crtc d (object_of b)) crtc was in
+          | inr was ↦ (let is : old_crtc_id d (object_of b) ≡ crtc = eqb-true (old_crtc_id d (object_of b)) crtc was in
               let routes = old_routes d b.kind b.index crtc fits.place some is in
               let before : crtc_at old (object_of b) ≡ crtc = sym (old_is t things old d b.kind b.index agrees routes fits.place duplicated) ∙ is in
               or_right (object_of b == crtc) _ (and_from (is_routed b.kind) _ routes (or_left (crtc_at old (object_of b) == crtc) _ (eq-eqb (crtc_at old (object_of b)) crtc before))))
         ]
-        | inr goes ↦ (let set = sets_crtc f (prop_of b.prop) crtc b.value some (eqb-true (new_crtc (set_value f (prop_of b.prop) b.value)) crtc goes) in
+        | inr goes ↦ (let set = sets_crtc f (prop_of b.prop) crtc b.value some (eqb-true (new_crtc_id (set_value f (prop_of b.prop) b.value)) crtc goes) in
             let routes = routed t b.kind b.prop may.has set.0 in
             let last_crtc : last_value assigns (object_of b) CRTC_ID ≡ Some b.value = subst (λ p. last_value assigns (object_of b) p ≡ Some b.value) set.0 last in
             let after : crtc_at (apply things old assigns) (object_of b) ≡ crtc = crtc_of_last (object_of b) b.value last_crtc ∙ set.1 in
@@ -203,8 +203,8 @@ module _ (t : Topology) (things : List worlds.Thing) (old : List Setting) (f : �
     by_old a b crtc member same listed routes was =
         let fits = all_in IsSettable assigns a settable member in
         let there : is_routed_duplicated d (object_of a) ≡ true = subst (λ o. is_routed_duplicated d o ≡ true) (sym same) (listed_duplicated b listed) in
-        let is : old_crtc d (object_of b) ≡ crtc = ap (old_crtc d) (sym same) ∙ old_is t things old d a.kind a.index agrees routes fits.place there ∙ was in
-        by_set b crtc listed (or_left ((object_of b == crtc) || (old_crtc d (object_of b) == crtc)) _ (or_right (object_of b == crtc) _ (eq-eqb (old_crtc d (object_of b)) crtc is)))
+        let is : old_crtc_id d (object_of b) ≡ crtc = ap (old_crtc_id d) (sym same) ∙ old_is t things old d a.kind a.index agrees routes fits.place there ∙ was in
+        by_set b crtc listed (or_left ((object_of b == crtc) || (old_crtc_id d (object_of b) == crtc)) _ (or_right (object_of b == crtc) _ (eq-eqb (old_crtc_id d (object_of b)) crtc is)))
 
     -- a plane or a connector that a request puts on a CRTC
     by_new : (object crtc : ℕ) (v : Value) → last_value assigns object CRTC_ID ≡ Some v → crtc_value v ≡ crtc → list_any (λ s. set_names d s crtc) (last_sets f assigns) ≡ true
@@ -216,8 +216,8 @@ module _ (t : Topology) (things : List worlds.Thing) (old : List Setting) (f : �
         let own : last_value assigns object CRTC_ID ≡ Some b.item.value = subst (λ o. last_value assigns o CRTC_ID ≡ Some b.item.value) object_same (subst (λ p. last_value assigns (object_of b.item) p ≡ Some b.item.value) prop_same b.is.last) in
         let both : Some v ≡ Some b.item.value = sym last ∙ own in
         let same : v ≡ b.item.value = cc in
-        let goes : new_crtc (set_value f (prop_of b.item.prop) b.item.value) ≡ crtc = crtc_set f (prop_of b.item.prop) b.item.value prop_same ∙ ap crtc_value (sym same) ∙ is in
-        by_set b.item crtc b.is.listed (or_right ((object_of b.item == crtc) || (old_crtc d (object_of b.item) == crtc)) _ (eq-eqb (new_crtc (set_value f (prop_of b.item.prop) b.item.value)) crtc goes))
+        let goes : new_crtc_id (set_value f (prop_of b.item.prop) b.item.value) ≡ crtc = crtc_set f (prop_of b.item.prop) b.item.value prop_same ∙ ap crtc_value (sym same) ∙ is in
+        by_set b.item crtc b.is.listed (or_right ((object_of b.item == crtc) || (old_crtc_id d (object_of b.item) == crtc)) _ (eq-eqb (new_crtc_id (set_value f (prop_of b.item.prop) b.item.value)) crtc goes))
 
     names_to_sets : (crtc : ℕ) → 0 < crtc → names old (apply things old assigns) assigns crtc ≡ true → list_any (λ s. set_names d s crtc) (last_sets f assigns) ≡ true
     names_to_sets crtc some any =
@@ -225,7 +225,7 @@ module _ (t : Topology) (things : List worlds.Thing) (old : List Setting) (f : �
         let a = found.item in
         let b = has_last f assigns a found.member in
         elim (or_cases (object_of a == crtc) (is_routed a.kind && moves_on old (apply things old assigns) crtc (object_of a)) found.passes) [
-          | inl itself ↦ by_set b.item crtc b.is.listed (or_left ((object_of b.item == crtc) || (old_crtc d (object_of b.item) == crtc)) _ (or_left (object_of b.item == crtc) _ (subst (λ o. (o == crtc) ≡ true) b.same.object itself)))
+          | inl itself ↦ by_set b.item crtc b.is.listed (or_left ((object_of b.item == crtc) || (old_crtc_id d (object_of b.item) == crtc)) _ (or_left (object_of b.item == crtc) _ (subst (λ o. (o == crtc) ≡ true) b.same.object itself)))
           | inr moves ↦ (let parts = and_parts (is_routed a.kind) (moves_on old (apply things old assigns) crtc (object_of a)) moves in
               elim (or_cases (crtc_at old (object_of a) == crtc) (crtc_at (apply things old assigns) (object_of a) == crtc) parts.1) [
                 | inl was ↦ by_old a b.item crtc found.member b.same.object b.is.listed parts.0 (eqb-true (crtc_at old (object_of a)) crtc was)

@@ -39,8 +39,8 @@ use Rattle.kms_model.proofs.MaskLemmas.{has_bit-from, same_masks}
 use Rattle.kms_model.proofs.RequestLemmas.{accepted_allowed, all_settable, has_few}
 use Rattle.kms_model.proofs.SoundKept.{apply-held}
 use Rattle.kms_model.proofs.StateLemmas.{plane_in_range}
-use Rattle.kms_request.specs.Fences.{TellOutFences, has_number}
-use Rattle.kms_request.specs.Naming.{AreCrtcs, is_routed_duplicated, next_crtc, old_crtc}
+use Rattle.kms_request.specs.Fences.{TellOutFences, has_number_at}
+use Rattle.kms_request.specs.Naming.{AreCrtcs, is_routed_duplicated, next_crtc, old_crtc_id}
 use Rattle.kms_request.specs.Whole.{AreAllDuplicated, StandBetween, is_named_between}
 use Rattle.kms_request.proofs.NamedLemmas.{above, crtcs_named, inside, next_is, next_none, old_is, old_none}
 
@@ -82,20 +82,20 @@ or_false false = refl
 -- an assignment names a CRTC by the states where it names it by the values
 module _ (t : Topology) (things : List worlds.Thing) (old new : List Setting) (d : Duplicates) (before : AgreesOld t things old d) (after : AgreesNew t things new d) (all : AreAllDuplicated t d) where
   named_routed : (k : Kind) (i crtc : ℕ) → is_routed k ≡ true → HasPlace k i → i < count_of t k →
-      (((object_id k i == crtc) || (old_crtc d (object_id k i) == crtc)) || (next_crtc d (object_id k i) == crtc)) ≡ ((object_id k i == crtc) || (is_routed k && moves_on old new crtc (object_id k i)))
+      (((object_id k i == crtc) || (old_crtc_id d (object_id k i) == crtc)) || (next_crtc d (object_id k i) == crtc)) ≡ ((object_id k i == crtc) || (is_routed k && moves_on old new crtc (object_id k i)))
   named_routed k i crtc routes placed there =
       let known = duplicated_from t d k i all routes placed there in
       rw (old_is t things old d k i before routes placed known, next_is t things new d k i after routes placed known, routes)
       (or_assoc (object_id k i == crtc) (crtc_at old (object_id k i) == crtc) (crtc_at new (object_id k i) == crtc))
 
   named_itself : (i crtc : ℕ) → HasPlace Crtc i → 0 < crtc →
-      (((object_id Crtc i == crtc) || (old_crtc d (object_id Crtc i) == crtc)) || (next_crtc d (object_id Crtc i) == crtc)) ≡ ((object_id Crtc i == crtc) || false)
+      (((object_id Crtc i == crtc) || (old_crtc_id d (object_id Crtc i) == crtc)) || (next_crtc d (object_id Crtc i) == crtc)) ≡ ((object_id Crtc i == crtc) || false)
   named_itself i crtc placed some =
       let apart : (0 == crtc) ≡ false = ne_eqb 0 crtc (λ e. omega (arith, e)) in
       rw (old_none d i placed, next_none d i placed, apart) (or_false (object_id Crtc i == crtc))
 
   named_same : (k : Kind) (i crtc : ℕ) → HasPlace k i → i < count_of t k → 0 < crtc →
-      (((object_id k i == crtc) || (old_crtc d (object_id k i) == crtc)) || (next_crtc d (object_id k i) == crtc)) ≡ ((object_id k i == crtc) || (is_routed k && moves_on old new crtc (object_id k i)))
+      (((object_id k i == crtc) || (old_crtc_id d (object_id k i) == crtc)) || (next_crtc d (object_id k i) == crtc)) ≡ ((object_id k i == crtc) || (is_routed k && moves_on old new crtc (object_id k i)))
   named_same Crtc i crtc placed there some = named_itself i crtc placed some
   named_same Plane i crtc placed there some = named_routed Plane i crtc refl placed there
   named_same Conn i crtc placed there some = named_routed Conn i crtc refl placed there
@@ -127,8 +127,8 @@ asked_is : (o : Option ℕ) → is_some o ≡ is_asked o
 asked_is None = refl
 asked_is (Some label) = refl
 
-pub fenced_is : (t : Topology) (r : Request) (numbers : List (Option ℕ)) → t.crtcs ≤ 4 → TellOutFences r.assigns numbers → mask_below (has_number numbers) t.crtcs ≡ fenced_set t r
-fenced_is t r numbers few tell = same_masks (has_number numbers) (λ index. is_asked (out_fence_label r.assigns (object_id Crtc index))) t.crtcs
+pub fenced_is : (t : Topology) (r : Request) (numbers : List (Option ℕ)) → t.crtcs ≤ 4 → TellOutFences r.assigns numbers → mask_below (has_number_at numbers) t.crtcs ≡ fenced_set t r
+fenced_is t r numbers few tell = same_masks (has_number_at numbers) (λ index. is_asked (out_fence_label r.assigns (object_id Crtc index))) t.crtcs
     (λ index less. ap (λ (o : Option ℕ). is_some o) (tell index (omega arith)) ∙ asked_is (out_fence_label r.assigns (object_id Crtc index)))
 
 -- the numbers of the planes after the request

@@ -63,5 +63,5 @@ ListsNumbers kind count numbers listed =
     → listed ≡ numbered number (map (object_id kind) (range_with_len 0 count))
 
 -- there is a number at an index
-abbrev pub has_number : List (Option ℕ) → ℕ → Bool
-has_number numbers index = is_some (slice_index_or numbers index None)
+abbrev pub has_number_at : List (Option ℕ) → ℕ → Bool
+has_number_at numbers index = is_some (slice_index_or numbers index None)

@@ -38,26 +38,26 @@ routed_number plane conn d object =
     else 0)
 
 -- the CRTC in the old state of a plane or a connector, 0 without one
-abbrev pub old_crtc : Duplicates → ℕ → ℕ
-old_crtc = routed_number (λ both. both.old.crtc) (λ both. both.old.crtc)
+abbrev pub old_crtc_id : Duplicates → ℕ → ℕ
+old_crtc_id = routed_number (λ both. both.old.crtc) (λ both. both.old.crtc)
 
 -- the CRTC in the new state
 abbrev pub next_crtc : Duplicates → ℕ → ℕ
 next_crtc = routed_number (λ both. both.new.crtc) (λ both. both.new.crtc)
 
 -- the CRTC that a value is, 0 for every other value
-abbrev pub new_crtc : SetValue → ℕ
-new_crtc (to.Crtc id) = id
-new_crtc (to.Num n) = 0
-new_crtc (to.Fb fb) = 0
-new_crtc (to.Mode mode) = 0
-new_crtc (to.Gamma gamma) = 0
-new_crtc to.Fence = 0
+abbrev pub new_crtc_id : SetValue → ℕ
+new_crtc_id (to.Crtc id) = id
+new_crtc_id (to.Num n) = 0
+new_crtc_id (to.Fb fb) = 0
+new_crtc_id (to.Mode mode) = 0
+new_crtc_id (to.Gamma gamma) = 0
+new_crtc_id to.Fence = 0
 
 -- A set names a CRTC: it sets it, or a plane or a connector that was on it, or it puts one on it.
 abbrev pub set_names : Duplicates → Set → ℕ → Bool
 set_names d s crtc =
-    ((s.object.0 == crtc) || (old_crtc d s.object.0 == crtc)) || (new_crtc s.value == crtc)
+    ((s.object.0 == crtc) || (old_crtc_id d s.object.0 == crtc)) || (new_crtc_id s.value == crtc)
 
 -- a plane or a connector is duplicated (of other objects nothing is asked)
 abbrev pub is_routed_duplicated : Duplicates → ℕ → Bool

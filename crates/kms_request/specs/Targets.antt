@@ -9,15 +9,15 @@ use Rattle.kms_model.specs.Request.Resolves.{IsSettable}
 use Rattle.kms_model.specs.Request.Sets.{has_target_of}
 
 -- the place of an object among 4 CRTCs, 16 planes and 8 connectors
-abbrev pub place_of : Kind → ℕ → ℕ
-place_of Crtc index = index
-place_of Plane index = 4 + index
-place_of Conn index = 20 + index
-place_of Enc index = 28 + index
+abbrev pub target_place : Kind → ℕ → ℕ
+target_place Crtc index = index
+target_place Plane index = 4 + index
+target_place Conn index = 20 + index
+target_place Enc index = 28 + index
 
 -- the place of a property of an object: each object has room for the ids up to 19
 abbrev pub target_of : Assign → ℕ
-target_of a = place_of a.kind a.index * 20 + prop_of a.prop
+target_of a = target_place a.kind a.index * 20 + prop_of a.prop
 
 -- for each property of an object, whether one of the assignments sets it
 abbrev pub TellTargets : List Assign → List Bool → Type 0

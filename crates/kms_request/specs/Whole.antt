@@ -20,11 +20,11 @@ use Rattle.kms_model.specs.Request.Resolves.{IsSettable}
 use Rattle.kms_model.specs.Request.Touched.{touched_by}
 use Rattle.kms_model.specs.Request.Refusals.{early_refusal, own_refusal}
 use Rattle.kms_model.specs.Device.Sound.{IsDevice, IsSound}
-use Rattle.kms_request.specs.Naming.{next_crtc, old_crtc}
+use Rattle.kms_request.specs.Naming.{next_crtc, old_crtc_id}
 
 -- An assignment names a CRTC: it sets it, or a plane or a connector that is on it in its old or its new state.
 abbrev pub is_named_between : Duplicates → Assign → ℕ → Bool
-is_named_between d a crtc = ((object_of a == crtc) || (old_crtc d (object_of a) == crtc)) || (next_crtc d (object_of a) == crtc)
+is_named_between d a crtc = ((object_of a == crtc) || (old_crtc_id d (object_of a) == crtc)) || (next_crtc d (object_of a) == crtc)
 
 -- every object of a device is duplicated
 pub record AreAllDuplicated (t : Topology) (d : Duplicates) : Type 0 where

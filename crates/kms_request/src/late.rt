@@ -11,7 +11,7 @@ ghost use Rattle.kms_model.specs.Device.Objects.{count_of};
 ghost use Rattle.kms_model.specs.Device.Sound.{IsPlaneInRange};
 ghost use Rattle.kms_props.specs.Flags.{bits_of};
 ghost use Rattle.kms_request.specs.Answers.{refusal_number};
-ghost use Rattle.kms_request.specs.Order.{IsLookedAtInRange, conn_in, count_at, crtc_in, plane_in, refusal_at, some_needs_modeset};
+ghost use Rattle.kms_request.specs.Order.{IsLookedAtInRange, conn_in_set, count_of_step, crtc_in_set, plane_in_set, refusal_at, some_needs_modeset};
 ghost use Rattle.kms_model.specs.declared.replies.TheConstants.Refusal.{MODESET_NOT_ALLOWED};
 
 use crate::duplicated::{duplicate_at, duplicate_in, is_in};
@@ -32,7 +32,7 @@ pub struct Asked {
 
 /// A step of the order in which refusals are tried; within a step, objects are looked at in order of their indices.
 #[derive(Clone, Copy)]
-enum Step {
+enum OrderStep {
     /// 10 to 15, of each plane.
     Planes,
     /// 16 and 17, of each CRTC.
@@ -69,9 +69,9 @@ fn check_plane(
     objects: &Mask,
     index: usize,
 ) -> Option<Refusal>
-    requires { IfSome (plane_in states.now objects.now index) (λ both. IsPlaneInRange both.new) }
+    requires { IfSome (plane_in_set states.now objects.now index) (λ both. IsPlaneInRange both.new) }
     ensures { refusal_number result ≡ option_and_then (plane_refusal_of topology.now index)
-        (plane_in states.now objects.now index) }
+        (plane_in_set states.now objects.now index) }
 {
     let both = duplicate_in(objects.planes, &states.planes, index)?;
     let info = topology.planes.as_slice().get(index)?;
@@ -82,7 +82,7 @@ fn check_plane(
 fn check_crtc(states: &Duplicates, objects: &Mask, asked: Asked, index: usize) -> Option<Refusal>
     ensures { refusal_number result
         ≡ option_and_then (crtc_refusal_of (bits_of asked.flags) asked.named asked.fenced index)
-        (crtc_in states.now objects.now index) }
+        (crtc_in_set states.now objects.now index) }
 {
     let both = duplicate_in(objects.crtcs, &states.crtcs, index)?;
     let signals = asked.flags.contains(AtomicFlags::PAGE_FLIP_EVENT) || is_in(asked.fenced, index);
@@ -98,7 +98,7 @@ fn check_conn(
     index: usize,
 ) -> Option<Refusal>
     ensures { refusal_number result ≡ option_and_then (conn_refusal_of topology.now index)
-        (conn_in states.now objects.now index) }
+        (conn_in_set states.now objects.now index) }
 {
     let both = duplicate_in(objects.conns, &states.conns, index)?;
     let possible = topology.conns.as_slice().get(index)?;
@@ -113,7 +113,7 @@ fn check_clones(
     index: usize,
 ) -> Option<Refusal>
     ensures { refusal_number result ≡ option_and_then (λ both. clone_refusal_of topology.now both)
-        (crtc_in states.now objects.now index) }
+        (crtc_in_set states.now objects.now index) }
 {
     let both = duplicate_in(objects.crtcs, &states.crtcs, index)?;
     if members(both.new.conns, topology.conns.len()) > 1 {
@@ -126,7 +126,7 @@ fn check_clones(
 /// 20, where a CRTC of a set has a mode and no connector, or a connector and no mode.
 fn check_route(states: &Duplicates, objects: &Mask, index: usize) -> Option<Refusal>
     ensures { refusal_number result ≡ option_and_then (λ both. route_refusal_of both)
-        (crtc_in states.now objects.now index) }
+        (crtc_in_set states.now objects.now index) }
 {
     let both = duplicate_in(objects.crtcs, &states.crtcs, index)?;
     if both.new.mode.is_some() != (both.new.conns != 0) {
@@ -138,10 +138,10 @@ fn check_route(states: &Duplicates, objects: &Mask, index: usize) -> Option<Refu
 
 /// What is wrong with a plane of a set on its CRTC, from 21 to 23.
 fn check_shown(profile: u32, states: &Duplicates, objects: &Mask, index: usize) -> Option<Refusal>
-    requires { IfSome (plane_in states.now objects.now index) (λ both. IsPlaneInRange both.new) }
+    requires { IfSome (plane_in_set states.now objects.now index) (λ both. IsPlaneInRange both.new) }
     ensures { refusal_number result
         ≡ option_and_then (λ both. shown_refusal_of profile states.now.crtcs both)
-        (plane_in states.now objects.now index) }
+        (plane_in_set states.now objects.now index) }
 {
     let both = duplicate_in(objects.planes, &states.planes, index)?;
     shown_refusal(profile, new_mode(states, both.new.crtc), &both.new)
@@ -153,31 +153,31 @@ fn refusal_at(
     states: &Duplicates,
     objects: &Mask,
     asked: Asked,
-    step: Step,
+    step: OrderStep,
     index: usize,
 ) -> Option<Refusal>
-    requires { IsLookedAtInRange step (plane_in states.now objects.now index) }
+    requires { IsLookedAtInRange step (plane_in_set states.now objects.now index) }
     ensures { refusal_number result
         ≡ refusal_at topology.now states.now objects.now asked step index }
 {
     match step {
-        Step::Planes => check_plane(topology, states, objects, index),
-        Step::Crtcs => check_crtc(states, objects, asked, index),
-        Step::Conns => check_conn(topology, states, objects, index),
-        Step::Clones => check_clones(topology, states, objects, index),
-        Step::Routes => check_route(states, objects, index),
-        Step::Shown => check_shown(topology.profile, states, objects, index),
+        OrderStep::Planes => check_plane(topology, states, objects, index),
+        OrderStep::Crtcs => check_crtc(states, objects, asked, index),
+        OrderStep::Conns => check_conn(topology, states, objects, index),
+        OrderStep::Clones => check_clones(topology, states, objects, index),
+        OrderStep::Routes => check_route(states, objects, index),
+        OrderStep::Shown => check_shown(topology.profile, states, objects, index),
     }
 }
 
 /// How many objects a step looks at.
-fn count_at(topology: &Topology, step: Step) -> usize
-    ensures { result ≡ count_at topology.now step }
+fn count_of_step(topology: &Topology, step: OrderStep) -> usize
+    ensures { result ≡ count_of_step topology.now step }
 {
     match step {
-        Step::Planes | Step::Shown => topology.planes.len(),
-        Step::Crtcs | Step::Clones | Step::Routes => topology.crtcs as usize,
-        Step::Conns => topology.conns.len(),
+        OrderStep::Planes | OrderStep::Shown => topology.planes.len(),
+        OrderStep::Crtcs | OrderStep::Clones | OrderStep::Routes => topology.crtcs as usize,
+        OrderStep::Conns => topology.conns.len(),
     }
 }
 
@@ -187,14 +187,14 @@ fn first_of(
     states: &Duplicates,
     objects: &Mask,
     asked: Asked,
-    step: Step,
+    step: OrderStep,
 ) -> Option<Refusal>
     requires { ArePlanesInRange topology.now states.now objects.now.planes }
     ensures { refusal_number result
         ≡ first_some (refusal_at topology.now states.now objects.now asked step)
-        (range_with_len 0 (count_at topology.now step)) }
+        (range_with_len 0 (count_of_step topology.now step)) }
 {
-    for index in 0..count_at(topology, step) {
+    for index in 0..count_of_step(topology, step) {
         if let Some(refusal) = refusal_at(topology, states, objects, asked, step, index) {
             return Some(refusal);
         }
@@ -230,12 +230,12 @@ pub fn late_refusal(
     if asked.flags.contains(AtomicFlags::PAGE_FLIP_EVENT) && asked.named == 0 {
         return Some(Refusal::EVENT_WITHOUT_CRTC);
     }
-    first_of(topology, states, objects, asked, Step::Planes)
-        .or_else(|| first_of(topology, states, objects, asked, Step::Crtcs))
-        .or_else(|| first_of(topology, states, objects, asked, Step::Conns))
-        .or_else(|| first_of(topology, states, objects, asked, Step::Clones))
-        .or_else(|| first_of(topology, states, objects, asked, Step::Routes))
-        .or_else(|| first_of(topology, states, objects, asked, Step::Shown))
+    first_of(topology, states, objects, asked, OrderStep::Planes)
+        .or_else(|| first_of(topology, states, objects, asked, OrderStep::Crtcs))
+        .or_else(|| first_of(topology, states, objects, asked, OrderStep::Conns))
+        .or_else(|| first_of(topology, states, objects, asked, OrderStep::Clones))
+        .or_else(|| first_of(topology, states, objects, asked, OrderStep::Routes))
+        .or_else(|| first_of(topology, states, objects, asked, OrderStep::Shown))
         .or_else(|| modeset_refusal(topology, states, objects, asked.flags))
 }
 

@@ -6,7 +6,7 @@ ghost use Rattle.kms_model.specs.declared.scripts.Request.{Request};
 ghost use Rattle.kms_model.specs.declared.worlds.Look.{Look};
 ghost use Rattle.kms_model.specs.declared.worlds.World.{World};
 ghost use Rattle.kms_model.specs.Request.Touched.{named_by};
-ghost use Rattle.kms_request.specs.Naming.{AreCrtcs, Covers, set_names, new_crtc, next_crtc, old_crtc};
+ghost use Rattle.kms_request.specs.Naming.{AreCrtcs, Covers, set_names, new_crtc_id, next_crtc, old_crtc_id};
 
 use crate::duplicated::duplicate_at;
 use crate::groups::only_of;
@@ -22,7 +22,7 @@ pub fn only_crtc(id: u32) -> u32
 /// The ids of the CRTCs of a plane or a connector, given by its id, in its old and in its new state; each is 0 without
 /// one.
 pub fn crtcs_of(states: &Duplicates, object: u32) -> (u32, u32)
-    ensures old { result.0 ≡ old_crtc states.now object }
+    ensures old { result.0 ≡ old_crtc_id states.now object }
     ensures new { result.1 ≡ next_crtc states.now object }
 {
     let id = ObjId(object);
@@ -43,8 +43,8 @@ pub fn crtcs_of(states: &Duplicates, object: u32) -> (u32, u32)
 }
 
 /// The id of the CRTC that a plane or a connector is put on, or 0.
-fn new_crtc(value: SetValue) -> u32
-    ensures { result ≡ new_crtc value }
+fn new_crtc_id(value: SetValue) -> u32
+    ensures { result ≡ new_crtc_id value }
 {
     match value {
         SetValue::Crtc(id) => id,
@@ -58,7 +58,7 @@ fn named_by(states: &Duplicates, set: &Set) -> u32
 {
     let object = set.object.0;
     let (old, _) = crtcs_of(states, object);
-    only_crtc(object) | only_crtc(old) | only_crtc(new_crtc(set.value))
+    only_crtc(object) | only_crtc(old) | only_crtc(new_crtc_id(set.value))
 }
 
 /// The CRTCs that some sets name.

@@ -4,7 +4,7 @@ ghost use Rattle.std.specs.List.{list_any};
 ghost use Rattle.kms_model.specs.declared.scripts.Assign.{Assign};
 ghost use Rattle.kms_model.specs.Request.Resolves.{HasPlace, IsSettable};
 ghost use Rattle.kms_model.specs.Request.Sets.{has_target_of};
-ghost use Rattle.kms_request.specs.Targets.{place_of, target_of, TellTargets};
+ghost use Rattle.kms_request.specs.Targets.{target_place, target_of, TellTargets};
 
 use crate::sets::prop_of;
 use kms_model::{Assign, Kind, MAX_CRTCS, MAX_PLANES};
@@ -23,9 +23,9 @@ pub fn no_marks() -> Marks
 }
 
 /// The place of an object among all that can be set.
-fn place_of(kind: Kind, index: u32) -> usize
+fn target_place(kind: Kind, index: u32) -> usize
     requires { HasPlace kind index }
-    ensures place { result ≡ place_of kind index }
+    ensures place { result ≡ target_place kind index }
     ensures within { result < 28 }
 {
     let index = index as usize;
@@ -43,7 +43,7 @@ fn target_of(a: &Assign) -> usize
     ensures place { result ≡ target_of a.now }
     ensures within { result < ROOM }
 {
-    place_of(a.kind, a.index) * 20 + prop_of(a.prop) as usize
+    target_place(a.kind, a.index) * 20 + prop_of(a.prop) as usize
 }
 
 /// Marks what an assignment sets, and tells whether it was not marked before.

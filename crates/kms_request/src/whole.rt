@@ -10,7 +10,7 @@ ghost use Rattle.kms_model.specs.Request.Resolves.{IsSettable};
 ghost use Rattle.kms_request.specs.Answers.{refusal_number};
 ghost use Rattle.kms_request.specs.Naming.{AreCrtcs};
 ghost use Rattle.kms_request.specs.Whole.{IsSettableIf, StandBetween, StandSomewhere, is_named_between};
-ghost use Rattle.kms_request.specs.Fences.{has_number};
+ghost use Rattle.kms_request.specs.Fences.{has_number_at};
 
 use crate::fences::{Numbers, out_fence_numbers};
 use crate::late::{Asked, late_refusal};
@@ -84,7 +84,7 @@ pub fn named_in(states: &Duplicates, request: &Request) -> u32
 /// The first indices that have a number, as a set.
 fn with_number(numbers: &Numbers, count: usize) -> u32
     requires { count ≤ 16 }
-    ensures { result ≡ mask_below (has_number numbers.now) count }
+    ensures { result ≡ mask_below (has_number_at numbers.now) count }
 {
     let mut mask = 0;
     for index in 0..count {

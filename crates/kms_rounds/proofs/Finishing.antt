@@ -11,7 +11,7 @@ use Rattle.kms_model.specs.Order.Turns.{Progress, does}
 use Rattle.kms_model.specs.Script.WellFormed.{IsWellFormed}
 use Rattle.kms_laws.specs.Ends.{RoundsEnd}
 use Rattle.kms_stores.specs.Run.{Run, gains, machine}
-use Rattle.kms_rounds.specs.Rounds.{GoesOn, progress}
+use Rattle.kms_rounds.specs.Rounds.{ExtendsRun, progress}
 use Rattle.kms_rounds.proofs.Histories.{goes_then, progress_step, stays}
 
 pub ended : (old new : Run) → legal old.script (machine old) Stall ≡ true → new ≡ gains old (Stall ∷ []) → progress new ≡ ends old.script (progress old)
@@ -36,7 +36,7 @@ most_rounds = 9007199254740991
 
 -- with some number of rounds more, all that a history may still have are done
 pub record IsFinishing (old now : Run) : Type 0 where
-  pub on : GoesOn old now
+  pub on : ExtendsRun old now
   pub left : ℕ
   pub same : rounds now.script left (progress now) ≡ rounds old.script most_rounds (progress old)
 
@@ -47,7 +47,7 @@ module _ (old : Run) (formed : IsWellFormed old.script) (is : is_history old.scr
   all_still : is_still old.script (rounds old.script most_rounds (progress old)) ≡ true
   all_still = law old.script old.steps formed is most_rounds (omega arith)
 
-  pub finishing_next : (now new : Run) → IsFinishing old now → is_still now.script (progress now) ≡ false → GoesOn now new → progress new ≡ round now.script (progress now) → IsFinishing old new
+  pub finishing_next : (now new : Run) → IsFinishing old now → is_still now.script (progress now) ≡ false → ExtendsRun now new → progress new ≡ round now.script (progress now) → IsFinishing old new
   finishing_next now new finishing moving on rounded = by_left finishing.left refl
     where
       by_left : (left : ℕ) → finishing.left ≡ left → IsFinishing old new

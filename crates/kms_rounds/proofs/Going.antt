@@ -11,7 +11,7 @@ use Rattle.kms_laws.proofs.Modes.{plain-from}
 use Rattle.kms_laws.proofs.NeverStuck.{history_along}
 use Rattle.kms_laws.proofs.Turning.{client-legal}
 use Rattle.kms_stores.specs.Run.{Run, gains, machine}
-use Rattle.kms_rounds.specs.Rounds.{GoesOn, progress}
+use Rattle.kms_rounds.specs.Rounds.{ExtendsRun, progress}
 use Rattle.kms_rounds.proofs.Histories.{goes_by, run_does, stays}
 
 -- the step that a client does next is legal
@@ -38,7 +38,7 @@ gone old client = client_goes old.script (most_of_turn old.script.topology) clie
 
 -- with at most so many steps more, the client has done all of its steps
 pub record IsGoing (old now : Run) (client left : ℕ) : Type 0 where
-  pub on : GoesOn old now
+  pub on : ExtendsRun old now
   pub same : client_goes now.script left client (progress now) ≡ gone old client
 
 pub going_first : (old : Run) (client most : ℕ) → most ≡ most_of_turn old.script.topology → IsGoing old old client most

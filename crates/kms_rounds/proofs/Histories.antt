@@ -9,7 +9,7 @@ use Rattle.kms_model.specs.Machine.State.{Machine, first_machine}
 use Rattle.kms_model.specs.Order.Rounds.{run_of}
 use Rattle.kms_model.specs.Order.Turns.{does}
 use Rattle.kms_stores.specs.Run.{Run, gains}
-use Rattle.kms_rounds.specs.Rounds.{GoesOn, progress}
+use Rattle.kms_rounds.specs.Rounds.{ExtendsRun, progress}
 
 pub run_more : (s : Script) (m : Machine) (h : List Step) (step : Step) → run_steps s m (h ++ step ∷ []) ≡ next s (run_steps s m h) step
 unfolding run_steps
@@ -23,17 +23,17 @@ run_does s h step = λ i. record { steps = reverse-append h (step ∷ []) i; mac
 pub progress_length : (r : Run) → length (progress r).steps ≡ length r.steps
 progress_length r = length-reverse r.steps
 
-pub stays : (r : Run) → GoesOn r r
+pub stays : (r : Run) → ExtendsRun r r
 stays r = record { script = refl; more = []; steps = sym (append-nil r.steps) }
 
-pub goes_by : (old now new : Run) (more : List Step) → GoesOn old now → new ≡ gains now more → GoesOn old new
+pub goes_by : (old now new : Run) (more : List Step) → ExtendsRun old now → new ≡ gains now more → ExtendsRun old new
 goes_by old now new more on e = record {
   script = ap (λ (r : Run). r.script) e ∙ on.script;
   more = on.more ++ more;
   steps = ap (λ (r : Run). r.steps) e ∙ ap (λ z. z ++ more) on.steps ∙ append_assoc old.steps on.more more;
 }
 
-pub goes_then : (old now new : Run) → GoesOn old now → GoesOn now new → GoesOn old new
+pub goes_then : (old now new : Run) → ExtendsRun old now → ExtendsRun now new → ExtendsRun old new
 goes_then old now new on further = record {
   script = further.script ∙ on.script;
   more = on.more ++ further.more;
@@ -41,7 +41,7 @@ goes_then old now new on further = record {
 }
 
 -- clients are as many as before
-pub same_clients : (old now : Run) → GoesOn old now → length now.script.clients ≡ length old.script.clients
+pub same_clients : (old now : Run) → ExtendsRun old now → length now.script.clients ≡ length old.script.clients
 same_clients old now on = ap (λ (s : Script). length s.clients) on.script
 
 -- what a core's run comes to by a step

@@ -20,20 +20,20 @@ use Rattle.kms_laws.proofs.RoundsEnd.{few-moves}
 use Rattle.kms_laws.proofs.Turning.{IsRun, Later, later-length, later-run, later-still, round-later, run-does}
 use Rattle.kms_laws.proofs.Turning.Later.{More, Same}
 use Rattle.kms_stores.specs.Run.{Run}
-use Rattle.kms_rounds.specs.Rounds.{GoesOn, moves_left, progress}
+use Rattle.kms_rounds.specs.Rounds.{ExtendsRun, moves_left, progress}
 use Rattle.kms_rounds.proofs.Histories.{goes_then, progress_length, stays}
 
 -- Turns
 
 -- the turns of so many clients behind a place are left
 pub record IsTurning (old now : Run) (place left : ℕ) : Type 0 where
-  pub on : GoesOn old now
+  pub on : ExtendsRun old now
   pub same : fold (turn now.script) (progress now) (range_with_len (place + 1) left) ≡ fold (turn old.script) (progress old) (client_numbers old.script)
 
 pub turning_first : (old : Run) (count : ℕ) → count ≡ length old.script.clients → IsTurning old old 0 count
 turning_first old count is = record { on = stays old; same = ap (λ n. fold (turn old.script) (progress old) (range_with_len 1 n)) is }
 
-pub turning_next : (old now new : Run) (place left left' : ℕ) → left ≡ suc left' → IsTurning old now place left → GoesOn now new → progress new ≡ turn now.script (progress now) (place + 1) → IsTurning old new (place + 1) left'
+pub turning_next : (old now new : Run) (place left left' : ℕ) → left ≡ suc left' → IsTurning old now place left → ExtendsRun now new → progress new ≡ turn now.script (progress now) (place + 1) → IsTurning old new (place + 1) left'
 turning_next old now new place left left' fewer turning on turned = record {
   on = goes_then old now new turning.on on;
   same =

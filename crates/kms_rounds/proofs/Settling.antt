@@ -28,7 +28,7 @@ use Rattle.kms_laws.proofs.Steps.{Holds, history_kept}
 use Rattle.kms_laws.proofs.Swapped.{flush_within}
 use Rattle.kms_laws.proofs.Turning.{tail-legal}
 use Rattle.kms_stores.specs.Run.{Run, gains, machine}
-use Rattle.kms_rounds.specs.Rounds.{GoesOn, progress}
+use Rattle.kms_rounds.specs.Rounds.{ExtendsRun, progress}
 use Rattle.kms_rounds.proofs.Histories.{goes_by, run_does, run_more, stays}
 
 -- Whose tail a step is of
@@ -122,7 +122,7 @@ tails_some s left run step found = ap (does_then s (λ step done. tails_go s lef
 
 -- with some number of steps more, and it is enough, the tails have settled
 pub record IsSettling (old now : Run) : Type 0 where
-  pub on : GoesOn old now
+  pub on : ExtendsRun old now
   pub left : ℕ
   pub enough : IsWellFormed now.script → is_history now.script now.steps ≡ true → all_left now.script.topology (machine now) ≤ left
   pub same : tails_go now.script left (progress now) ≡ settles old.script (progress old)

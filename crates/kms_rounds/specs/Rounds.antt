@@ -12,7 +12,7 @@ abbrev pub progress : Run → Progress
 progress r = run_of r.script r.steps
 
 -- the script stays, and the history becomes a longer one, or stays
-pub record GoesOn (old new : Run) : Type 0 where
+pub record ExtendsRun (old new : Run) : Type 0 where
   pub script : new.script ≡ old.script
   pub more : List Step
   pub steps : new.steps ≡ old.steps ++ more

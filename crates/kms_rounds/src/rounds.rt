@@ -2,7 +2,7 @@
 ghost use Rattle.std.specs.Prelude.{◌≡◌, ◌<◌, IfOk, OnOk, false, not, true};
 ghost use Rattle.kms_model.specs.Order.Rounds as order;
 ghost use Rattle.kms_laws.specs.Ends.{EndsOver};
-ghost use Rattle.kms_rounds.specs.Rounds.{GoesOn, moves_left, progress};
+ghost use Rattle.kms_rounds.specs.Rounds.{ExtendsRun, moves_left, progress};
 
 use crate::turns::{settle, turn};
 use kms_core::Core;
@@ -16,7 +16,7 @@ use std::alloc::Global;
 /// that starts empty is the one history that one thread makes of the script. The only error is want of memory: the
 /// history has then become a longer one, or stayed. A round costs no more than its steps and its clients.
 pub fn finish(alloc: Global, core: &mut Core) -> Result<(), NoMemory>
-    ensures on { GoesOn core.old core.new }
+    ensures on { ExtendsRun core.old core.new }
     ensures finished { OnOk result
         (order.IsFinished core.old.script core.old.steps core.new.steps) }
     ensures over { OnOk result (EndsOver core.old.script core.old.steps core.new.steps) }
@@ -30,7 +30,7 @@ pub fn finish(alloc: Global, core: &mut Core) -> Result<(), NoMemory>
 
 /// A round. Tells whether it had a step.
 fn round(alloc: Global, core: &mut Core) -> Result<bool, NoMemory>
-    ensures on { GoesOn core.old core.new }
+    ensures on { ExtendsRun core.old core.new }
     ensures round { OnOk result (progress core.new
         ≡ order.round core.old.script (progress core.old)) }
     ensures moved { IfOk result (λ moved. moved
@@ -50,7 +50,7 @@ fn round(alloc: Global, core: &mut Core) -> Result<bool, NoMemory>
 
 /// Ends a history that is dead.
 fn end(core: &mut Core) -> Result<(), NoMemory>
-    ensures on { GoesOn core.old core.new }
+    ensures on { ExtendsRun core.old core.new }
     ensures ended { OnOk result (progress core.new
         ≡ order.ends core.old.script (progress core.old)) }
 {

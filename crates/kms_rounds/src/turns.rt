@@ -4,7 +4,7 @@ ghost use Rattle.std.specs.Prelude.{◌≡◌, ◌≤◌, OnOk, length};
 ghost use Rattle.kms_model.specs.Machine.Histories as told;
 ghost use Rattle.kms_model.specs.Order.Turns as order;
 ghost use Rattle.kms_stores.specs.Run.{machine};
-ghost use Rattle.kms_rounds.specs.Rounds.{GoesOn, progress};
+ghost use Rattle.kms_rounds.specs.Rounds.{ExtendsRun, progress};
 
 use kms_core::Core;
 use kms_model::{Doing, NoMemory, Step};
@@ -14,7 +14,7 @@ use std::alloc::Global;
 pub(crate) fn turn(alloc: Global, core: &mut Core, client: u32) -> Result<(), NoMemory>
     requires low { 1 ≤ client }
     requires high { client ≤ length core.old.script.clients }
-    ensures on { GoesOn core.old core.new }
+    ensures on { ExtendsRun core.old core.new }
     ensures turn { OnOk result (progress core.new
         ≡ order.turn core.old.script (progress core.old) client) }
 {
@@ -29,7 +29,7 @@ pub(crate) fn turn(alloc: Global, core: &mut Core, client: u32) -> Result<(), No
 /// The tails of commits settle: their steps are done, the least commit first, as long as one has any or a CRTC goes. They
 /// take no memory: the machine has it for them since the commits were made.
 pub(crate) fn settle(alloc: Global, core: &mut Core)
-    ensures on { GoesOn core.old core.new }
+    ensures on { ExtendsRun core.old core.new }
     ensures settled { progress core.new ≡ order.settles core.old.script (progress core.old) }
 {
     'settling: while let Some(step) = core.tail_step() {
@@ -53,7 +53,7 @@ fn is_at_end(core: &Core, client: u32) -> bool
 fn go(alloc: Global, core: &mut Core, client: u32) -> Result<(), NoMemory>
     requires low { 1 ≤ client }
     requires high { client ≤ length core.old.script.clients }
-    ensures on { GoesOn core.old core.new }
+    ensures on { ExtendsRun core.old core.new }
     ensures gone { OnOk result (progress core.new ≡ order.client_goes core.old.script
         (order.most_of_turn core.old.script.topology) client (progress core.old)) }
 {
@@ -96,7 +96,7 @@ fn is_answering(step: &Step) -> bool
 
 /// A client goes on after its blocking commit, where that is cleaned.
 fn go_back(alloc: Global, core: &mut Core, client: u32) -> Result<(), NoMemory>
-    ensures on { GoesOn core.old core.new }
+    ensures on { ExtendsRun core.old core.new }
     ensures back { OnOk result (progress core.new
         ≡ order.returns core.old.script client (progress core.old)) }
 {

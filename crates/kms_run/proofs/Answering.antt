@@ -6,11 +6,11 @@ use Rattle.kms_run.specs.declared.answers.NoAnswer.{NoAnswer}
 use Rattle.kms_run.specs.declared.answers.NoAnswer.TheVariants as stops
 use Rattle.kms_run.specs.declared.words.Execution.{Execution}
 use Rattle.kms_run.specs.Answers.{Answers}
-use Rattle.kms_run.specs.Executing.{Tells}
+use Rattle.kms_run.specs.Executing.{TellsReport}
 use Rattle.kms_run.specs.Words.{part_of}
 
 pub answers_told : (asked : Execution) (input : List ℕ) (parts : Parts) (result : Result FullReport NoAnswer) → input_of (part_of asked.action) input ≡ Ok parts
-    → Tells asked parts.script parts.steps result → Answers asked input result
+    → TellsReport asked parts.script parts.steps result → Answers asked input result
 answers_told asked input parts (Ok report) spelled told = record { parts = parts; spelled = spelled; report = told }
 answers_told asked input parts (Err (stops.Fault line why)) spelled told = absurd told
 answers_told asked input parts (Err (stops.Illegal place)) spelled told = record { parts = parts; spelled = spelled; illegal = told }

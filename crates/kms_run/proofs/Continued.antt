@@ -4,13 +4,13 @@ use Rattle.std.specs.Prelude.{IfOk}
 use Rattle.kms_model.specs.declared.copying.NoMemory.{NoMemory}
 use Rattle.kms_model.specs.declared.scripts.Script.{Script}
 use Rattle.kms_stores.specs.Run.{Run}
-use Rattle.kms_device.specs.Turns.{DevicePass, DeviceState}
+use Rattle.kms_device.specs.Turns.{DevicePass, SharedDevice}
 use Rattle.kms_laws.specs.Ends.{IsOver}
 use Rattle.kms_run.specs.Answers.{IsContinued}
 use Rattle.kms_run.specs.Running.{IsFinishedOf, IsRunOf}
 
 -- it is a run of the device's script
-pub run_of : (s : Script) (d : DeviceState) (passes : List DevicePass) (result : Result Run NoMemory)
+pub run_of : (s : Script) (d : SharedDevice) (passes : List DevicePass) (result : Result Run NoMemory)
     → d.script ≡ s → IfOk result (IsFinishedOf d passes) → IfOk result (IsRunOf s)
 run_of s d passes (Ok r) same f = record {
   script = f.script ∙ same;

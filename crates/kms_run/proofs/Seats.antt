@@ -9,13 +9,13 @@ use Rattle.std.proofs.lemmas.List.Folds.{Any-from_list_any, list_any-append}
 use Rattle.std.proofs.lemmas.List.Sorted.{All-permutation, length_permutation, list_any-IsPermutation}
 use Rattle.kms_histlock.specs.Passes.{LockName, new_pass, new_passes}
 use Rattle.kms_model.specs.declared.scripts.Script.{Script}
-use Rattle.kms_device.specs.Turns.{DevicePass, DeviceState}
+use Rattle.kms_device.specs.Turns.{DevicePass, SharedDevice}
 use Rattle.kms_players.specs.AnyPlayers.{pass_of}
-use Rattle.kms_players.specs.Players.{PlayerName, name_of}
-use Rattle.kms_run.specs.Running.{AreAllPasses, IsSeat, client_of, player_of, seats_for, tick_of, worker_of}
+use Rattle.kms_players.specs.Players.{PlayerName, name_of_pass}
+use Rattle.kms_run.specs.Running.{AreAllPasses, IsSeat, client_player, player_of, seats_for, tick_of, worker_of}
 
 -- each of the first passes of a device is one of a player
-pub new_seats : (d : DeviceState) (n : ℕ) → n ≤ seats_for d.script → All (IsSeat d) (new_passes d.lock n)
+pub new_seats : (d : SharedDevice) (n : ℕ) → n ≤ seats_for d.script → All (IsSeat d) (new_passes d.lock n)
 new_seats d zero l = All-nil (IsSeat d)
 new_seats d (suc n) l =
     All-append (IsSeat d) (new_passes d.lock n) (new_pass d.lock (n + 1) ∷ []) (new_seats d n (omega (arith, l)))
@@ -31,12 +31,12 @@ module _ (lock : LockName Script) where
   abbrev is_first : PlayerName → Bool
   is_first name = name.rank == 1
 
-  names_own : (n : ℕ) → All IsOfLock (map name_of (passes n))
+  names_own : (n : ℕ) → All IsOfLock (map name_of_pass (passes n))
   names_own n = mapped (passes n) (own n) where
-    mapped : (ps : List DevicePass) → All (λ p. p.lock ≡ lock) ps → All IsOfLock (map name_of ps)
+    mapped : (ps : List DevicePass) → All (λ p. p.lock ≡ lock) ps → All IsOfLock (map name_of_pass ps)
     mapped [] h = All-nil IsOfLock
     mapped (p ∷ ps) h =
-        All-cons IsOfLock (name_of p) (map name_of ps) (All-head (λ p. p.lock ≡ lock) p ps h) (mapped ps (All-tail (λ p. p.lock ≡ lock) p ps h))
+        All-cons IsOfLock (name_of_pass p) (map name_of_pass ps) (All-head (λ p. p.lock ≡ lock) p ps h) (mapped ps (All-tail (λ p. p.lock ≡ lock) p ps h))
 
     own : (n : ℕ) → All (λ p. p.lock ≡ lock) (passes n)
     own zero = All-nil (λ p. p.lock ≡ lock)
@@ -49,7 +49,7 @@ module _ (lock : LockName Script) where
   count (suc n) = let more = length-append (passes n) (new_pass lock (n + 1) ∷ []) in let before = count n in omega (arith, more, before)
 
   -- a test of names, and of the passes that have them
-  any_named : (ps : List DevicePass) → list_any is_first (map name_of ps) ≡ list_any (λ p. p.rank == 1) ps
+  any_named : (ps : List DevicePass) → list_any is_first (map name_of_pass ps) ≡ list_any (λ p. p.rank == 1) ps
   any_named [] = refl
   any_named (p ∷ ps) = ap (λ b. (p.rank == 1) || b) (any_named ps)
 
@@ -74,18 +74,18 @@ pub all_made : {A B : Type 0} (f : B → A) (done result : List A) (left : List 
 all_made f done result [] size all was none long same = same ∙ (sym (append-nil done) ∙ was)
 all_made f done result (y ∷ left) size all was none long same = absurd (omega (arith, none, long))
 
-module _ (G : Type 0) (d : DeviceState) where
+module _ (G : Type 0) (d : SharedDevice) where
   -- whoever plays with a pass has its name
-  player_name : (p : DevicePass) → name_of (pass_of (player_of {G = G} d p)) ≡ name_of p
+  player_name : (p : DevicePass) → name_of_pass (pass_of (player_of {G = G} d p)) ≡ name_of_pass p
   player_name p = by (nat_le p.rank (length d.script.clients)) (nat_le p.rank (length d.script.clients + 4)) where
-    by : (a b : Bool) → name_of (pass_of (if a then client_of {G = G} d p else (if b then worker_of d p else tick_of d p))) ≡ name_of p
+    by : (a b : Bool) → name_of_pass (pass_of (if a then client_player {G = G} d p else (if b then worker_of d p else tick_of d p))) ≡ name_of_pass p
     by true b = refl
     by false true = refl
     by false false = refl
 
-  pub player_names : (ps : List DevicePass) → map (λ p. name_of (pass_of p)) (map (player_of {G = G} d) ps) ≡ map name_of ps
+  pub player_names : (ps : List DevicePass) → map (λ p. name_of_pass (pass_of p)) (map (player_of {G = G} d) ps) ≡ map name_of_pass ps
   player_names [] = refl
-  player_names (p ∷ ps) = ap (λ n. n ∷ map (λ p. name_of (pass_of p)) (map (player_of {G = G} d) ps)) (player_name p) ∙ ap (λ ns. name_of p ∷ ns) (player_names ps)
+  player_names (p ∷ ps) = ap (λ n. n ∷ map (λ p. name_of_pass (pass_of p)) (map (player_of {G = G} d) ps)) (player_name p) ∙ ap (λ ns. name_of_pass p ∷ ns) (player_names ps)
 
 -- an item that is done, and its like that is left no more, have one name
 done_next : {A B C : Type 0} (f : A → C) (g : B → C) (done : List A) (x : A) (y : B) (rest : List B)
@@ -106,35 +106,35 @@ all_done f g done all [] size names was none long same = ap (map f) same ∙ (sy
 all_done f g done all (y ∷ left) size names was none long same = absurd (omega (arith, none, long))
 
 -- what comes back of the players of all passes
-pub all_back : (d : DeviceState) (n : ℕ) (given back : List DevicePass) (names names' : List PlayerName)
-    → d.seats ≡ n → given ≡ new_passes d.lock n → names ≡ map name_of given → IsPermutation names names' → map name_of back ≡ names' → AreAllPasses d back
+pub all_back : (d : SharedDevice) (n : ℕ) (given back : List DevicePass) (names names' : List PlayerName)
+    → d.seats ≡ n → given ≡ new_passes d.lock n → names ≡ map name_of_pass given → IsPermutation names names' → map name_of_pass back ≡ names' → AreAllPasses d back
 all_back d n given back names names' seats new named moved named' =
-    let all : names ≡ map name_of (new_passes d.lock d.seats) = named ∙ ap (map name_of) (new ∙ ap (passes d.lock) (sym seats)) in
-    subst (λ ns. IsPermutation ns (map name_of back)) all (subst (IsPermutation names) (sym named') moved)
+    let all : names ≡ map name_of_pass (new_passes d.lock d.seats) = named ∙ ap (map name_of_pass) (new ∙ ap (passes d.lock) (sym seats)) in
+    subst (λ ns. IsPermutation ns (map name_of_pass back)) all (subst (IsPermutation names) (sym named') moved)
 
 -- All passes are of the device's lock,
-pub all_own : (d : DeviceState) (back : List DevicePass) → AreAllPasses d back → All (λ p. p.lock ≡ d.lock) back
-all_own d back all = named back (All-permutation (IsOfLock d.lock) (map name_of (new_passes d.lock d.seats)) (map name_of back) all (names_own d.lock d.seats)) where
-  named : (ps : List DevicePass) → All (IsOfLock d.lock) (map name_of ps) → All (λ p. p.lock ≡ d.lock) ps
+pub all_own : (d : SharedDevice) (back : List DevicePass) → AreAllPasses d back → All (λ p. p.lock ≡ d.lock) back
+all_own d back all = named back (All-permutation (IsOfLock d.lock) (map name_of_pass (new_passes d.lock d.seats)) (map name_of_pass back) all (names_own d.lock d.seats)) where
+  named : (ps : List DevicePass) → All (IsOfLock d.lock) (map name_of_pass ps) → All (λ p. p.lock ≡ d.lock) ps
   named [] h = All-nil (λ p. p.lock ≡ d.lock)
   named (p ∷ ps) h =
-      All-cons (λ p. p.lock ≡ d.lock) p ps (All-head (IsOfLock d.lock) (name_of p) (map name_of ps) h)
-      (named ps (All-tail (IsOfLock d.lock) (name_of p) (map name_of ps) h))
+      All-cons (λ p. p.lock ≡ d.lock) p ps (All-head (IsOfLock d.lock) (name_of_pass p) (map name_of_pass ps) h)
+      (named ps (All-tail (IsOfLock d.lock) (name_of_pass p) (map name_of_pass ps) h))
 
 -- they are as many as it has seats,
-pub all_count : (d : DeviceState) (back : List DevicePass) → AreAllPasses d back → length back ≡ d.seats
+pub all_count : (d : SharedDevice) (back : List DevicePass) → AreAllPasses d back → length back ≡ d.seats
 all_count d back all =
-    sym (length-map back name_of) ∙ (length_permutation (map name_of (new_passes d.lock d.seats)) (map name_of back) all
-    ∙ (length-map (new_passes d.lock d.seats) name_of ∙ count d.lock d.seats))
+    sym (length-map back name_of_pass) ∙ (length_permutation (map name_of_pass (new_passes d.lock d.seats)) (map name_of_pass back) all
+    ∙ (length-map (new_passes d.lock d.seats) name_of_pass ∙ count d.lock d.seats))
 
 -- and one has the rank 1.
-pub all_first : (d : DeviceState) (back : List DevicePass) → 1 ≤ d.seats → AreAllPasses d back → Any (λ p. p.rank ≡ 1) back
+pub all_first : (d : SharedDevice) (back : List DevicePass) → 1 ≤ d.seats → AreAllPasses d back → Any (λ p. p.rank ≡ 1) back
 all_first d back some all = of_test (Any-from_list_any (λ p. p.rank == 1) back (there d.seats refl some)) where
   there : (n : ℕ) → d.seats ≡ n → 1 ≤ n → list_any (λ p. p.rank == 1) back ≡ true
   there zero e l = absurd (omega (arith, l))
   there (suc n) e l =
       sym (any_named d.lock back)
-      ∙ (sym (list_any-IsPermutation (is_first d.lock) (map name_of (new_passes d.lock d.seats)) (map name_of back) all)
+      ∙ (sym (list_any-IsPermutation (is_first d.lock) (map name_of_pass (new_passes d.lock d.seats)) (map name_of_pass back) all)
       ∙ (any_named d.lock (passes d.lock d.seats) ∙ (ap (λ k. list_any (λ p. p.rank == 1) (passes d.lock k)) e ∙ has_first d.lock n)))
 
   of_test : Any (λ p. (p.rank == 1) ≡ true) back → Any (λ p. p.rank ≡ 1) back

@@ -43,7 +43,7 @@ pub record IsReportOf (asked : Execution) (s : Script) (schedule : List Step) (e
   pub is_history : is_history s history ≡ true
   pub is_made : IsMade asked.action s schedule history
   pub has_end : HasEnd ended asked.action s history
-  pub text : output ≡ report.text s history (telling.asked asked.options)
+  pub text : output ≡ report.text s history (telling.history_options asked.options)
   pub headline : Headline s history
 
 -- a step of a schedule, counted from 1, is the first that is not legal

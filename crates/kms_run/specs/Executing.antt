@@ -20,9 +20,9 @@ IsStopped action s schedule (stops.Fault line why) = ⊥
 IsStopped action s schedule (stops.Illegal place) = IsIllegalOf action s schedule place
 IsStopped action s schedule stops.NoMemory = ⊤
 
-abbrev pub Tells : Execution → Script → List Step → Result FullReport NoAnswer → Type 0
-Tells asked s schedule (Ok answer) = IsReportOf asked s schedule answer.ended answer.text
-Tells asked s schedule (Err stop) = IsStopped asked.action s schedule stop
+abbrev pub TellsReport : Execution → Script → List Step → Result FullReport NoAnswer → Type 0
+TellsReport asked s schedule (Ok answer) = IsReportOf asked s schedule answer.ended answer.text
+TellsReport asked s schedule (Err stop) = IsStopped asked.action s schedule stop
 
 -- only a schedule may leave a history open
 abbrev pub MayEnd : Action → Run → Type 0

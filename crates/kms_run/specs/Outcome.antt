@@ -10,7 +10,7 @@ use Rattle.kms_rounds.specs.declared.ending.End.{End}
 use Rattle.kms_rounds.specs.declared.ending.End.TheVariants as end
 use Rattle.kms_run.specs.declared.status.Status.{Status}
 use Rattle.kms_run.specs.declared.status.Status.TheVariants as status
-use Rattle.kms_run.specs.declared.words.Asked.TheVariants.{Execute, Generate}
+use Rattle.kms_run.specs.declared.words.Task.TheVariants.{Execute, Generate}
 use Rattle.kms_run.specs.declared.words.Execution.{Execution}
 use Rattle.kms_run.specs.declared.words.Generation.{Generation}
 use Rattle.kms_run.specs.Answers.{IsIllegal, IsReport}

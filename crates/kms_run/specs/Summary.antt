@@ -13,7 +13,7 @@ use Rattle.kms_model.specs.Report.History.{digest_of, end_words, text}
 use Rattle.kms_model.specs.Report.TextLines.{line}
 use Rattle.kms_model.specs.Script.Generated.{generated}
 use Rattle.kms_model.specs.Script.Spelling.{Spells}
-use Rattle.kms_report.specs.Telling.{asked}
+use Rattle.kms_report.specs.Telling.{history_options}
 use Rattle.kms_run.specs.declared.generated.Counts.{Counts}
 use Rattle.kms_run.specs.declared.words.Generation.{Generation}
 use Rattle.kms_run.specs.Words.{no_options}
@@ -47,7 +47,7 @@ six_lines counts digest ended =
 
 -- the SHA-256 (FIPS 180-4) of the report of a history without options, in lower-case hexadecimal
 abbrev pub report_digest : Script → List Step → List ℕ
-report_digest s h = digest_of (text s h (asked no_options))
+report_digest s h = digest_of (text s h (history_options no_options))
 
 -- what a history comes to
 abbrev pub summary : Script → List Step → List ℕ

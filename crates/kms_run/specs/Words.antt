@@ -7,8 +7,8 @@ use Rattle.kms_report.specs.declared.histories.Options.{Options}
 use Rattle.kms_model.specs.Script.Words.{◌>>=◌, dec}
 use Rattle.kms_run.specs.declared.words.Action.{Action}
 use Rattle.kms_run.specs.declared.words.Action.TheVariants.{One, Replay, Run}
-use Rattle.kms_run.specs.declared.words.Asked.{Asked}
-use Rattle.kms_run.specs.declared.words.Asked.TheVariants.{Execute, Generate}
+use Rattle.kms_run.specs.declared.words.Task.{Task}
+use Rattle.kms_run.specs.declared.words.Task.TheVariants.{Execute, Generate}
 use Rattle.kms_run.specs.declared.words.Count.{Count}
 use Rattle.kms_run.specs.declared.words.Count.TheVariants.{Untold, Awaited, Told}
 use Rattle.kms_run.specs.declared.words.Execution.{Execution}
@@ -53,12 +53,12 @@ execution_of word words = do
   Some (record { action = action; options = options })
 
 -- the number from 1 to the most that a word spells
-unfoldable pub number_of : ℕ → List ℕ → Option ℕ
-number_of most word = dec most word >>= (λ n. if n == 0 then None else Some n)
+unfoldable pub number_in_word : ℕ → List ℕ → Option ℕ
+number_in_word most word = dec most word >>= (λ n. if n == 0 then None else Some n)
 
 -- what words behind `run` tell with one more: the number behind `--threads`, or `--threads`, which comes once, or an option
 unfoldable pub with_word_at : Count → Options → List ℕ → Option RunWords
-with_word_at Awaited o word = number_of 16 word >>= (λ n. Some (record { threads = Told n; options = o }))
+with_word_at Awaited o word = number_in_word 16 word >>= (λ n. Some (record { threads = Told n; options = o }))
 with_word_at Untold o word =
     if bytes_eq word (codes "--threads") then Some (record { threads = Awaited; options = o })
     else with_option o word >>= (λ more. Some (record { threads = Untold; options = more }))
@@ -80,10 +80,10 @@ abbrev pub no_words : RunWords
 no_words = record { threads = Untold; options = no_options }
 
 -- whether the script is run: `--run`, or nothing
-abbrev pub run_of : List (List ℕ) → Option Bool
-run_of [] = Some false
-run_of (word ∷ []) = if bytes_eq word (codes "--run") then Some true else None
-run_of (word ∷ more ∷ words) = None
+abbrev pub run_flag : List (List ℕ) → Option Bool
+run_flag [] = Some false
+run_flag (word ∷ []) = if bytes_eq word (codes "--run") then Some true else None
+run_flag (word ∷ more ∷ words) = None
 
 -- what `gen` asks for, by the words behind it: a seed, a number of commits, and whether the script is run
 unfoldable pub generation_of : List (List ℕ) → Option Generation
@@ -91,12 +91,12 @@ generation_of [] = None
 generation_of (word ∷ []) = None
 generation_of (seed_word ∷ commits_word ∷ words) = do
   seed ← dec (2 ^ 64 - 1) seed_word
-  commits ← number_of 4000 commits_word
-  run ← run_of words
+  commits ← number_in_word 4000 commits_word
+  run ← run_flag words
   Some (record { seed = seed; commits = commits; run = run })
 
 -- What the legal words ask for: `gen`, `run`, or `one` and `replay`. All other words are not legal.
-unfoldable pub asked : List (List ℕ) → Option Asked
+unfoldable pub asked : List (List ℕ) → Option Task
 asked [] = None
 asked (word ∷ words) =
     if bytes_eq word (codes "gen") then generation_of words >>= (λ asks. Some (Generate asks))
@@ -104,7 +104,7 @@ asked (word ∷ words) =
     else execution_of word words >>= (λ asks. Some (Execute asks)))
 
 -- what is asked for is a run
-abbrev pub asks_run : Option Asked → Bool
+abbrev pub asks_run : Option Task → Bool
 asks_run (Some (Execute asks)) = needs_threads asks.action
 asks_run (Some (Generate asks)) = false
 asks_run None = false
@@ -132,6 +132,6 @@ IsFewCount (Told n) = AreFewThreads n
 IsFewCount Untold = ⊤
 IsFewCount Awaited = ⊤
 
-abbrev pub AsksForFew : Asked → Type 0
+abbrev pub AsksForFew : Task → Type 0
 AsksForFew (Execute asks) = HasFewThreads asks.action
 AsksForFew (Generate asks) = HasFewCommits asks

@@ -1,7 +1,7 @@
 //! What the program says to an input.
 ghost use Rattle.std.specs.Prelude.{◌≡◌, [], false, IfErr, IfOk, OnOk};
 ghost use Rattle.kms_run.specs.Answers.{Answers, IsMade, IsReportOf};
-ghost use Rattle.kms_run.specs.Executing.{IsStopped, MayEnd, Tells};
+ghost use Rattle.kms_run.specs.Executing.{IsStopped, MayEnd, TellsReport};
 ghost use Rattle.kms_run.specs.Words.{needs_threads};
 
 use crate::words::{Action, Execution};
@@ -125,7 +125,7 @@ fn told<R: Threads + Sync>(
 ) -> Result<FullReport, NoAnswer>
     requires start { core.old.steps ≡ [] }
     requires alone { needs_threads asked.now.action ≡ false }
-    ensures { Tells asked.now core.old.script schedule.now result }
+    ensures { TellsReport asked.now core.old.script schedule.now result }
 {
     execute(alloc, core, asked.action, schedule)?;
     Ok(full_report(rt, alloc, core, asked, schedule)?)

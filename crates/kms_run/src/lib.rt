@@ -12,4 +12,4 @@ mod words;
 
 pub use status::{Status, status_text};
 pub use top::{kms_main, kms_plain};
-pub use words::{Action, Asked, Execution, Generation, is_run, legal_words, read_words};
+pub use words::{Action, Execution, Generation, Task, is_run, legal_words, read_words};

@@ -1,7 +1,7 @@
 //! A run: players in threads execute a script on one device.
 ghost use Rattle.std.specs.Prelude.{◌≡◌, ◌≤◌, IfOk, map, All};
 ghost use Rattle.kms_model.specs.Script.WellFormed.{IsWellFormed};
-ghost use Rattle.kms_players.specs.Players.{name_of};
+ghost use Rattle.kms_players.specs.Players.{name_of_pass};
 ghost use Rattle.kms_run.specs.Answers.{Answers};
 ghost use Rattle.kms_run.specs.Running.{AreAllPasses, IsFinishedOf, IsRunOf, IsSeat, player_of, seats_for};
 ghost use Rattle.kms_run.specs.declared.words.Action.TheVariants as Action;
@@ -78,7 +78,7 @@ fn passes_of<'a, G: Gate>(
     players: Seq<AnyPlayer<'a, G>>,
 ) -> Result<Seq<Pass>, NoMemory>
     ensures { IfOk result (λ passes.
-        map name_of passes ≡ map ⟦<AnyPlayer<'a, G> as Player>⟧.name players.entry) }
+        map name_of_pass passes ≡ map ⟦<AnyPlayer<'a, G> as Player>⟧.name players.entry) }
 {
     let players = players.into_vec();
     let mut passes = Vec::with_capacity(alloc, players.len())?;

@@ -13,7 +13,7 @@ use crate::generated::generated_text;
 use crate::running::run_answer;
 use crate::status::Status;
 use crate::stream::{ReadError, read_all, write_all};
-use crate::words::{Action, Asked, Execution, Generation, read_words};
+use crate::words::{Action, Execution, Generation, Task, read_words};
 use kms_io::{Gate, Sink, Source};
 use kms_report::Options;
 use std::alloc::Global;
@@ -155,8 +155,8 @@ pub fn kms_plain<R: Threads + Sync, S: Source, K: Sink>(
 {
     match read_words(words) {
         None => Status::Usage,
-        Some(Asked::Execute(asks)) => executed(rt, alloc, &asks, source, sink),
-        Some(Asked::Generate(asks)) => generated(rt, alloc, &asks, sink),
+        Some(Task::Execute(asks)) => executed(rt, alloc, &asks, source, sink),
+        Some(Task::Generate(asks)) => generated(rt, alloc, &asks, sink),
     }
 }
 
@@ -179,7 +179,7 @@ pub fn kms_main<R: Threads + Wait + Sync, S: Source, K: Sink, G: Gate + Sync>(
 {
     match read_words(words) {
         Some(
-            Asked::Execute(
+            Task::Execute(
                 Execution {
                     action: Action::Run { threads },
                     options,

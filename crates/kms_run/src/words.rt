@@ -1,7 +1,7 @@
 //! The words of the command line.
 ghost use Rattle.std.specs.Prelude.{◌≡◌, ◌≤◌, IfSome, is_some, map, string_bytes};
 ghost use Rattle.std.specs.Str.{bytes_eq};
-ghost use Rattle.kms_run.specs.Words.{AsksForFew, HasFewCommits, HasFewThreads, IsFewCount, action_of, asked, execution_of, generation_of, is_run, no_options, no_words, number_of, options_after, run_after, run_of, with_option, with_word_at};
+ghost use Rattle.kms_run.specs.Words.{AsksForFew, HasFewCommits, HasFewThreads, IsFewCount, action_of, asked, execution_of, generation_of, is_run, no_options, no_words, number_in_word, options_after, run_after, run_flag, with_option, with_word_at};
 
 use kms_model::Part;
 use kms_report::Options;
@@ -69,7 +69,7 @@ pub const NO_OPTIONS: Options = Options {
 
 /// What legal words ask for.
 #[derive(Clone, Copy, Debug, PartialEq, Eq)]
-pub enum Asked {
+pub enum Task {
     /// `one`, `replay` or `run`: a script is read and executed.
     Execute(Execution),
     /// `gen`: a script is generated, and nothing is read.
@@ -140,9 +140,9 @@ fn execution_of(first: &String, rest: &[String]) -> Option<Execution>
 }
 
 /// The number from 1 to the most that a word spells.
-#[tactic(auto, unfolding(crate::specs::Words::number_of))]
-fn number_of(word: &String, most: u32) -> Option<u32>
-    ensures value { result ≡ number_of most (string_bytes word.now) }
+#[tactic(auto, unfolding(crate::specs::Words::number_in_word))]
+fn number_in_word(word: &String, most: u32) -> Option<u32>
+    ensures value { result ≡ number_in_word most (string_bytes word.now) }
     ensures some { IfSome result (λ n. 1 ≤ n) }
     ensures few { IfSome result (λ n. n ≤ most) }
 {
@@ -181,7 +181,7 @@ fn with_word(told: RunWords, word: &String) -> Option<RunWords>
     let RunWords { threads, options } = told;
     match threads {
         Count::Awaited => Some(RunWords {
-            threads: Count::Told(number_of(word, MOST_THREADS)?),
+            threads: Count::Told(number_in_word(word, MOST_THREADS)?),
             options,
         }),
         Count::Untold if is_word(word, b"--threads") => Some(RunWords {
@@ -218,8 +218,8 @@ fn run_of_words(words: &[String]) -> Option<Execution>
 }
 
 /// Whether the words behind a number of commits ask to run the script: `--run` does, and no word does not.
-fn run_of(words: &[String]) -> Option<bool>
-    ensures { result ≡ run_of (map string_bytes words.now) }
+fn run_flag(words: &[String]) -> Option<bool>
+    ensures { result ≡ run_flag (map string_bytes words.now) }
 {
     match words {
         [] => Some(false),
@@ -238,8 +238,8 @@ fn generation_of(words: &[String]) -> Option<Generation>
         return None;
     };
     let seed = read_dec(seed.as_bytes(), u64::MAX)?;
-    let commits = number_of(commits, MOST_COMMITS)?;
-    let run = run_of(rest)?;
+    let commits = number_in_word(commits, MOST_COMMITS)?;
+    let run = run_flag(rest)?;
     Some(Generation { seed, commits, run })
 }
 
@@ -248,7 +248,7 @@ fn generation_of(words: &[String]) -> Option<Generation>
 /// words, once, in any order; and `gen`, a seed below 2^64 and a number of commits from 1 to 4000, followed by `--run` or
 /// nothing. A number has one spelling, in decimal digits. The program's own name is not among the words.
 #[tactic(auto, unfolding(crate::specs::Words::asked))]
-pub fn read_words(words: &[String]) -> Option<Asked>
+pub fn read_words(words: &[String]) -> Option<Task>
     ensures value { result ≡ asked (map string_bytes words.now) }
     ensures few { IfSome result AsksForFew }
 {
@@ -256,12 +256,12 @@ pub fn read_words(words: &[String]) -> Option<Asked>
         return None;
     };
     if is_word(first, b"gen") {
-        return Some(Asked::Generate(generation_of(rest)?));
+        return Some(Task::Generate(generation_of(rest)?));
     }
     if is_word(first, b"run") {
-        return Some(Asked::Execute(run_of_words(rest)?));
+        return Some(Task::Execute(run_of_words(rest)?));
     }
-    Some(Asked::Execute(execution_of(first, rest)?))
+    Some(Task::Execute(execution_of(first, rest)?))
 }
 
 /// Whether words are legal, as `read_words` tells. It takes no memory.
@@ -276,7 +276,7 @@ pub fn is_run(words: &[String]) -> bool
     ensures { result ≡ is_run (map string_bytes words.now) }
 {
     match read_words(words) {
-        Some(Asked::Execute(asks)) => asks.action.needs_threads(),
+        Some(Task::Execute(asks)) => asks.action.needs_threads(),
         _ => false,
     }
 }

@@ -13,7 +13,7 @@ use Rattle.kms_compose.specs.Images.{CanShow, word_under}
 use Rattle.kms_compose.specs.declared.images.FbImage.{FbImage}
 use Rattle.kms_screens.specs.declared.fronts.Fronts.{Fronts}
 use Rattle.kms_screens.specs.declared.kept.Drawn.{Drawn}
-use Rattle.kms_screens.specs.declared.kept.Kept.{Kept}
+use Rattle.kms_screens.specs.declared.kept.KeptFrame.{KeptFrame}
 use Rattle.kms_screens.specs.declared.screen.Screen.{Screen}
 
 -- Of the states of a frame's digest the first holds the first step of the frame, and each other one holds a step more than the
@@ -30,31 +30,31 @@ pub record IsDrawn (can_show : Picture → Type 0) (words : ℕ → ℕ → ℕ 
   pub fronts : AreFronts d.fronts d.frame
 
 -- the same with the frame's digest
-pub record IsKept (can_show : Picture → Type 0) (words : ℕ → ℕ → ℕ → Option ℕ) (k : Kept) : Type 0 where
+pub record IsKeptFrame (can_show : Picture → Type 0) (words : ℕ → ℕ → ℕ → Option ℕ) (k : KeptFrame) : Type 0 where
   pub drawn : IsDrawn can_show words k.drawn
   pub digest : k.digest ≡ sha256 k.drawn.frame
 
 -- what is kept of a CRTC
-pub record Stands (can_show : Picture → Type 0) (words : ℕ → ℕ → ℕ → Option ℕ) (s : Screen) : Type 0 where
-  pub first : IsKept can_show words s.first
-  pub second : IsKept can_show words s.second
+pub record AreKeptFrames (can_show : Picture → Type 0) (words : ℕ → ℕ → ℕ → Option ℕ) (s : Screen) : Type 0 where
+  pub first : IsKeptFrame can_show words s.first
+  pub second : IsKeptFrame can_show words s.second
 
 -- over images of framebuffers
 abbrev pub IsDrawnOver : List FbImage → Drawn → Type 0
 IsDrawnOver images = IsDrawn (CanShow images) (word_under images)
 
-abbrev pub StandsOver : List FbImage → Screen → Type 0
-StandsOver images = Stands (CanShow images) (word_under images)
+abbrev pub AreKeptFramesOver : List FbImage → Screen → Type 0
+AreKeptFramesOver images = AreKeptFrames (CanShow images) (word_under images)
 
 -- over the things of a machine
-abbrev pub IsKeptOf : List Thing → Kept → Type 0
-IsKeptOf things = IsKept (EachCanBeShown things) (word_of things)
+abbrev pub IsKeptFrameOf : List Thing → KeptFrame → Type 0
+IsKeptFrameOf things = IsKeptFrame (EachCanBeShown things) (word_of things)
 
-abbrev pub IsKeptOver : List FbImage → Kept → Type 0
-IsKeptOver images = IsKept (CanShow images) (word_under images)
+abbrev pub IsKeptFrameOver : List FbImage → KeptFrame → Type 0
+IsKeptFrameOver images = IsKeptFrame (CanShow images) (word_under images)
 
-abbrev pub StandsOf : List Thing → Screen → Type 0
-StandsOf things = Stands (EachCanBeShown things) (word_of things)
+abbrev pub AreKeptFramesOf : List Thing → Screen → Type 0
+AreKeptFramesOf things = AreKeptFrames (EachCanBeShown things) (word_of things)
 
 -- two pictures are on, in modes of one size and with one table of colour values, or none
 abbrev pub AreOfOneSizeAndTable : Picture → Picture → Type 0
@@ -63,12 +63,12 @@ AreOfOneSizeAndTable (On one) Off = ⊥
 AreOfOneSizeAndTable (On one) (On other) = IsSameSize one.mode other.mode × (one.gamma ≡ other.gamma)
 
 -- the picture is this one
-abbrev pub IsOf : Picture → Drawn → Type 0
-IsOf p d = d.picture ≡ p
+abbrev pub IsDrawnOf : Picture → Drawn → Type 0
+IsDrawnOf p d = d.picture ≡ p
 
 -- a picture's frame, over images of framebuffers, and its digest
 abbrev pub IsRenewed : List FbImage → Picture → Drawn → List ℕ → Type 0
-IsRenewed images p d digest = IsDrawnOver images d × IsOf p d × (digest ≡ sha256 d.frame)
+IsRenewed images p d digest = IsDrawnOver images d × IsDrawnOf p d × (digest ≡ sha256 d.frame)
 
 -- a picture is one of the two
 abbrev pub Has : Screen → Picture → Type 0

@@ -1,7 +1,7 @@
 //! Frames that are kept.
 ghost use Rattle.std.specs.Prelude.{◌≡◌, ◌⊎◌, ◌↔◌, IfOk, IsTrue, OnOk};
 ghost use Rattle.kms_compose.specs.Images.{CanShow};
-ghost use Rattle.kms_screens.specs.Screens.{AreOfOneSizeAndTable, IsDrawnOver, IsOf, IsRenewed};
+ghost use Rattle.kms_screens.specs.Screens.{AreOfOneSizeAndTable, IsDrawnOver, IsDrawnOf, IsRenewed};
 
 use crate::digests::{WORTH_A_THREAD, digest_of_frame};
 use crate::fronts::Fronts;
@@ -24,7 +24,7 @@ pub struct Drawn {
 
 /// A picture with its frame, and the frame's digest.
 #[derive(Drop)]
-pub struct Kept {
+pub struct KeptFrame {
     /// The picture with its frame.
     pub drawn: Drawn,
     /// The SHA-256 of the frame's bytes (FIPS 180-4).
@@ -96,7 +96,7 @@ fn change(
 ) -> Result<(), NoMemory>
     requires drawn { IsDrawnOver images.now drawn.old }
     requires can { CanShow images.now picture.now }
-    ensures { OnOk result (IsDrawnOver images.now drawn.new × IsOf picture.now drawn.new) }
+    ensures { OnOk result (IsDrawnOver images.now drawn.new × IsDrawnOf picture.now drawn.new) }
 {
     let count = recompose_kept(alloc, &mut drawn.frame, &drawn.picture, picture, images)?;
     drawn.picture = *picture;
@@ -160,7 +160,7 @@ fn made<H: Hands>(
 ) -> Result<Drawn, NoMemory>
     requires hands { H.can_work hands.now }
     requires picture { CanShow images.now picture.now }
-    ensures { IfOk result (λ d. IsDrawnOver images.now d × IsOf picture.now d) }
+    ensures { IfOk result (λ d. IsDrawnOver images.now d × IsDrawnOf picture.now d) }
 {
     let frame = hands.frame(alloc, picture, images)?;
     Ok(Drawn {
@@ -182,7 +182,7 @@ pub fn redrawn<H: Hands>(
     requires hands { H.can_work hands.now }
     requires drawn { IsDrawnOver images.now drawn }
     requires can { CanShow images.now picture.now }
-    ensures { IfOk result (λ d. IsDrawnOver images.now d × IsOf picture.now d) }
+    ensures { IfOk result (λ d. IsDrawnOver images.now d × IsDrawnOf picture.now d) }
 {
     if is_same_size_and_table(&drawn.picture, picture) {
         change(alloc, &mut drawn, picture, images)?;

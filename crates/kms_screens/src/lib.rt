@@ -10,7 +10,7 @@ mod screen;
 pub use digests::digest_of;
 pub use fronts::Fronts;
 pub use hands::{Hands, OneThread, SeveralThreads};
-pub use kept::{Drawn, Kept, is_same};
+pub use kept::{Drawn, KeptFrame, is_same};
 pub use screen::Screen;
 
 #[cfg(test)]

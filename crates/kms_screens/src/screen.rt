@@ -3,12 +3,12 @@ ghost use Rattle.std.specs.Prelude.{◌≡◌, ◌⊎◌, ◌↔◌, List, IfOk,
 ghost use Rattle.kms_model.specs.declared.worlds.Thing.{Thing};
 ghost use Rattle.kms_compose.specs.Images.{CanShow};
 ghost use Rattle.kms_compose.specs.declared.images.FbImage.{FbImage};
-ghost use Rattle.kms_screens.specs.Screens.{AreFronts, Has, IsDrawnOver, IsKeptOf, IsKeptOver, StandsOf, StandsOver};
+ghost use Rattle.kms_screens.specs.Screens.{AreFronts, Has, IsDrawnOver, IsKeptFrameOf, IsKeptFrameOver, AreKeptFramesOf, AreKeptFramesOver};
 
 use crate::digests::{digest_of, digest_of_frame};
 use crate::fronts::Fronts;
 use crate::hands::Hands;
-use crate::kept::{Drawn, Kept, at_hand, is_same, is_same_size_and_table, redrawn};
+use crate::kept::{Drawn, KeptFrame, at_hand, is_same, is_same_size_and_table, redrawn};
 use kms_compose::Images;
 use kms_model::{NoMemory, Picture, Seq};
 use std::alloc::Global;
@@ -17,17 +17,17 @@ use std::alloc::Global;
 #[derive(Drop)]
 pub struct Screen {
     /// One of them.
-    pub first: Kept,
+    pub first: KeptFrame,
     /// The other.
-    pub second: Kept,
+    pub second: KeptFrame,
 }
 
 /// The picture that is off, which has no byte.
-fn off(alloc: Global) -> Kept
-    ensures images { (images : List FbImage) → IsKeptOver images result }
-    ensures things { (things : List Thing) → IsKeptOf things result }
+fn off(alloc: Global) -> KeptFrame
+    ensures images { (images : List FbImage) → IsKeptFrameOver images result }
+    ensures things { (things : List Thing) → IsKeptFrameOf things result }
 {
-    Kept {
+    KeptFrame {
         drawn: Drawn {
             picture: Picture::Off,
             frame: Seq::new(alloc),
@@ -38,9 +38,9 @@ fn off(alloc: Global) -> Kept
 }
 
 /// A frame with its digest.
-fn hashed(drawn: Drawn) -> Kept
+fn hashed(drawn: Drawn) -> KeptFrame
     requires { AreFronts drawn.fronts drawn.frame }
-    ensures kept { (images : List FbImage) → IsDrawnOver images drawn → IsKeptOver images result }
+    ensures kept { (images : List FbImage) → IsDrawnOver images drawn → IsKeptFrameOver images result }
     ensures own { result.drawn.picture ≡ drawn.picture }
 {
     let Drawn {
@@ -49,7 +49,7 @@ fn hashed(drawn: Drawn) -> Kept
         mut fronts,
     } = drawn;
     let digest = digest_of_frame(frame.as_slice(), &mut fronts);
-    Kept {
+    KeptFrame {
         drawn: Drawn {
             picture,
             frame,
@@ -65,7 +65,7 @@ fn both_hashed<H: Hands>(hands: &H, mut one: Drawn, mut other: Drawn) -> Screen
     requires one { AreFronts one.fronts one.frame }
     requires other { AreFronts other.fronts other.frame }
     ensures kept { (images : List FbImage) → IsDrawnOver images one → IsDrawnOver images other
-        → StandsOver images result }
+        → AreKeptFramesOver images result }
     ensures first { result.first.drawn.picture ≡ one.picture }
     ensures second { result.second.drawn.picture ≡ other.picture }
 {
@@ -76,8 +76,8 @@ fn both_hashed<H: Hands>(hands: &H, mut one: Drawn, mut other: Drawn) -> Screen
         &mut other.fronts,
     );
     Screen {
-        first: Kept { drawn: one, digest },
-        second: Kept {
+        first: KeptFrame { drawn: one, digest },
+        second: KeptFrame {
             drawn: other,
             digest: digest_of_other,
         },
@@ -99,16 +99,16 @@ fn both_renewed<H: Hands>(
     requires picture { CanShow images.now picture.now }
     requires other { IsDrawnOver images.now other }
     requires next { CanShow images.now next.now }
-    ensures stands { IfOk result (StandsOver images.now) }
+    ensures stands { IfOk result (AreKeptFramesOver images.now) }
     ensures both { IfOk result (λ s. Has s picture.now × Has s next.now) }
 {
     let (digest, digest_of_other) = hands.renew(alloc, &mut one, picture, &mut other, next, images);
     Ok(Screen {
-        first: Kept {
+        first: KeptFrame {
             drawn: one,
             digest: digest?,
         },
-        second: Kept {
+        second: KeptFrame {
             drawn: other,
             digest: digest_of_other?,
         },
@@ -118,8 +118,8 @@ fn both_renewed<H: Hands>(
 impl Screen {
     /// The screen of a CRTC that showed nothing yet.
     pub fn dark(alloc: Global) -> Screen
-        ensures images { (images : List FbImage) → StandsOver images result }
-        ensures things { (things : List Thing) → StandsOf things result }
+        ensures images { (images : List FbImage) → AreKeptFramesOver images result }
+        ensures things { (things : List Thing) → AreKeptFramesOf things result }
     {
         Screen {
             first: off(alloc),
@@ -135,7 +135,7 @@ impl Screen {
     }
 
     /// What is kept of a picture that is one of the two.
-    pub fn kept(&self, picture: &Picture) -> &Kept
+    pub fn kept(&self, picture: &Picture) -> &KeptFrame
         requires { Has self.now picture.now }
         ensures among { (result.now ≡ self.now.first) ⊎ (result.now ≡ self.now.second) }
         ensures own { result.now.drawn.picture ≡ picture.now }
@@ -172,9 +172,9 @@ impl Screen {
         images: &Images,
     ) -> Result<Screen, NoMemory>
         requires hands { H.can_work hands.now }
-        requires screen { StandsOver images.now self }
+        requires screen { AreKeptFramesOver images.now self }
         requires picture { CanShow images.now picture.now }
-        ensures { IfOk result (λ s. StandsOver images.now s × Has s picture.now) }
+        ensures { IfOk result (λ s. AreKeptFramesOver images.now s × Has s picture.now) }
     {
         let Screen { first, second } = self;
         let drawn = redrawn(hands, alloc, first.drawn, picture, images)?;
@@ -194,10 +194,10 @@ impl Screen {
         images: &Images,
     ) -> Result<Screen, NoMemory>
         requires hands { H.can_work hands.now }
-        requires screen { StandsOver images.now self }
+        requires screen { AreKeptFramesOver images.now self }
         requires picture { CanShow images.now picture.now }
         requires next { CanShow images.now next.now }
-        ensures stands { IfOk result (StandsOver images.now) }
+        ensures stands { IfOk result (AreKeptFramesOver images.now) }
         ensures both { IfOk result (λ s. Has s picture.now × Has s next.now) }
     {
         let Screen { first, second } = self;
@@ -226,10 +226,10 @@ impl Screen {
         images: &Images,
     ) -> Result<Screen, NoMemory>
         requires hands { H.can_work hands.now }
-        requires screen { StandsOver images.now self }
+        requires screen { AreKeptFramesOver images.now self }
         requires picture { CanShow images.now picture.now }
         requires next { IfSome next (λ p. CanShow images.now p.now) }
-        ensures { IfOk result (λ s. StandsOver images.now s × Has s picture.now) }
+        ensures { IfOk result (λ s. AreKeptFramesOver images.now s × Has s picture.now) }
     {
         if self.has(picture) {
             return Ok(self);

@@ -4,7 +4,7 @@ ghost use Rattle.std.specs.Prelude.{◌≡◌, ◌<◌, [], IfOk};
 ghost use Rattle.kms_model.specs.Frames.Images.{FitsMode};
 ghost use Rattle.kms_compose.specs.Images.{CanShow, HasImage};
 ghost use Rattle.kms_screens.specs.Dots.{ShowsDot, dot_fb};
-ghost use Rattle.kms_screens.specs.Screens.{StandsOver};
+ghost use Rattle.kms_screens.specs.Screens.{AreKeptFramesOver};
 
 use super::*;
 use crate::kept::redrawn;
@@ -121,7 +121,7 @@ fn inverse() -> Gamma {
 
 /// The screen of a CRTC that showed nothing yet, over some images.
 fn dark(alloc: Global, images: &Images) -> Screen
-    ensures { StandsOver images.now result }
+    ensures { AreKeptFramesOver images.now result }
 {
     Screen::dark(alloc)
 }
@@ -235,8 +235,8 @@ fn asked(
     images: &Images,
 ) -> Result<Screen, NoMemory>
     requires images { HasImage images.now dot_fb }
-    requires screen { StandsOver images.now screen }
-    ensures { IfOk result (StandsOver images.now) }
+    requires screen { AreKeptFramesOver images.now screen }
+    ensures { IfOk result (AreKeptFramesOver images.now) }
 {
     let picture = any_picture(chance);
     let next = any_picture(chance);

@@ -13,7 +13,7 @@ use Rattle.kms_model.specs.declared.scripts.Value.TheVariants as value
 use Rattle.kms_model.specs.Script.CommandLines.{Name, Names, place, said, made, was_made, saying, making, assign_words, property_read, value_read, assign_read, assigns_read}
 use Rattle.kms_model.specs.Script.Grammar.{int, known_property}
 use Rattle.kms_model.specs.Script.Words.{◌>>=◌, dec, is_label, strip}
-use Rattle.kms_script.specs.Overlong.{assign_label, label_and, labels_of, value_label}
+use Rattle.kms_script.specs.Overlong.{assign_label, label_and, labels_made, value_label}
 use Rattle.kms_script.proofs.SpeltAssigns.{prop_of}
 
 -- What is made
@@ -224,14 +224,14 @@ row_step names seen count a (Some label) (Some more) (Some ls) makes holds ih =
     add_one n = omega arith
 
 first_step : (names : Names) (seen : List (List ℕ)) (ws : List (List ℕ)) (o : Option (Assign × Names)) (label : Option (Option (List ℕ))) → Agrees o names label → Holds names seen
-    → ((after : Names) (next : List (List ℕ)) → Holds after next → AllAgree (assigns_read after ws) after next (length ws) (labels_of ws))
-    → AllAgree (o >>= (λ a. assigns_read a.1 ws >>= (λ more. Some (a.0 ∷ more.0, more.1)))) names seen (length ws + 1) (label >>= (λ l. labels_of ws >>= (λ ls. Some (label_and l ls))))
+    → ((after : Names) (next : List (List ℕ)) → Holds after next → AllAgree (assigns_read after ws) after next (length ws) (labels_made ws))
+    → AllAgree (o >>= (λ a. assigns_read a.1 ws >>= (λ more. Some (a.0 ∷ more.0, more.1)))) names seen (length ws + 1) (label >>= (λ l. labels_made ws >>= (λ ls. Some (label_and l ls))))
 first_step names seen ws None None agrees holds ih = tt
 first_step names seen ws None (Some l) agrees holds ih = absurd agrees
 first_step names seen ws (Some a) None agrees holds ih = absurd agrees
-first_step names seen ws (Some a) (Some l) agrees holds ih = row_step names seen (length ws) a l (assigns_read a.1 ws) (labels_of ws) agrees holds (λ next h. ih a.1 next h)
+first_step names seen ws (Some a) (Some l) agrees holds ih = row_step names seen (length ws) a l (assigns_read a.1 ws) (labels_made ws) agrees holds (λ next h. ih a.1 next h)
 
-pub assigns_agree : (ws : List (List ℕ)) (names : Names) (seen : List (List ℕ)) → Holds names seen → AllAgree (assigns_read names ws) names seen (length ws) (labels_of ws)
+pub assigns_agree : (ws : List (List ℕ)) (names : Names) (seen : List (List ℕ)) → Holds names seen → AllAgree (assigns_read names ws) names seen (length ws) (labels_made ws)
 assigns_agree [] names seen holds = (or_none names.is_twice, refl)
 assigns_agree (w ∷ ws) names seen holds = rw (add_one (length ws)) (first_step names seen ws (assign_read names w) (assign_label w) (assign_agrees names w) holds (λ after next h. assigns_agree ws after next h))
   where

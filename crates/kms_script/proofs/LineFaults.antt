@@ -13,7 +13,7 @@ use Rattle.kms_model.specs.Script.Words.{end_at, from, label_at, until}
 use Rattle.kms_model.specs.Script.WellFormed.{IsFitCommand}
 use Rattle.kms_script.specs.Fitting.{HasFilled}
 use Rattle.kms_script.specs.Lines.{GivesLine, checked, line_of}
-use Rattle.kms_script.specs.Overlong.{blanks, has_many}
+use Rattle.kms_script.specs.Overlong.{blank_count, has_many}
 use Rattle.kms_script.specs.Stated.{GivesCommand, line_error}
 use Rattle.kms_script.specs.declared.stop.Stop.{Stop}
 use Rattle.kms_script.specs.declared.stop.Stop.TheVariants as stops
@@ -84,14 +84,14 @@ wait_few names bytes r e = let m = map_some _ (end_at bytes) r e in rw (← m.ma
 atomic_few : (names : Names) (bytes : List ℕ) (r : Command × Names) → has_many bytes ≡ false → atomic_read names bytes ≡ Some r → IsFew r
 atomic_few names bytes r few e =
     let p = request_parts names bytes r e in
-    let count : length p.sets.0 ≡ blanks p.user.1 = assigns_count p.words names p.sets p.given ∙ words_blanks p.user.1 p.words p.rest in
+    let count : length p.sets.0 ≡ blank_count p.user.1 = assigns_count p.words names p.sets p.given ∙ words_blanks p.user.1 p.words p.rest in
     rw (← p.makes) (test (length p.sets.0) (within (length p.sets.0) (request_blanks bytes p.flags p.user p.first p.second) count))
   where
     below : (n : ℕ) → nat_lt 258 n ≡ false → n ≤ 258
     below n lt = grind (arith, nat_tests)
 
-    within : (n : ℕ) {b : ℕ} → blanks bytes ≡ 2 + b → n ≡ b → n ≤ 256
-    within n fields count = omega (arith, below (blanks bytes) few, fields, count)
+    within : (n : ℕ) {b : ℕ} → blank_count bytes ≡ 2 + b → n ≡ b → n ≤ 256
+    within n fields count = omega (arith, below (blank_count bytes) few, fields, count)
 
     test : (n : ℕ) → n ≤ 256 → nat_lt 256 n ≡ false
     test n le = grind (arith, nat_tests)

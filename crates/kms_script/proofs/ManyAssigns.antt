@@ -16,7 +16,7 @@ use Rattle.kms_model.specs.Script.CommandLines.{Name, Names, Read, assign_words,
 use Rattle.kms_model.specs.Script.Grammar.{field_words, hex_at, int}
 use Rattle.kms_model.specs.Script.Words.{◌>>=◌, dec, dec_at, field_at, is_label, strip}
 use Rattle.kms_script.specs.Lines.{checked}
-use Rattle.kms_script.specs.Overlong.{AddsLabels, assign_label, blanks, has_many, label_and, label_word, labels_at, labels_of, made_words, packed_all, packed_alone, value_label}
+use Rattle.kms_script.specs.Overlong.{AddsLabels, assign_label, blank_count, has_many, label_and, label_word, labels_at, labels_made, made_words, packed_all, packed_alone, value_label}
 use Rattle.kms_script.proofs.Fields.{first_word, no_word, pair}
 use Rattle.kms_script.proofs.Inverted.{bind_some, some_same}
 use Rattle.kms_script.proofs.LabelsMade.{AllAgree, assigns_agree, twice_in}
@@ -65,14 +65,14 @@ next_label bytes word after l f e = rw (first_word bytes word after f) (step (fi
     inner None = refl
     inner (Some ls) = refl
 
-    step : (o : Option (List (List ℕ))) → (option_map (λ ws. word ∷ ws) o >>= labels_of) ≡ option_map (label_and l) (o >>= labels_of)
+    step : (o : Option (List (List ℕ))) → (option_map (λ ws. word ∷ ws) o >>= labels_made) ≡ option_map (label_and l) (o >>= labels_made)
     step None = refl
-    step (Some ws) = rw e (inner (labels_of ws))
+    step (Some ws) = rw e (inner (labels_made ws))
 
 bad_label : (bytes word after : List ℕ) → pair word after ≡ field_at bytes → assign_label word ≡ None → labels_at bytes ≡ None
 bad_label bytes word after f e = rw (first_word bytes word after f) (step (field_words after))
   where
-    step : (o : Option (List (List ℕ))) → (option_map (λ ws. word ∷ ws) o >>= labels_of) ≡ None
+    step : (o : Option (List (List ℕ))) → (option_map (λ ws. word ∷ ws) o >>= labels_made) ≡ None
     step None = refl
     step (Some ws) = rw e refl
 
@@ -192,11 +192,11 @@ assign_labelled : (word : List ℕ) (l : Option (List ℕ)) → assign_label wor
 unfolding assign_label
 assign_labelled word l e = let w = bind_some (assign_words word) (λ w. value_label w.3) l e in subst (λ (o : Option (Option (List ℕ))). IsLabelled o) w.then (value_labelled w.value.3)
 
-all_labelled : (ws : List (List ℕ)) (ls : List (List ℕ)) → labels_of ws ≡ Some ls → AllByRecursion (λ l. is_label l ≡ true) ls
+all_labelled : (ws : List (List ℕ)) (ls : List (List ℕ)) → labels_made ws ≡ Some ls → AllByRecursion (λ l. is_label l ≡ true) ls
 all_labelled [] ls e = rw (← some_same [] ls e) tt
 all_labelled (w ∷ ws) ls e =
     let l = bind_some (assign_label w) _ ls e in
-    let more = bind_some (labels_of ws) _ ls l.then in
+    let more = bind_some (labels_made ws) _ ls l.then in
     rw (← some_same _ ls more.then) (step more.value l.value (assign_labelled w l.value l.given) (all_labelled ws more.value more.given))
   where
     step : (ms : List (List ℕ)) (l : Option (List ℕ)) → IsLabelled (Some l) → AllByRecursion (λ l. is_label l ≡ true) ms → AllByRecursion (λ l. is_label l ≡ true) (label_and l ms)
@@ -213,7 +213,7 @@ pub no_user : (names : Names) (bytes : List ℕ) (flags : ℕ × List ℕ) → h
 unfolding atomic_read
 no_user names bytes flags f e = rw (f, e) refl
 
-no_assigns : (names : Names) (ws : List (List ℕ)) → IsDistinct bytes_eq (words_in names) → labels_of ws ≡ None → assigns_read names ws ≡ None
+no_assigns : (names : Names) (ws : List (List ℕ)) → IsDistinct bytes_eq (words_in names) → labels_made ws ≡ None → assigns_read names ws ≡ None
 no_assigns names ws d e = step (assigns_read names ws) (subst (λ (o : Option (List (List ℕ))). AllAgree (assigns_read names ws) names (made_words names.all) (length ws) o) e (assigns_agree ws names (made_words names.all) (holds_made names.all d)))
   where
     step : (o : Option (List Assign × Names)) → AllAgree o names (made_words names.all) (length ws) None → o ≡ None
@@ -227,7 +227,7 @@ no_labels names bytes flags user d f u e = rw (f, u) (step (field_words user.1) 
     form : Read → Result (Command × Names) Why
     form o = checked o
 
-    step : (o : Option (List (List ℕ))) → field_words user.1 ≡ o → (o >>= labels_of) ≡ None
+    step : (o : Option (List (List ℕ))) → field_words user.1 ≡ o → (o >>= labels_made) ≡ None
         → checked (o >>= (λ words. assigns_read names words >>= (λ sets. Some (command.Atomic (record { flags = flags.0; user_data = user.0; assigns = sets.0 }), sets.1)))) ≡ Err Form
     step None is e = refl
     step (Some ws) is e = rw (no_assigns names ws d e) refl
@@ -246,16 +246,16 @@ pub many_fault : (names : Names) (bytes : List ℕ) (flags user : ℕ × List �
     → checked (atomic_read names bytes) ≡ Err (why_of (twice_in (made_words names.all) labels))
 unfolding atomic_read
 many_fault names bytes flags user labels once d many f u e =
-    let ws = bind_some (field_words user.1) labels_of labels e in
+    let ws = bind_some (field_words user.1) labels_made labels e in
     let agree : AllAgree (assigns_read names ws.value) names (made_words names.all) (length ws.value) (Some labels) = subst (λ (o : Option (List (List ℕ))). AllAgree (assigns_read names ws.value) names (made_words names.all) (length ws.value) o) ws.then (assigns_agree ws.value names (made_words names.all) (holds_made names.all d)) in
-    let count : length ws.value ≡ blanks user.1 = words_blanks user.1 ws.value ws.given in
+    let count : length ws.value ≡ blank_count user.1 = words_blanks user.1 ws.value ws.given in
     rw (f, u, ws.given) (step (assigns_read names ws.value) (length ws.value) (over (length ws.value) (request_blanks bytes flags user f u) count) agree)
   where
     above : (n : ℕ) → nat_lt 258 n ≡ true → 258 < n
     above n lt = grind (arith, nat_tests)
 
-    over : (n : ℕ) → blanks bytes ≡ 2 + blanks user.1 → n ≡ blanks user.1 → 256 < n
-    over n fields count = omega (arith, above (blanks bytes) many, fields, count)
+    over : (n : ℕ) → blank_count bytes ≡ 2 + blank_count user.1 → n ≡ blank_count user.1 → 256 < n
+    over n fields count = omega (arith, above (blank_count bytes) many, fields, count)
 
     test : (n m : ℕ) → m ≡ n → 256 < n → nat_lt 256 m ≡ true
     test n m same lt = grind (arith, nat_tests)
@@ -281,6 +281,6 @@ pub many_decided : (names : Names) (bytes numbers : List ℕ) (flags user : ℕ 
     → checked (atomic_read names bytes) ≡ Err (why_of (not r))
 many_decided names bytes numbers flags user None r once d many f u e added decides = absurd added
 many_decided names bytes numbers flags user (Some labels) r once d many f u e added decides =
-    let ws = bind_some (field_words user.1) labels_of labels e in
+    let ws = bind_some (field_words user.1) labels_made labels e in
     let both : OnceOrTwice (twice_in (made_words names.all) labels) numbers = subst (λ (ns : List ℕ). OnceOrTwice (twice_in (made_words names.all) labels) ns) (sym added) (once_or_twice labels (made_words names.all) (made_distinct names.all d) (all_labelled ws.value labels ws.then)) in
     many_fault names bytes flags user labels once d many f u e ∙ ap (λ (b : Bool). Err (why_of b)) (decided r (twice_in (made_words names.all) labels) numbers decides both)

@@ -6,7 +6,7 @@ use Rattle.kms_model.specs.declared.scripts.Assign.{Assign}
 use Rattle.kms_model.specs.Script.CommandLines.{Names, assign_read, assigns_read}
 use Rattle.kms_model.specs.Script.Grammar.{field_words, hex, hex_at, parted}
 use Rattle.kms_model.specs.Script.Words.{until, from, dec, dec_at, field_at}
-use Rattle.kms_script.specs.Overlong.{blanks}
+use Rattle.kms_script.specs.Overlong.{blank_count}
 use Rattle.kms_script.proofs.Inverted.{bind_some, if_some, some_same}
 use Rattle.kms_script.proofs.Parts.{later_parts, first_part}
 
@@ -14,33 +14,33 @@ use Rattle.kms_script.proofs.Parts.{later_parts, first_part}
 abbrev pub one_if : Bool → ℕ
 one_if b = cond b 1 0
 
-pub blanks_step : (b : ℕ) (bs : List ℕ) → blanks (b ∷ bs) ≡ one_if (b == 32) + blanks bs
+pub blanks_step : (b : ℕ) (bs : List ℕ) → blank_count (b ∷ bs) ≡ one_if (b == 32) + blank_count bs
 blanks_step b bs = step (b == 32) bs refl
   where
-    step : (t : Bool) (bs : List ℕ) → (b == 32) ≡ t → blanks (b ∷ bs) ≡ one_if t + blanks bs
-    step true bs e = rw e (one_more (blanks bs))
+    step : (t : Bool) (bs : List ℕ) → (b == 32) ≡ t → blank_count (b ∷ bs) ≡ one_if t + blank_count bs
+    step true bs e = rw e (one_more (blank_count bs))
       where
         one_more : (n : ℕ) → suc n ≡ 1 + n
         one_more n = omega arith
-    step false bs e = rw e (none_more (blanks bs))
+    step false bs e = rw e (none_more (blank_count bs))
       where
         none_more : (n : ℕ) → n ≡ 0 + n
         none_more n = omega arith
 
-rest_step : (t : Bool) (b : ℕ) (bs : List ℕ) → (b == 32) ≡ t → blanks bs ≡ blanks (from 32 bs) → blanks (b ∷ bs) ≡ blanks (cond t (b ∷ bs) (from 32 bs))
+rest_step : (t : Bool) (b : ℕ) (bs : List ℕ) → (b == 32) ≡ t → blank_count bs ≡ blank_count (from 32 bs) → blank_count (b ∷ bs) ≡ blank_count (cond t (b ∷ bs) (from 32 bs))
 rest_step true b bs e ih = refl
-rest_step false b bs e ih = blanks_step b bs ∙ rw e (ih_more (blanks bs) (blanks (from 32 bs)) ih)
+rest_step false b bs e ih = blanks_step b bs ∙ rw e (ih_more (blank_count bs) (blank_count (from 32 bs)) ih)
   where
     ih_more : (n m : ℕ) → n ≡ m → 0 + n ≡ m
     ih_more n m same = omega (arith, same)
 
 -- a word has no blanks
-blanks_from : (bs : List ℕ) → blanks bs ≡ blanks (from 32 bs)
+blanks_from : (bs : List ℕ) → blank_count bs ≡ blank_count (from 32 bs)
 blanks_from [] = refl
 blanks_from (b ∷ bs) = rest_step (b == 32) b bs refl (blanks_from bs)
 
 -- one field has one blank
-pub field_blanks : (bytes : List ℕ) (f : List ℕ × List ℕ) → field_at bytes ≡ Some f → blanks bytes ≡ 1 + blanks f.1
+pub field_blanks : (bytes : List ℕ) (f : List ℕ × List ℕ) → field_at bytes ≡ Some f → blank_count bytes ≡ 1 + blank_count f.1
 unfolding field_at
 field_blanks [] f e = absurd cc
 field_blanks (b ∷ bs) f e =
@@ -51,25 +51,25 @@ field_blanks (b ∷ bs) f e =
 onto_length : (b : ℕ) (w : List ℕ) (ws : List (List ℕ)) → length (onto_first b (w ∷ ws)) ≡ length (w ∷ ws)
 onto_length b w ws = refl
 
-parted_step : (t : Bool) (b : ℕ) (bs : List ℕ) → (b == 32) ≡ t → length (parted 32 bs) ≡ 1 + blanks bs → length (cond t ([] ∷ parted 32 bs) (onto_first b (parted 32 bs))) ≡ 1 + blanks (b ∷ bs)
-parted_step true b bs e ih = rw (blanks_step b bs, e) (more (length (parted 32 bs)) (blanks bs) ih)
+parted_step : (t : Bool) (b : ℕ) (bs : List ℕ) → (b == 32) ≡ t → length (parted 32 bs) ≡ 1 + blank_count bs → length (cond t ([] ∷ parted 32 bs) (onto_first b (parted 32 bs))) ≡ 1 + blank_count (b ∷ bs)
+parted_step true b bs e ih = rw (blanks_step b bs, e) (more (length (parted 32 bs)) (blank_count bs) ih)
   where
     more : (n m : ℕ) → n ≡ 1 + m → suc n ≡ 1 + (1 + m)
     more n m same = omega (arith, same)
 parted_step false b bs e ih =
-    let first : length (until 32 bs ∷ later_parts 32 (from 32 bs)) ≡ 1 + blanks bs = rw first_part at ih in
-    rw (blanks_step b bs, e, first_part 32 bs) (onto_length b (until 32 bs) (later_parts 32 (from 32 bs)) ∙ (first ∙ none_more (blanks bs)))
+    let first : length (until 32 bs ∷ later_parts 32 (from 32 bs)) ≡ 1 + blank_count bs = rw first_part at ih in
+    rw (blanks_step b bs, e, first_part 32 bs) (onto_length b (until 32 bs) (later_parts 32 (from 32 bs)) ∙ (first ∙ none_more (blank_count bs)))
   where
     none_more : (n : ℕ) → 1 + n ≡ 1 + (0 + n)
     none_more n = omega arith
 
 -- the parts between blanks
-parted_blanks : (bs : List ℕ) → length (parted 32 bs) ≡ 1 + blanks bs
+parted_blanks : (bs : List ℕ) → length (parted 32 bs) ≡ 1 + blank_count bs
 parted_blanks [] = refl
 parted_blanks (b ∷ bs) = parted_step (b == 32) b bs refl (parted_blanks bs)
 
 -- a blank for each word
-pub words_blanks : (bytes : List ℕ) (ws : List (List ℕ)) → field_words bytes ≡ Some ws → length ws ≡ blanks bytes
+pub words_blanks : (bytes : List ℕ) (ws : List (List ℕ)) → field_words bytes ≡ Some ws → length ws ≡ blank_count bytes
 words_blanks [] ws e = rw (← some_same [] ws e) refl
 words_blanks (b ∷ bs) ws e =
     let read = if_some (b == 32) (Some (parted 32 bs)) ws e in
@@ -84,15 +84,15 @@ assigns_count (w ∷ ws) names r e =
     rw (← some_same _ r more.then) (ap suc (assigns_count ws a.value.1 more.value more.given))
 
 -- a blank before the flags, and one before the user data
-pub request_blanks : (bytes : List ℕ) (flags user : ℕ × List ℕ) → hex_at bytes ≡ Some flags → dec_at 18446744073709551615 flags.1 ≡ Some user → blanks bytes ≡ 2 + blanks user.1
+pub request_blanks : (bytes : List ℕ) (flags user : ℕ × List ℕ) → hex_at bytes ≡ Some flags → dec_at 18446744073709551615 flags.1 ≡ Some user → blank_count bytes ≡ 2 + blank_count user.1
 unfolding dec_at
 request_blanks bytes flags user f u =
     let first = bind_some (field_at bytes) _ flags f in
     let flag = bind_some (hex first.value.0) (λ n. Some (n, first.value.1)) flags first.then in
     let behind : first.value.1 ≡ flags.1 = ap (λ (p : ℕ × List ℕ). p.1) (some_same _ flags flag.then) in
-    let one : blanks bytes ≡ 1 + blanks flags.1 = field_blanks bytes first.value first.given ∙ rw behind refl in
+    let one : blank_count bytes ≡ 1 + blank_count flags.1 = field_blanks bytes first.value first.given ∙ rw behind refl in
     let second = bind_some (field_at flags.1) _ user u in
     let number = bind_some (dec 18446744073709551615 second.value.0) (λ n. Some (n, second.value.1)) user second.then in
     let rest : second.value.1 ≡ user.1 = ap (λ (p : ℕ × List ℕ). p.1) (some_same _ user number.then) in
-    let two : blanks flags.1 ≡ 1 + blanks user.1 = field_blanks flags.1 second.value second.given ∙ rw rest refl in
+    let two : blank_count flags.1 ≡ 1 + blank_count user.1 = field_blanks flags.1 second.value second.given ∙ rw rest refl in
     omega (arith, one, two)

@@ -8,7 +8,7 @@ use Rattle.std.specs.Str.{bytes_eq}
 use Rattle.kms_model.specs.Script.CommandLines.{Name, Names, place, said, made, was_made, making, saying, unmade, words_in}
 use Rattle.std.proofs.lemmas.Bool.Decides.{nat_tests}
 use Rattle.std.proofs.lemmas.List.{length-map}
-use Rattle.kms_script.specs.Named.{held, is_in_numbers, kept, marked, HasRoomForNames, NamesGrow}
+use Rattle.kms_script.specs.Named.{held, is_in_numbers, kept, marked_names, HasRoomForNames, NamesGrow}
 use Rattle.kms_script.specs.Numbered.{place_among}
 use Rattle.kms_script.proofs.WordsNumbered.{absent_head}
 
@@ -18,15 +18,15 @@ is w n = bytes_eq w n.word
 abbrev named : List ℕ → Bool → Name
 named w made = record { word = w; is_made = made }
 
-pub marked_length : (f : ℕ → Bool) (k : ℕ) (ws : List (List ℕ)) → length (marked f k ws) ≡ length ws
+pub marked_length : (f : ℕ → Bool) (k : ℕ) (ws : List (List ℕ)) → length (marked_names f k ws) ≡ length ws
 marked_length f k [] = refl
 marked_length f k (w ∷ ws) = ap suc (marked_length f (k + 1) ws)
 
-pub marked_words : (f : ℕ → Bool) (k : ℕ) (ws : List (List ℕ)) → map (λ (n : Name). n.word) (marked f k ws) ≡ ws
+pub marked_words : (f : ℕ → Bool) (k : ℕ) (ws : List (List ℕ)) → map (λ (n : Name). n.word) (marked_names f k ws) ≡ ws
 marked_words f k [] = refl
 marked_words f k (w ∷ ws) = ap (λ (vs : List (List ℕ)). w ∷ vs) (marked_words f (k + 1) ws)
 
-pub marked_same : (f g : ℕ → Bool) (k : ℕ) (ws : List (List ℕ)) → ((n : ℕ) → k ≤ n → f n ≡ g n) → marked f k ws ≡ marked g k ws
+pub marked_same : (f g : ℕ → Bool) (k : ℕ) (ws : List (List ℕ)) → ((n : ℕ) → k ≤ n → f n ≡ g n) → marked_names f k ws ≡ marked_names g k ws
 marked_same f g k [] same = refl
 marked_same f g k (w ∷ ws) same = rw (same k (omega arith), marked_same f g (k + 1) ws (λ n le. same n (omega arith))) refl
 
@@ -37,7 +37,7 @@ some_step true o n p e ih = cc
 some_step false None n p e ih = absurd cc
 some_step false (Some m) n p e ih = let same : m + 1 ≡ n = cc in omega (arith, ih m refl, same)
 
-pub place_found : (f : ℕ → Bool) (w : List ℕ) (k : ℕ) (ws : List (List ℕ)) (n : ℕ) → place_among w ws ≡ Some n → position_or_len (is w) (marked f k ws) ≡ n
+pub place_found : (f : ℕ → Bool) (w : List ℕ) (k : ℕ) (ws : List (List ℕ)) (n : ℕ) → place_among w ws ≡ Some n → position_or_len (is w) (marked_names f k ws) ≡ n
 place_found f w k [] n e = absurd cc
 place_found f w k (x ∷ ws) n e = some_step (bytes_eq w x) (place_among w ws) n _ e (λ m is. place_found f w (k + 1) ws m is)
 
@@ -45,7 +45,7 @@ none_step : (t : Bool) (p len : ℕ) → t ≡ false → p ≡ len → cond (not
 none_step true p len e same = absurd cc
 none_step false p len e same = omega (arith, same)
 
-pub place_new : (f : ℕ → Bool) (w : List ℕ) (k : ℕ) (ws : List (List ℕ)) → place_among w ws ≡ None → position_or_len (is w) (marked f k ws) ≡ length ws
+pub place_new : (f : ℕ → Bool) (w : List ℕ) (k : ℕ) (ws : List (List ℕ)) → place_among w ws ≡ None → position_or_len (is w) (marked_names f k ws) ≡ length ws
 place_new f w k [] e = refl
 place_new f w k (x ∷ ws) e =
     let head : (bytes_eq w x ≡ false) × (place_among w ws ≡ None) = absent_head (bytes_eq w x) (place_among w ws) e in
@@ -58,15 +58,15 @@ there_step true o n x ns after e ih = refl
 there_step false None n x ns after e ih = absurd cc
 there_step false (Some m) n x ns after e ih = rw (ih m refl) refl
 
-pub said_there : (f : ℕ → Bool) (w : List ℕ) (k : ℕ) (ws : List (List ℕ)) (n : ℕ) → place_among w ws ≡ Some n → said w (marked f k ws) ≡ marked f k ws
+pub said_there : (f : ℕ → Bool) (w : List ℕ) (k : ℕ) (ws : List (List ℕ)) (n : ℕ) → place_among w ws ≡ Some n → said w (marked_names f k ws) ≡ marked_names f k ws
 said_there f w k [] n e = absurd cc
-said_there f w k (x ∷ ws) n e = there_step (bytes_eq w x) (place_among w ws) n (named x (f k)) (marked f (k + 1) ws) (said w (marked f (k + 1) ws)) e (λ m is. said_there f w (k + 1) ws m is)
+said_there f w k (x ∷ ws) n e = there_step (bytes_eq w x) (place_among w ws) n (named x (f k)) (marked_names f (k + 1) ws) (said w (marked_names f (k + 1) ws)) e (λ m is. said_there f w (k + 1) ws m is)
 
 new_step : (t : Bool) (x : Name) (ns after : List Name) → t ≡ false → cond t (x ∷ ns) (x ∷ after) ≡ x ∷ after
 new_step true x ns after e = absurd cc
 new_step false x ns after e = refl
 
-pub said_new : (f : ℕ → Bool) (w : List ℕ) (k : ℕ) (ws : List (List ℕ)) → place_among w ws ≡ None → f (k + length ws) ≡ false → said w (marked f k ws) ≡ marked f k (ws ++ w ∷ [])
+pub said_new : (f : ℕ → Bool) (w : List ℕ) (k : ℕ) (ws : List (List ℕ)) → place_among w ws ≡ None → f (k + length ws) ≡ false → said w (marked_names f k ws) ≡ marked_names f k (ws ++ w ∷ [])
 said_new f w k [] e off = let here : f k ≡ false = subst (λ (n : ℕ). f n ≡ false) (nothing_more k) off in rw here refl
   where
     nothing_more : (n : ℕ) → n + 0 ≡ n
@@ -74,7 +74,7 @@ said_new f w k [] e off = let here : f k ≡ false = subst (λ (n : ℕ). f n �
 said_new f w k (x ∷ ws) e off =
     let head : (bytes_eq w x ≡ false) × (place_among w ws ≡ None) = absent_head (bytes_eq w x) (place_among w ws) e in
     let there : f (k + 1 + length ws) ≡ false = subst (λ (n : ℕ). f n ≡ false) (moved k (length ws)) off in
-    new_step (bytes_eq w x) (named x (f k)) (marked f (k + 1) ws) (said w (marked f (k + 1) ws)) head.0 ∙ ap (λ (ns : List Name). named x (f k) ∷ ns) (said_new f w (k + 1) ws head.1 there)
+    new_step (bytes_eq w x) (named x (f k)) (marked_names f (k + 1) ws) (said w (marked_names f (k + 1) ws)) head.0 ∙ ap (λ (ns : List Name). named x (f k) ∷ ns) (said_new f w (k + 1) ws head.1 there)
   where
     moved : (n m : ℕ) → n + suc m ≡ n + 1 + m
     moved n m = omega arith
@@ -93,13 +93,13 @@ record Marks (f g : ℕ → Bool) (n : ℕ) : Type 0 where
   others : (m : ℕ) → (m ≡ n → ⊥) → g m ≡ f m
 
 made_step : (t : Bool) (o : Option ℕ) (n k : ℕ) (f g : ℕ → Bool) (x : List ℕ) (ws : List (List ℕ)) (after : List Name) → cond t (Some 0) (option_map (λ n. n + 1) o) ≡ Some n → Marks f g (k + n)
-    → ((m : ℕ) → o ≡ Some m → Marks f g (k + 1 + m) → after ≡ marked g (k + 1) ws)
-    → cond t (named x true ∷ marked f (k + 1) ws) (named x (f k) ∷ after) ≡ named x (g k) ∷ marked g (k + 1) ws
+    → ((m : ℕ) → o ≡ Some m → Marks f g (k + 1 + m) → after ≡ marked_names g (k + 1) ws)
+    → cond t (named x true ∷ marked_names f (k + 1) ws) (named x (f k) ∷ after) ≡ named x (g k) ∷ marked_names g (k + 1) ws
 made_step true o n k f g x ws after e marks ih =
     let none : 0 ≡ n = cc in
     let at : k + n ≡ k = omega (arith, none) in
     let here : g k ≡ true = subst (λ (m : ℕ). g m ≡ true) at marks.here in
-    let rest : marked f (k + 1) ws ≡ marked g (k + 1) ws = marked_same f g (k + 1) ws (λ m le. sym (marks.others m (λ same. absurd (omega (arith, le, same, at))))) in
+    let rest : marked_names f (k + 1) ws ≡ marked_names g (k + 1) ws = marked_same f g (k + 1) ws (λ m le. sym (marks.others m (λ same. absurd (omega (arith, le, same, at))))) in
     rw (here, rest) refl
 made_step false None n k f g x ws after e marks ih = absurd cc
 made_step false (Some m) n k f g x ws after e marks ih =
@@ -109,18 +109,18 @@ made_step false (Some m) n k f g x ws after e marks ih =
     let off : g k ≡ f k = marks.others k (λ same. absurd (omega (arith, same, more))) in
     rw (off, ih m refl there) refl
 
-made_at : (f g : ℕ → Bool) (w : List ℕ) (k : ℕ) (ws : List (List ℕ)) (n : ℕ) → place_among w ws ≡ Some n → Marks f g (k + n) → made w (marked f k ws) ≡ marked g k ws
+made_at : (f g : ℕ → Bool) (w : List ℕ) (k : ℕ) (ws : List (List ℕ)) (n : ℕ) → place_among w ws ≡ Some n → Marks f g (k + n) → made w (marked_names f k ws) ≡ marked_names g k ws
 made_at f g w k [] n e marks = absurd cc
-made_at f g w k (x ∷ ws) n e marks = made_step (bytes_eq w x) (place_among w ws) n k f g x ws (made w (marked f (k + 1) ws)) e marks (λ m is more. made_at f g w (k + 1) ws m is more)
+made_at f g w k (x ∷ ws) n e marks = made_step (bytes_eq w x) (place_among w ws) n k f g x ws (made w (marked_names f (k + 1) ws)) e marks (λ m is more. made_at f g w (k + 1) ws m is more)
 
 was_step : (t : Bool) (o : Option ℕ) (n k : ℕ) (f : ℕ → Bool) (after : Bool) → cond t (Some 0) (option_map (λ n. n + 1) o) ≡ Some n → ((m : ℕ) → o ≡ Some m → after ≡ f (k + 1 + m)) → cond t (f k) after ≡ f (k + n)
 was_step true o n k f after e ih = let none : 0 ≡ n = cc in ap f (omega (arith, none))
 was_step false None n k f after e ih = absurd cc
 was_step false (Some m) n k f after e ih = let more : m + 1 ≡ n = cc in ih m refl ∙ ap f (omega (arith, more))
 
-was_at : (f : ℕ → Bool) (w : List ℕ) (k : ℕ) (ws : List (List ℕ)) (n : ℕ) → place_among w ws ≡ Some n → was_made w (marked f k ws) ≡ f (k + n)
+was_at : (f : ℕ → Bool) (w : List ℕ) (k : ℕ) (ws : List (List ℕ)) (n : ℕ) → place_among w ws ≡ Some n → was_made w (marked_names f k ws) ≡ f (k + n)
 was_at f w k [] n e = absurd cc
-was_at f w k (x ∷ ws) n e = was_step (bytes_eq w x) (place_among w ws) n k f (was_made w (marked f (k + 1) ws)) e (λ m is. was_at f w (k + 1) ws m is)
+was_at f w k (x ∷ ws) n e = was_step (bytes_eq w x) (place_among w ws) n k f (was_made w (marked_names f (k + 1) ws)) e (λ m is. was_at f w (k + 1) ws m is)
 
 found_step : (t : Bool) (n : Name) (ns after : List Name) (p : ℕ) (o : Option ℕ) (w : List ℕ) → bytes_eq w n.word ≡ t → o ≡ Some p → place_among w (map (λ n. n.word) after) ≡ o
     → place_among w (map (λ n. n.word) (cond t (n ∷ ns) (n ∷ after))) ≡ Some (cond (not t) (1 + p) 0)
@@ -159,7 +159,7 @@ was_again w (n ∷ ns) = was_again_step (is w n) w n ns refl (was_again w ns)
 -- Names
 
 abbrev pub names_of : ℕ → List (List ℕ) → List ℕ → ℕ → Bool → Names
-names_of profile ws numbers count twice = record { profile = profile; all = marked (is_in_numbers numbers) 0 ws; made = count; is_twice = twice }
+names_of profile ws numbers count twice = record { profile = profile; all = marked_names (is_in_numbers numbers) 0 ws; made = count; is_twice = twice }
 
 -- a name that is there
 pub saying_there : (profile : ℕ) (w : List ℕ) (ws : List (List ℕ)) (numbers : List ℕ) (count : ℕ) (twice : Bool) (n : ℕ) → place_among w ws ≡ Some n → names_of profile ws numbers count twice ≡ saying w (names_of profile ws numbers count twice)
@@ -181,10 +181,10 @@ pub making_said : (profile : ℕ) (w : List ℕ) (old : Names) (ws : List (List 
     → names_of profile ws after (count + 1) (twice || not new) ≡ making w old
 unfolding saying making
 making_said profile w old ws numbers after count twice new said_is new_is after_is =
-    let all : marked (is_in_numbers numbers) 0 ws ≡ said w old.all = ap (λ (n : Names). n.all) said_is in
+    let all : marked_names (is_in_numbers numbers) 0 ws ≡ said w old.all = ap (λ (n : Names). n.all) said_is in
     let words : ws ≡ map (λ (n : Name). n.word) (said w old.all) = sym (marked_words (is_in_numbers numbers) 0 ws) ∙ ap (λ (ns : List Name). map (λ (n : Name). n.word) ns) all in
     let found : place_among w ws ≡ Some (place w old) = rw words (said_found w old.all) in
-    let now : made w old.all ≡ marked (is_in_numbers after) 0 ws = sym (made_again w old.all) ∙ (ap (made w) (sym all) ∙ made_at (is_in_numbers numbers) (is_in_numbers after) w 0 ws (place w old) found (marks_of (place w old) after_is)) in
+    let now : made w old.all ≡ marked_names (is_in_numbers after) 0 ws = sym (made_again w old.all) ∙ (ap (made w) (sym all) ∙ made_at (is_in_numbers numbers) (is_in_numbers after) w 0 ws (place w old) found (marks_of (place w old) after_is)) in
     let was : was_made w old.all ≡ is_in_numbers numbers (place w old) = sym (was_again w old.all) ∙ (ap (was_made w) (sym all) ∙ (was_at (is_in_numbers numbers) w 0 ws (place w old) found ∙ ap (is_in_numbers numbers) (from_none (place w old)))) in
     let profiles : profile ≡ old.profile = ap (λ (n : Names). n.profile) said_is in
     let counts : count ≡ old.made = ap (λ (n : Names). n.made) said_is in
@@ -260,7 +260,7 @@ making_grows w names = record { all = made_length w names.all; made = omega arit
 
 -- Names that stay
 
-none_marked : (k : ℕ) (ws : List (List ℕ)) → marked (is_in_numbers []) k ws ≡ map (λ w. record { word = w; is_made = false }) ws
+none_marked : (k : ℕ) (ws : List (List ℕ)) → marked_names (is_in_numbers []) k ws ≡ map (λ w. record { word = w; is_made = false }) ws
 none_marked k [] = refl
 none_marked k (w ∷ ws) = ap (λ (ns : List Name). named w false ∷ ns) (none_marked (k + 1) ws)
 

@@ -7,7 +7,7 @@ use Rattle.kms_model.specs.declared.replies.Step.{Step}
 use Rattle.kms_model.specs.declared.replies.Step.TheVariants.{Begin, Lock, BackOff, Relock, Refuse, Test, Swap, Make, Signal, Claim, Write, Flush, HwDone, Vblank, Cleanup, Read, Return, Stall}
 use Rattle.kms_model.specs.Report.History.{step_line, step_words}
 use Rattle.kms_model.specs.Script.Schedules.{IsFitStep, IsSpeltOnce, step_read}
-use Rattle.kms_script.specs.Scheduled.{IsStepLine, index_of, step_text}
+use Rattle.kms_script.specs.Scheduled.{IsStepLine, index_in_step, step_text}
 use Rattle.kms_script.proofs.Inverted.{some_same}
 use Rattle.kms_script.proofs.Spaced.{line-fields}
 use Rattle.kms_script.proofs.StepsRead.{line_is_read}
@@ -40,7 +40,7 @@ is_index : (index : ℕ) → index ≤ 255 → ForSome (Some index) (λ i. i ≤
 is_index index small n e = rw (← some_same index n e) small
 
 -- the index of an object of a step that a line can spell
-small_index : (step : Step) → IsFitStep step → ForSome (index_of step) (λ index. index ≤ 255)
+small_index : (step : Step) → IsFitStep step → ForSome (index_in_step step) (λ index. index ≤ 255)
 small_index (Begin client) fits = no_index
 small_index (Lock client kind index) fits = is_index index fits.1
 small_index (BackOff client) fits = no_index
@@ -60,7 +60,7 @@ small_index (Read client) fits = no_index
 small_index (Return client) fits = no_index
 small_index Stall fits = no_index
 
-pub found_small : (bytes : List ℕ) (o : Option Step) → o ≡ step_read bytes → IfSome o (λ step. ForSome (index_of step) (λ index. index ≤ 255))
+pub found_small : (bytes : List ℕ) (o : Option Step) → o ≡ step_read bytes → IfSome o (λ step. ForSome (index_in_step step) (λ index. index ≤ 255))
 found_small bytes None e = tt
 found_small bytes (Some step) e = small_index step ((line_of_step bytes step (sym e)).fits)
 

@@ -32,7 +32,7 @@ abbrev pub HasRoomFor : Draft → List ℕ → Type 0
 HasRoomFor d text = d.has_client ≡ true → HasRoomForNames d.names (length text + 2)
 
 -- a line keeps the limits, brings at most so many names, and makes no label again
-pub record Keeps (old new : Draft) (more : ℕ) : Type 0 where
+pub record StaysWithinLimits (old new : Draft) (more : ℕ) : Type 0 where
   pub device : IsFitDevice new
   pub clients : HasFitClients new
   pub size : new.size ≡ old.size

@@ -22,14 +22,14 @@ abbrev pub is_in_numbers : List ℕ → ℕ → Bool
 is_in_numbers numbers n = list_any (λ m. is_eq (nat_cmp n m)) numbers
 
 -- words from a number on, as names of which those with some numbers are made
-abbrev pub marked : (ℕ → Bool) → ℕ → List (List ℕ) → List Name
-marked is_made n [] = []
-marked is_made n (w ∷ ws) = record { word = w; is_made = is_made n } ∷ marked is_made (n + 1) ws
+abbrev pub marked_names : (ℕ → Bool) → ℕ → List (List ℕ) → List Name
+marked_names is_made n [] = []
+marked_names is_made n (w ∷ ws) = record { word = w; is_made = is_made n } ∷ marked_names is_made (n + 1) ws
 
 -- a profile, words with their numbers, how many of them were there before, the numbers of labels that are made, how often
 -- one was made, and whether one was made twice
 abbrev pub held : ℕ → List (List ℕ) → ℕ → List ℕ → ℕ → Bool → HeldNames
-held profile words earlier numbers count twice = record { names = record { profile = profile; all = marked (is_in_numbers numbers) 0 words; made = count; is_twice = twice }; before = record { profile = profile; words = take earlier words } }
+held profile words earlier numbers count twice = record { names = record { profile = profile; all = marked_names (is_in_numbers numbers) 0 words; made = count; is_twice = twice }; before = record { profile = profile; words = take earlier words } }
 
 -- the numbers are those of words, and so many were there before
 pub record AreMade (words : List (List ℕ)) (count : ℕ) (numbers : List ℕ) : Type 0 where

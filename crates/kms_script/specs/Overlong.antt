@@ -7,12 +7,12 @@ use Rattle.kms_model.specs.Script.Grammar.{hex_at, int, field_words}
 use Rattle.kms_model.specs.Script.Words.{◌>>=◌, dec, dec_at, is_label, strip}
 
 -- how many blanks bytes have
-abbrev pub blanks : List ℕ → ℕ
-blanks bytes = length (filter (λ b. b == 32) bytes)
+abbrev pub blank_count : List ℕ → ℕ
+blank_count bytes = length (filter (λ b. b == 32) bytes)
 
 -- more fields than the flags, the user data and 256 assignments
 abbrev pub has_many : List ℕ → Bool
-has_many fields = nat_lt 258 (blanks fields)
+has_many fields = nat_lt 258 (blank_count fields)
 
 -- the label that a value makes, if it makes one
 unfoldable pub value_label : List ℕ → Option (Option (List ℕ))
@@ -37,15 +37,15 @@ label_and None labels = labels
 label_and (Some label) labels = label ∷ labels
 
 -- the labels that assignments make
-abbrev pub labels_of : List (List ℕ) → Option (List (List ℕ))
-labels_of [] = Some []
-labels_of (w ∷ ws) = do
+abbrev pub labels_made : List (List ℕ) → Option (List (List ℕ))
+labels_made [] = Some []
+labels_made (w ∷ ws) = do
   label ← assign_label w
-  labels ← labels_of ws
+  labels ← labels_made ws
   Some (label_and label labels)
 
 abbrev pub labels_at : List ℕ → Option (List (List ℕ))
-labels_at bytes = field_words bytes >>= labels_of
+labels_at bytes = field_words bytes >>= labels_made
 
 -- the labels that the assignments of an atomic line make, by the bytes behind its first word
 unfoldable pub atomic_labels : List ℕ → Option (List (List ℕ))

@@ -42,12 +42,12 @@ SchedulesAreReadBack = InEachHistory (λ s h.
     → input_of part.Schedule (scheduled s h) ≡ Ok (parts_of s h (length (scheduled s h))))
 
 -- the index of the object that a step names
-abbrev pub index_of : Step → Option ℕ
-index_of (Lock client kind index) = Some index
-index_of (Write k kind index) = Some index
-index_of (Flush k kind index) = Some index
-index_of (Vblank kind index) = Some index
-index_of step = None
+abbrev pub index_in_step : Step → Option ℕ
+index_in_step (Lock client kind index) = Some index
+index_in_step (Write k kind index) = Some index
+index_in_step (Flush k kind index) = Some index
+index_in_step (Vblank kind index) = Some index
+index_in_step step = None
 
 -- the number of a client or a commit, at the end of a line
 unfoldable pub last_number : List ℕ → Option ℕ

@@ -4,7 +4,7 @@ ghost use Rattle.std.specs.List.{list_all};
 ghost use Rattle.kms_model.specs.Script.Grammar.{is_printable};
 ghost use Rattle.kms_model.specs.Script.WholeInput.{blank_draft, is_nil, crtcs_at, plane_type, plane_fields, conn_at, first_line, crtcs_line, plane_line, conn_line, client_line, command_line, later_line, script_line, clients_in, line_after, topology_in, script_in, is_conn_of, is_done, version_read};
 ghost use Rattle.kms_script.specs.Fitting.{KeepsLimits, IsFitCount, IsFitPlane, IsFitMask, IsFitProfile, HasFitClients};
-ghost use Rattle.kms_script.specs.Drafted.{draft_in, row_in, IsSoundDraft, HasRoomFor, Keeps, Becomes, ended, is_full};
+ghost use Rattle.kms_script.specs.Drafted.{draft_in, row_in, IsSoundDraft, HasRoomFor, StaysWithinLimits, Becomes, ended, is_full};
 
 use crate::limits::{MAX_COMMANDS, MAX_LABELS, MAX_SCRIPT};
 use crate::lines::read_line;
@@ -168,7 +168,7 @@ impl Draft {
         requires first { (draft_in self.old).head ≡ 0 }
         ensures value { Becomes result (first_line (draft_in self.old) text.now)
             (draft_in self.new) }
-        ensures keeps { OnOk result (Keeps (draft_in self.old) (draft_in self.new) 0) }
+        ensures keeps { OnOk result (StaysWithinLimits (draft_in self.old) (draft_in self.new) 0) }
     {
         let Some(version) = read_version(text) else {
             return Err(Stop::Fault(Why::Form));
@@ -184,7 +184,7 @@ impl Draft {
         requires second { (draft_in self.old).head ≡ 1 }
         ensures value { Becomes result (crtcs_line (draft_in self.old) text.now)
             (draft_in self.new) }
-        ensures keeps { OnOk result (Keeps (draft_in self.old) (draft_in self.new) 0) }
+        ensures keeps { OnOk result (StaysWithinLimits (draft_in self.old) (draft_in self.new) 0) }
     {
         let (keyword, fields) = split_at_byte(text, b' ');
         if keyword != b"crtcs".as_slice() {
@@ -205,7 +205,7 @@ impl Draft {
         requires later { 2 ≤ (draft_in self.old).head }
         ensures value { Becomes result (plane_line (draft_in self.old) fields.now)
             (draft_in self.new) }
-        ensures keeps { OnOk result (Keeps (draft_in self.old) (draft_in self.new) 0) }
+        ensures keeps { OnOk result (StaysWithinLimits (draft_in self.old) (draft_in self.new) 0) }
     {
         let Some(plane) = take_plane(self.crtcs, fields) else {
             return Err(Stop::Fault(Why::Form));
@@ -227,7 +227,7 @@ impl Draft {
         requires later { 2 ≤ (draft_in self.old).head }
         ensures value { Becomes result (conn_line (draft_in self.old) fields.now)
             (draft_in self.new) }
-        ensures keeps { OnOk result (Keeps (draft_in self.old) (draft_in self.new) 0) }
+        ensures keeps { OnOk result (StaysWithinLimits (draft_in self.old) (draft_in self.new) 0) }
     {
         let Some(mask) = take_conn(self.crtcs, fields) else {
             return Err(Stop::Fault(Why::Form));
@@ -277,7 +277,7 @@ impl Draft {
         requires { IsSoundDraft (draft_in self.old) }
         ensures value { Becomes result (client_line (draft_in self.old) fields.now)
             (draft_in self.new) }
-        ensures keeps { OnOk result (Keeps (draft_in self.old) (draft_in self.new) 0) }
+        ensures keeps { OnOk result (StaysWithinLimits (draft_in self.old) (draft_in self.new) 0) }
     {
         let Some(()) = take_end(fields) else {
             return Err(Stop::Fault(Why::Form));
@@ -307,7 +307,7 @@ impl Draft {
         requires room { HasRoomFor (draft_in self.old) text.now }
         ensures value { Becomes result (command_line (draft_in self.old) text.now)
             (draft_in self.new) }
-        ensures keeps { OnOk result (Keeps (draft_in self.old)
+        ensures keeps { OnOk result (StaysWithinLimits (draft_in self.old)
             (draft_in self.new) (length text.now + 2)) }
     {
         if !self.has_client {
@@ -329,7 +329,7 @@ impl Draft {
         requires room { HasRoomFor (draft_in self.old) text.now }
         ensures value { Becomes result (later_line (draft_in self.old) text.now)
             (draft_in self.new) }
-        ensures keeps { OnOk result (Keeps (draft_in self.old)
+        ensures keeps { OnOk result (StaysWithinLimits (draft_in self.old)
             (draft_in self.new) (length text.now + 2)) }
     {
         let (keyword, fields) = split_at_byte(text, b' ');
@@ -350,7 +350,7 @@ impl Draft {
         requires room { HasRoomFor (draft_in self.old) text.now }
         ensures value { Becomes result (script_line (draft_in self.old) text.now)
             (draft_in self.new) }
-        ensures keeps { OnOk result (Keeps (draft_in self.old)
+        ensures keeps { OnOk result (StaysWithinLimits (draft_in self.old)
             (draft_in self.new) (length text.now + 2)) }
     {
         match self.head {

@@ -6,7 +6,7 @@ ghost use Rattle.std.specs.List.{IsDistinct};
 ghost use Rattle.kms_model.specs.Script.CommandLines.{atomic_read};
 ghost use Rattle.kms_script.specs.Lines.{checked};
 ghost use Rattle.kms_script.specs.Named.{HasRoomForNames};
-ghost use Rattle.kms_script.specs.Overlong.{AddsLabels, assign_label, atomic_labels, blanks, has_many, labels_at, made_words, packed, packed_alone, label_word, are_rising, value_label};
+ghost use Rattle.kms_script.specs.Overlong.{AddsLabels, assign_label, atomic_labels, blank_count, has_many, labels_at, made_words, packed, packed_alone, label_word, are_rising, value_label};
 
 use crate::limits::MAX_ASSIGNS;
 use crate::names::Names;
@@ -21,7 +21,7 @@ const SHORTEST: usize = 10;
 
 /// How many blanks bytes have.
 fn count_blanks(bytes: &[u8]) -> usize
-    ensures { result ≡ blanks bytes.now }
+    ensures { result ≡ blank_count bytes.now }
 {
     let mut count = 0usize;
     let mut rest = bytes;

@@ -5,7 +5,7 @@ ghost use Rattle.std.specs.Option.{ForSome};
 ghost use Rattle.kms_model.specs.Report.History.{named_object, step_line, step_words};
 ghost use Rattle.kms_model.specs.Script.Schedules.{IsFitStep, step_read};
 ghost use Rattle.kms_script.specs.Printed.{fields};
-ghost use Rattle.kms_script.specs.Scheduled.{index_of, step_text};
+ghost use Rattle.kms_script.specs.Scheduled.{index_in_step, step_text};
 
 use crate::printing_commands::{push_number, push_word};
 use crate::printing_words::{kind_word, push_decimal};
@@ -56,7 +56,7 @@ fn push_on_object(text: &mut Vec<u8>, word: &[u8], kind: Kind, index: u32) -> Re
 
 /// Adds a step's words with a blank before each.
 fn push_step(text: &mut Vec<u8>, step: &Step) -> Result<(), NoMemory>
-    requires { ForSome (index_of step.now) (λ index. index ≤ 255) }
+    requires { ForSome (index_in_step step.now) (λ index. index ≤ 255) }
     ensures text { OnOk result (text.new.items
         ≡ text.old.items ++ fields (step_words step.now)) }
     ensures fits { IsFitStep step.now }
@@ -100,7 +100,7 @@ fn push_step(text: &mut Vec<u8>, step: &Step) -> Result<(), NoMemory>
 ///
 /// The index of the step's object, where it names one, must be at most 255.
 pub fn print_step(alloc: Global, step: &Step) -> Result<Seq<u8>, NoMemory>
-    requires { ForSome (index_of step.now) (λ index. index ≤ 255) }
+    requires { ForSome (index_in_step step.now) (λ index. index ≤ 255) }
     ensures line { IfOk result (λ line. line ≡ step_text step.now) }
     ensures ended { IfOk result (λ line. line ++ 10 ∷ [] ≡ step_line step.now) }
     ensures again { IfOk result (λ line. step_read line ≡ Some step.now) }

@@ -3,7 +3,7 @@ ghost use Rattle.std.specs.Prelude.{◌≡◌, ◌≤◌, ℕ, Some, IfSome, IfN
 ghost use Rattle.std.specs.Option.{ForSome};
 ghost use Rattle.kms_model.specs.declared.replies.Step.{Step};
 ghost use Rattle.kms_model.specs.Script.Schedules.{IsFitStep, IsSpeltOnce, object_at, step_of_word, step_read};
-ghost use Rattle.kms_script.specs.Scheduled.{IsStepLine, index_of, last_number, number_and_object, step_text, worker_step};
+ghost use Rattle.kms_script.specs.Scheduled.{IsStepLine, index_in_step, last_number, number_and_object, step_text, worker_step};
 
 use crate::objects::read_object;
 use crate::words::{MOST, strip, take_dec, take_end, take_field};
@@ -116,7 +116,7 @@ pub fn read_step(line: &[u8]) -> Option<Step>
     ensures value { result ≡ step_read line.now }
     ensures line { IfSome result (λ step. IsStepLine line.now step) }
     ensures no_line { IfNone result ((step : Step) → ¬ IsStepLine line.now step) }
-    ensures small { IfSome result (λ step. ForSome (index_of step) (λ index. index ≤ 255)) }
+    ensures small { IfSome result (λ step. ForSome (index_in_step step) (λ index. index ≤ 255)) }
 {
     let fields = strip(b"T", line)?;
     let (word, rest) = take_field(fields)?;

@@ -13,7 +13,7 @@ use Rattle.kms_model.proofs.Items.{or_else-none}
 use Rattle.kms_state.specs.Places.{OldStates, old_states, olds, state_at}
 use Rattle.kms_state.proofs.Slots.{there_old}
 use Rattle.kms_request.specs.Whole.{ArePresent, ArePresentSomewhere, StandBetween}
-use Rattle.kms_serial.specs.Device.{Stands}
+use Rattle.kms_serial.specs.Device.{StandsInWorld}
 use Rattle.kms_things.specs.Present.{AreWhole, IsAfter, IsWhole}
 
 -- what is duplicated stays so
@@ -33,7 +33,7 @@ whole_after t before after same whole = record {
 }
 
 -- the states of a device are the present ones
-pub present : (t : Topology) (w : World) (d : Duplicates) → Stands t w d → ArePresent t w d
+pub present : (t : Topology) (w : World) (d : Duplicates) → StandsInWorld t w d → ArePresent t w d
 present t w d stands = record {
   device = stands.device;
   sound = stands.sound;
@@ -42,11 +42,11 @@ present t w d stands = record {
   all = record { crtcs = stands.present.whole.crtcs.there; planes = stands.present.whole.planes.there; conns = stands.present.whole.conns.there };
 }
 
-pub present_there : (t : Topology) (w : World) (d : Duplicates) → Stands t w d → ArePresentSomewhere look_up t (look_up w) d
+pub present_there : (t : Topology) (w : World) (d : Duplicates) → StandsInWorld t w d → ArePresentSomewhere look_up t (look_up w) d
 present_there t w d stands = record { world = w; present = present t w d stands; tells = λ label. refl }
 
 -- those after a request for which none of refusals 1 to 8 is due
-pub stands_after : (t : Topology) (w : World) (r : Request) (before after : Duplicates) → Stands t w before → old_states after ≡ old_states before → StandBetween t w r after → IsAfter t w r after
+pub stands_after : (t : Topology) (w : World) (r : Request) (before after : Duplicates) → StandsInWorld t w before → old_states after ≡ old_states before → StandBetween t w r after → IsAfter t w r after
 stands_after t w r before after stands same between = record {
   whole = whole_after t before after same stands.present.whole;
   old = between.old;

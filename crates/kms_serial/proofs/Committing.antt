@@ -28,7 +28,7 @@ use Rattle.kms_model.proofs.SoundKept.{execution_keeps_sound, sound-apply, sound
 use Rattle.kms_model.proofs.ThingLemmas.{IsSeenAlike}
 use Rattle.kms_request.specs.Fences.{TellOutFences}
 use Rattle.kms_serial.specs.Commands.{Grows}
-use Rattle.kms_serial.specs.Device.{Stands}
+use Rattle.kms_serial.specs.Device.{StandsInWorld}
 use Rattle.kms_model.specs.Frames.Shown.{AreFramed}
 use Rattle.kms_things.specs.Present.{IsAfter}
 use Rattle.kms_things.specs.Swapping.{swapped}
@@ -130,7 +130,7 @@ pub values_committed : (t : Topology) (w : World) (client : ℕ) (r : Request) �
 values_committed t w client r sound none = (within_after t w client r sound none).values
 
 -- a device stands after a commit
-pub stands_committed : (t : Topology) (w : World) (d new : Duplicates) (client : ℕ) (r : Request) → Stands t w d → verdict t w r ≡ None → is_test r.flags ≡ false → IsAfter t w r new → Stands t (committed t w client r).world (swapped new)
+pub stands_committed : (t : Topology) (w : World) (d new : Duplicates) (client : ℕ) (r : Request) → StandsInWorld t w d → verdict t w r ≡ None → is_test r.flags ≡ false → IsAfter t w r new → StandsInWorld t (committed t w client r).world (swapped new)
 stands_committed t w d new client r stands none test is =
     let before : World = record w { values = after w r; commits = w.commits + 1 } in
     let within = within_after t w client r stands.sound none in

@@ -20,7 +20,7 @@ use Rattle.kms_model.proofs.SeenLemmas.{AreSeenAlike, alike-closed, alike-push}
 use Rattle.kms_model.proofs.SoundKept.{execution_keeps_sound}
 use Rattle.kms_model.proofs.ThingLemmas.{seen-same}
 use Rattle.kms_serial.specs.Commands.{Grows}
-use Rattle.kms_serial.specs.Device.{Stands}
+use Rattle.kms_serial.specs.Device.{StandsInWorld}
 use Rattle.kms_things.specs.Commands.{IsNoRequest}
 use Rattle.kms_things.proofs.SeenStates.{present_seen}
 use Rattle.kms_model.proofs.FramedLemmas.{execution_keeps_framed}
@@ -85,10 +85,10 @@ seen_executed t w client (command.Atomic r) sound other = absurd other
 seen_executed t w client command.Wait sound other = seen_same t w
 
 -- a device stands after a command that is no request
-stands_executed : (t : Topology) (w after : World) (d : Duplicates) (client : ℕ) (c : Command) → IsNoRequest c → (execute t w client c).world ≡ after → Stands t w d → Stands t after d
+stands_executed : (t : Topology) (w after : World) (d : Duplicates) (client : ℕ) (c : Command) → IsNoRequest c → (execute t w client c).world ≡ after → StandsInWorld t w d → StandsInWorld t after d
 stands_executed t w after d client c other is stands =
     let seen = seen_executed t w client c stands.sound other in
-    subst (λ (v : World). Stands t v d) is (record {
+    subst (λ (v : World). StandsInWorld t v d) is (record {
       device = stands.device;
       sound = execution_keeps_sound t w client c stands.sound;
       framed = execution_keeps_framed t w client c stands.sound.numbered stands.framed;
@@ -100,9 +100,9 @@ Answers t w after client c R = IfOk R (λ r. execute t w client c ≡ record { w
 
 -- the same by what is answered
 pub stands_after : (t : Topology) (w after : World) (d : Duplicates) (client : ℕ) (c : Command) (R : Result Reply NoMemory) → IsNoRequest c
-    → IfOk R (λ r. (u : Topology) → execute u w client c ≡ record { world = after; reply = r }) → OnErr R (after ≡ w) → Stands t w d → Stands t after d
+    → IfOk R (λ r. (u : Topology) → execute u w client c ≡ record { world = after; reply = r }) → OnErr R (after ≡ w) → StandsInWorld t w d → StandsInWorld t after d
 stands_after t w after d client c (Ok r) other is same stands = stands_executed t w after d client c other (ap (λ (e : Executed). e.world) (is t)) stands
-stands_after t w after d client c (Err e) other is same stands = subst (λ (v : World). Stands t v d) (sym same) stands
+stands_after t w after d client c (Err e) other is same stands = subst (λ (v : World). StandsInWorld t v d) (sym same) stands
 
 pub grows_after : (t : Topology) (w after : World) (client : ℕ) (c : Command) (R : Result Reply NoMemory) → IsNoRequest c → IsSound t w
     → IfOk R (λ r. (u : Topology) → execute u w client c ≡ record { world = after; reply = r }) → OnOk R (Grows w after)

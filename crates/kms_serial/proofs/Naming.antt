@@ -29,7 +29,7 @@ use Rattle.kms_model.proofs.HeldValues.{all_held-from}
 use Rattle.kms_model.proofs.Items.{IsIn, ids-has}
 use Rattle.kms_model.proofs.SeenLemmas.{fb-held}
 use Rattle.kms_model.proofs.ThingLemmas.{find-in, ids-numbered}
-use Rattle.kms_serial.specs.Device.{Stands}
+use Rattle.kms_serial.specs.Device.{StandsInWorld}
 use Rattle.kms_serial.specs.Framebuffers.{framebuffer_id, id_or_zero}
 use Rattle.kms_model.specs.Frames.Shown.{AreFramed, FramesIn}
 
@@ -90,7 +90,7 @@ fb_id-is t w index sound framed within =
     (fb-held t w.things w.values (object_id kind.Plane index) (all_held-from t w.things w.values sound.held) (ids-has t kind.Plane index within)))
 
 -- the same of a state that is duplicated
-pub fb_of_state : (t : Topology) (w : World) (d : Duplicates) (index : ℕ) (o : Option (Both PlaneState)) → Stands t w d → index < length t.planes
+pub fb_of_state : (t : Topology) (w : World) (d : Duplicates) (index : ℕ) (o : Option (Both PlaneState)) → StandsInWorld t w d → index < length t.planes
     → duplicate_at d.planes index ≡ o → pos (framebuffer_id (option_map (λ b. b.new) o)) ≡ value w.values (object_id kind.Plane index) FB_ID
 fb_of_state t w d index None stands within is =
     absurd (let some = stands.present.whole.planes.there index within in let none : is_some (duplicate_at d.planes index) ≡ false = rw is refl in cc)

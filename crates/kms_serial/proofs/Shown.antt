@@ -21,8 +21,8 @@ use Rattle.kms_model.specs.Device.States.{crtc_at, plane_at}
 use Rattle.kms_model.proofs.LateLemmas.{flatten-some}
 use Rattle.kms_model.proofs.MaskLemmas.{has_bit-mask_below}
 use Rattle.kms_model.proofs.StateLemmas.{sound-plane_in_range}
-use Rattle.kms_picture.specs.Covered.{are_placeable, is_placeable, is_near, is_near_rect, is_ready, may_picture}
-use Rattle.kms_serial.specs.Device.{Stands}
+use Rattle.kms_picture.specs.Covered.{are_placeable, is_placeable, is_near, is_near_rect, is_near_plane, may_picture}
+use Rattle.kms_serial.specs.Device.{StandsInWorld}
 
 le-int_le : (a b : ℤ) → a ≤ℤ b → int_le a b ≡ true
 le-int_le a b le = grind (arith, nat_tests, ints)
@@ -45,7 +45,7 @@ ready_state s range =
     (and_from (is_near s.dst.w) (is_near s.dst.h) (near_size s.dst.w range.w) (near_size s.dst.h range.h)))
 
 -- a plane of a device that stands is ready
-ready_plane : (t : Topology) (w : World) (d : Duplicates) (index : ℕ) (o : Option (Both PlaneState)) → Stands t w d → duplicate_at d.planes index ≡ o → index < length t.planes → is_ready o ≡ true
+ready_plane : (t : Topology) (w : World) (d : Duplicates) (index : ℕ) (o : Option (Both PlaneState)) → StandsInWorld t w d → duplicate_at d.planes index ≡ o → index < length t.planes → is_near_plane o ≡ true
 ready_plane t w d index None stands is lt = absurd (let some = stands.present.whole.planes.there index lt in let none : is_some (duplicate_at d.planes index) ≡ false = rw is refl in cc)
 ready_plane t w d index (Some both) stands is lt =
     let at = flatten-some (slice_get d.planes index) both is in
@@ -66,14 +66,14 @@ all_from : (p : ℕ → Bool) (a n : ℕ) → ((i : ℕ) → p i ≡ true) → l
 all_from p a zero each = refl
 all_from p a (suc n) each = and_from (p a) (list_all p (range_with_len (a + 1) n)) (each a) (all_from p (a + 1) n each)
 
-covered_crtc : (t : Topology) (w : World) (d : Duplicates) (crtc : ℕ) (o : Option (Both CrtcState)) → Stands t w d → duplicate_at d.crtcs crtc ≡ o → crtc < t.crtcs → are_placeable d.planes o ≡ true
+covered_crtc : (t : Topology) (w : World) (d : Duplicates) (crtc : ℕ) (o : Option (Both CrtcState)) → StandsInWorld t w d → duplicate_at d.crtcs crtc ≡ o → crtc < t.crtcs → are_placeable d.planes o ≡ true
 covered_crtc t w d crtc None stands is lt = absurd (let some = stands.present.whole.crtcs.there crtc lt in let none : is_some (duplicate_at d.crtcs crtc) ≡ false = rw is refl in cc)
 covered_crtc t w d crtc (Some both) stands is lt =
     let at = flatten-some (slice_get d.crtcs crtc) both is in
     let planes : both.new.planes ≡ on_crtc t w.values (object_id kind.Crtc crtc) kind.Plane = ap (λ (s : CrtcState). s.planes) (stands.present.new.crtcs crtc both at) in
-    all_from (is_placeable d.planes both.new.planes) 0 16 (λ i. implied_by (has_bit both.new.planes i) (is_ready (duplicate_at d.planes i))
+    all_from (is_placeable d.planes both.new.planes) 0 16 (λ i. implied_by (has_bit both.new.planes i) (is_near_plane (duplicate_at d.planes i))
     (λ has. ready_plane t w d i (duplicate_at d.planes i) stands refl (within t w (object_id kind.Crtc crtc) i (sym (ap (λ m. has_bit m i) planes) ∙ has))))
 
 -- the picture of each CRTC of a device that stands can be told
-pub may_picture-stands : (t : Topology) (w : World) (d : Duplicates) (crtc : ℕ) → Stands t w d → crtc < t.crtcs → may_picture d crtc ≡ true
+pub may_picture-stands : (t : Topology) (w : World) (d : Duplicates) (crtc : ℕ) → StandsInWorld t w d → crtc < t.crtcs → may_picture d crtc ≡ true
 may_picture-stands t w d crtc stands lt = covered_crtc t w d crtc (duplicate_at d.crtcs crtc) stands refl lt

@@ -5,8 +5,8 @@ use Rattle.kms_model.specs.Device.World.{start}
 use Rattle.kms_model.proofs.SoundStart.{start_is_sound}
 use Rattle.kms_things.specs.Starting.{start_states}
 use Rattle.kms_things.proofs.StartStates.{start_present}
-use Rattle.kms_serial.specs.Device.{Stands}
+use Rattle.kms_serial.specs.Device.{StandsInWorld}
 
 -- the device before the first command stands
-pub start_stands : (t : Topology) → IsDevice t → Stands t (start t) (start_states t)
+pub start_stands : (t : Topology) → IsDevice t → StandsInWorld t (start t) (start_states t)
 start_stands t device = record { device = device; sound = start_is_sound t device; framed = tt; present = start_present t device }

@@ -12,7 +12,7 @@ pub record Device : Type 0 where
   pub world : World
 
 -- a device in a sound world, whose framebuffers have their buffers, with the present states of its objects
-pub record Stands (t : Topology) (w : World) (d : Duplicates) : Type 0 where
+pub record StandsInWorld (t : Topology) (w : World) (d : Duplicates) : Type 0 where
   pub device : IsDevice t
   pub sound : IsSound t w
   pub framed : AreFramed w.things

@@ -3,7 +3,7 @@ ghost use Rattle.std.specs.Prelude.{◌≡◌, All, IfErr, IfOk, OnOk, None, Som
 ghost use Rattle.kms_model.specs.Request.Verdict.{verdict};
 ghost use Rattle.kms_model.specs.Request.Resolves.{IsSettable};
 ghost use Rattle.kms_request.specs.Whole.{StandBetween};
-ghost use Rattle.kms_serial.specs.Device.{Stands};
+ghost use Rattle.kms_serial.specs.Device.{StandsInWorld};
 ghost use Rattle.kms_things.specs.Present.{IsAfter};
 
 use crate::store::WorldStore;
@@ -18,7 +18,7 @@ pub fn check(
     states: &Duplicates,
     request: &Request,
 ) -> Result<Duplicates, Refusal>
-    requires { Stands topology.now store.now states.now }
+    requires { StandsInWorld topology.now store.now states.now }
     ensures refused { IfErr result (λ refusal. verdict topology.now store.now request.now
         ≡ Some refusal.0) }
     ensures accepted { OnOk result (verdict topology.now store.now request.now ≡ None) }

@@ -58,13 +58,13 @@ fn framebuffer_id(state: Option<PlaneState>) -> u32
 }
 
 impl Model for Serial {
-    ghost use Rattle.kms_serial.specs.Device.{Device, Stands};
+    ghost use Rattle.kms_serial.specs.Device.{Device, StandsInWorld};
 
     ghost Value = { Device };
 
     ghost view = { λ s. record { topology = s.topology; world = s.store } };
 
-    ghost invariant = { λ s. Stands s.topology s.store s.states };
+    ghost invariant = { λ s. StandsInWorld s.topology s.store s.states };
 }
 
 impl Serial {

@@ -14,7 +14,7 @@ use Rattle.kms_model.specs.Device.Objects.{object_id}
 use Rattle.kms_model.specs.Device.World.{thing_labelled}
 use Rattle.kms_model.specs.Machine.Commits.{asks_event, commit_at, new_crtc, out_fence_of}
 use Rattle.kms_model.specs.Machine.Effects.{event_of, next}
-use Rattle.kms_model.specs.Machine.State.{Machine, command_at, count_at, go_at, request_at}
+use Rattle.kms_model.specs.Machine.State.{Commit, Machine, command_at, count_at, go_at, place_at, request_at}
 use Rattle.kms_model.specs.Request.Flags.{wants_event}
 use Rattle.kms_model.specs.Request.Named.{named}
 use Rattle.kms_model.specs.Stores.Tables.{with_value}
@@ -145,6 +145,10 @@ FollowVblankWithGo =
     → LatchesSignals s.topology m (next s m (Vblank Crtc index)) k (object_id Crtc index) (count_at m.device (object_id Crtc index) + 1)
 
 -- Commits
+
+-- the commit that a swap sets up
+abbrev pub new_commit : Machine → ℕ → Request → Commit
+new_commit m client r = record { client = client; command = (place_at m client).command; request = r; world = m.device.world }
 
 -- the steps of clients, but swaps, and `stall`: they leave commits and what was done of them as they are
 abbrev pub leaves_commits : Step → Bool

@@ -38,7 +38,7 @@ use Rattle.kms_state.proofs.Slots.{same_duplicated}
 use Rattle.kms_check.specs.Moves.{AcceptedAs, RefusedBy}
 use Rattle.kms_check.proofs.Covering.{accepted-states}
 use Rattle.kms_check.proofs.Readiness.{is_duplicated-object, is_kind_duplicated}
-use Rattle.kms_track.specs.Places.{first_below, object_at}
+use Rattle.kms_track.specs.Places.{first_below, object_at_place}
 use Rattle.kms_stores.specs.declared.looking.Decided.{Decided}
 use Rattle.kms_stores.specs.declared.looking.Decided.TheVariants as decided
 use Rattle.kms_stores.specs.Decisions.{HoldsAll, IsAccepted, IsDecided, IsDeciding, MayRefuse, labels_of, number_or_0, steps_of, taker, taker_at, world}
@@ -47,7 +47,7 @@ use Rattle.kms_stores.specs.Swaps.{HasAllStates, swap_answer}
 use Rattle.kms_stores.proofs.Places.{client_there}
 use Rattle.kms_stores.proofs.Takers.{found_at}
 use Rattle.kms_core.proofs.Applied.{IsHistoryOf}
-use Rattle.kms_single_calls.specs.declared.contexts.Context.{Context}
+use Rattle.kms_single_calls.specs.declared.contexts.RequestContext.{RequestContext}
 use Rattle.kms_single_calls.specs.Deciding.{AreOfLabels, IsOfNoWorld, accepting_answer, accepting_step}
 use Rattle.kms_single_calls.specs.Taking.{HasTaken}
 
@@ -98,17 +98,17 @@ module _ (s : Script) (m : Machine) (stand : ContextsStand s m) (client : ℕ) (
 
 -- A client that decides
 
-pub there : (r : Run) (c : Context) → IsHistoryOf r → HasTaken r c → (1 ≤ c.client) × (c.client ≤ 16)
+pub there : (r : Run) (c : RequestContext) → IsHistoryOf r → HasTaken r c → (1 ≤ c.client) × (c.client ≤ 16)
 there r c is takes =
     let client = client_there r.script (machine r) c.client (command.Atomic c.request) (request-is (command_at r.script (machine r) c.client) c.request takes.at) in
     let few = is.formed.few in
     (client.0, (let most = client.1 in omega (arith, most, few)))
 
 -- it is the client of its ticket
-pub own_taker : (r : Run) (c : Context) → IsHistoryOf r → ContextsStand r.script (machine r) → HasTaken r c → taker (machine r) c.ticket.0 ≡ c.client
+pub own_taker : (r : Run) (c : RequestContext) → IsHistoryOf r → ContextsStand r.script (machine r) → HasTaken r c → taker (machine r) c.ticket.0 ≡ c.client
 own_taker r c is stand takes = (let number = there r c is takes in taker_is r.script (machine r) stand c.client c.ticket number.0 number.1 takes.taking)
 
-pub decides : (r : Run) (c : Context) (used : List (ℕ × Look)) → IsHistoryOf r → ContextsStand r.script (machine r) → HasTaken r c → map (λ l. l.0) used ≡ labels_of c.request.assigns → (machine r).stalled ≡ false → IsDeciding r c.ticket.0 used c.request
+pub decides : (r : Run) (c : RequestContext) (used : List (ℕ × Look)) → IsHistoryOf r → ContextsStand r.script (machine r) → HasTaken r c → map (λ l. l.0) used ≡ labels_of c.request.assigns → (machine r).stalled ≡ false → IsDeciding r c.ticket.0 used c.request
 decides r c used is stand takes labels going =
     let number = there r c is takes in
     let own = own_taker r c is stand takes in
@@ -129,14 +129,14 @@ flat (Some o) = refl
 pub same_there : {S : Type 0} (states : List (Option (Both S))) (i : ℕ) → is_some (duplicate_at states i) ≡ is_some (slice_index_or states i None)
 same_there states i = ap is_some (flat (slice_get states i) ∙ unwrap_or-slice_get states i None)
 
-module _ (r : Run) (c : Context) (takes : HasTaken r c) (checked : Checked) (kept : old_states checked.states ≡ old_states c.states) where
+module _ (r : Run) (c : RequestContext) (takes : HasTaken r c) (checked : Checked) (kept : old_states checked.states ≡ old_states c.states) where
   held_of : (k : Kind) (i : ℕ) → i < 16 → is_kind_duplicated k checked.states i ≡ true → holds (machine r) c.client (object_id k i) ≡ true
   held_of k i few there =
       takes.held (object_id k i) (sym (same_duplicated c.states checked.states (object_id k i) kept) ∙ is_duplicated-object k checked.states i few ∙ there)
 
   pub held_all : HasAllStates checked → HoldsAll (machine r) c.client checked.touched
   held_all states p low has = by_crtc (nat_lt p 4) refl where
-    by_plane : nat_lt p 4 ≡ false → (b : Bool) → nat_lt p 20 ≡ b → holds (machine r) c.client (object_at p) ≡ true
+    by_plane : nat_lt p 4 ≡ false → (b : Bool) → nat_lt p 20 ≡ b → holds (machine r) c.client (object_at_place p) ≡ true
     by_plane out true is =
         let above = ltb-false p 4 out in
         let below = ltb-true p 20 is in
@@ -147,13 +147,13 @@ module _ (r : Run) (c : Context) (takes : HasTaken r c) (checked : Checked) (kep
         let within : p - 20 < 8 = omega (arith, above, low) in
         rw (out, is) (held_of Conn (p - 20) (omega (arith, within)) (states.states.conns (p - 20) within (rw (out, is) at has)))
 
-    by_crtc : (b : Bool) → nat_lt p 4 ≡ b → holds (machine r) c.client (object_at p) ≡ true
+    by_crtc : (b : Bool) → nat_lt p 4 ≡ b → holds (machine r) c.client (object_at_place p) ≡ true
     by_crtc true is = (let below = ltb-true p 4 is in rw is (held_of Crtc p (omega (arith, below)) (same_there checked.states.crtcs p ∙ states.crtcs p below (rw is at has))))
     by_crtc false is = by_plane is (nat_lt p 20) refl
 
 -- A request that is accepted, and one that is refused
 
-pub accepts : (r : Run) (c : Context) (used : List (ℕ × Look)) (resolved : Resolved) (checked : Checked) → IsHistoryOf r → ContextsStand r.script (machine r) → HasTaken r c → AcceptedAs r.script.topology c.request used c.states checked resolved → HasAllStates checked → IsAccepted r c.ticket.0 used c.request resolved checked
+pub accepts : (r : Run) (c : RequestContext) (used : List (ℕ × Look)) (resolved : Resolved) (checked : Checked) → IsHistoryOf r → ContextsStand r.script (machine r) → HasTaken r c → AcceptedAs r.script.topology c.request used c.states checked resolved → HasAllStates checked → IsAccepted r c.ticket.0 used c.request resolved checked
 accepts r c used resolved checked is stand takes accepted states =
     let own = own_taker r c is stand takes in
     record {
@@ -167,7 +167,7 @@ accepts r c used resolved checked is stand takes accepted states =
 has_in : (objects : List ℕ) (object : ℕ) → has_number objects object ≡ true → IsIn object objects
 has_in objects object has = (let at = list_any-some (λ n. n == object) objects has in subst (λ o. IsIn o objects) (eqb-true at.item object at.holds) at.is_in)
 
-pub may_refuse : (r : Run) (c : Context) (used : List (ℕ × Look)) (why : Refusal) → IsHistoryOf r → ContextsStand r.script (machine r) → HasTaken r c → map (λ l. l.0) used ≡ labels_of c.request.assigns → (machine r).stalled ≡ false → RefusedBy r.script.topology c.request used c.states why → MayRefuse r c.ticket.0 used why
+pub may_refuse : (r : Run) (c : RequestContext) (used : List (ℕ × Look)) (why : Refusal) → IsHistoryOf r → ContextsStand r.script (machine r) → HasTaken r c → map (λ l. l.0) used ≡ labels_of c.request.assigns → (machine r).stalled ≡ false → RefusedBy r.script.topology c.request used c.states why → MayRefuse r c.ticket.0 used why
 may_refuse r c used why is stand takes labels going (inl early) = record { request = c.request; deciding = decides r c used is stand takes labels going; due = inl (record { first = early }) }
 may_refuse r c used why is stand takes labels going (inr late) =
     let own = own_taker r c is stand takes in
@@ -186,11 +186,11 @@ may_refuse r c used why is stand takes labels going (inr late) =
 -- What deciding comes to
 
 -- the history of a decision's answer
-pub steps_own : (r n : Run) (c : Context) (by : ℕ → Step) (answer : Decided) → taker (machine r) c.ticket.0 ≡ c.client → n ≡ gains r (steps_of (taker (machine r) c.ticket.0) (by (taker (machine r) c.ticket.0)) answer) → n ≡ gains r (steps_of c.client (by c.client) answer)
+pub steps_own : (r n : Run) (c : RequestContext) (by : ℕ → Step) (answer : Decided) → taker (machine r) c.ticket.0 ≡ c.client → n ≡ gains r (steps_of (taker (machine r) c.ticket.0) (by (taker (machine r) c.ticket.0)) answer) → n ≡ gains r (steps_of c.client (by c.client) answer)
 steps_own r n c by answer own history = history ∙ ap (λ client. gains r (steps_of client (by client) answer)) own
 
 -- what an accepted request is answered, and the history of it
-module _ {E : Type 0} (r n : Run) (c : Context) (used : List (ℕ × Look)) (result : Result Decided E) (own : taker (machine r) c.ticket.0 ≡ c.client) where
+module _ {E : Type 0} (r n : Run) (c : RequestContext) (used : List (ℕ × Look)) (result : Result Decided E) (own : taker (machine r) c.ticket.0 ≡ c.client) where
   abbrev Own : ℕ
   Own = taker (machine r) c.ticket.0
 
@@ -221,7 +221,7 @@ module _ {E : Type 0} (r n : Run) (c : Context) (used : List (ℕ × Look)) (res
         (subst (λ client. By client (step.Swap client)) own history)
 
 -- where states of what is touched are missing, there is no world that the look-ups and the states are of
-pub no_world : (r : Run) (c : Context) (used : List (ℕ × Look)) (checked : Checked) (resolved : Resolved) → AcceptedAs r.script.topology c.request used c.states checked resolved → (HasAllStates checked → ⊥) → IsOfNoWorld r c used
+pub no_world : (r : Run) (c : RequestContext) (used : List (ℕ × Look)) (checked : Checked) (resolved : Resolved) → AcceptedAs r.script.topology c.request used c.states checked resolved → (HasAllStates checked → ⊥) → IsOfNoWorld r c used
 no_world r c used checked resolved accepted lacks = record {
   resolved = resolved;
   asks = accepted.asks;
@@ -241,7 +241,7 @@ labels-now : (w : World) (request : Request) → map (λ (l : ℕ × Look). l.0)
 labels-now w request = named w (labels_of request.assigns)
 
 -- look-ups have the labels of those of now exactly where they are of the request's labels
-module _ (r : Run) (c : Context) (used given now : List (ℕ × Look)) (same : given ≡ used) (now_is : now ≡ lookups (world r) c.request) where
+module _ (r : Run) (c : RequestContext) (used given now : List (ℕ × Look)) (same : given ≡ used) (now_is : now ≡ lookups (world r) c.request) where
   now_labels : map (λ (l : ℕ × Look). l.0) now ≡ labels_of c.request.assigns
   now_labels = ap (map (λ (l : ℕ × Look). l.0)) now_is ∙ labels-now (world r) c.request
 

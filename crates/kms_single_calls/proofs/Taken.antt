@@ -21,7 +21,7 @@ use Rattle.kms_state.specs.StandsIn.{Agrees, IsStateOf, KeepsNew, KeepsOld}
 use Rattle.kms_calls.specs.Locks.{has_lock, held_state, present_state}
 use Rattle.kms_calls.specs.States.{state_of_kind}
 use Rattle.kms_stores.specs.Run.{Run, machine}
-use Rattle.kms_single_calls.specs.declared.contexts.Context.{Context}
+use Rattle.kms_single_calls.specs.declared.contexts.RequestContext.{RequestContext}
 use Rattle.kms_single_calls.specs.Taking.{HasTaken, taken_up}
 
 -- Nothing is duplicated at first
@@ -79,7 +79,7 @@ state_is : (b : Bool) (x state : ObjState) → Some state ≡ then_some b x → 
 state_is true x state is = cc
 state_is false x state is = absurd cc
 
-module _ (r : Run) (c : Context) (id : ObjId) where
+module _ (r : Run) (c : RequestContext) (id : ObjId) where
   abbrev Held : Bool
   Held = has_lock r.script.topology id.0 && holds (machine r) c.client id.0
 
@@ -109,12 +109,12 @@ module _ (r : Run) (c : Context) (id : ObjId) where
         }
 
 -- the states so far are duplicated, and what is left makes the whole
-pub record HasTakenUp (r : Run) (begun : Context) (objects : List ObjId) (c : Context) (rest : List ObjId) : Type 0 where
+pub record HasTakenUp (r : Run) (begun : RequestContext) (objects : List ObjId) (c : RequestContext) (rest : List ObjId) : Type 0 where
   pub all : taken_up r c rest ≡ taken_up r begun objects
   pub taken : HasTaken r c
 
 -- new and old states are the same
-pub fresh : (r : Run) (c : Context) → HasTaken r c → AreFresh c.states
+pub fresh : (r : Run) (c : RequestContext) → HasTaken r c → AreFresh c.states
 fresh r c takes = record {
   crtcs = λ index both there. takes.agrees.new.crtcs index both there ∙ sym (takes.agrees.old.crtcs index both there);
   planes = λ index both there. takes.agrees.new.planes index both there ∙ sym (takes.agrees.old.planes index both there);

@@ -10,7 +10,7 @@ use std::alloc::Global;
 
 /// A client that takes locks for its request.
 #[derive(Drop)]
-pub struct Context {
+pub struct RequestContext {
     /// The client.
     pub client: u32,
     /// Its ticket.
@@ -22,7 +22,7 @@ pub struct Context {
 }
 
 /// The context of a client that takes locks for a request, with no states. None exactly where it takes none.
-fn bare_context(core: &Core, alloc: Global, client: u32) -> Result<Option<Context>, NoMemory>
+fn bare_context(core: &Core, alloc: Global, client: u32) -> Result<Option<RequestContext>, NoMemory>
     ensures context { IfOk result (λ found. found ≡ bare_context_at core.now client) }
     ensures taken { IfOk result (λ found. IfSome found (HasTaken core.now)) }
 {
@@ -38,7 +38,7 @@ fn bare_context(core: &Core, alloc: Global, client: u32) -> Result<Option<Contex
         return Ok(None);
     };
     let request = request.copy(alloc)?;
-    Ok(Some(Context {
+    Ok(Some(RequestContext {
         client,
         ticket,
         request,
@@ -48,7 +48,7 @@ fn bare_context(core: &Core, alloc: Global, client: u32) -> Result<Option<Contex
 
 /// Duplicates the state of an object that a context holds. True exactly where it holds the object, whose state is not
 /// duplicated yet; else the context stays as it was.
-fn take_up(core: &Core, context: &mut Context, id: ObjId) -> bool
+fn take_up(core: &Core, context: &mut RequestContext, id: ObjId) -> bool
     requires { HasTaken core.now context.old }
     ensures held { result ≡ may_take_up core.now context.old id }
     ensures context { context.new
@@ -67,7 +67,7 @@ fn take_up(core: &Core, context: &mut Context, id: ObjId) -> bool
 
 /// Duplicates the states of objects that a context holds, up to the first that it does not hold or that stands twice. True
 /// exactly where there is no such object.
-fn take_up_all(core: &Core, context: &mut Context, objects: &[ObjId]) -> bool
+fn take_up_all(core: &Core, context: &mut RequestContext, objects: &[ObjId]) -> bool
     requires { HasTaken core.now context.old }
     ensures all { taken_up core.now context.old objects.now ≡ then_some result context.new }
     ensures taken { HasTaken core.now context.new }
@@ -88,7 +88,7 @@ pub fn context_with(
     alloc: Global,
     client: u32,
     objects: &[ObjId],
-) -> Result<Option<Context>, NoMemory>
+) -> Result<Option<RequestContext>, NoMemory>
     ensures context { IfOk result (λ found. found ≡ context_with core.now client objects.now) }
     ensures taken { IfOk result (λ found. IfSome found (HasTaken core.now)) }
 {

@@ -11,7 +11,7 @@ ghost use Rattle.kms_stores.specs.Swaps.{HasAllStates};
 ghost use Rattle.kms_single_calls.specs.Deciding.{AreOfLabels, ComesTo, accepting_answer, accepting_step};
 ghost use Rattle.kms_single_calls.specs.Taking.{HasTaken};
 
-use crate::contexts::Context;
+use crate::contexts::RequestContext;
 use kms_check::{Move, next_move};
 use kms_core::{Core, Decided};
 use kms_model::{Both, Checked, Look, Lookups, NoMemory, Resolved, has_bit};
@@ -25,7 +25,7 @@ use std::alloc::Global;
 pub fn decide(
     core: &mut Core,
     alloc: Global,
-    context: &Context,
+    context: &RequestContext,
     used: &Lookups,
 ) -> Result<Option<Decided>, NoMemory>
     requires { HasTaken core.old context.now }
@@ -46,7 +46,7 @@ pub fn decide(
 fn decide_with(
     core: &mut Core,
     alloc: Global,
-    context: &Context,
+    context: &RequestContext,
     used: &Lookups,
 ) -> Result<Option<Decided>, NoMemory>
     requires taken { HasTaken core.old context.now }
@@ -76,7 +76,7 @@ fn decide_with(
 fn accept(
     core: &mut Core,
     alloc: Global,
-    context: &Context,
+    context: &RequestContext,
     used: &Lookups,
     checked: &Checked,
     resolved: &Resolved,

@@ -7,7 +7,7 @@ mod deciding;
 mod locks;
 mod steps;
 
-pub use contexts::{Context, context_with};
+pub use contexts::{RequestContext, context_with};
 pub use deciding::decide;
 pub use locks::{call_lock, call_relock};
 pub use steps::call_step;

@@ -32,7 +32,7 @@ use Rattle.kms_model.specs.Request.Agreement.{AgreesNew, AreNew, StandsFor, conn
 use Rattle.kms_model.proofs.SetLemmas.{may_set-takes, takes}
 use Rattle.kms_model.proofs.ValueLemmas.{Puts, Puts-put}
 use Rattle.kms_state.specs.Places.{is_duplicated, is_duplicated_of, state_at, state_of, old_states}
-use Rattle.kms_state.specs.Changes.{HasObject, IsSet, Sets, after_crtc, after_number, after_value, new_number, plane_with, rerouted, set_to, with_new}
+use Rattle.kms_state.specs.Changes.{HasObject, IsSet, Sets, after_crtc, after_number, after_value, new_number, plane_after_set, rerouted, set_to, with_new}
 use Rattle.kms_state.proofs.Frames.{conn_state_at-other, crtc_at-kept, crtc_state_at-other, on_crtc-same, plane_at-other, same_crtc_state}
 use Rattle.kms_model.proofs.KindsOfIds.{has_kind, kind-conn, kind-crtc, kind-plane}
 use Rattle.kms_state.proofs.Routes.{AreNew-rerouted, IsRouted}
@@ -129,7 +129,7 @@ natural_if false x y = refl
 
 -- a plane's state after one of its numbers is set
 pub number_plane : (things : List Thing) (before after : List Setting) (object prop : ℕ) (n : ℤ) → Puts before after object prop n → prop ≢ FB_ID → prop ≢ CRTC_ID
-    → plane_with prop n (plane_at things before object) ≡ plane_at things after object
+    → plane_after_set prop n (plane_at things before object) ≡ plane_at things after object
 number_plane things before after object prop n puts other_fb other_crtc =
     let v : ℕ → ℤ = value before object in
     sym (plane_after things before after object prop n puts
@@ -315,13 +315,13 @@ pub fb_after : (d : Duplicates) (id : ℕ) (fb : Option FbInfo) (both : Both Pla
 fb_after d id fb both there = ap (λ xs. record d { planes = xs }) (sym (changed-at Plane d.planes id both (λ s. record s { fb = fb }) there.from there.at))
 
 -- a number of a plane that is duplicated at its place
-pub number_after : (d : Duplicates) (id prop : ℕ) (n : ℤ) (both : Both PlaneState) (new : PlaneState) → IsAt Plane d.planes id both → length d.planes ≡ 16 → new ≡ plane_with prop n both.new
+pub number_after : (d : Duplicates) (id prop : ℕ) (n : ℤ) (both : Both PlaneState) (new : PlaneState) → IsAt Plane d.planes id both → length d.planes ≡ 16 → new ≡ plane_after_set prop n both.new
     → record d { planes = set d.planes (id - first_id Plane) (Some (record both { new = new })) } ≡ after_value d id prop (to.Num n)
 number_after d id prop n both new there many is =
     let within : id - first_id Plane < length d.planes = slice_get_within d.planes (id - first_id Plane) (Some both) there.at in
     let kind : kind_of id ≡ Plane = kind-plane id there.from (omega (arith, within, many)) in
     sym (ap (λ k. after_number k d id prop n) kind
-    ∙ ap (λ xs. record d { planes = xs }) (changed-at Plane d.planes id both (plane_with prop n) there.from there.at)
+    ∙ ap (λ xs. record d { planes = xs }) (changed-at Plane d.planes id both (plane_after_set prop n) there.from there.at)
     ∙ ap (λ s. record d { planes = set d.planes (id - first_id Plane) (Some (record both { new = s })) }) (sym is))
 
 -- a set of a fence

@@ -71,8 +71,8 @@ Sets before s after =
     → AgreesNew t things (set_in values s number) after
 
 -- a plane's state after one of its numbers is set
-abbrev pub plane_with : ℕ → ℤ → PlaneState → PlaneState
-plane_with prop n s = record s {
+abbrev pub plane_after_set : ℕ → ℤ → PlaneState → PlaneState
+plane_after_set prop n s = record s {
   dst = record {
     x = if prop == CRTC_X then n else s.dst.x;
     y = if prop == CRTC_Y then n else s.dst.y;
@@ -98,7 +98,7 @@ set_to object prop value = record { object = obj_id object; prop = prop; value =
 abbrev pub after_number : Kind → Duplicates → ℕ → ℕ → ℤ → Duplicates
 after_number Crtc d id prop n =
     record d { crtcs = changed Crtc d.crtcs id (λ s. record s { active = not (int_eq n (pos 0)) }) }
-after_number Plane d id prop n = record d { planes = changed Plane d.planes id (plane_with prop n) }
+after_number Plane d id prop n = record d { planes = changed Plane d.planes id (plane_after_set prop n) }
 after_number Conn d id prop n = d
 after_number Enc d id prop n = d
 

@@ -5,7 +5,7 @@ ghost use Rattle.kms_model.specs.declared.properties.TheConstants.{ACTIVE, CRTC_
 ghost use Rattle.kms_model.specs.declared.sets.SetValue.TheVariants as to;
 ghost use Rattle.kms_model.specs.Request.SetRanges.{may_set};
 ghost use Rattle.kms_state.specs.Places.{state_of};
-ghost use Rattle.kms_state.specs.Changes.{IsSet, changed, plane_with, rerouted, set_to, with_member, with_routed};
+ghost use Rattle.kms_state.specs.Changes.{IsSet, changed, plane_after_set, rerouted, set_to, with_member, with_routed};
 
 use crate::places::Duplicating;
 use kms_model::properties::{
@@ -149,7 +149,7 @@ fn with_member(mask: u32, index: u32, is_there: bool) -> u32
 /// Sets a number of a plane's state.
 fn set_plane_number(plane: &mut PlaneState, prop: u32, number: i64)
     requires { IsTrue (may_set Plane prop (to.Num number)) }
-    ensures { plane.new ≡ plane_with prop number plane.old }
+    ensures { plane.new ≡ plane_after_set prop number plane.old }
 {
     match prop {
         CRTC_X => plane.dst.x = number,

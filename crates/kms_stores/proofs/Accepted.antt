@@ -25,7 +25,7 @@ use Rattle.kms_model.specs.Request.Verdict.{early_in, late_in, verdict}
 use Rattle.kms_model.proofs.Items.{or_else-nones}
 use Rattle.kms_laws.proofs.ClientProgress.{taking-from}
 use Rattle.kms_track.specs.InStep.{is_of_device, is_there}
-use Rattle.kms_track.specs.Places.{all_below, mask_has, object_at}
+use Rattle.kms_track.specs.Places.{all_below, mask_has, object_at_place}
 use Rattle.kms_track.proofs.CheckedLemmas.{device_within, in_touched}
 use Rattle.kms_track.proofs.Lockables.{all_lockable}
 use Rattle.kms_track.proofs.PlaceLemmas.{all_same}
@@ -59,18 +59,18 @@ unfolding holds_touched
 mask_holds t m client request mask device is =
     all_lockable t (held_at m client mask) (λ object. not (touches t m.device.world request object) || holds m client object) (device_within t device) there elsewhere
   where
-    has : (p : ℕ) → p < 28 → (is_of_device t (object_at p) && touches t m.device.world request (object_at p)) ≡ mask_has mask p
+    has : (p : ℕ) → p < 28 → (is_of_device t (object_at_place p) && touches t m.device.world request (object_at_place p)) ≡ mask_has mask p
     has p below = in_touched t m.device.world request p below ∙ ap (λ (x : Mask). mask_has x p) (sym is)
 
-    there : (p : ℕ) → p < 28 → is_there t p ≡ true → held_at m client mask p ≡ (not (touches t m.device.world request (object_at p)) || holds m client (object_at p))
-    there p below on = if_on (is_of_device t (object_at p)) (mask_has mask p) _ (holds m client (object_at p)) (on_place t p below ∙ on) (has p below)
+    there : (p : ℕ) → p < 28 → is_there t p ≡ true → held_at m client mask p ≡ (not (touches t m.device.world request (object_at_place p)) || holds m client (object_at_place p))
+    there p below on = if_on (is_of_device t (object_at_place p)) (mask_has mask p) _ (holds m client (object_at_place p)) (on_place t p below ∙ on) (has p below)
 
     elsewhere : (p : ℕ) → p < 28 → is_there t p ≡ false → held_at m client mask p ≡ true
-    elsewhere p below off = if_off (is_of_device t (object_at p)) (mask_has mask p) _ (holds m client (object_at p)) (on_place t p below ∙ off) (has p below)
+    elsewhere p below off = if_off (is_of_device t (object_at_place p)) (mask_has mask p) _ (holds m client (object_at_place p)) (on_place t p below ∙ off) (has p below)
 
 pub mask_held : (t : Topology) (m : Machine) (client : ℕ) (request : Request) (mask : Mask) → IsDevice t → mask ≡ touched_by t m.device.world request → HoldsAll m client mask → holds_touched t m client request ≡ true
 mask_held t m client request mask device is held =
-    sym (mask_holds t m client request mask device is) ∙ each_true (held_at m client mask) (λ p below. implied (mask_has mask p) (holds m client (object_at p)) (held p below))
+    sym (mask_holds t m client request mask device is) ∙ each_true (held_at m client mask) (λ p below. implied (mask_has mask p) (holds m client (object_at_place p)) (held p below))
 
 -- Acceptance
 

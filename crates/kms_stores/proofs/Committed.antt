@@ -37,9 +37,9 @@ use Rattle.kms_things.specs.Present.{IsPresent}
 use Rattle.kms_things.proofs.SeenStates.{present_seen}
 use Rattle.kms_track.proofs.There.{in_left, in_right}
 use Rattle.kms_track.specs.StepLaws.{HasStates}
-use Rattle.kms_stores.specs.Settled.{IsSettled}
+use Rattle.kms_stores.specs.SwappedIn.{IsSwappedIn}
 use Rattle.kms_stores.specs.Swaps.{HasAllStates}
-use Rattle.kms_stores.proofs.AfterCommit.{settled_agree, settled_whole}
+use Rattle.kms_stores.proofs.AfterCommit.{swapped_agree, swapped_whole}
 
 -- What is touched was duplicated
 
@@ -104,26 +104,26 @@ module _ (t : Topology) (w : World) (r : Request) (at : IsRequestAt t w r) (chec
       ∙ and_from _ _ (lt-ltb i (count_of t Conn) low) (sym (touched_as Conn i (omega (arith, low, few.conns))) ∙ touched))))).connector
       (kind_of-object Conn i (omega (arith, low, few.conns))))
 
-  values_present : (present news : Duplicates) → IsPresent t w present → IsSettled present checked.states news → IsPresent t (record w { values = after w r; commits = w.commits + 1 }) news
-  values_present present news was settled =
-      let crtcs = settled_agree (λ index. crtc_state_at t w.things w.values (object_id Crtc index)) (λ index. crtc_state_at t w.things (after w r) (object_id Crtc index)) present.crtcs checked.states.crtcs news.crtcs t.crtcs
-      settled.crtcs was.whole.crtcs was.old.crtcs was.new.crtcs is.new.crtcs crtc_same in
-      let planes = settled_agree (λ index. plane_at w.things w.values (object_id Plane index)) (λ index. plane_at w.things (after w r) (object_id Plane index)) present.planes checked.states.planes news.planes (count_of t Plane)
-      settled.planes was.whole.planes was.old.planes was.new.planes is.new.planes plane_same in
-      let conns = settled_agree (λ index. conn_state_at w.values (object_id Conn index)) (λ index. conn_state_at (after w r) (object_id Conn index)) present.conns checked.states.conns news.conns (count_of t Conn)
-      settled.conns was.whole.conns was.old.conns was.new.conns is.new.conns conn_same in
+  values_present : (present news : Duplicates) → IsPresent t w present → IsSwappedIn present checked.states news → IsPresent t (record w { values = after w r; commits = w.commits + 1 }) news
+  values_present present news was swaps =
+      let crtcs = swapped_agree (λ index. crtc_state_at t w.things w.values (object_id Crtc index)) (λ index. crtc_state_at t w.things (after w r) (object_id Crtc index)) present.crtcs checked.states.crtcs news.crtcs t.crtcs
+      swaps.crtcs was.whole.crtcs was.old.crtcs was.new.crtcs is.new.crtcs crtc_same in
+      let planes = swapped_agree (λ index. plane_at w.things w.values (object_id Plane index)) (λ index. plane_at w.things (after w r) (object_id Plane index)) present.planes checked.states.planes news.planes (count_of t Plane)
+      swaps.planes was.whole.planes was.old.planes was.new.planes is.new.planes plane_same in
+      let conns = swapped_agree (λ index. conn_state_at w.values (object_id Conn index)) (λ index. conn_state_at (after w r) (object_id Conn index)) present.conns checked.states.conns news.conns (count_of t Conn)
+      swaps.conns was.whole.conns was.old.conns was.new.conns is.new.conns conn_same in
       record {
         whole = record {
-          crtcs = settled_whole t.crtcs present.crtcs checked.states.crtcs news.crtcs settled.crtcs was.whole.crtcs;
-          planes = settled_whole (count_of t Plane) present.planes checked.states.planes news.planes settled.planes was.whole.planes;
-          conns = settled_whole (count_of t Conn) present.conns checked.states.conns news.conns settled.conns was.whole.conns;
+          crtcs = swapped_whole t.crtcs present.crtcs checked.states.crtcs news.crtcs swaps.crtcs was.whole.crtcs;
+          planes = swapped_whole (count_of t Plane) present.planes checked.states.planes news.planes swaps.planes was.whole.planes;
+          conns = swapped_whole (count_of t Conn) present.conns checked.states.conns news.conns swaps.conns was.whole.conns;
         };
         old = record { crtcs = crtcs.0; planes = planes.0; conns = conns.0 };
         new = record { crtcs = crtcs.1; planes = planes.1; conns = conns.1 };
       }
 
-  pub committed_present : (client : ℕ) (present news : Duplicates) → verdict t w r ≡ None → AreKept w.things → IsPresent t w present → IsSettled present checked.states news → IsPresent t (committed t w client r).world news
-  committed_present client present news none kept was settled =
+  pub committed_present : (client : ℕ) (present news : Duplicates) → verdict t w r ≡ None → AreKept w.things → IsPresent t w present → IsSwappedIn present checked.states news → IsPresent t (committed t w client r).world news
+  committed_present client present news none kept was swaps =
       let v : World = record w { values = after w r; commits = w.commits + 1 } in
       let follows = follows-out_fences t client r.assigns v (ids_of t Crtc) (sound-apply t w r (w.commits + 1) at.sound none) kept in
-      present_seen t v (committed t w client r).world news follows.like.values follows.like.alike (values_present present news was settled)
+      present_seen t v (committed t w client r).world news follows.like.values follows.like.alike (values_present present news was swaps)

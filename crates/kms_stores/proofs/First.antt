@@ -12,7 +12,7 @@ use Rattle.kms_model.specs.Machine.State.{first_machine}
 use Rattle.kms_model.specs.Script.WellFormed.{IsWellFormed}
 use Rattle.kms_clients.specs.InStep.{AreClientsOf}
 use Rattle.kms_clients.specs.Standing.{Standing}
-use Rattle.kms_regs.specs.File.{RegisterFile, StandsFor}
+use Rattle.kms_regs.specs.File.{RegisterFile, StandsForDevice}
 use Rattle.kms_signal.proofs.InStepLemmas.{no_fences, no_events}
 use Rattle.kms_signal.specs.Queues.{Queue, empty_queue}
 use Rattle.kms_tails.proofs.InStepLemmas.{first_stands}
@@ -42,7 +42,7 @@ first_stores clients present queues registers = record {
 }
 
 pub stands_first : (s : Script) (clients : Standing) (present : Duplicates) (queues : List Queue) (registers : RegisterFile) → IsWellFormed s
-    → AreClientsOf (first_machine s.topology).contexts clients → IsPresent s.topology (start s.topology) present → queues ≡ replicate (length s.clients) empty_queue → StandsFor s.topology (first_machine s.topology).device registers
+    → AreClientsOf (first_machine s.topology).contexts clients → IsPresent s.topology (start s.topology) present → queues ≡ replicate (length s.clients) empty_queue → StandsForDevice s.topology (first_machine s.topology).device registers
     → Stands (record { script = s; steps = [] }) (first_stores clients present queues registers)
 unfolding read run_steps are_legal freed_from
 stands_first s clients present queues registers formed clients_stand present_stand queues_are registers_stand = record {

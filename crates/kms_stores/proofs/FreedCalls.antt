@@ -6,7 +6,7 @@ use Rattle.kms_model.specs.declared.objects.Topology.{Topology}
 use Rattle.kms_model.specs.declared.pictures.Layer.{Layer}
 use Rattle.kms_model.specs.declared.pictures.Picture.{Picture}
 use Rattle.kms_model.specs.declared.pictures.Picture.TheVariants.{Off, On}
-use Rattle.kms_regs.specs.File.{StandsFor}
+use Rattle.kms_regs.specs.File.{StandsForDevice}
 use Rattle.kms_model.specs.declared.replies.Reply.{Reply}
 use Rattle.kms_model.specs.declared.replies.Reply.TheVariants as reply
 use Rattle.kms_model.specs.declared.scripts.Command.{Command}
@@ -84,7 +84,7 @@ named_by id (On shown) = refl
 
 -- what a register file tells of a CRTC's layers is so
 abbrev TellsLayers : Stores → ℕ → List Layer → Type 0
-TellsLayers st c layers = (t : Topology) (d : DeviceState) → StandsFor t d st.registers → layers ≡ picture_layers (decoded_picture t d.live c)
+TellsLayers st c layers = (t : Topology) (d : DeviceState) → StandsForDevice t d st.registers → layers ≡ picture_layers (decoded_picture t d.live c)
 
 pub live_all : (r : Run) (st : Stores) (c : ℕ) (layers : List Layer) (found ids : List ℕ) → Stands r st → AreAllOf found (λ id. layers_name id layers) → TellsLayers st c layers → ids ≡ found
     → AreAllOf ids (λ id. picture_names id (decoded_picture r.script.topology (machine r).device.live c))

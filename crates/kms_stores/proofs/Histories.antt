@@ -14,7 +14,7 @@ use Rattle.kms_clients.specs.Standing.{Standing}
 use Rattle.kms_laws.proofs.Modes.{plain-from}
 use Rattle.kms_freeing.specs.Freeing.{AreFreed, may_free}
 use Rattle.kms_logs.specs.Logs.{Logged, Reserved}
-use Rattle.kms_regs.specs.File.{RegisterFile, StandsFor}
+use Rattle.kms_regs.specs.File.{RegisterFile, StandsForDevice}
 use Rattle.kms_signal.specs.Rooms.{Rooms}
 use Rattle.kms_tails.specs.declared.tail.Tail.{Tail}
 use Rattle.kms_tails.specs.InStep.{AreTailsOf}
@@ -98,7 +98,7 @@ with_freed s m st freed stands =
     told_anew s m st m.contexts m.records.replies m.stalled st.clients st.replies st.latches freed st.stalled stands.clients stands.recorded stands.ended stands
 
 -- and where marks, shadow words and what follows these are told anew
-pub written_anew : (s : Script) (m : Machine) (shadow : Registers) (marks : Marks) (st : Stores) (tracker : Tracking) (v : Rooms Tail) (new : RegisterFile) → StandsFor s.topology (record m.device { shadow = shadow; marks = marks }) new
+pub written_anew : (s : Script) (m : Machine) (shadow : Registers) (marks : Marks) (st : Stores) (tracker : Tracking) (v : Rooms Tail) (new : RegisterFile) → StandsForDevice s.topology (record m.device { shadow = shadow; marks = marks }) new
     → IsTrackerOf s.topology m.device.commits marks m.records.latches tracker → AreTailsOf s.topology m.device.commits marks m.records.latches v → StandsAt s m st
     → StandsAt s (record m { device = record m.device { shadow = shadow; marks = marks } }) (record st { tracker = tracker; tails = v; registers = new })
 written_anew s m shadow marks st tracker v new written tracked kept stands = record {

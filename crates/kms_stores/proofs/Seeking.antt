@@ -29,7 +29,7 @@ use Rattle.kms_track.proofs.CheckedLemmas.{device_within}
 use Rattle.kms_track.proofs.MachineAnswers.{ready_machine}
 use Rattle.kms_stores.specs.Run.{Run, machine}
 use Rattle.kms_stores.specs.Stands.{Stores, Stands, is_fence}
-use Rattle.kms_stores.specs.Work.{AreFewTails, FindsFirst, IsFirstOf, IsGoing, IsPassedBy, first_claim}
+use Rattle.kms_stores.specs.Work.{AreFewTails, FindsFirstWhere, IsFirstOf, IsGoing, IsPassedBy, first_claim}
 use Rattle.kms_stores.proofs.CommitStates.{facts}
 use Rattle.kms_stores.proofs.Fencing.{thing_made}
 use Rattle.kms_stores.proofs.FirstTails.{before_first, of_all, up_to_first}
@@ -48,7 +48,7 @@ pub one_passed : (v : Rooms Tail) (test : ℕ → Bool) (from k : ℕ) → ArePa
 one_passed v test from k passed first fails t commits marks latches stand =
     up_to_first t commits marks latches v stand (λ j. j < length commits → IsPassedBy marks test j) (λ j cleaned within. inl cleaned) from k first (λ within. inr fails) (passed t commits marks latches stand)
 
-pub one_found : (v : Rooms Tail) (test : ℕ → Bool) (from k : ℕ) → ArePassed v test from → tails.FindsFirst v from (Some k) → test k ≡ true → FindsFirst v test (Some k)
+pub one_found : (v : Rooms Tail) (test : ℕ → Bool) (from k : ℕ) → ArePassed v test from → tails.FindsFirst v from (Some k) → test k ≡ true → FindsFirstWhere v test (Some k)
 one_found v test from k passed first passes t commits marks latches stand =
     let within : k < length commits = (first t commits marks latches stand).1 in (
       within,
@@ -56,7 +56,7 @@ one_found v test from k passed first passes t commits marks latches stand =
       λ j before. before_first t commits marks latches v stand (λ i. i < length commits → IsPassedBy marks test i) (λ i cleaned inside. inl cleaned) from k first (passed t commits marks latches stand) j before (omega (arith, before, within)),
     )
 
-pub none_found : (v : Rooms Tail) (test : ℕ → Bool) (from : ℕ) → ArePassed v test from → tails.FindsFirst v from None → FindsFirst v test None
+pub none_found : (v : Rooms Tail) (test : ℕ → Bool) (from : ℕ) → ArePassed v test from → tails.FindsFirst v from None → FindsFirstWhere v test None
 none_found v test from passed first t commits marks latches stand j within =
     of_all t commits marks latches v stand (λ i. i < length commits → IsPassedBy marks test i) (λ i cleaned inside. inl cleaned) from first (passed t commits marks latches stand) j within within
 
@@ -156,11 +156,11 @@ answered r st (Some k) stands going first =
     sym (find_first (λ k. legal r.script (machine r) (step.Claim k)) 0 (length (machine r).device.commits) k (omega arith) (omega (arith, within)) (claim_is r st k stands going within ∙ first.1)
     (λ j low before. passed_by r st j stands going (omega (arith, before, within)) (first.2 j before)))
 
-pub claim_found : (r v : Run) (st : Stores) (found : Option ℕ) → Stands r st → r ≡ v → st.stalled ≡ false → FindsFirst st.tails (ready_of st.tracker st.fences) found → found ≡ first_claim v
+pub claim_found : (r v : Run) (st : Stores) (found : Option ℕ) → Stands r st → r ≡ v → st.stalled ≡ false → FindsFirstWhere st.tails (ready_of st.tracker st.fences) found → found ≡ first_claim v
 claim_found r v st found stands same going first =
     answered r st found stands (stands.stores.ended ∙ going) (first r.script.topology (machine r).device.commits (machine r).device.marks (machine r).records.latches stands.stores.tails) ∙ ap first_claim same
 
-pub claim_legal : (r v : Run) (st : Stores) (k : ℕ) → Stands r st → r ≡ v → st.stalled ≡ false → FindsFirst st.tails (ready_of st.tracker st.fences) (Some k) → legal r.script (machine r) (step.Claim k) ≡ true
+pub claim_legal : (r v : Run) (st : Stores) (k : ℕ) → Stands r st → r ≡ v → st.stalled ≡ false → FindsFirstWhere st.tails (ready_of st.tracker st.fences) (Some k) → legal r.script (machine r) (step.Claim k) ≡ true
 claim_legal r v st k stands same going first =
     let found = first r.script.topology (machine r).device.commits (machine r).device.marks (machine r).records.latches stands.stores.tails in
     claim_is r st k stands (stands.stores.ended ∙ going) found.0 ∙ found.1

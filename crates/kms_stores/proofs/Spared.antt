@@ -17,12 +17,12 @@ use Rattle.kms_laws.proofs.ShorterTails.{tails_short}
 use Rattle.kms_laws.proofs.Sizes.{sum-more}
 use Rattle.kms_tails.specs.declared.tail.Tail.{Tail}
 use Rattle.kms_tails.specs.InStep.{IsKept}
-use Rattle.kms_tails.specs.StepLaws.{commit_of}
+use Rattle.kms_tails.specs.StepLaws.{commit_of_tail_step}
 use Rattle.kms_tails.proofs.StepLemmas.{legal_below}
 use Rattle.kms_stores.specs.Decisions.{Decides}
 use Rattle.kms_logs.specs.Logs.{Logged}
 use Rattle.kms_stores.specs.Run.{Run, machine}
-use Rattle.kms_stores.specs.Stands.{HasSpare, Holds, Stands, Stores}
+use Rattle.kms_stores.specs.Stands.{HasSpare, StandsWithSpare, Stands, Stores}
 use Rattle.kms_stores.proofs.CommitStates.{facts}
 use Rattle.kms_stores.proofs.Histories.{legal_last, run_more, told_anew}
 
@@ -146,9 +146,9 @@ with_latches r st shown stands is = record {
 }
 
 -- all holds where nothing but memory for steps was taken
-pub still_holds : (r : Run) (st : Stores) (steps : List Step) (was room : ℕ) → Holds r st was → steps ≡ r.steps → was ≤ room → Holds (with_steps r steps) st room
+pub still_holds : (r : Run) (st : Stores) (steps : List Step) (was room : ℕ) → StandsWithSpare r st was → steps ≡ r.steps → was ≤ room → StandsWithSpare (with_steps r steps) st room
 still_holds r st steps was room holds same more =
-    subst (λ h. Holds (with_steps r h) st room) (sym same) (record { stands = holds.stands; spare = (let s = holds.spare.steps in record { steps = omega (arith, s, more); latches = holds.spare.latches }) })
+    subst (λ h. StandsWithSpare (with_steps r h) st room) (sym same) (record { stands = holds.stands; spare = (let s = holds.spare.steps in record { steps = omega (arith, s, more); latches = holds.spare.latches }) })
 
 -- there is memory for a step of a tail that is legal, and for its latch
 pub record HasRoom (room latches : ℕ) : Type 0 where
@@ -168,7 +168,7 @@ pub record IsOwn (r : Run) (step : Step) (k : ℕ) : Type 0 where
   pub within : k < length (machine r).device.commits
   pub of : commit_of_step (machine r) step ≡ Some k
 
-pub own_step : (r : Run) (st : Stores) (step : Step) (k : ℕ) → Stands r st → commit_of step ≡ Some k → commit_of_step (machine r) step ≡ Some k → legal r.script (machine r) step ≡ true → IsOwn r step k
+pub own_step : (r : Run) (st : Stores) (step : Step) (k : ℕ) → Stands r st → commit_of_tail_step step ≡ Some k → commit_of_step (machine r) step ≡ Some k → legal r.script (machine r) step ≡ true → IsOwn r step k
 own_step r st step k stands told of is = record { is_legal = is; within = legal_below r.script (machine r) step k st.tails told is stands.stores.tails; of = of }
 
 pub own_room : (r : Run) (st : Stores) (step : Step) (k room latches : ℕ) → Stands r st → IsOwn r step k → HasSpare r room latches → HasRoom room latches

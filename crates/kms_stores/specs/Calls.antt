@@ -83,8 +83,8 @@ abbrev pub unless_ended : Bool → Option Reply → Option Reply
 unless_ended true answer = None
 unless_ended false answer = answer
 
-abbrev pub read_at : Run → ℕ → Option Reply
-read_at r client = unless_ended (machine r).stalled (read_reply (unread_at (machine r).events client) (reserved_at (machine r).events client))
+abbrev pub read_reply_at : Run → ℕ → Option Reply
+read_reply_at r client = unless_ended (machine r).stalled (read_reply (unread_at (machine r).events client) (reserved_at (machine r).events client))
 
 abbrev pub read_step : ℕ → Option Reply → List Step
 read_step client None = []
@@ -99,13 +99,13 @@ pub record MayReturn (r : Run) (client : ℕ) : Type 0 where
   pub commit : ℕ
   pub returning : returning_of (doing_at (machine r) client) ≡ Some commit
 
-abbrev pub is_over : Machine → Option ℕ → Bool
-is_over m None = false
-is_over m (Some k) = is_cleaned m.device k
+abbrev pub is_some_cleaned : Machine → Option ℕ → Bool
+is_some_cleaned m None = false
+is_some_cleaned m (Some k) = is_cleaned m.device k
 
 -- the commit that a client waits for is cleaned, and the history was not ended
 abbrev pub is_over_at : Run → ℕ → Bool
-is_over_at r client = not (machine r).stalled && is_over (machine r) (returning_of (doing_at (machine r) client))
+is_over_at r client = not (machine r).stalled && is_some_cleaned (machine r) (returning_of (doing_at (machine r) client))
 
 abbrev pub return_step : ℕ → Bool → List Step
 return_step client false = []

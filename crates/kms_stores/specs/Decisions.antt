@@ -33,7 +33,7 @@ use Rattle.kms_model.specs.Request.Sets.{look_in}
 use Rattle.kms_model.specs.Request.Touched.{touches}
 use Rattle.kms_model.specs.Request.Verdict.{late_in}
 use Rattle.kms_clients.specs.Standing.{IsClient}
-use Rattle.kms_track.specs.Places.{first_below, mask_has, object_at}
+use Rattle.kms_track.specs.Places.{first_below, mask_has, object_at_place}
 use Rattle.kms_stores.specs.declared.looking.Decided.{Decided}
 use Rattle.kms_stores.specs.declared.looking.Decided.TheVariants as answer
 use Rattle.kms_stores.specs.Run.{Run, machine}
@@ -114,11 +114,11 @@ pub record MayRefuse (r : Run) (t : ℕ) (used : List (ℕ × Look)) (why : Refu
 
 -- a client's context holds the object at a place, where it is in a set
 abbrev pub held_at : Machine → ℕ → Mask → ℕ → Bool
-held_at m client objects p = not (mask_has objects p) || holds m client (object_at p)
+held_at m client objects p = not (mask_has objects p) || holds m client (object_at_place p)
 
 -- the context of a client holds the objects of a set
 abbrev pub HoldsAll : Machine → ℕ → Mask → Type 0
-HoldsAll m client mask = (p : ℕ) → p < 28 → mask_has mask p ≡ true → holds m client (object_at p) ≡ true
+HoldsAll m client mask = (p : ℕ) → p < 28 → mask_has mask p ≡ true → holds m client (object_at_place p) ≡ true
 
 -- What was checked, as a check gives it, which refuses nothing; the context holds what the request touches.
 pub record IsAccepted (r : Run) (t : ℕ) (used : List (ℕ × Look)) (request : Request) (resolved : Resolved) (checked : Checked) : Type 0 where

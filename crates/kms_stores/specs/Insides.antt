@@ -1,10 +1,10 @@
 -- What the fields of the stores are seen as: a script with a history, and the stores that stand for its machine.
 use Rattle.kms_stores.specs.declared.machine.Stores.TheInside.{Inside}
 use Rattle.kms_stores.specs.Run.{Run}
-use Rattle.kms_stores.specs.Stands.{Holds, Stores}
+use Rattle.kms_stores.specs.Stands.{StandsWithSpare, Stores}
 
-abbrev pub run_of : Inside → Run
-run_of c = record { script = c.script; steps = c.steps.items }
+abbrev pub run_in : Inside → Run
+run_in c = record { script = c.script; steps = c.steps.items }
 
 abbrev pub stores_of : Inside → Stores
 stores_of c = record {
@@ -26,4 +26,4 @@ stores_of c = record {
 
 -- they stand, with memory for what the tails of commits have left
 abbrev pub AreStanding : Inside → Type 0
-AreStanding c = Holds (run_of c) (stores_of c) c.steps.room
+AreStanding c = StandsWithSpare (run_in c) (stores_of c) c.steps.room

@@ -4,7 +4,7 @@ pub mod Insides
 pub mod Calls
 pub mod Decisions
 pub mod Swaps
-pub mod Settled
+pub mod SwappedIn
 pub mod Work
 pub mod Freeing
 pub mod Needs

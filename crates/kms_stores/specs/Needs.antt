@@ -10,7 +10,7 @@ use Rattle.kms_model.specs.declared.worlds.Thing.{Thing}
 use Rattle.kms_model.specs.Device.Sound.{IsDevice}
 use Rattle.kms_model.specs.Device.World.{thing_labelled}
 use Rattle.kms_model.specs.Machine.State.{Machine}
-use Rattle.kms_regs.specs.File.{RegisterFile, StandsFor}
+use Rattle.kms_regs.specs.File.{RegisterFile, StandsForDevice}
 use Rattle.kms_signal.specs.Rooms.{Rooms}
 use Rattle.kms_tails.specs.declared.tail.Tail.{Tail}
 use Rattle.kms_tails.specs.InStep.{AreTailsOf}
@@ -24,7 +24,7 @@ pub record TellNeeds (t : Topology) (m : Machine) (made : Made) (present : Dupli
   pub device : IsDevice t
   pub count : t.crtcs ≡ crtcs
   pub world : IsWorldOf t m.device.world made present
-  pub written : StandsFor t m.device registers
+  pub written : StandsForDevice t m.device registers
   pub kept : AreTailsOf t m.device.commits m.device.marks m.records.latches tails
 
 -- those of some framebuffers are recorded that these stores do not need

@@ -21,7 +21,7 @@ use Rattle.kms_model.specs.Stores.Tables.{AreBelow}
 use Rattle.kms_clients.specs.InStep.{AreClientsOf}
 use Rattle.kms_clients.specs.Standing.{Standing}
 use Rattle.kms_laws.specs.TailsLeft.{all_left}
-use Rattle.kms_regs.specs.File.{RegisterFile, StandsFor}
+use Rattle.kms_regs.specs.File.{RegisterFile, StandsForDevice}
 use Rattle.kms_signal.specs.FenceSets.{FenceSet, is_made}
 use Rattle.kms_signal.specs.InStep.{AreFencesOf, IsQueueOf}
 use Rattle.kms_signal.specs.Queues.{Queue, empty_queue}
@@ -124,7 +124,7 @@ pub record StandsAt (s : Script) (m : Machine) (st : Stores) : Type 0 where
   pub queues : AreQueues (length s.clients) m.events st.queues
   pub tracker : IsTrackerOf s.topology m.device.commits m.device.marks m.records.latches st.tracker
   pub tails : AreTailsOf s.topology m.device.commits m.device.marks m.records.latches st.tails
-  pub registers : StandsFor s.topology m.device st.registers
+  pub registers : StandsForDevice s.topology m.device st.registers
   pub going : AreGoing m.device st.goes
   pub ended : m.stalled ≡ st.stalled
 
@@ -142,6 +142,6 @@ pub record HasSpare (r : Run) (room shown : ℕ) : Type 0 where
   pub latches : all_left r.script.topology (machine r) ≤ shown
 
 -- the stores stand, with memory for so many further steps
-pub record Holds (r : Run) (st : Stores) (room : ℕ) : Type 0 where
+pub record StandsWithSpare (r : Run) (st : Stores) (room : ℕ) : Type 0 where
   pub stands : Stands r st
   pub spare : HasSpare r room st.latches.room

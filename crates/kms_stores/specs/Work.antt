@@ -53,8 +53,8 @@ IsFirstOf marks count test None = (j : ℕ) → j < count → IsPassedBy marks t
 IsFirstOf marks count test (Some k) = (k < count) × (test k ≡ true) × ((j : ℕ) → j < k → IsPassedBy marks test j)
 
 -- it is so for all commits that tails stand for
-abbrev pub FindsFirst : Rooms Tail → (ℕ → Bool) → Option ℕ → Type 0
-FindsFirst v test first =
+abbrev pub FindsFirstWhere : Rooms Tail → (ℕ → Bool) → Option ℕ → Type 0
+FindsFirstWhere v test first =
     (t : Topology) (commits : List Commit) (marks : Marks) (latches : List Latch)
     → AreTailsOf t commits marks latches v → IsFirstOf marks (length commits) test first
 
@@ -83,8 +83,8 @@ pub record MayCleanUp (r : Run) (k : ℕ) : Type 0 where
 abbrev pub is_over_in : Topology → DeviceState → List Latch → ℕ → Bool
 is_over_in t d latches k = is_hw_done d k && is_all_latched t d latches k
 
-abbrev pub is_over : Run → ℕ → Bool
-is_over r k = is_over_in r.script.topology (machine r).device (machine r).records.latches k
+abbrev pub is_commit_over : Run → ℕ → Bool
+is_commit_over r k = is_over_in r.script.topology (machine r).device (machine r).records.latches k
 
 -- an answer tells so, of a commit that is not cleaned, of each device that tails stand for
 abbrev pub TellsOver : Rooms Tail → ℕ → Bool → Type 0

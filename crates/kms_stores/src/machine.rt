@@ -57,9 +57,9 @@ impl Model for Stores {
 
     ghost Value = { Run };
 
-    ghost use Rattle.kms_stores.specs.Insides.{AreStanding, run_of};
+    ghost use Rattle.kms_stores.specs.Insides.{AreStanding, run_in};
 
-    ghost view = { run_of };
+    ghost view = { run_in };
 
     ghost invariant = { AreStanding };
 }

@@ -10,7 +10,7 @@ use Rattle.kms_tables.specs.declared.rows.AtStart.{AtStart}
 use Rattle.kms_tables.specs.declared.rows.AtStart.TheVariants.{Number, Index, Script}
 use Rattle.kms_tables.specs.declared.rows.ObjectRow.{ObjectRow}
 use Rattle.kms_tables.specs.declared.rows.PropertyRow.{PropertyRow}
-use Rattle.kms_tables.specs.declared.rows.Values.{Values}
+use Rattle.kms_tables.specs.declared.rows.SettableValues.{SettableValues}
 
 -- the cells of a row, each behind a bar and a blank
 abbrev pub cells : List (List ℕ) → List ℕ
@@ -31,7 +31,7 @@ range_text things (Numbers low high) = signed_decimal low ++ codes " to " ++ sig
 range_text things (Thing none) = signed_decimal none ++ codes ", or " ++ things
 range_text things CrtcName = codes "0, or `crtcN` of a CRTC of the device"
 
-abbrev pub values_text : Values → List ℕ
+abbrev pub values_text : SettableValues → List ℕ
 values_text v = range_text v.things.now v.range
 
 -- what the value of a property is before the first command

@@ -1,6 +1,6 @@
 //! The table of properties.
 
-use crate::rows::{self, AtStart, Values};
+use crate::rows::{self, AtStart, SettableValues};
 use kms_model::properties::{
     ACTIVE, ALPHA, BLEND, CRTC_H, CRTC_W, CRTC_X, CRTC_Y, FB_ID, GAMMA_LUT, IN_FENCE_FD, MODE_ID,
     SRC_H, SRC_W, SRC_X, SRC_Y, TYPE, ZPOS,
@@ -26,7 +26,7 @@ fn print_row(rt: &impl Print, kind: Kind, row: &PropertyRow) -> io::Result<()> {
     rt.println(rows::PropertyRow {
         kind,
         name,
-        values: Values {
+        values: SettableValues {
             things: things(row.id),
             range: row.range,
         },

@@ -46,7 +46,7 @@ impl fmt::Display for RefusalRow {
 
 /// What a property may be set to.
 #[derive(Clone, Copy, Debug)]
-pub struct Values {
+pub struct SettableValues {
     /// Which things it takes, where it takes things.
     pub things: &'static str,
     /// Its range.
@@ -54,7 +54,7 @@ pub struct Values {
 }
 
 /// The bounds, or the number for "none" and the things.
-impl fmt::Display for Values {
+impl fmt::Display for SettableValues {
     ghost output = { λ values. Some (values_text values) };
 
     fn fmt<W: fmt::Write>(&self, f: &mut fmt::Formatter<W>) -> fmt::Result {
@@ -99,7 +99,7 @@ pub struct PropertyRow {
     /// The property's name.
     pub name: &'static str,
     /// What it may be set to.
-    pub values: Values,
+    pub values: SettableValues,
     /// In what it is counted, or what its numbers stand for.
     pub unit: &'static str,
     /// Its value before the first command.

@@ -8,10 +8,11 @@ use Rattle.kms_model.specs.declared.tables.Slot.{Slot}
 use Rattle.kms_model.specs.Device.Masks.{has_bit}
 use Rattle.kms_model.specs.Stores.Tables.{IsRising, value_with_id, with_value, without_id}
 use Rattle.kms_model.proofs.TableLemmas.{others_behind, with_value-absent, without_id-absent}
+use Rattle.kms_laws.specs.TailsLeft.{one_if}
 use Rattle.kms_tails.specs.declared.progress.Mark.{Mark}
 use Rattle.kms_tails.specs.declared.progress.Mark.TheVariants.{Claimed, WroteCrtc, WrotePlane, Flushed, Done, Latched}
 use Rattle.kms_tails.specs.declared.tail.Tail.{Tail}
-use Rattle.kms_tails.specs.Remaining.{IsMark, all_left, count_below, is_latch_left, is_latch_off, is_left, is_step_left, marked_slots, marked_tail, on_after, one_if, steps_left, with_bit}
+use Rattle.kms_tails.specs.Remaining.{IsMark, all_left, count_below, is_latch_left, is_latch_off, is_left, is_step_left, marked_slots, marked_tail, on_after, steps_left, with_bit}
 use Rattle.kms_tails.proofs.Bits.{bit_more}
 use Rattle.kms_tails.proofs.Counts.{count_low, count_same, one_less}
 

@@ -24,7 +24,7 @@ use Rattle.kms_tails.specs.declared.progress.Mark.TheVariants as mark
 use Rattle.kms_tails.specs.declared.tail.Tail.{Tail}
 use Rattle.kms_tails.specs.InStep.{AreStates, IsTailOf, old_crtc}
 use Rattle.kms_tails.specs.Remaining.{is_latch_left, is_left, is_on_after, is_step_left, on_after}
-use Rattle.kms_tails.specs.StepLaws.{commit_of, mark_of}
+use Rattle.kms_tails.specs.StepLaws.{commit_of_tail_step, mark_of}
 use Rattle.kms_tails.proofs.Queries.{crtc_is, named_crtc, named_touched, touched_crtc, touched_plane}
 
 -- what is found passes
@@ -94,7 +94,7 @@ module _ (t : Topology) (d : DeviceState) (latches : List Latch) (k : ℕ) (x : 
 
 module _ (s : Script) (m : Machine) (k : ℕ) (x : Tail) (device : IsDevice s.topology) (is : IsTailOf s.topology (commit_at s.topology m.device.commits k) m.device.marks m.records.latches k x) where
   -- a step of this commit
-  legal_of : (step : Step) (a : Mark) → commit_of step ≡ Some k → mark_of step ≡ Some a → legal s m step ≡ true → is_step_left a x ≡ true
+  legal_of : (step : Step) (a : Mark) → commit_of_tail_step step ≡ Some k → mark_of step ≡ Some a → legal s m step ≡ true → is_step_left a x ≡ true
   unfolding legal may may_claim
   legal_of (Claim n) a of does allowed =
       (let same : n ≡ k = cc in
@@ -142,6 +142,6 @@ module _ (s : Script) (m : Machine) (k : ℕ) (x : Tail) (device : IsDevice s.to
   legal_of (Return client) a of does allowed = absurd cc
   legal_of Stall a of does allowed = absurd cc
 
-pub legal_left : (s : Script) (m : Machine) (step : Step) (k : ℕ) (a : Mark) (x : Tail) → commit_of step ≡ Some k → mark_of step ≡ Some a → legal s m step ≡ true → IsDevice s.topology
+pub legal_left : (s : Script) (m : Machine) (step : Step) (k : ℕ) (a : Mark) (x : Tail) → commit_of_tail_step step ≡ Some k → mark_of step ≡ Some a → legal s m step ≡ true → IsDevice s.topology
     → IsTailOf s.topology (commit_at s.topology m.device.commits k) m.device.marks m.records.latches k x → is_step_left a x ≡ true
 legal_left s m step k a x of does allowed device is = legal_of s m k x device is step a of does allowed

@@ -21,7 +21,7 @@ use Rattle.kms_model.specs.Request.Deciding.{IsChecked}
 use Rattle.kms_model.specs.Request.Touched.{named_by, touched_by}
 use Rattle.kms_model.proofs.OnMachines.{on_machines}
 use Rattle.kms_model.proofs.UnionLemmas.{has_bit-zero}
-use Rattle.kms_tails.specs.InStep.{AreTailsOf, HasStates, IsTailFor, out_fence_at}
+use Rattle.kms_tails.specs.InStep.{AreTailsOf, HasRegisteredStates, IsTailFor, out_fence_at}
 use Rattle.kms_tails.specs.Remaining.{first_tail, no_tails}
 use Rattle.kms_tails.proofs.InStepLemmas.{first_stands, pushed_stands}
 
@@ -104,7 +104,7 @@ no_fence (suc (suc zero)) low = refl
 no_fence (suc (suc (suc zero))) low = refl
 no_fence (suc (suc (suc (suc i)))) low = absurd (omega (arith, low))
 
-has_states : HasStates checked
+has_states : HasRegisteredStates checked
 has_states = record {
   crtcs = crtc;
   planes = λ i low has. absurd (false≢true (sym (has_bit-zero i) ∙ has));

@@ -20,11 +20,11 @@ use Rattle.kms_model.specs.Machine.State.{Commit, DeviceState, Machine, go_at, h
 use Rattle.kms_model.specs.Machine.Steps.{may, may_claim, next_flush}
 use Rattle.kms_model.proofs.KindsOfIds.{index_of-object}
 use Rattle.kms_signal.specs.Rooms.{Rooms}
-use Rattle.kms_signal.specs.StepLaws.{leaves_commits}
+use Rattle.kms_signal.specs.StepLaws.{leaves_commits, new_commit}
 use Rattle.kms_signal.proofs.CommitsLeft.{commits_left, latch_leaves, swap_adds}
 use Rattle.kms_tails.specs.declared.tail.Tail.{Tail}
 use Rattle.kms_tails.specs.InStep.{AreTailsOf, IsInStep, IsTailFor, StandsAfter, StandsAfterLatch, StandsAfterSwap, with_claimed, with_cleaned, with_done, with_flushed, with_written}
-use Rattle.kms_tails.specs.StepLaws.{commit_of, new_commit}
+use Rattle.kms_tails.specs.StepLaws.{commit_of_tail_step}
 
 pub others_follow : (s : Script) (m : Machine) (step : Step) (v : Rooms Tail) → leaves_commits step ≡ true → IsInStep s.topology m v → IsInStep s.topology (next s m step) v
 others_follow s m step v leaves stands = commits_left (λ cs marks latches. AreTailsOf s.topology cs marks latches v) s m step leaves stands
@@ -73,7 +73,7 @@ flushes_none : (t : Topology) (d : DeviceState) (k : ℕ) → length d.commits �
 unfolding next_flush
 flushes_none t d k above = finds_none (λ crtc. commit_names t d.commits k crtc && not (has_pair d.marks.flushed k crtc)) (ids_of t Crtc) (λ crtc. and_off _ _ (names_none t d.commits k crtc above))
 
-pub legal_below : (s : Script) (m : Machine) (step : Step) (k : ℕ) (v : Rooms Tail) → commit_of step ≡ Some k → legal s m step ≡ true → IsInStep s.topology m v → k < length m.device.commits
+pub legal_below : (s : Script) (m : Machine) (step : Step) (k : ℕ) (v : Rooms Tail) → commit_of_tail_step step ≡ Some k → legal s m step ≡ true → IsInStep s.topology m v → k < length m.device.commits
 unfolding legal may may_claim
 legal_below s m (Claim n) k v of is stands =
     let same : n ≡ k = cc in

@@ -27,7 +27,7 @@ abbrev pub out_fence_at : Topology → Commit → ℕ → Option ℕ
 out_fence_at t c index = thing_made t c (out_fence_label c.request.assigns (object_id Crtc index))
 
 -- each CRTC and plane that is touched has its states
-pub record HasStates (checked : Checked) : Type 0 where
+pub record HasRegisteredStates (checked : Checked) : Type 0 where
   pub crtcs : (i : ℕ) → i < 4 → has_bit checked.touched.crtcs i ≡ true → is_some (slice_index_or checked.states.crtcs i None) ≡ true
   pub planes : (i : ℕ) → i < 16 → has_bit checked.touched.planes i ≡ true → is_some (slice_index_or checked.states.planes i None) ≡ true
 
@@ -36,7 +36,7 @@ pub record IsTailFor (t : Topology) (c : Commit) (client : ℕ) (r : Request) (c
   pub client_is : c.client ≡ client
   pub request_is : c.request ≡ r
   pub is_checked : IsChecked t c.world c.request checked
-  pub states : HasStates checked
+  pub states : HasRegisteredStates checked
   pub fences : (i : ℕ) → i < 4 → slice_index_or out_fences i None ≡ out_fence_at t c i
 
 -- what was done of a commit with a number
@@ -54,7 +54,7 @@ pub record IsTailOf (t : Topology) (c : Commit) (marks : Marks) (latches : List 
   pub user_data : x.user_data ≡ c.request.user_data
   pub event : x.wants_event ≡ wants_event c.request.flags
   pub is_checked : IsChecked t c.world c.request x.checked
-  pub states : HasStates x.checked
+  pub states : HasRegisteredStates x.checked
   pub out_fences : (i : ℕ) → i < 4 → slice_index_or x.out_fences i None ≡ out_fence_at t c i
   pub progress : IsProgressOf marks latches k x.progress
 

@@ -14,6 +14,7 @@ use Rattle.kms_model.specs.Device.Objects.{index_of, is_id_of, object_id}
 use Rattle.kms_model.specs.Firsts.{or_else}
 use Rattle.kms_model.specs.Request.Flags.{wants_event}
 use Rattle.kms_model.specs.Stores.Tables.{slot_ids, value_with_id, with_value}
+use Rattle.kms_laws.specs.TailsLeft.{one_if}
 use Rattle.kms_signal.specs.Rooms.{Rooms}
 use Rattle.kms_tails.specs.declared.progress.Mark.{Mark}
 use Rattle.kms_tails.specs.declared.progress.Mark.TheVariants.{Claimed, WroteCrtc, WrotePlane, Flushed, Done, Latched}
@@ -66,9 +67,6 @@ next_latch_of x = first_left x.checked.named x.progress.latched 4
 
 -- How many steps are left: a cleanup, a claim and the end of writing, a write of each object that is touched, a flush of each
 -- CRTC that is named, and a latch at each of these that is on afterwards. One that is off latches as it is flushed.
-
-abbrev pub one_if : Bool → ℕ
-one_if b = if b then 1 else 0
 
 -- how many of the first n indices pass a test
 unfoldable pub count_below : (ℕ → Bool) → ℕ → ℕ

@@ -14,18 +14,14 @@ use Rattle.kms_model.specs.Device.Sound.{IsDevice}
 use Rattle.kms_model.specs.Machine.Commits.{commit_at, commit_names, has_latched, new_crtc}
 use Rattle.kms_model.specs.Machine.Effects.{next}
 use Rattle.kms_model.specs.Machine.Histories.{legal}
-use Rattle.kms_model.specs.Machine.State.{Commit, DeviceState, Machine, Marks, go_at, place_at, request_at}
+use Rattle.kms_model.specs.Machine.State.{DeviceState, Machine, Marks, go_at, request_at}
 use Rattle.kms_signal.specs.Rooms.{Rooms}
-use Rattle.kms_signal.specs.StepLaws.{leaves_commits}
+use Rattle.kms_signal.specs.StepLaws.{leaves_commits, new_commit}
 use Rattle.kms_tails.specs.declared.progress.Mark.{Mark}
 use Rattle.kms_tails.specs.declared.progress.Mark.TheVariants as mark
 use Rattle.kms_tails.specs.declared.tail.Tail.{Tail}
 use Rattle.kms_tails.specs.InStep.{IsInStep, IsTailFor, IsTailOf, StandsAfter, StandsAfterLatch, StandsAfterSwap, with_claimed, with_cleaned, with_done, with_flushed, with_written}
 use Rattle.kms_tails.specs.Remaining.{is_latch_off, is_step_left, steps_left}
-
--- the commit that a swap sets up
-abbrev pub new_commit : Machine → ℕ → Request → Commit
-new_commit m client r = record { client = client; command = (place_at m client).command; request = r; world = m.device.world }
 
 abbrev pub FollowsSwap : Type 0
 FollowsSwap =
@@ -92,19 +88,19 @@ FollowsTheOthers =
     → leaves_commits step ≡ true → IsInStep s.topology m v → IsInStep s.topology (next s m step) v
 
 -- the commit of a step of a tail
-abbrev pub commit_of : Step → Option ℕ
-commit_of (Claim k) = Some k
-commit_of (Write k kind index) = Some k
-commit_of (Flush k kind index) = Some k
-commit_of (HwDone k) = Some k
-commit_of (Cleanup k) = Some k
-commit_of _ = None
+abbrev pub commit_of_tail_step : Step → Option ℕ
+commit_of_tail_step (Claim k) = Some k
+commit_of_tail_step (Write k kind index) = Some k
+commit_of_tail_step (Flush k kind index) = Some k
+commit_of_tail_step (HwDone k) = Some k
+commit_of_tail_step (Cleanup k) = Some k
+commit_of_tail_step _ = None
 
 -- A commit whose step is legal was set up.
 abbrev pub LegalIsSetUp : Type 0
 LegalIsSetUp =
     (s : Script) (m : Machine) (step : Step) (k : ℕ) (v : Rooms Tail)
-    → commit_of step ≡ Some k → legal s m step ≡ true → IsInStep s.topology m v → k < length m.device.commits
+    → commit_of_tail_step step ≡ Some k → legal s m step ≡ true → IsInStep s.topology m v → k < length m.device.commits
 
 -- What a legal step takes of what is left of its commit
 
@@ -121,7 +117,7 @@ mark_of _ = None
 abbrev pub LegalIsLeft : Type 0
 LegalIsLeft =
     (s : Script) (m : Machine) (step : Step) (k : ℕ) (mark : Mark) (x : Tail)
-    → commit_of step ≡ Some k → mark_of step ≡ Some mark → legal s m step ≡ true → IsDevice s.topology
+    → commit_of_tail_step step ≡ Some k → mark_of step ≡ Some mark → legal s m step ≡ true → IsDevice s.topology
     → IsTailOf s.topology (commit_at s.topology m.device.commits k) m.device.marks m.records.latches k x
     → is_step_left mark x ≡ true
 

@@ -19,7 +19,7 @@ use Rattle.kms_model.specs.Stores.Kept.{after_close, after_give, after_take, clo
 use Rattle.kms_model.specs.Stores.OpenThings.{denial, open_value, things_after, value_if_open}
 use Rattle.kms_model.specs.Stores.Tables.{AreBelow, put_in, value_with_id, with_value, without_id}
 use Rattle.kms_model.proofs.OpenLemmas.{closed_values, found_open}
-use Rattle.kms_buffers.specs.Things.{fb_in, open_fbs, open_fbs_of}
+use Rattle.kms_buffers.specs.Things.{fb_of_content, open_fbs, open_fbs_of}
 use Rattle.kms_things.specs.Index.{AreReferred, IsBlobAt, IsPlain}
 
 -- a thing that is no framebuffer frames nothing
@@ -77,16 +77,16 @@ below_give n id fbs (Some fb) below = below_fewer n id _ fbs below
 -- A thing more
 
 pub open_more : (things : List Thing) (t : Thing) → open_fbs_of (things ++ t ∷ []) ≡ open_fbs_of things ++ open_fbs_of (t ∷ [])
-open_more things t = filter_map-append (open_value fb_in) things (t ∷ [])
+open_more things t = filter_map-append (open_value fb_of_content) things (t ∷ [])
 
-none_open : (t : Thing) → t.is_open ≡ true → ((owner : ℕ) → fb_in owner t.content ≡ None) → open_fbs_of (t ∷ []) ≡ []
+none_open : (t : Thing) → t.is_open ≡ true → ((owner : ℕ) → fb_of_content owner t.content ≡ None) → open_fbs_of (t ∷ []) ≡ []
 none_open t opened none = rw (opened, none t.owner) refl
 
 append_none : (xs ys : List (Slot Framebuffer)) → ys ≡ [] → xs ++ ys ≡ xs
 append_none xs ys e = rw e (append-nil xs)
 
 -- one that is no framebuffer
-pub referred_made : (things : List Thing) (next : ℕ) (fbs : List (Slot Framebuffer)) (t : Thing) → t.is_open ≡ true → ((owner : ℕ) → fb_in owner t.content ≡ None)
+pub referred_made : (things : List Thing) (next : ℕ) (fbs : List (Slot Framebuffer)) (t : Thing) → t.is_open ≡ true → ((owner : ℕ) → fb_of_content owner t.content ≡ None)
     → AreReferred things next fbs → AreReferred (things ++ t ∷ []) (next + 1) fbs
 referred_made things next fbs t opened none referred = record {
   below = below_further next (next + 1) fbs (omega arith) referred.below;
@@ -102,7 +102,7 @@ absent (x ∷ xs) id none = elim (eqb_tells x.id id) [
   | inr away ↦ (let e : value_with_id xs id ≡ None = rw away.0 at none in rw away.0 (ap (λ ys. x ∷ ys) (absent xs id e)))
 ]
 
-no_fb : (b : Bool) (t : Thing) (c : Content) → t.is_open ≡ b → t.content ≡ c → is_blob c ≡ true → value_if_open fb_in t ≡ None
+no_fb : (b : Bool) (t : Thing) (c : Content) → t.is_open ≡ b → t.content ≡ c → is_blob c ≡ true → value_if_open fb_of_content t ≡ None
 no_fb true t (content.Mode m) opened is blob = rw (opened, is) refl
 no_fb false t (content.Mode m) opened is blob = rw opened refl
 no_fb true t (content.Blob bytes) opened is blob = rw (opened, is) refl
@@ -112,15 +112,15 @@ no_fb b t (content.Buffer width height format pattern) opened is blob = absurd c
 no_fb b t content.Fence opened is blob = absurd cc
 no_fb b t content.OutFence opened is blob = absurd cc
 
-no_fb_at : (o : Option Thing) → option_map (λ t. is_blob t.content) o ≡ Some true → option_and_then (value_if_open fb_in) o ≡ None
+no_fb_at : (o : Option Thing) → option_map (λ t. is_blob t.content) o ≡ Some true → option_and_then (value_if_open fb_of_content) o ≡ None
 no_fb_at None is = absurd cc
 no_fb_at (Some t) is = no_fb t.is_open t t.content refl refl (cc is)
 
 -- a blob that is destroyed
 pub referred_destroyed : (things : List Thing) (next : ℕ) (fbs : List (Slot Framebuffer)) (id : ℕ) → AreNumbered 1000 things → IsBlobAt things id → AreReferred things next fbs → AreReferred (closed_in things id) next fbs
 referred_destroyed things next fbs id numbered blob referred =
-    let none : value_with_id (open_fbs_of things) id ≡ None = found_open fb_in 1000 id things numbered ∙ no_fb_at (thing_with_id things id) blob in
-    record { below = referred.below; same = closed_values fb_in id things ∙ absent (open_fbs_of things) id none ∙ referred.same }
+    let none : value_with_id (open_fbs_of things) id ≡ None = found_open fb_of_content 1000 id things numbered ∙ no_fb_at (thing_with_id things id) blob in
+    record { below = referred.below; same = closed_values fb_of_content id things ∙ absent (open_fbs_of things) id none ∙ referred.same }
 
 closed_ok : {A : Type 0} (R : Result A Denied) (things : List Thing) (id : ℕ) → denial R ≡ None → things_after R things id ≡ closed_in things id
 closed_ok (Ok x) things id none = refl

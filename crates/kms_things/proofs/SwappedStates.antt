@@ -18,9 +18,9 @@ use Rattle.kms_things.specs.Starting.{alike}
 use Rattle.kms_things.specs.Swapping.{alike_new, swapped, swapped_states}
 
 -- one state more is swapped
-pub settle_more : {S : Type 0} (before now : List (Option (Both S))) (i : ℕ) (d new : Option (Both S)) → i < length before → now ≡ swapped_states (take i before) ++ drop i before → new ≡ alike_new (get_or now i d)
+pub swap_more : {S : Type 0} (before now : List (Option (Both S))) (i : ℕ) (d new : Option (Both S)) → i < length before → now ≡ swapped_states (take i before) ++ drop i before → new ≡ alike_new (get_or now i d)
     → set now i new ≡ swapped_states (take (i + 1) before) ++ drop (i + 1) before
-settle_more {S} before now i d new lt is one = grind (arith, common_steps, map_over_more (alike_new {S = S}))
+swap_more {S} before now i d new lt is one = grind (arith, common_steps, map_over_more (alike_new {S = S}))
 
 swapped_at : {S : Type 0} (states : List (Option (Both S))) (index : ℕ) → slice_get (swapped_states states) index ≡ option_map alike_new (slice_get states index)
 swapped_at [] index = refl

@@ -17,7 +17,7 @@ use Rattle.kms_model.specs.Frames.Shown.{AreFramed}
 use Rattle.kms_model.specs.declared.replies.TheConstants.Denied.{INVALID_SIZE, NO_BUFFER_SPACE}
 use Rattle.kms_buffers.specs.declared.buffers.MakeError.{MakeError}
 use Rattle.kms_buffers.specs.declared.buffers.MakeError.TheVariants as error
-use Rattle.kms_buffers.specs.Things.{buffer_in, buffers_of, fb_in, open_fbs, open_fbs_of}
+use Rattle.kms_buffers.specs.Things.{buffer_in, buffers_of, fb_of_content, open_fbs, open_fbs_of}
 
 -- ids by labels
 abbrev pub Ids : Type 0
@@ -58,7 +58,7 @@ pub record IsStore (things : List Thing) (next_id : ℕ) (ids : Ids) (buffers : 
 -- neither a buffer nor a framebuffer
 pub record IsPlain (c : Content) : Type 0 where
   pub wordless : (id owner : ℕ) → buffer_in id owner c ≡ None
-  pub unreferred : (owner : ℕ) → fb_in owner c ≡ None
+  pub unreferred : (owner : ℕ) → fb_of_content owner c ≡ None
 
 -- the thing with an id is a blob
 abbrev pub IsBlobAt : List Thing → ℕ → Type 0

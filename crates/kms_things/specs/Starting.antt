@@ -1,20 +1,17 @@
 -- The typed states of a device's objects before the first command.
-use Rattle.std.specs.Prelude.{ℕ, false, nat_lt, pos, List, length, map, Option, Some, None, if◌then◌else◌}
+use Rattle.std.specs.Prelude.{ℕ, false, nat_lt, List, length, map, Option, Some, None, if◌then◌else◌}
 use Rattle.std.specs.List.{range_with_len}
 use Rattle.kms_model.specs.declared.objects.Topology.{Topology}
-use Rattle.kms_model.specs.declared.pictures.Rect.{Rect}
 use Rattle.kms_model.specs.declared.states.Both.{Both}
 use Rattle.kms_model.specs.declared.states.ConnState.{ConnState}
 use Rattle.kms_model.specs.declared.states.CrtcState.{CrtcState}
 use Rattle.kms_model.specs.declared.states.Duplicates.{Duplicates}
 use Rattle.kms_model.specs.declared.states.PlaneState.{PlaneState}
+use Rattle.kms_model.specs.Frames.LayersInPlace.{nowhere}
 
 -- off, without a mode, and with no plane and no connector
 abbrev pub off_crtc : CrtcState
 off_crtc = record { active = false; mode = None; gamma = None; planes = 0; conns = 0 }
-
-abbrev pub nowhere : Rect
-nowhere = record { x = pos 0; y = pos 0; w = pos 0; h = pos 0 }
 
 -- without a framebuffer and a CRTC, opaque, pre-multiplied, and at the place of its index
 abbrev pub off_plane : ℕ → PlaneState

@@ -17,14 +17,14 @@ pub fn swapped(states: &Duplicates) -> Duplicates
         → IsPresent t (record w { values = after w r }) result }
 {
     let mut swapped = *states;
-    settle(&mut swapped.crtcs);
-    settle(&mut swapped.planes);
-    settle(&mut swapped.conns);
+    swap_all(&mut swapped.crtcs);
+    swap_all(&mut swapped.planes);
+    swap_all(&mut swapped.conns);
     swapped
 }
 
 /// Each state that is there becomes the old one too.
-fn settle<S: Copy>(states: &mut [Option<Both<S>>])
+fn swap_all<S: Copy>(states: &mut [Option<Both<S>>])
     ensures { states.new ≡ swapped_states states.old }
 {
     for both in states.iter_mut() {

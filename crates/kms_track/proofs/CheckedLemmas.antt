@@ -38,7 +38,7 @@ use Rattle.kms_model.proofs.StateLemmas.{sound-conn_crtc, sound-plane_crtc}
 use Rattle.kms_model.proofs.TouchedLemmas.{HasFewObjects, few_objects}
 use Rattle.kms_track.specs.declared.places.Sides.{Sides}
 use Rattle.kms_track.specs.InStep.{IsCheckedFor, IsWithinPlaces, is_of_device}
-use Rattle.kms_track.specs.Places.{connector_sides, crtc_id, is_side, mask_has, object_at, plane_sides, sides_at}
+use Rattle.kms_track.specs.Places.{connector_sides, crtc_id, is_side, mask_has, object_at_place, plane_sides, sides_at}
 use Rattle.kms_track.specs.StepLaws.{HasStates}
 use Rattle.kms_track.proofs.There.{crtc_off, on_index}
 
@@ -55,7 +55,7 @@ on_and_touched t w r kind j few =
     ∙ ap (λ k. nat_lt j (count_of t kind) && touches_of_kind k t w r (object_id kind j)) (kind_of-object kind j few)
 
 -- the objects of the device that a request touches are those of its set
-pub in_touched : (t : Topology) (w : World) (r : Request) (p : ℕ) → p < 28 → (is_of_device t (object_at p) && touches t w r (object_at p)) ≡ mask_has (touched_by t w r) p
+pub in_touched : (t : Topology) (w : World) (r : Request) (p : ℕ) → p < 28 → (is_of_device t (object_at_place p) && touches t w r (object_at_place p)) ≡ mask_has (touched_by t w r) p
 in_touched t w r p place =
     elim (cases_lt p 4) [
       | inl crtc ↦ rw (lt-ltb p 4 crtc) (on_and_touched t w r Crtc p (omega arith) ∙ sym (has_bit-mask_below (λ index. touches_crtc w.values (after w r) r.assigns (object_id Crtc index)) (count_of t Crtc) p))
@@ -176,7 +176,7 @@ module _ (t : Topology) (c : Commit) (checked : Checked) (device : IsDevice t) (
       (λ both there. (ap (λ (s : ConnState). s.crtc) (is.old.conns j both there), ap (λ (s : ConnState). s.crtc) (is.new.conns j both there)))
 
   on_place_side : (p i : ℕ) → p < 28 → i < 4 → mask_has checked.touched p ≡ true
-      → (is_of_device t (crtc_id i) && is_on_before_or_after (kind_of (object_at p)) c (object_at p) (crtc_id i)) ≡ is_side (sides_at checked.states p) (crtc_id i)
+      → (is_of_device t (crtc_id i) && is_on_before_or_after (kind_of (object_at_place p)) c (object_at_place p) (crtc_id i)) ≡ is_side (sides_at checked.states p) (crtc_id i)
   on_place_side p i place few has =
       elim (cases_lt p 4) [
         | inl crtc ↦ rw (lt-ltb p 4 crtc) (on_crtc p i crtc few (rw (lt-ltb p 4 crtc) at has))

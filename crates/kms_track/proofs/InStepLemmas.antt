@@ -13,9 +13,9 @@ use Rattle.kms_model.specs.Request.Touched.{touches}
 use Rattle.kms_model.specs.Stores.Tables.{without_id}
 use Rattle.kms_track.specs.InStep.{told_of, IsUntouched, IsTrackerOf, IsCheckedFor, is_of_device}
 use Rattle.kms_track.specs.Laws.{no_tracking}
-use Rattle.kms_track.specs.Places.{object_at, crtc_id}
-use Rattle.kms_track.specs.Told.{IsOver, TellsOfSetup}
-use Rattle.kms_track.specs.Tracking.{Tracking, IsSetUp, changed, with_claim, with_done, with_latch}
+use Rattle.kms_track.specs.Places.{object_at_place, crtc_id}
+use Rattle.kms_track.specs.Told.{IsCommitOver, TellsOfSetup}
+use Rattle.kms_track.specs.Tracking.{Tracking, IsSetUp, changed_commit, with_claim, with_done, with_latch}
 use Rattle.kms_track.proofs.KeptChanges.{keeps_none, keeps_setup, keeps_claim, keeps_hw_done, keeps_latch, keeps_cleanup, keeps_room}
 
 apart_from : (n k : ℕ) → n < k → (n == k) ≡ false
@@ -31,7 +31,7 @@ first_in_step t = record {
 
 -- a commit is claimed, is done, or is cleaned
 pub claim_in_step : (t : Topology) (commits : List Commit) (marks : Marks) (latches : List Latch) (v : Tracking) (n : ℕ) → n < length commits → IsTrackerOf t commits marks latches v
-    → IsTrackerOf t commits (record marks { claimed = n ∷ marks.claimed }) latches (changed v n with_claim)
+    → IsTrackerOf t commits (record marks { claimed = n ∷ marks.claimed }) latches (changed_commit v n with_claim)
 claim_in_step t commits marks latches v n within step = record {
   keeps = keeps_claim (told_of t commits marks latches) v n step.keeps;
   untouched = λ k above. (let was = step.untouched k above in record {
@@ -43,7 +43,7 @@ claim_in_step t commits marks latches v n within step = record {
 }
 
 pub hw_done_in_step : (t : Topology) (commits : List Commit) (marks : Marks) (latches : List Latch) (v : Tracking) (n : ℕ) → n < length commits → IsTrackerOf t commits marks latches v
-    → IsTrackerOf t commits (record marks { done = n ∷ marks.done }) latches (changed v n with_done)
+    → IsTrackerOf t commits (record marks { done = n ∷ marks.done }) latches (changed_commit v n with_done)
 hw_done_in_step t commits marks latches v n within step = record {
   keeps = keeps_hw_done (told_of t commits marks latches) v n step.keeps;
   untouched = λ k above. (let was = step.untouched k above in record {
@@ -55,7 +55,7 @@ hw_done_in_step t commits marks latches v n within step = record {
 }
 
 pub cleanup_in_step : (t : Topology) (commits : List Commit) (marks : Marks) (latches : List Latch) (v w : Tracking) (n : ℕ) → n < length commits
-    → w.count ≡ v.count → w.lasts ≡ v.lasts → w.pending.slots ≡ without_id v.pending.slots n → IsOver (told_of t commits marks latches) n → IsTrackerOf t commits marks latches v
+    → w.count ≡ v.count → w.lasts ≡ v.lasts → w.pending.slots ≡ without_id v.pending.slots n → IsCommitOver (told_of t commits marks latches) n → IsTrackerOf t commits marks latches v
     → IsTrackerOf t commits (record marks { cleaned = n ∷ marks.cleaned }) latches w
 cleanup_in_step t commits marks latches v w n within count lasts is over step = record {
   keeps = keeps_cleanup (told_of t commits marks latches) v w n count lasts is over step.keeps;
@@ -69,7 +69,7 @@ cleanup_in_step t commits marks latches v w n within count lasts is over step = 
 
 -- a commit latches at a CRTC
 pub latch_in_step : (t : Topology) (commits : List Commit) (marks : Marks) (latches : List Latch) (v : Tracking) (l : Latch) → l.commit < length commits → l.crtc < 4 → IsTrackerOf t commits marks latches v
-    → IsTrackerOf t commits marks (l ∷ latches) (changed v l.commit (with_latch l.crtc))
+    → IsTrackerOf t commits marks (l ∷ latches) (changed_commit v l.commit (with_latch l.crtc))
 unfolding has_latched
 latch_in_step t commits marks latches v l within crtc step = record {
   keeps = keeps_latch (told_of t commits marks latches) v l.commit l.crtc crtc step.keeps;
@@ -126,8 +126,8 @@ tells_of_commit t c cs marks latches checked fences for fresh = record {
   hw_done = λ k within. refl;
   latched = λ k crtc within. refl;
   cleaned = λ k within. refl;
-  touches_new = λ p place. ap (λ b. is_of_device t (object_at p) && b) (touches_now t c cs (object_at p)) ∙ for.touched p place;
-  concerns_new = λ p crtc place within has. ap (λ b. is_of_device t (crtc_id crtc) && b) (concerns_now t c cs (object_at p) (crtc_id crtc)) ∙ for.on p crtc place within has;
+  touches_new = λ p place. ap (λ b. is_of_device t (object_at_place p) && b) (touches_now t c cs (object_at_place p)) ∙ for.touched p place;
+  concerns_new = λ p crtc place within has. ap (λ b. is_of_device t (crtc_id crtc) && b) (concerns_now t c cs (object_at_place p) (crtc_id crtc)) ∙ for.on p crtc place within has;
   fences_new = fences_now t c cs fences checked for;
   unclaimed = fresh.claimed;
   not_done = fresh.hw_done;

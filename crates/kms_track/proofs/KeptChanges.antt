@@ -15,9 +15,9 @@ use Rattle.kms_track.specs.Laws.{no_tracking}
 use Rattle.kms_track.specs.declared.commits.Last.{Last}
 use Rattle.kms_track.specs.declared.commits.Pending.{Pending}
 use Rattle.kms_track.specs.declared.commits.Touched.{Touched}
-use Rattle.kms_track.specs.Places.{object_at, mask_has}
-use Rattle.kms_track.specs.Told.{Told, has_flipped, previous, previous_of, second_previous, KeepsObject, IsOver, KeepsCommit, Keeps, TellsOfSetup, told_claim, told_hw_done, told_latch, told_cleanup}
-use Rattle.kms_track.specs.Tracking.{Tracking, commit_of, last_at, no_last, touched_at, raised, changed, changed_slots, with_claim, with_done, with_latch, IsSetUp}
+use Rattle.kms_track.specs.Places.{object_at_place, mask_has}
+use Rattle.kms_track.specs.Told.{Told, has_flipped, previous, previous_of, second_previous, KeepsObject, IsCommitOver, KeepsCommit, Keeps, TellsOfSetup, told_claim, told_hw_done, told_latch, told_cleanup}
+use Rattle.kms_track.specs.Tracking.{Tracking, pending_commit, last_at, no_last, touched_at, raised, changed_commit, changed_slots, with_claim, with_done, with_latch, IsSetUp}
 use Rattle.kms_track.proofs.Previous.{last_is, last_same}
 
 -- What is told of a commit alike in two ways
@@ -52,7 +52,7 @@ keeps_same told other k None same kept = (
   record {
     claimed = same.claimed ∙ kept.1.claimed;
     hw_done = same.hw_done ∙ kept.1.hw_done;
-    flipped = λ p place touched. flipped_alike told other k (object_at p) (same.concerns (object_at p)) same.latched ∙ kept.1.flipped p place (sym (same.touches (object_at p)) ∙ touched);
+    flipped = λ p place touched. flipped_alike told other k (object_at_place p) (same.concerns (object_at_place p)) same.latched ∙ kept.1.flipped p place (sym (same.touches (object_at_place p)) ∙ touched);
   },
 )
 keeps_same told other k (Some c) same kept = (
@@ -62,7 +62,7 @@ keeps_same told other k (Some c) same kept = (
     hw_done = kept.1.hw_done ∙ sym same.hw_done;
     latched = λ crtc within. kept.1.latched crtc within ∙ sym (same.latched (100 + crtc));
     size = kept.1.size;
-    touched = λ p place. keeps_object told other k (object_at p) (get_or c.touched p None) (same.touches (object_at p)) (same.previous_same (object_at p)) (same.concerns (object_at p)) (kept.1.touched p place);
+    touched = λ p place. keeps_object told other k (object_at_place p) (get_or c.touched p None) (same.touches (object_at_place p)) (same.previous_same (object_at_place p)) (same.concerns (object_at_place p)) (kept.1.touched p place);
     fences = kept.1.fences ∙ sym same.fences_same;
   },
 )
@@ -85,18 +85,18 @@ changed_below : (slots : List (Slot Pending)) (m n : ℕ) (f : Pending → Pendi
 changed_below slots m n f None below = below
 changed_below slots m n f (Some c) below = below-with_value slots m n (f c) below
 
-commits_changed : (told other : Told) (v : Tracking) (n : ℕ) (f : Pending → Pending) → ((k : ℕ) → k < told.count → KeepsCommit told k (commit_of v k))
+commits_changed : (told other : Told) (v : Tracking) (n : ℕ) (f : Pending → Pending) → ((k : ℕ) → k < told.count → KeepsCommit told k (pending_commit v k))
     → ((o : Option Pending) → KeepsCommit told n o → KeepsCommit other n (mapped f o))
     → ((k : ℕ) → (n == k) ≡ false → SameCommit told other k)
-    → (k : ℕ) → k < told.count → KeepsCommit other k (commit_of (changed v n f) k)
+    → (k : ℕ) → k < told.count → KeepsCommit other k (pending_commit (changed_commit v n f) k)
 commits_changed told other v n f kept this others k within =
     elim (eqb_tells n k) [
       | inl same ↦ (
           let here : n < told.count = omega (arith, same.1) in
-          let P : ℕ → Type 0 = λ m. KeepsCommit other m (commit_of (changed v n f) m) in
-          subst P same.1 (rw (changed_same v.pending.slots n f (commit_of v n) refl) (this (commit_of v n) (kept n here)))
+          let P : ℕ → Type 0 = λ m. KeepsCommit other m (pending_commit (changed_commit v n f) m) in
+          subst P same.1 (rw (changed_same v.pending.slots n f (pending_commit v n) refl) (this (pending_commit v n) (kept n here)))
           )
-      | inr apart ↦ rw (changed_apart v.pending.slots n k f (commit_of v n) apart.0) (keeps_same told other k (commit_of v k) (others k apart.0) (kept k within))
+      | inr apart ↦ rw (changed_apart v.pending.slots n k f (pending_commit v n) apart.0) (keeps_same told other k (pending_commit v k) (others k apart.0) (kept k within))
     ]
 
 same_number : (n : ℕ) (b : Bool) → ((n == n) || b) ≡ true
@@ -131,15 +131,15 @@ marked_here told claimed hw_done n f mark (Some c) kept =
         hw_done = mark.done_now c kept.1.hw_done;
         latched = kept.1.latched;
         size = kept.1.size;
-        touched = λ p place. keeps_object told (told_marks told claimed hw_done) n (object_at p) (get_or c.touched p None) refl refl (λ crtc. refl) (kept.1.touched p place);
+        touched = λ p place. keeps_object told (told_marks told claimed hw_done) n (object_at_place p) (get_or c.touched p None) refl refl (λ crtc. refl) (kept.1.touched p place);
         fences = kept.1.fences;
       },
     )
 
-keeps_marks : (told : Told) (claimed hw_done : ℕ → Bool) (v : Tracking) (n : ℕ) (f : Pending → Pending) → IsMark told claimed hw_done n f → Keeps told v → Keeps (told_marks told claimed hw_done) (changed v n f)
+keeps_marks : (told : Told) (claimed hw_done : ℕ → Bool) (v : Tracking) (n : ℕ) (f : Pending → Pending) → IsMark told claimed hw_done n f → Keeps told v → Keeps (told_marks told claimed hw_done) (changed_commit v n f)
 keeps_marks told claimed hw_done v n f mark keeps = record {
   count = keeps.count;
-  below = changed_below v.pending.slots v.count n f (commit_of v n) keeps.below;
+  below = changed_below v.pending.slots v.count n f (pending_commit v n) keeps.below;
   last = keeps.last;
   before = keeps.before;
   commits = commits_changed told (told_marks told claimed hw_done) v n f keeps.commits (marked_here told claimed hw_done n f mark) (λ k apart. record {
@@ -154,7 +154,7 @@ keeps_marks told claimed hw_done v n f mark keeps = record {
   });
 }
 
-pub keeps_claim : (told : Told) (v : Tracking) (n : ℕ) → Keeps told v → Keeps (told_claim told n) (changed v n with_claim)
+pub keeps_claim : (told : Told) (v : Tracking) (n : ℕ) → Keeps told v → Keeps (told_claim told n) (changed_commit v n with_claim)
 keeps_claim told v n keeps = keeps_marks told (told_claim told n).claimed told.hw_done v n with_claim mark keeps
   where
     mark : IsMark told (told_claim told n).claimed told.hw_done n with_claim
@@ -168,7 +168,7 @@ keeps_claim told v n keeps = keeps_marks told (told_claim told n).claimed told.h
       done_others = λ k apart. refl;
     }
 
-pub keeps_hw_done : (told : Told) (v : Tracking) (n : ℕ) → Keeps told v → Keeps (told_hw_done told n) (changed v n with_done)
+pub keeps_hw_done : (told : Told) (v : Tracking) (n : ℕ) → Keeps told v → Keeps (told_hw_done told n) (changed_commit v n with_done)
 keeps_hw_done told v n keeps = keeps_marks told told.claimed (told_hw_done told n).hw_done v n with_done mark keeps
   where
     mark : IsMark told told.claimed (told_hw_done told n).hw_done n with_done
@@ -215,7 +215,7 @@ latched_here told n crtc within None kept = (
   record {
     claimed = kept.1.claimed;
     hw_done = kept.1.hw_done;
-    flipped = λ p place touched. latch_keeps_flip told n (100 + crtc) n (object_at p) (kept.1.flipped p place touched);
+    flipped = λ p place touched. latch_keeps_flip told n (100 + crtc) n (object_at_place p) (kept.1.flipped p place touched);
   },
 )
 latched_here told n crtc within (Some c) kept = (
@@ -225,7 +225,7 @@ latched_here told n crtc within (Some c) kept = (
     hw_done = kept.1.hw_done;
     latched = λ other also. latch_at told n crtc other c.latched kept.1.size within also (kept.1.latched other also);
     size = length-set c.latched crtc true ∙ kept.1.size;
-    touched = λ p place. keeps_object told (told_latch told n (100 + crtc)) n (object_at p) (get_or c.touched p None) refl refl (λ other. refl) (kept.1.touched p place);
+    touched = λ p place. keeps_object told (told_latch told n (100 + crtc)) n (object_at_place p) (get_or c.touched p None) refl refl (λ other. refl) (kept.1.touched p place);
     fences = kept.1.fences;
   },
 )
@@ -244,10 +244,10 @@ same_marked told latched cleaned k same_latched same_cleaned = record {
   cleaned = same_cleaned;
 }
 
-pub keeps_latch : (told : Told) (v : Tracking) (n crtc : ℕ) → crtc < 4 → Keeps told v → Keeps (told_latch told n (100 + crtc)) (changed v n (with_latch crtc))
+pub keeps_latch : (told : Told) (v : Tracking) (n crtc : ℕ) → crtc < 4 → Keeps told v → Keeps (told_latch told n (100 + crtc)) (changed_commit v n (with_latch crtc))
 keeps_latch told v n crtc within keeps = record {
   count = keeps.count;
-  below = changed_below v.pending.slots v.count n (with_latch crtc) (commit_of v n) keeps.below;
+  below = changed_below v.pending.slots v.count n (with_latch crtc) (pending_commit v n) keeps.below;
   last = keeps.last;
   before = keeps.before;
   commits = commits_changed told (told_latch told n (100 + crtc)) v n (with_latch crtc) keeps.commits (latched_here told n crtc within)
@@ -256,21 +256,21 @@ keeps_latch told v n crtc within keeps = record {
 
 -- Cleaned
 
-cleaned_commit : (told : Told) (v w : Tracking) (n k : ℕ) → w.pending.slots ≡ without_id v.pending.slots n → IsOver told n → KeepsCommit told k (commit_of v k) → KeepsCommit (told_cleanup told n) k (commit_of w k)
+cleaned_commit : (told : Told) (v w : Tracking) (n k : ℕ) → w.pending.slots ≡ without_id v.pending.slots n → IsCommitOver told n → KeepsCommit told k (pending_commit v k) → KeepsCommit (told_cleanup told n) k (pending_commit w k)
 cleaned_commit told v w n k is over kept =
     elim (eqb_tells n k) [
       | inl same ↦ (
-          let P : ℕ → Type 0 = λ m. KeepsCommit (told_cleanup told n) m (commit_of w m) in
-          let gone : commit_of w n ≡ None = rw is (value_removed v.pending.slots n) in
+          let P : ℕ → Type 0 = λ m. KeepsCommit (told_cleanup told n) m (pending_commit w m) in
+          let gone : pending_commit w n ≡ None = rw is (value_removed v.pending.slots n) in
           subst P same.1 (rw gone (same_number n (told.cleaned n), record { claimed = over.claimed; hw_done = over.hw_done; flipped = over.flipped }))
           )
       | inr apart ↦ (
-          let left : commit_of w k ≡ commit_of v k = rw is (value_left v.pending.slots n k apart.0) in
-          rw left (keeps_same told (told_cleanup told n) k (commit_of v k) (same_marked told told.latched (told_cleanup told n).cleaned k (λ other. refl) (other_number n k (told.cleaned k) apart.0)) kept)
+          let left : pending_commit w k ≡ pending_commit v k = rw is (value_left v.pending.slots n k apart.0) in
+          rw left (keeps_same told (told_cleanup told n) k (pending_commit v k) (same_marked told told.latched (told_cleanup told n).cleaned k (λ other. refl) (other_number n k (told.cleaned k) apart.0)) kept)
           )
     ]
 
-pub keeps_cleanup : (told : Told) (v w : Tracking) (n : ℕ) → w.count ≡ v.count → w.lasts ≡ v.lasts → w.pending.slots ≡ without_id v.pending.slots n → IsOver told n → Keeps told v → Keeps (told_cleanup told n) w
+pub keeps_cleanup : (told : Told) (v w : Tracking) (n : ℕ) → w.count ≡ v.count → w.lasts ≡ v.lasts → w.pending.slots ≡ without_id v.pending.slots n → IsCommitOver told n → Keeps told v → Keeps (told_cleanup told n) w
 keeps_cleanup told v w n count lasts is over keeps = record {
   count = count ∙ keeps.count;
   below = rw (count, is) (below-without_id v.pending.slots v.count n keeps.below);
@@ -326,11 +326,11 @@ pair_new old new checked fences object l m false tells last before touches is =
     (rw (is, that) last, rw (is, that) (before ∙ sym (second_of old new checked fences object (previous old old.count object) tells refl)))
 
 new_object : (old new : Told) (checked : Checked) (fences : List ℕ) (v : Tracking) (p : ℕ) (b : Bool) (t : Option Touched) → TellsOfSetup old new checked fences → Keeps old v → p < 28 → mask_has checked.touched p ≡ b
-    → t ≡ touched_at v.lasts checked p → KeepsObject new old.count (object_at p) t
+    → t ≡ touched_at v.lasts checked p → KeepsObject new old.count (object_at_place p) t
 new_object old new checked fences v p true t tells keeps place has is =
     rw (is, has) (record {
       touches = tells.touches_new p place ∙ has;
-      previous_is = keeps.last p place ∙ sym (previous_old old new checked fences old.count (object_at p) tells (omega arith));
+      previous_is = keeps.last p place ∙ sym (previous_old old new checked fences old.count (object_at_place p) tells (omega arith));
       concerns = λ crtc within. tells.concerns_new p crtc place within has;
     })
 new_object old new checked fences v p false t tells keeps place has is = rw (is, has) (tells.touches_new p place ∙ has)
@@ -359,26 +359,26 @@ or_none None = refl
 or_none (Some c) = refl
 
 -- the commits before the new one, and the new one
-commit_before : (v w : Tracking) (checked : Checked) (fences : List ℕ) (k : ℕ) → IsSetUp v w checked fences → k < v.count → commit_of w k ≡ commit_of v k
+commit_before : (v w : Tracking) (checked : Checked) (fences : List ℕ) (k : ℕ) → IsSetUp v w checked fences → k < v.count → pending_commit w k ≡ pending_commit v k
 commit_before v w checked fences k set_up within =
     let apart : (v.count == k) ≡ false = elim (eqb_tells v.count k) [ inl e ↦ absurd (omega (arith, e.1)) | inr d ↦ d.0 ] in
-    ap (λ slots. value_with_id slots k) set_up.pending ∙ (value_pushed v.pending.slots v.count k set_up.commit ∙ rw apart (or_none (commit_of v k)))
+    ap (λ slots. value_with_id slots k) set_up.pending ∙ (value_pushed v.pending.slots v.count k set_up.commit ∙ rw apart (or_none (pending_commit v k)))
 
-commit_last : (v w : Tracking) (checked : Checked) (fences : List ℕ) → (set_up : IsSetUp v w checked fences) → AreBelow v.count v.pending.slots → commit_of w v.count ≡ Some set_up.commit
+commit_last : (v w : Tracking) (checked : Checked) (fences : List ℕ) → (set_up : IsSetUp v w checked fences) → AreBelow v.count v.pending.slots → pending_commit w v.count ≡ Some set_up.commit
 commit_last v w checked fences set_up below =
     ap (λ slots. value_with_id slots v.count) set_up.pending
     ∙ (value_pushed v.pending.slots v.count v.count set_up.commit
     ∙ rw (value_above v.pending.slots v.count v.count below (omega arith), eq-eqb v.count v.count refl) refl)
 
 commit_new : (old new : Told) (checked : Checked) (fences : List ℕ) (v w : Tracking) (k : ℕ) → AreBelow v.count v.pending.slots → IsSetUp v w checked fences → TellsOfSetup old new checked fences → Keeps old v
-    → k < old.count + 1 → KeepsCommit new k (commit_of w k)
+    → k < old.count + 1 → KeepsCommit new k (pending_commit w k)
 commit_new old new checked fences v w k below set_up tells keeps within =
     elim (cases_lt k old.count) [
-      | inl less ↦ rw (commit_before v w checked fences k set_up (omega (arith, keeps.count))) (keeps_same old new k (commit_of v k) (same_old old new checked fences k tells less) (keeps.commits k less))
+      | inl less ↦ rw (commit_before v w checked fences k set_up (omega (arith, keeps.count))) (keeps_same old new k (pending_commit v k) (same_old old new checked fences k tells less) (keeps.commits k less))
       | inr other ↦ (
           let last : old.count ≡ k = omega arith in
-          let P : ℕ → Type 0 = λ m. KeepsCommit new m (commit_of w m) in
-          let found : commit_of w old.count ≡ Some set_up.commit = rw keeps.count at (commit_last v w checked fences set_up below) in
+          let P : ℕ → Type 0 = λ m. KeepsCommit new m (pending_commit w m) in
+          let found : pending_commit w old.count ≡ Some set_up.commit = rw keeps.count at (commit_last v w checked fences set_up below) in
           subst P last (rw found (new_commit old new checked fences v w tells set_up keeps))
           )
     ]
@@ -391,8 +391,8 @@ keeps_setup old new checked fences v w set_up tells keeps = record {
   before = λ p place. rw tells.count (pair p place).1;
   commits = λ k within. commit_new old new checked fences v w k keeps.below set_up tells keeps (omega (arith, tells.count));
 } where
-  pair : (p : ℕ) → p < 28 → ((last_at w p).commit ≡ previous new (old.count + 1) (object_at p)) × ((last_at w p).before ≡ second_previous new (old.count + 1) (object_at p))
-  pair p place = pair_new old new checked fences (object_at p) (last_at v p) (last_at w p) (mask_has checked.touched p) tells (keeps.last p place) (keeps.before p place) (tells.touches_new p place) (rw keeps.count at (set_up.lasts p place))
+  pair : (p : ℕ) → p < 28 → ((last_at w p).commit ≡ previous new (old.count + 1) (object_at_place p)) × ((last_at w p).before ≡ second_previous new (old.count + 1) (object_at_place p))
+  pair p place = pair_new old new checked fences (object_at_place p) (last_at v p) (last_at w p) (mask_has checked.touched p) tells (keeps.last p place) (keeps.before p place) (tells.touches_new p place) (rw keeps.count at (set_up.lasts p place))
 
 -- Room
 

@@ -8,7 +8,7 @@ use Rattle.kms_model.specs.declared.objects.Topology.{Topology}
 use Rattle.kms_model.specs.Firsts.{or_else, first_some}
 use Rattle.kms_model.specs.Device.Objects.{object_id, ids_of, count_of}
 use Rattle.kms_model.specs.Machine.Commits.{lockable}
-use Rattle.kms_track.specs.Places.{object_at, all_below, first_below}
+use Rattle.kms_track.specs.Places.{object_at_place, all_below, first_below}
 use Rattle.kms_track.specs.InStep.{IsWithinPlaces, is_there}
 use Rattle.kms_track.specs.Told.{crtc_ids}
 
@@ -85,7 +85,7 @@ first_crtc t f g limits same off =
     further f 0 4 ∙ ap (λ r. or_else r (first_some f (range_with_len 0 4))) (none_yet f)
     ∙ of_kind f g (object_id Crtc) 0 0 (count_of t Crtc) 4 limits.crtcs (λ i within. rw zero-add (same i within)) (λ i low high. rw zero-add (off i low high))
 
-pub first_lockable : {A : Type 0} (t : Topology) (f g : ℕ → Option A) → IsWithinPlaces t → ((p : ℕ) → p < 28 → is_there t p ≡ true → f p ≡ g (object_at p)) → ((p : ℕ) → p < 28 → is_there t p ≡ false → f p ≡ None) → first_below f 28 ≡ first_some g (lockable t)
+pub first_lockable : {A : Type 0} (t : Topology) (f g : ℕ → Option A) → IsWithinPlaces t → ((p : ℕ) → p < 28 → is_there t p ≡ true → f p ≡ g (object_at_place p)) → ((p : ℕ) → p < 28 → is_there t p ≡ false → f p ≡ None) → first_below f 28 ≡ first_some g (lockable t)
 first_lockable {A} t f g limits same off =
     let crtcs : first_some f (range_with_len 0 4) ≡ first_some g (ids_of t Crtc) =
     of_kind f g (object_id Crtc) 0 0 (count_of t Crtc) 4 limits.crtcs (λ i within. rw zero-add (crtc_same i within)) (λ i low high. rw zero-add (off i (omega arith) (crtc_off i high low))) in
@@ -154,7 +154,7 @@ list_as_first g [] = refl
 list_as_first g (x ∷ xs) =
     elim (g x) as (λ b. (b && list_all g xs) ≡ is_none (or_else (failing b) (first_some (λ o. failing (g o)) xs))) [ true ↦ list_as_first g xs | false ↦ refl ]
 
-pub all_lockable : (t : Topology) (f g : ℕ → Bool) → IsWithinPlaces t → ((p : ℕ) → p < 28 → is_there t p ≡ true → f p ≡ g (object_at p)) → ((p : ℕ) → p < 28 → is_there t p ≡ false → f p ≡ true) → all_below f 28 ≡ list_all g (lockable t)
+pub all_lockable : (t : Topology) (f g : ℕ → Bool) → IsWithinPlaces t → ((p : ℕ) → p < 28 → is_there t p ≡ true → f p ≡ g (object_at_place p)) → ((p : ℕ) → p < 28 → is_there t p ≡ false → f p ≡ true) → all_below f 28 ≡ list_all g (lockable t)
 all_lockable t f g limits same off =
     all_as_first f 28
     ∙ (ap (λ (o : Option ℕ). is_none o) (first_lockable t (λ p. failing (f p)) (λ o. failing (g o)) limits (λ p within there. ap (λ b. failing b) (same p within there)) (λ p within gone. ap (λ b. failing b) (off p within gone)))

@@ -21,9 +21,9 @@ use Rattle.kms_model.specs.Request.Touched.{touches}
 use Rattle.kms_model.proofs.Items.{IsIn}
 use Rattle.kms_signal.specs.FenceSets.{FenceSet, is_signalled}
 use Rattle.kms_track.specs.InStep.{told_of, IsInStep, IsWithinPlaces, is_of_device, pending_pair, busy_answer}
-use Rattle.kms_track.specs.Places.{object_at, mask_has, all_below}
+use Rattle.kms_track.specs.Places.{object_at_place, mask_has, all_below}
 use Rattle.kms_track.specs.Told.{Told, KeepsCommit, has_flipped, previous, is_settled_for, pending_at, pending_of}
-use Rattle.kms_track.specs.Tracking.{Tracking, cleaned_of, commit_of, is_gone, ready_of, busy_of, with_object, unless}
+use Rattle.kms_track.specs.Tracking.{Tracking, cleaned_of, pending_commit, is_gone, ready_of, busy_of, with_object, number_unless}
 use Rattle.kms_track.specs.declared.commits.Pending.{Pending}
 use Rattle.kms_track.proofs.KeptAnswers.{ready_told, busy_told}
 use Rattle.kms_track.proofs.Lockables.{crtcs_all, all_lockable, first_lockable}
@@ -53,11 +53,11 @@ there_same : (a b : ℕ → Bool) (o : Option ℕ) → ((j : ℕ) → a j ≡ b 
 there_same a b None same = refl
 there_same a b (Some j) same = same j
 
-settled_machine : (t : Topology) (m : Machine) (k p : ℕ) → is_of_device t (object_at p) ≡ true → IsWithinPlaces t
-    → is_settled_for (told_of t m.device.commits m.device.marks m.records.latches) k (object_at p) ≡ steps.is_settled_for t m k (object_at p)
+settled_machine : (t : Topology) (m : Machine) (k p : ℕ) → is_of_device t (object_at_place p) ≡ true → IsWithinPlaces t
+    → is_settled_for (told_of t m.device.commits m.device.marks m.records.latches) k (object_at_place p) ≡ steps.is_settled_for t m k (object_at_place p)
 settled_machine t m k p on limits =
-    ap (λ o. if_there (λ j. is_hw_done m.device j && has_flipped (told_of t m.device.commits m.device.marks m.records.latches) j (object_at p)) o) (previous_machine t m.device.commits m.device.marks m.records.latches k (object_at p) on)
-    ∙ there_same _ _ (machine.previous t m.device.commits k (object_at p)) (λ j. ap (λ b. is_hw_done m.device j && b) (flipped_machine t m.device.commits m.device.marks m.records.latches j (object_at p) limits))
+    ap (λ o. if_there (λ j. is_hw_done m.device j && has_flipped (told_of t m.device.commits m.device.marks m.records.latches) j (object_at_place p)) o) (previous_machine t m.device.commits m.device.marks m.records.latches k (object_at_place p) on)
+    ∙ there_same _ _ (machine.previous t m.device.commits k (object_at_place p)) (λ j. ap (λ b. is_hw_done m.device j && b) (flipped_machine t m.device.commits m.device.marks m.records.latches j (object_at_place p) limits))
 
 -- `ready` tells whether a claim is legal. The fences of the commit are those that the machine has.
 pub ready_machine : (t : Topology) (m : Machine) (v : Tracking) (fences : FenceSet) (k : ℕ) → IsInStep t m v → IsWithinPlaces t
@@ -66,12 +66,12 @@ unfolding steps.may_claim
 ready_machine t m v fences k step limits signals =
     let told : Told = told_of t m.device.commits m.device.marks m.records.latches in
     let waited : list_all (is_signalled fences) (waited_fences t m.device.commits k) ≡ list_all (has_number m.device.signalled) (waited_fences t m.device.commits k) = all_alike _ _ (waited_fences t m.device.commits k) signals in
-    let settled : all_below (λ p. not (is_of_device t (object_at p) && commit_touches t m.device.commits k (object_at p)) || is_settled_for told k (object_at p)) 28
+    let settled : all_below (λ p. not (is_of_device t (object_at_place p) && commit_touches t m.device.commits k (object_at_place p)) || is_settled_for told k (object_at_place p)) 28
     ≡ list_all (λ object. not (commit_touches t m.device.commits k object) || steps.is_settled_for t m k object) (lockable t) =
-    all_lockable t _ _ limits (λ p within there. (let on : is_of_device t (object_at p) ≡ true = on_place t p within ∙ there in
-    ap (λ b. not (b && commit_touches t m.device.commits k (object_at p)) || is_settled_for told k (object_at p)) on ∙ ap (λ b. not (commit_touches t m.device.commits k (object_at p)) || b) (settled_machine t m k p on limits))) (λ p within gone. rw (on_place t p within ∙ gone) refl) in
+    all_lockable t _ _ limits (λ p within there. (let on : is_of_device t (object_at_place p) ≡ true = on_place t p within ∙ there in
+    ap (λ b. not (b && commit_touches t m.device.commits k (object_at_place p)) || is_settled_for told k (object_at_place p)) on ∙ ap (λ b. not (commit_touches t m.device.commits k (object_at_place p)) || b) (settled_machine t m k p on limits))) (λ p within gone. rw (on_place t p within ∙ gone) refl) in
     ready_told told v fences k step.keeps
-    ∙ (ap (λ b. nat_lt k (length m.device.commits) && (not (has_number m.device.marks.claimed k) && (b && all_below (λ p. not (is_of_device t (object_at p) && commit_touches t m.device.commits k (object_at p)) || is_settled_for told k (object_at p)) 28))) waited
+    ∙ (ap (λ b. nat_lt k (length m.device.commits) && (not (has_number m.device.marks.claimed k) && (b && all_below (λ p. not (is_of_device t (object_at_place p) && commit_touches t m.device.commits k (object_at_place p)) || is_settled_for told k (object_at_place p)) 28))) waited
     ∙ ap (λ b. nat_lt k (length m.device.commits) && (not (has_number m.device.marks.claimed k) && (list_all (has_number m.device.signalled) (waited_fences t m.device.commits k) && b))) settled)
 
 -- `is_cleaned` tells whether a commit is cleaned
@@ -80,7 +80,7 @@ pub cleaned_machine : (t : Topology) (m : Machine) (v : Tracking) (k : ℕ) → 
 cleaned_machine t m v k step =
     let same = step.keeps.count in
     elim (cases_Bool (nat_lt k v.count)) [
-      | inl low ↦ (let below = ltb-true k v.count low in rw low (kept (commit_of v k) (step.keeps.commits k (omega (arith, below, same)))))
+      | inl low ↦ (let below = ltb-true k v.count low in rw low (kept (pending_commit v k) (step.keeps.commits k (omega (arith, below, same)))))
       | inr high ↦ (let above = ltb-false k v.count high in rw high (sym (step.untouched k (omega (arith, above, same))).cleaned))
     ]
   where
@@ -90,23 +90,23 @@ cleaned_machine t m v k step =
 
 -- Busy objects
 
-object_with : (p : ℕ) (o : Option ℕ) → with_object p o ≡ pending_pair (object_at p) o
+object_with : (p : ℕ) (o : Option ℕ) → with_object p o ≡ pending_pair (object_at_place p) o
 object_with p None = refl
 object_with p (Some k) = refl
 
-pub chosen : (p : ℕ) (b : Bool) (o : Option ℕ) → with_object p (if b then o else None) ≡ (if b then pending_pair (object_at p) o else None)
+pub chosen : (p : ℕ) (b : Bool) (o : Option ℕ) → with_object p (if b then o else None) ≡ (if b then pending_pair (object_at_place p) o else None)
 chosen p true o = object_with p o
 chosen p false o = refl
 
-unless_pair : (object k : ℕ) (b : Bool) → pending_pair object (unless b k) ≡ (if not b then Some (obj_id object, k) else None)
+unless_pair : (object k : ℕ) (b : Bool) → pending_pair object (number_unless b k) ≡ (if not b then Some (obj_id object, k) else None)
 unless_pair object k true = refl
 unless_pair object k false = refl
 
 pair_machine : (t : Topology) (m : Machine) (p : ℕ) (o : Option ℕ) → IsWithinPlaces t
-    → pending_pair (object_at p) (pending_of (told_of t m.device.commits m.device.marks m.records.latches) (object_at p) o)
-    ≡ (if not (if_there (λ k. machine.has_flipped t m.device.commits m.records.latches k (object_at p)) o) then Some (obj_id (object_at p), commit_numbered o) else None)
+    → pending_pair (object_at_place p) (pending_of (told_of t m.device.commits m.device.marks m.records.latches) (object_at_place p) o)
+    ≡ (if not (if_there (λ k. machine.has_flipped t m.device.commits m.records.latches k (object_at_place p)) o) then Some (obj_id (object_at_place p), commit_numbered o) else None)
 pair_machine t m p None limits = refl
-pair_machine t m p (Some k) limits = rw (flipped_machine t m.device.commits m.device.marks m.records.latches k (object_at p) limits) (unless_pair (object_at p) k (machine.has_flipped t m.device.commits m.records.latches k (object_at p)))
+pair_machine t m p (Some k) limits = rw (flipped_machine t m.device.commits m.device.marks m.records.latches k (object_at_place p) limits) (unless_pair (object_at_place p) k (machine.has_flipped t m.device.commits m.records.latches k (object_at_place p)))
 
 both_tests : (a b : Bool) (x : Option (ObjId × ℕ)) → (if a then (if b then x else None) else None) ≡ (if a && b then x else None)
 both_tests true b x = refl
@@ -122,7 +122,7 @@ find_first t commits test (x ∷ xs) =
 
 -- `busy` of the objects that a request touches tells the first that is pending, and its last commit.
 pub busy_machine : (t : Topology) (m : Machine) (v : Tracking) (mask : Mask) (r : Request) → IsInStep t m v → IsWithinPlaces t
-    → ((p : ℕ) → p < 28 → mask_has mask p ≡ (is_of_device t (object_at p) && touches t m.device.world r (object_at p)))
+    → ((p : ℕ) → p < 28 → mask_has mask p ≡ (is_of_device t (object_at_place p) && touches t m.device.world r (object_at_place p)))
     → busy_of v mask ≡ busy_answer t m.device.commits (steps.first_pending t m r)
 unfolding steps.first_pending steps.is_pending machine.previous
 busy_machine t m v mask r step limits named =
@@ -130,11 +130,11 @@ busy_machine t m v mask r step limits named =
     busy_told told v mask step.keeps
     ∙ (first_lockable t _ (λ o. if touches t m.device.world r o && steps.is_pending t m o then busy_answer t m.device.commits (Some o) else None) limits
     (λ p within there.
-    (let on : is_of_device t (object_at p) ≡ true = on_place t p within ∙ there in
-    chosen p (mask_has mask p) (pending_at told (object_at p))
-    ∙ (ap (λ b. (if b then pending_pair (object_at p) (pending_at told (object_at p)) else None)) (named p within ∙ ap (λ b. b && touches t m.device.world r (object_at p)) on)
-    ∙ (ap (λ o. (if touches t m.device.world r (object_at p) then pending_pair (object_at p) (pending_of told (object_at p) o) else None)) (previous_machine t m.device.commits m.device.marks m.records.latches (length m.device.commits) (object_at p) on)
-    ∙ (ap (λ (x : Option (ObjId × ℕ)). (if touches t m.device.world r (object_at p) then x else None)) (pair_machine t m p (machine.previous t m.device.commits (length m.device.commits) (object_at p)) limits)
-    ∙ both_tests (touches t m.device.world r (object_at p)) (steps.is_pending t m (object_at p)) (busy_answer t m.device.commits (Some (object_at p))))))))
+    (let on : is_of_device t (object_at_place p) ≡ true = on_place t p within ∙ there in
+    chosen p (mask_has mask p) (pending_at told (object_at_place p))
+    ∙ (ap (λ b. (if b then pending_pair (object_at_place p) (pending_at told (object_at_place p)) else None)) (named p within ∙ ap (λ b. b && touches t m.device.world r (object_at_place p)) on)
+    ∙ (ap (λ o. (if touches t m.device.world r (object_at_place p) then pending_pair (object_at_place p) (pending_of told (object_at_place p) o) else None)) (previous_machine t m.device.commits m.device.marks m.records.latches (length m.device.commits) (object_at_place p) on)
+    ∙ (ap (λ (x : Option (ObjId × ℕ)). (if touches t m.device.world r (object_at_place p) then x else None)) (pair_machine t m p (machine.previous t m.device.commits (length m.device.commits) (object_at_place p)) limits)
+    ∙ both_tests (touches t m.device.world r (object_at_place p)) (steps.is_pending t m (object_at_place p)) (busy_answer t m.device.commits (Some (object_at_place p))))))))
     (λ p within gone. rw (named p within, on_place t p within ∙ gone) refl)
     ∙ find_first t m.device.commits (λ o. touches t m.device.world r o && steps.is_pending t m o) (lockable t))

@@ -19,9 +19,9 @@ use Rattle.kms_model.specs.Request.Named.{named, names}
 use Rattle.kms_model.specs.Request.Touched.{named_by}
 use Rattle.kms_model.proofs.MaskLemmas.{has_bit-mask_below}
 use Rattle.kms_track.specs.InStep.{told_of, IsInStep, IsWithinPlaces, awaited_answer, awaited_commit, is_of_device, pending_pair}
-use Rattle.kms_track.specs.Places.{object_at}
+use Rattle.kms_track.specs.Places.{object_at_place}
 use Rattle.kms_track.specs.Told.{Told, previous_of, not_marked, awaited_at}
-use Rattle.kms_track.specs.Tracking.{Tracking, not_yet_of, with_object, unless, or_other}
+use Rattle.kms_track.specs.Tracking.{Tracking, not_yet_of, with_object, number_unless, or_other}
 use Rattle.kms_track.proofs.KeptAnswers.{not_yet_told}
 use Rattle.kms_track.proofs.Lockables.{first_crtc}
 use Rattle.kms_track.proofs.MachineAnswers.{chosen, previous_machine}
@@ -53,7 +53,7 @@ pub awaited_told : (t : Topology) (m : Machine) (v : Tracking) (r : Request) →
 awaited_told t m v r step limits =
     let told : Told = told_of t m.device.commits m.device.marks m.records.latches in
     not_yet_told told v (named_by t m.device.world r) step.keeps
-    ∙ (first_crtc t (λ i. with_object i (if has_bit (named_by t m.device.world r) i then awaited_at told (object_at i) else None)) (λ crtc. if is_named crtc then pending_pair crtc (awaited_commit t m crtc) else None) limits here beyond
+    ∙ (first_crtc t (λ i. with_object i (if has_bit (named_by t m.device.world r) i then awaited_at told (object_at_place i) else None)) (λ crtc. if is_named crtc then pending_pair crtc (awaited_commit t m crtc) else None) limits here beyond
     ∙ first_filtered is_named (λ crtc. pending_pair crtc (awaited_commit t m crtc)) (ids_of t Crtc))
   where
     is_named : ℕ → Bool
@@ -62,24 +62,24 @@ awaited_told t m v r step limits =
     has : (i : ℕ) → has_bit (named_by t m.device.world r) i ≡ (nat_lt i (count_of t Crtc) && is_named (object_id Crtc i))
     has i = has_bit-mask_below (λ index. is_named (object_id Crtc index)) (count_of t Crtc) i
 
-    here : (i : ℕ) → i < count_of t Crtc → with_object i (if has_bit (named_by t m.device.world r) i then awaited_at (told_of t m.device.commits m.device.marks m.records.latches) (object_at i) else None)
+    here : (i : ℕ) → i < count_of t Crtc → with_object i (if has_bit (named_by t m.device.world r) i then awaited_at (told_of t m.device.commits m.device.marks m.records.latches) (object_at_place i) else None)
         ≡ (if is_named (object_id Crtc i) then pending_pair (object_id Crtc i) (awaited_commit t m (object_id Crtc i)) else None)
     here i within =
         (let few : i < 4 = omega (arith, within, limits.crtcs) in
         let there : nat_lt i (count_of t Crtc) ≡ true = lt-ltb i (count_of t Crtc) within in
         let on : is_of_device t (object_id Crtc i) ≡ true = on_index t Crtc i (omega (arith, few)) ∙ there in
-        let at : object_at i ≡ object_id Crtc i = rw (lt-ltb i 4 few) refl in
-        chosen i (has_bit (named_by t m.device.world r) i) (awaited_at (told_of t m.device.commits m.device.marks m.records.latches) (object_at i))
-        ∙ (ap (λ b. if b then pending_pair (object_at i) (awaited_at (told_of t m.device.commits m.device.marks m.records.latches) (object_at i)) else None) (has i ∙ ap (λ b. b && is_named (object_id Crtc i)) there)
+        let at : object_at_place i ≡ object_id Crtc i = rw (lt-ltb i 4 few) refl in
+        chosen i (has_bit (named_by t m.device.world r) i) (awaited_at (told_of t m.device.commits m.device.marks m.records.latches) (object_at_place i))
+        ∙ (ap (λ b. if b then pending_pair (object_at_place i) (awaited_at (told_of t m.device.commits m.device.marks m.records.latches) (object_at_place i)) else None) (has i ∙ ap (λ b. b && is_named (object_id Crtc i)) there)
         ∙ (ap (λ o. if is_named (object_id Crtc i) then pending_pair o (awaited_at (told_of t m.device.commits m.device.marks m.records.latches) o) else None) at
         ∙ ap (λ k. if is_named (object_id Crtc i) then pending_pair (object_id Crtc i) k else None) (awaited_machine t m (object_id Crtc i) on))))
 
-    beyond : (i : ℕ) → count_of t Crtc ≤ i → i < 4 → with_object i (if has_bit (named_by t m.device.world r) i then awaited_at (told_of t m.device.commits m.device.marks m.records.latches) (object_at i) else None) ≡ None
+    beyond : (i : ℕ) → count_of t Crtc ≤ i → i < 4 → with_object i (if has_bit (named_by t m.device.world r) i then awaited_at (told_of t m.device.commits m.device.marks m.records.latches) (object_at_place i) else None) ≡ None
     beyond i high low = rw (has i, le-ltb i (count_of t Crtc) high) refl
 
 -- Whether it is none
 
-none_unless : (b : Bool) (k : ℕ) → is_none (unless b k) ≡ b
+none_unless : (b : Bool) (k : ℕ) → is_none (number_unless b k) ≡ b
 none_unless true k = refl
 none_unless false k = refl
 

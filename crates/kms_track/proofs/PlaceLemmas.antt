@@ -3,7 +3,7 @@ use Rattle.std.proofs.Common.{◌≡◌, ℕ, zero, suc, ◌+◌, ◌<◌, Bool,
 use Rattle.std.specs.Prelude.{Option, ◌&&◌}
 use Rattle.std.proofs.lemmas.Bool.{cases_lt}
 use Rattle.kms_model.specs.declared.objects.ObjId.{ObjId}
-use Rattle.kms_track.specs.Places.{object_at, all_below, first_below}
+use Rattle.kms_track.specs.Places.{object_at_place, all_below, first_below}
 use Rattle.kms_track.specs.Tracking.{with_object}
 
 pub none_more : {A : Type 0} (f : ℕ → Option A) (i : ℕ) → first_below f i ≡ None → f i ≡ None → first_below f (i + 1) ≡ None
@@ -62,5 +62,5 @@ all_at test (suc n) p all within =
     and_true false b h = cc
 
 -- the object at a place with its commit
-pub object_here : (p k : ℕ) (o : Option ℕ) (id : ObjId) → Some k ≡ o → id.0 ≡ object_at p → with_object p o ≡ Some (id, k)
+pub object_here : (p k : ℕ) (o : Option ℕ) (id : ObjId) → Some k ≡ o → id.0 ≡ object_at_place p → with_object p o ≡ Some (id, k)
 object_here p k o id is at = rw (← is, ← at) refl

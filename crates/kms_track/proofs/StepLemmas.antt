@@ -20,12 +20,13 @@ use Rattle.kms_model.specs.Machine.Steps.{may, may_claim}
 use Rattle.kms_model.specs.Stores.Tables.{without_id}
 use Rattle.kms_model.proofs.Items.{IsIn, list_all-at, list_all-from}
 use Rattle.kms_model.proofs.KindsOfIds.{index_of-object}
+use Rattle.kms_signal.specs.StepLaws.{new_commit}
 use Rattle.kms_signal.proofs.CommitsLeft.{commits_left, latch_leaves, swap_adds}
 use Rattle.kms_track.specs.InStep.{IsInStep, IsTrackerOf, IsCheckedFor, IsWithinPlaces, is_of_device, told_of}
-use Rattle.kms_track.specs.Places.{object_at}
-use Rattle.kms_track.specs.StepLaws.{HasNames, new_commit, tells_nothing}
-use Rattle.kms_track.specs.Told.{IsOver}
-use Rattle.kms_track.specs.Tracking.{Tracking, IsSetUp, changed, with_claim, with_done, with_latch}
+use Rattle.kms_track.specs.Places.{object_at_place}
+use Rattle.kms_track.specs.StepLaws.{HasNames, tells_nothing}
+use Rattle.kms_track.specs.Told.{IsCommitOver}
+use Rattle.kms_track.specs.Tracking.{Tracking, IsSetUp, changed_commit, with_claim, with_done, with_latch}
 use Rattle.kms_track.proofs.InStepLemmas.{claim_in_step, cleanup_in_step, hw_done_in_step, latch_in_step, setup_in_step}
 use Rattle.kms_track.proofs.MachineAnswers.{flipped_machine}
 use Rattle.kms_track.proofs.There.{on_place, place_lockable}
@@ -77,13 +78,13 @@ done_numbered t m k v stands is =
       | inr above ↦ absurd (false≢true (sym (stands.untouched k above).hw_done ∙ is))
     ]
 
-pub claim_follows : (s : Script) (m : Machine) (k : ℕ) (v : Tracking) → legal s m (Claim k) ≡ true → IsInStep s.topology m v → IsInStep s.topology (next s m (Claim k)) (changed v k with_claim)
+pub claim_follows : (s : Script) (m : Machine) (k : ℕ) (v : Tracking) → legal s m (Claim k) ≡ true → IsInStep s.topology m v → IsInStep s.topology (next s m (Claim k)) (changed_commit v k with_claim)
 unfolding next legal may may_claim
 claim_follows s m k v is stands =
     let there : nat_lt k (length m.device.commits) ≡ true = (and_parts (nat_lt k (length m.device.commits)) _ (and_parts (not m.stalled) _ is).1).0 in
     claim_in_step s.topology m.device.commits m.device.marks m.records.latches v k (ltb-true k (length m.device.commits) there) stands
 
-pub hw_done_follows : (s : Script) (m : Machine) (k : ℕ) (v : Tracking) → legal s m (HwDone k) ≡ true → IsInStep s.topology m v → IsInStep s.topology (next s m (HwDone k)) (changed v k with_done)
+pub hw_done_follows : (s : Script) (m : Machine) (k : ℕ) (v : Tracking) → legal s m (HwDone k) ≡ true → IsInStep s.topology m v → IsInStep s.topology (next s m (HwDone k)) (changed_commit v k with_done)
 unfolding next legal may
 hw_done_follows s m k v is stands =
     let claimed : has_number m.device.marks.claimed k ≡ true = (and_parts (is_claimed m.device k) _ (and_parts (not m.stalled) _ is).1).0 in
@@ -92,13 +93,13 @@ hw_done_follows s m k v is stands =
 -- Latches
 
 latch_follows : (t : Topology) (m : Machine) (k index count : ℕ) (v : Tracking) → k < length m.device.commits → index < 4 → IsInStep t m v
-    → IsInStep t (latches t m k (object_id Crtc index) count) (changed v k (with_latch index))
+    → IsInStep t (latches t m k (object_id Crtc index) count) (changed_commit v k (with_latch index))
 latch_follows t m k index count v within crtc stands =
     let at : index_of (object_id Crtc index) ≡ index = index_of-object Crtc index (omega (arith, crtc)) in
     let latch : Latch = record { crtc = index_of (object_id Crtc index); commit = k; count = count; picture = decoded_picture t (latched_registers t m.device.shadow m.device.live (object_id Crtc index)) (object_id Crtc index) } in
     let low : latch.crtc < 4 = omega (arith, at, crtc) in
-    latch_leaves (λ cs marks shown. IsTrackerOf t cs marks shown (changed v k (with_latch index))) t m k (object_id Crtc index) count
-    (subst (λ (i : ℕ). IsInStep t (latches_picture t m k (object_id Crtc index) count) (changed v k (with_latch i))) at (latch_in_step t m.device.commits m.device.marks m.records.latches v latch within low stands))
+    latch_leaves (λ cs marks shown. IsTrackerOf t cs marks shown (changed_commit v k (with_latch index))) t m k (object_id Crtc index) count
+    (subst (λ (i : ℕ). IsInStep t (latches_picture t m k (object_id Crtc index) count) (changed_commit v k (with_latch i))) at (latch_in_step t m.device.commits m.device.marks m.records.latches v latch within low stands))
 
 -- what a flush marks tells nothing
 flushed_step : (t : Topology) (m : Machine) (k crtc : ℕ) (v : Tracking) → IsInStep t m v
@@ -114,7 +115,7 @@ unfolding next
 flush_follows s m k index v on stands = rw on (flushed_step s.topology m k (object_id Crtc index) v stands)
 
 pub flush_off_follows : (s : Script) (m : Machine) (k index : ℕ) (v : Tracking) → k < length m.device.commits → index < 4 → (new_crtc s.topology m.device.commits k (object_id Crtc index)).active ≡ false → IsInStep s.topology m v
-    → IsInStep s.topology (next s m (Flush k Crtc index)) (changed v k (with_latch index))
+    → IsInStep s.topology (next s m (Flush k Crtc index)) (changed_commit v k (with_latch index))
 unfolding next
 flush_off_follows s m k index v within crtc off stands = rw off (latch_follows s.topology _ k index _ v within crtc (flushed_step s.topology m k (object_id Crtc index) v stands))
 
@@ -123,7 +124,7 @@ unfolding next
 vblank_follows s m index v none stands = rw none stands
 
 pub vblank_with_go_follows : (s : Script) (m : Machine) (k index : ℕ) (v : Tracking) → k < length m.device.commits → index < 4 → go_at m.device (object_id Crtc index) ≡ Some k → IsInStep s.topology m v
-    → IsInStep s.topology (next s m (Vblank Crtc index)) (changed v k (with_latch index))
+    → IsInStep s.topology (next s m (Vblank Crtc index)) (changed_commit v k (with_latch index))
 unfolding next
 vblank_with_go_follows s m k index v within crtc has stands = rw has (latch_follows s.topology (counts_vblank m (object_id Crtc index)) k index _ v within crtc stands)
 
@@ -131,22 +132,22 @@ vblank_with_go_follows s m k index v within crtc has stands = rw has (latch_foll
 
 -- a commit that may be cleaned is over, as a tracker has it
 pub over_of : (t : Topology) (m : Machine) (k : ℕ) → k < length m.device.commits → is_hw_done m.device k ≡ true → is_all_latched t m.device m.records.latches k ≡ true → HasNames t m.device → IsWithinPlaces t
-    → IsOver (told_of t m.device.commits m.device.marks m.records.latches) k
+    → IsCommitOver (told_of t m.device.commits m.device.marks m.records.latches) k
 unfolding is_all_latched has_flipped
 over_of t m k within done latched names limits = record {
   claimed = names.done_claimed k done;
   hw_done = done;
-  flipped = λ p place touched. (let both = and_parts (is_of_device t (object_at p)) _ touched in
-      flipped_machine t m.device.commits m.device.marks m.records.latches k (object_at p) limits
+  flipped = λ p place touched. (let both = and_parts (is_of_device t (object_at_place p)) _ touched in
+      flipped_machine t m.device.commits m.device.marks m.records.latches k (object_at_place p) limits
       ∙ flips p (place_lockable t p place (sym (on_place t p place) ∙ both.0)) both.1);
 } where
-  flips : (p : ℕ) → IsIn (object_at p) (lockable t) → commit_touches t m.device.commits k (object_at p) ≡ true → has_flipped t m.device.commits m.records.latches k (object_at p) ≡ true
+  flips : (p : ℕ) → IsIn (object_at_place p) (lockable t) → commit_touches t m.device.commits k (object_at_place p) ≡ true → has_flipped t m.device.commits m.records.latches k (object_at_place p) ≡ true
   flips p there touched =
-      list_all-from (λ crtc. not (commit_concerns t m.device.commits k (object_at p) crtc) || has_latched m.records.latches k crtc) (ids_of t Crtc)
-      (λ crtc is. implied (commit_concerns t m.device.commits k (object_at p) crtc) (has_latched m.records.latches k crtc)
+      list_all-from (λ crtc. not (commit_concerns t m.device.commits k (object_at_place p) crtc) || has_latched m.records.latches k crtc) (ids_of t Crtc)
+      (λ crtc is. implied (commit_concerns t m.device.commits k (object_at_place p) crtc) (has_latched m.records.latches k crtc)
       (λ on. of_named (commit_names t m.device.commits k crtc) (has_latched m.records.latches k crtc)
       (list_all-at (λ crtc. not (commit_names t m.device.commits k crtc) || has_latched m.records.latches k crtc) (ids_of t Crtc) crtc latched is)
-      (names.named k (object_at p) crtc within there is touched on)))
+      (names.named k (object_at_place p) crtc within there is touched on)))
 
 pub cleanup_follows : (s : Script) (m : Machine) (k : ℕ) (v w : Tracking) → legal s m (Cleanup k) ≡ true → HasNames s.topology m.device → IsWithinPlaces s.topology → IsInStep s.topology m v
     → w.count ≡ v.count → w.lasts ≡ v.lasts → w.pending.slots ≡ without_id v.pending.slots k → IsInStep s.topology (next s m (Cleanup k)) w

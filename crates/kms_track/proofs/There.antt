@@ -11,7 +11,7 @@ use Rattle.kms_model.specs.Machine.Commits.{lockable}
 use Rattle.kms_model.proofs.Items.{IsIn, IsObject, ids-has, ids-in}
 use Rattle.kms_model.proofs.KindsOfIds.{index_of-object, kind_of-object}
 use Rattle.kms_track.specs.InStep.{IsWithinPlaces, is_of_device, is_there}
-use Rattle.kms_track.specs.Places.{object_at}
+use Rattle.kms_track.specs.Places.{object_at_place}
 
 -- what holds of an object that is there, and of one that is not
 pub where_there : {A : Type 0} (b : Bool) → (b ≡ true → A) → (b ≡ false → A) → A
@@ -22,7 +22,7 @@ where_there false there gone = gone refl
 pub on_index : (t : Topology) (kind : Kind) (i : ℕ) → i < 100 → is_of_device t (object_id kind i) ≡ nat_lt i (count_of t kind)
 on_index t kind i few = ap (λ (k : Kind). nat_lt (index_of (object_id kind i)) (count_of t k)) (kind_of-object kind i few) ∙ ap (λ n. nat_lt n (count_of t kind)) (index_of-object kind i few)
 
-pub on_place : (t : Topology) (p : ℕ) → p < 28 → is_of_device t (object_at p) ≡ is_there t p
+pub on_place : (t : Topology) (p : ℕ) → p < 28 → is_of_device t (object_at_place p) ≡ is_there t p
 on_place t p place =
     elim (cases_lt p 4) [
       | inl crtc ↦ rw (lt-ltb p 4 crtc) (on_index t Crtc p (omega arith))
@@ -51,7 +51,7 @@ in_right [] ys o is = is
 in_right (x ∷ xs) ys o is = inr (in_right xs ys o is)
 
 -- an object that is there has a lock
-pub place_lockable : (t : Topology) (p : ℕ) → p < 28 → is_there t p ≡ true → IsIn (object_at p) (lockable t)
+pub place_lockable : (t : Topology) (p : ℕ) → p < 28 → is_there t p ≡ true → IsIn (object_at_place p) (lockable t)
 place_lockable t p place there =
     elim (cases_lt p 4) [
       | inl crtc ↦ (let index : p < count_of t Crtc = ltb-true p (count_of t Crtc) (rw (lt-ltb p 4 crtc) at there) in

@@ -15,7 +15,7 @@ use Rattle.kms_model.specs.Machine.Effects.{commit_numbered}
 use Rattle.kms_model.specs.Request.Named.{named}
 use Rattle.kms_model.specs.Request.Sets.{in_fences, obj_id}
 use Rattle.kms_model.specs.Request.Touched.{touches}
-use Rattle.kms_track.specs.Places.{object_at, crtc_id, mask_has, sides_at, is_side}
+use Rattle.kms_track.specs.Places.{object_at_place, crtc_id, mask_has, sides_at, is_side}
 use Rattle.kms_track.specs.Told.{Told, Keeps, not_marked}
 use Rattle.kms_track.specs.Tracking.{Tracking, or_other}
 
@@ -53,9 +53,9 @@ IsInStep t m v = IsTrackerOf t m.device.commits m.device.marks m.records.latches
 
 -- What was checked, and the fences, are those of a commit.
 pub record IsCheckedFor (t : Topology) (c : Commit) (checked : Checked) (fences : List ℕ) : Type 0 where
-  pub touched : (p : ℕ) → p < 28 → (is_of_device t (object_at p) && touches t c.world c.request (object_at p)) ≡ mask_has checked.touched p
+  pub touched : (p : ℕ) → p < 28 → (is_of_device t (object_at_place p) && touches t c.world c.request (object_at_place p)) ≡ mask_has checked.touched p
   pub on : (p crtc : ℕ) → p < 28 → crtc < 4 → mask_has checked.touched p ≡ true
-      → (is_of_device t (crtc_id crtc) && is_on_before_or_after (kind_of (object_at p)) c (object_at p) (crtc_id crtc)) ≡ is_side (sides_at checked.states p) (crtc_id crtc)
+      → (is_of_device t (crtc_id crtc) && is_on_before_or_after (kind_of (object_at_place p)) c (object_at_place p) (crtc_id crtc)) ≡ is_side (sides_at checked.states p) (crtc_id crtc)
   pub fences_are : map (λ f. f.1) (in_fences t (look_up c.world) c.request.assigns) ≡ fences
 
 -- the device is one that a tracker can follow: at most 4 CRTCs, 16 planes and 8 connectors

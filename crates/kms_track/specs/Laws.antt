@@ -5,8 +5,8 @@ use Rattle.kms_model.specs.declared.states.Mask.{Mask}
 use Rattle.kms_model.specs.Stores.Tables.{without_id}
 use Rattle.kms_signal.specs.FenceSets.{FenceSet, is_signalled}
 use Rattle.kms_track.specs.Places.{crtc_id}
-use Rattle.kms_track.specs.Told.{Told, Keeps, TellsOfSetup, IsOver, told_claim, told_hw_done, told_latch, told_cleanup, may_claim, first_busy, first_awaited}
-use Rattle.kms_track.specs.Tracking.{Tracking, IsSetUp, changed, with_claim, with_done, with_latch, ready_of, busy_of, not_yet_of, no_last}
+use Rattle.kms_track.specs.Told.{Told, Keeps, TellsOfSetup, IsCommitOver, told_claim, told_hw_done, told_latch, told_cleanup, may_claim, first_busy, first_awaited}
+use Rattle.kms_track.specs.Tracking.{Tracking, IsSetUp, changed_commit, with_claim, with_done, with_latch, ready_of, busy_of, not_yet_of, no_last}
 
 -- the tracker of no commit
 abbrev pub no_tracking : Tracking
@@ -23,21 +23,21 @@ KeepsSetup =
     → Keeps told v → IsSetUp v w checked fences → TellsOfSetup told next checked fences → Keeps next w
 
 abbrev pub KeepsClaim : Type 0
-KeepsClaim = (told : Told) (v : Tracking) (k : ℕ) → Keeps told v → Keeps (told_claim told k) (changed v k with_claim)
+KeepsClaim = (told : Told) (v : Tracking) (k : ℕ) → Keeps told v → Keeps (told_claim told k) (changed_commit v k with_claim)
 
 abbrev pub KeepsHwDone : Type 0
-KeepsHwDone = (told : Told) (v : Tracking) (k : ℕ) → Keeps told v → Keeps (told_hw_done told k) (changed v k with_done)
+KeepsHwDone = (told : Told) (v : Tracking) (k : ℕ) → Keeps told v → Keeps (told_hw_done told k) (changed_commit v k with_done)
 
 abbrev pub KeepsLatch : Type 0
 KeepsLatch =
     (told : Told) (v : Tracking) (k crtc : ℕ)
-    → crtc < 4 → Keeps told v → Keeps (told_latch told k (crtc_id crtc)) (changed v k (with_latch crtc))
+    → crtc < 4 → Keeps told v → Keeps (told_latch told k (crtc_id crtc)) (changed_commit v k (with_latch crtc))
 
 -- A commit that is cleaned was claimed, was done, and has flipped for each object that it touches.
 abbrev pub KeepsCleanup : Type 0
 KeepsCleanup =
     (told : Told) (v w : Tracking) (k : ℕ)
-    → Keeps told v → IsOver told k → w.count ≡ v.count → w.lasts ≡ v.lasts → w.pending.slots ≡ without_id v.pending.slots k
+    → Keeps told v → IsCommitOver told k → w.count ≡ v.count → w.lasts ≡ v.lasts → w.pending.slots ≡ without_id v.pending.slots k
     → Keeps (told_cleanup told k) w
 
 abbrev pub KeepsRoom : Type 0

@@ -15,9 +15,9 @@ use Rattle.kms_signal.specs.FenceSets.{FenceSet, is_made}
 use Rattle.kms_signal.specs.InStep.{AreFencesOf}
 use Rattle.kms_track.specs.InStep.{told_of, IsTrackerOf, IsInStep, IsCheckedFor, IsWithinPlaces, is_of_device, awaited_answer, busy_answer}
 use Rattle.kms_track.specs.Laws.{no_tracking}
-use Rattle.kms_track.specs.Places.{object_at, mask_has}
-use Rattle.kms_track.specs.Told.{IsOver}
-use Rattle.kms_track.specs.Tracking.{Tracking, IsSetUp, changed, with_claim, with_done, with_latch, cleaned_of, ready_of, busy_of, not_yet_of}
+use Rattle.kms_track.specs.Places.{object_at_place, mask_has}
+use Rattle.kms_track.specs.Told.{IsCommitOver}
+use Rattle.kms_track.specs.Tracking.{Tracking, IsSetUp, changed_commit, with_claim, with_done, with_latch, cleaned_of, ready_of, busy_of, not_yet_of}
 
 -- before the first step
 abbrev pub StandsAtFirst : Type 0
@@ -34,25 +34,25 @@ abbrev pub StandsAfterClaim : Type 0
 StandsAfterClaim =
     (t : Topology) (cs : List Commit) (marks : Marks) (latches : List Latch) (v : Tracking) (k : ℕ)
     → k < length cs → IsTrackerOf t cs marks latches v
-    → IsTrackerOf t cs (record marks { claimed = k ∷ marks.claimed }) latches (changed v k with_claim)
+    → IsTrackerOf t cs (record marks { claimed = k ∷ marks.claimed }) latches (changed_commit v k with_claim)
 
 abbrev pub StandsAfterHwDone : Type 0
 StandsAfterHwDone =
     (t : Topology) (cs : List Commit) (marks : Marks) (latches : List Latch) (v : Tracking) (k : ℕ)
     → k < length cs → IsTrackerOf t cs marks latches v
-    → IsTrackerOf t cs (record marks { done = k ∷ marks.done }) latches (changed v k with_done)
+    → IsTrackerOf t cs (record marks { done = k ∷ marks.done }) latches (changed_commit v k with_done)
 
-abbrev pub StandsAfterLatch : Type 0
-StandsAfterLatch =
+abbrev pub StandsAfterFlipDone : Type 0
+StandsAfterFlipDone =
     (t : Topology) (cs : List Commit) (marks : Marks) (latches : List Latch) (v : Tracking) (l : Latch)
     → l.commit < length cs → l.crtc < 4 → IsTrackerOf t cs marks latches v
-    → IsTrackerOf t cs marks (l ∷ latches) (changed v l.commit (with_latch l.crtc))
+    → IsTrackerOf t cs marks (l ∷ latches) (changed_commit v l.commit (with_latch l.crtc))
 
 -- A commit that is cleaned was claimed, was done, and has flipped for each object that it touches.
 abbrev pub StandsAfterCleanup : Type 0
 StandsAfterCleanup =
     (t : Topology) (cs : List Commit) (marks : Marks) (latches : List Latch) (v w : Tracking) (k : ℕ)
-    → k < length cs → IsOver (told_of t cs marks latches) k → IsTrackerOf t cs marks latches v
+    → k < length cs → IsCommitOver (told_of t cs marks latches) k → IsTrackerOf t cs marks latches v
     → w.count ≡ v.count → w.lasts ≡ v.lasts → w.pending.slots ≡ without_id v.pending.slots k
     → IsTrackerOf t cs (record marks { cleaned = k ∷ marks.cleaned }) latches w
 
@@ -79,7 +79,7 @@ abbrev pub TellsPending : Type 0
 TellsPending =
     (t : Topology) (m : Machine) (v : Tracking) (mask : Mask) (r : Request)
     → IsInStep t m v → IsWithinPlaces t
-    → ((p : ℕ) → p < 28 → mask_has mask p ≡ (is_of_device t (object_at p) && touches t m.device.world r (object_at p)))
+    → ((p : ℕ) → p < 28 → mask_has mask p ≡ (is_of_device t (object_at_place p) && touches t m.device.world r (object_at_place p)))
     → busy_of v mask ≡ busy_answer t m.device.commits (steps.first_pending t m r)
 
 -- `not_yet`, of the CRTCs that a request names, tells the first at which its swap waits, with the commit that it waits for.

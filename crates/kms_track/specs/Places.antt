@@ -13,8 +13,8 @@ use Rattle.kms_model.specs.Firsts.{or_else}
 use Rattle.kms_track.specs.declared.places.Sides.{Sides}
 
 -- the id of the object at a place
-abbrev pub object_at : ℕ → ℕ
-object_at p = if nat_lt p 4 then object_id Crtc p else (if nat_lt p 20 then object_id Plane (p - 4) else object_id Conn (p - 20))
+abbrev pub object_at_place : ℕ → ℕ
+object_at_place p = if nat_lt p 4 then object_id Crtc p else (if nat_lt p 20 then object_id Plane (p - 4) else object_id Conn (p - 20))
 
 -- the id of a CRTC of an index
 abbrev pub crtc_id : ℕ → ℕ

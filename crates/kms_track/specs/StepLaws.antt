@@ -14,7 +14,7 @@ use Rattle.kms_model.specs.Device.Sound.{IsDevice, IsSound}
 use Rattle.kms_model.specs.Machine.Commits.{commit_concerns, commit_names, commit_touches, is_claimed, is_hw_done, lockable, new_crtc}
 use Rattle.kms_model.specs.Machine.Effects.{next}
 use Rattle.kms_model.specs.Machine.Histories.{legal}
-use Rattle.kms_model.specs.Machine.State.{Commit, DeviceState, Machine, go_at, place_at, request_at}
+use Rattle.kms_model.specs.Machine.State.{Commit, DeviceState, Machine, go_at, request_at}
 use Rattle.kms_model.specs.Request.Deciding.{IsChecked}
 use Rattle.kms_model.specs.Request.Late.{duplicate_at}
 use Rattle.kms_model.specs.Request.Lookups.{look_up}
@@ -23,14 +23,10 @@ use Rattle.kms_model.specs.Request.Touched.{touched_by, touches}
 use Rattle.kms_model.specs.Request.Verdict.{verdict}
 use Rattle.kms_model.specs.Stores.Tables.{without_id}
 use Rattle.kms_model.proofs.Items.{IsIn}
-use Rattle.kms_signal.specs.StepLaws.{leaves_commits}
+use Rattle.kms_signal.specs.StepLaws.{leaves_commits, new_commit}
 use Rattle.kms_track.specs.InStep.{IsInStep, IsCheckedFor, IsWithinPlaces, is_of_device}
-use Rattle.kms_track.specs.Places.{mask_has, object_at}
-use Rattle.kms_track.specs.Tracking.{Tracking, IsSetUp, changed, with_claim, with_done, with_latch}
-
--- the commit that a swap sets up
-abbrev pub new_commit : Machine → ℕ → Request → Commit
-new_commit m client r = record { client = client; command = (place_at m client).command; request = r; world = m.device.world }
+use Rattle.kms_track.specs.Places.{mask_has, object_at_place}
+use Rattle.kms_track.specs.Tracking.{Tracking, IsSetUp, changed_commit, with_claim, with_done, with_latch}
 
 abbrev pub FollowsSwap : Type 0
 FollowsSwap =
@@ -43,13 +39,13 @@ abbrev pub FollowsClaim : Type 0
 FollowsClaim =
     (s : Script) (m : Machine) (k : ℕ) (v : Tracking)
     → legal s m (Claim k) ≡ true → IsInStep s.topology m v
-    → IsInStep s.topology (next s m (Claim k)) (changed v k with_claim)
+    → IsInStep s.topology (next s m (Claim k)) (changed_commit v k with_claim)
 
 abbrev pub FollowsHwDone : Type 0
 FollowsHwDone =
     (s : Script) (m : Machine) (k : ℕ) (v : Tracking)
     → legal s m (HwDone k) ≡ true → IsInStep s.topology m v
-    → IsInStep s.topology (next s m (HwDone k)) (changed v k with_done)
+    → IsInStep s.topology (next s m (HwDone k)) (changed_commit v k with_done)
 
 -- A flush of a CRTC that is on after the commit tells nothing; one that is off latches.
 abbrev pub FollowsFlush : Type 0
@@ -63,7 +59,7 @@ FollowsFlushOff =
     (s : Script) (m : Machine) (k index : ℕ) (v : Tracking)
     → k < length m.device.commits → index < 4
     → (new_crtc s.topology m.device.commits k (object_id Crtc index)).active ≡ false → IsInStep s.topology m v
-    → IsInStep s.topology (next s m (Flush k Crtc index)) (changed v k (with_latch index))
+    → IsInStep s.topology (next s m (Flush k Crtc index)) (changed_commit v k (with_latch index))
 
 -- A vertical blanking without GO tells nothing; one with GO latches.
 abbrev pub FollowsVblank : Type 0
@@ -76,7 +72,7 @@ abbrev pub FollowsVblankWithGo : Type 0
 FollowsVblankWithGo =
     (s : Script) (m : Machine) (k index : ℕ) (v : Tracking)
     → k < length m.device.commits → index < 4 → go_at m.device (object_id Crtc index) ≡ Some k → IsInStep s.topology m v
-    → IsInStep s.topology (next s m (Vblank Crtc index)) (changed v k (with_latch index))
+    → IsInStep s.topology (next s m (Vblank Crtc index)) (changed_commit v k (with_latch index))
 
 -- A commit that is done was claimed, and names each CRTC that concerns an object which it touches.
 pub record HasNames (t : Topology) (d : DeviceState) : Type 0 where
@@ -124,7 +120,7 @@ ChecksAreFollowed =
 abbrev pub TouchesAreFollowed : Type 0
 TouchesAreFollowed =
     (t : Topology) (w : World) (r : Request) (p : ℕ)
-    → p < 28 → mask_has (touched_by t w r) p ≡ (is_of_device t (object_at p) && touches t w r (object_at p))
+    → p < 28 → mask_has (touched_by t w r) p ≡ (is_of_device t (object_at_place p) && touches t w r (object_at_place p))
 
 -- A device that a script can have is one that a tracker can follow.
 abbrev pub DevicesAreFollowed : Type 0

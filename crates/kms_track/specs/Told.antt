@@ -10,8 +10,8 @@ use Rattle.kms_model.specs.Machine.Commits.{last_below, if_there}
 use Rattle.kms_model.specs.Stores.Tables.{AreBelow}
 use Rattle.kms_track.specs.declared.commits.Pending.{Pending}
 use Rattle.kms_track.specs.declared.commits.Touched.{Touched}
-use Rattle.kms_track.specs.Places.{object_at, crtc_id, mask_has, sides_at, is_side, all_below, first_below}
-use Rattle.kms_track.specs.Tracking.{Tracking, last_at, commit_of, fence_ids, with_object, unless, or_other}
+use Rattle.kms_track.specs.Places.{object_at_place, crtc_id, mask_has, sides_at, is_side, all_below, first_below}
+use Rattle.kms_track.specs.Tracking.{Tracking, last_at, pending_commit, fence_ids, with_object, number_unless, or_other}
 
 -- Commits are numbered from 0, and objects and CRTCs are given by their ids.
 pub record Told : Type 0 where
@@ -58,30 +58,30 @@ may_claim told signalled k =
     nat_lt k told.count
     && (not (told.claimed k)
     && (list_all signalled (told.fences k)
-    && all_below (λ p. not (told.touches k (object_at p)) || is_settled_for told k (object_at p)) 28))
+    && all_below (λ p. not (told.touches k (object_at_place p)) || is_settled_for told k (object_at_place p)) 28))
 
 -- the first of some objects, by id, that is pending: its last commit has not flipped for it, with that commit
 abbrev pub pending_of : Told → ℕ → Option ℕ → Option ℕ
 pending_of told object None = None
-pending_of told object (Some k) = unless (has_flipped told k object) k
+pending_of told object (Some k) = number_unless (has_flipped told k object) k
 
 abbrev pub pending_at : Told → ℕ → Option ℕ
 pending_at told object = pending_of told object (previous told told.count object)
 
 abbrev pub first_busy : Told → Mask → Option (ObjId × ℕ)
-first_busy told mask = first_below (λ p. with_object p (if mask_has mask p then pending_at told (object_at p) else None)) 28
+first_busy told mask = first_below (λ p. with_object p (if mask_has mask p then pending_at told (object_at_place p) else None)) 28
 
 -- the first of some CRTCs whose last commit is not done, or whose last but one is not cleaned, with that commit
 abbrev pub not_marked : (ℕ → Bool) → Option ℕ → Option ℕ
 not_marked marked None = None
-not_marked marked (Some k) = unless (marked k) k
+not_marked marked (Some k) = number_unless (marked k) k
 
 abbrev pub awaited_at : Told → ℕ → Option ℕ
 awaited_at told crtc =
     or_other (not_marked told.hw_done (previous told told.count crtc)) (not_marked told.cleaned (second_previous told told.count crtc))
 
 abbrev pub first_awaited : Told → ℕ → Option (ObjId × ℕ)
-first_awaited told crtcs = first_below (λ i. with_object i (if has_bit crtcs i then awaited_at told (object_at i) else None)) 4
+first_awaited told crtcs = first_below (λ i. with_object i (if has_bit crtcs i then awaited_at told (object_at_place i) else None)) 4
 
 -- When a tracker keeps what it was told
 
@@ -100,26 +100,26 @@ pub record IsPending (told : Told) (k : ℕ) (c : Pending) : Type 0 where
   pub hw_done : c.hw_done ≡ told.hw_done k
   pub latched : (crtc : ℕ) → crtc < 4 → slice_index_or c.latched crtc true ≡ told.latched k (crtc_id crtc)
   pub size : length c.latched ≡ 4
-  pub touched : (p : ℕ) → p < 28 → KeepsObject told k (object_at p) (slice_index_or c.touched p None)
+  pub touched : (p : ℕ) → p < 28 → KeepsObject told k (object_at_place p) (slice_index_or c.touched p None)
   pub fences : fence_ids c.fences ≡ told.fences k
 
 -- a commit that is over was claimed, was done, and has flipped for each object that it touches
-pub record IsOver (told : Told) (k : ℕ) : Type 0 where
+pub record IsCommitOver (told : Told) (k : ℕ) : Type 0 where
   pub claimed : told.claimed k ≡ true
   pub hw_done : told.hw_done k ≡ true
-  pub flipped : (p : ℕ) → p < 28 → told.touches k (object_at p) ≡ true → has_flipped told k (object_at p) ≡ true
+  pub flipped : (p : ℕ) → p < 28 → told.touches k (object_at_place p) ≡ true → has_flipped told k (object_at_place p) ≡ true
 
 -- a commit is kept where it is not cleaned, and else it is over
 abbrev pub KeepsCommit : Told → ℕ → Option Pending → Type 0
-KeepsCommit told k None = (told.cleaned k ≡ true) × IsOver told k
+KeepsCommit told k None = (told.cleaned k ≡ true) × IsCommitOver told k
 KeepsCommit told k (Some c) = (told.cleaned k ≡ false) × IsPending told k c
 
 pub record Keeps (told : Told) (v : Tracking) : Type 0 where
   pub count : v.count ≡ told.count
   pub below : AreBelow v.count v.pending.slots
-  pub last : (p : ℕ) → p < 28 → (last_at v p).commit ≡ previous told told.count (object_at p)
-  pub before : (p : ℕ) → p < 28 → (last_at v p).before ≡ second_previous told told.count (object_at p)
-  pub commits : (k : ℕ) → k < told.count → KeepsCommit told k (commit_of v k)
+  pub last : (p : ℕ) → p < 28 → (last_at v p).commit ≡ previous told told.count (object_at_place p)
+  pub before : (p : ℕ) → p < 28 → (last_at v p).before ≡ second_previous told told.count (object_at_place p)
+  pub commits : (k : ℕ) → k < told.count → KeepsCommit told k (pending_commit v k)
 
 -- What calls tell
 
@@ -133,9 +133,9 @@ pub record TellsOfSetup (old new : Told) (checked : Checked) (fences : List ℕ)
   pub hw_done : (k : ℕ) → k < old.count → new.hw_done k ≡ old.hw_done k
   pub latched : (k crtc : ℕ) → k < old.count → new.latched k crtc ≡ old.latched k crtc
   pub cleaned : (k : ℕ) → k < old.count → new.cleaned k ≡ old.cleaned k
-  pub touches_new : (p : ℕ) → p < 28 → new.touches old.count (object_at p) ≡ mask_has checked.touched p
+  pub touches_new : (p : ℕ) → p < 28 → new.touches old.count (object_at_place p) ≡ mask_has checked.touched p
   pub concerns_new : (p crtc : ℕ) → p < 28 → crtc < 4 → mask_has checked.touched p ≡ true
-      → new.concerns old.count (object_at p) (crtc_id crtc) ≡ is_side (sides_at checked.states p) (crtc_id crtc)
+      → new.concerns old.count (object_at_place p) (crtc_id crtc) ≡ is_side (sides_at checked.states p) (crtc_id crtc)
   pub fences_new : new.fences old.count ≡ fences
   pub unclaimed : new.claimed old.count ≡ false
   pub not_done : new.hw_done old.count ≡ false

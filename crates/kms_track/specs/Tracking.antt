@@ -14,7 +14,7 @@ use Rattle.kms_signal.specs.Rooms.{Rooms}
 use Rattle.kms_track.specs.declared.commits.Pending.{Pending}
 use Rattle.kms_track.specs.declared.commits.Touched.{Touched}
 use Rattle.kms_track.specs.declared.commits.Last.{Last}
-use Rattle.kms_track.specs.Places.{object_at, crtc_id, mask_has, sides_at, all_below, first_below}
+use Rattle.kms_track.specs.Places.{object_at_place, crtc_id, mask_has, sides_at, all_below, first_below}
 
 pub record Tracking : Type 0 where
   -- how many commits were set up: the number of the next one
@@ -40,12 +40,12 @@ object_flipped latched (Some object) = latched_at latched object.sides.old && la
 abbrev pub pending_flipped : Pending → ℕ → Bool
 pending_flipped c p = object_flipped c.latched (slice_index_or c.touched p None)
 
-abbrev pub is_signal : FenceSet → Option ℕ → Bool
-is_signal fences None = true
-is_signal fences (Some id) = is_signalled fences id
+abbrev pub is_fence_signalled : FenceSet → Option ℕ → Bool
+is_fence_signalled fences None = true
+is_fence_signalled fences (Some id) = is_signalled fences id
 
 abbrev pub all_signalled : FenceSet → List (Option ℕ) → Bool
-all_signalled fences ids = list_all (is_signal fences) ids
+all_signalled fences ids = list_all (is_fence_signalled fences) ids
 
 -- the ids of fences at their places
 abbrev pub fence_ids : List (Option ℕ) → List ℕ
@@ -60,8 +60,8 @@ touched_at lasts checked p =
 
 -- All commits
 
-abbrev pub commit_of : Tracking → ℕ → Option Pending
-commit_of v k = value_with_id v.pending.slots k
+abbrev pub pending_commit : Tracking → ℕ → Option Pending
+pending_commit v k = value_with_id v.pending.slots k
 
 -- a commit that is cleaned was done and has flipped
 abbrev pub done_of : Option Pending → Bool
@@ -75,7 +75,7 @@ flipped_of (Some c) p = pending_flipped c p
 -- the commit before on an object, where there is one, is done and has flipped for the object
 abbrev pub is_settled : Tracking → ℕ → Option Touched → Bool
 is_settled v p None = true
-is_settled v p (Some object) = if_there (λ j. done_of (commit_of v j) && flipped_of (commit_of v j) p) object.previous
+is_settled v p (Some object) = if_there (λ j. done_of (pending_commit v j) && flipped_of (pending_commit v j) p) object.previous
 
 abbrev pub all_settled : Tracking → List (Option Touched) → Bool
 all_settled v touched = all_below (λ p. is_settled v p (slice_index_or touched p None)) 28
@@ -86,22 +86,22 @@ pending_ready v fences (Some c) =
     not c.claimed && (all_signalled fences c.fences && all_settled v c.touched)
 
 abbrev pub ready_of : Tracking → FenceSet → ℕ → Bool
-ready_of v fences k = pending_ready v fences (commit_of v k)
+ready_of v fences k = pending_ready v fences (pending_commit v k)
 
 abbrev pub last_at : Tracking → ℕ → Last
 last_at v p = slice_index_or v.lasts p no_last
 
-abbrev pub unless : Bool → ℕ → Option ℕ
-unless b k = if b then None else Some k
+abbrev pub number_unless : Bool → ℕ → Option ℕ
+number_unless b k = if b then None else Some k
 
 -- the last commit of the object at a place, where it has not flipped for it
 abbrev pub unflipped : Tracking → ℕ → Option ℕ → Option ℕ
 unflipped v p None = None
-unflipped v p (Some k) = unless (flipped_of (commit_of v k) p) k
+unflipped v p (Some k) = number_unless (flipped_of (pending_commit v k) p) k
 
 abbrev pub with_object : ℕ → Option ℕ → Option (ObjId × ℕ)
 with_object p None = None
-with_object p (Some k) = Some (obj_id (object_at p), k)
+with_object p (Some k) = Some (obj_id (object_at_place p), k)
 
 abbrev pub busy_at : Tracking → Mask → ℕ → Option ℕ
 busy_at v mask p = if mask_has mask p then unflipped v p (last_at v p).commit else None
@@ -111,7 +111,7 @@ busy_of v mask = first_below (λ p. with_object p (busy_at v mask p)) 28
 
 abbrev pub unfinished : Tracking → Option ℕ → Option ℕ
 unfinished v None = None
-unfinished v (Some k) = unless (done_of (commit_of v k)) k
+unfinished v (Some k) = number_unless (done_of (pending_commit v k)) k
 
 abbrev pub is_gone : Option Pending → Bool
 is_gone None = true
@@ -119,11 +119,11 @@ is_gone (Some c) = false
 
 -- a commit was set up and is cleaned
 abbrev pub cleaned_of : Tracking → ℕ → Bool
-cleaned_of v k = nat_lt k v.count && is_gone (commit_of v k)
+cleaned_of v k = nat_lt k v.count && is_gone (pending_commit v k)
 
 abbrev pub uncleaned : Tracking → Option ℕ → Option ℕ
 uncleaned v None = None
-uncleaned v (Some k) = unless (is_gone (commit_of v k)) k
+uncleaned v (Some k) = number_unless (is_gone (pending_commit v k)) k
 
 abbrev pub or_other : Option ℕ → Option ℕ → Option ℕ
 or_other None other = other
@@ -155,8 +155,8 @@ changed_slots slots k change None = slots
 changed_slots slots k change (Some c) = with_value slots k (change c)
 
 -- a commit, where it is set up and not cleaned, is changed
-abbrev pub changed : Tracking → ℕ → (Pending → Pending) → Tracking
-changed v k change = record v { pending = record v.pending { slots = changed_slots v.pending.slots k change (commit_of v k) } }
+abbrev pub changed_commit : Tracking → ℕ → (Pending → Pending) → Tracking
+changed_commit v k change = record v { pending = record v.pending { slots = changed_slots v.pending.slots k change (pending_commit v k) } }
 
 abbrev pub raised : Last → Bool → ℕ → Last
 raised last touched k = if touched then record { commit = Some k; before = last.commit } else last

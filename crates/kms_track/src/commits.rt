@@ -1,7 +1,7 @@
 //! What a commit that is not cleaned keeps.
 ghost use Rattle.std.specs.Prelude.{◌≡◌, ℕ, ◌<◌, ◌≤◌, length, None, map, slice_index_or};
 ghost use Rattle.kms_track.specs.Places.{mask_has};
-ghost use Rattle.kms_track.specs.Tracking.{pending_flipped, latched_at, is_signal, all_signalled, fence_ids, touched_at, no_last, raised};
+ghost use Rattle.kms_track.specs.Tracking.{pending_flipped, latched_at, is_fence_signalled, all_signalled, fence_ids, touched_at, no_last, raised};
 
 use crate::places::{OBJECTS, Sides, has_object, sides_at};
 use kms_model::{Checked, Kind, Mask, ObjId};
@@ -87,13 +87,15 @@ impl Pending {
     pub(crate) fn is_unfenced(&self, signals: &Fences) -> bool
         ensures { result ≡ all_signalled signals.now self.now.fences }
     {
-        self.fences.iter().all(|fence| is_signal(signals, *fence))
+        self.fences
+            .iter()
+            .all(|fence| is_fence_signalled(signals, *fence))
     }
 }
 
 // Whether a fence, if any, is signalled.
-fn is_signal(signals: &Fences, fence: Option<u32>) -> bool
-    ensures { result ≡ is_signal signals.now fence }
+fn is_fence_signalled(signals: &Fences, fence: Option<u32>) -> bool
+    ensures { result ≡ is_fence_signalled signals.now fence }
 {
     match fence {
         Some(id) => signals.is_signalled(id),

@@ -1,7 +1,7 @@
 //! That a tracker answers what it was told, and so what the machine's conditions are.
 ghost use Rattle.kms_track.specs.Laws.{KeepsNothing, KeepsSetup, KeepsClaim, KeepsHwDone, KeepsLatch, KeepsCleanup, KeepsRoom, AnswersReady, AnswersBusy, AnswersNotYet};
 ghost use Rattle.kms_track.specs.MachineLaws.{StandsAtFirst, StandsAfterSetup, StandsAfterClaim, StandsAfterHwDone};
-ghost use Rattle.kms_track.specs.MachineLaws.{StandsAfterLatch, StandsAfterCleanup, StandsWithRoom};
+ghost use Rattle.kms_track.specs.MachineLaws.{StandsAfterFlipDone, StandsAfterCleanup, StandsWithRoom};
 ghost use Rattle.kms_track.specs.MachineLaws.{TellsClaim, TellsCleaned, TellsPending, TellsAwaited, TellsReady};
 ghost use Rattle.kms_track.specs.StepLaws.{FollowsSwap, FollowsClaim, FollowsHwDone, FollowsFlush, FollowsFlushOff, FollowsVblank, FollowsVblankWithGo, FollowsCleanup, FollowsTheOthers};
 ghost use Rattle.kms_track.specs.StepLaws.{ChecksAreFollowed, TouchesAreFollowed, DevicesAreFollowed};
@@ -31,7 +31,7 @@ pub fn answers_as_the_machine()
     ensures setup { StandsAfterSetup }
     ensures claim { StandsAfterClaim }
     ensures hw_done { StandsAfterHwDone }
-    ensures flip_done { StandsAfterLatch }
+    ensures flip_done { StandsAfterFlipDone }
     ensures cleanup { StandsAfterCleanup }
     ensures make_room { StandsWithRoom }
     ensures ready { TellsClaim }

@@ -1,6 +1,6 @@
 //! The objects that commits touch, each at its place in the order of their ids.
 ghost use Rattle.std.specs.Prelude.{◌≡◌, ◌<◌};
-ghost use Rattle.kms_track.specs.Places.{object_at, mask_has, sides_at};
+ghost use Rattle.kms_track.specs.Places.{object_at_place, mask_has, sides_at};
 
 use kms_model::{Duplicates, Kind, MAX_CRTCS, MAX_PLANES, Mask, ObjId, has_bit};
 
@@ -20,9 +20,9 @@ pub struct Sides {
 }
 
 /// The object at a place.
-pub fn object_at(place: u32) -> ObjId
+pub fn object_at_place(place: u32) -> ObjId
     requires { place < 28 }
-    ensures { result.0 ≡ object_at place }
+    ensures { result.0 ≡ object_at_place place }
 {
     if place < MAX_CRTCS {
         ObjId::of(Kind::Crtc, place)

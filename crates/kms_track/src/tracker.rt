@@ -3,7 +3,7 @@ ghost use Rattle.std.specs.Prelude.{◌≡◌, ℕ, ◌<◌, ◌≤◌, ◌+◌,
 ghost use Rattle.kms_model.specs.Stores.Tables.{without_id};
 
 use crate::commits::{Last, Pending, Touched, all_fences, raise, touched_objects};
-use crate::places::{OBJECTS, has_object, object_at};
+use crate::places::{OBJECTS, has_object, object_at_place};
 use kms_model::{Checked, MAX_CRTCS, Mask, NoMemory, ObjId, Seq, has_bit};
 use kms_signal::{Fences, RoomTable};
 use std::alloc::Global;
@@ -31,7 +31,7 @@ impl Model for Tracker {
 
 impl Tracker {
     ghost use Rattle.kms_track.specs.Laws.{no_tracking};
-    ghost use Rattle.kms_track.specs.Tracking.{cleaned_of, ready_of, busy_of, busy_at, not_yet_of, not_yet_at, done_of, flipped_of, commit_of, is_settled, all_settled, no_last, changed, with_claim, with_done, with_latch, IsSetUp, unfinished, uncleaned, raised, last_at};
+    ghost use Rattle.kms_track.specs.Tracking.{cleaned_of, ready_of, busy_of, busy_at, not_yet_of, not_yet_at, done_of, flipped_of, pending_commit, is_settled, all_settled, no_last, changed_commit, with_claim, with_done, with_latch, IsSetUp, unfinished, uncleaned, raised, last_at};
 
     /// The tracker of no commit. It takes no memory.
     pub fn new(alloc: Global) -> Tracker
@@ -109,7 +109,7 @@ impl Tracker {
 
     /// What is kept of a commit that is set up and not cleaned; none of any other.
     pub fn get(&self, commit: u32) -> Option<&Pending>
-        ensures { option_copied result ≡ commit_of self.now commit }
+        ensures { option_copied result ≡ pending_commit self.now commit }
     {
         self.pending.get(commit)
     }
@@ -130,7 +130,7 @@ impl Tracker {
 
     /// Marks a commit as claimed, if it is set up and not cleaned.
     pub fn claim(&mut self, commit: u32)
-        ensures { self.new ≡ changed self.old commit with_claim }
+        ensures { self.new ≡ changed_commit self.old commit with_claim }
     {
         if let Some(pending) = self.pending.get(commit).copied() {
             let claimed = Pending {
@@ -143,7 +143,7 @@ impl Tracker {
 
     /// Marks a commit as done: all its registers are written and flushed; if it is set up and not cleaned.
     pub fn hw_done(&mut self, commit: u32)
-        ensures { self.new ≡ changed self.old commit with_done }
+        ensures { self.new ≡ changed_commit self.old commit with_done }
     {
         if let Some(pending) = self.pending.get(commit).copied() {
             let done = Pending {
@@ -157,7 +157,7 @@ impl Tracker {
     /// Marks that a commit has latched at a CRTC, given by its index from 0 to 3; if it is set up and not cleaned.
     pub fn flip_done(&mut self, commit: u32, crtc: u32)
         requires { crtc < 4 }
-        ensures { self.new ≡ changed self.old commit (with_latch crtc) }
+        ensures { self.new ≡ changed_commit self.old commit (with_latch crtc) }
     {
         if let Some(pending) = self.pending.get(commit).copied() {
             let mut flipped = pending;
@@ -190,7 +190,7 @@ impl Tracker {
     {
         for place in 0..OBJECTS {
             if let Some(commit) = self.busy_at(objects, place) {
-                return Some((object_at(place), commit));
+                return Some((object_at_place(place), commit));
             }
         }
         None
@@ -203,7 +203,7 @@ impl Tracker {
     {
         for index in 0..MAX_CRTCS {
             if let Some(commit) = self.not_yet_at(crtcs, index) {
-                return Some((object_at(index), commit));
+                return Some((object_at_place(index), commit));
             }
         }
         None
@@ -265,7 +265,7 @@ impl Tracker {
 
     // Whether a commit is done, as one that is cleaned is.
     fn is_done(&self, commit: u32) -> bool
-        ensures { result ≡ done_of (commit_of self.now commit) }
+        ensures { result ≡ done_of (pending_commit self.now commit) }
     {
         match self.pending.get(commit) {
             None => true,
@@ -276,7 +276,7 @@ impl Tracker {
     // Whether a commit has flipped for the object at a place, as one that is cleaned has.
     fn has_flipped(&self, commit: u32, place: u32) -> bool
         requires { place < 28 }
-        ensures { result ≡ flipped_of (commit_of self.now commit) place }
+        ensures { result ≡ flipped_of (pending_commit self.now commit) place }
     {
         match self.pending.get(commit) {
             None => true,

@@ -28,7 +28,7 @@ use Rattle.kms_laws.proofs.EventsKept.{reserved_some}
 use Rattle.kms_laws.proofs.Modes.{plain-from}
 use Rattle.kms_laws.proofs.Objects.{crtc_registered, names-touches}
 use Rattle.kms_laws.proofs.SmallNumbers.{numbers_fit}
-use Rattle.kms_regs.specs.File.{RegisterFile, StandsFor, blanked, blanked_picture, count_in, counted, latched, latched_picture}
+use Rattle.kms_regs.specs.File.{RegisterFile, StandsForDevice, blanked, blanked_picture, blanking_count, counted, latched_device, latched_picture}
 use Rattle.kms_regs.specs.StepLaws.{Blanks}
 use Rattle.kms_regs.proofs.MachineEffects as registers_follow
 use Rattle.kms_signal.specs.FenceSets.{FenceSet}
@@ -39,7 +39,7 @@ use Rattle.kms_signal.proofs.StepLemmas as signals_follow
 use Rattle.kms_tails.specs.declared.tail.Tail.{Tail}
 use Rattle.kms_tails.specs.InStep.{StandsAfterLatch}
 use Rattle.kms_tails.proofs.StepLemmas as tails_follow
-use Rattle.kms_track.specs.Tracking.{Tracking, changed, with_latch}
+use Rattle.kms_track.specs.Tracking.{Tracking, changed_commit, with_latch}
 use Rattle.kms_track.proofs.StepLemmas as tracker_follows
 use Rattle.kms_work.specs.Latching.{IsLatching, MayBlank, event_told, goes_at, told_if}
 use Rattle.kms_logs.specs.Logs.{Logged}
@@ -77,7 +77,7 @@ blanks_low r v st crtc stands same asked =
 
 -- the count fits
 pub count_fits : (r : Run) (st : Stores) (crtc : ℕ) (step : Step) (before steps : List Step) → Stands r st → before ≡ r.steps → steps ≡ before ++ step ∷ [] → length steps ≤ 18446744073709551615
-    → count_in st.registers (object_id Crtc crtc) < 18446744073709551615
+    → blanking_count st.registers (object_id Crtc crtc) < 18446744073709551615
 count_fits r st crtc step before steps stands is more fits =
     let few = (numbers_fit r.script r.steps stands.formed stands.history).counts (object_id Crtc crtc) in
     let same = stands.stores.registers.counted crtc in
@@ -87,7 +87,7 @@ count_fits r st crtc step before steps stands is more fits =
 -- What the register file answers
 
 abbrev pub TellsBlank : RegisterFile → ℕ → Option Picture → Type 0
-TellsBlank f crtc o = (t : Topology) (d : DeviceState) → StandsFor t d f → o ≡ blanked_picture t d (object_id Crtc crtc)
+TellsBlank f crtc o = (t : Topology) (d : DeviceState) → StandsForDevice t d f → o ≡ blanked_picture t d (object_id Crtc crtc)
 
 none_from : (o : Option ℕ) (p : Picture) → None ≡ (if is_some o then Some p else None) → o ≡ None
 none_from None p is = refl
@@ -224,7 +224,7 @@ blank_with s m k crtc has =
       go = latches_go s.topology (counts_vblank m c) k c (count_at m.device c + 1);
     })
 
-count_blanked : (t : Topology) (d : DeviceState) (c : ℕ) (b : Bool) → count_at (if b then latched t (counted d c) c else counted d c) c ≡ count_at d c + 1
+count_blanked : (t : Topology) (d : DeviceState) (c : ℕ) (b : Bool) → count_at (if b then latched_device t (counted d c) c else counted d c) c ≡ count_at d c + 1
 count_blanked t d c true = read_same 0 d.counts c (count_at d c + 1)
 count_blanked t d c false = read_same 0 d.counts c (count_at d c + 1)
 
@@ -233,9 +233,9 @@ pub record HasBlanked (st : Stores) (k crtc : ℕ) (count : ℕ) (picture : Pict
   pub go : slice_index_or st.goes crtc None ≡ Some k
   pub blanks : Blanks st.registers new crtc
   pub tells : TellsBlank st.registers crtc (Some picture)
-  pub counted : (t : Topology) (d : DeviceState) → StandsFor t d new → count ≡ count_at d (object_id Crtc crtc)
+  pub counted : (t : Topology) (d : DeviceState) → StandsForDevice t d new → count ≡ count_at d (object_id Crtc crtc)
   pub tails_now : StandsAfterLatch k crtc st.tails w
-  pub tracker_now : tracker ≡ changed st.tracker k (with_latch crtc)
+  pub tracker_now : tracker ≡ changed_commit st.tracker k (with_latch crtc)
   pub fences_now : (x : Tail) → value_with_id st.tails.slots k ≡ Some x → fences ≡ with_signal st.fences (slice_index_or x.out_fences crtc None)
   pub queues_now : (x : Tail) → value_with_id st.tails.slots k ≡ Some x → queues ≡ told_if x.wants_event x.client (event_told x (record { crtc = crtc; commit = k; count = count; picture = picture })) st.queues
   pub recorded : before ≡ st.latches.items

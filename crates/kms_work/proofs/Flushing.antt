@@ -26,7 +26,7 @@ use Rattle.kms_laws.proofs.EventsKept.{reserved_some}
 use Rattle.kms_laws.proofs.Modes.{plain-from}
 use Rattle.kms_laws.proofs.Objects.{crtc_registered, names-touches}
 use Rattle.kms_laws.proofs.Steps.{IsFlush, flush-found, flushed_at, flushed_holds, fresh-unlatched, value-is}
-use Rattle.kms_regs.specs.File.{RegisterFile, StandsFor, flushed, flushed_picture, latched, latched_picture}
+use Rattle.kms_regs.specs.File.{RegisterFile, StandsForDevice, flushed, flushed_picture, latched_device, latched_picture}
 use Rattle.kms_regs.specs.StepLaws.{Flushes}
 use Rattle.kms_regs.proofs.MachineEffects as registers_follow
 use Rattle.kms_signal.specs.FenceSets.{FenceSet}
@@ -38,7 +38,7 @@ use Rattle.kms_tails.specs.declared.tail.Tail.{Tail}
 use Rattle.kms_tails.specs.InStep as tails
 use Rattle.kms_tails.specs.InStep.{StandsAfter, StandsAfterLatch}
 use Rattle.kms_tails.proofs.StepLemmas as tails_follow
-use Rattle.kms_track.specs.Tracking.{Tracking, changed, with_latch}
+use Rattle.kms_track.specs.Tracking.{Tracking, changed_commit, with_latch}
 use Rattle.kms_track.proofs.StepLemmas as tracker_follows
 use Rattle.kms_work.specs.Latching.{IsLatching, MayFlush, event_told, told_if}
 use Rattle.kms_logs.specs.Logs.{Logged}
@@ -138,13 +138,13 @@ off_from true p q is = absurd cc
 off_from false p q is = refl
 
 abbrev pub TellsPicture : RegisterFile → ℕ → Option Picture → Type 0
-TellsPicture f crtc o = (t : Topology) (d : DeviceState) → StandsFor t d f → o ≡ flushed_picture d (object_id Crtc crtc)
+TellsPicture f crtc o = (t : Topology) (d : DeviceState) → StandsForDevice t d f → o ≡ flushed_picture d (object_id Crtc crtc)
 
 -- a CRTC that is on in the shadow has no picture at its flush, and one that is off there has one
-pub tells_none : (f : RegisterFile) (crtc : ℕ) → ((t : Topology) (d : DeviceState) → StandsFor t d f → true ≡ is_on_in d.shadow (object_id Crtc crtc)) → TellsPicture f crtc None
+pub tells_none : (f : RegisterFile) (crtc : ℕ) → ((t : Topology) (d : DeviceState) → StandsForDevice t d f → true ≡ is_on_in d.shadow (object_id Crtc crtc)) → TellsPicture f crtc None
 tells_none f crtc on = λ t d stands. ap (λ (b : Bool). if b then None else Some Off) (on t d stands)
 
-pub off_has_picture : (r : Run) (st : Stores) (crtc : ℕ) → Stands r st → ((t : Topology) (d : DeviceState) → StandsFor t d st.registers → false ≡ is_on_in d.shadow (object_id Crtc crtc)) → TellsPicture st.registers crtc None → ⊥
+pub off_has_picture : (r : Run) (st : Stores) (crtc : ℕ) → Stands r st → ((t : Topology) (d : DeviceState) → StandsForDevice t d st.registers → false ≡ is_on_in d.shadow (object_id Crtc crtc)) → TellsPicture st.registers crtc None → ⊥
 off_has_picture r st crtc stands off none =
     let t = r.script.topology in
     let d = (machine r).device in
@@ -204,7 +204,7 @@ flush_latches r v st k crtc count picture u stands same asked after =
     is_latching s.topology m.device.commits (tails.with_flushed k (object_id Crtc crtc) m.device.marks) m.records.latches m.events u st.queues (length s.clients) l (flushed_tail r st k crtc u stands N after) stands.stores.queues C.low C.high
     (reserved_some (flushed_holds s m F.holds k (object_id Crtc crtc) N.all_written N.flush).tail k (object_id Crtc crtc) count l N.flush.is_crtc (pair_now k (object_id Crtc crtc) m.device.marks.flushed) N.flushed.unlatched refl refl refl m.events F.events)
 
-count_flushed : (t : Topology) (d : DeviceState) (k c : ℕ) (b : Bool) → count_at (if b then record d { go = (c, Some k) ∷ d.go } else latched t d c) c ≡ count_at d c
+count_flushed : (t : Topology) (d : DeviceState) (k c : ℕ) (b : Bool) → count_at (if b then record d { go = (c, Some k) ∷ d.go } else latched_device t d c) c ≡ count_at d c
 count_flushed t d k c true = refl
 count_flushed t d k c false = refl
 
@@ -212,11 +212,11 @@ count_flushed t d k c false = refl
 pub record HasFlushedOff (st : Stores) (k crtc : ℕ) (count : ℕ) (picture : Picture) (new : RegisterFile) (u w : Rooms Tail) (tracker : Tracking) (fences : FenceSet) (queues : List Queue) (before shown : List Latch) : Type 0 where
   pub flushes : Flushes st.registers new crtc
   pub tells : TellsPicture st.registers crtc (Some picture)
-  pub latched : (t : Topology) (d : DeviceState) → StandsFor t d st.registers → picture ≡ latched_picture t d (object_id Crtc crtc)
-  pub counted : (t : Topology) (d : DeviceState) → StandsFor t d new → count ≡ count_at d (object_id Crtc crtc)
+  pub latched : (t : Topology) (d : DeviceState) → StandsForDevice t d st.registers → picture ≡ latched_picture t d (object_id Crtc crtc)
+  pub counted : (t : Topology) (d : DeviceState) → StandsForDevice t d new → count ≡ count_at d (object_id Crtc crtc)
   pub marked : StandsAfter k st.tails u (tails.with_flushed k (object_id Crtc crtc))
   pub tails_now : StandsAfterLatch k crtc u w
-  pub tracker_now : tracker ≡ changed st.tracker k (with_latch crtc)
+  pub tracker_now : tracker ≡ changed_commit st.tracker k (with_latch crtc)
   pub fences_now : (x : Tail) → value_with_id u.slots k ≡ Some x → fences ≡ with_signal st.fences (slice_index_or x.out_fences crtc None)
   pub queues_now : (x : Tail) → value_with_id u.slots k ≡ Some x → queues ≡ told_if x.wants_event x.client (event_told x (record { crtc = crtc; commit = k; count = count; picture = picture })) st.queues
   pub recorded : before ≡ st.latches.items

@@ -22,7 +22,7 @@ use Rattle.kms_laws.proofs.Present.{reverse_more}
 use Rattle.kms_laws.proofs.Objects.{concerns_self, crtc_lockable, names-touches}
 use Rattle.kms_model.specs.Stores.Tables.{value_with_id}
 use Rattle.kms_signal.proofs.FenceLemmas.{still_made}
-use Rattle.kms_regs.specs.File.{RegisterFile, StandsFor}
+use Rattle.kms_regs.specs.File.{RegisterFile, StandsForDevice}
 use Rattle.kms_regs.proofs.MachineEffects.{on_in_words}
 use Rattle.kms_signal.specs.FenceSets.{FenceSet, is_made}
 use Rattle.kms_signal.specs.InStep.{AreFencesOf, IsQueueOf}
@@ -104,7 +104,7 @@ pub record AreShown (s : Script) (m n : Machine) (latched : Logged Latch) (fence
   pub told : AreQueues (length s.clients) n.events queues
   pub tracked : IsTrackerOf s.topology n.device.commits n.device.marks n.records.latches tracker
   pub kept : AreTailsOf s.topology n.device.commits n.device.marks n.records.latches tails
-  pub written : StandsFor s.topology n.device registers
+  pub written : StandsForDevice s.topology n.device registers
   pub going : AreGoing n.device goes
 
 pub stands_shown : (s : Script) (m n : Machine) (st : Stores) (latched : Logged Latch) (fences : FenceSet) (queues : List Queue) (tracker : Tracking) (tails : Rooms CommitTail) (registers : RegisterFile) (goes : List (Option ℕ))
@@ -256,7 +256,7 @@ pub record HasLatched (s : Script) (m n : Machine) (st : Stores) (k crtc count :
 
 pub latched_shown : (s : Script) (m n : Machine) (st : Stores) (k crtc count : ℕ) (x : CommitTail) (l : Latch) (latched : Logged Latch) (fences : FenceSet) (queues : List Queue) (tracker : Tracking) (tails : Rooms CommitTail) (registers : RegisterFile)
     (goes : List (Option ℕ)) → HasLatched s m n st k crtc count x l latched fences queues → IsTrackerOf s.topology n.device.commits n.device.marks n.records.latches tracker
-    → AreTailsOf s.topology n.device.commits n.device.marks n.records.latches tails → StandsFor s.topology n.device registers → AreGoing n.device goes → StandsAt s m st
+    → AreTailsOf s.topology n.device.commits n.device.marks n.records.latches tails → StandsForDevice s.topology n.device registers → AreGoing n.device goes → StandsAt s m st
     → StandsAt s n (record st { latches = latched; fences = fences; queues = queues; tracker = tracker; tails = tails; registers = registers; goes = goes })
 latched_shown s m n st k crtc count x l latched fences queues tracker tails registers goes H tracked kept written going stands =
     let t = s.topology in

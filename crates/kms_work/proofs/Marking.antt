@@ -21,7 +21,7 @@ use Rattle.kms_tails.specs.InStep.{AreTailsOf, IsKept, StandsAfter}
 use Rattle.kms_tails.proofs.StepLemmas as tails_follow
 use Rattle.kms_track.specs.InStep.{IsTrackerOf}
 use Rattle.kms_track.specs.StepLaws.{HasNames}
-use Rattle.kms_track.specs.Tracking.{Tracking, changed, with_claim, with_done}
+use Rattle.kms_track.specs.Tracking.{Tracking, changed_commit, with_claim, with_done}
 use Rattle.kms_track.proofs.CheckedLemmas.{device_within}
 use Rattle.kms_track.proofs.StepLemmas as tracker_follows
 use Rattle.kms_freeing.specs.Freeing.{AreAllOf, framebuffers_in}
@@ -29,7 +29,7 @@ use Rattle.kms_logs.specs.Logs.{Reserved}
 use Rattle.kms_stores.specs.Needs.{Frees}
 use Rattle.kms_stores.specs.Run.{Run, machine}
 use Rattle.kms_stores.specs.Stands.{Stores, Stands, StandsAt}
-use Rattle.kms_stores.specs.Work.{AreFewTails, MayBeDone, MayCleanUp, TellsOver, is_over}
+use Rattle.kms_stores.specs.Work.{AreFewTails, MayBeDone, MayCleanUp, TellsOver, is_commit_over}
 use Rattle.kms_stores.proofs.FreedCalls.{goes_cleaning, kept_places}
 use Rattle.kms_stores.proofs.Histories.{goes_on, written_anew}
 use Rattle.kms_stores.proofs.Spared.{IsOwn, own_step}
@@ -42,7 +42,7 @@ stands_marked s m marks st tracker v tracked kept stands = written_anew s m m.de
 
 -- a commit is claimed
 pub claims : (r : Run) (st : Stores) (k : ℕ) (tracker : Tracking) (v : Rooms Tail) (before steps : List Step) → Stands r st → legal r.script (machine r) (step.Claim k) ≡ true → before ≡ r.steps → steps ≡ before ++ step.Claim k ∷ []
-    → tracker ≡ changed st.tracker k with_claim → StandsAfter k st.tails v (tails.with_claimed k) → Stands (record { script = r.script; steps = steps }) (record st { tracker = tracker; tails = v })
+    → tracker ≡ changed_commit st.tracker k with_claim → StandsAfter k st.tails v (tails.with_claimed k) → Stands (record { script = r.script; steps = steps }) (record st { tracker = tracker; tails = v })
 unfolding next
 claims r st k tracker v before steps stands is was more tracked after =
     goes_on r st (record st { tracker = tracker; tails = v }) (step.Claim k) refl refl steps (more ∙ ap (λ (xs : List Step). xs ++ step.Claim k ∷ []) was) stands is
@@ -51,7 +51,7 @@ claims r st k tracker v before steps stands is was more tracked after =
 
 -- it is done
 pub ends_writing : (r v : Run) (st : Stores) (k : ℕ) (tracker : Tracking) (w : Rooms Tail) (before steps : List Step) → Stands r st → r ≡ v → MayBeDone v k → before ≡ r.steps → steps ≡ before ++ step.HwDone k ∷ []
-    → tracker ≡ changed st.tracker k with_done → StandsAfter k st.tails w (tails.with_done k) → Stands (record { script = r.script; steps = steps }) (record st { tracker = tracker; tails = w })
+    → tracker ≡ changed_commit st.tracker k with_done → StandsAfter k st.tails w (tails.with_done k) → Stands (record { script = r.script; steps = steps }) (record st { tracker = tracker; tails = w })
 unfolding next
 ends_writing r v st k tracker w before steps stands same asked was more tracked after =
     let is = subst (λ (x : Run). MayBeDone x k) (sym same) asked in
@@ -72,7 +72,7 @@ has_names r st stands =
     let F = history_facts r.script r.steps (plain-from r.script stands.formed) stands.history in
     record { done_claimed = λ k is. (F.holds.tail.marks.done k is).0; named = F.whole.apart.named }
 
-pub cleanup_legal : (r : Run) (k : ℕ) → MayCleanUp r k → is_over r k ≡ true → legal r.script (machine r) (step.Cleanup k) ≡ true
+pub cleanup_legal : (r : Run) (k : ℕ) → MayCleanUp r k → is_commit_over r k ≡ true → legal r.script (machine r) (step.Cleanup k) ≡ true
 unfolding legal may
 cleanup_legal r k asked over =
     let d = (machine r).device in
@@ -85,7 +85,7 @@ pub record HasForgotten (k : ℕ) (old new : Tracking) : Type 0 where
   pub lasts : new.lasts ≡ old.lasts
   pub pending : new.pending.slots ≡ without_id old.pending.slots k
 
-pub cleans_up : (r v : Run) (st : Stores) (k : ℕ) (tracker : Tracking) (w : Rooms Tail) (before steps : List Step) → Stands r st → r ≡ v → MayCleanUp v k → is_over r k ≡ true → before ≡ r.steps → steps ≡ before ++ step.Cleanup k ∷ []
+pub cleans_up : (r v : Run) (st : Stores) (k : ℕ) (tracker : Tracking) (w : Rooms Tail) (before steps : List Step) → Stands r st → r ≡ v → MayCleanUp v k → is_commit_over r k ≡ true → before ≡ r.steps → steps ≡ before ++ step.Cleanup k ∷ []
     → HasForgotten k st.tracker tracker → StandsAfter k st.tails w (tails.with_cleaned k)
     → (ids : List ℕ) (freed : Reserved (ℕ × ℕ)) → AreAllOf ids (λ id. commit_keeps r.script.topology (machine r).device id k) → Frees st.made st.present st.registers w r.script.topology.crtcs ids st.freed freed
     → Stands (record { script = r.script; steps = steps }) (record st { tracker = tracker; tails = w; freed = freed })
@@ -99,19 +99,19 @@ cleans_up r v st k tracker w before steps stands same asked is_now was more forg
     (tails_follow.cleanup_follows r.script (machine r) k st.tails w is stands.stores.tails after) stands.stores)
 
 -- the tail tells whether a commit is over
-pub over_told : (r v : Run) (st : Stores) (k : ℕ) → Stands r st → r ≡ v → MayCleanUp v k → (over : Bool) → TellsOver st.tails k over → over ≡ is_over v k
+pub over_told : (r v : Run) (st : Stores) (k : ℕ) → Stands r st → r ≡ v → MayCleanUp v k → (over : Bool) → TellsOver st.tails k over → over ≡ is_commit_over v k
 over_told r v st k stands same asked over tells =
     tells r.script.topology (machine r).device (machine r).records.latches stands.formed.device (claimed_within r v st k stands same asked) (subst (λ (x : Run). MayCleanUp x k) (sym same) asked).kept stands.stores.tails
-    ∙ ap (λ (x : Run). is_over x k) same
+    ∙ ap (λ (x : Run). is_commit_over x k) same
 
 -- where the tail tells so, the cleanup is a step of the commit's own
 pub record OwnsCleanup (r : Run) (k : ℕ) : Type 0 where
-  pub over : is_over r k ≡ true
+  pub over : is_commit_over r k ≡ true
   pub own : IsOwn r (step.Cleanup k) k
 
 pub owns_cleanup : (r v : Run) (st : Stores) (k : ℕ) → Stands r st → r ≡ v → MayCleanUp v k → (over : Bool) → TellsOver st.tails k over → over ≡ true → OwnsCleanup r k
 owns_cleanup r v st k stands same asked over tells told =
-    let is = ap (λ (w : Run). is_over w k) same ∙ sym (over_told r v st k stands same asked over tells) ∙ told in
+    let is = ap (λ (w : Run). is_commit_over w k) same ∙ sym (over_told r v st k stands same asked over tells) ∙ told in
     record { over = is; own = own_step r st (step.Cleanup k) k stands refl refl (cleanup_legal r k (subst (λ (w : Run). MayCleanUp w k) (sym same) asked) is) }
 
 -- What is freed

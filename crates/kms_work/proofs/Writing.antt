@@ -29,7 +29,7 @@ use Rattle.kms_laws.proofs.EachStep.{IsWrite, write-found}
 use Rattle.kms_laws.proofs.Modes.{plain-from}
 use Rattle.kms_laws.proofs.Steps.{value-is}
 use Rattle.kms_laws.proofs.Whole.{shadow_is}
-use Rattle.kms_regs.specs.File.{RegisterFile, StandsFor}
+use Rattle.kms_regs.specs.File.{RegisterFile, StandsForDevice}
 use Rattle.kms_regs.specs.StepLaws.{WritesCrtc, WritesPlane}
 use Rattle.kms_regs.proofs.MachineEffects.{old_crtc_held, old_plane_held, write_crtc_follows, write_plane_follows}
 use Rattle.kms_signal.specs.Rooms.{Rooms}
@@ -181,7 +181,7 @@ module _ (r : Run) (st : Stores) (k : ℕ) (x : Tail) (stands : Stands r st) (in
         subst (λ n. WritesCrtc st.registers new index n (new_crtc t d.commits k (object_id Crtc index))) (connector_at t d (machine r).records.latches k x stands.formed.device is index (Some both) at some)
         (subst (λ s. WritesCrtc st.registers new index (connector_of (Some both)) s) states.new_is (written both refl))
 
-    pub crtc_stands : (new : RegisterFile) → IsWritten st.registers new x Crtc index → StandsFor t (next r.script (machine r) (step.Write k Crtc index)).device new
+    pub crtc_stands : (new : RegisterFile) → IsWritten st.registers new x Crtc index → StandsForDevice t (next r.script (machine r) (step.Write k Crtc index)).device new
     crtc_stands new written =
         write_crtc_follows r.script (machine r) k index st.registers new crtc_low stands.stores.registers (crtc_writes new (get_or x.checked.states.crtcs index None) refl crtc_some crtc_states written)
 
@@ -235,7 +235,7 @@ module _ (r : Run) (st : Stores) (k : ℕ) (x : Tail) (stands : Stands r st) (in
     plane_writes new None some states written = absurd (false≢true some)
     plane_writes new (Some both) some states written = subst (λ s. WritesPlane st.registers new index s) states.new_is (written both refl)
 
-    pub plane_stands : (new : RegisterFile) → IsWritten st.registers new x Plane index → StandsFor t (next r.script (machine r) (step.Write k Plane index)).device new
+    pub plane_stands : (new : RegisterFile) → IsWritten st.registers new x Plane index → StandsForDevice t (next r.script (machine r) (step.Write k Plane index)).device new
     plane_stands new written = write_plane_follows r.script (machine r) k index st.registers new stands.stores.registers (plane_writes new (get_or x.checked.states.planes index None) plane_some plane_states written)
 
 -- What the functions of one object leave
@@ -270,7 +270,7 @@ tail_holds r st k x Enc index stands there W is = no_others r.script.topology (o
 
 registers_stand : (r : Run) (st : Stores) (k : ℕ) (x : Tail) (kind : Kind) (index : ℕ) (new : RegisterFile) → Stands r st → index < count_of r.script.topology kind → IsWrite r.script.topology (machine r).device k (object_id kind index)
     → IsTailOf r.script.topology (commit_at r.script.topology (machine r).device.commits k) (machine r).device.marks (machine r).records.latches k x → IsWritten st.registers new x kind index
-    → StandsFor r.script.topology (next r.script (machine r) (step.Write k kind index)).device new
+    → StandsForDevice r.script.topology (next r.script (machine r) (step.Write k kind index)).device new
 registers_stand r st k x Crtc index new stands there W is written = crtc_stands r st k x stands index is W there new written
 registers_stand r st k x Plane index new stands there W is written = plane_stands r st k x stands index is W there new written
 registers_stand r st k x Conn index new stands there W is written = absurd (no_others r.script.topology (object_id Conn index) (few_objects r.script.topology stands.formed.device) (omega arith) W.is_registered)

@@ -6,12 +6,12 @@ ghost use Rattle.kms_model.specs.declared.replies.Step.TheVariants as step;
 ghost use Rattle.kms_model.specs.Device.Objects.{object_id};
 ghost use Rattle.kms_model.specs.Machine.State.{DeviceState, count_at};
 ghost use Rattle.kms_model.specs.Stores.Tables.{value_with_id};
-ghost use Rattle.kms_regs.specs.File.{StandsFor};
+ghost use Rattle.kms_regs.specs.File.{StandsForDevice};
 ghost use Rattle.kms_signal.specs.Rooms.{Rooms};
 ghost use Rattle.kms_signal.specs.StepLaws.{with_signal};
 ghost use Rattle.kms_tails.specs.declared.tail.Tail.{Tail as CommitTail};
 ghost use Rattle.kms_tails.specs.InStep.{StandsAfterLatch};
-ghost use Rattle.kms_track.specs.Tracking.{changed, with_latch};
+ghost use Rattle.kms_track.specs.Tracking.{changed_commit, with_latch};
 ghost use Rattle.kms_freeing.specs.Freeing.{framebuffers_in};
 ghost use Rattle.kms_work.specs.Latching.{IsLatching, MayBlank, MayFlush, event_told, goes_at, told_if};
 ghost use Rattle.kms_stores.specs.Needs.{Frees};
@@ -123,7 +123,7 @@ fn latch_of(registers: &RegFile, crtc: u32, commit: u32, picture: Picture) -> La
       count = result.count;
       picture = picture;
     } }
-    ensures count { (t : Topology) (d : DeviceState) → StandsFor t d registers.now
+    ensures count { (t : Topology) (d : DeviceState) → StandsForDevice t d registers.now
         → result.count ≡ count_at d (object_id Crtc crtc) }
 {
     Latch {
@@ -157,7 +157,7 @@ fn show(
     requires places { framebuffers_in things.now.things ids_before.now ≤ freed.old.places }
     ensures tails { StandsAfterLatch shown.now.commit shown.now.crtc tails.old tails.new }
     ensures tracker { tracker.new
-        ≡ changed tracker.old shown.now.commit (with_latch shown.now.crtc) }
+        ≡ changed_commit tracker.old shown.now.commit (with_latch shown.now.crtc) }
     ensures fences { (x : CommitTail) → value_with_id tails.old.slots shown.now.commit ≡ Some x
         → fences.new ≡ with_signal fences.old (slice_index_or x.out_fences shown.now.crtc None) }
     ensures queues { (x : CommitTail) → value_with_id tails.old.slots shown.now.commit ≡ Some x
@@ -183,7 +183,7 @@ fn latch(
     requires there { IsLatching tails.old queues.old.items shown.now }
     ensures tails { StandsAfterLatch shown.now.commit shown.now.crtc tails.old tails.new }
     ensures tracker { tracker.new
-        ≡ changed tracker.old shown.now.commit (with_latch shown.now.crtc) }
+        ≡ changed_commit tracker.old shown.now.commit (with_latch shown.now.crtc) }
     ensures fences { (x : CommitTail) → value_with_id tails.old.slots shown.now.commit ≡ Some x
         → fences.new ≡ with_signal fences.old (slice_index_or x.out_fences shown.now.crtc None) }
     ensures queues { (x : CommitTail) → value_with_id tails.old.slots shown.now.commit ≡ Some x

@@ -4,7 +4,7 @@ ghost use Rattle.kms_model.specs.declared.replies.Step.TheVariants as step;
 ghost use Rattle.kms_model.specs.Device.Objects.{index_of, kind_of};
 ghost use Rattle.kms_track.specs.Tracking.{ready_of};
 ghost use Rattle.kms_stores.specs.Run.{gains};
-ghost use Rattle.kms_stores.specs.Work.{AreFewTails, FindsFirst, HoldsCrtc, HoldsOld, HoldsPlane, IsCrtcWritten, IsPlaneWritten, IsWritten, MayBeDone, MayClaim, MayCleanUp, MayWrite, TellsOver, claim_steps, cleanup_steps, first_claim, is_over, write_step};
+ghost use Rattle.kms_stores.specs.Work.{AreFewTails, FindsFirstWhere, HoldsCrtc, HoldsOld, HoldsPlane, IsCrtcWritten, IsPlaneWritten, IsWritten, MayBeDone, MayClaim, MayCleanUp, MayWrite, TellsOver, claim_steps, cleanup_steps, first_claim, is_commit_over, write_step};
 
 use kms_model::{Kind, ObjId, Step};
 use kms_regs::RegFile;
@@ -72,10 +72,10 @@ pub fn hw_done(stores: &mut Stores, commit: u32)
 /// `drm_atomic_helper.c`, `drm_atomic_helper_wait_for_flip_done`, `drm_atomic_helper_commit_cleanup_done`.)
 pub fn cleanup(stores: &mut Stores, commit: u32) -> bool
     requires { MayCleanUp stores.old commit }
-    ensures answer { result ≡ is_over stores.old commit }
+    ensures answer { result ≡ is_commit_over stores.old commit }
     ensures history { stores.new ≡ gains stores.old (cleanup_steps commit result) }
 {
-    if !is_over(&stores.tails, commit) {
+    if !is_commit_over(&stores.tails, commit) {
         return false;
     }
     let Some(tail) = stores.tails.get(commit) else {
@@ -100,7 +100,7 @@ pub fn cleanup(stores: &mut Stores, commit: u32) -> bool
 /// The least commit that is not cleaned and may be claimed.
 fn first_ready(tails: &Tails, tracker: &Tracker, fences: &Fences) -> Option<u32>
     requires { AreFewTails tails.now }
-    ensures { FindsFirst tails.now (ready_of tracker.now fences.now) result }
+    ensures { FindsFirstWhere tails.now (ready_of tracker.now fences.now) result }
 {
     let mut from = 0;
     'seeking: while let Some(commit) = tails.first_from(from) {
@@ -164,7 +164,7 @@ fn write_plane(registers: &mut RegFile, tail: &Tail, index: u32)
 }
 
 /// Whether all registers of a commit are written and flushed, and it has latched at each CRTC that it names.
-fn is_over(tails: &Tails, commit: u32) -> bool
+fn is_commit_over(tails: &Tails, commit: u32) -> bool
     ensures { TellsOver tails.now commit result }
 {
     match tails.get(commit) {

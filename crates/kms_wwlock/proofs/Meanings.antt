@@ -9,11 +9,11 @@ use Rattle.kms_model.specs.declared.objects.ObjId.{ObjId}
 use Rattle.kms_model.specs.Device.Objects.{first_id, kind_of}
 use Rattle.kms_model.specs.declared.objects.Ticket.{Ticket}
 use Rattle.kms_wwlock.specs.declared.contexts.Context.{Context}
-use Rattle.kms_wwlock.specs.declared.contexts.Doing.{Doing}
-use Rattle.kms_wwlock.specs.declared.contexts.Doing.TheVariants.{Taking, BackedOff}
+use Rattle.kms_wwlock.specs.declared.contexts.ContextDoing.{ContextDoing}
+use Rattle.kms_wwlock.specs.declared.contexts.ContextDoing.TheVariants.{Taking, BackedOff}
 use Rattle.kms_wwlock.specs.Objects.{IsLockable, lock_place, locks_before}
 use Rattle.kms_wwlock.specs.Table.{Table, doing_of, AreOfTable}
-use Rattle.kms_wwlock.specs.Calls.{with_doing, holder_without, set_doing, locked_by, unlocked, IsTakenBy, IsDoing, AreFreed, after_begin, next_ticket, after_drop_all}
+use Rattle.kms_wwlock.specs.Calls.{with_doing, holder_without, set_doing, locked_by, unlocked, IsTakenBy, IsDoing, AreUnlocked, after_begin, next_ticket, after_drop_all}
 use Rattle.kms_wwlock.proofs.Lookups.{doing_in-others, doing_in-set, doing_in-beginner, doing_in-beside, doing_in-over, doing_in-gone}
 use Rattle.kms_wwlock.proofs.Kept.{none_at}
 
@@ -63,12 +63,12 @@ taken_by table t id long is =
       others = λ other is_other ne. get_or-set_other table.holders (lock_place id) (lock_place other) (Some t) None (place_of_apart other id is_other is ne);
     }
 
-pub freed_all : (table : Table) (t : Ticket) → AreFreed table (unlocked table t) t
+pub freed_all : (table : Table) (t : Ticket) → AreUnlocked table (unlocked table t) t
 freed_all table t id = get_or-map (holder_without t) table.holders (lock_place id) None
 
 -- contexts
 
-pub set_is_doing : (table : Table) (t : Ticket) (d e : Doing) → doing_of table t ≡ Some e → IsDoing table (set_doing table t d) t (Some d)
+pub set_is_doing : (table : Table) (t : Ticket) (d e : ContextDoing) → doing_of table t ≡ Some e → IsDoing table (set_doing table t d) t (Some d)
 set_is_doing table t d e found =
     record {
       now = doing_in-set t d e table.contexts found;
@@ -95,7 +95,7 @@ over_is_doing table t =
     }
 
 -- the context of a ticket goes on to something else, whatever happens to the holders
-pub set_at : (table : Table) (t : Ticket) (d e : Doing) (holders : List (Option Ticket)) (contexts : List Context)
+pub set_at : (table : Table) (t : Ticket) (d e : ContextDoing) (holders : List (Option Ticket)) (contexts : List Context)
     → contexts ≡ map (with_doing t d) table.contexts → doing_of table t ≡ Some e
     → IsDoing table (record table { holders = holders; contexts = contexts }) t (Some d)
 set_at table t d e holders contexts now found =

@@ -5,12 +5,12 @@ use Rattle.kms_model.specs.declared.objects.Kind.TheVariants.{Crtc, Plane, Conn}
 use Rattle.kms_model.specs.declared.objects.ObjId.{ObjId}
 use Rattle.kms_model.specs.declared.objects.Ticket.{Ticket}
 use Rattle.kms_model.specs.Device.Objects.{object_id}
-use Rattle.kms_wwlock.specs.declared.contexts.Doing.TheVariants.{Taking, MustBackOff, BackedOff}
+use Rattle.kms_wwlock.specs.declared.contexts.ContextDoing.TheVariants.{Taking, MustBackOff, BackedOff}
 use Rattle.kms_wwlock.specs.declared.table.Lock.TheVariants.{Got, Own, Older, Younger}
 use Rattle.kms_wwlock.specs.Objects.{lock_place}
 use Rattle.kms_wwlock.specs.Table.{Table, holder_of, doing_of}
 use Rattle.kms_wwlock.specs.Calls.{lock_answer, after_lock, after_backoff}
-use Rattle.kms_wwlock.specs.Waits.{Lock, Begin, Waits, ForYounger, after_all, empty_table}
+use Rattle.kms_wwlock.specs.Waits.{Lock, Begin, ContextWaits, ForYounger, after_all, empty_table}
 
 abbrev object : Kind → ℕ → ObjId
 object kind index = record { 0 = object_id kind index }
@@ -41,7 +41,7 @@ unfolding lock_place
 holders = (refl, refl, refl)
 
 -- the older one waits for the younger one
-older_waits : Waits held first second
+older_waits : ContextWaits held first second
 unfolding lock_place
 older_waits = ForYounger (object Crtc 0) (record { taking = refl; lockable = inl (omega arith, omega arith) }) refl
 

@@ -6,8 +6,8 @@ use Rattle.std.specs.Prelude.{◌≡◌, ◌≢◌, ℕ, ◌+◌, ◌<◌, ◌==
 use Rattle.kms_model.specs.declared.objects.ObjId.{ObjId}
 use Rattle.kms_model.specs.declared.objects.Ticket.{Ticket}
 use Rattle.kms_wwlock.specs.declared.contexts.Context.{Context}
-use Rattle.kms_wwlock.specs.declared.contexts.Doing.{Doing}
-use Rattle.kms_wwlock.specs.declared.contexts.Doing.TheVariants.{Taking, MustBackOff, BackedOff}
+use Rattle.kms_wwlock.specs.declared.contexts.ContextDoing.{ContextDoing}
+use Rattle.kms_wwlock.specs.declared.contexts.ContextDoing.TheVariants.{Taking, MustBackOff, BackedOff}
 use Rattle.kms_wwlock.specs.declared.table.Lock.{Lock}
 use Rattle.kms_wwlock.specs.declared.table.Lock.TheVariants.{Got, Own, Older, Younger}
 use Rattle.kms_wwlock.specs.declared.table.Relock.{Relock}
@@ -18,10 +18,10 @@ use Rattle.kms_wwlock.specs.Table.{Table, holder_of, doing_of, must_back_off_for
 -- parts of the changes
 
 -- the context of a ticket does something else now; the others go on
-abbrev pub with_doing : Ticket → Doing → Context → Context
+abbrev pub with_doing : Ticket → ContextDoing → Context → Context
 with_doing t doing c = if c.ticket.0 == t.0 then record c { doing = doing } else c
 
-abbrev pub set_doing : Table → Ticket → Doing → Table
+abbrev pub set_doing : Table → Ticket → ContextDoing → Table
 set_doing table t doing = record table { contexts = map (with_doing t doing) table.contexts }
 
 -- an object is held by a ticket
@@ -45,13 +45,13 @@ pub record IsTakenBy (old new : Table) (t : Ticket) (id : ObjId) : Type 0 where
   pub others : (other : ObjId) → IsLockable other → other.0 ≢ id.0 → holder_of new other ≡ holder_of old other
 
 -- a context does this now, or there is none with the ticket, and the others go on as they did
-pub record IsDoing (old new : Table) (t : Ticket) (doing : Option Doing) : Type 0 where
+pub record IsDoing (old new : Table) (t : Ticket) (doing : Option ContextDoing) : Type 0 where
   pub now : doing_of new t ≡ doing
   pub others : (other : Ticket) → other.0 ≢ t.0 → doing_of new other ≡ doing_of old other
 
 -- a ticket holds no object now, and who else holds one is as it was
-abbrev pub AreFreed : Table → Table → Ticket → Type 0
-AreFreed old new t = (id : ObjId) → holder_of new id ≡ holder_without t (holder_of old id)
+abbrev pub AreUnlocked : Table → Table → Ticket → Type 0
+AreUnlocked old new t = (id : ObjId) → holder_of new id ≡ holder_without t (holder_of old id)
 
 -- the context backs off for the object for which it had to
 abbrev pub IsBackedOff : Table → Table → Ticket → Type 0

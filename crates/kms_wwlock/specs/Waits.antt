@@ -6,7 +6,7 @@ use Rattle.kms_model.specs.declared.objects.ObjId.{ObjId}
 use Rattle.kms_model.specs.declared.objects.Ticket.{Ticket}
 use Rattle.kms_wwlock.specs.declared.table.Lock.TheVariants.{Younger}
 use Rattle.kms_wwlock.specs.declared.table.Relock.TheVariants.{Held}
-use Rattle.kms_wwlock.specs.declared.contexts.Doing.TheVariants.{BackedOff}
+use Rattle.kms_wwlock.specs.declared.contexts.ContextDoing.TheVariants.{BackedOff}
 use Rattle.kms_wwlock.specs.Table.{Table, holder_of, doing_of}
 use Rattle.kms_wwlock.specs.Calls.{MayBegin, after_begin, MayLock, lock_answer, after_lock, MayBackOff, after_backoff, MayRelock, relock_answer, after_relock, MayDropAll, after_drop_all}
 
@@ -49,21 +49,21 @@ empty_table = record { holders = replicate 28 None; contexts = []; drawn = 0 }
 
 -- context x waits for context y: it may take locks, and of some object it is told that the younger y holds it;
 -- or it has backed off, and is told that y holds its object
-pub data Waits (table : Table) (x y : Ticket) : Type 0 where
-  ForYounger : (id : ObjId) → MayLock table x id → lock_answer x (holder_of table id) ≡ Younger y → Waits table x y
-  ForObject : MayRelock table x → relock_answer table x ≡ Held y → Waits table x y
+pub data ContextWaits (table : Table) (x y : Ticket) : Type 0 where
+  ForYounger : (id : ObjId) → MayLock table x id → lock_answer x (holder_of table id) ≡ Younger y → ContextWaits table x y
+  ForObject : MayRelock table x → relock_answer table x ≡ Held y → ContextWaits table x y
 
 -- x waits for the first of the list, each of the list for the next one, and the last for z; with an empty list, x
 -- waits for z
-abbrev pub WaitsAlong : Table → Ticket → List Ticket → Ticket → Type 0
-WaitsAlong table x [] z = Waits table x z
-WaitsAlong table x (y ∷ ys) z = Waits table x y × WaitsAlong table y ys z
+abbrev pub ContextWaitsAlong : Table → Ticket → List Ticket → Ticket → Type 0
+ContextWaitsAlong table x [] z = ContextWaits table x z
+ContextWaitsAlong table x (y ∷ ys) z = ContextWaits table x y × ContextWaitsAlong table y ys z
 
 -- no list of calls leads to contexts of which each waits for the next one, and the last for the first
-abbrev pub NoCycleOfWaits : Type 0
-NoCycleOfWaits =
+abbrev pub NoCycleOfContexts : Type 0
+NoCycleOfContexts =
     (calls : List Call) (first : Ticket) (others : List Ticket)
-    → AreAllowed empty_table calls → ¬ WaitsAlong (after_all empty_table calls) first others first
+    → AreAllowed empty_table calls → ¬ ContextWaitsAlong (after_all empty_table calls) first others first
 
 -- after every list of calls, a context that has backed off holds no object
 abbrev pub BackedOffHoldsNothing : Type 0

@@ -1,13 +1,13 @@
 //! The acquire contexts that have begun and are not over.
 ghost use Rattle.std.specs.Prelude.{◌≡◌, map};
-ghost use Rattle.kms_wwlock.specs.Table.{doing_in};
+ghost use Rattle.kms_wwlock.specs.Table.{doing_in_contexts};
 ghost use Rattle.kms_wwlock.specs.Calls.{with_doing};
 
 use kms_model::{ObjId, Ticket};
 
 /// What a context that has begun and is not over is doing.
 #[derive(Clone, Copy, Debug, PartialEq, Eq)]
-pub enum Doing {
+pub enum ContextDoing {
     /// It may take locks.
     Taking,
     /// It met an older holder of the object, and has to back off.
@@ -17,7 +17,7 @@ pub enum Doing {
 }
 
 /// An acquire context that has begun and is not over. (Kernel: `struct drm_modeset_acquire_ctx`, whose
-/// field `contended` is the object of the last two cases of `Doing`.)
+/// field `contended` is the object of the last two cases of `ContextDoing`.)
 #[derive(Clone, Copy, Debug, PartialEq, Eq)]
 pub struct Context {
     /// Its ticket, by which it is known.
@@ -25,12 +25,12 @@ pub struct Context {
     /// The number of the client that began it, counted from 1.
     pub client: u32,
     /// What it is doing.
-    pub doing: Doing,
+    pub doing: ContextDoing,
 }
 
 impl Context {
     /// The same context, which does something else where it has this ticket.
-    fn with_doing(self, t: Ticket, doing: Doing) -> Context
+    fn with_doing(self, t: Ticket, doing: ContextDoing) -> Context
         ensures { result ≡ with_doing t doing self }
     {
         if self.ticket == t {
@@ -42,8 +42,8 @@ impl Context {
 }
 
 /// What the context of a ticket is doing, where there is one.
-pub fn doing_of(contexts: &[Context], t: Ticket) -> Option<Doing>
-    ensures { result ≡ doing_in contexts.now t }
+pub fn doing_of(contexts: &[Context], t: Ticket) -> Option<ContextDoing>
+    ensures { result ≡ doing_in_contexts contexts.now t }
 {
     for context in contexts {
         if context.ticket == t {
@@ -54,7 +54,7 @@ pub fn doing_of(contexts: &[Context], t: Ticket) -> Option<Doing>
 }
 
 /// Lets the context of a ticket do something else.
-pub fn set_doing(contexts: &mut [Context], t: Ticket, doing: Doing)
+pub fn set_doing(contexts: &mut [Context], t: Ticket, doing: ContextDoing)
     ensures { contexts.new ≡ map (with_doing t doing) contexts.old }
 {
     for context in contexts.iter_mut() {

@@ -18,6 +18,6 @@ mod table;
 #[cfg(test)]
 mod tests;
 
-pub use contexts::{Context, Doing};
+pub use contexts::{Context, ContextDoing};
 pub use law::no_cycle_of_waits;
 pub use table::{Lock, LockTable, Relock};

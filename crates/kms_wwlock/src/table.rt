@@ -2,7 +2,7 @@
 ghost use Rattle.std.specs.Prelude.{◌≡◌, ◌<◌, [], map, replicate, Option, Some, None, OnErr, IfOk};
 ghost use Rattle.kms_wwlock.specs.Objects.{IsLockable};
 
-use crate::contexts::{Context, Doing, doing_of, set_doing};
+use crate::contexts::{Context, ContextDoing, doing_of, set_doing};
 use crate::holders::{LOCKABLE, free_all, place_of};
 use kms_model::{NoMemory, ObjId, Ticket};
 use std::alloc::Global;
@@ -64,7 +64,7 @@ impl Model for LockTable {
 
 impl LockTable {
     ghost use Rattle.kms_wwlock.specs.Table.{doing_of, holder_of};
-    ghost use Rattle.kms_wwlock.specs.Calls.{IsTakenBy, IsRelocked, AreFreed, IsDoing, IsBackedOff, IfOlder, MayBegin, next_ticket, after_begin, MayLock, lock_answer, after_lock, MayBackOff, after_backoff, MayRelock, relock_answer, after_relock, MayDropAll, after_drop_all};
+    ghost use Rattle.kms_wwlock.specs.Calls.{IsTakenBy, IsRelocked, AreUnlocked, IsDoing, IsBackedOff, IfOlder, MayBegin, next_ticket, after_begin, MayLock, lock_answer, after_lock, MayBackOff, after_backoff, MayRelock, relock_answer, after_relock, MayDropAll, after_drop_all};
     ghost use Rattle.kms_wwlock.specs.Waits.{empty_table};
 
     /// The table in which every object is free and no context has begun. It takes no memory.
@@ -86,7 +86,7 @@ impl LockTable {
         ensures ticket { IfOk result (λ t. t ≡ next_ticket self.old) }
         ensures after { IfOk result (λ _. self.new ≡ after_begin self.old client) }
         ensures fresh { IfOk result (λ t. doing_of self.old t ≡ None) }
-        ensures taking { IfOk result (λ t. IsDoing self.old self.new t (Some Doing.Taking)) }
+        ensures taking { IfOk result (λ t. IsDoing self.old self.new t (Some ContextDoing.Taking)) }
         ensures err { OnErr result (self.new ≡ self.old) }
     {
         // The list of contexts keeps the allocator that it was made with.
@@ -94,7 +94,7 @@ impl LockTable {
         self.contexts.push(Context {
             ticket,
             client,
-            doing: Doing::Taking,
+            doing: ContextDoing::Taking,
         })?;
         self.drawn += 1;
         Ok(ticket)
@@ -112,7 +112,7 @@ impl LockTable {
         ensures answer { result ≡ lock_answer t (holder_of self.old id) }
         ensures after { self.new ≡ after_lock self.old t id result }
         ensures got { result ≡ Lock.Got → IsTakenBy self.old self.new t id }
-        ensures older { IfOlder result (IsDoing self.old self.new t (Some (Doing.MustBackOff id))) }
+        ensures older { IfOlder result (IsDoing self.old self.new t (Some (ContextDoing.MustBackOff id))) }
     {
         match self.holder(id) {
             None => {
@@ -121,7 +121,7 @@ impl LockTable {
             }
             Some(holder) if holder == t => Lock::Own,
             Some(holder) if holder.0 < t.0 => {
-                set_doing(&mut self.contexts, t, Doing::MustBackOff(id));
+                set_doing(&mut self.contexts, t, ContextDoing::MustBackOff(id));
                 Lock::Older { holder }
             }
             Some(holder) => Lock::Younger { holder },
@@ -132,13 +132,13 @@ impl LockTable {
     pub fn backoff(&mut self, t: Ticket)
         requires { MayBackOff self.old t }
         ensures after { self.new ≡ after_backoff self.old t }
-        ensures freed { AreFreed self.old self.new t }
+        ensures freed { AreUnlocked self.old self.new t }
         ensures backed_off { IsBackedOff self.old self.new t }
     {
-        let Some(Doing::MustBackOff(id)) = doing_of(&self.contexts, t) else {
+        let Some(ContextDoing::MustBackOff(id)) = doing_of(&self.contexts, t) else {
             unreachable!();
         };
-        set_doing(&mut self.contexts, t, Doing::BackedOff(id));
+        set_doing(&mut self.contexts, t, ContextDoing::BackedOff(id));
         free_all(&mut self.holders, t);
     }
 
@@ -151,13 +151,13 @@ impl LockTable {
         ensures after { self.new ≡ after_relock self.old t result }
         ensures got { result ≡ Relock.Got → IsRelocked self.old self.new t }
     {
-        let Some(Doing::BackedOff(id)) = doing_of(&self.contexts, t) else {
+        let Some(ContextDoing::BackedOff(id)) = doing_of(&self.contexts, t) else {
             unreachable!();
         };
         match self.holder(id) {
             None => {
                 self.holders[place_of(id)] = Some(t);
-                set_doing(&mut self.contexts, t, Doing::Taking);
+                set_doing(&mut self.contexts, t, ContextDoing::Taking);
                 Relock::Got
             }
             Some(holder) => Relock::Held { holder },
@@ -168,7 +168,7 @@ impl LockTable {
     pub fn drop_all(&mut self, t: Ticket)
         requires { MayDropAll self.old t }
         ensures after { self.new ≡ after_drop_all self.old t }
-        ensures freed { AreFreed self.old self.new t }
+        ensures freed { AreUnlocked self.old self.new t }
         ensures over { IsDoing self.old self.new t None }
     {
         self.contexts.retain(|context| context.ticket != t);

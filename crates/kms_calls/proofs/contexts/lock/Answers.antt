@@ -2,23 +2,23 @@ use Rattle.std.proofs.Common.{◌∙◌, sym, ap, ◌++◌, ◌∷◌, [], refl}
 use Rattle.kms_model.specs.declared.replies.Step.{Step}
 use Rattle.kms_stores.specs.Run.{machine}
 use Rattle.kms_calls.proofs.Locking.{asks, locks_of, lock_answered, lock_goes_on, lock_history, lock_stays}
-use Rattle.kms_stores.specs.Insides.{run_of, stores_of}
+use Rattle.kms_stores.specs.Insides.{run_in, stores_of}
 use Rattle.kms_stores.proofs.Spared.{other_spared, same_le, still_spared}
 use Rattle.kms_calls.proofs.contexts.lock.Goals as goal
 
 pub lock-answer-requires-clause-taking : goal.lock-answer-requires-clause-taking
-lock-answer-requires-clause-taking c = (asks (run_of c.stores.inside) c.args.stores.now (stores_of c.stores.inside) c.args.t c.args.id c.in-Some.client c.stores.invariant.stands c.stores.view_is c.requires c.in-Some.ensures.some).place
+lock-answer-requires-clause-taking c = (asks (run_in c.stores.inside) c.args.stores.now (stores_of c.stores.inside) c.args.t c.args.id c.in-Some.client c.stores.invariant.stands c.stores.view_is c.requires c.in-Some.ensures.some).place
 
 pub invariant_of-stores-then-not-is_step : goal.invariant_of-stores-then-not-is_step
 invariant_of-stores-then-not-is_step c =
     let stands =
-    lock_stays (run_of c.stores.inside) (stores_of c.stores.inside) c.args.id c.in-Some.client c.lock-answer.result c.lock-answer.new.self c.make_step_room.new.steps.items c.stores.invariant.stands
-    (sym c.is_step.ensures ∙ c.if-not-is_step.true) c.in_ok-make_step_room.ensures.items (c.lock-answer.ensures.stands (machine (run_of c.stores.inside)) c.stores.invariant.stands.stores.clients) in
+    lock_stays (run_in c.stores.inside) (stores_of c.stores.inside) c.args.id c.in-Some.client c.lock-answer.result c.lock-answer.new.self c.make_step_room.new.steps.items c.stores.invariant.stands
+    (sym c.is_step.ensures ∙ c.if-not-is_step.true) c.in_ok-make_step_room.ensures.items (c.lock-answer.ensures.stands (machine (run_in c.stores.inside)) c.stores.invariant.stands.stores.clients) in
     record { stands = stands; spare = still_spared _ _ _ _ _ _ c.in_ok-make_step_room.ensures.items c.stores.invariant.spare c.in_ok-make_step_room.ensures.kept (same_le _) }
 
 pub returns-then-not-is_step-clause-answer : goal.returns-then-not-is_step-clause-answer
 returns-then-not-is_step-clause-answer c = λ client taking.
-    let r = run_of c.stores.inside in
+    let r = run_in c.stores.inside in
     let st = stores_of c.stores.inside in
     c.locked_as.ensures
     ∙ lock_answered r c.args.stores.now st c.args.t c.args.id c.in-Some.client c.in-Some-present_state.state c.lock-answer.result c.stores.invariant.stands c.stores.view_is
@@ -28,7 +28,7 @@ returns-then-not-is_step-clause-answer c = λ client taking.
 
 pub invariant_of-stores-2 : goal.invariant_of-stores-2
 invariant_of-stores-2 c =
-    let r = run_of c.stores.inside in
+    let r = run_in c.stores.inside in
     let st = stores_of c.stores.inside in
     let stands =
     lock_goes_on r st c.args.id c.in-Some.client c.lock-answer.result c.lock-answer.new.self c.make_step_room.new.steps.items c.push.new.self.items c.stores.invariant.stands
@@ -39,7 +39,7 @@ invariant_of-stores-2 c =
 
 pub returns-clause-answer : goal.returns-clause-answer
 returns-clause-answer c = λ client taking.
-    let r = run_of c.stores.inside in
+    let r = run_in c.stores.inside in
     let st = stores_of c.stores.inside in
     c.locked_as-2.ensures
     ∙ lock_answered r c.args.stores.now st c.args.t c.args.id c.in-Some.client c.in-Some-present_state.state c.lock-answer.result c.stores.invariant.stands c.stores.view_is
@@ -49,7 +49,7 @@ returns-clause-answer c = λ client taking.
 
 pub returns-clause-history : goal.returns-clause-history
 returns-clause-history c = λ client taking.
-    let r = run_of c.stores.inside in
+    let r = run_in c.stores.inside in
     let st = stores_of c.stores.inside in
     lock_history r c.args.stores.now st c.args.t c.args.id c.in-Some.client c.in-Some-present_state.state c.lock-answer.result c.locked_as-2.result c.make_step_room.new.steps.items c.push.new.self.items c.stores.view_is
     (asks r c.args.stores.now st c.args.t c.args.id c.in-Some.client c.stores.invariant.stands c.stores.view_is c.requires c.in-Some.ensures.some) c.locked_as-2.ensures (sym c.is_step.ensures ∙ c.if-not-is_step.false)

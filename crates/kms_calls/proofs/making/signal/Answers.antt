@@ -5,42 +5,42 @@ use Rattle.kms_model.specs.Machine.Steps.{is_signal}
 use Rattle.kms_laws.proofs.Steps.{signal-other}
 use Rattle.kms_stores.specs.Run.{machine}
 use Rattle.kms_calls.proofs.Executed.{is_found, never_absent, no_request}
-use Rattle.kms_stores.specs.Insides.{run_of, stores_of}
+use Rattle.kms_stores.specs.Insides.{run_in, stores_of}
 use Rattle.kms_calls.proofs.Signalled.{idle_signaller, signals_one, tells_signal}
 use Rattle.kms_stores.proofs.Spared.{other_spared}
 use Rattle.kms_calls.proofs.making.signal.Goals as goal
 
 pub place-number-requires : goal.place-number-requires
-place-number-requires c = (idle_signaller (run_of c.stores.inside) c.args.stores.now (stores_of c.stores.inside) c.args.client c.stores.invariant.stands c.stores.view_is c.requires).is_client
+place-number-requires c = (idle_signaller (run_in c.stores.inside) c.args.stores.now (stores_of c.stores.inside) c.args.client c.stores.invariant.stands c.stores.view_is c.requires).is_client
 
 pub unreachable-requires : goal.unreachable-requires
-unreachable-requires c = never_absent (run_of c.stores.inside) (stores_of c.stores.inside) c.args.client c.place-number.result.command is_signal (idle_signaller (run_of c.stores.inside) c.args.stores.now (stores_of c.stores.inside) c.args.client c.stores.invariant.stands c.stores.view_is c.requires) (ap (λ (p : Place). p.command) c.place-number.ensures) (ap option_copied (sym c.in_default.is) ∙ c.command_of.ensures)
+unreachable-requires c = never_absent (run_in c.stores.inside) (stores_of c.stores.inside) c.args.client c.place-number.result.command is_signal (idle_signaller (run_in c.stores.inside) c.args.stores.now (stores_of c.stores.inside) c.args.client c.stores.invariant.stands c.stores.view_is c.requires) (ap (λ (p : Place). p.command) c.place-number.ensures) (ap option_copied (sym c.in_default.is) ∙ c.command_of.ensures)
 
 pub preview-reply-requires : goal.preview-reply-requires
-preview-reply-requires c = no_request c.in-Some.command.now (signal-other c.in-Some.command.now (is_found (run_of c.stores.inside) (stores_of c.stores.inside) c.args.client c.place-number.result.command is_signal c.in-Some.command.now c.stores.invariant.stands (idle_signaller (run_of c.stores.inside) c.args.stores.now (stores_of c.stores.inside) c.args.client c.stores.invariant.stands c.stores.view_is c.requires) (ap (λ (p : Place). p.command) c.place-number.ensures) (ap option_copied (sym c.in-Some.is) ∙ c.command_of.ensures)).passes)
+preview-reply-requires c = no_request c.in-Some.command.now (signal-other c.in-Some.command.now (is_found (run_in c.stores.inside) (stores_of c.stores.inside) c.args.client c.place-number.result.command is_signal c.in-Some.command.now c.stores.invariant.stands (idle_signaller (run_in c.stores.inside) c.args.stores.now (stores_of c.stores.inside) c.args.client c.stores.invariant.stands c.stores.view_is c.requires) (ap (λ (p : Place). p.command) c.place-number.ensures) (ap option_copied (sym c.in-Some.is) ∙ c.command_of.ensures)).passes)
 
 pub go_on-requires-clause-client : goal.go_on-requires-clause-client
-go_on-requires-clause-client c = (idle_signaller (run_of c.stores.inside) c.args.stores.now (stores_of c.stores.inside) c.args.client c.stores.invariant.stands c.stores.view_is c.requires).is_client
+go_on-requires-clause-client c = (idle_signaller (run_in c.stores.inside) c.args.stores.now (stores_of c.stores.inside) c.args.client c.stores.invariant.stands c.stores.view_is c.requires).is_client
 
 pub go_on-requires-clause-no_context : goal.go_on-requires-clause-no_context
-go_on-requires-clause-no_context c = (idle_signaller (run_of c.stores.inside) c.args.stores.now (stores_of c.stores.inside) c.args.client c.stores.invariant.stands c.stores.view_is c.requires).no_context
+go_on-requires-clause-no_context c = (idle_signaller (run_in c.stores.inside) c.args.stores.now (stores_of c.stores.inside) c.args.client c.stores.invariant.stands c.stores.view_is c.requires).no_context
 
 pub go_on-requires-clause-command : goal.go_on-requires-clause-command
-go_on-requires-clause-command c = (idle_signaller (run_of c.stores.inside) c.args.stores.now (stores_of c.stores.inside) c.args.client c.stores.invariant.stands c.stores.view_is c.requires).command_fits
+go_on-requires-clause-command c = (idle_signaller (run_in c.stores.inside) c.args.stores.now (stores_of c.stores.inside) c.args.client c.stores.invariant.stands c.stores.view_is c.requires).command_fits
 
 pub returns-clause-reply : goal.returns-clause-reply
-returns-clause-reply c = tells_signal (run_of c.stores.inside) c.args.stores.now (stores_of c.stores.inside) c.args.client c.in-Some.command.now c.preview-reply.result c.stores.invariant.stands c.stores.view_is (is_found (run_of c.stores.inside) (stores_of c.stores.inside) c.args.client c.place-number.result.command is_signal c.in-Some.command.now c.stores.invariant.stands (idle_signaller (run_of c.stores.inside) c.args.stores.now (stores_of c.stores.inside) c.args.client c.stores.invariant.stands c.stores.view_is c.requires) (ap (λ (p : Place). p.command) c.place-number.ensures) (ap option_copied (sym c.in-Some.is) ∙ c.command_of.ensures)).at (λ t w. c.preview-reply.ensures t w)
+returns-clause-reply c = tells_signal (run_in c.stores.inside) c.args.stores.now (stores_of c.stores.inside) c.args.client c.in-Some.command.now c.preview-reply.result c.stores.invariant.stands c.stores.view_is (is_found (run_in c.stores.inside) (stores_of c.stores.inside) c.args.client c.place-number.result.command is_signal c.in-Some.command.now c.stores.invariant.stands (idle_signaller (run_in c.stores.inside) c.args.stores.now (stores_of c.stores.inside) c.args.client c.stores.invariant.stands c.stores.view_is c.requires) (ap (λ (p : Place). p.command) c.place-number.ensures) (ap option_copied (sym c.in-Some.is) ∙ c.command_of.ensures)).at (λ t w. c.preview-reply.ensures t w)
 
 pub invariant_of-stores-2 : goal.invariant_of-stores-2
 invariant_of-stores-2 c =
     let stands =
-    signals_one (run_of c.stores.inside) c.args.stores.now (stores_of c.stores.inside) c.args.client c.in-Some.command.now c.preview-reply.result c.go_on.new.self c.make_room.new.journal c.answer.new.replies c.signal_fence.new.fences c.make_room.new.steps.items c.push.new.self.items
+    signals_one (run_in c.stores.inside) c.args.stores.now (stores_of c.stores.inside) c.args.client c.in-Some.command.now c.preview-reply.result c.go_on.new.self c.make_room.new.journal c.answer.new.replies c.signal_fence.new.fences c.make_room.new.steps.items c.push.new.self.items
     c.stores.invariant.stands c.stores.view_is c.requires
     (record {
-      found = (is_found (run_of c.stores.inside) (stores_of c.stores.inside) c.args.client c.place-number.result.command is_signal c.in-Some.command.now c.stores.invariant.stands (idle_signaller (run_of c.stores.inside) c.args.stores.now (stores_of c.stores.inside) c.args.client c.stores.invariant.stands c.stores.view_is c.requires) (ap (λ (p : Place). p.command) c.place-number.ensures) (ap option_copied (sym c.in-Some.is) ∙ c.command_of.ensures));
+      found = (is_found (run_in c.stores.inside) (stores_of c.stores.inside) c.args.client c.place-number.result.command is_signal c.in-Some.command.now c.stores.invariant.stands (idle_signaller (run_in c.stores.inside) c.args.stores.now (stores_of c.stores.inside) c.args.client c.stores.invariant.stands c.stores.view_is c.requires) (ap (λ (p : Place). p.command) c.place-number.ensures) (ap option_copied (sym c.in-Some.is) ∙ c.command_of.ensures));
       replied = λ t w. c.preview-reply.ensures t w;
       fences_now = c.signal_fence.ensures ∙ rw c.fence_of.ensures refl;
-      clients_stand = c.go_on.ensures (machine (run_of c.stores.inside)) c.stores.invariant.stands.stores.clients;
+      clients_stand = c.go_on.ensures (machine (run_in c.stores.inside)) c.stores.invariant.stands.stores.clients;
       journal_kept = c.in_ok-make_room.ensures.journal;
       replies_more = c.answer.ensures ∙ rw (c.in_ok-make_room.ensures.replies, c.place-number.ensures) refl;
     })

@@ -1,5 +1,5 @@
 use Rattle.std.proofs.Common.{◌≡◌, true, Some, sym, rules, ◌∙◌}
-use Rattle.kms_stores.specs.Insides.{run_of, stores_of}
+use Rattle.kms_stores.specs.Insides.{run_in, stores_of}
 use Rattle.kms_stores.specs.Run.{machine}
 use Rattle.kms_calls.specs.Locks.{has_lock}
 use Rattle.kms_calls.proofs.HeldStates.{held_is}
@@ -7,7 +7,7 @@ use Rattle.kms_calls.proofs.states.held_state.Goals as goal
 
 pub returns : goal.returns
 returns c =
-    let r = run_of c.stores.inside in
+    let r = run_in c.stores.inside in
     let lock : has_lock r.script.topology c.args.id.0 ≡ true = search rules in
     let holder : c.holder.result ≡ Some c.args.client = search rules in
     c.present_state.ensures

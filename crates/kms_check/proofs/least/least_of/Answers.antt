@@ -1,5 +1,5 @@
 use Rattle.std.proofs.Common.{◌∙◌, Some, arith, refl, sym, ap}
-use Rattle.kms_track.specs.Places.{first_below, object_at}
+use Rattle.kms_track.specs.Places.{first_below, object_at_place}
 use Rattle.kms_track.proofs.PlaceLemmas.{first_found, none_more}
 use Rattle.kms_check.specs.Moves.{member_at}
 use Rattle.kms_check.proofs.Masks.{member-here, member-not}
@@ -15,6 +15,6 @@ loop-place-preserved c =
 
 pub returns-then-has_object : goal.returns-then-has_object
 returns-then-has_object c =
-    ap Some c.object_at.ensures
-    ∙ sym (first_found (member_at c.args.objects.now) c.loop-place.place 28 (object_at c.loop-place.place) c.loop-place.invariant
+    ap Some c.object_at_place.ensures
+    ∙ sym (first_found (member_at c.args.objects.now) c.loop-place.place 28 (object_at_place c.loop-place.place) c.loop-place.invariant
     (member-here c.args.objects.now c.loop-place.place (sym c.has_object.ensures ∙ c.if-has_object.true)) (omega arith))

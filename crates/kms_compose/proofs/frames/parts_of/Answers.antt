@@ -5,22 +5,22 @@ use Rattle.std.proofs.lemmas.List.Elements.{All-push}
 use Rattle.kms_model.specs.declared.pictures.Colour.{Colour}
 use Rattle.kms_model.specs.declared.pictures.Layer.{Layer}
 use Rattle.kms_model.specs.Frames.FrameBytes.{black, composed, layer_colour, mixed}
-use Rattle.kms_compose.specs.declared.parts.Part.{Part}
+use Rattle.kms_compose.specs.declared.parts.VisiblePart.{VisiblePart}
 use Rattle.kms_compose.specs.Images.{IsShowable, word_under}
 use Rattle.kms_compose.specs.Parts.{IsPart, listed, part_colour, parts_over, seen_colour}
 use Rattle.kms_compose.proofs.frames.parts_of.Goals as goal
 
-all_listed : (parts : List Part) (p : Option Part) → All IsPart parts → IfSome p IsPart → All IsPart (parts ++ listed p)
+all_listed : (parts : List VisiblePart) (p : Option VisiblePart) → All IsPart parts → IfSome p IsPart → All IsPart (parts ++ listed p)
 all_listed parts None all one = rw (append-nil parts) all
 all_listed parts (Some p) all one = All-push IsPart parts p all one
 
 -- a part over the others, where there is one
-parts_over-push : (x y : ℕ) (under : Colour) (parts : List Part) (p : Part) → parts_over x y under (parts ++ p ∷ []) ≡ mixed p.layer (parts_over x y under parts) (part_colour p x y)
+parts_over-push : (x y : ℕ) (under : Colour) (parts : List VisiblePart) (p : VisiblePart) → parts_over x y under (parts ++ p ∷ []) ≡ mixed p.layer (parts_over x y under parts) (part_colour p x y)
 parts_over-push x y under [] p = refl
 parts_over-push x y under (q ∷ parts) p = parts_over-push x y (mixed q.layer under (part_colour q x y)) parts p
 
 -- a layer over the parts so far is its part over them
-part_added : (words : ℕ → ℕ → ℕ → Option ℕ) (x y : ℕ) (under : Colour) (parts : List Part) (layer : Layer) (p : Option Part) →
+part_added : (words : ℕ → ℕ → ℕ → Option ℕ) (x y : ℕ) (under : Colour) (parts : List VisiblePart) (layer : Layer) (p : Option VisiblePart) →
     layer_colour words x y layer ≡ seen_colour p x y → IfSome p (λ q. q.layer ≡ layer) →
     parts_over x y under (parts ++ listed p) ≡ mixed layer (parts_over x y under parts) (layer_colour words x y layer)
 part_added words x y under parts layer None e own = rw (append-nil parts, e) refl
@@ -30,14 +30,14 @@ part_added words x y under parts layer (Some p) e own =
     ∙ ap (mixed layer (parts_over x y under parts)) (sym e)
 
 -- one layer more
-layer_added : (words : ℕ → ℕ → ℕ → Option ℕ) (x y : ℕ) (parts new : List Part) (layers : List Layer) (i : ℕ) (d : Layer) (p : Option Part) (whole : Colour) →
+layer_added : (words : ℕ → ℕ → ℕ → Option ℕ) (x y : ℕ) (parts new : List VisiblePart) (layers : List Layer) (i : ℕ) (d : Layer) (p : Option VisiblePart) (whole : Colour) →
     i < length layers → new ≡ parts ++ listed p →
     layer_colour words x y (slice_index_or layers i d) ≡ seen_colour p x y → IfSome p (λ q. q.layer ≡ slice_index_or layers i d) →
     composed words x y (parts_over x y black parts) (drop i layers) ≡ whole →
     composed words x y (parts_over x y black new) (drop (i + 1) layers) ≡ whole
 layer_added words x y parts new layers i d p whole below now colour own before =
     let over = part_added words x y black parts (slice_index_or layers i d) p colour own in
-    ap (λ (ps : List Part). composed words x y (parts_over x y black ps) (drop (i + 1) layers)) now
+    ap (λ (ps : List VisiblePart). composed words x y (parts_over x y black ps) (drop (i + 1) layers)) now
     ∙ ap (λ (under : Colour). composed words x y under (drop (i + 1) layers)) over
     ∙ sym (at_drop_more (composed words x y (parts_over x y black parts)) layers i d below)
     ∙ before

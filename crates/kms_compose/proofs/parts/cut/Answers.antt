@@ -1,6 +1,6 @@
 use Rattle.std.proofs.Common.{◌≡◌, ap, ◌∙◌, ◌+◌, rules}
 use Rattle.kms_model.specs.Device.States.{natural}
-use Rattle.kms_compose.specs.Sources.{place_at}
+use Rattle.kms_compose.specs.Sources.{source_place}
 use Rattle.kms_compose.proofs.Visible.{cut_is, size_some}
 use Rattle.kms_compose.proofs.parts.cut.Goals as goal
 
@@ -33,7 +33,7 @@ returns c =
     let top : c.natural-top.result ≡ natural c.args.visible.now.y = search rules in
     let height : c.natural-height.result ≡ natural c.args.visible.now.h = search rules in
     cut_is _ _ _ _ c.requires.visible c.requires.image (search rules) left top width height c.in_ok-columns.ensures.count
-    (λ k within. c.in_ok-columns.ensures.places k within ∙ ap (λ r. place_at r (c.natural-left.result + k)) c.across.ensures)
+    (λ k within. c.in_ok-columns.ensures.places k within ∙ ap (λ r. source_place r (c.natural-left.result + k)) c.across.ensures)
     c.in_ok-rows.ensures.count
-    (λ k within. c.in_ok-rows.ensures.places k within ∙ ap (λ r. place_at r (c.natural-top.result + k)) c.down.ensures)
+    (λ k within. c.in_ok-rows.ensures.places k within ∙ ap (λ r. source_place r (c.natural-top.result + k)) c.down.ensures)
     (search rules) (search rules)

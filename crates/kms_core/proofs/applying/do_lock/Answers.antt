@@ -1,6 +1,6 @@
 use Rattle.std.proofs.Common.{◌∙◌, ap, sym}
 use Rattle.kms_stores.specs.Run.{gains}
-use Rattle.kms_stores.specs.Insides.{run_of, stores_of}
+use Rattle.kms_stores.specs.Insides.{run_in, stores_of}
 use Rattle.kms_core.proofs.Applied.{few_now, lock_asked, lock_index, lock_named, lock_there, locked_step}
 use Rattle.kms_core.proofs.applying.do_lock.Goals as goal
 
@@ -8,15 +8,15 @@ pub unreachable-requires : goal.unreachable-requires
 unreachable-requires c = lock_there c.args.stores.now c.args.client c.args.kind c.args.index c.doing.result c.requires c.doing.ensures c.in_default.not-Taking
 
 pub of-requires : goal.of-requires
-of-requires c = lock_index c.args.stores.now (few_now (run_of c.stores.inside) c.args.stores.now (stores_of c.stores.inside) c.stores.invariant.stands c.stores.view_is) c.args.client c.args.kind c.args.index c.requires
+of-requires c = lock_index c.args.stores.now (few_now (run_in c.stores.inside) c.args.stores.now (stores_of c.stores.inside) c.stores.invariant.stands c.stores.view_is) c.args.client c.args.kind c.args.index c.requires
 
 pub lock-requires : goal.lock-requires
-lock-requires c = lock_asked c.args.stores.now (few_now (run_of c.stores.inside) c.args.stores.now (stores_of c.stores.inside) c.stores.invariant.stands c.stores.view_is) c.args.client c.args.kind c.args.index c.doing.result c.in-Taking.ticket c.of.result c.requires c.doing.ensures c.in-Taking.is c.of.ensures
+lock-requires c = lock_asked c.args.stores.now (few_now (run_in c.stores.inside) c.args.stores.now (stores_of c.stores.inside) c.stores.invariant.stands c.stores.view_is) c.args.client c.args.kind c.args.index c.doing.result c.in-Taking.ticket c.of.result c.requires c.doing.ensures c.in-Taking.is c.of.ensures
 
 pub returns : goal.returns
 returns c =
     let taking = sym c.doing.ensures ∙ c.in-Taking.is in
     record {
       history = c.in_ok-_answer.ensures.history c.args.client taking
-          ∙ ap (gains c.args.stores.now) (locked_step c.args.stores.now c.args.client c.args.kind c.args.index c.of.result c.in_ok-_answer._answer c.requires (lock_named c.args.stores.now (few_now (run_of c.stores.inside) c.args.stores.now (stores_of c.stores.inside) c.stores.invariant.stands c.stores.view_is) c.args.client c.args.kind c.args.index c.of.result c.requires c.of.ensures) c.of.ensures (c.in_ok-_answer.ensures.answer c.args.client taking));
+          ∙ ap (gains c.args.stores.now) (locked_step c.args.stores.now c.args.client c.args.kind c.args.index c.of.result c.in_ok-_answer._answer c.requires (lock_named c.args.stores.now (few_now (run_in c.stores.inside) c.args.stores.now (stores_of c.stores.inside) c.stores.invariant.stands c.stores.view_is) c.args.client c.args.kind c.args.index c.of.result c.requires c.of.ensures) c.of.ensures (c.in_ok-_answer.ensures.answer c.args.client taking));
     }

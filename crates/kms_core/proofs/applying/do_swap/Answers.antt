@@ -1,4 +1,4 @@
-use Rattle.kms_stores.specs.Insides.{run_of, stores_of}
+use Rattle.kms_stores.specs.Insides.{run_in, stores_of}
 use Rattle.kms_next.proofs.Refusing.{commits_now, swap_early_none, swap_taken}
 use Rattle.kms_core.proofs.applying.do_swap.Goals as goal
 
@@ -13,4 +13,4 @@ resolved-requires c = swap_early_none c.args.stores.now c.args.client c.in-Some.
 
 pub commit-requires : goal.commit-requires
 commit-requires c =
-    commits_now (run_of c.stores.inside) c.args.stores.now (stores_of c.stores.inside) c.args.client c.in-Some.request.now c.checked-checked.result c.in_ok-resolved.resolved c.stores.invariant.stands c.stores.view_is c.requires c.in-Some.ensures c.checked-checked.ensures.checked c.checked-checked.ensures.states c.in_ok-resolved.ensures
+    commits_now (run_in c.stores.inside) c.args.stores.now (stores_of c.stores.inside) c.args.client c.in-Some.request.now c.checked-checked.result c.in_ok-resolved.resolved c.stores.invariant.stands c.stores.view_is c.requires c.in-Some.ensures c.checked-checked.ensures.checked c.checked-checked.ensures.states c.in_ok-resolved.ensures

@@ -1,6 +1,6 @@
-use Rattle.kms_stores.specs.Insides.{run_of, stores_of}
+use Rattle.kms_stores.specs.Insides.{run_in, stores_of}
 use Rattle.kms_next.proofs.Refusing.{decides_test}
 use Rattle.kms_core.proofs.applying.do_test.Goals as goal
 
 pub decide-requires : goal.decide-requires
-decide-requires c = decides_test (run_of c.stores.inside) c.args.stores.now (stores_of c.stores.inside) c.args.client c.stores.invariant.stands c.stores.view_is c.requires
+decide-requires c = decides_test (run_in c.stores.inside) c.args.stores.now (stores_of c.stores.inside) c.args.client c.stores.invariant.stands c.stores.view_is c.requires

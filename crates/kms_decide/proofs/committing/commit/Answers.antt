@@ -5,15 +5,15 @@ use Rattle.kms_signal.specs.FenceSets.{FenceSet}
 use Rattle.kms_signal.specs.Queues.{Queue, empty_queue}
 use Rattle.kms_tails.specs.InStep.{StandsAfterSwap}
 use Rattle.kms_stores.specs.Run.{machine}
-use Rattle.kms_stores.specs.Settled.{fences_under, labels_in}
+use Rattle.kms_stores.specs.SwappedIn.{fences_under, labels_in}
 use Rattle.kms_decide.proofs.Commits.{again, below_tails, commits, decider, few_commits, few_waits, found_queue, has_ids, high, may_now, own, queues_same, roomy, set_up_same, space_again, there}
-use Rattle.kms_stores.specs.Insides.{run_of, stores_of}
+use Rattle.kms_stores.specs.Insides.{run_in, stores_of}
 use Rattle.kms_stores.proofs.Spared.{still_spared, swap_spared, with_latches}
 use Rattle.kms_decide.proofs.committing.commit.Goals as goal
 
 pub invariant_of-stores : goal.invariant_of-stores
 invariant_of-stores c =
-    let r = run_of c.stores.inside in
+    let r = run_in c.stores.inside in
     let st = record (stores_of c.stores.inside) { latches = c.make_commit_room.new.latches } in
     let before = with_latches r (stores_of c.stores.inside) c.make_commit_room.new.latches c.stores.invariant.stands c.in_err-make_commit_room.ensures.latches in
     let can = may_now r c.args.stores.now c.args.client c.args.checked.now c.args.resolved.now c.stores.view_is c.requires in
@@ -28,11 +28,11 @@ invariant_of-stores c =
 
 pub make_out_fences-requires-clause-ids : goal.make_out_fences-requires-clause-ids
 make_out_fences-requires-clause-ids c =
-    has_ids (run_of c.stores.inside) (stores_of c.stores.inside) c.args.client c.args.checked.now c.args.resolved.now c.stores.invariant.stands (may_now (run_of c.stores.inside) c.args.stores.now c.args.client c.args.checked.now c.args.resolved.now c.stores.view_is c.requires)
+    has_ids (run_in c.stores.inside) (stores_of c.stores.inside) c.args.client c.args.checked.now c.args.resolved.now c.stores.invariant.stands (may_now (run_in c.stores.inside) c.args.stores.now c.args.client c.args.checked.now c.args.resolved.now c.stores.view_is c.requires)
 
 pub invariant_of-stores-in_err-make_out_fences : goal.invariant_of-stores-in_err-make_out_fences
 invariant_of-stores-in_err-make_out_fences c =
-    let r = run_of c.stores.inside in
+    let r = run_in c.stores.inside in
     let st = record (stores_of c.stores.inside) { latches = c.make_commit_room.new.latches } in
     let before = with_latches r (stores_of c.stores.inside) c.make_commit_room.new.latches c.stores.invariant.stands c.in_ok-make_commit_room.ensures.latches in
     let can = may_now r c.args.stores.now c.args.client c.args.checked.now c.args.resolved.now c.stores.view_is c.requires in
@@ -48,52 +48,52 @@ invariant_of-stores-in_err-make_out_fences c =
 pub index_mut-requires-2 : goal.index_mut-requires-2
 index_mut-requires-2 c =
     let fits =
-    (own (run_of c.stores.inside) (stores_of c.stores.inside) c.args.client c.args.checked.now c.args.resolved.now c.stores.invariant.stands (may_now (run_of c.stores.inside) c.args.stores.now c.args.client c.args.checked.now c.args.resolved.now c.stores.view_is c.requires)).within
+    (own (run_in c.stores.inside) (stores_of c.stores.inside) c.args.client c.args.checked.now c.args.resolved.now c.stores.invariant.stands (may_now (run_in c.stores.inside) c.args.stores.now c.args.client c.args.checked.now c.args.resolved.now c.stores.view_is c.requires)).within
     in search rules
 
 pub set_up-commit-requires-clause-count : goal.set_up-commit-requires-clause-count
 set_up-commit-requires-clause-count c =
     rw c.in_ok-make_commit_room.ensures.kept.tracking.count
-    (few_commits (run_of c.stores.inside) (stores_of c.stores.inside) c.args.client c.args.checked.now c.args.resolved.now c.stores.invariant.stands (may_now (run_of c.stores.inside) c.args.stores.now c.args.client c.args.checked.now c.args.resolved.now c.stores.view_is c.requires))
+    (few_commits (run_in c.stores.inside) (stores_of c.stores.inside) c.args.client c.args.checked.now c.args.resolved.now c.stores.invariant.stands (may_now (run_in c.stores.inside) c.args.stores.now c.args.client c.args.checked.now c.args.resolved.now c.stores.view_is c.requires))
 
 pub set_up-commit-requires-clause-fences : goal.set_up-commit-requires-clause-fences
 set_up-commit-requires-clause-fences c =
-    few_waits (run_of c.stores.inside) (stores_of c.stores.inside) c.args.client c.args.checked.now c.args.resolved.now c.stores.invariant.stands (may_now (run_of c.stores.inside) c.args.stores.now c.args.client c.args.checked.now c.args.resolved.now c.stores.view_is c.requires)
+    few_waits (run_in c.stores.inside) (stores_of c.stores.inside) c.args.client c.args.checked.now c.args.resolved.now c.stores.invariant.stands (may_now (run_in c.stores.inside) c.args.stores.now c.args.client c.args.checked.now c.args.resolved.now c.stores.view_is c.requires)
 
 pub leave-requires-clause-command : goal.leave-requires-clause-command
 leave-requires-clause-command c =
-    (decider (run_of c.stores.inside) (stores_of c.stores.inside) c.args.client c.args.checked.now c.args.resolved.now c.stores.invariant.stands (may_now (run_of c.stores.inside) c.args.stores.now c.args.client c.args.checked.now c.args.resolved.now c.stores.view_is c.requires)).command_fits
+    (decider (run_in c.stores.inside) (stores_of c.stores.inside) c.args.client c.args.checked.now c.args.resolved.now c.stores.invariant.stands (may_now (run_in c.stores.inside) c.args.stores.now c.args.client c.args.checked.now c.args.resolved.now c.stores.view_is c.requires)).command_fits
 
 pub reserve_events-requires-clause-space : goal.reserve_events-requires-clause-space
 reserve_events-requires-clause-space c =
-    let r = run_of c.stores.inside in
+    let r = run_in c.stores.inside in
     let st = stores_of c.stores.inside in
     let can = may_now r c.args.stores.now c.args.client c.args.checked.now c.args.resolved.now c.stores.view_is c.requires in
     let first = found_queue r st c.args.client c.args.checked.now c.args.resolved.now c.stores.invariant.stands can _ _ c.index_mut.ensures.value in
     let second = again r st c.args.client c.args.checked.now c.args.resolved.now c.stores.invariant.stands can c.make_commit_room.new.queue _ _ c.index_mut-2.ensures.value in
     rw second
-    (space_again r st c.args.client c.args.checked.now c.args.resolved.now c.stores.invariant.stands can c.make_commit_room.new.queue c.events_of-events.result c.events_of-events.ensures.count
+    (space_again r st c.args.client c.args.checked.now c.args.resolved.now c.stores.invariant.stands can c.make_commit_room.new.queue c.events_asked_for-events.result c.events_asked_for-events.ensures.count
     (c.in_ok-make_commit_room.ensures.kept.reserved ∙ ap (λ (q : Queue). q.reserved) first) (c.in_ok-make_commit_room.ensures.kept.unread ∙ ap (λ (q : Queue). q.unread) first))
 
 pub reserve_events-requires-clause-room : goal.reserve_events-requires-clause-room
 reserve_events-requires-clause-room c =
-    rw (again (run_of c.stores.inside) (stores_of c.stores.inside) c.args.client c.args.checked.now c.args.resolved.now c.stores.invariant.stands (may_now (run_of c.stores.inside) c.args.stores.now c.args.client c.args.checked.now c.args.resolved.now c.stores.view_is c.requires) c.make_commit_room.new.queue _ _ c.index_mut-2.ensures.value)
+    rw (again (run_in c.stores.inside) (stores_of c.stores.inside) c.args.client c.args.checked.now c.args.resolved.now c.stores.invariant.stands (may_now (run_in c.stores.inside) c.args.stores.now c.args.client c.args.checked.now c.args.resolved.now c.stores.view_is c.requires) c.make_commit_room.new.queue _ _ c.index_mut-2.ensures.value)
     c.in_ok-make_commit_room.ensures.events_room
 
 pub keep_tail-requires-clause-below : goal.keep_tail-requires-clause-below
 keep_tail-requires-clause-below c =
-    below_tails (run_of c.stores.inside) (stores_of c.stores.inside) c.args.client c.args.checked.now c.args.resolved.now c.stores.invariant.stands (may_now (run_of c.stores.inside) c.args.stores.now c.args.client c.args.checked.now c.args.resolved.now c.stores.view_is c.requires)
+    below_tails (run_in c.stores.inside) (stores_of c.stores.inside) c.args.client c.args.checked.now c.args.resolved.now c.stores.invariant.stands (may_now (run_in c.stores.inside) c.args.stores.now c.args.client c.args.checked.now c.args.resolved.now c.stores.view_is c.requires)
     _ c.make_commit_room.new.tails (c.set_up-commit.ensures.number ∙ c.in_ok-make_commit_room.ensures.kept.tracking.count)
     (λ t commits marks latches was. c.in_ok-make_commit_room.ensures.kept.tails t commits marks latches was)
 
 pub keep_tail-requires-clause-there : goal.keep_tail-requires-clause-there
 keep_tail-requires-clause-there c =
-    there (run_of c.stores.inside) (stores_of c.stores.inside) c.args.client c.args.checked.now c.args.resolved.now c.stores.invariant.stands (may_now (run_of c.stores.inside) c.args.stores.now c.args.client c.args.checked.now c.args.resolved.now c.stores.view_is c.requires)
+    there (run_in c.stores.inside) (stores_of c.stores.inside) c.args.client c.args.checked.now c.args.resolved.now c.stores.invariant.stands (may_now (run_in c.stores.inside) c.args.stores.now c.args.client c.args.checked.now c.args.resolved.now c.stores.view_is c.requires)
     _ (ap (λ (p : Place). p.command) c.place-number.ensures)
 
 pub invariant_of-stores-2 : goal.invariant_of-stores-2
 invariant_of-stores-2 c =
-    let r = run_of c.stores.inside in
+    let r = run_in c.stores.inside in
     let st = record (stores_of c.stores.inside) { latches = c.make_commit_room.new.latches } in
     let before = with_latches r (stores_of c.stores.inside) c.make_commit_room.new.latches c.stores.invariant.stands c.in_ok-make_commit_room.ensures.latches in
     let m = machine r in
@@ -113,12 +113,12 @@ invariant_of-stores-2 c =
       replies_more = c.reply_commit.ensures.replies ∙ rw (c.in_ok-make_commit_room.ensures.replies, c.in_ok-make_commit_room.ensures.journal, c.place-number.ensures) refl;
       journal_more = c.reply_commit.ensures.journal ∙ rw (c.in_ok-make_commit_room.ensures.journal, c.place-number.ensures) refl;
       made_as = λ w assigns crtcs is. c.in_ok-make_out_fences.ensures.made w assigns crtcs (rw (c.out_labels-labels.ensures, c.as_slice.ensures.value) is);
-      settled = c.present_after-stores-inside.ensures;
+      present_swapped = c.present_after-stores-inside.ensures;
       fences_more = c.in_ok-make_out_fences.ensures.fences ∙ rw (c.in_ok-make_commit_room.ensures.kept.fences, c.out_labels-labels.ensures, c.as_slice.ensures.value) refl;
       queues_stand =
           queues_same (length r.script.clients) m.events c.args.client st.queues c.make_commit_room.new.queue mine.low most
           (c.in_ok-make_commit_room.ensures.kept.reserved ∙ ap (λ (q : Queue). q.reserved) first) (c.in_ok-make_commit_room.ensures.kept.unread ∙ ap (λ (q : Queue). q.unread) first) before.stores.queues;
-      reserved = c.reserve_events.ensures.reserved ∙ ap (λ (q : Queue). q.reserved + c.events_of-events.result) (second ∙ sym third) ∙ rw c.events_of-events.ensures.count refl;
+      reserved = c.reserve_events.ensures.reserved ∙ ap (λ (q : Queue). q.reserved + c.events_asked_for-events.result) (second ∙ sym third) ∙ rw c.events_asked_for-events.ensures.count refl;
       unread = c.reserve_events.ensures.unread ∙ ap (λ (q : Queue). q.unread) (second ∙ sym third);
       set_up =
           set_up_same c.stores.inside.tracker c.make_commit_room.new.tracker c.set_up-commit.new.tracker c.args.checked.now _

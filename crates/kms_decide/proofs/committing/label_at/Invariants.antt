@@ -1,5 +1,5 @@
 use Rattle.std.proofs.Common.{◌≡◌, drop}
-use Rattle.kms_stores.specs.Settled.{label_in}
+use Rattle.kms_stores.specs.SwappedIn.{label_in}
 use Rattle.kms_decide.proofs.committing.label_at.Given as goal
 
 -- the label among the rest is that among all

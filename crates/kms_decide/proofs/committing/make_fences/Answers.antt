@@ -1,6 +1,6 @@
 use Rattle.std.proofs.Common.{◌∙◌, ◌++◌, ◌+◌, drop, None, ap, sym, arith, length-drop}
 use Rattle.std.proofs.lemmas.List.{at_drop_more}
-use Rattle.kms_stores.specs.Settled.{fences_for}
+use Rattle.kms_stores.specs.SwappedIn.{fences_for}
 use Rattle.kms_decide.proofs.OutFences.{one_made}
 use Rattle.kms_decide.proofs.committing.make_fences.Goals as goal
 

@@ -1,10 +1,10 @@
 use Rattle.std.proofs.Common.{◌∙◌, sym}
 use Rattle.kms_next.proofs.ClientSteps.{return_not, return_told, returning_not}
-use Rattle.kms_stores.specs.Insides.{run_of, stores_of}
+use Rattle.kms_stores.specs.Insides.{run_in, stores_of}
 use Rattle.kms_next.proofs.client_steps.may_return.Goals as goal
 
 pub returns-in-Returning : goal.returns-in-Returning
-returns-in-Returning c = c.is_cleaned.ensures ∙ return_told (run_of c.stores.inside) c.args.stores.now (stores_of c.stores.inside) c.args.client c.in-Returning.commit c.stores.invariant.stands c.stores.view_is (sym c.in-Returning.is ∙ c.doing.ensures)
+returns-in-Returning c = c.is_cleaned.ensures ∙ return_told (run_in c.stores.inside) c.args.stores.now (stores_of c.stores.inside) c.args.client c.in-Returning.commit c.stores.invariant.stands c.stores.view_is (sym c.in-Returning.is ∙ c.doing.ensures)
 
 pub returns-in_default : goal.returns-in_default
 returns-in_default c = return_not c.args.stores.now c.args.client c.doing.result (returning_not c.doing.result c.in_default.not-Returning) c.doing.ensures

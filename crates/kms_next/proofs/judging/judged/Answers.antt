@@ -4,37 +4,37 @@ use Rattle.kms_request.specs.Whole.{StandBetween}
 use Rattle.kms_track.specs.Tracking.{not_yet_of}
 use Rattle.kms_stores.specs.Decisions.{world}
 use Rattle.kms_stores.specs.Run.{machine}
-use Rattle.kms_stores.specs.Insides.{run_of, stores_of}
+use Rattle.kms_stores.specs.Insides.{run_in, stores_of}
 use Rattle.kms_next.proofs.JudgedRequests.{early_none, judged_late, none_told, takes_at}
 use Rattle.kms_stores.proofs.Lates.{few_at, queue_at, queue_there}
 use Rattle.kms_next.proofs.Presented.{presented, somewhere_now, tells_now}
 use Rattle.kms_next.proofs.judging.judged.Goals as goal
 
 pub changed-after-requires : goal.changed-after-requires
-changed-after-requires c = somewhere_now (run_of c.stores.inside) (stores_of c.stores.inside) c.stores.invariant.stands
+changed-after-requires c = somewhere_now (run_in c.stores.inside) (stores_of c.stores.inside) c.stores.invariant.stands
 
 pub index-queue-requires : goal.index-queue-requires
 index-queue-requires c =
-    let r = run_of c.stores.inside in
+    let r = run_in c.stores.inside in
     let within : c.args.client - 1 < length c.stores.inside.queues.items =
     (queue_there r (stores_of c.stores.inside) c.args.client c.args.request.now (takes_at r c.args.stores.now c.args.client c.args.request.now c.stores.view_is c.requires).at c.stores.invariant.stands).within in
     search rules
 
 pub late_reply-requires : goal.late_reply-requires
 late_reply-requires c =
-    let r = run_of c.stores.inside in
+    let r = run_in c.stores.inside in
     few_at r (stores_of c.stores.inside) c.args.client c.args.request.now c.index-queue.result.now (takes_at r c.args.stores.now c.args.client c.args.request.now c.stores.view_is c.requires).at c.stores.invariant.stands c.index-queue.ensures
 
 pub full_check-requires : goal.full_check-requires
 full_check-requires c =
-    let r = run_of c.stores.inside in
+    let r = run_in c.stores.inside in
     let st = stores_of c.stores.inside in
     let none = early_none r st c.args.request.now c.early.result c.stores.invariant.stands c.early.ensures.first (sym c.is_some.ensures ∙ c.if-is_some.false) in
     record { world = world r; between = c.changed-after.ensures.between (world r) (presented r st c.stores.invariant.stands) (tells_now r st c.stores.invariant.stands) none }
 
 pub returns : goal.returns
 returns c =
-    let r = run_of c.stores.inside in
+    let r = run_in c.stores.inside in
     let st = stores_of c.stores.inside in
     let none : early_in r.script.topology (world r) c.args.request.now ≡ None = early_none r st c.args.request.now c.early.result c.stores.invariant.stands c.early.ensures.first (sym c.is_some.ensures ∙ c.if-is_some.false) in
     let stand : StandBetween r.script.topology (world r) c.args.request.now c.changed-after.result = c.changed-after.ensures.between (world r) (presented r st c.stores.invariant.stands) (tells_now r st c.stores.invariant.stands) none in

@@ -3,7 +3,7 @@ use Rattle.kms_model.specs.Machine.Steps.{is_lockable}
 use Rattle.kms_model.proofs.TouchedLemmas.{few_objects}
 use Rattle.kms_stores.specs.Decisions.{world}
 use Rattle.kms_stores.specs.Run.{Run, machine}
-use Rattle.kms_stores.specs.Insides.{run_of, stores_of}
+use Rattle.kms_stores.specs.Insides.{run_in, stores_of}
 use Rattle.kms_next.proofs.Presented.{presented, somewhere_ever, tells_ever}
 use Rattle.kms_next.proofs.Taken.{lock_apart, lock_found, lockable_exists, lockable_of, no_lock, not_lockable, taker_number}
 use Rattle.kms_next.proofs.judging.may_lock.Goals as goal
@@ -17,11 +17,11 @@ returns-then-not-is_lockable c =
     (ap (λ (r : Run). is_lockable r.script.topology c.args.kind c.args.index) (sym c.stores.view_is) ∙ sym c.is_lockable.ensures ∙ c.if-not-is_lockable.true)
 
 pub reach-reached-requires : goal.reach-reached-requires
-reach-reached-requires c = somewhere_ever (run_of c.stores.inside) (stores_of c.stores.inside) c.stores.invariant.stands
+reach-reached-requires c = somewhere_ever (run_in c.stores.inside) (stores_of c.stores.inside) c.stores.invariant.stands
 
 pub is_free_or_older-requires-clause-client : goal.is_free_or_older-requires-clause-client
 is_free_or_older-requires-clause-client c =
-    taker_number (run_of c.stores.inside) c.args.stores.now (stores_of c.stores.inside) c.args.client c.in-Some.request.now c.stores.invariant.stands c.stores.view_is c.in-Some.ensures
+    taker_number (run_in c.stores.inside) c.args.stores.now (stores_of c.stores.inside) c.args.client c.in-Some.request.now c.stores.invariant.stands c.stores.view_is c.in-Some.ensures
 
 pub is_free_or_older-requires-clause-lockable : goal.is_free_or_older-requires-clause-lockable
 is_free_or_older-requires-clause-lockable c =
@@ -29,7 +29,7 @@ is_free_or_older-requires-clause-lockable c =
 
 pub returns-then-is_member : goal.returns-then-is_member
 returns-then-is_member c =
-    let r = run_of c.stores.inside in
+    let r = run_in c.stores.inside in
     let st = stores_of c.stores.inside in
     let on = sym c.is_lockable.ensures ∙ c.if-not-is_lockable.false in
     lock_found r c.args.stores.now c.args.client c.args.kind c.args.index c.in-Some.request.now true c.is_free_or_older.result c.of.result c.stores.view_is c.in-Some.ensures on
@@ -39,7 +39,7 @@ returns-then-is_member c =
 
 pub returns-else-is_member : goal.returns-else-is_member
 returns-else-is_member c =
-    let r = run_of c.stores.inside in
+    let r = run_in c.stores.inside in
     let st = stores_of c.stores.inside in
     let on = sym c.is_lockable.ensures ∙ c.if-not-is_lockable.false in
     lock_apart r c.args.stores.now c.args.client c.args.kind c.args.index c.in-Some.request.now c.is_member.result c.stores.view_is c.in-Some.ensures on

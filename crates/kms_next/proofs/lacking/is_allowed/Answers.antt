@@ -3,7 +3,7 @@ use Rattle.kms_model.specs.Machine.State.{doing_at, holder_at}
 use Rattle.kms_model.specs.Machine.Steps.{is_free_or_older, ticket_of}
 use Rattle.kms_stores.specs.Decisions.{world}
 use Rattle.kms_stores.specs.Run.{Run, machine}
-use Rattle.kms_stores.specs.Insides.{run_of}
+use Rattle.kms_stores.specs.Insides.{run_in}
 use Rattle.kms_next.proofs.NextLocks.{allowed_told, touched_told}
 use Rattle.kms_next.proofs.lacking.is_allowed.Goals as goal
 
@@ -12,7 +12,7 @@ returns-then-is_member c =
     let v = c.args.stores.now in
     allowed_told v.script (machine v) c.args.client c.args.needs.now.request.now c.args.kind c.args.index true c.is_free_or_older.result c.requires.needs.taken c.requires.needs.none
     (sym c.if-is_member.true ∙ c.is_member.ensures ∙ touched_told v.script.topology (world v) c.args.needs.now c.args.kind c.args.index c.requires.needs.needs c.requires.needs.device c.requires.lockable)
-    (c.is_free_or_older.ensures (machine (run_of c.stores.inside)) c.stores.invariant.stands.stores.clients
+    (c.is_free_or_older.ensures (machine (run_in c.stores.inside)) c.stores.invariant.stands.stores.clients
     ∙ ap (λ (w : Run). is_free_or_older (machine w) (ticket_of (doing_at (machine w) c.args.client)) (holder_at (machine w) c.of.result.0)) c.stores.view_is
     ∙ ap (λ o. is_free_or_older (machine v) (ticket_of (doing_at (machine v) c.args.client)) (holder_at (machine v) o)) c.of.ensures)
 

@@ -1,8 +1,8 @@
 use Rattle.std.proofs.Common.{refl}
-use Rattle.kms_stores.specs.Insides.{run_of, stores_of}
+use Rattle.kms_stores.specs.Insides.{run_in, stores_of}
 use Rattle.kms_next.proofs.NextLocks.{needs_at}
 use Rattle.kms_next.proofs.lacking.lock_step.Goals as goal
 
 pub next_lock-requires : goal.next_lock-requires
 next_lock-requires c =
-    needs_at (run_of c.stores.inside) c.args.stores.now (stores_of c.stores.inside) c.args.client _ c.checked-checked.result c.stores.invariant.stands c.stores.view_is c.requires.taken c.requires.none c.checked-checked.ensures.checked c.checked-checked.ensures.states c.only_crtcs.ensures c.affected.ensures refl
+    needs_at (run_in c.stores.inside) c.args.stores.now (stores_of c.stores.inside) c.args.client _ c.checked-checked.result c.stores.invariant.stands c.stores.view_is c.requires.taken c.requires.none c.checked-checked.ensures.checked c.checked-checked.ensures.states c.only_crtcs.ensures c.affected.ensures refl

@@ -1,12 +1,12 @@
 use Rattle.std.proofs.Common.{◌∙◌, sym}
 use Rattle.kms_next.proofs.Drains.{cleaned_told, drained_both, drained_not}
-use Rattle.kms_stores.specs.Insides.{run_of, stores_of}
+use Rattle.kms_stores.specs.Insides.{run_in, stores_of}
 use Rattle.kms_next.proofs.legality.drained.Goals as goal
 
 pub returns-then-are_at_end : goal.returns-then-are_at_end
 returns-then-are_at_end c =
     drained_both c.args.stores.now c.is_none.result (sym c.are_at_end.ensures ∙ c.if-are_at_end.true)
-    (cleaned_told (run_of c.stores.inside) c.args.stores.now (stores_of c.stores.inside) c.first_from.result c.is_none.result c.stores.invariant.stands c.stores.view_is c.first_from.ensures.machine c.is_none.ensures)
+    (cleaned_told (run_in c.stores.inside) c.args.stores.now (stores_of c.stores.inside) c.first_from.result c.is_none.result c.stores.invariant.stands c.stores.view_is c.first_from.ensures.machine c.is_none.ensures)
 
 pub returns-else-are_at_end : goal.returns-else-are_at_end
 returns-else-are_at_end c = c.if-are_at_end.false ∙ drained_not c.args.stores.now (sym c.are_at_end.ensures ∙ c.if-are_at_end.false)

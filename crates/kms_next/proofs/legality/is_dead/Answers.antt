@@ -2,22 +2,22 @@ use Rattle.std.proofs.Common.{◌∙◌, ap, refl, sym}
 use Rattle.std.specs.Prelude.{◌&&◌, ◌||◌, not}
 use Rattle.kms_model.specs.Machine.Histories.{is_drained, is_enabled}
 use Rattle.kms_stores.specs.Run.{machine}
-use Rattle.kms_stores.specs.Insides.{run_of, stores_of}
+use Rattle.kms_stores.specs.Insides.{run_in, stores_of}
 use Rattle.kms_next.proofs.Legals.{dead_told, ended_told}
 use Rattle.kms_next.proofs.legality.is_dead.Goals as goal
 
 pub returns-then-stores : goal.returns-then-stores
 returns-then-stores c =
     c.if-stores.true ∙ ap (λ x. x || (not (is_drained c.args.stores.now.script (machine c.args.stores.now)) && not (is_enabled c.args.stores.now.script (machine c.args.stores.now)))) (sym c.if-stores.true)
-    ∙ dead_told c.args.stores.now c.stores.inside.stalled (is_drained c.args.stores.now.script (machine c.args.stores.now)) (is_enabled c.args.stores.now.script (machine c.args.stores.now)) (ended_told (run_of c.stores.inside) c.args.stores.now (stores_of c.stores.inside) c.stores.invariant.stands c.stores.view_is) refl refl
+    ∙ dead_told c.args.stores.now c.stores.inside.stalled (is_drained c.args.stores.now.script (machine c.args.stores.now)) (is_enabled c.args.stores.now.script (machine c.args.stores.now)) (ended_told (run_in c.stores.inside) c.args.stores.now (stores_of c.stores.inside) c.stores.invariant.stands c.stores.view_is) refl refl
 
 pub returns-then-not-drained : goal.returns-then-not-drained
 returns-then-not-drained c =
     ap (λ x. not x && not c.enabled.result) (sym c.if-not-drained.true) ∙ ap (λ x. x || (not c.drained.result && not c.enabled.result)) (sym c.if-stores.false)
-    ∙ dead_told c.args.stores.now c.stores.inside.stalled c.drained.result c.enabled.result (ended_told (run_of c.stores.inside) c.args.stores.now (stores_of c.stores.inside) c.stores.invariant.stands c.stores.view_is) c.drained.ensures c.enabled.ensures
+    ∙ dead_told c.args.stores.now c.stores.inside.stalled c.drained.result c.enabled.result (ended_told (run_in c.stores.inside) c.args.stores.now (stores_of c.stores.inside) c.stores.invariant.stands c.stores.view_is) c.drained.ensures c.enabled.ensures
 
 pub returns-else-not-drained : goal.returns-else-not-drained
 returns-else-not-drained c =
     ap not c.if-not-drained.false ∙ ap (λ x. not x && not (is_enabled c.args.stores.now.script (machine c.args.stores.now))) (sym c.if-not-drained.false)
     ∙ ap (λ x. x || (not c.drained.result && not (is_enabled c.args.stores.now.script (machine c.args.stores.now)))) (sym c.if-stores.false)
-    ∙ dead_told c.args.stores.now c.stores.inside.stalled c.drained.result (is_enabled c.args.stores.now.script (machine c.args.stores.now)) (ended_told (run_of c.stores.inside) c.args.stores.now (stores_of c.stores.inside) c.stores.invariant.stands c.stores.view_is) c.drained.ensures refl
+    ∙ dead_told c.args.stores.now c.stores.inside.stalled c.drained.result (is_enabled c.args.stores.now.script (machine c.args.stores.now)) (ended_told (run_in c.stores.inside) c.args.stores.now (stores_of c.stores.inside) c.stores.invariant.stands c.stores.view_is) c.drained.ensures refl

@@ -3,22 +3,22 @@ use Rattle.std.specs.Prelude.{◌&&◌, not}
 use Rattle.kms_model.specs.Machine.Histories.{is_dead}
 use Rattle.kms_model.specs.Machine.Steps.{may}
 use Rattle.kms_stores.specs.Run.{machine}
-use Rattle.kms_stores.specs.Insides.{run_of, stores_of}
+use Rattle.kms_stores.specs.Insides.{run_in, stores_of}
 use Rattle.kms_next.proofs.Legals.{ended_told, legal_told, stall_told}
 use Rattle.kms_next.proofs.legality.legal.Goals as goal
 
 pub returns-then-not-stores : goal.returns-then-not-stores
-returns-then-not-stores c = ap (λ x. not x && c.is_dead.result) (sym c.if-not-stores.true) ∙ stall_told c.args.stores.now c.args.step.now c.stores.inside.stalled c.is_dead.result c.in-Stall.is (ended_told (run_of c.stores.inside) c.args.stores.now (stores_of c.stores.inside) c.stores.invariant.stands c.stores.view_is) c.is_dead.ensures
+returns-then-not-stores c = ap (λ x. not x && c.is_dead.result) (sym c.if-not-stores.true) ∙ stall_told c.args.stores.now c.args.step.now c.stores.inside.stalled c.is_dead.result c.in-Stall.is (ended_told (run_in c.stores.inside) c.args.stores.now (stores_of c.stores.inside) c.stores.invariant.stands c.stores.view_is) c.is_dead.ensures
 
 pub returns-else-not-stores : goal.returns-else-not-stores
 returns-else-not-stores c =
     ap not c.if-not-stores.false ∙ ap (λ x. not x && is_dead c.args.stores.now.script (machine c.args.stores.now)) (sym c.if-not-stores.false)
-    ∙ stall_told c.args.stores.now c.args.step.now c.stores.inside.stalled (is_dead c.args.stores.now.script (machine c.args.stores.now)) c.in-Stall.is (ended_told (run_of c.stores.inside) c.args.stores.now (stores_of c.stores.inside) c.stores.invariant.stands c.stores.view_is) refl
+    ∙ stall_told c.args.stores.now c.args.step.now c.stores.inside.stalled (is_dead c.args.stores.now.script (machine c.args.stores.now)) c.in-Stall.is (ended_told (run_in c.stores.inside) c.args.stores.now (stores_of c.stores.inside) c.stores.invariant.stands c.stores.view_is) refl
 
 pub returns-then-not-stores-2 : goal.returns-then-not-stores-2
-returns-then-not-stores-2 c = ap (λ x. not x && c.may.result) (sym c.if-not-stores-2.true) ∙ legal_told c.args.stores.now c.args.step.now c.stores.inside.stalled c.may.result c.in_default.not-Stall (ended_told (run_of c.stores.inside) c.args.stores.now (stores_of c.stores.inside) c.stores.invariant.stands c.stores.view_is) c.may.ensures
+returns-then-not-stores-2 c = ap (λ x. not x && c.may.result) (sym c.if-not-stores-2.true) ∙ legal_told c.args.stores.now c.args.step.now c.stores.inside.stalled c.may.result c.in_default.not-Stall (ended_told (run_in c.stores.inside) c.args.stores.now (stores_of c.stores.inside) c.stores.invariant.stands c.stores.view_is) c.may.ensures
 
 pub returns-else-not-stores-2 : goal.returns-else-not-stores-2
 returns-else-not-stores-2 c =
     ap not c.if-not-stores-2.false ∙ ap (λ x. not x && may c.args.stores.now.script (machine c.args.stores.now) c.args.step.now) (sym c.if-not-stores-2.false)
-    ∙ legal_told c.args.stores.now c.args.step.now c.stores.inside.stalled (may c.args.stores.now.script (machine c.args.stores.now) c.args.step.now) c.in_default.not-Stall (ended_told (run_of c.stores.inside) c.args.stores.now (stores_of c.stores.inside) c.stores.invariant.stands c.stores.view_is) refl
+    ∙ legal_told c.args.stores.now c.args.step.now c.stores.inside.stalled (may c.args.stores.now.script (machine c.args.stores.now) c.args.step.now) c.in_default.not-Stall (ended_told (run_in c.stores.inside) c.args.stores.now (stores_of c.stores.inside) c.stores.invariant.stands c.stores.view_is) refl

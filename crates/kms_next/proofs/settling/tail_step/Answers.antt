@@ -1,14 +1,14 @@
 use Rattle.std.proofs.Common.{refl, sym, ◌∙◌}
 use Rattle.std.specs.Prelude.{Some}
-use Rattle.kms_stores.specs.Insides.{run_of, stores_of}
+use Rattle.kms_stores.specs.Insides.{run_in, stores_of}
 use Rattle.kms_next.proofs.TailTurns.{settle_ended, settle_told}
 use Rattle.kms_next.proofs.settling.tail_step.Goals as goal
 
 pub returns-then-stores : goal.returns-then-stores
-returns-then-stores c = settle_ended (run_of c.stores.inside) c.args.stores.now (stores_of c.stores.inside) c.stores.invariant.stands c.stores.view_is c.if-stores.true
+returns-then-stores c = settle_ended (run_in c.stores.inside) c.args.stores.now (stores_of c.stores.inside) c.stores.invariant.stands c.stores.view_is c.if-stores.true
 
 pub returns-in-Some : goal.returns-in-Some
-returns-in-Some c = settle_told (run_of c.stores.inside) c.args.stores.now (stores_of c.stores.inside) (Some c.in-Some.step) _ c.stores.invariant.stands c.stores.view_is c.if-stores.false (sym c.in-Some.is ∙ c.first_of_tails.ensures) refl
+returns-in-Some c = settle_told (run_in c.stores.inside) c.args.stores.now (stores_of c.stores.inside) (Some c.in-Some.step) _ c.stores.invariant.stands c.stores.view_is c.if-stores.false (sym c.in-Some.is ∙ c.first_of_tails.ensures) refl
 
 pub returns-in-None : goal.returns-in-None
-returns-in-None c = settle_told (run_of c.stores.inside) c.args.stores.now (stores_of c.stores.inside) _ c.first_blanking.result c.stores.invariant.stands c.stores.view_is c.if-stores.false (sym c.in-None.is ∙ c.first_of_tails.ensures) c.first_blanking.ensures
+returns-in-None c = settle_told (run_in c.stores.inside) c.args.stores.now (stores_of c.stores.inside) _ c.first_blanking.result c.stores.invariant.stands c.stores.view_is c.if-stores.false (sym c.in-None.is ∙ c.first_of_tails.ensures) c.first_blanking.ensures

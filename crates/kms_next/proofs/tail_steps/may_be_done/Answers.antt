@@ -1,11 +1,11 @@
 use Rattle.std.proofs.Common.{◌∙◌, ap, sym}
 use Rattle.std.specs.Option.{option_copied}
-use Rattle.kms_stores.specs.Insides.{run_of, stores_of}
+use Rattle.kms_stores.specs.Insides.{run_in, stores_of}
 use Rattle.kms_next.proofs.TailSteps.{done_absent, done_told}
 use Rattle.kms_next.proofs.tail_steps.may_be_done.Goals as goal
 
 pub returns-in-Some : goal.returns-in-Some
-returns-in-Some c = c.ends_next.ensures ∙ done_told (run_of c.stores.inside) c.args.stores.now (stores_of c.stores.inside) c.args.commit c.stores.invariant.stands c.stores.view_is c.in-Some.tail.now (ap option_copied (sym c.in-Some.is) ∙ c.get.ensures.value)
+returns-in-Some c = c.ends_next.ensures ∙ done_told (run_in c.stores.inside) c.args.stores.now (stores_of c.stores.inside) c.args.commit c.stores.invariant.stands c.stores.view_is c.in-Some.tail.now (ap option_copied (sym c.in-Some.is) ∙ c.get.ensures.value)
 
 pub returns-in-None : goal.returns-in-None
-returns-in-None c = done_absent (run_of c.stores.inside) c.args.stores.now (stores_of c.stores.inside) c.args.commit c.stores.invariant.stands c.stores.view_is (ap option_copied (sym c.in-None.is) ∙ c.get.ensures.value)
+returns-in-None c = done_absent (run_in c.stores.inside) c.args.stores.now (stores_of c.stores.inside) c.args.commit c.stores.invariant.stands c.stores.view_is (ap option_copied (sym c.in-None.is) ∙ c.get.ensures.value)

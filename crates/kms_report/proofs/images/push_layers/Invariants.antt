@@ -1,11 +1,11 @@
 use Rattle.std.proofs.Common.{take}
 use Rattle.kms_compose.specs.Images.{AreImagesIn}
-use Rattle.kms_report.specs.Images.{AreSeen, Keeps, things_of}
+use Rattle.kms_report.specs.Images.{AreSeen, KeepsImages, things_of}
 use Rattle.kms_report.proofs.images.push_layers.Given as goal
 
 abbrev pub invariant-loop-layer : goal.invariant-loop-layer
 invariant-loop-layer l = record {
   images : AreImagesIn (things_of l.core) l.images;
   seen : AreSeen (things_of l.core) l.images (take l.layer-index l.layers);
-  kept : Keeps l.initial.images l.images;
+  kept : KeepsImages l.initial.images l.images;
 }

@@ -2,11 +2,11 @@ use Rattle.std.proofs.Common.{◌≡◌, ◌++◌, take}
 use Rattle.kms_stores.specs.Run.{machine}
 use Rattle.kms_report.specs.Images.{things_of}
 use Rattle.kms_report.specs.Telling.{latches_text}
-use Rattle.kms_screens.specs.Screens.{StandsOf}
+use Rattle.kms_screens.specs.Screens.{AreKeptFramesOf}
 use Rattle.kms_report.proofs.latches.push_latches.Given as goal
 
 abbrev pub invariant-loop-place : goal.invariant-loop-place
 invariant-loop-place g l = record {
   told : l.text.items ≡ l.initial.text.items ++ latches_text (machine l.core) l.pixmap (take l.place l.latches) l.crtc;
-  stands : StandsOf (things_of l.core) l.screen;
+  stands : AreKeptFramesOf (things_of l.core) l.screen;
 }

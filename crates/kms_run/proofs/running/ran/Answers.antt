@@ -2,7 +2,7 @@ use Rattle.std.proofs.Common.{◌≤◌, ◌∙◌, ap, arith, map, subst, sym}
 use Rattle.std.specs.Prelude.{All}
 use Rattle.kms_model.specs.Script.WellFormed.{IsWellFormed}
 use Rattle.kms_players.specs.AnyPlayers.{pass_of}
-use Rattle.kms_players.specs.Players.{name_of}
+use Rattle.kms_players.specs.Players.{name_of_pass}
 use Rattle.kms_run.specs.Running.{IsSeat, seats_for}
 use Rattle.kms_run.proofs.Continued.{run_of}
 use Rattle.kms_run.proofs.Seats.{all_back, new_seats, player_names}
@@ -22,7 +22,7 @@ players-requires-clause-seats g c =
 pub continued-requires-clause-all : goal.continued-requires-clause-all
 continued-requires-clause-all g c =
     all_back c.in_ok-device.device c.seats_for-seats.result c.in_ok-device.passes c.in_ok-passes.passes _ _ c.in_ok-device.ensures.seats
-    c.in_ok-device.ensures.passes (ap (map (λ p. name_of (pass_of p))) c.in_ok-players.ensures ∙ player_names _ c.in_ok-device.device c.in_ok-device.passes)
+    c.in_ok-device.ensures.passes (ap (map (λ p. name_of_pass (pass_of p))) c.in_ok-players.ensures ∙ player_names _ c.in_ok-device.device c.in_ok-device.passes)
     c.in_ok-players-2.ensures.players c.in_ok-passes.ensures
 
 pub returns : goal.returns

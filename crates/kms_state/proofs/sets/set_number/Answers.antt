@@ -9,7 +9,7 @@ use Rattle.kms_model.specs.declared.states.PlaneState.{PlaneState}
 use Rattle.kms_model.specs.Request.Apply.{is_kept}
 use Rattle.kms_model.proofs.ValueLemmas.{Puts}
 use Rattle.kms_model.proofs.SetLemmas.{may_set-takes}
-use Rattle.kms_state.specs.Changes.{plane_with}
+use Rattle.kms_state.specs.Changes.{plane_after_set}
 use Rattle.kms_state.proofs.SetsProperty.{is_at, number_after, number_plane, sets_plane}
 use Rattle.kms_state.proofs.sets.set_number.Goals as goal
 
@@ -17,7 +17,7 @@ pub returns-in-Some : goal.returns-in-Some
 returns-in-Some c =
     let parts = and_parts (is_kept c.args.prop) (not (c.args.prop == FB_ID) && not (c.args.prop == CRTC_ID)) (may_set-takes Plane c.args.prop (to.Num c.args.number) c.requires.value) in
     let others = and_parts (not (c.args.prop == FB_ID)) (not (c.args.prop == CRTC_ID)) parts.1 in
-    let with_number : PlaneState → PlaneState = plane_with c.args.prop c.args.number in
+    let with_number : PlaneState → PlaneState = plane_after_set c.args.prop c.args.number in
     let both : Both PlaneState = c.in-Some.both in
     let fits : SFits w64 c.args.number = c.ranges.number in
     let changed = simp to_z-of_z at c.set_plane_number.ensures in

@@ -5,9 +5,9 @@ use Rattle.kms_model.specs.Device.Objects.{object_id}
 use Rattle.kms_model.specs.Machine.Framebuffers.{picture_names}
 use Rattle.kms_model.specs.Machine.Registers.{decoded_picture}
 use Rattle.kms_model.specs.Machine.State.{DeviceState}
-use Rattle.kms_regs.specs.File.{StandsFor}
+use Rattle.kms_regs.specs.File.{StandsForDevice}
 use Rattle.kms_stores.proofs.freeing.live_names.Given as goal
 
 -- those so far do not show it
 abbrev pub invariant-loop-crtc : goal.invariant-loop-crtc
-invariant-loop-crtc l = (t : Topology) (d : DeviceState) → t.crtcs ≡ l.crtcs → StandsFor t d l.registers → (i : ℕ) → i < l.crtc → picture_names l.id (decoded_picture t d.live (object_id Crtc i)) ≡ false
+invariant-loop-crtc l = (t : Topology) (d : DeviceState) → t.crtcs ≡ l.crtcs → StandsForDevice t d l.registers → (i : ℕ) → i < l.crtc → picture_names l.id (decoded_picture t d.live (object_id Crtc i)) ≡ false

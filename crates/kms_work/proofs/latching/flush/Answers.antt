@@ -4,28 +4,28 @@ use Rattle.kms_model.specs.declared.replies.Step.TheVariants.{Flush}
 use Rattle.kms_model.specs.Device.Objects.{object_id}
 use Rattle.kms_work.proofs.Flushing.{few_flushed, flush_latches, flushes_next, flushes_off, flushes_on, off_has_picture, tells_none}
 use Rattle.kms_stores.proofs.FreedCalls.{live_all, live_few, live_places}
-use Rattle.kms_stores.specs.Insides.{run_of, stores_of}
+use Rattle.kms_stores.specs.Insides.{run_in, stores_of}
 use Rattle.kms_stores.proofs.Spared.{own_room, own_spared, own_step, tail_spared}
 use Rattle.kms_work.proofs.latching.flush.Goals as goal
 
 pub flushed-requires : goal.flushed-requires
-flushed-requires c = (flushes_next (run_of c.stores.inside) c.args.stores.now (stores_of c.stores.inside) c.args.commit c.args.crtc c.stores.invariant.stands c.stores.view_is c.requires).low
+flushed-requires c = (flushes_next (run_in c.stores.inside) c.args.stores.now (stores_of c.stores.inside) c.args.commit c.args.crtc c.stores.invariant.stands c.stores.view_is c.requires).low
 
 pub is_on_in_shadow-requires : goal.is_on_in_shadow-requires
-is_on_in_shadow-requires c = (flushes_next (run_of c.stores.inside) c.args.stores.now (stores_of c.stores.inside) c.args.commit c.args.crtc c.stores.invariant.stands c.stores.view_is c.requires).low
+is_on_in_shadow-requires c = (flushes_next (run_in c.stores.inside) c.args.stores.now (stores_of c.stores.inside) c.args.commit c.args.crtc c.stores.invariant.stands c.stores.view_is c.requires).low
 
 pub flush-none-requires : goal.flush-none-requires
-flush-none-requires c = (flushes_next (run_of c.stores.inside) c.args.stores.now (stores_of c.stores.inside) c.args.commit c.args.crtc c.stores.invariant.stands c.stores.view_is c.requires).low
+flush-none-requires c = (flushes_next (run_in c.stores.inside) c.args.stores.now (stores_of c.stores.inside) c.args.commit c.args.crtc c.stores.invariant.stands c.stores.view_is c.requires).low
 
 pub flush-requires : goal.flush-requires
-flush-requires c = (flushes_next (run_of c.stores.inside) c.args.stores.now (stores_of c.stores.inside) c.args.commit c.args.crtc c.stores.invariant.stands c.stores.view_is c.requires).low
+flush-requires c = (flushes_next (run_in c.stores.inside) c.args.stores.now (stores_of c.stores.inside) c.args.commit c.args.crtc c.stores.invariant.stands c.stores.view_is c.requires).low
 
 pub bounds-stores-inside-crtc : goal.bounds-stores-inside-crtc
-bounds-stores-inside-crtc c = (flushes_next (run_of c.stores.inside) c.args.stores.now (stores_of c.stores.inside) c.args.commit c.args.crtc c.stores.invariant.stands c.stores.view_is c.requires).low
+bounds-stores-inside-crtc c = (flushes_next (run_in c.stores.inside) c.args.stores.now (stores_of c.stores.inside) c.args.commit c.args.crtc c.stores.invariant.stands c.stores.view_is c.requires).low
 
 pub push-requires : goal.push-requires
 push-requires c =
-    let r = run_of c.stores.inside in
+    let r = run_in c.stores.inside in
     let st = stores_of c.stores.inside in
     let step = Flush c.args.commit Crtc c.args.crtc in
     let own = own_step r st step c.args.commit c.stores.invariant.stands refl refl (flushes_next r c.args.stores.now st c.args.commit c.args.crtc c.stores.invariant.stands c.stores.view_is c.requires).is_legal in
@@ -33,7 +33,7 @@ push-requires c =
 
 pub invariant_of-stores : goal.invariant_of-stores
 invariant_of-stores c =
-    let r = run_of c.stores.inside in
+    let r = run_in c.stores.inside in
     let st = stores_of c.stores.inside in
     let step = Flush c.args.commit Crtc c.args.crtc in
     let own = own_step r st step c.args.commit c.stores.invariant.stands refl refl (flushes_next r c.args.stores.now st c.args.commit c.args.crtc c.stores.invariant.stands c.stores.view_is c.requires).is_legal in
@@ -45,47 +45,47 @@ invariant_of-stores c =
 
 pub unreachable-requires : goal.unreachable-requires
 unreachable-requires c =
-    off_has_picture (run_of c.stores.inside) (stores_of c.stores.inside) c.args.crtc c.stores.invariant.stands (λ t d stand. c.if-is_on_in_shadow.ensures t d stand) c.in_default.ensures.picture
+    off_has_picture (run_in c.stores.inside) (stores_of c.stores.inside) c.args.crtc c.stores.invariant.stands (λ t d stand. c.if-is_on_in_shadow.ensures t d stand) c.in_default.ensures.picture
 
 pub latch_of-shown-requires : goal.latch_of-shown-requires
-latch_of-shown-requires c = (flushes_next (run_of c.stores.inside) c.args.stores.now (stores_of c.stores.inside) c.args.commit c.args.crtc c.stores.invariant.stands c.stores.view_is c.requires).low
+latch_of-shown-requires c = (flushes_next (run_in c.stores.inside) c.args.stores.now (stores_of c.stores.inside) c.args.commit c.args.crtc c.stores.invariant.stands c.stores.view_is c.requires).low
 
 pub show-requires-clause-crtc : goal.show-requires-clause-crtc
-show-requires-clause-crtc c = rw c.latch_of-shown.ensures.shown (flushes_next (run_of c.stores.inside) c.args.stores.now (stores_of c.stores.inside) c.args.commit c.args.crtc c.stores.invariant.stands c.stores.view_is c.requires).low
+show-requires-clause-crtc c = rw c.latch_of-shown.ensures.shown (flushes_next (run_in c.stores.inside) c.args.stores.now (stores_of c.stores.inside) c.args.commit c.args.crtc c.stores.invariant.stands c.stores.view_is c.requires).low
 
 pub show-requires-clause-there : goal.show-requires-clause-there
 show-requires-clause-there c =
     rw c.latch_of-shown.ensures.shown
-    (flush_latches (run_of c.stores.inside) c.args.stores.now (stores_of c.stores.inside) c.args.commit c.args.crtc c.latch_of-shown.result.count c.in-Some.picture c.flushed.new.self c.stores.invariant.stands c.stores.view_is c.requires c.flushed.ensures.stands)
+    (flush_latches (run_in c.stores.inside) c.args.stores.now (stores_of c.stores.inside) c.args.commit c.args.crtc c.latch_of-shown.result.count c.in-Some.picture c.flushed.new.self c.stores.invariant.stands c.stores.view_is c.requires c.flushed.ensures.stands)
 
 pub push-requires-2 : goal.push-requires-2
 push-requires-2 c =
-    let r = run_of c.stores.inside in
+    let r = run_in c.stores.inside in
     let st = stores_of c.stores.inside in
     let step = Flush c.args.commit Crtc c.args.crtc in
     let own = own_step r st step c.args.commit c.stores.invariant.stands refl refl (flushes_next r c.args.stores.now st c.args.commit c.args.crtc c.stores.invariant.stands c.stores.view_is c.requires).is_legal in
     (own_room r st step c.args.commit _ _ c.stores.invariant.stands own c.stores.invariant.spare).latch
 
 pub live_layers-before-requires : goal.live_layers-before-requires
-live_layers-before-requires c = (flushes_next (run_of c.stores.inside) c.args.stores.now (stores_of c.stores.inside) c.args.commit c.args.crtc c.stores.invariant.stands c.stores.view_is c.requires).low
+live_layers-before-requires c = (flushes_next (run_in c.stores.inside) c.args.stores.now (stores_of c.stores.inside) c.args.commit c.args.crtc c.stores.invariant.stands c.stores.view_is c.requires).low
 
 pub shown_ids-ids_before-requires : goal.shown_ids-ids_before-requires
-shown_ids-ids_before-requires c = live_few (run_of c.stores.inside) (stores_of c.stores.inside) (object_id Crtc c.args.crtc) c.as_slice.result.now c.stores.invariant.stands (λ t d stand. c.as_slice.ensures ∙ c.live_layers-before.ensures t d stand)
+shown_ids-ids_before-requires c = live_few (run_in c.stores.inside) (stores_of c.stores.inside) (object_id Crtc c.args.crtc) c.as_slice.result.now c.stores.invariant.stands (λ t d stand. c.as_slice.ensures ∙ c.live_layers-before.ensures t d stand)
 
 pub show-requires-clause-places : goal.show-requires-clause-places
 show-requires-clause-places c =
-    live_places (run_of c.stores.inside) (stores_of c.stores.inside) (object_id Crtc c.args.crtc) c.as_slice-2.result.now c.stores.invariant.stands
-    (flushes_next (run_of c.stores.inside) c.args.stores.now (stores_of c.stores.inside) c.args.commit c.args.crtc c.stores.invariant.stands c.stores.view_is c.requires).flush.is_crtc
-    (live_all (run_of c.stores.inside) (stores_of c.stores.inside) (object_id Crtc c.args.crtc) c.as_slice.result.now c.shown_ids-ids_before.result.items c.as_slice-2.result.now c.stores.invariant.stands c.shown_ids-ids_before.ensures (λ t d stand. c.as_slice.ensures ∙ c.live_layers-before.ensures t d stand) c.as_slice-2.ensures.value)
+    live_places (run_in c.stores.inside) (stores_of c.stores.inside) (object_id Crtc c.args.crtc) c.as_slice-2.result.now c.stores.invariant.stands
+    (flushes_next (run_in c.stores.inside) c.args.stores.now (stores_of c.stores.inside) c.args.commit c.args.crtc c.stores.invariant.stands c.stores.view_is c.requires).flush.is_crtc
+    (live_all (run_in c.stores.inside) (stores_of c.stores.inside) (object_id Crtc c.args.crtc) c.as_slice.result.now c.shown_ids-ids_before.result.items c.as_slice-2.result.now c.stores.invariant.stands c.shown_ids-ids_before.ensures (λ t d stand. c.as_slice.ensures ∙ c.live_layers-before.ensures t d stand) c.as_slice-2.ensures.value)
 
 pub show-requires-clause-few : goal.show-requires-clause-few
 show-requires-clause-few c =
     rw c.latch_of-shown.ensures.shown
-    (λ left latches. few_flushed (run_of c.stores.inside) c.args.stores.now (stores_of c.stores.inside) c.args.commit c.args.crtc c.flushed.new.self left c.stores.invariant.stands c.stores.view_is c.requires c.flushed.ensures.stands latches)
+    (λ left latches. few_flushed (run_in c.stores.inside) c.args.stores.now (stores_of c.stores.inside) c.args.commit c.args.crtc c.flushed.new.self left c.stores.invariant.stands c.stores.view_is c.requires c.flushed.ensures.stands latches)
 
 pub invariant_of-stores-2 : goal.invariant_of-stores-2
 invariant_of-stores-2 c =
-    let r = run_of c.stores.inside in
+    let r = run_in c.stores.inside in
     let st = stores_of c.stores.inside in
     let step = Flush c.args.commit Crtc c.args.crtc in
     let shown = c.latch_of-shown.ensures.shown in

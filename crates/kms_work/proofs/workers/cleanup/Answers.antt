@@ -1,34 +1,34 @@
 use Rattle.std.proofs.Common.{◌∙◌, ap, refl, sym}
 use Rattle.std.specs.Option.{option_copied}
 use Rattle.kms_model.specs.declared.replies.Step.TheVariants.{Cleanup}
-use Rattle.kms_stores.specs.Insides.{run_of, stores_of}
+use Rattle.kms_stores.specs.Insides.{run_in, stores_of}
 use Rattle.kms_work.proofs.Marking.{cleans_up, cleanup_places, few_cleaned, owns_cleanup, tail_keeps_all}
 use Rattle.kms_stores.proofs.Spared.{own_room, own_spared}
 use Rattle.kms_work.proofs.workers.cleanup.Goals as goal
 
 pub free-requires-clause-places : goal.free-requires-clause-places
 free-requires-clause-places c =
-    cleanup_places (run_of c.stores.inside) c.args.stores.now (stores_of c.stores.inside) c.args.commit c.as_slice.result.now c.stores.invariant.stands c.stores.view_is c.requires
-    (tail_keeps_all (run_of c.stores.inside) c.args.stores.now (stores_of c.stores.inside) c.args.commit c.in-Some.tail.now c.kept_ids-kept_ids.result.items c.as_slice.result.now c.stores.invariant.stands c.stores.view_is c.requires
+    cleanup_places (run_in c.stores.inside) c.args.stores.now (stores_of c.stores.inside) c.args.commit c.as_slice.result.now c.stores.invariant.stands c.stores.view_is c.requires
+    (tail_keeps_all (run_in c.stores.inside) c.args.stores.now (stores_of c.stores.inside) c.args.commit c.in-Some.tail.now c.kept_ids-kept_ids.result.items c.as_slice.result.now c.stores.invariant.stands c.stores.view_is c.requires
     (ap option_copied (sym c.in-Some.is) ∙ c.get.ensures.value) c.kept_ids-kept_ids.ensures c.as_slice.ensures.value)
 
 pub free-requires-clause-few : goal.free-requires-clause-few
-free-requires-clause-few c = few_cleaned (run_of c.stores.inside) c.args.stores.now (stores_of c.stores.inside) c.args.commit c.remove.new.self c.stores.invariant.stands c.stores.view_is c.requires c.remove.ensures.stands
+free-requires-clause-few c = few_cleaned (run_in c.stores.inside) c.args.stores.now (stores_of c.stores.inside) c.args.commit c.remove.new.self c.stores.invariant.stands c.stores.view_is c.requires c.remove.ensures.stands
 
 pub push-requires : goal.push-requires
 push-requires c =
-    let r = run_of c.stores.inside in
+    let r = run_in c.stores.inside in
     let st = stores_of c.stores.inside in
     let k = c.args.commit in
-    let owns = owns_cleanup r c.args.stores.now st k c.stores.invariant.stands c.stores.view_is c.requires c.is_over.result c.is_over.ensures c.if-not-is_over.false in
+    let owns = owns_cleanup r c.args.stores.now st k c.stores.invariant.stands c.stores.view_is c.requires c.is_commit_over.result c.is_commit_over.ensures c.if-not-is_commit_over.false in
     (own_room r st (Cleanup k) k _ _ c.stores.invariant.stands owns.own c.stores.invariant.spare).step
 
 pub invariant_of-stores : goal.invariant_of-stores
 invariant_of-stores c =
-    let r = run_of c.stores.inside in
+    let r = run_in c.stores.inside in
     let st = stores_of c.stores.inside in
     let k = c.args.commit in
-    let owns = owns_cleanup r c.args.stores.now st k c.stores.invariant.stands c.stores.view_is c.requires c.is_over.result c.is_over.ensures c.if-not-is_over.false in
+    let owns = owns_cleanup r c.args.stores.now st k c.stores.invariant.stands c.stores.view_is c.requires c.is_commit_over.result c.is_commit_over.ensures c.if-not-is_commit_over.false in
     let stands =
     cleans_up r c.args.stores.now st k c.cleanup.new.self c.remove.new.self r.steps c.push.new.self.items c.stores.invariant.stands c.stores.view_is c.requires owns.over
     refl c.push.ensures.items (record { count = c.cleanup.ensures.count; lasts = c.cleanup.ensures.lasts; pending = c.cleanup.ensures.pending }) c.remove.ensures.stands

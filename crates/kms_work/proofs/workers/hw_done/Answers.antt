@@ -2,14 +2,14 @@ use Rattle.std.proofs.Common.{refl, sym, subst}
 use Rattle.kms_model.specs.declared.replies.Step.TheVariants.{HwDone}
 use Rattle.kms_stores.specs.Run.{Run}
 use Rattle.kms_stores.specs.Work.{MayBeDone}
-use Rattle.kms_stores.specs.Insides.{run_of, stores_of}
+use Rattle.kms_stores.specs.Insides.{run_in, stores_of}
 use Rattle.kms_work.proofs.Marking.{ends_writing}
 use Rattle.kms_stores.proofs.Spared.{own_room, own_spared, own_step}
 use Rattle.kms_work.proofs.workers.hw_done.Goals as goal
 
 pub push-requires : goal.push-requires
 push-requires c =
-    let r = run_of c.stores.inside in
+    let r = run_in c.stores.inside in
     let st = stores_of c.stores.inside in
     let k = c.args.commit in
     let own = own_step r st (HwDone k) k c.stores.invariant.stands refl refl (subst (λ (x : Run). MayBeDone x k) (sym c.stores.view_is) c.requires) in
@@ -17,7 +17,7 @@ push-requires c =
 
 pub invariant_of-stores : goal.invariant_of-stores
 invariant_of-stores c =
-    let r = run_of c.stores.inside in
+    let r = run_in c.stores.inside in
     let st = stores_of c.stores.inside in
     let k = c.args.commit in
     let own = own_step r st (HwDone k) k c.stores.invariant.stands refl refl (subst (λ (x : Run). MayBeDone x k) (sym c.stores.view_is) c.requires) in

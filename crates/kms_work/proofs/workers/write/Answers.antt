@@ -1,23 +1,23 @@
 use Rattle.std.proofs.Common.{◌∙◌, ◌++◌, ◌∷◌, [], ap, refl}
 use Rattle.kms_model.specs.declared.replies.Step.{Step}
 use Rattle.kms_stores.specs.Work.{write_step}
-use Rattle.kms_stores.specs.Insides.{run_of, stores_of}
+use Rattle.kms_stores.specs.Insides.{run_in, stores_of}
 use Rattle.kms_work.proofs.Writing.{has_registers, holds_old, tail_there, writes_next, writes_object}
 use Rattle.kms_stores.proofs.Spared.{own_room, own_spared, own_step}
 use Rattle.kms_work.proofs.workers.write.Goals as goal
 
 pub unreachable-requires : goal.unreachable-requires
-unreachable-requires c = tail_there (run_of c.stores.inside) c.args.stores.now (stores_of c.stores.inside) c.args.commit c.args.id c.stores.invariant.stands c.stores.view_is c.requires c.in_default.ensures.kept
+unreachable-requires c = tail_there (run_in c.stores.inside) c.args.stores.now (stores_of c.stores.inside) c.args.commit c.args.id c.stores.invariant.stands c.stores.view_is c.requires c.in_default.ensures.kept
 
 pub write_registers-requires : goal.write_registers-requires
-write_registers-requires c = holds_old (run_of c.stores.inside) c.args.stores.now (stores_of c.stores.inside) c.args.commit c.args.id c.in-Some.tail.now c.stores.invariant.stands c.stores.view_is c.requires c.in-Some.ensures.kept
+write_registers-requires c = holds_old (run_in c.stores.inside) c.args.stores.now (stores_of c.stores.inside) c.args.commit c.args.id c.in-Some.tail.now c.stores.invariant.stands c.stores.view_is c.requires c.in-Some.ensures.kept
 
 pub wrote-requires : goal.wrote-requires
-wrote-requires c = has_registers (run_of c.stores.inside) c.args.stores.now (stores_of c.stores.inside) c.args.commit c.args.id c.stores.invariant.stands c.stores.view_is c.requires
+wrote-requires c = has_registers (run_in c.stores.inside) c.args.stores.now (stores_of c.stores.inside) c.args.commit c.args.id c.stores.invariant.stands c.stores.view_is c.requires
 
 pub push-requires : goal.push-requires
 push-requires c =
-    let r = run_of c.stores.inside in
+    let r = run_in c.stores.inside in
     let st = stores_of c.stores.inside in
     let k = c.args.commit in
     let own = own_step r st (write_step k c.args.id) k c.stores.invariant.stands refl refl (writes_next r c.args.stores.now k c.args.id c.stores.view_is c.requires).is_legal in
@@ -25,7 +25,7 @@ push-requires c =
 
 pub invariant_of-stores : goal.invariant_of-stores
 invariant_of-stores c =
-    let r = run_of c.stores.inside in
+    let r = run_in c.stores.inside in
     let st = stores_of c.stores.inside in
     let k = c.args.commit in
     let own = own_step r st (write_step k c.args.id) k c.stores.invariant.stands refl refl (writes_next r c.args.stores.now k c.args.id c.stores.view_is c.requires).is_legal in

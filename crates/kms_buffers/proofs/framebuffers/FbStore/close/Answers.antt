@@ -8,7 +8,7 @@ use Rattle.kms_model.specs.Stores.Kept.{close_answer}
 use Rattle.kms_model.specs.Stores.OpenThings.{denial}
 use Rattle.kms_model.specs.Stores.Tables.{IsRising, value_with_id, without_id}
 use Rattle.kms_model.proofs.OpenLemmas.{closed_values}
-use Rattle.kms_buffers.specs.Things.{fb_in, open_fbs}
+use Rattle.kms_buffers.specs.Things.{fb_of_content, open_fbs}
 use Rattle.kms_buffers.proofs.Things.{fewer_closed}
 use Rattle.kms_buffers.proofs.Denials.{closes_alike}
 use Rattle.kms_buffers.proofs.Counted.{counted_at, AreCounted-with_fewer, kept-with_fewer}
@@ -28,7 +28,7 @@ returns-clause-things c =
     let old : c.args.self.now ≡ c.self.inside.fbs = search rules in
     let put : open_fbs c.put_back.new.fbs ≡ without_id (open_fbs c.self.inside.fbs) c.args.id =
     ap open_fbs c.put_back.ensures ∙ fewer_closed c.self.inside.fbs c.args.id _ refl in
-    λ things same. closed_values fb_in c.args.id things ∙ (ap (λ fbs. without_id fbs c.args.id) (same ∙ ap open_fbs old) ∙ sym put)
+    λ things same. closed_values fb_of_content c.args.id things ∙ (ap (λ fbs. without_id fbs c.args.id) (same ∙ ap open_fbs old) ∙ sym put)
 
 pub returns-in_default-clause-refusal : goal.returns-in_default-clause-refusal
 returns-in_default-clause-refusal c =

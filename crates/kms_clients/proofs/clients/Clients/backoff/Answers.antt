@@ -1,8 +1,8 @@
 use Rattle.std.proofs.Common.{◌≡◌, Option, Some, refl, ap, ◌∙◌, subst}
 use Rattle.kms_model.specs.declared.runs.Doing.TheVariants as doing
 use Rattle.kms_model.specs.Machine.State.{Machine}
-use Rattle.kms_wwlock.specs.declared.contexts.Doing.{Doing as ContextDoing}
-use Rattle.kms_wwlock.specs.declared.contexts.Doing.TheVariants as context
+use Rattle.kms_wwlock.specs.declared.contexts.ContextDoing.{ContextDoing}
+use Rattle.kms_wwlock.specs.declared.contexts.ContextDoing.TheVariants as context
 use Rattle.kms_wwlock.specs.Table.{Table, must_back_off_for}
 use Rattle.kms_wwlock.specs.Calls.{backed_off as table_backed_off}
 use Rattle.kms_clients.specs.Standing.{IsBegun, NamesLockable}

@@ -4,7 +4,7 @@ use Rattle.kms_model.specs.declared.objects.Ticket.{Ticket}
 use Rattle.kms_model.specs.declared.runs.Doing.TheVariants as doing
 use Rattle.kms_model.specs.declared.runs.Place.{Place}
 use Rattle.kms_model.specs.Machine.State.{Machine}
-use Rattle.kms_wwlock.specs.declared.contexts.Doing.TheVariants as context
+use Rattle.kms_wwlock.specs.declared.contexts.ContextDoing.TheVariants as context
 use Rattle.kms_wwlock.specs.Table.{Table}
 use Rattle.kms_clients.specs.Standing.{Standing, place_in, place_of, doing_in, ticket_in}
 use Rattle.kms_clients.specs.InStep.{AreClientsOf}

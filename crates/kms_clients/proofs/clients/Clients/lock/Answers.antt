@@ -1,7 +1,7 @@
 use Rattle.std.proofs.Common.{◌≡◌, refl, sym, ap, ◌∙◌}
 use Rattle.kms_model.specs.declared.runs.Doing.TheVariants as doing
 use Rattle.kms_model.specs.Machine.State.{Machine, holder_at}
-use Rattle.kms_wwlock.specs.declared.contexts.Doing.TheVariants as context
+use Rattle.kms_wwlock.specs.declared.contexts.ContextDoing.TheVariants as context
 use Rattle.kms_wwlock.specs.Table.{Table}
 use Rattle.kms_clients.specs.InStep.{AreClientsOf, lock_answer}
 use Rattle.kms_clients.proofs.Places.{HasContext, has_context}

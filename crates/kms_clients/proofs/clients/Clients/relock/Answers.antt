@@ -2,8 +2,8 @@ use Rattle.std.proofs.Common.{◌≡◌, Option, Some, refl, ap, ◌∙◌, subs
 use Rattle.std.specs.Prelude.{option_and_then}
 use Rattle.kms_model.specs.declared.runs.Doing.TheVariants as doing
 use Rattle.kms_model.specs.Machine.State.{Machine}
-use Rattle.kms_wwlock.specs.declared.contexts.Doing.{Doing as ContextDoing}
-use Rattle.kms_wwlock.specs.declared.contexts.Doing.TheVariants as context
+use Rattle.kms_wwlock.specs.declared.contexts.ContextDoing.{ContextDoing}
+use Rattle.kms_wwlock.specs.declared.contexts.ContextDoing.TheVariants as context
 use Rattle.kms_wwlock.specs.Objects.{IsLockable}
 use Rattle.kms_wwlock.specs.declared.table.Relock.{Relock}
 use Rattle.kms_wwlock.specs.declared.table.Relock.TheVariants as relock

@@ -1,12 +1,12 @@
 use Rattle.std.proofs.Common.{subst}
 use Rattle.kms_calls.specs.Locks.{MayBegin}
-use Rattle.kms_device.specs.Turns.{seen}
+use Rattle.kms_device.specs.Turns.{run_seen}
 use Rattle.kms_device.proofs.TriedCases.{began_as, may_begin_at, tried_err}
 use Rattle.kms_device.proofs.TurnsTried.{nothing_done}
 use Rattle.kms_device.proofs.device.Device.enter.Goals as goal
 
 pub begin-requires-clause-may : goal.begin-requires-clause-may
-begin-requires-clause-may g c = subst (MayBegin (seen c.args.self.now.script c.args.pass.now)) c.requires.whose (may_begin_at c.args.self.now.script c.args.pass.now c.args.kept c.requires.ready c.requires.idle)
+begin-requires-clause-may g c = subst (MayBegin (run_seen c.args.self.now.script c.args.pass.now)) c.requires.whose (may_begin_at c.args.self.now.script c.args.pass.now c.args.kept c.requires.ready c.requires.idle)
 
 pub returns-in_err-begin : goal.returns-in_err-begin
 returns-in_err-begin g c = tried_err _ _ _ _ c.from_residual.result c.from_residual.ensures.0 (nothing_done _ _ _ _ c.args.kept c.requires.ready c.in_err-begin.ensures)

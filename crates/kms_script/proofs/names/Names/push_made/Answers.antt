@@ -4,7 +4,7 @@ use Rattle.std.specs.List.{IsDistinct}
 use Rattle.std.specs.Str.{bytes_eq}
 use Rattle.std.proofs.lemmas.Option.{slice_get_read}
 use Rattle.kms_model.specs.Script.CommandLines.{words_in}
-use Rattle.kms_script.specs.Named.{is_in_numbers, marked}
+use Rattle.kms_script.specs.Named.{is_in_numbers, marked_names}
 use Rattle.kms_script.specs.Overlong.{made_words, packed_all}
 use Rattle.kms_script.proofs.Naming.{marked_length, marked_words}
 use Rattle.kms_script.proofs.PackedNames.{no_items, none_made, number_after, number_where}
@@ -26,7 +26,7 @@ loop-word-preserved c =
     let word = c.as_slice.result.now in
     let item : slice_get words i ≡ Some word = slice_get_read words (length words) i c.word-item.result refl c.loop-word-test.true c.word-item.is ∙ ap Some (sym c.as_slice.ensures.value) in
     let made : c.contains-is_made.result ≡ is_in_numbers at.made.keys (0 + i) = rw (from_none i, ← c.loop-word.invariant.number) c.contains-is_made.ensures in
-    let front : List ℕ = packed_all (made_words (marked (is_in_numbers at.made.keys) 0 (take i words))) in
+    let front : List ℕ = packed_all (made_words (marked_names (is_in_numbers at.made.keys) 0 (take i words))) in
     record {
       number = ap (λ n. n + 1) c.loop-word.invariant.number;
       items =
@@ -46,7 +46,7 @@ returns-then-is_empty-clause-made c =
     let at = c.self.inside in
     let none : at.made.keys ≡ [] = no_items at.made.keys (c.if-is_empty.ensures.0 refl) in
     let all : made_words c.args.self.now.names.all ≡ [] =
-    ap (λ h. made_words h.names.all) (sym c.self.view_is) ∙ (ap (λ keys. made_words (marked (is_in_numbers keys) 0 at.numbering)) none ∙ none_made 0 at.numbering) in
+    ap (λ h. made_words h.names.all) (sym c.self.view_is) ∙ (ap (λ keys. made_words (marked_names (is_in_numbers keys) 0 at.numbering)) none ∙ none_made 0 at.numbering) in
     rw all (sym (append-nil c.args.numbers.now.items))
 
 pub returns-then-is_empty-clause-differ : goal.returns-then-is_empty-clause-differ

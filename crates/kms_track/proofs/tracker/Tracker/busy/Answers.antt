@@ -15,5 +15,5 @@ loop-place-preserved c =
 
 pub returns-in-Some : goal.returns-in-Some
 returns-in-Some c =
-    sym (first_found (λ p. with_object p (busy_at c.args.self.now c.args.objects.now p)) c.loop-place.place 28 (c.object_at.result, c.in-Some.commit) c.loop-place.invariant
-    (object_here c.loop-place.place c.in-Some.commit (busy_at c.args.self.now c.args.objects.now c.loop-place.place) c.object_at.result c.in-Some.ensures c.object_at.ensures) (omega arith))
+    sym (first_found (λ p. with_object p (busy_at c.args.self.now c.args.objects.now p)) c.loop-place.place 28 (c.object_at_place.result, c.in-Some.commit) c.loop-place.invariant
+    (object_here c.loop-place.place c.in-Some.commit (busy_at c.args.self.now c.args.objects.now c.loop-place.place) c.object_at_place.result c.in-Some.ensures c.object_at_place.ensures) (omega arith))

@@ -15,5 +15,5 @@ loop-index-preserved c =
 
 pub returns-in-Some : goal.returns-in-Some
 returns-in-Some c =
-    sym (first_found (λ i. with_object i (not_yet_at c.args.self.now c.args.crtcs i)) c.loop-index.index 4 (c.object_at.result, c.in-Some.commit) c.loop-index.invariant
-    (object_here c.loop-index.index c.in-Some.commit (not_yet_at c.args.self.now c.args.crtcs c.loop-index.index) c.object_at.result c.in-Some.ensures c.object_at.ensures) (omega arith))
+    sym (first_found (λ i. with_object i (not_yet_at c.args.self.now c.args.crtcs i)) c.loop-index.index 4 (c.object_at_place.result, c.in-Some.commit) c.loop-index.invariant
+    (object_here c.loop-index.index c.in-Some.commit (not_yet_at c.args.self.now c.args.crtcs c.loop-index.index) c.object_at_place.result c.in-Some.ensures c.object_at_place.ensures) (omega arith))

@@ -1,6 +1,6 @@
 use Rattle.std.proofs.Common.{◌≡◌, ◌∙◌, rules, map}
 use Rattle.std.specs.Vec.{with_items}
-use Rattle.kms_wwlock.specs.declared.contexts.Doing.TheVariants.{Taking, MustBackOff}
+use Rattle.kms_wwlock.specs.declared.contexts.ContextDoing.TheVariants.{Taking, MustBackOff}
 use Rattle.kms_wwlock.specs.Table.{Table}
 use Rattle.kms_wwlock.specs.Calls.{with_doing}
 use Rattle.kms_wwlock.proofs.Meanings.{taken_by, set_at}

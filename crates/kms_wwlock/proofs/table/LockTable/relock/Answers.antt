@@ -1,8 +1,8 @@
 use Rattle.std.proofs.Common.{◌≡◌, rules, sym, ap, ◌∙◌, subst, map, Some}
 use Rattle.std.specs.Vec.{with_items}
 use Rattle.kms_model.specs.declared.objects.ObjId.{ObjId}
-use Rattle.kms_wwlock.specs.Table.{Table, doing_in}
-use Rattle.kms_wwlock.specs.declared.contexts.Doing.TheVariants.{Taking, BackedOff}
+use Rattle.kms_wwlock.specs.Table.{Table, doing_in_contexts}
+use Rattle.kms_wwlock.specs.declared.contexts.ContextDoing.TheVariants.{Taking, BackedOff}
 use Rattle.kms_wwlock.specs.Objects.{IsLockable, lock_place}
 use Rattle.kms_wwlock.specs.Calls.{with_doing}
 use Rattle.kms_wwlock.proofs.Meanings.{relocked_at}
@@ -27,8 +27,8 @@ invariant_of-self c =
 pub returns-in-None-clause-got : goal.returns-in-None-clause-got
 returns-in-None-clause-got c = λ _. λ id is.
     let old : Table = record { holders = c.self.inside.holders; contexts = c.self.inside.contexts.items; drawn = c.self.inside.drawn } in
-    let asked : doing_in old.contexts c.args.t ≡ Some (BackedOff id) = rw (← c.self.view_is) at is in
-    let found : doing_in old.contexts c.args.t ≡ Some (BackedOff c.in-Some-BackedOff.id) = search rules in
+    let asked : doing_in_contexts old.contexts c.args.t ≡ Some (BackedOff id) = rw (← c.self.view_is) at is in
+    let found : doing_in_contexts old.contexts c.args.t ≡ Some (BackedOff c.in-Some-BackedOff.id) = search rules in
     let same : id ≡ c.in-Some-BackedOff.id = cc in
     let written : c.set_doing.new.contexts ≡ map (with_doing c.args.t Taking) old.contexts = search rules in
     rw (← c.self.view_is)

@@ -13,20 +13,20 @@ use Rattle.kms_things.specs.Starting.{alike}
 use Rattle.kms_stores.specs.Swaps.{count_in}
 
 -- the state of an object of the device: the new one where it was checked, else as it was
-abbrev pub settled : {S : Type 0} → Option (Both S) → Option (Both S) → Option (Both S)
-settled None checked = None
-settled (Some present) None = Some present
-settled (Some present) (Some checked) = Some (alike checked.new)
+abbrev pub swapped_in : {S : Type 0} → Option (Both S) → Option (Both S) → Option (Both S)
+swapped_in None checked = None
+swapped_in (Some present) None = Some present
+swapped_in (Some present) (Some checked) = Some (alike checked.new)
 
 -- the states of all objects of a kind are so
-pub record AreSettled (S : Type 0) (present checked after : List (Option (Both S))) : Type 0 where
+pub record AreSwappedIn (S : Type 0) (present checked after : List (Option (Both S))) : Type 0 where
   pub size : length after ≡ length present
-  pub at : (index : ℕ) → slice_index_or after index None ≡ settled (slice_index_or present index None) (slice_index_or checked index None)
+  pub at : (index : ℕ) → slice_index_or after index None ≡ swapped_in (slice_index_or present index None) (slice_index_or checked index None)
 
-pub record IsSettled (present checked after : Duplicates) : Type 0 where
-  pub crtcs : AreSettled _ present.crtcs checked.crtcs after.crtcs
-  pub planes : AreSettled _ present.planes checked.planes after.planes
-  pub conns : AreSettled _ present.conns checked.conns after.conns
+pub record IsSwappedIn (present checked after : Duplicates) : Type 0 where
+  pub crtcs : AreSwappedIn _ present.crtcs checked.crtcs after.crtcs
+  pub planes : AreSwappedIn _ present.planes checked.planes after.planes
+  pub conns : AreSwappedIn _ present.conns checked.conns after.conns
 
 -- the fences that are made under the labels that are asked for, with the next ids
 abbrev pub fences_for : ℕ → List (Option ℕ) → List (Slot Bool)
@@ -60,5 +60,5 @@ fences_under things labels =
     ∷ id_under things (slice_index_or labels 2 None) ∷ id_under things (slice_index_or labels 3 None) ∷ []
 
 -- how many events a request with these flags, which names these CRTCs, asks for
-abbrev pub events_of : ℕ → ℕ → ℕ
-events_of flags named = if wants_event flags then count_in named else 0
+abbrev pub events_asked_for : ℕ → ℕ → ℕ
+events_asked_for flags named = if wants_event flags then count_in named else 0

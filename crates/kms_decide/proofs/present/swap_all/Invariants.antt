@@ -1,10 +1,10 @@
 use Rattle.std.proofs.Common.{◌≡◌, ℕ, ◌<◌, ◌≤◌, None, get_or, length}
-use Rattle.kms_stores.specs.Settled.{settled}
-use Rattle.kms_decide.proofs.present.settle.Given as goal
+use Rattle.kms_stores.specs.SwappedIn.{swapped_in}
+use Rattle.kms_decide.proofs.present.swap_all.Given as goal
 
 abbrev pub invariant-loop-index : goal.invariant-loop-index
 invariant-loop-index g l = record {
   size : length l.states ≡ length l.initial.states;
-  done : (p : ℕ) → p < l.index → get_or l.states p None ≡ settled (get_or l.initial.states p None) (get_or l.checked p None);
+  done : (p : ℕ) → p < l.index → get_or l.states p None ≡ swapped_in (get_or l.initial.states p None) (get_or l.checked p None);
   left : (p : ℕ) → l.index ≤ p → get_or l.states p None ≡ get_or l.initial.states p None;
 }

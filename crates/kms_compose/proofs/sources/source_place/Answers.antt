@@ -1,7 +1,7 @@
 use Rattle.std.proofs.Common.{◌≡◌, arith, rules}
 use Rattle.kms_model.specs.Device.States.{natural}
 use Rattle.kms_compose.proofs.Places.{few_pixels, natural_most, place_is, room}
-use Rattle.kms_compose.proofs.sources.place_at.Goals as goal
+use Rattle.kms_compose.proofs.sources.source_place.Goals as goal
 
 pub middle_of-requires-clause-long : goal.middle_of-requires-clause-long
 middle_of-requires-clause-long c =
