@@ -44,8 +44,8 @@ impl BlobStore {
         }
     }
 
-    /// Makes a client's blob of these bytes, of which a script gives 1 to 2048. Its id is greater than those of all blobs
-    /// before. Want of memory leaves the store as it was.
+    /// Makes a blob of these bytes for a client, by its number from 1; of bytes a script gives 1 to 2048. The blob's id
+    /// is greater than those of all blobs before. Want of memory leaves the store as it was.
     pub fn create(
         &mut self,
         alloc: Global,
@@ -67,9 +67,9 @@ impl BlobStore {
         self.blobs.push(id, Blob { owner, bytes })
     }
 
-    /// Destroys a client's blob. Refused with 33 where no open blob has the id, and with 34 where the blob is
-    /// another client's; the store then stays as it was. (Header: `drm_mode.h`,
-    /// `struct drm_mode_destroy_blob`.)
+    /// Destroys the blob with an id for a client, by its number from 1. Refused with `NOT_FOUND` where no open blob has
+    /// the id, and with `NOT_OWNER` where the blob is another client's; the store then stays as it was. (Header:
+    /// `drm_mode.h`, `struct drm_mode_destroy_blob`.)
     pub fn destroy(&mut self, owner: u32, id: u32) -> Result<(), Denied>
         ensures answer { result ≡ destroy_answer owner (value_with_id self.old id) }
         ensures blobs { self.new ≡ blobs_destroyed self.old owner id }

@@ -21,10 +21,10 @@ const LARGEST_BYTES: u64 = 268435456;
 /// Why a buffer is not made.
 #[derive(Clone, Copy, Debug, PartialEq, Eq)]
 pub enum MakeError {
-    /// 31: a side is 0 or above 4096 pixels.
+    /// `INVALID_SIZE`: a side is 0 or above 4096 pixels.
     BadSize,
-    /// 32: all buffers would have more than 268435456 bytes together, 4 for each pixel of XR24 and AR24 and 2
-    /// for each of RG16.
+    /// `NO_BUFFER_SPACE`: all buffers would have more than 268435456 bytes together, 4 for each pixel of XR24 and AR24
+    /// and 2 for each of RG16.
     Space {
         /// The bytes of all buffers with the new one.
         total: u64,
@@ -78,10 +78,10 @@ impl Buffers {
         }
     }
 
-    /// Makes a client's buffer of 1 to 4096 by 1 to 4096 pixels and fills it with a pattern: of pixels, exactly as
-    /// many as the buffer has; of a checker, of a side above 0. Its id is greater than those of all buffers before.
-    /// Refused, in this order, with `BadSize` and `Space`, and with `NoMemory` last; the store then stays as
-    /// it was. (Kernel: "Dumb Buffer Objects", `drm_mode_create_dumb`.)
+    /// Makes a buffer of 1 to 4096 by 1 to 4096 pixels for a client, by its number from 1, and fills it with a pattern:
+    /// of pixels, exactly as many as the buffer has; of a checker, of a side above 0. The buffer's id is greater than
+    /// those of all buffers before. Refused, in this order, with `BadSize` and `Space`, and with `NoMemory` last; the
+    /// store then stays as it was. (Kernel: "Dumb Buffer Objects", `drm_mode_create_dumb`.)
     pub fn create(
         &mut self,
         alloc: Global,
@@ -125,8 +125,8 @@ impl Buffers {
         Ok(())
     }
 
-    /// The bytes that all buffers would have with one more. Refused with `BadSize` and `Space`, as `create` is, and never
-    /// with `NoMemory`.
+    /// The bytes that all buffers would have with one more, of a width and a height in pixels. Refused with `BadSize` and
+    /// `Space`, as `create` is, and never with `NoMemory`.
     pub fn total_with(&self, width: u32, height: u32, format: Format) -> Result<u64, MakeError>
         ensures bad_size { is_bad_size width height ≡ true → result ≡ Err MakeError.BadSize }
         ensures space { is_bad_size width height ≡ false

@@ -45,8 +45,9 @@ impl FbStore {
         }
     }
 
-    /// Adds a client's framebuffer of a buffer: it is open, and has the reference of being open. Its id is
-    /// greater than those of all framebuffers before. Want of memory leaves the store as it was.
+    /// Adds a framebuffer of the buffer with an id for a client, by its number from 1: it is open, and has the
+    /// reference of being open. Its id is greater than those of all framebuffers before. Want of memory leaves the
+    /// store as it was.
     pub fn add(
         &mut self,
         _alloc: Global,
@@ -79,9 +80,9 @@ impl FbStore {
         Ok(())
     }
 
-    /// Closes a client's framebuffer, which gives the reference of being open back. Refused with 33 where it is
-    /// no open framebuffer of this client; the store then stays as it was. True exactly where that was the
-    /// last reference; the framebuffer is then out of the store. (Header: `drm_mode.h`,
+    /// Closes the framebuffer with an id for a client, by its number from 1, which gives the reference of being open
+    /// back. Refused with `NOT_FOUND` where it is no open framebuffer of this client; the store then stays as it was.
+    /// True exactly where that was the last reference; the framebuffer is then out of the store. (Header: `drm_mode.h`,
     /// `struct drm_mode_closefb`.)
     pub fn close(&mut self, owner: u32, id: u32) -> Result<bool, Denied>
         ensures answer { result ≡ close_answer owner (value_with_id self.old id) }
@@ -119,7 +120,7 @@ impl FbStore {
         self.fbs.get(id).is_some()
     }
 
-    /// Takes a reference more of a framebuffer that is in the store and has fewer than 4294967295.
+    /// Takes a reference more of the framebuffer with an id, which is in the store and has fewer than 4294967295.
     pub fn take(&mut self, id: u32)
         requires { MayTake (value_with_id self.old id) }
         ensures store { self.new ≡ fbs_taken self.old id }
@@ -137,8 +138,8 @@ impl FbStore {
         }
     }
 
-    /// Gives a reference back of a framebuffer that is in the store and has one beside that of being open.
-    /// True exactly where that was the last; the framebuffer is then out of the store.
+    /// Gives a reference back of the framebuffer with an id, which is in the store and has one beside that of being
+    /// open. True exactly where that was the last; the framebuffer is then out of the store.
     pub fn give(&mut self, id: u32) -> bool
         requires { MayGive (value_with_id self.old id) }
         ensures last { result ≡ is_last_of (value_with_id self.old id) }

@@ -7,7 +7,7 @@ ghost use Rattle.kms_buffers.specs.Places.{HasWord, HasRow};
 use kms_model::{Format, NoMemory, Pattern, Seq};
 use std::alloc::Global;
 
-/// The words of a pattern, row by row.
+/// The words of a pattern for a width and a height in pixels, row by row.
 pub fn words(
     alloc: Global,
     pattern: &Pattern,

@@ -40,8 +40,8 @@ pub enum Locked {
     },
 }
 
-/// Begins an acquire context for a client that is idle at an atomic request, and gives its ticket. Want of memory
-/// leaves all as it was. (Kernel: "KMS Locking", `drm_modeset_acquire_init`.)
+/// Begins an acquire context for a client, by its number from 1, that is idle at an atomic request, and gives its
+/// ticket. Want of memory leaves all as it was. (Kernel: "KMS Locking", `drm_modeset_acquire_init`.)
 pub fn begin(stores: &mut Stores, alloc: Global, client: u32) -> Result<Ticket, NoMemory>
     requires { MayBegin stores.old client }
     ensures ticket { IfOk result (λ t. t.0 ≡ (machine stores.old).contexts.tickets) }

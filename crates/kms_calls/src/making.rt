@@ -11,9 +11,10 @@ use kms_stores::{Stores, account, answer, join, make_room, signal_fence};
 use kms_things::Things;
 use std::alloc::Global;
 
-/// Executes the command of a client that is idle at one which makes or closes a thing, and lets the client go on. The
-/// reply tells what was made, or why the command is refused; refusals 31 to 34 change no thing. Want of memory leaves
-/// all as it was. (Kernel: "Dumb Buffer Objects", "Frame Buffer Abstraction", "KMS Properties", "DMA Fences".)
+/// Executes the command of a client, by its number from 1, that is idle at one which makes or closes a thing, and lets
+/// the client go on. The reply tells what was made, or why the command is refused; refusals 31 to 34 change no thing.
+/// Want of memory leaves all as it was. (Kernel: "Dumb Buffer Objects", "Frame Buffer Abstraction", "KMS Properties",
+/// "DMA Fences".)
 pub fn make(stores: &mut Stores, alloc: Global, client: u32) -> Result<Reply, NoMemory>
     requires { MayMake stores.old client }
     ensures reply { IfOk result (λ reply. reply ≡ reply_at stores.old client) }
@@ -53,8 +54,9 @@ pub fn make(stores: &mut Stores, alloc: Global, client: u32) -> Result<Reply, No
     Ok(reply)
 }
 
-/// Signals the fence of a client that is idle at a `signal`, and lets the client go on. Refusal 35, where no `fence`
-/// made the fence, signals nothing. Want of memory leaves all as it was. (Kernel: "DMA Fences", `dma_fence_signal`.)
+/// Signals the fence of a client, by its number from 1, that is idle at a `signal`, and lets the client go on. A
+/// refusal, `NOT_SIGNALLABLE`, where no `fence` made the fence, signals nothing. Want of memory leaves all as it was.
+/// (Kernel: "DMA Fences", `dma_fence_signal`.)
 pub fn signal(stores: &mut Stores, client: u32) -> Result<Reply, NoMemory>
     requires { MaySignal stores.old client }
     ensures reply { IfOk result (λ reply. reply ≡ reply_at stores.old client) }

@@ -6,9 +6,10 @@ ghost use Rattle.kms_stores.specs.Run.{gains, if_ok};
 use kms_model::{Doing, NoMemory, Reply, Step};
 use kms_stores::{Stores, answer, make_room, make_step_room, next_reply};
 
-/// Reads the oldest unread event for a client that is idle at a `wait`, or answers that none will come where none is
-/// reserved, and lets the client go on. None exactly where nothing is unread and something is reserved, or the history
-/// was ended: then nothing changes. Want of memory leaves all as it was. (Kernel: `drm_file.c`, `drm_read`.)
+/// Reads the oldest unread event for a client, by its number from 1, that is idle at a `wait`, or answers that none
+/// will come where none is reserved, and lets the client go on. None exactly where nothing is unread and something is
+/// reserved, or the history was ended: then nothing changes. Want of memory leaves all as it was. (Kernel:
+/// `drm_file.c`, `drm_read`.)
 pub fn read(stores: &mut Stores, client: u32) -> Result<Option<Reply>, NoMemory>
     requires { MayRead stores.old client }
     ensures reply { IfOk result (λ reply. reply ≡ read_reply_at stores.old client) }

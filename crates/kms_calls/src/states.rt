@@ -8,8 +8,9 @@ use kms_model::{Duplicates, Kind, ObjId, ObjState, Topology};
 use kms_state::Duplicating;
 use kms_stores::Stores;
 
-/// The present state of an object that a client's context holds. None exactly where it holds no such object; any numbers may
-/// be asked for. (Kernel: `drm_modeset_is_locked`, and the states that `drm_state_dump` prints.)
+/// The present state of an object that the context of a client, by its number from 1, holds. None exactly where it holds no
+/// such object; any numbers may be asked for. (Kernel: `drm_modeset_is_locked`, and the states that `drm_state_dump`
+/// prints.)
 pub fn held_state(stores: &Stores, client: u32, id: ObjId) -> Option<ObjState>
     ensures { result ≡ held_state stores.now client id }
 {

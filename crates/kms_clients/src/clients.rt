@@ -56,7 +56,7 @@ impl Clients {
         self.places[(client - 1) as usize]
     }
 
-    /// The client whose context has a ticket; none where no context of these clients has it.
+    /// The client, by its number from 1, whose context has a ticket; none where no context of these clients has it.
     pub fn with_ticket(&self, t: Ticket) -> Option<u32>
         ensures some { IfSome result (HasTicket self.now t) }
         ensures none { IfNone result ((client : ℕ) → IsClient client
@@ -70,7 +70,8 @@ impl Clients {
         None
     }
 
-    /// The client that holds the lock of an object, a CRTC, a plane or a connector; none where the object is free.
+    /// The client, by its number from 1, that holds the lock of an object, a CRTC, a plane or a connector; none where
+    /// the object is free.
     pub fn holder(&self, id: ObjId) -> Option<u32>
         requires { IsLockable id }
         ensures holder { (m : Machine) → AreClientsOf m.contexts self.now
@@ -81,8 +82,8 @@ impl Clients {
         self.with_ticket(ticket)
     }
 
-    /// Whether the lock of an object, a CRTC, a plane or a connector, is free, or an older context than that of a client
-    /// holds it.
+    /// Whether the lock of an object, a CRTC, a plane or a connector, is free, or an older context than that of a
+    /// client, by its number from 1, holds it.
     pub fn is_free_or_older(&self, client: u32, id: ObjId) -> bool
         requires client { IsClient client }
         requires lockable { IsLockable id }
@@ -96,7 +97,7 @@ impl Clients {
         }
     }
 
-    /// Whether a client backed off and the object that it backed off for is free.
+    /// Whether a client, by its number from 1, backed off and the object that it backed off for is free.
     pub fn may_relock(&self, client: u32) -> bool
         requires { IsClient client }
         ensures { (m : Machine) → AreClientsOf m.contexts self.now
@@ -108,8 +109,8 @@ impl Clients {
         }
     }
 
-    /// Begins a context for an idle client, and gives its ticket, which counts the contexts before. Fewer than 4294967295
-    /// have begun. Want of memory leaves all as it was. (Kernel: `drm_modeset_acquire_init`.)
+    /// Begins a context for an idle client, by its number from 1, and gives its ticket, which counts the contexts before.
+    /// Fewer than 4294967295 have begun. Want of memory leaves all as it was. (Kernel: `drm_modeset_acquire_init`.)
     pub fn begin(&mut self, alloc: Global, client: u32) -> Result<Ticket, NoMemory>
         requires client { IsClient client }
         requires idle { (place_of self.old client).doing ≡ doing.Idle }
@@ -124,9 +125,9 @@ impl Clients {
         Ok(ticket)
     }
 
-    /// Asks for an object, a CRTC, a plane or a connector, for a client that takes locks. `Got`: it was free, and the
-    /// client holds it. `Own`: the client holds it already. `Older`: an older context holds it, and the client must back
-    /// off. `Younger`: a younger one holds it. (Kernel: `drm_modeset_lock`.)
+    /// Asks for an object, a CRTC, a plane or a connector, for a client, by its number from 1, that takes locks. `Got`:
+    /// it was free, and the client holds it. `Own`: the client holds it already. `Older`: an older context holds it, and
+    /// the client must back off. `Younger`: a younger one holds it. (Kernel: `drm_modeset_lock`.)
     pub fn lock(&mut self, client: u32, id: ObjId) -> Lock
         requires client { IsClient client }
         requires taking { IsTaking (place_of self.old client).doing }
@@ -146,7 +147,7 @@ impl Clients {
         answer
     }
 
-    /// Frees all locks of a client that must back off. (Kernel: `drm_modeset_backoff`.)
+    /// Frees all locks of a client, by its number from 1, that must back off. (Kernel: `drm_modeset_backoff`.)
     pub fn backoff(&mut self, client: u32)
         requires client { IsClient client }
         requires must { MustBackOff (place_of self.old client).doing }
@@ -160,8 +161,9 @@ impl Clients {
         set_doing(&mut self.places, client, Doing::BackedOff(ticket, object));
     }
 
-    /// Asks, for a client that backed off, for the object that it backed off for. `Got`: it was free, the client holds it,
-    /// and takes locks again. `Held`: another context holds it. (Kernel: `drm_modeset_backoff`, which waits for it.)
+    /// Asks, for a client, by its number from 1, that backed off, for the object that it backed off for. `Got`: it was
+    /// free, the client holds it, and takes locks again. `Held`: another context holds it. (Kernel: `drm_modeset_backoff`,
+    /// which waits for it.)
     pub fn relock(&mut self, client: u32) -> Relock
         requires client { IsClient client }
         requires off { HasBackedOff (place_of self.old client).doing }
@@ -180,8 +182,8 @@ impl Clients {
         answer
     }
 
-    /// Drops all locks of a client that takes locks, whose request is decided. It goes on to its next command, which has
-    /// a number of 32 bits. (Kernel: `drm_modeset_drop_locks`, `drm_modeset_acquire_fini`.)
+    /// Drops all locks of a client, by its number from 1, that takes locks, whose request is decided. It goes on to its
+    /// next command, which has a number of 32 bits. (Kernel: `drm_modeset_drop_locks`, `drm_modeset_acquire_fini`.)
     pub fn decide(&mut self, client: u32)
         requires client { IsClient client }
         requires taking { IsTaking (place_of self.old client).doing }
@@ -196,7 +198,8 @@ impl Clients {
         set_next(&mut self.places, client);
     }
 
-    /// Drops all locks of a client that takes locks, whose request is committed. It waits for the commit with a number.
+    /// Drops all locks of a client, by its number from 1, that takes locks, whose request is committed. It waits for
+    /// the commit with a number, counted from 0.
     pub fn wait_for(&mut self, client: u32, commit: u32)
         requires client { IsClient client }
         requires taking { IsTaking (place_of self.old client).doing }
@@ -210,7 +213,8 @@ impl Clients {
         set_doing(&mut self.places, client, Doing::Returning(commit));
     }
 
-    /// Lets a client that has no context go on to its next command, which has a number of 32 bits.
+    /// Lets a client, by its number from 1, that has no context go on to its next command, which has a number of 32
+    /// bits.
     pub fn go_on(&mut self, client: u32)
         requires client { IsClient client }
         requires no_context { HasNoContext (place_of self.old client).doing }

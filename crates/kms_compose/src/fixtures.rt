@@ -18,8 +18,8 @@ pub fn rect(x: i64, y: i64, w: i64, h: i64) -> Rect
     Rect { x, y, w, h }
 }
 
-/// Which framebuffer a layer shows, from where, in 16.16 fixed point, and where on the mode, with its plane's alpha and blend
-/// mode.
+/// Which framebuffer a layer shows, by its id, from where, in 16.16 fixed point, and where on the mode, with the numbers of
+/// its plane's alpha, from 0 to 65535, and blend mode, from 0 to 2.
 #[derive(Clone, Copy)]
 pub struct LayerPlace {
     pub fb: u32,
@@ -40,7 +40,7 @@ pub fn opaque(src: Rect, dst: Rect) -> LayerPlace {
     }
 }
 
-/// The image of a framebuffer.
+/// The image of the framebuffer with an id, of a width and a height in pixels, with its words.
 pub fn image<'a>(fb: u32, size: (u32, u32), format: Format, words: &'a [u32]) -> FbImage<'a> {
     FbImage {
         fb,

@@ -17,7 +17,7 @@ pub struct FbImage<'a> {
 /// The images of framebuffers, each under an id of its own; none of their words is copied.
 pub type Images<'a> = Seq<FbImage<'a>>;
 
-/// The image of a framebuffer; none where it is not among these.
+/// The image of the framebuffer with an id; none where it is not among these.
 pub fn image_of<'a>(images: &[FbImage<'a>], fb: u32) -> Option<Image<'a>>
     ensures { option_map image_seen result ≡ seen_under images.now fb }
 {

@@ -25,8 +25,8 @@ use kms_stores::Decided;
 use std::alloc::Global;
 
 impl Core {
-    /// Begins an acquire context for a client that is idle at an atomic request, and gives its ticket. Want of memory
-    /// leaves all as it was.
+    /// Begins an acquire context for a client, by its number from 1, that is idle at an atomic request, and gives its
+    /// ticket. Want of memory leaves all as it was.
     pub fn begin(&mut self, alloc: Global, client: u32) -> Result<Ticket, NoMemory>
         requires { MayBegin self.old client }
         ensures ticket { IfOk result (λ t. t.0 ≡ (machine self.old).contexts.tickets) }
@@ -71,8 +71,8 @@ impl Core {
         kms_calls::relock(&mut self.stores, t)
     }
 
-    /// Executes the command of a client that is idle at one which makes or closes a thing, and gives the reply: refusals 31
-    /// to 34 change no thing. Want of memory leaves all as it was.
+    /// Executes the command of a client, by its number from 1, that is idle at one which makes or closes a thing, and gives
+    /// the reply: refusals 31 to 34 change no thing. Want of memory leaves all as it was.
     pub fn make(&mut self, alloc: Global, client: u32) -> Result<Reply, NoMemory>
         requires { MayMake self.old client }
         ensures reply { IfOk result (λ reply. reply ≡ reply_at self.old client) }
@@ -82,8 +82,8 @@ impl Core {
         kms_calls::make(&mut self.stores, alloc, client)
     }
 
-    /// Signals the fence of a client that is idle at a `signal`, and gives the reply: refusal 35 signals nothing. Want of
-    /// memory leaves all as it was.
+    /// Signals the fence of a client, by its number from 1, that is idle at a `signal`, and gives the reply: a refusal,
+    /// `NOT_SIGNALLABLE`, signals nothing. Want of memory leaves all as it was.
     pub fn signal(&mut self, client: u32) -> Result<Reply, NoMemory>
         requires { MaySignal self.old client }
         ensures reply { IfOk result (λ reply. reply ≡ reply_at self.old client) }
@@ -93,8 +93,8 @@ impl Core {
         kms_calls::signal(&mut self.stores, client)
     }
 
-    /// Reads the oldest unread event for a client that is idle at a `wait`, or answers that none will come; none where it has
-    /// to wait, or the history was ended. Want of memory leaves all as it was.
+    /// Reads the oldest unread event for a client, by its number from 1, that is idle at a `wait`, or answers that none will
+    /// come; none where it has to wait, or the history was ended. Want of memory leaves all as it was.
     pub fn read(&mut self, client: u32) -> Result<Option<Reply>, NoMemory>
         requires { MayRead self.old client }
         ensures reply { IfOk result (λ reply. reply ≡ read_reply_at self.old client) }
@@ -103,8 +103,8 @@ impl Core {
         kms_calls::read(&mut self.stores, client)
     }
 
-    /// Lets a client that waits for its commit go on, where the commit is cleaned and the history was not ended. Want of memory
-    /// leaves all as it was.
+    /// Lets a client, by its number from 1, that waits for its commit go on, where the commit is cleaned and the history was
+    /// not ended. Want of memory leaves all as it was.
     pub fn return_from(&mut self, client: u32) -> Result<bool, NoMemory>
         requires { MayReturn self.old client }
         ensures answer { IfOk result (λ over. over ≡ is_over_at self.old client) }
@@ -172,8 +172,8 @@ impl Core {
         kms_decide::swap(&mut self.stores, alloc, t, used, checked, resolved)
     }
 
-    /// Claims the least commit whose tail may begin. None exactly where there is no such commit, as after the end of the
-    /// history.
+    /// Claims the least commit whose tail may begin, and gives its number, counted from 0. None exactly where there is
+    /// no such commit, as after the end of the history.
     pub fn claim(&mut self) -> Option<u32>
         ensures answer { result ≡ first_claim self.old }
         ensures history { self.new ≡ gains self.old (claim_steps result) }
@@ -181,7 +181,7 @@ impl Core {
         kms_work::claim(&mut self.stores)
     }
 
-    /// Writes the registers of the CRTC or the plane that a commit writes next.
+    /// Writes the registers of the CRTC or the plane that a commit, by its number from 0, writes next.
     pub fn write(&mut self, commit: u32, id: ObjId)
         requires { MayWrite self.old commit id }
         ensures history { self.new ≡ gains self.old (write_step commit id ∷ []) }
@@ -189,7 +189,8 @@ impl Core {
         kms_work::write(&mut self.stores, commit, id);
     }
 
-    /// Flushes the CRTC with an index for the commit that flushes it next; where it is off after the commit, it latches.
+    /// Flushes the CRTC with an index, from 0 to 3, for the commit, by its number from 0, that flushes it next; where it
+    /// is off after the commit, it latches.
     pub fn flush(&mut self, commit: u32, crtc: u32)
         requires { MayFlush self.old commit crtc }
         ensures history { self.new ≡ gains self.old (step.Flush commit Crtc crtc ∷ []) }
@@ -197,7 +198,7 @@ impl Core {
         kms_work::flush(&mut self.stores, commit, crtc);
     }
 
-    /// Tells that all registers of a commit are written and flushed.
+    /// Tells that all registers of a commit, by its number from 0, are written and flushed.
     pub fn hw_done(&mut self, commit: u32)
         requires { MayBeDone self.old commit }
         ensures history { self.new ≡ gains self.old (step.HwDone commit ∷ []) }
@@ -205,8 +206,8 @@ impl Core {
         kms_work::hw_done(&mut self.stores, commit);
     }
 
-    /// The CRTC with an index has a vertical blanking. True exactly where a commit latches, which takes no memory. Want of
-    /// memory leaves all as it was.
+    /// The CRTC with an index, from 0 to 3, has a vertical blanking. True exactly where a commit latches, which takes no
+    /// memory. Want of memory leaves all as it was.
     pub fn vblank(&mut self, crtc: u32) -> Result<bool, NoMemory>
         requires { MayBlank self.old crtc }
         ensures answer { IfOk result (λ went. went ≡ goes_at self.old crtc) }
@@ -217,7 +218,7 @@ impl Core {
         kms_work::vblank(&mut self.stores, crtc)
     }
 
-    /// Cleans a commit up; false, and nothing changes, exactly where it is not over.
+    /// Cleans up a commit, by its number from 0; false, and nothing changes, exactly where it is not over.
     pub fn cleanup(&mut self, commit: u32) -> bool
         requires { MayCleanUp self.old commit }
         ensures answer { result ≡ is_commit_over self.old commit }

@@ -58,7 +58,8 @@ impl Core {
         kms_next::stall(&mut self.stores)
     }
 
-    /// The label of the fence that a dead history waits for. None where there is none, and where the history is not dead.
+    /// The label, by its number from 0, of the fence that a dead history waits for. None where there is none, and where
+    /// the history is not dead.
     pub fn stalled_on(&self) -> Option<u32>
         ensures { result ≡ stalled_on self.now.script (machine self.now) }
     {

@@ -64,9 +64,10 @@ impl Core {
         self.stores.latches.as_slice()
     }
 
-    /// The framebuffers that were freed, in order of time, each by its label and its id; those of one step in order of id.
-    /// A framebuffer is freed by the step after which nothing needs it any more: it is closed, and no plane, no picture that
-    /// a CRTC shows and no commit that is not cleaned up names it. (Kernel: `drm_framebuffer_put`.)
+    /// The framebuffers that were freed, in order of time, each by its label, a number from 0, and its id, from 1000 on;
+    /// those of one step in order of id. A framebuffer is freed by the step after which nothing needs it any more: it is
+    /// closed, and no plane, no picture that a CRTC shows and no commit that is not cleaned up names it. (Kernel:
+    /// `drm_framebuffer_put`.)
     pub fn freed(&self) -> &[(u32, u32)]
         ensures { result.now
             ≡ map label_and_id (framebuffers.freed self.now.script self.now.steps) }
@@ -84,16 +85,16 @@ impl Core {
         self.stores.clients.place(client)
     }
 
-    /// The command at which a client is idle; none where it is at its end, has an acquire context or returns, and where
-    /// there is no such client.
+    /// The command at which a client, by its number from 1, is idle; none where it is at its end, has an acquire
+    /// context or returns, and where there is no such client.
     pub fn idle_command(&self, client: u32) -> Option<&Command>
         ensures { option_copied result ≡ idle_command_at self.now client }
     {
         kms_next::idle_command(&self.stores, client)
     }
 
-    /// The present state of an object that a client's context holds. None exactly where it holds no such object; any numbers
-    /// may be asked for.
+    /// The present state of an object that the context of a client, by its number from 1, holds. None exactly where it holds
+    /// no such object; any numbers may be asked for.
     pub fn held_state(&self, client: u32, id: ObjId) -> Option<ObjState>
         ensures { result ≡ held_state self.now client id }
     {

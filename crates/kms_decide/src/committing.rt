@@ -38,9 +38,10 @@ use kms_things::Things;
 use kms_track::Tracker;
 use std::alloc::Global;
 
-/// Commits the request of a client, whose swap nothing hinders, and gives the commit's number. What was checked becomes
-/// present, the request's out-fences are made, its events are reserved, and its tail is to do. Want of memory leaves all
-/// as it was. (Kernel: `drm_atomic_helper_commit`, `drm_atomic_helper_swap_state`.)
+/// Commits the request of a client, by its number from 1, whose swap nothing hinders, and gives the commit's number,
+/// counted from 0. What was checked becomes present, the request's out-fences are made, its events are reserved, and its
+/// tail is to do. Want of memory leaves all as it was. (Kernel: `drm_atomic_helper_commit`,
+/// `drm_atomic_helper_swap_state`.)
 pub fn commit(
     stores: &mut Stores,
     alloc: Global,

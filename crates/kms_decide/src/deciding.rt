@@ -82,7 +82,8 @@ fn decide_fresh(
     Ok(Decided::Done { reply })
 }
 
-/// Decides a client's request by a step with a reply: it drops its locks and goes on to its next command.
+/// Decides the request of a client, by its number from 1, by a step with a reply: it drops its locks and goes on to its
+/// next command.
 pub fn decide(stores: &mut Stores, client: u32, step: Step, reply: Reply) -> Result<(), NoMemory>
     requires { Decides stores.old client step reply }
     ensures { stores.new ≡ gains stores.old (if_ok result (λ done. step ∷ [])) }

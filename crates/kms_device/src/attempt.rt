@@ -52,11 +52,12 @@ impl Attempt {
 }
 
 impl Device {
-    /// One step of a client's request, from the beginning of its context to the reply. Where the client stands tells which call
-    /// comes next: `begin`, `backoff` or `relock`; or, while it takes locks, the call that resolving the request with the look-ups
-    /// that were kept and a check of the states that were kept ask for, which is `refuse`, the `lock` of the least object that is
-    /// lacking, `test` or `swap`. Resolving and checking are done outside of every turn; the gate is called before. `kept` is new,
-    /// or what the client's last attempt left. The only error is want of memory: then no step was made, and `kept` is new.
+    /// One step of the request of a client, by its number from 1, from the beginning of its context to the reply. Where the
+    /// client stands tells which call comes next: `begin`, `backoff` or `relock`; or, while it takes locks, the call that
+    /// resolving the request with the look-ups that were kept and a check of the states that were kept ask for, which is
+    /// `refuse`, the `lock` of the least object that is lacking, `test` or `swap`. Resolving and checking are done outside of
+    /// every turn; the gate is called before. `kept` is new, or what the client's last attempt left. The only error is want of
+    /// memory: then no step was made, and `kept` is new.
     pub fn attempt<W: Wait, G: Gate>(
         &self,
         rt: &W,
@@ -86,9 +87,9 @@ impl Device {
         Ok(answer)
     }
 
-    /// The client's next command, which is a request, from the beginning of its context to the reply. It makes attempts until one
-    /// gives the reply; how many is not bounded. The only error is want of memory: then the client may have begun, hold locks or
-    /// have backed off, and `commit` may be called again for it.
+    /// The next command of a client, by its number from 1, which is a request, from the beginning of its context to the reply. It
+    /// makes attempts until one gives the reply; how many is not bounded. The only error is want of memory: then the client may
+    /// have begun, hold locks or have backed off, and `commit` may be called again for it.
     pub fn commit<W: Wait, G: Gate>(
         &self,
         rt: &W,

@@ -31,8 +31,8 @@ impl Device {
         self.turn(rt, pass, |core: &mut Core| core.lookups(alloc, request))
     }
 
-    /// Executes the command of a client that is idle at one which makes or closes a thing, as the machine's `make` does. Want of
-    /// memory makes no step.
+    /// Executes the command of a client, by its number from 1, that is idle at one which makes or closes a thing, as the
+    /// machine's `make` does. Want of memory makes no step.
     pub fn make<W: Wait>(
         &self,
         rt: &W,
@@ -50,7 +50,8 @@ impl Device {
         self.turn(rt, pass, |core: &mut Core| core.make(alloc, client))
     }
 
-    /// Signals the fence of a client that is idle at a `signal`, as the machine's `signal` does. Want of memory makes no step.
+    /// Signals the fence of a client, by its number from 1, that is idle at a `signal`, as the machine's `signal` does. Want
+    /// of memory makes no step.
     pub fn signal<W: Wait>(&self, rt: &W, pass: &mut Pass, client: u32) -> Result<Reply, NoMemory>
         requires own { pass.old.lock ≡ self.now.lock }
         requires whose { pass.old.rank ≡ client }
@@ -62,8 +63,8 @@ impl Device {
         self.turn(rt, pass, |core: &mut Core| core.signal(client))
     }
 
-    /// Reads the oldest unread event for a client that is idle at a `wait`, as the machine's `read` does. None, and no step, where
-    /// one is still to come in the history that was found. Want of memory makes no step.
+    /// Reads the oldest unread event for a client, by its number from 1, that is idle at a `wait`, as the machine's `read` does.
+    /// None, and no step, where one is still to come in the history that was found. Want of memory makes no step.
     pub fn read_event<W: Wait>(
         &self,
         rt: &W,
@@ -80,8 +81,8 @@ impl Device {
         self.turn(rt, pass, |core: &mut Core| core.read(client))
     }
 
-    /// Lets a client that waits for its commit go on, as the machine's `return_from` does. False, and no step, where the commit is
-    /// not cleaned up in the history that was found. Want of memory makes no step.
+    /// Lets a client, by its number from 1, that waits for its commit go on, as the machine's `return_from` does. False, and no
+    /// step, where the commit is not cleaned up in the history that was found. Want of memory makes no step.
     pub fn return_from<W: Wait>(
         &self,
         rt: &W,

@@ -14,8 +14,8 @@ use std::alloc::Global;
 use std::sync::Wait;
 
 impl Device {
-    /// Begins an acquire context for a client that is idle at an atomic request, as the machine's `begin` does, and gives its
-    /// ticket. Want of memory makes no step.
+    /// Begins an acquire context for a client, by its number from 1, that is idle at an atomic request, as the machine's
+    /// `begin` does, and gives its ticket. Want of memory makes no step.
     pub fn begin<W: Wait>(
         &self,
         rt: &W,

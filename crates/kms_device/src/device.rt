@@ -98,7 +98,7 @@ impl Device {
         self.lock.count(pass, crtc)
     }
 
-    /// Where a client stands, as the machine's `place` tells.
+    /// Where a client, by its number from 1, stands, as the machine's `place` tells.
     pub fn place<W: Wait>(&self, rt: &W, pass: &mut Pass, client: u32) -> Place
         requires own { pass.old.lock ≡ self.now.lock }
         requires low { 1 ≤ client }

@@ -16,8 +16,8 @@ use kms_model::{Kind, ObjId, Step};
 use std::sync::Wait;
 
 impl Device {
-    /// Claims the least commit whose tail may begin, as the machine's `claim` does; none exactly where there is none in the history
-    /// that was found.
+    /// Claims the least commit whose tail may begin, as the machine's `claim` does, and gives its number, counted from 0; none
+    /// exactly where there is none in the history that was found.
     pub fn claim<W: Wait>(&self, rt: &W, pass: &mut Pass) -> Option<u32>
         requires own { pass.old.lock ≡ self.now.lock }
         ensures { DeviceTurn self.now.script (λ found. result ≡ first_claim found) (claim_steps result)
@@ -26,8 +26,8 @@ impl Device {
         self.turn(rt, pass, |core: &mut Core| core.claim())
     }
 
-    /// Writes the registers of the CRTC or the plane that a commit writes next, as the machine's `write` does. False, and no step,
-    /// exactly where it is not the next in the history that was found.
+    /// Writes the registers of the CRTC or the plane that a commit, by its number from 0, writes next, as the machine's `write`
+    /// does. False, and no step, exactly where it is not the next in the history that was found.
     pub fn write<W: Wait>(&self, rt: &W, pass: &mut Pass, commit: u32, id: ObjId) -> bool
         requires own { pass.old.lock ≡ self.now.lock }
         ensures { DeviceTurn self.now.script (λ found. result ≡ may_write found commit id)
@@ -36,8 +36,8 @@ impl Device {
         self.turn(rt, pass, |core: &mut Core| write(core, commit, id))
     }
 
-    /// Flushes the CRTC with an index for a commit, as the machine's `flush` does. False, and no step, exactly where the commit does
-    /// not flush it next in the history that was found.
+    /// Flushes the CRTC with an index for a commit, by its number from 0, as the machine's `flush` does. False, and no
+    /// step, exactly where the commit does not flush it next in the history that was found.
     pub fn flush<W: Wait>(&self, rt: &W, pass: &mut Pass, commit: u32, crtc: u32) -> bool
         requires own { pass.old.lock ≡ self.now.lock }
         ensures { DeviceTurn self.now.script
@@ -47,8 +47,8 @@ impl Device {
         self.turn(rt, pass, |core: &mut Core| flush(core, commit, crtc))
     }
 
-    /// Tells that all registers of a commit are written and flushed, as the machine's `hw_done` does. False, and no step, exactly
-    /// where they are not, or it was told, in the history that was found.
+    /// Tells that all registers of a commit, by its number from 0, are written and flushed, as the machine's `hw_done` does.
+    /// False, and no step, exactly where they are not, or it was told, in the history that was found.
     pub fn hw_done<W: Wait>(&self, rt: &W, pass: &mut Pass, commit: u32) -> bool
         requires own { pass.old.lock ≡ self.now.lock }
         ensures { DeviceTurn self.now.script (λ found. result ≡ is_legal found (step.HwDone commit))
@@ -57,8 +57,8 @@ impl Device {
         self.turn(rt, pass, |core: &mut Core| hw_done(core, commit))
     }
 
-    /// Cleans a commit up, as the machine's `cleanup` does. False, and no step, exactly where its tail is not over, or it is cleaned
-    /// up, in the history that was found.
+    /// Cleans up a commit, by its number from 0, as the machine's `cleanup` does. False, and no step, exactly where its tail is
+    /// not over, or it is cleaned up, in the history that was found.
     pub fn cleanup<W: Wait>(&self, rt: &W, pass: &mut Pass, commit: u32) -> bool
         requires own { pass.old.lock ≡ self.now.lock }
         ensures { DeviceTurn self.now.script (λ found. result ≡ is_legal found (step.Cleanup commit))
@@ -67,8 +67,9 @@ impl Device {
         self.turn(rt, pass, |core: &mut Core| clean_up(core, commit))
     }
 
-    /// Does the first of a commit's write, flush, hwdone and cleanup steps that is left, and gives it. None, and no step, exactly where
-    /// it is not legal in the history that was found, or none is left. (Kernel: `drm_atomic_helper.c`, `commit_tail`.)
+    /// Does the first of a commit's write, flush, hwdone and cleanup steps that is left, and gives it; the commit is given by its
+    /// number from 0. None, and no step, exactly where it is not legal in the history that was found, or none is left. (Kernel:
+    /// `drm_atomic_helper.c`, `commit_tail`.)
     pub fn work_on<W: Wait>(&self, rt: &W, pass: &mut Pass, commit: u32) -> Option<Step>
         requires own { pass.old.lock ≡ self.now.lock }
         ensures { DeviceTurn self.now.script

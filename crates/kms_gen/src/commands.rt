@@ -108,7 +108,7 @@ fn opening(alloc: Global, crtc: u32) -> Result<Vec<Command>, NoMemory>
     Ok(Vec::from_array(alloc, commands)?)
 }
 
-/// The commands of the client that drives a CRTC, where there are `n` commits in all.
+/// The commands of the client that drives the CRTC with an index, 0 or 1, where there are `n` commits in all.
 pub fn commands_for(alloc: Global, crtc: u32, seed: u64, n: u32) -> Result<Seq<Command>, NoMemory>
     requires client { crtc < 2 }
     requires few { n ≤ 4000 }

@@ -11,7 +11,7 @@ use std::alloc::Global;
 /// The flag of a request for an event. (Header: `drm_mode.h`, `DRM_MODE_PAGE_FLIP_EVENT`.)
 const PAGE_FLIP_EVENT: u32 = 0x1;
 
-/// One assignment, to a property by its id.
+/// One assignment, to a property, by its id, of the object of a kind with an index.
 pub fn assigns_to(kind: Kind, index: u32, prop: u32, value: Value) -> Assign
     ensures { result ≡ assigns_to kind index prop value }
 {
@@ -23,7 +23,7 @@ pub fn assigns_to(kind: Kind, index: u32, prop: u32, value: Value) -> Assign
     }
 }
 
-/// An assignment to the plane of a CRTC.
+/// An assignment to a property, by its id, of the plane of the CRTC with an index, 0 or 1.
 pub fn on_plane(crtc: u32, prop: u32, value: Value) -> Assign
     ensures { result ≡ on_plane crtc prop value }
 {
@@ -51,7 +51,8 @@ fn commit(alloc: Global, crtc: u32, index: u32, number: u64) -> Result<Request, 
     })
 }
 
-/// Adds a commit and the wait for its event, where the commit is one of this client: clients take turns.
+/// Adds a commit, by its place from 1 among all, and the wait for its event, where the commit is one of the client that
+/// drives the CRTC with an index, 0 or 1: clients take turns.
 pub fn push_flip(
     alloc: Global,
     commands: &mut Vec<Command>,

@@ -19,7 +19,8 @@ pub const MODE_M: u32 = 4;
 /// How many labels a client makes.
 const LABELS: u32 = 5;
 
-/// The label at a place, from 0 to 4, among those of the client that drives a CRTC, 0 or 1.
+/// The label, by its number from 0, at a place, from 0 to 4, among those of the client that drives the CRTC with an
+/// index, 0 or 1.
 pub fn label(crtc: u32, place: u32) -> u32
     requires client { crtc < 2 }
     requires among { place < LABELS }
@@ -28,7 +29,8 @@ pub fn label(crtc: u32, place: u32) -> u32
     LABELS * crtc + place
 }
 
-/// The framebuffer that a commit of a number shows: f where the number is even, else h.
+/// The label, by its number from 0, of the framebuffer that a commit of a number shows on the CRTC with an index, 0 or
+/// 1: f where the number is even, else h.
 pub fn drawn_framebuffer(crtc: u32, number: u64) -> u32
     requires { crtc < 2 }
     ensures { result ≡ drawn_framebuffer crtc number }

@@ -14,7 +14,7 @@ pub fn command_of(script: &Script, client: u32, number: u32) -> Option<&Command>
     from_one(commands.as_slice(), number)
 }
 
-/// That command, where it is a request.
+/// That command, by the same numbers, where it is a request.
 pub fn request_of(script: &Script, client: u32, number: u32) -> Option<&Request>
     ensures { option_copied result
         ≡ request_in (command_of script.now (record { client = client; command = number })) }

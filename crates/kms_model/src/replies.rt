@@ -12,8 +12,9 @@ pub struct Event {
     pub crtc: u32,
 }
 
-/// The number of a refused request, from 1 to 24. The flags are tried first, then each assignment, then what is wrong
-/// with the state after the request, kind of object by kind of object.
+/// The number of a refused request, from 1 to 26. The flags are tried first, then each assignment, then what is wrong
+/// with the state after the request, kind of object by kind of object. An accepted request is refused by 25 and 26
+/// alone.
 #[derive(Clone, Copy, Debug, PartialEq, Eq)]
 pub struct Refusal(pub u32);
 
@@ -33,7 +34,7 @@ pub enum Reply {
     Done,
     /// The request was committed.
     Commit {
-        /// The number of commits before it.
+        /// Its number, counted from 0: how many commits were before it.
         commit: u32,
     },
     /// The request was tested only, and would be accepted.
@@ -49,7 +50,7 @@ pub enum Reply {
     Busy {
         /// The object on which it met the other.
         object: ObjId,
-        /// The other commit.
+        /// The number of the other commit, counted from 0.
         commit: u32,
     },
     /// Another command was refused, with a number from 31 to 35.

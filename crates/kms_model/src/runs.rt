@@ -13,7 +13,7 @@ pub enum Doing {
     MustBackOff(Ticket, ObjId),
     /// Its context dropped its locks, and takes this object first.
     BackedOff(Ticket, ObjId),
-    /// Its blocking commit, of this number, is waited for.
+    /// Its blocking commit, of this number, counted from 0, is waited for.
     Returning(u32),
 }
 
@@ -32,7 +32,7 @@ pub struct Place {
 pub struct Latch {
     /// The CRTC's index.
     pub crtc: u32,
-    /// The number of the commit that latched.
+    /// The number of the commit that latched, counted from 0.
     pub commit: u32,
     /// The CRTC's count of vertical blankings after the latch.
     pub count: u64,

@@ -4,7 +4,8 @@ use crate::objects::{Gamma, Mode, ObjId};
 use crate::pictures::FbInfo;
 use crate::worlds::Look;
 
-/// Labels, each with what it names. The first entry of a label counts, and a label without one is missing.
+/// Labels, by their numbers from 0, each with what it names. The first entry of a label counts, and a label without one
+/// is missing.
 pub type Lookups = Seq<(u32, Look)>;
 
 /// What a property of an object is set to.
@@ -47,6 +48,7 @@ pub struct Resolved {
     pub sets: Seq<Set>,
     /// The id of each plane for which the request names a fence, with that fence's id, in order of planes.
     pub in_fences: Seq<(ObjId, u32)>,
-    /// The id of each CRTC whose last `OUT_FENCE_PTR` asks for a fence, with that fence's label, in order of CRTCs.
+    /// The id of each CRTC whose last `OUT_FENCE_PTR` asks for a fence, with the number, from 0, of that fence's label,
+    /// in order of CRTCs.
     pub out_fences: Seq<(ObjId, u32)>,
 }

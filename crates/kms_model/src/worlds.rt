@@ -47,7 +47,7 @@ pub struct Thing {
     pub label: u32,
     /// Its id: things are numbered from 1000 on in the order in which they were made.
     pub id: u32,
-    /// The client that made it.
+    /// The client that made it, counted from 1.
     pub owner: u32,
     /// What it is.
     pub content: Content,
@@ -79,12 +79,12 @@ pub enum Look {
     Fb(FbInfo),
     /// A blob that holds a legal mode, and the blob's id.
     Mode(Mode, u32),
-    /// A blob of neither a legal mode nor 2048 bytes.
+    /// A blob of neither a legal mode nor 2048 bytes, by its id.
     Blob(u32),
     /// A blob of 2048 bytes, as a table of colour values, and the blob's id.
     Gamma(Gamma, u32),
-    /// A fence.
+    /// A fence, by its id.
     Fence(u32),
-    /// A buffer.
+    /// A buffer, by its id.
     Buffer(u32),
 }

@@ -19,7 +19,7 @@ fn has_client(stores: &Stores, client: u32) -> bool
     client != 0 && client as usize <= stores.script.clients.len()
 }
 
-/// What a client does; one that the script does not have is idle.
+/// What a client, by its number from 1, does; one that the script does not have is idle.
 pub fn doing(stores: &Stores, client: u32) -> Doing
     ensures { result ≡ doing_at (machine stores.now) client }
 {
@@ -30,8 +30,8 @@ pub fn doing(stores: &Stores, client: u32) -> Doing
     }
 }
 
-/// The command at which a client is idle; none where it is at its end, has an acquire context or returns, and where
-/// there is no such client.
+/// The command at which a client, by its number from 1, is idle; none where it is at its end, has an acquire context or
+/// returns, and where there is no such client.
 pub fn idle_command(stores: &Stores, client: u32) -> Option<&Command>
     ensures { option_copied result ≡ idle_command_at stores.now client }
 {
@@ -58,7 +58,7 @@ pub(crate) fn is_at_end(stores: &Stores, client: u32) -> bool
     }
 }
 
-/// Whether a client may begin an acquire context: it is idle at an atomic request.
+/// Whether a client, by its number from 1, may begin an acquire context: it is idle at an atomic request.
 pub(crate) fn may_begin(stores: &Stores, client: u32) -> bool
     ensures { result ≡ may stores.now.script (machine stores.now) (step.Begin client) }
 {
@@ -68,21 +68,21 @@ pub(crate) fn may_begin(stores: &Stores, client: u32) -> bool
     }
 }
 
-/// Whether a client must drop its locks.
+/// Whether a client, by its number from 1, must drop its locks.
 pub(crate) fn may_back_off(stores: &Stores, client: u32) -> bool
     ensures { result ≡ may stores.now.script (machine stores.now) (step.BackOff client) }
 {
     matches!(doing(stores, client), Doing::MustBackOff(..))
 }
 
-/// Whether a client backed off, and the object that it backed off for is free.
+/// Whether a client, by its number from 1, backed off, and the object that it backed off for is free.
 pub(crate) fn may_relock(stores: &Stores, client: u32) -> bool
     ensures { result ≡ may stores.now.script (machine stores.now) (step.Relock client) }
 {
     has_client(stores, client) && stores.clients.may_relock(client)
 }
 
-/// Whether a client is idle at a command that makes or closes a thing.
+/// Whether a client, by its number from 1, is idle at a command that makes or closes a thing.
 pub(crate) fn may_make(stores: &Stores, client: u32) -> bool
     ensures { result ≡ may stores.now.script (machine stores.now) (step.Make client) }
 {
@@ -92,7 +92,7 @@ pub(crate) fn may_make(stores: &Stores, client: u32) -> bool
     }
 }
 
-/// Whether a client is idle at a `signal`.
+/// Whether a client, by its number from 1, is idle at a `signal`.
 pub(crate) fn may_signal(stores: &Stores, client: u32) -> bool
     ensures { result ≡ may stores.now.script (machine stores.now) (step.Signal client) }
 {
@@ -102,7 +102,8 @@ pub(crate) fn may_signal(stores: &Stores, client: u32) -> bool
     }
 }
 
-/// Whether a client is idle at a `wait` that is answered: an event is unread, or none is reserved.
+/// Whether a client, by its number from 1, is idle at a `wait` that is answered: an event is unread, or none is
+/// reserved.
 pub(crate) fn may_read(stores: &Stores, client: u32) -> bool
     ensures { result ≡ may stores.now.script (machine stores.now) (step.Read client) }
 {
@@ -122,7 +123,7 @@ fn is_answered(stores: &Stores, client: u32) -> bool
     next_reply(&stores.queues[(client - 1) as usize]).is_some()
 }
 
-/// Whether the commit that a client waits for is cleaned.
+/// Whether the commit that a client, by its number from 1, waits for is cleaned.
 pub(crate) fn may_return(stores: &Stores, client: u32) -> bool
     ensures { result ≡ may stores.now.script (machine stores.now) (step.Return client) }
 {

@@ -31,9 +31,9 @@ use kms_stores::{Stores, late_reply, lookups};
 use kms_track::{OBJECTS, has_object, object_at_place};
 use std::alloc::Global;
 
-/// Whether a client may ask for the object of a kind with an index: it takes locks for a request that reaches the
-/// object, which is free, or which an older context holds. Any numbers may be asked for. (Kernel: "KMS Locking",
-/// `drm_modeset_lock`.)
+/// Whether a client, by its number from 1, may ask for the object of a kind with an index: it takes locks for a request
+/// that reaches the object, which is free, or which an older context holds. Any numbers may be asked for. (Kernel: "KMS
+/// Locking", `drm_modeset_lock`.)
 pub(crate) fn may_lock(stores: &Stores, client: u32, kind: Kind, index: u32) -> bool
     ensures { result ≡ may stores.now.script (machine stores.now) (step.Lock client kind index) }
 {
@@ -51,10 +51,10 @@ pub(crate) fn may_lock(stores: &Stores, client: u32, kind: Kind, index: u32) -> 
             .is_free_or_older(client, ObjId::of(kind, index))
 }
 
-/// Whether the request of a client that takes locks may be refused: one of refusals 1 to 8 is due; or the client holds
-/// what the request touches, and one of refusals 9 to 24 is due, or it is no test, and there is no space for its events
-/// or it is busy. Any number may be asked for. (Kernel: `drm_atomic_check_only`, `drm_event_reserve_init`,
-/// `drm_atomic_helper_setup_commit`.)
+/// Whether the request of a client, by its number from 1, that takes locks may be refused: one of refusals 1 to 8 is
+/// due; or the client holds what the request touches, and one of refusals 9 to 24 is due, or it is no test, and there
+/// is no space for its events or it is busy. Any number may be asked for. (Kernel: `drm_atomic_check_only`,
+/// `drm_event_reserve_init`, `drm_atomic_helper_setup_commit`.)
 pub(crate) fn may_refuse(stores: &Stores, client: u32) -> bool
     ensures { result ≡ may stores.now.script (machine stores.now) (step.Refuse client) }
 {
@@ -67,9 +67,9 @@ pub(crate) fn may_refuse(stores: &Stores, client: u32) -> bool
     }
 }
 
-/// Whether the request of a client that takes locks may be told to be accepted: it is a test, the client holds what it
-/// touches, and none of refusals 1 to 24 is due. Any number may be asked for. (Kernel: `drm_mode_atomic_ioctl`,
-/// `DRM_MODE_ATOMIC_TEST_ONLY`.)
+/// Whether the request of a client, by its number from 1, that takes locks may be told to be accepted: it is a test,
+/// the client holds what it touches, and none of refusals 1 to 24 is due. Any number may be asked for. (Kernel:
+/// `drm_mode_atomic_ioctl`, `DRM_MODE_ATOMIC_TEST_ONLY`.)
 pub(crate) fn may_test(stores: &Stores, client: u32) -> bool
     ensures { result ≡ may stores.now.script (machine stores.now) (step.Test client) }
 {
@@ -82,9 +82,10 @@ pub(crate) fn may_test(stores: &Stores, client: u32) -> bool
     }
 }
 
-/// Whether the request of a client that takes locks may be committed: it is no test, the client holds what it touches,
-/// none of refusals 1 to 24 is due, there is space for its events, it is not busy, and its commit waits for no other.
-/// Any number may be asked for. (Kernel: `drm_atomic_helper_commit`, `drm_atomic_helper_swap_state`.)
+/// Whether the request of a client, by its number from 1, that takes locks may be committed: it is no test, the client
+/// holds what it touches, none of refusals 1 to 24 is due, there is space for its events, it is not busy, and its
+/// commit waits for no other. Any number may be asked for. (Kernel: `drm_atomic_helper_commit`,
+/// `drm_atomic_helper_swap_state`.)
 pub(crate) fn may_swap(stores: &Stores, client: u32) -> bool
     ensures { result ≡ may stores.now.script (machine stores.now) (step.Swap client) }
 {
@@ -97,7 +98,8 @@ pub(crate) fn may_swap(stores: &Stores, client: u32) -> bool
     }
 }
 
-/// What is told of the request for which a client takes locks; none where one of refusals 1 to 8 is due.
+/// What is told of the request for which a client, by its number from 1, takes locks; none where one of refusals 1 to 8
+/// is due.
 pub(crate) fn judged(stores: &Stores, client: u32, request: &Request) -> Option<Judged>
     requires { Some request.now ≡ request_taken stores.now.script (machine stores.now) client }
     ensures { IsJudged stores.now.script.topology (machine stores.now) client request.now result }
@@ -118,7 +120,7 @@ pub(crate) fn judged(stores: &Stores, client: u32, request: &Request) -> Option<
     })
 }
 
-/// The reply that refuses the request for which a client takes locks, where it may be refused.
+/// The reply that refuses the request for which a client, by its number from 1, takes locks, where it may be refused.
 pub fn refusal_reply(stores: &Stores, client: u32, request: &Request) -> Reply
     requires taken { Some request.now
         ≡ request_taken stores.now.script (machine stores.now) client }
@@ -175,7 +177,7 @@ pub fn resolved(stores: &Stores, alloc: Global, request: &Request) -> Result<Res
     }
 }
 
-/// The request for which a client takes locks; none where it takes none.
+/// The request for which a client, by its number from 1, takes locks; none where it takes none.
 pub fn request_taken(stores: &Stores, client: u32) -> Option<&Request>
     ensures { option_copied result ≡ request_taken stores.now.script (machine stores.now) client }
 {

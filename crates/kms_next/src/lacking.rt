@@ -24,7 +24,7 @@ use kms_model::{Kind, ObjId, Request, Step};
 use kms_request::{affected, only_crtcs};
 use kms_stores::Stores;
 
-/// The lock that a client takes next for a request.
+/// The lock that a client, by its number from 1, takes next for a request.
 pub(crate) fn lock_step(stores: &Stores, client: u32, request: &Request) -> Option<Step>
     requires taken { Some request.now
         ≡ request_taken stores.now.script (machine stores.now) client }

@@ -23,9 +23,9 @@ pub fn stall(stores: &mut Stores) -> Result<(), NoMemory>
     Ok(())
 }
 
-/// The label of the fence that a dead history waits for: the first in order of planes, of the least commit that is not
-/// claimed and waits for one that a `fence` made and that is not signalled. None where there is none, and where the
-/// history is not dead.
+/// The label, by its number from 0, of the fence that a dead history waits for: the first in order of planes, of the
+/// least commit that is not claimed and waits for one that a `fence` made and that is not signalled. None where there
+/// is none, and where the history is not dead.
 pub fn stalled_on(stores: &Stores) -> Option<u32>
     ensures { result ≡ stalled_on stores.now.script (machine stores.now) }
 {

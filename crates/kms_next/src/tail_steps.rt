@@ -16,15 +16,15 @@ use kms_request::exists;
 use kms_stores::Stores;
 use kms_tails::Tail;
 
-/// Whether the tail of a commit may begin: it is not claimed, the fences that it waits for are signalled, and the
-/// commit before it on each object that it touches is done and has flipped there.
+/// Whether the tail of a commit, by its number from 0, may begin: it is not claimed, the fences that it waits for are
+/// signalled, and the commit before it on each object that it touches is done and has flipped there.
 pub(crate) fn may_claim(stores: &Stores, commit: u32) -> bool
     ensures { result ≡ may stores.now.script (machine stores.now) (step.Claim commit) }
 {
     stores.tracker.ready(commit, &stores.fences)
 }
 
-/// Whether the object is the CRTC or the plane that a claimed commit writes next.
+/// Whether the object is the CRTC or the plane that a claimed commit, by its number from 0, writes next.
 pub(crate) fn may_write(stores: &Stores, commit: u32, kind: Kind, index: u32) -> bool
     ensures { result ≡ may stores.now.script (machine stores.now) (step.Write commit kind index) }
 {
@@ -34,7 +34,8 @@ pub(crate) fn may_write(stores: &Stores, commit: u32, kind: Kind, index: u32) ->
     }
 }
 
-/// Whether the object is the CRTC that a commit, which has written all its registers, flushes next.
+/// Whether the object is the CRTC that a commit, by its number from 0, which has written all its registers, flushes
+/// next.
 pub(crate) fn may_flush(stores: &Stores, commit: u32, kind: Kind, index: u32) -> bool
     ensures { result ≡ may stores.now.script (machine stores.now) (step.Flush commit kind index) }
 {
@@ -44,7 +45,7 @@ pub(crate) fn may_flush(stores: &Stores, commit: u32, kind: Kind, index: u32) ->
     }
 }
 
-/// Whether a claimed commit has written and flushed all its registers, and this was not told.
+/// Whether a claimed commit, by its number from 0, has written and flushed all its registers, and this was not told.
 pub(crate) fn may_be_done(stores: &Stores, commit: u32) -> bool
     ensures { result ≡ may stores.now.script (machine stores.now) (step.HwDone commit) }
 {
@@ -54,7 +55,7 @@ pub(crate) fn may_be_done(stores: &Stores, commit: u32) -> bool
     }
 }
 
-/// Whether a commit is done, has latched at each CRTC that it names, and is not cleaned.
+/// Whether a commit, by its number from 0, is done, has latched at each CRTC that it names, and is not cleaned.
 pub(crate) fn may_clean_up(stores: &Stores, commit: u32) -> bool
     ensures { result ≡ may stores.now.script (machine stores.now) (step.Cleanup commit) }
 {

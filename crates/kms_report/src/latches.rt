@@ -118,8 +118,8 @@ fn push_if_on<H: Hands>(
     push_latch(hands, alloc, text, core, screen, latch, after, pixmap)
 }
 
-/// Adds the lines of the latches of a CRTC, of all latches in order of time. Each frame is made of one of
-/// the two before it where that has its size and its table of colour values, else anew.
+/// Adds the lines of the latches of the CRTC with an index, from 0 to 3, of all latches in order of time. Each frame is
+/// made of one of the two before it where that has its size and its table of colour values, else anew.
 pub fn push_latches<H: Hands>(
     hands: &H,
     alloc: Global,

@@ -11,7 +11,7 @@ use kms_model::{Answered, Event, NoMemory, Reply, Seq, Step};
 use kms_script::print_step;
 use std::alloc::{AllocError, Global};
 
-/// Adds `J CLIENT COMMAND`.
+/// Adds `J CLIENT COMMAND`, of the numbers of a client and its command, both counted from 1.
 pub fn push_entry(
     alloc: Global,
     text: &mut Vec<u8>,
@@ -57,7 +57,7 @@ fn event_line(alloc: Global, client: u32, event: &Event) -> Result<String, Alloc
     format!(in alloc; "E {client} {user_data} {sequence} {crtc}\n")
 }
 
-/// Adds the line of the event that a reply tells a client, where it tells one.
+/// Adds the line of the event that a reply tells a client, by its number from 1, where it tells one.
 pub fn push_event(
     alloc: Global,
     text: &mut Vec<u8>,
@@ -73,7 +73,7 @@ pub fn push_event(
     Ok(text.extend_from_slice(event_line(alloc, client, event)?.as_bytes())?)
 }
 
-/// A name by its place among the names; no byte where they are fewer.
+/// A name by its place among the names, from 0; no byte where they are fewer.
 pub fn name_of(names: &Seq<Seq<u8>>, place: u32) -> &[u8]
     ensures { result.now ≡ slice_index_or names.now place [] }
 {
@@ -90,7 +90,7 @@ fn id_end(alloc: Global, id: u32) -> Result<String, AllocError>
     format!(in alloc; " {id}\n")
 }
 
-/// Adds `X LABEL ID`.
+/// Adds `X LABEL ID`, of a label by its number from 0 and the id of its framebuffer.
 pub fn push_freed(
     alloc: Global,
     text: &mut Vec<u8>,

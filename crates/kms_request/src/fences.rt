@@ -130,7 +130,7 @@ pub fn in_fences<L: Looker>(
     listed(alloc, Kind::Plane, topology.planes.len(), &numbers)
 }
 
-/// The CRTCs for which assignments ask for a fence, each with the label that it gets, in order.
+/// The CRTCs for which assignments ask for a fence, each with the label that it gets, by its number from 0, in order.
 pub fn out_fences(
     alloc: Global,
     topology: &Topology,

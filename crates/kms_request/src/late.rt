@@ -33,17 +33,17 @@ pub struct Asked {
 /// A step of the order in which refusals are tried; within a step, objects are looked at in order of their indices.
 #[derive(Clone, Copy)]
 enum OrderStep {
-    /// 10 to 15, of each plane.
+    /// `FRAMEBUFFER_XOR_CRTC` to `SWITCHES_CRTC`, of each plane.
     Planes,
-    /// 16 and 17, of each CRTC.
+    /// `ACTIVE_WITHOUT_MODE` and `SIGNAL_WHILE_OFF`, of each CRTC.
     Crtcs,
-    /// 18, of each connector.
+    /// `CONNECTOR_NOT_POSSIBLE`, of each connector.
     Conns,
-    /// 19, of each CRTC.
+    /// `CLONED_CONNECTORS`, of each CRTC.
     Clones,
-    /// 20, of each CRTC.
+    /// `MODE_XOR_CONNECTOR`, of each CRTC.
     Routes,
-    /// 21 to 23, of each plane.
+    /// `CRTC_NOT_ENABLED` to `FRACTIONAL_SOURCE`, of each plane.
     Shown,
 }
 
@@ -62,7 +62,7 @@ fn members(mask: u32, count: usize) -> usize
     (0..count).filter(|&index| is_in(mask, index)).count()
 }
 
-/// What is wrong with a plane of a set, from 10 to 15.
+/// What is wrong with a plane of a set, from `FRAMEBUFFER_XOR_CRTC` to `SWITCHES_CRTC`.
 fn check_plane(
     topology: &Topology,
     states: &Duplicates,
@@ -78,7 +78,7 @@ fn check_plane(
     plane_refusal(info, &both.old, &both.new)
 }
 
-/// What is wrong with a CRTC of a set, 16 or 17.
+/// What is wrong with a CRTC of a set, `ACTIVE_WITHOUT_MODE` or `SIGNAL_WHILE_OFF`.
 fn check_crtc(states: &Duplicates, objects: &Mask, asked: Asked, index: usize) -> Option<Refusal>
     ensures { refusal_number result
         ≡ option_and_then (crtc_refusal_of (bits_of asked.flags) asked.named asked.fenced index)
@@ -90,7 +90,7 @@ fn check_crtc(states: &Duplicates, objects: &Mask, asked: Asked, index: usize) -
     crtc_refusal(asks, both.old.active, both.new.active, both.new.mode)
 }
 
-/// What is wrong with a connector of a set, 18.
+/// What is wrong with a connector of a set, `CONNECTOR_NOT_POSSIBLE`.
 fn check_conn(
     topology: &Topology,
     states: &Duplicates,
@@ -105,7 +105,7 @@ fn check_conn(
     conn_refusal(*possible, both.new.crtc)
 }
 
-/// 19, where two or more connectors are on a CRTC of a set.
+/// `CLONED_CONNECTORS`, where two or more connectors are on a CRTC of a set.
 fn check_clones(
     topology: &Topology,
     states: &Duplicates,
@@ -123,7 +123,7 @@ fn check_clones(
     }
 }
 
-/// 20, where a CRTC of a set has a mode and no connector, or a connector and no mode.
+/// `MODE_XOR_CONNECTOR`, where a CRTC of a set has a mode and no connector, or a connector and no mode.
 fn check_route(states: &Duplicates, objects: &Mask, index: usize) -> Option<Refusal>
     ensures { refusal_number result ≡ option_and_then (λ both. route_refusal_of both)
         (crtc_in_set states.now objects.now index) }
@@ -136,7 +136,7 @@ fn check_route(states: &Duplicates, objects: &Mask, index: usize) -> Option<Refu
     }
 }
 
-/// What is wrong with a plane of a set on its CRTC, from 21 to 23.
+/// What is wrong with a plane of a set on its CRTC, from `CRTC_NOT_ENABLED` to `FRACTIONAL_SOURCE`.
 fn check_shown(profile: u32, states: &Duplicates, objects: &Mask, index: usize) -> Option<Refusal>
     requires { IfSome (plane_in_set states.now objects.now index) (λ both. IsPlaneInRange both.new) }
     ensures { refusal_number result
@@ -239,7 +239,7 @@ pub fn late_refusal(
         .or_else(|| modeset_refusal(topology, states, objects, asked.flags))
 }
 
-/// 24, where a CRTC of a set needs a modeset and ALLOW_MODESET is not set.
+/// `MODESET_NOT_ALLOWED`, where a CRTC of a set needs a modeset and ALLOW_MODESET is not set.
 fn modeset_refusal(
     topology: &Topology,
     states: &Duplicates,

@@ -10,7 +10,7 @@ pub trait Looker {
     /// What each label names.
     ghost meaning: { Self → ℕ → Look };
 
-    /// What a label names.
+    /// What a label, by its number from 0, names.
     fn look(&self, label: u32) -> Look
         ensures { result ≡ meaning self.now label };
 }

@@ -15,8 +15,8 @@ use crate::picking::{Every, Picker};
 use crate::whole::named_by_picked;
 use kms_model::{Assign, Duplicates, Mask, Request};
 
-/// The CRTCs that those of some assignments name that count, and the objects that these touch. Every object of the device
-/// is duplicated, before them and after them.
+/// The mask of the CRTCs that those of some assignments name that count, and the objects that these touch. Every object
+/// of the device is duplicated, before them and after them.
 pub(crate) fn spans_of_picked<P: Picker>(
     states: &Duplicates,
     picks: &P,

@@ -93,10 +93,11 @@ fn placed_refusal(
     None
 }
 
-/// What is wrong with a plane that goes from one state to another: 10, it has a framebuffer without a CRTC, or a CRTC
-/// without a framebuffer; 11, the CRTC is not among its possible ones; 12, the format is not among its formats; 13, the
-/// destination ends beyond 2147483647; 14, the source ends outside the framebuffer; 15, it goes from one CRTC straight
-/// to another. The numbers of the new state are in the ranges of their properties.
+/// What is wrong with a plane that goes from one state to another: `FRAMEBUFFER_XOR_CRTC`, it has a framebuffer without
+/// a CRTC, or a CRTC without a framebuffer; `CRTC_NOT_POSSIBLE`, the CRTC is not among its possible ones;
+/// `FORMAT_NOT_SUPPORTED`, the format is not among its formats; `DESTINATION_TOO_FAR`, the destination ends beyond
+/// 2147483647; `SOURCE_OUTSIDE_FRAMEBUFFER`, the source ends outside the framebuffer; `SWITCHES_CRTC`, it goes from one
+/// CRTC straight to another. The numbers of the new state are in the ranges of their properties.
 #[tactic(auto, unfolding(kms_model::specs::Request::Checks::plane_refusal))]
 pub(crate) fn plane_refusal(info: &PlaneInfo, old: &PlaneState, new: &PlaneState) -> Option<Refusal>
     requires { IsPlaneInRange new.now }
@@ -109,8 +110,8 @@ pub(crate) fn plane_refusal(info: &PlaneInfo, old: &PlaneState, new: &PlaneState
     }
 }
 
-/// What is wrong with a CRTC: 16, it is on without a mode; 17, an event or an out-fence is asked for it, and it was off
-/// and stays off.
+/// What is wrong with a CRTC: `ACTIVE_WITHOUT_MODE`, it is on without a mode; `SIGNAL_WHILE_OFF`, an event or an
+/// out-fence is asked for it, and it was off and stays off.
 pub(crate) fn crtc_refusal(
     asks: bool,
     was_on: bool,
@@ -128,7 +129,8 @@ pub(crate) fn crtc_refusal(
     None
 }
 
-/// What is wrong with a connector of possible CRTCs: 18, its CRTC is not among them.
+/// What is wrong with a connector with the mask of its possible CRTCs, of the id of its CRTC or 0:
+/// `CONNECTOR_NOT_POSSIBLE`, its CRTC is not among them.
 pub(crate) fn conn_refusal(possible: u32, crtc: u32) -> Option<Refusal>
     ensures { refusal_number result ≡ conn_refusal possible crtc }
 {
@@ -192,8 +194,9 @@ fn has_start(profile: u32, src: Rect) -> bool
     profile != 1 || (is_whole(src.x) && is_whole(src.y))
 }
 
-/// What is wrong with a plane on a CRTC of a mode, on a device of a profile: 21, the CRTC is not enabled; 22, the sizes of
-/// source and destination; 23, where the source begins. The numbers of the state are in the ranges of their properties.
+/// What is wrong with a plane on a CRTC of a mode, on a device of a profile, 1 or 2: `CRTC_NOT_ENABLED`, the CRTC is not
+/// enabled; `SCALED`, the sizes of source and destination; `FRACTIONAL_SOURCE`, where the source begins. The numbers of
+/// the state are in the ranges of their properties.
 #[tactic(auto, unfolding(kms_model::specs::Request::Checks::shown_refusal))]
 pub(crate) fn shown_refusal(profile: u32, mode: Option<Mode>, state: &PlaneState) -> Option<Refusal>
     requires { IsPlaneInRange state.now }

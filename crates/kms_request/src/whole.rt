@@ -49,7 +49,7 @@ fn named_if<P: Picker>(states: &Duplicates, picks: &P, a: &Assign) -> u32
     named_between(states, a)
 }
 
-/// The CRTCs that those of some assignments name that count.
+/// The mask of the CRTCs that those of some assignments name that count.
 pub(crate) fn named_by_picked<P: Picker>(states: &Duplicates, picks: &P, assigns: &[Assign]) -> u32
     requires { All (λ a. IsSettableIf (P.picked picks.now a) a) assigns.now }
     ensures { AreCrtcs (λ crtc. list_any (λ a. is_named_between states.now a crtc)

@@ -18,7 +18,7 @@ pub enum Status {
     WriteFault,
     /// The words are not legal; nothing is read or written.
     Usage,
-    /// The input's first fault; nothing is written. Line 0 is the whole input.
+    /// The input's first fault, at a line counted from 1; nothing is written. Line 0 is the whole input.
     Script { line: u32, why: Why },
     /// The history is dead; its report is written.
     Stalled,

@@ -20,7 +20,8 @@ pub enum Action {
     One,
     /// `replay`: the steps of the schedule behind the script are done.
     Replay,
-    /// `run`: so many threads, from 1 to 16, do the steps of all actors, and one thread those that are left then.
+    /// `run`: so many threads, a count from 1 to 16, do the steps of all actors, and one thread those that are left
+    /// then.
     Run { threads: u32 },
 }
 
@@ -53,7 +54,7 @@ pub struct Execution {
     pub options: Options,
 }
 
-/// A script that is generated, by its seed and the number of its commits, from 1 to 4000; and whether it is run.
+/// A script that is generated, by its seed and the count of its commits, from 1 to 4000; and whether it is run.
 #[derive(Clone, Copy, Debug, PartialEq, Eq)]
 pub struct Generation {
     pub seed: u64,

@@ -36,8 +36,8 @@ pub fn on_crtc(prop: u32, value: Value) -> Assign
     set(Kind::Crtc, 0, prop, value)
 }
 
-/// What lights the first CRTC: the framebuffer and the mode of these labels are of one pixel. The first three
-/// assignments are to the CRTC and its connector, the others to its plane.
+/// What lights the first CRTC: the framebuffer and the mode of these labels, by their numbers from 0, are of one pixel.
+/// The first three assignments are to the CRTC and its connector, the others to its plane.
 pub fn light(fb: u32, mode: u32) -> [Assign; 9]
     ensures { result ≡ light fb mode }
 {

@@ -192,14 +192,14 @@ fn push_list(text: &mut Vec<u8>, items: Items, mask: u32) -> Result<(), NoMemory
     Ok(())
 }
 
-/// Adds a set of CRTCs.
+/// Adds a set of CRTCs, by its mask.
 pub fn push_crtcs(text: &mut Vec<u8>, mask: u32) -> Result<(), NoMemory>
     ensures { OnOk result (text.new.items ≡ text.old.items ++ crtcs_word mask) }
 {
     push_list(text, Items::Crtcs, mask)
 }
 
-/// Adds a set of formats.
+/// Adds a set of formats, by its mask.
 pub fn push_formats(text: &mut Vec<u8>, mask: u32) -> Result<(), NoMemory>
     ensures { OnOk result (text.new.items ≡ text.old.items ++ formats_word mask) }
 {

@@ -102,8 +102,9 @@ impl Serial {
         self.store.execute(alloc, client, command)
     }
 
-    /// Executes a client's atomic request. Where it is committed, the set of CRTCs that it names comes with the answer:
-    /// bit i stands for CRTC index i; else that set is empty. Want of memory leaves the device as it was.
+    /// Executes the atomic request of a client, by its number from 1. Where it is committed, the set of CRTCs that it
+    /// names comes with the answer: bit i stands for CRTC index i; else that set is empty. Want of memory leaves the
+    /// device as it was.
     pub fn commit(&mut self, client: u32, request: &Request) -> Result<(Reply, u32), NoMemory>
         requires { HasRoom self.old.world }
         ensures executed { IfOk result (λ x.
@@ -129,9 +130,9 @@ impl Serial {
         Ok((Reply::Commit { commit }, named_in(&after, request)))
     }
 
-    /// Executes a client's command: it makes, closes, signals or commits, or is refused by 1 to 24 or by 31 to 35, and
-    /// then nothing changes. `Wait` changes nothing, and what is answered to it is not this device's. Want of memory
-    /// leaves the device as it was.
+    /// Executes the command of a client, by its number from 1: it makes, closes, signals or commits, or is refused by 1
+    /// to 24 or by 31 to 35, and then nothing changes. `Wait` changes nothing, and what is answered to it is not this
+    /// device's. Want of memory leaves the device as it was.
     pub fn execute(
         &mut self,
         alloc: Global,
@@ -156,7 +157,7 @@ impl Serial {
         }
     }
 
-    /// What `execute` would answer now. Nothing changes.
+    /// What `execute` would answer to a command of a client, by its number from 1, now. Nothing changes.
     #[tactic(auto, unfolding(kms_model::specs::Device::Execution::execute))]
     pub fn preview(&self, client: u32, command: &Command) -> Reply
         ensures { (execute self.now.topology self.now.world client command.now).reply ≡ result }
@@ -249,7 +250,8 @@ impl Serial {
         self.store.things().image(fb)
     }
 
-    /// The label of the framebuffer with an id, and whether it is open; none where no framebuffer has it.
+    /// The label, by its number from 0, of the framebuffer with an id, and whether it is open; none where no
+    /// framebuffer has it.
     pub fn framebuffer(&self, id: u32) -> Option<(u32, bool)>
         ensures { result ≡ framebuffer_entry (thing_with_id self.now.world.things id) }
     {
@@ -264,14 +266,15 @@ impl Serial {
         framebuffer_id(self.states.new_plane(plane))
     }
 
-    /// The id of the thing that was made under a label, open or closed; none where there is no such thing.
+    /// The id of the thing that was made under a label, by its number from 0, open or closed; none where there is no
+    /// such thing.
     pub fn id_of(&self, label: u32) -> Option<u32>
         ensures { result ≡ option_map (λ t. t.id) (thing_labelled self.now.world.things label) }
     {
         Some(self.store.things().labelled(label)?.id)
     }
 
-    /// What a label names.
+    /// What a label, by its number from 0, names.
     pub fn look(&self, label: u32) -> Look
         ensures { result ≡ look_up self.now.world label }
     {

@@ -85,7 +85,8 @@ impl WorldStore {
         self.things.has_ids() && self.commits < MOST_COMMITS
     }
 
-    /// Executes a command of a client that is no atomic request. Want of memory leaves the world as it was.
+    /// Executes a command of a client, by its number from 1, that is no atomic request. Want of memory leaves the world
+    /// as it was.
     pub fn execute(
         &mut self,
         alloc: Global,
@@ -102,7 +103,8 @@ impl WorldStore {
         self.things.execute(alloc, client, command)
     }
 
-    /// What `execute` would answer to a command of a client that is no atomic request. Nothing changes.
+    /// What `execute` would answer to a command of a client, by its number from 1, that is no atomic request. Nothing
+    /// changes.
     pub fn preview(&self, client: u32, command: &Command) -> Reply
         requires { IsNoRequest command.now }
         ensures { (t : Topology) → (execute t self.now client command.now).reply ≡ result }
@@ -110,8 +112,8 @@ impl WorldStore {
         self.things.preview(client, command)
     }
 
-    /// Commits a client's request on a device: the values that it sets hold, its out-fences are made, and the number of
-    /// commits before it is given. Want of memory leaves the world as it was.
+    /// Commits the request of a client, by its number from 1, on a device: the values that it sets hold, its out-fences
+    /// are made, and the number of commits before it is given. Want of memory leaves the world as it was.
     pub fn commit(
         &mut self,
         client: u32,

@@ -11,7 +11,7 @@ use std::alloc::Global;
 /// A client that takes locks for its request.
 #[derive(Drop)]
 pub struct RequestContext {
-    /// The client.
+    /// The client, counted from 1.
     pub client: u32,
     /// Its ticket.
     pub ticket: Ticket,
@@ -80,9 +80,9 @@ fn take_up_all(core: &Core, context: &mut RequestContext, objects: &[ObjId]) -> 
     true
 }
 
-/// The context of a client that takes locks for a request, with the present states of objects that it holds. None exactly
-/// where the client takes none, and where it does not hold one of the objects, or one stands twice. The only error is want
-/// of memory.
+/// The context of a client, by its number from 1, that takes locks for a request, with the present states of objects that
+/// it holds. None exactly where the client takes none, and where it does not hold one of the objects, or one stands twice.
+/// The only error is want of memory.
 pub fn context_with(
     core: &Core,
     alloc: Global,

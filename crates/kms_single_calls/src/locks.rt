@@ -9,7 +9,7 @@ ghost use Rattle.kms_single_calls.specs.Calls.{asked_steps, may_ask, may_ask_aga
 use kms_core::{Core, Locked};
 use kms_model::{Doing, FIRST_CRTC_ID, NoMemory, ObjId, Step};
 
-/// What a client does; one that the script does not have is idle.
+/// What a client, by its number from 1, does; one that the script does not have is idle.
 pub(crate) fn doing(core: &Core, client: u32) -> Doing
     ensures { result ≡ doing_at (machine core.now) client }
 {
@@ -33,8 +33,8 @@ fn may_ask(core: &Core, client: u32, id: ObjId) -> bool
     id.0 >= FIRST_CRTC_ID && core.legal(&step)
 }
 
-/// Asks for an object for a client that takes locks. None exactly where it may not ask for it, and where a younger context
-/// or the client itself holds it: each answer is a step. Want of memory leaves all as it was.
+/// Asks for an object for a client, by its number from 1, that takes locks. None exactly where it may not ask for it, and
+/// where a younger context or the client itself holds it: each answer is a step. Want of memory leaves all as it was.
 pub fn call_lock(core: &mut Core, client: u32, id: ObjId) -> Result<Option<Locked>, NoMemory>
     ensures answer { IfOk result (λ answer.
         answer ≡ then_some (may_ask core.old client id) (locked_answer core.old client id)) }
@@ -51,8 +51,8 @@ pub fn call_lock(core: &mut Core, client: u32, id: ObjId) -> Result<Option<Locke
     Ok(Some(core.lock(ticket, id)?))
 }
 
-/// Asks again for the object that a client backed off for. None exactly where it did not back off, and after the end of the
-/// history. Want of memory leaves all as it was.
+/// Asks again for the object that a client, by its number from 1, backed off for. None exactly where it did not back off,
+/// and after the end of the history. Want of memory leaves all as it was.
 pub fn call_relock(core: &mut Core, client: u32) -> Result<Option<Locked>, NoMemory>
     ensures answer { IfOk result (λ answer.
         answer ≡ then_some (may_ask_again core.old client) (relocked_answer core.old client)) }

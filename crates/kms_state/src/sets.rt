@@ -16,7 +16,7 @@ use kms_model::{
     Mode, PlaneState,
 };
 
-/// `ACTIVE` of a CRTC.
+/// `ACTIVE` of a CRTC, by its id.
 pub(crate) fn set_active(states: &mut Duplicates, id: u32, number: i64)
     requires { IsTrue (is_some (state_of Crtc states.old.crtcs id)) }
     ensures { IsSet states.old (set_to id ACTIVE (to.Num number)) states.new }
@@ -28,7 +28,7 @@ pub(crate) fn set_active(states: &mut Duplicates, id: u32, number: i64)
     }
 }
 
-/// `MODE_ID` of a CRTC.
+/// `MODE_ID` of a CRTC, by its id.
 pub(crate) fn set_mode(states: &mut Duplicates, id: u32, mode: Option<Mode>)
     requires { IsTrue (is_some (state_of Crtc states.old.crtcs id)) }
     ensures { IsSet states.old (set_to id MODE_ID (to.Mode mode)) states.new }
@@ -40,7 +40,7 @@ pub(crate) fn set_mode(states: &mut Duplicates, id: u32, mode: Option<Mode>)
     }
 }
 
-/// `GAMMA_LUT` of a CRTC.
+/// `GAMMA_LUT` of a CRTC, by its id.
 pub(crate) fn set_gamma(states: &mut Duplicates, id: u32, gamma: Option<Gamma>)
     requires { IsTrue (is_some (state_of Crtc states.old.crtcs id)) }
     ensures { IsSet states.old (set_to id GAMMA_LUT (to.Gamma gamma)) states.new }
@@ -52,7 +52,7 @@ pub(crate) fn set_gamma(states: &mut Duplicates, id: u32, gamma: Option<Gamma>)
     }
 }
 
-/// A number of a plane.
+/// The number that a property, by its id, of a plane, by its id, is set to.
 pub(crate) fn set_number(states: &mut Duplicates, id: u32, prop: u32, number: i64)
     requires there { IsTrue (is_some (state_of Plane states.old.planes id)) }
     requires value { IsTrue (may_set Plane prop (to.Num number)) }
@@ -65,7 +65,7 @@ pub(crate) fn set_number(states: &mut Duplicates, id: u32, prop: u32, number: i6
     }
 }
 
-/// `FB_ID` of a plane.
+/// `FB_ID` of a plane, by its id.
 pub(crate) fn set_fb(states: &mut Duplicates, id: u32, fb: Option<FbInfo>)
     requires { IsTrue (is_some (state_of Plane states.old.planes id)) }
     ensures { IsSet states.old (set_to id FB_ID (to.Fb fb)) states.new }
@@ -77,7 +77,7 @@ pub(crate) fn set_fb(states: &mut Duplicates, id: u32, fb: Option<FbInfo>)
     }
 }
 
-/// `CRTC_ID` of a plane.
+/// `CRTC_ID` of a plane, by its id: the id of a CRTC, or 0.
 pub(crate) fn move_plane(states: &mut Duplicates, id: u32, crtc: u32)
     requires { IsTrue (is_some (state_of Plane states.old.planes id)) }
     ensures { IsSet states.old (set_to id CRTC_ID (to.Crtc crtc)) states.new }
@@ -92,7 +92,7 @@ pub(crate) fn move_plane(states: &mut Duplicates, id: u32, crtc: u32)
     }
 }
 
-/// `CRTC_ID` of a connector.
+/// `CRTC_ID` of a connector, by its id: the id of a CRTC, or 0.
 pub(crate) fn move_conn(states: &mut Duplicates, id: u32, crtc: u32)
     requires { IsTrue (is_some (state_of Conn states.old.conns id)) }
     ensures { IsSet states.old (set_to id CRTC_ID (to.Crtc crtc)) states.new }

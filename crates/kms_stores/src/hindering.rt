@@ -19,7 +19,7 @@ fn one_if(b: bool) -> u32
     if b { 1 } else { 0 }
 }
 
-/// How many of the first four objects are in a set.
+/// How many of the first four objects are in a set, by its mask.
 pub fn count_in(mask: u32) -> u32
     ensures count { result ≡ count_in mask }
     ensures most { result ≤ 4 }
@@ -57,8 +57,9 @@ fn busy_reply(tracker: &Tracker, flags: u32, touched: &Mask) -> Option<Reply>
     }
 }
 
-/// The refusal of an accepted request, if any: there is no space for its events in its client's queue, or it does not wait
-/// and is busy. (Kernel: `drm_event_reserve_init`, `drm_atomic_helper_setup_commit`.)
+/// The refusal of an accepted request, if any, by the mask of the CRTCs that it names and its flags: there is no space for
+/// its events in its client's queue, or it does not wait and is busy. (Kernel: `drm_event_reserve_init`,
+/// `drm_atomic_helper_setup_commit`.)
 pub fn late_reply(
     queue: &EventQueue,
     tracker: &Tracker,

@@ -31,12 +31,12 @@ pub enum Decided {
     NotYet {
         /// The CRTC.
         object: ObjId,
-        /// The commit before.
+        /// The number of the commit before, counted from 0.
         commit: u32,
     },
     /// A label of the request names something else than it did. Nothing changed.
     Again {
-        /// The label.
+        /// The label, by its number from 0.
         label: u32,
         /// What it named.
         was: Look,
@@ -48,7 +48,7 @@ pub enum Decided {
 /// A label that names something else than it did.
 #[derive(Clone, Copy, Debug)]
 pub struct Stale {
-    /// The label.
+    /// The label, by its number from 0.
     pub label: u32,
     /// What it named.
     pub was: Look,
@@ -127,7 +127,7 @@ fn taker_at(clients: &Clients, t: Ticket, index: u32) -> Option<u32>
     }
 }
 
-/// The client whose context has a ticket and takes locks; 0 where there is none.
+/// The client, by its number from 1, whose context has a ticket and takes locks; 0 where there is none.
 pub fn taker(clients: &Clients, t: Ticket) -> u32
     ensures { result ≡ taker_in (doing_in clients.now.places) t.0 }
 {

@@ -24,7 +24,7 @@ pub struct Stores {
     pub steps: Log<Step>,
     /// Where clients stand, and the locks of their contexts.
     pub clients: Clients,
-    /// The accepted commands, each by its client and its number.
+    /// The accepted commands, each by its client and its number, both counted from 1.
     pub journal: Log<(u32, u32)>,
     /// The replies.
     pub replies: Log<Answered>,
@@ -44,11 +44,12 @@ pub struct Stores {
     pub tails: Tails,
     /// The registers.
     pub registers: RegFile,
-    /// The commit that each CRTC latches at its next vertical blanking.
+    /// The number, counted from 0, of the commit that each CRTC, by its index, latches at its next vertical blanking.
     pub goes: [Option<u32>; 4],
     /// Whether the history was ended.
     pub stalled: bool,
-    /// The framebuffers that were freed, with a place for each that is needed.
+    /// The framebuffers that were freed, each by its label, a number from 0, and its id, with a place for each that is
+    /// needed.
     pub freed: Ledger<(u32, u32)>,
 }
 

@@ -69,7 +69,8 @@ pub fn make_spare(
     latches.make_room(room)
 }
 
-/// Records the reply to a client's command, at the place of the commands that were accepted before.
+/// Records the reply to the command of a client, by their numbers from 1, at the place of the commands that were
+/// accepted before.
 pub fn answer(
     journal: &Log<(u32, u32)>,
     replies: &mut Log<Answered>,
@@ -89,7 +90,7 @@ pub fn answer(
     });
 }
 
-/// Puts a client's command into the journal, where its reply accepts it.
+/// Puts the command of a client, by their numbers from 1, into the journal, where its reply accepts it.
 pub fn join(journal: &mut Log<(u32, u32)>, client: u32, command: u32, reply: &Reply)
     requires { 0 < journal.old.room }
     ensures { journal.new.items ≡ joined journal.old.items (is_accepted reply.now) client command }

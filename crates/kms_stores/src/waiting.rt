@@ -17,7 +17,7 @@ pub fn next_reply(queue: &EventQueue) -> Option<Reply>
     }
 }
 
-/// Signals a fence, where there is one.
+/// Signals the fence with an id, where there is one.
 pub fn signal_fence(fences: &mut Fences, id: Option<u32>)
     ensures { fences.new ≡ with_signal fences.old id }
 {

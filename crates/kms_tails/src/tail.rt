@@ -35,7 +35,7 @@ pub struct Tail {
 }
 
 impl Tail {
-    /// The tail of a client's request, as it was checked, of which nothing was done.
+    /// The tail of the request of a client, by its number from 1, as it was checked, of which nothing was done.
     pub(crate) fn new(
         client: u32,
         request: &Request,

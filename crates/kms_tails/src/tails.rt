@@ -70,9 +70,10 @@ impl Tails {
         Ok(())
     }
 
-    /// Keeps the tail of a client's request that is swapped in, as it was checked, with the ids of the fences that it made
-    /// for its CRTCs, by index. The commit's number is greater than all others. Want of memory leaves all as it was, and
-    /// comes only where there was no room. (Kernel: `drm_atomic_helper_setup_commit`, `drm_atomic_helper_swap_state`.)
+    /// Keeps the tail of the request of a client, by its number from 1, that is swapped in, as it was checked, with the
+    /// ids of the fences that it made for its CRTCs, by index. The commit's number, counted from 0, is greater than all
+    /// others. Want of memory leaves all as it was, and comes only where there was no room. (Kernel:
+    /// `drm_atomic_helper_setup_commit`, `drm_atomic_helper_swap_state`.)
     pub fn push(
         &mut self,
         _alloc: Global,
@@ -104,7 +105,7 @@ impl Tails {
         Ok(())
     }
 
-    /// The tail of a commit that is swapped in and not cleaned; none of any other.
+    /// The tail of a commit, by its number from 0, that is swapped in and not cleaned; none of any other.
     pub fn get(&self, commit: u32) -> Option<&Tail>
         ensures value { option_copied result ≡ value_with_id self.now.slots commit }
         ensures kept { (t : Topology) (commits : List Commit) (marks : Marks) (latches : List Latch)
@@ -117,7 +118,7 @@ impl Tails {
         }
     }
 
-    /// The least number, from one on, of a commit that is not cleaned.
+    /// The least number, from a given one on, of a commit that is not cleaned.
     pub fn first_from(&self, from: u32) -> Option<u32>
         ensures number { result ≡ first_from self.now.slots from }
         ensures machine { FindsFirst self.now from result }
@@ -139,7 +140,7 @@ impl Tails {
         self.slots.len().checked_mul(MOST_STEPS)
     }
 
-    /// A worker claims a commit, if it is not cleaned. (Kernel: `commit_work`.)
+    /// A worker claims a commit, by its number from 0, if it is not cleaned. (Kernel: `commit_work`.)
     pub fn claim(&mut self, commit: u32)
         ensures marked { self.new ≡ marked self.old commit mark.Claimed }
         ensures left { TakesOne commit mark.Claimed self.old self.new }
@@ -148,8 +149,8 @@ impl Tails {
         self.mark(commit, Mark::Claimed);
     }
 
-    /// The registers of a CRTC or a plane are written for a commit, if it is not cleaned. (Kernel:
-    /// `drm_atomic_helper_commit_modeset_enables`, `drm_atomic_helper_commit_planes`.)
+    /// The registers of a CRTC or a plane are written for a commit, by its number from 0, if it is not cleaned.
+    /// (Kernel: `drm_atomic_helper_commit_modeset_enables`, `drm_atomic_helper_commit_planes`.)
     pub fn wrote(&mut self, commit: u32, id: ObjId)
         requires { HasRegisters id.0 }
         ensures marked { self.new ≡ marked self.old commit (wrote_mark id.0) }
@@ -164,7 +165,8 @@ impl Tails {
         }
     }
 
-    /// The CRTC with an index, from 0 to 3, is flushed for a commit, if it is not cleaned. (Kernel: `atomic_flush`.)
+    /// The CRTC with an index, from 0 to 3, is flushed for a commit, by its number from 0, if it is not cleaned.
+    /// (Kernel: `atomic_flush`.)
     pub fn flushed(&mut self, commit: u32, crtc: u32)
         requires { crtc < 4 }
         ensures marked { self.new ≡ marked self.old commit (mark.Flushed crtc) }
@@ -175,7 +177,7 @@ impl Tails {
         self.mark(commit, Mark::Flushed(crtc));
     }
 
-    /// All registers of a commit are written and flushed, if it is not cleaned. (Kernel:
+    /// All registers of a commit, by its number from 0, are written and flushed, if it is not cleaned. (Kernel:
     /// `drm_atomic_helper_commit_hw_done`.)
     pub fn hw_done(&mut self, commit: u32)
         ensures marked { self.new ≡ marked self.old commit mark.Done }
@@ -185,7 +187,7 @@ impl Tails {
         self.mark(commit, Mark::Done);
     }
 
-    /// A commit latches at the CRTC with an index, from 0 to 3, if it is not cleaned. (Kernel:
+    /// A commit, by its number from 0, latches at the CRTC with an index, from 0 to 3, if it is not cleaned. (Kernel:
     /// `drm_crtc_send_vblank_event`, which completes `flip_done`.)
     pub fn latched(&mut self, commit: u32, crtc: u32)
         requires { crtc < 4 }
@@ -197,7 +199,7 @@ impl Tails {
         self.mark(commit, Mark::Latched(crtc));
     }
 
-    /// Gives up what is kept of a commit, which is cleaned up. The room does not shrink. (Kernel:
+    /// Gives up what is kept of a commit, by its number from 0, which is cleaned up. The room does not shrink. (Kernel:
     /// `drm_atomic_helper_commit_cleanup_done`, `drm_atomic_state_put`.)
     pub fn remove(&mut self, commit: u32)
         ensures slots { self.new.slots ≡ without_id self.old.slots commit }

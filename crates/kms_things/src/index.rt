@@ -27,7 +27,7 @@ pub fn thing_with_id(things: &[Thing], id: u32) -> Option<&Thing>
     things.get((id - FIRST_THING_ID) as usize)
 }
 
-/// The thing that was made under a label.
+/// The thing that was made under a label, by its number from 0. The index has the id of each label.
 pub fn thing_labelled<'a>(
     things: &'a [Thing],
     ids: &HashMap<u32, u32>,
@@ -56,7 +56,8 @@ fn note(ids: &mut HashMap<u32, u32>, label: u32, id: u32)
     let _ = ids.insert(label, id);
 }
 
-/// Puts an open thing behind the others, where there is room for it.
+/// Puts an open thing behind the others, with its label, by its number from 0, its id and its client, by its number
+/// from 1, where there is room for it.
 pub fn put(
     things: &mut Vec<Thing>,
     ids: &mut HashMap<u32, u32>,
@@ -130,8 +131,9 @@ fn put_fence(
     next + 1
 }
 
-/// Makes a client's out-fences with the next ids under the labels that are asked for, in order, where there is room for
-/// them. Gives the id of the next thing.
+/// Makes the out-fences of a client, by its number from 1, with the next ids, of which the first is given, under the
+/// labels that are asked for, by their numbers from 0, in order, where there is room for them. Gives the id of the next
+/// thing.
 pub fn put_fences(
     things: &mut Vec<Thing>,
     ids: &mut HashMap<u32, u32>,

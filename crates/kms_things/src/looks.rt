@@ -52,7 +52,7 @@ fn look_of_content(id: u32, content: &Content) -> Look
 }
 
 impl Things {
-    /// What a label names.
+    /// What a label, by its number from 0, names.
     pub fn look(&self, label: u32) -> Look
         ensures { result ≡ look_of (thing_labelled self.now.things label) }
     {
@@ -63,7 +63,7 @@ impl Things {
         }
     }
 
-    /// What a label names, where a closed thing counts as it was while it was open.
+    /// What a label, by its number from 0, names, where a closed thing counts as it was while it was open.
     pub fn look_any(&self, label: u32) -> Look
         ensures { result ≡ look_of_any (thing_labelled self.now.things label) }
     {
@@ -73,7 +73,8 @@ impl Things {
         }
     }
 
-    /// The label of the framebuffer with an id, and whether it is open; none where no framebuffer has it.
+    /// The label, by its number from 0, of the framebuffer with an id, and whether it is open; none where no
+    /// framebuffer has it.
     pub fn framebuffer(&self, id: u32) -> Option<(u32, bool)>
         ensures { result ≡ framebuffer_entry (thing_with_id self.now.things id) }
     {

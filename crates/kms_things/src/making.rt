@@ -16,7 +16,8 @@ use crate::things::Things;
 use kms_model::{Command, Content, Denied, Duplicate, FbInfo, NoMemory, Reply};
 use std::alloc::Global;
 
-/// What a framebuffer of a client's buffer is, with the next id, and the id of the buffer.
+/// What a framebuffer is, with the next id, of the buffer that a client, by its number from 1, has under a label, by
+/// its number from 0; and the id of the buffer.
 pub fn new_framebuffer(things: &Things, client: u32, label: u32) -> Option<(FbInfo, u32)>
     ensures value { result ≡ new_framebuffer things.now client label }
     ensures framed { IfSome result (λ f. IsFramed things.now.things things.now.next_id f.0 f.1) }
@@ -44,7 +45,7 @@ pub fn new_framebuffer(things: &Things, client: u32, label: u32) -> Option<(FbIn
     }
 }
 
-/// Makes a framebuffer of a client's buffer; 33 where the label is no buffer of this client.
+/// Makes a framebuffer of a client's buffer; `NOT_FOUND` where the label is no buffer of this client.
 fn add_fb(
     alloc: Global,
     things: &mut Things,
@@ -104,7 +105,7 @@ fn close_fb(things: &mut Things, client: u32, label: u32) -> Reply
     Reply::Done
 }
 
-/// Signals a fence that a `fence` command made, which changes nothing.
+/// Signals the fence that a `fence` command made under a label, by its number from 0, which changes nothing.
 pub fn signal(things: &Things, label: u32) -> Reply
     ensures { (w : World)
         → signal_unless (with_made w things.now)
@@ -118,9 +119,9 @@ pub fn signal(things: &Things, label: u32) -> Reply
 }
 
 impl Things {
-    /// Executes a command of a client that is no atomic request: it makes, closes or signals, or is refused by 31 to 35, and
-    /// then nothing changes. `Wait` changes nothing, and what is answered to it is not the things'. Want of memory leaves all
-    /// as it was.
+    /// Executes a command of a client, by its number from 1, that is no atomic request: it makes, closes or signals, or is
+    /// refused by 31 to 35, and then nothing changes. `Wait` changes nothing, and what is answered to it is not the things'.
+    /// Want of memory leaves all as it was.
     #[tactic(auto, unfolding(kms_model::specs::Device::Execution::execute))]
     pub fn execute(
         &mut self,

@@ -31,7 +31,7 @@ fn done_unless(refusal: Option<u32>) -> Reply
     }
 }
 
-/// What is wrong with a framebuffer: 33, its label is no buffer of this client.
+/// What is wrong with a framebuffer: `NOT_FOUND`, its label is no buffer of this client.
 fn framebuffer_refusal(things: &Things, client: u32, buffer: u32) -> Option<u32>
     ensures { result ≡ framebuffer_refusal (buffer_of things.now.things client buffer) }
 {
@@ -42,7 +42,8 @@ fn framebuffer_refusal(things: &Things, client: u32, buffer: u32) -> Option<u32>
 }
 
 impl Things {
-    /// What `execute` would answer to a command of a client that is no atomic request. Nothing changes.
+    /// What `execute` would answer to a command of a client, by its number from 1, that is no atomic request. Nothing
+    /// changes.
     #[tactic(auto, unfolding(kms_model::specs::Device::Execution::execute))]
     pub fn preview(&self, client: u32, command: &Command) -> Reply
         requires { IsNoRequest command.now }

@@ -18,7 +18,8 @@ pub fn is_framebuffer(content: &Content) -> bool
     matches!(content, Content::Framebuffer { .. })
 }
 
-/// What is wrong with destroying a thing: 33, it is no open blob; 34, it is another client's.
+/// What is wrong with destroying a thing for a client, by its number from 1: `NOT_FOUND`, it is no open blob;
+/// `NOT_OWNER`, it is another client's. The refusal's number is given.
 pub fn destroy_refusal(client: u32, thing: Option<&Thing>) -> Option<u32>
     ensures { result ≡ destroy_refusal client (option_copied thing.entry) }
 {
@@ -30,7 +31,8 @@ pub fn destroy_refusal(client: u32, thing: Option<&Thing>) -> Option<u32>
     }
 }
 
-/// What is wrong with closing a thing: 33, it is no open framebuffer of this client.
+/// What is wrong with closing a thing for a client, by its number from 1: `NOT_FOUND`, it is no open framebuffer of
+/// this client. The refusal's number is given.
 pub fn close_refusal(client: u32, thing: Option<&Thing>) -> Option<u32>
     ensures { result ≡ close_refusal client (option_copied thing.entry) }
 {
@@ -40,7 +42,8 @@ pub fn close_refusal(client: u32, thing: Option<&Thing>) -> Option<u32>
     }
 }
 
-/// What is wrong with signalling a thing: 35, it is no fence that a `fence` command made.
+/// What is wrong with signalling a thing: `NOT_SIGNALLABLE`, it is no fence that a `fence` command made. The refusal's
+/// number is given.
 pub fn signal_refusal(thing: Option<&Thing>) -> Option<u32>
     ensures { result ≡ signal_refusal (option_copied thing.entry) }
 {

@@ -80,7 +80,7 @@ impl Things {
         self.next_id < MOST
     }
 
-    /// The thing that was made under a label, open or closed.
+    /// The thing that was made under a label, by its number from 0, open or closed.
     pub fn labelled(&self, label: u32) -> Option<&Thing>
         ensures thing { option_copied result ≡ thing_labelled self.now.things label }
         ensures own_id { IfSome result (λ t. thing_with_id self.now.things t.now.id ≡ Some t.now) }
@@ -95,7 +95,8 @@ impl Things {
         index::thing_with_id(self.made.as_slice(), id)
     }
 
-    /// Makes a thing that is neither a buffer nor a framebuffer. Want of memory leaves all as it was.
+    /// Makes a thing that is neither a buffer nor a framebuffer, for a client, by its number from 1, under a label, by
+    /// its number from 0. Want of memory leaves all as it was.
     pub(crate) fn make(
         &mut self,
         owner: u32,
@@ -118,7 +119,8 @@ impl Things {
         Ok(Reply::Made { id })
     }
 
-    /// Makes a framebuffer of a buffer, with the one reference of being open. Want of memory leaves all as it was.
+    /// Makes a framebuffer of the buffer with an id for a client, by its number from 1, under a label, by its number
+    /// from 0, with the one reference of being open. Want of memory leaves all as it was.
     pub(crate) fn make_fb(
         &mut self,
         alloc: Global,
@@ -146,15 +148,16 @@ impl Things {
         Ok(Reply::Made { id })
     }
 
-    /// What is wrong with a new buffer: 31, a side is 0 or above 4096 pixels; 32, all buffers would have more than
-    /// 268435456 bytes.
+    /// What is wrong with a new buffer, of a width and a height in pixels: `INVALID_SIZE`, a side is 0 or above 4096
+    /// pixels; `NO_BUFFER_SPACE`, all buffers would have more than 268435456 bytes. The refusal's number is given.
     pub(crate) fn new_buffer_refusal(&self, width: u32, height: u32, format: Format) -> Option<u32>
         ensures { result ≡ new_buffer_refusal self.now.things width height format }
     {
         number_of(self.buffers.total_with(width, height, format))
     }
 
-    /// Makes a buffer with its words, unless it is refused. Want of memory leaves all as it was.
+    /// Makes a buffer with its words, of a width and a height in pixels, for a client, by its number from 1, under a
+    /// label, by its number from 0, unless it is refused. Want of memory leaves all as it was.
     pub(crate) fn make_buffer(
         &mut self,
         alloc: Global,
@@ -215,8 +218,9 @@ impl Things {
         }
     }
 
-    /// Makes a client's out-fences with the next ids under the labels that its accepted request asks for, one place for each
-    /// CRTC of the device, in order. Want of memory leaves all as it was. (Kernel: "Explicit Fencing Properties", `OUT_FENCE_PTR`.)
+    /// Makes the out-fences of a client, by its number from 1, with the next ids under the labels, by their numbers from 0, that
+    /// its accepted request asks for, one place for each CRTC of the device, in order. Want of memory leaves all as it was.
+    /// (Kernel: "Explicit Fencing Properties", `OUT_FENCE_PTR`.)
     pub fn make_out_fences(&mut self, client: u32, labels: &[Option<u32>]) -> Result<(), NoMemory>
         requires few { length labels.now ≤ 4 }
         requires ids { HasIds self.old }
@@ -246,7 +250,8 @@ impl Things {
         index::close(&mut self.made, id);
     }
 
-    /// Closes a client's open framebuffer, which gives the reference of being open back.
+    /// Closes the open framebuffer with an id of a client, by its number from 1, which gives the reference of being
+    /// open back.
     pub(crate) fn close_fb(&mut self, client: u32, id: u32)
         requires { close_refusal client (thing_with_id self.old.things id) ≡ None }
         ensures things { self.new.things ≡ closed_in self.old.things id }
@@ -264,8 +269,8 @@ impl Things {
         self.fbs.has(fb)
     }
 
-    /// Takes a reference more of a framebuffer that something refers to and that has fewer than 4294967295.
-    /// (Kernel: `drm_framebuffer_get`.)
+    /// Takes a reference more of the framebuffer with an id that something refers to and that has fewer than
+    /// 4294967295. (Kernel: `drm_framebuffer_get`.)
     pub fn take(&mut self, fb: u32)
         requires { MayTake (value_with_id self.old.fbs fb) }
         ensures { self.new ≡ record self.old { fbs = fbs_taken self.old.fbs fb } }
@@ -273,8 +278,8 @@ impl Things {
         self.fbs.take(fb);
     }
 
-    /// Gives a reference back of a framebuffer that has one beside that of being open. True exactly where that was the
-    /// last: nothing refers to the framebuffer any more. (Kernel: `drm_framebuffer_put`.)
+    /// Gives a reference back of the framebuffer with an id that has one beside that of being open. True exactly where
+    /// that was the last: nothing refers to the framebuffer any more. (Kernel: `drm_framebuffer_put`.)
     pub fn give(&mut self, fb: u32) -> bool
         requires { MayGive (value_with_id self.old.fbs fb) }
         ensures last { result ≡ is_last_of (value_with_id self.old.fbs fb) }

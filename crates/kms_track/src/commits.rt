@@ -10,9 +10,9 @@ use kms_signal::Fences;
 /// The last two commits that touched an object.
 #[derive(Clone, Copy, Debug, PartialEq, Eq)]
 pub struct Last {
-    /// The number of the last one, if any.
+    /// The number of the last one, counted from 0, if any.
     pub commit: Option<u32>,
-    /// The number of the last but one, if any.
+    /// The number of the last but one, counted from 0, if any.
     pub before: Option<u32>,
 }
 
@@ -35,7 +35,7 @@ impl Last {
 /// An object that a commit touches.
 #[derive(Clone, Copy, Debug, PartialEq, Eq)]
 pub struct Touched {
-    /// The number of the last commit before it that touched the object, if any.
+    /// The number of the last commit before it that touched the object, counted from 0, if any.
     pub previous: Option<u32>,
     /// The object's CRTCs before and after the commit.
     pub sides: Sides,
@@ -57,7 +57,8 @@ pub struct Pending {
 }
 
 impl Pending {
-    /// Whether it has flipped for the object at a place, which it touches: has latched at each of its CRTCs.
+    /// Whether it has flipped for the object at a place, from 0 to 27, which it touches: has latched at each of its
+    /// CRTCs.
     pub(crate) fn has_flipped(&self, place: u32) -> bool
         requires { place < 28 }
         ensures { result ≡ pending_flipped self.now place }
@@ -140,7 +141,7 @@ pub(crate) fn all_fences(in_fences: &[(ObjId, u32)]) -> [Option<u32>; 16]
     fences
 }
 
-/// The last two commits of each object after one that touches these.
+/// The last two commits of each object after one, by its number from 0, that touches these.
 pub(crate) fn raise(last: &mut [Last; 28], touched: &Mask, commit: u32)
     ensures { (p : ℕ) → p < 28 → slice_index_or last.new p no_last
         ≡ raised (slice_index_or last.old p no_last) (mask_has touched.now p) commit }

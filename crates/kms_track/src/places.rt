@@ -19,7 +19,7 @@ pub struct Sides {
     pub new: u32,
 }
 
-/// The object at a place.
+/// The object at a place, from 0 to 27.
 pub fn object_at_place(place: u32) -> ObjId
     requires { place < 28 }
     ensures { result.0 ≡ object_at_place place }
@@ -33,7 +33,7 @@ pub fn object_at_place(place: u32) -> ObjId
     }
 }
 
-/// Whether the object at a place is in a set.
+/// Whether the object at a place, from 0 to 27, is in a set.
 pub fn has_object(mask: &Mask, place: u32) -> bool
     requires { place < 28 }
     ensures { result ≡ mask_has mask.now place }
@@ -47,7 +47,8 @@ pub fn has_object(mask: &Mask, place: u32) -> bool
     }
 }
 
-/// The CRTCs of the object at a place, of its states before and after a commit; none where it was not duplicated.
+/// The CRTCs of the object at a place, from 0 to 27, of its states before and after a commit; none where it was not
+/// duplicated.
 pub(crate) fn sides_at(states: &Duplicates, place: u32) -> Sides
     requires { place < 28 }
     ensures { result ≡ sides_at states.now place }

@@ -75,9 +75,9 @@ impl Tracker {
     }
 
     /// Sets a commit up, and gives its number, which counts the commits before it. It touches the objects that were
-    /// checked, and waits for the in-fences, at most one for each plane, each given by its plane and its id. Fewer than
-    /// 4294967295 commits were set up. Want of memory leaves all as it was, and comes only where there was no room; no
-    /// other call needs memory for the commit. (Kernel: `drm_atomic_helper_setup_commit`.)
+    /// checked, and waits for the in-fences, at most one for each plane, each given by its plane's id and its own.
+    /// Fewer than 4294967295 commits were set up. Want of memory leaves all as it was, and comes only where there was
+    /// no room; no other call needs memory for the commit. (Kernel: `drm_atomic_helper_setup_commit`.)
     pub fn setup(
         &mut self,
         alloc: Global,
@@ -107,16 +107,16 @@ impl Tracker {
         Ok(commit)
     }
 
-    /// What is kept of a commit that is set up and not cleaned; none of any other.
+    /// What is kept of a commit, by its number from 0, that is set up and not cleaned; none of any other.
     pub fn get(&self, commit: u32) -> Option<&Pending>
         ensures { option_copied result ≡ pending_commit self.now commit }
     {
         self.pending.get(commit)
     }
 
-    /// Whether a commit may be claimed: it is set up and not claimed, the fences that it waits for are signalled, and the
-    /// commit before it on each object that it touches is done and has flipped for that object. (Kernel:
-    /// `drm_atomic_helper_wait_for_fences`, `drm_atomic_helper_wait_for_dependencies`.)
+    /// Whether a commit, by its number from 0, may be claimed: it is set up and not claimed, the fences that it waits for
+    /// are signalled, and the commit before it on each object that it touches is done and has flipped for that object.
+    /// (Kernel: `drm_atomic_helper_wait_for_fences`, `drm_atomic_helper_wait_for_dependencies`.)
     pub fn ready(&self, commit: u32, fences: &Fences) -> bool
         ensures { result ≡ ready_of self.now fences.now commit }
     {
@@ -128,7 +128,7 @@ impl Tracker {
         }
     }
 
-    /// Marks a commit as claimed, if it is set up and not cleaned.
+    /// Marks a commit, by its number from 0, as claimed, if it is set up and not cleaned.
     pub fn claim(&mut self, commit: u32)
         ensures { self.new ≡ changed_commit self.old commit with_claim }
     {
@@ -141,7 +141,8 @@ impl Tracker {
         }
     }
 
-    /// Marks a commit as done: all its registers are written and flushed; if it is set up and not cleaned.
+    /// Marks a commit, by its number from 0, as done: all its registers are written and flushed; if it is set up and
+    /// not cleaned.
     pub fn hw_done(&mut self, commit: u32)
         ensures { self.new ≡ changed_commit self.old commit with_done }
     {
@@ -154,7 +155,8 @@ impl Tracker {
         }
     }
 
-    /// Marks that a commit has latched at a CRTC, given by its index from 0 to 3; if it is set up and not cleaned.
+    /// Marks that a commit, by its number from 0, has latched at a CRTC, given by its index from 0 to 3; if it is set
+    /// up and not cleaned.
     pub fn flip_done(&mut self, commit: u32, crtc: u32)
         requires { crtc < 4 }
         ensures { self.new ≡ changed_commit self.old commit (with_latch crtc) }
@@ -166,7 +168,7 @@ impl Tracker {
         }
     }
 
-    /// Forgets a commit that is done and has flipped for all its objects, and is over now.
+    /// Forgets a commit, by its number from 0, that is done and has flipped for all its objects, and is over now.
     pub fn cleanup(&mut self, commit: u32)
         ensures count { self.new.count ≡ self.old.count }
         ensures lasts { self.new.lasts ≡ self.old.lasts }
@@ -176,15 +178,15 @@ impl Tracker {
         self.pending.remove(commit);
     }
 
-    /// Whether a commit was set up and is cleaned.
+    /// Whether a commit, by its number from 0, was set up and is cleaned.
     pub fn is_cleaned(&self, commit: u32) -> bool
         ensures { result ≡ cleaned_of self.now commit }
     {
         commit < self.count && self.pending.get(commit).is_none()
     }
 
-    /// The first of these objects, by id, whose last commit has not flipped for it, with that commit. (Kernel:
-    /// `drm_atomic_helper_setup_commit`, which refuses a nonblocking commit then.)
+    /// The first of these objects, by id, whose last commit has not flipped for it, with the number of that commit,
+    /// counted from 0. (Kernel: `drm_atomic_helper_setup_commit`, which refuses a nonblocking commit then.)
     pub fn busy(&self, objects: &Mask) -> Option<(ObjId, u32)>
         ensures { result ≡ busy_of self.now objects.now }
     {
@@ -196,8 +198,9 @@ impl Tracker {
         None
     }
 
-    /// The first of these CRTCs, a mask, whose last commit is not done or whose last but one is not cleaned, with that
-    /// commit; of both the last one. (Kernel: `drm_atomic_helper_setup_commit`, `drm_atomic_helper_swap_state`.)
+    /// The first of these CRTCs, a mask, whose last commit is not done or whose last but one is not cleaned, with the
+    /// number of that commit, counted from 0; of both the last one. (Kernel: `drm_atomic_helper_setup_commit`,
+    /// `drm_atomic_helper_swap_state`.)
     pub fn not_yet(&self, crtcs: u32) -> Option<(ObjId, u32)>
         ensures { result ≡ not_yet_of self.now crtcs }
     {

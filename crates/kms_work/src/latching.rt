@@ -29,9 +29,9 @@ use kms_tails::{Tail, Tails};
 use kms_things::Things;
 use kms_track::Tracker;
 
-/// Flushes the CRTC with an index for the commit that flushes it next. A CRTC that is on after the commit then
-/// goes: it latches at its next vertical blanking. One that is off latches at once. It takes no memory. (Kernel:
-/// `drm_atomic_helper.c`, `drm_atomic_helper_commit_planes`, `atomic_flush`.)
+/// Flushes the CRTC with an index, from 0 to 3, for the commit, by its number from 0, that flushes it next. A CRTC that
+/// is on after the commit then goes: it latches at its next vertical blanking. One that is off latches at once. It
+/// takes no memory. (Kernel: `drm_atomic_helper.c`, `drm_atomic_helper_commit_planes`, `atomic_flush`.)
 pub fn flush(stores: &mut Stores, commit: u32, crtc: u32)
     requires { MayFlush stores.old commit crtc }
     ensures history { stores.new ≡ gains stores.old (step.Flush commit Crtc crtc ∷ []) }
@@ -69,9 +69,9 @@ pub fn flush(stores: &mut Stores, commit: u32, crtc: u32)
     stores.latches.push(shown);
 }
 
-/// The CRTC with an index has a vertical blanking, which is counted. True exactly where it goes: the commit that
-/// flushed it last then latches, which takes no memory. Want of memory comes only where it does not go, and leaves all
-/// as it was. (Kernel: `drm_vblank.c`, `drm_crtc_handle_vblank`.)
+/// The CRTC with an index, from 0 to 3, has a vertical blanking, which is counted. True exactly where it goes: the
+/// commit that flushed it last then latches, which takes no memory. Want of memory comes only where it does not go, and
+/// leaves all as it was. (Kernel: `drm_vblank.c`, `drm_crtc_handle_vblank`.)
 pub fn vblank(stores: &mut Stores, crtc: u32) -> Result<bool, NoMemory>
     requires { MayBlank stores.old crtc }
     ensures answer { IfOk result (λ went. went ≡ goes_at stores.old crtc) }

@@ -13,10 +13,10 @@ use kms_stores::{Stores, free, kept_ids};
 use kms_tails::{Tail, Tails};
 use kms_track::Tracker;
 
-/// Claims the least commit whose tail may begin: the fences that it waits for are signalled, and the commit before
-/// it on each object that it touches is done and has flipped there. None exactly where there is no such commit, as
-/// after the end of the history. (Kernel: `drm_atomic_helper.c`, `commit_work`, `drm_atomic_helper_wait_for_fences`,
-/// `drm_atomic_helper_wait_for_dependencies`.)
+/// Claims the least commit whose tail may begin: the fences that it waits for are signalled, and the commit before it
+/// on each object that it touches is done and has flipped there. It gives the commit's number, counted from 0; none
+/// exactly where there is no such commit, as after the end of the history. (Kernel: `drm_atomic_helper.c`,
+/// `commit_work`, `drm_atomic_helper_wait_for_fences`, `drm_atomic_helper_wait_for_dependencies`.)
 pub fn claim(stores: &mut Stores) -> Option<u32>
     ensures answer { result ≡ first_claim stores.old }
     ensures history { stores.new ≡ gains stores.old (claim_steps result) }
@@ -31,7 +31,7 @@ pub fn claim(stores: &mut Stores) -> Option<u32>
     Some(commit)
 }
 
-/// Claims a commit whose tail may begin.
+/// Claims a commit, by its number from 0, whose tail may begin.
 pub fn claim_commit(stores: &mut Stores, commit: u32)
     requires { MayClaim stores.old commit }
     ensures history { stores.new ≡ gains stores.old (step.Claim commit ∷ []) }
@@ -41,8 +41,8 @@ pub fn claim_commit(stores: &mut Stores, commit: u32)
     stores.steps.push(Step::Claim { commit });
 }
 
-/// Writes the registers of the CRTC or the plane that a commit writes next: the words of its old state become those
-/// of the new one. (Kernel: `drm_atomic_helper.c`, `drm_atomic_helper_commit_modeset_enables`,
+/// Writes the registers of the CRTC or the plane that a commit, by its number from 0, writes next: the words of its old
+/// state become those of the new one. (Kernel: `drm_atomic_helper.c`, `drm_atomic_helper_commit_modeset_enables`,
 /// `drm_atomic_helper_commit_planes`.)
 pub fn write(stores: &mut Stores, commit: u32, id: ObjId)
     requires { MayWrite stores.old commit id }
@@ -56,7 +56,7 @@ pub fn write(stores: &mut Stores, commit: u32, id: ObjId)
     stores.steps.push(write_step(commit, id));
 }
 
-/// Tells that all registers of a commit are written and flushed. (Kernel: `drm_atomic_helper.c`,
+/// Tells that all registers of a commit, by its number from 0, are written and flushed. (Kernel: `drm_atomic_helper.c`,
 /// `drm_atomic_helper_commit_hw_done`.)
 pub fn hw_done(stores: &mut Stores, commit: u32)
     requires { MayBeDone stores.old commit }
@@ -67,8 +67,8 @@ pub fn hw_done(stores: &mut Stores, commit: u32)
     stores.steps.push(Step::HwDone { commit });
 }
 
-/// Cleans a commit up, whose old states are then given up. It answers false, and changes nothing, exactly where
-/// its registers are not all written and flushed, or it has not latched at a CRTC that it names. (Kernel:
+/// Cleans up a commit, by its number from 0, whose old states are then given up. It answers false, and changes nothing,
+/// exactly where its registers are not all written and flushed, or it has not latched at a CRTC that it names. (Kernel:
 /// `drm_atomic_helper.c`, `drm_atomic_helper_wait_for_flip_done`, `drm_atomic_helper_commit_cleanup_done`.)
 pub fn cleanup(stores: &mut Stores, commit: u32) -> bool
     requires { MayCleanUp stores.old commit }

@@ -78,7 +78,7 @@ impl LockTable {
         }
     }
 
-    /// Begins a context for a client, by its number, and gives its ticket: 0 for the first context, 1 for the
+    /// Begins a context for a client, by its number from 1, and gives its ticket: 0 for the first context, 1 for the
     /// second, and so on. The client has no context, and fewer than 4294967295 tickets were drawn. For want of memory
     /// nothing changes.
     pub fn begin(&mut self, _alloc: Global, client: u32) -> Result<Ticket, NoMemory>
