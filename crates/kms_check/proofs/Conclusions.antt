@@ -18,7 +18,7 @@ use Rattle.kms_model.specs.declared.states.Duplicates.{Duplicates}
 use Rattle.kms_model.specs.declared.states.Mask.{Mask}
 use Rattle.kms_model.specs.declared.worlds.Look.{Look}
 use Rattle.kms_model.specs.declared.worlds.World.{World}
-use Rattle.kms_model.specs.Request.Apply.{apply, object_of}
+use Rattle.kms_model.specs.Request.Apply.{object_of}
 use Rattle.kms_model.specs.Request.Checks.{late_refusal}
 use Rattle.kms_model.specs.Firsts.{or_else}
 use Rattle.kms_model.specs.Request.Late.{duplicate_at, late_of_states}
@@ -248,7 +248,7 @@ pub record HasSets (t : Topology) (w : World) (r : Request) (resolved : Resolved
   pub none : lacking d (set_group t r) ≡ None
 
 pub named-known : (t : Topology) (w : World) (r : Request) (resolved : Resolved) (d : Duplicates) (named : ℕ) → HasSets t w r resolved d
-    → ((u : Topology) (v : World) (f : ℕ → Look) (q : Request) → naming.Covers u v f q resolved d → named ≡ named_set u v.values (apply v.things v.values q.assigns) q.assigns) → named ≡ named_set t w.values (after w r) r.assigns
+    → ((u : Topology) (v : World) (f : ℕ → Look) (q : Request) → naming.Covers u v f q resolved d → named ≡ named_set u v.values (after v q) q.assigns) → named ≡ named_set t w.values (after w r) r.assigns
 named-known t w r resolved d named has tells = tells t w (look_up w) r (named-covers t w r resolved d has.is has.room (covered d (set_group t r) has.none))
 
 pub named-lacking : (t : Topology) (w : World) (r : Request) (d : Duplicates) (named : ℕ) (crtcs : Mask) (found : Option Mask) → named ≡ named_set t w.values (after w r) r.assigns → crtcs ≡ record { crtcs = named; planes = 0; conns = 0 } → found ≡ lacking d crtcs

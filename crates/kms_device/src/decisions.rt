@@ -30,7 +30,8 @@ impl Device {
         why: Refusal,
     ) -> Result<Decided, NoMemory>
         requires own { pass.old.lock ≡ self.now.lock }
-        requires may { MayBeRefused (run_seen self.now.script pass.old) pass.old.rank t used.now why }
+        requires may { MayBeRefused (run_seen self.now.script pass.old) pass.old.rank t
+            used.now why }
         ensures { DeviceTurn self.now.script
             (λ found. IfOk result (IsDecided (look_up (world found)) used.now
             (decided.Done (reply.Refused why))))

@@ -20,8 +20,8 @@ impl Device {
     /// exactly where there is none in the history that was found.
     pub fn claim<W: Wait>(&self, rt: &W, pass: &mut Pass) -> Option<u32>
         requires own { pass.old.lock ≡ self.now.lock }
-        ensures { DeviceTurn self.now.script (λ found. result ≡ first_claim found) (claim_steps result)
-            pass.old pass.new }
+        ensures { DeviceTurn self.now.script (λ found. result ≡ first_claim found)
+            (claim_steps result) pass.old pass.new }
     {
         self.turn(rt, pass, |core: &mut Core| core.claim())
     }
@@ -61,7 +61,8 @@ impl Device {
     /// not over, or it is cleaned up, in the history that was found.
     pub fn cleanup<W: Wait>(&self, rt: &W, pass: &mut Pass, commit: u32) -> bool
         requires own { pass.old.lock ≡ self.now.lock }
-        ensures { DeviceTurn self.now.script (λ found. result ≡ is_legal found (step.Cleanup commit))
+        ensures { DeviceTurn self.now.script
+            (λ found. result ≡ is_legal found (step.Cleanup commit))
             (step_if result (step.Cleanup commit)) pass.old pass.new }
     {
         self.turn(rt, pass, |core: &mut Core| clean_up(core, commit))

@@ -3,6 +3,7 @@ use Rattle.std.proofs.Common.{◌≡◌, ℕ, ◌-◌, List, [], ◌∷◌, ◌+
 use Rattle.std.specs.Prelude.{slice_index}
 use Rattle.std.specs.List.{flat_map, range_with_len}
 use Rattle.std.specs.Option.{option_map}
+use Rattle.kms_model.specs.declared.flags.TheConstants.{ALLOW_MODESET}
 use Rattle.kms_model.specs.declared.objects.Format.TheVariants.{Xr24}
 use Rattle.kms_model.specs.declared.objects.Kind.TheVariants as kind
 use Rattle.kms_model.specs.declared.objects.Mode.{Mode}
@@ -10,6 +11,7 @@ use Rattle.kms_model.specs.declared.objects.Topology.{Topology}
 use Rattle.kms_model.specs.declared.properties.TheConstants.{FB_ID, CRTC_ID, CRTC_W, CRTC_H, SRC_W, SRC_H, ACTIVE, GAMMA_LUT, MODE_ID}
 use Rattle.kms_model.specs.declared.replies.Reply.{Reply}
 use Rattle.kms_model.specs.declared.replies.Reply.TheVariants as reply
+use Rattle.kms_model.specs.declared.replies.TheConstants.Refusal as refusal
 use Rattle.kms_model.specs.declared.scripts.Assign.{Assign}
 use Rattle.kms_model.specs.declared.scripts.Command.{Command}
 use Rattle.kms_model.specs.declared.scripts.Command.TheVariants as command
@@ -47,7 +49,7 @@ two_made = made_wide (0x00616263 ∷ 0x00666f6f ∷ []) 2
 
 -- so much of the framebuffer from its left edge on, in so many pixels
 abbrev wide : ℕ → ℕ → Command
-wide size pixels = request 0x400 (crtc_sets
+wide size pixels = request ALLOW_MODESET (crtc_sets
     ++ sets kind.Plane 0 FB_ID (value.Named 1)
     ∷ sets kind.Plane 0 CRTC_ID (value.Crtc 0)
     ∷ sets kind.Plane 0 CRTC_W (number pixels)
@@ -87,12 +89,12 @@ unfolding on_machines
 profile_1_does_not_scale = refl
 
 -- eight pixels of two are four times as many, and nine are more
-pub at_most_four_times_as_wide : replies (device_of 2) ((two_made ++ wide 131072 8 ∷ wide 131072 9 ∷ []) ∷ []) ≡ three_made ++ reply.Commit 0 ∷ refused 22 ∷ []
+pub at_most_four_times_as_wide : replies (device_of 2) ((two_made ++ wide 131072 8 ∷ wide 131072 9 ∷ []) ∷ []) ≡ three_made ++ reply.Commit 0 ∷ refused refusal.SCALED ∷ []
 unfolding on_literals
 at_most_four_times_as_wide = refl
 
 -- one pixel of four is a quarter, and one of a little more is less
-pub at_least_a_quarter_as_wide : replies (device_of 2) ((made_wide (1 ∷ 2 ∷ 3 ∷ 4 ∷ 5 ∷ []) 5 ++ wide 262144 1 ∷ wide 262145 1 ∷ []) ∷ []) ≡ three_made ++ reply.Commit 0 ∷ refused 22 ∷ []
+pub at_least_a_quarter_as_wide : replies (device_of 2) ((made_wide (1 ∷ 2 ∷ 3 ∷ 4 ∷ 5 ∷ []) 5 ++ wide 262144 1 ∷ wide 262145 1 ∷ []) ∷ []) ≡ three_made ++ reply.Commit 0 ∷ refused refusal.SCALED ∷ []
 unfolding on_literals
 at_least_a_quarter_as_wide = refl
 
@@ -132,25 +134,25 @@ sets_table = sets kind.Crtc 0 GAMMA_LUT (value.Named 3)
 abbrev four_made : List Reply
 four_made = three_made ++ reply.Made 1003 ∷ []
 
-pub table_of_2048_bytes_is_accepted : replies (device_of 2) ((made_with_table inverting ++ request 0x400 (light ++ sets_table ∷ []) ∷ []) ∷ []) ≡ four_made ++ reply.Commit 0 ∷ []
+pub table_of_2048_bytes_is_accepted : replies (device_of 2) ((made_with_table inverting ++ request ALLOW_MODESET (light ++ sets_table ∷ []) ∷ []) ∷ []) ≡ four_made ++ reply.Commit 0 ∷ []
 unfolding on_literals
 table_of_2048_bytes_is_accepted = refl
 
-pub table_of_2047_bytes_is_refused : replies (device_of 2) ((made_with_table (drop 1 inverting) ++ request 0x400 (light ++ sets_table ∷ []) ∷ []) ∷ []) ≡ four_made ++ refused 7 ∷ []
+pub table_of_2047_bytes_is_refused : replies (device_of 2) ((made_with_table (drop 1 inverting) ++ request ALLOW_MODESET (light ++ sets_table ∷ []) ∷ []) ∷ []) ≡ four_made ++ refused refusal.INVALID_VALUE ∷ []
 unfolding on_literals
 table_of_2047_bytes_is_refused = refl
 
-pub profile_1_has_no_tables : replies (device_of 1) ((made_with_table inverting ++ request 0x400 (light ++ sets_table ∷ []) ∷ []) ∷ []) ≡ four_made ++ refused 5 ∷ []
+pub profile_1_has_no_tables : replies (device_of 1) ((made_with_table inverting ++ request ALLOW_MODESET (light ++ sets_table ∷ []) ∷ []) ∷ []) ≡ four_made ++ refused refusal.NO_PROPERTY ∷ []
 unfolding on_literals
 profile_1_has_no_tables = refl
 
 -- a table is no mode
-pub table_is_no_mode : replies (device_of 2) ((made_with_table inverting ++ request 0x400 (sets kind.Crtc 0 MODE_ID (value.Named 3) ∷ []) ∷ []) ∷ []) ≡ four_made ++ refused 7 ∷ []
+pub table_is_no_mode : replies (device_of 2) ((made_with_table inverting ++ request ALLOW_MODESET (sets kind.Crtc 0 MODE_ID (value.Named 3) ∷ []) ∷ []) ∷ []) ≡ four_made ++ refused refusal.INVALID_VALUE ∷ []
 unfolding on_literals
 table_is_no_mode = refl
 
 -- a table goes with a request without leave for a modeset
-pub table_needs_no_leave : replies (device_of 2) ((made_with_table inverting ++ request 0x400 light ∷ request 0x0 (sets_table ∷ []) ∷ []) ∷ []) ≡ four_made ++ reply.Commit 0 ∷ reply.Commit 1 ∷ []
+pub table_needs_no_leave : replies (device_of 2) ((made_with_table inverting ++ request ALLOW_MODESET light ∷ request 0x0 (sets_table ∷ []) ∷ []) ∷ []) ≡ four_made ++ reply.Commit 0 ∷ reply.Commit 1 ∷ []
 unfolding on_literals
 table_needs_no_leave = refl
 
@@ -165,9 +167,9 @@ frames s count = map (λ p. p.frame) (show s (entries count) 100)
 
 -- the finished colour goes through the table, which stays while the CRTC is off
 pub colours_go_through_the_table : frames (turned_over (
-    request 0x400 (light ++ sets_table ∷ [])
-    ∷ request 0x400 (sets kind.Crtc 0 ACTIVE (number 0) ∷ [])
-    ∷ request 0x400 (sets kind.Crtc 0 ACTIVE (number 1) ∷ [])
+    request ALLOW_MODESET (light ++ sets_table ∷ [])
+    ∷ request ALLOW_MODESET (sets kind.Crtc 0 ACTIVE (number 0) ∷ [])
+    ∷ request ALLOW_MODESET (sets kind.Crtc 0 ACTIVE (number 1) ∷ [])
     ∷ request 0x0 (sets kind.Crtc 0 GAMMA_LUT (number 0) ∷ [])
     ∷ [])) 8
     ≡ (158 ∷ 157 ∷ 156 ∷ []) ∷ [] ∷ (158 ∷ 157 ∷ 156 ∷ []) ∷ (97 ∷ 98 ∷ 99 ∷ []) ∷ []
@@ -175,7 +177,7 @@ unfolding on_literals
 colours_go_through_the_table = refl
 
 -- the registers of the CRTC hand the table on
-pub registers_hand_the_table_on : report_of_script pixmaps (turned_over (request 0x400 (light ++ sets_table ∷ []) ∷ []))
+pub registers_hand_the_table_on : report_of_script pixmaps (turned_over (request ALLOW_MODESET (light ++ sets_table ∷ []) ∷ []))
     ≡ codes "J 1 1\nJ 1 2\nJ 1 3\nJ 1 4\nJ 1 5\nR 1 1 0 made 1000\nR 1 2 1 made 1001\nR 1 3 2 made 1002\nR 1 4 3 made 1003\nR 1 5 4 commit 0\nL 0 0 1 8d7a83ff31a8b084d7c69c1ae6366858716612eca969680c5e43618552d574df\nP3\n1 1\n255\n158 157 156\nD drained\n"
 unfolding on_machines
 registers_hand_the_table_on = refl

@@ -30,7 +30,7 @@ use Rattle.kms_model.specs.Device.Modes.{mode_numbers, same_numbers, same_mode}
 use Rattle.kms_model.specs.Device.World.{value, thing_labelled}
 use Rattle.kms_model.specs.Device.States.{mode_at, crtc_at, plane_at}
 use Rattle.kms_model.specs.Request.Lookups.{look_up}
-use Rattle.kms_model.specs.Request.Apply.{apply}
+use Rattle.kms_model.specs.Request.Apply.{after}
 use Rattle.kms_model.specs.Request.Named.{differs, is_rerouted, needs_modeset}
 use Rattle.kms_model.specs.Script.Grammar.{format_bit}
 use Rattle.kms_model.specs.Device.Masks.{has_bit}
@@ -145,28 +145,28 @@ sound-close t w (Some u) sound = sound-closed t w u.id sound
 
 -- Requests
 
-pub accepted-parts : (t : Topology) (w : World) (r : Request) → verdict t w r ≡ None → AreNone (early_refusal t (look_up w) r) (late_refusal t w.things w.values (apply w.things w.values r.assigns) r)
+pub accepted-parts : (t : Topology) (w : World) (r : Request) → verdict t w r ≡ None → AreNone (early_refusal t (look_up w) r) (late_refusal t w.things w.values (after w r) r)
 unfolding verdict
-accepted-parts t w r none = or_else-none (early_refusal t (look_up w) r) (late_refusal t w.things w.values (apply w.things w.values r.assigns) r) none
+accepted-parts t w r none = or_else-none (early_refusal t (look_up w) r) (late_refusal t w.things w.values (after w r) r) none
 
 pub early-parts : (t : Topology) (w : World) (r : Request) → early_refusal t (look_up w) r ≡ None → AreNone (flags_refusal r.flags) (assigns_refusal t (look_up w) [] r.assigns)
 unfolding early_refusal
 early-parts t w r none = or_else-none (flags_refusal r.flags) (assigns_refusal t (look_up w) [] r.assigns) none
 
 -- the values after a request that refusals 1 to 8 let through are held
-pub apply-held : (t : Topology) (w : World) (r : Request) → IsSound t w → early_refusal t (look_up w) r ≡ None → are_held t w.things (apply w.things w.values r.assigns) ≡ true
+pub apply-held : (t : Topology) (w : World) (r : Request) → IsSound t w → early_refusal t (look_up w) r ≡ None → are_held t w.things (after w r) ≡ true
 apply-held t w r sound early =
-    are_held-kept t w.things w.things w.values (apply w.things w.values r.assigns)
+    are_held-kept t w.things w.things w.values (after w r)
     (λ object p row held. held-apply t w [] r.assigns w.values object p sound.numbered row (early-parts t w r early).second_none held) sound.held
 
-pub sound-apply : (t : Topology) (w : World) (r : Request) (commits : ℕ) → IsSound t w → verdict t w r ≡ None → IsSound t (record w { values = apply w.things w.values r.assigns; commits = commits })
+pub sound-apply : (t : Topology) (w : World) (r : Request) (commits : ℕ) → IsSound t w → verdict t w r ≡ None → IsSound t (record w { values = after w r; commits = commits })
 sound-apply t w r commits sound none =
     let parts = accepted-parts t w r none in
     record {
       numbered = sound.numbered;
       next = sound.next;
       held = apply-held t w r sound parts.first_none;
-      accepted = late-again t w.things w.values (apply w.things w.values r.assigns) r parts.second_none;
+      accepted = late-again t w.things w.values (after w r) r parts.second_none;
     }
 
 sound-out_fence : (t : Topology) (client : ℕ) (w : World) (label : Option ℕ) → IsSound t w → IsSound t (make_out_fence client w label)
@@ -180,7 +180,7 @@ sound-out_fences t client assigns w (crtc ∷ crtcs) sound =
 
 sound-committed : (t : Topology) (w : World) (client : ℕ) (r : Request) → IsSound t w → verdict t w r ≡ None → IsSound t (committed t w client r).world
 sound-committed t w client r sound none =
-    sound-out_fences t client r.assigns (record w { values = apply w.things w.values r.assigns; commits = w.commits + 1 }) (ids_of t kind.Crtc) (sound-apply t w r (w.commits + 1) sound none)
+    sound-out_fences t client r.assigns (record w { values = after w r; commits = w.commits + 1 }) (ids_of t kind.Crtc) (sound-apply t w r (w.commits + 1) sound none)
 
 tested-or : (t : Topology) (w : World) (client : ℕ) (r : Request) (test : Bool) → IsSound t w → IsSound t (committed t w client r).world → IsSound t (if test then answer w reply.Tested else committed t w client r).world
 tested-or t w client r true sound after = sound

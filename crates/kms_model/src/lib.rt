@@ -5,6 +5,7 @@
 #![tactic(auto)]
 
 mod copying;
+pub mod flags;
 mod laws;
 mod layers;
 mod list;

@@ -4,7 +4,7 @@ ghost use Rattle.kms_model.specs.Report.Replies.{kind_name, object_name, reply_w
 
 use crate::objects::{Kind, ObjId};
 use crate::refusals::errno_of;
-use crate::replies::Reply;
+use crate::replies::{Refusal, Reply};
 use std::fmt;
 
 /// `crtc`, `plane`, `conn` or `enc`.
@@ -43,8 +43,11 @@ impl fmt::Display for Reply {
             Reply::Commit { commit } => write!(f, "commit {commit}"),
             Reply::Tested => f.write_str("tested"),
             Reply::Refused(refusal) => write!(f, "{refusal}"),
-            Reply::Space { used } => write!(f, "ENOMEM events 25 {used}"),
-            Reply::Busy { object, commit } => write!(f, "EBUSY 26 {object} {commit}"),
+            Reply::Space { used } => {
+                let number = Refusal::NO_EVENT_SPACE.0;
+                write!(f, "{} events {number} {used}", errno_of(number))
+            }
+            Reply::Busy { object, commit } => write!(f, "{} {object} {commit}", Refusal::BUSY),
             Reply::Denied(number) => write!(f, "{} {number}", errno_of(*number)),
             Reply::Event(event) => {
                 let user_data = event.user_data;

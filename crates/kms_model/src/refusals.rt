@@ -4,8 +4,8 @@
 //! once they are accepted, by 25 and 26; other commands are refused by 31 to 35. What each rule says stands in the
 //! table of `rule_of`.
 ghost use Rattle.std.specs.Prelude.{◌≡◌, IfSome, Some, ◌++◌, ◌∷◌, is_some};
-ghost use Rattle.kms_model.specs.Report.Replies.{errno_of, is_rule, refusal_text};
-ghost use Rattle.kms_model.specs.Report.Rules.{rule_name, rule_source, rule_text};
+ghost use Rattle.kms_model.specs.Report.Replies.{refusal_text};
+ghost use Rattle.kms_model.specs.Report.Rules.{errno_of, is_rule, rule_name, rule_source, rule_text};
 
 use crate::replies::{Denied, Refusal};
 use std::fmt;

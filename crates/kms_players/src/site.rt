@@ -42,8 +42,8 @@ impl<'a, G: Gate> Site<'a, G> {
             self.now.client kept.old under_way }
         ensures turn { IfOk result (λ r. ClientTurn self.now.device.now.script self.now.client
             pass.old kept.old pass.new kept.new r.0) }
-        ensures under_way { IfOk result (λ r. IsUnderWay (run_seen self.now.device.now.script pass.new)
-            self.now.client kept.new r.1) }
+        ensures under_way { IfOk result (λ r. IsUnderWay
+            (run_seen self.now.device.now.script pass.new) self.now.client kept.new r.1) }
         ensures name { name_of_pass pass.new ≡ name_of_pass pass.old }
         ensures no_step { OnErr result (Went [] pass.old pass.new) }
         ensures still { OnErr result (IsUnderWay (run_seen self.now.device.now.script pass.new)
@@ -69,8 +69,8 @@ impl<'a, G: Gate> Site<'a, G> {
         requires new { kept.old ≡ new_attempt }
         ensures turn { IfOk result (λ r. ClientTurn self.now.device.now.script self.now.client
             pass.old kept.old pass.new kept.new r.0) }
-        ensures under_way { IfOk result (λ r. IsUnderWay (run_seen self.now.device.now.script pass.new)
-            self.now.client kept.new r.1) }
+        ensures under_way { IfOk result (λ r. IsUnderWay
+            (run_seen self.now.device.now.script pass.new) self.now.client kept.new r.1) }
         ensures no_step { OnErr result (Went [] pass.old pass.new) }
         ensures anew { OnErr result (kept.new ≡ new_attempt) }
     {
@@ -104,11 +104,11 @@ impl<'a, G: Gate> Site<'a, G> {
             self.now.client kept.old number }
         ensures turn { IfOk result (λ r. AttemptTurn self.now.device.now.script self.now.client
             pass.old kept.old pass.new kept.new r.0) }
-        ensures under_way { IfOk result (λ r. IsUnderWay (run_seen self.now.device.now.script pass.new)
-            self.now.client kept.new r.1) }
+        ensures under_way { IfOk result (λ r. IsUnderWay
+            (run_seen self.now.device.now.script pass.new) self.now.client kept.new r.1) }
         ensures no_step { OnErr result (Went [] pass.old pass.new) }
-        ensures attempting { OnErr result (IsAttempting (run_seen self.now.device.now.script pass.new)
-            self.now.client kept.new number) }
+        ensures attempting { OnErr result (IsAttempting
+            (run_seen self.now.device.now.script pass.new) self.now.client kept.new number) }
         ensures anew { OnErr result (kept.new ≡ new_attempt) }
     {
         match self
@@ -154,8 +154,8 @@ impl<'a, G: Gate> Site<'a, G> {
         requires own { pass.old.lock ≡ self.now.device.now.lock }
         requires whose { pass.old.rank ≡ self.now.client }
         requires is_open { IsOpen (run_seen self.now.device.now.script pass.old) }
-        requires idle { idle_command_at (run_seen self.now.device.now.script pass.old) self.now.client
-            ≡ Some command.now }
+        requires idle { idle_command_at (run_seen self.now.device.now.script pass.old)
+            self.now.client ≡ Some command.now }
         requires no_request { request_in (Some command.now) ≡ None }
         requires at { (place_at (machine (run_seen self.now.device.now.script pass.old))
             self.now.client).command ≡ number }

@@ -7,6 +7,7 @@ ghost use Rattle.kms_model.specs.Device.Properties.{flags as flag_rows};
 ghost use Rattle.kms_props.specs.Flags.{bits_of};
 
 use bitflags::{Flag, Flags, bitflag_items};
+use kms_model::flags;
 
 /// The flags of an atomic request. Contracts see their bits, `bits_of`.
 #[derive(Clone, Copy, Debug, PartialEq, Eq)]
@@ -15,15 +16,15 @@ pub struct AtomicFlags(u32);
 bitflag_items! {
     impl AtomicFlags: u32 {
         /// `DRM_MODE_PAGE_FLIP_EVENT`: an event for each CRTC that the request names.
-        const PAGE_FLIP_EVENT = 0x1;
+        const PAGE_FLIP_EVENT = flags::PAGE_FLIP_EVENT;
         /// `DRM_MODE_PAGE_FLIP_ASYNC`: this device refuses it.
-        const PAGE_FLIP_ASYNC = 0x2;
+        const PAGE_FLIP_ASYNC = flags::PAGE_FLIP_ASYNC;
         /// `DRM_MODE_ATOMIC_TEST_ONLY`: check and change nothing.
-        const TEST_ONLY = 0x100;
+        const TEST_ONLY = flags::TEST_ONLY;
         /// `DRM_MODE_ATOMIC_NONBLOCK`: do not wait for the commit.
-        const NONBLOCK = 0x200;
+        const NONBLOCK = flags::NONBLOCK;
         /// `DRM_MODE_ATOMIC_ALLOW_MODESET`: the commit may be a modeset.
-        const ALLOW_MODESET = 0x400;
+        const ALLOW_MODESET = flags::ALLOW_MODESET;
     }
 }
 

@@ -27,7 +27,7 @@ use Rattle.kms_model.specs.Device.Objects.{exists, first_id, index_of, is_id_of,
 use Rattle.kms_model.proofs.KindsOfIds.{index_of-object}
 use Rattle.kms_model.specs.Device.States.{crtc_at, plane_at}
 use Rattle.kms_model.specs.Request.Agreement.{AgreesNew, AgreesOld, conn_state_at}
-use Rattle.kms_model.specs.Request.Apply.{apply, is_kept, object_of, prop_of}
+use Rattle.kms_model.specs.Request.Apply.{apply, is_kept, object_of, prop_of, after}
 use Rattle.kms_model.specs.Request.Named.{is_routed, moves_on, names}
 use Rattle.kms_model.specs.Request.Named.{is_named_by}
 use Rattle.kms_model.specs.Request.Resolves.{IsAllowed, HasPlace, IsSettable}
@@ -289,7 +289,7 @@ crtcs_named t things old f assigns test mask few held allowed settable are same 
 
 -- the CRTCs that the sets name are those that the request names
 pub named_is : (t : Topology) (w : World) (f : ℕ → Look) (r : Request) (resolved : Resolved) (d : Duplicates) (mask : ℕ) → Covers t w f r resolved d
-    → AreCrtcs (λ crtc. list_any (λ s. set_names d s crtc) resolved.sets) mask → mask ≡ named_set t w.values (apply w.things w.values r.assigns) r.assigns
+    → AreCrtcs (λ crtc. list_any (λ s. set_names d s crtc) resolved.sets) mask → mask ≡ named_set t w.values (after w r) r.assigns
 named_is t w f r resolved d mask covers are =
     let allowed = accepted_allowed t f r covers.asks.accepted in
     let settable = all_settable t f r.assigns covers.limits allowed in

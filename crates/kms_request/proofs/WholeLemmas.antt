@@ -16,7 +16,7 @@ use Rattle.kms_model.specs.declared.worlds.Setting.{Setting}
 use Rattle.kms_model.specs.declared.worlds.Thing as worlds
 use Rattle.kms_model.specs.declared.worlds.World.{World}
 use Rattle.kms_model.specs.Request.Agreement.{AgreesNew, AgreesOld}
-use Rattle.kms_model.specs.Request.Apply.{apply}
+use Rattle.kms_model.specs.Request.Apply.{after}
 use Rattle.kms_model.specs.Request.Checks.{late_refusal}
 use Rattle.kms_model.specs.Request.Late.{ArePlanesInRange, late_of_states}
 use Rattle.kms_model.specs.Request.Lookups.{look_up}
@@ -111,9 +111,9 @@ settable_between t w r d stand = all_settable t (look_up w) r.assigns (limits_of
 
 -- the CRTCs that the states say are named
 pub named_between-is : (t : Topology) (w : World) (r : Request) (d : Duplicates) (mask : ℕ) → StandBetween t w r d → AreCrtcs (λ crtc. list_any (λ a. is_named_between d a crtc) r.assigns) mask
-    → mask ≡ named_set t w.values (apply w.things w.values r.assigns) r.assigns
+    → mask ≡ named_set t w.values (after w r) r.assigns
 named_between-is t w r d mask stand are =
-    let new : List Setting = apply w.things w.values r.assigns in
+    let new : List Setting = after w r in
     let allowed = accepted_allowed t (look_up w) r stand.early in
     let settable = settable_between t w r d stand in
     crtcs_named t w.things w.values (look_up w) r.assigns (λ crtc. list_any (λ a. is_named_between d a crtc) r.assigns) mask (has_few t (limits_of t stand.device)) (all_held-from t w.things w.values stand.sound.held) allowed settable are
@@ -140,7 +140,7 @@ in_range_if true (Some (Some both)) fits = fits both refl
 
 pub planes_in_range : (t : Topology) (w : World) (r : Request) (d : Duplicates) (planes : ℕ) → StandBetween t w r d → ArePlanesInRange t d planes
 planes_in_range t w r d planes stand index there =
-    let new : List Setting = apply w.things w.values r.assigns in
+    let new : List Setting = after w r in
     let held = all_held-from t w.things new (apply-held t w r stand.sound stand.early) in
     in_range_if (has_bit planes index) (slice_get d.planes index) (λ both is.
     subst IsPlaneInRange (sym (stand.new.planes index both is)) (plane_in_range t w.things new (object_id Plane index) held (ids-has t Plane index there)))
@@ -161,8 +161,8 @@ all_cover t w r d stand =
 
 -- the refusals of the states of all objects are those of the request
 pub whole_is : (t : Topology) (w : World) (r : Request) (d : Duplicates) (named fenced : ℕ) → StandBetween t w r d
-    → named ≡ named_set t w.values (apply w.things w.values r.assigns) r.assigns → fenced ≡ fenced_set t r
-    → late_of_states t d (record { crtcs = 2 ^ 32 - 1; planes = 2 ^ 32 - 1; conns = 2 ^ 32 - 1 }) r.flags named fenced ≡ late_refusal t w.things w.values (apply w.things w.values r.assigns) r
+    → named ≡ named_set t w.values (after w r) r.assigns → fenced ≡ fenced_set t r
+    → late_of_states t d (record { crtcs = 2 ^ 32 - 1; planes = 2 ^ 32 - 1; conns = 2 ^ 32 - 1 }) r.flags named fenced ≡ late_refusal t w.things w.values (after w r) r
 whole_is t w r d named fenced stand named_is fenced_is =
     rw (named_is, fenced_is) (late_of_states-is t w r d (record { crtcs = 2 ^ 32 - 1; planes = 2 ^ 32 - 1; conns = 2 ^ 32 - 1 })
     (record { at = record { device = stand.device; sound = stand.sound; early = stand.early }; old = stand.old; new = stand.new }) (all_cover t w r d stand))

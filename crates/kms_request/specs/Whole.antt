@@ -71,6 +71,10 @@ pub record ArePresentSomewhere (looks : World → ℕ → Look) (t : Topology) (
 abbrev pub allowed_by : Topology → (ℕ → Look) → List Assign → List Assign
 allowed_by t f assigns = filter (λ a. is_none (own_refusal t f a)) assigns
 
+-- a request with those of its assignments alone with which nothing is wrong by themselves
+abbrev pub allowed_request : Topology → (ℕ → Look) → Request → Request
+allowed_request t f r = record r { assigns = allowed_by t f r.assigns }
+
 -- an assignment that counts is one that some device can have
 abbrev pub IsSettableIf : Bool → Assign → Type 0
 IsSettableIf counts a = counts ≡ true → IsSettable a

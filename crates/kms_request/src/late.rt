@@ -69,7 +69,8 @@ fn check_plane(
     objects: &Mask,
     index: usize,
 ) -> Option<Refusal>
-    requires { IfSome (plane_in_set states.now objects.now index) (λ both. IsPlaneInRange both.new) }
+    requires { IfSome (plane_in_set states.now objects.now index)
+        (λ both. IsPlaneInRange both.new) }
     ensures { refusal_number result ≡ option_and_then (plane_refusal_of topology.now index)
         (plane_in_set states.now objects.now index) }
 {
@@ -138,7 +139,8 @@ fn check_route(states: &Duplicates, objects: &Mask, index: usize) -> Option<Refu
 
 /// What is wrong with a plane of a set on its CRTC, from `CRTC_NOT_ENABLED` to `FRACTIONAL_SOURCE`.
 fn check_shown(profile: u32, states: &Duplicates, objects: &Mask, index: usize) -> Option<Refusal>
-    requires { IfSome (plane_in_set states.now objects.now index) (λ both. IsPlaneInRange both.new) }
+    requires { IfSome (plane_in_set states.now objects.now index)
+        (λ both. IsPlaneInRange both.new) }
     ensures { refusal_number result
         ≡ option_and_then (λ both. shown_refusal_of profile states.now.crtcs both)
         (plane_in_set states.now objects.now index) }

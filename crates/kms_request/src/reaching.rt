@@ -6,12 +6,12 @@ ghost use Rattle.kms_model.specs.declared.objects.Kind.{Kind};
 ghost use Rattle.kms_model.specs.declared.worlds.World.{World};
 ghost use Rattle.kms_model.specs.Device.Objects.{exists, object_id};
 ghost use Rattle.kms_model.specs.Request.Agreement.{AgreesNew};
-ghost use Rattle.kms_model.specs.Request.Apply.{apply};
+ghost use Rattle.kms_model.specs.Request.Apply.{after};
 ghost use Rattle.kms_model.specs.Request.Lookups.{look_up, look_up_any};
 ghost use Rattle.kms_model.specs.Request.Reach.{reaches};
 ghost use Rattle.kms_model.specs.Request.Verdict.{early_in};
 ghost use Rattle.kms_state.specs.Places.{old_states};
-ghost use Rattle.kms_request.specs.Whole.{ArePresent, ArePresentSomewhere, StandBetween, TellSame, allowed_by, is_member, reached_by};
+ghost use Rattle.kms_request.specs.Whole.{ArePresent, ArePresentSomewhere, StandBetween, TellSame, allowed_request, is_member, reached_by};
 
 use crate::lookups::Looker;
 use crate::picking::{Allowed, Picker};
@@ -34,8 +34,7 @@ pub fn changed<L: Looker>(
     ensures new { (w : World) → ArePresent topology.now w states.now
         → TellSame (L.meaning found.now) (look_up w)
         → AgreesNew topology.now w.things
-        (apply w.things w.values
-        (allowed_by topology.now (L.meaning found.now) request.now.assigns))
+        (after w (allowed_request topology.now (L.meaning found.now) request.now))
         result }
     ensures between { (w : World) → ArePresent topology.now w states.now
         → TellSame (L.meaning found.now) (look_up w)

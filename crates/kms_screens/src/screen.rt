@@ -40,7 +40,8 @@ fn off(alloc: Global) -> KeptFrame
 /// A frame with its digest.
 fn hashed(drawn: Drawn) -> KeptFrame
     requires { AreFronts drawn.fronts drawn.frame }
-    ensures kept { (images : List FbImage) → IsDrawnOver images drawn → IsKeptFrameOver images result }
+    ensures kept { (images : List FbImage) → IsDrawnOver images drawn
+        → IsKeptFrameOver images result }
     ensures own { result.drawn.picture ≡ drawn.picture }
 {
     let Drawn {

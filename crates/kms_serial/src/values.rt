@@ -2,8 +2,9 @@
 ghost use Rattle.std.specs.Prelude.{◌≡◌, List};
 ghost use Rattle.std.specs.Borrow.{ftrue};
 ghost use Rattle.kms_model.specs.declared.worlds.Setting.{Setting};
+ghost use Rattle.kms_model.specs.declared.worlds.World.{World};
 ghost use Rattle.kms_model.specs.Device.World.{start};
-ghost use Rattle.kms_model.specs.Request.Apply.{apply};
+ghost use Rattle.kms_model.specs.Request.Apply.{after};
 
 use kms_model::{Request, Topology};
 use kms_things::Things;
@@ -30,8 +31,8 @@ impl Values {
 
     /// Those after a request, whose labels name things.
     pub fn after(_before: &Values, _things: &Things, _request: &Request) -> Values
-        ensures { result.settings
-            ≡ apply _things.now.things _before.now.settings _request.now.assigns }
+        ensures { (w : World) → w.values ≡ _before.now.settings
+            → w.things ≡ _things.now.things → result.settings ≡ after w _request.now }
     {
         Values {}
     }

@@ -112,7 +112,8 @@ impl LockTable {
         ensures answer { result ≡ lock_answer t (holder_of self.old id) }
         ensures after { self.new ≡ after_lock self.old t id result }
         ensures got { result ≡ Lock.Got → IsTakenBy self.old self.new t id }
-        ensures older { IfOlder result (IsDoing self.old self.new t (Some (ContextDoing.MustBackOff id))) }
+        ensures older { IfOlder result
+            (IsDoing self.old self.new t (Some (ContextDoing.MustBackOff id))) }
     {
         match self.holder(id) {
             None => {

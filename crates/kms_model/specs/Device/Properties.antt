@@ -1,8 +1,9 @@
 -- The tables of properties, formats and flags, and which devices there are. From: "KMS Properties", `drm_mode.h` and
 -- `drm_fourcc.h`; the ids of properties and the limits of a device are this project's own.
-use Rattle.std.specs.Prelude.{ℕ, ◌^◌, Bool, true, false, ◌&&◌, ◌==◌, bit_and, nat_lt, pos, negsuc, List, [], ◌∷◌, length, find, Option, is_some, option_map, codes, nat_le}
+use Rattle.std.specs.Prelude.{ℕ, ◌+◌, ◌^◌, Bool, true, false, ◌&&◌, ◌==◌, bit_and, nat_lt, pos, negsuc, List, [], ◌∷◌, length, find, Option, is_some, option_map, codes, nat_le}
 use Rattle.std.specs.List.{list_any, list_all}
 use Rattle.std.specs.Str.{bytes_eq}
+use Rattle.kms_model.specs.declared.flags.TheConstants.{PAGE_FLIP_EVENT, PAGE_FLIP_ASYNC, TEST_ONLY, NONBLOCK, ALLOW_MODESET}
 use Rattle.kms_model.specs.declared.objects.Format.{Format}
 use Rattle.kms_model.specs.declared.objects.Format.TheVariants.{Xr24, Ar24, Rg16}
 use Rattle.kms_model.specs.declared.objects.Kind.{Kind}
@@ -140,20 +141,19 @@ format_of code = option_map (λ f. f.format) (find (has_code code) formats)
 
 -- Flags of a request
 
--- a flag's name and its bit. From: `drm_mode.h`, DRM_MODE_PAGE_FLIP_EVENT, DRM_MODE_PAGE_FLIP_ASYNC,
--- DRM_MODE_ATOMIC_TEST_ONLY, DRM_MODE_ATOMIC_NONBLOCK and DRM_MODE_ATOMIC_ALLOW_MODESET.
+-- a flag's name and its bit. From: `drm_mode.h`.
 abbrev pub flags : List (List ℕ × ℕ)
 flags =
-    (codes "PAGE_FLIP_EVENT", 0x1)
-    ∷ (codes "PAGE_FLIP_ASYNC", 0x2)
-    ∷ (codes "TEST_ONLY", 0x100)
-    ∷ (codes "NONBLOCK", 0x200)
-    ∷ (codes "ALLOW_MODESET", 0x400)
+    (codes "PAGE_FLIP_EVENT", PAGE_FLIP_EVENT)
+    ∷ (codes "PAGE_FLIP_ASYNC", PAGE_FLIP_ASYNC)
+    ∷ (codes "TEST_ONLY", TEST_ONLY)
+    ∷ (codes "NONBLOCK", NONBLOCK)
+    ∷ (codes "ALLOW_MODESET", ALLOW_MODESET)
     ∷ []
 
 -- the bits of all flags. From: `drm_mode.h`, DRM_MODE_ATOMIC_FLAGS.
 abbrev pub all_flags : ℕ
-all_flags = 0x703
+all_flags = PAGE_FLIP_EVENT + PAGE_FLIP_ASYNC + TEST_ONLY + NONBLOCK + ALLOW_MODESET
 
 -- no bit outside the flags is set
 abbrev pub are_flags : ℕ → Bool

@@ -2,6 +2,7 @@
 -- device's own.
 use Rattle.std.specs.Prelude.{ℕ, zero, suc, ◌+◌, ◌-◌, ◌*◌, ◌/◌, ◌%◌, ◌^◌, ◌==◌, List, [], ◌∷◌, ◌++◌, map, codes, pos, replicate, if◌then◌else◌}
 use Rattle.std.specs.List.{flat_map}
+use Rattle.kms_model.specs.declared.flags.TheConstants.{PAGE_FLIP_EVENT, ALLOW_MODESET}
 use Rattle.kms_model.specs.declared.objects.Format.TheVariants.{Xr24}
 use Rattle.kms_model.specs.declared.objects.Kind.{Kind}
 use Rattle.kms_model.specs.declared.objects.Kind.TheVariants as kind
@@ -87,7 +88,7 @@ drawn_framebuffer crtc number = if number % 2 == 0 then framebuffer_f crtc else 
 abbrev pub flip : ℕ → Drawn → List Command
 flip crtc d =
     command.Atomic (record {
-      flags = 0x1;
+      flags = PAGE_FLIP_EVENT;
       user_data = d.index;
       assigns =
           on_plane crtc FB_ID (value.Named (drawn_framebuffer crtc d.number))
@@ -108,7 +109,7 @@ commands_for drawn crtc =
     ∷ command.Buffer (buffer_g crtc) 64 64 Xr24 (Solid 0x00204060)
     ∷ command.AddFb (framebuffer_h crtc) (buffer_g crtc)
     ∷ command.Mode (mode_m crtc) generated_mode
-    ∷ command.Atomic (record { flags = 0x400; user_data = 0; assigns = lights crtc })
+    ∷ command.Atomic (record { flags = ALLOW_MODESET; user_data = 0; assigns = lights crtc })
     ∷ flat_map (flips_of crtc) drawn
 
 -- two CRTCs, each with a primary plane and a connector of its own

@@ -1,5 +1,5 @@
 -- The values are those that the clause names. Assumes `Logic`.
-use mathlib.Core.Path.{refl}
+use mathlib.Core.Path.{◌≡◌, refl, sym, ap, ◌∙◌}
 use mathlib.Core.List.{[], ◌∷◌}
 use seplogic.Ra.Ura.{Ura}
 use mir.Syntax.{named}
@@ -27,7 +27,8 @@ use denote.Triple.Entry.{on_entry, alive, Args}
 use denote.Triple.Spec.{Meets, triple_of}
 use denote.Triple.Table.{entered}
 use denote.Triple.Walked.{says, stay_none_ref, Stays, walk_of, Walks, ends_at, walked, Goes-none_ref, walk_Meets}
-use Rattle.kms_model.specs.Request.Apply.{apply}
+use Rattle.kms_model.specs.declared.worlds.World.{World}
+use Rattle.kms_model.specs.Request.Apply.{after, apply}
 use Rattle.kms_serial.specs.contracts.values.Values.after.Key.{name as key}
 use Rattle.kms_serial.specs.contracts.values.Values.after as f
 use Rattle.kms_serial.proofs.values.Values.after.Statement as stated
@@ -61,6 +62,12 @@ module _ {M : Type 1} {𝓤 : Ura M} (𝓛 : Logic 𝓤) (mem : Memory → SProp
     abbrev made : (values.the_row).Denot
     made = record { settings = apply a.1.0.now.things a.0.now.settings a.1.1.0.now.assigns }
 
+    -- those of each world that has these values and these things
+    same : (w : World) → w.values ≡ a.0.now.settings → w.things ≡ a.1.0.now.things → made.settings ≡ after w a.1.1.0.now
+    same w values things =
+        ap (λ ss. apply a.1.0.now.things ss a.1.1.0.now.assigns) (sym values)
+        ∙ ap (λ ts. apply ts w.values a.1.1.0.now.assigns) (sym things)
+
     walk : ent 𝓤 (on_entry 𝓛 f.signature κs qs a (before ∷ [], (things ∷ [], (request ∷ [], tt))))
         (WpFn 𝓤 H C Λ code.function (before ∷ things ∷ request ∷ []) ((walk_of 𝓛 f.ended stayed (f.clauses 𝓛 mem run)).post bound))
     walk =
@@ -68,7 +75,7 @@ module _ {M : Type 1} {𝓤 : Ura M} (𝓛 : Logic 𝓤) (mem : Memory → SProp
         alloc_all ! (λ l. pass_all ! refl ((tt, tt), ((tt, tt), ((tt, tt), tt))) $ sets ! (agg ! (no_more !)) refl (tt, tt) $
         returns ! (look_at ! 0 refl) $ free_all ! refl $
         suffices ! _ (ends_at 𝓛 f.ended stayed (f.clauses 𝓛 mem run) bound (vstruct vnil) made (tt, (tt, (tt, tt))) (tt, (tt, (tt, tt)))) $
-        says ! refl $ pure_i ! (values.the_row.own_val made (vstruct vnil ∷ [])) ((λ vss. (tt, tt)), tt) ((tt, (refl, tt)), tt) $
+        says ! refl $ pure_i ! (values.the_row.own_val made (vstruct vnil ∷ [])) ((λ vss. (tt, tt)), tt) ((tt, (same, tt)), tt) $
         move ! (1 ∷ 2 ∷ 0 ∷ []) $ done !)
 
   walks : Walks 𝓛 f.ended stayed (WpFn 𝓤 H C Λ code.function) (f.clauses 𝓛 mem run)
