@@ -2,9 +2,10 @@
 //! more and more of its objects.
 use crate::tests::{DARK, FB, Given, MODE, found, states};
 use crate::{Move, next_move};
+use kms_model::flags::ALLOW_MODESET;
 use kms_model::properties::{ACTIVE, CRTC_ID};
 use kms_model::{Assign, Kind, ObjId, Refusal, Value};
-use kms_samples::{ALLOW_MODESET, double, light, on_plane, request, set};
+use kms_samples::{double, light, on_plane, request, set};
 use std::alloc::Global;
 use std::test::Fail;
 

@@ -6,6 +6,7 @@ ghost use Rattle.kms_model.specs.Request.Lookups.{look_up};
 ghost use Rattle.kms_model.specs.Request.Sets.{look_in};
 
 use crate::{Refused, check};
+use kms_model::flags::ALLOW_MODESET;
 use kms_model::properties::{
     ACTIVE, ALPHA, CRTC_H, CRTC_ID, CRTC_W, CRTC_X, FB_ID, GAMMA_LUT, MODE_ID, SRC_H, SRC_W, SRC_X,
 };
@@ -14,9 +15,7 @@ use kms_model::{
     Lookups, Mask, NoMemory, ObjId, PlaneState, Rect, Refusal, Seq, Value,
 };
 use kms_request::{reach, resolve};
-use kms_samples::{
-    ALLOW_MODESET, double, in_profile_2, light, on_crtc, on_plane, request, set, tiny,
-};
+use kms_samples::{double, in_profile_2, light, on_crtc, on_plane, request, set, tiny};
 use std::alloc::Global;
 use std::test::Fail;
 

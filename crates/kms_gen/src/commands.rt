@@ -4,15 +4,13 @@ ghost use Rattle.kms_model.specs.declared.objects.Format.TheVariants.{Xr24};
 ghost use Rattle.kms_model.specs.declared.scripts.Command.TheVariants.{Buffer};
 ghost use Rattle.kms_model.specs.Script.Generated.{commands_for, drawn_from, generated_mode, lights};
 
-use crate::flips::{assigns_to, on_plane, push_flip};
+use crate::flips::{on_plane, push_flip};
 use crate::labels::{BUFFER_B, BUFFER_G, FRAMEBUFFER_F, FRAMEBUFFER_H, MODE_M, label};
 use crate::numbers::{next_number, upper_bits};
+use kms_model::flags::ALLOW_MODESET;
 use kms_model::properties::{ACTIVE, CRTC_H, CRTC_ID, CRTC_W, FB_ID, MODE_ID, SRC_H, SRC_W};
 use kms_model::{Assign, Command, Format, Kind, Mode, NoMemory, Pattern, Request, Seq, Value};
 use std::alloc::Global;
-
-/// The flag of a request that may be a modeset. (Header: `drm_mode.h`, `DRM_MODE_ATOMIC_ALLOW_MODESET`.)
-const ALLOW_MODESET: u32 = 0x400;
 
 /// The width and the height of all there is, in pixels.
 const SIDE: u16 = 64;
@@ -53,9 +51,9 @@ fn lights(crtc: u32) -> [Assign; 9]
 {
     let side = Value::Num(i128::from(SIDE));
     [
-        assigns_to(Kind::Crtc, crtc, ACTIVE, Value::Num(1)),
-        assigns_to(Kind::Crtc, crtc, MODE_ID, Value::Named(label(crtc, MODE_M))),
-        assigns_to(Kind::Conn, crtc, CRTC_ID, Value::Crtc(crtc)),
+        Assign::known(Kind::Crtc, crtc, ACTIVE, Value::Num(1)),
+        Assign::known(Kind::Crtc, crtc, MODE_ID, Value::Named(label(crtc, MODE_M))),
+        Assign::known(Kind::Conn, crtc, CRTC_ID, Value::Crtc(crtc)),
         on_plane(crtc, FB_ID, Value::Named(label(crtc, FRAMEBUFFER_F))),
         on_plane(crtc, CRTC_ID, Value::Crtc(crtc)),
         on_plane(crtc, CRTC_W, side),

@@ -1,33 +1,19 @@
 //! What a client does after its CRTC is lit: commits that change its plane, each with the wait for its event.
 ghost use Rattle.std.specs.Prelude.{◌≡◌, ◌<◌, ◌≤◌, ◌++◌, [], ◌∷◌, OnOk, IfOk};
 ghost use Rattle.kms_model.specs.declared.scripts.Command.TheVariants.{Atomic, Wait};
-ghost use Rattle.kms_model.specs.Script.Generated.{assigns_to, flip, flips_of, on_plane};
+ghost use Rattle.kms_model.specs.Script.Generated.{flip, flips_of, on_plane};
 
 use crate::labels::drawn_framebuffer;
+use kms_model::flags::PAGE_FLIP_EVENT;
 use kms_model::properties::{ALPHA, CRTC_X, FB_ID};
-use kms_model::{Assign, Command, Kind, NoMemory, PropRef, Request, Seq, Value};
+use kms_model::{Assign, Command, Kind, NoMemory, Request, Seq, Value};
 use std::alloc::Global;
-
-/// The flag of a request for an event. (Header: `drm_mode.h`, `DRM_MODE_PAGE_FLIP_EVENT`.)
-const PAGE_FLIP_EVENT: u32 = 0x1;
-
-/// One assignment, to a property, by its id, of the object of a kind with an index.
-pub fn assigns_to(kind: Kind, index: u32, prop: u32, value: Value) -> Assign
-    ensures { result ≡ assigns_to kind index prop value }
-{
-    Assign {
-        kind,
-        index,
-        prop: PropRef::Known(prop),
-        value,
-    }
-}
 
 /// An assignment to a property, by its id, of the plane of the CRTC with an index, 0 or 1.
 pub fn on_plane(crtc: u32, prop: u32, value: Value) -> Assign
     ensures { result ≡ on_plane crtc prop value }
 {
-    assigns_to(Kind::Plane, crtc, prop, value)
+    Assign::known(Kind::Plane, crtc, prop, value)
 }
 
 /// A commit with this user data, of this number, that asks for an event.

@@ -18,7 +18,9 @@ use Rattle.kms_histlock.specs.declared.view.Stage.TheVariants.{Idle, Waits, Serv
 use Rattle.kms_histlock.specs.Rules.{turns_drawn, number, serving, due, having, At, AtMost, Fits, IsAtHome, Ranks, GoesOnFrom, IsStart, Sights, IsUpheld}
 use Rattle.kms_histlock.specs.Steps.{Sat, opened, standing, waiting, kept_back, split_off, merged, spent, lengthened, recounted, drew, looked, passed, stored_length, stored_count, read_length, read_count}
 use Rattle.kms_histlock.specs.Seats.{Lengthens, HasAllSeen}
-use Rattle.kms_histlock.proofs.Lists.{put, put_else, sum_put, sum_snoc, sum_only, sum_two, each_put, one_at}
+use Rattle.std.proofs.lemmas.List.Sums.{sum_by_push}
+use Rattle.kms_model.proofs.SumLemmas.{sum_put, sum_two}
+use Rattle.kms_histlock.proofs.Lists.{put, put_else, sum_only, each_put, one_at}
 use Rattle.kms_histlock.proofs.Numbering.{mirrors_put, mirrors_snoc, mirrors_more, numbers_stay, numbers_drawn, numbers_passed, is_first}
 use Rattle.kms_histlock.proofs.Holding.{untagged, serving_drawn, held_stays, at_home, held_taken, held_given, held_refit, one_serves, parts_put, not_spent, parts_split, parts_join, leads_put, is_lead, leads_split, leads_join}
 use Rattle.kms_histlock.proofs.Seeing.{at_most_set, at_most_raised, words_put, words_join, ranks_put, ranks_longer, ranks_split, ranks_join, sights_same, sights_longer, sights_recounted, sights_split, sights_join, knows_put, knows_split, knows_join}
@@ -371,7 +373,7 @@ module _ {T E X : Type 0} (owner : E → ℕ) (entries : T → List E) (counted 
         homes_are = r.homes_are;
         few = let a = length-append us (split_off v ∷ []) in let b = length-set s.views id (kept_back v) in omega arith;
         numbers = numbers_stay r.tickets r.served s.views zs r.place (mirrors_more turns_drawn number s.views us zs (mirrors_put turns_drawn number s.views id v (kept_back v) at refl refl) (mirrors_snoc turns_drawn number us (split_off v) refl))
-            (let p = sum_snoc (λ z. turns_drawn z.stage) us (split_off v) in let q = same_stage s.views id v (kept_back v) at refl in omega arith) r.numbers;
+            (let p = sum_by_push (λ z. turns_drawn z.stage) us (split_off v) in let q = same_stage s.views id v (kept_back v) at refl in omega arith) r.numbers;
         value = held_stays (IsAtHome entries counted fixed its r.log r.counts) r.slot s.views zs r.place r.place (mirrors_more serving untagged s.views us zs (mirrors_put serving untagged s.views id v (kept_back v) at refl refl) (mirrors_snoc serving untagged us (split_off v) refl))
             (λ _ _ _ _. refl) r.value;
         knows = knows_split its s.views id v at live r.knows;
@@ -384,7 +386,7 @@ module _ {T E X : Type 0} (owner : E → ℕ) (entries : T → List E) (counted 
         };
         ranks = ranks_split owner r.log s.views id v at live top r.ranks;
         sights = sights_split owner counted r.log r.counts s.views id v at live idle top r.ranks r.sights;
-        made = let p = sum_snoc (λ z. z.made) us (split_off v) in let q = made_put s.views id v (kept_back v) (length r.log) at refl r.made in omega arith;
+        made = let p = sum_by_push (λ z. z.made) us (split_off v) in let q = made_put s.views id v (kept_back v) (length r.log) at refl r.made in omega arith;
       }
 
   pub joins : (id : ℕ) (v : View E X) (other : ℕ) (w : View E X) → 0 < v.top → w.stage ≡ Idle → 0 < v.parts → 0 < w.parts → Joins Rule id v other w (merged v w) spent

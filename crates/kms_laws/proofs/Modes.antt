@@ -1,5 +1,5 @@
 -- Modes whose numbers fit their types are what their words hold, and so are tables of colour values of bytes.
-use Rattle.std.proofs.Common.{◌≡◌, ℕ, zero, suc, ◌<◌, ◌≤◌, ◌-◌, ◌^◌, ◌/◌, ◌%◌, List, [], ◌∷◌, ◌++◌, length, Bool, true, false, ◌==◌, Option, Some, None, refl, sym, ap, ◌∙◌, subst, arith, inl, inr, ⊎_elim, length-append}
+use Rattle.std.proofs.Common.{◌≡◌, ℕ, zero, suc, ◌<◌, ◌≤◌, ◌-◌, ◌^◌, List, [], ◌∷◌, ◌++◌, length, Bool, true, false, ◌==◌, Option, Some, None, refl, sym, ap, ◌∙◌, subst, arith, inl, inr, ⊎_elim, length-append}
 use Rattle.std.proofs.lemmas.List.{length-replicate}
 use Rattle.std.proofs.lemmas.Slice.Eq.{bytes_eq-Decides}
 use Rattle.std.specs.Prelude.{if◌then◌else◌, not, ◌&&◌, nat_le, nat_lt, replicate, slice_get, Ok, Err}
@@ -15,33 +15,17 @@ use Rattle.kms_model.specs.declared.scripts.Command.{Command}
 use Rattle.kms_model.specs.declared.scripts.Command.TheVariants as command
 use Rattle.kms_model.specs.declared.scripts.Script.{Script}
 use Rattle.kms_model.specs.declared.stores.BadMode.TheVariants.{Horizontal, Vertical, Clock, Size, Length}
-use Rattle.kms_model.specs.Device.ModeBytes.{decoded, if_legal, mode_bytes, mode_held}
+use Rattle.kms_model.specs.Device.ModeBytes.{AreBytes, decoded, if_legal, mode_bytes, mode_held}
 use Rattle.kms_model.specs.Device.Serial.{Entry, command_of, from_one}
 use Rattle.kms_model.specs.Machine.Registers.{bytes_of_words, words_of_bytes}
 use Rattle.kms_model.specs.Device.Modes.{is_axis}
 use Rattle.kms_model.specs.Script.WellFormed.{IsWellFormed, are_words16, has_widths, is_command_in, is_label_in, is_mode_name, is_word16, is_word32}
 use Rattle.kms_model.specs.Script.Words.{between, is_digit, is_name_byte, until}
 use Rattle.kms_model.proofs.Items.{IsIn, list_all-at}
-use Rattle.kms_model.proofs.WordBytes.{AreBytes, small_at, words_back}
+use Rattle.kms_model.proofs.WordBytes.{bytes-append, mode_long, mode_small, small_at, words_back}
 use Rattle.kms_laws.proofs.Executed.{KeepsModes}
 use Rattle.kms_laws.proofs.Steps.{IsPlainScript}
 use Rattle.kms_laws.proofs.Words.{IsKeptMode}
-
-two_and : {P : Type 0} (n : ℕ) → P → (n % 256 < 256) × (((n / 256) % 256 < 256) × P)
-two_and n p = (omega arith, (omega arith, p))
-
-four_and : {P : Type 0} (n : ℕ) → P → (n % 256 < 256) × (((n / 256) % 256 < 256) × (((n / 65536) % 256 < 256) × (((n / 16777216) % 256 < 256) × P)))
-four_and n p = (omega arith, (omega arith, (omega arith, (omega arith, p))))
-
-mode_small : (m : Mode) → AreBytes m.name → AreBytes (mode_bytes m)
-mode_small m name =
-    four_and m.clock
-    (two_and m.hdisplay (two_and m.hsync_start (two_and m.hsync_end (two_and m.htotal (two_and m.hskew
-    (two_and m.vdisplay (two_and m.vsync_start (two_and m.vsync_end (two_and m.vtotal (two_and m.vscan
-    (four_and m.vrefresh (four_and m.flags (four_and m.kind name)))))))))))))
-
-mode_long : (m : Mode) → length m.name ≡ 32 → length (mode_bytes m) ≡ 68
-mode_long m name = omega (arith, name)
 
 fitting-kept : (m : Mode) → FitsTypes m → AreBytes m.name → IsKeptMode m
 fitting-kept m fits name = ap mode_held (words_back 17 (mode_bytes m) (mode_long m fits.back.name) (mode_small m name)) ∙ mode_held-mode_bytes m fits
@@ -102,10 +86,6 @@ fits-from m h name =
       back = record { vrefresh = word32-lt m.vrefresh four.0; flags = word32-lt m.flags five.0; kind = word32-lt m.kind five.1; name = name };
     }
 
-small_append : (xs ys : List ℕ) → AreBytes xs → AreBytes ys → AreBytes (xs ++ ys)
-small_append [] ys a b = b
-small_append (x ∷ xs) ys a b = (a.0, small_append xs ys a.1 b)
-
 small_zeros : (n : ℕ) → AreBytes (replicate n 0)
 small_zeros zero = tt
 small_zeros (suc n) = (omega arith, small_zeros n)
@@ -136,7 +116,7 @@ name-fits name h =
     let zeros : length (replicate (32 - length word) no_zero) ≡ 32 - length word = length-replicate (32 - length word) no_zero in
     let same : name ≡ word ++ replicate (32 - length word) 0 = (bytes_eq-Decides name (word ++ replicate (32 - length word) 0)).0 two.1 in (
       ap length same ∙ omega (arith, short, length-append word (replicate (32 - length word) 0), zeros),
-      subst AreBytes (sym same) (small_append word (replicate (32 - length word) 0) (small_all is_name_byte word name_byte-lt two.0) (small_zeros (32 - length word))),
+      subst AreBytes (sym same) (bytes-append word (replicate (32 - length word) 0) (small_all is_name_byte word name_byte-lt two.0) (small_zeros (32 - length word))),
     )
 
 pub keeps-from : (profile : ℕ) (names : List (List ℕ)) (c : Command) → is_command_in profile names c ≡ true → KeepsModes c

@@ -1,5 +1,5 @@
 -- A table of colour values, written as words and read; and that a blob holds a table of bytes.
-use Rattle.std.proofs.Common.{◌≡◌, ℕ, zero, suc, ◌+◌, ◌-◌, ◌*◌, ◌/◌, ◌<◌, List, [], ◌∷◌, ◌++◌, length, get_or, take, drop, map, Bool, true, false, Some, None, ◌==◌, inl, inr, refl, sym, ap, ◌∙◌, subst, arith}
+use Rattle.std.proofs.Common.{◌≡◌, ℕ, zero, suc, ◌+◌, ◌-◌, ◌*◌, ◌/◌, ◌<◌, List, ◌++◌, length, get_or, take, drop, map, Bool, true, false, Some, None, ◌==◌, inl, inr, refl, sym, ap, ◌∙◌, subst, arith}
 use Rattle.std.specs.Prelude.{slice_range, if◌then◌else◌}
 use Rattle.std.specs.List.{range_with_len}
 use Rattle.std.proofs.lemmas.Bool.{cases_lt}
@@ -7,28 +7,15 @@ use Rattle.std.proofs.lemmas.List.{get_or-drop, get_or-take, get_or_past, length
 use Rattle.std.proofs.lemmas.List.FromFn.{length-map-range_with_len}
 use Rattle.std.proofs.Math.Seq.{drop-append-add, take-append_seam}
 use Rattle.kms_model.specs.declared.objects.Gamma.{Gamma}
-use Rattle.kms_model.specs.Device.GammaBytes.{channel_values, gamma_held, gamma_of_bytes}
-use Rattle.kms_model.specs.Device.ModeBytes.{two_at}
+use Rattle.kms_model.specs.Device.GammaBytes.{IsGammaTable, channel_values, gamma_held, gamma_of_bytes}
+use Rattle.kms_model.specs.Device.ModeBytes.{AreBytes, two_at}
 use Rattle.kms_model.specs.Machine.Registers.{bytes_of_words, gamma_bytes, gamma_with, gamma_words}
-use Rattle.kms_model.proofs.WordBytes.{AreBytes, small_at, words_back}
+use Rattle.kms_model.proofs.WordBytes.{bytes-append, small_at, words_back}
 
-bytes-append : (xs ys : List ℕ) → AreBytes xs → AreBytes ys → AreBytes (xs ++ ys)
-bytes-append [] ys small more = more
-bytes-append (x ∷ xs) ys small more = (small.0, bytes-append xs ys small.1 more)
-
--- a table has a byte for each of the 256 values of each channel
-pub record IsTable (g : Gamma) : Type 0 where
-  pub red : length g.red ≡ 256
-  pub green : length g.green ≡ 256
-  pub blue : length g.blue ≡ 256
-  pub red_bytes : AreBytes g.red
-  pub green_bytes : AreBytes g.green
-  pub blue_bytes : AreBytes g.blue
-
-table_long : (g : Gamma) → IsTable g → length (gamma_bytes g) ≡ 4 * 192
+table_long : (g : Gamma) → IsGammaTable g → length (gamma_bytes g) ≡ 4 * 192
 table_long g is = length-append g.red (g.green ++ g.blue) ∙ omega (arith, is.red, is.green, is.blue, length-append g.green g.blue)
 
-table_bytes : (g : Gamma) → IsTable g → AreBytes (gamma_bytes g)
+table_bytes : (g : Gamma) → IsGammaTable g → AreBytes (gamma_bytes g)
 table_bytes g is = bytes-append g.red (g.green ++ g.blue) is.red_bytes (bytes-append g.green g.blue is.green_bytes is.blue_bytes)
 
 -- the first part of bytes, and what is behind it
@@ -42,7 +29,7 @@ abbrev table : List ℕ → List ℕ → List ℕ → Gamma
 table red green blue = record { red = red; green = green; blue = blue }
 
 -- the table that a table's bytes hold is that table
-pub gamma_with-gamma_bytes : (g : Gamma) → IsTable g → gamma_with (gamma_bytes g) ≡ g
+pub gamma_with-gamma_bytes : (g : Gamma) → IsGammaTable g → gamma_with (gamma_bytes g) ≡ g
 gamma_with-gamma_bytes g is =
     let reds : slice_range (gamma_bytes g) 0 256 ≡ g.red = front g.red (g.green ++ g.blue) 256 is.red in
     let greens : slice_range (gamma_bytes g) 256 512 ≡ g.green = ap (take 256) (back g.red (g.green ++ g.blue) 256 0 256 is.red refl) ∙ front g.green g.blue 256 is.green in
@@ -51,7 +38,7 @@ gamma_with-gamma_bytes g is =
     (λ i. table (reds i) (greens i) (blues i))
 
 -- and so is the table that its words hold
-pub gamma_back : (g : Gamma) → IsTable g → gamma_with (bytes_of_words (gamma_words (Some g))) ≡ g
+pub gamma_back : (g : Gamma) → IsGammaTable g → gamma_with (bytes_of_words (gamma_words (Some g))) ≡ g
 gamma_back g is = ap gamma_with (words_back 192 (gamma_bytes g) (table_long g is) (table_bytes g is)) ∙ gamma_with-gamma_bytes g is
 
 -- What a blob holds
@@ -79,7 +66,7 @@ channel_small : (bytes : List ℕ) (channel : ℕ) → AreBytes bytes → AreByt
 channel_small bytes channel small = each_small (λ value. two_at bytes (8 * value + 2 * channel) / 256) (λ value. upper_small bytes (8 * value + 2 * channel) small) 0 256
 
 -- the table that bytes hold has a byte for each value
-pub held-table : (bytes : List ℕ) → AreBytes bytes → IsTable (gamma_held bytes)
+pub held-table : (bytes : List ℕ) → AreBytes bytes → IsGammaTable (gamma_held bytes)
 held-table bytes small = record {
   red = channel_long bytes 0;
   green = channel_long bytes 1;
@@ -90,9 +77,9 @@ held-table bytes small = record {
 }
 
 -- a table that a blob holds
-pub blob-table : (bytes : List ℕ) (g : Gamma) → AreBytes bytes → gamma_of_bytes bytes ≡ Some g → IsTable g
+pub blob-table : (bytes : List ℕ) (g : Gamma) → AreBytes bytes → gamma_of_bytes bytes ≡ Some g → IsGammaTable g
 blob-table bytes g small e = go (length bytes == 2048) e
   where
-    go : (long : Bool) → (if long then Some (gamma_held bytes) else None) ≡ Some g → IsTable g
-    go true is = (let same : gamma_held bytes ≡ g = cc in subst IsTable same (held-table bytes small))
+    go : (long : Bool) → (if long then Some (gamma_held bytes) else None) ≡ Some g → IsGammaTable g
+    go true is = (let same : gamma_held bytes ≡ g = cc in subst IsGammaTable same (held-table bytes small))
     go false is = absurd cc

@@ -39,6 +39,7 @@ pub mod Spans
 pub mod StandsLemmas
 pub mod StartValues
 pub mod StateLemmas
+pub mod SumLemmas
 pub mod TableLemmas
 pub mod ThingLemmas
 pub mod TouchedLemmas

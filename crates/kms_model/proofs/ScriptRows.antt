@@ -1,9 +1,8 @@
 -- Worked examples of the whole grammar, computed: what texts spell, and their first faults.
-use Rattle.std.proofs.Common.{◌≡◌, ℕ, List, [], ◌∷◌, ◌++◌, map, refl, codes, pos, negsuc, Some, None, replicate, Ok, Err}
+use Rattle.std.proofs.Common.{◌≡◌, ℕ, List, [], ◌∷◌, ◌++◌, map, refl, codes, pos, negsuc, Some, None, Ok, Err}
 use Rattle.kms_model.specs.declared.objects.Format.TheVariants.{Xr24, Ar24, Rg16}
 use Rattle.kms_model.specs.declared.objects.Kind.{Kind}
 use Rattle.kms_model.specs.declared.objects.Kind.TheVariants as kind
-use Rattle.kms_model.specs.declared.objects.Mode.{Mode}
 use Rattle.kms_model.specs.declared.objects.Topology.{Topology}
 use Rattle.kms_model.specs.declared.properties.TheConstants.{ACTIVE, CRTC_ID, CRTC_X, IN_FENCE_FD, MODE_ID, OUT_FENCE_PTR}
 use Rattle.kms_model.specs.declared.scripts.Assign.{Assign}
@@ -17,6 +16,7 @@ use Rattle.kms_model.specs.declared.scripts.Value.{Value}
 use Rattle.kms_model.specs.declared.scripts.Value.TheVariants as value
 use Rattle.kms_model.specs.declared.scripts.Why.{Why}
 use Rattle.kms_model.specs.declared.scripts.Why.TheVariants.{Bytes, Cut, Form, Label, Limit}
+use Rattle.kms_model.specs.Device.Modes.{full_hd}
 use Rattle.kms_model.specs.Script.Grammar.{int, hex}
 use Rattle.kms_model.specs.Script.InputLines.{Fault}
 use Rattle.kms_model.specs.Script.WholeInput.{input, device_of}
@@ -33,25 +33,6 @@ device = record {
   crtcs = 2;
   planes = record { kind = 1; crtcs = 1; formats = 5 } ∷ record { kind = 0; crtcs = 3; formats = 7 } ∷ record { kind = 2; crtcs = 2; formats = 2 } ∷ [];
   conns = 1 ∷ 3 ∷ [];
-}
-
-abbrev mode : Mode
-mode = record {
-  clock = 148500;
-  hdisplay = 1920;
-  hsync_start = 2008;
-  hsync_end = 2052;
-  htotal = 2200;
-  hskew = 0;
-  vdisplay = 1080;
-  vsync_start = 1084;
-  vsync_end = 1089;
-  vtotal = 1125;
-  vscan = 0;
-  vrefresh = 60;
-  flags = 5;
-  kind = 64;
-  name = codes "1920x1080" ++ replicate 23 0;
 }
 
 abbrev sets : List Assign
@@ -73,7 +54,7 @@ first =
     ∷ command.Buffer 2 1 1 Ar24 Ramp
     ∷ command.Buffer 3 2 1 Rg16 (Pixels (0x0001 ∷ 0x0020 ∷ []))
     ∷ command.AddFb 4 5
-    ∷ command.Mode 6 mode
+    ∷ command.Mode 6 full_hd
     ∷ command.Blob 7 (0x00 ∷ 0xff ∷ 0x1a ∷ [])
     ∷ command.Fence 8
     ∷ []

@@ -48,5 +48,5 @@ pub use sets::{Lookups, Resolved, Set, SetValue};
 pub use shown::{framebuffers_have_their_buffers, what_is_shown_can_be_composed};
 pub use states::{Both, Checked, ConnState, CrtcState, Duplicates, Mask, ObjState, PlaneState};
 pub use stores::{BadMode, Blob, Buffer, Framebuffer, Image};
-pub use tables::{IdTable, Slot};
+pub use tables::{IdTable, Slot, place_in};
 pub use worlds::{Content, Look, Setting, Thing, World};

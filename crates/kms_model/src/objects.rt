@@ -1,7 +1,8 @@
 //! Display objects, their ids and limits, modes and the device's topology.
-ghost use Rattle.std.specs.Prelude.{◌≡◌, ◌≤◌, ◌+◌, ◌&&◌, nat_le, nat_lt};
+ghost use Rattle.std.specs.Prelude.{◌≡◌, ◌<◌, ◌≤◌, ◌+◌, ◌&&◌, nat_le, nat_lt};
 ghost use Rattle.kms_model.specs.declared.objects.Kind.TheVariants as kind;
 ghost use Rattle.kms_model.specs.Device.Objects.{first_id, index_of, is_id_of, kind_of, object_id};
+ghost use Rattle.kms_model.specs.Script.Grammar.{format_bit};
 
 use crate::list::Seq;
 
@@ -140,6 +141,20 @@ pub enum Format {
     Ar24,
     /// `DRM_FORMAT_RGB565`: 16 bits a pixel, no alpha.
     Rg16,
+}
+
+impl Format {
+    /// The bit of the format in a plane's formats.
+    pub fn bit(self) -> u32
+        ensures value { result ≡ format_bit self }
+        ensures most { result < 3 }
+    {
+        match self {
+            Format::Xr24 => 0,
+            Format::Ar24 => 1,
+            Format::Rg16 => 2,
+        }
+    }
 }
 
 /// A display mode. (Header: `drm_mode.h`, `struct drm_mode_modeinfo`.)

@@ -1,4 +1,7 @@
 //! Scripts of clients' calls.
+ghost use Rattle.std.specs.Prelude.{◌≡◌};
+ghost use Rattle.kms_model.specs.Script.Generated.{assigns_to};
+
 use crate::list::Seq;
 use crate::objects::{Format, Kind, Mode, Topology};
 
@@ -35,6 +38,20 @@ pub struct Assign {
     pub prop: PropRef,
     /// What it is set to.
     pub value: Value,
+}
+
+impl Assign {
+    /// Sets a property of the device, by its id, of the object of a kind with an index.
+    pub fn known(kind: Kind, index: u32, prop: u32, value: Value) -> Assign
+        ensures { result ≡ assigns_to kind index prop value }
+    {
+        Assign {
+            kind,
+            index,
+            prop: PropRef::Known(prop),
+            value,
+        }
+    }
 }
 
 /// An atomic request. (Header: `drm_mode.h`, `struct drm_mode_atomic`.)

@@ -89,8 +89,8 @@ impl<T: Drop> IdTable<T> {
     }
 }
 
-// The place of an id, of which each step halves where it may be.
-fn place_in<T>(slots: &[Slot<T>], id: u32) -> Option<usize>
+/// The place of an id, if it is there; each step halves where it may be.
+pub fn place_in<T>(slots: &[Slot<T>], id: u32) -> Option<usize>
     requires { IsRising slots.now }
     ensures in_range { IfSome result (λ i. i < length slots.now) }
     ensures at { IfSome result (λ i. slice_index (slot_ids slots.now) i ≡ id) }

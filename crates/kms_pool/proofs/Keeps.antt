@@ -10,7 +10,9 @@ use Rattle.crossbeam_queue.specs.Fifo.{Pushes, Pops, Forks, Merges, Learns}
 use Rattle.crossbeam_queue.proofs.Lists.{at_snoc}
 use Rattle.kms_pool.specs.declared.rules.Hand.{Hand}
 use Rattle.kms_pool.specs.Rules.{hand, IsBalanced, Tells}
-use Rattle.kms_pool.proofs.Lists.{sum_put, sum_snoc, sum_two, around, flat_same, flat_snoc, flat_only, each_put, no_items}
+use Rattle.std.proofs.lemmas.List.Sums.{sum_by_push}
+use Rattle.kms_model.proofs.SumLemmas.{sum_put, sum_two}
+use Rattle.kms_pool.proofs.Lists.{around, flat_same, flat_snoc, flat_only, each_put, no_items}
 
 module _ {S N : Type 0} (name : S → N) where
   abbrev Rule : List S → List (Hand N) → Type 0
@@ -97,7 +99,7 @@ module _ {S N : Type 0} (name : S → N) where
       let vs : List (Hand N) = set views pass w in
       let same_brought = flat_snoc (λ (z : Hand N). z.brought) vs u refl ∙ flat_same (λ (z : Hand N). z.brought) views pass v w at refl in
       let same_held = flat_snoc (λ (z : Hand N). z.held) vs u refl ∙ flat_same (λ (z : Hand N). z.held) views pass v w at refl in record {
-        parts = let p = sum_put (λ z. z.parts) views pass v w at in let s = sum_snoc (λ z. z.parts) vs u in let q = r.parts in omega arith;
+        parts = let p = sum_put (λ z. z.parts) views pass v w at in let s = sum_by_push (λ z. z.parts) vs u in let q = r.parts in omega arith;
         all = subst (λ (l : List N × List N). IsPermutation l.0 (map name items ++ l.1)) (λ i. (sym same_brought i, sym same_held i)) r.all;
         spent = λ j d e. ⊎_elim (each_put IsSpent views pass w (λ z. absurd (omega arith)) (λ j d _ e. r.spent j d e) j d)
             (λ (is : u ≡ d) (z : d.parts ≡ 0). let p : u.parts ≡ d.parts = ap (λ (y : Hand N). y.parts) is in absurd (omega arith)) (at_snoc vs u d j e);

@@ -1,8 +1,7 @@
 -- The states that words were made of are read back from them.
-use Rattle.std.proofs.Common.{◌≡◌, ℕ, zero, suc, ◌<◌, ℤ, pos, negsuc, ◌≤ℤ◌, List, [], ◌∷◌, ◌++◌, length, get_or, Option, Some, None, arith, rules, refl, ap, ◌∙◌, SFits, if◌then◌else◌}
+use Rattle.std.proofs.Common.{◌≡◌, ℕ, ◌<◌, ℤ, pos, negsuc, ◌≤ℤ◌, List, length, Option, Some, None, arith, rules, refl, ap, ◌∙◌, SFits, if◌then◌else◌}
 use Rattle.std.specs.Prelude.{◌==◌, not, Bool, true, false, is_some}
-use Rattle.std.specs.List.{AllByRecursion}
-use Rattle.std.specs.Int.{w16, w32, cast_signed, cast_unsigned, to_le_bytes}
+use Rattle.std.specs.Int.{w32, cast_signed, cast_unsigned}
 use Rattle.std.proofs.lemmas.Int.{ints, to_z-of_z}
 use Rattle.kms_model.specs.declared.objects.Format.{Format}
 use Rattle.kms_model.specs.declared.objects.Format.TheVariants.{Xr24, Ar24, Rg16}
@@ -21,10 +20,10 @@ use Rattle.kms_model.specs.Device.ModeBytes.{mode_bytes, mode_held}
 use Rattle.kms_model.specs.Device.Sound.{IsBetween}
 use Rattle.kms_model.specs.Device.States.{natural}
 use Rattle.kms_model.specs.Machine.Registers.{CrtcWords, Registers, bytes_of_words, code_of, crtc_words, decoded_picture, fb_number, flag_word, format_in, gamma_in_words, gamma_words, mode_words, plane_in, plane_register, plane_words, shown_in_words}
-use Rattle.kms_model.proofs.GammaRoundTrip.{IsTable, gamma_back}
+use Rattle.kms_model.proofs.GammaRoundTrip.{gamma_back}
 use Rattle.kms_model.proofs.ModeRoundTrip.{mode_held-mode_bytes}
-use Rattle.kms_model.proofs.WordBytes.{words_back}
-use Rattle.kms_regs.specs.Written.{AreBytes, AreWritten, HasGamma, HasId, HasMode, IsWritable, IsWritableMode, picture_of_states}
+use Rattle.kms_model.proofs.WordBytes.{mode_long, mode_small, words_back}
+use Rattle.kms_regs.specs.Written.{AreWritten, HasGamma, HasId, HasMode, IsWritable, IsWritableMode, picture_of_states}
 use Rattle.kms_regs.proofs.Rows.{other_id}
 use Rattle.kms_regs.proofs.SameWords.{same_layers}
 
@@ -56,70 +55,15 @@ plane_back s h =
 
 -- Modes
 
-bytes_by_recursion : (bytes : List ℕ) → ((i : ℕ) → get_or bytes i 0 < 256) → AllByRecursion (λ byte. byte < 256) bytes
-bytes_by_recursion [] small = tt
-bytes_by_recursion (b ∷ bytes) small = (small 0, bytes_by_recursion bytes (λ i. small (suc i)))
-
-append_small : (xs ys : List ℕ) → AreBytes xs → AreBytes ys → AreBytes (xs ++ ys)
-append_small xs ys first second = record { small = go xs first.small } where
-  go : (xs : List ℕ) → ((i : ℕ) → get_or xs i 0 < 256) → (i : ℕ) → get_or (xs ++ ys) i 0 < 256
-  go [] small i = second.small i
-  go (x ∷ xs) small zero = small 0
-  go (x ∷ xs) small (suc i) = go xs (λ j. small (suc j)) i
-
-none_small : AreBytes []
-none_small = record { small = λ i. omega arith }
-
-byte_small : (x : ℕ) (xs : List ℕ) → x < 256 → AreBytes xs → AreBytes (x ∷ xs)
-byte_small x xs low rest = record { small = go } where
-  go : (i : ℕ) → get_or (x ∷ xs) i 0 < 256
-  go zero = low
-  go (suc i) = rest.small i
-
-half_small : (n : ℕ) → AreBytes (to_le_bytes w16 n)
-half_small n = byte_small _ _ (omega arith) (byte_small _ _ (omega arith) none_small)
-
-word_small : (n : ℕ) → AreBytes (to_le_bytes w32 n)
-word_small n = byte_small _ _ (omega arith) (byte_small _ _ (omega arith) (byte_small _ _ (omega arith) (byte_small _ _ (omega arith) none_small)))
-
-mode_small : (m : Mode) → AreBytes m.name → AreBytes (mode_bytes m)
-mode_small m name =
-    append_small (to_le_bytes w32 m.clock) _ (word_small m.clock)
-    (append_small (to_le_bytes w16 m.hdisplay) _ (half_small m.hdisplay)
-    (append_small (to_le_bytes w16 m.hsync_start) _ (half_small m.hsync_start)
-    (append_small (to_le_bytes w16 m.hsync_end) _ (half_small m.hsync_end)
-    (append_small (to_le_bytes w16 m.htotal) _ (half_small m.htotal)
-    (append_small (to_le_bytes w16 m.hskew) _ (half_small m.hskew)
-    (append_small (to_le_bytes w16 m.vdisplay) _ (half_small m.vdisplay)
-    (append_small (to_le_bytes w16 m.vsync_start) _ (half_small m.vsync_start)
-    (append_small (to_le_bytes w16 m.vsync_end) _ (half_small m.vsync_end)
-    (append_small (to_le_bytes w16 m.vtotal) _ (half_small m.vtotal)
-    (append_small (to_le_bytes w16 m.vscan) _ (half_small m.vscan)
-    (append_small (to_le_bytes w32 m.vrefresh) _ (word_small m.vrefresh)
-    (append_small (to_le_bytes w32 m.flags) _ (word_small m.flags)
-    (append_small (to_le_bytes w32 m.kind) m.name (word_small m.kind) name)))))))))))))
-
-mode_long : (m : Mode) → length m.name ≡ 32 → length (mode_bytes m) ≡ 68
-mode_long m long = ap (λ (n : ℕ). suc (suc (suc (suc (suc (suc (suc (suc (suc (suc (suc (suc (suc (suc (suc (suc (suc (suc (suc (suc (suc (suc (suc (suc (suc (suc (suc (suc (suc (suc (suc (suc (suc (suc (suc (suc n)))))))))))))))))))))))))))))))))))) long
-
 -- the mode that the words of a mode hold is that mode
 pub mode_back : (m : Mode) → IsWritableMode m → mode_held (bytes_of_words (mode_words (Some m))) ≡ m
-mode_back m h = ap mode_held (words_back 17 (mode_bytes m) (mode_long m h.fits.back.name) (bytes_by_recursion (mode_bytes m) (mode_small m h.name_bytes).small)) ∙ mode_held-mode_bytes m h.fits
+mode_back m h = ap mode_held (words_back 17 (mode_bytes m) (mode_long m h.fits.back.name) (mode_small m h.name_bytes)) ∙ mode_held-mode_bytes m h.fits
 
 -- Tables of colour values
 
 gamma_read : (c : CrtcWords) (gamma : Option Gamma) → c.gamma_on ≡ flag_word (is_some gamma) → c.gamma ≡ gamma_words gamma → HasGamma gamma → gamma_in_words c ≡ gamma
 gamma_read c None on words has = rw on refl
-gamma_read c (Some g) on words has =
-    let table : IsTable g = record {
-      red = has.reds;
-      green = has.greens;
-      blue = has.blues;
-      red_bytes = bytes_by_recursion g.red has.red_bytes.small;
-      green_bytes = bytes_by_recursion g.green has.green_bytes.small;
-      blue_bytes = bytes_by_recursion g.blue has.blue_bytes.small;
-    } in
-    rw (on, words) (ap Some (gamma_back g table))
+gamma_read c (Some g) on words has = rw (on, words) (ap Some (gamma_back g has))
 
 -- What words show that were written for states
 

@@ -1,5 +1,5 @@
 -- What the states of a CRTC and of planes show, and words that were written for them.
-use Rattle.std.specs.Prelude.{◌≡◌, ◌≢◌, ℕ, ◌<◌, Bool, true, false, List, length, slice_index_or, Option, Some, None}
+use Rattle.std.specs.Prelude.{◌≡◌, ◌≢◌, ℕ, ◌<◌, Bool, true, false, length, Option, Some, None}
 use Rattle.kms_model.specs.Device.Objects.{ids_of, object_id}
 use Rattle.kms_model.specs.Device.Sound.{IsPlaneInRange}
 use Rattle.kms_model.specs.declared.objects.Kind.TheVariants.{Crtc, Plane}
@@ -13,6 +13,8 @@ use Rattle.kms_model.specs.declared.states.CrtcState.{CrtcState}
 use Rattle.kms_model.specs.declared.states.PlaneState.{PlaneState}
 use Rattle.kms_model.specs.Frames.Pictures.{layers_with, shown_with}
 use Rattle.kms_model.specs.Machine.Registers.{Registers, crtc_register, crtc_words, plane_register, plane_words}
+use Rattle.kms_model.specs.Device.GammaBytes.{IsGammaTable}
+use Rattle.kms_model.specs.Device.ModeBytes.{AreBytes}
 use Rattle.kms_model.specs.Device.ModeRanges.{FitsTypes}
 
 -- a framebuffer, if there is one, has an id
@@ -25,28 +27,15 @@ pub record IsWritable (s : PlaneState) : Type 0 where
   pub in_range : IsPlaneInRange s
   pub has_id : HasId s.fb
 
--- numbers below 256
-pub record AreBytes (bytes : List ℕ) : Type 0 where
-  pub small : (i : ℕ) → slice_index_or bytes i 0 < 256
-
 -- a mode that its words tell: its fields are within their types
 pub record IsWritableMode (m : Mode) : Type 0 where
   pub fits : FitsTypes m
   pub name_bytes : AreBytes m.name
 
--- a table of colour values that its words tell: 256 numbers below 256 of each channel
-pub record IsWritableGamma (g : Gamma) : Type 0 where
-  pub reds : length g.red ≡ 256
-  pub greens : length g.green ≡ 256
-  pub blues : length g.blue ≡ 256
-  pub red_bytes : AreBytes g.red
-  pub green_bytes : AreBytes g.green
-  pub blue_bytes : AreBytes g.blue
-
 -- a CRTC's table, if it has one, is one that its words tell
 abbrev pub HasGamma : Option Gamma → Type 0
 HasGamma None = Unit {0}
-HasGamma (Some g) = IsWritableGamma g
+HasGamma (Some g) = IsGammaTable g
 
 -- what a CRTC with a connector, or 0, shows in a state, with the states of planes that a function gives; one that is on
 -- has a mode

@@ -18,7 +18,8 @@ use Rattle.kms_model.specs.Request.Apply.{apply}
 use Rattle.kms_model.specs.Request.Reach.{reaches}
 use Rattle.kms_model.specs.Request.Refusals.{own_refusal}
 use Rattle.kms_model.specs.Request.Touched.{touches}
-use Rattle.kms_samples.specs.Samples.{double, light, sized_mode, request, set, tiny}
+use Rattle.kms_model.specs.Script.Generated.{assigns_to}
+use Rattle.kms_samples.specs.Samples.{double, light, sized_mode, request, tiny}
 
 abbrev made : ℕ → Bool → Content → Thing
 made label is_open content = record { label = label; id = 1000 + label; owner = 1; content = content; is_open = is_open }
@@ -47,17 +48,17 @@ abbrev nothing : List Bool
 nothing = false ∷ false ∷ false ∷ false ∷ false ∷ false ∷ false ∷ []
 
 -- a closed framebuffer counts: the second plane is set
-pub closed_framebuffer : reached (set kind.Plane 1 FB_ID (value.Named 0) ∷ []) ≡ false ∷ false ∷ false ∷ true ∷ false ∷ false ∷ false ∷ []
+pub closed_framebuffer : reached (assigns_to kind.Plane 1 FB_ID (value.Named 0) ∷ []) ≡ false ∷ false ∷ false ∷ true ∷ false ∷ false ∷ false ∷ []
 unfolding reaches own_refusal touches
 closed_framebuffer = refl
 
 -- a closed mode counts: it is another one, so the CRTC needs a modeset
-pub closed_mode : reached (set kind.Crtc 0 MODE_ID (value.Named 2) ∷ []) ≡ true ∷ false ∷ true ∷ false ∷ true ∷ false ∷ false ∷ []
+pub closed_mode : reached (assigns_to kind.Crtc 0 MODE_ID (value.Named 2) ∷ []) ≡ true ∷ false ∷ true ∷ false ∷ true ∷ false ∷ false ∷ []
 unfolding reaches own_refusal touches
 closed_mode = refl
 
 -- the mode that it has counts too, and is no modeset
-pub same_mode_closed : reached (set kind.Crtc 0 MODE_ID (value.Named 1) ∷ []) ≡ true ∷ false ∷ false ∷ false ∷ false ∷ false ∷ false ∷ []
+pub same_mode_closed : reached (assigns_to kind.Crtc 0 MODE_ID (value.Named 1) ∷ []) ≡ true ∷ false ∷ false ∷ false ∷ false ∷ false ∷ false ∷ []
 unfolding reaches own_refusal touches
 same_mode_closed = refl
 
@@ -66,13 +67,13 @@ same_mode_closed = refl
 -- kind; and any property of an encoder, which has none.
 abbrev refused : List Assign
 refused =
-    set kind.Crtc 100 ACTIVE (value.Num (pos 0))
-    ∷ set kind.Crtc 0 ALPHA (value.Num (pos 0))
-    ∷ set kind.Plane 0 TYPE (value.Num (pos 1))
-    ∷ set kind.Plane 0 ALPHA (value.Num (pos 65536))
-    ∷ set kind.Plane 0 FB_ID (value.Named 9)
-    ∷ set kind.Plane 0 FB_ID (value.Named 1)
-    ∷ set kind.Enc 0 CRTC_ID (value.Num (pos 0))
+    assigns_to kind.Crtc 100 ACTIVE (value.Num (pos 0))
+    ∷ assigns_to kind.Crtc 0 ALPHA (value.Num (pos 0))
+    ∷ assigns_to kind.Plane 0 TYPE (value.Num (pos 1))
+    ∷ assigns_to kind.Plane 0 ALPHA (value.Num (pos 65536))
+    ∷ assigns_to kind.Plane 0 FB_ID (value.Named 9)
+    ∷ assigns_to kind.Plane 0 FB_ID (value.Named 1)
+    ∷ assigns_to kind.Enc 0 CRTC_ID (value.Num (pos 0))
     ∷ []
 
 pub refused_assignments_reach_nothing : map (λ a. reached (a ∷ [])) refused ≡ map (λ a. nothing) refused
@@ -80,6 +81,6 @@ unfolding reaches own_refusal touches
 refused_assignments_reach_nothing = refl
 
 -- a second fence of a plane is refused, and its assignment counts all the same
-pub second_fence : reached (set kind.Plane 1 IN_FENCE_FD (value.Named 3) ∷ set kind.Plane 1 IN_FENCE_FD (value.Num (negsuc 0)) ∷ []) ≡ false ∷ false ∷ false ∷ true ∷ false ∷ false ∷ false ∷ []
+pub second_fence : reached (assigns_to kind.Plane 1 IN_FENCE_FD (value.Named 3) ∷ assigns_to kind.Plane 1 IN_FENCE_FD (value.Num (negsuc 0)) ∷ []) ≡ false ∷ false ∷ false ∷ true ∷ false ∷ false ∷ false ∷ []
 unfolding reaches own_refusal touches
 second_fence = refl

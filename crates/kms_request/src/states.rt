@@ -2,7 +2,6 @@
 //! `drm_atomic_helper_check_modeset`, `drm_atomic_helper_check_plane_state`.)
 ghost use Rattle.std.specs.Prelude.{◌≡◌, ◌*◌, ◌+ℤ◌, ◌==◌, int_lt, pos, negsuc, Some};
 ghost use Rattle.kms_model.specs.Request.Checks.{conn_refusal, crtc_refusal, has_crtc, has_sizes, has_start, switches_crtc, is_beyond, is_unscaled, is_whole, placed_refusal, plane_refusal, shown_refusal};
-ghost use Rattle.kms_model.specs.Script.Grammar.{format_bit};
 ghost use Rattle.kms_model.specs.Device.Modes.{same_mode};
 ghost use Rattle.kms_model.specs.Device.States.{natural};
 ghost use Rattle.kms_model.specs.Device.Sound.{IsBetween, IsPlaneInRange};
@@ -11,7 +10,7 @@ ghost use Rattle.kms_request.specs.Answers.{refusal_number};
 
 use kms_geom::{fits_source, is_scaled_little};
 use kms_model::{
-    Both, CrtcState, FbInfo, Format, Kind, Mode, PlaneInfo, PlaneState, Rect, Refusal, has_bit,
+    Both, CrtcState, FbInfo, Kind, Mode, PlaneInfo, PlaneState, Rect, Refusal, has_bit,
 };
 
 /// The greatest edge of a destination, in pixels.
@@ -25,17 +24,6 @@ fn has_crtc(mask: u32, crtc: u32) -> bool
     ensures { result ≡ has_crtc mask crtc }
 {
     has_bit(mask, crtc.saturating_sub(Kind::Crtc.first_id()))
-}
-
-/// The bit of a format in a plane's formats.
-fn format_bit(format: Format) -> u32
-    ensures { result ≡ format_bit format }
-{
-    match format {
-        Format::Xr24 => 0,
-        Format::Ar24 => 1,
-        Format::Rg16 => 2,
-    }
 }
 
 /// Whether an edge of a destination is above 2147483647.
@@ -78,7 +66,7 @@ fn placed_refusal(
     if !has_crtc(info.crtcs, new.crtc) {
         return Some(Refusal::CRTC_NOT_POSSIBLE);
     }
-    if !has_bit(info.formats, format_bit(fb.format)) {
+    if !has_bit(info.formats, fb.format.bit()) {
         return Some(Refusal::FORMAT_NOT_SUPPORTED);
     }
     if is_beyond(new.dst) {

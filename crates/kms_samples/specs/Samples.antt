@@ -1,17 +1,15 @@
 -- Modes, devices and requests that tests are about.
-use Rattle.std.specs.Prelude.{ℕ, pos, codes, List, [], ◌∷◌, ◌++◌, replicate}
-use Rattle.kms_model.specs.declared.objects.Kind.{Kind}
+use Rattle.std.specs.Prelude.{ℕ, pos, List, [], ◌∷◌, replicate}
 use Rattle.kms_model.specs.declared.objects.Kind.TheVariants.{Crtc, Plane, Conn}
 use Rattle.kms_model.specs.declared.objects.Mode.{Mode}
 use Rattle.kms_model.specs.declared.objects.PlaneInfo.{PlaneInfo}
 use Rattle.kms_model.specs.declared.objects.Topology.{Topology}
 use Rattle.kms_model.specs.declared.properties.TheConstants.{ACTIVE, CRTC_H, CRTC_ID, CRTC_W, FB_ID, MODE_ID, SRC_H, SRC_W}
 use Rattle.kms_model.specs.declared.scripts.Assign.{Assign}
-use Rattle.kms_model.specs.declared.scripts.PropRef.TheVariants.{Known}
 use Rattle.kms_model.specs.declared.scripts.Request.{Request}
-use Rattle.kms_model.specs.declared.scripts.Value.{Value}
 use Rattle.kms_model.specs.declared.scripts.Value.TheVariants as value
 use Rattle.kms_model.specs.Device.Modes.{plain_mode}
+use Rattle.kms_model.specs.Script.Generated.{assigns_to}
 
 -- so many pixels in a row, and so many rows, with nothing around them
 abbrev pub sized_mode : ℕ → ℕ → Mode
@@ -20,26 +18,6 @@ sized_mode columns rows = plain_mode 1 columns rows (replicate 32 0)
 -- one pixel
 abbrev pub tiny : Mode
 tiny = sized_mode 1 1
-
--- the 1920x1080 mode of CEA-861
-abbrev pub full_hd : Mode
-full_hd = record {
-  clock = 148500;
-  hdisplay = 1920;
-  hsync_start = 2008;
-  hsync_end = 2052;
-  htotal = 2200;
-  hskew = 0;
-  vdisplay = 1080;
-  vsync_start = 1084;
-  vsync_end = 1089;
-  vtotal = 1125;
-  vscan = 0;
-  vrefresh = 60;
-  flags = 5;
-  kind = 64;
-  name = codes "1920x1080" ++ replicate 23 0;
-}
 
 -- a primary plane of some CRTCs that takes XR24 alone
 abbrev pub plane_of : ℕ → PlaneInfo
@@ -76,22 +54,18 @@ split = device_with 2 (plane_of_both ∷ plane_of_both ∷ []) (3 ∷ [])
 abbrev pub in_profile_2 : Topology → Topology
 in_profile_2 t = record t { profile = 2 }
 
--- sets a property of the object of a kind with an index
-abbrev pub set : Kind → ℕ → ℕ → Value → Assign
-set kind index prop given = record { kind = kind; index = index; prop = Known prop; value = given }
-
 -- what lights the first CRTC, by the labels of a framebuffer and of a mode of one pixel
 abbrev pub light : ℕ → ℕ → List Assign
 light fb mode =
-    set Crtc 0 ACTIVE (value.Num (pos 1))
-    ∷ set Crtc 0 MODE_ID (value.Named mode)
-    ∷ set Conn 0 CRTC_ID (value.Crtc 0)
-    ∷ set Plane 0 FB_ID (value.Named fb)
-    ∷ set Plane 0 CRTC_ID (value.Crtc 0)
-    ∷ set Plane 0 CRTC_W (value.Num (pos 1))
-    ∷ set Plane 0 CRTC_H (value.Num (pos 1))
-    ∷ set Plane 0 SRC_W (value.Num (pos 65536))
-    ∷ set Plane 0 SRC_H (value.Num (pos 65536))
+    assigns_to Crtc 0 ACTIVE (value.Num (pos 1))
+    ∷ assigns_to Crtc 0 MODE_ID (value.Named mode)
+    ∷ assigns_to Conn 0 CRTC_ID (value.Crtc 0)
+    ∷ assigns_to Plane 0 FB_ID (value.Named fb)
+    ∷ assigns_to Plane 0 CRTC_ID (value.Crtc 0)
+    ∷ assigns_to Plane 0 CRTC_W (value.Num (pos 1))
+    ∷ assigns_to Plane 0 CRTC_H (value.Num (pos 1))
+    ∷ assigns_to Plane 0 SRC_W (value.Num (pos 65536))
+    ∷ assigns_to Plane 0 SRC_H (value.Num (pos 65536))
     ∷ []
 
 -- a request that sets what assignments say

@@ -10,4 +10,4 @@ mod requests;
 pub use chance::Chance;
 pub use devices::{cloned, double, in_profile_2, pair, plane_of, single, split};
 pub use modes::{full_hd, sized_mode, tiny};
-pub use requests::{ALLOW_MODESET, light, on_crtc, on_plane, request, set};
+pub use requests::{light, on_crtc, on_plane, request, set};

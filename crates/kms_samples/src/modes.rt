@@ -1,6 +1,7 @@
 //! Modes. (Header: `drm_mode.h`, `struct drm_mode_modeinfo`.)
 ghost use Rattle.std.specs.Prelude.{◌≡◌};
-ghost use Rattle.kms_samples.specs.Samples.{full_hd, sized_mode, tiny};
+ghost use Rattle.kms_model.specs.Device.Modes.{full_hd};
+ghost use Rattle.kms_samples.specs.Samples.{sized_mode, tiny};
 
 use kms_model::Mode;
 

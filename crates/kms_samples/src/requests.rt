@@ -1,37 +1,30 @@
 //! Assignments and requests.
 ghost use Rattle.std.specs.Prelude.{◌≡◌, ◌++◌, IfOk};
 ghost use Rattle.kms_model.specs.declared.objects.Kind.TheVariants.{Crtc, Plane};
-ghost use Rattle.kms_samples.specs.Samples.{light, request, set};
+ghost use Rattle.kms_model.specs.Script.Generated.{assigns_to};
+ghost use Rattle.kms_samples.specs.Samples.{light, request};
 
 use kms_model::properties::{ACTIVE, CRTC_H, CRTC_ID, CRTC_W, FB_ID, MODE_ID, SRC_H, SRC_W};
-use kms_model::{Assign, Kind, NoMemory, PropRef, Request, Seq, Value};
+use kms_model::{Assign, Kind, NoMemory, Request, Seq, Value};
 use std::alloc::Global;
-
-/// `DRM_MODE_ATOMIC_ALLOW_MODESET`, without which a request may not be a modeset. (Header: `drm_mode.h`.)
-pub const ALLOW_MODESET: u32 = 0x400;
 
 /// Sets a property, by its id, of the object of a kind with an index.
 pub fn set(kind: Kind, index: u32, prop: u32, value: Value) -> Assign
-    ensures { result ≡ set kind index prop value }
+    ensures { result ≡ assigns_to kind index prop value }
 {
-    Assign {
-        kind,
-        index,
-        prop: PropRef::Known(prop),
-        value,
-    }
+    Assign::known(kind, index, prop, value)
 }
 
 /// Sets a property, by its id, of the first plane.
 pub fn on_plane(prop: u32, value: Value) -> Assign
-    ensures { result ≡ set Plane 0 prop value }
+    ensures { result ≡ assigns_to Plane 0 prop value }
 {
     set(Kind::Plane, 0, prop, value)
 }
 
 /// Sets a property, by its id, of the first CRTC.
 pub fn on_crtc(prop: u32, value: Value) -> Assign
-    ensures { result ≡ set Crtc 0 prop value }
+    ensures { result ≡ assigns_to Crtc 0 prop value }
 {
     set(Kind::Crtc, 0, prop, value)
 }

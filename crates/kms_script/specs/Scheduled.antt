@@ -1,16 +1,15 @@
 -- The line of a step in the schedule of a script, and the parts that a reader takes of it.
-use Rattle.std.specs.Prelude.{◌≡◌, ◌≤◌, ◌⊎◌, ℕ, List, [], ◌++◌, length, Option, Some, None, Ok, codes, if◌then◌else◌}
+use Rattle.std.specs.Prelude.{◌≡◌, ◌≤◌, ◌⊎◌, ℕ, List, [], ◌++◌, length, Option, Some, None, Ok, codes}
 use Rattle.std.specs.List.{flat_map}
-use Rattle.std.specs.Str.{bytes_eq}
 use Rattle.kms_model.specs.declared.objects.Kind.{Kind}
 use Rattle.kms_model.specs.declared.replies.Step.{Step}
-use Rattle.kms_model.specs.declared.replies.Step.TheVariants.{Lock, Claim, Write, Flush, HwDone, Vblank, Cleanup, Read, Return, Stall}
+use Rattle.kms_model.specs.declared.replies.Step.TheVariants.{Lock, Write, Flush, Vblank}
 use Rattle.kms_model.specs.declared.scripts.Part.TheVariants as part
 use Rattle.kms_model.specs.declared.scripts.Script.{Script}
 use Rattle.kms_model.specs.Promises.{InEachHistory}
 use Rattle.kms_model.specs.Report.History.{step_line, step_words}
 use Rattle.kms_model.specs.Script.InputLines.{input_limit}
-use Rattle.kms_model.specs.Script.Schedules.{IsFitStep, greatest_number, input_of, lone_step, numbered_step, object_at, step_on_object, step_with_object}
+use Rattle.kms_model.specs.Script.Schedules.{IsFitStep, greatest_number, input_of, object_at}
 use Rattle.kms_model.specs.Script.Spelling.{spelling}
 use Rattle.kms_model.specs.Script.WholeInput.{script_limit}
 use Rattle.kms_model.specs.Script.Words.{◌>>=◌, dec_at, end_at}
@@ -62,17 +61,3 @@ number_and_object bytes = do
   n ← dec_at greatest_number bytes
   o ← object_at n.1
   Some (n.0, o.0, o.1)
-
--- a step from `claim` on, by its word and the fields behind it
-abbrev pub worker_step : List ℕ → List ℕ → Option Step
-worker_step word fields =
-    if bytes_eq word (codes "claim") then numbered_step (λ n. Claim n) fields
-    else (if bytes_eq word (codes "write") then step_with_object (λ n kind index. Write n kind index) fields
-    else (if bytes_eq word (codes "flush") then step_with_object (λ n kind index. Flush n kind index) fields
-    else (if bytes_eq word (codes "hwdone") then numbered_step (λ n. HwDone n) fields
-    else (if bytes_eq word (codes "vblank") then step_on_object (λ kind index. Vblank kind index) fields
-    else (if bytes_eq word (codes "cleanup") then numbered_step (λ n. Cleanup n) fields
-    else (if bytes_eq word (codes "read") then numbered_step (λ n. Read n) fields
-    else (if bytes_eq word (codes "return") then numbered_step (λ n. Return n) fields
-    else (if bytes_eq word (codes "stall") then lone_step Stall fields
-    else None))))))))

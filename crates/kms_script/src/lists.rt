@@ -1,6 +1,6 @@
 //! Formats, and lists parted by commas.
 ghost use Rattle.std.specs.Prelude.{◌≡◌, ◌≤◌, ◌<◌, ◌^◌, ℕ, IfSome, option_map};
-ghost use Rattle.kms_model.specs.Script.Grammar.{parted, format_named, format_at, format_bit, rising, crtc_list, format_list};
+ghost use Rattle.kms_model.specs.Script.Grammar.{parted, format_named, format_at, rising, crtc_list, format_list};
 ghost use Rattle.kms_script.specs.Fitting.{IsFitCount, IsFitMask};
 ghost use Rattle.kms_script.specs.Listed.{HasFew, bit_of, bit_count};
 
@@ -39,17 +39,6 @@ enum Listed {
     Formats,
 }
 
-fn format_bit(format: Format) -> u32
-    ensures value { result ≡ format_bit format }
-    ensures most { result < 3 }
-{
-    match format {
-        Format::Xr24 => 0,
-        Format::Ar24 => 1,
-        Format::Rg16 => 2,
-    }
-}
-
 /// The bit that a word of a list stands for.
 fn bit_of(listed: Listed, word: &[u8]) -> Option<u32>
     requires { HasFew listed }
@@ -59,7 +48,7 @@ fn bit_of(listed: Listed, word: &[u8]) -> Option<u32>
 {
     match listed {
         Listed::Crtcs(crtcs) => Some(read_dec(word, u64::from(crtcs.saturating_sub(1)))? as u32),
-        Listed::Formats => Some(format_bit(format_named(word)?)),
+        Listed::Formats => Some(format_named(word)?.bit()),
     }
 }
 

@@ -2,8 +2,8 @@
 ghost use Rattle.std.specs.Prelude.{◌≡◌, ◌≤◌, ℕ, Some, IfSome, IfNone, option_map};
 ghost use Rattle.std.specs.Option.{ForSome};
 ghost use Rattle.kms_model.specs.declared.replies.Step.{Step};
-ghost use Rattle.kms_model.specs.Script.Schedules.{IsFitStep, IsSpeltOnce, object_at, step_of_word, step_read};
-ghost use Rattle.kms_script.specs.Scheduled.{IsStepLine, index_in_step, last_number, number_and_object, step_text, worker_step};
+ghost use Rattle.kms_model.specs.Script.Schedules.{IsFitStep, IsSpeltOnce, object_at, step_of_word, step_read, worker_step};
+ghost use Rattle.kms_script.specs.Scheduled.{IsStepLine, index_in_step, last_number, number_and_object, step_text};
 
 use crate::objects::read_object;
 use crate::words::{MOST, strip, take_dec, take_end, take_field};

@@ -4,6 +4,7 @@ ghost use Rattle.kms_model.specs.Device.Sound.{IsDevice};
 ghost use Rattle.kms_model.specs.Script.WellFormed.{IsFitCommand};
 
 use crate::Serial;
+use kms_model::flags::ALLOW_MODESET;
 use kms_model::properties::{
     ACTIVE, ALPHA, CRTC_H, CRTC_ID, CRTC_W, CRTC_X, FB_ID, GAMMA_LUT, IN_FENCE_FD, MODE_ID,
     OUT_FENCE_PTR, SRC_H, SRC_W, SRC_X, TYPE,
@@ -12,7 +13,7 @@ use kms_model::{
     Assign, Command, Denied, Format, Kind, Mask, NoMemory, Pattern, Refusal, Reply, Topology, Value,
 };
 use kms_samples::{
-    ALLOW_MODESET, cloned, in_profile_2, light, on_crtc, on_plane, pair, request, set, single, tiny,
+    cloned, in_profile_2, light, on_crtc, on_plane, pair, request, set, single, tiny,
 };
 use std::alloc::Global;
 use std::process::Abort;

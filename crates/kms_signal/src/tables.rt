@@ -1,8 +1,8 @@
 //! Values by their ids, with memory taken beforehand.
-ghost use Rattle.std.specs.Prelude.{◌≡◌, ◌≢◌, ℕ, ◌<◌, ◌≤◌, ◌+◌, [], ◌∷◌, ◌++◌, length, slice_index, OnOk, OnErr, IsOk, IfSome, IfNone, option_copied};
-ghost use Rattle.kms_model.specs.Stores.Tables.{value_with_id, with_value, without_id, AreBelow, IsRising, slot, slot_ids};
+ghost use Rattle.std.specs.Prelude.{◌≡◌, ◌<◌, ◌≤◌, ◌+◌, [], ◌∷◌, ◌++◌, OnOk, OnErr, IsOk, option_copied};
+ghost use Rattle.kms_model.specs.Stores.Tables.{value_with_id, with_value, without_id, AreBelow, IsRising, slot};
 
-use kms_model::{NoMemory, Slot};
+use kms_model::{NoMemory, Slot, place_in};
 use std::alloc::Global;
 use std::marker::Model;
 
@@ -42,7 +42,7 @@ impl<T> RoomTable<T> {
     pub fn get(&self, id: u32) -> Option<&T>
         ensures { option_copied result ≡ value_with_id self.now.slots id }
     {
-        match place_of(self.slots.as_slice(), id) {
+        match place_in(self.slots.as_slice(), id) {
             Some(i) => Some(&self.slots[i].value),
             None => None,
         }
@@ -83,7 +83,7 @@ impl<T: Drop> RoomTable<T> {
     pub fn set(&mut self, id: u32, value: T)
         ensures { self.new ≡ record self.old { slots = with_value self.old.slots id value } }
     {
-        match place_of(self.slots.as_slice(), id) {
+        match place_in(self.slots.as_slice(), id) {
             Some(i) => self.slots[i] = Slot { id, value },
             None => {}
         }
@@ -94,22 +94,11 @@ impl<T: Drop> RoomTable<T> {
         ensures slots { self.new.slots ≡ without_id self.old.slots id }
         ensures room { self.old.room ≤ self.new.room }
     {
-        match place_of(self.slots.as_slice(), id) {
+        match place_in(self.slots.as_slice(), id) {
             Some(i) => {
                 self.slots.remove(i);
             }
             None => {}
         }
     }
-}
-
-// The place of an id, of which each step halves where it may be.
-fn place_of<T>(slots: &[Slot<T>], id: u32) -> Option<usize>
-    requires { IsRising slots.now }
-    ensures in_range { IfSome result (λ i. i < length slots.now) }
-    ensures at { IfSome result (λ i. slice_index (slot_ids slots.now) i ≡ id) }
-    ensures absent { IfNone result
-        ((k : ℕ) → k < length slots.now → slice_index (slot_ids slots.now) k ≢ id) }
-{
-    slots.binary_search_by_key(&id, |slot| slot.id).ok()
 }

@@ -1,5 +1,5 @@
 -- What a search for the place of a number finds.
-use Rattle.std.proofs.Common.{◌≡◌, ◌≢◌, ℕ, zero, suc, ◌-◌, ◌<◌, ◌≤◌, length, List, [], ◌∷◌, get_or, Bool, true, false, Option, Some, None, inl, inr, arith, refl, sym, ap, ◌∙◌, subst, leb-true, ltb, ltb-true, ltb-false}
+use Rattle.std.proofs.Common.{◌≡◌, ℕ, zero, suc, ◌-◌, ◌<◌, ◌≤◌, length, List, [], ◌∷◌, get_or, Bool, true, false, Option, Some, None, inl, inr, arith, refl, sym, ap, ◌∙◌, subst, leb-true, ltb, ltb-true, ltb-false}
 use Rattle.std.specs.Prelude.{is_some, IsTrue, nat_le, nat_lt, slice_get, ◌&&◌, ◌||◌}
 use Rattle.std.specs.List.{AllByRecursion}
 use Rattle.std.specs.List.Sorted.{IsNonDecreasingBy, IsPartitionPoint}
@@ -122,20 +122,6 @@ below_place (s ∷ slots) id i k point bound low = rw (from_place (s ∷ slots) 
 pub from_place_on : (slots : List (Slot Tail)) (id i k : ℕ) → IsPlaceOf slots id i → i ≤ k → k < length slots → id ≤ get_or (slot_ids slots) k 0
 from_place_on [] id i k point high within = absurd (omega (arith, within))
 from_place_on (s ∷ slots) id i k point high within = rw (from_place (s ∷ slots) k s within) (ltb-false _ _ (point.1 k s high within))
-
--- another number at the place
-pub absent_at : (slots : List (Slot Tail)) (i id : ℕ) (s : Slot Tail) → IsRising slots → ((k : ℕ) → k < i → get_or (slot_ids slots) k 0 < id) → ((k : ℕ) → i ≤ k → k < length slots → id ≤ get_or (slot_ids slots) k 0)
-    → true ≡ nat_lt i (length slots) → s ≡ get_or slots i s → s.id ≢ id → (k : ℕ) → k < length slots → get_or (slot_ids slots) k 0 ≢ id
-absent_at slots i id s rising below above there is other k within same =
-    let low : i < length slots = ltb-true i (length slots) (sym there) in
-    let at : get_or (slot_ids slots) i 0 ≡ s.id = from_place slots i s low ∙ ap (λ (u : Slot Tail). u.id) (sym is) in
-    elim (cases_lt k i) [
-      | inl less ↦ omega (arith, below k less, same)
-      | inr from ↦ elim (cases_lt i k) [
-        | inl more ↦ omega (arith, above i (omega arith) low, rising_at slots i k rising more within, same)
-        | inr here ↦ (let e : i ≡ k = omega (arith, from, here) in other (sym at ∙ ap (λ j. get_or (slot_ids slots) j 0) e ∙ same))
-      ]
-    ]
 
 -- The first number from one on, of slices that are the table
 

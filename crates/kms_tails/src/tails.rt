@@ -1,5 +1,5 @@
 //! The tails of all commits that are not cleaned.
-ghost use Rattle.std.specs.Prelude.{◌≡◌, ◌≢◌, ℕ, ◌<◌, ◌≤◌, ◌+◌, ◌*◌, [], ◌∷◌, ◌++◌, List, length, slice_index, OnOk, OnErr, IsOk, IfSome, IfNone, option_copied};
+ghost use Rattle.std.specs.Prelude.{◌≡◌, ℕ, ◌<◌, ◌≤◌, ◌+◌, ◌*◌, [], ◌∷◌, ◌++◌, List, length, slice_index, OnOk, OnErr, IsOk, IfSome, IfNone, option_copied};
 ghost use Rattle.kms_model.specs.declared.objects.Kind.TheVariants.{Crtc};
 ghost use Rattle.kms_model.specs.declared.objects.Topology.{Topology};
 ghost use Rattle.kms_model.specs.declared.runs.Latch.{Latch};
@@ -13,7 +13,7 @@ ghost use Rattle.kms_tails.specs.Remaining.{IsMark, TakesAll, TakesNone, TakesOn
 
 use crate::progress::{Mark, Progress};
 use crate::tail::Tail;
-use kms_model::{Checked, Kind, NoMemory, ObjId, Request, Slot};
+use kms_model::{Checked, Kind, NoMemory, ObjId, Request, Slot, place_in};
 use std::alloc::Global;
 use std::marker::Model;
 
@@ -112,7 +112,7 @@ impl Tails {
             → commit < length commits → AreTailsOf t commits marks latches self.now
             → IsKept t (commit_at t commits commit) marks latches commit (option_copied result) }
     {
-        match place_of(self.slots.as_slice(), commit) {
+        match place_in(self.slots.as_slice(), commit) {
             Some(i) => Some(&self.slots[i].value),
             None => None,
         }
@@ -207,7 +207,7 @@ impl Tails {
         ensures left { TakesAll commit self.old self.new }
         ensures stands { StandsAfter commit self.old self.new (with_cleaned commit) }
     {
-        match place_of(self.slots.as_slice(), commit) {
+        match place_in(self.slots.as_slice(), commit) {
             Some(i) => {
                 self.slots.remove(i);
             }
@@ -222,7 +222,7 @@ impl Tails {
         ensures left { TakesOne commit mark self.old self.new }
         ensures left_off { TakesNone commit mark self.old self.new }
     {
-        match place_of(self.slots.as_slice(), commit) {
+        match place_in(self.slots.as_slice(), commit) {
             Some(i) => {
                 let tail = &mut self.slots[i].value;
                 tail.progress = tail.progress.with(mark);
@@ -241,19 +241,4 @@ fn place_from(slots: &[Slot<Tail>], id: u32) -> usize
         → id ≤ slice_index (slot_ids slots.now) k }
 {
     slots.partition_point(|slot| slot.id < id)
-}
-
-/// The place of an id, if it is there.
-fn place_of(slots: &[Slot<Tail>], id: u32) -> Option<usize>
-    requires { IsRising slots.now }
-    ensures in_range { IfSome result (λ i. i < length slots.now) }
-    ensures at { IfSome result (λ i. slice_index (slot_ids slots.now) i ≡ id) }
-    ensures absent { IfNone result
-        ((k : ℕ) → k < length slots.now → slice_index (slot_ids slots.now) k ≢ id) }
-{
-    let place = place_from(slots, id);
-    match slots.get(place) {
-        Some(slot) => { if slot.id == id { Some(place) } else { None } }
-        None => None,
-    }
 }

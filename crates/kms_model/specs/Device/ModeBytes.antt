@@ -1,11 +1,16 @@
 -- The bytes of a mode, all numbers little-endian. From: `drm_mode.h`, struct drm_mode_modeinfo, whose fields stand one
 -- behind the other without gaps.
-use Rattle.std.specs.Prelude.{ℕ, ◌+◌, not, ◌&&◌, ◌==◌, nat_le, List, ◌++◌, length, slice_range, Result, Ok, Err, if◌then◌else◌}
+use Rattle.std.specs.Prelude.{ℕ, ◌+◌, not, ◌&&◌, ◌==◌, ◌<◌, nat_le, List, ◌++◌, length, slice_range, Result, Ok, Err, if◌then◌else◌}
+use Rattle.std.specs.List.{AllByRecursion}
 use Rattle.std.specs.Int.{w16, w32, to_le_bytes, from_le_bytes}
 use Rattle.kms_model.specs.declared.objects.Mode.{Mode}
 use Rattle.kms_model.specs.declared.stores.BadMode.{BadMode}
 use Rattle.kms_model.specs.declared.stores.BadMode.TheVariants.{Length, Horizontal, Vertical, Clock, Size}
 use Rattle.kms_model.specs.Device.Modes.{is_axis}
+
+-- numbers below 256
+abbrev pub AreBytes : List ℕ → Type 0
+AreBytes bytes = AllByRecursion (λ byte. byte < 256) bytes
 
 -- the 68 bytes of a mode
 abbrev pub mode_bytes : Mode → List ℕ

@@ -1,5 +1,5 @@
 -- Legal modes. From: `drm_mode.h`, struct drm_mode_modeinfo; drm_mode_validate_basic.
-use Rattle.std.specs.Prelude.{ℕ, Bool, true, false, ◌&&◌, nat_lt, nat_le, nat_eq, List, [], ◌∷◌, Option, Some, None}
+use Rattle.std.specs.Prelude.{ℕ, Bool, true, false, ◌&&◌, nat_lt, nat_le, nat_eq, List, [], ◌∷◌, ◌++◌, replicate, codes, Option, Some, None}
 use Rattle.std.specs.Cmp.Lexicographic.{pointwise}
 use Rattle.kms_model.specs.declared.objects.Mode.{Mode}
 
@@ -33,6 +33,26 @@ plain_mode clock columns rows name = record {
   flags = 0;
   kind = 0;
   name = name;
+}
+
+-- the 1920x1080 mode of CEA-861
+abbrev pub full_hd : Mode
+full_hd = record {
+  clock = 148500;
+  hdisplay = 1920;
+  hsync_start = 2008;
+  hsync_end = 2052;
+  htotal = 2200;
+  hskew = 0;
+  vdisplay = 1080;
+  vsync_start = 1084;
+  vsync_end = 1089;
+  vtotal = 1125;
+  vscan = 0;
+  vrefresh = 60;
+  flags = 5;
+  kind = 64;
+  name = codes "1920x1080" ++ replicate 23 0;
 }
 
 -- all contents of a mode

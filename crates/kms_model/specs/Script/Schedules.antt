@@ -52,6 +52,20 @@ lone_step step bytes = do
   _ ← end_at bytes
   Some step
 
+-- a step of a worker or of the hardware, or one that a client waits for, by its word and the fields behind it
+abbrev pub worker_step : List ℕ → List ℕ → Option Step
+worker_step word fields =
+    if bytes_eq word (codes "claim") then numbered_step (λ n. Claim n) fields
+    else (if bytes_eq word (codes "write") then step_with_object (λ n kind index. Write n kind index) fields
+    else (if bytes_eq word (codes "flush") then step_with_object (λ n kind index. Flush n kind index) fields
+    else (if bytes_eq word (codes "hwdone") then numbered_step (λ n. HwDone n) fields
+    else (if bytes_eq word (codes "vblank") then step_on_object (λ kind index. Vblank kind index) fields
+    else (if bytes_eq word (codes "cleanup") then numbered_step (λ n. Cleanup n) fields
+    else (if bytes_eq word (codes "read") then numbered_step (λ n. Read n) fields
+    else (if bytes_eq word (codes "return") then numbered_step (λ n. Return n) fields
+    else (if bytes_eq word (codes "stall") then lone_step Stall fields
+    else None))))))))
+
 -- the step of a word, with the fields behind it
 unfoldable pub step_of_word : List ℕ → List ℕ → Option Step
 step_of_word word fields =
@@ -64,16 +78,7 @@ step_of_word word fields =
     else (if bytes_eq word (codes "swap") then numbered_step (λ n. Swap n) fields
     else (if bytes_eq word (codes "make") then numbered_step (λ n. Make n) fields
     else (if bytes_eq word (codes "signal") then numbered_step (λ n. Signal n) fields
-    else (if bytes_eq word (codes "claim") then numbered_step (λ n. Claim n) fields
-    else (if bytes_eq word (codes "write") then step_with_object (λ n kind index. Write n kind index) fields
-    else (if bytes_eq word (codes "flush") then step_with_object (λ n kind index. Flush n kind index) fields
-    else (if bytes_eq word (codes "hwdone") then numbered_step (λ n. HwDone n) fields
-    else (if bytes_eq word (codes "vblank") then step_on_object (λ kind index. Vblank kind index) fields
-    else (if bytes_eq word (codes "cleanup") then numbered_step (λ n. Cleanup n) fields
-    else (if bytes_eq word (codes "read") then numbered_step (λ n. Read n) fields
-    else (if bytes_eq word (codes "return") then numbered_step (λ n. Return n) fields
-    else (if bytes_eq word (codes "stall") then lone_step Stall fields
-    else None)))))))))))))))))
+    else worker_step word fields))))))))
 
 -- the step that a line spells, without its line feed: `T` and the words of the step
 unfoldable pub step_read : List ℕ → Option Step
