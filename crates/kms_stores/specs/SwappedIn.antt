@@ -1,10 +1,12 @@
 -- The present states of a device's objects after a commit. From: drm_atomic_helper_swap_state.
 use Rattle.std.specs.Prelude.{◌≡◌, ℕ, ◌+◌, Bool, false, ◌==◌, List, [], ◌∷◌, length, Option, Some, None, slice_index_or, if◌then◌else◌}
+use Rattle.kms_model.specs.declared.objects.Kind.TheVariants.{Crtc}
 use Rattle.kms_model.specs.declared.objects.ObjId.{ObjId}
 use Rattle.kms_model.specs.declared.states.Both.{Both}
 use Rattle.kms_model.specs.declared.states.Duplicates.{Duplicates}
 use Rattle.kms_model.specs.declared.tables.Slot.{Slot}
 use Rattle.kms_model.specs.declared.worlds.Thing.{Thing}
+use Rattle.kms_model.specs.Device.Objects.{object_id}
 use Rattle.kms_model.specs.Device.World.{thing_labelled}
 use Rattle.kms_model.specs.Machine.Commits.{id_of_thing}
 use Rattle.kms_model.specs.Request.Flags.{wants_event}
@@ -46,7 +48,9 @@ label_in (f ∷ asked) crtc = if f.0.0 == crtc then Some f.1 else label_in asked
 
 -- those at each CRTC that a device can have, in order
 abbrev pub labels_in : List (ObjId × ℕ) → List (Option ℕ)
-labels_in asked = label_in asked 100 ∷ label_in asked 101 ∷ label_in asked 102 ∷ label_in asked 103 ∷ []
+labels_in asked =
+    label_in asked (object_id Crtc 0) ∷ label_in asked (object_id Crtc 1)
+    ∷ label_in asked (object_id Crtc 2) ∷ label_in asked (object_id Crtc 3) ∷ []
 
 -- the id of the thing that was made under a label, where one is asked for
 abbrev pub id_under : List Thing → Option ℕ → Option ℕ

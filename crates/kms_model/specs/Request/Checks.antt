@@ -27,7 +27,7 @@ use Rattle.kms_model.specs.Request.Named.{names, needs_modeset, differs}
 use Rattle.kms_model.specs.Frames.Rectangles.{fits_source, is_scaled_little}
 use Rattle.kms_model.specs.Request.Touched.{asks_signal}
 
--- a set of CRTCs has the CRTC with an id (which is 100 or more)
+-- a set of CRTCs has the CRTC with an id (which is that of some CRTC)
 abbrev pub has_crtc : ℕ → ℕ → Bool
 has_crtc mask crtc = has_bit mask (crtc - first_id Crtc)
 
