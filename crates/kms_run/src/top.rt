@@ -16,12 +16,10 @@ use crate::stream::{ReadError, read_all, write_all};
 use crate::words::{Action, Execution, Generation, Task, read_words};
 use kms_io::{Gate, Sink, Source};
 use kms_report::Options;
+use kms_script::MAX_INPUT;
 use std::alloc::Global;
 use std::sync::Wait;
 use std::thread::Threads;
-
-/// The most bytes that an input may have: 64 MiB.
-const LIMIT: usize = 67_108_864;
 
 /// Reads the input to its end, or to one byte more than it may have. The error is the status that comes of it.
 fn read_input<S: Source>(alloc: Global, source: &mut S) -> Result<Vec<u8>, Status>
@@ -34,7 +32,7 @@ fn read_input<S: Source>(alloc: Global, source: &mut S) -> Result<Vec<u8>, Statu
     ensures cause { result ≡ Err Status.ReadFault
         → Rose (S.faults source.old) (S.faults source.new) }
 {
-    match read_all(alloc, source, LIMIT + 1) {
+    match read_all(alloc, source, MAX_INPUT + 1) {
         Ok(input) => Ok(input),
         Err(ReadError::Failed) => Err(Status::ReadFault),
         Err(ReadError::Memory) => Err(Status::NoMemory),

@@ -1,14 +1,13 @@
 use super::*;
 use kms_model::{
-    Both, Checked, ConnState, CrtcState, Duplicates, Mask, ObjId, PlaneState, Request, Seq,
+    Both, Checked, ConnState, CrtcState, Duplicates, FIRST_PLANE_ID, Mask, ObjId, PlaneState,
+    Request, Seq,
 };
+use kms_samples::{CRTC, SECOND_CRTC};
 use std::test::Fail;
 
-const CRTC: ObjId = ObjId(100);
-
-const SECOND_CRTC: ObjId = ObjId(101);
-
-const PLANE: ObjId = ObjId(202);
+/// The third plane.
+const PLANE: ObjId = ObjId(FIRST_PLANE_ID + 2);
 
 const NO_FENCES: [Option<u32>; 4] = [None; 4];
 

@@ -8,7 +8,7 @@ use kms_model::{Duplicates, Kind, MAX_CRTCS, MAX_PLANES, Mask, ObjId, has_bit};
 pub const OBJECTS: u32 = 28;
 
 /// The place of the first connector.
-const FIRST_CONNECTOR: u32 = MAX_CRTCS + MAX_PLANES;
+const FIRST_CONNECTOR_PLACE: u32 = MAX_CRTCS + MAX_PLANES;
 
 /// The CRTCs of an object before and after a commit.
 #[derive(Clone, Copy, Debug, PartialEq, Eq)]
@@ -26,10 +26,10 @@ pub fn object_at_place(place: u32) -> ObjId
 {
     if place < MAX_CRTCS {
         ObjId::of(Kind::Crtc, place)
-    } else if place < FIRST_CONNECTOR {
+    } else if place < FIRST_CONNECTOR_PLACE {
         ObjId::of(Kind::Plane, place - MAX_CRTCS)
     } else {
-        ObjId::of(Kind::Conn, place - FIRST_CONNECTOR)
+        ObjId::of(Kind::Conn, place - FIRST_CONNECTOR_PLACE)
     }
 }
 
@@ -40,10 +40,10 @@ pub fn has_object(mask: &Mask, place: u32) -> bool
 {
     if place < MAX_CRTCS {
         has_bit(mask.crtcs, place)
-    } else if place < FIRST_CONNECTOR {
+    } else if place < FIRST_CONNECTOR_PLACE {
         has_bit(mask.planes, place - MAX_CRTCS)
     } else {
-        has_bit(mask.conns, place - FIRST_CONNECTOR)
+        has_bit(mask.conns, place - FIRST_CONNECTOR_PLACE)
     }
 }
 
@@ -56,7 +56,7 @@ pub(crate) fn sides_at(states: &Duplicates, place: u32) -> Sides
     if place < MAX_CRTCS {
         let id = ObjId::of(Kind::Crtc, place).0;
         Sides { old: id, new: id }
-    } else if place < FIRST_CONNECTOR {
+    } else if place < FIRST_CONNECTOR_PLACE {
         match states.planes[(place - MAX_CRTCS) as usize] {
             Some(both) => Sides {
                 old: both.old.crtc,
@@ -65,7 +65,7 @@ pub(crate) fn sides_at(states: &Duplicates, place: u32) -> Sides
             None => Sides { old: 0, new: 0 },
         }
     } else {
-        match states.conns[(place - FIRST_CONNECTOR) as usize] {
+        match states.conns[(place - FIRST_CONNECTOR_PLACE) as usize] {
             Some(both) => Sides {
                 old: both.old.crtc,
                 new: both.new.crtc,

@@ -2,6 +2,7 @@ use super::*;
 use kms_model::{
     Both, Checked, ConnState, CrtcState, Duplicates, Mask, NoMemory, ObjId, PlaneState, Seq,
 };
+use kms_samples::{CRTC, PLANE, SECOND_CRTC};
 use kms_signal::Fences;
 use std::process::Abort;
 
@@ -10,12 +11,6 @@ const NO_OBJECTS: Mask = Mask {
     planes: 0,
     conns: 0,
 };
-
-const CRTC: ObjId = ObjId(100);
-
-const SECOND_CRTC: ObjId = ObjId(101);
-
-const PLANE: ObjId = ObjId(200);
 
 /// A commit that touches these objects and names these CRTCs, a mask; plane 0 is on one CRTC before it and on one
 /// after it, each an id or 0.
@@ -97,7 +92,7 @@ fn of_plane() -> Checked {
         planes: 1,
         conns: 0,
     };
-    commit_of(objects, 1, 0, 100)
+    commit_of(objects, 1, 0, CRTC.0)
 }
 
 #[test]
@@ -135,7 +130,12 @@ fn a_plane_that_moves_waits_for_both_crtcs(rt: HostRuntime) -> Result<(), NoMemo
         planes: 1,
         conns: 0,
     };
-    let commit = set_up(&rt, &mut tracker, &commit_of(both, 3, 100, 101), &none)?;
+    let commit = set_up(
+        &rt,
+        &mut tracker,
+        &commit_of(both, 3, CRTC.0, SECOND_CRTC.0),
+        &none,
+    )?;
     assert_eq!(rt; commit, 1);
     let plane = Mask {
         planes: 1,
@@ -219,7 +219,7 @@ fn a_claim_waits_for_planes_and_fences(rt: HostRuntime) -> Result<(), NoMemory> 
         planes: 1,
         conns: 0,
     };
-    let first = set_up(&rt, &mut tracker, &commit_of(plane, 1, 100, 0), &none)?;
+    let first = set_up(&rt, &mut tracker, &commit_of(plane, 1, CRTC.0, 0), &none)?;
     assert!(rt; tracker.ready(first, &fences));
     assert!(rt; !tracker.ready(2, &fences), "not set up");
     let mut waits = Seq::new(rt.alloc());
@@ -229,7 +229,12 @@ fn a_claim_waits_for_planes_and_fences(rt: HostRuntime) -> Result<(), NoMemory> 
         planes: 1,
         conns: 0,
     };
-    let second = set_up(&rt, &mut tracker, &commit_of(other, 2, 0, 101), &waits)?;
+    let second = set_up(
+        &rt,
+        &mut tracker,
+        &commit_of(other, 2, 0, SECOND_CRTC.0),
+        &waits,
+    )?;
     tracker.claim(first);
     assert!(rt; !tracker.ready(first, &fences), "claimed");
     tracker.hw_done(first);
