@@ -6,6 +6,7 @@ ghost use Rattle.kms_compose.specs.Images.{CanShow, IsShowable};
 use crate::images::{FbImage, Images, image_of};
 use kms_geom::{clip, fits_source, is_scaled_little};
 use kms_model::{FbInfo, Format, Gamma, Image, Layer, Layers, Mode, Picture, Rect, Shown};
+use kms_samples::{CONN, PLANE};
 use std::process::Abort;
 
 /// One pixel in 16.16 fixed point.
@@ -125,7 +126,7 @@ fn layer(rt: &impl Abort, mode: &Mode, images: &Images, place: &LayerPlace) -> L
     assert!(rt; place.blend <= 2);
     let area = rect(0, 0, i64::from(mode.hdisplay), i64::from(mode.vdisplay));
     Layer {
-        plane: 200,
+        plane: PLANE.0,
         fb: FbInfo {
             id: place.fb,
             width: image.width,
@@ -166,7 +167,7 @@ pub fn picture(
     let layers = layers(rt, &mode, images, places);
     Picture::On(Shown {
         mode,
-        conn: 300,
+        conn: CONN.0,
         gamma,
         layers,
     })

@@ -5,7 +5,7 @@ ghost use Rattle.kms_model.specs.Device.Sound.{IsPlaneInRange};
 use crate::RegFile;
 use crate::words::{CrtcWords, PlaneWords};
 use kms_model::{CrtcState, FbInfo, Format, Gamma, Picture, PlaneState, Rect};
-use kms_samples::{full_hd, split, tiny};
+use kms_samples::{CONN, CRTC, PLANE, SECOND_CRTC, full_hd, split, tiny};
 use std::process::Abort;
 use std::test::Fail;
 
@@ -133,9 +133,9 @@ fn the_words_of_a_mode_are_its_bytes(rt: HostRuntime) {
         mode: Some(mode),
         ..CrtcState::OFF
     };
-    let words = CrtcWords::of(300, &state);
+    let words = CrtcWords::of(CONN.0, &state);
     assert_eq!(rt; words.active, 1);
-    assert_eq!(rt; words.conn, 300);
+    assert_eq!(rt; words.conn, CONN.0);
     assert_eq!(rt;
         words.mode,
         [
@@ -216,17 +216,17 @@ fn shows_gamma(regs: &RegFile, crtc: u32, gamma: Option<Gamma>) -> bool
 #[test]
 fn a_changed_table_is_shown_from_its_latch_on(rt: HostRuntime) -> Result<(), Fail> {
     let mut regs = RegFile::new(&split(rt.alloc())?);
-    write_crtc(&rt, &mut regs, 1, 300, &CrtcState::OFF, &lit());
+    write_crtc(&rt, &mut regs, 1, CONN.0, &CrtcState::OFF, &lit());
     assert!(rt; regs.flush(1).is_none());
     assert!(rt; meet_vblank(&rt, &mut regs, 1).is_some());
     assert!(rt; shows_gamma(&regs, 1, None));
-    write_crtc(&rt, &mut regs, 1, 300, &lit(), &lit_with_gamma());
+    write_crtc(&rt, &mut regs, 1, CONN.0, &lit(), &lit_with_gamma());
     assert!(rt; shows_gamma(&regs, 1, None), "written");
     assert!(rt; regs.flush(1).is_none());
     assert!(rt; shows_gamma(&regs, 1, None), "flushed");
     assert!(rt; meet_vblank(&rt, &mut regs, 1).is_some());
     assert!(rt; shows_gamma(&regs, 1, Some(a_gamma())), "latched");
-    write_crtc(&rt, &mut regs, 1, 300, &lit_with_gamma(), &lit());
+    write_crtc(&rt, &mut regs, 1, CONN.0, &lit_with_gamma(), &lit());
     assert!(rt; regs.flush(1).is_none());
     assert!(rt; meet_vblank(&rt, &mut regs, 1).is_some());
     assert!(rt; shows_gamma(&regs, 1, None), "taken away");
@@ -235,7 +235,7 @@ fn a_changed_table_is_shown_from_its_latch_on(rt: HostRuntime) -> Result<(), Fai
 
 #[test]
 fn negative_places_stand_in_twos_complement(rt: HostRuntime) {
-    let state = a_plane(100, 1000, -1, -2147483648);
+    let state = a_plane(CRTC.0, 1000, -1, -2147483648);
     let words = PlaneWords::of(&state);
     assert_eq!(rt; words.x, 0xffff_ffff);
     assert_eq!(rt; words.y, 0x8000_0000);
@@ -249,8 +249,14 @@ fn negative_places_stand_in_twos_complement(rt: HostRuntime) {
 #[test]
 fn a_crtc_latches_at_its_vertical_blanking_alone(rt: HostRuntime) -> Result<(), Fail> {
     let mut regs = RegFile::new(&split(rt.alloc())?);
-    write_crtc(&rt, &mut regs, 0, 300, &CrtcState::OFF, &lit());
-    write_plane(&rt, &mut regs, 1, &no_plane(1), &a_plane(100, 1000, 0, 0));
+    write_crtc(&rt, &mut regs, 0, CONN.0, &CrtcState::OFF, &lit());
+    write_plane(
+        &rt,
+        &mut regs,
+        1,
+        &no_plane(1),
+        &a_plane(CRTC.0, 1000, 0, 0),
+    );
     assert!(rt; meet_vblank(&rt, &mut regs, 0).is_none());
     assert_off(&rt, &regs, 0);
     assert!(rt; regs.flush(0).is_none());
@@ -260,7 +266,7 @@ fn a_crtc_latches_at_its_vertical_blanking_alone(rt: HostRuntime) -> Result<(), 
     assert_off(&rt, &regs, 0);
     let picture = meet_vblank(&rt, &mut regs, 0);
     assert_eq!(rt; picture, Some(regs.decode_live(0)));
-    assert_shows(&rt, &regs, 0, 300, &[201]);
+    assert_shows(&rt, &regs, 0, CONN.0, &[PLANE.0 + 1]);
     assert_eq!(rt; regs.live_layers(0).len(), 1);
     assert_eq!(rt; regs.live_layers(1).len(), 0);
     assert!(rt; !regs.has_go(0));
@@ -273,57 +279,57 @@ fn a_crtc_latches_at_its_vertical_blanking_alone(rt: HostRuntime) -> Result<(), 
 #[test]
 fn a_plane_moves_over_two_latches(rt: HostRuntime) -> Result<(), Fail> {
     let mut regs = RegFile::new(&split(rt.alloc())?);
-    write_crtc(&rt, &mut regs, 0, 300, &CrtcState::OFF, &lit());
+    write_crtc(&rt, &mut regs, 0, CONN.0, &CrtcState::OFF, &lit());
     write_crtc(&rt, &mut regs, 1, 0, &CrtcState::OFF, &lit());
-    let first = a_plane(100, 1000, 0, 0);
-    let second = a_plane(101, 1000, 0, 0);
+    let first = a_plane(CRTC.0, 1000, 0, 0);
+    let second = a_plane(SECOND_CRTC.0, 1000, 0, 0);
     write_plane(&rt, &mut regs, 0, &no_plane(0), &first);
     assert!(rt; regs.flush(0).is_none());
     assert!(rt; regs.flush(1).is_none());
     assert!(rt; meet_vblank(&rt, &mut regs, 0).is_some());
     assert!(rt; meet_vblank(&rt, &mut regs, 1).is_some());
-    assert_shows(&rt, &regs, 0, 300, &[200]);
+    assert_shows(&rt, &regs, 0, CONN.0, &[PLANE.0]);
     assert_shows(&rt, &regs, 1, 0, &[]);
     write_plane(&rt, &mut regs, 0, &first, &no_plane(0));
     assert!(rt; regs.flush(0).is_none());
-    assert_shows(&rt, &regs, 0, 300, &[200]);
+    assert_shows(&rt, &regs, 0, CONN.0, &[PLANE.0]);
     assert!(rt; meet_vblank(&rt, &mut regs, 0).is_some());
-    assert_shows(&rt, &regs, 0, 300, &[]);
+    assert_shows(&rt, &regs, 0, CONN.0, &[]);
     write_plane(&rt, &mut regs, 0, &no_plane(0), &second);
     assert!(rt; regs.flush(1).is_none());
     assert!(rt; meet_vblank(&rt, &mut regs, 1).is_some());
-    assert_shows(&rt, &regs, 0, 300, &[]);
-    assert_shows(&rt, &regs, 1, 0, &[200]);
+    assert_shows(&rt, &regs, 0, CONN.0, &[]);
+    assert_shows(&rt, &regs, 1, 0, &[PLANE.0]);
     Ok(())
 }
 
 #[test]
 fn layers_stand_by_zpos_and_then_by_plane(rt: HostRuntime) -> Result<(), Fail> {
     let mut regs = RegFile::new(&split(rt.alloc())?);
-    write_crtc(&rt, &mut regs, 0, 300, &CrtcState::OFF, &lit());
-    let plane = a_plane(100, 1000, 0, 0);
+    write_crtc(&rt, &mut regs, 0, CONN.0, &CrtcState::OFF, &lit());
+    let plane = a_plane(CRTC.0, 1000, 0, 0);
     write_plane(&rt, &mut regs, 0, &no_plane(0), &plane);
     write_plane(&rt, &mut regs, 1, &no_plane(1), &plane);
     assert!(rt; regs.flush(0).is_none());
     assert!(rt; meet_vblank(&rt, &mut regs, 0).is_some());
-    assert_shows(&rt, &regs, 0, 300, &[200, 201]);
+    assert_shows(&rt, &regs, 0, CONN.0, &[PLANE.0, PLANE.0 + 1]);
     Ok(())
 }
 
 #[test]
 fn a_crtc_that_is_off_latches_at_once_and_its_count_goes_on(rt: HostRuntime) -> Result<(), Fail> {
     let mut regs = RegFile::new(&split(rt.alloc())?);
-    write_crtc(&rt, &mut regs, 1, 300, &CrtcState::OFF, &lit());
+    write_crtc(&rt, &mut regs, 1, CONN.0, &CrtcState::OFF, &lit());
     assert!(rt; regs.flush(1).is_none());
     assert!(rt; meet_vblank(&rt, &mut regs, 1).is_some());
     assert!(rt; meet_vblank(&rt, &mut regs, 1).is_none());
     write_crtc(&rt, &mut regs, 1, 0, &lit(), &CrtcState::OFF);
-    assert_shows(&rt, &regs, 1, 300, &[]);
+    assert_shows(&rt, &regs, 1, CONN.0, &[]);
     assert_eq!(rt; regs.flush(1), Some(Picture::Off));
     assert_off(&rt, &regs, 1);
     assert!(rt; !regs.has_go(1));
     assert_eq!(rt; regs.count(1), 2);
-    write_crtc(&rt, &mut regs, 1, 300, &CrtcState::OFF, &lit());
+    write_crtc(&rt, &mut regs, 1, CONN.0, &CrtcState::OFF, &lit());
     assert!(rt; regs.flush(1).is_none());
     assert!(rt; meet_vblank(&rt, &mut regs, 1).is_some());
     assert_eq!(rt; regs.count(1), 3);

@@ -13,7 +13,7 @@ use kms_geom::clip;
 use kms_model::{
     FbInfo, Format, Gamma, Image, Layer, Layers, Mode, NoMemory, Picture, Rect, Seq, Shown,
 };
-use kms_samples::{Chance, sized_mode};
+use kms_samples::{CONN, Chance, PLANE, sized_mode};
 use std::alloc::Global;
 use std::process::Abort;
 use std::test::Fail;
@@ -24,7 +24,7 @@ fn black(columns: u16, rows: u16) -> Picture
 {
     Picture::On(Shown {
         mode: sized_mode(columns, rows),
-        conn: 300,
+        conn: CONN.0,
         gamma: None,
         layers: Layers::new(),
     })
@@ -72,7 +72,7 @@ fn layer(mode: &Mode, place: (u16, u16)) -> Layer
         h: i64::from(mode.vdisplay),
     };
     Layer {
-        plane: 200,
+        plane: PLANE.0,
         fb: DOT,
         dst,
         src: Rect {
@@ -97,7 +97,7 @@ fn dots(size: (u16, u16), one: (u16, u16), other: (u16, u16), gamma: Option<Gamm
     layers.push(layer(&mode, other));
     Picture::On(Shown {
         mode,
-        conn: 300,
+        conn: CONN.0,
         gamma,
         layers,
     })

@@ -1,12 +1,12 @@
 use super::*;
-use kms_model::{Event, NoMemory};
+use kms_model::{Event, FIRST_CRTC_ID, NoMemory};
 use std::test::Fail;
 
 fn flip(sequence: u32) -> Event {
     Event {
         user_data: 7,
         sequence,
-        crtc: 100,
+        crtc: FIRST_CRTC_ID,
     }
 }
 
@@ -39,8 +39,11 @@ fn an_event_is_read_as_its_bytes(rt: HostRuntime) -> Result<(), Fail> {
 
 #[test]
 fn a_sequence_has_the_lower_32_bits_of_the_count(rt: HostRuntime) -> Result<(), Fail> {
-    assert_eq!(rt; flip_event(7, 4_294_967_297, 100), flip(1));
-    assert_eq!(rt; flip_event(7, 4_294_967_295, 100), flip(4_294_967_295));
+    assert_eq!(rt; flip_event(7, 4_294_967_297, FIRST_CRTC_ID), flip(1));
+    assert_eq!(rt;
+        flip_event(7, 4_294_967_295, FIRST_CRTC_ID),
+        flip(4_294_967_295)
+    );
     Ok(())
 }
 
