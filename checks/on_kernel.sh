@@ -15,6 +15,7 @@ if ! printf '#include <xf86drm.h>\n#include <xf86drmMode.h>\n' | "$compiler" -I/
 fi
 folder=${1-$(mktemp -d)}
 [ $# -eq 1 ] || trap 'rm -rf "$folder"' EXIT
+mkdir -p "$folder"
 can_link() {
     printf 'int main(void) { return 0; }\n' | "$compiler" "$@" -x c - -o "$folder/tried" -ldrm -lm -lpthread 2>/dev/null
 }
