@@ -13,10 +13,10 @@ use std::alloc::Global;
 use std::marker::Model;
 
 /// The largest side of a buffer, in pixels.
-const LARGEST_SIDE: u32 = 4096;
+pub const LARGEST_SIDE: u32 = 4096;
 
-/// How many bytes all buffers may have together.
-const LARGEST_BYTES: u64 = 268435456;
+/// How many bytes all buffers may have together: 4 for each pixel of XR24 and AR24, 2 of RG16.
+pub const LARGEST_BYTES: u64 = 268435456;
 
 /// Why a buffer is not made.
 #[derive(Clone, Copy, Debug, PartialEq, Eq)]

@@ -8,7 +8,7 @@ mod buffers;
 mod framebuffers;
 mod patterns;
 
-pub use buffers::{Buffers, MakeError};
+pub use buffers::{Buffers, LARGEST_BYTES, LARGEST_SIDE, MakeError};
 pub use framebuffers::FbStore;
 
 #[cfg(test)]

@@ -1,6 +1,6 @@
 //! What may be done next, and what one thread does next. None of these calls takes memory but the end of a dead history.
 ghost use Rattle.std.specs.Prelude.{◌≡◌, ◌≤◌, length, [], ◌∷◌, ◌<◌};
-ghost use Rattle.kms_model.specs.Machine.Histories.{is_drained, is_enabled, legal, stalled_on};
+ghost use Rattle.kms_model.specs.Machine.Histories.{is_at_end, is_dead, is_drained, is_enabled, legal, stalled_on};
 ghost use Rattle.kms_stores.specs.Run.{machine, gains, if_ok};
 ghost use Rattle.kms_model.specs.Order.Turns.{client_step, tail_step};
 ghost use Rattle.kms_model.specs.declared.replies.Step.TheVariants as step;
@@ -30,6 +30,23 @@ impl Core {
         ensures { result ≡ is_drained self.now.script (machine self.now) }
     {
         kms_next::drained(&self.stores)
+    }
+
+    /// Whether the history is dead: not drained, and no step is legal but vertical blankings of CRTCs that do not go; also
+    /// where it was ended.
+    pub fn is_dead(&self) -> bool
+        ensures { result ≡ is_dead self.now.script (machine self.now) }
+    {
+        kms_next::is_dead(&self.stores)
+    }
+
+    /// Whether a client, given by its number from 1 to that of the clients, is at its end: idle, with no command left.
+    pub fn is_at_end(&self, client: u32) -> bool
+        requires low { 1 ≤ client }
+        requires high { client ≤ length self.now.script.clients }
+        ensures { result ≡ is_at_end self.now.script (machine self.now) client }
+    {
+        kms_next::is_at_end(&self.stores, client)
     }
 
     /// The next step of a client, given by its number from 1 to that of the clients, in the order of one thread, as

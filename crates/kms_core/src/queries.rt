@@ -8,7 +8,7 @@ ghost use Rattle.kms_model.specs.Frames.Images.{image_of};
 ghost use Rattle.kms_model.specs.Machine.Framebuffers as framebuffers;
 ghost use Rattle.kms_model.specs.Machine.Histories as told;
 ghost use Rattle.kms_model.specs.Machine.Histories.{is_history};
-ghost use Rattle.kms_model.specs.Machine.State.{go_at, place_at};
+ghost use Rattle.kms_model.specs.Machine.State.{doing_at, go_at, place_at};
 ghost use Rattle.kms_model.specs.Script.WellFormed.{IsWellFormed};
 ghost use Rattle.kms_laws.specs.TailsLeft.{all_left};
 ghost use Rattle.kms_calls.specs.Locks.{held_state};
@@ -18,7 +18,7 @@ ghost use Rattle.kms_stores.specs.Run.{machine};
 ghost use Rattle.kms_stores.specs.Stands.{entry_pair};
 
 use crate::machine::Core;
-use kms_model::{Answered, Command, Image, Latch, ObjId, ObjState, Place, Script, Step};
+use kms_model::{Answered, Command, Doing, Image, Latch, ObjId, ObjState, Place, Script, Step};
 
 impl Core {
     /// The script.
@@ -83,6 +83,13 @@ impl Core {
         ensures { result ≡ place_at (machine self.now) client }
     {
         self.stores.clients.place(client)
+    }
+
+    /// What a client, by its number from 1, does; one that the script does not have is idle.
+    pub fn doing(&self, client: u32) -> Doing
+        ensures { result ≡ doing_at (machine self.now) client }
+    {
+        kms_next::doing(&self.stores, client)
     }
 
     /// The command at which a client, by its number from 1, is idle; none where it is at its end, has an acquire

@@ -120,7 +120,7 @@ pub struct Rule {
     pub errno: &'static str,
     /// When it refuses, in one line.
     pub rule: &'static str,
-    /// The kernel's function that refuses so.
+    /// The kernel's function that refuses so, or `own` where the rule is this device's own.
     pub source: &'static str,
 }
 
@@ -195,21 +195,21 @@ pub fn rule_of(number: u32) -> Option<Rule>
             "source and destination of a plane differ in size, in profile 2 by more than four times"
             "drm_atomic_helper_check_plane_state"
         23 FRACTIONAL_SOURCE "EINVAL" "in profile 1, the source of a plane begins between pixels"
-            "drm_atomic_helper_check_plane_state"
+            "own"
         24 MODESET_NOT_ALLOWED "EINVAL" "a CRTC needs a modeset and ALLOW_MODESET is not set"
             "drm_atomic_check_only"
         25 NO_EVENT_SPACE "ENOMEM" "there is no space for the events" "drm_event_reserve_init"
         26 BUSY "EBUSY" "NONBLOCK is set and the commit before has not flipped"
             "drm_atomic_helper_setup_commit"
         31 INVALID_SIZE "EINVAL" "a side of the buffer is 0 or above 4096 pixels"
-            "drm_mode_create_dumb"
+            "drm_mode_create_dumb; the bound is own"
         32 NO_BUFFER_SPACE "ENOSPC" "all buffers would have more than 268435456 bytes"
-            "drm_mode_create_dumb"
+            "own"
         33 NOT_FOUND "ENOENT" "the label is no open thing of this kind that the command may name"
             "drm_mode_addfb2, drm_mode_closefb_ioctl, drm_mode_destroyblob_ioctl"
         34 NOT_OWNER "EPERM" "the blob is the blob of another client" "drm_mode_destroyblob_ioctl"
         35 NOT_SIGNALLABLE "EINVAL" "the label is no fence that a `fence` command made"
-            "sw_sync_ioctl"
+            "own"
     }
 }
 

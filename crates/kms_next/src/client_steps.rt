@@ -46,7 +46,7 @@ pub fn idle_command(stores: &Stores, client: u32) -> Option<&Command>
 }
 
 /// Whether a client, from 1 to their number, is at its end: idle, with no command left.
-pub(crate) fn is_at_end(stores: &Stores, client: u32) -> bool
+pub fn is_at_end(stores: &Stores, client: u32) -> bool
     requires low { 1 ≤ client }
     requires high { client ≤ length stores.now.script.clients }
     ensures { result ≡ is_at_end stores.now.script (machine stores.now) client }

@@ -54,7 +54,7 @@ fn are_at_end(stores: &Stores) -> bool
 
 /// Whether the history is dead: not drained, and no step is legal but vertical blankings of CRTCs that do not go; also
 /// where it was ended.
-pub(crate) fn is_dead(stores: &Stores) -> bool
+pub fn is_dead(stores: &Stores) -> bool
     ensures { result ≡ is_dead stores.now.script (machine stores.now) }
 {
     stores.stalled || (!drained(stores) && !enabled(stores))

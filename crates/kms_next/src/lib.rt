@@ -14,9 +14,9 @@ mod settling;
 mod stalling;
 mod tail_steps;
 
-pub use client_steps::{doing, idle_command};
+pub use client_steps::{doing, idle_command, is_at_end};
 pub use judging::{checked, refusal_reply, request_taken, resolved};
-pub use legality::{drained, enabled, legal};
+pub use legality::{drained, enabled, is_dead, legal};
 pub use ordering::client_step;
 pub use settling::tail_step;
 pub use stalling::{stall, stalled_on};

@@ -2,7 +2,7 @@
 ghost use Rattle.std.specs.Prelude.{◌≡◌, ◌++◌, ◌∷◌, [], OnOk, codes, length};
 ghost use Rattle.std.specs.Fmt.{decimal};
 ghost use Rattle.kms_stores.specs.Run.{machine};
-ghost use Rattle.kms_model.specs.Machine.Histories.{is_dead, stalled_on};
+ghost use Rattle.kms_model.specs.Machine.Histories.{stalled_on};
 ghost use Rattle.kms_model.specs.Report.History.{end_words, stalled_name};
 ghost use Rattle.kms_model.specs.Report.TextLines.{line};
 
@@ -10,15 +10,6 @@ use crate::lines::name_of;
 use kms_core::Core;
 use kms_model::{NoMemory, Seq};
 use std::alloc::Global;
-
-/// Whether the history is dead: it is not drained, and no step is legal but vertical blankings of CRTCs that do not go; also
-/// where it was ended.
-#[tactic(auto, unfolding(kms_model::specs::Machine::Histories::is_dead))]
-fn is_dead(core: &Core) -> bool
-    ensures { result ≡ is_dead core.now.script (machine core.now) }
-{
-    core.is_stalled() || (!core.drained() && !core.enabled())
-}
 
 /// The name of the fence that a dead history waits for; no byte where it waits for none.
 fn awaited_name<'a>(names: &'a Seq<Seq<u8>>, core: &Core) -> &'a [u8]
@@ -64,7 +55,7 @@ pub fn push_end(
     if core.drained() {
         return Ok(text.extend_from_slice(b"D drained\n")?);
     }
-    if is_dead(core) {
+    if core.is_dead() {
         return push_stalled(text, awaited_name(names, core));
     }
     push_open(alloc, text, core.history().len())

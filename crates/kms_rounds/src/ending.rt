@@ -27,17 +27,9 @@ pub fn end_of(core: &Core) -> End
     core.is_a_history();
     if core.drained() {
         End::Drained
-    } else if is_dead(core) {
+    } else if core.is_dead() {
         End::Dead
     } else {
         End::Open
     }
-}
-
-/// Whether a history is dead; also where it was ended.
-#[tactic(auto, unfolding(kms_model::specs::Machine::Histories::is_dead))]
-fn is_dead(core: &Core) -> bool
-    ensures { result ≡ told.is_dead core.now.script (machine core.now) }
-{
-    core.is_stalled() || (!core.drained() && !core.enabled())
 }

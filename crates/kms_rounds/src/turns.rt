@@ -1,13 +1,11 @@
 //! The turn of a client in the order of one thread: its steps until its command is answered, then those of the tails of
 //! commits, and its way back from a blocking commit that is cleaned. No step takes longer for those that are over.
 ghost use Rattle.std.specs.Prelude.{◌≡◌, ◌≤◌, OnOk, length};
-ghost use Rattle.kms_model.specs.Machine.Histories as told;
 ghost use Rattle.kms_model.specs.Order.Turns as order;
-ghost use Rattle.kms_stores.specs.Run.{machine};
 ghost use Rattle.kms_rounds.specs.Rounds.{ExtendsRun, progress};
 
 use kms_core::Core;
-use kms_model::{Doing, NoMemory, Step};
+use kms_model::{NoMemory, Step};
 use std::alloc::Global;
 
 /// The turn of a client, from 1 to their number. One that is at its end does nothing.
@@ -18,7 +16,7 @@ pub(crate) fn turn(alloc: Global, core: &mut Core, client: u32) -> Result<(), No
     ensures turn { OnOk result (progress core.new
         ≡ order.turn core.old.script (progress core.old) client) }
 {
-    if is_at_end(core, client) {
+    if core.is_at_end(client) {
         return Ok(());
     }
     go(alloc, core, client)?;
@@ -38,15 +36,6 @@ pub(crate) fn settle(alloc: Global, core: &mut Core)
             unreachable!();
         };
     }
-}
-
-/// Whether a client is at its end: idle, with no command left.
-fn is_at_end(core: &Core, client: u32) -> bool
-    requires low { 1 ≤ client }
-    requires high { client ≤ length core.now.script.clients }
-    ensures { result ≡ told.is_at_end core.now.script (machine core.now) client }
-{
-    matches!(core.place(client).doing, Doing::Idle) && core.idle_command(client).is_none()
 }
 
 /// A client does its steps until its command is answered, or until it can do none.

@@ -36,7 +36,7 @@ pub use devices::{TopologyRead, read_topology};
 pub use faults::ParseError;
 pub use inputs::{Parsed, parse};
 pub use kms_model::Why;
-pub use limits::MAX_INPUT;
+pub use limits::{MAX_ASSIGNS, MAX_BLOB, MAX_COMMANDS, MAX_INPUT, MAX_LABELS, MAX_SCRIPT};
 pub use numbers::read_int;
 pub use one_line::{LineError, NameIndex, read_command};
 pub use printing::print;

@@ -9,6 +9,9 @@ pub const MAX_ASSIGNS: usize = 256;
 /// The most labels that a script makes, a count.
 pub const MAX_LABELS: u64 = 4096;
 
+/// The most bytes of a blob, a count.
+pub const MAX_BLOB: usize = 2048;
+
 /// The most bytes of a script's lines, with their line feeds: 1 MiB.
 pub const MAX_SCRIPT: usize = 1_048_576;
 

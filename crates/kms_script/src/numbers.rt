@@ -2,6 +2,7 @@
 ghost use Rattle.std.specs.Prelude.{◌≡◌, ◌≤◌, ◌<◌, ℕ, IfOk, IfSome, length, option_map};
 ghost use Rattle.kms_model.specs.Script.Grammar.{negative, int, hex, hex_at, digits_of, pixel_number, pixel_at, hex_pair, hex_bytes, blob_bytes};
 
+use crate::limits::MAX_BLOB;
 use crate::words::{hex_value, is_hex, read_dec, read_digits, strip, take_field};
 use kms_model::{Format, NoMemory, Seq};
 use std::alloc::Global;
@@ -122,7 +123,7 @@ fn read_bytes(alloc: Global, word: &[u8]) -> Result<Option<Seq<u8>>, NoMemory>
 pub fn read_blob(alloc: Global, word: &[u8]) -> Result<Option<Seq<u8>>, NoMemory>
     ensures { IfOk result (λ bytes. bytes ≡ blob_bytes word.now) }
 {
-    if word.len() < 2 || word.len() > 4096 {
+    if word.len() < 2 || word.len() > 2 * MAX_BLOB {
         return Ok(None);
     }
     read_bytes(alloc, word)

@@ -10,22 +10,16 @@ use Rattle.kms_model.specs.declared.replies.Step.{Step}
 use Rattle.kms_model.specs.declared.replies.Step.TheVariants as step
 use Rattle.kms_model.specs.declared.runs.Doing.{Doing}
 use Rattle.kms_model.specs.declared.runs.Doing.TheVariants as doing
-use Rattle.kms_model.specs.declared.runs.Place.{Place}
 use Rattle.kms_model.specs.Device.Objects.{first_id, index_of, kind_of, object_id}
 use Rattle.kms_model.specs.Machine.State.{doing_at}
 use Rattle.kms_model.proofs.KindsOfIds.{HasKind, has_kind}
 use Rattle.kms_model.proofs.TouchedLemmas.{HasFewObjects}
 use Rattle.kms_calls.specs.declared.contexts.Locked.{Locked}
 use Rattle.kms_calls.specs.Locks.{MayLock, lock_step, lock_steps, locked_answer}
-use Rattle.kms_next.specs.Next.{IsLegal, IsOutside}
-use Rattle.kms_next.proofs.Outside.{outside}
+use Rattle.kms_next.specs.Next.{IsLegal}
 use Rattle.kms_stores.specs.Run.{Run, gains, machine}
-use Rattle.kms_core.proofs.Applied.{IsHistoryOf, IsIdOf, flush_kind, lock_asked, lock_there, locked_step, vblank_kind}
+use Rattle.kms_core.proofs.Applied.{IsIdOf, flush_kind, lock_asked, lock_there, locked_step, vblank_kind}
 use Rattle.kms_single_calls.specs.Calls.{asked_steps, may_ask}
-
--- who is no client of the script is idle
-pub idle_outside : (v : Run) (client : ℕ) → IsHistoryOf v → IsOutside v.script client → doing.Idle ≡ doing_at (machine v) client
-idle_outside v client is away = sym (ap (λ (p : Place). p.doing) (outside v.script v.steps is.history client away))
 
 -- Steps
 

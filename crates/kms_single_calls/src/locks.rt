@@ -1,25 +1,12 @@
 //! Locks by their single calls, each made once it is found out that it may be made.
 ghost use Rattle.std.specs.Prelude.{◌≡◌, IfOk};
 ghost use Rattle.std.specs.Bool.{then_some};
-ghost use Rattle.kms_model.specs.Machine.State.{doing_at};
 ghost use Rattle.kms_calls.specs.Locks.{locked_answer, relock_steps, relocked_answer};
-ghost use Rattle.kms_stores.specs.Run.{gains, if_ok, machine};
+ghost use Rattle.kms_stores.specs.Run.{gains, if_ok};
 ghost use Rattle.kms_single_calls.specs.Calls.{asked_steps, may_ask, may_ask_again, steps_if};
 
 use kms_core::{Core, Locked};
 use kms_model::{Doing, FIRST_CRTC_ID, NoMemory, ObjId, Step};
-
-/// What a client, by its number from 1, does; one that the script does not have is idle.
-pub(crate) fn doing(core: &Core, client: u32) -> Doing
-    ensures { result ≡ doing_at (machine core.now) client }
-{
-    core.is_a_history();
-    if client >= 1 && client as usize <= core.script().clients.len() {
-        core.place(client).doing
-    } else {
-        Doing::Idle
-    }
-}
 
 /// Whether a client that takes locks may ask for an object, and it is free or an older context holds it.
 fn may_ask(core: &Core, client: u32, id: ObjId) -> bool
@@ -45,7 +32,7 @@ pub fn call_lock(core: &mut Core, client: u32, id: ObjId) -> Result<Option<Locke
     if !may_ask(core, client, id) {
         return Ok(None);
     }
-    let Doing::Taking(ticket) = doing(core, client) else {
+    let Doing::Taking(ticket) = core.doing(client) else {
         unreachable!();
     };
     Ok(Some(core.lock(ticket, id)?))
@@ -62,7 +49,7 @@ pub fn call_relock(core: &mut Core, client: u32) -> Result<Option<Locked>, NoMem
     if core.is_stalled() {
         return Ok(None);
     }
-    let Doing::BackedOff(ticket, _object) = doing(core, client) else {
+    let Doing::BackedOff(ticket, _object) = core.doing(client) else {
         return Ok(None);
     };
     Ok(Some(core.relock(ticket)?))

@@ -6,7 +6,6 @@ ghost use Rattle.kms_next.specs.Next.{IsLegal, is_of_worker};
 ghost use Rattle.kms_stores.specs.Run.{gains, if_ok, machine};
 ghost use Rattle.kms_single_calls.specs.Calls.{is_single};
 
-use crate::locks::doing;
 use kms_core::Core;
 use kms_model::{Doing, NoMemory, ObjId, Step};
 use std::alloc::Global;
@@ -87,7 +86,7 @@ fn back_off(core: &mut Core, client: u32) -> Result<(), NoMemory>
     requires { IsLegal core.old (step.BackOff client) }
     ensures { core.new ≡ gains core.old (if_ok result (λ u. step.BackOff client ∷ [])) }
 {
-    match doing(core, client) {
+    match core.doing(client) {
         Doing::MustBackOff(ticket, _object) => core.backoff(ticket),
         _ => unreachable!(),
     }

@@ -8,10 +8,13 @@ mod properties;
 mod rows;
 
 use bitflags::Flags;
+use kms_buffers::{LARGEST_BYTES, LARGEST_SIDE};
 use kms_model::{
     FIRST_THING_ID, Kind, MAX_CLIENTS, MAX_CONNECTORS, MAX_CRTCS, MAX_PLANES, rule_of,
 };
 use kms_props::{AtomicFlags, format_table};
+use kms_script::{MAX_ASSIGNS, MAX_BLOB, MAX_COMMANDS, MAX_INPUT, MAX_LABELS, MAX_SCRIPT};
+use kms_signal::{EVENT_BYTES, EVENT_SPACE};
 use rows::{ObjectRow, RefusalRow};
 use std::{io, str};
 
@@ -105,10 +108,30 @@ fn print_refusals(rt: &impl Print) -> io::Result<()> {
     print_end(rt)
 }
 
+fn print_limits(rt: &impl Print) -> io::Result<()> {
+    let events = EVENT_SPACE / EVENT_BYTES;
+    print_head(rt, "limits", &["what", "limit"])?;
+    println!(rt; "| commands of a client | {MAX_COMMANDS} |")?;
+    println!(rt; "| assignments of a request | {MAX_ASSIGNS} |")?;
+    println!(rt; "| labels that a script makes | {MAX_LABELS} |")?;
+    println!(rt; "| a script | {MAX_SCRIPT} bytes |")?;
+    println!(rt; "| an input, with its schedule | {MAX_INPUT} bytes |")?;
+    println!(rt; "| a side of a buffer, or of a mode | 1 to {LARGEST_SIDE} pixels |")?;
+    println!(rt;
+        "| all buffers together | {LARGEST_BYTES} bytes, with 4 for a pixel of XR24 and AR24 and 2 of RG16 |"
+    )?;
+    println!(rt; "| a blob | 1 to {MAX_BLOB} bytes |")?;
+    println!(rt;
+        "| a client's events, reserved or unread | {EVENT_SPACE} bytes: {events} events |"
+    )?;
+    print_end(rt)
+}
+
 fn main(rt: HostRuntime) -> io::Result<()> {
     print_objects(&rt)?;
     print_properties(&rt)?;
     print_formats(&rt)?;
     print_flags(&rt)?;
-    print_refusals(&rt)
+    print_refusals(&rt)?;
+    print_limits(&rt)
 }

@@ -70,15 +70,15 @@ rule_rows =
     ∷ refuses refusal.MODE_XOR_CONNECTOR (codes "MODE_XOR_CONNECTOR") EINVAL (codes "a CRTC has a mode and no connector, or a connector and no mode") (codes "drm_atomic_helper_check_modeset")
     ∷ refuses refusal.CRTC_NOT_ENABLED (codes "CRTC_NOT_ENABLED") EINVAL (codes "the CRTC of a plane is not enabled") (codes "drm_atomic_helper_check_plane_state")
     ∷ refuses refusal.SCALED (codes "SCALED") ERANGE (codes "source and destination of a plane differ in size, in profile 2 by more than four times") (codes "drm_atomic_helper_check_plane_state")
-    ∷ refuses refusal.FRACTIONAL_SOURCE (codes "FRACTIONAL_SOURCE") EINVAL (codes "in profile 1, the source of a plane begins between pixels") (codes "drm_atomic_helper_check_plane_state")
+    ∷ refuses refusal.FRACTIONAL_SOURCE (codes "FRACTIONAL_SOURCE") EINVAL (codes "in profile 1, the source of a plane begins between pixels") (codes "own")
     ∷ refuses refusal.MODESET_NOT_ALLOWED (codes "MODESET_NOT_ALLOWED") EINVAL (codes "a CRTC needs a modeset and ALLOW_MODESET is not set") (codes "drm_atomic_check_only")
     ∷ refuses refusal.NO_EVENT_SPACE (codes "NO_EVENT_SPACE") ENOMEM (codes "there is no space for the events") (codes "drm_event_reserve_init")
     ∷ refuses refusal.BUSY (codes "BUSY") EBUSY (codes "NONBLOCK is set and the commit before has not flipped") (codes "drm_atomic_helper_setup_commit")
-    ∷ denies denied.INVALID_SIZE (codes "INVALID_SIZE") EINVAL (codes "a side of the buffer is 0 or above 4096 pixels") (codes "drm_mode_create_dumb")
-    ∷ denies denied.NO_BUFFER_SPACE (codes "NO_BUFFER_SPACE") ENOSPC (codes "all buffers would have more than 268435456 bytes") (codes "drm_mode_create_dumb")
+    ∷ denies denied.INVALID_SIZE (codes "INVALID_SIZE") EINVAL (codes "a side of the buffer is 0 or above 4096 pixels") (codes "drm_mode_create_dumb; the bound is own")
+    ∷ denies denied.NO_BUFFER_SPACE (codes "NO_BUFFER_SPACE") ENOSPC (codes "all buffers would have more than 268435456 bytes") (codes "own")
     ∷ denies denied.NOT_FOUND (codes "NOT_FOUND") ENOENT (codes "the label is no open thing of this kind that the command may name") (codes "drm_mode_addfb2, drm_mode_closefb_ioctl, drm_mode_destroyblob_ioctl")
     ∷ denies denied.NOT_OWNER (codes "NOT_OWNER") EPERM (codes "the blob is the blob of another client") (codes "drm_mode_destroyblob_ioctl")
-    ∷ denies denied.NOT_SIGNALLABLE (codes "NOT_SIGNALLABLE") EINVAL (codes "the label is no fence that a `fence` command made") (codes "sw_sync_ioctl")
+    ∷ denies denied.NOT_SIGNALLABLE (codes "NOT_SIGNALLABLE") EINVAL (codes "the label is no fence that a `fence` command made") (codes "own")
     ∷ []
 
 -- a rule has the number
@@ -105,6 +105,6 @@ rule_name n = (rule_row n).name
 abbrev pub rule_text : ℕ → List ℕ
 rule_text n = (rule_row n).text
 
--- the kernel's function that refuses so
+-- the kernel's function that refuses so, or `own`
 abbrev pub rule_source : ℕ → List ℕ
 rule_source n = (rule_row n).source
