@@ -19,7 +19,6 @@ use Rattle.kms_model.specs.Machine.Histories.{legal}
 use Rattle.kms_model.specs.Machine.Registers.{read}
 use Rattle.kms_model.specs.Machine.State.{DeviceState, Machine, count_at, go_at}
 use Rattle.kms_model.specs.Machine.Steps.{is_crtc_of, may}
-use Rattle.kms_model.specs.Stores.Tables.{value_with_id}
 use Rattle.kms_model.proofs.Items.{IsIn}
 use Rattle.kms_model.proofs.KindsOfIds.{index_of-object}
 use Rattle.kms_model.proofs.TouchedLemmas.{few_objects}
@@ -34,14 +33,13 @@ use Rattle.kms_regs.proofs.MachineEffects as registers_follow
 use Rattle.kms_signal.specs.FenceSets.{FenceSet}
 use Rattle.kms_signal.specs.Queues.{Queue}
 use Rattle.kms_signal.specs.Rooms.{Rooms}
-use Rattle.kms_signal.specs.StepLaws.{with_signal}
 use Rattle.kms_signal.proofs.StepLemmas as signals_follow
 use Rattle.kms_tails.specs.declared.tail.Tail.{Tail}
 use Rattle.kms_tails.specs.InStep.{StandsAfterLatch}
 use Rattle.kms_tails.proofs.StepLemmas as tails_follow
-use Rattle.kms_track.specs.Tracking.{Tracking, changed_commit, with_latch}
+use Rattle.kms_track.specs.Tracking.{Tracking}
 use Rattle.kms_track.proofs.StepLemmas as tracker_follows
-use Rattle.kms_work.specs.Latching.{IsLatching, MayBlank, event_told, goes_at, told_if}
+use Rattle.kms_work.specs.Latching.{IsLatching, LatchIsTold, MayBlank, goes_at}
 use Rattle.kms_logs.specs.Logs.{Logged}
 use Rattle.kms_stores.specs.Run.{Run, machine}
 use Rattle.kms_stores.specs.Stands.{AreGoing, Stores, Stands, queue_of}
@@ -57,7 +55,7 @@ use Rattle.kms_stores.proofs.Histories.{goes_same}
 use Rattle.kms_laws.proofs.SmallNumbers.{numbers_fit}
 use Rattle.kms_model.specs.Machine.Framebuffers.{picture_names}
 use Rattle.kms_model.specs.Machine.Registers.{decoded_picture}
-use Rattle.kms_work.proofs.Latched.{FoundTail, SameParts, fence_is, found_tail, going_set, is_latching, latched_shown, latches_go, latches_signalled, more_signalled, same_latches, stands_shown}
+use Rattle.kms_work.proofs.Latched.{FoundTail, SameParts, found_tail, going_set, is_latching, latched_shown, latches_go, latches_signalled, more_signalled, same_latches, stands_shown}
 
 -- What is asked
 
@@ -229,23 +227,19 @@ count_blanked t d c true = read_same 0 d.counts c (count_at d c + 1)
 count_blanked t d c false = read_same 0 d.counts c (count_at d c + 1)
 
 -- what the calls leave of the stores
-pub record HasBlanked (st : Stores) (k crtc : ℕ) (count : ℕ) (picture : Picture) (new : RegisterFile) (w : Rooms Tail) (tracker : Tracking) (fences : FenceSet) (queues : List Queue) (before shown : List Latch) : Type 0 where
+pub record HasBlanked (st : Stores) (k crtc : ℕ) (count : ℕ) (picture : Picture) (new : RegisterFile) (w : Rooms Tail) (tracker : Tracking) (fences : FenceSet) (queues : List Queue) (shown : List Latch) : Type 0 where
   pub go : slice_index_or st.goes crtc None ≡ Some k
   pub blanks : Blanks st.registers new crtc
   pub tells : TellsBlank st.registers crtc (Some picture)
   pub counted : (t : Topology) (d : DeviceState) → StandsForDevice t d new → count ≡ count_at d (object_id Crtc crtc)
-  pub tails_now : StandsAfterLatch k crtc st.tails w
-  pub tracker_now : tracker ≡ changed_commit st.tracker k (with_latch crtc)
-  pub fences_now : (x : Tail) → value_with_id st.tails.slots k ≡ Some x → fences ≡ with_signal st.fences (slice_index_or x.out_fences crtc None)
-  pub queues_now : (x : Tail) → value_with_id st.tails.slots k ≡ Some x → queues ≡ told_if x.wants_event x.client (event_told x (record { crtc = crtc; commit = k; count = count; picture = picture })) st.queues
-  pub recorded : before ≡ st.latches.items
-  pub recorded_now : shown ≡ before ++ record { crtc = crtc; commit = k; count = count; picture = picture } ∷ []
+  pub told : LatchIsTold st.tails w st.tracker tracker st.fences fences st.queues queues (record { crtc = crtc; commit = k; count = count; picture = picture })
+  pub recorded : shown ≡ st.latches.items ++ record { crtc = crtc; commit = k; count = count; picture = picture } ∷ []
 
-pub blanks_with : (r v : Run) (st : Stores) (k crtc count : ℕ) (picture : Picture) (new : RegisterFile) (w : Rooms Tail) (tracker : Tracking) (fences : FenceSet) (queues : List Queue) (old_latches : List Latch) (shown : Logged Latch) (before steps : List Step)
-    → Stands r st → r ≡ v → MayBlank v crtc → before ≡ r.steps → steps ≡ before ++ step.Vblank Crtc crtc ∷ [] → HasBlanked st k crtc count picture new w tracker fences queues old_latches shown.items
+pub blanks_with : (r v : Run) (st : Stores) (k crtc count : ℕ) (picture : Picture) (new : RegisterFile) (w : Rooms Tail) (tracker : Tracking) (fences : FenceSet) (queues : List Queue) (shown : Logged Latch) (steps : List Step)
+    → Stands r st → r ≡ v → MayBlank v crtc → steps ≡ r.steps ++ step.Vblank Crtc crtc ∷ [] → HasBlanked st k crtc count picture new w tracker fences queues shown.items
     → (ids : List ℕ) (freed : Reserved (ℕ × ℕ)) → AreAllOf ids (λ id. picture_names id (decoded_picture r.script.topology (machine r).device.live (object_id Crtc crtc))) → Frees st.made st.present new w r.script.topology.crtcs ids st.freed freed
     → Stands (record { script = r.script; steps = steps }) (record st { latches = shown; fences = fences; queues = queues; tracker = tracker; tails = w; registers = new; goes = slice_set st.goes crtc None; freed = freed })
-blanks_with r v st k crtc count picture new w tracker fences queues old_latches shown before steps stands same asked was more has ids freed all frees =
+blanks_with r v st k crtc count picture new w tracker fences queues shown steps stands same asked more has ids freed all frees =
     let s = r.script in
     let t = s.topology in
     let m = machine r in
@@ -255,9 +249,6 @@ blanks_with r v st k crtc count picture new w tracker fences queues old_latches 
     let S = stands.stores in
     let n = next s m (step.Vblank Crtc crtc) in
     let O = blank_with s m k crtc B.go in
-    let f = blank_tail r st k crtc stands B in
-    let x = f.tail in
-    let C = commits_sound s r.steps (plain-from s stands.formed) stands.history k B.within in
     let l : Latch = record { crtc = crtc; commit = k; count = count; picture = picture } in
     let low = B.low in
     let index_is : crtc ≡ index_of c = sym (index_of-object Crtc crtc (omega (arith, low))) in
@@ -266,32 +257,24 @@ blanks_with r v st k crtc count picture new w tracker fences queues old_latches 
     let one : n.records.latches ≡ l ∷ m.records.latches =
     registers_follow.vblank_recorded s m k crtc B.go ∙ (λ i. record { crtc = sym index_is i; commit = k; count = sym count_is i; picture = sym picture_is i } ∷ m.records.latches) in
     goes_latching r st (record st { latches = shown; fences = fences; queues = queues; tracker = tracker; tails = w; registers = new; goes = slice_set st.goes crtc None }) (step.Vblank Crtc crtc) c ids freed
-    (latches_by s m n c l (changes s m (step.Vblank Crtc crtc) (blanks_legal r v crtc same asked)) index_is B.is_crtc one) all frees steps
-    (more ∙ ap (λ (xs : List Step). xs ++ step.Vblank Crtc crtc ∷ []) was) stands (blanks_legal r v crtc same asked)
-    (latched_shown s m n st k crtc (count_at d c + 1) x l shown fences queues tracker w new (slice_set st.goes crtc None)
+    (latches_by s m n c l (changes s m (step.Vblank Crtc crtc) (blanks_legal r v crtc same asked)) index_is B.is_crtc one) all frees steps more stands (blanks_legal r v crtc same asked)
+    (latched_shown r n st (count_at d c + 1) d.marks st.tails w tracker fences queues shown l new (slice_set st.goes crtc None)
     (record {
       low = B.low;
+      within = B.within;
+      found = blank_tail r st k crtc stands B;
       signals = signals_follow.vblank_with_go_follows s m k crtc B.go;
       same = O.same;
       signalled = O.signalled;
+      counted = count_is;
       recorded = one;
-      client_low = C.low;
-      client_high = C.high;
-      within = B.within;
-      of_crtc = refl;
-      of_count = count_is;
-      client = f.is.client;
-      event = f.is.event;
-      user_data = f.is.user_data;
-      fence = fence_is t d k crtc x B.low f.is.out_fences;
-      fences_now = has.fences_now x f.found;
-      queues_now = has.queues_now x f.found;
-      latched_now = has.recorded_now ∙ ap (λ (ls : List Latch). ls ++ l ∷ []) has.recorded;
+      told = has.told;
+      latched = has.recorded;
     })
-    (rw has.tracker_now (tracker_follows.vblank_with_go_follows s m k crtc st.tracker B.within B.low B.go S.tracker))
-    (tails_follow.vblank_with_go_follows s m k crtc st.tails w B.go B.within B.low S.tails has.tails_now)
+    (rw has.told.tracker (tracker_follows.vblank_with_go_follows s m k crtc st.tracker B.within B.low B.go S.tracker))
+    (tails_follow.vblank_with_go_follows s m k crtc st.tails w B.go B.within B.low S.tails has.told.tails)
     (registers_follow.vblank_follows s m crtc st.registers new S.registers has.blanks)
-    (going_set d n.device st.goes crtc None O.go B.low S.going) S)
+    (going_set d n.device st.goes crtc None O.go B.low S.going) stands)
 
 -- the tails after it are few
 pub few_blanked : (r v : Run) (st : Stores) (k crtc : ℕ) (w : Rooms Tail) → Stands r st → r ≡ v → MayBlank v crtc → slice_index_or st.goes crtc None ≡ Some k → StandsAfterLatch k crtc st.tails w → AreFewTails w

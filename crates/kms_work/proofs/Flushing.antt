@@ -1,6 +1,6 @@
 -- A commit flushes a CRTC that it names.
 use Rattle.std.proofs.Common.{◌≡◌, ℕ, ◌<◌, Bool, true, false, List, [], ◌∷◌, ◌++◌, length, reverse, Option, Some, None, refl, sym, ap, ◌∙◌, subst, arith}
-use Rattle.std.specs.Prelude.{if◌then◌else◌, not, slice_index_or, slice_set, ◌||◌}
+use Rattle.std.specs.Prelude.{if◌then◌else◌, not, slice_set, ◌||◌}
 use Rattle.std.proofs.lemmas.Bool.{and_parts, false_from_ne_true, false≢true, ltb-true}
 use Rattle.kms_model.specs.declared.objects.Kind.TheVariants.{Crtc}
 use Rattle.kms_model.specs.declared.objects.Topology.{Topology}
@@ -17,7 +17,6 @@ use Rattle.kms_model.specs.Machine.Histories.{legal}
 use Rattle.kms_model.specs.Machine.Registers.{is_on_in, read}
 use Rattle.kms_model.specs.Machine.State.{DeviceState, Machine, count_at}
 use Rattle.kms_model.specs.Machine.Steps.{may, next_flush}
-use Rattle.kms_model.specs.Stores.Tables.{value_with_id}
 use Rattle.kms_model.proofs.Items.{list_all-at}
 use Rattle.kms_model.proofs.KindsOfIds.{index_of-object}
 use Rattle.kms_model.proofs.TouchedLemmas.{few_objects}
@@ -32,15 +31,14 @@ use Rattle.kms_regs.proofs.MachineEffects as registers_follow
 use Rattle.kms_signal.specs.FenceSets.{FenceSet}
 use Rattle.kms_signal.specs.Queues.{Queue}
 use Rattle.kms_signal.specs.Rooms.{Rooms}
-use Rattle.kms_signal.specs.StepLaws.{with_signal}
 use Rattle.kms_signal.proofs.StepLemmas as signals_follow
 use Rattle.kms_tails.specs.declared.tail.Tail.{Tail}
 use Rattle.kms_tails.specs.InStep as tails
 use Rattle.kms_tails.specs.InStep.{StandsAfter, StandsAfterLatch}
 use Rattle.kms_tails.proofs.StepLemmas as tails_follow
-use Rattle.kms_track.specs.Tracking.{Tracking, changed_commit, with_latch}
+use Rattle.kms_track.specs.Tracking.{Tracking}
 use Rattle.kms_track.proofs.StepLemmas as tracker_follows
-use Rattle.kms_work.specs.Latching.{IsLatching, MayFlush, event_told, told_if}
+use Rattle.kms_work.specs.Latching.{IsLatching, LatchIsTold, MayFlush}
 use Rattle.kms_logs.specs.Logs.{Logged}
 use Rattle.kms_stores.specs.Run.{Run, machine}
 use Rattle.kms_stores.specs.Stands.{Stores, Stands, queue_of}
@@ -56,7 +54,7 @@ use Rattle.kms_stores.proofs.Histories.{goes_same}
 use Rattle.kms_laws.proofs.SmallNumbers.{numbers_fit}
 use Rattle.kms_model.specs.Machine.Framebuffers.{picture_names}
 use Rattle.kms_model.specs.Machine.Registers.{decoded_picture}
-use Rattle.kms_work.proofs.Latched.{FoundTail, IsFlushed, fence_is, SameParts, found_tail, going_set, is_latching, latched_shown, latches_go, latches_signalled, more_signalled, same_either, same_latches, shadow_flushed, stands_shown}
+use Rattle.kms_work.proofs.Latched.{FoundTail, IsFlushed, SameParts, found_tail, going_set, is_latching, latched_shown, latches_go, latches_signalled, more_signalled, same_either, same_latches, shadow_flushed, stands_shown}
 
 -- What is asked
 
@@ -209,24 +207,20 @@ count_flushed t d k c true = refl
 count_flushed t d k c false = refl
 
 -- what the calls leave of the stores
-pub record HasFlushedOff (st : Stores) (k crtc : ℕ) (count : ℕ) (picture : Picture) (new : RegisterFile) (u w : Rooms Tail) (tracker : Tracking) (fences : FenceSet) (queues : List Queue) (before shown : List Latch) : Type 0 where
+pub record HasFlushedOff (st : Stores) (k crtc : ℕ) (count : ℕ) (picture : Picture) (new : RegisterFile) (u w : Rooms Tail) (tracker : Tracking) (fences : FenceSet) (queues : List Queue) (shown : List Latch) : Type 0 where
   pub flushes : Flushes st.registers new crtc
   pub tells : TellsPicture st.registers crtc (Some picture)
   pub latched : (t : Topology) (d : DeviceState) → StandsForDevice t d st.registers → picture ≡ latched_picture t d (object_id Crtc crtc)
   pub counted : (t : Topology) (d : DeviceState) → StandsForDevice t d new → count ≡ count_at d (object_id Crtc crtc)
   pub marked : StandsAfter k st.tails u (tails.with_flushed k (object_id Crtc crtc))
-  pub tails_now : StandsAfterLatch k crtc u w
-  pub tracker_now : tracker ≡ changed_commit st.tracker k (with_latch crtc)
-  pub fences_now : (x : Tail) → value_with_id u.slots k ≡ Some x → fences ≡ with_signal st.fences (slice_index_or x.out_fences crtc None)
-  pub queues_now : (x : Tail) → value_with_id u.slots k ≡ Some x → queues ≡ told_if x.wants_event x.client (event_told x (record { crtc = crtc; commit = k; count = count; picture = picture })) st.queues
-  pub recorded : before ≡ st.latches.items
-  pub recorded_now : shown ≡ before ++ record { crtc = crtc; commit = k; count = count; picture = picture } ∷ []
+  pub told : LatchIsTold u w st.tracker tracker st.fences fences st.queues queues (record { crtc = crtc; commit = k; count = count; picture = picture })
+  pub recorded : shown ≡ st.latches.items ++ record { crtc = crtc; commit = k; count = count; picture = picture } ∷ []
 
-pub flushes_off : (r v : Run) (st : Stores) (k crtc count : ℕ) (picture : Picture) (new : RegisterFile) (u w : Rooms Tail) (tracker : Tracking) (fences : FenceSet) (queues : List Queue) (old_latches : List Latch) (shown : Logged Latch) (before steps : List Step)
-    → Stands r st → r ≡ v → MayFlush v k crtc → before ≡ r.steps → steps ≡ before ++ step.Flush k Crtc crtc ∷ [] → HasFlushedOff st k crtc count picture new u w tracker fences queues old_latches shown.items
+pub flushes_off : (r v : Run) (st : Stores) (k crtc count : ℕ) (picture : Picture) (new : RegisterFile) (u w : Rooms Tail) (tracker : Tracking) (fences : FenceSet) (queues : List Queue) (shown : Logged Latch) (steps : List Step)
+    → Stands r st → r ≡ v → MayFlush v k crtc → steps ≡ r.steps ++ step.Flush k Crtc crtc ∷ [] → HasFlushedOff st k crtc count picture new u w tracker fences queues shown.items
     → (ids : List ℕ) (freed : Reserved (ℕ × ℕ)) → AreAllOf ids (λ id. picture_names id (decoded_picture r.script.topology (machine r).device.live (object_id Crtc crtc))) → Frees st.made st.present new w r.script.topology.crtcs ids st.freed freed
     → Stands (record { script = r.script; steps = steps }) (record st { latches = shown; fences = fences; queues = queues; tracker = tracker; tails = w; registers = new; freed = freed })
-flushes_off r v st k crtc count picture new u w tracker fences queues old_latches shown before steps stands same asked was more has ids freed all frees =
+flushes_off r v st k crtc count picture new u w tracker fences queues shown steps stands same asked more has ids freed all frees =
     let s = r.script in
     let t = s.topology in
     let m = machine r in
@@ -238,9 +232,6 @@ flushes_off r v st k crtc count picture new u w tracker fences queues old_latche
     let shadow = active_is r st k crtc stands N in
     let off = sym shadow ∙ off_from (is_on_in d.shadow c) _ picture (has.tells t d S.registers) in
     let O = flush_off s m k crtc off in
-    let f = flushed_tail r st k crtc u stands N has.marked in
-    let x = f.tail in
-    let C = commits_sound s r.steps (plain-from s stands.formed) stands.history k N.within in
     let l : Latch = record { crtc = crtc; commit = k; count = count; picture = picture } in
     let low = N.low in
     let index_is : crtc ≡ index_of c = sym (index_of-object Crtc crtc (omega (arith, low))) in
@@ -249,31 +240,24 @@ flushes_off r v st k crtc count picture new u w tracker fences queues old_latche
     let one : n.records.latches ≡ l ∷ m.records.latches =
     registers_follow.flush_recorded s m k crtc off ∙ (λ i. record { crtc = sym index_is i; commit = k; count = sym count_is i; picture = sym picture_is i } ∷ m.records.latches) in
     goes_latching r st (record st { latches = shown; fences = fences; queues = queues; tracker = tracker; tails = w; registers = new }) (step.Flush k Crtc crtc) c ids freed
-    (latches_by s m n c l (changes s m (step.Flush k Crtc crtc) N.is_legal) index_is N.flush.is_crtc one) all frees steps (more ∙ ap (λ (xs : List Step). xs ++ step.Flush k Crtc crtc ∷ []) was) stands N.is_legal
-    (latched_shown s m n st k crtc (count_at d c) x l shown fences queues tracker w new st.goes
+    (latches_by s m n c l (changes s m (step.Flush k Crtc crtc) N.is_legal) index_is N.flush.is_crtc one) all frees steps more stands N.is_legal
+    (latched_shown r n st (count_at d c) (tails.with_flushed k c d.marks) u w tracker fences queues shown l new st.goes
     (record {
       low = N.low;
+      within = N.within;
+      found = flushed_tail r st k crtc u stands N has.marked;
       signals = signals_follow.flush_off_follows s m k crtc off;
       same = flush_same s m k crtc;
       signalled = O.signalled;
+      counted = count_is;
       recorded = one;
-      client_low = C.low;
-      client_high = C.high;
-      within = N.within;
-      of_crtc = refl;
-      of_count = count_is;
-      client = f.is.client;
-      event = f.is.event;
-      user_data = f.is.user_data;
-      fence = fence_is t d k crtc x N.low f.is.out_fences;
-      fences_now = has.fences_now x f.found;
-      queues_now = has.queues_now x f.found;
-      latched_now = has.recorded_now ∙ ap (λ (ls : List Latch). ls ++ l ∷ []) has.recorded;
+      told = has.told;
+      latched = has.recorded;
     })
-    (rw has.tracker_now (tracker_follows.flush_off_follows s m k crtc st.tracker N.within N.low off S.tracker))
-    (tails_follow.flush_off_follows s m k crtc st.tails u w N.is_legal N.low S.tails off has.marked has.tails_now)
+    (rw has.told.tracker (tracker_follows.flush_off_follows s m k crtc st.tracker N.within N.low off S.tracker))
+    (tails_follow.flush_off_follows s m k crtc st.tails u w N.is_legal N.low S.tails off has.marked has.told.tails)
     (registers_follow.flush_follows s m k crtc st.registers new shadow S.registers has.flushes)
-    (record { size = S.going.size; go = λ index few. ap (λ rows. read None rows (object_id Crtc index)) O.go ∙ S.going.go index few }) S)
+    (record { size = S.going.size; go = λ index few. ap (λ rows. read None rows (object_id Crtc index)) O.go ∙ S.going.go index few }) stands)
 
 -- the tails after it are few
 pub few_flushed : (r v : Run) (st : Stores) (k crtc : ℕ) (u w : Rooms Tail) → Stands r st → r ≡ v → MayFlush v k crtc → StandsAfter k st.tails u (tails.with_flushed k (object_id Crtc crtc)) → StandsAfterLatch k crtc u w → AreFewTails w

@@ -18,6 +18,7 @@ use Rattle.kms_model.proofs.Items.{IsIn}
 use Rattle.kms_laws.proofs.Basics.{both_bools, read_other, read_same}
 use Rattle.kms_laws.proofs.Invariants.{Tail, crtc_after}
 use Rattle.kms_laws.proofs.Latching.{crtc_same}
+use Rattle.kms_laws.proofs.Modes.{plain-from}
 use Rattle.kms_laws.proofs.Present.{reverse_more}
 use Rattle.kms_laws.proofs.Objects.{concerns_self, crtc_lockable, names-touches}
 use Rattle.kms_model.specs.Stores.Tables.{value_with_id}
@@ -33,9 +34,11 @@ use Rattle.kms_tails.specs.declared.tail.Tail.{Tail as CommitTail}
 use Rattle.kms_tails.specs.InStep.{AreTailsOf, IsKept, IsTailOf, out_fence_at}
 use Rattle.kms_track.specs.InStep.{IsTrackerOf}
 use Rattle.kms_track.specs.Tracking.{Tracking}
-use Rattle.kms_work.specs.Latching.{IsLatching, event_told, told_if}
+use Rattle.kms_work.specs.Latching.{IsLatching, LatchIsTold, event_told, told_if}
 use Rattle.kms_logs.specs.Logs.{Logged}
-use Rattle.kms_stores.specs.Stands.{AreGoing, AreMadeFences, AreQueues, Stores, StandsAt, queue_of}
+use Rattle.kms_stores.specs.Run.{Run, machine}
+use Rattle.kms_stores.specs.Stands.{AreGoing, AreMadeFences, AreQueues, Stores, Stands, StandsAt, queue_of}
+use Rattle.kms_stores.proofs.CommitStates.{commits_sound}
 use Rattle.kms_stores.proofs.Fencing.{signalled_fenced}
 
 -- What a latch leaves alone
@@ -235,44 +238,44 @@ fence_is t d k crtc x low fences = fences crtc low
 
 -- A latch
 
-pub record HasLatched (s : Script) (m n : Machine) (st : Stores) (k crtc count : ℕ) (x : CommitTail) (l : Latch) (latched : Logged Latch) (fences : FenceSet) (queues : List Queue) : Type 0 where
-  pub low : crtc < 4
-  pub signals : LatchesSignals s.topology m n k (object_id Crtc crtc) count
+pub record HasLatched (s : Script) (m n : Machine) (st : Stores) (count : ℕ) (marks : Marks) (u w : Rooms CommitTail) (tracker : Tracking) (fences : FenceSet) (queues : List Queue) (shown : Logged Latch) (l : Latch) : Type 0 where
+  pub low : l.crtc < 4
+  pub within : l.commit < length m.device.commits
+  pub found : FoundTail s.topology m.device.commits marks m.records.latches u l.commit
+  pub signals : LatchesSignals s.topology m n l.commit (object_id Crtc l.crtc) count
   pub same : SameParts m n
-  pub signalled : n.device.signalled ≡ more_signalled m.device.signalled (out_fence_of s.topology m.device.commits k (object_id Crtc crtc))
+  pub signalled : n.device.signalled ≡ more_signalled m.device.signalled (out_fence_of s.topology m.device.commits l.commit (object_id Crtc l.crtc))
+  pub counted : l.count ≡ count
   pub recorded : n.records.latches ≡ l ∷ m.records.latches
-  pub client_low : 1 ≤ client_of s.topology m k
-  pub client_high : client_of s.topology m k ≤ length s.clients
-  pub within : k < length m.device.commits
-  pub of_crtc : l.crtc ≡ crtc
-  pub of_count : l.count ≡ count
-  pub client : x.client ≡ client_of s.topology m k
-  pub event : x.wants_event ≡ asks_event s.topology m.device.commits k
-  pub user_data : x.user_data ≡ (commit_at s.topology m.device.commits k).request.user_data
-  pub fence : slice_index_or x.out_fences crtc None ≡ out_fence_of s.topology m.device.commits k (object_id Crtc crtc)
-  pub fences_now : fences ≡ with_signal st.fences (slice_index_or x.out_fences crtc None)
-  pub queues_now : queues ≡ told_if x.wants_event x.client (event_told x l) st.queues
-  pub latched_now : latched.items ≡ st.latches.items ++ l ∷ []
+  pub told : LatchIsTold u w st.tracker tracker st.fences fences st.queues queues l
+  pub latched : shown.items ≡ st.latches.items ++ l ∷ []
 
-pub latched_shown : (s : Script) (m n : Machine) (st : Stores) (k crtc count : ℕ) (x : CommitTail) (l : Latch) (latched : Logged Latch) (fences : FenceSet) (queues : List Queue) (tracker : Tracking) (tails : Rooms CommitTail) (registers : RegisterFile)
-    (goes : List (Option ℕ)) → HasLatched s m n st k crtc count x l latched fences queues → IsTrackerOf s.topology n.device.commits n.device.marks n.records.latches tracker
-    → AreTailsOf s.topology n.device.commits n.device.marks n.records.latches tails → StandsForDevice s.topology n.device registers → AreGoing n.device goes → StandsAt s m st
-    → StandsAt s n (record st { latches = latched; fences = fences; queues = queues; tracker = tracker; tails = tails; registers = registers; goes = goes })
-latched_shown s m n st k crtc count x l latched fences queues tracker tails registers goes H tracked kept written going stands =
+pub latched_shown : (r : Run) (n : Machine) (st : Stores) (count : ℕ) (marks : Marks) (u w : Rooms CommitTail) (tracker : Tracking) (fences : FenceSet) (queues : List Queue) (shown : Logged Latch) (l : Latch) (registers : RegisterFile) (goes : List (Option ℕ))
+    → HasLatched r.script (machine r) n st count marks u w tracker fences queues shown l → IsTrackerOf r.script.topology n.device.commits n.device.marks n.records.latches tracker
+    → AreTailsOf r.script.topology n.device.commits n.device.marks n.records.latches w → StandsForDevice r.script.topology n.device registers → AreGoing n.device goes → Stands r st
+    → StandsAt r.script n (record st { latches = shown; fences = fences; queues = queues; tracker = tracker; tails = w; registers = registers; goes = goes })
+latched_shown r n st count marks u w tracker fences queues shown l registers goes H tracked kept written going stand =
+    let s = r.script in
     let t = s.topology in
-    let c = object_id Crtc crtc in
+    let m = machine r in
+    let k = l.commit in
+    let c = object_id Crtc l.crtc in
+    let stands = stand.stores in
+    let C = commits_sound s r.steps (plain-from s stand.formed) stand.history k H.within in
+    let x = H.found.tail in
+    let is = H.found.is in
     let fence = out_fence_of t m.device.commits k c in
-    let set : fences ≡ with_signal st.fences fence = H.fences_now ∙ ap (with_signal st.fences) H.fence in
-    let event : event_told x l ≡ event_of t m k c count = λ i. record { user_data = H.user_data i; sequence = H.of_count i % 2 ^ 32; crtc = object_id Crtc (H.of_crtc i) } in
-    let told : queues ≡ told_if (asks_event t m.device.commits k) (client_of t m k) (event_of t m k c count) st.queues = H.queues_now ∙ (λ i. told_if (H.event i) (H.client i) (event i) st.queues) in
-    let made : (id : ℕ) → fence ≡ Some id → is_made st.fences id ≡ true = λ id is. stands.out_fenced k crtc id H.within H.low is in
-    stands_shown s m n st latched fences queues tracker tails registers goes
+    let set : fences ≡ with_signal st.fences fence = H.told.fences x H.found.found ∙ ap (with_signal st.fences) (fence_is t m.device k l.crtc x H.low is.out_fences) in
+    let event : event_told x l ≡ event_of t m k c count = λ i. record { user_data = is.user_data i; sequence = H.counted i % 2 ^ 32; crtc = c } in
+    let told : queues ≡ told_if (asks_event t m.device.commits k) (client_of t m k) (event_of t m k c count) st.queues = H.told.queues x H.found.found ∙ (λ i. told_if (is.event i) (is.client i) (event i) st.queues) in
+    let made : (id : ℕ) → fence ≡ Some id → is_made st.fences id ≡ true = λ id is. stands.out_fenced k l.crtc id H.within H.low is in
+    stands_shown s m n st shown fences queues tracker w registers goes
     (record {
       same = H.same;
-      recorded = H.latched_now ∙ ap (λ ls. ls ++ l ∷ []) stands.recorded.latched ∙ sym (reverse_more l m.records.latches) ∙ ap reverse (sym H.recorded);
+      recorded = H.latched ∙ ap (λ ls. ls ++ l ∷ []) stands.recorded.latched ∙ sym (reverse_more l m.records.latches) ∙ ap reverse (sym H.recorded);
       signalled = subst (λ f. AreFencesOf f n.device.signalled) (sym set) (H.signals.fences st.fences stands.fences);
       fenced = subst (λ f. AreMadeFences m.device.world n.device.signalled f) (sym set) (subst (λ ids. AreMadeFences m.device.world ids (with_signal st.fences fence)) (sym H.signalled) (latched_fenced m fence st.fences made stands.fenced));
-      told = subst (λ qs. AreQueues (length s.clients) n.events qs) (sym told) (queues_told t m n (length s.clients) k c count st.queues H.signals H.client_low H.client_high stands.queues);
+      told = subst (λ qs. AreQueues (length s.clients) n.events qs) (sym told) (queues_told t m n (length s.clients) k c count st.queues H.signals C.low C.high stands.queues);
       tracked = tracked;
       kept = kept;
       written = written;

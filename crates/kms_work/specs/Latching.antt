@@ -1,6 +1,6 @@
 -- What flushes and vertical blankings ask for and answer, and what a latch does. From: `drm_atomic_helper.c`,
 -- drm_atomic_helper_commit_planes; `drm_vblank.c`, drm_crtc_handle_vblank and drm_crtc_send_vblank_event.
-use Rattle.std.specs.Prelude.{ℕ, ◌≡◌, ◌-◌, ◌^◌, ◌%◌, ◌<◌, ◌≤◌, Bool, true, List, length, slice_set, is_some, Some, if◌then◌else◌}
+use Rattle.std.specs.Prelude.{ℕ, ◌≡◌, ◌-◌, ◌^◌, ◌%◌, ◌<◌, ◌≤◌, Bool, true, List, length, slice_index_or, slice_set, is_some, None, Some, if◌then◌else◌}
 use Rattle.kms_model.specs.declared.objects.Kind.TheVariants.{Crtc}
 use Rattle.kms_model.specs.declared.replies.Event.{Event}
 use Rattle.kms_model.specs.declared.replies.Step.TheVariants as step
@@ -9,9 +9,13 @@ use Rattle.kms_model.specs.Device.Objects.{object_id}
 use Rattle.kms_model.specs.Machine.Histories.{legal}
 use Rattle.kms_model.specs.Machine.State.{go_at}
 use Rattle.kms_model.specs.Stores.Tables.{value_with_id}
+use Rattle.kms_signal.specs.FenceSets.{FenceSet}
 use Rattle.kms_signal.specs.Queues.{Queue, delivers}
 use Rattle.kms_signal.specs.Rooms.{Rooms}
+use Rattle.kms_signal.specs.StepLaws.{with_signal}
 use Rattle.kms_tails.specs.declared.tail.Tail.{Tail}
+use Rattle.kms_tails.specs.InStep.{StandsAfterLatch}
+use Rattle.kms_track.specs.Tracking.{Tracking, changed_commit, with_latch}
 use Rattle.kms_stores.specs.Run.{Run, machine}
 use Rattle.kms_stores.specs.Stands.{queue_of}
 
@@ -44,3 +48,10 @@ pub record IsLatching (v : Rooms Tail) (queues : List Queue) (l : Latch) : Type 
   pub low : 1 ≤ tail.client
   pub high : tail.client ≤ length queues
   pub reserved : tail.wants_event ≡ true → 0 < (queue_of queues tail.client).reserved
+
+-- A latch is told: the tail and the record of its commit have it, the commit's out-fence at its CRTC is signalled, and its event is delivered.
+pub record LatchIsTold (old_tails new_tails : Rooms Tail) (old_tracker new_tracker : Tracking) (old_fences new_fences : FenceSet) (old_queues new_queues : List Queue) (l : Latch) : Type 0 where
+  pub tails : StandsAfterLatch l.commit l.crtc old_tails new_tails
+  pub tracker : new_tracker ≡ changed_commit old_tracker l.commit (with_latch l.crtc)
+  pub fences : (x : Tail) → value_with_id old_tails.slots l.commit ≡ Some x → new_fences ≡ with_signal old_fences (slice_index_or x.out_fences l.crtc None)
+  pub queues : (x : Tail) → value_with_id old_tails.slots l.commit ≡ Some x → new_queues ≡ told_if x.wants_event x.client (event_told x l) old_queues

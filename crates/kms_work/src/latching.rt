@@ -1,19 +1,16 @@
 //! Flushes and vertical blankings, at which commits latch.
-ghost use Rattle.std.specs.Prelude.{◌≡◌, ◌<◌, ◌≤◌, IfOk, IsOk, [], ◌∷◌, None, Some, length, slice_index_or, true};
+ghost use Rattle.std.specs.Prelude.{◌≡◌, ◌<◌, ◌≤◌, IfOk, IsOk, [], ◌∷◌, length, true};
 ghost use Rattle.kms_model.specs.declared.objects.Kind.TheVariants.{Crtc};
 ghost use Rattle.kms_model.specs.declared.objects.Topology.{Topology};
 ghost use Rattle.kms_model.specs.declared.replies.Step.TheVariants as step;
 ghost use Rattle.kms_model.specs.Device.Objects.{object_id};
 ghost use Rattle.kms_model.specs.Machine.State.{DeviceState, count_at};
-ghost use Rattle.kms_model.specs.Stores.Tables.{value_with_id};
 ghost use Rattle.kms_regs.specs.File.{StandsForDevice};
 ghost use Rattle.kms_signal.specs.Rooms.{Rooms};
-ghost use Rattle.kms_signal.specs.StepLaws.{with_signal};
 ghost use Rattle.kms_tails.specs.declared.tail.Tail.{Tail as CommitTail};
 ghost use Rattle.kms_tails.specs.InStep.{StandsAfterLatch};
-ghost use Rattle.kms_track.specs.Tracking.{changed_commit, with_latch};
 ghost use Rattle.kms_freeing.specs.Freeing.{framebuffers_in};
-ghost use Rattle.kms_work.specs.Latching.{IsLatching, MayBlank, MayFlush, event_told, goes_at, told_if};
+ghost use Rattle.kms_work.specs.Latching.{IsLatching, LatchIsTold, MayBlank, MayFlush, event_told, goes_at, told_if};
 ghost use Rattle.kms_stores.specs.Needs.{Frees};
 ghost use Rattle.kms_stores.specs.Run.{gains, if_ok};
 ghost use Rattle.kms_stores.specs.Stands.{queue_of};
@@ -155,14 +152,8 @@ fn show(
     requires few { (left : Rooms CommitTail)
         → StandsAfterLatch shown.now.commit shown.now.crtc tails.old left → AreFewTails left }
     requires places { framebuffers_in things.now.things ids_before.now ≤ freed.old.places }
-    ensures tails { StandsAfterLatch shown.now.commit shown.now.crtc tails.old tails.new }
-    ensures tracker { tracker.new
-        ≡ changed_commit tracker.old shown.now.commit (with_latch shown.now.crtc) }
-    ensures fences { (x : CommitTail) → value_with_id tails.old.slots shown.now.commit ≡ Some x
-        → fences.new ≡ with_signal fences.old (slice_index_or x.out_fences shown.now.crtc None) }
-    ensures queues { (x : CommitTail) → value_with_id tails.old.slots shown.now.commit ≡ Some x
-        → queues.new.items
-        ≡ told_if x.wants_event x.client (event_told x shown.now) queues.old.items }
+    ensures told { LatchIsTold tails.old tails.new tracker.old tracker.new fences.old fences.new
+        queues.old.items queues.new.items shown.now }
     ensures freed { Frees things.now present.now registers.now tails.new crtcs ids_before.now
         freed.old freed.new }
 {
@@ -181,14 +172,8 @@ fn latch(
 )
     requires crtc { shown.now.crtc < 4 }
     requires there { IsLatching tails.old queues.old.items shown.now }
-    ensures tails { StandsAfterLatch shown.now.commit shown.now.crtc tails.old tails.new }
-    ensures tracker { tracker.new
-        ≡ changed_commit tracker.old shown.now.commit (with_latch shown.now.crtc) }
-    ensures fences { (x : CommitTail) → value_with_id tails.old.slots shown.now.commit ≡ Some x
-        → fences.new ≡ with_signal fences.old (slice_index_or x.out_fences shown.now.crtc None) }
-    ensures queues { (x : CommitTail) → value_with_id tails.old.slots shown.now.commit ≡ Some x
-        → queues.new.items
-        ≡ told_if x.wants_event x.client (event_told x shown.now) queues.old.items }
+    ensures { LatchIsTold tails.old tails.new tracker.old tracker.new fences.old fences.new
+        queues.old.items queues.new.items shown.now }
 {
     let Some(tail) = tails.get(shown.commit) else {
         unreachable!();

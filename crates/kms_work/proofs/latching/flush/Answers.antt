@@ -92,19 +92,15 @@ invariant_of-stores-2 c =
     let own = own_step r st step c.args.commit c.stores.invariant.stands refl refl (flushes_next r c.args.stores.now st c.args.commit c.args.crtc c.stores.invariant.stands c.stores.view_is c.requires).is_legal in
     let stands =
     flushes_off r c.args.stores.now st c.args.commit c.args.crtc c.latch_of-shown.result.count c.in-Some.picture c.flush.new.self c.flushed.new.self c.show.new.tails c.show.new.tracker c.show.new.fences
-    c.show.new.queues.items st.latches.items c.push-2.new.self r.steps c.push.new.self.items c.stores.invariant.stands c.stores.view_is c.requires refl c.push.ensures.items
+    c.show.new.queues.items c.push-2.new.self c.push.new.self.items c.stores.invariant.stands c.stores.view_is c.requires c.push.ensures.items
     (record {
       flushes = c.in-Some.ensures.stands;
       tells = c.in-Some.ensures.picture;
       latched = c.in-Some.ensures.latched;
       counted = c.latch_of-shown.ensures.count;
       marked = c.flushed.ensures.stands;
-      tails_now = rw shown at c.show.ensures.tails;
-      tracker_now = rw shown at c.show.ensures.tracker;
-      fences_now = rw shown at c.show.ensures.fences;
-      queues_now = rw shown at c.show.ensures.queues;
-      recorded = refl;
-      recorded_now = rw shown at c.push-2.ensures.items;
+      told = rw shown at c.show.ensures.told;
+      recorded = rw shown at c.push-2.ensures.items;
     })
     c.as_slice-2.result.now c.show.new.freed
     (live_all r st (object_id Crtc c.args.crtc) c.as_slice.result.now c.shown_ids-ids_before.result.items c.as_slice-2.result.now c.stores.invariant.stands c.shown_ids-ids_before.ensures (λ t d stand. c.as_slice.ensures ∙ c.live_layers-before.ensures t d stand) c.as_slice-2.ensures.value)

@@ -102,18 +102,14 @@ invariant_of-stores-2 c =
     let B = blanks_for r c.args.stores.now st c.in-Some.commit c.args.crtc c.stores.invariant.stands c.stores.view_is c.requires c.in-Some.is in
     let stands =
     blanks_with r c.args.stores.now st c.in-Some.commit c.args.crtc c.latch_of-shown.result.count c.in-Some-vblank.picture c.vblank.new.self c.show.new.tails c.show.new.tracker c.show.new.fences
-    c.show.new.queues.items st.latches.items c.push-3.new.self r.steps c.push-2.new.self.items c.stores.invariant.stands c.stores.view_is c.requires refl c.push-2.ensures.items
+    c.show.new.queues.items c.push-3.new.self c.push-2.new.self.items c.stores.invariant.stands c.stores.view_is c.requires c.push-2.ensures.items
     (record {
       go = c.in-Some.is;
       blanks = c.in-Some-vblank.ensures.stands;
       tells = c.in-Some-vblank.ensures.picture;
       counted = c.latch_of-shown.ensures.count;
-      tails_now = rw shown at c.show.ensures.tails;
-      tracker_now = rw shown at c.show.ensures.tracker;
-      fences_now = rw shown at c.show.ensures.fences;
-      queues_now = rw shown at c.show.ensures.queues;
-      recorded = refl;
-      recorded_now = rw shown at c.push-3.ensures.items;
+      told = rw shown at c.show.ensures.told;
+      recorded = rw shown at c.push-3.ensures.items;
     })
     c.as_slice-2.result.now c.show.new.freed
     (live_all r st (object_id Crtc c.args.crtc) c.as_slice.result.now c.shown_ids-ids_before.result.items c.as_slice-2.result.now c.stores.invariant.stands c.shown_ids-ids_before.ensures (λ t d stand. c.as_slice.ensures ∙ c.live_layers-before.ensures t d stand) c.as_slice-2.ensures.value)
