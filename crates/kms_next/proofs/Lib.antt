@@ -6,6 +6,7 @@ pub mod Outside
 pub mod Drains
 pub mod TailSteps
 pub mod Movers
+pub mod Onward
 pub mod Legals
 pub mod Stalls
 pub mod ClientSteps

@@ -1,7 +1,7 @@
-use Rattle.std.proofs.Common.{arith, sym, ◌∙◌}
+use Rattle.std.proofs.Common.{sym, ◌∙◌}
 use Rattle.kms_stores.specs.Insides.{run_in, stores_of}
 use Rattle.kms_next.proofs.Movers.{no_tail_step, rests_further, some_tail, tail_moved}
-use Rattle.kms_stores.proofs.Seeking.{few_tails, goes_up, less_left}
+use Rattle.kms_next.proofs.Onward.{fewer_left, more_fits}
 use Rattle.kms_next.proofs.moving.has_tail_step.Goals as goal
 
 pub returns-then-tail_moves : goal.returns-then-tail_moves
@@ -9,12 +9,10 @@ returns-then-tail_moves c =
     some_tail (run_in c.stores.inside) c.args.stores.now (stores_of c.stores.inside) c.stores.invariant.stands c.stores.view_is c.seeking.from c.in-Some.commit c.in-Some.ensures.machine (sym (tail_moved c.args.stores.now c.in-Some.commit) ∙ sym c.tail_moves.ensures ∙ c.if-tail_moves.true)
 
 pub overflow_add-from : goal.overflow_add-from
-overflow_add-from c =
-    let l = (goes_up c.stores.inside.tails c.seeking.from c.in-Some.commit (few_tails (run_in c.stores.inside) (stores_of c.stores.inside) c.stores.invariant.stands) c.in-Some.ensures.machine).fits in
-    omega (arith, l)
+overflow_add-from c = more_fits (run_in c.stores.inside) (stores_of c.stores.inside) c.stores.invariant.stands c.seeking.from c.in-Some.commit c.in-Some.ensures.machine
 
 pub seeking-smaller : goal.seeking-smaller
-seeking-smaller c = less_left c.stores.inside.tails c.seeking.from c.in-Some.commit (few_tails (run_in c.stores.inside) (stores_of c.stores.inside) c.stores.invariant.stands) c.in-Some.ensures.machine
+seeking-smaller c = fewer_left (run_in c.stores.inside) (stores_of c.stores.inside) c.stores.invariant.stands c.seeking.from c.in-Some.commit c.in-Some.ensures.machine
 
 pub seeking-preserved : goal.seeking-preserved
 seeking-preserved c =

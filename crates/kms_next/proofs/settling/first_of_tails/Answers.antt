@@ -1,9 +1,9 @@
-use Rattle.std.proofs.Common.{arith, sym, ◌∙◌}
+use Rattle.std.proofs.Common.{sym, ◌∙◌}
 use Rattle.kms_model.specs.declared.replies.Step.{Step}
 use Rattle.kms_stores.proofs.FirstTails.{nothing_found, nothing_further, something_found}
 use Rattle.kms_stores.specs.Insides.{run_in, stores_of}
-use Rattle.kms_stores.proofs.Seeking.{few_tails, goes_up, less_left}
 use Rattle.kms_next.proofs.TailTurns.{cleaned_none, first_of}
+use Rattle.kms_next.proofs.Onward.{fewer_left, more_fits}
 use Rattle.kms_next.proofs.settling.first_of_tails.Goals as goal
 
 pub returns-in-Some-first_of_tail : goal.returns-in-Some-first_of_tail
@@ -14,12 +14,10 @@ returns-in-Some-first_of_tail c =
     something_found Step r v st c.stores.invariant.stands c.stores.view_is (first_of v) (cleaned_none r v st c.stores.invariant.stands c.stores.view_is) c.seeking.from c.in-Some.commit c.in-Some-first_of_tail.step c.in-Some.ensures.machine (sym c.in-Some-first_of_tail.is ∙ c.first_of_tail.ensures) c.seeking.invariant
 
 pub overflow_add-from : goal.overflow_add-from
-overflow_add-from c =
-    let l = (goes_up c.stores.inside.tails c.seeking.from c.in-Some.commit (few_tails (run_in c.stores.inside) (stores_of c.stores.inside) c.stores.invariant.stands) c.in-Some.ensures.machine).fits in
-    omega (arith, l)
+overflow_add-from c = more_fits (run_in c.stores.inside) (stores_of c.stores.inside) c.stores.invariant.stands c.seeking.from c.in-Some.commit c.in-Some.ensures.machine
 
 pub seeking-smaller : goal.seeking-smaller
-seeking-smaller c = less_left c.stores.inside.tails c.seeking.from c.in-Some.commit (few_tails (run_in c.stores.inside) (stores_of c.stores.inside) c.stores.invariant.stands) c.in-Some.ensures.machine
+seeking-smaller c = fewer_left (run_in c.stores.inside) (stores_of c.stores.inside) c.stores.invariant.stands c.seeking.from c.in-Some.commit c.in-Some.ensures.machine
 
 pub seeking-preserved : goal.seeking-preserved
 seeking-preserved c =

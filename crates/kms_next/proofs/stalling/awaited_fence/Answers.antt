@@ -1,8 +1,8 @@
-use Rattle.std.proofs.Common.{arith, sym, ◌∙◌}
+use Rattle.std.proofs.Common.{sym, ◌∙◌}
 use Rattle.kms_stores.specs.Insides.{run_in, stores_of}
 use Rattle.kms_stores.proofs.FirstTails.{tail_within}
-use Rattle.kms_stores.proofs.Seeking.{few_tails, goes_up, less_left}
 use Rattle.kms_next.proofs.Stalls.{awaits_found, awaits_further, awaits_none}
+use Rattle.kms_next.proofs.Onward.{fewer_left, more_fits}
 use Rattle.kms_next.proofs.stalling.awaited_fence.Goals as goal
 
 pub awaited_by-requires : goal.awaited_by-requires
@@ -13,12 +13,10 @@ returns-in-Some-awaited_by c =
     awaits_found (run_in c.stores.inside) c.args.stores.now (stores_of c.stores.inside) c.stores.invariant.stands c.stores.view_is c.seeking.from c.in-Some.commit c.in-Some-awaited_by.fence c.in-Some.ensures.machine (sym c.in-Some-awaited_by.is ∙ c.awaited_by.ensures) c.seeking.invariant
 
 pub overflow_add-from : goal.overflow_add-from
-overflow_add-from c =
-    let l = (goes_up c.stores.inside.tails c.seeking.from c.in-Some.commit (few_tails (run_in c.stores.inside) (stores_of c.stores.inside) c.stores.invariant.stands) c.in-Some.ensures.machine).fits in
-    omega (arith, l)
+overflow_add-from c = more_fits (run_in c.stores.inside) (stores_of c.stores.inside) c.stores.invariant.stands c.seeking.from c.in-Some.commit c.in-Some.ensures.machine
 
 pub seeking-smaller : goal.seeking-smaller
-seeking-smaller c = less_left c.stores.inside.tails c.seeking.from c.in-Some.commit (few_tails (run_in c.stores.inside) (stores_of c.stores.inside) c.stores.invariant.stands) c.in-Some.ensures.machine
+seeking-smaller c = fewer_left (run_in c.stores.inside) (stores_of c.stores.inside) c.stores.invariant.stands c.seeking.from c.in-Some.commit c.in-Some.ensures.machine
 
 pub seeking-preserved : goal.seeking-preserved
 seeking-preserved c = awaits_further (run_in c.stores.inside) c.args.stores.now (stores_of c.stores.inside) c.stores.invariant.stands c.stores.view_is c.seeking.from c.in-Some.commit c.in-Some.ensures.machine (sym c.in_default-awaited_by.is ∙ c.awaited_by.ensures) c.seeking.invariant
