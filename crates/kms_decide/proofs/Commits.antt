@@ -9,6 +9,7 @@ use Rattle.kms_model.specs.declared.replies.Answered.{Answered}
 use Rattle.kms_model.specs.declared.replies.Reply.TheVariants as reply
 use Rattle.kms_model.specs.declared.replies.Step.{Step}
 use Rattle.kms_model.specs.declared.replies.Step.TheVariants as step
+use Rattle.kms_model.specs.declared.runs.Latch.{Latch}
 use Rattle.kms_model.specs.declared.runs.Place.{Place}
 use Rattle.kms_model.specs.declared.scripts.Assign.{Assign}
 use Rattle.kms_model.specs.declared.scripts.Command.{Command}
@@ -69,7 +70,7 @@ use Rattle.kms_stores.specs.Decisions.{world}
 use Rattle.kms_stores.specs.SwappedIn.{IsSwappedIn, events_asked_for, fences_for, fences_under, id_under, label_in, labels_in}
 use Rattle.kms_stores.specs.Stands.{AreOutFencesMade, AreQueues, AreRecords, IsWorldOf, Stores, Stands, StandsAt, entry_pair, is_fence, queue_of}
 use Rattle.kms_stores.specs.Swaps.{MayCommit}
-use Rattle.kms_decide.specs.Room.{SameTracking}
+use Rattle.kms_decide.specs.Room.{KeepsStored, SameTracking}
 use Rattle.kms_stores.proofs.WithRoom.{stands_with_room}
 use Rattle.kms_decide.proofs.Answering.{MayDecide, may_decide}
 use Rattle.kms_stores.proofs.Committed.{committed_present, has_plane}
@@ -83,6 +84,7 @@ use Rattle.kms_stores.proofs.Lates.{OwnQueue, count_named, own_queue}
 use Rattle.kms_decide.proofs.OutFences.{FencesStand, fences_more, found_or_made, out_fences_made}
 use Rattle.kms_decide.proofs.OutLabels.{few_in_fences, label_at_crtc, labels_of_crtcs}
 use Rattle.kms_stores.proofs.Recorded.{joined_more, records_answered}
+use Rattle.kms_stores.proofs.Spared.{with_latches}
 use Rattle.kms_decide.proofs.Swaps.{SwapLeaves, clients_swapped, swap_leaves}
 
 -- The journal
@@ -212,11 +214,15 @@ module _ (r : Run) (st : Stores) (client : ℕ) (checked : Checked) (resolved : 
 
   -- Want of memory
 
-  pub roomy : (journal : Logged (ℕ × ℕ)) (replies : Logged Answered) (made : Made) (fences : FenceSet) (queue : Queue) (tracker : Tracking) (tails : Rooms Tail) (steps : List Step) → steps ≡ r.steps → journal.items ≡ st.journal.items → replies.items ≡ st.replies.items
-      → made ≡ st.made → fences.slots ≡ st.fences.slots → queue.reserved ≡ (queue_of st.queues client).reserved → queue.unread ≡ (queue_of st.queues client).unread → SameTracking st.tracker tracker → StandsAlike st.tails tails
-      → Stands (record { script = r.script; steps = steps }) (record st { journal = journal; replies = replies; made = made; fences = fences; queues = slice_set st.queues (client - 1) queue; tracker = tracker; tails = tails })
-  roomy journal replies made fences queue tracker tails steps is same_journal same_replies same_made same_set reserved unread same_tracker alike =
-      let base = stands_with_room r st journal replies made fences steps stands is same_journal same_replies same_made same_set st.freed refl refl in
+  pub roomy : (journal : Logged (ℕ × ℕ)) (replies : Logged Answered) (shown : Logged Latch) (made : Made) (fences roomy_fences : FenceSet) (was d queue : Queue) (tracker : Tracking) (tails : Rooms Tail) (steps : List Step)
+      → steps ≡ r.steps → journal.items ≡ st.journal.items → replies.items ≡ st.replies.items → shown.items ≡ st.latches.items → made ≡ st.made → fences.slots ≡ roomy_fences.slots
+      → was ≡ slice_index_or st.queues (client - 1) d → KeepsStored st.fences roomy_fences was queue st.tracker tracker st.tails tails
+      → Stands (record { script = r.script; steps = steps }) (record st { journal = journal; replies = replies; latches = shown; made = made; fences = fences; queues = slice_set st.queues (client - 1) queue; tracker = tracker; tails = tails })
+  roomy journal replies shown made fences roomy_fences was d queue tracker tails steps is same_journal same_replies same_shown same_made same_set at kept =
+      let mine = found_queue was d at in
+      let same_tracker = kept.tracking in
+      let base =
+      stands_with_room r (record st { latches = shown }) journal replies made fences steps (with_latches r st shown stands same_shown) is same_journal same_replies same_made (same_set ∙ kept.fences) st.freed refl refl in
       record {
         formed = base.formed;
         history = base.history;
@@ -228,7 +234,7 @@ module _ (r : Run) (st : Stores) (client : ℕ) (checked : Checked) (resolved : 
           fences = base.stores.fences;
           fenced = base.stores.fenced;
           out_fenced = base.stores.out_fenced;
-          queues = rw is (queues_same (length r.script.clients) (machine r).events client st.queues queue own.low high reserved unread stands.stores.queues);
+          queues = rw is (queues_same (length r.script.clients) (machine r).events client st.queues queue own.low high (kept.reserved ∙ ap (λ (q : Queue). q.reserved) mine) (kept.unread ∙ ap (λ (q : Queue). q.unread) mine) stands.stores.queues);
           tracker =
               rw is
               (record {
@@ -241,7 +247,7 @@ module _ (r : Run) (st : Stores) (client : ℕ) (checked : Checked) (resolved : 
                 };
                 untouched = stands.stores.tracker.untouched;
               });
-          tails = rw is (alike r.script.topology (machine r).device.commits (machine r).device.marks (machine r).records.latches stands.stores.tails);
+          tails = rw is (kept.tails r.script.topology (machine r).device.commits (machine r).device.marks (machine r).records.latches stands.stores.tails);
           registers = base.stores.registers;
           going = base.stores.going;
           ended = base.stores.ended;

@@ -14,17 +14,12 @@ use Rattle.kms_decide.proofs.committing.commit.Goals as goal
 pub invariant_of-stores : goal.invariant_of-stores
 invariant_of-stores c =
     let r = run_in c.stores.inside in
-    let st = record (stores_of c.stores.inside) { latches = c.make_commit_room.new.latches } in
-    let before = with_latches r (stores_of c.stores.inside) c.make_commit_room.new.latches c.stores.invariant.stands c.in_err-make_commit_room.ensures.latches in
     let can = may_now r c.args.stores.now c.args.client c.args.checked.now c.args.resolved.now c.stores.view_is c.requires in
-    let queue = found_queue r st c.args.client c.args.checked.now c.args.resolved.now before can _ _ c.index_mut.ensures.value in
+    let room = c.in_err-make_commit_room.ensures in
     let stands =
-    roomy r st c.args.client c.args.checked.now c.args.resolved.now before can c.make_commit_room.new.journal c.make_commit_room.new.replies c.stores.inside.things c.make_commit_room.new.fences c.make_commit_room.new.queue c.make_commit_room.new.tracker c.make_commit_room.new.tails c.make_commit_room.new.steps.items
-    c.in_err-make_commit_room.ensures.steps c.in_err-make_commit_room.ensures.journal c.in_err-make_commit_room.ensures.replies refl c.in_err-make_commit_room.ensures.kept.fences
-    (c.in_err-make_commit_room.ensures.kept.reserved ∙ ap (λ (q : Queue). q.reserved) queue) (c.in_err-make_commit_room.ensures.kept.unread ∙ ap (λ (q : Queue). q.unread) queue)
-    c.in_err-make_commit_room.ensures.kept.tracking
-    (λ t commits marks latches was. c.in_err-make_commit_room.ensures.kept.tails t commits marks latches was) in
-    record { stands = stands; spare = still_spared _ _ _ _ _ _ c.in_err-make_commit_room.ensures.steps c.stores.invariant.spare c.in_err-make_commit_room.ensures.steps_kept c.in_err-make_commit_room.ensures.latches_kept }
+    roomy r (stores_of c.stores.inside) c.args.client c.args.checked.now c.args.resolved.now c.stores.invariant.stands can c.make_commit_room.new.journal c.make_commit_room.new.replies c.make_commit_room.new.latches c.stores.inside.things c.make_commit_room.new.fences _ _ _
+    c.make_commit_room.new.queue c.make_commit_room.new.tracker c.make_commit_room.new.tails c.make_commit_room.new.steps.items room.steps room.journal room.replies room.latches refl refl c.index_mut.ensures.value room.kept in
+    record { stands = stands; spare = still_spared _ _ _ _ _ _ room.steps c.stores.invariant.spare room.steps_kept room.latches_kept }
 
 pub make_out_fences-requires-clause-ids : goal.make_out_fences-requires-clause-ids
 make_out_fences-requires-clause-ids c =
@@ -33,17 +28,13 @@ make_out_fences-requires-clause-ids c =
 pub invariant_of-stores-in_err-make_out_fences : goal.invariant_of-stores-in_err-make_out_fences
 invariant_of-stores-in_err-make_out_fences c =
     let r = run_in c.stores.inside in
-    let st = record (stores_of c.stores.inside) { latches = c.make_commit_room.new.latches } in
-    let before = with_latches r (stores_of c.stores.inside) c.make_commit_room.new.latches c.stores.invariant.stands c.in_ok-make_commit_room.ensures.latches in
     let can = may_now r c.args.stores.now c.args.client c.args.checked.now c.args.resolved.now c.stores.view_is c.requires in
-    let queue = found_queue r st c.args.client c.args.checked.now c.args.resolved.now before can _ _ c.index_mut.ensures.value in
+    let room = c.in_ok-make_commit_room.ensures in
     let stands =
-    roomy r st c.args.client c.args.checked.now c.args.resolved.now before can c.make_commit_room.new.journal c.make_commit_room.new.replies c.make_out_fences.new.things c.make_out_fences.new.fences c.make_commit_room.new.queue c.make_commit_room.new.tracker c.make_commit_room.new.tails c.make_commit_room.new.steps.items
-    c.in_ok-make_commit_room.ensures.steps c.in_ok-make_commit_room.ensures.journal c.in_ok-make_commit_room.ensures.replies c.in_err-make_out_fences.ensures.same_things (ap (λ (f : FenceSet). f.slots) c.in_err-make_out_fences.ensures.same_fences ∙ c.in_ok-make_commit_room.ensures.kept.fences)
-    (c.in_ok-make_commit_room.ensures.kept.reserved ∙ ap (λ (q : Queue). q.reserved) queue) (c.in_ok-make_commit_room.ensures.kept.unread ∙ ap (λ (q : Queue). q.unread) queue)
-    c.in_ok-make_commit_room.ensures.kept.tracking
-    (λ t commits marks latches was. c.in_ok-make_commit_room.ensures.kept.tails t commits marks latches was) in
-    record { stands = stands; spare = still_spared _ _ _ _ _ _ c.in_ok-make_commit_room.ensures.steps c.stores.invariant.spare c.in_ok-make_commit_room.ensures.steps_kept c.in_ok-make_commit_room.ensures.latches_kept }
+    roomy r (stores_of c.stores.inside) c.args.client c.args.checked.now c.args.resolved.now c.stores.invariant.stands can c.make_commit_room.new.journal c.make_commit_room.new.replies c.make_commit_room.new.latches c.make_out_fences.new.things c.make_out_fences.new.fences _ _ _
+    c.make_commit_room.new.queue c.make_commit_room.new.tracker c.make_commit_room.new.tails c.make_commit_room.new.steps.items room.steps room.journal room.replies room.latches c.in_err-make_out_fences.ensures.same_things
+    (ap (λ (f : FenceSet). f.slots) c.in_err-make_out_fences.ensures.same_fences) c.index_mut.ensures.value room.kept in
+    record { stands = stands; spare = still_spared _ _ _ _ _ _ room.steps c.stores.invariant.spare room.steps_kept room.latches_kept }
 
 pub index_mut-requires-2 : goal.index_mut-requires-2
 index_mut-requires-2 c =
