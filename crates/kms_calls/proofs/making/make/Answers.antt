@@ -33,14 +33,10 @@ invariant_of-stores-in_err-reply c =
     c.in_ok-make_room.ensures.steps c.in_ok-make_room.ensures.journal c.in_ok-make_room.ensures.replies c.in_err-reply.ensures.unchanged c.in_ok-make_room-2.ensures.fences c.make_room-3.new.self c.in_ok-make_room-3.ensures.items c.in_ok-make_room-3.ensures.places in
     record { stands = stands; spare = still_spared _ _ _ _ _ _ c.in_ok-make_room.ensures.steps c.stores.invariant.spare c.in_ok-make_room.ensures.steps_kept (same_le _) }
 
-pub go_on-requires-clause-client : goal.go_on-requires-clause-client
-go_on-requires-clause-client c = (idle_maker (run_in c.stores.inside) c.args.stores.now (stores_of c.stores.inside) c.args.client c.stores.invariant.stands c.stores.view_is c.requires).is_client
-
-pub go_on-requires-clause-no_context : goal.go_on-requires-clause-no_context
-go_on-requires-clause-no_context c = (idle_maker (run_in c.stores.inside) c.args.stores.now (stores_of c.stores.inside) c.args.client c.stores.invariant.stands c.stores.view_is c.requires).no_context
-
-pub go_on-requires-clause-command : goal.go_on-requires-clause-command
-go_on-requires-clause-command c = (idle_maker (run_in c.stores.inside) c.args.stores.now (stores_of c.stores.inside) c.args.client c.stores.invariant.stands c.stores.view_is c.requires).command_fits
+pub go_on-requires : goal.go_on-requires
+go_on-requires c =
+    let there = idle_maker (run_in c.stores.inside) c.args.stores.now (stores_of c.stores.inside) c.args.client c.stores.invariant.stands c.stores.view_is c.requires in
+    record { client = there.is_client; no_context = there.no_context; command = there.command_fits }
 
 pub account-requires-clause-place : goal.account-requires-clause-place
 account-requires-clause-place c =

@@ -19,14 +19,10 @@ unreachable-requires c = never_absent (run_in c.stores.inside) (stores_of c.stor
 pub preview-reply-requires : goal.preview-reply-requires
 preview-reply-requires c = no_request c.in-Some.command.now (signal-other c.in-Some.command.now (is_found (run_in c.stores.inside) (stores_of c.stores.inside) c.args.client c.place-number.result.command is_signal c.in-Some.command.now c.stores.invariant.stands (idle_signaller (run_in c.stores.inside) c.args.stores.now (stores_of c.stores.inside) c.args.client c.stores.invariant.stands c.stores.view_is c.requires) (ap (λ (p : Place). p.command) c.place-number.ensures) (ap option_copied (sym c.in-Some.is) ∙ c.command_of.ensures)).passes)
 
-pub go_on-requires-clause-client : goal.go_on-requires-clause-client
-go_on-requires-clause-client c = (idle_signaller (run_in c.stores.inside) c.args.stores.now (stores_of c.stores.inside) c.args.client c.stores.invariant.stands c.stores.view_is c.requires).is_client
-
-pub go_on-requires-clause-no_context : goal.go_on-requires-clause-no_context
-go_on-requires-clause-no_context c = (idle_signaller (run_in c.stores.inside) c.args.stores.now (stores_of c.stores.inside) c.args.client c.stores.invariant.stands c.stores.view_is c.requires).no_context
-
-pub go_on-requires-clause-command : goal.go_on-requires-clause-command
-go_on-requires-clause-command c = (idle_signaller (run_in c.stores.inside) c.args.stores.now (stores_of c.stores.inside) c.args.client c.stores.invariant.stands c.stores.view_is c.requires).command_fits
+pub go_on-requires : goal.go_on-requires
+go_on-requires c =
+    let there = idle_signaller (run_in c.stores.inside) c.args.stores.now (stores_of c.stores.inside) c.args.client c.stores.invariant.stands c.stores.view_is c.requires in
+    record { client = there.is_client; no_context = there.no_context; command = there.command_fits }
 
 pub returns-clause-reply : goal.returns-clause-reply
 returns-clause-reply c = tells_signal (run_in c.stores.inside) c.args.stores.now (stores_of c.stores.inside) c.args.client c.in-Some.command.now c.preview-reply.result c.stores.invariant.stands c.stores.view_is (is_found (run_in c.stores.inside) (stores_of c.stores.inside) c.args.client c.place-number.result.command is_signal c.in-Some.command.now c.stores.invariant.stands (idle_signaller (run_in c.stores.inside) c.args.stores.now (stores_of c.stores.inside) c.args.client c.stores.invariant.stands c.stores.view_is c.requires) (ap (λ (p : Place). p.command) c.place-number.ensures) (ap option_copied (sym c.in-Some.is) ∙ c.command_of.ensures)).at (λ t w. c.preview-reply.ensures t w)

@@ -8,14 +8,10 @@ use Rattle.kms_stores.specs.Insides.{run_in, stores_of}
 use Rattle.kms_stores.proofs.Spared.{other_spared}
 use Rattle.kms_calls.proofs.reading.read.Goals as goal
 
-pub go_on-requires-clause-client : goal.go_on-requires-clause-client
-go_on-requires-clause-client c = (idle_reader (run_in c.stores.inside) c.args.stores.now (stores_of c.stores.inside) c.args.client c.stores.invariant.stands c.stores.view_is c.requires).is_client
-
-pub go_on-requires-clause-no_context : goal.go_on-requires-clause-no_context
-go_on-requires-clause-no_context c = (idle_reader (run_in c.stores.inside) c.args.stores.now (stores_of c.stores.inside) c.args.client c.stores.invariant.stands c.stores.view_is c.requires).no_context
-
-pub go_on-requires-clause-command : goal.go_on-requires-clause-command
-go_on-requires-clause-command c = (idle_reader (run_in c.stores.inside) c.args.stores.now (stores_of c.stores.inside) c.args.client c.stores.invariant.stands c.stores.view_is c.requires).command_fits
+pub go_on-requires : goal.go_on-requires
+go_on-requires c =
+    let there = idle_reader (run_in c.stores.inside) c.args.stores.now (stores_of c.stores.inside) c.args.client c.stores.invariant.stands c.stores.view_is c.requires in
+    record { client = there.is_client; no_context = there.no_context; command = there.command_fits }
 
 pub index_mut-requires : goal.index_mut-requires
 index_mut-requires c = let fits = has_queue (run_in c.stores.inside) c.args.stores.now (stores_of c.stores.inside) c.args.client c.stores.invariant.stands c.stores.view_is c.requires in search rules
