@@ -8,18 +8,7 @@ use kms_script::print;
 use std::alloc::{AllocError, Global};
 use std::test::Fail;
 
-const EXAMPLE: &[u8] = b"kms 1
-crtcs 1
-plane primary 0 XR24
-conn 0
-client
-buffer b 1 1 XR24 solid 00616263
-addfb f b
-mode m 1 1 1 1 1 0 1 1 1 1 0 60 0 0 tiny
-atomic 0x400 0 crtc0.ACTIVE=1 crtc0.MODE_ID=@m conn0.CRTC_ID=crtc0 plane0.FB_ID=@f plane0.CRTC_ID=crtc0 plane0.CRTC_W=1 plane0.CRTC_H=1 plane0.SRC_W=65536 plane0.SRC_H=65536
-client
-wait
-";
+const EXAMPLE: &str = kms_samples::script!(single "client\n" made lights "client\nwait\n");
 
 const NO_CLIENT: &[u8] = b"kms 1
 crtcs 4
@@ -63,7 +52,7 @@ fn printed(alloc: Global, text: &[u8]) -> Result<Seq<u8>, AllocError> {
 #[test]
 fn a_text_that_was_read_is_printed(rt: HostRuntime) -> Result<(), Fail> {
     let alloc = rt.alloc();
-    for text in [EXAMPLE, NO_CLIENT, EACH_FORM] {
+    for text in [EXAMPLE.as_bytes(), NO_CLIENT, EACH_FORM] {
         assert_eq!(rt; printed(alloc, text)?.as_slice(), text);
     }
     Ok(())

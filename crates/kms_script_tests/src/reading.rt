@@ -10,19 +10,19 @@ use std::alloc::{AllocError, Global};
 use std::test::Fail;
 
 /// The lines of a small device.
-pub(crate) const HEAD: &[u8] = b"kms 1\ncrtcs 1\nplane primary 0 XR24\nconn 0\n";
+pub(crate) const HEAD: &str = kms_samples::script!(single);
 
 /// The same device, of profile 2.
-const HEAD_2: &[u8] = b"kms 2\ncrtcs 1\nplane primary 0 XR24\nconn 0\n";
+const HEAD_2: &str = kms_samples::script!(single(2));
 
-const LIGHT: &[u8] =
-    b"client\nbuffer b 1 1 XR24 solid 00616263\naddfb f b\nmode m 1 1 1 1 1 0 1 1 1 1 0 60 0 0 tiny\natomic 0x400 0 crtc0.ACTIVE=1 crtc0.MODE_ID=@m conn0.CRTC_ID=crtc0 plane0.FB_ID=@f plane0.CRTC_ID=crtc0 plane0.CRTC_W=1 plane0.CRTC_H=1 plane0.SRC_W=65536 plane0.SRC_H=65536\n";
+/// A client that lights its CRTC.
+const LIGHT: &str = kms_samples::script!("client\n" made lights);
 
 /// The script that lights one CRTC, and a further line.
 fn light_and(alloc: Global, line: &[u8]) -> Result<Vec<u8>, AllocError> {
     let mut text = Vec::new(alloc);
-    text.extend_from_slice(HEAD)?;
-    text.extend_from_slice(LIGHT)?;
+    text.extend_from_slice(HEAD.as_bytes())?;
+    text.extend_from_slice(LIGHT.as_bytes())?;
     text.extend_from_slice(line)?;
     Ok(text)
 }
@@ -102,7 +102,7 @@ fn the_example_is_a_script(rt: HostRuntime) -> Result<(), Fail> {
 #[test]
 fn the_version_of_a_script_is_its_profile(rt: HostRuntime) -> Result<(), Fail> {
     let alloc = rt.alloc();
-    for (version, head) in [(1, HEAD), (2, HEAD_2)] {
+    for (version, head) in [(1, HEAD.as_bytes()), (2, HEAD_2.as_bytes())] {
         let script = script(alloc, head)?;
         assert_eq!(rt; script.version, version);
         assert_eq!(rt; script.topology.profile, version);
@@ -127,8 +127,8 @@ fn names_of(alloc: Global, head: &[u8], line: &[u8]) -> Result<usize, AllocError
 fn a_gamma_table_is_known_from_profile_2_on(rt: HostRuntime) -> Result<(), Fail> {
     let alloc = rt.alloc();
     let line = b"atomic 0x0 0 crtc0.GAMMA_LUT=0";
-    assert_eq!(rt; names_of(alloc, HEAD, line)?, 1);
-    assert_eq!(rt; names_of(alloc, HEAD_2, line)?, 0);
+    assert_eq!(rt; names_of(alloc, HEAD.as_bytes(), line)?, 1);
+    assert_eq!(rt; names_of(alloc, HEAD_2.as_bytes(), line)?, 0);
     Ok(())
 }
 
@@ -176,7 +176,7 @@ fn each_fault_of_a_device_is_told_at_its_line(rt: HostRuntime) -> Result<(), Fai
         let text = repeated(alloc, front, byte, 1)?;
         assert_eq!(rt; fault(alloc, text.as_slice())?, Some((3, Why::Bytes)));
     }
-    assert_eq!(rt; fault(alloc, HEAD)?, None);
+    assert_eq!(rt; fault(alloc, HEAD.as_bytes())?, None);
     Ok(())
 }
 
@@ -305,7 +305,7 @@ fn a_device_has_16_planes_and_8_connectors(rt: HostRuntime) -> Result<(), Fail> 
 #[test]
 fn a_script_has_16_clients_of_4096_commands(rt: HostRuntime) -> Result<(), Fail> {
     let alloc = rt.alloc();
-    let clients = repeated(alloc, HEAD, b"client\n", 16)?;
+    let clients = repeated(alloc, HEAD.as_bytes(), b"client\n", 16)?;
     assert_eq!(rt; fault(alloc, clients.as_slice())?, None);
     let more = repeated(alloc, clients.as_slice(), b"client\n", 1)?;
     assert_eq!(rt; fault(alloc, more.as_slice())?, Some((21, Why::Limit)));
@@ -369,7 +369,7 @@ fn a_blob_has_2048_bytes_and_a_pattern_256_words(rt: HostRuntime) -> Result<(), 
 
 /// A client that makes so many fences, `a` and their number.
 fn fences(alloc: Global, count: u32) -> Result<Vec<u8>, AllocError> {
-    let mut text = repeated(alloc, HEAD, b"client\n", 1)?;
+    let mut text = repeated(alloc, HEAD.as_bytes(), b"client\n", 1)?;
     for i in 0..count {
         let line = format!(in alloc; "fence a{i}\n")?;
         text.extend_from_slice(line.as_bytes())?;
@@ -396,7 +396,7 @@ fn a_script_makes_4096_labels(rt: HostRuntime) -> Result<(), Fail> {
 fn long_and(alloc: Global, last: &[u8]) -> Result<Vec<u8>, AllocError> {
     let line = repeated(alloc, b"atomic 0x0 0", b" crtc0.ACTIVE=1", 256)?;
     let line = repeated(alloc, line.as_slice(), b"\n", 1)?;
-    let text = repeated(alloc, HEAD, b"client\n", 1)?;
+    let text = repeated(alloc, HEAD.as_bytes(), b"client\n", 1)?;
     let text = repeated(alloc, text.as_slice(), line.as_slice(), 272)?;
     let text = repeated(alloc, text.as_slice(), b"wait\n", 100)?;
     repeated(alloc, text.as_slice(), last, 1)
@@ -438,16 +438,16 @@ fn place_behind(alloc: Global, text: &[u8]) -> Option<usize> {
 #[test]
 fn a_device_is_read_up_to_its_last_connector(rt: HostRuntime) -> Result<(), Fail> {
     let alloc = rt.alloc();
-    assert_eq!(rt; place_behind(alloc, HEAD), Some(42));
+    assert_eq!(rt; place_behind(alloc, HEAD.as_bytes()), Some(42));
     for behind in ["conn 1", "conn 0 ", "client", ""] {
-        let text = with_line(alloc, HEAD, behind)?;
+        let text = with_line(alloc, HEAD.as_bytes(), behind)?;
         assert_eq!(rt; place_behind(alloc, text.as_slice()), Some(42), "{behind}");
     }
-    let cut = repeated(alloc, HEAD, b"conn 0", 1)?;
+    let cut = repeated(alloc, HEAD.as_bytes(), b"conn 0", 1)?;
     assert_eq!(rt; place_behind(alloc, cut.as_slice()), Some(42));
-    let eight = repeated(alloc, HEAD, b"conn 0\n", 7)?;
+    let eight = repeated(alloc, HEAD.as_bytes(), b"conn 0\n", 7)?;
     assert_eq!(rt; place_behind(alloc, eight.as_slice()), Some(91));
-    let nine = repeated(alloc, HEAD, b"conn 0\n", 8)?;
+    let nine = repeated(alloc, HEAD.as_bytes(), b"conn 0\n", 8)?;
     assert_eq!(rt; place_behind(alloc, nine.as_slice()), None);
     assert_eq!(rt;
         place_behind(alloc, b"kms 1\ncrtcs 1\nplane cursor 0 AR24\n"),
@@ -468,7 +468,7 @@ fn line_alone(alloc: Global, device: &Topology, line: &[u8]) -> Result<usize, Li
 #[test]
 fn a_line_alone_puts_its_names_behind_the_others(rt: HostRuntime) -> Result<(), Fail> {
     let alloc = rt.alloc();
-    let device = script(alloc, HEAD)?.topology;
+    let device = script(alloc, HEAD.as_bytes())?.topology;
     assert_eq!(rt; line_alone(alloc, &device, b"fence a"), Ok(1));
     assert_eq!(rt;
         line_alone(alloc, &device, b"atomic 0x0 0 crtc0.x=@y crtc0.x=+y"),
@@ -528,7 +528,7 @@ fn an_index_keeps_the_names_of_lines_that_are_not_refused(rt: HostRuntime) -> Re
 #[test]
 fn a_line_alone_does_not_look_at_the_labels_of_earlier_lines(rt: HostRuntime) -> Result<(), Fail> {
     let alloc = rt.alloc();
-    let device = script(alloc, HEAD)?.topology;
+    let device = script(alloc, HEAD.as_bytes())?.topology;
     assert_eq!(rt; two_lines(alloc, &device, b"fence a", b"fence a"), Ok(1));
     assert_eq!(rt;
         two_lines(

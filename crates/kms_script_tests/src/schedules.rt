@@ -33,7 +33,7 @@ fn each_fault_of_a_schedule_is_told_at_its_line(rt: HostRuntime) -> Result<(), F
             Why::Form,
         ),
     ] {
-        let text = repeated(alloc, HEAD, behind, 1)?;
+        let text = repeated(alloc, HEAD.as_bytes(), behind, 1)?;
         let fault = part_fault(alloc, text.as_slice(), Part::Schedule)?;
         assert_eq!(rt; fault, Some((line, why)));
     }
@@ -59,14 +59,14 @@ fn the_last_line_of_a_script_is_of_its_part(rt: HostRuntime) -> Result<(), Fail>
         (Part::Report, b"report\n", None),
         (Part::Report, b"report\n\xff\n\nreport", None),
     ] {
-        let text = repeated(alloc, HEAD, behind, 1)?;
+        let text = repeated(alloc, HEAD.as_bytes(), behind, 1)?;
         assert_eq!(rt;
             part_fault(alloc, text.as_slice(), part)?,
             fault,
             "{part:?}"
         );
     }
-    let text = repeated(alloc, HEAD, b"report\nreport\n", 1)?;
+    let text = repeated(alloc, HEAD.as_bytes(), b"report\nreport\n", 1)?;
     let parsed = parsed(alloc, text.as_slice(), Part::Report)?;
     assert_eq!(rt; parsed.rest, HEAD.len() + 7);
     Ok(())
@@ -75,7 +75,7 @@ fn the_last_line_of_a_script_is_of_its_part(rt: HostRuntime) -> Result<(), Fail>
 #[test]
 fn a_printed_script_is_read_back_with_its_steps(rt: HostRuntime) -> Result<(), Fail> {
     let alloc = rt.alloc();
-    let script = script(alloc, HEAD)?;
+    let script = script(alloc, HEAD.as_bytes())?;
     let steps = [
         Step::Lock {
             client: 1,
