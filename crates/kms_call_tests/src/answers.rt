@@ -5,16 +5,10 @@ use kms_core_tests::{
     CLOSING, CROSSING, LIGHT, TAKE, WRITE_0, call_decision, follow, holds, lighting, started_from,
 };
 use kms_model::{Command, Look, Lookups, NoMemory, ObjId, Reply, Step, Ticket};
+use kms_samples::{CONN, CRTC, PLANE};
 use kms_single_calls::{call_lock, call_relock, call_step, context_with, decide};
 use std::alloc::Global;
 use std::test::Fail;
-
-/// The CRTC, the plane and the connector of the device with one of each.
-const CRTC: ObjId = ObjId(100);
-
-const PLANE: ObjId = ObjId(200);
-
-const CONN: ObjId = ObjId(300);
 
 /// What the labels of the request name at which a client is idle.
 fn look_up(core: &Core, alloc: Global, client: u32) -> Result<Lookups, Fail> {

@@ -5,6 +5,7 @@ use kms_core_tests::{
     lighting_script, next_of, started_from,
 };
 use kms_model::{NoMemory, Step};
+use kms_samples::script;
 use std::alloc::Global;
 use std::test::Fail;
 
@@ -80,7 +81,7 @@ fn call_lit(rt: &impl AllocGlobal, more: &str) -> Result<(), Fail> {
 /// a test alone, and a dead one.
 const TEXTS: [&str; 6] = [
     "atomic 0x100 0 plane0.alpha=1\n",
-    "mode m2 1 1 1 1 1 0 1 1 1 1 0 60 0 0 tiny\natomic 0x0 0 crtc0.MODE_ID=@m2\n",
+    script!(tiny("m2") "atomic 0x0 0 crtc0.MODE_ID=@m2\n"),
     FLIPS,
     OTHER,
     "destroy m\natomic 0x0 0 plane0.alpha=65535\natomic 0x0 0 crtc0.MODE_ID=@m\n",

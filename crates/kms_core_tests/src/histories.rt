@@ -4,6 +4,7 @@ use crate::courses::{LIGHTS, follow, play, play_lighting, play_lit};
 use crate::pieces::{CHANGE, END_1, LIGHT, LIT, LIT_TWICE, TAKE, WRITE_0, WRITE_1};
 use crate::texts::{GOES_OFF, SINGLE, WRONG, lighting_script, started_from};
 use kms_core::Core;
+use kms_samples::script;
 use std::alloc::{AllocError, Global};
 use std::test::Fail;
 
@@ -45,7 +46,7 @@ fn a_client_lights_the_crtc(rt: HostRuntime) -> Result<(), Fail> {
 
 #[test]
 fn an_equal_mode_in_another_blob_is_no_modeset(rt: HostRuntime) -> Result<(), Fail> {
-    let more = "mode m2 1 1 1 1 1 0 1 1 1 1 0 60 0 0 tiny\natomic 0x0 0 crtc0.MODE_ID=@m2\n";
+    let more = script!(tiny("m2") "atomic 0x0 0 crtc0.MODE_ID=@m2\n");
     let course = [
         "T make 1\nT begin 1\nT lock 1 crtc0\nT swap 1",
         "T claim 1\nT write 1 crtc0\nT flush 1 crtc0\nT hwdone 1",

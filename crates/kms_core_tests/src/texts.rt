@@ -3,22 +3,21 @@ ghost use Rattle.std.specs.Prelude.{◌≡◌, IfOk, []};
 
 use kms_core::Core;
 use kms_model::Part;
+use kms_samples::script;
 use kms_script::parse;
 use std::test::Fail;
 
 /// A device of one CRTC, one plane and one connector.
-pub const SINGLE: &str = "kms 1\ncrtcs 1\nplane primary 0 XR24\nconn 0\n";
+pub const SINGLE: &str = script!(single);
 
 /// A device of two CRTCs, a plane for both and a connector for each.
-pub const PAIR: &str = "kms 1\ncrtcs 2\nplane overlay 0,1 XR24\nconn 0\nconn 1\n";
+pub const PAIR: &str = script!(sharing);
 
 /// A buffer of one pixel, a framebuffer of it and a mode of that size: a client's first three commands.
-pub const MADE: &str =
-    "buffer b 1 1 XR24 solid 00616263\naddfb f b\nmode m 1 1 1 1 1 0 1 1 1 1 0 60 0 0 tiny\n";
+pub const MADE: &str = script!(made);
 
 /// What a request sets that lights the first CRTC.
-pub const SET: &str =
-    "crtc0.ACTIVE=1 crtc0.MODE_ID=@m conn0.CRTC_ID=crtc0 plane0.FB_ID=@f plane0.CRTC_ID=crtc0 plane0.CRTC_W=1 plane0.CRTC_H=1 plane0.SRC_W=65536 plane0.SRC_H=65536";
+pub const SET: &str = script!(light);
 
 /// The lines of a client that turns the first CRTC off and reads the event of that.
 pub const GOES_OFF: &str =
@@ -33,8 +32,9 @@ pub const AWAITS: &str =
     "atomic 0x200 0 plane0.alpha=65535 crtc0.OUT_FENCE_PTR=+o\natomic 0x0 0 plane0.alpha=65535 plane0.IN_FENCE_FD=@o\nfence n\natomic 0x0 0 plane0.alpha=65535 plane0.IN_FENCE_FD=@n\n";
 
 /// The lines of a client that flips to another framebuffer, reads the event, closes the first and reads again.
-pub const FLIPS: &str =
-    "buffer b2 1 1 XR24 solid 00666f6f\naddfb f2 b2\natomic 0x1 7 plane0.FB_ID=@f2\nwait\nclosefb f\nwait\n";
+pub const FLIPS: &str = script!(
+    pixel("b2", "f2", "00666f6f") "atomic 0x1 7 plane0.FB_ID=@f2\nwait\nclosefb f\nwait\n"
+);
 
 /// The lines of a client that has no right to the things of another, whose last commands are refused.
 pub const OTHER: &str =
@@ -47,16 +47,16 @@ pub const MOVING: [&str; 7] = [
     MADE,
     "atomic 0x400 0 ",
     SET,
-    " crtc1.ACTIVE=1 crtc1.MODE_ID=@m conn1.CRTC_ID=crtc1\n",
+    script!(" " screen(1, "m") "\n"),
     "atomic 0x200 0 plane0.FB_ID=0 plane0.CRTC_ID=0\nclient\natomic 0x0 0 plane0.FB_ID=@f plane0.CRTC_ID=crtc1\n",
 ];
 
 /// A client shows the framebuffer of another, which closes it.
 pub const CLOSING: [&str; 4] = [
     SINGLE,
-    "client\nmode m 1 1 1 1 1 0 1 1 1 1 0 60 0 0 tiny\natomic 0x400 0 ",
+    script!("client\n" tiny("m") "atomic 0x400 0 "),
     SET,
-    "\nclient\nbuffer b 1 1 XR24 solid 00616263\naddfb f b\nclosefb f\n",
+    script!("\nclient\n" pixel("b", "f", "00616263") "closefb f\n"),
 ];
 
 /// Two clients test the same.

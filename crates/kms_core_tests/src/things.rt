@@ -4,6 +4,7 @@ use crate::courses::{follow, holds, play_lit};
 use crate::pieces::{CHANGE, END_1, LIT_TWICE, TAIL_2, WRITE_1};
 use crate::texts::{AWAITS, FLIPS, OTHER, lighting};
 use kms_core::Core;
+use kms_samples::script;
 use std::alloc::Global;
 use std::test::Fail;
 
@@ -50,8 +51,7 @@ fn a_framebuffer_is_freed_after_a_flip(rt: HostRuntime) -> Result<(), Fail> {
 /// A framebuffer that was closed before is freed where the commit is cleaned after which nothing names it.
 #[test]
 fn a_closed_framebuffer_is_freed_by_a_cleanup(rt: HostRuntime) -> Result<(), Fail> {
-    let more =
-        "buffer b2 1 1 XR24 solid 00666f6f\naddfb f2 b2\nclosefb f\natomic 0x0 0 plane0.FB_ID=@f2\n";
+    let more = script!(pixel("b2", "f2", "00666f6f") "closefb f\natomic 0x0 0 plane0.FB_ID=@f2\n");
     let course = [
         "T make 1\nT make 1\nT make 1",
         CHANGE,

@@ -1,4 +1,5 @@
 //! The script of the crowd.
+use kms_samples::script;
 use std::alloc::Global;
 use std::test::Fail;
 
@@ -28,9 +29,7 @@ fn device(alloc: Global) -> Result<String, Fail> {
 
 /// The commands of the first client that light all CRTCs, with a plane of each client on them: its first commit.
 fn light(alloc: Global) -> Result<String, Fail> {
-    let mut text = format!(in alloc;
-        "buffer b 1 1 XR24 solid 00616263\naddfb f b\nmode m 1 1 1 1 1 0 1 1 1 1 0 60 0 0 tiny\natomic 0x400 0"
-    )?;
+    let mut text = String::from_str(alloc, script!(made "atomic 0x400 0"))?;
     for index in 0..CRTCS {
         let one = format!(in alloc;
             " crtc{index}.ACTIVE=1 crtc{index}.MODE_ID=@m conn{index}.CRTC_ID=crtc{index}"

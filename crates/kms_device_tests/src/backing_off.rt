@@ -3,12 +3,9 @@ use crate::opening::{assert_again, assert_calls, closed, opened};
 use crate::texts::TESTING;
 use crate::{Call, Told};
 use kms_core::Core;
-use kms_model::{Answered, Kind, ObjId, Reply, Step, Ticket};
+use kms_model::{Answered, Kind, Reply, Step, Ticket};
+use kms_samples::{CRTC, PLANE};
 use std::process::Abort;
-
-const CRTC: ObjId = ObjId(100);
-
-const PLANE: ObjId = ObjId(200);
 
 /// Two clients that take the same objects in opposite orders, with what each is told. The second is the younger.
 fn meeting() -> [(u32, Call, Told); 20] {

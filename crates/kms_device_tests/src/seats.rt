@@ -7,13 +7,10 @@ use crate::texts::{LIGHTING, MAKING};
 use crate::{Call, Told};
 use kms_core::Core;
 use kms_device::{Device, Pass};
-use kms_model::{Kind, ObjId, Reply, Step};
+use kms_model::{Kind, Reply, Step};
+use kms_samples::{CRTC, PLANE};
 use std::process::Abort;
 use std::sync::Wait;
-
-const CRTC: ObjId = ObjId(100);
-
-const PLANE: ObjId = ObjId(200);
 
 /// The calls by which the client lights the CRTC, all through the first pass.
 fn lighting() -> [(u32, Call, Told); 13] {

@@ -10,6 +10,7 @@ use kms_device::{Device, Pass};
 use kms_io::{Gate, Point};
 use kms_model::{NoMemory, Part, Seq};
 use kms_pool::{Player, Turn};
+use kms_samples::script;
 use kms_script::parse;
 use std::alloc::{AllocGlobal, Global};
 use std::process::Abort;
@@ -19,8 +20,11 @@ use std::test::Fail;
 
 /// Two clients of one CRTC. The first lights it, dims its plane in a commit that is waited for, and reads the event; the second
 /// signals the fence that the commit waits for, once it has made a buffer.
-const TWO: &str =
-    "kms 1\ncrtcs 1\nplane primary 0 XR24\nconn 0\nclient\nbuffer b 1 1 XR24 solid 00616263\naddfb f b\nmode m 1 1 1 1 1 0 1 1 1 1 0 60 0 0 tiny\nfence n\natomic 0x400 0 crtc0.ACTIVE=1 crtc0.MODE_ID=@m conn0.CRTC_ID=crtc0 plane0.FB_ID=@f plane0.CRTC_ID=crtc0 plane0.CRTC_W=1 plane0.CRTC_H=1 plane0.SRC_W=65536 plane0.SRC_H=65536\natomic 0x1 7 plane0.alpha=9 plane0.IN_FENCE_FD=@n\nwait\nclient\nbuffer c 1 1 XR24 solid 00616263\natomic 0x100 0 plane0.alpha=8\nsignal n\n";
+const TWO: &str = script!(
+    single
+    "client\n" made "fence n\n" lights "atomic 0x1 7 plane0.alpha=9 plane0.IN_FENCE_FD=@n\nwait\n"
+    "client\nbuffer c 1 1 XR24 solid 00616263\natomic 0x100 0 plane0.alpha=8\nsignal n\n"
+);
 
 /// The number of the worker.
 const WORKER: u32 = 3;

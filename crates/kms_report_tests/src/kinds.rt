@@ -5,6 +5,7 @@ use kms_core::Core;
 use kms_core_tests::{
     CHANGE, END_0, END_1, FLIPS, GOES_OFF, LIGHT, WRITE_0, WRITE_1, follow, lighting, started,
 };
+use kms_samples::script;
 use std::process::Abort;
 use std::test::Fail;
 
@@ -67,8 +68,11 @@ fn a_crtc_goes_off_with(rt: &(impl Abort + AllocGlobal), core: &mut Core) -> Res
 }
 
 /// Two clients, of which each commits to a CRTC of its own.
-const TWO: &str =
-    "kms 1\ncrtcs 2\nplane primary 0 XR24\nplane primary 1 XR24\nconn 0\nconn 1\nclient\nmode m 1 1 1 1 1 0 1 1 1 1 0 60 0 0 tiny\natomic 0x601 5 crtc0.ACTIVE=1 crtc0.MODE_ID=@m conn0.CRTC_ID=crtc0\nwait\nclient\nmode n 1 1 1 1 1 0 1 1 1 1 0 60 0 0 tiny\natomic 0x601 6 crtc1.ACTIVE=1 crtc1.MODE_ID=@n conn1.CRTC_ID=crtc1\nwait\n";
+const TWO: &str = script!(
+    screens
+    "client\n" tiny("m") "atomic 0x601 5 " screen(0, "m") "\nwait\n"
+    "client\n" tiny("n") "atomic 0x601 6 " screen(1, "n") "\nwait\n"
+);
 
 /// The steps of both clients, where the second is always before the first.
 const CROSSED: &str =

@@ -3,16 +3,19 @@
 use crate::{End, ReplayError, end_of, finish, replay};
 use kms_core::Core;
 use kms_model::{NoMemory, Part, Step};
+use kms_samples::script;
 use kms_script::{parse, read_step};
 use std::process::Abort;
 use std::test::Fail;
 
 /// A device of one CRTC, and no client.
-const BARE: &str = "kms 1\ncrtcs 1\nplane primary 0 XR24\nconn 0\n";
+const BARE: &str = script!(single);
 
-/// A client that lights the CRTC by its fourth command.
-const LIGHTS: &str =
-    "client\nbuffer b 1 1 XR24 solid 00616263\naddfb f b\nmode m 1 1 1 1 1 0 1 1 1 1 0 60 0 0 tiny\natomic 0x400 0 conn0.CRTC_ID=crtc0 crtc0.ACTIVE=1 crtc0.MODE_ID=@m plane0.FB_ID=@f plane0.CRTC_ID=crtc0 plane0.CRTC_W=1 plane0.CRTC_H=1 plane0.SRC_W=65536 plane0.SRC_H=65536\n";
+/// A client that lights the CRTC by its fourth command, which names the connector before the CRTC.
+const LIGHTS: &str = script!(
+    "client\n" made
+    "atomic 0x400 0 conn0.CRTC_ID=crtc0 crtc0.ACTIVE=1 crtc0.MODE_ID=@m " plane(0, 0, "f") "\n"
+);
 
 /// What it does in its first three turns, each of which makes a thing.
 const MADE: &str = "T make 1\nT make 1\nT make 1\n";

@@ -2,6 +2,7 @@
 use crate::asserting::{FRAMES, assert_answers, assert_shows, lit};
 use crate::texts::{ABC, BLACK, HEAD, LIGHTS, LIT, LIT_REPLIES, MADE, MADE_MODE, SET, UNSET};
 use kms_run::Status;
+use kms_samples::script;
 use std::test::Fail;
 
 #[test]
@@ -44,12 +45,13 @@ fn one_plane_stands_over_another(rt: HostRuntime) -> Result<(), Fail> {
     assert_shows(
         &rt,
         &[
-            "kms 1\ncrtcs 1\nplane primary 0 XR24\nplane overlay 0 XR24\nconn 0\nclient\nbuffer b 1 1 XR24 solid 00ff0000\naddfb f b\n",
+            "kms 1\ncrtcs 1\nplane primary 0 XR24\nplane overlay 0 XR24\nconn 0\nclient\n",
+            script!(pixel("b", "f", "00ff0000")),
             MADE_MODE,
-            "buffer c 1 1 XR24 solid 000000ff\naddfb g c\n",
+            script!(pixel("c", "g", "000000ff")),
             LIGHTS,
             SET,
-            " plane0.zpos=3 plane1.zpos=3 plane1.alpha=32768 plane1.FB_ID=@g plane1.CRTC_ID=crtc0 plane1.CRTC_W=1 plane1.CRTC_H=1 plane1.SRC_W=65536 plane1.SRC_H=65536\n",
+            script!(" plane0.zpos=3 plane1.zpos=3 plane1.alpha=32768 " plane(1, 0, "g") "\n"),
         ],
         &[
             "J 1 1\nJ 1 2\nJ 1 3\nJ 1 4\nJ 1 5\nJ 1 6\nR 1 1 0 made 1000\nR 1 2 1 made 1001\nR 1 3 2 made 1002\nR 1 4 3 made 1003\nR 1 5 4 made 1004\nR 1 6 5 commit 0\nL 0 0 1 71605867752340a80a59d2364ff867db8e0d5180cd83bfa62a20d65352a0af4e\nP3\n1 1\n255\n127 0 128\nD drained\n",

@@ -2,6 +2,7 @@
 use crate::asserting::{assert_answers, assert_drains, joined};
 use crate::texts::{ABC, HEAD, LIGHTS, LIT, LIT_REPLIES, MADE, MADE_MODE, MADE_ONLY, SET};
 use kms_run::Status;
+use kms_samples::script;
 use std::alloc::AllocGlobal;
 use std::process::Abort;
 use std::sync::Wait;
@@ -68,10 +69,7 @@ fn refusals_of_parts_are_reported(rt: HostRuntime) -> Result<(), Fail> {
         ("plane0.FB_ID=@f", "EINVAL 10"),
         ("crtc0.ACTIVE=1", "EINVAL 16"),
         ("crtc0.MODE_ID=@m", "EINVAL 20"),
-        (
-            "plane0.FB_ID=@f plane0.CRTC_ID=crtc0 plane0.CRTC_W=1 plane0.CRTC_H=1 plane0.SRC_W=65536 plane0.SRC_H=65536",
-            "EINVAL 21",
-        ),
+        (script!(plane(0, 0, "f")), "EINVAL 21"),
     ];
     assert_first_refused(&rt, &rows)
 }

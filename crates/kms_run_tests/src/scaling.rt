@@ -2,6 +2,7 @@
 use crate::asserting::{assert_answers, assert_drains, assert_replays, assert_shows, joined};
 use crate::texts::{ABC, LIGHTS, LIT, LIT_REPLIES, LIT_STEPS, MADE, SET, TAIL};
 use kms_run::Status;
+use kms_samples::script;
 use std::alloc::{AllocError, AllocGlobal, Global};
 use std::process::Abort;
 use std::sync::Wait;
@@ -9,22 +10,24 @@ use std::test::Fail;
 use std::thread::Threads;
 
 /// A device of profile 1 with one CRTC, one plane and one connector.
-const PROFILE_1: &str = "kms 1\ncrtcs 1\nplane primary 0 XR24\nconn 0\n";
+const PROFILE_1: &str = script!(single);
 
 /// The same of profile 2.
-const PROFILE_2: &str = "kms 2\ncrtcs 1\nplane primary 0 XR24\nconn 0\n";
+const PROFILE_2: &str = script!(single(2));
 
 /// A client that makes a framebuffer of two pixels and a mode of four.
 const MADE_WIDE: &str =
     "client\nbuffer b 2 1 XR24 pixels 00616263 00666f6f\naddfb f b\nmode m 1 4 4 4 4 0 1 1 1 1 0 60 0 0 wide\n";
 
 /// The same with a mode of one pixel.
-const MADE_NARROW: &str =
-    "client\nbuffer b 2 1 XR24 pixels 00616263 00666f6f\naddfb f b\nmode m 1 1 1 1 1 0 1 1 1 1 0 60 0 0 tiny\n";
+const MADE_NARROW: &str = script!(
+    "client\nbuffer b 2 1 XR24 pixels 00616263 00666f6f\naddfb f b\n" tiny("m")
+);
 
 /// What a request sets that lights the CRTC, but for the columns of the plane.
-const SET_ROWS: &str =
-    "crtc0.ACTIVE=1 crtc0.MODE_ID=@m conn0.CRTC_ID=crtc0 plane0.FB_ID=@f plane0.CRTC_ID=crtc0 plane0.CRTC_H=1 plane0.SRC_H=65536";
+const SET_ROWS: &str = script!(
+    screen(0, "m") " plane0.FB_ID=@f plane0.CRTC_ID=crtc0 plane0.CRTC_H=1 plane0.SRC_H=65536"
+);
 
 /// The lines before a client's fourth reply.
 const MADE_REPLIES: &str = "R 1 1 0 made 1000\nR 1 2 1 made 1001\nR 1 3 2 made 1002\n";

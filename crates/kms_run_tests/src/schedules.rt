@@ -4,6 +4,7 @@ use crate::texts::{
     ABC, BLACK, HEAD, LIGHTS, LIT, LIT_REPLIES, LIT_STEPS, MADE, MADE_MODE, SET, TAIL,
 };
 use kms_run::Status;
+use kms_samples::script;
 use std::test::Fail;
 
 /// A script that lights the CRTC without waiting for it, up to what the request sets.
@@ -113,12 +114,13 @@ fn a_tail_is_not_claimed_before_the_flip(rt: HostRuntime) -> Result<(), Fail> {
 }
 
 /// The first client lights two CRTCs and takes its plane off the first; the second one shows the plane on the other.
-const MOVING: [&str; 5] = [
-    "kms 1\ncrtcs 2\nplane overlay 0,1 XR24\nconn 0\nconn 1\n",
+const MOVING: [&str; 6] = [
+    script!(sharing),
     MADE,
     LIGHTS,
     SET,
-    " crtc1.ACTIVE=1 crtc1.MODE_ID=@m conn1.CRTC_ID=crtc1\natomic 0x200 0 plane0.FB_ID=0 plane0.CRTC_ID=0\nclient\natomic 0x0 0 plane0.FB_ID=@f plane0.CRTC_ID=crtc1\n",
+    script!(" " screen(1, "m") "\n"),
+    "atomic 0x200 0 plane0.FB_ID=0 plane0.CRTC_ID=0\nclient\natomic 0x0 0 plane0.FB_ID=@f plane0.CRTC_ID=crtc1\n",
 ];
 
 /// The steps up to the swaps that move the plane.
@@ -166,7 +168,7 @@ const SHARED: [&str; 6] = [
     MADE_MODE,
     LIGHTS,
     SET,
-    "\nclient\nbuffer b 1 1 XR24 solid 00616263\naddfb f b\nclosefb f\n",
+    script!("\nclient\n" pixel("b", "f", "00616263") "closefb f\n"),
 ];
 
 /// The steps up to where it is closed, while the request has its locks.

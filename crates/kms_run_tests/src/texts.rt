@@ -1,18 +1,17 @@
 //! The scripts and the lines that tests are put together from.
+use kms_samples::script;
 
 /// A device with one CRTC, one plane and one connector.
-pub(crate) const HEAD: &str = "kms 1\ncrtcs 1\nplane primary 0 XR24\nconn 0\n";
+pub(crate) const HEAD: &str = script!(single);
 
 /// A client that makes a buffer, a framebuffer and a mode of one pixel.
-pub(crate) const MADE: &str =
-    "client\nbuffer b 1 1 XR24 solid 00616263\naddfb f b\nmode m 1 1 1 1 1 0 1 1 1 1 0 60 0 0 tiny\n";
+pub(crate) const MADE: &str = script!("client\n" made);
 
 /// The line of a mode of one pixel.
-pub(crate) const MADE_MODE: &str = "mode m 1 1 1 1 1 0 1 1 1 1 0 60 0 0 tiny\n";
+pub(crate) const MADE_MODE: &str = script!(tiny("m"));
 
 /// What a request sets that lights the CRTC.
-pub(crate) const SET: &str =
-    "crtc0.ACTIVE=1 crtc0.MODE_ID=@m conn0.CRTC_ID=crtc0 plane0.FB_ID=@f plane0.CRTC_ID=crtc0 plane0.CRTC_W=1 plane0.CRTC_H=1 plane0.SRC_W=65536 plane0.SRC_H=65536";
+pub(crate) const SET: &str = script!(light);
 
 /// What a request sets that puts the CRTC out again.
 pub(crate) const UNSET: &str =
@@ -48,8 +47,11 @@ pub(crate) const WAITING: &str =
     "atomic 0x200 0 plane0.alpha=65535 crtc0.OUT_FENCE_PTR=+o\natomic 0x0 0 plane0.alpha=65535 plane0.IN_FENCE_FD=@o\nfence n\natomic 0x0 0 plane0.alpha=65535 plane0.IN_FENCE_FD=@n\n";
 
 /// Two clients, each of which lights a CRTC with its fourth command.
-pub(crate) const TWO_SCREENS: &str =
-    "kms 1\ncrtcs 2\nplane primary 0 XR24\nplane primary 1 XR24\nconn 0\nconn 1\nclient\nbuffer b 1 1 XR24 solid 00616263\naddfb f b\nmode m 1 1 1 1 1 0 1 1 1 1 0 60 0 0 tiny\natomic 0x400 0 crtc1.ACTIVE=1 crtc1.MODE_ID=@m conn1.CRTC_ID=crtc1 plane1.FB_ID=@f plane1.CRTC_ID=crtc1 plane1.CRTC_W=1 plane1.CRTC_H=1 plane1.SRC_W=65536 plane1.SRC_H=65536\nclient\nbuffer b2 1 1 XR24 solid 00666f6f\naddfb f2 b2\nmode m2 1 1 1 1 1 0 1 1 1 1 0 60 0 0 tiny\natomic 0x400 0 crtc0.ACTIVE=1 crtc0.MODE_ID=@m2 conn0.CRTC_ID=crtc0 plane0.FB_ID=@f2 plane0.CRTC_ID=crtc0 plane0.CRTC_W=1 plane0.CRTC_H=1 plane0.SRC_W=65536 plane0.SRC_H=65536\n";
+pub(crate) const TWO_SCREENS: &str = script!(
+    screens
+    "client\n" made lights(1, "f", "m")
+    "client\n" pixel("b2", "f2", "00666f6f") tiny("m2") lights(0, "f2", "m2")
+);
 
 /// A client's first request, up to what it sets.
 pub(crate) const LIGHTS: &str = "atomic 0x400 0 ";

@@ -7,6 +7,7 @@ use crate::texts::{
     WAITING,
 };
 use kms_run::Status;
+use kms_samples::script;
 use std::alloc::{AllocError, AllocGlobal, Global};
 use std::test::Fail;
 
@@ -30,7 +31,7 @@ fn a_device_without_clients_is_drained(rt: HostRuntime) -> Result<(), Fail> {
 fn same_mode_is_no_modeset(rt: HostRuntime) -> Result<(), Fail> {
     assert_lit_drains(
         &rt,
-        &["mode m2 1 1 1 1 1 0 1 1 1 1 0 60 0 0 tiny\natomic 0x0 0 crtc0.MODE_ID=@m2\n"],
+        &[script!(tiny("m2") "atomic 0x0 0 crtc0.MODE_ID=@m2\n")],
         &[
             LIT,
             "J 1 5\nJ 1 6\n",
@@ -149,7 +150,7 @@ fn framebuffers_are_freed_in_order(rt: HostRuntime) -> Result<(), Fail> {
             MADE,
             LIGHTS,
             SET,
-            "\naddfb g b\natomic 0x0 0 plane0.FB_ID=@g plane1.FB_ID=@f plane1.CRTC_ID=crtc0 plane1.CRTC_W=1 plane1.CRTC_H=1 plane1.SRC_W=65536 plane1.SRC_H=65536\nclosefb g\nclosefb f\n",
+            script!("\naddfb g b\natomic 0x0 0 plane0.FB_ID=@g " plane(1, 0, "f") "\nclosefb g\nclosefb f\n"),
             LIGHTS,
             UNSET,
             " plane1.FB_ID=0 plane1.CRTC_ID=0\n",
@@ -230,7 +231,7 @@ fn an_event_is_read_once(rt: HostRuntime) -> Result<(), Fail> {
     assert_lit_drains(
         &rt,
         &[
-            "buffer b2 1 1 XR24 solid 00666f6f\naddfb f2 b2\natomic 0x1 7 plane0.FB_ID=@f2\nwait\nclosefb f\nwait\n",
+            script!(pixel("b2", "f2", "00666f6f") "atomic 0x1 7 plane0.FB_ID=@f2\nwait\nclosefb f\nwait\n"),
         ],
         &[
             LIT,
