@@ -68,8 +68,8 @@ fn objects_held(alloc: Global, steps: &[Step], client: u32) -> Result<Vec<ObjId>
     Ok(holding.objects)
 }
 
-/// Decides the request of a client in the context that it has, with what its labels name now. None where it has no context, and
-/// where more objects are needed.
+/// Decides the request of a client, by its number from 1, in the context that it has, with what its labels name now.
+/// None where it has no context, and where more objects are needed.
 pub fn call_decision(
     core: &mut Core,
     alloc: Global,

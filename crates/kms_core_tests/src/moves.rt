@@ -36,7 +36,7 @@ pub fn do_steps(core: &mut Core, alloc: Global, steps: &[Step]) -> Result<Option
     Ok(None)
 }
 
-/// Where a client stands, if the script has it.
+/// Where a client, by its number from 1, stands, if the script has it.
 pub fn place_of(core: &Core, client: u32) -> Option<Place>
     ensures there { 1 ≤ client → client ≤ length core.now.script.clients → IsSome result }
     ensures place { IfSome result (λ place. place ≡ place_at (machine core.now) client) }
@@ -47,7 +47,7 @@ pub fn place_of(core: &Core, client: u32) -> Option<Place>
     Some(core.place(client))
 }
 
-/// What is next for a client in the order of one thread. None for one that the script does not have.
+/// What is next for a client, by its number from 1, in the order of one thread. None for one that the script does not have.
 pub fn next_of(core: &Core, client: u32) -> Option<Step>
     ensures { 1 ≤ client → client ≤ length core.now.script.clients
         → result ≡ client_step core.now.script (machine core.now) client }
@@ -58,7 +58,7 @@ pub fn next_of(core: &Core, client: u32) -> Option<Step>
     core.client_step(client)
 }
 
-/// Whether one of the first four CRTCs latches at its next vertical blanking. Others do not.
+/// Whether one of the first four CRTCs, by its index, latches at its next vertical blanking. Others do not.
 pub fn goes(core: &Core, crtc: u32) -> bool
     ensures { result ≡ (nat_lt crtc 4
         && is_some (go_at (machine core.now).device (object_id Crtc crtc))) }

@@ -34,7 +34,7 @@ pub fn plane(index: u32) -> Object
     }
 }
 
-/// A client asks for the lock of an object.
+/// A client, by its number from 1, asks for the lock of an object.
 pub fn lock(client: u32, object: Object) -> Step
     ensures { result ≡ step.Lock client object.kind object.index }
 {
@@ -45,7 +45,7 @@ pub fn lock(client: u32, object: Object) -> Step
     }
 }
 
-/// A commit writes the registers of an object.
+/// A commit, by its number from 0, writes the registers of an object.
 pub fn write(commit: u32, object: Object) -> Step
     ensures { result ≡ step.Write commit object.kind object.index }
 {
@@ -56,7 +56,7 @@ pub fn write(commit: u32, object: Object) -> Step
     }
 }
 
-/// A commit flushes a CRTC.
+/// A commit, by its number from 0, flushes a CRTC.
 pub fn flush(commit: u32, object: Object) -> Step
     ensures { result ≡ step.Flush commit object.kind object.index }
 {

@@ -30,13 +30,13 @@ pub enum Call {
     Relock,
     /// `claim`.
     Claim,
-    /// `write` of an object for a commit.
+    /// `write` of an object for a commit, by its number from 0.
     Write(u32, ObjId),
-    /// `flush` of the CRTC with an index, which comes second, for a commit.
+    /// `flush` of the CRTC with an index, which comes second, for a commit, by its number from 0.
     Flush(u32, u32),
-    /// `hw_done` of a commit.
+    /// `hw_done` of a commit, by its number from 0.
     HwDone(u32),
-    /// `cleanup` of a commit.
+    /// `cleanup` of a commit, by its number from 0.
     Cleanup(u32),
     /// `vblank` of the CRTC with an index.
     Vblank(u32),

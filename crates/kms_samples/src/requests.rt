@@ -47,7 +47,7 @@ pub fn light(fb: u32, mode: u32) -> [Assign; 9]
     ]
 }
 
-/// A request with these flags that sets what `first` and then `more` say.
+/// A request with these flags, a set of bits, that sets what `first` and then `more` say.
 pub fn request(
     alloc: Global,
     flags: u32,

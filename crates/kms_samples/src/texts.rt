@@ -8,7 +8,7 @@
 /// | `single`, `single(PROFILE)` | the head of a script whose device is [`single`](crate::single), of profile 1 or this one |
 /// | `screens` | the head of a script with two CRTCs, each with a primary plane and a connector of its own |
 /// | `sharing` | the head of a script with two CRTCs, an overlay plane of both and a connector of each |
-/// | `tiny(MODE)` | the line that makes the mode [`tiny`](crate::tiny) under a label |
+/// | `tiny(MODE)` | the line that makes the mode [`tiny`](crate::tiny) under a label, with the name `tiny` |
 /// | `pixel(BUFFER, FB, COLOUR)` | the lines that make a buffer of one pixel of a colour, and a framebuffer of it |
 /// | `made` | the lines that make the pixel `00616263` as `b`, its framebuffer `f` and the mode `m` |
 /// | `screen(CRTC, MODE)` | what a request sets that turns a CRTC on, with the connector of the same index |

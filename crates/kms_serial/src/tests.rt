@@ -157,7 +157,8 @@ fn assert_answers_of(
     assert_answers(rt, alloc, &mut device, cases)
 }
 
-/// Refusals 1 to 7, 9 and 17, with the empty request that is committed among them.
+/// From `UNKNOWN_FLAG` to `INVALID_VALUE`, `EVENT_WITHOUT_CRTC` and `SIGNAL_WHILE_OFF`, with the empty request that is committed
+/// among them.
 #[test]
 fn a_request_is_refused_by_its_flags_and_assignments(rt: HostRuntime) -> Result<(), Fail> {
     let a = rt.alloc();
@@ -370,7 +371,7 @@ fn a_fifth_large_buffer_is_denied(rt: HostRuntime) -> Result<(), Fail> {
     Ok(())
 }
 
-/// A plane takes one fence of a request (refusal 8). A fence that a command made is signalled, and an out-fence, which
+/// A plane takes one fence of a request (`SECOND_IN_FENCE`). A fence that a command made is signalled, and an out-fence, which
 /// its commit made, is not.
 #[test]
 fn a_plane_takes_one_fence_and_an_out_fence_is_not_signalled(rt: HostRuntime) -> Result<(), Fail> {
