@@ -1,11 +1,12 @@
 -- What is in a store of framebuffers has a reference.
-use Rattle.std.proofs.Common.{◌≡◌, ◌≢◌, ℕ, ◌<◌, List, [], ◌∷◌, ◌++◌, Some, Bool, true, false, cond, inl, inr, subst, arith}
+use Rattle.std.proofs.Common.{◌≡◌, ◌≢◌, ℕ, ◌<◌, List, [], ◌∷◌, ◌++◌, Some, inl, inr, subst, arith}
 use Rattle.std.specs.Prelude.{not, ◌==◌}
 use Rattle.std.proofs.lemmas.Bool.Decides.{eqb_tells}
 use Rattle.kms_model.specs.declared.stores.Framebuffer.{Framebuffer}
 use Rattle.kms_model.specs.declared.tables.Slot.{Slot}
 use Rattle.kms_model.specs.Stores.Tables.{put_in, value_with_id, with_value, without_id, IsRising, AreBelow}
 use Rattle.kms_model.proofs.TableLemmas.{IsRising-with_value, IsRising-without_id, IsRising-push}
+use Rattle.kms_model.proofs.Facts.{cond_holds}
 use Rattle.kms_buffers.specs.Within.{AreStored}
 use Rattle.kms_model.specs.Stores.Kept.{AreCounted, with_fewer}
 
@@ -24,15 +25,11 @@ pub AreCounted-with_value : (fbs : List (Slot Framebuffer)) (id : ℕ) (fb : Fra
 AreCounted-with_value [] id fb counted new = tt
 AreCounted-with_value (s ∷ fbs) id fb counted new = (put_counted s id fb new counted.0, AreCounted-with_value fbs id fb counted.1 new)
 
-either : {X : Type 0} (P : X → Type 0) (b : Bool) (x y : X) → P x → P y → P (cond b x y)
-either P true x y first second = first
-either P false x y first second = second
-
 pub AreCounted-without_id : (fbs : List (Slot Framebuffer)) (id : ℕ) → AreCounted fbs → AreCounted (without_id fbs id)
 AreCounted-without_id [] id counted = tt
 AreCounted-without_id (s ∷ fbs) id counted =
     let rest : AreCounted (without_id fbs id) = AreCounted-without_id fbs id counted.1 in
-    either (λ xs. AreCounted xs) (not (s.id == id)) (s ∷ without_id fbs id) (without_id fbs id) (counted.0, rest) rest
+    cond_holds (λ xs. AreCounted xs) (not (s.id == id)) (s ∷ without_id fbs id) (without_id fbs id) (counted.0, rest) rest
 
 positive : (n : ℕ) → n ≢ 0 → 0 < n
 positive n other = omega (arith, other)

@@ -18,13 +18,13 @@ use Rattle.kms_model.specs.Machine.Histories.{legal}
 use Rattle.kms_model.specs.Machine.State.{Machine, Records, command_at, place_at}
 use Rattle.kms_model.specs.Machine.Steps.{is_atomic, is_making, may}
 use Rattle.kms_model.specs.Script.WellFormed.{IsFitClient, IsFitCommand, IsWellFormed}
+use Rattle.kms_model.proofs.Facts.{by_recursion-at}
 use Rattle.kms_clients.specs.InStep.{AreClientsOf}
 use Rattle.kms_clients.specs.Standing.{Standing, place_of}
 use Rattle.kms_laws.proofs.Executed.{execute_follows}
 use Rattle.kms_laws.proofs.Modes.{from_one-in, plain-from}
 use Rattle.kms_laws.proofs.SmallNumbers.{numbers_fit}
 use Rattle.kms_laws.proofs.Steps.{history_kept, not_atomic}
-use Rattle.kms_laws.proofs.Words.{by_recursion-at}
 use Rattle.kms_signal.specs.FenceSets.{FenceSet}
 use Rattle.kms_things.proofs.SeenStates.{present_seen}
 use Rattle.kms_things.specs.Commands.{IsNoRequest}

@@ -1,8 +1,7 @@
 -- A client that waits for its commit, and goes on after it.
-use Rattle.std.proofs.Common.{◌≡◌, ℕ, ◌<◌, true, false, List, [], ◌∷◌, ◌++◌, Some, refl, sym, ap, ◌∙◌, subst, arith}
+use Rattle.std.proofs.Common.{◌≡◌, ℕ, ◌<◌, true, false, List, [], ◌∷◌, ◌++◌, refl, sym, ap, ◌∙◌, subst, arith}
 use Rattle.std.specs.Prelude.{not, ◌&&◌}
 use Rattle.std.proofs.lemmas.Bool.{and_from, and_parts}
-use Rattle.kms_model.specs.declared.runs.Doing.{Doing}
 use Rattle.kms_model.specs.declared.runs.Doing.TheVariants as doing
 use Rattle.kms_model.specs.declared.runs.Place.{Place}
 use Rattle.kms_model.specs.declared.replies.Step.{Step}
@@ -14,6 +13,7 @@ use Rattle.kms_model.specs.Machine.Steps.{may, returning_of}
 use Rattle.kms_clients.specs.InStep.{AreClientsOf}
 use Rattle.kms_clients.specs.Standing.{Standing, IsClient, place_of}
 use Rattle.kms_laws.proofs.SmallNumbers.{numbers_fit}
+use Rattle.kms_laws.proofs.ContextsAtAll.{returning-is}
 use Rattle.kms_track.proofs.MachineAnswers.{cleaned_machine}
 use Rattle.kms_track.specs.Tracking.{cleaned_of}
 use Rattle.kms_stores.specs.Calls.{MayReturn, is_some_cleaned, is_over_at}
@@ -22,13 +22,6 @@ use Rattle.kms_stores.specs.Stands.{Stores, Stands}
 use Rattle.kms_stores.proofs.Beside.{stands_beside}
 use Rattle.kms_stores.proofs.Histories.{goes_on}
 use Rattle.kms_stores.proofs.Places.{is_client}
-
-returning_is : (d : Doing) (k : ℕ) → returning_of d ≡ Some k → d ≡ doing.Returning k
-returning_is (doing.Returning n) k e = cc
-returning_is doing.Idle k e = absurd cc
-returning_is (doing.Taking t) k e = absurd cc
-returning_is (doing.MustBackOff t object) k e = absurd cc
-returning_is (doing.BackedOff t object) k e = absurd cc
 
 -- what the store has of the client
 pub record WaitsFor (r : Run) (st : Stores) (client : ℕ) : Type 0 where
@@ -44,7 +37,7 @@ waits_for r v st client stands same now =
     let is = is_client r.script client stands.formed (asked.low, asked.high) in
     let place = stands.stores.clients.places client is in
     let fit = (numbers_fit r.script r.steps stands.formed stands.history).commands client in
-    let does = returning_is (doing_at (machine r) client) asked.commit asked.returning in
+    let does = returning-is (doing_at (machine r) client) asked.commit asked.returning in
     record {
       commit = asked.commit;
       is_client = is;

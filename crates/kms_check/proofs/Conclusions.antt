@@ -1,6 +1,6 @@
 -- What a check finds at each of its steps, in the words of the request's world.
 use Rattle.std.proofs.Common.{◌≡◌, ◌∙◌, ℕ, ◌<◌, ◌≤◌, Bool, true, false, List, [], ◌∷◌, length, Option, Some, None, inl, inr, refl, sym, ap, subst, arith}
-use Rattle.std.specs.Prelude.{◌&&◌, ◌||◌, ◌==◌, not, is_some, is_none, if◌then◌else◌}
+use Rattle.std.specs.Prelude.{◌&&◌, ◌||◌, ◌==◌, not, is_some, if◌then◌else◌}
 use Rattle.std.specs.List.{list_any, filter_map}
 use Rattle.std.specs.Option.{option_map}
 use Rattle.std.proofs.lemmas.Bool.{and_parts, eqb-true, eq-eqb, or_right, or_cases, both_ways, cases_Bool, false_from_ne_true, true_from_ne_false}
@@ -36,6 +36,7 @@ use Rattle.kms_model.proofs.Items as items
 use Rattle.kms_model.proofs.LateLemmas.{StandAt, Covers, fenced_set, late_of_states-is}
 use Rattle.kms_model.proofs.MaskLemmas.{has_bit-below, same_masks}
 use Rattle.kms_model.proofs.TouchedLemmas.{IsRequestAt, after, accepted-each, kind_of_object, few_objects, touches, touches_object, crtc_at-unset, untouched-modeset}
+use Rattle.kms_model.proofs.Facts.{none-some}
 use Rattle.kms_request.specs.Naming as naming
 use Rattle.kms_state.specs.Places.{old_states, olds, state_at}
 use Rattle.kms_state.proofs.Slots.{AgreesOld-same, there_old}
@@ -75,10 +76,6 @@ room-same d d' same room = record {
   planes = length-same d'.planes d.planes (ap (λ s. s.planes) same) ∙ room.planes;
   conns = length-same d'.conns d.conns (ap (λ s. s.conns) same) ∙ room.conns;
 }
-
-none-some : {A : Type 0} (o : Option A) → is_none o ≡ not (is_some o)
-none-some None = refl
-none-some (Some x) = refl
 
 missing_in-same : {S : Type 0} (mask : ℕ) (xs ys : List (Option (Both S))) (n : ℕ) → olds xs ≡ olds ys → missing_in mask xs n ≡ missing_in mask ys n
 missing_in-same mask xs ys n same = same_masks _ _ n (λ i h. ap (λ b. has_bit mask i && b) (none-some (duplicate_at xs i) ∙ ap not (there-same xs ys i same) ∙ sym (none-some (duplicate_at ys i))))

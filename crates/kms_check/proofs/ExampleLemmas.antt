@@ -1,6 +1,6 @@
 -- The worlds of the examples are sound, and their states agree with them.
 use Rattle.std.proofs.Common.{◌≡◌, ◌∙◌, ◌<◌, arith, ℕ, zero, suc, Bool, true, false, List, [], ◌∷◌, Option, Some, None, inl, inr, refl, ap, replicate, rules, ◌+◌}
-use Rattle.std.specs.Prelude.{◌==◌, find, is_some, map, not, pos, slice_get}
+use Rattle.std.specs.Prelude.{◌==◌, find, is_some, map, not, pos}
 use Rattle.std.specs.List.{list_all}
 use Rattle.std.proofs.lemmas.Bool.{and_parts, cases_Bool}
 use Rattle.kms_model.specs.declared.states.Both.{Both}
@@ -15,6 +15,7 @@ use Rattle.kms_model.specs.Device.Masks.{mask_below}
 use Rattle.kms_model.specs.Request.Sets.{look_in}
 use Rattle.kms_model.specs.Device.Sound.{IsSound}
 use Rattle.kms_model.specs.Request.Deciding.{AreFresh, AreFreshIn}
+use Rattle.kms_model.proofs.Facts.{nothing_there}
 use Rattle.kms_samples.specs.Samples.{double, in_profile_2}
 use Rattle.kms_request.specs.Whole.{ArePresent}
 use Rattle.kms_check.specs.Example.{some_alike, conn, crtc, if_given, lit_world, plane, states, things, two, world_of}
@@ -49,23 +50,17 @@ is_sound_in_2 false = record { numbered = search rules; next = refl; held = refl
 abbrev nowhere : Rect
 nowhere = record { x = pos 0; y = pos 0; w = pos 0; h = pos 0 }
 
--- no object is given
-no_state : {S : Type 0} (n index : ℕ) (both : Both S) → slice_get (replicate n None) index ≡ Some (Some both) → ⊥
-no_state zero index both at = absurd cc
-no_state (suc n) zero both at = absurd cc
-no_state (suc n) (suc index) both at = no_state n index both at
-
 given_old : {S : Type 0} (given : Bool) (n : ℕ) (state : ℕ → S) → AreOld state (if_given given n state)
 given_old true n state zero both at = let same : both ≡ record { old = state 0; new = state 0 } = cc in ap (λ (b : Both _). b.old) same
 given_old true n state (suc zero) both at = let same : both ≡ record { old = state 1; new = state 1 } = cc in ap (λ (b : Both _). b.old) same
-given_old true n state (suc (suc index)) both at = absurd (no_state n index both at)
-given_old false n state index both at = absurd (no_state (2 + n) index both at)
+given_old true n state (suc (suc index)) both at = absurd (nothing_there n index both at)
+given_old false n state index both at = absurd (nothing_there (2 + n) index both at)
 
 given_fresh : {S : Type 0} (given : Bool) (n : ℕ) (state : ℕ → S) → AreFreshIn (if_given given n state)
 given_fresh true n state zero both at = let same : both ≡ record { old = state 0; new = state 0 } = cc in rw same refl
 given_fresh true n state (suc zero) both at = let same : both ≡ record { old = state 1; new = state 1 } = cc in rw same refl
-given_fresh true n state (suc (suc index)) both at = absurd (no_state n index both at)
-given_fresh false n state index both at = absurd (no_state (2 + n) index both at)
+given_fresh true n state (suc (suc index)) both at = absurd (nothing_there n index both at)
+given_fresh false n state index both at = absurd (nothing_there (2 + n) index both at)
 
 pub given_is : {S : Type 0} (given : Bool) (n : ℕ) (state : ℕ → S) (first second : Option (Both S)) → not given ≡ false → first ≡ some_alike (state 0) → second ≡ some_alike (state 1) → (first ∷ second ∷ replicate n None) ≡ if_given given n state
 given_is true n state first second there one other = rw (one, other) refl

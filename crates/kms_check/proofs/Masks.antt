@@ -1,5 +1,5 @@
 -- The objects of a set by their places, and of the groups of a request.
-use Rattle.std.proofs.Common.{◌≡◌, ℕ, zero, suc, ◌+◌, ◌-◌, ◌<◌, ◌⊎◌, Bool, true, false, List, length, Option, Some, None, inl, inr, arith, refl, sym, ap, ◌∙◌}
+use Rattle.std.proofs.Common.{◌≡◌, ℕ, zero, suc, ◌+◌, ◌-◌, ◌<◌, Bool, true, false, List, length, Option, Some, None, inl, inr, arith, refl, sym, ap, ◌∙◌}
 use Rattle.std.specs.Prelude.{◌&&◌, ◌==◌, is_none, nat_lt, if◌then◌else◌}
 use Rattle.std.proofs.lemmas.Bool.{and_from, and_parts, both_ways, cases_lt, eq-eqb, le-ltb, lt-ltb, ltb-true, or_left, or_right}
 use Rattle.std.proofs.lemmas.Nat.{pow_pos}
@@ -23,6 +23,7 @@ use Rattle.kms_model.specs.Request.Touched.{is_affected, set_where, sets, touche
 use Rattle.kms_model.proofs.Items.{or_else-none}
 use Rattle.kms_model.proofs.MaskLemmas.{has_bit-below, has_bit-mask_below, mask_from}
 use Rattle.kms_model.proofs.UnionLemmas.{has_bit-zero}
+use Rattle.kms_model.proofs.Facts.{or_else-some}
 use Rattle.kms_track.specs.Places.{first_below, mask_has, object_at_place}
 use Rattle.kms_check.specs.Lacking.{first_lacking, is_empty, lacking, missing_in, not_duplicated}
 use Rattle.kms_check.proofs.Readiness.{HasRoom}
@@ -129,10 +130,6 @@ pub record IsLacking (t : Topology) (w : World) (r : Request) (d : Duplicates) (
 
 of_group : (t : Topology) (w : World) (r : Request) (d : Duplicates) (g m : Mask) → AreTouched t w r g → IsLackingOf d g m → IsLacking t w r d m
 of_group t w r d g m touched lacks = record { group = g; touched = touched; is = lacks.is; has_some = lacks.has_some }
-
-or_else-some : {A : Type 0} (a b : Option A) (x : A) → or_else a b ≡ Some x → (a ≡ Some x) ⊎ (b ≡ Some x)
-or_else-some None b x is = inr is
-or_else-some (Some y) b x is = inl is
 
 pub first_lacking-is : (t : Topology) (w : World) (r : Request) (d : Duplicates) (m : Mask) → first_lacking t w r d ≡ Some m → IsLacking t w r d m
 first_lacking-is t w r d m first =

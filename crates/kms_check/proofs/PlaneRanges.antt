@@ -1,9 +1,7 @@
 -- The numbers of planes stay in range while properties are set to values that they may have.
 use Rattle.std.proofs.Common.{◌≡◌, ◌∙◌, ◌≤◌, ◌<◌, ℕ, Bool, true, false, List, length, get_or, Option, Some, None, ℤ, pos, negsuc, inl, inr, arith, refl, sym, ap, subst}
-use Rattle.std.specs.Prelude.{◌==◌, ◌&&◌, int_le, slice_get, All, IfSome, if◌then◌else◌}
-use Rattle.std.proofs.lemmas.Bool.{and_parts, cases_Bool, eqb-true}
-use Rattle.std.proofs.lemmas.Bool.Decides.{nat_tests}
-use Rattle.std.proofs.lemmas.Int.{ints}
+use Rattle.std.specs.Prelude.{◌==◌, slice_get, All, IfSome, if◌then◌else◌}
+use Rattle.std.proofs.lemmas.Bool.{cases_Bool, eqb-true}
 use Rattle.kms_model.specs.declared.objects.Kind.{Kind}
 use Rattle.kms_model.specs.declared.objects.Kind.TheVariants.{Crtc, Plane, Conn, Enc}
 use Rattle.kms_model.specs.declared.objects.Topology.{Topology}
@@ -24,19 +22,13 @@ use Rattle.kms_model.specs.Request.SetRanges.{may_set}
 use Rattle.kms_model.specs.Device.Sound.{IsBetween, IsPlaneInRange, IsSound}
 use Rattle.kms_model.specs.Device.States.{natural}
 use Rattle.kms_model.proofs.LateLemmas.{flatten-some}
-use Rattle.kms_model.proofs.StateLemmas.{natural-held, sound-plane_in_range}
+use Rattle.kms_model.proofs.StateLemmas.{natural-held, sound-plane_in_range, between-held}
 use Rattle.kms_state.specs.Changes.{Sets, after_crtc, after_number, after_set, after_value, changed, plane_after_set}
 use Rattle.kms_state.proofs.Slots.{AreNew-changed}
 use Rattle.kms_model.specs.Request.Deciding.{AreFresh}
 use Rattle.kms_check.specs.Applying.{HasPlanesInRange, IsApplicable}
 
 -- Numbers
-
--- a number between two
-number_between : (low high z : ℤ) → (int_le low z && int_le z high) ≡ true → IsBetween low high z
-number_between low high z held =
-    let both = and_parts (int_le low z) (int_le z high) held in
-    record { low = grind (arith, nat_tests, ints, both.0); high = grind (arith, nat_tests, ints, both.1) }
 
 -- what holds of the number that one property is set to, and of what was there, holds of what is there
 one_set : (P : ℤ → Type 0) (prop p : ℕ) (n old : ℤ) → may_set Plane prop (to.Num n) ≡ true → (may_set Plane p (to.Num n) ≡ true → P n) → P old → P (if prop == p then n else old)
@@ -55,14 +47,14 @@ one_set_natural prop p n old most may here before = elim (cases_Bool (prop == p)
 -- a plane's state stays in range with a number that its property may have
 number-in_range : (prop : ℕ) (n : ℤ) (s : PlaneState) → may_set Plane prop (to.Num n) ≡ true → IsPlaneInRange s → IsPlaneInRange (plane_after_set prop n s)
 number-in_range prop n s may in_range = record {
-  x = one_set (IsBetween (negsuc 2147483647) (pos 2147483647)) prop CRTC_X n s.dst.x may (number_between (negsuc 2147483647) (pos 2147483647) n) in_range.x;
-  y = one_set (IsBetween (negsuc 2147483647) (pos 2147483647)) prop CRTC_Y n s.dst.y may (number_between (negsuc 2147483647) (pos 2147483647) n) in_range.y;
-  w = one_set (IsBetween (pos 0) (pos 2147483647)) prop CRTC_W n s.dst.w may (number_between (pos 0) (pos 2147483647) n) in_range.w;
-  h = one_set (IsBetween (pos 0) (pos 2147483647)) prop CRTC_H n s.dst.h may (number_between (pos 0) (pos 2147483647) n) in_range.h;
-  src_x = one_set (IsBetween (pos 0) (pos 4294967295)) prop SRC_X n s.src.x may (number_between (pos 0) (pos 4294967295) n) in_range.src_x;
-  src_y = one_set (IsBetween (pos 0) (pos 4294967295)) prop SRC_Y n s.src.y may (number_between (pos 0) (pos 4294967295) n) in_range.src_y;
-  src_w = one_set (IsBetween (pos 0) (pos 4294967295)) prop SRC_W n s.src.w may (number_between (pos 0) (pos 4294967295) n) in_range.src_w;
-  src_h = one_set (IsBetween (pos 0) (pos 4294967295)) prop SRC_H n s.src.h may (number_between (pos 0) (pos 4294967295) n) in_range.src_h;
+  x = one_set (IsBetween (negsuc 2147483647) (pos 2147483647)) prop CRTC_X n s.dst.x may (between-held (negsuc 2147483647) (pos 2147483647) n) in_range.x;
+  y = one_set (IsBetween (negsuc 2147483647) (pos 2147483647)) prop CRTC_Y n s.dst.y may (between-held (negsuc 2147483647) (pos 2147483647) n) in_range.y;
+  w = one_set (IsBetween (pos 0) (pos 2147483647)) prop CRTC_W n s.dst.w may (between-held (pos 0) (pos 2147483647) n) in_range.w;
+  h = one_set (IsBetween (pos 0) (pos 2147483647)) prop CRTC_H n s.dst.h may (between-held (pos 0) (pos 2147483647) n) in_range.h;
+  src_x = one_set (IsBetween (pos 0) (pos 4294967295)) prop SRC_X n s.src.x may (between-held (pos 0) (pos 4294967295) n) in_range.src_x;
+  src_y = one_set (IsBetween (pos 0) (pos 4294967295)) prop SRC_Y n s.src.y may (between-held (pos 0) (pos 4294967295) n) in_range.src_y;
+  src_w = one_set (IsBetween (pos 0) (pos 4294967295)) prop SRC_W n s.src.w may (between-held (pos 0) (pos 4294967295) n) in_range.src_w;
+  src_h = one_set (IsBetween (pos 0) (pos 4294967295)) prop SRC_H n s.src.h may (between-held (pos 0) (pos 4294967295) n) in_range.src_h;
   alpha = one_set_natural prop ALPHA n s.alpha 65535 may (natural-held 65535 n) in_range.alpha;
   blend = one_set_natural prop BLEND n s.blend 2 may (natural-held 2 n) in_range.blend;
   zpos = one_set_natural prop ZPOS n s.zpos 255 may (natural-held 255 n) in_range.zpos;
@@ -79,14 +71,14 @@ empty_plane = record { fb = None; crtc = 0; dst = nowhere; src = nowhere; alpha 
 
 empty-in_range : IsPlaneInRange empty_plane
 empty-in_range = record {
-  x = number_between (negsuc 2147483647) (pos 2147483647) (pos 0) refl;
-  y = number_between (negsuc 2147483647) (pos 2147483647) (pos 0) refl;
-  w = number_between (pos 0) (pos 2147483647) (pos 0) refl;
-  h = number_between (pos 0) (pos 2147483647) (pos 0) refl;
-  src_x = number_between (pos 0) (pos 4294967295) (pos 0) refl;
-  src_y = number_between (pos 0) (pos 4294967295) (pos 0) refl;
-  src_w = number_between (pos 0) (pos 4294967295) (pos 0) refl;
-  src_h = number_between (pos 0) (pos 4294967295) (pos 0) refl;
+  x = between-held (negsuc 2147483647) (pos 2147483647) (pos 0) refl;
+  y = between-held (negsuc 2147483647) (pos 2147483647) (pos 0) refl;
+  w = between-held (pos 0) (pos 2147483647) (pos 0) refl;
+  h = between-held (pos 0) (pos 2147483647) (pos 0) refl;
+  src_x = between-held (pos 0) (pos 4294967295) (pos 0) refl;
+  src_y = between-held (pos 0) (pos 4294967295) (pos 0) refl;
+  src_w = between-held (pos 0) (pos 4294967295) (pos 0) refl;
+  src_h = between-held (pos 0) (pos 4294967295) (pos 0) refl;
   alpha = omega arith;
   blend = omega arith;
   zpos = omega arith;

@@ -39,8 +39,9 @@ use Rattle.kms_state.specs.Places.{is_duplicated, is_duplicated_of, state_of}
 use Rattle.kms_model.specs.Request.Deciding.{IsOfRequest}
 use Rattle.kms_check.specs.Applying.{IsApplicable}
 use Rattle.kms_model.specs.Request.Groups.{set_group}
+use Rattle.kms_laws.proofs.Framebuffers.{all_in-from}
 use Rattle.kms_check.specs.Lacking.{is_empty, lacking, missing_in, not_duplicated}
-use Rattle.kms_check.proofs.RequestFacts.{all-from, IsFromAssign, from_assign}
+use Rattle.kms_check.proofs.RequestFacts.{IsFromAssign, from_assign}
 
 -- Nothing is not_duplicated
 
@@ -153,7 +154,7 @@ set_object t f r resolved d s device asks room covers member =
     }
 
 pub ready : (t : Topology) (f : ℕ → Look) (r : Request) (resolved : Resolved) (d : Duplicates) → IsDevice t → IsResolved t f r resolved → HasRoom d → IsCovered d (set_group t r) → All (IsApplicable d) resolved.sets
-ready t f r resolved d device asks room covers = all-from (IsApplicable d) resolved.sets (λ s member.
+ready t f r resolved d device asks room covers = all_in-from (IsApplicable d) resolved.sets (λ s member.
     let o : IsSetObject t d s = set_object t f r resolved d s device asks room covers member in
     let from : IsFromAssign t f r s = from_assign t f r s asks.accepted (subst (IsIn s) asks.sets member) in
     let a = from.assign in
@@ -191,7 +192,7 @@ named-covers t w r resolved d is room covers = record {
   sound = is.sound;
   asks = is.asks;
   old = is.old;
-  duplicated = all-from (λ s. IsTrue (naming.is_routed_duplicated d s.object.0)) resolved.sets (λ s member.
+  duplicated = all_in-from (λ s. IsTrue (naming.is_routed_duplicated d s.object.0)) resolved.sets (λ s member.
       let o : IsSetObject t d s = set_object t (look_up w) r resolved d s is.device is.asks room covers member in
       ap (naming.is_routed_duplicated d) o.same ∙ naming-object d o.of_kind o.index o.few (few_conns t o.of_kind o.index is.device o.within) o.duplicated);
 }

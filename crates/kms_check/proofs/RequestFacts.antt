@@ -1,6 +1,5 @@
 -- What is known of duplicates that are those of a request in a sound world.
 use Rattle.std.proofs.Common.{◌≡◌, ◌∙◌, ℕ, zero, suc, ◌<◌, List, [], ◌∷◌, length, get_or, Option, None, inl, inr, refl, arith}
-use Rattle.std.specs.Prelude.{All}
 use Rattle.kms_model.specs.declared.objects.Topology.{Topology}
 use Rattle.kms_model.specs.declared.scripts.Assign.{Assign}
 use Rattle.kms_model.specs.declared.scripts.Request.{Request}
@@ -38,10 +37,6 @@ get_or-in : {A : Type 0} (xs : List A) (k : ℕ) (d : A) → k < length xs → I
 get_or-in [] k d within = absurd (omega arith)
 get_or-in (x ∷ xs) zero d within = inl refl
 get_or-in (x ∷ xs) (suc k) d within = inr (get_or-in xs k d (omega arith))
-
--- what each item has, all have
-pub all-from : {A : Type 0} (P : A → Type 0) (xs : List A) → ((x : A) → IsIn x xs → P x) → All P xs
-all-from P xs each = λ k d within. each (get_or xs k d) (get_or-in xs k d within)
 
 -- What a request sets
 

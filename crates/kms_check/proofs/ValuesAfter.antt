@@ -31,8 +31,9 @@ use Rattle.kms_model.proofs.StandsLemmas.{stands-accepted}
 use Rattle.kms_model.proofs.TouchedLemmas.{after, few_objects, few_of, accepted-each}
 use Rattle.kms_state.specs.Changes.{HasObject, is_on_device}
 use Rattle.kms_model.specs.Request.Deciding.{IsOfRequest}
+use Rattle.kms_laws.proofs.Framebuffers.{all_in-from}
 use Rattle.kms_check.specs.Applying.{set_all, IsNumberedBy}
-use Rattle.kms_check.proofs.RequestFacts.{request_at, all-from, IsFromAssign, from_assign}
+use Rattle.kms_check.proofs.RequestFacts.{request_at, IsFromAssign, from_assign}
 use Rattle.kms_model.proofs.KindsOfIds.{kind_of-object}
 
 -- a set of a property of an object
@@ -184,7 +185,7 @@ has_object t k i id device same within few = record {
         ap (λ j. exists t j (object_id k i - first_id j)) (kind_of-object k i (omega arith)) ∙ ap (exists t k) index ∙ lt-ltb i (count_of t k) within
 
 pub numbered : (t : Topology) (w : World) (r : Request) (resolved : Resolved) (d : Duplicates) → IsOfRequest t w r resolved d → All (IsNumberedBy t w.things (number_in (after w r))) resolved.sets
-numbered t w r resolved d is = all-from (IsNumberedBy t w.things (number_in (after w r))) resolved.sets (λ s member.
+numbered t w r resolved d is = all_in-from (IsNumberedBy t w.things (number_in (after w r))) resolved.sets (λ s member.
     let at = request_at t w r resolved d is in
     let from : IsFromAssign t (look_up w) r s = from_assign t (look_up w) r s is.asks.accepted (subst (IsIn s) is.asks.sets member) in
     let a = from.assign in

@@ -43,6 +43,7 @@ use Rattle.kms_calls.proofs.Locking.{steps_of_lock}
 use Rattle.kms_next.proofs.Outside.{outside}
 use Rattle.kms_stores.proofs.Places.{not_ended}
 use Rattle.kms_next.proofs.TailSteps.{crtc_kind}
+use Rattle.kms_next.proofs.Taken.{lockable_exists}
 
 -- Objects of the device
 
@@ -51,12 +52,6 @@ few_of t Crtc index few there = omega (arith, there, few.crtcs)
 few_of t Plane index few there = omega (arith, there, few.planes)
 few_of t Conn index few there = omega (arith, there, few.conns)
 few_of t Enc index few there = omega (arith, there, few.conns)
-
-lockable_exists : (t : Topology) (kind : Kind) (index : ℕ) → is_lockable t kind index ≡ true → exists t kind index ≡ true
-lockable_exists t Crtc index is = is
-lockable_exists t Plane index is = is
-lockable_exists t Conn index is = is
-lockable_exists t Enc index is = absurd (false≢true is)
 
 -- an id of an object by its kind and its index
 pub record IsIdOf (id : ObjId) (kind : Kind) (index : ℕ) : Type 0 where

@@ -37,13 +37,13 @@ use Rattle.kms_model.specs.Request.Named.{named, names}
 use Rattle.kms_model.specs.Request.Touched.{out_fence_label}
 use Rattle.kms_model.proofs.Items.{IsIn}
 use Rattle.kms_model.proofs.TouchedLemmas.{IsRequestAt, few_objects}
+use Rattle.kms_model.proofs.CommitFacts.{commit_old, commit_new}
 use Rattle.kms_model.specs.Stores.Tables.{AreBelow}
 use Rattle.kms_clients.specs.InStep.{AreClientsOf, after_decision, after_swap}
 use Rattle.kms_clients.specs.Standing.{Standing, place_of}
 use Rattle.kms_laws.proofs.EachStep.{IsSwap, swap-found}
 use Rattle.kms_laws.proofs.Fitting.{taking-busy}
 use Rattle.kms_laws.proofs.Modes.{plain-from}
-use Rattle.kms_laws.proofs.Numbered.{commit_new, commit_old}
 use Rattle.kms_laws.proofs.Present.{reverse_more}
 use Rattle.kms_laws.proofs.Sizes.{answered as answered_by, ended_at}
 use Rattle.kms_laws.proofs.SmallNumbers.{numbers_fit}

@@ -1,6 +1,5 @@
 -- A commit of several attempts.
-use Rattle.std.proofs.Common.{◌≡◌, ◌≢◌, ℕ, List, [], ◌∷◌, ◌++◌, Result, Ok, Err, refl, sym, ap, ◌∙◌, subst, inl, inr}
-use Rattle.std.specs.Prelude.{OnErr}
+use Rattle.std.proofs.Common.{◌≡◌, ◌≢◌, ℕ, List, [], ◌∷◌, ◌++◌, refl, sym, ap, ◌∙◌, subst, inl, inr}
 use Rattle.kms_model.specs.declared.replies.Reply.{Reply}
 use Rattle.kms_model.specs.declared.replies.Step.{Step}
 use Rattle.kms_model.specs.declared.runs.Place.{Place}
@@ -16,10 +15,6 @@ use Rattle.kms_device.specs.Turns.{DevicePass, run_seen}
 use Rattle.kms_device.proofs.Serving.{serves_new}
 use Rattle.kms_device.proofs.Stepping.{may_again}
 use Rattle.kms_device.proofs.Went.{went_before, went_both, went_not}
-
-pub on_err : {A E P : Type 0} (r : Result A E) → P → OnErr r P
-on_err (Ok a) p = tt
-on_err (Err e) p = p
 
 -- before the first attempt
 pub made_none : (script : Script) (client : ℕ) (p : DevicePass) (kept : Attempt) → kept ≡ new_attempt → MayAttempt (run_seen script p) client → GoesOnWith script client p p kept

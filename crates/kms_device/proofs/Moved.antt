@@ -1,8 +1,8 @@
 -- From what resolving and checking ask for to what the device's calls ask for, at what a pass has seen.
 use Rattle.std.proofs.Common.{◌≡◌, get_or, length, ℕ, ◌-◌, ◌<◌, ◌≤◌, List, [], ◌∷◌, ◌++◌, map, true, false, is_some, Option, Some, None, refl, sym, ap, ◌∙◌, subst, arith, inl, inr}
-use Rattle.std.specs.Prelude.{slice_get, ◌==◌, nat_le, if◌then◌else◌}
+use Rattle.std.specs.Prelude.{slice_get, nat_le, if◌then◌else◌}
 use Rattle.std.specs.Option.{option_flatten}
-use Rattle.std.proofs.lemmas.Bool.{cases_lt, eqb-true, false≢true, ltb-true, le-leb, lt-leb}
+use Rattle.std.proofs.lemmas.Bool.{cases_lt, false≢true, ltb-true, le-leb, lt-leb}
 use Rattle.std.proofs.lemmas.Option.{slice_get-get_or}
 use Rattle.kms_model.specs.declared.objects.Kind.{Kind}
 use Rattle.kms_model.specs.declared.objects.Kind.TheVariants.{Conn, Crtc, Enc, Plane}
@@ -19,7 +19,7 @@ use Rattle.kms_model.specs.declared.states.Duplicates.{Duplicates}
 use Rattle.kms_model.specs.declared.worlds.Look.{Look}
 use Rattle.kms_model.specs.declared.worlds.World.{World}
 use Rattle.kms_model.specs.Device.Objects.{first_id, index_of, kind_of, object_id}
-use Rattle.kms_model.specs.Machine.Commits.{has_number, lockable}
+use Rattle.kms_model.specs.Machine.Commits.{lockable}
 use Rattle.kms_model.specs.Machine.Histories.{are_legal, at, run_steps}
 use Rattle.kms_model.specs.Machine.State.{Machine, first_machine, holds}
 use Rattle.kms_model.specs.Request.Agreement.{AgreesOld}
@@ -29,11 +29,11 @@ use Rattle.kms_model.specs.Request.Resolves.{IsResolved}
 use Rattle.kms_model.specs.Request.Flags.{is_test}
 use Rattle.kms_model.specs.Request.SameLooks.{TellsLabels}
 use Rattle.kms_model.specs.Request.Sets.{look_in}
-use Rattle.kms_model.proofs.Items.{IsIn, list_any-some}
 use Rattle.kms_model.proofs.SameLooks.{resolved-same, world_tells}
 use Rattle.kms_model.specs.Machine.Steps.{is_lockable}
 use Rattle.kms_model.specs.Device.Sound.{IsDevice}
 use Rattle.kms_model.proofs.TouchedLemmas.{HasFewObjects, few_objects}
+use Rattle.kms_model.proofs.Facts.{number-in}
 use Rattle.kms_check.proofs.Readiness.{HasRoom}
 use Rattle.kms_calls.specs.States.{state_of_kind}
 use Rattle.kms_state.specs.Places.{is_free, is_free_place, may_duplicate, is_duplicated, is_duplicated_of, state_at, state_of}
@@ -118,9 +118,6 @@ same_labels : (f : ℕ → Look) (labels : List ℕ) → map (λ (l : ℕ × Loo
 same_labels f [] = refl
 same_labels f (label ∷ labels) = ap (λ xs. label ∷ xs) (same_labels f labels)
 
-has_in : (xs : List ℕ) (object : ℕ) → has_number xs object ≡ true → IsIn object xs
-has_in xs object has = (let at = list_any-some (λ n. n == object) xs has in subst (λ o. IsIn o xs) (eqb-true at.item object at.holds) at.is_in)
-
 module _ (script : Script) (p : DevicePass) (kept : Attempt) (ticket : Ticket) (request : Request) (used : List (ℕ × Look)) (c : TakesFor script p kept ticket request used) where
   abbrev R : Run
   R = run_seen script p
@@ -188,7 +185,7 @@ module _ (script : Script) (p : DevicePass) (kept : Attempt) (ticket : Ticket) (
       asks = late.asks;
       taken = own;
       gives = late.gives;
-      holds = λ w is object there touched. duplicated_held R p.rank kept.states object own (late.covers w is object (has_in (lockable script.topology) object there) touched);
+      holds = λ w is object there touched. duplicated_held R p.rank kept.states object own (late.covers w is object (number-in (lockable script.topology) object there) touched);
     });
   }
 

@@ -37,7 +37,7 @@ use Rattle.kms_model.proofs.CrtcLemmas.{all_in}
 use Rattle.kms_model.proofs.Items.{IsIn, filter-same, ids-has, list_any-has}
 use Rattle.kms_model.proofs.SameLooks.{early-same}
 use Rattle.kms_laws.proofs.OldLookUps.{StayIn, stay_kept}
-use Rattle.kms_laws.proofs.Steps.{Holds, history_kept, step_kept}
+use Rattle.kms_laws.proofs.Steps.{Holds, history_kept, step_kept, none-is}
 use Rattle.kms_laws.proofs.Traversal.{step_keeps}
 use Rattle.kms_stores.specs.Decisions.{world}
 use Rattle.kms_calls.specs.Locks.{IsTaking, MayLock}
@@ -65,10 +65,6 @@ alone t f a = by (own_refusal t f a) _
 
 own-same : (t : Topology) (f g : ℕ → Look) (a : Assign) → TellsLabel f g a.value → is_none (own_refusal t f a) ≡ is_none (own_refusal t g a)
 own-same t f g a same = sym (alone t f a) ∙ (ap is_none (early-same t f g (one a) (All-cons (λ b. TellsLabel f g b.value) a [] same (All-nil (λ b. TellsLabel f g b.value)))) ∙ alone t g a)
-
-none_is : {A : Type 0} (o : Option A) → is_none o ≡ true → o ≡ None
-none_is None e = refl
-none_is (Some x) e = absurd (false≢true e)
 
 -- Two worlds
 
@@ -107,7 +103,7 @@ module _ (script : Script) (pass : DevicePass) (found : Run) (f : MayBeFound scr
   made a is = all_in (λ a. IfSome (label_of a.value) (λ label. is_some (thing_labelled W.things label) ≡ true)) Items a (All-filter (λ a. is_none (own_refusal T (look_up_any W) a)) (λ a. IfSome (label_of a.value) (λ label. is_some (thing_labelled W.things label) ≡ true)) Assigns h.made) is
 
   fine : (a : Assign) → IsIn a Items → IsFine T (look_up_any W) a
-  fine a is = is_fine T (look_up_any W) a (none_is _ (all_in (λ a. is_none (own_refusal T (look_up_any W) a) ≡ true) Items a (filter_passes (λ a. is_none (own_refusal T (look_up_any W) a)) Assigns) is))
+  fine a is = is_fine T (look_up_any W) a (none-is _ (all_in (λ a. is_none (own_refusal T (look_up_any W) a) ≡ true) Items a (filter_passes (λ a. is_none (own_refusal T (look_up_any W) a)) Assigns) is))
 
   -- labels name the same
   tells : (a : Assign) → IsIn a Assigns → TellsLabel (look_up_any V) (look_up_any W) a.value

@@ -32,14 +32,6 @@ legal-before s m (x ∷ xs) ys h =
     let both = and_parts (legal s m x) _ h in
     and_from (legal s m x) _ both.0 (legal-before s (next s m x) xs ys both.1)
 
--- a history with a step more
-pub legal-more : (s : Script) (m : Machine) (xs : List Step) (y : Step) → are_legal s m xs ≡ true → legal s (run_steps s m xs) y ≡ true → are_legal s m (xs ++ y ∷ []) ≡ true
-unfolding run_steps are_legal
-legal-more s m [] y h is = and_from (legal s m y) true is refl
-legal-more s m (x ∷ xs) y h is =
-    let both = and_parts (legal s m x) _ h in
-    and_from (legal s m x) _ both.0 (legal-more s (next s m x) xs y both.1 is)
-
 -- a step of another owner is no step of the client
 pub other-client : (client : ℕ) (x : Step) → owner x ≢ client → client_of_step x ≢ Some client
 other-client client x ne e = ne (ap number_or_0 e)

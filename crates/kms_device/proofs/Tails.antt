@@ -19,19 +19,16 @@ use Rattle.kms_model.specs.Machine.Steps.{may}
 use Rattle.kms_model.specs.Script.WellFormed.{IsWellFormed}
 use Rattle.kms_model.proofs.KindsOfIds.{index_of-object, kind_of-object}
 use Rattle.kms_model.proofs.TouchedLemmas.{few_objects, few_of}
+use Rattle.kms_model.proofs.Facts.{cond_mapped}
 use Rattle.kms_stores.specs.Run.{Run, machine}
 use Rattle.kms_stores.specs.Work.{write_step}
 use Rattle.kms_device.specs.Steps.{is_legal, may_write, step_if, tail_of}
 
 -- By kinds
 
-mapped_first : {A B : Type 0} (f : A → B) (b : Bool) (x : A) (o : Option A) → cond b (Some (f x)) (option_map f o) ≡ option_map f (cond b (Some x) o)
-mapped_first f true x o = refl
-mapped_first f false x o = refl
-
 mapped : {A : Type 0} (p : Step → Bool) (f : A → Step) (xs : List A) → find p (map f xs) ≡ option_map f (find (λ x. p (f x)) xs)
 mapped p f [] = refl
-mapped p f (x ∷ xs) = ap (λ o. cond (p (f x)) (Some (f x)) o) (mapped p f xs) ∙ mapped_first f (p (f x)) x (find (λ y. p (f y)) xs)
+mapped p f (x ∷ xs) = ap (λ o. cond (p (f x)) (Some (f x)) o) (mapped p f xs) ∙ cond_mapped f (p (f x)) x (find (λ y. p (f y)) xs)
 
 -- the first step, by what is found of each kind of steps
 abbrev pub told : Run → ℕ → Option ℕ → Option ℕ → Option ℕ → Option Step

@@ -7,7 +7,6 @@ use Rattle.kms_model.specs.declared.objects.Kind.TheVariants.{Conn, Crtc, Enc, P
 use Rattle.kms_model.specs.declared.objects.ObjId.{ObjId}
 use Rattle.kms_model.specs.declared.objects.Ticket.{Ticket}
 use Rattle.kms_model.specs.declared.objects.Topology.{Topology}
-use Rattle.kms_model.specs.declared.runs.Doing.{Doing}
 use Rattle.kms_model.specs.declared.runs.Doing.TheVariants as doing
 use Rattle.kms_model.specs.declared.runs.Place.{Place}
 use Rattle.kms_model.specs.declared.scripts.Command.{Command}
@@ -40,10 +39,6 @@ use Rattle.kms_device.proofs.Serving.{serves_new}
 use Rattle.kms_device.proofs.Stepping.{found-is, open-after, rank-after, request-same, start_refl}
 use Rattle.kms_device.proofs.TurnsTried.{command-after, doing-after}
 use Rattle.kms_device_tests.specs.Resolving.{Resolves}
-
-pub returning_not : (d : Doing) → ((k : ℕ) → d ≡ doing.Returning k → ⊥) → returning_of d ≡ None
-returning_not (doing.Returning k) awake = absurd (awake k refl)
-returning_not d awake = refl
 
 pub making_of : (c : Command) → ((r : Request) → c ≡ command.Atomic r → ⊥) → ((label : ℕ) → c ≡ command.Signal label → ⊥) → (c ≡ command.Wait → ⊥) → is_making c ≡ true
 making_of (command.Atomic r) asks signals waits = absurd (asks r refl)

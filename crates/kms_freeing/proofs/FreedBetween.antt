@@ -2,7 +2,7 @@
 use Rattle.std.proofs.Common.{◌≡◌, ℕ, suc, ◌+◌, ◌≤◌, List, [], ◌∷◌, ◌++◌, length, map, Bool, true, false, not, ◌&&◌, ◌||◌, ◌==◌, Option, Some, None, refl, sym, ap, ◌∙◌, subst, arith, inl, inr}
 use Rattle.std.specs.Prelude.{if◌then◌else◌, filter}
 use Rattle.std.specs.List.{flat_map, list_any}
-use Rattle.std.proofs.lemmas.Bool.{and_from, and_parts, cases_Bool, cases_eq, cond-false, cond-true, eq-eqb, eqb-true, ne_eqb, or_left}
+use Rattle.std.proofs.lemmas.Bool.{and_from, and_parts, cases_eq, cond-false, cond-true, eq-eqb, ne_eqb, or_left}
 use Rattle.kms_model.specs.declared.objects.Topology.{Topology}
 use Rattle.kms_model.specs.declared.replies.Step.{Step}
 use Rattle.kms_model.specs.declared.scripts.Script.{Script}
@@ -14,9 +14,12 @@ use Rattle.kms_model.specs.Machine.Effects.{next}
 use Rattle.kms_model.specs.Machine.Framebuffers.{freed_by_step, freed_from, is_in_things, is_needed}
 use Rattle.kms_model.specs.Machine.Histories.{run_steps}
 use Rattle.kms_model.specs.Machine.State.{Machine}
+use Rattle.kms_laws.proofs.Framebuffers.{find-same}
 use Rattle.kms_model.proofs.Items.{IsIn, filter-same}
+use Rattle.kms_model.proofs.ShownLemmas.{with-id}
+use Rattle.kms_model.proofs.HeldValues.{filter-in}
 use Rattle.kms_freeing.specs.Freeing.{AreRising, freed_among, freed_entry, is_framebuffer_in, label_and_id}
-use Rattle.kms_freeing.proofs.FreedLists.{as_many, entries, filter-filter, filter-in, ids_rise, length-parts, listed, passes, rising_filter, with_id_before, with_own_id}
+use Rattle.kms_freeing.proofs.FreedLists.{as_many, entries, filter-filter, ids_rise, length-parts, listed, passes, rising_filter, with_id_before}
 
 -- What a history frees goes on by what its last step frees.
 pub freed_last : (s : Script) (m : Machine) (h : List Step) (step : Step) → freed_from s m (h ++ step ∷ []) ≡ freed_from s m h ++ freed_by_step s (run_steps s m h) step
@@ -33,14 +36,6 @@ freed_last s m (first ∷ h) step =
       joined (x ∷ xs) ys zs = ap (λ rest. x ∷ rest) (joined xs ys zs)
 
 -- A thing with an id, among those that pass a test
-
-pub found_same : (things : List Thing) (id : ℕ) (x : Thing) → thing_with_id things id ≡ Some x → x.id ≡ id
-found_same [] id x found = absurd cc
-found_same (u ∷ us) id x found =
-    elim (cases_Bool (u.id == id)) [
-      | inl here ↦ (let same : Some u ≡ Some x = sym (cond-true (u.id == id) (Some u) (thing_with_id us id) here) ∙ found in let is : u ≡ x = cc in ap (λ (z : Thing). z.id) (sym is) ∙ eqb-true u.id id here)
-      | inr away ↦ found_same us id x (sym (cond-false (u.id == id) (Some u) (thing_with_id us id) away) ∙ found)
-    ]
 
 pub passes_in : (n : ℕ) (p : Thing → Bool) (things : List Thing) (id : ℕ) → AreNumbered n things → list_any (λ (other : Thing). other.id == id) (filter p things) ≡ passes p (thing_with_id things id)
 passes_in n p [] id numbered = refl
@@ -114,7 +109,7 @@ module _ (t : Topology) (m n : Machine) (before : AreNumbered 1000 m.device.worl
       → map label_and_id (entries (lost N L news) o) ≡ freed_entry t n (thing_with_id news id)
   entry_same id None found same needed = sym (ap (freed_entry t n) same)
   entry_same id (Some x) found same needed =
-      let own : x.id ≡ id = found_same olds id x found in
+      let own : x.id ≡ id = find-same olds id x found in
       let now : thing_with_id news x.id ≡ Some same.thing = ap (thing_with_id news) own ∙ same.found in
       rw (now, same.found)
       (by_kind (is_framebuffer x.content) refl same.label same.id
@@ -178,7 +173,7 @@ module _ (N L : Thing → Bool) (olds news : List Thing) (before : AreNumbered 1
       let found = needed_ids (filter L news) id is in
       let y = found.0 in
       let is_new = filter-in L news y found.1.0 in
-      let now : thing_with_id news id ≡ Some y = ap (thing_with_id news) (sym found.1.1) ∙ with_own_id 1000 news y after is_new.0 in
+      let now : thing_with_id news id ≡ Some y = ap (thing_with_id news) (sym found.1.1) ∙ with-id 1000 news y after is_new.0 in
       at id y (thing_with_id olds id) refl now is_new.1 (subst (λ z. passes N (thing_with_id olds z) ≡ true) found.1.1 (back y is_new.0 is_new.1))) in
       let size = as_long (filter L news) in
       let parts = length-parts N (λ x. passes L (thing_with_id news x.id)) olds in
@@ -190,4 +185,4 @@ module _ (N L : Thing → Bool) (olds news : List Thing) (before : AreNumbered 1
 
       at : (id : ℕ) (y : Thing) (o : Option Thing) → thing_with_id olds id ≡ o → thing_with_id news id ≡ Some y → L y ≡ true → passes N o ≡ true → passes (λ x. N x && passes L (thing_with_id news x.id)) o ≡ true
       at id y None found now later e = absurd cc
-      at id y (Some x) found now later e = and_from (N x) _ e (rw (ap (thing_with_id news) (found_same olds id x found) ∙ now) later)
+      at id y (Some x) found now later e = and_from (N x) _ e (rw (ap (thing_with_id news) (find-same olds id x found) ∙ now) later)

@@ -16,22 +16,23 @@ use Rattle.kms_model.specs.Device.World.{thing_with_id}
 use Rattle.kms_model.specs.Machine.Commits.{has_number}
 use Rattle.kms_model.specs.Machine.Effects.{answers, counts_vblank, goes_on, next, signals}
 use Rattle.kms_model.specs.Machine.Framebuffers.{freed_from, is_needed, picture_names}
-use Rattle.kms_model.specs.Machine.Histories.{at, is_history, last_latched, legal, run_steps}
+use Rattle.kms_model.specs.Machine.Histories.{at, is_history, last_latched, legal}
 use Rattle.kms_model.specs.Machine.Registers.{decoded_picture}
 use Rattle.kms_model.specs.Machine.State.{Machine, command_at, count_at, first_machine}
 use Rattle.kms_model.specs.Machine.Steps.{is_making}
 use Rattle.kms_model.proofs.Items.{IsIn, IsObject, ids-in}
+use Rattle.kms_model.proofs.ShownLemmas.{with-id}
 use Rattle.kms_laws.proofs.EachStep.{Carries, by_bool, by_fence, by_latch, by_two, each_step, latched_as, made_as, swapped_as}
 use Rattle.kms_laws.proofs.Executed.{execute_follows}
 use Rattle.kms_laws.proofs.Objects.{crtc_index}
 use Rattle.kms_laws.proofs.Steps.{Holds, IsPlainScript, flushed_at, history_kept, not_atomic, step_kept}
 use Rattle.kms_laws.proofs.Traversal.{commit_of, step_keeps}
 use Rattle.kms_laws.proofs.Whole.{Whole, history_whole, whole_kept}
+use Rattle.kms_laws.proofs.Turning.{run-more}
 use Rattle.kms_freeing.specs.Freeing.{AreAllOf, AreFreed, freed_among, label_and_id, may_free}
 use Rattle.kms_logs.specs.Logs.{Reserved}
 use Rattle.kms_freeing.proofs.FreedBetween.{freed_as, freed_last, lost}
 use Rattle.kms_freeing.proofs.FreedLatches.{latch_told}
-use Rattle.kms_freeing.proofs.FreedLists.{with_own_id}
 use Rattle.kms_freeing.proofs.FreedMakes.{IsAdded, MadeFrees, made_frees}
 use Rattle.kms_freeing.proofs.FreedSteps.{IsQuiet, IsTold, SameNeeds, cleaned_as, needs_of, quiet_same, stays, swap_quiet}
 
@@ -141,11 +142,6 @@ module _ (s : Script) (m : Machine) where
 
 -- A history that goes on by a legal step
 
-pub at_last : (s : Script) (m : Machine) (h : List Step) (step : Step) → run_steps s m (h ++ step ∷ []) ≡ next s (run_steps s m h) step
-unfolding run_steps
-at_last s m [] step = refl
-at_last s m (first ∷ h) step = at_last s (next s m first) h step
-
 module _ (s : Script) (h : List Step) (last : Step) (plain : IsPlainScript s) (is : is_history s h ≡ true) (is_legal : legal s (at s h) last ≡ true) where
   abbrev before : Machine
   before = at s h
@@ -172,7 +168,7 @@ module _ (s : Script) (h : List Step) (last : Step) (plain : IsPlainScript s) (i
   back_same : (t_n : (next s (at s h) last).device.world ≡ (at s h).device.world) (x : Thing) → IsIn x (at s h).device.world.things → is_needed s.topology (next s (at s h) last) x ≡ true → is_needed s.topology (at s h) x ≡ true
   back_same same_world x x_in needed =
       stays s h last plain is is_legal x x x_in (needs_of s.topology (next s (at s h) last) x needed).framebuffer
-      (ap (λ w. thing_with_id w.things x.id) same_world ∙ with_own_id 1000 (at s h).device.world.things x H.present.sound.numbered x_in) needed
+      (ap (λ w. thing_with_id w.things x.id) same_world ∙ with-id 1000 (at s h).device.world.things x H.present.sound.numbered x_in) needed
 
   -- steps that free nothing
   pub quiet_swap : (client : ℕ) → Commits s (at s h) (next s (at s h) last) client → IsQuiet s.topology (at s h) (next s (at s h) last)
@@ -226,7 +222,7 @@ module _ (s : Script) (h : List Step) (last : Step) (plain : IsPlainScript s) (i
       → AreFreed s (h ++ last ∷ []) w
   none_freed v w k F items places none most = record {
     items = items ∙ F.items ∙ ap (map label_and_id) (sym (goes_further ∙ ap (λ xs. freed_from s (first_machine s.topology) h ++ xs) none ∙ ends _));
-    places = rw (at_last s (first_machine s.topology) h last) (let few = F.places in omega (arith, few, most, places));
+    places = rw (run-more s (first_machine s.topology) h last) (let few = F.places in omega (arith, few, most, places));
   }
 
   pub quiet_freed : (v w : Reserved (ℕ × ℕ)) → AreFreed s h v → w.items ≡ v.items → v.places ≤ w.places → IsQuiet s.topology (at s h) (next s (at s h) last) → AreFreed s (h ++ last ∷ []) w
@@ -240,7 +236,7 @@ module _ (s : Script) (h : List Step) (last : Step) (plain : IsPlainScript s) (i
   told_freed v w ids F T items places = record {
     items = items ∙ ap (λ xs. xs ++ freed_among s.topology (next s (at s h) last) ids) F.items ∙ ap (λ xs. map label_and_id (freed_from s (first_machine s.topology) h) ++ xs) (sym T.told)
         ∙ sym (joined (freed_from s (first_machine s.topology) h) _) ∙ ap (map label_and_id) (sym goes_further);
-    places = rw (at_last s (first_machine s.topology) h last) (
+    places = rw (run-more s (first_machine s.topology) h last) (
         let few = F.places in
         let fewer = T.fewer in
         let size = sym (as_long (filter (lost (is_needed s.topology (at s h)) (is_needed s.topology (next s (at s h) last)) (next s (at s h) last).device.world.things) (at s h).device.world.things)) ∙ ap length T.told in

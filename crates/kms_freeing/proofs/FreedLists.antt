@@ -2,7 +2,7 @@
 use Rattle.std.proofs.Common.{◌≡◌, ℕ, suc, ◌+◌, ◌<◌, ◌≤◌, List, [], ◌∷◌, ◌++◌, length, map, Bool, true, false, not, ◌&&◌, ◌==◌, Option, Some, None, refl, sym, ap, ◌∙◌, subst, arith, rules, inl, inr, ◌⊎◌}
 use Rattle.std.specs.Prelude.{if◌then◌else◌, nat_le, nat_lt, filter}
 use Rattle.std.specs.List.{flat_map}
-use Rattle.std.proofs.lemmas.Bool.{and_from, and_parts, cases_Bool, cases_eq, cases_lt, cond-false, cond-true, eq-eqb, eqb-true, lt-ltb, le-ltb, false_from_ne_true, ne_eqb}
+use Rattle.std.proofs.lemmas.Bool.{and_from, and_parts, cases_Bool, cases_eq, cases_lt, cond-false, eq-eqb, eqb-true, lt-ltb, le-ltb, false_from_ne_true, ne_eqb}
 use Rattle.kms_model.specs.declared.worlds.Thing.{Thing}
 use Rattle.kms_model.specs.Device.Sound.{AreNumbered}
 use Rattle.kms_model.specs.Device.World.{thing_with_id}
@@ -28,15 +28,6 @@ with_id_before n (u ∷ us) id numbered low =
     cond-false (u.id == id) (Some u) (thing_with_id us id) (ne_eqb u.id id (λ e. let at = numbered.0 in omega (arith, e, at, low)))
     ∙ with_id_before (n + 1) us id numbered.1 (omega (arith, low))
 
-pub with_own_id : (n : ℕ) (things : List Thing) (x : Thing) → AreNumbered n things → IsIn x things → thing_with_id things x.id ≡ Some x
-with_own_id n [] x numbered is = absurd is
-with_own_id n (u ∷ us) x numbered (inl same) =
-    cond-true (u.id == x.id) (Some u) (thing_with_id us x.id) (eq-eqb u.id x.id (ap (λ (z : Thing). z.id) same)) ∙ ap Some same
-with_own_id n (u ∷ us) x numbered (inr rest) =
-    let later = ids-numbered (n + 1) us x numbered.1 rest in
-    cond-false (u.id == x.id) (Some u) (thing_with_id us x.id) (ne_eqb u.id x.id (λ e. let at = numbered.0 in omega (arith, e, at, later.low)))
-    ∙ with_own_id (n + 1) us x numbered.1 rest
-
 -- Filters
 
 pub filter-filter : {A : Type 0} (p q : A → Bool) (xs : List A) → filter q (filter p xs) ≡ filter (λ x. p x && q x) xs
@@ -50,21 +41,6 @@ filter-filter p q (x ∷ xs) =
 pub filter-none : {A : Type 0} (p : A → Bool) (xs : List A) → ((x : A) → IsIn x xs → p x ≡ false) → filter p xs ≡ []
 filter-none p [] each = refl
 filter-none p (x ∷ xs) each = rw (each x (inl refl)) (filter-none p xs (λ y is. each y (inr is)))
-
-pub filter-in : {A : Type 0} (p : A → Bool) (xs : List A) (x : A) → IsIn x (filter p xs) → IsIn x xs × (p x ≡ true)
-filter-in p [] x is = absurd is
-filter-in p (y ∷ ys) x is = by_test (filter-in p ys x) (p y) refl is where
-  by_test : (IsIn x (filter p ys) → IsIn x ys × (p x ≡ true)) → (b : Bool) → p y ≡ b → IsIn x (if b then y ∷ filter p ys else filter p ys) → IsIn x (y ∷ ys) × (p x ≡ true)
-  by_test later true e (inl same) = (inl same, ap p (sym same) ∙ e)
-  by_test later true e (inr rest) = (let found = later rest in (inr found.0, found.1))
-  by_test later false e rest = (let found = later rest in (inr found.0, found.1))
-
-pub filter-most : {A : Type 0} (p : A → Bool) (xs : List A) → length (filter p xs) ≤ length xs
-filter-most p [] = omega arith
-filter-most {A} p (x ∷ xs) = by_test (p x) (filter-most p xs) where
-  by_test : (b : Bool) → length (filter p xs) ≤ length xs → length (if b then x ∷ filter p xs else filter p xs) ≤ suc (length xs)
-  by_test true few = omega (arith, few)
-  by_test false few = omega (arith, few)
 
 pub length-fewer : {A : Type 0} (p q : A → Bool) (xs : List A) → ((x : A) → IsIn x xs → q x ≡ true → p x ≡ true) → length (filter q xs) ≤ length (filter p xs)
 length-fewer p q [] more = omega arith

@@ -23,10 +23,11 @@ use Rattle.kms_model.specs.Machine.Steps.{is_making}
 use Rattle.kms_model.proofs.FramedLemmas.{closed_same}
 use Rattle.kms_model.proofs.Items.{IsIn}
 use Rattle.kms_model.proofs.ThingLemmas.{find-in, numbered-closed}
+use Rattle.kms_model.proofs.ShownLemmas.{with-id}
 use Rattle.kms_laws.proofs.Closed.{closed_labelled, closed_with_id}
 use Rattle.kms_laws.proofs.Executed.{IsLike, plane_like}
 use Rattle.kms_freeing.specs.Freeing.{AreRising}
-use Rattle.kms_freeing.proofs.FreedLists.{filter-none, passes, with_own_id}
+use Rattle.kms_freeing.proofs.FreedLists.{filter-none, passes}
 use Rattle.kms_freeing.proofs.FreedBetween.{IsSameOrNone, fewer_needed, freed_told, lost, places_suffice}
 use Rattle.kms_freeing.proofs.FreedSteps.{IsLonger, IsQuiet, IsTold, kept_same, live_same, longer_count, longer_none, needed_by, needed_same, needs_of, quiet_longer, values_same}
 
@@ -99,7 +100,7 @@ module _ (t : Topology) (m n : Machine) (w : World) (u : Thing) (X : IsExecuted 
   -- another thing is as it was
   other_same : (x : Thing) → IsIn x m.device.world.things → (x.id ≡ u.id → ⊥) → thing_with_id n.device.world.things x.id ≡ Some x
   other_same x x_in apart =
-      ap (λ things. thing_with_id things x.id) now ∙ closed_with_id m.device.world.things u.id x.id ∙ ap (option_map (closed_if u.id)) (with_own_id 1000 m.device.world.things x X.numbered x_in)
+      ap (λ things. thing_with_id things x.id) now ∙ closed_with_id m.device.world.things u.id x.id ∙ ap (option_map (closed_if u.id)) (with-id 1000 m.device.world.things x X.numbered x_in)
       ∙ ap Some (cond-false (x.id == u.id) (record x { is_open = false }) x (ne_eqb x.id u.id apart))
 
   only_this : (x : Thing) → IsIn x m.device.world.things → is_needed t m x ≡ true → passes (is_needed t n) (thing_with_id n.device.world.things x.id) ≡ false → x.id ≡ u.id
@@ -117,7 +118,7 @@ module _ (t : Topology) (m n : Machine) (w : World) (u : Thing) (X : IsExecuted 
 
   back : (y : Thing) → IsIn y n.device.world.things → is_needed t n y ≡ true → passes (is_needed t m) (thing_with_id m.device.world.things y.id) ≡ true
   back y y_in needed =
-      let found = sym (closed_with_id m.device.world.things u.id y.id) ∙ ap (λ things. thing_with_id things y.id) (sym now) ∙ with_own_id 1000 n.device.world.things y numbered_now y_in in
+      let found = sym (closed_with_id m.device.world.things u.id y.id) ∙ ap (λ things. thing_with_id things y.id) (sym now) ∙ with-id 1000 n.device.world.things y numbered_now y_in in
       at (thing_with_id m.device.world.things y.id) found
     where
       at : (o : Option Thing) → option_map (closed_if u.id) o ≡ Some y → passes (is_needed t m) o ≡ true
@@ -139,7 +140,7 @@ module _ (t : Topology) (m n : Machine) (w : World) (u : Thing) (X : IsExecuted 
     needed : (id : ℕ) → IsIn id (u.id ∷ []) → (x : Thing) → thing_with_id m.device.world.things id ≡ Some x → is_framebuffer x.content ≡ true → is_needed t m x ≡ true
     needed id (inr rest) x found framebuffer = absurd rest
     needed id (inl same) x found framebuffer =
-        let one : Some x ≡ Some u = sym found ∙ ap (thing_with_id m.device.world.things) (sym same) ∙ with_own_id 1000 m.device.world.things u X.numbered u_in in
+        let one : Some x ≡ Some u = sym found ∙ ap (thing_with_id m.device.world.things) (sym same) ∙ with-id 1000 m.device.world.things u X.numbered u_in in
         let is_u : x ≡ u = cc in
         needed_by t m x (record { framebuffer = framebuffer; why = inl (ap (λ (z : Thing). z.is_open) is_u ∙ opened) })
 
@@ -161,7 +162,7 @@ module _ (t : Topology) (m n : Machine) (w : World) (u : Thing) (X : IsExecuted 
         by_lost true e =
             let both = and_parts (is_needed t m x) _ e in
             let same = only_this x x_in both.0 (off _ both.1) in
-            let one : Some x ≡ Some u = sym (with_own_id 1000 m.device.world.things x X.numbered x_in) ∙ ap (thing_with_id m.device.world.things) same ∙ with_own_id 1000 m.device.world.things u X.numbered u_in in
+            let one : Some x ≡ Some u = sym (with-id 1000 m.device.world.things x X.numbered x_in) ∙ ap (thing_with_id m.device.world.things) same ∙ with-id 1000 m.device.world.things u X.numbered u_in in
             let is_u : x ≡ u = cc in
             absurd (false≢true (sym none ∙ ap (λ (z : Thing). is_framebuffer z.content) (sym is_u) ∙ (needs_of t m x both.0).framebuffer))
 

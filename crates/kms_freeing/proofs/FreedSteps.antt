@@ -1,7 +1,7 @@
 -- What each kind of step frees.
 use Rattle.std.proofs.Common.{◌≡◌, ℕ, suc, ◌+◌, ◌<◌, ◌≤◌, List, [], ◌∷◌, ◌++◌, length, map, Bool, true, false, not, ◌&&◌, ◌||◌, ◌==◌, Option, Some, None, refl, sym, ap, ◌∙◌, subst, arith, inl, inr, ◌⊎◌}
 use Rattle.std.specs.Prelude.{filter}
-use Rattle.std.specs.List.{All, list_any, range_with_len}
+use Rattle.std.specs.List.{list_any, range_with_len}
 use Rattle.std.proofs.lemmas.Bool.{and_from, and_parts, cases_Bool, cases_eq, cond-false, cond-true, eq-eqb, eqb-true, false≢true, ne_eqb, not-true, or_cases, or_from, or_left, or_parts, or_right}
 use Rattle.kms_model.specs.declared.objects.Kind.TheVariants.{Crtc, Plane}
 use Rattle.kms_model.specs.declared.objects.Topology.{Topology}
@@ -24,17 +24,20 @@ use Rattle.kms_model.specs.Machine.Registers.{PlaneWords, Registers, decoded_pic
 use Rattle.kms_model.specs.Machine.State.{Commit, DeviceState, Machine}
 use Rattle.kms_model.specs.Request.Touched.{out_fence_label}
 use Rattle.kms_model.proofs.Items.{IsIn, list_any-has, list_any-same, list_any-some}
-use Rattle.kms_laws.proofs.Framebuffers.{framebuffers_once, range-below}
+use Rattle.kms_laws.proofs.Framebuffers.{framebuffers_once, range-below, word_fb, find-same}
 use Rattle.kms_laws.proofs.Invariants.{plane_after}
-use Rattle.kms_laws.proofs.Numbered.{commit_new, commit_old, plane_old, touches_old}
+use Rattle.kms_laws.proofs.Numbered.{plane_old}
 use Rattle.kms_model.proofs.ThingLemmas.{ids-numbered}
+use Rattle.kms_model.proofs.CommitFacts.{commit_old, commit_new, touches_old}
+use Rattle.kms_model.proofs.ShownLemmas.{with-id}
+use Rattle.kms_model.proofs.CrtcLemmas.{all_in}
 use Rattle.kms_model.specs.declared.pictures.FbInfo.{FbInfo}
 use Rattle.kms_model.specs.declared.states.PlaneState.{PlaneState}
 use Rattle.kms_laws.proofs.Steps.{Holds, IsPlainScript}
 use Rattle.kms_laws.proofs.Headlines.{range-in}
 use Rattle.kms_freeing.specs.Freeing.{AreAllOf, AreRising, freed_among, is_framebuffer_in, label_and_id}
-use Rattle.kms_freeing.proofs.FreedLists.{filter-none, length-fewer, passes, with_own_id}
-use Rattle.kms_freeing.proofs.FreedBetween.{IsSameOrNone, fewer_needed, found_same, freed_told, lost, places_suffice}
+use Rattle.kms_freeing.proofs.FreedLists.{filter-none, length-fewer, passes}
+use Rattle.kms_freeing.proofs.FreedBetween.{IsSameOrNone, fewer_needed, freed_told, lost, places_suffice}
 
 -- What is needed is told by four parts of a machine.
 
@@ -91,7 +94,7 @@ filter-longer p (x ∷ xs) more =
 pub longer_none : (t : Topology) (m n : Machine) (more : List Thing) → AreNumbered 1000 m.device.world.things → IsLonger t m n more → filter (lost (is_needed t m) (is_needed t n) n.device.world.things) m.device.world.things ≡ []
 longer_none t m n more numbered L =
     filter-none _ m.device.world.things (λ x is.
-    let found = ap (λ things. thing_with_id things x.id) L.things ∙ with_id_longer m.device.world.things more x.id x (with_own_id 1000 m.device.world.things x numbered is) in
+    let found = ap (λ things. thing_with_id things x.id) L.things ∙ with_id_longer m.device.world.things more x.id x (with-id 1000 m.device.world.things x numbered is) in
     rw (found, L.same x is) (never (is_needed t m x)))
   where
     never : (b : Bool) → (b && not b) ≡ false
@@ -132,12 +135,6 @@ quiet_same t m n numbered S =
     no_more [] = refl
     no_more (x ∷ xs) = ap (λ rest. x ∷ rest) (no_more xs)
 
--- a framebuffer that is not needed stays so
-all_at : {A : Type 0} (P : A → Type 0) (xs : List A) (x : A) → All P xs → IsIn x xs → P x
-all_at P [] x all is = absurd is
-all_at P (y ∷ ys) x all (inl same) = subst P same (all 0 y (omega arith))
-all_at P (y ∷ ys) x all (inr rest) = all_at P ys x (λ k d l. all (suc k) d (omega (arith, l))) rest
-
 abbrev StaysFree : Script → Machine → Step → Thing → Type 0
 StaysFree s m step thing = is_framebuffer thing.content ≡ true → is_needed s.topology m thing ≡ false
     → (later : Thing) → thing_with_id (next s m step).device.world.things thing.id ≡ Some later → is_needed s.topology (next s m step) later ≡ false
@@ -147,7 +144,7 @@ pub stays : (s : Script) (h : List Step) (step : Step) → IsPlainScript s → i
 stays s h step plain is legal_step x y x_in framebuffer found needed =
     elim (cases_Bool (is_needed s.topology (at s h) x)) [
       | inl was ↦ was
-      | inr unneeded ↦ absurd (false≢true (sym (all_at (StaysFree s (at s h) step) (at s h).device.world.things x (framebuffers_once s h plain is step legal_step) x_in framebuffer unneeded y found) ∙ needed))
+      | inr unneeded ↦ absurd (false≢true (sym (all_in (StaysFree s (at s h) step) (at s h).device.world.things x (framebuffers_once s h plain is step legal_step) x_in framebuffer unneeded y found) ∙ needed))
     ]
 
 -- A cleanup
@@ -211,7 +208,7 @@ keeps_by t m id k is unclean keeps = list_any-has (λ k. not (is_cleaned m.devic
 -- where no thing changes, and what is needed after was needed before
 module _ (t : Topology) (m n : Machine) (numbered : AreNumbered 1000 m.device.world.things) (same : n.device.world.things ≡ m.device.world.things) (back : (x : Thing) → IsIn x m.device.world.things → is_needed t n x ≡ true → is_needed t m x ≡ true) where
   found_now : (x : Thing) → IsIn x m.device.world.things → thing_with_id n.device.world.things x.id ≡ Some x
-  found_now x is = ap (λ things. thing_with_id things x.id) same ∙ with_own_id 1000 m.device.world.things x numbered is
+  found_now x is = ap (λ things. thing_with_id things x.id) same ∙ with-id 1000 m.device.world.things x numbered is
 
   numbered_now : AreNumbered 1000 n.device.world.things
   numbered_now = subst (AreNumbered 1000) (sym same) numbered
@@ -225,13 +222,13 @@ module _ (t : Topology) (m n : Machine) (numbered : AreNumbered 1000 m.device.wo
       → ((x : Thing) → is_needed t m x ≡ true → is_needed t n x ≡ false → IsIn x.id ids) → IsTold t m n ids
   told_by ids rising each all = record {
     told = freed_told t m n numbered numbered_now (λ id. subst (λ things. IsSameOrNone (thing_with_id m.device.world.things id) (thing_with_id things id)) (sym same) (same_or_none (thing_with_id m.device.world.things id)))
-        ids rising (λ id is x found framebuffer. each id is x (found_same m.device.world.things id x found) framebuffer)
+        ids rising (λ id is x found framebuffer. each id is x (find-same m.device.world.things id x found) framebuffer)
         (λ x is needed off. all x needed (sym (ap (passes (is_needed t n)) (found_now x is)) ∙ off));
     room = places_suffice t m n numbered numbered_now (λ id. subst (λ things. IsSameOrNone (thing_with_id m.device.world.things id) (thing_with_id things id)) (sym same) (same_or_none (thing_with_id m.device.world.things id)))
-        ids rising (λ id is x found framebuffer. each id is x (found_same m.device.world.things id x found) framebuffer);
+        ids rising (λ id is x found framebuffer. each id is x (find-same m.device.world.things id x found) framebuffer);
     fewer = fewer_needed (is_needed t m) (is_needed t n) m.device.world.things n.device.world.things numbered numbered_now (λ y is needed.
         let old : IsIn y m.device.world.things = subst (IsIn y) same is in
-        ap (passes (is_needed t m)) (with_own_id 1000 m.device.world.things y numbered old) ∙ back y old needed);
+        ap (passes (is_needed t m)) (with-id 1000 m.device.world.things y numbered old) ∙ back y old needed);
   }
 
 -- a commit is cleaned
@@ -337,14 +334,10 @@ word_named : (id : ℕ) (o : Option FbInfo) → 1 ≤ id → fb_number (λ f. f.
 word_named id None some word = absurd (omega (arith, some, word))
 word_named id (Some f) some word = eq-eqb f.id id word
 
-word_is : (p : PlaneState) → (plane_words p).fb ≡ fb_number (λ f. f.id) p.fb
-unfolding plane_words
-word_is p = refl
-
 -- a plane with these words names what another with the same words names
 pub names_alike : (id : ℕ) (p q : PlaneState) → 1 ≤ id → plane_words p ≡ plane_words q → is_fb id p.fb ≡ true → is_fb id q.fb ≡ true
 names_alike id p q some same names =
-    word_named id q.fb some (sym (word_is q) ∙ ap (λ (w : PlaneWords). w.fb) (sym same) ∙ word_is p ∙ named_word id p.fb names)
+    word_named id q.fb some (sym (word_fb q) ∙ ap (λ (w : PlaneWords). w.fb) (sym same) ∙ word_fb p ∙ named_word id p.fb names)
 
 pub values_some : (t : Topology) (d : DeviceState) (id : ℕ) → values_name t d id ≡ true → (p : ℕ) × (IsIn p (ids_of t Plane) × (is_fb id (plane_at d.world.things d.world.values p).fb ≡ true))
 unfolding values_name
@@ -402,7 +395,7 @@ swap_quiet s m n client x C back =
     things = ap (λ (w : World). w.things) C.world ∙ E.same
 
     found_now : (u : Thing) → IsIn u m.device.world.things → thing_with_id n.device.world.things u.id ≡ Some u
-    found_now u is = ap (λ all. thing_with_id all u.id) things ∙ with_id_longer m.device.world.things E.more u.id u (with_own_id 1000 m.device.world.things u numbered is)
+    found_now u is = ap (λ all. thing_with_id all u.id) things ∙ with_id_longer m.device.world.things E.more u.id u (with-id 1000 m.device.world.things u numbered is)
 
     size : length n.device.commits ≡ suc (length m.device.commits)
     size = ap length C.commits

@@ -4,7 +4,6 @@ use Rattle.std.specs.Prelude.{◌==◌, if◌then◌else◌, pos}
 use Rattle.std.specs.Fmt.{decimal}
 use Rattle.std.specs.List.{list_all}
 use Rattle.std.proofs.lemmas.Bool.{and_from, and_parts}
-use Rattle.std.proofs.lemmas.Bool.Decides.{nat_tests}
 use Rattle.std.proofs.lemmas.List.Folds.{list_all-append}
 use Rattle.kms_model.specs.declared.objects.Kind.{Kind}
 use Rattle.kms_model.specs.declared.objects.Kind.TheVariants.{Plane}
@@ -22,6 +21,7 @@ use Rattle.kms_model.specs.Script.Words.{is_digit}
 use Rattle.kms_model.proofs.OnScripts.{on_scripts}
 use Rattle.kms_script.specs.Printed.{fields}
 use Rattle.kms_script.proofs.Decimals.{dec_read, decimal_digits}
+use Rattle.kms_script.proofs.StepTexts.{digit_plain}
 use Rattle.kms_gen.proofs.Cutting.{each, field_of, is_inner, no_front, number_inner, number_of, words_of_fields}
 
 -- Values
@@ -180,9 +180,6 @@ sets_inner : (crtc : ℕ) (d : Drawn) → crtc < 2 → list_all (list_all is_inn
 sets_inner crtc d lt =
     let show = shows_pass crtc lt (d.number % 2 == 0) in
     sets_pass is_inner (λ n le. number_inner n (omega (arith, le))) crtc d show.0 (fades_pass crtc lt).0 (moves_pass crtc lt).0
-
-digit_plain : (b : ℕ) → is_digit b ≡ true → is_printable b ≡ true
-digit_plain b d = grind (arith, nat_tests)
 
 number_plain : (n : ℕ) → n ≤ 18446744073709551615 → list_all is_printable (decimal n) ≡ true
 number_plain n le = each is_digit is_printable digit_plain (decimal n) (decimal_digits n (omega (arith, le)))

@@ -2,6 +2,7 @@
 use Rattle.std.proofs.Common.{◌≡◌, ℕ, zero, suc, ◌+◌, ◌-◌, ◌≤◌, ◌<◌, List, [], ◌∷◌, ◌++◌, length, get_or, set, sym, ap, ◌∙◌, subst, refl, arith, Option, length-set, get_or-set_other, get_or-set_same}
 use Rattle.std.proofs.lemmas.List.Elements.{All-head, All-tail}
 use mathlib.Core.Logic.{dite}
+use Rattle.kms_model.proofs.Facts.{only_item}
 use native.Mathlib.Decide.{ℕ_discrete}
 use Rattle.kms_histlock.specs.declared.view.View.{View}
 use Rattle.kms_histlock.specs.declared.view.ServedTurn.{ServedTurn}
@@ -91,9 +92,6 @@ found_at owner entries counted fixed s q t p f is = subst (λ (z : PassState _ _
     counts_read = λ k l. let a = f.counts_read k l in let b = f.fits.1 k l in let c = ap (counted k) f.fits.0 in omega arith;
   };
 }
-
-only_item : {X : Type 0} {x y : X} → x ∷ [] ≡ y ∷ [] → x ≡ y
-only_item e = cc
 
 -- a value that a seat finds, and of which what holds of each value was shown, is one that its pass may find
 pub may_find : {T E X : Type 0} (owner : E → ℕ) (entries : T → List E) (counted : ℕ → List E → ℕ) (fixed : T → X) (sound : T → Type 0) (s : Seat (Option T) (View E X)) (q : ServedTurn E) (t : T) (p : PassState E X) (l l' : LockState X)

@@ -20,6 +20,7 @@ use Rattle.kms_histlock.specs.Steps.{Sat, opened, standing, waiting, kept_back, 
 use Rattle.kms_histlock.specs.Seats.{Lengthens, HasAllSeen}
 use Rattle.std.proofs.lemmas.List.Sums.{sum_by_push}
 use Rattle.kms_model.proofs.SumLemmas.{sum_put, sum_two}
+use Rattle.kms_model.proofs.Facts.{only_item}
 use Rattle.kms_histlock.proofs.Lists.{put, put_else, sum_only, each_put, one_at}
 use Rattle.kms_histlock.proofs.Numbering.{mirrors_put, mirrors_snoc, mirrors_more, numbers_stay, numbers_drawn, numbers_passed, is_first}
 use Rattle.kms_histlock.proofs.Holding.{untagged, serving_drawn, held_stays, at_home, held_taken, held_given, held_refit, one_serves, parts_put, not_spent, parts_split, parts_join, leads_put, is_lead, leads_split, leads_join}
@@ -44,9 +45,6 @@ module _ {E X : Type 0} where
 
 abbrev four_zeros : List ℕ
 four_zeros = 0 ∷ 0 ∷ 0 ∷ 0 ∷ []
-
-only_item : {X : Type 0} {x y : X} → x ∷ [] ≡ y ∷ [] → x ≡ y
-only_item e = cc
 
 -- whether a stage has the turn, as a test
 not_serving : {E : Type 0} (st : Stage E) (q : ServedTurn E) → serving st ≡ 0 → st ≡ Serves q → ⊥

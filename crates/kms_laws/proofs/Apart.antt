@@ -34,9 +34,10 @@ use Rattle.kms_model.proofs.Items.{IsIn, IsObject, first_some-at, ids-has, ids-i
 use Rattle.kms_model.proofs.SeenLemmas.{plane_crtc-held}
 use Rattle.kms_model.proofs.SoundKept.{accepted-parts, apply-held, sound-apply}
 use Rattle.kms_model.proofs.TouchedLemmas.{IsRequestAt, few_objects}
+use Rattle.kms_model.proofs.CommitFacts.{commit_old, commit_new, touches_old, touches_new, concerns_old, concerns_new}
 use Rattle.kms_laws.proofs.Basics.{both_bools, in_either}
 use Rattle.kms_laws.proofs.Invariants.{picture_at, picture_in_words, plane_after}
-use Rattle.kms_laws.proofs.Numbered.{commit_new, commit_old, concerns_new, concerns_old, crtc_new, names_new, names_old, picture_old, plane_new, plane_old, touches_new, touches_old}
+use Rattle.kms_laws.proofs.Numbered.{crtc_new, names_new, names_old, picture_old, plane_new, plane_old}
 use Rattle.kms_laws.proofs.Objects.{conn_kind, crtc_kind, plane_kind}
 use Rattle.kms_laws.proofs.Present.{is_old, StatesStand}
 use Rattle.kms_laws.proofs.Requests.{is_on_kind, kind_names, moves_on-from}

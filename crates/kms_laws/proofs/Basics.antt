@@ -1,5 +1,5 @@
 -- Tests on lists, marks and tables.
-use Rattle.std.proofs.Common.{◌≡◌, ℕ, List, [], ◌∷◌, ◌++◌, Bool, true, false, not, ◌&&◌, ◌||◌, ◌==◌, refl, sym, ◌∙◌, inl, inr, ◌⊎◌, ⊎_elim}
+use Rattle.std.proofs.Common.{◌≡◌, ℕ, List, [], ◌∷◌, ◌++◌, Bool, true, false, ◌&&◌, ◌==◌, refl, sym, ◌∙◌, inl, inr, ◌⊎◌, ⊎_elim}
 use Rattle.std.proofs.lemmas.Bool.{and_parts, or_cases, and_from, or_left, or_right, eqb-true, eq-eqb, ne_eqb, cond-true, cond-false, false≢true}
 use Rattle.kms_model.specs.Machine.Commits.{has_number, has_pair}
 use Rattle.kms_model.specs.Machine.Registers.{read}
@@ -7,14 +7,6 @@ use Rattle.kms_model.proofs.Items.{IsIn}
 
 pub both_bools : (b : Bool) → b ≡ true → b ≡ false → ⊥
 both_bools b t f = false≢true (sym f ∙ t)
-
-pub implied : (a b : Bool) → (not a || b) ≡ true → a ≡ true → b ≡ true
-implied true b h e = h
-implied false b h e = absurd (false≢true e)
-
-pub implied_from : (a b : Bool) → (a ≡ true → b ≡ true) → (not a || b) ≡ true
-implied_from true b h = h refl
-implied_from false b h = refl
 
 pub in_left : {A : Type 0} (xs ys : List A) (o : A) → IsIn o xs → IsIn o (xs ++ ys)
 in_left [] ys o is = absurd is

@@ -64,7 +64,7 @@ nothing-flat : (ks : List ℕ) → length (flat_map {X = ℕ} {A = ℕ} (λ k. [
 nothing-flat [] = refl
 nothing-flat (k ∷ ks) = nothing-flat ks
 
-not-none : {A : Type 0} (o : Option A) → is_some o ≡ false → o ≡ None
+pub not-none : {A : Type 0} (o : Option A) → is_some o ≡ false → o ≡ None
 not-none None h = refl
 not-none (Some x) h = absurd (false≢true (sym h))
 

@@ -16,7 +16,7 @@ use Rattle.kms_laws.proofs.LockSteps.{contended-asked}
 use Rattle.kms_laws.proofs.NeverStuck.{history_facts}
 use Rattle.kms_laws.proofs.Steps.{IsPlainScript, value-is}
 
-in-number : (xs : List ℕ) (o : ℕ) → IsIn o xs → has_number xs o ≡ true
+pub in-number : (xs : List ℕ) (o : ℕ) → IsIn o xs → has_number xs o ≡ true
 in-number xs o is = list_any-has (λ m. m == o) xs o is (eq-eqb o o refl)
 
 holder-is : (d : Doing) → may_hold d ≡ true → (is_taking d || must_back_off d) ≡ true
@@ -26,7 +26,7 @@ holder-is doing.Idle h = absurd (false≢true h)
 holder-is (doing.BackedOff ticket object) h = absurd (false≢true h)
 holder-is (doing.Returning k) h = absurd (false≢true h)
 
-returning-is : (d : Doing) (k : ℕ) → returning_of d ≡ Some k → d ≡ doing.Returning k
+pub returning-is : (d : Doing) (k : ℕ) → returning_of d ≡ Some k → d ≡ doing.Returning k
 returning-is (doing.Returning j) k e = (let same : j ≡ k = cc in ap doing.Returning same)
 returning-is (doing.Taking ticket) k e = absurd cc
 returning-is (doing.MustBackOff ticket object) k e = absurd cc

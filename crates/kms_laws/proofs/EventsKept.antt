@@ -18,10 +18,11 @@ use Rattle.kms_model.specs.Promises.{event_of_latch}
 use Rattle.kms_model.specs.Request.Flags.{wants_event}
 use Rattle.kms_model.specs.Request.Named.{named, names}
 use Rattle.kms_model.proofs.Items.{IsIn, IsObject, filter-same, ids-in, list_any-has}
+use Rattle.kms_model.proofs.CommitFacts.{commit_old, commit_new}
 use Rattle.kms_laws.proofs.Basics.{both_bools, read_other, read_same}
 use Rattle.kms_laws.proofs.EventCounts.{counts-less, counts-more, counts-same, filter-less, option_list, told-more, told-same}
 use Rattle.kms_laws.proofs.Invariants.{Tail}
-use Rattle.kms_laws.proofs.Numbered.{commit_new, commit_old, names_new, names_old}
+use Rattle.kms_laws.proofs.Numbered.{names_new, names_old}
 use Rattle.kms_laws.proofs.Present.{reverse_more}
 use Rattle.kms_laws.proofs.Swapped.{flush_within}
 use Rattle.kms_laws.proofs.Tails.{latch_cases, latch_more, latch_now}

@@ -47,7 +47,7 @@ words_like t w v c like is =
 seen-self : (things : List Thing) (number : ℤ) → IsSeenAlike things things number
 seen-self things number = record { fb = refl; mode = refl; gamma = refl }
 
-alike-self : (t : Topology) (things : List Thing) (values : List Setting) → AreSeenAlike t things things values
+pub alike-self : (t : Topology) (things : List Thing) (values : List Setting) → AreSeenAlike t things things values
 alike-self t things values = record { planes = λ p is. seen-self things _; crtcs = λ c is. seen-self things _; gammas = λ c is. seen-self things _ }
 
 seen-trans : (xs ys zs : List Thing) (number : ℤ) → IsSeenAlike xs ys number → IsSeenAlike ys zs number → IsSeenAlike xs zs number

@@ -40,9 +40,10 @@ use Rattle.kms_model.specs.Request.Touched.{last_value, new_label, out_fence_lab
 use Rattle.kms_model.proofs.FramedLemmas.{closed_same}
 use Rattle.kms_model.proofs.Items.{IsIn, list_any-has}
 use Rattle.kms_model.proofs.LastLemmas.{SetBy, set_by}
+use Rattle.kms_model.proofs.CommitFacts.{commit_old, commit_new, waited_old}
 use Rattle.kms_laws.proofs.Basics.{both_bools}
 use Rattle.kms_laws.proofs.Closed.{closed_labelled}
-use Rattle.kms_laws.proofs.Numbered.{commit_new, commit_old, names_new, names_old}
+use Rattle.kms_laws.proofs.Numbered.{names_new, names_old}
 use Rattle.kms_laws.proofs.Requests.{set-named}
 
 -- Things by their labels, before and after a command
@@ -281,10 +282,6 @@ out_fence_old t x cs k c l = ap (λ (z : Commit). thing_made t z (out_fence_labe
 out_fence_new : (t : Topology) (x : Commit) (cs : List Commit) (c : ℕ) → out_fence_of t (x ∷ cs) (length cs) c ≡ thing_made t x (out_fence_label x.request.assigns c)
 unfolding out_fence_of
 out_fence_new t x cs c = ap (λ (z : Commit). thing_made t z (out_fence_label z.request.assigns c)) (commit_new t x cs)
-
-waited_old : (t : Topology) (x : Commit) (cs : List Commit) (k : ℕ) → k < length cs → waited_fences t (x ∷ cs) k ≡ waited_fences t cs k
-unfolding waited_fences
-waited_old t x cs k l = ap (λ (z : Commit). map (λ (p : ObjId × ℕ). p.1) (in_fences t (look_up z.world) z.request.assigns)) (commit_old t x cs k l)
 
 longer : (t : Topology) (x : Commit) (cs : List Commit) (n id : ℕ) → n ≤ length cs → IsOutFence t cs n id → IsOutFence t (x ∷ cs) n id
 longer t x cs n id l o =

@@ -43,18 +43,19 @@ use Rattle.kms_model.proofs.SoundKept.{accepted-parts}
 use Rattle.kms_model.proofs.StandsLemmas.{thing_numbered-zero}
 use Rattle.kms_model.proofs.ThingLemmas.{find-in, ids-numbered, thing_numbered-id, thing_numbered-labelled}
 use Rattle.kms_model.proofs.TouchedLemmas.{IsRequestAt, accepted-each}
+use Rattle.kms_model.proofs.Facts.{by_recursion-at}
+use Rattle.kms_model.proofs.CommitFacts.{touches_old}
 use Rattle.kms_laws.proofs.Basics.{both_bools, number_more}
 use Rattle.kms_laws.proofs.Executed.{Follows, IsShut, execute_follows, plane_like}
 use Rattle.kms_laws.proofs.Freed.{Gone, unlive_after}
 use Rattle.kms_laws.specs.Laws as Laws
 use Rattle.kms_laws.proofs.Headlines.{range-in}
 use Rattle.kms_laws.proofs.Invariants.{plane_after}
-use Rattle.kms_laws.proofs.Numbered.{plane_new, plane_old, touches_old}
+use Rattle.kms_laws.proofs.Numbered.{plane_new, plane_old}
 use Rattle.kms_laws.proofs.Present.{StatesStand, follows, states_like, swap_present}
 use Rattle.kms_laws.proofs.Steps.{Holds, IsPlainScript, along, history_kept, step_kept}
 use Rattle.kms_laws.proofs.Traversal.{IsKept, commit_of, latch_of, latched_any, step_keeps}
 use Rattle.kms_laws.proofs.Whole.{Whole, history_whole, whole_kept, whole_latched}
-use Rattle.kms_laws.proofs.Words.{by_recursion-at}
 use Rattle.kms_model.specs.declared.worlds.Setting.{Setting}
 use Rattle.kms_model.specs.declared.worlds.Look.TheVariants as look
 use Rattle.kms_model.specs.declared.worlds.Content.TheVariants as content
@@ -267,7 +268,7 @@ range-below from zero k is = absurd is
 range-below from (suc n) k (inl same) = omega arith
 range-below from (suc n) k (inr rest) = let l = range-below (from + 1) n k rest in omega arith
 
-word_fb : (p : PlaneState) → (plane_words p).fb ≡ fb_number (λ f. f.id) p.fb
+pub word_fb : (p : PlaneState) → (plane_words p).fb ≡ fb_number (λ f. f.id) p.fb
 unfolding plane_words
 word_fb p = refl
 
@@ -282,7 +283,7 @@ named_by : (fb : ℕ) (p : PlaneState) → 1 ≤ fb → ((plane_words p).fb ≡ 
 named_by fb p some ne = is_fb-word fb p.fb some ∙ ne_eqb (fb_number (λ f. f.id) p.fb) fb (λ e. ne (word_fb p ∙ e))
 
 -- the thing that is found has the id
-find-same : (things : List Thing) (id : ℕ) (later : Thing) → thing_with_id things id ≡ Some later → later.id ≡ id
+pub find-same : (things : List Thing) (id : ℕ) (later : Thing) → thing_with_id things id ≡ Some later → later.id ≡ id
 find-same [] id later e = absurd cc
 find-same (u ∷ us) id later e =
     elim (cases_Bool (u.id == id)) [
@@ -361,7 +362,7 @@ unneeded-from s m fb W G later found same =
 
 -- The law
 
-all_in-from : {A : Type 0} (P : A → Type 0) (xs : List A) → ((x : A) → IsIn x xs → P x) → All P xs
+pub all_in-from : {A : Type 0} (P : A → Type 0) (xs : List A) → ((x : A) → IsIn x xs → P x) → All P xs
 all_in-from P [] each k d l = absurd (omega arith)
 all_in-from P (x ∷ xs) each zero d l = each x (inl refl)
 all_in-from P (x ∷ xs) each (suc k) d l = all_in-from P xs (λ y is. each y (inr is)) k d (omega arith)

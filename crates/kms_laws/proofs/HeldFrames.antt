@@ -35,7 +35,8 @@ use Rattle.kms_model.proofs.MaskLemmas.{same_masks}
 use Rattle.kms_model.proofs.SeenLemmas.{gamma-seen, mode-seen}
 use Rattle.kms_model.proofs.SoundKept.{accepted-parts, sound-apply}
 use Rattle.kms_model.proofs.TouchedLemmas.{HasFewObjects, IsRequestAt, crtc_at-unset, few_objects, gamma_at-unset, mode_at-unset, routed-unnamed}
-use Rattle.kms_laws.proofs.Basics.{implied, in_either}
+use Rattle.kms_model.proofs.Facts.{implied}
+use Rattle.kms_laws.proofs.Basics.{in_either}
 use Rattle.kms_laws.proofs.EachStep.{Carries, IsSwap, by_bool, by_fence, by_two, each_step, locks_leave, made_as, swap-found, swapped_as, tails_leave}
 use Rattle.kms_laws.proofs.Executed.{IsLike, execute_follows, follows-out_fences, plane_like}
 use Rattle.kms_laws.proofs.LockSteps.{HasLocks}

@@ -140,7 +140,7 @@ keeps-from profile names (command.Signal label) h = tt
 keeps-from profile names (command.Atomic r) h = tt
 keeps-from profile names command.Wait h = tt
 
-slice_get-in : {A : Type 0} (xs : List A) (n : ℕ) (x : A) → slice_get xs n ≡ Some x → IsIn x xs
+pub slice_get-in : {A : Type 0} (xs : List A) (n : ℕ) (x : A) → slice_get xs n ≡ Some x → IsIn x xs
 slice_get-in [] n x e = absurd cc
 slice_get-in (y ∷ ys) zero x e = inl cc
 slice_get-in (y ∷ ys) (suc n) x e = inr (slice_get-in ys n x e)

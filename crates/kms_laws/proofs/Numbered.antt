@@ -1,25 +1,16 @@
 -- Commits by their numbers, when there is one more.
-use Rattle.std.proofs.Common.{◌≡◌, ℕ, zero, suc, ◌<◌, ◌≤◌, List, ◌∷◌, length, Bool, ◌==◌, refl, ap, arith}
+use Rattle.std.proofs.Common.{◌≡◌, ℕ, zero, suc, ◌<◌, ◌≤◌, List, ◌∷◌, length, Bool, refl, ap, arith}
 use Rattle.std.specs.Prelude.{if◌then◌else◌}
-use Rattle.std.proofs.lemmas.Bool.{cond-true, cond-false, eq-eqb, ne_eqb}
 use Rattle.kms_model.specs.declared.objects.Topology.{Topology}
-use Rattle.kms_model.specs.Device.Objects.{kind_of}
 use Rattle.kms_model.specs.Device.States.{plane_at}
-use Rattle.kms_model.specs.Machine.Commits.{commit_at, commit_concerns, commit_names, commit_touches, is_on_before_or_after, new_connector, new_crtc, new_plane, new_values, old_values}
+use Rattle.kms_model.specs.Machine.Commits.{commit_names, new_connector, new_crtc, new_plane, new_values, old_values}
 use Rattle.kms_model.specs.Machine.Registers.{plane_in, plane_words}
 use Rattle.kms_model.specs.Machine.State.{Commit}
 use Rattle.kms_model.specs.Request.Named.{names}
 use Rattle.kms_model.specs.Request.Touched.{touches}
+use Rattle.kms_model.proofs.CommitFacts.{commit_old, commit_new}
 use Rattle.kms_laws.proofs.Invariants.{commit_picture, crtc_after, picture_at, picture_in_words, plane_after, shown}
 use Rattle.kms_laws.proofs.Requests.{words_at}
-
-pub commit_old : (t : Topology) (x : Commit) (cs : List Commit) (k : ℕ) → k < length cs → commit_at t (x ∷ cs) k ≡ commit_at t cs k
-unfolding commit_at
-commit_old t x cs k l = cond-false (length cs == k) x (commit_at t cs k) (ne_eqb (length cs) k (λ e. absurd (omega arith)))
-
-pub commit_new : (t : Topology) (x : Commit) (cs : List Commit) → commit_at t (x ∷ cs) (length cs) ≡ x
-unfolding commit_at
-commit_new t x cs = cond-true (length cs == length cs) x (commit_at t cs (length cs)) (eq-eqb (length cs) (length cs) refl)
 
 -- what is computed of a commit
 
@@ -29,14 +20,6 @@ touches_of t o z = touches t z.world z.request o
 names_of : ℕ → Commit → Bool
 names_of c z = names (old_values z) (new_values z) z.request.assigns c
 
-pub touches_old : (t : Topology) (x : Commit) (cs : List Commit) (k o : ℕ) → k < length cs → commit_touches t (x ∷ cs) k o ≡ commit_touches t cs k o
-unfolding commit_touches touches_of
-touches_old t x cs k o l = ap (touches_of t o) (commit_old t x cs k l)
-
-pub touches_new : (t : Topology) (x : Commit) (cs : List Commit) (o : ℕ) → commit_touches t (x ∷ cs) (length cs) o ≡ touches t x.world x.request o
-unfolding commit_touches touches_of
-touches_new t x cs o = ap (touches_of t o) (commit_new t x cs)
-
 pub names_old : (t : Topology) (x : Commit) (cs : List Commit) (k c : ℕ) → k < length cs → commit_names t (x ∷ cs) k c ≡ commit_names t cs k c
 unfolding commit_names names_of
 names_old t x cs k c l = ap (names_of c) (commit_old t x cs k l)
@@ -44,14 +27,6 @@ names_old t x cs k c l = ap (names_of c) (commit_old t x cs k l)
 pub names_new : (t : Topology) (x : Commit) (cs : List Commit) (c : ℕ) → commit_names t (x ∷ cs) (length cs) c ≡ names x.world.values (new_values x) x.request.assigns c
 unfolding commit_names names_of
 names_new t x cs c = ap (names_of c) (commit_new t x cs)
-
-pub concerns_old : (t : Topology) (x : Commit) (cs : List Commit) (k o c : ℕ) → k < length cs → commit_concerns t (x ∷ cs) k o c ≡ commit_concerns t cs k o c
-unfolding commit_concerns
-concerns_old t x cs k o c l = ap (λ z. is_on_before_or_after (kind_of o) z o c) (commit_old t x cs k l)
-
-pub concerns_new : (t : Topology) (x : Commit) (cs : List Commit) (o c : ℕ) → commit_concerns t (x ∷ cs) (length cs) o c ≡ is_on_before_or_after (kind_of o) x o c
-unfolding commit_concerns
-concerns_new t x cs o c = ap (λ z. is_on_before_or_after (kind_of o) z o c) (commit_new t x cs)
 
 pub plane_old : (t : Topology) (x : Commit) (cs : List Commit) (m p : ℕ) → m ≤ length cs → plane_after t (x ∷ cs) m p ≡ plane_after t cs m p
 unfolding plane_after new_plane

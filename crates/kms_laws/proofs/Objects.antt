@@ -1,8 +1,8 @@
 -- The kinds and the indices of a device's objects.
-use Rattle.std.proofs.Common.{◌≡◌, ℕ, ◌+◌, ◌-◌, ◌<◌, ◌≤◌, List, true, refl, ap, ◌∙◌, arith}
+use Rattle.std.proofs.Common.{◌≡◌, ℕ, ◌+◌, ◌-◌, ◌<◌, List, true, refl, ap, ◌∙◌, arith}
 use Rattle.std.specs.Prelude.{nat_lt}
-use Rattle.std.proofs.lemmas.Bool.{or_right, eq-eqb, lt-ltb, le-ltb, cond-true, cond-false}
-use Rattle.kms_model.specs.declared.objects.Kind.TheVariants.{Crtc, Plane, Conn, Enc}
+use Rattle.std.proofs.lemmas.Bool.{or_right, eq-eqb, lt-ltb, cond-true}
+use Rattle.kms_model.specs.declared.objects.Kind.TheVariants.{Crtc, Plane, Conn}
 use Rattle.kms_model.specs.declared.objects.Topology.{Topology}
 use Rattle.kms_model.specs.Device.Objects.{first_id, object_id, ids_of, kind_of, index_of}
 use Rattle.kms_model.specs.Machine.Commits.{commit_at, commit_names, commit_touches, commit_concerns, is_on_before_or_after, lockable, registered}
@@ -10,18 +10,11 @@ use Rattle.kms_model.specs.Machine.State.{Commit}
 use Rattle.kms_model.specs.Request.Touched.{touches, touches_of_kind, sets}
 use Rattle.kms_model.proofs.Items.{IsIn, IsObject, ids-in}
 use Rattle.kms_model.proofs.TouchedLemmas.{HasFewObjects}
+use Rattle.kms_model.proofs.KindsOfIds.{kind-plane, kind-conn}
 use Rattle.kms_laws.proofs.Basics.{in_left, in_right}
 
 kind_below_plane : (o : ℕ) → o < 200 → kind_of o ≡ Crtc
 kind_below_plane o l = cond-true (nat_lt o 200) Crtc _ (lt-ltb o 200 l)
-
-kind_below_conn : (o : ℕ) → 200 ≤ o → o < 300 → kind_of o ≡ Plane
-kind_below_conn o g l = cond-false (nat_lt o 200) Crtc _ (le-ltb o 200 g) ∙ cond-true (nat_lt o 300) Plane _ (lt-ltb o 300 l)
-
-kind_below_enc : (o : ℕ) → 300 ≤ o → o < 400 → kind_of o ≡ Conn
-kind_below_enc o g l =
-    cond-false (nat_lt o 200) Crtc _ (le-ltb o 200 (omega arith)) ∙ cond-false (nat_lt o 300) Plane _ (le-ltb o 300 g)
-    ∙ cond-true (nat_lt o 400) Conn Enc (lt-ltb o 400 l)
 
 pub crtc_kind : (t : Topology) (o : ℕ) → HasFewObjects t → IsIn o (ids_of t Crtc) → kind_of o ≡ Crtc
 crtc_kind t o few is = let i : IsObject t Crtc o = ids-in t Crtc o is in kind_below_plane o (omega (arith, i.within, i.same, few.crtcs))
@@ -29,12 +22,12 @@ crtc_kind t o few is = let i : IsObject t Crtc o = ids-in t Crtc o is in kind_be
 pub plane_kind : (t : Topology) (o : ℕ) → HasFewObjects t → IsIn o (ids_of t Plane) → kind_of o ≡ Plane
 plane_kind t o few is =
     let i : IsObject t Plane o = ids-in t Plane o is in
-    kind_below_conn o (omega (arith, i.same)) (omega (arith, i.within, i.same, few.planes))
+    kind-plane o (omega (arith, i.same)) (omega (arith, i.within, i.same, few.planes))
 
 pub conn_kind : (t : Topology) (o : ℕ) → HasFewObjects t → IsIn o (ids_of t Conn) → kind_of o ≡ Conn
 conn_kind t o few is =
     let i : IsObject t Conn o = ids-in t Conn o is in
-    kind_below_enc o (omega (arith, i.same)) (omega (arith, i.within, i.same, few.conns))
+    kind-conn o (omega (arith, i.same)) (omega (arith, i.within, i.same, few.conns))
 
 -- the id of a CRTC's index
 pub crtc_index : (t : Topology) (o : ℕ) → HasFewObjects t → IsIn o (ids_of t Crtc) → object_id Crtc (index_of o) ≡ o

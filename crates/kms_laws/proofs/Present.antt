@@ -33,9 +33,10 @@ use Rattle.kms_model.proofs.Items.{IsIn}
 use Rattle.kms_model.proofs.JournalLemmas.{serial_last, unaccepted}
 use Rattle.kms_model.proofs.SoundKept.{execution_keeps_sound, sound-apply}
 use Rattle.kms_model.proofs.TouchedLemmas.{IsRequestAt}
+use Rattle.kms_model.proofs.CommitFacts.{touches_old, touches_new}
 use Rattle.kms_laws.proofs.Executed.{Follows, IsLike, KeepsModes, execute_follows, follows-out_fences, plane_like, words_like}
 use Rattle.kms_laws.proofs.Invariants.{CommitsStand, commit_picture, crtc_after, picture_at, picture_in_words, plane_after, shown}
-use Rattle.kms_laws.proofs.Numbered.{crtc_new, crtc_old, names_new, names_old, plane_new, plane_old, shown_old, touches_new, touches_old}
+use Rattle.kms_laws.proofs.Numbered.{crtc_new, crtc_old, names_new, names_old, plane_new, plane_old, shown_old}
 use Rattle.kms_laws.proofs.Requests.{crtc_frame, moved_names, plane_frame, words_at}
 use Rattle.kms_laws.proofs.Words.{AreKept, picture-alike, words_show}
 use Rattle.kms_model.specs.declared.worlds.Thing.{Thing}

@@ -37,7 +37,8 @@ use Rattle.kms_model.proofs.Items.{IsIn, ids-has, list_all-at}
 use Rattle.kms_model.proofs.SoundKept.{accepted-parts}
 use Rattle.kms_model.proofs.ThingLemmas.{find-in}
 use Rattle.kms_model.proofs.TouchedLemmas.{IsRequestAt}
-use Rattle.kms_laws.proofs.Basics.{both_bools, implied, pair_now, read_same}
+use Rattle.kms_model.proofs.Facts.{implied}
+use Rattle.kms_laws.proofs.Basics.{both_bools, pair_now, read_same}
 use Rattle.kms_laws.proofs.Executed.{KeepsModes}
 use Rattle.kms_laws.proofs.Invariants.{Tail}
 use Rattle.kms_laws.proofs.Latching.{latches_commit}

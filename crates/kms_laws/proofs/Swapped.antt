@@ -5,8 +5,9 @@ use Rattle.kms_model.specs.declared.runs.Latch.{Latch}
 use Rattle.kms_model.specs.Machine.Commits.{has_pair}
 use Rattle.kms_model.specs.Machine.Registers.{Registers, crtc_register, plane_register}
 use Rattle.kms_model.specs.Machine.State.{Commit, Marks}
+use Rattle.kms_model.proofs.CommitFacts.{touches_old, concerns_old}
 use Rattle.kms_laws.proofs.Invariants.{CommitsStand, Edge, Tail, crtc_after, plane_after}
-use Rattle.kms_laws.proofs.Numbered.{concerns_old, crtc_old, names_old, plane_old, shown_old, touches_old}
+use Rattle.kms_laws.proofs.Numbered.{crtc_old, names_old, plane_old, shown_old}
 use Rattle.kms_laws.proofs.Objects.{crtc_registered, names-touches}
 
 pub flush_within : {t : Topology} {cs : List Commit} {ms : Marks} {sh : Registers} {go : List (ℕ × Option ℕ)} {ls : List Latch} (T : Tail t cs ms sh go ls) (k c : ℕ) → has_pair ms.flushed k c ≡ true → k < length cs

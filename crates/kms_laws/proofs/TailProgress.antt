@@ -15,8 +15,9 @@ use Rattle.kms_model.specs.Machine.Histories.{client_numbers, commit_numbers, fo
 use Rattle.kms_model.specs.Machine.State.{DeviceState, Machine, first_machine, go_at, has_value}
 use Rattle.kms_model.specs.Machine.Steps.{is_settled_for, may, may_claim, next_flush, next_write}
 use Rattle.kms_model.proofs.Items.{IsIn, IsObject, ids-in, list_all-at, list_all-from}
+use Rattle.kms_model.proofs.Facts.{implied_from, implied}
 use Rattle.kms_laws.proofs.Apart.{CommitsApart}
-use Rattle.kms_laws.proofs.Basics.{both_bools, implied, implied_from, in_either, in_left, in_right}
+use Rattle.kms_laws.proofs.Basics.{both_bools, in_either, in_left, in_right}
 use Rattle.kms_laws.proofs.Going.{Going}
 use Rattle.kms_laws.proofs.Headlines.{range-in}
 use Rattle.kms_laws.proofs.Steps.{Holds}

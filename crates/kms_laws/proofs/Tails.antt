@@ -9,7 +9,8 @@ use Rattle.kms_model.specs.Machine.Commits.{commit_names, commit_touches, commit
 use Rattle.kms_model.specs.Machine.Registers.{Registers, crtc_register, plane_register, read}
 use Rattle.kms_model.specs.Machine.State.{Commit, Marks}
 use Rattle.kms_model.proofs.Items.{IsIn, list_all-at}
-use Rattle.kms_laws.proofs.Basics.{both_bools, implied, in_either, in_left, in_right, number_cases, number_more, pair_cases, pair_more, pair_now, read_same, read_other}
+use Rattle.kms_model.proofs.Facts.{implied}
+use Rattle.kms_laws.proofs.Basics.{both_bools, in_either, in_left, in_right, number_cases, number_more, pair_cases, pair_more, pair_now, read_same, read_other}
 use Rattle.kms_laws.proofs.Invariants.{Edge, IsPending, IsSettled, IsWritten, MarksStand, OrderStands, ShadowStands, Shows, Tail, WasFlushed, commit_picture, crtc_after, latched_at, picture_at, plane_after, shown}
 use Rattle.kms_laws.proofs.Latching.{is_claimed_then, latched_before, none_after}
 use Rattle.kms_laws.proofs.Objects.{crtc_registered, names-touches}

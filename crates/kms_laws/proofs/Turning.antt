@@ -12,7 +12,7 @@ use Rattle.kms_model.specs.declared.replies.Step.TheVariants.{Flush, Return, Vbl
 use Rattle.kms_model.specs.declared.scripts.Request.{Request}
 use Rattle.kms_model.specs.declared.scripts.Script.{Script}
 use Rattle.kms_model.specs.Device.Objects.{count_of, first_id, ids_of, index_of, kind_of, object_id}
-use Rattle.kms_model.specs.Firsts.{first_some, or_else}
+use Rattle.kms_model.specs.Firsts.{first_some}
 use Rattle.kms_model.specs.Machine.Commits.{lockable}
 use Rattle.kms_model.specs.Machine.Effects.{next}
 use Rattle.kms_model.specs.Machine.Histories.{are_legal, at, client_numbers, commit_numbers, for_each, is_at_end, is_history, legal, run_steps, steps_of_commit, steps_that_move, steps_with_go}
@@ -23,6 +23,7 @@ use Rattle.kms_model.specs.Order.Turns.{Progress, client_goes, client_step, does
 use Rattle.kms_model.proofs.Items.{IsIn, IsObject, ids-in, list_any-has}
 use Rattle.kms_model.proofs.ThingLemmas.{find-in}
 use Rattle.kms_model.proofs.TouchedLemmas.{HasFewObjects}
+use Rattle.kms_model.proofs.Facts.{or_else-some}
 use Rattle.kms_laws.specs.Ends.{is_moving}
 use Rattle.kms_laws.proofs.Basics.{in_either}
 use Rattle.kms_laws.proofs.ClientProgress.{locks, with_request}
@@ -39,12 +40,12 @@ pub record IsRun (s : Script) (run : Progress) : Type 0 where
   pub same : run.machine ≡ at s (reverse run.steps)
   pub is : is_history s (reverse run.steps) ≡ true
 
-run-more : (s : Script) (m : Machine) (h : List Step) (step : Step) → run_steps s m (h ++ step ∷ []) ≡ next s (run_steps s m h) step
+pub run-more : (s : Script) (m : Machine) (h : List Step) (step : Step) → run_steps s m (h ++ step ∷ []) ≡ next s (run_steps s m h) step
 unfolding run_steps
 run-more s m [] step = refl
 run-more s m (x ∷ h) step = run-more s (next s m x) h step
 
-legal-more : (s : Script) (m : Machine) (h : List Step) (step : Step) → are_legal s m h ≡ true → legal s (run_steps s m h) step ≡ true → are_legal s m (h ++ step ∷ []) ≡ true
+pub legal-more : (s : Script) (m : Machine) (h : List Step) (step : Step) → are_legal s m h ≡ true → legal s (run_steps s m h) step ≡ true → are_legal s m (h ++ step ∷ []) ≡ true
 unfolding run_steps are_legal
 legal-more s m [] step is l = and_from _ _ l refl
 legal-more s m (x ∷ h) step is l = let both = and_parts (legal s m x) _ is in and_from _ _ both.0 (legal-more s (next s m x) h step both.1 l)
@@ -89,13 +90,9 @@ later-steps s {a} (More step l mv rest) =
 
 -- Which steps are taken
 
-either : {A : Type 0} (a b : Option A) (x : A) → or_else a b ≡ Some x → (a ≡ Some x) ⊎ (b ≡ Some x)
-either None b x e = inr e
-either (Some y) b x e = inl e
-
 first-holds : {A : Type 0} (f : ℕ → Option A) (ks : List ℕ) (x : A) → first_some f ks ≡ Some x → (k : ℕ) × (f k ≡ Some x)
 first-holds f [] x e = absurd cc
-first-holds f (k ∷ ks) x e = ⊎_elim (λ here. (k, here)) (λ rest. first-holds f ks x rest) (either (f k) (first_some f ks) x e)
+first-holds f (k ∷ ks) x e = ⊎_elim (λ here. (k, here)) (λ rest. first-holds f ks x rest) (or_else-some (f k) (first_some f ks) x e)
 
 -- an object with a lock by its kind and its index
 record IsLockable (t : Topology) (o : ℕ) : Type 0 where
@@ -137,7 +134,7 @@ module _ (s : Script) (m : Machine) (A : Along s m) where
       ⊎_elim
       (λ a. (first-in s m client r o (find-in (may_lock s m client) (first_missing s.topology m client r) o a), find-holds (may_lock s m client) (first_missing s.topology m client r) o a))
       (λ b. (find-in (may_lock s m client) (lockable s.topology) o b, find-holds (may_lock s m client) (lockable s.topology) o b))
-      (either (find (may_lock s m client) (first_missing s.topology m client r)) (find (may_lock s m client) (lockable s.topology)) o e)
+      (or_else-some (find (may_lock s m client) (first_missing s.topology m client r)) (find (may_lock s m client) (lockable s.topology)) o e)
 
   pub client-legal : (client : ℕ) (step : Step) → client_step s m client ≡ Some step → legal s m step ≡ true
   unfolding client_step
@@ -145,7 +142,7 @@ module _ (s : Script) (m : Machine) (A : Along s m) where
       ⊎_elim
       (λ a. find-holds (legal s m) (tried client) step a)
       (λ b. by_request (request_at s m client) refl b)
-      (either (find (legal s m) (tried client)) (option_map (lock_step client) (option_and_then (next_lock s m client) (request_at s m client))) step e)
+      (or_else-some (find (legal s m) (tried client)) (option_map (lock_step client) (option_and_then (next_lock s m client) (request_at s m client))) step e)
     where
       by_lock : (r : Request) → request_at s m client ≡ Some r → (q : Option ℕ) → next_lock s m client r ≡ q → option_map (lock_step client) q ≡ Some step → legal s m step ≡ true
       by_lock r is None found e = absurd cc
@@ -164,7 +161,7 @@ tail-legal s m step e =
     ⊎_elim
     (λ a. let r = first-holds (λ k. find (legal s m) (steps_of_commit s.topology k)) (commit_numbers m) step a in find-holds (legal s m) (steps_of_commit s.topology r.0) step r.1)
     (λ b. find-holds (legal s m) (steps_with_go s.topology m) step b)
-    (either (first_some (λ k. find (legal s m) (steps_of_commit s.topology k)) (commit_numbers m)) (find (legal s m) (steps_with_go s.topology m)) step e)
+    (or_else-some (first_some (λ k. find (legal s m) (steps_of_commit s.topology k)) (commit_numbers m)) (find (legal s m) (steps_with_go s.topology m)) step e)
 
 tried-moving : (m : Machine) (client : ℕ) (step : Step) → IsIn step (tried client) → is_moving m step ≡ true
 tried-moving m client step (inl same) = subst (λ z. is_moving m z ≡ true) same refl
@@ -184,7 +181,7 @@ client-moving s m client step e =
     ⊎_elim
     (λ a. tried-moving m client step (find-in (legal s m) (tried client) step a))
     (λ b. mapped (option_and_then (next_lock s m client) (request_at s m client)) b)
-    (either (find (legal s m) (tried client)) (option_map (lock_step client) (option_and_then (next_lock s m client) (request_at s m client))) step e)
+    (or_else-some (find (legal s m) (tried client)) (option_map (lock_step client) (option_and_then (next_lock s m client) (request_at s m client))) step e)
   where
     mapped : (q : Option ℕ) → option_map (lock_step client) q ≡ Some step → is_moving m step ≡ true
     mapped None e = absurd cc
@@ -218,7 +215,7 @@ tail-moving s m step e =
     ⊎_elim
     (λ a. let r = first-holds (λ k. find (legal s m) (steps_of_commit s.topology k)) (commit_numbers m) step a in commit-moving s.topology m r.0 step (find-in (legal s m) (steps_of_commit s.topology r.0) step r.1))
     (λ b. go-moving s.topology m step (find-in (legal s m) (steps_with_go s.topology m) step b))
-    (either (first_some (λ k. find (legal s m) (steps_of_commit s.topology k)) (commit_numbers m)) (find (legal s m) (steps_with_go s.topology m)) step e)
+    (or_else-some (first_some (λ k. find (legal s m) (steps_of_commit s.topology k)) (commit_numbers m)) (find (legal s m) (steps_with_go s.topology m)) step e)
 
 -- Turns and rounds
 

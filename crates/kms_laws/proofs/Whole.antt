@@ -18,11 +18,13 @@ use Rattle.kms_model.specs.Promises.{picture_after}
 use Rattle.kms_model.proofs.Items.{IsIn, IsObject, ids-in}
 use Rattle.kms_model.proofs.SoundKept.{accepted-parts}
 use Rattle.kms_model.proofs.TouchedLemmas.{IsRequestAt}
+use Rattle.kms_model.proofs.Facts.{all-from_recursion}
+use Rattle.kms_model.proofs.CommitFacts.{concerns_old}
 use Rattle.kms_laws.proofs.Apart.{CommitsApart, apart_more, none_apart}
 use Rattle.kms_laws.proofs.Basics.{both_bools, in_left, in_right, pair_more, pair_now, read_other}
 use Rattle.kms_laws.proofs.Invariants.{picture_at, picture_in_words, plane_after}
 use Rattle.kms_laws.proofs.Latching.{copied_keep, copied_read, latches_commit, picture_layers, seen, seen_none, within}
-use Rattle.kms_laws.proofs.Numbered.{concerns_old, picture_old}
+use Rattle.kms_laws.proofs.Numbered.{picture_old}
 use Rattle.kms_laws.proofs.Objects.{crtc_index, plane_registered}
 use Rattle.kms_laws.proofs.Steps.{IsPlainScript}
 use Rattle.kms_laws.proofs.Tails.{latch_cases}
@@ -315,11 +317,6 @@ first_whole t = record {
   told = tt;
 }
 
-all_from : {A : Type 0} (P : A → Type 0) (xs : List A) → AllByRecursion P xs → All P xs
-all_from P [] all k d l = absurd (omega arith)
-all_from P (x ∷ xs) all zero d l = all.0
-all_from P (x ∷ xs) all (suc k) d l = all_from P xs all.1 k d (omega arith)
-
 pictures_told : (t : Topology) (cs : List Commit) (ls : List Latch) → CommitsApart t cs → AllByRecursion (IsTold t cs) ls → AllByRecursion (λ l. l.picture ≡ picture_after t cs l.commit l.crtc) ls
 pictures_told t cs [] A told = tt
 pictures_told t cs (l ∷ ls) A told = (told.0.is_picture ∙ A.pictured l.commit (object_id Crtc l.crtc) told.0.before told.0.is_crtc, pictures_told t cs ls A told.1)
@@ -333,4 +330,4 @@ pub whole_pictures : (s : Script) (h : List Step) → IsPlainScript s → is_his
     × All (λ l. l.picture ≡ picture_after s.topology (at s h).device.commits l.commit l.crtc) (at s h).records.latches
 whole_pictures s h plain is crtc l =
     let W = history_whole s h plain is in
-    (W.steady crtc l, all_from _ (at s h).records.latches (pictures_told s.topology (at s h).device.commits (at s h).records.latches W.apart W.told))
+    (W.steady crtc l, all-from_recursion _ (at s h).records.latches (pictures_told s.topology (at s h).device.commits (at s h).records.latches W.apart W.told))

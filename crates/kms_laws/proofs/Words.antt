@@ -1,11 +1,10 @@
 -- The words of a sound world's states, read back.
-use Rattle.std.proofs.Common.{◌≡◌, ℕ, ◌≤◌, List, [], ◌∷◌, Bool, true, false, ◌==◌, Option, Some, None, refl, sym, ap, ◌∙◌, subst, arith, rules, inl, inr}
+use Rattle.std.proofs.Common.{◌≡◌, ℕ, ◌≤◌, List, [], ◌∷◌, Bool, true, false, ◌==◌, Option, Some, None, refl, sym, ap, ◌∙◌, subst, arith, inl, inr}
 use Rattle.std.specs.Prelude.{if◌then◌else◌, not, ℤ, pos, negsuc, is_some}
-use Rattle.std.specs.Int.{w32, cast_signed, cast_unsigned}
 use Rattle.std.specs.List.{AllByRecursion}
 use Rattle.std.specs.Ordering.{int_eq}
 use Rattle.std.proofs.lemmas.Bool.{cond-false, ne_eqb}
-use Rattle.std.proofs.lemmas.Int.{ints, to_z-of_z}
+use Rattle.std.proofs.lemmas.Int.{ints}
 use Rattle.kms_model.specs.declared.objects.Format.{Format}
 use Rattle.kms_model.specs.declared.objects.Format.TheVariants.{Xr24, Ar24, Rg16}
 use Rattle.kms_model.specs.declared.objects.Kind.TheVariants.{Crtc, Plane, Conn}
@@ -34,15 +33,12 @@ use Rattle.kms_model.proofs.HeldValues.{all_held-from}
 use Rattle.kms_model.proofs.Items.{IsIn, IsObject, ids-in}
 use Rattle.kms_model.proofs.StateLemmas.{plane_in_range, sound-mode}
 use Rattle.kms_model.proofs.ThingLemmas.{IsNumberedIn, find-in, ids-numbered}
+use Rattle.kms_model.proofs.Facts.{by_recursion-at}
+use Rattle.kms_model.proofs.Facts.{signed_back}
 use Rattle.kms_laws.proofs.Invariants.{picture_in_words}
 use Rattle.kms_laws.proofs.Requests.{words_at}
 
 -- Items of a list of things
-
-pub by_recursion-at : {A : Type 0} (P : A → Type 0) (xs : List A) (x : A) → AllByRecursion P xs → IsIn x xs → P x
-by_recursion-at P [] x all is = absurd is
-by_recursion-at P (y ∷ ys) x all (inl same) = subst P same all.0
-by_recursion-at P (y ∷ ys) x all (inr rest) = by_recursion-at P ys x all.1 rest
 
 -- the id of a framebuffer that is found under a number
 framed_id : (things : List Thing) (id : ℕ) (c : Content) (fb : FbInfo) → FramesIn things id c → framebuffer_in c ≡ Some fb → fb.id ≡ id
@@ -83,9 +79,6 @@ fb_back None known = refl
 fb_back (Some f) known =
     cond-false (f.id == 0) None _ (ne_eqb f.id 0 (λ e. absurd (omega (arith, e, known f refl))))
     ∙ ap (λ z. Some (record { id = f.id; width = f.width; height = f.height; format = z })) (format_back f.format)
-
-signed_back : (z : ℤ) → IsBetween (negsuc 2147483647) (pos 2147483647) z → cast_signed w32 (cast_unsigned w32 z) ≡ z
-signed_back z between = to_z-of_z w32 z (search (rules, between.low, between.high))
 
 pos_back : (high : ℕ) (z : ℤ) → IsBetween (pos 0) (pos high) z → pos (natural z) ≡ z
 pos_back high (pos n) between = refl

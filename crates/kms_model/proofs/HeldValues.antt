@@ -1,7 +1,7 @@
 -- Values that are held: those that a request gives, and those that stay.
 use Rattle.std.proofs.Common.{◌≡◌, ◌≢◌, ℕ, ◌+◌, Bool, true, false, List, [], ◌∷◌, ◌++◌, length, Option, Some, None, inl, inr, arith, refl, sym, ap, ◌∙◌, subst}
 use Rattle.std.specs.Prelude.{◌&&◌, ◌||◌, ◌==◌, not, nat_lt, nat_le, ℤ, pos, is_some, filter, Ok, Err, if◌then◌else◌}
-use Rattle.std.specs.List.{AllByRecursion, list_all}
+use Rattle.std.specs.List.{list_all}
 use Rattle.std.specs.Ordering.{int_eq}
 use Rattle.std.specs.Result.{result_ok}
 use Rattle.std.proofs.lemmas.Bool.{eqb-true, and_parts, and_from, or_cases, or_left, or_right, cases_Bool, cond-true, cond-false, ltb-true, not-false}
@@ -40,15 +40,11 @@ use Rattle.kms_model.proofs.PropertyTable.{rows_found}
 use Rattle.kms_model.proofs.Items.{IsIn, list_all-at, list_all-from, list_any-has, ids-has, or_else-none, number_if-none}
 use Rattle.kms_model.proofs.AppliedValues.{targets, value-assign}
 use Rattle.kms_model.proofs.ThingLemmas.{IsNumberedIn, ids-numbered, find-in, thing_numbered-labelled, IsSeenAlike, seen-push}
+use Rattle.kms_model.proofs.Facts.{by_recursion-at}
 
 -- The table's rows
 
-all-at : {A : Type 0} (P : A → Type 0) (xs : List A) (x : A) → AllByRecursion P xs → IsIn x xs → P x
-all-at P [] x all is = absurd is
-all-at P (y ∷ ys) x all (inl same) = subst P same all.0
-all-at P (y ∷ ys) x all (inr rest) = all-at P ys x all.1 rest
-
-filter-in : {A : Type 0} (test : A → Bool) (xs : List A) (x : A) → IsIn x (filter test xs) → IsIn x xs × (test x ≡ true)
+pub filter-in : {A : Type 0} (test : A → Bool) (xs : List A) (x : A) → IsIn x (filter test xs) → IsIn x xs × (test x ≡ true)
 filter-in test [] x is = absurd is
 filter-in {A} test (y ∷ ys) x is =
     elim (cases_Bool (test y)) [
@@ -72,7 +68,7 @@ pub record IsKeptRow (p : Property) : Type 0 where
 pub kept_row : (k : Kind) (p : Property) → IsIn p (kept_properties k) → IsKeptRow p
 kept_row k p is =
     let row = filter-in (λ q. is_of_kind k (Some q) && is_kept q.id) properties p is in
-    record { is_in = row.0; found = all-at (λ q. property q.id ≡ Some q) properties p rows_found row.0; kept = (and_parts (is_of_kind k (Some p)) (is_kept p.id) row.1).1 }
+    record { is_in = row.0; found = by_recursion-at (λ q. property q.id ≡ Some q) properties p rows_found row.0; kept = (and_parts (is_of_kind k (Some p)) (is_kept p.id) row.1).1 }
 
 -- What a request gives is held
 

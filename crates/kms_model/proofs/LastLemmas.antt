@@ -1,8 +1,8 @@
 -- The last assignments of a request, and what they leave.
-use Rattle.std.proofs.Common.{◌≡◌, ◌∙◌, ◌⊎◌, ℕ, List, [], ◌∷◌, Bool, true, false, Option, Some, None, inl, inr, arith, refl, sym, ap, subst}
+use Rattle.std.proofs.Common.{◌≡◌, ◌∙◌, ◌⊎◌, ℕ, List, [], ◌∷◌, Bool, true, false, Option, Some, None, inl, inr, arith, refl, sym, ap}
 use Rattle.std.specs.Prelude.{◌&&◌, ◌==◌}
 use Rattle.std.specs.List.{list_any}
-use Rattle.std.proofs.lemmas.Bool.{and_parts, and_from, or_cases, or_left, or_right, or_parts, cases_Bool, eqb-true, eq-eqb}
+use Rattle.std.proofs.lemmas.Bool.{and_parts, and_from, or_cases, or_parts, cases_Bool, eqb-true, eq-eqb}
 use Rattle.std.proofs.lemmas.Bool.Decides.{nat_tests}
 use Rattle.kms_model.specs.declared.scripts.Assign.{Assign}
 use Rattle.kms_model.specs.declared.scripts.Value.{Value}
@@ -26,11 +26,6 @@ some_in p (x ∷ xs) any = elim (or_cases (p x) (list_any p xs) any) [
   | inl here ↦ record { item = x; member = inl refl; passes = here }
   | inr later ↦ (let found = some_in p xs later in record { item = found.item; member = inr found.member; passes = found.passes })
 ]
-
-pub in_passes : {A : Type 0} (p : A → Bool) (xs : List A) (x : A) → IsIn x xs → p x ≡ true → list_any p xs ≡ true
-in_passes p [] x member passes = absurd member
-in_passes p (y ∷ ys) x (inl same) passes = or_left (p y) (list_any p ys) (subst (λ z. p z ≡ true) (sym same) passes)
-in_passes p (y ∷ ys) x (inr later) passes = or_right (p y) (list_any p ys) (in_passes p ys x later passes)
 
 -- two assignments set one property of one object
 pub record SameTarget (a b : Assign) : Type 0 where

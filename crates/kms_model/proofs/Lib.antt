@@ -1,6 +1,8 @@
 pub mod AppliedValues
 pub mod ApplyLemmas
+pub mod CommitFacts
 pub mod CrtcLemmas
+pub mod Facts
 pub mod FramedLemmas
 pub mod GammaRoundTrip
 pub mod HeldValues

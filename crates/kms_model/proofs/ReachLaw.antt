@@ -60,7 +60,7 @@ unfolding own_refusal
 allowed-any t w a allowed =
     rw (allowed.exists, allowed.has, allowed.mutable, value-any t w a.value (property (prop_of a.prop)) allowed.value) refl
 
-filter-all : {A : Type 0} (p : A → Bool) (xs : List A) → ((x : A) → IsIn x xs → p x ≡ true) → filter p xs ≡ xs
+pub filter-all : {A : Type 0} (p : A → Bool) (xs : List A) → ((x : A) → IsIn x xs → p x ≡ true) → filter p xs ≡ xs
 filter-all p [] each = refl
 filter-all p (x ∷ xs) each = rw (each x (inl refl)) (ap (λ ys. x ∷ ys) (filter-all p xs (λ y is. each y (inr is))))
 

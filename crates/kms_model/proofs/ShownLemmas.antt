@@ -1,6 +1,6 @@
 -- What the CRTCs of a sound world show can be composed.
-use Rattle.std.proofs.Common.{◌≡◌, ℕ, zero, suc, ◌+◌, ◌*◌, ◌<◌, Bool, true, false, cond, List, [], ◌∷◌, length, map, Option, Some, None, inl, inr, arith, refl, sym, ap, ◌∙◌, subst, eqb}
-use Rattle.std.specs.Prelude.{All, nat_le, not, ◌&&◌, ◌==◌, ℤ, pos, slice_get, is_none}
+use Rattle.std.proofs.Common.{◌≡◌, ℕ, zero, suc, ◌+◌, ◌*◌, ◌<◌, Bool, true, false, cond, List, [], ◌∷◌, length, Option, Some, None, inl, inr, arith, refl, sym, ap, ◌∙◌, subst, eqb}
+use Rattle.std.specs.Prelude.{nat_le, not, ◌&&◌, ◌==◌, ℤ, pos, slice_get, is_none}
 use Rattle.std.specs.List.{AllByRecursion, flat_map, range_with_len}
 use Rattle.std.specs.Ordering.{int_eq}
 use Rattle.std.proofs.lemmas.Bool.{eqb-true, and_from, and_parts, le-leb}
@@ -41,21 +41,8 @@ use Rattle.kms_model.proofs.TouchedLemmas.{accepts}
 use Rattle.kms_model.proofs.Items.{IsIn, or_else-none, number_if-none, ids-in, with_ids-has}
 use Rattle.kms_model.proofs.ThingLemmas.{find-in, ids-numbered}
 use Rattle.kms_model.proofs.StateLemmas.{sound-plane_in_range}
+use Rattle.kms_model.proofs.Facts.{by_recursion-at, all-from_recursion, all_map}
 use Rattle.kms_model.specs.Frames.Shown.{AreFramed, IsFramed, FramesIn, shown_buffer, HasWords, CanBeShown, EachCanBeShown}
-
-all-from : {A : Type 0} (P : A → Type 0) (xs : List A) → AllByRecursion P xs → All P xs
-all-from P [] h k d less = absurd (omega arith)
-all-from P (x ∷ xs) h zero d less = h.0
-all-from P (x ∷ xs) h (suc k) d less = all-from P xs h.1 k d (omega arith)
-
-all-at : {A : Type 0} (P : A → Type 0) (xs : List A) (x : A) → AllByRecursion P xs → IsIn x xs → P x
-all-at P [] x h is = absurd is
-all-at P (y ∷ ys) x h (inl same) = subst P same h.0
-all-at P (y ∷ ys) x h (inr rest) = all-at P ys x h.1 rest
-
-all-map : {A B : Type 0} (P : B → Type 0) (f : A → B) (xs : List A) → AllByRecursion (λ x. P (f x)) xs → AllByRecursion P (map f xs)
-all-map P f [] h = tt
-all-map P f (x ∷ xs) h = (h.0, all-map P f xs h.1)
 
 -- Layers, each put at its place
 
@@ -206,7 +193,7 @@ same-id a = grind (arith, nat_tests)
 other-id : (a b : ℕ) → a < b → eqb a b ≡ false
 other-id a b less = grind (arith, nat_tests)
 
-with-id : (n : ℕ) (things : List Thing) (t : Thing) → AreNumbered n things → IsIn t things → thing_with_id things t.id ≡ Some t
+pub with-id : (n : ℕ) (things : List Thing) (t : Thing) → AreNumbered n things → IsIn t things → thing_with_id things t.id ≡ Some t
 with-id n [] t numbered is = absurd is
 with-id n (u ∷ us) t numbered (inl same) = subst (λ (v : Thing). thing_with_id (u ∷ us) v.id ≡ Some v) same (rw (same-id u.id) refl)
 with-id n (u ∷ us) t numbered (inr rest) =
@@ -240,7 +227,7 @@ is-thing things number (Some t) fb numbered at e =
 
 has-words : (things : List Thing) (fb : FbInfo) → AreFramed things → IsThing things fb → HasWords things fb
 has-words things fb framed is =
-    let f : IsFramed things is.thing.id fb is.buffer = subst (λ c. FramesIn things is.thing.id c) is.content (all-at (λ t. FramesIn things t.id t.content) things is.thing framed is.there) in
+    let f : IsFramed things is.thing.id fb is.buffer = subst (λ c. FramesIn things is.thing.id c) is.content (by_recursion-at (λ t. FramesIn things t.id t.content) things is.thing framed is.there) in
     let b = f.own_buffer in
     let s = buffer-words b.0.id b.0.content fb is.buffer b.1.1 in
     record {
@@ -263,7 +250,7 @@ can_be_shown t w m crtc plane fb sound framed is seen =
 each-in : (t : Topology) (w : World) (crtc : ℕ) (o : Option Mode) → IsSound t w → AreFramed w.things → EachCanBeShown w.things (picture_in t w.things w.values crtc o)
 each-in t w crtc None sound framed = tt
 each-in t w crtc (Some m) sound framed =
-    all-from (CanBeShown w.things m) _ (all-map (CanBeShown w.things m) (λ l. l.1) (layers_of w.things w.values m crtc (ids_of t kind.Plane))
+    all-from_recursion (CanBeShown w.things m) _ (all_map (CanBeShown w.things m) (λ l. l.1) (layers_of w.things w.values m crtc (ids_of t kind.Plane))
     (layers-all (CanBeShown w.things m) w.things w.values m crtc (ids_of t kind.Plane) (λ plane fb is seen. can_be_shown t w m crtc plane fb sound framed is seen)))
 
 each-if : (t : Topology) (w : World) (crtc : ℕ) (b : Bool) → IsSound t w → AreFramed w.things → EachCanBeShown w.things (cond b Off (picture_in t w.things w.values crtc (mode_at w.things w.values crtc)))

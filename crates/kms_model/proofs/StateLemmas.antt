@@ -29,7 +29,7 @@ use Rattle.kms_model.proofs.SeenLemmas.{row-at, plane_crtc-held, conn_crtc-held}
 int_le-le : (a b : ℤ) → int_le a b ≡ true → a ≤ℤ b
 int_le-le a b h = grind (arith, nat_tests, ints)
 
-between-held : (low high z : ℤ) → (int_le low z && int_le z high) ≡ true → IsBetween low high z
+pub between-held : (low high z : ℤ) → (int_le low z && int_le z high) ≡ true → IsBetween low high z
 between-held low high z held =
     let both = and_parts (int_le low z) (int_le z high) held in
     record { low = int_le-le low z both.0; high = int_le-le z high both.1 }

@@ -1,5 +1,5 @@
 -- Tables of rising ids: what a look-up finds, and what a change leaves.
-use Rattle.std.proofs.Common.{◌≡◌, ◌≢◌, ℕ, zero, suc, ◌+◌, ◌<◌, ◌≤◌, length, List, [], ◌∷◌, ◌++◌, get_or, cond, Some, None, Bool, true, false, inl, inr, arith, refl, sym, ap, subst}
+use Rattle.std.proofs.Common.{◌≡◌, ◌≢◌, ℕ, zero, suc, ◌+◌, ◌<◌, ◌≤◌, length, List, [], ◌∷◌, ◌++◌, get_or, Some, None, false, inl, inr, arith, refl, sym, ap, subst}
 use Rattle.std.specs.Prelude.{not, ◌==◌}
 use Rattle.std.specs.List.{AllByRecursion, remove}
 use Rattle.std.proofs.Math.ListN.{set}
@@ -8,6 +8,7 @@ use Rattle.std.proofs.lemmas.Bool.Decides.{eqb_tells}
 use Rattle.std.proofs.lemmas.List.{get_or-map}
 use Rattle.kms_model.specs.declared.tables.Slot.{Slot}
 use Rattle.kms_model.specs.Stores.Tables.{slot, slot_ids, IsRising, AreBelow, value_with_id, with_value, without_id, put_in}
+use Rattle.kms_model.proofs.Facts.{cond_holds}
 
 -- an id is nowhere but between two places
 pub record Narrowed {T : Type 0} (slots : List (Slot T)) (id low high : ℕ) : Type 0 where
@@ -113,10 +114,6 @@ without_id-present (t ∷ slots) zero id rising within same =
     rw (eq-eqb t.id id same) (without_id-absent slots id other)
 without_id-present (t ∷ slots) (suc i) id rising within same =
     rw (front_other t slots i id rising (omega arith) same) (ap (λ rest. t ∷ rest) (without_id-present slots i id rising.1 (omega arith) same))
-
-cond_holds : {X : Type 0} (P : X → Type 0) (b : Bool) (x y : X) → P x → P y → P (cond b x y)
-cond_holds P true x y first second = first
-cond_holds P false x y first second = second
 
 put-id : {T : Type 0} (s : Slot T) (id : ℕ) (value : T) → (put_in id value s).id ≡ s.id
 put-id {T} s id value = elim (eqb_tells s.id id) [ inl same ↦ rw same.0 (sym same.1) | inr other ↦ rw other.0 refl ]

@@ -103,13 +103,6 @@ back_not r client d other is = sym (must_not d other) ∙ back_told r client d i
 
 -- Commits that are waited for
 
-pub returning_not : (d : Doing) → ((k : ℕ) → d ≡ doing.Returning k → ⊥) → returning_of d ≡ None
-returning_not doing.Idle other = refl
-returning_not (doing.Taking t) other = refl
-returning_not (doing.MustBackOff t object) other = refl
-returning_not (doing.BackedOff t object) other = refl
-returning_not (doing.Returning k) other = absurd (other k refl)
-
 pub return_told : (r v : Run) (st : Stores) (client commit : ℕ) → Stands r st → r ≡ v → doing.Returning commit ≡ doing_at (machine v) client → cleaned_of st.tracker commit ≡ may v.script (machine v) (step.Return client)
 unfolding may
 return_told r v st client commit stands same is =

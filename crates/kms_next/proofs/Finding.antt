@@ -10,6 +10,7 @@ use Rattle.kms_model.specs.Device.Objects.{count_of, ids_of, object_id}
 use Rattle.kms_model.specs.Firsts.{or_else}
 use Rattle.kms_model.specs.Machine.Commits.{lockable}
 use Rattle.kms_model.specs.Order.Turns.{or_those}
+use Rattle.kms_model.proofs.Facts.{cond_mapped}
 use Rattle.kms_stores.proofs.Ranges.{any_mapped}
 
 cond_first : {A : Type 0} (b : Bool) (x : A) (o p : Option A) → cond b (Some x) (or_else o p) ≡ or_else (cond b (Some x) o) p
@@ -19,10 +20,6 @@ cond_first false x o p = refl
 pub found_both : {A : Type 0} (p : A → Bool) (xs ys : List A) → find p (xs ++ ys) ≡ or_else (find p xs) (find p ys)
 found_both p [] ys = refl
 found_both p (x ∷ xs) ys = ap (λ o. cond (p x) (Some x) o) (found_both p xs ys) ∙ cond_first (p x) x (find p xs) (find p ys)
-
-cond_mapped : {A B : Type 0} (f : A → B) (b : Bool) (x : A) (o : Option A) → cond b (Some (f x)) (option_map f o) ≡ option_map f (cond b (Some x) o)
-cond_mapped f true x o = refl
-cond_mapped f false x o = refl
 
 pub found_mapped : {A B : Type 0} (p : B → Bool) (f : A → B) (xs : List A) → find p (map f xs) ≡ option_map f (find (λ x. p (f x)) xs)
 found_mapped p f [] = refl

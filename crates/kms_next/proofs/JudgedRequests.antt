@@ -18,6 +18,8 @@ use Rattle.kms_model.specs.Request.Lookups.{look_of, look_up}
 use Rattle.kms_model.specs.Request.Refusals.{early_refusal}
 use Rattle.kms_model.specs.Request.Touched.{named_by, touched_by}
 use Rattle.kms_model.specs.Request.Verdict.{early_in, late_in, verdict}
+use Rattle.kms_model.proofs.Facts.{none-some}
+use Rattle.kms_laws.proofs.ClientProgress.{not-none}
 use Rattle.kms_request.specs.Answers.{refusal_number}
 use Rattle.kms_signal.specs.Queues.{Queue}
 use Rattle.kms_track.specs.Places.{all_below}
@@ -33,6 +35,7 @@ use Rattle.kms_stores.specs.Stands.{Stores, Stands, queue_of}
 use Rattle.kms_stores.specs.Swaps.{late_reply, late_told}
 use Rattle.kms_stores.proofs.Accepted.{mask_holds}
 use Rattle.kms_stores.proofs.Lates.{late_same, queue_there}
+use Rattle.kms_stores.proofs.Seeking.{both_off}
 use Rattle.kms_next.proofs.Presented.{tells_now}
 use Rattle.kms_next.proofs.Taken.{Takes, taken_parts, taking-is, taking-none}
 
@@ -63,10 +66,6 @@ some_number : (o : Option Refusal) → is_some (refusal_number o) ≡ is_some o
 some_number None = refl
 some_number (Some refusal) = refl
 
-none_of : {A : Type 0} (o : Option A) → is_some o ≡ false → o ≡ None
-none_of None out = refl
-none_of (Some x) out = absurd cc
-
 pub none_told : {A : Type 0} (b : Bool) (o p : Option A) → not b ≡ is_some o → o ≡ p → b ≡ is_none p
 none_told true None p told is = ap (λ x. is_none x) is
 none_told false None p told is = absurd cc
@@ -83,7 +82,7 @@ early_told r st request o told stands first is =
 pub early_none : (r : Run) (st : Stores) (request : Request) (o : Option Refusal) → Stands r st
     → refusal_number o ≡ early_refusal r.script.topology (λ label. look_of (thing_labelled st.made.things label)) request → is_some o ≡ false
     → early_in r.script.topology (world r) request ≡ None
-early_none r st request o stands first is = none_of (early_in r.script.topology (world r) request) (early_told r st request o false stands first is)
+early_none r st request o stands first is = not-none (early_in r.script.topology (world r) request) (early_told r st request o false stands first is)
 
 pub judged_early : (r v : Run) (st : Stores) (client : ℕ) (request : Request) (o : Option Refusal) → Stands r st → r ≡ v
     → refusal_number o ≡ early_refusal r.script.topology (λ label. look_of (thing_labelled st.made.things label)) request → is_some o ≡ true
@@ -149,15 +148,6 @@ pub no_swap : (s : Script) (m : Machine) (client : ℕ) → None ≡ request_tak
 unfolding may
 no_swap s m client is = sym (taking-none s m client (may_swap s.topology m client) is)
 
-not_some : {A : Type 0} (o : Option A) → is_none o ≡ not (is_some o)
-not_some None = refl
-not_some (Some x) = refl
-
-right_off : (a b : Bool) → (a && (b && false)) ≡ false
-right_off true true = refl
-right_off true false = refl
-right_off false b = refl
-
 -- no request is accepted for which one of refusals 1 to 8 is due
 not_accepted : (s : Script) (m : Machine) (request : Request) → is_some (early_in s.topology m.device.world request) ≡ true → is_none (verdict s.topology m.device.world request) ≡ false
 unfolding verdict
@@ -168,7 +158,7 @@ not_accepted s m request early = by (early_in s.topology m.device.world request)
 
 accepted_late : (s : Script) (m : Machine) (request : Request) → early_in s.topology m.device.world request ≡ None → is_none (verdict s.topology m.device.world request) ≡ not (is_some (late_in s.topology m.device.world request))
 unfolding verdict
-accepted_late s m request none = rw none (not_some (late_in s.topology m.device.world request))
+accepted_late s m request none = rw none (none-some (late_in s.topology m.device.world request))
 
 module _ (s : Script) (m : Machine) (client : ℕ) (request : Request) (is : Some request ≡ request_taken s m client) where
   takes : Takes s m client request
@@ -180,11 +170,11 @@ module _ (s : Script) (m : Machine) (client : ℕ) (request : Request) (is : Som
 
   pub test_early : IsJudged s.topology m client request None → false ≡ may s m (step.Test client)
   unfolding may may_test
-  test_early early = sym (taking-is s m client (may_test s.topology m client) request takes ∙ rw (not_accepted s m request early) (right_off (is_test request.flags) _))
+  test_early early = sym (taking-is s m client (may_test s.topology m client) request takes ∙ rw (not_accepted s m request early) (both_off (is_test request.flags) _))
 
   pub swap_early : IsJudged s.topology m client request None → false ≡ may s m (step.Swap client)
   unfolding may may_swap
-  swap_early early = sym (taking-is s m client (may_swap s.topology m client) request takes ∙ rw (not_accepted s m request early) (right_off (not (is_test request.flags)) _))
+  swap_early early = sym (taking-is s m client (may_swap s.topology m client) request takes ∙ rw (not_accepted s m request early) (both_off (not (is_test request.flags)) _))
 
   module _ (j : Judged) (told : IsJudgedLate s.topology m client request j) (test : Bool) (test_is : test ≡ is_test request.flags) where
     late_some : is_some j.late ≡ is_some (late_in s.topology m.device.world request)
@@ -202,7 +192,7 @@ module _ (s : Script) (m : Machine) (client : ℕ) (request : Request) (is : Som
     pub test_late : (test && (j.holds && is_none j.late)) ≡ may s m (step.Test client)
     unfolding may may_test
     test_late =
-        rw (told.holds, not_some j.late, late_some, test_is)
+        rw (told.holds, none-some j.late, late_some, test_is)
         (sym (taking-is s m client (may_test s.topology m client) request takes ∙ rw (accepted_late s m request told.none) refl))
 
     hinders : (test b c : Bool) (holds late : Bool) → (not test && (holds && (late && (not (not test && b) && c)))) ≡ (not test && (holds && (late && (not b && c))))
@@ -212,5 +202,5 @@ module _ (s : Script) (m : Machine) (client : ℕ) (request : Request) (is : Som
     pub swap_late : (not test && (j.holds && (is_none j.late && (is_none j.hindered && j.ready)))) ≡ may s m (step.Swap client)
     unfolding may may_swap
     swap_late =
-        rw (told.holds, not_some j.late, not_some j.hindered, late_some, hindered_some, told.ready, test_is)
+        rw (told.holds, none-some j.late, none-some j.hindered, late_some, hindered_some, told.ready, test_is)
         (sym (taking-is s m client (may_swap s.topology m client) request takes ∙ rw (accepted_late s m request told.none) (hinders (is_test request.flags) (lacks_space s.topology m client request || is_busy s.topology m request) (is_ready s.topology m request) _ _)))

@@ -15,6 +15,7 @@ use Rattle.kms_model.specs.declared.scripts.Value.{Value}
 use Rattle.kms_model.specs.Script.CommandLines.{Names, addfb_read, assign_read, assign_words, assigns_read, atomic_read, blob_read, buffer_read, command_read, label_alone, label_read, making, making_read, mode_fields, mode_read, naming_read, pattern_at, place, property_read, saying, thing_read, value_read, was_made}
 use Rattle.kms_model.specs.Script.Grammar.{blob_bytes, field_words, format_at, hex_at, int, known_property}
 use Rattle.kms_model.specs.Script.Words.{◌>>=◌, dec, dec_at, end_at, field_at, from, is_label, label_at, strip, until}
+use Rattle.kms_model.proofs.Facts.{neither}
 use Rattle.kms_once.specs.Once.{is_new, makes}
 use Rattle.kms_once.proofs.MadeNames.{is_made_at, made_marks, number_of, said_marks, was_marks}
 
@@ -26,10 +27,6 @@ pub record Marks (before : Names) (marks : ℕ → Bool) (after : Names) : Type 
 
 abbrev pub nothing : ℕ → Bool
 nothing k = false
-
-neither : (a b : Bool) → (a || b) ≡ false → (a ≡ false) × (b ≡ false)
-neither true b e = absurd (false≢true (sym e))
-neither false b e = (refl, e)
 
 or_false : (b : Bool) → b ≡ (b || false)
 or_false true = refl

@@ -1,8 +1,7 @@
 -- A CRTC may be pictured in each sound world with which the new states agree, where the planes that are on it are
 -- duplicated.
-use Rattle.std.proofs.Common.{◌≡◌, ℕ, zero, suc, ◌+◌, ◌<◌, length, Bool, true, List, Option, Some, None, is_some, ℤ, pos, negsuc, ◌≤ℤ◌, inl, inr, arith, refl, sym, ap, subst, ◌∙◌}
+use Rattle.std.proofs.Common.{◌≡◌, ℕ, ◌<◌, length, Bool, true, List, Option, Some, None, is_some, ℤ, pos, negsuc, ◌≤ℤ◌, inl, inr, arith, refl, sym, ap, subst, ◌∙◌}
 use Rattle.std.specs.Prelude.{◌==◌, ◌&&◌, int_le, nat_lt}
-use Rattle.std.specs.List.{list_all, range_with_len}
 use Rattle.std.proofs.lemmas.Bool.{and_from, and_parts, cases_Bool, false≢true, ltb-true}
 use Rattle.std.proofs.lemmas.Bool.Decides.{nat_tests}
 use Rattle.std.proofs.lemmas.Int.{ints}
@@ -21,6 +20,7 @@ use Rattle.kms_model.specs.Request.Agreement.{AgreesNew, crtc_state_at}
 use Rattle.kms_model.proofs.MaskLemmas.{has_bit-mask_below}
 use Rattle.kms_model.proofs.StateLemmas.{sound-plane_in_range}
 use Rattle.kms_model.proofs.TouchedLemmas.{HasFewObjects, few_objects}
+use Rattle.kms_model.proofs.Facts.{list_all-from}
 use Rattle.kms_state.specs.Places.{state_at}
 use Rattle.kms_state.proofs.Slots.{slot_at}
 use Rattle.kms_picture.specs.Covered.{FitsDuplicates, are_placeable, is_placeable, is_near, is_near_rect, is_near_plane, may_picture}
@@ -32,21 +32,17 @@ has_room t device = let few : HasFewObjects t = few_objects t device in record {
 int_le-from : (a b : ℤ) → a ≤ℤ b → int_le a b ≡ true
 int_le-from a b h = grind (arith, nat_tests, ints)
 
-near-place : (z : ℤ) → IsBetween (negsuc 2147483647) (pos 2147483647) z → is_near z ≡ true
+pub near-place : (z : ℤ) → IsBetween (negsuc 2147483647) (pos 2147483647) z → is_near z ≡ true
 near-place z h = and_from (int_le (negsuc 2147483647) z) (int_le z (pos 2147483647)) (int_le-from (negsuc 2147483647) z h.low) (int_le-from z (pos 2147483647) h.high)
 
-near-size : (z : ℤ) → IsBetween (pos 0) (pos 2147483647) z → is_near z ≡ true
+pub near-size : (z : ℤ) → IsBetween (pos 0) (pos 2147483647) z → is_near z ≡ true
 near-size z h = near-place z (record { low = omega (arith, ints, h.low); high = h.high })
 
-near-dst : (s : PlaneState) → IsPlaneInRange s → is_near_rect s.dst ≡ true
+pub near-dst : (s : PlaneState) → IsPlaneInRange s → is_near_rect s.dst ≡ true
 near-dst s h =
     and_from (is_near s.dst.x) (is_near s.dst.y && (is_near s.dst.w && is_near s.dst.h)) (near-place s.dst.x h.x)
     (and_from (is_near s.dst.y) (is_near s.dst.w && is_near s.dst.h) (near-place s.dst.y h.y)
     (and_from (is_near s.dst.w) (is_near s.dst.h) (near-size s.dst.w h.w) (near-size s.dst.h h.h)))
-
-list_all-from : (f : ℕ → Bool) (start n : ℕ) → ((i : ℕ) → f i ≡ true) → list_all f (range_with_len start n) ≡ true
-list_all-from f start zero each = refl
-list_all-from f start (suc n) each = and_from (f start) (list_all f (range_with_len (start + 1) n)) (each start) (list_all-from f (start + 1) n each)
 
 covered-from : (planes : List (Option (Both PlaneState))) (mask index : ℕ) → (has_bit mask index ≡ true → is_near_plane (state_at planes index) ≡ true) → is_placeable planes mask index ≡ true
 covered-from planes mask index h =

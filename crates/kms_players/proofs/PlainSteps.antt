@@ -16,6 +16,7 @@ use Rattle.kms_model.specs.Machine.State.{Machine, command_at, doing_at, first_m
 use Rattle.kms_model.specs.Machine.Steps.{idle_at, is_idle, is_making, is_signal, is_wait, may, returning_of}
 use Rattle.kms_stores.specs.Calls.{MayMake, MayRead, MaySignal, MayReturn, idle_command_at, is_over_at, only_if, read_reply_at, read_reply, unless_ended}
 use Rattle.kms_stores.specs.Run.{Run, machine}
+use Rattle.kms_stores.proofs.Places.{idle_is}
 use Rattle.kms_device.specs.Steps.{is_legal}
 use Rattle.kms_device.specs.Turns.{DevicePass, IsOpen, MayBeFound, DeviceTurn, run_seen}
 use Rattle.kms_device.proofs.Found.{going-found, may_read, may_return}
@@ -55,13 +56,6 @@ making_of c none signals waits = refl
 
 -- Where it comes next
 
-idle-doing : (d : Doing) → is_idle d ≡ true → d ≡ doing.Idle
-idle-doing doing.Idle h = refl
-idle-doing (doing.Taking t) h = absurd (false≢true h)
-idle-doing (doing.MustBackOff t object) h = absurd (false≢true h)
-idle-doing (doing.BackedOff t object) h = absurd (false≢true h)
-idle-doing (doing.Returning k) h = absurd (false≢true h)
-
 comes_idle : (s : Script) (m : Machine) (client : ℕ) (test : Command → Bool) (next : Step) → ((c : Command) → test c ≡ true → step_of_command client c ≡ Some next) → idle_at s m client test ≡ true
     → step_of_place client (doing_at m client) (command_at s m client) ≡ Some next
 comes_idle s m client test next told h = by_command (command_at s m client) refl where
@@ -72,7 +66,7 @@ comes_idle s m client test next told h = by_command (command_at s m client) refl
   by_command None is = (let g = rw is at (and_parts (is_idle (doing_at m client)) _ h).1 in absurd (false≢true g))
   by_command (Some c) is =
       let g : test c ≡ true = rw is at (and_parts (is_idle (doing_at m client)) _ h).1 in
-      ap (λ d. step_of_place client d (command_at s m client)) (idle-doing (doing_at m client) both.0)
+      ap (λ d. step_of_place client d (command_at s m client)) (idle_is (doing_at m client) both.0)
       ∙ ap (step_of_place client doing.Idle) is ∙ told c g
 
 making_step : (client : ℕ) (c : Command) → is_making c ≡ true → step_of_command client c ≡ Some (step.Make client)

@@ -1,6 +1,6 @@
 -- Where a client stands, and which step comes next there.
-use Rattle.std.proofs.Common.{◌≡◌, ◌⊎◌, ℕ, zero, suc, [], ◌∷◌, replicate, Bool, true, false, Option, Some, None, Result, Ok, Err, inl, inr, refl, sym, ap, ◌∙◌, subst}
-use Rattle.std.specs.Prelude.{◌&&◌, IfOk, OnErr, is_none, slice_get}
+use Rattle.std.proofs.Common.{◌≡◌, ◌⊎◌, ℕ, [], ◌∷◌, Bool, true, false, Option, Some, None, Result, Ok, Err, inl, inr, refl, sym, ap, ◌∙◌, subst}
+use Rattle.std.specs.Prelude.{◌&&◌, IfOk, OnErr, is_none}
 use Rattle.std.proofs.lemmas.Bool.{and_from, and_parts, false≢true}
 use Rattle.kms_model.specs.declared.runs.Doing.{Doing}
 use Rattle.kms_model.specs.declared.runs.Doing.TheVariants as doing
@@ -9,11 +9,12 @@ use Rattle.kms_model.specs.declared.scripts.Command.{Command}
 use Rattle.kms_model.specs.declared.scripts.Command.TheVariants as command
 use Rattle.kms_model.specs.declared.scripts.Request.{Request}
 use Rattle.kms_model.specs.declared.scripts.Script.{Script}
-use Rattle.kms_model.specs.declared.states.Both.{Both}
 use Rattle.kms_model.specs.Device.Serial.{command_of}
 use Rattle.kms_model.specs.Machine.Histories.{is_at_end}
 use Rattle.kms_model.specs.Machine.State.{command_at, doing_at, place_at, request_at, request_in}
 use Rattle.kms_model.specs.Machine.Steps.{is_idle, returning_of}
+use Rattle.kms_model.proofs.Facts.{nothing_there}
+use Rattle.kms_model.proofs.CommitFacts.{returning_not}
 use Rattle.kms_laws.specs.Laws.{has_context}
 use Rattle.kms_laws.proofs.Contexts.{HasRequest}
 use Rattle.kms_laws.proofs.Modes.{plain-from}
@@ -25,37 +26,13 @@ use Rattle.kms_stores.specs.Run.{Run, machine}
 use Rattle.kms_device.specs.declared.attempt.Attempt.{Attempt}
 use Rattle.kms_device.specs.Attempts.{MayAttempt, Serves, StaysAt, Went, new_attempt}
 use Rattle.kms_device.specs.Turns.{DevicePass, IsOpen, DeviceTurn, run_seen}
+use Rattle.kms_device.proofs.Serving.{serves_new}
 use Rattle.kms_players.specs.Players.{name_of_pass}
 use Rattle.kms_players.specs.PlayerTurns.{AttemptTurn, ClientTurn, PlainTurn, Plays, RequestTurn}
 use Rattle.kms_players.specs.UnderWay.{IsAttempting}
 use Rattle.kms_players.proofs.Waits.{seen-found, turn_name, went_name}
 
 -- what is new serves wherever a client stands
-
-no_state : {S : Type 0} (n index : ℕ) (both : Both S) → slice_get (replicate n None) index ≡ Some (Some both) → ⊥
-no_state zero index both at = absurd cc
-no_state (suc n) zero both at = absurd cc
-no_state (suc n) (suc index) both at = no_state n index both at
-
-pub serves_new : (r : Run) (client : ℕ) → Serves r client new_attempt
-serves_new r client = record {
-  looks = λ used told. absurd cc;
-  states = record {
-    crtcs = λ index both at. absurd (no_state 4 index both at);
-    planes = λ index both at. absurd (no_state 16 index both at);
-    conns = λ index both at. absurd (no_state 8 index both at);
-    old = record {
-      crtcs = λ index both at. absurd (no_state 4 index both at);
-      planes = λ index both at. absurd (no_state 16 index both at);
-      conns = λ index both at. absurd (no_state 8 index both at);
-    };
-  };
-  fresh = record {
-    crtcs = λ index both at. absurd (no_state 4 index both at);
-    planes = λ index both at. absurd (no_state 16 index both at);
-    conns = λ index both at. absurd (no_state 8 index both at);
-  };
-}
 
 -- a client that has a context stands at a request
 has_request : (r : Run) (client : ℕ) → IsOpen r → has_context (doing_at (machine r) client) ≡ true → HasRequest r.script client (place_at (machine r) client)
@@ -81,10 +58,6 @@ at_end r client is_open awake none =
     and_from (is_idle (doing_at (machine r) client)) _
     (idle r client is_open awake (ap request_in none))
     (ap is_none none)
-
-returning_not : (d : Doing) → ((k : ℕ) → d ≡ doing.Returning k → ⊥) → returning_of d ≡ None
-returning_not (doing.Returning k) awake = absurd (awake k refl)
-returning_not d awake = refl
 
 request_not : (c : Command) → ((r : Request) → c ≡ command.Atomic r → ⊥) → request_in (Some c) ≡ None
 request_not (command.Atomic r) other = absurd (other r refl)

@@ -1,8 +1,7 @@
 -- The states that words were made of are read back from them.
-use Rattle.std.proofs.Common.{◌≡◌, ℕ, ◌<◌, ℤ, pos, negsuc, ◌≤ℤ◌, List, length, Option, Some, None, arith, rules, refl, ap, ◌∙◌, SFits, if◌then◌else◌}
+use Rattle.std.proofs.Common.{◌≡◌, ℕ, ◌<◌, ℤ, pos, negsuc, ◌≤ℤ◌, List, length, Option, Some, None, arith, refl, ap, ◌∙◌, if◌then◌else◌}
 use Rattle.std.specs.Prelude.{◌==◌, not, Bool, true, false, is_some}
-use Rattle.std.specs.Int.{w32, cast_signed, cast_unsigned}
-use Rattle.std.proofs.lemmas.Int.{ints, to_z-of_z}
+use Rattle.std.proofs.lemmas.Int.{ints}
 use Rattle.kms_model.specs.declared.objects.Format.{Format}
 use Rattle.kms_model.specs.declared.objects.Format.TheVariants.{Xr24, Ar24, Rg16}
 use Rattle.kms_model.specs.declared.objects.Kind.TheVariants.{Crtc, Plane}
@@ -17,12 +16,12 @@ use Rattle.kms_model.specs.declared.states.PlaneState.{PlaneState}
 use Rattle.kms_model.specs.Device.Objects.{ids_of, object_id}
 use Rattle.kms_model.specs.Frames.Pictures.{layers_with, put_plane, seen_on, shown_with}
 use Rattle.kms_model.specs.Device.ModeBytes.{mode_bytes, mode_held}
-use Rattle.kms_model.specs.Device.Sound.{IsBetween}
 use Rattle.kms_model.specs.Device.States.{natural}
 use Rattle.kms_model.specs.Machine.Registers.{CrtcWords, Registers, bytes_of_words, code_of, crtc_words, decoded_picture, fb_number, flag_word, format_in, gamma_in_words, gamma_words, mode_words, plane_in, plane_register, plane_words, shown_in_words}
 use Rattle.kms_model.proofs.GammaRoundTrip.{gamma_back}
 use Rattle.kms_model.proofs.ModeRoundTrip.{mode_held-mode_bytes}
 use Rattle.kms_model.proofs.WordBytes.{mode_long, mode_small, words_back}
+use Rattle.kms_model.proofs.Facts.{signed_back}
 use Rattle.kms_regs.specs.Written.{AreWritten, HasGamma, HasId, HasMode, IsWritable, IsWritableMode, picture_of_states}
 use Rattle.kms_regs.proofs.Rows.{other_id}
 use Rattle.kms_regs.proofs.SameWords.{same_layers}
@@ -44,9 +43,6 @@ fb_back (Some x) has = rw (other_id x.id 0 has, format_back x.format) refl
 natural_back : (z : ℤ) → pos 0 ≤ℤ z → pos (natural z) ≡ z
 natural_back (pos n) low = refl
 natural_back (negsuc n) low = absurd (omega (arith, ints, low))
-
-signed_back : (z : ℤ) → IsBetween (negsuc 2147483647) (pos 2147483647) z → cast_signed w32 (cast_unsigned w32 z) ≡ z
-signed_back z between = let fits : SFits w32 z = search (rules, arith, ints, between.low, between.high) in to_z-of_z w32 z fits
 
 pub plane_back : (s : PlaneState) → IsWritable s → plane_in (plane_words s) ≡ s
 unfolding plane_in plane_words

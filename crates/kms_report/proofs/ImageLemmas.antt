@@ -1,10 +1,8 @@
 -- The images of a picture's framebuffers, and the length of its frame.
-use Rattle.std.proofs.Common.{◌≡◌, ℕ, zero, suc, ◌+◌, ◌*◌, ◌<◌, Bool, true, false, cond, eqb, List, [], ◌∷◌, ◌++◌, length, get_or, take, Option, Some, None, refl, sym, ap, ◌∙◌, subst, arith}
+use Rattle.std.proofs.Common.{◌≡◌, ℕ, ◌+◌, ◌*◌, ◌<◌, Bool, true, false, cond, eqb, List, [], ◌∷◌, ◌++◌, length, get_or, take, Option, Some, None, refl, sym, ap, ◌∙◌, subst}
 use Rattle.std.specs.Prelude.{All}
-use Rattle.std.specs.List.{flat_map, range_with_len}
 use Rattle.std.proofs.Math.Nat.{mul_comm, mul_assoc}
 use Rattle.std.proofs.lemmas.Bool.{eq-eqb, cond-true, cond-false, eqb-true}
-use Rattle.std.proofs.lemmas.List.{length-append}
 use Rattle.std.proofs.lemmas.List.Elements.{All-push, All-head, All-tail, All-more, All-weaker}
 use Rattle.kms_model.specs.declared.objects.Mode.{Mode}
 use Rattle.kms_model.specs.declared.pictures.Layer.{Layer}
@@ -17,6 +15,7 @@ use Rattle.kms_model.specs.Stores.Kept.{Seen}
 use Rattle.kms_compose.specs.Images.{AreImagesIn, IsShowable, image_seen, seen_under}
 use Rattle.kms_compose.specs.declared.images.FbImage.{FbImage}
 use Rattle.kms_model.specs.Frames.Shown.{CanBeShown, HasWords}
+use Rattle.kms_compose.proofs.Canvas.{range_length}
 use Rattle.kms_report.specs.Images.{AreSeen, IsPushed}
 
 -- One image more
@@ -87,17 +86,10 @@ have_words things m layers can k d within = (can k d within).words
 
 -- The length of a frame
 
-length-pieces : (f : ℕ → List ℕ) (size a n : ℕ) → ((k : ℕ) → length (f k) ≡ size) → length (flat_map f (range_with_len a n)) ≡ n * size
-length-pieces f size a zero each = omega arith
-length-pieces f size a (suc n) each =
-    let later = length-pieces f size (a + 1) n each in
-    let here = each a in
-    omega (arith, length-append (f a) (flat_map f (range_with_len (a + 1) n)))
-
 -- three bytes for each pixel
 pub length-frame : (words : ℕ → ℕ → ℕ → Option ℕ) (p : Shown) → length (frame_of words (On p)) ≡ 3 * (p.mode.hdisplay * p.mode.vdisplay)
 length-frame words p =
     let w = p.mode.hdisplay in
     let h = p.mode.vdisplay in
-    length-pieces (row_bytes words p) (w * 3) 0 h (λ y. length-pieces (λ (x : ℕ). pixel words p.gamma p.layers x y) 3 0 w (λ x. refl))
+    range_length (row_bytes words p) (w * 3) 0 h (λ y. range_length (λ (x : ℕ). pixel words p.gamma p.layers x y) 3 0 w (λ x. refl))
     ∙ sym (mul_assoc h w 3) ∙ mul_comm (h * w) 3 ∙ ap (λ (k : ℕ). 3 * k) (mul_comm h w)

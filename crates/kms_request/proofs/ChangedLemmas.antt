@@ -1,6 +1,6 @@
 -- Requests that are applied to the states of the whole device.
-use Rattle.std.proofs.Common.{◌≡◌, ◌∙◌, ℕ, ◌+◌, ◌-◌, ◌<◌, Bool, true, false, List, [], ◌∷◌, ◌++◌, length, take, get_or, Option, Some, None, inl, inr, arith, refl, sym, ap, subst}
-use Rattle.std.specs.Prelude.{◌&&◌, nat_le, filter, is_none, is_some, pos}
+use Rattle.std.proofs.Common.{◌≡◌, ◌∙◌, ℕ, ◌+◌, ◌-◌, ◌<◌, Bool, true, false, List, [], ◌∷◌, ◌++◌, length, take, get_or, Option, None, arith, refl, sym, ap, subst}
+use Rattle.std.specs.Prelude.{◌&&◌, nat_le, is_none, is_some, pos}
 use Rattle.std.proofs.lemmas.Bool.{ltb-true}
 use Rattle.std.proofs.lemmas.Bool.Decides.{nat_tests}
 use Rattle.kms_model.specs.declared.objects.Kind.{Kind}
@@ -28,13 +28,14 @@ use Rattle.kms_model.specs.Request.Resolves.{HasPlace, IsAllowed, IsSettable}
 use Rattle.kms_model.specs.Request.SetRanges.{may_set}
 use Rattle.kms_model.specs.Request.Sets.{set_of}
 use Rattle.kms_model.specs.Request.Verdict.{early_in}
+use Rattle.kms_laws.proofs.Steps.{none-is}
 use Rattle.kms_model.proofs.CrtcLemmas.{all_in}
 use Rattle.kms_model.proofs.Items.{none-number_if, or_else-nones}
 use Rattle.kms_model.proofs.KindsOfIds.{kind_of-object}
-use Rattle.kms_model.proofs.LastLemmas.{IsIn}
 use Rattle.kms_model.proofs.RequestLemmas.{accepted_allowed, allowed, allowed_settable}
 use Rattle.kms_model.proofs.StandsLemmas.{stands-accepted}
 use Rattle.kms_model.proofs.TouchedLemmas.{few_objects}
+use Rattle.kms_model.proofs.ReachLaw.{filter-all}
 use Rattle.kms_state.specs.Places.{OldStates, is_duplicated, is_duplicated_of, old_states, olds, state_at, state_of}
 use Rattle.kms_state.specs.Changes.{Sets}
 use Rattle.kms_state.proofs.Slots.{AgreesOld-same, there_old}
@@ -56,19 +57,11 @@ pub allowed-own : (t : Topology) (f : ℕ → Look) (a : Assign) → IsAllowed t
 unfolding own_refusal
 allowed-own t f a allowed = rw (allowed.exists, allowed.has, allowed.mutable, allowed.value) refl
 
-none_from : {A : Type 0} (o : Option A) → is_none o ≡ true → o ≡ None
-none_from None is = refl
-none_from (Some x) is = absurd cc
-
 pub counted-allowed : (t : Topology) (f : ℕ → Look) (a : Assign) → is_none (own_refusal t f a) ≡ true → IsAllowed t f a
-counted-allowed t f a counts = own-allowed t f a (none_from (own_refusal t f a) counts)
+counted-allowed t f a counts = own-allowed t f a (none-is (own_refusal t f a) counts)
 
 pub counted-settable : (t : Topology) (f : ℕ → Look) (a : Assign) → IsDevice t → is_none (own_refusal t f a) ≡ true → IsSettable a
 counted-settable t f a device counts = allowed_settable t f a (limits_of t device) (counted-allowed t f a counts)
-
-pub filter-all : {A : Type 0} (p : A → Bool) (xs : List A) → ((x : A) → IsIn x xs → p x ≡ true) → filter p xs ≡ xs
-filter-all p [] each = refl
-filter-all p (x ∷ xs) each = rw (each x (inl refl)) (ap (λ ys. x ∷ ys) (filter-all p xs (λ y is. each y (inr is))))
 
 -- so is each of a request for which none of refusals 1 to 8 is due
 pub all-counted : (t : Topology) (f : ℕ → Look) (r : Request) → early_refusal t f r ≡ None → allowed_by t f r.assigns ≡ r.assigns

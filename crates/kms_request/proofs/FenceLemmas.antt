@@ -22,22 +22,15 @@ use Rattle.kms_model.specs.Request.Resolves.{HasPlace, IsSettable}
 use Rattle.kms_model.specs.Request.Sets.{obj_id}
 use Rattle.kms_model.specs.Request.Touched.{last_value, value_if}
 use Rattle.kms_model.proofs.SetLemmas.{of_each_kind}
+use Rattle.kms_model.proofs.Facts.{or_else-none, or_else-assoc}
 use Rattle.kms_request.specs.Fences.{ListsNumbers, TellLast, numbered}
-
-or_else-none : {A : Type 0} (first : Option A) → or_else first None ≡ first
-or_else-none None = refl
-or_else-none (Some x) = refl
-
-or_else_assoc : {A : Type 0} (a b c : Option A) → or_else (or_else a b) c ≡ or_else a (or_else b c)
-or_else_assoc None b c = refl
-or_else_assoc (Some x) b c = refl
 
 -- the last value where one assignment more comes behind
 last_value-push : (assigns : List Assign) (a : Assign) (object prop : ℕ) →
     last_value (assigns ++ a ∷ []) object prop ≡ or_else (value_if ((object_of a == object) && (prop_of a.prop == prop)) a.value) (last_value assigns object prop)
 last_value-push [] a object prop = sym (or_else-none (value_if ((object_of a == object) && (prop_of a.prop == prop)) a.value))
 last_value-push (b ∷ assigns) a object prop =
-    rw (last_value-push assigns a object prop) (or_else_assoc (value_if ((object_of a == object) && (prop_of a.prop == prop)) a.value) (last_value assigns object prop) (value_if ((object_of b == object) && (prop_of b.prop == prop)) b.value))
+    rw (last_value-push assigns a object prop) (or_else-assoc (value_if ((object_of a == object) && (prop_of a.prop == prop)) a.value) (last_value assigns object prop) (value_if ((object_of b == object) && (prop_of b.prop == prop)) b.value))
 
 -- ids of objects are the same where kinds and indices are
 same_object : (k l : Kind) (i index : ℕ) → HasPlace k i → index < 16 → (object_id k i == object_id l index) ≡ (same_kind k l && (i == index))

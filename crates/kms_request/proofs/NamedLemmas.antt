@@ -38,8 +38,9 @@ use Rattle.kms_model.specs.Device.Sound.{IsCrtcOrNone}
 use Rattle.kms_model.specs.Device.Sound.IsCrtcOrNone.{IsNone, IsCrtc}
 use Rattle.kms_model.proofs.HeldValues.{AreAllHeld, all_held-from}
 use Rattle.kms_model.proofs.CrtcLemmas.{all_in, crtc_after, crtc_after_held, crtc_before_held, routed}
-use Rattle.kms_model.proofs.LastLemmas.{IsIn, from_last, has_last, in_passes, set_by, some_in}
+use Rattle.kms_model.proofs.LastLemmas.{IsIn, from_last, has_last, set_by, some_in}
 use Rattle.kms_model.proofs.MaskLemmas.{mask_from}
+use Rattle.kms_model.proofs.Items.{list_any-has}
 use Rattle.kms_request.specs.Naming.{AreCrtcs, Covers, is_routed_duplicated, set_names, new_crtc_id, next_crtc, number_in, old_crtc_id, routed_number}
 
 -- The old CRTC
@@ -188,7 +189,7 @@ module _ (t : Topology) (things : List worlds.Thing) (old : List Setting) (f : �
         let P : Set → Type 0 = λ s. is_routed_duplicated d s.object.0 ≡ true in
         let Q : Set → Type 0 = λ s. set_names d s crtc ≡ true in
         let there : is_routed_duplicated d (object_of from.item) ≡ true = subst P from.set (all_in P (last_sets f assigns) found.item duplicated found.member) in
-        in_passes (is_named_by old (apply things old assigns) crtc) assigns from.item from.is.member
+        list_any-has (is_named_by old (apply things old assigns) crtc) assigns from.item from.is.member
         (set_is_named from.item crtc some from.is.member from.is.last there (subst Q from.set found.passes))
 
     -- what an object that is set is known by: one of the sets is of it
@@ -196,7 +197,7 @@ module _ (t : Topology) (things : List worlds.Thing) (old : List Setting) (f : �
     listed_duplicated b listed = let P : Set → Type 0 = λ s. is_routed_duplicated d s.object.0 ≡ true in all_in P (last_sets f assigns) (set_of f b) duplicated listed
 
     by_set : (b : Assign) (crtc : ℕ) → IsIn (set_of f b) (last_sets f assigns) → set_names d (set_of f b) crtc ≡ true → list_any (λ s. set_names d s crtc) (last_sets f assigns) ≡ true
-    by_set b crtc listed named = in_passes (λ s. set_names d s crtc) (last_sets f assigns) (set_of f b) listed named
+    by_set b crtc listed named = list_any-has (λ s. set_names d s crtc) (last_sets f assigns) (set_of f b) listed named
 
     -- a plane or a connector that is set, and was on a CRTC
     by_old : (a b : Assign) (crtc : ℕ) → IsIn a assigns → object_of a ≡ object_of b → IsIn (set_of f b) (last_sets f assigns) → is_routed a.kind ≡ true → crtc_at old (object_of a) ≡ crtc → list_any (λ s. set_names d s crtc) (last_sets f assigns) ≡ true

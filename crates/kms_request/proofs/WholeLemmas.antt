@@ -1,5 +1,5 @@
 -- The plain check of the whole device.
-use Rattle.std.proofs.Common.{◌≡◌, ◌∙◌, ℕ, ◌+◌, ◌-◌, ◌^◌, ◌<◌, ◌≤◌, List, [], ◌∷◌, Bool, true, false, Option, Some, None, inl, inr, arith, refl, sym, ap, subst}
+use Rattle.std.proofs.Common.{◌≡◌, ◌∙◌, ℕ, ◌+◌, ◌-◌, ◌^◌, ◌<◌, ◌≤◌, List, Bool, true, false, Option, Some, None, arith, refl, sym, ap, subst}
 use Rattle.std.specs.Prelude.{◌&&◌, ◌||◌, ◌==◌, All, IfSome, slice_get, is_some, if◌then◌else◌}
 use Rattle.std.specs.Option.{option_flatten}
 use Rattle.std.specs.List.{list_any}
@@ -30,15 +30,15 @@ use Rattle.kms_model.specs.Device.Sound.{IsDevice, IsPlaneInRange}
 use Rattle.kms_model.specs.Device.States.{crtc_at}
 use Rattle.kms_model.specs.Request.Touched.{is_asked, named_set, out_fence_label}
 use Rattle.kms_model.proofs.CrtcLemmas.{all_in}
-use Rattle.kms_model.proofs.LastLemmas.{IsIn}
 use Rattle.kms_model.proofs.HeldValues.{all_held-from}
 use Rattle.kms_model.proofs.HeldValues.{all_held-from}
-use Rattle.kms_model.proofs.Items.{ids-has}
+use Rattle.kms_model.proofs.Items.{ids-has, list_any-same}
 use Rattle.kms_model.proofs.LateLemmas.{Covers, fenced_set, late_of_states-is}
 use Rattle.kms_model.proofs.MaskLemmas.{has_bit-from, same_masks}
 use Rattle.kms_model.proofs.RequestLemmas.{accepted_allowed, all_settable, has_few}
 use Rattle.kms_model.proofs.SoundKept.{apply-held}
 use Rattle.kms_model.proofs.StateLemmas.{plane_in_range}
+use Rattle.kms_model.proofs.Facts.{or-assoc}
 use Rattle.kms_request.specs.Fences.{TellOutFences, has_number_at}
 use Rattle.kms_request.specs.Naming.{AreCrtcs, is_routed_duplicated, next_crtc, old_crtc_id}
 use Rattle.kms_request.specs.Whole.{AreAllDuplicated, StandBetween, is_named_between}
@@ -66,15 +66,6 @@ duplicated_from t d Conn i all routes placed there =
     rw (out, is, place) (all.conns i there)
 duplicated_from t d Enc i all routes placed there = absurd placed
 
--- tests that agree at each item of a list
-any_agree : {A : Type 0} (p q : A → Bool) (xs : List A) → ((x : A) → IsIn x xs → p x ≡ q x) → list_any p xs ≡ list_any q xs
-any_agree p q [] same = refl
-any_agree p q (x ∷ xs) same = ap (λ b. b || list_any p xs) (same x (inl refl)) ∙ ap (λ b. q x || b) (any_agree p q xs (λ y member. same y (inr member)))
-
-or_assoc : (a b c : Bool) → ((a || b) || c) ≡ (a || (b || c))
-or_assoc true b c = refl
-or_assoc false b c = refl
-
 or_false : (a : Bool) → ((a || false) || false) ≡ (a || false)
 or_false true = refl
 or_false false = refl
@@ -86,7 +77,7 @@ module _ (t : Topology) (things : List worlds.Thing) (old new : List Setting) (d
   named_routed k i crtc routes placed there =
       let known = duplicated_from t d k i all routes placed there in
       rw (old_is t things old d k i before routes placed known, next_is t things new d k i after routes placed known, routes)
-      (or_assoc (object_id k i == crtc) (crtc_at old (object_id k i) == crtc) (crtc_at new (object_id k i) == crtc))
+      (or-assoc (object_id k i == crtc) (crtc_at old (object_id k i) == crtc) (crtc_at new (object_id k i) == crtc))
 
   named_itself : (i crtc : ℕ) → HasPlace Crtc i → 0 < crtc →
       (((object_id Crtc i == crtc) || (old_crtc_id d (object_id Crtc i) == crtc)) || (next_crtc d (object_id Crtc i) == crtc)) ≡ ((object_id Crtc i == crtc) || false)
@@ -117,7 +108,7 @@ named_between-is t w r d mask stand are =
     let allowed = accepted_allowed t (look_up w) r stand.early in
     let settable = settable_between t w r d stand in
     crtcs_named t w.things w.values (look_up w) r.assigns (λ crtc. list_any (λ a. is_named_between d a crtc) r.assigns) mask (has_few t (limits_of t stand.device)) (all_held-from t w.things w.values stand.sound.held) allowed settable are
-    (λ crtc some. any_agree (λ a. is_named_between d a crtc) (is_named_by w.values new crtc) r.assigns (λ a member.
+    (λ crtc some. list_any-same (λ a. is_named_between d a crtc) (is_named_by w.values new crtc) r.assigns (λ a member.
     let fits = all_in IsSettable r.assigns a settable member in
     let may = all_in (IsAllowed t (look_up w)) r.assigns a allowed member in
     named_same t w.things w.values new d stand.old stand.new stand.all a.kind a.index crtc fits.place (ltb-true a.index (count_of t a.kind) may.exists) some))

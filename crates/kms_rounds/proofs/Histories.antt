@@ -3,22 +3,16 @@ use Rattle.std.proofs.Common.{◌≡◌, List, [], ◌∷◌, ◌++◌, length, 
 use Rattle.std.proofs.lemmas.List.{length-reverse, reverse-append}
 use Rattle.kms_model.specs.declared.replies.Step.{Step}
 use Rattle.kms_model.specs.declared.scripts.Script.{Script}
-use Rattle.kms_model.specs.Machine.Effects.{next}
-use Rattle.kms_model.specs.Machine.Histories.{run_steps}
-use Rattle.kms_model.specs.Machine.State.{Machine, first_machine}
+use Rattle.kms_model.specs.Machine.State.{first_machine}
 use Rattle.kms_model.specs.Order.Rounds.{run_of}
 use Rattle.kms_model.specs.Order.Turns.{does}
+use Rattle.kms_laws.proofs.Turning.{run-more}
 use Rattle.kms_stores.specs.Run.{Run, gains}
 use Rattle.kms_rounds.specs.Rounds.{ExtendsRun, progress}
 
-pub run_more : (s : Script) (m : Machine) (h : List Step) (step : Step) → run_steps s m (h ++ step ∷ []) ≡ next s (run_steps s m h) step
-unfolding run_steps
-run_more s m [] step = refl
-run_more s m (first ∷ h) step = run_more s (next s m first) h step
-
 -- a history with a step more is one whose run does the step
 pub run_does : (s : Script) (h : List Step) (step : Step) → run_of s (h ++ step ∷ []) ≡ does s (run_of s h) step
-run_does s h step = λ i. record { steps = reverse-append h (step ∷ []) i; machine = run_more s (first_machine s.topology) h step i }
+run_does s h step = λ i. record { steps = reverse-append h (step ∷ []) i; machine = run-more s (first_machine s.topology) h step i }
 
 pub progress_length : (r : Run) → length (progress r).steps ≡ length r.steps
 progress_length r = length-reverse r.steps

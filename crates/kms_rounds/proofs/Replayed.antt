@@ -8,9 +8,9 @@ use Rattle.kms_model.specs.declared.scripts.Script.{Script}
 use Rattle.kms_model.specs.Machine.Effects.{next}
 use Rattle.kms_model.specs.Machine.Histories.{first_illegal, legal}
 use Rattle.kms_model.specs.Machine.State.{Machine, first_machine}
+use Rattle.kms_laws.proofs.Turning.{run-more}
 use Rattle.kms_stores.specs.Run.{Run, gains, machine}
 use Rattle.kms_rounds.specs.Replays.{Did, StopsAt, illegal_behind}
-use Rattle.kms_rounds.proofs.Histories.{run_more}
 
 -- so many steps are done, and the first that is not legal is among the others
 pub record IsReplaying (old now : Run) (steps : List Step) (done : ℕ) : Type 0 where
@@ -42,7 +42,7 @@ module _ (old now : Run) (steps : List Step) (done : ℕ) (d : Step) (replaying 
         ∙ ap (gains old) (sym (take_more steps done d more));
     first =
         subst (λ (r : Run). first_illegal r.script (machine r) (done + 1 + 1) (drop (done + 1) steps) ≡ illegal_behind old steps) (sym after)
-        (ap (λ m. first_illegal now.script m (done + 1 + 1) (drop (done + 1) steps)) (run_more now.script (first_machine now.script.topology) now.steps (get_or steps done d))
+        (ap (λ m. first_illegal now.script m (done + 1 + 1) (drop (done + 1) steps)) (run-more now.script (first_machine now.script.topology) now.steps (get_or steps done d))
         ∙ sym (legal_first now.script (machine now) (done + 1) (get_or steps done d) (drop (done + 1) steps) may)
         ∙ ap (first_illegal now.script (machine now) (done + 1)) (sym (dropped steps done d more))
         ∙ replaying.first);

@@ -26,10 +26,10 @@ use Rattle.kms_laws.proofs.ShorterTails.{tails_short}
 use Rattle.kms_laws.proofs.Sizes.{sum-most}
 use Rattle.kms_laws.proofs.Steps.{Holds, history_kept}
 use Rattle.kms_laws.proofs.Swapped.{flush_within}
-use Rattle.kms_laws.proofs.Turning.{tail-legal}
+use Rattle.kms_laws.proofs.Turning.{tail-legal, run-more}
 use Rattle.kms_stores.specs.Run.{Run, gains, machine}
 use Rattle.kms_rounds.specs.Rounds.{ExtendsRun, progress}
-use Rattle.kms_rounds.proofs.Histories.{goes_by, run_does, run_more, stays}
+use Rattle.kms_rounds.proofs.Histories.{goes_by, run_does, stays}
 
 -- Whose tail a step is of
 
@@ -101,7 +101,7 @@ module _ (r : Run) (step : Step) (formed : IsWellFormed r.script) (is : is_histo
   pub next_less : (new : Run) → new ≡ gains r (step ∷ []) → all_left new.script.topology (machine new) < all_left r.script.topology (machine r)
   next_less new after =
       subst (λ (z : Run). all_left z.script.topology (machine z) < all_left r.script.topology (machine r)) (sym after)
-      (subst (λ m. all_left r.script.topology m < all_left r.script.topology (machine r)) (sym (run_more r.script (first_machine r.script.topology) r.steps step))
+      (subst (λ m. all_left r.script.topology m < all_left r.script.topology (machine r)) (sym (run-more r.script (first_machine r.script.topology) r.steps step))
       ((all_shorter r.script (machine r) (history_kept r.script r.steps (plain-from r.script formed) is) step next_legal).of_tail next_tail.commit next_tail.within next_tail.of_it))
 
 few_left : (s : Script) (h : List Step) → IsWellFormed s → all_left s.topology (at s h) ≤ 31 * length (at s h).device.commits

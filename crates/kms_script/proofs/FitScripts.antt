@@ -3,7 +3,7 @@ use Rattle.std.proofs.Common.{◌≡◌, ℕ, ◌+◌, ◌-◌, ◌≤◌, ◌^�
 use Rattle.std.specs.Prelude.{◌==◌, ◌&&◌, ◌||◌, codes, nat_le, nat_lt, option_map}
 use Rattle.std.specs.List.{list_all}
 use Rattle.std.specs.Str.{bytes_eq}
-use Rattle.std.proofs.lemmas.Bool.{eqb-true}
+use Rattle.std.proofs.lemmas.Bool.{eqb-true, and_from}
 use Rattle.std.proofs.lemmas.Bool.Decides.{nat_tests}
 use Rattle.std.proofs.lemmas.Nat.{pow_pos}
 use Rattle.kms_model.specs.declared.objects.PlaneInfo.{PlaneInfo}
@@ -20,7 +20,6 @@ use Rattle.kms_model.specs.Script.Words.{dec, end_at, field_at, from, until}
 use Rattle.kms_script.proofs.Accepted.{accepted, either_ok, form_ok, if_ok, is_late, ok_same, on_from, unless_ok}
 use Rattle.kms_script.proofs.DraftGrows.{any_profile, with_version}
 use Rattle.kms_script.proofs.FitCommands.{command_fit}
-use Rattle.kms_script.proofs.FitWords.{fits_both}
 use Rattle.kms_script.proofs.Inverted.{bind_some, from_bind, map_some, some_same}
 use Rattle.kms_script.proofs.NamesBegin.{Begins}
 use Rattle.kms_script.proofs.Parts.{first_part, later_parts}
@@ -69,7 +68,7 @@ plane_choice crtcs bytes p e =
     from_bind (plane_type t.0) _ p more (λ kind k more.
     from_bind (crtc_list crtcs l.0) _ p more (λ mask m more.
     from_bind (format_list f.0) _ p more (λ formats n more.
-    rw (← some_same _ p more) (fits_both (not (mask == 0)) (not (formats == 0)) (crtcs_some crtcs mask l.0 m) (formats_some formats f.0 n)))))))))
+    rw (← some_same _ p more) (and_from (not (mask == 0)) (not (formats == 0)) (crtcs_some crtcs mask l.0 m) (formats_some formats f.0 n)))))))))
 
 conn_choice : (crtcs : ℕ) (bytes : List ℕ) (mask : ℕ) → conn_at crtcs bytes ≡ Some mask → IsSome mask
 unfolding conn_at

@@ -4,7 +4,6 @@ use Rattle.std.specs.List.{AllByRecursion}
 use Rattle.std.proofs.lemmas.Bool.{and_parts, false≢true, ltb-true}
 use Rattle.kms_model.specs.declared.objects.Kind.{Kind}
 use Rattle.kms_model.specs.declared.objects.Kind.TheVariants.{Crtc, Plane, Conn, Enc}
-use Rattle.kms_model.specs.declared.objects.Topology.{Topology}
 use Rattle.kms_model.specs.declared.replies.Step.{Step}
 use Rattle.kms_model.specs.declared.replies.Step.TheVariants.{Begin, Lock, BackOff, Relock, Refuse, Test, Swap, Make, Signal, Claim, Write, Flush, HwDone, Vblank, Cleanup, Read, Return, Stall}
 use Rattle.kms_model.specs.declared.runs.Doing.{Doing}
@@ -21,7 +20,7 @@ use Rattle.kms_model.specs.Machine.State.{Machine, command_at, doing_at, entry_a
 use Rattle.kms_model.specs.Machine.Steps.{contended, idle_at, is_atomic, is_crtc_of, is_free_for, is_lockable, is_making, is_signal, is_taking, is_wait, may, may_claim, may_lock, may_refuse, may_swap, may_test, must_back_off, next_flush, taking_at}
 use Rattle.kms_model.specs.Script.Schedules.{IsFitIndex, IsFitNumber, IsFitStep}
 use Rattle.kms_model.specs.Script.WellFormed.{IsWellFormed}
-use Rattle.kms_model.proofs.TouchedLemmas.{HasFewObjects, few_objects}
+use Rattle.kms_model.proofs.TouchedLemmas.{few_objects, few_of}
 use Rattle.kms_laws.proofs.Basics.{pair_now}
 use Rattle.kms_laws.proofs.Modes.{plain-from}
 use Rattle.kms_laws.proofs.Sizes.{all_ended, busy, command-there, ended_at, from_one-within, has_commands, length_of, place_of, sum-most}
@@ -30,12 +29,6 @@ use Rattle.kms_laws.proofs.Steps.{flush-found, flushed_holds, idle-none, value-i
 use Rattle.kms_laws.proofs.Swapped.{flush_within}
 
 -- Objects of a device
-
-few_of_kind : (t : Topology) (kind : Kind) → HasFewObjects t → count_of t kind ≤ 16
-few_of_kind t Crtc few = omega (arith, few.crtcs)
-few_of_kind t Plane few = few.planes
-few_of_kind t Conn few = omega (arith, few.conns)
-few_of_kind t Enc few = omega (arith, few.conns)
 
 -- a client that passes a test which idle ones fail is doing something
 busy-if : (test : Doing → Bool) → test doing.Idle ≡ false → (d : Doing) → test d ≡ true → 1 ≤ busy d
@@ -46,7 +39,7 @@ module _ (s : Script) (formed : IsWellFormed s) (n : ℕ) (m : Machine) (C : Cou
   number-exists : (kind : Kind) (index : ℕ) → exists s.topology kind index ≡ true → IsFitIndex index
   number-exists kind index h =
       let below : index < count_of s.topology kind = ltb-true index (count_of s.topology kind) h in
-      omega (arith, below, few_of_kind s.topology kind (few_objects s.topology formed.device))
+      omega (arith, below, few_of s.topology kind (few_objects s.topology formed.device))
 
   lockable-exists : (kind : Kind) (index : ℕ) → is_lockable s.topology kind index ≡ true → IsFitIndex index
   lockable-exists Crtc index h = number-exists Crtc index h

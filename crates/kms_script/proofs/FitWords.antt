@@ -24,15 +24,6 @@ use Rattle.kms_script.proofs.ReadParts.{checker_parts, five_parts, hex_parts, mo
 use Rattle.kms_script.proofs.SpeltFields.{name_ends}
 use Rattle.kms_script.proofs.SpeltWords.{nothing_read}
 
--- both of two tests
-both : (a b : Bool) → a ≡ true → b ≡ true → (a && b) ≡ true
-both true true e f = refl
-both true false e f = absurd cc
-both false b e f = absurd cc
-
-pub fits_both : (a b : Bool) → a ≡ true → b ≡ true → (a && b) ≡ true
-fits_both a b e f = both a b e f
-
 -- Numbers
 
 small_digit : (b : ℕ) → is_hex b ≡ true → hex_value b < 16
@@ -124,7 +115,7 @@ pixels_fit format (suc n) bytes ps e =
     from_bind (pixel_at format bytes) _ ps e (λ p first more.
     from_bind (pixels_at format n p.1) _ ps more (λ qs later more.
     let rest = pixels_fit format n p.1 qs later in
-    rw (← some_same _ ps more) (ap suc rest.0, both (is_pixel_of format p.0) (list_all (is_pixel_of format) qs) (pixel_at_fit format bytes p first) rest.1)))
+    rw (← some_same _ ps more) (ap suc rest.0, and_from (is_pixel_of format p.0) (list_all (is_pixel_of format) qs) (pixel_at_fit format bytes p first) rest.1)))
 
 equal_test : (n m : ℕ) → n ≡ m → (n == m) ≡ true
 equal_test n m same = grind (arith, nat_tests)
@@ -142,8 +133,8 @@ checker_fit : (width height : ℕ) (format : Format) (bytes : List ℕ) (p : Pat
 checker_fit width height format bytes p e =
     let c = checker_parts format bytes p e in
     rw (← c.makes)
-    (both (is_pixel_of format c.p.0) (is_pixel_of format c.q.0 && between 1 4096 c.n.0) (pixel_at_fit format bytes c.p c.first)
-    (both (is_pixel_of format c.q.0) (between 1 4096 c.n.0) (pixel_at_fit format c.p.1 c.q c.second) (sides c.n.0 c.some (dec_at_fit 4096 c.q.1 c.n c.side))))
+    (and_from (is_pixel_of format c.p.0) (is_pixel_of format c.q.0 && between 1 4096 c.n.0) (pixel_at_fit format bytes c.p c.first)
+    (and_from (is_pixel_of format c.q.0) (between 1 4096 c.n.0) (pixel_at_fit format c.p.1 c.q c.second) (sides c.n.0 c.some (dec_at_fit 4096 c.q.1 c.n c.side))))
   where
     sides : (n : ℕ) → nat_lt 0 n ≡ true → n ≤ 4096 → between 1 4096 n ≡ true
     sides n some few = grind (arith, nat_tests)
@@ -158,8 +149,8 @@ each_fit width height format bytes p e =
     let m = map_some Pixels (pixels_at format (width * height) bytes) p read.1 in
     let all = pixels_fit format (width * height) bytes m.value m.given in
     rw (← m.makes)
-    (both (between 1 256 (width * height)) ((length m.value == width * height) && list_all (is_pixel_of format) m.value) read.0
-    (both (length m.value == width * height) (list_all (is_pixel_of format) m.value) (equal_test (length m.value) (width * height) all.0) all.1))
+    (and_from (between 1 256 (width * height)) ((length m.value == width * height) && list_all (is_pixel_of format) m.value) read.0
+    (and_from (length m.value == width * height) (list_all (is_pixel_of format) m.value) (equal_test (length m.value) (width * height) all.0) all.1))
 
 pub pattern_fit : (width height : ℕ) (format : Format) (bytes : List ℕ) (p : Pattern) → pattern_at width height format bytes ≡ Some p → is_pattern_of format width height p ≡ true
 unfolding pattern_at
@@ -182,8 +173,8 @@ name_fit bytes r e =
     let p = name_parts bytes r e in
     let filled = p.f.0 ++ replicate (32 - length p.f.0) 0 in
     rw (← p.makes, name_ends p.f.0 (32 - length p.f.0) p.plain)
-    (both (between 1 31 (length p.f.0)) (list_all is_name_byte p.f.0 && bytes_eq filled filled) (sides (length p.f.0) p.some p.short)
-    (both (list_all is_name_byte p.f.0) (bytes_eq filled filled) p.plain ((bytes_eq-Decides filled filled).1 refl)))
+    (and_from (between 1 31 (length p.f.0)) (list_all is_name_byte p.f.0 && bytes_eq filled filled) (sides (length p.f.0) p.some p.short)
+    (and_from (list_all is_name_byte p.f.0) (bytes_eq filled filled) p.plain ((bytes_eq-Decides filled filled).1 refl)))
   where
     sides : (n : ℕ) → nat_lt 0 n ≡ true → nat_lt n 32 ≡ true → between 1 31 n ≡ true
     sides n some few = grind (arith, nat_tests)
@@ -191,27 +182,24 @@ name_fit bytes r e =
 word16_fit : (n : ℕ) → n ≤ 65535 → is_word16 n ≡ true
 word16_fit n few = lt_test n (2 ^ 16) (omega (arith, few))
 
-word32_fit : (n : ℕ) → n ≤ 4294967295 → is_word32 n ≡ true
-word32_fit n few = lt_test n (2 ^ 32) (omega (arith, few))
-
 five_fit : (bytes : List ℕ) (r : ℕ × ℕ × ℕ × ℕ × ℕ × List ℕ) → five_at bytes ≡ Some r → are_words16 r.0 r.1 r.2 r.3 r.4 ≡ true
 five_fit bytes r e =
     let p = five_parts bytes r e in
     rw (← p.makes)
-    (both (is_word16 p.a.0) (is_word16 p.b.0 && (is_word16 p.c.0 && (is_word16 p.d.0 && is_word16 p.e.0))) (word16_fit p.a.0 (dec_at_fit 65535 bytes p.a p.first))
-    (both (is_word16 p.b.0) (is_word16 p.c.0 && (is_word16 p.d.0 && is_word16 p.e.0)) (word16_fit p.b.0 (dec_at_fit 65535 p.a.1 p.b p.second))
-    (both (is_word16 p.c.0) (is_word16 p.d.0 && is_word16 p.e.0) (word16_fit p.c.0 (dec_at_fit 65535 p.b.1 p.c p.third))
-    (both (is_word16 p.d.0) (is_word16 p.e.0) (word16_fit p.d.0 (dec_at_fit 65535 p.c.1 p.d p.fourth)) (word16_fit p.e.0 (dec_at_fit 65535 p.d.1 p.e p.fifth))))))
+    (and_from (is_word16 p.a.0) (is_word16 p.b.0 && (is_word16 p.c.0 && (is_word16 p.d.0 && is_word16 p.e.0))) (word16_fit p.a.0 (dec_at_fit 65535 bytes p.a p.first))
+    (and_from (is_word16 p.b.0) (is_word16 p.c.0 && (is_word16 p.d.0 && is_word16 p.e.0)) (word16_fit p.b.0 (dec_at_fit 65535 p.a.1 p.b p.second))
+    (and_from (is_word16 p.c.0) (is_word16 p.d.0 && is_word16 p.e.0) (word16_fit p.c.0 (dec_at_fit 65535 p.b.1 p.c p.third))
+    (and_from (is_word16 p.d.0) (is_word16 p.e.0) (word16_fit p.d.0 (dec_at_fit 65535 p.c.1 p.d p.fourth)) (word16_fit p.e.0 (dec_at_fit 65535 p.d.1 p.e p.fifth))))))
 
 pub mode_fit : (bytes : List ℕ) (m : Mode × List ℕ) → mode_fields bytes ≡ Some m → (has_widths m.0 && is_mode_name m.0.name) ≡ true
 mode_fit bytes m e =
     let p = mode_parts bytes m e in
     rw (← p.makes) (and_from _ (is_mode_name p.n.0)
-    (and_from (is_word32 p.clock.0) _ (word32_fit p.clock.0 (dec_at_fit 4294967295 bytes p.clock p.first))
+    (and_from (is_word32 p.clock.0) _ (word_fit p.clock.0 (dec_at_fit 4294967295 bytes p.clock p.first))
     (and_from (are_words16 p.h.0 p.h.1 p.h.2 p.h.3 p.h.4) _ (five_fit p.clock.1 p.h p.across)
     (and_from (are_words16 p.v.0 p.v.1 p.v.2 p.v.3 p.v.4) _ (five_fit p.h.5 p.v p.down)
-    (and_from (is_word32 p.r.0) _ (word32_fit p.r.0 (dec_at_fit 4294967295 p.v.5 p.r p.rate))
-    (and_from (is_word32 p.f.0) (is_word32 p.k.0) (word32_fit p.f.0 (dec_at_fit 4294967295 p.r.1 p.f p.flags)) (word32_fit p.k.0 (dec_at_fit 4294967295 p.f.1 p.k p.kind)))))))
+    (and_from (is_word32 p.r.0) _ (word_fit p.r.0 (dec_at_fit 4294967295 p.v.5 p.r p.rate))
+    (and_from (is_word32 p.f.0) (is_word32 p.k.0) (word_fit p.f.0 (dec_at_fit 4294967295 p.r.1 p.f p.flags)) (word_fit p.k.0 (dec_at_fit 4294967295 p.f.1 p.k p.kind)))))))
     (name_fit p.k.1 p.n p.name))
 
 -- Blobs
@@ -232,7 +220,7 @@ bytes_fit bytes (a ∷ b ∷ more) e =
     from_bind (hex_pair a b) _ bytes e (λ x pair rest.
     from_bind (hex_bytes more) _ bytes rest (λ xs later rest.
     let all = bytes_fit xs more later in
-    rw (← some_same _ bytes rest) (twice (length more) (length xs) all.0, both (nat_lt x 256) (list_all (λ b. nat_lt b 256) xs) (pair_fit a b x pair) all.1)))
+    rw (← some_same _ bytes rest) (twice (length more) (length xs) all.0, and_from (nat_lt x 256) (list_all (λ b. nat_lt b 256) xs) (pair_fit a b x pair) all.1)))
   where
     twice : (n m : ℕ) → n ≡ 2 * m → suc (suc n) ≡ 2 * suc m
     twice n m e = omega (arith, e)
@@ -241,13 +229,13 @@ pub blob_fit : (word bytes : List ℕ) → blob_bytes word ≡ Some bytes → (b
 blob_fit word bytes e =
     let read = if_some (between 2 4096 (length word)) (hex_bytes word) bytes e in
     let all = bytes_fit bytes word read.1 in
-    both (between 1 2048 (length bytes)) (list_all (λ b. nat_lt b 256) bytes) (sides (length word) (length bytes) read.0 all.0) all.1
+    and_from (between 1 2048 (length bytes)) (list_all (λ b. nat_lt b 256) bytes) (sides (length word) (length bytes) read.0 all.0) all.1
   where
     parts : (n : ℕ) → between 2 4096 n ≡ true → (2 ≤ n) × (n ≤ 4096)
     parts n e = let p = and_parts (nat_le 2 n) (nat_le n 4096) e in (leb-true 2 n p.0, leb-true n 4096 p.1)
 
     sides : (n m : ℕ) → between 2 4096 n ≡ true → n ≡ 2 * m → between 1 2048 m ≡ true
-    sides n m e same = let p = parts n e in both (nat_le 1 m) (nat_le m 2048) (le_test 1 m (omega (arith, p.0, same))) (le_test m 2048 (omega (arith, p.1, same)))
+    sides n m e same = let p = parts n e in and_from (nat_le 1 m) (nat_le m 2048) (le_test 1 m (omega (arith, p.0, same))) (le_test m 2048 (omega (arith, p.1, same)))
 
 -- Labels
 
@@ -277,7 +265,7 @@ negative_fit z digits e =
     step (suc n) false le is e = rw (← some_same (negsuc n) z e) (within n (omega (arith, le)))
       where
         within : (n : ℕ) → n ≤ 9223372036854775807 → is_integer (negsuc n) ≡ true
-        within n le = both (int_le (negsuc 9223372036854775807) (negsuc n)) (int_le (negsuc n) (pos 18446744073709551615)) (le_test n 9223372036854775807 le) refl
+        within n le = and_from (int_le (negsuc 9223372036854775807) (negsuc n)) (int_le (negsuc n) (pos 18446744073709551615)) (le_test n 9223372036854775807 le) refl
 
 pub int_fit : (z : ℤ) (word : List ℕ) → int word ≡ Some z → is_integer z ≡ true
 unfolding int

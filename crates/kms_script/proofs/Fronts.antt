@@ -39,7 +39,7 @@ pub record HasFront (p : Part) (size n : ℕ) (d : Draft) (rows : List Row) (x :
 abbrev given : Parts → Result Parts Fault
 given x = Ok x
 
-same_parts : (x y : Parts) → given x ≡ given y → x ≡ y
+pub same_parts : (x y : Parts) → given x ≡ given y → x ≡ y
 same_parts x y e = cc
 
 -- where the input ends well

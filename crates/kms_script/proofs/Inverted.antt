@@ -2,7 +2,6 @@
 use Rattle.std.proofs.Common.{◌≡◌, Bool, true, false, ◌⊎◌, inl, inr, cond, Option, Some, None, refl}
 use Rattle.std.specs.Prelude.{option_map}
 use Rattle.std.specs.Option.{option_map_or}
-use Rattle.kms_model.specs.Firsts.{or_else}
 use Rattle.kms_model.specs.Script.Words.{◌>>=◌}
 
 -- the value that a first step gave, and what the rest made of it
@@ -44,11 +43,6 @@ some_same x y e = cc
 pub or_some : {A B : Type 0} (f : A → Option B) (o : Option A) (other : Option B) (y : B) → option_map_or f o other ≡ Some y → Bound o f y ⊎ (other ≡ Some y)
 or_some f None other y e = inr e
 or_some f (Some x) other y e = inl (record { value = x; given = refl; then = e })
-
--- the first of two values that is there
-pub or_else_some : {A : Type 0} (o other : Option A) (y : A) → or_else o other ≡ Some y → (o ≡ Some y) ⊎ (other ≡ Some y)
-or_else_some None other y e = inr e
-or_else_some (Some x) other y e = inl e
 
 -- one of two by a test
 pub choice_some : {A : Type 0} (t : Bool) (one other : Option A) (y : A) → cond t one other ≡ Some y → ((t ≡ true) × (one ≡ Some y)) ⊎ (other ≡ Some y)

@@ -13,6 +13,7 @@ use Rattle.kms_model.specs.declared.scripts.Value.TheVariants as value
 use Rattle.kms_model.specs.Script.CommandLines.{Name, Names, place, said, made, was_made, saying, making, assign_words, property_read, value_read, assign_read, assigns_read}
 use Rattle.kms_model.specs.Script.Grammar.{int, known_property}
 use Rattle.kms_model.specs.Script.Words.{◌>>=◌, dec, is_label, strip}
+use Rattle.kms_model.proofs.Facts.{or-assoc}
 use Rattle.kms_script.specs.Overlong.{assign_label, label_and, labels_made, value_label}
 use Rattle.kms_script.proofs.SpeltAssigns.{prop_of}
 
@@ -190,13 +191,9 @@ any_last w v (x ∷ seen) = rw (any_last w v seen) (swap (bytes_eq w x) (bytes_e
     swap true false more = refl
     swap false t more = refl
 
-or_assoc : (a b c : Bool) → ((a || b) || c) ≡ (a || (b || c))
-or_assoc true b c = refl
-or_assoc false b c = refl
-
 label_step : (names after : Names) (seen : List (List ℕ)) (label : List ℕ) (labels : List (List ℕ)) (last : Bool) → Makes names (Some label) after → Holds names seen → last ≡ (after.is_twice || twice_in (seen ++ label ∷ []) labels)
     → last ≡ (names.is_twice || twice_in seen (label ∷ labels))
-label_step names after seen label labels last makes holds is = is ∙ rw (makes.twice, holds label) (or_assoc names.is_twice (list_any (bytes_eq label) seen) (twice_in (seen ++ label ∷ []) labels))
+label_step names after seen label labels last makes holds is = is ∙ rw (makes.twice, holds label) (or-assoc names.is_twice (list_any (bytes_eq label) seen) (twice_in (seen ++ label ∷ []) labels))
 
 label_holds : (names after : Names) (seen : List (List ℕ)) (label : List ℕ) → Makes names (Some label) after → Holds names seen → Holds after (seen ++ label ∷ [])
 label_holds names after seen label makes holds = λ w. makes.was w ∙ rw (holds w) (sym (any_last w label seen))

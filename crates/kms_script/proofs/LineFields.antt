@@ -6,6 +6,7 @@ use Rattle.std.proofs.lemmas.Bool.{eqb-true}
 use Rattle.kms_model.specs.Script.Grammar.{parted, field_words}
 use Rattle.kms_model.specs.Report.TextLines.{line}
 use Rattle.kms_model.specs.Script.Words.{until, from, strip, field_at, end_at}
+use Rattle.kms_model.proofs.Facts.{tail-of}
 use Rattle.kms_script.proofs.Inverted.{if_some, some_same}
 use Rattle.kms_script.proofs.Parts.{later_parts, first_part}
 
@@ -66,15 +67,11 @@ end_spelt (b ∷ bs) u e = absurd cc
 onto_fields : (b : ℕ) (w : List ℕ) (ws : List (List ℕ)) (bs : List ℕ) → w ++ fields_to ws [] ≡ bs → fields_to (onto_first b (w ∷ ws)) [] ≡ 32 ∷ b ∷ bs
 onto_fields b w ws bs e = ap (λ (xs : List ℕ). 32 ∷ b ∷ xs) e
 
--- the bytes behind a first
-tail_of : (b c : ℕ) (bs cs : List ℕ) → b ∷ bs ≡ c ∷ cs → bs ≡ cs
-tail_of b c bs cs e = cc
-
 parted_step : (t : Bool) (b : ℕ) (bs : List ℕ) → (t ≡ true → b ≡ 32) → fields_to (parted 32 bs) [] ≡ 32 ∷ bs → fields_to (cond t ([] ∷ parted 32 bs) (onto_first b (parted 32 bs))) [] ≡ 32 ∷ b ∷ bs
 parted_step true b bs same ih = rw (same refl, ih) refl
 parted_step false b bs same ih =
     let first : fields_to (until 32 bs ∷ later_parts 32 (from 32 bs)) [] ≡ 32 ∷ bs = rw first_part at ih in
-    rw (first_part 32 bs) (onto_fields b (until 32 bs) (later_parts 32 (from 32 bs)) bs (tail_of 32 32 _ _ first))
+    rw (first_part 32 bs) (onto_fields b (until 32 bs) (later_parts 32 (from 32 bs)) bs (tail-of 32 32 _ _ first))
 
 -- the parts between blanks, with a blank before each, are the bytes
 parted_fields : (bs : List ℕ) → fields_to (parted 32 bs) [] ≡ 32 ∷ bs

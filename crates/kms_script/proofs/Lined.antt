@@ -5,16 +5,14 @@ use Rattle.std.proofs.lemmas.List.{length-take, length-drop, nil_from_length}
 use Rattle.std.proofs.Math.Seq.{take-length}
 use Rattle.kms_model.specs.Script.Words.{until, from}
 use Rattle.kms_model.specs.Script.InputLines.{Row, before_rows, rows_of}
+use Rattle.kms_model.proofs.Facts.{tail-of}
 
 abbrev row : List ℕ → Bool → Row
 row text ended = record { text = text; is_ended = ended }
 
-tails : (b c : ℕ) (bs cs : List ℕ) → b ∷ bs ≡ c ∷ cs → bs ≡ cs
-tails b c bs cs e = cc
-
 split_step : (t : Bool) (b c : ℕ) (bs cs : List ℕ) → (from 10 bs ≡ c ∷ cs → rows_of bs ≡ row (until 10 bs) true ∷ rows_of cs) → cond t (b ∷ bs) (from 10 bs) ≡ c ∷ cs
     → cond t (row [] true ∷ rows_of bs) (before_rows b (rows_of bs)) ≡ row (cond t [] (b ∷ until 10 bs)) true ∷ rows_of cs
-split_step true b c bs cs ih e = ap (λ (xs : List ℕ). row [] true ∷ rows_of xs) (tails b c bs cs e)
+split_step true b c bs cs ih e = ap (λ (xs : List ℕ). row [] true ∷ rows_of xs) (tail-of b c bs cs e)
 split_step false b c bs cs ih e = rw (ih e) refl
 
 pub rows-split : (bs : List ℕ) (c : ℕ) (cs : List ℕ) → from 10 bs ≡ c ∷ cs → rows_of bs ≡ row (until 10 bs) true ∷ rows_of cs

@@ -14,6 +14,7 @@ use Rattle.std.proofs.lemmas.List.Sorted.{IsPermutation-sym}
 use Rattle.std.proofs.lemmas.Map.Keys.{IsDistinct-IsPermutation}
 use Rattle.std.proofs.lemmas.Slice.Eq.{bytes_eq-Decides}
 use Rattle.kms_model.specs.Script.Words.{is_label, is_label_rest, is_letter}
+use Rattle.kms_model.proofs.Facts.{neither}
 use Rattle.kms_script.specs.Overlong.{begins_with, packed, packed_all, packed_alone, are_rising}
 use Rattle.kms_script.proofs.LabelsMade.{twice_in}
 
@@ -211,15 +212,11 @@ all_last : (v l : List ℕ) (ws : List (List ℕ)) → AllByRecursion (λ w. byt
 all_last v l [] all e = (e, tt)
 all_last v l (w ∷ ws) all e = (all.0, all_last v l ws all.1 e)
 
-any_parts : (t more : Bool) → (t || more) ≡ false → (t ≡ false) × (more ≡ false)
-any_parts true more e = absurd cc
-any_parts false more e = (refl, e)
-
 distinct_last : (l : List ℕ) (ws : List (List ℕ)) → list_any (bytes_eq l) ws ≡ false → IsDistinct bytes_eq ws → IsDistinct bytes_eq (ws ++ l ∷ [])
 unfolding IsDistinct
 distinct_last l [] none d = (tt, tt)
 distinct_last l (w ∷ ws) none d =
-    let p = any_parts (bytes_eq l w) (list_any (bytes_eq l) ws) none in
+    let p = neither (bytes_eq l w) (list_any (bytes_eq l) ws) none in
     (all_last w l ws d.0 (nat_list_eq_equiv.symm w l ∙ p.0), distinct_last l ws p.1 d.1)
 
 -- labels that are made once, or one of them twice

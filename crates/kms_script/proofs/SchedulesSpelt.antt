@@ -18,7 +18,7 @@ use Rattle.kms_model.specs.Script.WholeInput.{Draft, is_nil, script_in}
 use Rattle.kms_script.specs.declared.faults.ParseError.{ParseError}
 use Rattle.kms_script.specs.declared.inputs.Parsed.{Parsed}
 use Rattle.kms_script.proofs.Accepted.{on_from}
-use Rattle.kms_script.proofs.Fronts.{HasEnd, IsFrontText, front_text, input_front}
+use Rattle.kms_script.proofs.Fronts.{HasEnd, IsFrontText, front_text, input_front, same_parts}
 use Rattle.kms_script.proofs.SpelledRows.{all_ended, ended_text, rows_spell}
 use Rattle.kms_script.proofs.StepLines.{line_ended}
 use Rattle.kms_script.proofs.StepsSpelt.{line_of_step}
@@ -91,9 +91,6 @@ steps_spelt n (row ∷ rows) steps e =
 
 abbrev given : Parts → Result Parts Fault
 given x = Ok x
-
-same_parts : (x y : Parts) → given x ≡ given y → x ≡ y
-same_parts x y e = cc
 
 steps_given : (size : ℕ) (d : Draft) (r : Result (List Step) Fault) (x : Parts) → with_schedule size d r ≡ Ok x → r ≡ Ok x.steps
 steps_given size d (Ok steps) x e = ap (λ (y : Parts). read_steps y.steps) (same_parts (record { script = script_in d; steps = steps; rest = size }) x e)

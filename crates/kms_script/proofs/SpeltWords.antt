@@ -16,10 +16,11 @@ use Rattle.kms_model.specs.Device.Properties.{Property, properties, property_id,
 use Rattle.kms_model.specs.Script.Words.{dec, strip}
 use Rattle.kms_model.proofs.PropertyTable.{find-list_all}
 use Rattle.kms_model.proofs.SetLemmas.{find-passes}
+use Rattle.kms_model.proofs.Facts.{or_else-some}
 use Rattle.kms_model.specs.Report.Replies.{kind_name}
 use Rattle.kms_model.specs.Script.Spelling.{format_word}
 use Rattle.kms_script.proofs.Decimals.{dec_spelt}
-use Rattle.kms_script.proofs.Inverted.{bind_some, map_some, some_same, or_some, or_else_some, choice_some}
+use Rattle.kms_script.proofs.Inverted.{bind_some, map_some, some_same, or_some, choice_some}
 use Rattle.kms_script.proofs.LineFields.{strip_spelt}
 
 -- a test that found a word
@@ -102,9 +103,9 @@ id_spelt profile kind name id e = row_spelt profile kind name id (property_named
 
 -- the name of a property that is known
 pub property_spelt : (profile id : ℕ) (name : List ℕ) → known_property profile name ≡ Some id → id_word id ≡ name
-property_spelt profile id name e = elim (or_else_some (property_id profile Plane name) _ id e) [
+property_spelt profile id name e = elim (or_else-some (property_id profile Plane name) _ id e) [
   | inl plane ↦ id_spelt profile Plane name id plane
-  | inr more ↦ elim (or_else_some (property_id profile Crtc name) (property_id profile Conn name) id more) [
+  | inr more ↦ elim (or_else-some (property_id profile Crtc name) (property_id profile Conn name) id more) [
     | inl crtc ↦ id_spelt profile Crtc name id crtc
     | inr conn ↦ id_spelt profile Conn name id conn
   ]

@@ -26,7 +26,7 @@ use Rattle.kms_script.proofs.StepsRead.{line_is_read}
 abbrev is_plain : List ℕ → Type 0
 is_plain bytes = list_all is_printable bytes ≡ true
 
-digit_plain : (b : ℕ) → is_digit b ≡ true → is_printable b ≡ true
+pub digit_plain : (b : ℕ) → is_digit b ≡ true → is_printable b ≡ true
 digit_plain b d = grind (arith, nat_tests)
 
 digits_plain : (ds : List ℕ) → list_all is_digit ds ≡ true → is_plain ds

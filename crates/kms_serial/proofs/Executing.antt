@@ -1,5 +1,5 @@
 -- What commands leave of a device's present states.
-use Rattle.std.proofs.Common.{◌≡◌, ℕ, true, List, Option, Some, None, Result, Ok, Err, refl, sym, ap, subst, arith}
+use Rattle.std.proofs.Common.{◌≡◌, ℕ, true, Option, Some, None, Result, Ok, Err, refl, sym, ap, subst, arith}
 use Rattle.std.specs.Prelude.{IfOk, OnOk, OnErr}
 use Rattle.kms_model.specs.declared.copying.NoMemory.{NoMemory}
 use Rattle.kms_model.specs.declared.objects.Topology.{Topology}
@@ -9,16 +9,15 @@ use Rattle.kms_model.specs.declared.scripts.Command.TheVariants as command
 use Rattle.kms_model.specs.declared.states.Duplicates.{Duplicates}
 use Rattle.kms_model.specs.declared.worlds.Content.{Content}
 use Rattle.kms_model.specs.declared.worlds.Content.TheVariants as content
-use Rattle.kms_model.specs.declared.worlds.Setting.{Setting}
 use Rattle.kms_model.specs.declared.worlds.Thing.{Thing}
 use Rattle.kms_model.specs.declared.worlds.World.{World}
 use Rattle.kms_model.specs.Device.Execution.{close, close_refusal, close_unless, destroy_refusal, execute, new_buffer_refusal, signal_refusal, signal_unless}
 use Rattle.kms_model.specs.Device.Execution.{BufferInfo, Executed, add_fb, buffer_of, make, make_unless}
 use Rattle.kms_model.specs.Device.Sound.{IsSound}
-use Rattle.kms_model.specs.Device.World.{thing_labelled, value}
+use Rattle.kms_model.specs.Device.World.{thing_labelled}
+use Rattle.kms_laws.proofs.Executed.{alike-self}
 use Rattle.kms_model.proofs.SeenLemmas.{AreSeenAlike, alike-closed, alike-push}
 use Rattle.kms_model.proofs.SoundKept.{execution_keeps_sound}
-use Rattle.kms_model.proofs.ThingLemmas.{seen-same}
 use Rattle.kms_serial.specs.Commands.{Grows}
 use Rattle.kms_serial.specs.Device.{StandsInWorld}
 use Rattle.kms_things.specs.Commands.{IsNoRequest}
@@ -33,15 +32,8 @@ pub record IsSeenAfter (t : Topology) (w after : World) : Type 0 where
   pub alike : AreSeenAlike t w.things after.things w.values
   pub grows : Grows w after
 
-alike_same : (t : Topology) (things : List Thing) (values : List Setting) → AreSeenAlike t things things values
-alike_same t things values = record {
-  planes = λ plane is. seen-same things things (value values plane _) refl;
-  crtcs = λ crtc is. seen-same things things (value values crtc _) refl;
-  gammas = λ crtc is. seen-same things things (value values crtc _) refl;
-}
-
 pub seen_same : (t : Topology) (w : World) → IsSeenAfter t w w
-seen_same t w = record { values = refl; alike = alike_same t w.things w.values; grows = record { ids = omega arith; commits = omega arith } }
+seen_same t w = record { values = refl; alike = alike-self t w.things w.values; grows = record { ids = omega arith; commits = omega arith } }
 
 pub seen_made : (t : Topology) (w : World) (owner label : ℕ) (c : Content) → IsSound t w → IsSeenAfter t w (make w owner label c).world
 seen_made t w owner label c sound = record {

@@ -1,8 +1,7 @@
 -- The pictures of a device.
-use Rattle.std.proofs.Common.{◌≡◌, ℕ, zero, suc, ◌+◌, ◌<◌, Bool, true, false, length, Option, Some, None, refl, sym, ap, ◌∙◌, subst, arith}
-use Rattle.std.specs.Prelude.{is_some, slice_get, nat_lt, not, ◌||◌, ◌==◌, ℤ, pos, negsuc, int_le, ◌≤ℤ◌}
-use Rattle.std.specs.List.{list_all, range_with_len}
-use Rattle.std.proofs.lemmas.Bool.{and_from, and_parts}
+use Rattle.std.proofs.Common.{◌≡◌, ℕ, ◌<◌, true, false, length, Option, Some, None, refl, sym, ap, ◌∙◌, subst, arith}
+use Rattle.std.specs.Prelude.{is_some, slice_get, nat_lt, ◌==◌, ℤ, pos, negsuc, int_le, ◌≤ℤ◌}
+use Rattle.std.proofs.lemmas.Bool.{and_parts}
 use Rattle.std.proofs.lemmas.Bool.Decides.{nat_tests}
 use Rattle.std.proofs.lemmas.Int.{ints}
 use Rattle.kms_model.specs.declared.objects.Kind.TheVariants as kind
@@ -16,33 +15,21 @@ use Rattle.kms_model.specs.Request.Agreement.{on_crtc}
 use Rattle.kms_model.specs.Request.Late.{duplicate_at}
 use Rattle.kms_model.specs.Device.Masks.{has_bit}
 use Rattle.kms_model.specs.Device.Objects.{object_id}
-use Rattle.kms_model.specs.Device.Sound.{IsBetween, IsPlaneInRange}
 use Rattle.kms_model.specs.Device.States.{crtc_at, plane_at}
 use Rattle.kms_model.proofs.LateLemmas.{flatten-some}
 use Rattle.kms_model.proofs.MaskLemmas.{has_bit-mask_below}
 use Rattle.kms_model.proofs.StateLemmas.{sound-plane_in_range}
-use Rattle.kms_picture.specs.Covered.{are_placeable, is_placeable, is_near, is_near_rect, is_near_plane, may_picture}
+use Rattle.kms_model.proofs.Facts.{implied_from, list_all-from}
+use Rattle.kms_picture.specs.Covered.{are_placeable, is_placeable, is_near_rect, is_near_plane, may_picture}
+use Rattle.kms_picture.proofs.FromSound.{near-place, near-size, near-dst}
 use Rattle.kms_serial.specs.Device.{StandsInWorld}
 
 le-int_le : (a b : ℤ) → a ≤ℤ b → int_le a b ≡ true
 le-int_le a b le = grind (arith, nat_tests, ints)
 
-near_between : (z : ℤ) → IsBetween (negsuc 2147483647) (pos 2147483647) z → is_near z ≡ true
-near_between z between = and_from (int_le (negsuc 2147483647) z) (int_le z (pos 2147483647)) (le-int_le (negsuc 2147483647) z between.low) (le-int_le z (pos 2147483647) between.high)
-
 above_zero : (z : ℤ) → pos 0 ≤ℤ z → int_le (negsuc 2147483647) z ≡ true
 above_zero (pos n) le = refl
 above_zero (negsuc n) le = absurd (omega (arith, ints, le))
-
--- a size is near
-near_size : (z : ℤ) → IsBetween (pos 0) (pos 2147483647) z → is_near z ≡ true
-near_size z between = and_from (int_le (negsuc 2147483647) z) (int_le z (pos 2147483647)) (above_zero z between.low) (le-int_le z (pos 2147483647) between.high)
-
-ready_state : (s : PlaneState) → IsPlaneInRange s → is_near_rect s.dst ≡ true
-ready_state s range =
-    and_from (is_near s.dst.x) _ (near_between s.dst.x range.x)
-    (and_from (is_near s.dst.y) _ (near_between s.dst.y range.y)
-    (and_from (is_near s.dst.w) (is_near s.dst.h) (near_size s.dst.w range.w) (near_size s.dst.h range.h)))
 
 -- a plane of a device that stands is ready
 ready_plane : (t : Topology) (w : World) (d : Duplicates) (index : ℕ) (o : Option (Both PlaneState)) → StandsInWorld t w d → duplicate_at d.planes index ≡ o → index < length t.planes → is_near_plane o ≡ true
@@ -50,11 +37,7 @@ ready_plane t w d index None stands is lt = absurd (let some = stands.present.wh
 ready_plane t w d index (Some both) stands is lt =
     let at = flatten-some (slice_get d.planes index) both is in
     let new : both.new ≡ plane_at w.things w.values (object_id kind.Plane index) = stands.present.new.planes index both at in
-    subst (λ s. is_near_rect s.dst ≡ true) (sym new) (ready_state (plane_at w.things w.values (object_id kind.Plane index)) (sound-plane_in_range t w index stands.sound lt))
-
-implied_by : (a b : Bool) → (a ≡ true → b ≡ true) → (not a || b) ≡ true
-implied_by true b f = f refl
-implied_by false b f = refl
+    subst (λ s. is_near_rect s.dst ≡ true) (sym new) (near-dst (plane_at w.things w.values (object_id kind.Plane index)) (sound-plane_in_range t w index stands.sound lt))
 
 -- planes beyond the device are on no CRTC
 within : (t : Topology) (w : World) (crtc index : ℕ) → has_bit (on_crtc t w.values crtc kind.Plane) index ≡ true → index < length t.planes
@@ -62,16 +45,12 @@ within t w crtc index has =
     let parts = and_parts (nat_lt index (length t.planes)) _ (sym (has_bit-mask_below (λ i. crtc_at w.values (object_id kind.Plane i) == crtc) (length t.planes) index) ∙ has) in
     grind (arith, nat_tests, parts.0)
 
-all_from : (p : ℕ → Bool) (a n : ℕ) → ((i : ℕ) → p i ≡ true) → list_all p (range_with_len a n) ≡ true
-all_from p a zero each = refl
-all_from p a (suc n) each = and_from (p a) (list_all p (range_with_len (a + 1) n)) (each a) (all_from p (a + 1) n each)
-
 covered_crtc : (t : Topology) (w : World) (d : Duplicates) (crtc : ℕ) (o : Option (Both CrtcState)) → StandsInWorld t w d → duplicate_at d.crtcs crtc ≡ o → crtc < t.crtcs → are_placeable d.planes o ≡ true
 covered_crtc t w d crtc None stands is lt = absurd (let some = stands.present.whole.crtcs.there crtc lt in let none : is_some (duplicate_at d.crtcs crtc) ≡ false = rw is refl in cc)
 covered_crtc t w d crtc (Some both) stands is lt =
     let at = flatten-some (slice_get d.crtcs crtc) both is in
     let planes : both.new.planes ≡ on_crtc t w.values (object_id kind.Crtc crtc) kind.Plane = ap (λ (s : CrtcState). s.planes) (stands.present.new.crtcs crtc both at) in
-    all_from (is_placeable d.planes both.new.planes) 0 16 (λ i. implied_by (has_bit both.new.planes i) (is_near_plane (duplicate_at d.planes i))
+    list_all-from (is_placeable d.planes both.new.planes) 0 16 (λ i. implied_from (has_bit both.new.planes i) (is_near_plane (duplicate_at d.planes i))
     (λ has. ready_plane t w d i (duplicate_at d.planes i) stands refl (within t w (object_id kind.Crtc crtc) i (sym (ap (λ m. has_bit m i) planes) ∙ has))))
 
 -- the picture of each CRTC of a device that stands can be told

@@ -1,8 +1,8 @@
 -- What the calls that decide a request ask for.
 use Rattle.std.proofs.Common.{◌≡◌, ℕ, suc, zero, ◌+◌, ◌-◌, ◌<◌, ◌≤◌, Bool, true, false, List, [], ◌∷◌, get_or, length, map, Option, Some, None, inl, inr, refl, sym, ap, ◌∙◌, subst, arith}
-use Rattle.std.specs.Prelude.{◌==◌, IfOk, Result, is_some, nat_lt, slice_get, slice_index_or, unwrap_or, if◌then◌else◌}
+use Rattle.std.specs.Prelude.{IfOk, Result, is_some, nat_lt, slice_get, slice_index_or, unwrap_or, if◌then◌else◌}
 use Rattle.std.specs.Option.{option_flatten}
-use Rattle.std.proofs.lemmas.Bool.{cases_lt, eq-eqb, eqb-true, ltb-false, ltb-true}
+use Rattle.std.proofs.lemmas.Bool.{cases_lt, eq-eqb, ltb-false, ltb-true}
 use Rattle.std.proofs.lemmas.Option.{unwrap_or-slice_get}
 use Rattle.std.proofs.lemmas.List.{get_or-map}
 use Rattle.kms_model.specs.declared.objects.Kind.{Kind}
@@ -29,8 +29,8 @@ use Rattle.kms_model.specs.Firsts.{or_else}
 use Rattle.kms_model.specs.Machine.State.{Machine, command_at, doing_at, has_value, holds}
 use Rattle.kms_model.specs.Machine.Steps.{ticket_of, ticket_taking}
 use Rattle.kms_model.specs.Request.Late.{duplicate_at}
-use Rattle.kms_model.specs.Machine.Commits.{has_number, lockable}
-use Rattle.kms_model.proofs.Items.{IsIn, list_any-some}
+use Rattle.kms_model.specs.Machine.Commits.{lockable}
+use Rattle.kms_model.proofs.Facts.{number-in}
 use Rattle.kms_laws.specs.Laws.{ContextsStand, has_context}
 use Rattle.kms_laws.proofs.Steps.{request-is, value-is}
 use Rattle.kms_state.specs.Places.{old_states}
@@ -164,9 +164,6 @@ accepts r c used resolved checked is stand takes accepted states =
       holds = rw own (held_all r c takes checked accepted.kept states);
     }
 
-has_in : (objects : List ℕ) (object : ℕ) → has_number objects object ≡ true → IsIn object objects
-has_in objects object has = (let at = list_any-some (λ n. n == object) objects has in subst (λ o. IsIn o objects) (eqb-true at.item object at.holds) at.is_in)
-
 pub may_refuse : (r : Run) (c : RequestContext) (used : List (ℕ × Look)) (why : Refusal) → IsHistoryOf r → ContextsStand r.script (machine r) → HasTaken r c → map (λ l. l.0) used ≡ labels_of c.request.assigns → (machine r).stalled ≡ false → RefusedBy r.script.topology c.request used c.states why → MayRefuse r c.ticket.0 used why
 may_refuse r c used why is stand takes labels going (inl early) = record { request = c.request; deciding = decides r c used is stand takes labels going; due = inl (record { first = early }) }
 may_refuse r c used why is stand takes labels going (inr late) =
@@ -179,7 +176,7 @@ may_refuse r c used why is stand takes labels going (inr late) =
         duplicates = c.states;
         given = record { asks = late.asks; old = takes.agrees.old };
         gives = late.gives;
-        holds = λ w of object has touched. rw own (takes.held object (late.covers w of object (has_in (lockable r.script.topology) object has) touched));
+        holds = λ w of object has touched. rw own (takes.held object (late.covers w of object (number-in (lockable r.script.topology) object has) touched));
       });
     }
 

@@ -23,6 +23,7 @@ use Rattle.kms_model.specs.Request.Sets.{look_in}
 use Rattle.kms_model.specs.Request.Touched.{touched_by, touches}
 use Rattle.kms_model.specs.Request.Verdict.{early_in, late_in, verdict}
 use Rattle.kms_model.proofs.Items.{or_else-nones}
+use Rattle.kms_model.proofs.Facts.{implied_from}
 use Rattle.kms_laws.proofs.ClientProgress.{taking-from}
 use Rattle.kms_track.specs.InStep.{is_of_device, is_there}
 use Rattle.kms_track.specs.Places.{all_below, mask_has, object_at_place}
@@ -39,7 +40,7 @@ use Rattle.kms_clients.specs.Standing.{doing_in}
 use Rattle.kms_stores.specs.Decisions.{taker_in}
 use Rattle.kms_stores.proofs.Fresh.{tells_now}
 use Rattle.kms_stores.proofs.Takers.{taker_as}
-use Rattle.kms_stores.proofs.Verdicts.{Decider, decider, implied, of_request}
+use Rattle.kms_stores.proofs.Verdicts.{Decider, decider, of_request}
 
 -- Locks
 
@@ -70,7 +71,7 @@ mask_holds t m client request mask device is =
 
 pub mask_held : (t : Topology) (m : Machine) (client : ℕ) (request : Request) (mask : Mask) → IsDevice t → mask ≡ touched_by t m.device.world request → HoldsAll m client mask → holds_touched t m client request ≡ true
 mask_held t m client request mask device is held =
-    sym (mask_holds t m client request mask device is) ∙ each_true (held_at m client mask) (λ p below. implied (mask_has mask p) (holds m client (object_at_place p)) (held p below))
+    sym (mask_holds t m client request mask device is) ∙ each_true (held_at m client mask) (λ p below. implied_from (mask_has mask p) (holds m client (object_at_place p)) (held p below))
 
 -- Acceptance
 

@@ -16,13 +16,14 @@ use Rattle.kms_model.specs.Machine.Registers.{CrtcWords, crtc_register}
 use Rattle.kms_model.specs.Machine.State.{Commit, DeviceState, Machine, first_machine}
 use Rattle.kms_model.proofs.Items.{IsIn}
 use Rattle.kms_model.proofs.SoundKept.{sound-apply}
+use Rattle.kms_model.proofs.CommitFacts.{commit_old, commit_new}
 use Rattle.kms_laws.proofs.Basics.{both_bools}
 use Rattle.kms_laws.proofs.EachStep.{IsWrite}
 use Rattle.kms_laws.proofs.Invariants.{Tail, crtc_after}
 use Rattle.kms_laws.proofs.Latching.{crtc_same}
 use Rattle.kms_laws.proofs.Modes.{plain-from}
 use Rattle.kms_laws.proofs.NeverStuck.{Facts, history_facts}
-use Rattle.kms_laws.proofs.Numbered.{commit_new, commit_old, crtc_old}
+use Rattle.kms_laws.proofs.Numbered.{crtc_old}
 use Rattle.kms_laws.proofs.Objects.{crtc_lockable, names-touches}
 use Rattle.kms_laws.proofs.Present.{is_old}
 use Rattle.kms_laws.proofs.Requests.{words_at}

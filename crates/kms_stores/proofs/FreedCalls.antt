@@ -28,20 +28,21 @@ use Rattle.kms_model.specs.Machine.Histories.{legal}
 use Rattle.kms_model.specs.Machine.Registers.{decoded_picture}
 use Rattle.kms_model.specs.Machine.State.{DeviceState, Machine, command_at}
 use Rattle.kms_model.proofs.Items.{IsIn}
+use Rattle.kms_model.proofs.HeldValues.{filter-in}
 use Rattle.kms_laws.proofs.Headlines.{range-in}
 use Rattle.kms_laws.proofs.Modes.{plain-from}
 use Rattle.kms_laws.proofs.Steps.{IsPlainScript, history_kept}
+use Rattle.kms_laws.proofs.Framebuffers.{find-same}
 use Rattle.kms_freeing.specs.Freeing.{AreAllOf, AreFreed, AreRising, framebuffers_in, freed_among, is_framebuffer_in, layers_name}
 use Rattle.kms_logs.specs.Logs.{Reserved}
 use Rattle.kms_stores.specs.Needs.{Accounts, Frees, HasPlaceFor, TellNeeds}
 use Rattle.kms_stores.specs.Run.{Run, machine}
 use Rattle.kms_stores.specs.Stands.{Stores, Stands, StandsAt}
-use Rattle.kms_freeing.proofs.FreedBetween.{found_same}
 use Rattle.kms_freeing.proofs.FreedHistories.{Executes, Latches, added_freed, changes, latch_frees, make_frees, quiet_freed, told_freed}
 use Rattle.kms_regs.specs.Layers.{picture_layers}
 use Rattle.kms_regs.proofs.FewLayers.{shown_few}
 use Rattle.kms_freeing.proofs.FreedLatches.{live_by}
-use Rattle.kms_freeing.proofs.FreedLists.{as_many, filter-in, passes, rising_filter}
+use Rattle.kms_freeing.proofs.FreedLists.{as_many, passes, rising_filter}
 use Rattle.kms_freeing.proofs.FreedMakes.{MadeFrees}
 use Rattle.kms_freeing.proofs.FreedSteps.{IsTold, SameNeeds, cleanup_told, each_of, keeps_by, needed_by}
 use Rattle.kms_stores.proofs.Histories.{goes_freeing, with_freed}
@@ -62,7 +63,7 @@ needed_places t m things ids same numbered rising needed =
   where
     at : (id : ℕ) (o : Option Thing) → thing_with_id m.device.world.things id ≡ o → is_framebuffer_in o ≡ true → ((x : Thing) → x.id ≡ id → is_framebuffer x.content ≡ true → is_needed t m x ≡ true) → passes (is_needed t m) o ≡ true
     at id None found e needed = absurd cc
-    at id (Some x) found e needed = needed x (found_same m.device.world.things id x found) e
+    at id (Some x) found e needed = needed x (find-same m.device.world.things id x found) e
 
 numbered_of : (r : Run) (st : Stores) → Stands r st → AreNumbered 1000 (machine r).device.world.things
 numbered_of r st stands = (history_kept r.script r.steps (plain-from r.script stands.formed) stands.history).present.sound.numbered

@@ -1,6 +1,6 @@
 -- A history that goes on by a step.
-use Rattle.std.proofs.Common.{◌≡◌, ℕ, Bool, true, false, List, [], ◌∷◌, ◌++◌, refl, ap, ◌∙◌, arith}
-use Rattle.std.proofs.lemmas.Bool.{and_parts, and_from}
+use Rattle.std.proofs.Common.{◌≡◌, ℕ, Bool, true, false, List, [], ◌∷◌, ◌++◌, ap, ◌∙◌, arith}
+use Rattle.std.proofs.lemmas.Bool.{and_parts}
 use Rattle.kms_model.specs.declared.replies.Answered.{Answered}
 use Rattle.kms_model.specs.declared.replies.Step.{Step}
 use Rattle.kms_model.specs.declared.runs.Latch.{Latch}
@@ -12,6 +12,7 @@ use Rattle.kms_model.specs.Machine.State.{Contexts, Machine, Marks, first_machin
 use Rattle.kms_clients.specs.InStep.{AreClientsOf}
 use Rattle.kms_clients.specs.Standing.{Standing}
 use Rattle.kms_laws.proofs.Modes.{plain-from}
+use Rattle.kms_laws.proofs.Turning.{run-more, legal-more}
 use Rattle.kms_freeing.specs.Freeing.{AreFreed, may_free}
 use Rattle.kms_logs.specs.Logs.{Logged, Reserved}
 use Rattle.kms_regs.specs.File.{RegisterFile, StandsForDevice}
@@ -25,25 +26,13 @@ use Rattle.kms_stores.specs.Stands.{AreRecords, Stores, StandsAt, Stands}
 use Rattle.kms_freeing.proofs.FreedHistories.{kind_freed, quiet_freed, quiet_needs}
 use Rattle.kms_freeing.proofs.FreedSteps.{SameNeeds}
 
-pub run_more : (s : Script) (m : Machine) (h : List Step) (step : Step) → run_steps s m (h ++ step ∷ []) ≡ next s (run_steps s m h) step
-unfolding run_steps
-run_more s m [] step = refl
-run_more s m (first ∷ h) step = run_more s (next s m first) h step
-
-legal_more : (s : Script) (m : Machine) (h : List Step) (step : Step) → are_legal s m h ≡ true → legal s (run_steps s m h) step ≡ true → are_legal s m (h ++ step ∷ []) ≡ true
-unfolding run_steps are_legal
-legal_more s m [] step all last = and_from (legal s m step) true last refl
-legal_more s m (first ∷ h) step all last =
-    let parts = and_parts (legal s m first) (are_legal s (next s m first) h) all in
-    and_from (legal s m first) _ parts.0 (legal_more s (next s m first) h step parts.1 last)
-
 -- the stores stand where they stand for the machine after the step, and for what is freed then
 pub goes_freeing : (r : Run) (old new : Stores) (step : Step) (steps : List Step) → steps ≡ r.steps ++ step ∷ [] → Stands r old → legal r.script (machine r) step ≡ true → StandsAt r.script (next r.script (machine r) step) new
     → AreFreed r.script (r.steps ++ step ∷ []) new.freed → Stands (record { script = r.script; steps = steps }) new
 goes_freeing r old new step steps is stands is_legal after freed = record {
   formed = stands.formed;
-  history = rw is (legal_more r.script (first_machine r.script.topology) r.steps step stands.history is_legal);
-  stores = rw (is, run_more r.script (first_machine r.script.topology) r.steps step) after;
+  history = rw is (legal-more r.script (first_machine r.script.topology) r.steps step stands.history is_legal);
+  stores = rw (is, run-more r.script (first_machine r.script.topology) r.steps step) after;
   freed = rw is freed;
 }
 

@@ -83,7 +83,7 @@ less_left v from k few first =
 
 -- What is found is the answer
 
-both_off : (a b : Bool) → (a && (b && false)) ≡ false
+pub both_off : (a b : Bool) → (a && (b && false)) ≡ false
 both_off true true = refl
 both_off true false = refl
 both_off false b = refl

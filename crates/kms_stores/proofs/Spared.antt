@@ -15,6 +15,7 @@ use Rattle.kms_laws.specs.TailsLeft.{LeavesLessInAll, all_left, commit_of_step, 
 use Rattle.kms_laws.proofs.LeftInAll.{all_shorter, cleaned_over, commits_counted}
 use Rattle.kms_laws.proofs.ShorterTails.{tails_short}
 use Rattle.kms_laws.proofs.Sizes.{sum-more}
+use Rattle.kms_laws.proofs.Turning.{run-more}
 use Rattle.kms_tails.specs.declared.tail.Tail.{Tail}
 use Rattle.kms_tails.specs.InStep.{IsKept}
 use Rattle.kms_tails.specs.StepLaws.{commit_of_tail_step}
@@ -24,7 +25,7 @@ use Rattle.kms_logs.specs.Logs.{Logged}
 use Rattle.kms_stores.specs.Run.{Run, machine}
 use Rattle.kms_stores.specs.Stands.{HasSpare, StandsWithSpare, Stands, Stores}
 use Rattle.kms_stores.proofs.CommitStates.{facts}
-use Rattle.kms_stores.proofs.Histories.{legal_last, run_more, told_anew}
+use Rattle.kms_stores.proofs.Histories.{legal_last, told_anew}
 
 -- Each commit that has steps left has a tail
 
@@ -96,7 +97,7 @@ shorter : (r : Run) (old new : Stores) (step : Step) (before steps : List Step) 
 shorter r old new step before steps stands after was more =
     let is : steps ≡ r.steps ++ step ∷ [] = more ∙ ap (λ (h : List Step). h ++ step ∷ []) was in
     let allowed = legal_last r.script r.steps steps step is after.history in
-    subst (λ m. LeavesLessInAll r.script.topology (machine r) m step) (sym (ap (at r.script) is ∙ run_more r.script _ r.steps step)) (all_shorter r.script (machine r) (facts r old stands).holds step allowed)
+    subst (λ m. LeavesLessInAll r.script.topology (machine r) m step) (sym (ap (at r.script) is ∙ run-more r.script _ r.steps step)) (all_shorter r.script (machine r) (facts r old stands).holds step allowed)
 
 -- a step that is of no tail
 pub other_spared : (r : Run) (old new : Stores) (step : Step) (before steps : List Step) (was made room latches : ℕ) → Stands r old → Stands (with_steps r steps) new → before ≡ r.steps → steps ≡ before ++ step ∷ [] → is_swap step ≡ false

@@ -1,5 +1,5 @@
 -- What a request's refusals, and its acceptance, are in the present world.
-use Rattle.std.proofs.Common.{◌≡◌, ℕ, Bool, true, false, List, Some, None, inl, inr, refl, sym, ap, ◌∙◌, ◌⊎◌, subst}
+use Rattle.std.proofs.Common.{◌≡◌, ℕ, true, false, List, Some, None, inl, inr, refl, sym, ap, ◌∙◌, ◌⊎◌, subst}
 use Rattle.std.specs.Prelude.{◌||◌, ◌==◌, not, is_some}
 use Rattle.std.proofs.lemmas.Bool.{and_from, eq-eqb, or_left, or_right}
 use Rattle.kms_model.specs.declared.objects.Topology.{Topology}
@@ -24,6 +24,7 @@ use Rattle.kms_model.specs.Request.Verdict.{early_in, late_in, verdict}
 use Rattle.kms_model.specs.Script.WellFormed.{IsWellFormed}
 use Rattle.kms_model.proofs.Items.{list_all-from, list_any-has}
 use Rattle.kms_model.proofs.SameLooks.{early-same, resolved-same}
+use Rattle.kms_model.proofs.Facts.{implied_from}
 use Rattle.kms_laws.proofs.ClientProgress.{taking-from}
 use Rattle.kms_laws.proofs.Modes.{plain-from}
 use Rattle.kms_laws.proofs.Steps.{history_kept}
@@ -66,16 +67,12 @@ refuse_by r client request why D may_be why_is = record {
   does = rw (D.at, why_is) refl;
 }
 
-pub implied : (a b : Bool) → (a ≡ true → b ≡ true) → (not a || b) ≡ true
-implied false b f = refl
-implied true b f = f refl
-
 pub touched_held : (t : Topology) (m : Machine) (client : ℕ) (request : Request) → ((object : ℕ) → has_number (lockable t) object ≡ true → touches t m.device.world request object ≡ true → holds m client object ≡ true)
     → holds_touched t m client request ≡ true
 unfolding holds_touched
 touched_held t m client request held =
     list_all-from (λ object. not (touches t m.device.world request object) || holds m client object) (lockable t)
-    (λ object is. implied (touches t m.device.world request object) _ (held object (list_any-has (λ n. n == object) (lockable t) object is (eq-eqb object object refl))))
+    (λ object is. implied_from (touches t m.device.world request object) _ (held object (list_any-has (λ n. n == object) (lockable t) object is (eq-eqb object object refl))))
 
 early_refuses : (r : Run) (client : ℕ) (request : Request) (why : Refusal) → Decider r client request → early_in r.script.topology (world r) request ≡ Some why.0 → Decides r client (step.Refuse client) (reply.Refused why)
 unfolding may_refuse verdict

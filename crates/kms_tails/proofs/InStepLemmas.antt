@@ -16,6 +16,8 @@ use Rattle.kms_model.specs.Stores.Tables.{AreBelow, slot, value_with_id, without
 use Rattle.kms_signal.specs.Rooms.{Rooms}
 use Rattle.kms_signal.proofs.SlotLemmas.{below-push, below-with_value, below-without_id, value_above, value_left, value_other, value_pushed, value_removed, value_same}
 use Rattle.kms_model.proofs.UnionLemmas.{has_bit-zero}
+use Rattle.kms_model.proofs.CommitFacts.{commit_old, commit_new}
+use Rattle.kms_model.proofs.Facts.{other_number}
 use Rattle.kms_tails.specs.declared.progress.Mark.{Mark}
 use Rattle.kms_tails.specs.declared.progress.Mark.TheVariants.{Claimed, WroteCrtc, WrotePlane, Flushed, Done, Latched}
 use Rattle.kms_tails.specs.declared.progress.Progress.{Progress}
@@ -117,9 +119,6 @@ marked_stands t cs marks others latches more v n mark change within stand = reco
 
 same_number : (n : ℕ) (b : Bool) → true ≡ ((n == n) || b)
 same_number n b = sym (ap (λ x. x || b) (eq-eqb n n refl))
-
-other_number : (n k : ℕ) (b : Bool) → (n == k) ≡ false → ((n == k) || b) ≡ b
-other_number n k b apart = rw apart refl
 
 other_pair : (n k object other : ℕ) (b : Bool) → (n == k) ≡ false → (((n == k) && (object == other)) || b) ≡ b
 other_pair n k object other b apart = rw apart refl
@@ -238,14 +237,6 @@ room_stands v w is t cs marks latches stand = record { below = rw is stand.below
 
 -- A commit is set up
 
-pub at_before : (t : Topology) (c : Commit) (cs : List Commit) (k : ℕ) → k < length cs → commit_at t (c ∷ cs) k ≡ commit_at t cs k
-unfolding commit_at
-at_before t c cs k within = (let apart : (length cs == k) ≡ false = ne_eqb (length cs) k (λ e. absurd (omega (arith, e, within))) in rw apart refl)
-
-pub at_new : (t : Topology) (c : Commit) (cs : List Commit) → commit_at t (c ∷ cs) (length cs) ≡ c
-unfolding commit_at
-at_new t c cs = rw (eq-eqb (length cs) (length cs) refl) refl
-
 or_nothing : (o : Option Tail) → or_else o None ≡ o
 or_nothing None = refl
 or_nothing (Some x) = refl
@@ -282,7 +273,7 @@ module _ (t : Topology) (c : Commit) (cs : List Commit) (marks : Marks) (latches
               let P : ℕ → Type 0 = λ m. IsKept t (commit_at t (c ∷ cs) m) marks latches m (value_with_id w.slots m) in
               subst P same.1 (rw (is, value_pushed v.slots n n (first_tail client r checked out_fences), value_above v.slots (length cs) n stand.below (omega (arith, is_n)), eq-eqb n n refl) here)
               )
-          | inr apart ↦ rw (is, value_pushed v.slots n k (first_tail client r checked out_fences), apart.0, or_nothing (value_with_id v.slots k), at_before t c cs k (omega (arith, low, is_n, apart.1)))
+          | inr apart ↦ rw (is, value_pushed v.slots n k (first_tail client r checked out_fences), apart.0, or_nothing (value_with_id v.slots k), commit_old t c cs k (omega (arith, low, is_n, apart.1)))
               (stand.kept k (omega (arith, low, is_n, apart.1)))
         ];
     untouched = λ k above. stand.untouched k (omega (arith, above));
@@ -291,4 +282,4 @@ module _ (t : Topology) (c : Commit) (cs : List Commit) (marks : Marks) (latches
     untouched_n = stand.untouched n (omega (arith, is_n))
 
     here : IsKept t (commit_at t (c ∷ cs) n) marks latches n (Some (first_tail client r checked out_fences))
-    here = subst (λ (d : Commit). IsKept t d marks latches n (Some (first_tail client r checked out_fences))) (sym (ap (commit_at t (c ∷ cs)) is_n ∙ at_new t c cs)) (untouched_n.cleaned, first_of for untouched_n)
+    here = subst (λ (d : Commit). IsKept t d marks latches n (Some (first_tail client r checked out_fences))) (sym (ap (commit_at t (c ∷ cs)) is_n ∙ commit_new t c cs)) (untouched_n.cleaned, first_of for untouched_n)

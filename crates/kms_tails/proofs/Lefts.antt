@@ -15,6 +15,7 @@ use Rattle.kms_model.specs.Firsts.{or_else}
 use Rattle.kms_model.specs.Request.Agreement.{on_crtc}
 use Rattle.kms_model.proofs.MaskLemmas.{has_bit-mask_below}
 use Rattle.kms_model.proofs.UnionLemmas.{has_bit-zero}
+use Rattle.kms_model.proofs.Facts.{and_off}
 use Rattle.kms_tails.specs.Remaining.{connector_in, first_left, is_left}
 
 shift : (a i : ℕ) → (a + 1) + i ≡ a + suc i
@@ -36,10 +37,6 @@ find_numbered h p q from zero (suc m) few same off =
 find_numbered h p q from (suc n) (suc m) few same off =
     let here : p (h from) ≡ q from = rw (add-zero from) at (same 0 (omega arith)) in
     rw here (next_item h from (q from) _ _ (find_numbered h p q (from + 1) n m (omega (arith, few)) (λ i within. rw (shift from i) (same (suc i) (omega (arith, within)))) (λ i low high. rw (shift from i) (off (suc i) (omega (arith, low)) (omega (arith, high))))))
-
-and_off : (b c : Bool) → b ≡ false → (b && c) ≡ false
-and_off true c is = absurd cc
-and_off false c is = refl
 
 -- by masks, of a kind of object
 pub left_of : (t : Topology) (kind : Kind) (asks over : ℕ → Bool) (asked done most : ℕ) → count_of t kind ≤ most

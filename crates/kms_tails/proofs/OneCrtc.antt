@@ -21,6 +21,7 @@ use Rattle.kms_model.specs.Request.Deciding.{IsChecked}
 use Rattle.kms_model.specs.Request.Touched.{named_by, touched_by}
 use Rattle.kms_model.proofs.OnMachines.{on_machines}
 use Rattle.kms_model.proofs.UnionLemmas.{has_bit-zero}
+use Rattle.kms_model.proofs.Facts.{nothing_there}
 use Rattle.kms_tails.specs.InStep.{AreTailsOf, HasRegisteredStates, IsTailFor, out_fence_at}
 use Rattle.kms_tails.specs.Remaining.{first_tail, no_tails}
 use Rattle.kms_tails.proofs.InStepLemmas.{first_stands, pushed_stands}
@@ -51,11 +52,6 @@ checked = record {
 
 abbrev pub no_fences : List (Option ℕ)
 no_fences = None ∷ (None ∷ (None ∷ (None ∷ [])))
-
-nothing_there : {S : Type 0} (n i : ℕ) (both : Both S) → slice_get (replicate n None) i ≡ Some (Some both) → ⊥
-nothing_there zero i both is = absurd cc
-nothing_there (suc n) zero both is = absurd cc
-nothing_there (suc n) (suc i) both is = nothing_there n i both is
 
 old_off : crtc_state_at one (start one).things (start one).values (object_id kind.Crtc 0) ≡ off
 unfolding on_machines mask_below

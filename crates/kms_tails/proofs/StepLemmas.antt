@@ -19,6 +19,7 @@ use Rattle.kms_model.specs.Machine.Registers.{decoded_picture, latched_registers
 use Rattle.kms_model.specs.Machine.State.{Commit, DeviceState, Machine, go_at, has_value, request_at}
 use Rattle.kms_model.specs.Machine.Steps.{may, may_claim, next_flush}
 use Rattle.kms_model.proofs.KindsOfIds.{index_of-object}
+use Rattle.kms_model.proofs.Facts.{and_off}
 use Rattle.kms_signal.specs.Rooms.{Rooms}
 use Rattle.kms_signal.specs.StepLaws.{leaves_commits, new_commit}
 use Rattle.kms_signal.proofs.CommitsLeft.{commits_left, latch_leaves, swap_adds}
@@ -64,10 +65,6 @@ names_none t cs k crtc above = rw (none_at t cs k above) refl
 finds_none : (p : ℕ → Bool) (xs : List ℕ) → ((x : ℕ) → p x ≡ false) → find p xs ≡ None
 finds_none p [] none = refl
 finds_none p (x ∷ xs) none = rw (none x) (finds_none p xs none)
-
-and_off : (a b : Bool) → a ≡ false → (a && b) ≡ false
-and_off true b off = absurd (false≢true (sym off))
-and_off false b off = refl
 
 flushes_none : (t : Topology) (d : DeviceState) (k : ℕ) → length d.commits ≤ k → next_flush t d k ≡ None
 unfolding next_flush

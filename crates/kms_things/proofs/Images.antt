@@ -26,7 +26,7 @@ use Rattle.kms_model.specs.Frames.Shown.{FramesIn}
 abbrev seen_of : Thing → Option Seen
 seen_of b = seen_in b.content
 
-apart_below : (n a b : ℕ) → a ≡ n → b < n → eqb a b ≡ false
+pub apart_below : (n a b : ℕ) → a ≡ n → b < n → eqb a b ≡ false
 apart_below n a b e lt = grind (arith, nat_tests)
 
 -- a slot that has another id is passed over

@@ -13,6 +13,7 @@ use Rattle.kms_model.specs.Firsts.{or_else}
 use Rattle.kms_model.specs.Device.Sound.{AreNumbered}
 use Rattle.kms_model.proofs.FramedLemmas.{labelled_with_id}
 use Rattle.kms_things.specs.Index.{Ids, IsIndex, id_labelled, id_under}
+use Rattle.kms_things.proofs.Images.{apart_below}
 
 not_same : (a b : ℕ) → a < b → eqb b a ≡ false
 not_same a b lt = grind (arith, nat_tests)
@@ -52,9 +53,6 @@ looked_up ts k Q (Some x) within at = sym (slice_get_read ts (length ts) k x.now
 
 first_apart : (n a b : ℕ) → a ≡ n → n < b → eqb a b ≡ false
 first_apart n a b e lt = grind (arith, nat_tests)
-
-first_below : (n a b : ℕ) → a ≡ n → b < n → eqb a b ≡ false
-first_below n a b e lt = grind (arith, nat_tests)
 
 first_same : (n a b : ℕ) → a ≡ n → b ≡ n → eqb a b ≡ true
 first_same n a b e lt = grind (arith, nat_tests)
@@ -99,7 +97,7 @@ indexed_more ids more ts t indexed noted =
 pub closed_below : (n id : ℕ) (ts : List Thing) → AreNumbered n ts → id < n → ts ≡ closed_in ts id
 closed_below n id [] h lt = refl
 closed_below n id (t ∷ ts) h lt =
-    let apart : eqb t.id id ≡ false = first_below n t.id id h.0 lt in
+    let apart : eqb t.id id ≡ false = apart_below n t.id id h.0 lt in
     rw apart (ap (λ us. t ∷ us) (closed_below (n + 1) id ts h.1 (omega arith)))
 
 -- no thing has a higher id

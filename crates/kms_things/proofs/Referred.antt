@@ -1,5 +1,5 @@
 -- The framebuffers that something refers to, as things are made and closed.
-use Rattle.std.proofs.Common.{◌≡◌, ℕ, ◌+◌, ◌<◌, ◌≤◌, Bool, true, false, cond, List, [], ◌∷◌, ◌++◌, Option, Some, None, Result, Ok, Err, refl, sym, ap, ◌∙◌, subst, inl, inr, arith, append-nil}
+use Rattle.std.proofs.Common.{◌≡◌, ℕ, ◌+◌, ◌<◌, ◌≤◌, Bool, true, false, List, [], ◌∷◌, ◌++◌, Option, Some, None, Result, Ok, Err, refl, sym, ap, ◌∙◌, subst, inl, inr, arith, append-nil}
 use Rattle.std.specs.Prelude.{◌==◌, ◌&&◌}
 use Rattle.std.specs.Option.{option_and_then, option_map}
 use Rattle.std.proofs.lemmas.Bool.Decides.{eqb_tells}
@@ -19,6 +19,7 @@ use Rattle.kms_model.specs.Stores.Kept.{after_close, after_give, after_take, clo
 use Rattle.kms_model.specs.Stores.OpenThings.{denial, open_value, things_after, value_if_open}
 use Rattle.kms_model.specs.Stores.Tables.{AreBelow, put_in, value_with_id, with_value, without_id}
 use Rattle.kms_model.proofs.OpenLemmas.{closed_values, found_open}
+use Rattle.kms_model.proofs.Facts.{cond_holds}
 use Rattle.kms_buffers.specs.Things.{fb_of_content, open_fbs, open_fbs_of}
 use Rattle.kms_things.specs.Index.{AreReferred, IsBlobAt, IsPlain}
 
@@ -41,10 +42,6 @@ pub below_more : (n : ℕ) (fbs : List (Slot Framebuffer)) (s : Slot Framebuffer
 below_more n [] s below lt = (lt, tt)
 below_more n (t ∷ fbs) s below lt = (below.0, below_more n fbs s below.1 lt)
 
-either : {X : Type 0} (P : X → Type 0) (b : Bool) (x y : X) → P x → P y → P (cond b x y)
-either P true x y p q = p
-either P false x y p q = q
-
 below_put : (n id : ℕ) (fb : Framebuffer) (s : Slot Framebuffer) → s.id < n → (put_in id fb s).id < n
 below_put n id fb s lt = elim (eqb_tells s.id id) [ inl here ↦ rw here.0 (subst (λ (k : ℕ). k < n) here.1 lt) | inr away ↦ rw away.0 lt ]
 
@@ -60,11 +57,11 @@ below_without n id (s ∷ fbs) below = elim (eqb_tells s.id id) [
 ]
 
 below_fewer : (n id : ℕ) (fb : Framebuffer) (fbs : List (Slot Framebuffer)) → AreBelow n fbs → AreBelow n (with_fewer fbs id fb)
-below_fewer n id fb fbs below = either (λ xs. AreBelow n xs) (fb.references == 0) (without_id fbs id) (with_value fbs id fb) (below_without n id fbs below) (below_with n id fb fbs below)
+below_fewer n id fb fbs below = cond_holds (λ xs. AreBelow n xs) (fb.references == 0) (without_id fbs id) (with_value fbs id fb) (below_without n id fbs below) (below_with n id fb fbs below)
 
 below_close : (n owner id : ℕ) (fbs : List (Slot Framebuffer)) (o : Option Framebuffer) → AreBelow n fbs → AreBelow n (after_close fbs owner id o)
 below_close n owner id fbs None below = below
-below_close n owner id fbs (Some fb) below = either (λ xs. AreBelow n xs) (may_close owner fb) (with_fewer fbs id (closed fb)) fbs (below_fewer n id (closed fb) fbs below) below
+below_close n owner id fbs (Some fb) below = cond_holds (λ xs. AreBelow n xs) (may_close owner fb) (with_fewer fbs id (closed fb)) fbs (below_fewer n id (closed fb) fbs below) below
 
 below_take : (n id : ℕ) (fbs : List (Slot Framebuffer)) (o : Option Framebuffer) → AreBelow n fbs → AreBelow n (after_take fbs id o)
 below_take n id fbs None below = below

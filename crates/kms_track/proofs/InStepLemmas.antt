@@ -1,16 +1,15 @@
 -- Calls keep a tracker in step with the machine: one fact for each event.
 use Rattle.std.proofs.Common.{◌≡◌, ℕ, ◌<◌, List, [], ◌∷◌, length, false, inl, inr, arith, refl, sym, ap, ◌∙◌, add-one}
 use Rattle.std.specs.Prelude.{◌==◌, ◌&&◌}
-use Rattle.std.proofs.lemmas.Bool.{eq-eqb}
 use Rattle.std.proofs.lemmas.Bool.Decides.{eqb_tells}
 use Rattle.kms_model.specs.declared.objects.Topology.{Topology}
 use Rattle.kms_model.specs.declared.runs.Latch.{Latch}
 use Rattle.kms_model.specs.declared.states.Checked.{Checked}
-use Rattle.kms_model.specs.Device.Objects.{kind_of}
-use Rattle.kms_model.specs.Machine.Commits.{has_latched, commit_at, commit_touches, commit_concerns, is_on_before_or_after, waited_fences}
+use Rattle.kms_model.specs.Machine.Commits.{has_latched, waited_fences}
 use Rattle.kms_model.specs.Machine.State.{Commit, Marks, no_marks}
 use Rattle.kms_model.specs.Request.Touched.{touches}
 use Rattle.kms_model.specs.Stores.Tables.{without_id}
+use Rattle.kms_model.proofs.CommitFacts.{commit_old, commit_new, waited_old, touches_old, touches_new, concerns_old, concerns_new}
 use Rattle.kms_track.specs.InStep.{told_of, IsUntouched, IsTrackerOf, IsCheckedFor, is_of_device}
 use Rattle.kms_track.specs.Laws.{no_tracking}
 use Rattle.kms_track.specs.Places.{object_at_place, crtc_id}
@@ -83,51 +82,23 @@ latch_in_step t commits marks latches v l within crtc step = record {
 
 -- a commit is set up
 
-at_before : (t : Topology) (c : Commit) (cs : List Commit) (k : ℕ) → k < length cs → commit_at t (c ∷ cs) k ≡ commit_at t cs k
-unfolding commit_at
-at_before t c cs k within = (let apart : (length cs == k) ≡ false = elim (eqb_tells (length cs) k) [ inl e ↦ absurd (omega (arith, e.1)) | inr d ↦ d.0 ] in rw apart refl)
-
-at_new : (t : Topology) (c : Commit) (cs : List Commit) → commit_at t (c ∷ cs) (length cs) ≡ c
-unfolding commit_at
-at_new t c cs = rw (eq-eqb (length cs) (length cs) refl) refl
-
-touches_before : (t : Topology) (c : Commit) (cs : List Commit) (k object : ℕ) → k < length cs → commit_touches t (c ∷ cs) k object ≡ commit_touches t cs k object
-unfolding commit_touches
-touches_before t c cs k object within = rw (at_before t c cs k within) refl
-
-touches_now : (t : Topology) (c : Commit) (cs : List Commit) (object : ℕ) → commit_touches t (c ∷ cs) (length cs) object ≡ touches t c.world c.request object
-unfolding commit_touches
-touches_now t c cs object = rw (at_new t c cs) refl
-
-concerns_before : (t : Topology) (c : Commit) (cs : List Commit) (k object crtc : ℕ) → k < length cs → commit_concerns t (c ∷ cs) k object crtc ≡ commit_concerns t cs k object crtc
-unfolding commit_concerns
-concerns_before t c cs k object crtc within = rw (at_before t c cs k within) refl
-
-concerns_now : (t : Topology) (c : Commit) (cs : List Commit) (object crtc : ℕ) → commit_concerns t (c ∷ cs) (length cs) object crtc ≡ is_on_before_or_after (kind_of object) c object crtc
-unfolding commit_concerns
-concerns_now t c cs object crtc = rw (at_new t c cs) refl
-
-fences_before : (t : Topology) (c : Commit) (cs : List Commit) (k : ℕ) → k < length cs → waited_fences t (c ∷ cs) k ≡ waited_fences t cs k
-unfolding waited_fences
-fences_before t c cs k within = rw (at_before t c cs k within) refl
-
 fences_now : (t : Topology) (c : Commit) (cs : List Commit) (fences : List ℕ) (checked : Checked) → IsCheckedFor t c checked fences → waited_fences t (c ∷ cs) (length cs) ≡ fences
 unfolding waited_fences
-fences_now t c cs fences checked for = rw (at_new t c cs) for.fences_are
+fences_now t c cs fences checked for = rw (commit_new t c cs) for.fences_are
 
 pub tells_of_commit : (t : Topology) (c : Commit) (cs : List Commit) (marks : Marks) (latches : List Latch) (checked : Checked) (fences : List ℕ) → IsCheckedFor t c checked fences
     → IsUntouched marks latches (length cs) → TellsOfSetup (told_of t cs marks latches) (told_of t (c ∷ cs) marks latches) checked fences
 tells_of_commit t c cs marks latches checked fences for fresh = record {
   count = sym (add-one (length cs));
-  touches = λ k object within. ap (λ b. is_of_device t object && b) (touches_before t c cs k object within);
-  concerns = λ k object crtc within. ap (λ b. is_of_device t crtc && b) (concerns_before t c cs k object crtc within);
-  fences_are = λ k within. fences_before t c cs k within;
+  touches = λ k object within. ap (λ b. is_of_device t object && b) (touches_old t c cs k object within);
+  concerns = λ k object crtc within. ap (λ b. is_of_device t crtc && b) (concerns_old t c cs k object crtc within);
+  fences_are = λ k within. waited_old t c cs k within;
   claimed = λ k within. refl;
   hw_done = λ k within. refl;
   latched = λ k crtc within. refl;
   cleaned = λ k within. refl;
-  touches_new = λ p place. ap (λ b. is_of_device t (object_at_place p) && b) (touches_now t c cs (object_at_place p)) ∙ for.touched p place;
-  concerns_new = λ p crtc place within has. ap (λ b. is_of_device t (crtc_id crtc) && b) (concerns_now t c cs (object_at_place p) (crtc_id crtc)) ∙ for.on p crtc place within has;
+  touches_new = λ p place. ap (λ b. is_of_device t (object_at_place p) && b) (touches_new t c cs (object_at_place p)) ∙ for.touched p place;
+  concerns_new = λ p crtc place within has. ap (λ b. is_of_device t (crtc_id crtc) && b) (concerns_new t c cs (object_at_place p) (crtc_id crtc)) ∙ for.on p crtc place within has;
   fences_new = fences_now t c cs fences checked for;
   unclaimed = fresh.claimed;
   not_done = fresh.hw_done;

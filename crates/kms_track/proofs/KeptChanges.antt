@@ -11,6 +11,7 @@ use Rattle.kms_model.specs.Firsts.{or_else}
 use Rattle.kms_model.specs.Stores.Tables.{AreBelow, value_with_id, without_id}
 use Rattle.kms_signal.proofs.SlotLemmas.{value_other, value_same, value_pushed, value_removed, value_left, value_above, below-with_value, below-without_id, below-push}
 use Rattle.std.proofs.lemmas.List.{get_or-replicate}
+use Rattle.kms_model.proofs.Facts.{other_number}
 use Rattle.kms_track.specs.Laws.{no_tracking}
 use Rattle.kms_track.specs.declared.commits.Last.{Last}
 use Rattle.kms_track.specs.declared.commits.Pending.{Pending}
@@ -101,9 +102,6 @@ commits_changed told other v n f kept this others k within =
 
 same_number : (n : ℕ) (b : Bool) → ((n == n) || b) ≡ true
 same_number n b = rw (eq-eqb n n refl) refl
-
-other_number : (n k : ℕ) (b : Bool) → (n == k) ≡ false → ((n == k) || b) ≡ b
-other_number n k b apart = rw apart refl
 
 -- Claimed, or done
 

@@ -8,6 +8,7 @@ use Rattle.kms_model.specs.declared.objects.Topology.{Topology}
 use Rattle.kms_model.specs.Firsts.{or_else, first_some}
 use Rattle.kms_model.specs.Device.Objects.{object_id, ids_of, count_of}
 use Rattle.kms_model.specs.Machine.Commits.{lockable}
+use Rattle.kms_model.proofs.Facts.{or_else-none, or_else-assoc}
 use Rattle.kms_track.specs.Places.{object_at_place, all_below, first_below}
 use Rattle.kms_track.specs.InStep.{IsWithinPlaces, is_there}
 use Rattle.kms_track.specs.Told.{crtc_ids}
@@ -36,17 +37,9 @@ crtcs_all f (suc (suc (suc (suc (suc n))))) few off = absurd (omega arith)
 
 -- the first of places is the first of objects
 
-or_nothing : {A : Type 0} (x : Option A) → or_else x None ≡ x
-or_nothing None = refl
-or_nothing (Some a) = refl
-
-or_assoc : {A : Type 0} (x y z : Option A) → or_else (or_else x y) z ≡ or_else x (or_else y z)
-or_assoc None y z = refl
-or_assoc (Some a) y z = refl
-
 first_append : {A : Type 0} (g : ℕ → Option A) (xs ys : List ℕ) → first_some g (xs ++ ys) ≡ or_else (first_some g xs) (first_some g ys)
 first_append g [] ys = refl
-first_append g (x ∷ xs) ys = ap (λ r. or_else (g x) r) (first_append g xs ys) ∙ sym (or_assoc (g x) (first_some g xs) (first_some g ys))
+first_append g (x ∷ xs) ys = ap (λ r. or_else (g x) r) (first_append g xs ys) ∙ sym (or_else-assoc (g x) (first_some g xs) (first_some g ys))
 
 one_more : {A : Type 0} (f : ℕ → Option A) (a : ℕ) → first_below f (a + 1) ≡ or_else (first_below f a) (f a)
 unfolding first_below
@@ -57,12 +50,12 @@ unfolding first_below
 none_yet f = refl
 
 further : {A : Type 0} (f : ℕ → Option A) (a n : ℕ) → first_below f (n + a) ≡ or_else (first_below f a) (first_some f (range_with_len a n))
-further f a zero = rw (zero-add a) (sym (or_nothing (first_below f a)))
+further f a zero = rw (zero-add a) (sym (or_else-none (first_below f a)))
 further f a (suc n) =
     let moved : suc n + a ≡ n + (a + 1) = omega arith in
     rw moved (
     further f (a + 1) n
-    ∙ (ap (λ r. or_else r (first_some f (range_with_len (a + 1) n))) (one_more f a) ∙ or_assoc (first_below f a) (f a) (first_some f (range_with_len (a + 1) n))))
+    ∙ (ap (λ r. or_else r (first_some f (range_with_len (a + 1) n))) (one_more f a) ∙ or_else-assoc (first_below f a) (f a) (first_some f (range_with_len (a + 1) n))))
 
 shift : (a i : ℕ) → (a + 1) + i ≡ a + suc i
 shift a i = omega arith
@@ -99,7 +92,7 @@ first_lockable {A} t f g limits same off =
     ∙ (ap (λ r. or_else (or_else r (first_some f (range_with_len 4 16))) (first_some f (range_with_len 20 8))) crtcs
     ∙ (ap (λ r. or_else (or_else (first_some g (ids_of t Crtc)) r) (first_some f (range_with_len 20 8))) planes
     ∙ (ap (λ r. or_else (or_else (first_some g (ids_of t Crtc)) (first_some g (ids_of t Plane))) r) conns
-    ∙ (or_assoc (first_some g (ids_of t Crtc)) (first_some g (ids_of t Plane)) (first_some g (ids_of t Conn))
+    ∙ (or_else-assoc (first_some g (ids_of t Crtc)) (first_some g (ids_of t Plane)) (first_some g (ids_of t Conn))
     ∙ sym (first_append g (ids_of t Crtc) (ids_of t Plane ++ ids_of t Conn) ∙ ap (λ r. or_else (first_some g (ids_of t Crtc)) r) (first_append g (ids_of t Plane) (ids_of t Conn)))))))
   where
     crtc_same : (i : ℕ) → i < count_of t Crtc → f i ≡ g (object_id Crtc i)

@@ -1,5 +1,5 @@
 -- A tracker that is told of each step of a machine stays in step with it.
-use Rattle.std.proofs.Common.{◌≡◌, ℕ, ◌<◌, List, ◌∷◌, length, Bool, true, false, Some, None, inl, inr, arith, sym, ◌∙◌, subst, refl}
+use Rattle.std.proofs.Common.{◌≡◌, ℕ, ◌<◌, List, ◌∷◌, length, true, false, Some, None, inl, inr, arith, sym, ◌∙◌, subst}
 use Rattle.std.specs.Prelude.{◌||◌, not, nat_lt, if◌then◌else◌}
 use Rattle.std.proofs.lemmas.Bool.{and_parts, cases_Bool, cases_lt, false≢true, ltb-true}
 use Rattle.kms_model.specs.declared.objects.Kind.TheVariants.{Crtc}
@@ -20,6 +20,7 @@ use Rattle.kms_model.specs.Machine.Steps.{may, may_claim}
 use Rattle.kms_model.specs.Stores.Tables.{without_id}
 use Rattle.kms_model.proofs.Items.{IsIn, list_all-at, list_all-from}
 use Rattle.kms_model.proofs.KindsOfIds.{index_of-object}
+use Rattle.kms_model.proofs.Facts.{implied_from, implied}
 use Rattle.kms_signal.specs.StepLaws.{new_commit}
 use Rattle.kms_signal.proofs.CommitsLeft.{commits_left, latch_leaves, swap_adds}
 use Rattle.kms_track.specs.InStep.{IsInStep, IsTrackerOf, IsCheckedFor, IsWithinPlaces, is_of_device, told_of}
@@ -54,14 +55,6 @@ swap_follows s m client r v w checked fences is stands for set_up =
     (setup_in_step s.topology (new_commit m client r) m.device.commits m.device.marks m.records.latches v w checked fences for set_up stands)
 
 -- Tails
-
-implied : (a b : Bool) → (a ≡ true → b ≡ true) → (not a || b) ≡ true
-implied true b holds = holds refl
-implied false b holds = refl
-
-of_named : (a b : Bool) → (not a || b) ≡ true → a ≡ true → b ≡ true
-of_named true b either holds = either
-of_named false b either holds = absurd (false≢true holds)
 
 -- a commit of which something was done was set up
 numbered : (t : Topology) (m : Machine) (k : ℕ) (v : Tracking) → IsInStep t m v → has_number m.device.marks.claimed k ≡ true → k < length m.device.commits
@@ -144,8 +137,8 @@ over_of t m k within done latched names limits = record {
   flips : (p : ℕ) → IsIn (object_at_place p) (lockable t) → commit_touches t m.device.commits k (object_at_place p) ≡ true → has_flipped t m.device.commits m.records.latches k (object_at_place p) ≡ true
   flips p there touched =
       list_all-from (λ crtc. not (commit_concerns t m.device.commits k (object_at_place p) crtc) || has_latched m.records.latches k crtc) (ids_of t Crtc)
-      (λ crtc is. implied (commit_concerns t m.device.commits k (object_at_place p) crtc) (has_latched m.records.latches k crtc)
-      (λ on. of_named (commit_names t m.device.commits k crtc) (has_latched m.records.latches k crtc)
+      (λ crtc is. implied_from (commit_concerns t m.device.commits k (object_at_place p) crtc) (has_latched m.records.latches k crtc)
+      (λ on. implied (commit_names t m.device.commits k crtc) (has_latched m.records.latches k crtc)
       (list_all-at (λ crtc. not (commit_names t m.device.commits k crtc) || has_latched m.records.latches k crtc) (ids_of t Crtc) crtc latched is)
       (names.named k (object_at_place p) crtc within there is touched on)))
 

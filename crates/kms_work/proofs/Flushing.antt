@@ -20,7 +20,8 @@ use Rattle.kms_model.specs.Machine.Steps.{may, next_flush}
 use Rattle.kms_model.proofs.Items.{list_all-at}
 use Rattle.kms_model.proofs.KindsOfIds.{index_of-object}
 use Rattle.kms_model.proofs.TouchedLemmas.{few_objects}
-use Rattle.kms_laws.proofs.Basics.{both_bools, implied, pair_now}
+use Rattle.kms_model.proofs.Facts.{implied}
+use Rattle.kms_laws.proofs.Basics.{both_bools, pair_now}
 use Rattle.kms_laws.proofs.EventsKept.{reserved_some}
 use Rattle.kms_laws.proofs.Modes.{plain-from}
 use Rattle.kms_laws.proofs.Objects.{crtc_registered, names-touches}

@@ -1,5 +1,6 @@
 use Rattle.std.proofs.Common.{ap}
-use Rattle.kms_device_tests.proofs.Standing.{doing_told, ready_told, request_told, returning_not}
+use Rattle.kms_model.proofs.CommitFacts.{returning_not}
+use Rattle.kms_device_tests.proofs.Standing.{doing_told, ready_told, request_told}
 use Rattle.kms_device_tests.proofs.places.at_request.Goals as goal
 
 pub returns : goal.returns

@@ -1,5 +1,6 @@
 use Rattle.std.proofs.Common.{◌∙◌, sym}
-use Rattle.kms_next.proofs.ClientSteps.{return_not, return_told, returning_not}
+use Rattle.kms_model.proofs.CommitFacts.{returning_not}
+use Rattle.kms_next.proofs.ClientSteps.{return_not, return_told}
 use Rattle.kms_stores.specs.Insides.{run_in, stores_of}
 use Rattle.kms_next.proofs.client_steps.may_return.Goals as goal
 

@@ -1,5 +1,6 @@
 use Rattle.std.proofs.Common.{◌∙◌}
-use Rattle.kms_device.proofs.CommitMade.{broken, made_all, made_more, made_none, on_err}
+use Rattle.kms_io.proofs.Joins.{OnErr-always}
+use Rattle.kms_device.proofs.CommitMade.{broken, made_all, made_more, made_none}
 use Rattle.kms_device.proofs.device.Device.commit.Goals as goal
 
 pub loop-init : goal.loop-init
@@ -19,7 +20,7 @@ attempt-requires-clause-serves g c = c.loop.invariant.serves
 
 pub returns-in_err-reply-clause-broken_off : goal.returns-in_err-reply-clause-broken_off
 returns-in_err-reply-clause-broken_off g c =
-    on_err c.from_residual.result
+    OnErr-always c.from_residual.result
     (broken c.args.self.now.script c.args.client c.args.pass.now c.loop.pass c.attempt.new.pass c.loop.kept c.loop.invariant c.in_err-reply.ensures.no_step c.in_err-reply.ensures.stays)
 
 pub returns-in-Answered-clause-committed : goal.returns-in-Answered-clause-committed
