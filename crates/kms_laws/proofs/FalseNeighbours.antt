@@ -27,7 +27,7 @@ use Rattle.kms_model.specs.Request.Verdict.{verdict}
 use Rattle.kms_model.specs.Script.InputLines.{Fault}
 use Rattle.kms_model.specs.Script.Schedules.{Parts, input_of}
 use Rattle.kms_model.proofs.OnMachines.{on_machines}
-use Rattle.kms_model.proofs.Rows.{head, made}
+use Rattle.kms_model.proofs.Rows.{head, head_of_two, made}
 
 -- what is told of a script and the steps that a text spells
 abbrev told_of : {A : Type 0} → (Script → List Step → A) → A → Result Parts Fault → A
@@ -48,7 +48,7 @@ layers (On shown) = length shown.layers
 
 -- two CRTCs and a plane that may go on both: both are lit, with the plane on the first
 abbrev two_crtcs : List ℕ
-two_crtcs = codes "kms 1\ncrtcs 2\nplane overlay 0,1 XR24\nconn 0\nconn 1\n" ++ made ++ codes "atomic 0x400 0 crtc0.ACTIVE=1 crtc0.MODE_ID=@m conn0.CRTC_ID=crtc0 plane0.FB_ID=@f plane0.CRTC_ID=crtc0 plane0.CRTC_W=1 plane0.CRTC_H=1 plane0.SRC_W=65536 plane0.SRC_H=65536 crtc1.ACTIVE=1 crtc1.MODE_ID=@m conn1.CRTC_ID=crtc1\n"
+two_crtcs = head_of_two ++ made ++ codes "atomic 0x400 0 crtc0.ACTIVE=1 crtc0.MODE_ID=@m conn0.CRTC_ID=crtc0 plane0.FB_ID=@f plane0.CRTC_ID=crtc0 plane0.CRTC_W=1 plane0.CRTC_H=1 plane0.SRC_W=65536 plane0.SRC_H=65536 crtc1.ACTIVE=1 crtc1.MODE_ID=@m conn1.CRTC_ID=crtc1\n"
 
 abbrev both_lit : List ℕ
 both_lit = codes "schedule\nT make 1\nT make 1\nT make 1\nT begin 1\nT lock 1 crtc0\nT lock 1 crtc1\nT lock 1 plane0\nT lock 1 conn0\nT lock 1 conn1\nT swap 1\nT claim 0\nT write 0 crtc0\nT write 0 crtc1\nT write 0 plane0\nT flush 0 crtc0\nT flush 0 crtc1\nT hwdone 0\nT vblank crtc0\nT vblank crtc1\nT cleanup 0\nT return 1\n"

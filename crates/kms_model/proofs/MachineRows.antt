@@ -5,7 +5,7 @@ use Rattle.kms_model.specs.Script.Generated.{generated}
 use Rattle.kms_model.specs.Script.WholeInput.{input}
 use Rattle.kms_model.proofs.MachineInputs.{one, report_of_script, replayed, not_legal_at, plain, traced}
 use Rattle.kms_model.proofs.OnMachines.{on_machines}
-use Rattle.kms_model.proofs.Rows.{head, made, script}
+use Rattle.kms_model.proofs.Rows.{head, head_of_two, made, mode_made, pixel_made, script}
 
 -- what lights the CRTC: nine assignments
 abbrev sets : List ℕ
@@ -82,7 +82,7 @@ commit_is_not_claimed_before_the_flip = refl
 
 -- two CRTCs and a plane that may go on both: one client lights both, and takes the plane off the first; another puts it on the second
 abbrev moving_script : List ℕ
-moving_script = codes "kms 1\ncrtcs 2\nplane overlay 0,1 XR24\nconn 0\nconn 1\n" ++ made ++ codes "atomic 0x400 0 " ++ sets ++ codes " crtc1.ACTIVE=1 crtc1.MODE_ID=@m conn1.CRTC_ID=crtc1\natomic 0x200 0 plane0.FB_ID=0 plane0.CRTC_ID=0\nclient\natomic 0x0 0 plane0.FB_ID=@f plane0.CRTC_ID=crtc1\n"
+moving_script = head_of_two ++ made ++ codes "atomic 0x400 0 " ++ sets ++ codes " crtc1.ACTIVE=1 crtc1.MODE_ID=@m conn1.CRTC_ID=crtc1\natomic 0x200 0 plane0.FB_ID=0 plane0.CRTC_ID=0\nclient\natomic 0x0 0 plane0.FB_ID=@f plane0.CRTC_ID=crtc1\n"
 
 abbrev moving_steps : List ℕ
 moving_steps = codes "schedule\nT make 1\nT make 1\nT make 1\nT begin 1\nT lock 1 crtc0\nT lock 1 crtc1\nT lock 1 plane0\nT lock 1 conn0\nT lock 1 conn1\nT swap 1\nT claim 0\nT write 0 crtc0\nT write 0 crtc1\nT write 0 plane0\nT flush 0 crtc0\nT flush 0 crtc1\nT hwdone 0\nT vblank crtc0\nT vblank crtc1\nT cleanup 0\nT return 1\nT begin 1\nT lock 1 plane0\nT lock 1 crtc0\nT swap 1\nT begin 2\nT lock 2 plane0\nT lock 2 crtc1\nT swap 2\n"
@@ -109,7 +109,7 @@ each_refusal_has_its_place = refl
 
 -- one client lights the CRTC with a framebuffer that another closes while the first takes its locks
 abbrev closing_script : List ℕ
-closing_script = head ++ codes "client\nmode m 1 1 1 1 1 0 1 1 1 1 0 60 0 0 tiny\n" ++ lights (codes "0x400") ++ codes "client\nbuffer b 1 1 XR24 solid 00616263\naddfb f b\nclosefb f\n"
+closing_script = head ++ codes "client\n" ++ mode_made ++ lights (codes "0x400") ++ codes "client\n" ++ pixel_made ++ codes "closefb f\n"
 
 abbrev closing_steps : List ℕ
 closing_steps = codes "schedule\nT make 2\nT make 2\nT make 1\nT begin 1\nT lock 1 crtc0\nT lock 1 plane0\nT lock 1 conn0\nT make 2\n"
@@ -150,7 +150,7 @@ event_is_read_and_framebuffer_is_freed = refl
 
 -- one commit over two CRTCs that asks for events
 abbrev event_script : List ℕ
-event_script = codes "kms 1\ncrtcs 2\nplane overlay 0,1 XR24\nconn 0\nconn 1\n" ++ made ++ codes "atomic 0x601 5 " ++ sets ++ codes " crtc1.ACTIVE=1 crtc1.MODE_ID=@m conn1.CRTC_ID=crtc1\nwait\nwait\n"
+event_script = head_of_two ++ made ++ codes "atomic 0x601 5 " ++ sets ++ codes " crtc1.ACTIVE=1 crtc1.MODE_ID=@m conn1.CRTC_ID=crtc1\nwait\nwait\n"
 
 abbrev event_steps : List ℕ
 event_steps = codes "schedule\nT make 1\nT make 1\nT make 1\nT begin 1\nT lock 1 crtc0\nT lock 1 crtc1\nT lock 1 plane0\nT lock 1 conn0\nT lock 1 conn1\nT swap 1\nT claim 0\nT write 0 crtc0\nT write 0 crtc1\nT write 0 plane0\nT flush 0 crtc0\nT flush 0 crtc1\nT hwdone 0\n"

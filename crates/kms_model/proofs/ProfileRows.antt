@@ -28,7 +28,7 @@ use Rattle.kms_model.proofs.OneThread.{replies}
 use Rattle.kms_model.proofs.OnLiterals.{on_literals}
 use Rattle.kms_model.proofs.OnMachines.{on_machines}
 use Rattle.kms_model.proofs.OnScripts.{on_scripts}
-use Rattle.kms_model.proofs.Rows.{device, tiny}
+use Rattle.kms_model.proofs.Rows.{device, named_tiny}
 use Rattle.kms_model.proofs.VerdictRows.{crtc_sets, light, number, refused, request, sets, three_made}
 
 -- one CRTC, one primary plane and one connector, of a profile
@@ -126,7 +126,7 @@ shorter_blob_is_no_table = refl
 
 -- a framebuffer of one pixel, a mode and a blob, under the labels 1 to 3, and a request that shows them
 abbrev made_with_table : List ℕ → List Command
-made_with_table bytes = command.Buffer 0 1 1 Xr24 (Solid 0x00616263) ∷ command.AddFb 1 0 ∷ command.Mode 2 tiny ∷ command.Blob 3 bytes ∷ []
+made_with_table bytes = command.Buffer 0 1 1 Xr24 (Solid 0x00616263) ∷ command.AddFb 1 0 ∷ command.Mode 2 named_tiny ∷ command.Blob 3 bytes ∷ []
 
 abbrev sets_table : Assign
 sets_table = sets kind.Crtc 0 GAMMA_LUT (value.Named 3)

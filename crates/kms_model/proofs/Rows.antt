@@ -24,8 +24,8 @@ use Rattle.kms_model.proofs.OnScripts.{on_scripts}
 abbrev pub device : Topology
 device = record { profile = 1; crtcs = 1; planes = record { kind = 1; crtcs = 1; formats = 1 } ∷ []; conns = 1 ∷ [] }
 
-abbrev pub tiny : Mode
-tiny = plain_mode 1 1 1 (codes "tiny" ++ replicate 28 0)
+abbrev pub named_tiny : Mode
+named_tiny = plain_mode 1 1 1 (codes "tiny" ++ replicate 28 0)
 
 abbrev sets : ℕ → List Assign
 sets plane =
@@ -44,7 +44,7 @@ abbrev commands : ℕ → ℕ → List Command
 commands flags plane =
     command.Buffer 0 1 1 Xr24 (Solid 0x00616263)
     ∷ command.AddFb 1 0
-    ∷ command.Mode 2 tiny
+    ∷ command.Mode 2 named_tiny
     ∷ command.Atomic (record { flags = flags; user_data = 0; assigns = sets plane })
     ∷ []
 
@@ -54,8 +54,18 @@ script flags plane = record { version = 1; topology = device; names = codes "b" 
 abbrev pub head : List ℕ
 head = codes "kms 1\ncrtcs 1\nplane primary 0 XR24\nconn 0\n"
 
+-- two CRTCs, a plane that may go on both, and a connector of each
+abbrev pub head_of_two : List ℕ
+head_of_two = codes "kms 1\ncrtcs 2\nplane overlay 0,1 XR24\nconn 0\nconn 1\n"
+
+abbrev pub pixel_made : List ℕ
+pixel_made = codes "buffer b 1 1 XR24 solid 00616263\naddfb f b\n"
+
+abbrev pub mode_made : List ℕ
+mode_made = codes "mode m 1 1 1 1 1 0 1 1 1 1 0 60 0 0 tiny\n"
+
 abbrev pub made : List ℕ
-made = codes "client\nbuffer b 1 1 XR24 solid 00616263\naddfb f b\nmode m 1 1 1 1 1 0 1 1 1 1 0 60 0 0 tiny\n"
+made = codes "client\n" ++ pixel_made ++ mode_made
 
 -- the text of the first script
 pub first_script_is_read : input (head ++ made ++ codes "atomic 0x400 0 crtc0.ACTIVE=1 crtc0.MODE_ID=@m conn0.CRTC_ID=crtc0 plane0.FB_ID=@f plane0.CRTC_ID=crtc0 plane0.CRTC_W=1 plane0.CRTC_H=1 plane0.SRC_W=65536 plane0.SRC_H=65536\n") ≡ Ok (script 0x400 0)

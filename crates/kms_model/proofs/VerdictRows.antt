@@ -26,7 +26,7 @@ use Rattle.kms_model.proofs.MachineInputs.{pixmaps, plain, report_of_script}
 use Rattle.kms_model.proofs.OneThread.{replies}
 use Rattle.kms_model.proofs.OnLiterals.{on_literals}
 use Rattle.kms_model.proofs.OnMachines.{on_machines}
-use Rattle.kms_model.proofs.Rows.{device, tiny}
+use Rattle.kms_model.proofs.Rows.{device, named_tiny}
 
 abbrev pub refused : Refusal → Reply
 refused r = reply.Refused r
@@ -42,7 +42,7 @@ number n = value.Num (pos n)
 
 -- a buffer, a framebuffer and a mode, under the labels 0, 1 and 2
 abbrev made_with : ℕ → Format → List Command
-made_with width format = command.Buffer 0 width 1 format (Solid 0) ∷ command.AddFb 1 0 ∷ command.Mode 2 tiny ∷ []
+made_with width format = command.Buffer 0 width 1 format (Solid 0) ∷ command.AddFb 1 0 ∷ command.Mode 2 named_tiny ∷ []
 
 abbrev made : List Command
 made = made_with 1 Xr24
@@ -152,7 +152,7 @@ unfolding on_literals
 modeset_without_leave = refl
 
 -- an equal mode in another blob is no modeset
-pub equal_mode_needs_no_leave : replies device ((made ++ request ALLOW_MODESET light ∷ command.Mode 3 tiny ∷ request 0x0 (sets kind.Crtc 0 MODE_ID (value.Named 3) ∷ []) ∷ []) ∷ []) ≡ three_made ++ reply.Commit 0 ∷ reply.Made 1003 ∷ reply.Commit 1 ∷ []
+pub equal_mode_needs_no_leave : replies device ((made ++ request ALLOW_MODESET light ∷ command.Mode 3 named_tiny ∷ request 0x0 (sets kind.Crtc 0 MODE_ID (value.Named 3) ∷ []) ∷ []) ∷ []) ≡ three_made ++ reply.Commit 0 ∷ reply.Made 1003 ∷ reply.Commit 1 ∷ []
 unfolding on_literals
 equal_mode_needs_no_leave = refl
 
@@ -227,7 +227,7 @@ unfolding on_literals
 out_fence_is_made_by_its_commit = refl
 
 -- the bytes of a legal mode are a mode, and other bytes are none
-pub mode_by_its_bytes : replies device ((command.Blob 2 (mode_bytes tiny) ∷ command.Blob 3 (0 ∷ []) ∷ request ALLOW_MODESET (sets kind.Crtc 0 MODE_ID (value.Named 2) ∷ sets kind.Conn 0 CRTC_ID (value.Crtc 0) ∷ []) ∷ request ALLOW_MODESET (sets kind.Crtc 0 MODE_ID (value.Named 3) ∷ []) ∷ []) ∷ [])
+pub mode_by_its_bytes : replies device ((command.Blob 2 (mode_bytes named_tiny) ∷ command.Blob 3 (0 ∷ []) ∷ request ALLOW_MODESET (sets kind.Crtc 0 MODE_ID (value.Named 2) ∷ sets kind.Conn 0 CRTC_ID (value.Crtc 0) ∷ []) ∷ request ALLOW_MODESET (sets kind.Crtc 0 MODE_ID (value.Named 3) ∷ []) ∷ []) ∷ [])
     ≡ reply.Made 1000 ∷ reply.Made 1001 ∷ reply.Commit 0 ∷ refused refusal.INVALID_VALUE ∷ []
 unfolding on_literals
 mode_by_its_bytes = refl

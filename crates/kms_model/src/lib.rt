@@ -35,8 +35,8 @@ pub use masks::has_bit;
 pub use numbered::{command_of, request_of};
 pub use objects::{
     FIRST_CONNECTOR_ID, FIRST_CRTC_ID, FIRST_ENCODER_ID, FIRST_PLANE_ID, FIRST_THING_ID, Format,
-    Gamma, Kind, MAX_CLIENTS, MAX_CONNECTORS, MAX_CRTCS, MAX_PLANES, Mode, ObjId, PlaneInfo,
-    Ticket, Topology,
+    Gamma, Kind, MAX_CLIENTS, MAX_CONNECTORS, MAX_CRTCS, MAX_LOCKABLE, MAX_PLANES, Mode, ObjId,
+    PlaneInfo, Ticket, Topology,
 };
 pub use pictures::{Colour, FbInfo, Layer, Picture, Rect, Shown};
 pub use ranges::Range;

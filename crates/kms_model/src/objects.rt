@@ -15,6 +15,9 @@ pub const MAX_PLANES: u32 = 16;
 /// The most connectors of a device.
 pub const MAX_CONNECTORS: u32 = 8;
 
+/// The most objects of a device that have a lock and that a commit can touch, a count: CRTCs, planes and connectors.
+pub const MAX_LOCKABLE: u32 = MAX_CRTCS + MAX_PLANES + MAX_CONNECTORS;
+
 /// The most clients of a script. They are counted from 1.
 pub const MAX_CLIENTS: u32 = 16;
 

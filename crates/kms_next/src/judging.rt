@@ -22,13 +22,13 @@ use crate::judgement::Judged;
 use crate::lookers::{Ever, Now};
 use kms_clients::Clients;
 use kms_model::{
-    Checked, Command, Doing, Kind, Mask, NoMemory, ObjId, Reply, Request, Resolved, Topology,
-    command_of, has_bit,
+    Checked, Command, Doing, Kind, MAX_LOCKABLE, Mask, NoMemory, ObjId, Reply, Request, Resolved,
+    Topology, command_of, has_bit,
 };
 use kms_props::is_test;
 use kms_request::{RequestError, changed, early, exists, full_check, reach, resolve, spans};
 use kms_stores::{Stores, late_reply, lookups};
-use kms_track::{OBJECTS, has_object, object_at_place};
+use kms_track::{has_object, object_at_place};
 use std::alloc::Global;
 
 /// Whether a client, by its number from 1, may ask for the object of a kind with an index: it takes locks for a request
@@ -200,7 +200,7 @@ fn holds_all(clients: &Clients, client: u32, objects: &Mask) -> bool
         → result ≡ all_below (held_at m client objects.now) 28 }
 {
     let mut held = true;
-    for place in 0..OBJECTS {
+    for place in 0..MAX_LOCKABLE {
         held = held && holds_at(clients, client, objects, place);
     }
     held

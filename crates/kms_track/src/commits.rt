@@ -3,8 +3,8 @@ ghost use Rattle.std.specs.Prelude.{◌≡◌, ℕ, ◌<◌, ◌≤◌, length, 
 ghost use Rattle.kms_track.specs.Places.{mask_has};
 ghost use Rattle.kms_track.specs.Tracking.{pending_flipped, latched_at, is_fence_signalled, all_signalled, fence_ids, touched_at, no_last, raised};
 
-use crate::places::{OBJECTS, Sides, has_object, sides_at};
-use kms_model::{Checked, Kind, Mask, ObjId};
+use crate::places::{Sides, has_object, sides_at};
+use kms_model::{Checked, Kind, MAX_LOCKABLE, Mask, ObjId};
 use kms_signal::Fences;
 
 /// The last two commits that touched an object.
@@ -109,7 +109,7 @@ pub(crate) fn touched_objects(last: &[Last; 28], checked: &Checked) -> [Option<T
     ensures { (p : ℕ) → p < 28 → slice_index_or result p None ≡ touched_at last.now checked.now p }
 {
     let mut touched = [None; 28];
-    for place in 0..OBJECTS {
+    for place in 0..MAX_LOCKABLE {
         touched[place as usize] = touched_object(last, checked, place);
     }
     touched
@@ -146,7 +146,7 @@ pub(crate) fn raise(last: &mut [Last; 28], touched: &Mask, commit: u32)
     ensures { (p : ℕ) → p < 28 → slice_index_or last.new p no_last
         ≡ raised (slice_index_or last.old p no_last) (mask_has touched.now p) commit }
 {
-    for place in 0..OBJECTS {
+    for place in 0..MAX_LOCKABLE {
         let i = place as usize;
         last[i] = last[i].raised(has_object(touched, place), commit);
     }

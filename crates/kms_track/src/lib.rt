@@ -20,5 +20,5 @@ mod tracker;
 
 pub use commits::{Last, Pending, Touched};
 pub use law::{answers_as_the_machine, answers_what_it_was_told, follows_the_machine};
-pub use places::{OBJECTS, Sides, has_object, object_at_place};
+pub use places::{Sides, has_object, object_at_place};
 pub use tracker::Tracker;

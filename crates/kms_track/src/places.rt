@@ -4,9 +4,6 @@ ghost use Rattle.kms_track.specs.Places.{object_at_place, mask_has, sides_at};
 
 use kms_model::{Duplicates, Kind, MAX_CRTCS, MAX_PLANES, Mask, ObjId, has_bit};
 
-/// How many objects a commit can touch, a count: 4 CRTCs, then 16 planes, then 8 connectors.
-pub const OBJECTS: u32 = 28;
-
 /// The place of the first connector.
 const FIRST_CONNECTOR_PLACE: u32 = MAX_CRTCS + MAX_PLANES;
 

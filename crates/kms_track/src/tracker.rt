@@ -3,8 +3,8 @@ ghost use Rattle.std.specs.Prelude.{◌≡◌, ℕ, ◌<◌, ◌≤◌, ◌+◌,
 ghost use Rattle.kms_model.specs.Stores.Tables.{without_id};
 
 use crate::commits::{Last, Pending, Touched, all_fences, raise, touched_objects};
-use crate::places::{OBJECTS, has_object, object_at_place};
-use kms_model::{Checked, MAX_CRTCS, Mask, NoMemory, ObjId, Seq, has_bit};
+use crate::places::{has_object, object_at_place};
+use kms_model::{Checked, MAX_CRTCS, MAX_LOCKABLE, Mask, NoMemory, ObjId, Seq, has_bit};
 use kms_signal::{Fences, RoomTable};
 use std::alloc::Global;
 use std::marker::Model;
@@ -190,7 +190,7 @@ impl Tracker {
     pub fn busy(&self, objects: &Mask) -> Option<(ObjId, u32)>
         ensures { result ≡ busy_of self.now objects.now }
     {
-        for place in 0..OBJECTS {
+        for place in 0..MAX_LOCKABLE {
             if let Some(commit) = self.busy_at(objects, place) {
                 return Some((object_at_place(place), commit));
             }
@@ -291,7 +291,7 @@ impl Tracker {
     fn is_settled(&self, pending: &Pending) -> bool
         ensures { result ≡ all_settled self.now pending.now.touched }
     {
-        for place in 0..OBJECTS {
+        for place in 0..MAX_LOCKABLE {
             if !self.is_settled_at(pending.touched[place as usize], place) {
                 return false;
             }

@@ -3,10 +3,10 @@ ghost use Rattle.std.specs.Prelude.{◌≡◌, ◌<◌, map};
 ghost use Rattle.kms_wwlock.specs.Objects.{IsLockable, lock_place, locks_before};
 ghost use Rattle.kms_wwlock.specs.Calls.{holder_without};
 
-use kms_model::{Kind, MAX_CONNECTORS, MAX_CRTCS, MAX_PLANES, ObjId, Ticket};
+use kms_model::{Kind, MAX_CRTCS, MAX_LOCKABLE, MAX_PLANES, ObjId, Ticket};
 
-/// How many objects can have a lock: 4 CRTCs, 16 planes and 8 connectors.
-pub const LOCKABLE: usize = (MAX_CRTCS + MAX_PLANES + MAX_CONNECTORS) as usize;
+/// How many objects can have a lock, a count.
+pub const LOCKABLE: usize = MAX_LOCKABLE as usize;
 
 /// How many objects that can have a lock come before those of a kind.
 fn locks_before(kind: Kind) -> u32
@@ -16,7 +16,7 @@ fn locks_before(kind: Kind) -> u32
         Kind::Crtc => 0,
         Kind::Plane => MAX_CRTCS,
         Kind::Conn => MAX_CRTCS + MAX_PLANES,
-        Kind::Enc => MAX_CRTCS + MAX_PLANES + MAX_CONNECTORS,
+        Kind::Enc => MAX_LOCKABLE,
     }
 }
 

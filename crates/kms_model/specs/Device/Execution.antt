@@ -83,7 +83,7 @@ abbrev pub all_bytes : List Thing → ℕ
 all_bytes [] = 0
 all_bytes (t ∷ ts) = buffer_bytes t.content + all_bytes ts
 
--- What is wrong with a new buffer: 31, a side is 0 or above 4096; 32, the bytes of all buffers would pass 268435456.
+-- What is wrong with a new buffer: a side is 0 or above 4096; the bytes of all buffers would pass 268435456.
 abbrev pub new_buffer_refusal : List Thing → ℕ → ℕ → Format → Option ℕ
 new_buffer_refusal things width height format =
     or_else (denied_if INVALID_SIZE (is_bad_size width height))
@@ -113,19 +113,19 @@ is_made_fence (content.Framebuffer info buffer) = false
 is_made_fence (content.Mode m) = false
 is_made_fence (content.Blob bytes) = false
 
--- What is wrong with destroying a thing: 33, it is no open blob; 34, it is another client's.
+-- What is wrong with destroying a thing: it is no open blob; it is another client's.
 abbrev pub destroy_refusal : ℕ → Option Thing → Option ℕ
 destroy_refusal client None = Some NOT_FOUND.0
 destroy_refusal client (Some t) =
     or_else (denied_if NOT_FOUND (not (is_blob t.content && t.is_open)))
     (denied_if NOT_OWNER (not (t.owner == client)))
 
--- What is wrong with closing a thing: 33, it is no open framebuffer of this client.
+-- What is wrong with closing a thing: it is no open framebuffer of this client.
 abbrev pub close_refusal : ℕ → Option Thing → Option ℕ
 close_refusal client None = Some NOT_FOUND.0
 close_refusal client (Some t) = denied_if NOT_FOUND (not (is_framebuffer t.content && (t.is_open && (t.owner == client))))
 
--- What is wrong with signalling a thing: 35, it is no fence that a `fence` command made.
+-- What is wrong with signalling a thing: it is no fence that a `fence` command made.
 abbrev pub signal_refusal : Option Thing → Option ℕ
 signal_refusal None = Some NOT_SIGNALLABLE.0
 signal_refusal (Some t) = denied_if NOT_SIGNALLABLE (not (is_made_fence t.content))

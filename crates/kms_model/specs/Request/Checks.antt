@@ -39,9 +39,9 @@ is_beyond dst = int_lt (pos 2147483647) (dst.x +ℤ dst.w) || int_lt (pos 214748
 abbrev pub switches_crtc : ℕ → ℕ → Bool
 switches_crtc old new = not (old == 0) && (not (new == 0) && not (old == new))
 
--- What is wrong with a plane that has a framebuffer and a CRTC: 11, the CRTC is not among its possible ones; 12, the
--- format is not among its formats; 13, the destination ends beyond 2147483647; 14, the source ends outside the
--- framebuffer; 15, it goes from one CRTC straight to another.
+-- What is wrong with a plane that has a framebuffer and a CRTC: the CRTC is not among its possible ones; the format is
+-- not among its formats; the destination ends beyond 2147483647; the source ends outside the framebuffer; it goes from
+-- one CRTC straight to another.
 abbrev pub placed_refusal : PlaneInfo → FbInfo → PlaneState → PlaneState → Option ℕ
 placed_refusal info fb old new =
     or_else (refused_if CRTC_NOT_POSSIBLE (not (has_crtc info.crtcs new.crtc)))
@@ -61,14 +61,14 @@ plane_refusal_with info old new (Some fb) false = placed_refusal info fb old new
 unfoldable pub plane_refusal : PlaneInfo → PlaneState → PlaneState → Option ℕ
 plane_refusal info old new = plane_refusal_with info old new new.fb (new.crtc == 0)
 
--- What is wrong with a CRTC: 16, it is on without a mode; 17, an event or an out-fence is asked for it, and it was off
--- and stays off.
+-- What is wrong with a CRTC: it is on without a mode; an event or an out-fence is asked for it, and it was off and stays
+-- off.
 abbrev pub crtc_refusal : Bool → Bool → Bool → Option Mode → Option ℕ
 crtc_refusal asks was_on is_active mode =
     or_else (refused_if ACTIVE_WITHOUT_MODE (is_active && is_none mode))
     (refused_if SIGNAL_WHILE_OFF (asks && (not was_on && not is_active)))
 
--- What is wrong with a connector of possible CRTCs: 18, its CRTC is not among them.
+-- What is wrong with a connector of possible CRTCs: its CRTC is not among them.
 abbrev pub conn_refusal : ℕ → ℕ → Option ℕ
 conn_refusal possible crtc = refused_if CONNECTOR_NOT_POSSIBLE (not (crtc == 0) && not (has_crtc possible crtc))
 
@@ -89,8 +89,8 @@ has_sizes profile src dst = if profile == 1 then is_unscaled src dst else is_sca
 abbrev pub has_start : ℕ → Rect → Bool
 has_start profile src = not (profile == 1) || (is_whole src.x && is_whole src.y)
 
--- What is wrong with a plane on a CRTC of a mode, on a device of a profile: 21, the CRTC is not enabled; 22, the sizes of
--- source and destination; 23, where the source begins.
+-- What is wrong with a plane on a CRTC of a mode, on a device of a profile: the CRTC is not enabled; the sizes of source
+-- and destination; where the source begins.
 unfoldable pub shown_refusal : ℕ → Option Mode → PlaneState → Option ℕ
 shown_refusal profile mode s =
     if s.crtc == 0 then None

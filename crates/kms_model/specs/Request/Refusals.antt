@@ -25,8 +25,7 @@ use Rattle.kms_model.specs.Device.Objects.{exists}
 use Rattle.kms_model.specs.Device.Properties.{Property, property, property_in, same_kind, are_flags}
 use Rattle.kms_model.specs.Request.Apply.{object_of, prop_of}
 
--- what is wrong with the flags: 1, there is another bit; 2, PAGE_FLIP_ASYNC is set; 3, TEST_ONLY and PAGE_FLIP_EVENT
--- are set
+-- what is wrong with the flags: there is another bit; PAGE_FLIP_ASYNC is set; TEST_ONLY and PAGE_FLIP_EVENT are set
 abbrev pub flags_refusal : ℕ → Option ℕ
 flags_refusal flags =
     or_else (refused_if UNKNOWN_FLAG (not (are_flags flags)))
