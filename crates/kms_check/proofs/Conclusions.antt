@@ -5,6 +5,7 @@ use Rattle.std.specs.List.{list_any, filter_map}
 use Rattle.std.specs.Option.{option_map}
 use Rattle.std.proofs.lemmas.Bool.{and_parts, eqb-true, eq-eqb, or_right, or_cases, both_ways, cases_Bool, false_from_ne_true, true_from_ne_false}
 use Rattle.std.proofs.lemmas.List.{length-map}
+use Rattle.kms_model.specs.Device.Places.{state_at}
 use Rattle.kms_model.specs.declared.objects.Kind.{Kind}
 use Rattle.kms_model.specs.declared.objects.Kind.TheVariants as kind
 use Rattle.kms_model.specs.declared.objects.ObjId.{ObjId}
@@ -21,7 +22,7 @@ use Rattle.kms_model.specs.declared.worlds.World.{World}
 use Rattle.kms_model.specs.Request.Apply.{object_of}
 use Rattle.kms_model.specs.Request.Checks.{late_refusal}
 use Rattle.kms_model.specs.Firsts.{or_else}
-use Rattle.kms_model.specs.Request.Late.{duplicate_at, late_of_states}
+use Rattle.kms_model.specs.Request.Late.{late_of_states}
 use Rattle.kms_model.specs.Request.Lookups.{look_up}
 use Rattle.kms_model.specs.Device.Masks.{has_bit}
 use Rattle.kms_model.specs.Request.Named.{is_routed, is_named_by, names, moves_on, needs_modeset}
@@ -37,7 +38,7 @@ use Rattle.kms_model.proofs.LateLemmas.{StandAt, Covers, fenced_set, late_of_sta
 use Rattle.kms_model.proofs.MaskLemmas.{has_bit-below, same_masks}
 use Rattle.kms_model.proofs.TouchedLemmas.{IsRequestAt, after, accepted-each, kind_of_object, few_objects, touches, touches_object, crtc_at-unset, untouched-modeset}
 use Rattle.kms_request.specs.Naming as naming
-use Rattle.kms_state.specs.Places.{old_states, olds, state_at}
+use Rattle.kms_state.specs.Places.{old_states, olds}
 use Rattle.kms_state.proofs.Slots.{AgreesOld-same, there_old}
 use Rattle.kms_model.specs.Request.Deciding.{IsOfRequest, AreFresh, IsAskedFor}
 use Rattle.kms_check.specs.Applying.{set_all, SetsAll}
@@ -62,7 +63,7 @@ applied t w r resolved d d' is fresh sets_all same = record {
       (sets_all t w.things w.values (number_in (after w r)) (numbered t w r resolved d is) (fresh-agrees t w r resolved d is fresh));
 }
 
-there-same : {S : Type 0} (xs ys : List (Option (Both S))) (i : ℕ) → olds xs ≡ olds ys → is_some (duplicate_at xs i) ≡ is_some (duplicate_at ys i)
+there-same : {S : Type 0} (xs ys : List (Option (Both S))) (i : ℕ) → olds xs ≡ olds ys → is_some (state_at xs i) ≡ is_some (state_at ys i)
 there-same {S} xs ys i same = there_old xs i ∙ ap (λ (zs : List (Option S)). is_some (state_at zs i)) same ∙ sym (there_old ys i)
 
 length-same : {S : Type 0} (xs ys : List (Option (Both S))) → olds xs ≡ olds ys → length xs ≡ length ys
@@ -81,7 +82,7 @@ none-some None = refl
 none-some (Some x) = refl
 
 missing_in-same : {S : Type 0} (mask : ℕ) (xs ys : List (Option (Both S))) (n : ℕ) → olds xs ≡ olds ys → missing_in mask xs n ≡ missing_in mask ys n
-missing_in-same mask xs ys n same = same_masks _ _ n (λ i h. ap (λ b. has_bit mask i && b) (none-some (duplicate_at xs i) ∙ ap not (there-same xs ys i same) ∙ sym (none-some (duplicate_at ys i))))
+missing_in-same mask xs ys n same = same_masks _ _ n (λ i h. ap (λ b. has_bit mask i && b) (none-some (state_at xs i) ∙ ap not (there-same xs ys i same) ∙ sym (none-some (state_at ys i))))
 
 -- what is not_duplicated of a set does not change as sets are applied
 pub lacking-same : (d d' : Duplicates) (m : Mask) → HasRoom d → HasRoom d' → old_states d' ≡ old_states d → lacking d' m ≡ lacking d m
@@ -140,7 +141,7 @@ pub covers-touched : (t : Topology) (w : World) (r : Request) (d : Duplicates) �
     → Covers t w r d (touched_set t w.things w.values (after w r) r.assigns)
 covers-touched t w r d at room set named affected =
     let few = few_objects t at.device in
-    let crtc_there : (i : ℕ) → i < count_of t kind.Crtc → touches w r (object_id kind.Crtc i) ≡ true → is_some (duplicate_at d.crtcs i) ≡ true = λ i within touched. elim (or_cases (sets r.assigns (object_id kind.Crtc i)) (names w.values (after w r) r.assigns (object_id kind.Crtc i)) touched) [
+    let crtc_there : (i : ℕ) → i < count_of t kind.Crtc → touches w r (object_id kind.Crtc i) ≡ true → is_some (state_at d.crtcs i) ≡ true = λ i within touched. elim (or_cases (sets r.assigns (object_id kind.Crtc i)) (names w.values (after w r) r.assigns (object_id kind.Crtc i)) touched) [
       | inl is_set ↦ set.crtcs i (omega (arith, room.crtcs, few.crtcs)) (group-bit t kind.Crtc (sets r.assigns) i within is_set)
       | inr is_named ↦ named.crtcs i (omega (arith, room.crtcs, few.crtcs)) (group-bit t kind.Crtc (names w.values (after w r) r.assigns) i within is_named)
     ] in
@@ -162,7 +163,7 @@ covers-touched t w r d at room set named affected =
 
 -- a named CRTC is duplicated
 pub named-there : (t : Topology) (w : World) (r : Request) (d : Duplicates) → IsRequestAt t w r → HasRoom d → IsCovered d (named_group t w r)
-    → (i : ℕ) → i < t.crtcs → names w.values (after w r) r.assigns (object_id kind.Crtc i) ≡ true → is_some (duplicate_at d.crtcs i) ≡ true
+    → (i : ℕ) → i < t.crtcs → names w.values (after w r) r.assigns (object_id kind.Crtc i) ≡ true → is_some (state_at d.crtcs i) ≡ true
 named-there t w r d at room named i within is =
     let few = few_objects t at.device in
     named.crtcs i (omega (arith, room.crtcs, few.crtcs)) (group-bit t kind.Crtc (names w.values (after w r) r.assigns) i within is)

@@ -6,6 +6,7 @@ use Rattle.std.specs.List.{list_all, range_with_len}
 use Rattle.std.proofs.lemmas.Bool.{and_from, and_parts, cases_Bool, false≢true, ltb-true}
 use Rattle.std.proofs.lemmas.Bool.Decides.{nat_tests}
 use Rattle.std.proofs.lemmas.Int.{ints}
+use Rattle.kms_model.specs.Device.Places.{state_at}
 use Rattle.kms_model.specs.declared.objects.Kind.TheVariants.{Crtc, Plane}
 use Rattle.kms_model.specs.declared.objects.Topology.{Topology}
 use Rattle.kms_model.specs.declared.states.Both.{Both}
@@ -21,7 +22,6 @@ use Rattle.kms_model.specs.Request.Agreement.{AgreesNew, crtc_state_at}
 use Rattle.kms_model.proofs.MaskLemmas.{has_bit-mask_below}
 use Rattle.kms_model.proofs.StateLemmas.{sound-plane_in_range}
 use Rattle.kms_model.proofs.TouchedLemmas.{HasFewObjects, few_objects}
-use Rattle.kms_state.specs.Places.{state_at}
 use Rattle.kms_state.proofs.Slots.{slot_at}
 use Rattle.kms_picture.specs.Covered.{FitsDuplicates, are_placeable, is_placeable, is_near, is_near_rect, is_near_plane, may_picture}
 

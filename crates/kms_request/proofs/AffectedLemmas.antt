@@ -6,6 +6,7 @@ use Rattle.std.specs.List.{list_any, range_with_len}
 use Rattle.std.proofs.lemmas.Bool.{and_left, and_right, or_left, or_right, or_cases, or_parts, or_from, both_ways, cases_Bool, cases_lt, lt-ltb, le-ltb, false_from_ne_true, false≢true}
 use Rattle.std.proofs.lemmas.List.Folds.{list_any-append}
 use Rattle.std.proofs.lemmas.List.FromFn.{map-range_with_len_more}
+use Rattle.kms_model.specs.Device.Places.{state_at}
 use Rattle.kms_model.specs.declared.objects.Kind.{Kind}
 use Rattle.kms_model.specs.declared.objects.Kind.TheVariants as kind
 use Rattle.kms_model.specs.declared.objects.Topology.{Topology}
@@ -17,7 +18,7 @@ use Rattle.kms_model.specs.declared.states.Mask.{Mask}
 use Rattle.kms_model.specs.declared.worlds.World.{World}
 use Rattle.kms_model.specs.Request.Agreement.{on_crtc, crtc_state_at}
 use Rattle.kms_model.specs.Request.Apply.{object_of}
-use Rattle.kms_model.specs.Request.Late.{duplicate_at, duplicate_in, needs_modeset_between}
+use Rattle.kms_model.specs.Request.Late.{duplicate_in, needs_modeset_between}
 use Rattle.kms_model.specs.Device.Masks.{has_bit, mask_below}
 use Rattle.kms_model.specs.Request.Named.{is_named_by, names, moves_on, needs_modeset}
 use Rattle.kms_model.specs.Device.Objects.{object_id, count_of, ids_of}
@@ -102,9 +103,9 @@ pub record IsPart (t : Topology) (k : Kind) (part : Mask → ℕ) (routed : Crtc
   pub of_values : (things : _) (values : _) (crtc : ℕ) → routed (crtc_state_at t things values crtc) ≡ on_crtc t values crtc k
 
 part-of_crtc : (t : Topology) (w : World) (r : Request) (d : Duplicates) (k : Kind) (part : Mask → ℕ) (routed : CrtcState → ℕ) (c : ℕ) → StandAt t w r d → IsPart t k part routed
-    → ((i : ℕ) → i < t.crtcs → names w.values (after w r) r.assigns (object_id kind.Crtc i) ≡ true → is_some (duplicate_at d.crtcs i) ≡ true)
+    → ((i : ℕ) → i < t.crtcs → names w.values (after w r) r.assigns (object_id kind.Crtc i) ≡ true → is_some (state_at d.crtcs i) ≡ true)
     → part (affected_with (duplicate_in (named_set t w.values (after w r) r.assigns) d.crtcs c)) ≡ mask_below (affects t w r k c) (count_of t k)
-part-of_crtc t w r d k part routed c stand is there = go (has_bit named c) refl (duplicate_at d.crtcs c) refl
+part-of_crtc t w r d k part routed c stand is there = go (has_bit named c) refl (state_at d.crtcs c) refl
   where
     named : ℕ
     named = named_set t w.values (after w r) r.assigns
@@ -133,14 +134,14 @@ part-of_crtc t w r d k part routed c stand is there = go (has_bit named c) refl 
         ∙ or_masks (λ i. crtc_at w.values (object_id k i) == object_id kind.Crtc c) (λ i. crtc_at (after w r) (object_id k i) == object_id kind.Crtc c) (count_of t k)
         ∙ same_masks _ _ (count_of t k) (λ i h. sym (rw (lt-ltb c t.crtcs within, need) refl))
 
-    go : (b : Bool) → has_bit (named_set t w.values (after w r) r.assigns) c ≡ b → (o : Option (Both CrtcState)) → duplicate_at d.crtcs c ≡ o → part (affected_with (if b then o else None)) ≡ mask_below (affects t w r k c) (count_of t k)
+    go : (b : Bool) → has_bit (named_set t w.values (after w r) r.assigns) c ≡ b → (o : Option (Both CrtcState)) → state_at d.crtcs c ≡ o → part (affected_with (if b then o else None)) ≡ mask_below (affects t w r k c) (count_of t k)
     go false out o at = is.none ∙ empty (λ i h. outside out i)
     go true member o at =
         let both = Rattle.std.proofs.lemmas.Bool.and_parts (nat_lt c t.crtcs) (names w.values (after w r) r.assigns (object_id kind.Crtc c)) (sym (named_bit t w r c) ∙ member) in
         let within : c < t.crtcs = Rattle.std.proofs.lemmas.Bool.ltb-true c t.crtcs both.0 in
         present o at within both.1
       where
-        present : (o : Option (Both CrtcState)) → duplicate_at d.crtcs c ≡ o → c < t.crtcs → names w.values (after w r) r.assigns (object_id kind.Crtc c) ≡ true → part (affected_with o) ≡ mask_below (affects t w r k c) (count_of t k)
+        present : (o : Option (Both CrtcState)) → state_at d.crtcs c ≡ o → c < t.crtcs → names w.values (after w r) r.assigns (object_id kind.Crtc c) ≡ true → part (affected_with o) ≡ mask_below (affects t w r k c) (count_of t k)
         present None at within named_there = absurd (false≢true (ap is_some (sym at) ∙ there c within named_there))
         present (Some s) at within named_there =
             let here = flatten-some (slice_get d.crtcs c) s at in
@@ -162,7 +163,7 @@ crtcs-none crtcs named (suc n) = ap (λ x. bit_or x (affected_with (duplicate_in
     one (Some s) = elim (cases_Bool (needs_modeset_between s)) [ inl is ↦ rw is refl | inr other ↦ rw other refl ]
 
 affected-kind : (t : Topology) (w : World) (r : Request) (d : Duplicates) (k : Kind) (part : Mask → ℕ) (routed : CrtcState → ℕ) → StandAt t w r d → IsPart t k part routed
-    → ((i : ℕ) → i < t.crtcs → names w.values (after w r) r.assigns (object_id kind.Crtc i) ≡ true → is_some (duplicate_at d.crtcs i) ≡ true)
+    → ((i : ℕ) → i < t.crtcs → names w.values (after w r) r.assigns (object_id kind.Crtc i) ≡ true → is_some (state_at d.crtcs i) ≡ true)
     → part (affected_below d.crtcs (named_set t w.values (after w r) r.assigns) 4) ≡ set_where t k (is_affected t w.things w.values (after w r))
 affected-kind t w r d k part routed stand is there =
     affected-part part is.none is.both d.crtcs (named_set t w.values (after w r) r.assigns) 4 (count_of t k) (affects t w r k) (λ c h. part-of_crtc t w r d k part routed c stand is there)
@@ -170,7 +171,7 @@ affected-kind t w r d k part routed stand is there =
 
 -- What the states of named CRTCs tell is what the request affects.
 pub affected-is : (t : Topology) (w : World) (r : Request) (d : Duplicates) → StandAt t w r d
-    → ((i : ℕ) → i < t.crtcs → names w.values (after w r) r.assigns (object_id kind.Crtc i) ≡ true → is_some (duplicate_at d.crtcs i) ≡ true)
+    → ((i : ℕ) → i < t.crtcs → names w.values (after w r) r.assigns (object_id kind.Crtc i) ≡ true → is_some (state_at d.crtcs i) ≡ true)
     → affected_below d.crtcs (named_set t w.values (after w r) r.assigns) 4 ≡ affected_group t w r
 affected-is t w r d stand there =
     mask_is _ _ (crtcs-none d.crtcs (named_set t w.values (after w r) r.assigns) 4) (affected-kind t w r d kind.Plane (λ m. m.planes) (λ s. s.planes) stand (planes_part t) there) (affected-kind t w r d kind.Conn (λ m. m.conns) (λ s. s.conns) stand (conns_part t) there)

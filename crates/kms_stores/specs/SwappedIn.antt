@@ -1,5 +1,6 @@
 -- The present states of a device's objects after a commit. From: drm_atomic_helper_swap_state.
 use Rattle.std.specs.Prelude.{◌≡◌, ℕ, ◌+◌, Bool, false, ◌==◌, List, [], ◌∷◌, length, Option, Some, None, slice_index_or, if◌then◌else◌}
+use Rattle.kms_model.specs.Device.Places.{alike}
 use Rattle.kms_model.specs.declared.objects.Kind.TheVariants.{Crtc}
 use Rattle.kms_model.specs.declared.objects.ObjId.{ObjId}
 use Rattle.kms_model.specs.declared.states.Both.{Both}
@@ -11,7 +12,6 @@ use Rattle.kms_model.specs.Device.World.{thing_labelled}
 use Rattle.kms_model.specs.Machine.Commits.{id_of_thing}
 use Rattle.kms_model.specs.Request.Flags.{wants_event}
 use Rattle.kms_model.specs.Stores.Tables.{slot}
-use Rattle.kms_things.specs.Starting.{alike}
 use Rattle.kms_stores.specs.Swaps.{count_in}
 
 -- the state of an object of the device: the new one where it was checked, else as it was
