@@ -6,7 +6,7 @@ use Rattle.kms_model.specs.declared.objects.ObjId.{ObjId}
 use Rattle.kms_model.specs.declared.objects.Ticket.{Ticket}
 use Rattle.kms_model.specs.declared.objects.Topology.{Topology}
 use Rattle.kms_model.specs.declared.replies.Step.{Step}
-use Rattle.kms_model.specs.declared.replies.Step.TheVariants.{Begin, Lock, Relock}
+use Rattle.kms_model.specs.declared.replies.Step.TheVariants.{Begin, Relock}
 use Rattle.kms_model.specs.declared.runs.Doing.TheVariants as doing
 use Rattle.kms_model.specs.declared.states.ObjState.{ObjState}
 use Rattle.kms_model.specs.Device.Objects.{first_id, index_of, kind_of}
