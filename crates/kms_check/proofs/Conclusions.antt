@@ -31,7 +31,7 @@ use Rattle.kms_model.specs.Request.Resolves.{IsResolved}
 use Rattle.kms_model.specs.Request.Sets.{obj_id, out_fences}
 use Rattle.kms_model.specs.Device.Sound.{IsDevice}
 use Rattle.kms_model.specs.Device.States.{crtc_at}
-use Rattle.kms_model.specs.Request.Touched.{sets, is_affected, named_set, set_where, touched_set, is_asked, out_fence_label}
+use Rattle.kms_model.specs.Request.Touched.{named_by, sets, is_affected, set_where, touched_by, is_asked, out_fence_label}
 use Rattle.kms_model.specs.Device.World.{value}
 use Rattle.kms_model.proofs.Items as items
 use Rattle.kms_model.proofs.LateLemmas.{StandAt, Covers, fenced_set, late_of_states-is}
@@ -138,7 +138,7 @@ group-test : (t : Topology) (k : Kind) (test : ℕ → Bool) (i : ℕ) → i < c
 group-test t k test i within member = sym (has_bit-below (λ j. test (object_id k j)) (count_of t k) i within) ∙ member
 
 pub covers-touched : (t : Topology) (w : World) (r : Request) (d : Duplicates) → IsRequestAt t w r → HasRoom d → IsCovered d (set_group t r) → IsCovered d (named_group t w r) → IsCovered d (affected_group t w r)
-    → Covers t w r d (touched_set t w.things w.values (after w r) r.assigns)
+    → Covers t w r d (touched_by t w r)
 covers-touched t w r d at room set named affected =
     let few = few_objects t at.device in
     let crtc_there : (i : ℕ) → i < count_of t kind.Crtc → touches w r (object_id kind.Crtc i) ≡ true → is_some (state_at d.crtcs i) ≡ true = λ i within touched. elim (or_cases (sets r.assigns (object_id kind.Crtc i)) (names w.values (after w r) r.assigns (object_id kind.Crtc i)) touched) [
@@ -249,10 +249,10 @@ pub record HasSets (t : Topology) (w : World) (r : Request) (resolved : Resolved
   pub none : lacking d (set_group t r) ≡ None
 
 pub named-known : (t : Topology) (w : World) (r : Request) (resolved : Resolved) (d : Duplicates) (named : ℕ) → HasSets t w r resolved d
-    → ((u : Topology) (v : World) (f : ℕ → Look) (q : Request) → naming.Covers u v f q resolved d → named ≡ named_set u v.values (after v q) q.assigns) → named ≡ named_set t w.values (after w r) r.assigns
+    → ((u : Topology) (v : World) (f : ℕ → Look) (q : Request) → naming.Covers u v f q resolved d → named ≡ named_by u v q) → named ≡ named_by t w r
 named-known t w r resolved d named has tells = tells t w (look_up w) r (named-covers t w r resolved d has.is has.room (covered d (set_group t r) has.none))
 
-pub named-lacking : (t : Topology) (w : World) (r : Request) (d : Duplicates) (named : ℕ) (crtcs : Mask) (found : Option Mask) → named ≡ named_set t w.values (after w r) r.assigns → crtcs ≡ record { crtcs = named; planes = 0; conns = 0 } → found ≡ lacking d crtcs
+pub named-lacking : (t : Topology) (w : World) (r : Request) (d : Duplicates) (named : ℕ) (crtcs : Mask) (found : Option Mask) → named ≡ named_by t w r → crtcs ≡ record { crtcs = named; planes = 0; conns = 0 } → found ≡ lacking d crtcs
     → lacking d (named_group t w r) ≡ found
 named-lacking t w r d named crtcs found known made lacks = ap (λ n. lacking d (record { crtcs = n; planes = 0; conns = 0 })) (sym known) ∙ ap (lacking d) (sym made) ∙ sym lacks
 
@@ -261,7 +261,7 @@ named-lacking t w r d named crtcs found known made lacks = ap (λ n. lacking d (
 pub record HasApplied (t : Topology) (w : World) (r : Request) (resolved : Resolved) (d d' : Duplicates) (named : ℕ) : Type 0 where
   pub has : HasSets t w r resolved d
   pub room : HasRoom d'
-  pub named_is : named ≡ named_set t w.values (after w r) r.assigns
+  pub named_is : named ≡ named_by t w r
   pub none : lacking d (named_group t w r) ≡ None
   pub stand : StandAt t w r d'
   pub same : old_states d' ≡ old_states d
@@ -279,7 +279,7 @@ affected-known t w r resolved d d' named affected has made =
     made ∙ ap (λ n. affected_below d'.crtcs n 4) has.named_is ∙ affected-is t w r d' has.stand (named-there t w r d' has.stand.at has.room covers_named)
 
 -- The states that are looked at cover what the request touches.
-pub all-covered : (t : Topology) (w : World) (r : Request) (resolved : Resolved) (d d' : Duplicates) (named : ℕ) → HasApplied t w r resolved d d' named → lacking d (affected_group t w r) ≡ None → Covers t w r d' (touched_set t w.things w.values (after w r) r.assigns)
+pub all-covered : (t : Topology) (w : World) (r : Request) (resolved : Resolved) (d d' : Duplicates) (named : ℕ) → HasApplied t w r resolved d d' named → lacking d (affected_group t w r) ≡ None → Covers t w r d' (touched_by t w r)
 all-covered t w r resolved d d' named has none =
     covers-touched t w r d' has.stand.at has.room
     (covered d' (set_group t r) (lacking-same d d' (set_group t r) has.has.room has.room has.same ∙ has.has.none))
@@ -288,11 +288,11 @@ all-covered t w r resolved d d' named has none =
 
 -- The first refusal that is found is that of the whole device.
 pub refusal-known : (t : Topology) (w : World) (r : Request) (resolved : Resolved) (d d' : Duplicates) (named fenced : ℕ) (touched : Mask) (fences : List (ObjId × ℕ)) (found : Option ℕ) → HasApplied t w r resolved d d' named → lacking d (affected_group t w r) ≡ None
-    → touched ≡ touched_set t w.things w.values (after w r) r.assigns → fences ≡ resolved.out_fences → fenced ≡ crtcs_fenced fences → found ≡ late_of_states t d' touched resolved.flags named fenced
+    → touched ≡ touched_by t w r → fences ≡ resolved.out_fences → fenced ≡ crtcs_fenced fences → found ≡ late_of_states t d' touched resolved.flags named fenced
     → found ≡ late_refusal t w.things w.values (after w r) r
 refusal-known t w r resolved d d' named fenced touched fences found has none touched_is read fenced_made found_is =
     let fenced_known : fenced ≡ fenced_set t r = fenced_made ∙ ap crtcs_fenced read ∙ fenced-is t w r resolved d has.has.is in
-    found_is ∙ ap (λ m. late_of_states t d' m resolved.flags named fenced) touched_is ∙ ap (λ n. late_of_states t d' (touched_set t w.things w.values (after w r) r.assigns) n named fenced) has.has.is.asks.flags
-    ∙ ap (λ n. late_of_states t d' (touched_set t w.things w.values (after w r) r.assigns) r.flags n fenced) has.named_is
-    ∙ ap (late_of_states t d' (touched_set t w.things w.values (after w r) r.assigns) r.flags (named_set t w.values (after w r) r.assigns)) fenced_known
-    ∙ late_of_states-is t w r d' (touched_set t w.things w.values (after w r) r.assigns) has.stand (all-covered t w r resolved d d' named has none)
+    found_is ∙ ap (λ m. late_of_states t d' m resolved.flags named fenced) touched_is ∙ ap (λ n. late_of_states t d' (touched_by t w r) n named fenced) has.has.is.asks.flags
+    ∙ ap (λ n. late_of_states t d' (touched_by t w r) r.flags n fenced) has.named_is
+    ∙ ap (late_of_states t d' (touched_by t w r) r.flags (named_by t w r)) fenced_known
+    ∙ late_of_states-is t w r d' (touched_by t w r) has.stand (all-covered t w r resolved d d' named has none)

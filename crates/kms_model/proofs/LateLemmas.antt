@@ -28,7 +28,7 @@ use Rattle.kms_model.specs.Device.Objects.{first_id, object_id, count_of, ids_of
 use Rattle.kms_model.specs.Device.World.{value}
 use Rattle.kms_model.specs.Device.States.{mode_at, crtc_at, plane_at}
 use Rattle.kms_model.specs.Request.Named.{names, differs, is_rerouted, needs_modeset}
-use Rattle.kms_model.specs.Request.Touched.{set_where, named_set, is_asked, out_fence_label}
+use Rattle.kms_model.specs.Request.Touched.{named_by, set_where, is_asked, out_fence_label}
 use Rattle.kms_model.specs.Request.Agreement.{on_crtc, crtc_state_at, AgreesOld, AgreesNew}
 use Rattle.kms_model.specs.Request.Checks.{with_ids, plane_refusal_at, crtc_refusal_at, conn_refusal_at, clone_refusal_at, route_refusal_at, shown_refusal, shown_refusal_at, late_refusal}
 use Rattle.kms_model.specs.Request.Late.{duplicate_in, members, plane_refusal_of, crtc_refusal_of, conn_refusal_of, clone_refusal_of, route_refusal_of, new_mode, shown_refusal_of, needs_modeset_between, needs_modeset_if, first_in, late_of_states}
@@ -187,12 +187,12 @@ abbrev pub fenced_set : Topology → Request → ℕ
 fenced_set t r = set_where t kind.Crtc (λ crtc. is_asked (out_fence_label r.assigns crtc))
 
 crtcs-same : (t : Topology) (w : World) (r : Request) (d : Duplicates) (objects : Mask) → StandAt t w r d → Covers t w r d objects
-    → first_in objects.crtcs d.crtcs (crtc_refusal_of r.flags (named_set t w.values (after w r) r.assigns) (fenced_set t r)) (count_of t kind.Crtc) ≡ first_some (crtc_refusal_at w.things w.values (after w r) r) (ids_of t kind.Crtc)
+    → first_in objects.crtcs d.crtcs (crtc_refusal_of r.flags (named_by t w r) (fenced_set t r)) (count_of t kind.Crtc) ≡ first_some (crtc_refusal_at w.things w.values (after w r) r) (ids_of t kind.Crtc)
 crtcs-same t w r d objects stand covers =
-    each_crtc-same t w r d objects (crtc_refusal_of r.flags (named_set t w.values (after w r) r.assigns) (fenced_set t r)) (crtc_refusal_at w.things w.values (after w r) r) stand covers
+    each_crtc-same t w r d objects (crtc_refusal_of r.flags (named_by t w r) (fenced_set t r)) (crtc_refusal_at w.things w.values (after w r) r) stand covers
     (λ crtc is untouched. untouched-crtc t w r crtc stand.at is untouched)
     (λ i both within old new.
-    let named : has_bit (named_set t w.values (after w r) r.assigns) i ≡ names w.values (after w r) r.assigns (object_id kind.Crtc i) = has_bit-below (λ j. names w.values (after w r) r.assigns (object_id kind.Crtc j)) (count_of t kind.Crtc) i within in
+    let named : has_bit (named_by t w r) i ≡ names w.values (after w r) r.assigns (object_id kind.Crtc i) = has_bit-below (λ j. names w.values (after w r) r.assigns (object_id kind.Crtc j)) (count_of t kind.Crtc) i within in
     let fenced : has_bit (fenced_set t r) i ≡ is_asked (out_fence_label r.assigns (object_id kind.Crtc i)) = has_bit-below (λ j. is_asked (out_fence_label r.assigns (object_id kind.Crtc j))) (count_of t kind.Crtc) i within in
     rw (old, new, named, fenced) refl)
 
@@ -315,7 +315,7 @@ modesets-same t w r d objects stand covers =
 -- The refusals of duplicated states are those of the values, where the set that is looked at covers what the request
 -- touches.
 pub late_of_states-is : (t : Topology) (w : World) (r : Request) (d : Duplicates) (objects : Mask) → StandAt t w r d → Covers t w r d objects
-    → late_of_states t d objects r.flags (named_set t w.values (after w r) r.assigns) (fenced_set t r) ≡ late_refusal t w.things w.values (after w r) r
+    → late_of_states t d objects r.flags (named_by t w r) (fenced_set t r) ≡ late_refusal t w.things w.values (after w r) r
 unfolding late_of_states late_refusal
 late_of_states-is t w r d objects stand covers =
     rw (
