@@ -1,5 +1,6 @@
 -- What calls on contexts ask for, and what they leave.
 use Rattle.std.proofs.Common.{◌≡◌, ◌≤◌, ◌-◌, Some, ℕ, ◌<◌, Bool, true, List, [], ◌∷◌, ◌++◌, refl, sym, ap, ◌∙◌, subst, arith}
+use Rattle.kms_model.specs.Order.Turns.{lock_step}
 use Rattle.kms_model.specs.declared.replies.Step.{Step}
 use Rattle.kms_model.specs.declared.replies.Step.TheVariants as step
 use Rattle.kms_model.specs.Machine.Effects.{next, begun}
@@ -38,7 +39,7 @@ use Rattle.kms_clients.specs.InStep.{after_lock, lock_answer}
 use Rattle.kms_wwlock.specs.declared.table.Lock.{Lock as TableLock}
 use Rattle.kms_wwlock.specs.declared.table.Lock.TheVariants as table
 use Rattle.kms_model.specs.declared.states.ObjState.{ObjState}
-use Rattle.kms_calls.specs.Locks.{MayBegin, MayLock, IsTaking, is_step, lock_step, lock_steps, locked_as, locked_answer, present_state}
+use Rattle.kms_calls.specs.Locks.{MayBegin, MayLock, IsTaking, is_step, lock_steps, locked_as, locked_answer, present_state}
 use Rattle.kms_calls.specs.States.{stored_state}
 use Rattle.kms_calls.proofs.Stored.{stored}
 use Rattle.kms_calls.specs.declared.contexts.Locked.{Locked}
@@ -154,18 +155,18 @@ locks_of r v st t id found stands same may has =
       goes_on = may.goes_on;
     }
 
-pub lock_legal : (r : Run) (id : ObjId) (client : ℕ) → Locks r id client → is_step (lock_answer (machine r) client (holder_at (machine r) id.0)) ≡ true → legal r.script (machine r) (lock_step client id) ≡ true
+pub lock_legal : (r : Run) (id : ObjId) (client : ℕ) → Locks r id client → is_step (lock_answer (machine r) client (holder_at (machine r) id.0)) ≡ true → legal r.script (machine r) (lock_step client id.0) ≡ true
 unfolding legal may may_lock
 lock_legal r id client L event =
     rw (L.goes_on, L.lockable, object_is id.0 L.is_id)
     (and_from _ (is_free_or_older (machine r) (ticket_of (doing_at (machine r) client)) (holder_at (machine r) id.0)) L.reached (free_or_older (machine r) client (holder_at (machine r) id.0) event))
 
 pub lock_goes_on : (r : Run) (st : Stores) (id : ObjId) (client : ℕ) (answer : TableLock) (clients : Standing) (before steps : List Step) → Stands r st → Locks r id client
-    → answer ≡ lock_answer (machine r) client (holder_at (machine r) id.0) → is_step answer ≡ true → before ≡ r.steps → steps ≡ before ++ lock_step client id ∷ []
+    → answer ≡ lock_answer (machine r) client (holder_at (machine r) id.0) → is_step answer ≡ true → before ≡ r.steps → steps ≡ before ++ lock_step client id.0 ∷ []
     → AreClientsOf (after_lock (machine r) client id.0 answer) clients → Stands (record { script = r.script; steps = steps }) (record st { clients = clients })
 unfolding next
 lock_goes_on r st id client answer clients before steps stands L told event is more now =
-    goes_on r st (record st { clients = clients }) (lock_step client id) refl refl steps (more ∙ ap (λ (xs : List Step). xs ++ lock_step client id ∷ []) is) stands (lock_legal r id client L (ap is_step (sym told) ∙ event))
+    goes_on r st (record st { clients = clients }) (lock_step client id.0) refl refl steps (more ∙ ap (λ (xs : List Step). xs ++ lock_step client id.0 ∷ []) is) stands (lock_legal r id client L (ap is_step (sym told) ∙ event))
     (rw (object_is id.0 L.is_id)
     (stands_beside r.script (machine r) (locked (machine r) client id.0 (holder_at (machine r) id.0)) st clients (same_locked (machine r) client id.0 (holder_at (machine r) id.0)) (rw (an_event (machine r) client id.0 answer event) at now) stands.stores))
 
@@ -185,7 +186,7 @@ lock_answered r v st t id found state answer stands same A L at told client taki
     (subst (λ (c : ℕ). locked_as state answer ≡ locked_answer r c id) one (rw (state_is, told) refl))
 
 -- the steps of an answer
-pub steps_of_lock : (client : ℕ) (id : ObjId) (state : ObjState) (answer : TableLock) (b : Bool) → is_step answer ≡ b → lock_steps client id (locked_as state answer) ≡ (if b then lock_step client id ∷ [] else [])
+pub steps_of_lock : (client : ℕ) (id : ObjId) (state : ObjState) (answer : TableLock) (b : Bool) → is_step answer ≡ b → lock_steps client id (locked_as state answer) ≡ (if b then lock_step client id.0 ∷ [] else [])
 steps_of_lock client id state table.Got b e = rw (← e) refl
 steps_of_lock client id state table.Own b e = rw (← e) refl
 steps_of_lock client id state (table.Older holder) b e = rw (← e) refl
@@ -193,9 +194,9 @@ steps_of_lock client id state (table.Younger holder) b e = rw (← e) refl
 
 -- the history after an answer that is an event
 pub lock_history : (r v : Run) (st : Stores) (t : Ticket) (id : ObjId) (found : ℕ) (state : ObjState) (answer : TableLock) (told : Locked) (before steps : List Step) → r ≡ v → Asks r st t id found
-    → told ≡ locked_as state answer → is_step answer ≡ true → before ≡ r.steps → steps ≡ before ++ lock_step found id ∷ []
+    → told ≡ locked_as state answer → is_step answer ≡ true → before ≡ r.steps → steps ≡ before ++ lock_step found id.0 ∷ []
     → (client : ℕ) → IsTaking v client t → record { script = r.script; steps = steps } ≡ gains v (lock_steps client id told)
 lock_history r v st t id found state answer told before steps same A is event was more client taking =
     let one = A.only client (subst (λ (w : Run). IsTaking w client t) (sym same) taking) in
-    let now : steps ≡ r.steps ++ lock_steps client id told = more ∙ ap (λ (xs : List Step). xs ++ lock_step found id ∷ []) was ∙ ap (λ (xs : List Step). r.steps ++ xs) (sym (steps_of_lock found id state answer true event) ∙ ap (lock_steps found id) (sym is) ∙ ap (λ c. lock_steps c id told) one) in
+    let now : steps ≡ r.steps ++ lock_steps client id told = more ∙ ap (λ (xs : List Step). xs ++ lock_step found id.0 ∷ []) was ∙ ap (λ (xs : List Step). r.steps ++ xs) (sym (steps_of_lock found id state answer true event) ∙ ap (lock_steps found id) (sym is) ∙ ap (λ c. lock_steps c id told) one) in
     subst (λ (w : Run). record { script = r.script; steps = steps } ≡ gains w (lock_steps client id told)) same (ap (λ (xs : List Step). let w : Run = record { script = r.script; steps = xs } in w) now)

@@ -7,6 +7,7 @@ use Rattle.std.proofs.Common.{◌++◌, inl, inr}
 use Rattle.std.specs.Prelude.{nat_lt}
 use Rattle.kms_model.proofs.Items.{IsIn, IsObject, ids-in}
 use Rattle.kms_model.proofs.TouchedLemmas.{HasFewObjects}
+use Rattle.kms_model.specs.Device.Places.{state_at}
 use Rattle.kms_model.specs.Machine.Commits.{lockable}
 use Rattle.kms_laws.proofs.Basics.{in_either}
 use Rattle.kms_laws.proofs.Objects.{crtc_kind, plane_kind, conn_kind}
@@ -23,7 +24,6 @@ use Rattle.kms_model.specs.Device.States.{plane_at}
 use Rattle.kms_model.specs.Machine.Steps.{is_lockable}
 use Rattle.kms_model.specs.Request.Agreement.{conn_state_at, crtc_state_at}
 use Rattle.kms_state.proofs.Slots.{slot_at}
-use Rattle.kms_state.specs.Places.{state_at}
 use Rattle.kms_things.specs.Present.{IsPresent}
 use Rattle.kms_calls.specs.States.{state_of_kind, stored_of_kind, stored_state}
 

@@ -1,11 +1,12 @@
 -- What calls on locks ask for and answer. From: "KMS Locking", `drm_modeset_lock.c`.
 use Rattle.std.specs.Prelude.{Option, Some, None, ℕ, ◌≡◌, ◌≤◌, ◌&&◌, nat_le, Bool, true, false, List, [], ◌∷◌}
 use Rattle.std.specs.Bool.{then_some}
+use Rattle.kms_model.specs.Order.Turns.{lock_step}
 use Rattle.kms_model.specs.declared.objects.ObjId.{ObjId}
 use Rattle.kms_model.specs.declared.objects.Ticket.{Ticket}
 use Rattle.kms_model.specs.declared.objects.Topology.{Topology}
 use Rattle.kms_model.specs.declared.replies.Step.{Step}
-use Rattle.kms_model.specs.declared.replies.Step.TheVariants.{Begin, Lock, Relock}
+use Rattle.kms_model.specs.declared.replies.Step.TheVariants.{Begin, Relock}
 use Rattle.kms_model.specs.declared.runs.Doing.TheVariants as doing
 use Rattle.kms_model.specs.declared.states.ObjState.{ObjState}
 use Rattle.kms_model.specs.Device.Objects.{first_id, index_of, kind_of}
@@ -73,13 +74,10 @@ is_step (table.Younger holder) = false
 abbrev pub locked_answer : Run → ℕ → ObjId → Locked
 locked_answer r client id = locked_as (present_state r id) (lock_answer (machine r) client (holder_at (machine r) id.0))
 
-abbrev pub lock_step : ℕ → ObjId → Step
-lock_step client id = Lock client (kind_of id.0) (index_of id.0)
-
 -- the step that the answer tells: an object was taken, or an older context holds it
 abbrev pub lock_steps : ℕ → ObjId → Locked → List Step
-lock_steps client id (locked.Got s) = lock_step client id ∷ []
-lock_steps client id (locked.Older holder) = lock_step client id ∷ []
+lock_steps client id (locked.Got s) = lock_step client id.0 ∷ []
+lock_steps client id (locked.Older holder) = lock_step client id.0 ∷ []
 lock_steps client id (locked.Own s) = []
 lock_steps client id (locked.Younger holder) = []
 lock_steps client id (locked.Held holder) = []

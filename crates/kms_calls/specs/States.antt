@@ -1,6 +1,7 @@
 -- The present states of objects.
 use Rattle.std.specs.Prelude.{ℕ, Option, None}
 use Rattle.std.specs.Option.{option_map}
+use Rattle.kms_model.specs.Device.Places.{state_at}
 use Rattle.kms_model.specs.declared.objects.Kind.{Kind}
 use Rattle.kms_model.specs.declared.objects.Kind.TheVariants.{Crtc, Plane, Conn, Enc}
 use Rattle.kms_model.specs.declared.objects.Topology.{Topology}
@@ -11,7 +12,6 @@ use Rattle.kms_model.specs.declared.worlds.World.{World}
 use Rattle.kms_model.specs.Device.Objects.{index_of, kind_of}
 use Rattle.kms_model.specs.Device.States.{plane_at}
 use Rattle.kms_model.specs.Request.Agreement.{conn_state_at, crtc_state_at}
-use Rattle.kms_state.specs.Places.{state_at}
 
 -- the state of an object of a kind in a world
 abbrev pub state_of_kind : Topology → World → Kind → ℕ → ObjState

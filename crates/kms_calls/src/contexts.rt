@@ -1,8 +1,9 @@
 //! Acquire contexts and their locks.
 ghost use Rattle.std.specs.Prelude.{ℕ, ◌≡◌, IfOk, OnErr, [], ◌∷◌};
 ghost use Rattle.kms_model.specs.declared.replies.Step.TheVariants as step;
+ghost use Rattle.kms_model.specs.Order.Turns.{lock_step};
 ghost use Rattle.kms_stores.specs.Run.{machine, gains, if_ok};
-ghost use Rattle.kms_calls.specs.Locks.{MayBegin, MayLock, IsTaking, locked_answer, locked_as, lock_step, lock_steps, is_step, HasContext, MayBackOff, MayRelock, relocked_answer, relock_steps};
+ghost use Rattle.kms_calls.specs.Locks.{MayBegin, MayLock, IsTaking, locked_answer, locked_as, lock_steps, is_step, HasContext, MayBackOff, MayRelock, relocked_answer, relock_steps};
 
 use crate::states::present_state;
 use kms_model::{Doing, NoMemory, ObjId, ObjState, Step, Ticket};
@@ -128,7 +129,7 @@ pub fn relock(stores: &mut Stores, t: Ticket) -> Result<Locked, NoMemory>
 
 /// The step of a client that asks for an object.
 fn lock_step(client: u32, id: ObjId) -> Step
-    ensures { result ≡ lock_step client id }
+    ensures { result ≡ lock_step client id.0 }
 {
     Step::Lock {
         client,

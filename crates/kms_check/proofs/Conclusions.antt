@@ -5,6 +5,7 @@ use Rattle.std.specs.List.{list_any, filter_map}
 use Rattle.std.specs.Option.{option_map}
 use Rattle.std.proofs.lemmas.Bool.{and_parts, eqb-true, eq-eqb, or_right, or_cases, both_ways, cases_Bool, false_from_ne_true, true_from_ne_false}
 use Rattle.std.proofs.lemmas.List.{length-map}
+use Rattle.kms_model.specs.Device.Places.{state_at}
 use Rattle.kms_model.specs.declared.objects.Kind.{Kind}
 use Rattle.kms_model.specs.declared.objects.Kind.TheVariants as kind
 use Rattle.kms_model.specs.declared.objects.ObjId.{ObjId}
@@ -21,7 +22,7 @@ use Rattle.kms_model.specs.declared.worlds.World.{World}
 use Rattle.kms_model.specs.Request.Apply.{object_of}
 use Rattle.kms_model.specs.Request.Checks.{late_refusal}
 use Rattle.kms_model.specs.Firsts.{or_else}
-use Rattle.kms_model.specs.Request.Late.{duplicate_at, late_of_states}
+use Rattle.kms_model.specs.Request.Late.{late_of_states}
 use Rattle.kms_model.specs.Request.Lookups.{look_up}
 use Rattle.kms_model.specs.Device.Masks.{has_bit}
 use Rattle.kms_model.specs.Request.Named.{is_routed, is_named_by, names, moves_on, needs_modeset}
@@ -30,7 +31,7 @@ use Rattle.kms_model.specs.Request.Resolves.{IsResolved}
 use Rattle.kms_model.specs.Request.Sets.{obj_id, out_fences}
 use Rattle.kms_model.specs.Device.Sound.{IsDevice}
 use Rattle.kms_model.specs.Device.States.{crtc_at}
-use Rattle.kms_model.specs.Request.Touched.{sets, is_affected, named_set, set_where, touched_set, is_asked, out_fence_label}
+use Rattle.kms_model.specs.Request.Touched.{named_by, sets, is_affected, set_where, touched_by, is_asked, out_fence_label}
 use Rattle.kms_model.specs.Device.World.{value}
 use Rattle.kms_model.proofs.Items as items
 use Rattle.kms_model.proofs.LateLemmas.{StandAt, Covers, fenced_set, late_of_states-is}
@@ -38,7 +39,7 @@ use Rattle.kms_model.proofs.MaskLemmas.{has_bit-below, same_masks}
 use Rattle.kms_model.proofs.TouchedLemmas.{IsRequestAt, after, accepted-each, kind_of_object, few_objects, touches, touches_object, crtc_at-unset, untouched-modeset}
 use Rattle.kms_model.proofs.Facts.{none-some}
 use Rattle.kms_request.specs.Naming as naming
-use Rattle.kms_state.specs.Places.{old_states, olds, state_at}
+use Rattle.kms_state.specs.Places.{old_states, olds}
 use Rattle.kms_state.proofs.Slots.{AgreesOld-same, there_old}
 use Rattle.kms_model.specs.Request.Deciding.{IsOfRequest, AreFresh, IsAskedFor}
 use Rattle.kms_check.specs.Applying.{set_all, SetsAll}
@@ -63,7 +64,7 @@ applied t w r resolved d d' is fresh sets_all same = record {
       (sets_all t w.things w.values (number_in (after w r)) (numbered t w r resolved d is) (fresh-agrees t w r resolved d is fresh));
 }
 
-there-same : {S : Type 0} (xs ys : List (Option (Both S))) (i : ℕ) → olds xs ≡ olds ys → is_some (duplicate_at xs i) ≡ is_some (duplicate_at ys i)
+there-same : {S : Type 0} (xs ys : List (Option (Both S))) (i : ℕ) → olds xs ≡ olds ys → is_some (state_at xs i) ≡ is_some (state_at ys i)
 there-same {S} xs ys i same = there_old xs i ∙ ap (λ (zs : List (Option S)). is_some (state_at zs i)) same ∙ sym (there_old ys i)
 
 length-same : {S : Type 0} (xs ys : List (Option (Both S))) → olds xs ≡ olds ys → length xs ≡ length ys
@@ -78,7 +79,7 @@ room-same d d' same room = record {
 }
 
 missing_in-same : {S : Type 0} (mask : ℕ) (xs ys : List (Option (Both S))) (n : ℕ) → olds xs ≡ olds ys → missing_in mask xs n ≡ missing_in mask ys n
-missing_in-same mask xs ys n same = same_masks _ _ n (λ i h. ap (λ b. has_bit mask i && b) (none-some (duplicate_at xs i) ∙ ap not (there-same xs ys i same) ∙ sym (none-some (duplicate_at ys i))))
+missing_in-same mask xs ys n same = same_masks _ _ n (λ i h. ap (λ b. has_bit mask i && b) (none-some (state_at xs i) ∙ ap not (there-same xs ys i same) ∙ sym (none-some (state_at ys i))))
 
 -- what is not_duplicated of a set does not change as sets are applied
 pub lacking-same : (d d' : Duplicates) (m : Mask) → HasRoom d → HasRoom d' → old_states d' ≡ old_states d → lacking d' m ≡ lacking d m
@@ -134,10 +135,10 @@ group-test : (t : Topology) (k : Kind) (test : ℕ → Bool) (i : ℕ) → i < c
 group-test t k test i within member = sym (has_bit-below (λ j. test (object_id k j)) (count_of t k) i within) ∙ member
 
 pub covers-touched : (t : Topology) (w : World) (r : Request) (d : Duplicates) → IsRequestAt t w r → HasRoom d → IsCovered d (set_group t r) → IsCovered d (named_group t w r) → IsCovered d (affected_group t w r)
-    → Covers t w r d (touched_set t w.things w.values (after w r) r.assigns)
+    → Covers t w r d (touched_by t w r)
 covers-touched t w r d at room set named affected =
     let few = few_objects t at.device in
-    let crtc_there : (i : ℕ) → i < count_of t kind.Crtc → touches w r (object_id kind.Crtc i) ≡ true → is_some (duplicate_at d.crtcs i) ≡ true = λ i within touched. elim (or_cases (sets r.assigns (object_id kind.Crtc i)) (names w.values (after w r) r.assigns (object_id kind.Crtc i)) touched) [
+    let crtc_there : (i : ℕ) → i < count_of t kind.Crtc → touches w r (object_id kind.Crtc i) ≡ true → is_some (state_at d.crtcs i) ≡ true = λ i within touched. elim (or_cases (sets r.assigns (object_id kind.Crtc i)) (names w.values (after w r) r.assigns (object_id kind.Crtc i)) touched) [
       | inl is_set ↦ set.crtcs i (omega (arith, room.crtcs, few.crtcs)) (group-bit t kind.Crtc (sets r.assigns) i within is_set)
       | inr is_named ↦ named.crtcs i (omega (arith, room.crtcs, few.crtcs)) (group-bit t kind.Crtc (names w.values (after w r) r.assigns) i within is_named)
     ] in
@@ -159,7 +160,7 @@ covers-touched t w r d at room set named affected =
 
 -- a named CRTC is duplicated
 pub named-there : (t : Topology) (w : World) (r : Request) (d : Duplicates) → IsRequestAt t w r → HasRoom d → IsCovered d (named_group t w r)
-    → (i : ℕ) → i < t.crtcs → names w.values (after w r) r.assigns (object_id kind.Crtc i) ≡ true → is_some (duplicate_at d.crtcs i) ≡ true
+    → (i : ℕ) → i < t.crtcs → names w.values (after w r) r.assigns (object_id kind.Crtc i) ≡ true → is_some (state_at d.crtcs i) ≡ true
 named-there t w r d at room named i within is =
     let few = few_objects t at.device in
     named.crtcs i (omega (arith, room.crtcs, few.crtcs)) (group-bit t kind.Crtc (names w.values (after w r) r.assigns) i within is)
@@ -245,10 +246,10 @@ pub record HasSets (t : Topology) (w : World) (r : Request) (resolved : Resolved
   pub none : lacking d (set_group t r) ≡ None
 
 pub named-known : (t : Topology) (w : World) (r : Request) (resolved : Resolved) (d : Duplicates) (named : ℕ) → HasSets t w r resolved d
-    → ((u : Topology) (v : World) (f : ℕ → Look) (q : Request) → naming.Covers u v f q resolved d → named ≡ named_set u v.values (after v q) q.assigns) → named ≡ named_set t w.values (after w r) r.assigns
+    → ((u : Topology) (v : World) (f : ℕ → Look) (q : Request) → naming.Covers u v f q resolved d → named ≡ named_by u v q) → named ≡ named_by t w r
 named-known t w r resolved d named has tells = tells t w (look_up w) r (named-covers t w r resolved d has.is has.room (covered d (set_group t r) has.none))
 
-pub named-lacking : (t : Topology) (w : World) (r : Request) (d : Duplicates) (named : ℕ) (crtcs : Mask) (found : Option Mask) → named ≡ named_set t w.values (after w r) r.assigns → crtcs ≡ record { crtcs = named; planes = 0; conns = 0 } → found ≡ lacking d crtcs
+pub named-lacking : (t : Topology) (w : World) (r : Request) (d : Duplicates) (named : ℕ) (crtcs : Mask) (found : Option Mask) → named ≡ named_by t w r → crtcs ≡ record { crtcs = named; planes = 0; conns = 0 } → found ≡ lacking d crtcs
     → lacking d (named_group t w r) ≡ found
 named-lacking t w r d named crtcs found known made lacks = ap (λ n. lacking d (record { crtcs = n; planes = 0; conns = 0 })) (sym known) ∙ ap (lacking d) (sym made) ∙ sym lacks
 
@@ -257,7 +258,7 @@ named-lacking t w r d named crtcs found known made lacks = ap (λ n. lacking d (
 pub record HasApplied (t : Topology) (w : World) (r : Request) (resolved : Resolved) (d d' : Duplicates) (named : ℕ) : Type 0 where
   pub has : HasSets t w r resolved d
   pub room : HasRoom d'
-  pub named_is : named ≡ named_set t w.values (after w r) r.assigns
+  pub named_is : named ≡ named_by t w r
   pub none : lacking d (named_group t w r) ≡ None
   pub stand : StandAt t w r d'
   pub same : old_states d' ≡ old_states d
@@ -275,7 +276,7 @@ affected-known t w r resolved d d' named affected has made =
     made ∙ ap (λ n. affected_below d'.crtcs n 4) has.named_is ∙ affected-is t w r d' has.stand (named-there t w r d' has.stand.at has.room covers_named)
 
 -- The states that are looked at cover what the request touches.
-pub all-covered : (t : Topology) (w : World) (r : Request) (resolved : Resolved) (d d' : Duplicates) (named : ℕ) → HasApplied t w r resolved d d' named → lacking d (affected_group t w r) ≡ None → Covers t w r d' (touched_set t w.things w.values (after w r) r.assigns)
+pub all-covered : (t : Topology) (w : World) (r : Request) (resolved : Resolved) (d d' : Duplicates) (named : ℕ) → HasApplied t w r resolved d d' named → lacking d (affected_group t w r) ≡ None → Covers t w r d' (touched_by t w r)
 all-covered t w r resolved d d' named has none =
     covers-touched t w r d' has.stand.at has.room
     (covered d' (set_group t r) (lacking-same d d' (set_group t r) has.has.room has.room has.same ∙ has.has.none))
@@ -284,11 +285,11 @@ all-covered t w r resolved d d' named has none =
 
 -- The first refusal that is found is that of the whole device.
 pub refusal-known : (t : Topology) (w : World) (r : Request) (resolved : Resolved) (d d' : Duplicates) (named fenced : ℕ) (touched : Mask) (fences : List (ObjId × ℕ)) (found : Option ℕ) → HasApplied t w r resolved d d' named → lacking d (affected_group t w r) ≡ None
-    → touched ≡ touched_set t w.things w.values (after w r) r.assigns → fences ≡ resolved.out_fences → fenced ≡ crtcs_fenced fences → found ≡ late_of_states t d' touched resolved.flags named fenced
+    → touched ≡ touched_by t w r → fences ≡ resolved.out_fences → fenced ≡ crtcs_fenced fences → found ≡ late_of_states t d' touched resolved.flags named fenced
     → found ≡ late_refusal t w.things w.values (after w r) r
 refusal-known t w r resolved d d' named fenced touched fences found has none touched_is read fenced_made found_is =
     let fenced_known : fenced ≡ fenced_set t r = fenced_made ∙ ap crtcs_fenced read ∙ fenced-is t w r resolved d has.has.is in
-    found_is ∙ ap (λ m. late_of_states t d' m resolved.flags named fenced) touched_is ∙ ap (λ n. late_of_states t d' (touched_set t w.things w.values (after w r) r.assigns) n named fenced) has.has.is.asks.flags
-    ∙ ap (λ n. late_of_states t d' (touched_set t w.things w.values (after w r) r.assigns) r.flags n fenced) has.named_is
-    ∙ ap (late_of_states t d' (touched_set t w.things w.values (after w r) r.assigns) r.flags (named_set t w.values (after w r) r.assigns)) fenced_known
-    ∙ late_of_states-is t w r d' (touched_set t w.things w.values (after w r) r.assigns) has.stand (all-covered t w r resolved d d' named has none)
+    found_is ∙ ap (λ m. late_of_states t d' m resolved.flags named fenced) touched_is ∙ ap (λ n. late_of_states t d' (touched_by t w r) n named fenced) has.has.is.asks.flags
+    ∙ ap (λ n. late_of_states t d' (touched_by t w r) r.flags n fenced) has.named_is
+    ∙ ap (late_of_states t d' (touched_by t w r) r.flags (named_by t w r)) fenced_known
+    ∙ late_of_states-is t w r d' (touched_by t w r) has.stand (all-covered t w r resolved d d' named has none)

@@ -4,6 +4,7 @@ use Rattle.std.specs.Prelude.{◌&&◌, is_some, nat_lt, slice_get, slice_index_
 use Rattle.std.specs.Option.{option_flatten}
 use Rattle.std.proofs.lemmas.Bool.{and_parts, le-ltb, lt-ltb}
 use Rattle.std.proofs.lemmas.Option.{get_or_from_slice_get}
+use Rattle.kms_model.specs.Device.Places.{state_at}
 use Rattle.kms_model.specs.declared.objects.Kind.{Kind}
 use Rattle.kms_model.specs.declared.objects.Kind.TheVariants as kind
 use Rattle.kms_model.specs.declared.objects.Topology.{Topology}
@@ -20,7 +21,6 @@ use Rattle.kms_model.specs.Device.Sound.{IsDevice}
 use Rattle.kms_model.specs.Machine.Commits.{lockable}
 use Rattle.kms_model.specs.Request.Apply.{after}
 use Rattle.kms_model.specs.Request.Deciding.{IsOfRequest}
-use Rattle.kms_model.specs.Request.Late.{duplicate_at}
 use Rattle.kms_model.specs.Request.Touched.{touched_by, touches, touches_crtc, touches_of_kind, touches_routed}
 use Rattle.kms_model.proofs.Items.{IsIn, IsObject, ids-in}
 use Rattle.kms_model.proofs.KindsOfIds.{kind_of-object}
@@ -101,19 +101,19 @@ module _ (t : Topology) (r : Request) (used : List (ℕ × Look)) (d : Duplicate
   kept_at : (k : Kind) (i : ℕ) → i < 16 → is_duplicated d (object_id k i) ≡ true → is_kind_duplicated k checked.states i ≡ true
   kept_at k i few there = sym (is_duplicated-object k checked.states i few) ∙ same_duplicated d checked.states (object_id k i) accepted.kept ∙ there
 
-  crtc_covered : (i : ℕ) → i < 4 → has_bit checked.touched.crtcs i ≡ true → is_some (duplicate_at checked.states.crtcs i) ≡ true
+  crtc_covered : (i : ℕ) → i < 4 → has_bit checked.touched.crtcs i ≡ true → is_some (state_at checked.states.crtcs i) ≡ true
   crtc_covered i few has =
       let first : nat_lt i 4 ≡ true = lt-ltb i 4 few in
       kept_at kind.Crtc i (omega (arith, few)) (rw first at (given_at i (omega (arith, few)) (rw first has)))
 
-  plane_covered : (i : ℕ) → i < 16 → has_bit checked.touched.planes i ≡ true → is_some (duplicate_at checked.states.planes i) ≡ true
+  plane_covered : (i : ℕ) → i < 16 → has_bit checked.touched.planes i ≡ true → is_some (state_at checked.states.planes i) ≡ true
   plane_covered i few has =
       let index : (4 + i) - 4 ≡ i = omega arith in
       let past : nat_lt (4 + i) 4 ≡ false = le-ltb (4 + i) 4 (omega arith) in
       let first : nat_lt (4 + i) 20 ≡ true = lt-ltb (4 + i) 20 (omega (arith, few)) in
       kept_at kind.Plane i few (rw (past, first, index) at (given_at (4 + i) (omega (arith, few)) (rw (past, first, index) has)))
 
-  conn_covered : (i : ℕ) → i < 8 → has_bit checked.touched.conns i ≡ true → is_some (duplicate_at checked.states.conns i) ≡ true
+  conn_covered : (i : ℕ) → i < 8 → has_bit checked.touched.conns i ≡ true → is_some (state_at checked.states.conns i) ≡ true
   conn_covered i few has =
       let index : (20 + i) - 20 ≡ i = omega arith in
       let past : nat_lt (20 + i) 4 ≡ false = le-ltb (20 + i) 4 (omega arith) in

@@ -3,12 +3,12 @@ use Rattle.std.proofs.Common.{◌≡◌, ◌∙◌, ◌<◌, arith, ℕ, zero, s
 use Rattle.std.specs.Prelude.{◌==◌, find, is_some, map, not, pos}
 use Rattle.std.specs.List.{list_all}
 use Rattle.std.proofs.lemmas.Bool.{and_parts, cases_Bool}
+use Rattle.kms_model.specs.Device.Places.{state_at}
 use Rattle.kms_model.specs.declared.states.Both.{Both}
 use Rattle.kms_model.specs.declared.worlds.Look.{Look}
 use Rattle.kms_model.specs.declared.worlds.Thing.{Thing}
 use Rattle.kms_model.specs.Request.Agreement.{AgreesOld, AreOld}
 use Rattle.kms_model.specs.Request.Checks.{late_refusal, plane_refusal, shown_refusal}
-use Rattle.kms_model.specs.Request.Late.{duplicate_at}
 use Rattle.kms_model.specs.Request.Lookups.{look_of, look_of_any, look_up, look_up_any}
 use Rattle.kms_model.specs.declared.pictures.Rect.{Rect}
 use Rattle.kms_model.specs.Device.Masks.{mask_below}
@@ -98,7 +98,7 @@ all_looks (t ∷ ts) label still =
 pub found_ever : (label : ℕ) → look_up lit_world label ≡ look_up_any lit_world label
 found_ever label = all_looks things label refl
 
-two_there : {S : Type 0} (n : ℕ) (state : ℕ → S) (index : ℕ) → index < 2 → is_some (duplicate_at (two n state) index) ≡ true
+two_there : {S : Type 0} (n : ℕ) (state : ℕ → S) (index : ℕ) → index < 2 → is_some (state_at (two n state) index) ≡ true
 two_there n state zero less = refl
 two_there n state (suc zero) less = refl
 two_there n state (suc (suc index)) less = absurd (omega (arith, less))

@@ -4,6 +4,7 @@ use Rattle.std.specs.Prelude.{◌&&◌, ◌==◌, is_none, nat_lt, if◌then◌e
 use Rattle.std.proofs.lemmas.Bool.{and_from, and_parts, both_ways, cases_lt, eq-eqb, le-ltb, lt-ltb, ltb-true, or_left, or_right}
 use Rattle.std.proofs.lemmas.Nat.{pow_pos}
 use Rattle.std.proofs.lemmas.Option.{same_Some}
+use Rattle.kms_model.specs.Device.Places.{state_at}
 use Rattle.kms_model.specs.declared.objects.Kind.{Kind}
 use Rattle.kms_model.specs.declared.objects.Kind.TheVariants as kind
 use Rattle.kms_model.specs.declared.objects.Topology.{Topology}
@@ -17,7 +18,6 @@ use Rattle.kms_model.specs.Device.Objects.{count_of, object_id}
 use Rattle.kms_model.specs.Firsts.{or_else}
 use Rattle.kms_model.specs.Request.Apply.{after}
 use Rattle.kms_model.specs.Request.Groups.{affected_group, named_group, set_group}
-use Rattle.kms_model.specs.Request.Late.{duplicate_at}
 use Rattle.kms_model.specs.Request.Named.{names}
 use Rattle.kms_model.specs.Request.Touched.{is_affected, set_where, sets, touches_of_kind}
 use Rattle.kms_model.proofs.Items.{or_else-none}
@@ -142,10 +142,10 @@ first_lacking-is t w r d m first =
     ]
 
 -- an object that is lacking is in the set, and is not duplicated
-pub missing : {S : Type 0} (mask : ℕ) (states : List (Option (Both S))) (i : ℕ) → has_bit (missing_in mask states (length states)) i ≡ true → (has_bit mask i ≡ true) × (is_none (duplicate_at states i) ≡ true)
+pub missing : {S : Type 0} (mask : ℕ) (states : List (Option (Both S))) (i : ℕ) → has_bit (missing_in mask states (length states)) i ≡ true → (has_bit mask i ≡ true) × (is_none (state_at states i) ≡ true)
 missing mask states i has =
-    let parts = and_parts (nat_lt i (length states)) (has_bit mask i && is_none (duplicate_at states i)) (sym (has_bit-mask_below (λ j. has_bit mask j && is_none (duplicate_at states j)) (length states) i) ∙ has) in
-    and_parts (has_bit mask i) (is_none (duplicate_at states i)) parts.1
+    let parts = and_parts (nat_lt i (length states)) (has_bit mask i && is_none (state_at states i)) (sym (has_bit-mask_below (λ j. has_bit mask j && is_none (state_at states j)) (length states) i) ∙ has) in
+    and_parts (has_bit mask i) (is_none (state_at states i)) parts.1
 
 -- Something is lacking
 
@@ -171,15 +171,15 @@ no_bits test n none = sym (mask_from 0 test n (pow_pos n) (λ i within. has_bit-
 empty-set : (d : Duplicates) (g : Mask) → HasRoom d → least_of (not_duplicated d g) ≡ None → is_empty (not_duplicated d g) ≡ true
 empty-set d g room none =
     let m = not_duplicated d g in
-    let crtcs : m.crtcs ≡ 0 = no_bits (λ i. has_bit g.crtcs i && is_none (duplicate_at d.crtcs i)) (length d.crtcs) (λ i within.
+    let crtcs : m.crtcs ≡ 0 = no_bits (λ i. has_bit g.crtcs i && is_none (state_at d.crtcs i)) (length d.crtcs) (λ i within.
     (let first : nat_lt i 4 ≡ true = lt-ltb i 4 (omega (arith, within, room.crtcs)) in
     rw first at (not_member m i none (omega (arith, within, room.crtcs))))) in
-    let planes : m.planes ≡ 0 = no_bits (λ i. has_bit g.planes i && is_none (duplicate_at d.planes i)) (length d.planes) (λ i within.
+    let planes : m.planes ≡ 0 = no_bits (λ i. has_bit g.planes i && is_none (state_at d.planes i)) (length d.planes) (λ i within.
     (let index : (4 + i) - 4 ≡ i = omega arith in
     let past : nat_lt (4 + i) 4 ≡ false = le-ltb (4 + i) 4 (omega arith) in
     let first : nat_lt (4 + i) 20 ≡ true = lt-ltb (4 + i) 20 (omega (arith, within, room.planes)) in
     rw (past, first, index) at (not_member m (4 + i) none (omega (arith, within, room.planes))))) in
-    let conns : m.conns ≡ 0 = no_bits (λ i. has_bit g.conns i && is_none (duplicate_at d.conns i)) (length d.conns) (λ i within.
+    let conns : m.conns ≡ 0 = no_bits (λ i. has_bit g.conns i && is_none (state_at d.conns i)) (length d.conns) (λ i within.
     (let index : (20 + i) - 20 ≡ i = omega arith in
     let past : nat_lt (20 + i) 4 ≡ false = le-ltb (20 + i) 4 (omega arith) in
     let beyond : nat_lt (20 + i) 20 ≡ false = le-ltb (20 + i) 20 (omega arith) in

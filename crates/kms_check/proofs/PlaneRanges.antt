@@ -2,6 +2,7 @@
 use Rattle.std.proofs.Common.{◌≡◌, ◌∙◌, ◌≤◌, ◌<◌, ℕ, Bool, true, false, List, length, get_or, Option, Some, None, ℤ, pos, negsuc, inl, inr, arith, refl, sym, ap, subst}
 use Rattle.std.specs.Prelude.{◌==◌, slice_get, All, IfSome, if◌then◌else◌}
 use Rattle.std.proofs.lemmas.Bool.{cases_Bool, eqb-true}
+use Rattle.kms_model.specs.Device.Places.{state_at}
 use Rattle.kms_model.specs.declared.objects.Kind.{Kind}
 use Rattle.kms_model.specs.declared.objects.Kind.TheVariants.{Crtc, Plane, Conn, Enc}
 use Rattle.kms_model.specs.declared.objects.Topology.{Topology}
@@ -15,7 +16,7 @@ use Rattle.kms_model.specs.declared.states.Duplicates.{Duplicates}
 use Rattle.kms_model.specs.declared.states.PlaneState.{PlaneState}
 use Rattle.kms_model.specs.declared.worlds.World.{World}
 use Rattle.kms_model.specs.Request.Agreement.{AgreesOld}
-use Rattle.kms_model.specs.Request.Late.{ArePlanesInRange, duplicate_at}
+use Rattle.kms_model.specs.Request.Late.{ArePlanesInRange}
 use Rattle.kms_model.specs.Device.Masks.{has_bit}
 use Rattle.kms_model.specs.Device.Objects.{count_of, object_id, kind_of}
 use Rattle.kms_model.specs.Request.SetRanges.{may_set}
@@ -161,9 +162,9 @@ fresh-in_range t w d sound old fresh = λ index both within at.
 
 -- planes that are looked at are in range where all are
 pub looked_at-in_range : (t : Topology) (d : Duplicates) (mask : ℕ) → HasPlanesInRange (count_of t Plane) d → ArePlanesInRange t d mask
-looked_at-in_range t d mask held = λ i within. go i within (has_bit mask i) (duplicate_at d.planes i) refl
+looked_at-in_range t d mask held = λ i within. go i within (has_bit mask i) (state_at d.planes i) refl
   where
-    go : (i : ℕ) → i < count_of t Plane → (b : Bool) (o : Option (Both PlaneState)) → duplicate_at d.planes i ≡ o → IfSome (if b then o else None) (λ both. IsPlaneInRange both.new)
+    go : (i : ℕ) → i < count_of t Plane → (b : Bool) (o : Option (Both PlaneState)) → state_at d.planes i ≡ o → IfSome (if b then o else None) (λ both. IsPlaneInRange both.new)
     go i within false o at = tt
     go i within true None at = tt
     go i within true (Some both) at = held i both within (flatten-some (slice_get d.planes i) both at)

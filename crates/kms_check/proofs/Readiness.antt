@@ -3,6 +3,7 @@ use Rattle.std.proofs.Common.{◌≡◌, ◌≢◌, ◌∙◌, ℕ, ◌+◌, ◌
 use Rattle.std.specs.Prelude.{◌&&◌, ◌==◌, All, IsTrue, slice_get, is_some, is_none, if◌then◌else◌}
 use Rattle.std.specs.Option.{option_flatten}
 use Rattle.std.proofs.lemmas.Bool.{eqb-true, eq-eqb, and_parts, le-leb, ltb-true}
+use Rattle.kms_model.specs.Device.Places.{state_at}
 use Rattle.kms_model.specs.declared.objects.Kind.{Kind}
 use Rattle.kms_model.specs.declared.objects.Kind.TheVariants as kind
 use Rattle.kms_model.specs.declared.objects.Topology.{Topology}
@@ -15,7 +16,6 @@ use Rattle.kms_model.specs.declared.states.Mask.{Mask}
 use Rattle.kms_model.specs.declared.worlds.Look.{Look}
 use Rattle.kms_model.specs.declared.worlds.World.{World}
 use Rattle.kms_model.specs.Request.Apply.{object_of, prop_of}
-use Rattle.kms_model.specs.Request.Late.{duplicate_at}
 use Rattle.kms_model.specs.Request.Lookups.{look_up}
 use Rattle.kms_model.specs.Device.Masks.{has_bit}
 use Rattle.kms_model.specs.Device.Objects.{first_id, object_id, count_of, index_of, kind_of}
@@ -49,16 +49,16 @@ some_or_none : {A : Type 0} (o : Option A) → is_none o ≡ false → is_some o
 some_or_none None none = absurd cc
 some_or_none (Some x) none = refl
 
-missing-none : {S : Type 0} (mask : ℕ) (states : List (Option (Both S))) (n i : ℕ) → missing_in mask states n ≡ 0 → i < n → has_bit mask i ≡ true → is_some (duplicate_at states i) ≡ true
+missing-none : {S : Type 0} (mask : ℕ) (states : List (Option (Both S))) (n i : ℕ) → missing_in mask states n ≡ 0 → i < n → has_bit mask i ≡ true → is_some (state_at states i) ≡ true
 missing-none mask states n i none within member =
-    let out : (has_bit mask i && is_none (duplicate_at states i)) ≡ false = sym (has_bit-below (λ index. has_bit mask index && is_none (duplicate_at states index)) n i within) ∙ ap (λ m. has_bit m i) none ∙ has_bit-zero i in
-    some_or_none (duplicate_at states i) (ap (λ b. b && is_none (duplicate_at states i)) (sym member) ∙ out)
+    let out : (has_bit mask i && is_none (state_at states i)) ≡ false = sym (has_bit-below (λ index. has_bit mask index && is_none (state_at states index)) n i within) ∙ ap (λ m. has_bit m i) none ∙ has_bit-zero i in
+    some_or_none (state_at states i) (ap (λ b. b && is_none (state_at states i)) (sym member) ∙ out)
 
 -- the objects of a set are all duplicated
 pub record IsCovered (d : Duplicates) (m : Mask) : Type 0 where
-  pub crtcs : (i : ℕ) → i < length d.crtcs → has_bit m.crtcs i ≡ true → is_some (duplicate_at d.crtcs i) ≡ true
-  pub planes : (i : ℕ) → i < length d.planes → has_bit m.planes i ≡ true → is_some (duplicate_at d.planes i) ≡ true
-  pub conns : (i : ℕ) → i < length d.conns → has_bit m.conns i ≡ true → is_some (duplicate_at d.conns i) ≡ true
+  pub crtcs : (i : ℕ) → i < length d.crtcs → has_bit m.crtcs i ≡ true → is_some (state_at d.crtcs i) ≡ true
+  pub planes : (i : ℕ) → i < length d.planes → has_bit m.planes i ≡ true → is_some (state_at d.planes i) ≡ true
+  pub conns : (i : ℕ) → i < length d.conns → has_bit m.conns i ≡ true → is_some (state_at d.conns i) ≡ true
 
 pub covered : (d : Duplicates) (m : Mask) → lacking d m ≡ None → IsCovered d m
 covered d m none = go (is_empty (not_duplicated d m)) refl none
@@ -82,16 +82,16 @@ pub record HasRoom (d : Duplicates) : Type 0 where
 
 -- Each object that is set is duplicated
 
-state_of-object : {S : Type 0} (k : Kind) (states : List (Option (Both S))) (i : ℕ) → state_of k states (object_id k i) ≡ duplicate_at states i
+state_of-object : {S : Type 0} (k : Kind) (states : List (Option (Both S))) (i : ℕ) → state_of k states (object_id k i) ≡ state_at states i
 state_of-object k states i =
     let index : object_id k i - first_id k ≡ i = omega arith in
     rw (le-leb (first_id k) (object_id k i) (omega arith)) (ap (λ n. option_flatten (slice_get states n)) index)
 
 -- the states of an object of a kind are duplicated
 abbrev pub is_kind_duplicated : Kind → Duplicates → ℕ → Bool
-is_kind_duplicated kind.Crtc d i = is_some (duplicate_at d.crtcs i)
-is_kind_duplicated kind.Plane d i = is_some (duplicate_at d.planes i)
-is_kind_duplicated kind.Conn d i = is_some (duplicate_at d.conns i)
+is_kind_duplicated kind.Crtc d i = is_some (state_at d.crtcs i)
+is_kind_duplicated kind.Plane d i = is_some (state_at d.planes i)
+is_kind_duplicated kind.Conn d i = is_some (state_at d.conns i)
 is_kind_duplicated kind.Enc d i = false
 
 pub is_duplicated-object : (k : Kind) (d : Duplicates) (i : ℕ) → i < 16 → is_duplicated d (object_id k i) ≡ is_kind_duplicated k d i

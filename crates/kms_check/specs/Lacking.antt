@@ -1,5 +1,6 @@
 -- The objects that a check still needs duplicated.
 use Rattle.std.specs.Prelude.{ℕ, Bool, ◌&&◌, ◌==◌, List, length, is_none, Option, Some, None, if◌then◌else◌}
+use Rattle.kms_model.specs.Device.Places.{state_at}
 use Rattle.kms_model.specs.declared.objects.Topology.{Topology}
 use Rattle.kms_model.specs.declared.scripts.Request.{Request}
 use Rattle.kms_model.specs.declared.states.Both.{Both}
@@ -9,7 +10,6 @@ use Rattle.kms_model.specs.declared.worlds.World.{World}
 use Rattle.kms_model.specs.Device.Masks.{has_bit, mask_below}
 use Rattle.kms_model.specs.Firsts.{or_else}
 use Rattle.kms_model.specs.Request.Groups.{set_group, named_group, affected_group}
-use Rattle.kms_model.specs.Request.Late.{duplicate_at}
 
 abbrev pub is_empty : Mask → Bool
 is_empty m = (m.crtcs == 0) && ((m.planes == 0) && (m.conns == 0))
@@ -17,7 +17,7 @@ is_empty m = (m.crtcs == 0) && ((m.planes == 0) && (m.conns == 0))
 -- those of a set, among n objects, that are not duplicated
 abbrev pub missing_in : {S : Type 0} → ℕ → List (Option (Both S)) → ℕ → ℕ
 missing_in mask states n =
-    mask_below (λ index. has_bit mask index && is_none (duplicate_at states index)) n
+    mask_below (λ index. has_bit mask index && is_none (state_at states index)) n
 
 abbrev pub not_duplicated : Duplicates → Mask → Mask
 not_duplicated d m = record { crtcs = missing_in m.crtcs d.crtcs (length d.crtcs); planes = missing_in m.planes d.planes (length d.planes); conns = missing_in m.conns d.conns (length d.conns) }

@@ -1,8 +1,8 @@
 //! The objects that a check still needs duplicated.
 ghost use Rattle.std.specs.Prelude.{◌≡◌, ◌^◌, ◌≤◌, ◌<◌, ◌&&◌, cond, is_none, length};
 ghost use Rattle.kms_model.specs.Device.Masks.{has_bit};
-ghost use Rattle.kms_model.specs.Request.Late.{duplicate_at};
 ghost use Rattle.kms_check.specs.Lacking.{is_empty, lacking, missing_in};
+ghost use Rattle.kms_model.specs.Device.Places.{state_at};
 
 use kms_model::{Both, Duplicates, Mask, has_bit};
 
@@ -24,7 +24,7 @@ fn bit_if(wanted: bool, index: usize) -> u32
 /// Whether an object of a set is not duplicated.
 fn is_not_duplicated<S: Copy>(mask: u32, states: &[Option<Both<S>>], index: usize) -> bool
     requires { index < 32 }
-    ensures { result ≡ (has_bit mask index && is_none (duplicate_at states.now index)) }
+    ensures { result ≡ (has_bit mask index && is_none (state_at states.now index)) }
 {
     has_bit(mask, index as u32) && !matches!(states.get(index), Some(Some(_)))
 }

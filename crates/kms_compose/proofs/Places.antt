@@ -8,7 +8,7 @@ use Rattle.kms_model.specs.Device.Sound.{IsBetween}
 use Rattle.kms_model.specs.Device.States.{natural}
 use Rattle.kms_model.proofs.SourcePlaces.{IsAt, IsBehind, behind, natural_pos, source-within}
 use Rattle.kms_compose.specs.declared.sources.Reach.{Reach}
-use Rattle.kms_compose.specs.Sources.{IsSeen, IsSeenAt, is_unscaled, source_place}
+use Rattle.kms_compose.specs.Sources.{IsSeen, IsSeenAt, is_axis_unscaled, source_place}
 
 -- a number between 0 and another one
 pub natural_most : (z : ℤ) (most : ℕ) → IsBetween (pos 0) (pos most) z → natural z ≤ most
@@ -70,7 +70,7 @@ unscaled_next n i k w long some same =
     ap (λ q. (n + q) / 65536) quotient ∙ place_more n ((2 * i + 1) * long / (2 * w)) k
 
 -- one pixel behind the other
-pub unscaled_place : (r : Reach) (start size k : ℕ) → IsSeen r start size → is_unscaled r ≡ true → k < size → source_place r start + k ≡ source_place r (start + k)
+pub unscaled_place : (r : Reach) (start size k : ℕ) → IsSeen r start size → is_axis_unscaled r ≡ true → k < size → source_place r start + k ≡ source_place r (start + k)
 unscaled_place r start size k s same within =
     let b : IsBehind r.dst r.wide start = behind r.dst r.wide start (is_at r start (seen_at r start size start s (omega arith) (omega (arith, within)))) in
     let i : ℕ = natural (pos start -ℤ r.dst) in

@@ -119,11 +119,6 @@ parts_over x y under (p ∷ ps) = parts_over x y (mixed p.layer under (part_colo
 abbrev pub part_pixel : Option Gamma → List VisiblePart → ℕ → ℕ → List ℕ
 part_pixel gamma parts y x = channels (through gamma (parts_over x y black parts))
 
--- the part, if there is one
-abbrev pub listed : Option VisiblePart → List VisiblePart
-listed None = []
-listed (Some p) = p ∷ []
-
 -- a channel of a layer over a lower one
 abbrev pub channel_over : Layer → (Colour → ℕ) → Option Colour → ℕ → ℕ
 channel_over l channel None under = under

@@ -15,8 +15,9 @@ pub record IsReach (r : Reach) : Type 0 where
   pub little : is_scaled_little r.long r.wide ≡ true
   pub ends : (r.src +ℤ r.long) ≤ℤ pos 281474976645120
 
-abbrev pub is_unscaled : Reach → Bool
-is_unscaled r = natural r.long == 65536 * natural r.wide
+-- along one axis, the source has one pixel for each pixel of its destination
+abbrev pub is_axis_unscaled : Reach → Bool
+is_axis_unscaled r = natural r.long == 65536 * natural r.wide
 
 -- the pixel of the framebuffer that a pixel of the mode shows
 abbrev pub source_place : Reach → ℕ → ℕ

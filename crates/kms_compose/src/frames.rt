@@ -1,12 +1,13 @@
 //! Frames.
 ghost use Rattle.std.specs.Prelude.{◌≡◌, ◌<◌, ◌≤◌, ◌*◌, ◌++◌, ℕ, List, length, All, IfOk, OnOk, Option};
 ghost use Rattle.std.specs.List.{flat_map, range_with_len};
+ghost use Rattle.kms_model.specs.Firsts.{listed};
 ghost use Rattle.kms_model.specs.declared.pictures.Picture.TheVariants.{On};
 ghost use Rattle.kms_model.specs.declared.worlds.Thing.{Thing};
 ghost use Rattle.kms_model.specs.Frames.FrameBytes.{black, composed, frame_bytes, frame_of, through};
 ghost use Rattle.kms_compose.specs.Images.{AreImagesIn, CanShow, IsShowable, word_under};
 ghost use Rattle.kms_compose.specs.Areas.{canvas};
-ghost use Rattle.kms_compose.specs.Parts.{IsPart, listed, parts_over};
+ghost use Rattle.kms_compose.specs.Parts.{IsPart, parts_over};
 
 use crate::drawing::draw_whole;
 use crate::images::{FbImage, Images};

@@ -8,7 +8,7 @@ ghost use Rattle.kms_compose.specs.Parts.{HasColumns, HasCount, HasRows, IsCut, 
 ghost use Rattle.kms_compose.specs.Sources.{IsSeen, source_place};
 
 use crate::images::{FbImage, image_of};
-use crate::sources::{Reach, is_unscaled, natural, places, source_place};
+use crate::sources::{Reach, is_axis_unscaled, natural, places, source_place};
 use kms_model::{Image, Layer, NoMemory, Rect};
 use std::alloc::Global;
 
@@ -69,7 +69,7 @@ fn places_of(alloc: Global, reach: &Reach, first: usize, count: usize) -> Result
     ensures places { IfOk result (λ found. (k : ℕ) → k < count
         → shown_at found k ≡ source_place reach.now (first + k)) }
 {
-    if is_unscaled(reach) {
+    if is_axis_unscaled(reach) {
         Ok(Places::From(source_place(reach, first)))
     } else {
         Ok(Places::At(places(alloc, reach, first, count)?))

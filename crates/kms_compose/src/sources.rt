@@ -3,7 +3,7 @@
 ghost use Rattle.std.specs.Prelude.{◌≡◌, ◌<◌, ◌≤◌, ◌≤ℤ◌, ◌-ℤ◌, ◌+◌, ◌*◌, ◌/◌, pos, IfOk, map};
 ghost use Rattle.std.specs.List.{range_with_len};
 ghost use Rattle.kms_model.specs.Device.States.{natural};
-ghost use Rattle.kms_compose.specs.Sources.{IsReach, IsSeen, IsSeenAt, is_unscaled, source_place};
+ghost use Rattle.kms_compose.specs.Sources.{IsReach, IsSeen, IsSeenAt, is_axis_unscaled, source_place};
 
 use kms_model::NoMemory;
 use std::alloc::Global;
@@ -32,10 +32,10 @@ pub fn natural(z: i64) -> usize
     z as usize
 }
 
-/// Whether a source has one pixel for each pixel of its destination.
-pub fn is_unscaled(reach: &Reach) -> bool
+/// Whether a source has one pixel for each pixel of its destination, along one axis.
+pub fn is_axis_unscaled(reach: &Reach) -> bool
     requires { IsReach reach.now }
-    ensures { result ≡ is_unscaled reach.now }
+    ensures { result ≡ is_axis_unscaled reach.now }
 {
     natural(reach.long) == PIXEL * natural(reach.wide)
 }

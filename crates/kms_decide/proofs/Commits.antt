@@ -67,7 +67,7 @@ use Rattle.kms_stores.specs.Calls.{answered}
 use Rattle.kms_logs.specs.Logs.{Logged}
 use Rattle.kms_stores.specs.Run.{Run, machine}
 use Rattle.kms_stores.specs.Decisions.{world}
-use Rattle.kms_stores.specs.SwappedIn.{IsSwappedIn, events_asked_for, fences_for, fences_under, id_under, label_in, labels_in}
+use Rattle.kms_stores.specs.SwappedIn.{IsSwappedIn, events_asked_for, fences_for, fences_under, id_made_under, label_in, labels_in}
 use Rattle.kms_stores.specs.Stands.{AreOutFencesMade, AreQueues, AreRecords, IsWorldOf, Stores, Stands, StandsAt, entry_pair, is_fence, queue_of}
 use Rattle.kms_stores.specs.Swaps.{MayCommit}
 use Rattle.kms_decide.specs.Room.{KeepsStored, SameTracking}
@@ -384,14 +384,14 @@ module _ (r : Run) (st : Stores) (client : ℕ) (checked : Checked) (resolved : 
   at_command : request_in (command_of r.script (record { client = client; command = (place_of st.clients client).command })) ≡ Some can.ready.request
   at_command = ap (λ n. request_in (command_of r.script (record { client = client; command = n }))) same_command ∙ can.ready.at
 
-  id_made : (o : Option ℕ) → id_under made.things o ≡ thing_made r.script.topology swapped o
+  id_made : (o : Option ℕ) → id_made_under made.things o ≡ thing_made r.script.topology swapped o
   id_made None = refl
   id_made (Some label) = ap (λ (x : World). id_of_thing (thing_labelled x.things label)) (sym world_is)
 
   label_is : (i : ℕ) → i < 4 → label_in resolved.out_fences (object_id Crtc i) ≡ out_fence_label can.ready.request.assigns (object_id Crtc i)
   label_is i low = ap (λ asks. label_in asks (object_id Crtc i)) can.asks.out_fences ∙ label_at_crtc r.script.topology (world r) can.ready.request i at low
 
-  id_at : (i : ℕ) → i < 4 → id_under made.things (label_in resolved.out_fences (object_id Crtc i)) ≡ out_fence_at r.script.topology swapped i
+  id_at : (i : ℕ) → i < 4 → id_made_under made.things (label_in resolved.out_fences (object_id Crtc i)) ≡ out_fence_at r.script.topology swapped i
   id_at i low = id_made (label_in resolved.out_fences (object_id Crtc i)) ∙ ap (thing_made r.script.topology swapped) (label_is i low)
 
   fence_at : (i : ℕ) → i < 4 → slice_index_or (fences_under made.things (labels_in resolved.out_fences)) i None ≡ out_fence_at r.script.topology swapped i

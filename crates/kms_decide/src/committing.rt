@@ -21,7 +21,7 @@ ghost use Rattle.kms_stores.specs.Calls.{answered, joined};
 ghost use Rattle.kms_stores.specs.Run.{gains, if_ok, machine};
 ghost use Rattle.kms_decide.specs.Room.{KeepsStored};
 ghost use Rattle.kms_stores.specs.Swaps.{MayCommit};
-ghost use Rattle.kms_stores.specs.SwappedIn.{events_asked_for, fences_for, fences_under, id_under, label_in, labels_in, next_after};
+ghost use Rattle.kms_stores.specs.SwappedIn.{events_asked_for, fences_for, fences_under, id_made_under, label_in, labels_in, next_after};
 
 use crate::present::present_after;
 use kms_clients::Clients;
@@ -100,7 +100,7 @@ pub fn commit(
 
 /// The id of the thing that was made under a label, where there is one.
 fn made_fence(things: &Things, label: Option<u32>) -> Option<u32>
-    ensures { result ≡ id_under things.now.things label }
+    ensures { result ≡ id_made_under things.now.things label }
 {
     Some(things.labelled(label?)?.id)
 }

@@ -1,6 +1,7 @@
 -- An attempt of several turns: what its last part did, told of the whole.
 use Rattle.std.proofs.Common.{◌≡◌, ℕ, List, [], ◌∷◌, Bool, true, false, Some, None, Result, Ok, Err, refl, sym, ap, ◌∙◌, subst, inl, inr}
 use Rattle.std.specs.Prelude.{if◌then◌else◌, is_some}
+use Rattle.kms_model.specs.Order.Turns.{lock_step}
 use Rattle.kms_model.specs.declared.objects.Ticket.{Ticket}
 use Rattle.kms_model.specs.declared.replies.Step.{Step}
 use Rattle.kms_model.specs.declared.replies.Step.TheVariants as step
@@ -20,7 +21,7 @@ use Rattle.kms_check.specs.declared.moving.Move.TheVariants as move
 use Rattle.kms_check.specs.Moves.{IsMove}
 use Rattle.kms_histlock.specs.Rules.{IsStart}
 use Rattle.kms_stores.specs.Decisions.{world}
-use Rattle.kms_calls.specs.Locks.{lock_step, present_state}
+use Rattle.kms_calls.specs.Locks.{present_state}
 use Rattle.kms_stores.specs.Run.{Run, machine}
 use Rattle.kms_stores.specs.Swaps.{late_reply}
 use Rattle.kms_device.specs.declared.attempt.Attempt.{Attempt}
@@ -129,7 +130,7 @@ module _ (script : Script) (says : Run → Type 0) (p m q : DevicePass) (first :
           object = took.object;
           finds = finds_earlier (run_seen script q) took.finds;
           used = took.used;
-          comes = comes_earlier (run_seen script q) took.used (lock_step p.rank took.object) took.finds took.comes;
+          comes = comes_earlier (run_seen script q) took.used (lock_step p.rank took.object.0) took.finds took.comes;
           held = took.held;
           lacked = ap (λ d. is_duplicated d took.object.0) states ∙ took.lacked;
           looks = took.looks;

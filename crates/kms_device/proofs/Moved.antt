@@ -4,6 +4,7 @@ use Rattle.std.specs.Prelude.{slice_get, nat_le, if◌then◌else◌}
 use Rattle.std.specs.Option.{option_flatten}
 use Rattle.std.proofs.lemmas.Bool.{cases_lt, false≢true, ltb-true, le-leb, lt-leb}
 use Rattle.std.proofs.lemmas.Option.{slice_get-get_or}
+use Rattle.kms_model.specs.Device.Places.{state_at}
 use Rattle.kms_model.specs.declared.objects.Kind.{Kind}
 use Rattle.kms_model.specs.declared.objects.Kind.TheVariants.{Conn, Crtc, Enc, Plane}
 use Rattle.kms_model.specs.declared.objects.ObjId.{ObjId}
@@ -36,7 +37,7 @@ use Rattle.kms_model.proofs.TouchedLemmas.{HasFewObjects, few_objects}
 use Rattle.kms_model.proofs.Facts.{number-in}
 use Rattle.kms_check.proofs.Readiness.{HasRoom}
 use Rattle.kms_calls.specs.States.{state_of_kind}
-use Rattle.kms_state.specs.Places.{is_free, is_free_place, may_duplicate, is_duplicated, is_duplicated_of, state_at, state_of}
+use Rattle.kms_state.specs.Places.{is_free, is_free_place, may_duplicate, is_duplicated, is_duplicated_of, state_of}
 use Rattle.kms_state.proofs.Slots.{slot_at}
 use Rattle.kms_laws.proofs.Modes.{plain-from}
 use Rattle.kms_laws.proofs.OldLookUps.{ask_within_reach}

@@ -2,6 +2,7 @@
 use Rattle.std.proofs.Common.{◌≡◌, ℕ, zero, suc, ◌-◌, ◌<◌, ◌≤◌, List, ◌++◌, append_assoc, length, set, replicate, Bool, true, false, Option, Some, None, refl, sym, ap, ◌∙◌, subst, arith, ⊎_elim}
 use Rattle.std.specs.Prelude.{slice_get, if◌then◌else◌}
 use Rattle.std.proofs.lemmas.Bool.{cases_eq, false≢true}
+use Rattle.kms_model.specs.Device.Places.{alike}
 use Rattle.kms_model.specs.declared.objects.Kind.{Kind}
 use Rattle.kms_model.specs.declared.objects.Kind.TheVariants.{Conn, Crtc, Plane, Enc}
 use Rattle.kms_model.specs.declared.objects.ObjId.{ObjId}
@@ -19,7 +20,7 @@ use Rattle.kms_model.specs.Machine.State.{holds, place_at, request_at}
 use Rattle.kms_model.specs.Request.Agreement.{AgreesOld}
 use Rattle.kms_model.specs.Request.Deciding.{AreFresh, AreFreshIn}
 use Rattle.kms_model.specs.Request.Lookups.{lookups}
-use Rattle.kms_state.specs.Places.{duplicated, may_duplicate, none_duplicated, unchanged}
+use Rattle.kms_state.specs.Places.{duplicated, may_duplicate, none_duplicated}
 use Rattle.kms_state.proofs.OnceDuplicated.{conn_old, crtc_old, free, plane_old}
 use Rattle.kms_state.proofs.Slots.{slice_get-set_other, slice_get-set_same}
 use Rattle.kms_histlock.specs.Rules.{IsStart}
@@ -106,19 +107,19 @@ each_set P states place x each one index both is =
     (λ apart. each index both (sym (slice_get-set_other states place index (Some x) apart) ∙ is))
     (cases_eq index place)
 
-fresh_set : {S : Type 0} (states : List (Option (Both S))) (place : ℕ) (s : S) → place < length states → AreFreshIn states → AreFreshIn (set states place (Some (unchanged s)))
+fresh_set : {S : Type 0} (states : List (Option (Both S))) (place : ℕ) (s : S) → place < length states → AreFreshIn states → AreFreshIn (set states place (Some (alike s)))
 fresh_set {S} states place s within fresh index both is =
     ⊎_elim
     (λ (same : index ≡ place).
-    let at : Some (Some (unchanged s)) ≡ Some (Some both) = sym (slice_get-set_same states place (Some (unchanged s)) within) ∙ (ap (slice_get (set states place (Some (unchanged s)))) (sym same) ∙ is) in
+    let at : Some (Some (alike s)) ≡ Some (Some both) = sym (slice_get-set_same states place (Some (alike s)) within) ∙ (ap (slice_get (set states place (Some (alike s)))) (sym same) ∙ is) in
     ap (λ (o : Option (Option (Both S))). (found_in o).new) (sym at) ∙ ap (λ (o : Option (Option (Both S))). (found_in o).old) at)
-    (λ apart. fresh index both (sym (slice_get-set_other states place index (Some (unchanged s)) apart) ∙ is))
+    (λ apart. fresh index both (sym (slice_get-set_other states place index (Some (alike s)) apart) ∙ is))
     (cases_eq index place)
   where
     found_in : Option (Option (Both S)) → Both S
     found_in (Some (Some both)) = both
-    found_in (Some None) = unchanged s
-    found_in None = unchanged s
+    found_in (Some None) = alike s
+    found_in None = alike s
 
 module _ (r : Run) (client : ℕ) (d : Duplicates) (own : AreOfLocks r client d) (id : ℕ) (held : holds (machine r) client id ≡ true) (there : is_lockable r.script.topology (kind_of id) (index_of id) ≡ true) (is_id : first_id (kind_of id) ≤ id) where
   abbrev T : Topology

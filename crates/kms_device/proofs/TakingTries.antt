@@ -1,6 +1,7 @@
 -- What came of a turn of an attempt in which a client that takes locks asked for one.
 use Rattle.std.proofs.Common.{◌≡◌, ℕ, ◌≤◌, List, [], ◌∷◌, length, Bool, true, false, Option, Some, None, refl, sym, ap, ◌∙◌, subst, arith, inl, inr}
 use Rattle.std.specs.Prelude.{is_none, not, ◌&&◌, nat_lt, ◌==◌, if◌then◌else◌}
+use Rattle.kms_model.specs.Order.Turns.{lock_step}
 use Rattle.kms_model.specs.declared.objects.ObjId.{ObjId}
 use Rattle.kms_model.specs.declared.objects.Ticket.{Ticket}
 use Rattle.kms_model.specs.declared.replies.Step.{Step}
@@ -27,7 +28,7 @@ use Rattle.kms_check.specs.declared.moving.Move.TheVariants as move
 use Rattle.kms_check.specs.Moves.{AsksFor, IsMove}
 use Rattle.kms_calls.specs.declared.contexts.Locked.{Locked}
 use Rattle.kms_calls.specs.declared.contexts.Locked.TheVariants as answer
-use Rattle.kms_calls.specs.Locks.{lock_step, lock_steps, locked_answer, locked_as, present_state}
+use Rattle.kms_calls.specs.Locks.{lock_steps, locked_answer, locked_as, present_state}
 use Rattle.kms_stores.specs.Run.{Run, machine}
 use Rattle.kms_device.specs.declared.attempt.Attempt.{Attempt}
 use Rattle.kms_device.specs.declared.attempt.Attempted.TheVariants as attempted
@@ -165,7 +166,7 @@ module _ (script : Script) (p q : DevicePass) (kept : Attempt) (ticket : Ticket)
     object-is = omega (arith, is_id)
 
     -- what is kept behind the step, by the object's id
-    lock_states : (r : Run) → states_after r p.rank kept.states (lock_step p.rank id) ≡ (if is_none (holder_at (machine r) id.0) then taken_in kept.states id.0 (present_state r id) else kept.states)
+    lock_states : (r : Run) → states_after r p.rank kept.states (lock_step p.rank id.0) ≡ (if is_none (holder_at (machine r) id.0) then taken_in kept.states id.0 (present_state r id) else kept.states)
     lock_states r = ap (λ o. if is_none (holder_at (machine r) o) then taken_in kept.states o (present_state r (record { 0 = o })) else kept.states) object-is
 
     module _ (a : Locked) where
@@ -174,10 +175,10 @@ module _ (script : Script) (p q : DevicePass) (kept : Attempt) (ticket : Ticket)
 
       -- one that a younger context holds cannot be had
       no_lock : (t : DeviceTurn script Says [] p q) → OneOf (holder_at (machine t.found) id.0) (λ holder. ((holder == p.rank) ≡ false) × (nat_lt (ticket_at (machine t.found) holder).0 (ticket_at (machine t.found) p.rank).0 ≡ false))
-          → legal t.found.script (machine t.found) (lock_step p.rank id) ≡ false
+          → legal t.found.script (machine t.found) (lock_step p.rank id.0) ≡ false
       unfolding legal may may_lock
       no_lock t younger =
-          ap (λ s. legal s (machine t.found) (lock_step p.rank id)) t.finds.same
+          ap (λ s. legal s (machine t.found) (lock_step p.rank id.0)) t.finds.same
           ∙ (ap (λ b. not (machine t.found).stalled && (is_lockable script.topology (kind_of id.0) (index_of id.0)
           && (taking_at script (machine t.found) p.rank (λ r. reaches script.topology (machine t.found).device.world r (object_id (kind_of id.0) (index_of id.0))) && b)))
           (ap (λ o. is_free_or_older (machine t.found) (ticket_of (doing_at (machine t.found) p.rank)) (holder_at (machine t.found) o)) object-is
@@ -189,45 +190,45 @@ module _ (script : Script) (p q : DevicePass) (kept : Attempt) (ticket : Ticket)
     unfolding next
     locked (answer.Got s) t =
         subst (λ x. DidAndKeeps script p kept q attempted.Did (with_state kept id x)) (sym got.1)
-        (stepped_on script (Says (answer.Got s)) p q kept c.ready (lock_step p.rank id) refl t (with_state kept id (present_state t.found id)) used c.has
+        (stepped_on script (Says (answer.Got s)) p q kept c.ready (lock_step p.rank id.0) refl t (with_state kept id (present_state t.found id)) used c.has
         (sym (lock_states t.found ∙ ap (λ o. if is_none o then taken_in kept.states id.0 (present_state t.found id) else kept.states) got.0))
-        (comes_found (Says (answer.Got s)) (lock_step p.rank id ∷ []) t (move.Lock id) asks)
+        (comes_found (Says (answer.Got s)) (lock_step p.rank id.0 ∷ []) t (move.Lock id) asks)
         (ap (λ (m : Machine). m.records.replies) taken) (ap (λ m. (place_at m p.rank).command) taken)
         (ap (λ m. returning_of (doing_at m p.rank)) taken ∙ ap returning_of there)
-        (serves-taken script p q kept c.ready (Says (answer.Got s)) (lock_step p.rank id) refl t id (ap (λ (m : Machine). m.device.world) taken)
+        (serves-taken script p q kept c.ready (Says (answer.Got s)) (lock_step p.rank id.0) refl t id (ap (λ (m : Machine). m.device.world) taken)
         (λ other held. ap (λ m. holds m p.rank other) taken ∙ still_held (machine t.found) p.rank id.0 other held) (ap (λ m. (place_at m p.rank).command) taken)
         (ap (λ m. holds m p.rank id.0) taken ∙ now_held (machine t.found) p.rank id.0)))
       where
         there : doing_at (machine t.found) p.rank ≡ doing.Taking ticket
-        there = doing-found script (Says (answer.Got s)) p q kept c.ready (lock_step p.rank id) refl t ∙ c.taking
+        there = doing-found script (Says (answer.Got s)) p q kept c.ready (lock_step p.rank id.0) refl t ∙ c.taking
 
         got : (holder_at (machine t.found) id.0 ≡ None) × (s ≡ present_state t.found id)
         got = got-of (machine t.found) p.rank (present_state t.found id) s (holder_at (machine t.found) id.0) t.said
 
-        taken : next script (machine t.found) (lock_step p.rank id) ≡ put_lock (machine t.found) id.0 (Some p.rank)
+        taken : next script (machine t.found) (lock_step p.rank id.0) ≡ put_lock (machine t.found) id.0 (Some p.rank)
         taken = ap (λ o. effects.locked (machine t.found) p.rank o (holder_at (machine t.found) o)) object-is ∙ ap (effects.locked (machine t.found) p.rank id.0) got.0
     locked (answer.Older h) t =
-        stepped_on script (Says (answer.Older h)) p q kept c.ready (lock_step p.rank id) refl t kept used c.has
+        stepped_on script (Says (answer.Older h)) p q kept c.ready (lock_step p.rank id.0) refl t kept used c.has
         (sym (lock_states t.found ∙ ap (λ o. if is_none o then taken_in kept.states id.0 (present_state t.found id) else kept.states) older.1))
-        (comes_found (Says (answer.Older h)) (lock_step p.rank id ∷ []) t (move.Lock id) asks)
+        (comes_found (Says (answer.Older h)) (lock_step p.rank id.0 ∷ []) t (move.Lock id) asks)
         (ap (λ (m : Machine). m.records.replies) meets) command
         (ap (λ m. returning_of (doing_at m p.rank)) meets ∙ ap (λ (z : Place). returning_of z.doing) place)
-        (serves-next script (Says (answer.Older h)) p q kept c.ready (lock_step p.rank id) refl t (ap (λ (m : Machine). m.device.world) meets) (λ other held. ap (λ m. holds m p.rank other) meets ∙ held) command)
+        (serves-next script (Says (answer.Older h)) p q kept c.ready (lock_step p.rank id.0) refl t (ap (λ (m : Machine). m.device.world) meets) (λ other held. ap (λ m. holds m p.rank other) meets ∙ held) command)
       where
         older : OneOf (holder_at (machine t.found) id.0) (λ holder. nat_lt (ticket_at (machine t.found) holder).0 (ticket_at (machine t.found) p.rank).0 ≡ true)
         older = older-of (machine t.found) p.rank (present_state t.found id) h (holder_at (machine t.found) id.0) t.said
 
-        meets : next script (machine t.found) (lock_step p.rank id) ≡ now_doing (machine t.found) p.rank (doing.MustBackOff (record { 0 = ticket_of (doing_at (machine t.found) p.rank) }) (obj_id id.0))
+        meets : next script (machine t.found) (lock_step p.rank id.0) ≡ now_doing (machine t.found) p.rank (doing.MustBackOff (record { 0 = ticket_of (doing_at (machine t.found) p.rank) }) (obj_id id.0))
         meets = ap (λ o. effects.locked (machine t.found) p.rank o (holder_at (machine t.found) o)) object-is ∙ ap (effects.locked (machine t.found) p.rank id.0) older.1
 
         place : place_at (now_doing (machine t.found) p.rank (doing.MustBackOff (record { 0 = ticket_of (doing_at (machine t.found) p.rank) }) (obj_id id.0))) p.rank
             ≡ record { command = (place_at (machine t.found) p.rank).command; doing = doing.MustBackOff (record { 0 = ticket_of (doing_at (machine t.found) p.rank) }) (obj_id id.0) }
         place = place-now (machine t.found) p.rank (doing.MustBackOff (record { 0 = ticket_of (doing_at (machine t.found) p.rank) }) (obj_id id.0))
 
-        command : (place_at (next script (machine t.found) (lock_step p.rank id)) p.rank).command ≡ (place_at (machine t.found) p.rank).command
+        command : (place_at (next script (machine t.found) (lock_step p.rank id.0)) p.rank).command ≡ (place_at (machine t.found) p.rank).command
         command = ap (λ m. (place_at m p.rank).command) meets ∙ ap (λ (z : Place). z.command) place
     locked (answer.Younger h) t =
-        waits_for script (Says (answer.Younger h)) p q kept c.ready t used (lock_step p.rank id) c.has
+        waits_for script (Says (answer.Younger h)) p q kept c.ready t used (lock_step p.rank id.0) c.has
         (waits_found (Says (answer.Younger h)) [] t (move.Lock id) asks (ap (has_value p.rank) younger.1 ∙ younger.2.0)) (no_lock (answer.Younger h) t younger)
       where
         younger : OneOf (holder_at (machine t.found) id.0) (λ holder. ((holder == p.rank) ≡ false) × (nat_lt (ticket_at (machine t.found) holder).0 (ticket_at (machine t.found) p.rank).0 ≡ false))

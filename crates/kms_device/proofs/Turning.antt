@@ -3,6 +3,7 @@ use Rattle.std.proofs.Common.{◌≡◌, ◌⊎◌, ℕ, ◌+◌, ◌-◌, List,
 use Rattle.std.proofs.lemmas.List.Elements.{All-nil, All-cons}
 use Rattle.std.specs.Fn.{FnOnceReturnsAtMut, Once}
 use denote.Ref.{MutBor}
+use Rattle.kms_model.specs.Order.Turns.{lock_step}
 use Rattle.kms_model.specs.declared.objects.ObjId.{ObjId}
 use Rattle.kms_model.specs.declared.replies.Reply.{Reply}
 use Rattle.kms_model.specs.declared.replies.Step.{Step}
@@ -15,7 +16,7 @@ use Rattle.kms_stores.specs.declared.looking.Decided.{Decided}
 use Rattle.kms_stores.specs.declared.looking.Decided.TheVariants as decided
 use Rattle.kms_stores.specs.Calls.{read_step, return_step}
 use Rattle.kms_stores.specs.Decisions.{steps_of}
-use Rattle.kms_calls.specs.Locks.{lock_step, lock_steps, relock_steps}
+use Rattle.kms_calls.specs.Locks.{lock_steps, relock_steps}
 use Rattle.kms_stores.specs.Run.{Run, gains, if_ok}
 use Rattle.kms_stores.specs.Work.{claim_steps}
 use Rattle.kms_device.specs.Kernels.{AddsPlainOf, is_plain}
@@ -125,8 +126,8 @@ decides_of client (Ok (decided.Again label was now)) x plain own = none_of clien
 decides_of client (Err e) x plain own = none_of client
 
 pub locks_of : {E : Type 0} (client : ℕ) (id : ObjId) (r : Result Locked E) → ArePlainOf client (if_ok r (lock_steps client id))
-locks_of client id (Ok (locked.Got s)) = one_of client (lock_step client id) refl (inr refl)
-locks_of client id (Ok (locked.Older holder)) = one_of client (lock_step client id) refl (inr refl)
+locks_of client id (Ok (locked.Got s)) = one_of client (lock_step client id.0) refl (inr refl)
+locks_of client id (Ok (locked.Older holder)) = one_of client (lock_step client id.0) refl (inr refl)
 locks_of client id (Ok (locked.Own s)) = none_of client
 locks_of client id (Ok (locked.Younger holder)) = none_of client
 locks_of client id (Ok (locked.Held holder)) = none_of client

@@ -1,6 +1,7 @@
 -- What an attempt at a client's request does. From: "Atomic Mode Setting"; "KMS Locking", `drm_modeset_lock.c` (the loop of
 -- drm_modeset_lock, drm_modeset_backoff and the contended lock). That an attempt makes at most one step is this device's own.
 use Rattle.std.specs.Prelude.{◌≡◌, ◌≢◌, ◌⊎◌, ⊤, All, Any, Bool, ℕ, ◌+◌, ◌==◌, true, false, List, [], ◌∷◌, ◌++◌, length, filter, is_none, is_some, Option, Some, None, if◌then◌else◌}
+use Rattle.kms_model.specs.Order.Turns.{lock_step}
 use Rattle.kms_model.specs.declared.objects.ObjId.{ObjId}
 use Rattle.kms_model.specs.declared.replies.Answered.{Answered}
 use Rattle.kms_model.specs.declared.replies.Reply.{Reply}
@@ -27,7 +28,7 @@ use Rattle.kms_check.specs.declared.moving.Move.TheVariants as move
 use Rattle.kms_check.specs.Moves.{IsMove}
 use Rattle.kms_stores.specs.Calls.{answered}
 use Rattle.kms_stores.specs.Decisions.{world}
-use Rattle.kms_calls.specs.Locks.{lock_step, object_or_zero, present_state}
+use Rattle.kms_calls.specs.Locks.{object_or_zero, present_state}
 use Rattle.kms_stores.specs.Run.{Run, machine}
 use Rattle.kms_stores.specs.Swaps.{late_reply}
 use Rattle.kms_device.specs.declared.attempt.Attempt.{Attempt}
@@ -94,7 +95,7 @@ is_lock (move.Accept checked resolved) = false
 -- space for its events, or it is busy.
 abbrev pub step_of_move : Run → ℕ → Request → Move → Step
 step_of_move r client request (move.Refuse why) = step.Refuse client
-step_of_move r client request (move.Lock id) = lock_step client id
+step_of_move r client request (move.Lock id) = lock_step client id.0
 step_of_move r client request (move.Accept checked resolved) =
     if is_test request.flags then step.Test client
     else (if is_some (late_reply r.script.topology (machine r) client request) then step.Refuse client else step.Swap client)
@@ -191,10 +192,10 @@ pub record TookAgain (script : Script) (client : ℕ) (before after : DevicePass
   pub object : ObjId
   pub finds : FindsRequest script client before (run_seen script after)
   pub used : List (ℕ × Look)
-  pub comes : ComesNext before.seen (run_seen script after) client old used (lock_step client object)
+  pub comes : ComesNext before.seen (run_seen script after) client old used (lock_step client object.0)
   pub held : holds (machine (run_seen script after)) client object.0 ≡ true
   pub lacked : is_duplicated old.states object.0 ≡ false
-  pub looks : new.looks ≡ looks_after old used (lock_step client object)
+  pub looks : new.looks ≡ looks_after old used (lock_step client object.0)
   pub has : new.states ≡ duplicated old.states object.0 (present_state (run_seen script after) object)
 
 -- No step was made: a decision is asked for next, and a label named something else, in the history that was found, than the

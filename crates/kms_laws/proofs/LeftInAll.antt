@@ -2,6 +2,7 @@
 use Rattle.std.proofs.Common.{◌≡◌, ℕ, suc, ◌+◌, ◌<◌, ◌≤◌, List, [], ◌∷◌, length, Bool, true, false, not, ◌&&◌, Some, refl, sym, ap, ◌∙◌, arith, inl, inr, ◌⊎◌}
 use Rattle.std.specs.Prelude.{filter, if◌then◌else◌}
 use Rattle.std.proofs.lemmas.Bool.{and_parts, false_from_ne_true, false≢true}
+use Rattle.kms_model.specs.Firsts.{one_if}
 use Rattle.kms_model.specs.declared.objects.Kind.TheVariants.{Crtc}
 use Rattle.kms_model.specs.declared.replies.Step.{Step}
 use Rattle.kms_model.specs.declared.replies.Step.TheVariants.{Begin, BackOff, Claim, Cleanup, Flush, HwDone, Lock, Make, Read, Refuse, Relock, Return, Signal, Stall, Swap, Test, Vblank, Write}
@@ -13,7 +14,7 @@ use Rattle.kms_model.specs.Machine.Histories.{legal}
 use Rattle.kms_model.specs.Machine.State.{Machine}
 use Rattle.kms_model.proofs.Items.{IsIn}
 use Rattle.kms_model.proofs.TouchedLemmas.{HasFewObjects}
-use Rattle.kms_laws.specs.TailsLeft.{LeavesLess, LeavesLessInAll, all_left, commit_of_step, is_swap, one_if, sum, tail_left}
+use Rattle.kms_laws.specs.TailsLeft.{LeavesLess, LeavesLessInAll, all_left, commit_of_step, is_swap, sum, tail_left}
 use Rattle.kms_laws.proofs.Basics.{both_bools}
 use Rattle.kms_laws.proofs.Drained.{flushed-test, written-test}
 use Rattle.kms_laws.proofs.Counted.{counts_carried, is_vblank}

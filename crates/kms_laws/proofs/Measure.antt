@@ -5,6 +5,7 @@ use Rattle.std.specs.Prelude.{if◌then◌else◌, filter, find, is_some, nat_lt
 use Rattle.std.proofs.lemmas.List.FromFn.{length-map-range_with_len, length-range_with_len}
 use Rattle.std.proofs.Math.Nat.{mul-le-mul_right}
 use Rattle.std.proofs.lemmas.Bool.{and_from, and_parts, cases_eq, cases_lt, eq-eqb, eqb-true, le-ltb, ne_eqb, false≢true}
+use Rattle.kms_model.specs.Firsts.{one_if}
 use Rattle.kms_model.specs.declared.objects.Kind.TheVariants.{Crtc, Plane, Conn}
 use Rattle.kms_model.specs.declared.objects.Topology.{Topology}
 use Rattle.kms_model.specs.declared.runs.Doing.{Doing}
@@ -18,7 +19,7 @@ use Rattle.kms_model.specs.Machine.Steps.{ticket_of}
 use Rattle.kms_model.proofs.Items.{IsIn, filter-same}
 use Rattle.kms_model.proofs.TouchedLemmas.{HasFewObjects}
 use Rattle.kms_laws.specs.Laws.{has_context}
-use Rattle.kms_laws.specs.TailsLeft.{one_if, sum}
+use Rattle.kms_laws.specs.TailsLeft.{sum}
 use Rattle.kms_laws.proofs.Basics.{both_bools}
 use Rattle.kms_laws.proofs.Contexts.{LocksStand, doing_in, holder_in}
 use Rattle.kms_laws.proofs.Quiet.{find-fails}

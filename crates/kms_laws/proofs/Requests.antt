@@ -3,6 +3,7 @@ use Rattle.std.proofs.Common.{◌≡◌, ℕ, List, [], ◌∷◌, Bool, true, f
 use Rattle.std.specs.Prelude.{if◌then◌else◌, is_some, not, pos}
 use Rattle.std.specs.Ordering.{int_eq}
 use Rattle.std.proofs.lemmas.Bool.{and_parts, and_from, or_cases, or_left, or_right, or_parts, or_from, eqb-true, eq-eqb, cases_Bool, false_from_ne_true, false≢true}
+use Rattle.kms_model.specs.Firsts.{one_if}
 use Rattle.kms_model.specs.declared.objects.Kind.{Kind}
 use Rattle.kms_model.specs.declared.objects.Kind.TheVariants.{Crtc, Plane, Conn, Enc}
 use Rattle.kms_model.specs.declared.objects.Topology.{Topology}
@@ -15,7 +16,7 @@ use Rattle.kms_model.specs.declared.worlds.Thing.{Thing}
 use Rattle.kms_model.specs.declared.worlds.World.{World}
 use Rattle.kms_model.specs.Device.Objects.{ids_of}
 use Rattle.kms_model.specs.Device.States.{connector_on, crtc_at, gamma_at, mode_at, plane_at}
-use Rattle.kms_model.specs.Machine.Registers.{CrtcWords, crtc_words, flag_word, gamma_words, mode_words}
+use Rattle.kms_model.specs.Machine.Registers.{CrtcWords, crtc_words, gamma_words, mode_words}
 use Rattle.kms_model.specs.Request.Agreement.{crtc_state_at}
 use Rattle.kms_model.specs.Request.Apply.{after, object_of}
 use Rattle.kms_model.specs.Request.Checks.{is_active}
@@ -32,7 +33,7 @@ abbrev pub words_at : Topology → List Thing → List Setting → ℕ → CrtcW
 words_at t things values crtc = crtc_words (connector_on values crtc (ids_of t Conn)) (crtc_state_at t things values crtc)
 
 words_with : Bool → ℕ → List ℕ → Option Gamma → CrtcWords
-words_with active conn mode gamma = record { active = flag_word active; conn = conn; mode = mode; gamma_on = flag_word (is_some gamma); gamma = gamma_words gamma }
+words_with active conn mode gamma = record { active = one_if active; conn = conn; mode = mode; gamma_on = one_if (is_some gamma); gamma = gamma_words gamma }
 
 pub words_same : (t : Topology) (xs ys : List Thing) (old new : List Setting) (c : ℕ) → is_active new c ≡ is_active old c → connector_on new c (ids_of t Conn) ≡ connector_on old c (ids_of t Conn) → mode_at ys new c ≡ mode_at xs old c
     → gamma_at ys new c ≡ gamma_at xs old c → words_at t ys new c ≡ words_at t xs old c

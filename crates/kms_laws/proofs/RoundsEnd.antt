@@ -2,6 +2,7 @@
 use Rattle.std.proofs.Common.{◌≡◌, ℕ, zero, suc, ◌+◌, ◌<◌, ◌≤◌, ◌^◌, List, [], ◌∷◌, length, Bool, true, false, refl, sym, ap, ◌∙◌, subst, arith, ⊎_elim}
 use Rattle.std.specs.Prelude.{reverse}
 use Rattle.std.proofs.lemmas.Bool.{and_parts, cases_Bool, cases_lt, cond-false, cond-true, eq-eqb}
+use Rattle.kms_model.specs.Firsts.{one_if}
 use Rattle.kms_model.specs.declared.replies.Step.{Step}
 use Rattle.kms_model.specs.declared.scripts.Script.{Script}
 use Rattle.kms_model.specs.Machine.Effects.{next}
@@ -11,7 +12,6 @@ use Rattle.kms_model.specs.Order.Rounds.{is_still, round, rounds, run_of}
 use Rattle.kms_model.specs.Order.Turns.{Progress, does}
 use Rattle.kms_model.specs.Script.WellFormed.{IsWellFormed}
 use Rattle.kms_laws.specs.Ends.{is_moving, moves_in}
-use Rattle.kms_laws.specs.TailsLeft.{one_if}
 use Rattle.kms_laws.proofs.Basics.{both_bools}
 use Rattle.kms_laws.proofs.Finite.{falls, falls-lower, idle-same, left, left-bound}
 use Rattle.kms_laws.proofs.Modes.{plain-from}

@@ -5,6 +5,7 @@ use Rattle.std.specs.List.{AllByRecursion}
 use Rattle.std.specs.Ordering.{int_eq}
 use Rattle.std.proofs.lemmas.Bool.{cond-false, ne_eqb}
 use Rattle.std.proofs.lemmas.Int.{ints}
+use Rattle.kms_model.specs.Firsts.{one_if}
 use Rattle.kms_model.specs.declared.objects.Format.{Format}
 use Rattle.kms_model.specs.declared.objects.Format.TheVariants.{Xr24, Ar24, Rg16}
 use Rattle.kms_model.specs.declared.objects.Kind.TheVariants.{Crtc, Plane, Conn}
@@ -27,14 +28,13 @@ use Rattle.kms_model.specs.Device.States.{connector_on, framebuffer_in, framebuf
 use Rattle.kms_model.specs.Device.World.{thing_numbered, value}
 use Rattle.kms_model.specs.Frames.Pictures.{layers_with, picture, picture_in, put_plane, seen_on, shown_with}
 use Rattle.kms_model.specs.Frames.Shown.{AreFramed, FramesIn}
-use Rattle.kms_model.specs.Machine.Registers.{CrtcWords, bytes_of_words, code_of, crtc_words, fb_number, flag_word, format_in, gamma_in_words, gamma_with, gamma_words, mode_in_words, mode_words, plane_in, plane_words}
+use Rattle.kms_model.specs.Machine.Registers.{CrtcWords, bytes_of_words, code_of, crtc_words, fb_number, format_in, gamma_in_words, gamma_with, gamma_words, mode_in_words, mode_words, plane_in, plane_words}
 use Rattle.kms_model.specs.Request.Checks.{is_active}
 use Rattle.kms_model.proofs.HeldValues.{all_held-from}
 use Rattle.kms_model.proofs.Items.{IsIn, IsObject, ids-in}
 use Rattle.kms_model.proofs.StateLemmas.{plane_in_range, sound-mode}
 use Rattle.kms_model.proofs.ThingLemmas.{IsNumberedIn, find-in, ids-numbered}
-use Rattle.kms_model.proofs.Facts.{by_recursion-at}
-use Rattle.kms_model.proofs.Facts.{signed_back}
+use Rattle.kms_model.proofs.Facts.{by_recursion-at, signed_back}
 use Rattle.kms_laws.proofs.Invariants.{picture_in_words}
 use Rattle.kms_laws.proofs.Requests.{words_at}
 
@@ -155,7 +155,7 @@ words_show t w c sound framed kept is =
   where
     -- the table of colour values of the words of one, or of none
     table : Option Gamma → Option Gamma
-    table g = if flag_word (is_some g) == 1 then Some (gamma_with (bytes_of_words (gamma_words g))) else None
+    table g = if one_if (is_some g) == 1 then Some (gamma_with (bytes_of_words (gamma_words g))) else None
 
     table-back : (g : Option Gamma) → gamma_at w.things w.values c ≡ g → table g ≡ g
     table-back None e = refl
@@ -179,6 +179,6 @@ words_show t w c sound framed kept is =
         subst (λ z. is_active w.values z ≡ true → is_some (mode_at w.things w.values z) ≡ true) (sym o.same) (sound-mode t w o.index sound o.within) on
 
     by_active : (off : Bool) → int_eq (value w.values c ACTIVE) (pos 0) ≡ off
-        → (if not (flag_word (not off) == 0) then shows (mode_at w.things w.values c) else Off) ≡ (if off then Off else picture_in t w.things w.values c (mode_at w.things w.values c))
+        → (if not (one_if (not off) == 0) then shows (mode_at w.things w.values c) else Off) ≡ (if off then Off else picture_in t w.things w.values c (mode_at w.things w.values c))
     by_active true e = refl
     by_active false e = with_mode (mode_at w.things w.values c) refl (some_mode (ap not e))

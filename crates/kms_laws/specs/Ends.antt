@@ -1,5 +1,6 @@
 -- How the order of one thread ends: where nothing more can be done, the history is drained or dead.
 use Rattle.std.specs.Prelude.{suc, ◌≡◌, ◌↔◌, ◌⊎◌, ◌≤◌, ◌<◌, ℕ, ◌+◌, ◌^◌, Bool, true, false, List, [], ◌∷◌, ◌++◌, is_some}
+use Rattle.kms_model.specs.Firsts.{one_if}
 use Rattle.kms_model.specs.declared.replies.Step.{Step}
 use Rattle.kms_model.specs.declared.replies.Step.TheVariants.{Vblank}
 use Rattle.kms_model.specs.declared.scripts.Script.{Script}
@@ -11,7 +12,6 @@ use Rattle.kms_model.specs.Order.Rounds.{IsFinished, IsOne, is_still, rounds, ru
 use Rattle.kms_model.specs.Promises.{InEachHistory}
 use Rattle.kms_model.specs.Script.Generated.{generated}
 use Rattle.kms_model.specs.Script.WellFormed.{IsWellFormed}
-use Rattle.kms_laws.specs.TailsLeft.{one_if}
 
 -- the history is drained, or it is dead
 abbrev pub IsOver : Script → List Step → Type 0

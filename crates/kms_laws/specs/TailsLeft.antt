@@ -1,5 +1,6 @@
 -- What is left of the tail of a commit: at most 31 steps, and each of its steps leaves less.
-use Rattle.std.specs.Prelude.{◌≡◌, ℕ, zero, suc, ◌+◌, ◌<◌, ◌≤◌, Bool, true, false, ◌&&◌, not, List, length, filter, Option, Some, None, if◌then◌else◌}
+use Rattle.std.specs.Prelude.{◌≡◌, ℕ, zero, suc, ◌+◌, ◌<◌, ◌≤◌, Bool, true, false, ◌&&◌, not, List, length, filter, Option, Some, None}
+use Rattle.kms_model.specs.Firsts.{one_if}
 use Rattle.kms_model.specs.declared.objects.Kind.TheVariants.{Crtc}
 use Rattle.kms_model.specs.declared.objects.Topology.{Topology}
 use Rattle.kms_model.specs.declared.replies.Step.{Step}
@@ -11,9 +12,6 @@ use Rattle.kms_model.specs.Machine.Effects.{next}
 use Rattle.kms_model.specs.Machine.Histories.{at}
 use Rattle.kms_model.specs.Machine.State.{Commit, Machine, Marks, go_at}
 use Rattle.kms_model.specs.Promises.{AtEachStep, InEachHistory}
-
-abbrev pub one_if : Bool → ℕ
-one_if b = if b then 1 else 0
 
 -- the objects that a commit has still to write, and the CRTCs at which it has still to be flushed, or to latch
 abbrev pub unwritten : Topology → List Commit → Marks → ℕ → List ℕ

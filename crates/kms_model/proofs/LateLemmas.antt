@@ -7,6 +7,7 @@ use Rattle.std.specs.Option.{option_and_then, option_flatten}
 use Rattle.std.proofs.lemmas.Bool.{eq-eqb, ne_eqb, cases_Bool, lt-ltb, not_from_true, not_from_false, both_ways, false≢true, cases_lt}
 use Rattle.std.proofs.lemmas.Nat.{pow_pos}
 use Rattle.std.proofs.lemmas.Option.{slice_get_within}
+use Rattle.kms_model.specs.Device.Places.{state_at}
 use Rattle.kms_model.specs.declared.objects.Kind.{Kind}
 use Rattle.kms_model.specs.declared.objects.Kind.TheVariants as kind
 use Rattle.kms_model.specs.declared.objects.Topology.{Topology}
@@ -27,10 +28,10 @@ use Rattle.kms_model.specs.Device.Objects.{first_id, object_id, count_of, ids_of
 use Rattle.kms_model.specs.Device.World.{value}
 use Rattle.kms_model.specs.Device.States.{mode_at, crtc_at, plane_at}
 use Rattle.kms_model.specs.Request.Named.{names, differs, is_rerouted, needs_modeset}
-use Rattle.kms_model.specs.Request.Touched.{set_where, named_set, is_asked, out_fence_label}
+use Rattle.kms_model.specs.Request.Touched.{named_by, set_where, is_asked, out_fence_label}
 use Rattle.kms_model.specs.Request.Agreement.{on_crtc, crtc_state_at, AgreesOld, AgreesNew}
 use Rattle.kms_model.specs.Request.Checks.{with_ids, plane_refusal_at, crtc_refusal_at, conn_refusal_at, clone_refusal_at, route_refusal_at, shown_refusal, shown_refusal_at, late_refusal}
-use Rattle.kms_model.specs.Request.Late.{duplicate_at, duplicate_in, members, plane_refusal_of, crtc_refusal_of, conn_refusal_of, clone_refusal_of, route_refusal_of, new_mode, shown_refusal_of, needs_modeset_between, needs_modeset_if, first_in, late_of_states}
+use Rattle.kms_model.specs.Request.Late.{duplicate_in, members, plane_refusal_of, crtc_refusal_of, conn_refusal_of, clone_refusal_of, route_refusal_of, new_mode, shown_refusal_of, needs_modeset_between, needs_modeset_if, first_in, late_of_states}
 use Rattle.kms_model.specs.Device.Sound.IsCrtcOrNone.{IsNone, IsCrtc}
 use Rattle.kms_model.specs.Device.Sound.{IsCrtcOrNone, kept_properties}
 use Rattle.kms_model.proofs.Items.{IsIn, ids-has, list_any-at, with_ids-has}
@@ -122,10 +123,10 @@ pub record Covers (t : Topology) (w : World) (r : Request) (d : Duplicates) (obj
   pub planes : (i : ℕ) → i < count_of t kind.Plane → touches_object t w r (object_id kind.Plane i) ≡ true → has_bit objects.planes i ≡ true
   pub crtcs : (i : ℕ) → i < count_of t kind.Crtc → touches w r (object_id kind.Crtc i) ≡ true → has_bit objects.crtcs i ≡ true
   pub conns : (i : ℕ) → i < count_of t kind.Conn → touches_object t w r (object_id kind.Conn i) ≡ true → has_bit objects.conns i ≡ true
-  pub has_planes : (i : ℕ) → i < count_of t kind.Plane → has_bit objects.planes i ≡ true → is_some (duplicate_at d.planes i) ≡ true
-  pub has_crtcs : (i : ℕ) → i < count_of t kind.Crtc → has_bit objects.crtcs i ≡ true → is_some (duplicate_at d.crtcs i) ≡ true
-  pub has_conns : (i : ℕ) → i < count_of t kind.Conn → has_bit objects.conns i ≡ true → is_some (duplicate_at d.conns i) ≡ true
-  pub has_crtc_of : (i j : ℕ) → i < count_of t kind.Plane → has_bit objects.planes i ≡ true → j < count_of t kind.Crtc → crtc_at (after w r) (object_id kind.Plane i) ≡ object_id kind.Crtc j → is_some (duplicate_at d.crtcs j) ≡ true
+  pub has_planes : (i : ℕ) → i < count_of t kind.Plane → has_bit objects.planes i ≡ true → is_some (state_at d.planes i) ≡ true
+  pub has_crtcs : (i : ℕ) → i < count_of t kind.Crtc → has_bit objects.crtcs i ≡ true → is_some (state_at d.crtcs i) ≡ true
+  pub has_conns : (i : ℕ) → i < count_of t kind.Conn → has_bit objects.conns i ≡ true → is_some (state_at d.conns i) ≡ true
+  pub has_crtc_of : (i j : ℕ) → i < count_of t kind.Plane → has_bit objects.planes i ≡ true → j < count_of t kind.Crtc → crtc_at (after w r) (object_id kind.Plane i) ≡ object_id kind.Crtc j → is_some (state_at d.crtcs j) ≡ true
 
 pub flatten-some : {A : Type 0} (o : Option (Option A)) (x : A) → option_flatten o ≡ Some x → o ≡ Some (Some x)
 flatten-some None x is = absurd cc
@@ -134,11 +135,11 @@ flatten-some (Some (Some y)) x is = ap Some is
 
 -- an object of a set has what its states give, and one outside of it what is given for it
 part-same : {S : Type 0} (mask : ℕ) (states : List (Option (Both S))) (f : ℕ → Both S → Option ℕ) (i : ℕ) (answer : Option ℕ)
-    → (has_bit mask i ≡ true → is_some (duplicate_at states i) ≡ true) → (has_bit mask i ≡ false → answer ≡ None) → (has_bit mask i ≡ true → (both : Both S) → slice_get states i ≡ Some (Some both) → f i both ≡ answer)
+    → (has_bit mask i ≡ true → is_some (state_at states i) ≡ true) → (has_bit mask i ≡ false → answer ≡ None) → (has_bit mask i ≡ true → (both : Both S) → slice_get states i ≡ Some (Some both) → f i both ≡ answer)
     → option_and_then (f i) (duplicate_in mask states i) ≡ answer
-part-same {S} mask states f i answer there outside inside = go (has_bit mask i) refl (duplicate_at states i) refl
+part-same {S} mask states f i answer there outside inside = go (has_bit mask i) refl (state_at states i) refl
   where
-    go : (b : Bool) → has_bit mask i ≡ b → (o : Option (Both S)) → duplicate_at states i ≡ o → option_and_then (f i) (if b then o else None) ≡ answer
+    go : (b : Bool) → has_bit mask i ≡ b → (o : Option (Both S)) → state_at states i ≡ o → option_and_then (f i) (if b then o else None) ≡ answer
     go false out o is = sym (outside out)
     go true within (Some both) is = inside within both (flatten-some (slice_get states i) both is)
     go true within None is = absurd (false≢true (ap is_some (sym is) ∙ there within))
@@ -186,12 +187,12 @@ abbrev pub fenced_set : Topology → Request → ℕ
 fenced_set t r = set_where t kind.Crtc (λ crtc. is_asked (out_fence_label r.assigns crtc))
 
 crtcs-same : (t : Topology) (w : World) (r : Request) (d : Duplicates) (objects : Mask) → StandAt t w r d → Covers t w r d objects
-    → first_in objects.crtcs d.crtcs (crtc_refusal_of r.flags (named_set t w.values (after w r) r.assigns) (fenced_set t r)) (count_of t kind.Crtc) ≡ first_some (crtc_refusal_at w.things w.values (after w r) r) (ids_of t kind.Crtc)
+    → first_in objects.crtcs d.crtcs (crtc_refusal_of r.flags (named_by t w r) (fenced_set t r)) (count_of t kind.Crtc) ≡ first_some (crtc_refusal_at w.things w.values (after w r) r) (ids_of t kind.Crtc)
 crtcs-same t w r d objects stand covers =
-    each_crtc-same t w r d objects (crtc_refusal_of r.flags (named_set t w.values (after w r) r.assigns) (fenced_set t r)) (crtc_refusal_at w.things w.values (after w r) r) stand covers
+    each_crtc-same t w r d objects (crtc_refusal_of r.flags (named_by t w r) (fenced_set t r)) (crtc_refusal_at w.things w.values (after w r) r) stand covers
     (λ crtc is untouched. untouched-crtc t w r crtc stand.at is untouched)
     (λ i both within old new.
-    let named : has_bit (named_set t w.values (after w r) r.assigns) i ≡ names w.values (after w r) r.assigns (object_id kind.Crtc i) = has_bit-below (λ j. names w.values (after w r) r.assigns (object_id kind.Crtc j)) (count_of t kind.Crtc) i within in
+    let named : has_bit (named_by t w r) i ≡ names w.values (after w r) r.assigns (object_id kind.Crtc i) = has_bit-below (λ j. names w.values (after w r) r.assigns (object_id kind.Crtc j)) (count_of t kind.Crtc) i within in
     let fenced : has_bit (fenced_set t r) i ≡ is_asked (out_fence_label r.assigns (object_id kind.Crtc i)) = has_bit-below (λ j. is_asked (out_fence_label r.assigns (object_id kind.Crtc j))) (count_of t kind.Crtc) i within in
     rw (old, new, named, fenced) refl)
 
@@ -221,12 +222,12 @@ routes-same t w r d objects stand covers =
     rw new (ap (λ b. number_if 20 (differs (is_some (mode_at w.things (after w r) (object_id kind.Crtc i))) b)) some))
 
 -- the mode of a plane's CRTC that is duplicated
-new_mode-at : (t : Topology) (w : World) (r : Request) (d : Duplicates) (j crtc : ℕ) → StandAt t w r d → crtc ≡ object_id kind.Crtc j → is_some (duplicate_at d.crtcs j) ≡ true → new_mode d.crtcs crtc ≡ mode_at w.things (after w r) crtc
+new_mode-at : (t : Topology) (w : World) (r : Request) (d : Duplicates) (j crtc : ℕ) → StandAt t w r d → crtc ≡ object_id kind.Crtc j → is_some (state_at d.crtcs j) ≡ true → new_mode d.crtcs crtc ≡ mode_at w.things (after w r) crtc
 new_mode-at t w r d j crtc stand same there =
     let index : crtc - first_id kind.Crtc ≡ j = omega arith in
-    ap (λ i. option_and_then (λ both. both.new.mode) (duplicate_at d.crtcs i)) index ∙ go (duplicate_at d.crtcs j) refl there ∙ ap (mode_at w.things (after w r)) (sym same)
+    ap (λ i. option_and_then (λ both. both.new.mode) (state_at d.crtcs i)) index ∙ go (state_at d.crtcs j) refl there ∙ ap (mode_at w.things (after w r)) (sym same)
   where
-    go : (o : Option (Both CrtcState)) → duplicate_at d.crtcs j ≡ o → is_some o ≡ true → option_and_then (λ both. both.new.mode) o ≡ mode_at w.things (after w r) (object_id kind.Crtc j)
+    go : (o : Option (Both CrtcState)) → state_at d.crtcs j ≡ o → is_some o ≡ true → option_and_then (λ both. both.new.mode) o ≡ mode_at w.things (after w r) (object_id kind.Crtc j)
     go None is some = absurd cc
     go (Some both) is some = ap (λ s. s.mode) (stand.new.crtcs j both (flatten-some (slice_get d.crtcs j) both is))
 
@@ -302,9 +303,9 @@ needs_modeset-states t w r i both at within old new =
 modesets-same : (t : Topology) (w : World) (r : Request) (d : Duplicates) (objects : Mask) → StandAt t w r d → Covers t w r d objects
     → list_any (λ i. needs_modeset_if (duplicate_in objects.crtcs d.crtcs i)) (range_with_len 0 (count_of t kind.Crtc)) ≡ list_any (needs_modeset t w.things w.values (after w r)) (ids_of t kind.Crtc)
 modesets-same t w r d objects stand covers =
-    any-ids t kind.Crtc (λ i. needs_modeset_if (duplicate_in objects.crtcs d.crtcs i)) (needs_modeset t w.things w.values (after w r)) (λ i within. go i within (has_bit objects.crtcs i) refl (duplicate_at d.crtcs i) refl)
+    any-ids t kind.Crtc (λ i. needs_modeset_if (duplicate_in objects.crtcs d.crtcs i)) (needs_modeset t w.things w.values (after w r)) (λ i within. go i within (has_bit objects.crtcs i) refl (state_at d.crtcs i) refl)
   where
-    go : (i : ℕ) → i < count_of t kind.Crtc → (b : Bool) → has_bit objects.crtcs i ≡ b → (o : Option (Both CrtcState)) → duplicate_at d.crtcs i ≡ o → needs_modeset_if (if b then o else None) ≡ needs_modeset t w.things w.values (after w r) (object_id kind.Crtc i)
+    go : (i : ℕ) → i < count_of t kind.Crtc → (b : Bool) → has_bit objects.crtcs i ≡ b → (o : Option (Both CrtcState)) → state_at d.crtcs i ≡ o → needs_modeset_if (if b then o else None) ≡ needs_modeset t w.things w.values (after w r) (object_id kind.Crtc i)
     go i within false out o is = sym (untouched-modeset t w r (object_id kind.Crtc i) stand.at (untouched-where (touches w r (object_id kind.Crtc i)) (has_bit objects.crtcs i) (covers.crtcs i within) out))
     go i within true inside None is = absurd (false≢true (ap is_some (sym is) ∙ covers.has_crtcs i within inside))
     go i within true inside (Some both) is =
@@ -314,7 +315,7 @@ modesets-same t w r d objects stand covers =
 -- The refusals of duplicated states are those of the values, where the set that is looked at covers what the request
 -- touches.
 pub late_of_states-is : (t : Topology) (w : World) (r : Request) (d : Duplicates) (objects : Mask) → StandAt t w r d → Covers t w r d objects
-    → late_of_states t d objects r.flags (named_set t w.values (after w r) r.assigns) (fenced_set t r) ≡ late_refusal t w.things w.values (after w r) r
+    → late_of_states t d objects r.flags (named_by t w r) (fenced_set t r) ≡ late_refusal t w.things w.values (after w r) r
 unfolding late_of_states late_refusal
 late_of_states-is t w r d objects stand covers =
     rw (

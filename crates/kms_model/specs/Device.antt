@@ -7,6 +7,7 @@ pub mod Properties
 pub mod Masks
 pub mod World
 pub mod States
+pub mod Places
 pub mod Sound
 pub mod Closing
 pub mod Execution

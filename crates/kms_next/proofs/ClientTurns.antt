@@ -19,7 +19,8 @@ use Rattle.kms_model.specs.Request.Reach.{reaches}
 use Rattle.kms_model.proofs.Items.{or_else-nones}
 use Rattle.kms_laws.proofs.Headlines.{range-in}
 use Rattle.kms_laws.proofs.Quiet.{find-none, unable-quiet}
-use Rattle.kms_next.specs.Judging.{request_if, request_taken}
+use Rattle.kms_next.specs.Judging.{request_taken}
+use Rattle.kms_stores.specs.Calls.{only_if}
 use Rattle.kms_stores.specs.Run.{Run, machine}
 use Rattle.kms_stores.specs.Stands.{Stores, Stands}
 use Rattle.kms_next.proofs.JudgedRequests.{no_refuse, no_swap, no_test}
@@ -112,7 +113,7 @@ module _ (v : Run) (client : ℕ) where
   -- the request for which it takes them
   pub lock_none : None ≡ request_taken v.script (machine v) client → None ≡ lock
   lock_none none = by (is_taking (doing_at (machine v) client)) refl none where
-    by : (b : Bool) → is_taking (doing_at (machine v) client) ≡ b → None ≡ request_if b (request_at v.script (machine v) client) → None ≡ lock
+    by : (b : Bool) → is_taking (doing_at (machine v) client) ≡ b → None ≡ only_if b (request_at v.script (machine v) client) → None ≡ lock
     by true taking is = ap (λ (o : Option Request). option_map (lock_step client) (option_and_then (next_lock v.script (machine v) client) o)) is
     by false off is = no_lock off
 

@@ -4,6 +4,7 @@ use Rattle.std.specs.Prelude.{◌&&◌, find, is_some, not}
 use Rattle.std.specs.List.{list_any, range_with_len}
 use Rattle.std.specs.Option.{option_map}
 use Rattle.std.proofs.lemmas.Bool.{and_right, false≢true, le-ltb, ltb-true, or_right}
+use Rattle.kms_model.specs.Device.Places.{state_at}
 use Rattle.kms_model.specs.declared.objects.Kind.{Kind}
 use Rattle.kms_model.specs.declared.objects.Kind.TheVariants.{Conn, Crtc, Enc, Plane}
 use Rattle.kms_model.specs.declared.objects.Topology.{Topology}
@@ -23,7 +24,6 @@ use Rattle.kms_model.specs.Order.Turns.{first_missing, in_affected_group, in_nam
 use Rattle.kms_model.specs.Request.Apply.{after}
 use Rattle.kms_model.specs.Request.Deciding.{IsChecked}
 use Rattle.kms_model.specs.Request.Groups.{affected_group}
-use Rattle.kms_model.specs.Request.Late.{duplicate_at}
 use Rattle.kms_model.specs.Request.Named.{names}
 use Rattle.kms_model.specs.Request.Reach.{reaches}
 use Rattle.kms_model.specs.Request.Touched.{is_affected, sets, touches, touches_crtc}
@@ -91,7 +91,7 @@ pub affected_alike : (r : Run) (st : Stores) (request : Request) (checked : Chec
 affected_alike r st request checked stands none is all =
     let t = r.script.topology in
     let w = world r in
-    let there : (i : ℕ) → i < t.crtcs → names w.values (after w request) request.assigns (object_id Crtc i) ≡ true → is_some (duplicate_at checked.states.crtcs i) ≡ true =
+    let there : (i : ℕ) → i < t.crtcs → names w.values (after w request) request.assigns (object_id Crtc i) ≡ true → is_some (state_at checked.states.crtcs i) ≡ true =
     λ i within named.
     (let bit : has_bit checked.touched.crtcs i ≡ true =
     ap (λ (m : Mask). has_bit m.crtcs i) is.touched ∙ has_bit-below (λ j. touches_crtc w.values (after w request) request.assigns (object_id Crtc j)) t.crtcs i within ∙ or_right (sets request.assigns (object_id Crtc i)) _ named in

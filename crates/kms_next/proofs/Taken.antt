@@ -16,9 +16,10 @@ use Rattle.kms_model.specs.Request.Reach.{reaches}
 use Rattle.kms_model.proofs.TouchedLemmas.{HasFewObjects}
 use Rattle.kms_clients.specs.Standing.{IsClient}
 use Rattle.kms_laws.proofs.Steps.{request-is}
+use Rattle.kms_stores.specs.Calls.{only_if}
 use Rattle.kms_wwlock.specs.Objects.{IsLockable}
 use Rattle.kms_model.specs.declared.objects.ObjId.{ObjId}
-use Rattle.kms_next.specs.Judging.{request_if, request_taken}
+use Rattle.kms_next.specs.Judging.{request_taken}
 use Rattle.kms_stores.specs.Run.{Run, machine}
 use Rattle.kms_stores.specs.Stands.{Stores, Stands}
 use Rattle.kms_stores.proofs.Places.{client_there, is_client}
@@ -31,7 +32,7 @@ pub record Takes (s : Script) (m : Machine) (client : ℕ) (request : Request) :
 
 pub taken_parts : (s : Script) (m : Machine) (client : ℕ) (request : Request) → Some request ≡ request_taken s m client → Takes s m client request
 taken_parts s m client request is = by (is_taking (doing_at m client)) refl is where
-  by : (b : Bool) → is_taking (doing_at m client) ≡ b → Some request ≡ request_if b (request_at s m client) → Takes s m client request
+  by : (b : Bool) → is_taking (doing_at m client) ≡ b → Some request ≡ only_if b (request_at s m client) → Takes s m client request
   by true taking is = record { taking = taking; at = sym is }
   by false taking is = absurd cc
 
@@ -44,7 +45,7 @@ taking-none s m client test is = by (is_taking (doing_at m client)) refl is wher
   at None none is taking = rw (taking, none) refl
   at (Some q) some is taking = absurd cc
 
-  by : (b : Bool) → is_taking (doing_at m client) ≡ b → None ≡ request_if b (request_at s m client) → taking_at s m client test ≡ false
+  by : (b : Bool) → is_taking (doing_at m client) ≡ b → None ≡ only_if b (request_at s m client) → taking_at s m client test ≡ false
   by false off is = rw off refl
   by true on is = at (request_at s m client) refl is on
 

@@ -1,6 +1,6 @@
 -- What is told of a client that takes locks for a request, as its next step needs it. From: "KMS Locking"; "Atomic Mode
 -- Setting"; `drm_atomic_helper.c`, drm_atomic_helper_setup_commit.
-use Rattle.std.specs.Prelude.{◌≡◌, ℕ, Bool, true, false, is_some, Option, Some, None}
+use Rattle.std.specs.Prelude.{◌≡◌, ℕ, true, is_some, Option, Some, None}
 use Rattle.kms_model.specs.declared.objects.Topology.{Topology}
 use Rattle.kms_model.specs.declared.scripts.Request.{Request}
 use Rattle.kms_model.specs.declared.scripts.Script.{Script}
@@ -9,15 +9,12 @@ use Rattle.kms_model.specs.Machine.Steps.{holds_touched, is_ready, is_taking}
 use Rattle.kms_model.specs.Request.Verdict.{early_in, late_in}
 use Rattle.kms_request.specs.Answers.{refusal_number}
 use Rattle.kms_next.specs.declared.judgement.Judged.{Judged}
+use Rattle.kms_stores.specs.Calls.{only_if}
 use Rattle.kms_stores.specs.Swaps.{late_reply}
-
-abbrev pub request_if : Bool → Option Request → Option Request
-request_if false r = None
-request_if true r = r
 
 -- the request for which a client takes locks
 abbrev pub request_taken : Script → Machine → ℕ → Option Request
-request_taken s m client = request_if (is_taking (doing_at m client)) (request_at s m client)
+request_taken s m client = only_if (is_taking (doing_at m client)) (request_at s m client)
 
 -- what is told of a request, where none of refusals 1 to 8 is due: whether a client holds what it touches; the first of
 -- refusals 9 to 24; the answer where there is no space for its events, or it is busy; whether nothing keeps its commit waiting

@@ -1,6 +1,7 @@
 -- When the picture of a CRTC can be told by duplicated states.
 use Rattle.std.specs.Prelude.{◌≡◌, ℕ, ◌≤◌, Bool, false, not, ◌&&◌, ◌||◌, ℤ, pos, negsuc, int_le, List, length, Option, Some, None}
 use Rattle.std.specs.List.{list_all, range_with_len}
+use Rattle.kms_model.specs.Device.Places.{state_at}
 use Rattle.kms_model.specs.declared.objects.Kind.TheVariants.{Crtc}
 use Rattle.kms_model.specs.declared.objects.Topology.{Topology}
 use Rattle.kms_model.specs.declared.pictures.Picture.{Picture}
@@ -15,7 +16,6 @@ use Rattle.kms_model.specs.Device.Masks.{has_bit}
 use Rattle.kms_model.specs.Device.Objects.{object_id}
 use Rattle.kms_model.specs.Frames.Pictures.{picture}
 use Rattle.kms_model.specs.Request.Agreement.{AgreesNew}
-use Rattle.kms_state.specs.Places.{state_at}
 
 -- a place or a size that a destination can have
 abbrev pub is_near : ℤ → Bool

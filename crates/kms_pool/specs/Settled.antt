@@ -8,5 +8,5 @@ abbrev pub Rests : ℕ → Option Turn → Type 0
 Rests n answer = (answer ≡ Some Ended) ⊎ (answer ≡ Some (NotYet n))
 
 -- all have ended, or all that have not ended answered so at one length
-abbrev pub IsSettled : {P : Type 0} → (P → Option Turn) → List P → Type 0
-IsSettled answer players = (n : ℕ) × All (λ p. Rests n (answer p)) players
+abbrev pub AllRest : {P : Type 0} → (P → Option Turn) → List P → Type 0
+AllRest answer players = (n : ℕ) × All (λ p. Rests n (answer p)) players

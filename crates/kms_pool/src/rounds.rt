@@ -2,7 +2,7 @@
 ghost use Rattle.std.specs.Prelude.{◌≡◌, ◌+◌, ◌-◌, ◌≤◌, ◌<◌, [], length, map, All, IfOk, IsTrue, IsPermutation};
 ghost use Rattle.crossbeam_queue.specs.Passes.{view, IsPassOf, IsSamePass};
 ghost use Rattle.kms_pool.specs.Rules.{ALL_PARTS, hand, HasBrought};
-ghost use Rattle.kms_pool.specs.Settled.{IsSettled};
+ghost use Rattle.kms_pool.specs.Settled.{AllRest};
 
 use crate::participant::Participant;
 use crate::player::Player;
@@ -33,11 +33,11 @@ pub fn drive<P: Player + Send, R: Threads + Wait + Sync>(
 ) -> Result<Seq<P>, NoMemory>
     requires threads { (0 < threads) × (threads ≤ 16) }
     ensures players { IfOk result (λ r. IsPermutation (map P.name players) (map P.name r)) }
-    ensures settled { IfOk result (IsSettled P.answer) }
+    ensures settled { IfOk result (AllRest P.answer) }
 {
     let mut participants = joined(alloc, players)?;
     for _ in rt.forever() {
-        if is_settled(participants.as_slice()) {
+        if all_rest(participants.as_slice()) {
             return parted(alloc, participants);
         }
         participants = round(rt, alloc, participants, threads)?;
@@ -69,8 +69,8 @@ fn parted<P: Player>(alloc: Global, participants: Vec<Participant<P>>) -> Result
 }
 
 // Whether all have ended, or all that have not answered `NotYet` at one length.
-fn is_settled<P: Player>(participants: &[Participant<P>]) -> bool
-    ensures { IsTrue result → IsSettled (λ x. P.answer x.player) participants.now }
+fn all_rest<P: Player>(participants: &[Participant<P>]) -> bool
+    ensures { IsTrue result → AllRest (λ x. P.answer x.player) participants.now }
 {
     let length = awaited(participants);
     participants

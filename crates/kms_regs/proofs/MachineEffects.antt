@@ -3,6 +3,7 @@ use Rattle.std.proofs.Common.{◌≡◌, ℕ, ◌+◌, ◌<◌, List, [], ◌∷
 use Rattle.std.specs.Prelude.{◌&&◌, ◌==◌, not, nat_le}
 use Rattle.std.proofs.lemmas.Bool.{cases_Bool, false≢true, le-leb}
 use borrow.Author.Tests.{le-ltb, lt-ltb}
+use Rattle.kms_model.specs.Firsts.{one_if}
 use Rattle.kms_model.specs.declared.objects.Kind.TheVariants.{Crtc, Plane}
 use Rattle.kms_model.specs.declared.objects.Topology.{Topology}
 use Rattle.kms_model.specs.declared.replies.Event.{Event}
@@ -21,7 +22,7 @@ use Rattle.kms_model.specs.Device.Objects.{object_id, is_id_of}
 use Rattle.kms_model.specs.Device.World.{thing_labelled}
 use Rattle.kms_model.specs.Machine.Commits.{asks_event, id_of_thing, new_connector, new_crtc, new_plane, out_fence_of}
 use Rattle.kms_model.specs.Machine.Effects.{answers, blanks, counts_vblank, delivers, delivers_if, fence_signalled, flushes, joins_if, latches, latches_picture, locked, made_thing, next, reads, refused, relocked, signalled_by, signals, swapped_state}
-use Rattle.kms_model.specs.Machine.Registers.{CrtcWords, crtc_register, crtc_words, flag_word, is_on_in, plane_register, plane_words}
+use Rattle.kms_model.specs.Machine.Registers.{CrtcWords, crtc_register, crtc_words, is_on_in, plane_register, plane_words}
 use Rattle.kms_model.specs.Machine.State.{DeviceState, Machine, command_at, count_at, doing_at, go_at, holder_at, request_at, unread_at}
 use Rattle.kms_model.specs.Machine.Steps.{contended}
 use Rattle.kms_model.specs.Request.Flags.{is_nonblock, wants_event}
@@ -195,7 +196,7 @@ old_crtc_held t d f index conn state stands is =
     let here : crtc_register f.shadow (object_id Crtc index) ≡ crtc_words conn state = sym (stands.shadow_words.crtcs index) ∙ is in
     here ∙ ap (λ (n : ℕ). crtc_words n state) (sym (ap (λ (w : CrtcWords). w.conn) here))
 
-on_flag : (b : Bool) → not (flag_word b == 0) ≡ b
+on_flag : (b : Bool) → not (one_if b == 0) ≡ b
 on_flag true = refl
 on_flag false = refl
 

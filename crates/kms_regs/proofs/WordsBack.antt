@@ -2,6 +2,7 @@
 use Rattle.std.proofs.Common.{◌≡◌, ℕ, ◌<◌, ℤ, pos, negsuc, ◌≤ℤ◌, List, length, Option, Some, None, arith, refl, ap, ◌∙◌, if◌then◌else◌}
 use Rattle.std.specs.Prelude.{◌==◌, not, Bool, true, false, is_some}
 use Rattle.std.proofs.lemmas.Int.{ints}
+use Rattle.kms_model.specs.Firsts.{one_if}
 use Rattle.kms_model.specs.declared.objects.Format.{Format}
 use Rattle.kms_model.specs.declared.objects.Format.TheVariants.{Xr24, Ar24, Rg16}
 use Rattle.kms_model.specs.declared.objects.Kind.TheVariants.{Crtc, Plane}
@@ -17,7 +18,7 @@ use Rattle.kms_model.specs.Device.Objects.{ids_of, object_id}
 use Rattle.kms_model.specs.Frames.Pictures.{layers_with, put_plane, seen_on, shown_with}
 use Rattle.kms_model.specs.Device.ModeBytes.{mode_bytes, mode_held}
 use Rattle.kms_model.specs.Device.States.{natural}
-use Rattle.kms_model.specs.Machine.Registers.{CrtcWords, Registers, bytes_of_words, code_of, crtc_words, decoded_picture, fb_number, flag_word, format_in, gamma_in_words, gamma_words, mode_words, plane_in, plane_register, plane_words, shown_in_words}
+use Rattle.kms_model.specs.Machine.Registers.{CrtcWords, Registers, bytes_of_words, code_of, crtc_words, decoded_picture, fb_number, format_in, gamma_in_words, gamma_words, mode_words, plane_in, plane_register, plane_words, shown_in_words}
 use Rattle.kms_model.proofs.GammaRoundTrip.{gamma_back}
 use Rattle.kms_model.proofs.ModeRoundTrip.{mode_held-mode_bytes}
 use Rattle.kms_model.proofs.WordBytes.{mode_long, mode_small, words_back}
@@ -57,7 +58,7 @@ mode_back m h = ap mode_held (words_back 17 (mode_bytes m) (mode_long m h.fits.b
 
 -- Tables of colour values
 
-gamma_read : (c : CrtcWords) (gamma : Option Gamma) → c.gamma_on ≡ flag_word (is_some gamma) → c.gamma ≡ gamma_words gamma → HasGamma gamma → gamma_in_words c ≡ gamma
+gamma_read : (c : CrtcWords) (gamma : Option Gamma) → c.gamma_on ≡ one_if (is_some gamma) → c.gamma ≡ gamma_words gamma → HasGamma gamma → gamma_in_words c ≡ gamma
 gamma_read c None on words has = rw on refl
 gamma_read c (Some g) on words has = rw (on, words) (ap Some (gamma_back g has))
 
@@ -69,16 +70,16 @@ plane_read t rs crtc conn s state h i low = ap plane_in (h.planes_are i low) ∙
 
 abbrev words_with : ℕ → Bool → Option Mode → Option Gamma → CrtcWords
 words_with conn active mode gamma = record {
-  active = flag_word active;
+  active = one_if active;
   conn = conn;
   mode = mode_words mode;
-  gamma_on = flag_word (is_some gamma);
+  gamma_on = one_if (is_some gamma);
   gamma = gamma_words gamma;
 }
 
 by_state : (t : Topology) (rs : Registers) (crtc conn : ℕ) (state : ℕ → PlaneState) → ((i : ℕ) → i < length t.planes → plane_in (plane_register rs (object_id Plane i)) ≡ state (object_id Plane i))
     → (active : Bool) (mode : Option Mode) (gamma : Option Gamma) → HasMode active mode → HasGamma gamma
-    → (if not (flag_word active == 0) then shown_in_words t rs crtc (words_with conn active mode gamma) else Off) ≡ picture_of_states t crtc state conn gamma active mode
+    → (if not (one_if active == 0) then shown_in_words t rs crtc (words_with conn active mode gamma) else Off) ≡ picture_of_states t crtc state conn gamma active mode
 by_state t rs crtc conn state read true (Some m) gamma has table =
     let f : ℕ → PlaneState = λ plane. plane_in (plane_register rs plane) in
     ap (λ (k : Mode). On (shown_with k conn (gamma_in_words (words_with conn true (Some m) gamma)) (layers_with f k crtc (ids_of t Plane)))) (mode_back m has)

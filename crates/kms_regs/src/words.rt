@@ -5,11 +5,12 @@ ghost use Rattle.std.specs.Int.{w32, cast_unsigned, to_le_bytes};
 ghost use Rattle.kms_model.specs.Device.Objects.{object_id};
 ghost use Rattle.kms_model.specs.Device.Sound.{IsPlaneInRange};
 ghost use Rattle.kms_model.specs.Device.States.{natural};
+ghost use Rattle.kms_model.specs.Firsts.{one_if};
 ghost use Rattle.kms_model.specs.declared.objects.Kind.TheVariants.{Plane};
 ghost use Rattle.kms_model.specs.Frames.Pictures.{seen_on};
 ghost use Rattle.kms_model.specs.Frames.Rectangles.{IsNearRect};
 ghost use Rattle.kms_model.specs.Machine.Framebuffers.{is_fb};
-ghost use Rattle.kms_model.specs.Machine.Registers.{bytes_of_words, code_of, crtc_words, fb_in, fb_number, flag_word, first_crtc_words, first_plane_words, gamma_bytes, gamma_in_words, gamma_with, gamma_words, mode_in_words, mode_words, plane_in, plane_words, words_of_bytes};
+ghost use Rattle.kms_model.specs.Machine.Registers.{bytes_of_words, code_of, crtc_words, fb_in, fb_number, first_crtc_words, first_plane_words, gamma_bytes, gamma_in_words, gamma_with, gamma_words, mode_in_words, mode_words, plane_in, plane_words, words_of_bytes};
 ghost use Rattle.kms_regs.specs.Rewritten.{rewritten, rewritten_crtc, rewritten_plane, rewritten_words};
 
 use kms_blobs::{encode_mode, mode_of};
@@ -186,7 +187,7 @@ fn fb_words(fb: &Option<FbInfo>) -> (u32, u32, u32, u32)
 
 /// The word of a flag.
 fn flag_word(flag: bool) -> u32
-    ensures { result ≡ flag_word flag }
+    ensures { result ≡ one_if flag }
 {
     if flag { 1 } else { 0 }
 }

@@ -6,6 +6,7 @@ use Rattle.std.specs.List.{list_any, range_with_len}
 use Rattle.std.proofs.lemmas.Bool.{and_left, and_right, or_left, or_right, or_cases, or_parts, or_from, both_ways, cases_Bool, cases_lt, lt-ltb, le-ltb, false_from_ne_true, false≢true}
 use Rattle.std.proofs.lemmas.List.Folds.{list_any-append}
 use Rattle.std.proofs.lemmas.List.FromFn.{map-range_with_len_more}
+use Rattle.kms_model.specs.Device.Places.{state_at}
 use Rattle.kms_model.specs.declared.objects.Kind.{Kind}
 use Rattle.kms_model.specs.declared.objects.Kind.TheVariants as kind
 use Rattle.kms_model.specs.declared.objects.Topology.{Topology}
@@ -17,12 +18,12 @@ use Rattle.kms_model.specs.declared.states.Mask.{Mask}
 use Rattle.kms_model.specs.declared.worlds.World.{World}
 use Rattle.kms_model.specs.Request.Agreement.{on_crtc, crtc_state_at}
 use Rattle.kms_model.specs.Request.Apply.{object_of}
-use Rattle.kms_model.specs.Request.Late.{duplicate_at, duplicate_in, needs_modeset_between}
+use Rattle.kms_model.specs.Request.Late.{duplicate_in, needs_modeset_between}
 use Rattle.kms_model.specs.Device.Masks.{has_bit, mask_below}
 use Rattle.kms_model.specs.Request.Named.{is_named_by, names, moves_on, needs_modeset}
 use Rattle.kms_model.specs.Device.Objects.{object_id, count_of, ids_of}
 use Rattle.kms_model.specs.Device.States.{crtc_at}
-use Rattle.kms_model.specs.Request.Touched.{sets, is_affected, touches_crtc, touches_routed, named_set, set_where, touched_set}
+use Rattle.kms_model.specs.Request.Touched.{named_by, sets, is_affected, touched_by, touches_crtc, touches_routed, set_where}
 use Rattle.kms_model.proofs.Items as items
 use Rattle.kms_model.proofs.LateLemmas.{StandAt, flatten-some, needs_modeset-states}
 use Rattle.kms_model.proofs.MaskLemmas.{has_bit-mask_below, same_masks}
@@ -91,7 +92,7 @@ unnamed-unneeded t w r crtc at unnamed = untouched-modeset t w r crtc at (or_fro
 abbrev affects : Topology → World → Request → Kind → ℕ → ℕ → Bool
 affects t w r k c i = nat_lt c t.crtcs && (needs_modeset t w.things w.values (after w r) (object_id kind.Crtc c) && moves_on w.values (after w r) (object_id kind.Crtc c) (object_id k i))
 
-pub named_bit : (t : Topology) (w : World) (r : Request) (c : ℕ) → has_bit (named_set t w.values (after w r) r.assigns) c ≡ (nat_lt c t.crtcs && names w.values (after w r) r.assigns (object_id kind.Crtc c))
+pub named_bit : (t : Topology) (w : World) (r : Request) (c : ℕ) → has_bit (named_by t w r) c ≡ (nat_lt c t.crtcs && names w.values (after w r) r.assigns (object_id kind.Crtc c))
 named_bit t w r c = has_bit-mask_below (λ i. names w.values (after w r) r.assigns (object_id kind.Crtc i)) t.crtcs c
 
 -- the part of a CRTC's states that has a kind of objects
@@ -102,12 +103,12 @@ pub record IsPart (t : Topology) (k : Kind) (part : Mask → ℕ) (routed : Crtc
   pub of_values : (things : _) (values : _) (crtc : ℕ) → routed (crtc_state_at t things values crtc) ≡ on_crtc t values crtc k
 
 part-of_crtc : (t : Topology) (w : World) (r : Request) (d : Duplicates) (k : Kind) (part : Mask → ℕ) (routed : CrtcState → ℕ) (c : ℕ) → StandAt t w r d → IsPart t k part routed
-    → ((i : ℕ) → i < t.crtcs → names w.values (after w r) r.assigns (object_id kind.Crtc i) ≡ true → is_some (duplicate_at d.crtcs i) ≡ true)
-    → part (affected_with (duplicate_in (named_set t w.values (after w r) r.assigns) d.crtcs c)) ≡ mask_below (affects t w r k c) (count_of t k)
-part-of_crtc t w r d k part routed c stand is there = go (has_bit named c) refl (duplicate_at d.crtcs c) refl
+    → ((i : ℕ) → i < t.crtcs → names w.values (after w r) r.assigns (object_id kind.Crtc i) ≡ true → is_some (state_at d.crtcs i) ≡ true)
+    → part (affected_with (duplicate_in (named_by t w r) d.crtcs c)) ≡ mask_below (affects t w r k c) (count_of t k)
+part-of_crtc t w r d k part routed c stand is there = go (has_bit named c) refl (state_at d.crtcs c) refl
   where
     named : ℕ
-    named = named_set t w.values (after w r) r.assigns
+    named = named_by t w r
 
     crtc : ℕ
     crtc = object_id kind.Crtc c
@@ -115,7 +116,7 @@ part-of_crtc t w r d k part routed c stand is there = go (has_bit named c) refl 
     empty : ((i : ℕ) → i < count_of t k → affects t w r k c i ≡ false) → 0 ≡ mask_below (affects t w r k c) (count_of t k)
     empty out = none_yet (count_of t k) ∙ same_masks _ _ (count_of t k) (λ i h. sym (out i h))
 
-    outside : has_bit (named_set t w.values (after w r) r.assigns) c ≡ false → (i : ℕ) → affects t w r k c i ≡ false
+    outside : has_bit (named_by t w r) c ≡ false → (i : ℕ) → affects t w r k c i ≡ false
     outside out i = elim (cases_lt c t.crtcs) [
       | inl within ↦ (let unnamed : names w.values (after w r) r.assigns (object_id kind.Crtc c) ≡ false = ap (λ b. b && names w.values (after w r) r.assigns (object_id kind.Crtc c)) (sym (lt-ltb c t.crtcs within)) ∙ sym (named_bit t w r c) ∙ out in
           and_right (nat_lt c t.crtcs) _ (and_left (needs_modeset t w.things w.values (after w r) (object_id kind.Crtc c)) _ (unnamed-unneeded t w r (object_id kind.Crtc c) stand.at unnamed)))
@@ -133,14 +134,14 @@ part-of_crtc t w r d k part routed c stand is there = go (has_bit named c) refl 
         ∙ or_masks (λ i. crtc_at w.values (object_id k i) == object_id kind.Crtc c) (λ i. crtc_at (after w r) (object_id k i) == object_id kind.Crtc c) (count_of t k)
         ∙ same_masks _ _ (count_of t k) (λ i h. sym (rw (lt-ltb c t.crtcs within, need) refl))
 
-    go : (b : Bool) → has_bit (named_set t w.values (after w r) r.assigns) c ≡ b → (o : Option (Both CrtcState)) → duplicate_at d.crtcs c ≡ o → part (affected_with (if b then o else None)) ≡ mask_below (affects t w r k c) (count_of t k)
+    go : (b : Bool) → has_bit (named_by t w r) c ≡ b → (o : Option (Both CrtcState)) → state_at d.crtcs c ≡ o → part (affected_with (if b then o else None)) ≡ mask_below (affects t w r k c) (count_of t k)
     go false out o at = is.none ∙ empty (λ i h. outside out i)
     go true member o at =
         let both = Rattle.std.proofs.lemmas.Bool.and_parts (nat_lt c t.crtcs) (names w.values (after w r) r.assigns (object_id kind.Crtc c)) (sym (named_bit t w r c) ∙ member) in
         let within : c < t.crtcs = Rattle.std.proofs.lemmas.Bool.ltb-true c t.crtcs both.0 in
         present o at within both.1
       where
-        present : (o : Option (Both CrtcState)) → duplicate_at d.crtcs c ≡ o → c < t.crtcs → names w.values (after w r) r.assigns (object_id kind.Crtc c) ≡ true → part (affected_with o) ≡ mask_below (affects t w r k c) (count_of t k)
+        present : (o : Option (Both CrtcState)) → state_at d.crtcs c ≡ o → c < t.crtcs → names w.values (after w r) r.assigns (object_id kind.Crtc c) ≡ true → part (affected_with o) ≡ mask_below (affects t w r k c) (count_of t k)
         present None at within named_there = absurd (false≢true (ap is_some (sym at) ∙ there c within named_there))
         present (Some s) at within named_there =
             let here = flatten-some (slice_get d.crtcs c) s at in
@@ -162,26 +163,26 @@ crtcs-none crtcs named (suc n) = ap (λ x. bit_or x (affected_with (duplicate_in
     one (Some s) = elim (cases_Bool (needs_modeset_between s)) [ inl is ↦ rw is refl | inr other ↦ rw other refl ]
 
 affected-kind : (t : Topology) (w : World) (r : Request) (d : Duplicates) (k : Kind) (part : Mask → ℕ) (routed : CrtcState → ℕ) → StandAt t w r d → IsPart t k part routed
-    → ((i : ℕ) → i < t.crtcs → names w.values (after w r) r.assigns (object_id kind.Crtc i) ≡ true → is_some (duplicate_at d.crtcs i) ≡ true)
-    → part (affected_below d.crtcs (named_set t w.values (after w r) r.assigns) 4) ≡ set_where t k (is_affected t w.things w.values (after w r))
+    → ((i : ℕ) → i < t.crtcs → names w.values (after w r) r.assigns (object_id kind.Crtc i) ≡ true → is_some (state_at d.crtcs i) ≡ true)
+    → part (affected_below d.crtcs (named_by t w r) 4) ≡ set_where t k (is_affected t w.things w.values (after w r))
 affected-kind t w r d k part routed stand is there =
-    affected-part part is.none is.both d.crtcs (named_set t w.values (after w r) r.assigns) 4 (count_of t k) (affects t w r k) (λ c h. part-of_crtc t w r d k part routed c stand is there)
+    affected-part part is.none is.both d.crtcs (named_by t w r) 4 (count_of t k) (affects t w r k) (λ c h. part-of_crtc t w r d k part routed c stand is there)
     ∙ same_masks _ _ (count_of t k) (λ i h. any_crtc t (λ crtc. needs_modeset t w.things w.values (after w r) crtc && moves_on w.values (after w r) crtc (object_id k i)) (few_objects t stand.at.device).crtcs)
 
 -- What the states of named CRTCs tell is what the request affects.
 pub affected-is : (t : Topology) (w : World) (r : Request) (d : Duplicates) → StandAt t w r d
-    → ((i : ℕ) → i < t.crtcs → names w.values (after w r) r.assigns (object_id kind.Crtc i) ≡ true → is_some (duplicate_at d.crtcs i) ≡ true)
-    → affected_below d.crtcs (named_set t w.values (after w r) r.assigns) 4 ≡ affected_group t w r
+    → ((i : ℕ) → i < t.crtcs → names w.values (after w r) r.assigns (object_id kind.Crtc i) ≡ true → is_some (state_at d.crtcs i) ≡ true)
+    → affected_below d.crtcs (named_by t w r) 4 ≡ affected_group t w r
 affected-is t w r d stand there =
-    mask_is _ _ (crtcs-none d.crtcs (named_set t w.values (after w r) r.assigns) 4) (affected-kind t w r d kind.Plane (λ m. m.planes) (λ s. s.planes) stand (planes_part t) there) (affected-kind t w r d kind.Conn (λ m. m.conns) (λ s. s.conns) stand (conns_part t) there)
+    mask_is _ _ (crtcs-none d.crtcs (named_by t w r) 4) (affected-kind t w r d kind.Plane (λ m. m.planes) (λ s. s.planes) stand (planes_part t) there) (affected-kind t w r d kind.Conn (λ m. m.conns) (λ s. s.conns) stand (conns_part t) there)
   where
     mask_is : (a b : Mask) → a.crtcs ≡ b.crtcs → a.planes ≡ b.planes → a.conns ≡ b.conns → a ≡ b
     mask_is a b crtcs planes conns = λ i. record { crtcs = crtcs i; planes = planes i; conns = conns i }
 
 -- The three groups together are what the request touches.
-pub touched-is : (t : Topology) (w : World) (r : Request) → union (union (set_group t r) (named_group t w r)) (affected_group t w r) ≡ touched_set t w.things w.values (after w r) r.assigns
+pub touched-is : (t : Topology) (w : World) (r : Request) → union (union (set_group t r) (named_group t w r)) (affected_group t w r) ≡ touched_by t w r
 touched-is t w r =
-    let crtcs : bit_or (bit_or (set_where t kind.Crtc (sets r.assigns)) (named_set t w.values (after w r) r.assigns)) 0 ≡ set_where t kind.Crtc (touches_crtc w.values (after w r) r.assigns) =
+    let crtcs : bit_or (bit_or (set_where t kind.Crtc (sets r.assigns)) (named_by t w r)) 0 ≡ set_where t kind.Crtc (touches_crtc w.values (after w r) r.assigns) =
     or_zero_r _ ∙ or_masks (λ i. sets r.assigns (object_id kind.Crtc i)) (λ i. names w.values (after w r) r.assigns (object_id kind.Crtc i)) (count_of t kind.Crtc) in
     let routed : (k : Kind) → bit_or (bit_or (set_where t k (sets r.assigns)) 0) (set_where t k (is_affected t w.things w.values (after w r))) ≡ set_where t k (touches_routed t w.things w.values (after w r) r.assigns) = λ k.
     ap (λ x. bit_or x (set_where t k (is_affected t w.things w.values (after w r)))) (or_zero_r (set_where t k (sets r.assigns)))
@@ -189,8 +190,8 @@ touched-is t w r =
     rw (crtcs, routed kind.Plane, routed kind.Conn) refl
 
 -- what is looked at is what the request touches
-pub touched-known : (t : Topology) (w : World) (r : Request) (set crtcs both affected touched : Mask) (named : ℕ) → set ≡ set_group t r → named ≡ named_set t w.values (after w r) r.assigns → crtcs ≡ record { crtcs = named; planes = 0; conns = 0 } → affected ≡ affected_group t w r
-    → both ≡ union set crtcs → touched ≡ union both affected → touched ≡ touched_set t w.things w.values (after w r) r.assigns
+pub touched-known : (t : Topology) (w : World) (r : Request) (set crtcs both affected touched : Mask) (named : ℕ) → set ≡ set_group t r → named ≡ named_by t w r → crtcs ≡ record { crtcs = named; planes = 0; conns = 0 } → affected ≡ affected_group t w r
+    → both ≡ union set crtcs → touched ≡ union both affected → touched ≡ touched_by t w r
 touched-known t w r set crtcs both affected touched named set_is named_is crtcs_is affected_is both_is touched_is =
     touched_is ∙ ap (λ m. union m affected) both_is ∙ ap (λ m. union (union m crtcs) affected) set_is ∙ ap (λ m. union (union (set_group t r) m) affected) crtcs_is
     ∙ ap (λ n. union (union (set_group t r) (record { crtcs = n; planes = 0; conns = 0 })) affected) named_is ∙ ap (union (union (set_group t r) (named_group t w r))) affected_is ∙ touched-is t w r

@@ -3,6 +3,7 @@ use Rattle.std.proofs.Common.{◌≡◌, ◌∙◌, ℕ, ◌+◌, ◌-◌, ◌<�
 use Rattle.std.specs.Prelude.{◌&&◌, nat_le, is_none, is_some, pos}
 use Rattle.std.proofs.lemmas.Bool.{ltb-true}
 use Rattle.std.proofs.lemmas.Bool.Decides.{nat_tests}
+use Rattle.kms_model.specs.Device.Places.{state_at}
 use Rattle.kms_model.specs.declared.objects.Kind.{Kind}
 use Rattle.kms_model.specs.declared.objects.Kind.TheVariants as kind
 use Rattle.kms_model.specs.declared.objects.Topology.{Topology}
@@ -21,7 +22,6 @@ use Rattle.kms_model.specs.Device.Objects.{count_of, first_id, kind_of, object_i
 use Rattle.kms_model.specs.Device.Sound.{AreNumbered, IsDevice}
 use Rattle.kms_model.specs.Request.Agreement.{AgreesNew}
 use Rattle.kms_model.specs.Request.Apply.{apply, assign, number_of}
-use Rattle.kms_model.specs.Request.Late.{duplicate_at}
 use Rattle.kms_model.specs.Request.Lookups.{look_up}
 use Rattle.kms_model.specs.Request.Refusals.{assign_refusal, early_refusal, own_refusal}
 use Rattle.kms_model.specs.Request.Resolves.{HasPlace, IsAllowed, IsSettable}
@@ -36,7 +36,7 @@ use Rattle.kms_model.proofs.RequestLemmas.{accepted_allowed, allowed, allowed_se
 use Rattle.kms_model.proofs.StandsLemmas.{stands-accepted}
 use Rattle.kms_model.proofs.TouchedLemmas.{few_objects}
 use Rattle.kms_model.proofs.ReachLaw.{filter-all}
-use Rattle.kms_state.specs.Places.{OldStates, is_duplicated, is_duplicated_of, old_states, olds, state_at, state_of}
+use Rattle.kms_state.specs.Places.{OldStates, is_duplicated, is_duplicated_of, old_states, olds, state_of}
 use Rattle.kms_state.specs.Changes.{Sets}
 use Rattle.kms_state.proofs.Slots.{AgreesOld-same, there_old}
 use Rattle.kms_request.specs.Whole.{AreAllDuplicated, ArePresent, StandBetween, TellSame, allowed_by}
@@ -80,7 +80,7 @@ at_hand t f assigns items i b c same is told = ap (λ (xs : List Assign). is_non
 
 -- Where objects stand
 
-state_there : {S : Type 0} (k : Kind) (states : List (Option (Both S))) (index : ℕ) → is_some (duplicate_at states index) ≡ true → is_some (state_of k states (object_id k index)) ≡ true
+state_there : {S : Type 0} (k : Kind) (states : List (Option (Both S))) (index : ℕ) → is_some (state_at states index) ≡ true → is_some (state_of k states (object_id k index)) ≡ true
 state_there k states index there =
     let above : nat_le (first_id k) (object_id k index) ≡ true = grind (arith, nat_tests) in
     let place : object_id k index - first_id k ≡ index = omega arith in
@@ -95,7 +95,7 @@ there_of t d kind.Enc index all placed there = absurd placed
 kind_is : (a : Assign) → IsSettable a → kind_of (object_id a.kind a.index) ≡ a.kind
 kind_is a fits = kind_of-object a.kind a.index (let i = fits.index in omega (arith, i))
 
-same_there : {S : Type 0} (before after : List (Option (Both S))) → olds after ≡ olds before → (n : ℕ) → ((index : ℕ) → index < n → is_some (duplicate_at before index) ≡ true) → (index : ℕ) → index < n → is_some (duplicate_at after index) ≡ true
+same_there : {S : Type 0} (before after : List (Option (Both S))) → olds after ≡ olds before → (n : ℕ) → ((index : ℕ) → index < n → is_some (state_at before index) ≡ true) → (index : ℕ) → index < n → is_some (state_at after index) ≡ true
 same_there before after same n there index less = there_old after index ∙ ap (λ xs. is_some (state_at xs index)) same ∙ sym (there_old before index) ∙ there index less
 
 pub all_after : (t : Topology) (before after : Duplicates) → old_states after ≡ old_states before → AreAllDuplicated t before → AreAllDuplicated t after

@@ -32,7 +32,7 @@ use Rattle.kms_model.specs.Request.Named.{is_routed, moves_on, names}
 use Rattle.kms_model.specs.Request.Named.{is_named_by}
 use Rattle.kms_model.specs.Request.Resolves.{IsAllowed, HasPlace, IsSettable}
 use Rattle.kms_model.specs.Request.Sets.{crtc_value, last_sets, set_of, set_value}
-use Rattle.kms_model.specs.Request.Touched.{last_value, named_set}
+use Rattle.kms_model.specs.Request.Touched.{last_value, named_by, named_set}
 use Rattle.kms_model.proofs.RequestLemmas.{HasFew, accepted_allowed, all_settable, has_few}
 use Rattle.kms_model.specs.Device.Sound.{IsCrtcOrNone}
 use Rattle.kms_model.specs.Device.Sound.IsCrtcOrNone.{IsNone, IsCrtc}
@@ -290,7 +290,7 @@ crtcs_named t things old f assigns test mask few held allowed settable are same 
 
 -- the CRTCs that the sets name are those that the request names
 pub named_is : (t : Topology) (w : World) (f : ℕ → Look) (r : Request) (resolved : Resolved) (d : Duplicates) (mask : ℕ) → Covers t w f r resolved d
-    → AreCrtcs (λ crtc. list_any (λ s. set_names d s crtc) resolved.sets) mask → mask ≡ named_set t w.values (after w r) r.assigns
+    → AreCrtcs (λ crtc. list_any (λ s. set_names d s crtc) resolved.sets) mask → mask ≡ named_by t w r
 named_is t w f r resolved d mask covers are =
     let allowed = accepted_allowed t f r covers.asks.accepted in
     let settable = all_settable t f r.assigns covers.limits allowed in

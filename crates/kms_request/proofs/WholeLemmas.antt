@@ -28,7 +28,7 @@ use Rattle.kms_model.specs.Device.Properties.{keeps_limits}
 use Rattle.kms_model.specs.Request.Resolves.{IsAllowed, HasPlace, IsSettable}
 use Rattle.kms_model.specs.Device.Sound.{IsDevice, IsPlaneInRange}
 use Rattle.kms_model.specs.Device.States.{crtc_at}
-use Rattle.kms_model.specs.Request.Touched.{is_asked, named_set, out_fence_label}
+use Rattle.kms_model.specs.Request.Touched.{is_asked, named_by, out_fence_label}
 use Rattle.kms_model.proofs.CrtcLemmas.{all_in}
 use Rattle.kms_model.proofs.HeldValues.{all_held-from}
 use Rattle.kms_model.proofs.HeldValues.{all_held-from}
@@ -102,7 +102,7 @@ settable_between t w r d stand = all_settable t (look_up w) r.assigns (limits_of
 
 -- the CRTCs that the states say are named
 pub named_between-is : (t : Topology) (w : World) (r : Request) (d : Duplicates) (mask : ℕ) → StandBetween t w r d → AreCrtcs (λ crtc. list_any (λ a. is_named_between d a crtc) r.assigns) mask
-    → mask ≡ named_set t w.values (after w r) r.assigns
+    → mask ≡ named_by t w r
 named_between-is t w r d mask stand are =
     let new : List Setting = after w r in
     let allowed = accepted_allowed t (look_up w) r stand.early in
@@ -152,7 +152,7 @@ all_cover t w r d stand =
 
 -- the refusals of the states of all objects are those of the request
 pub whole_is : (t : Topology) (w : World) (r : Request) (d : Duplicates) (named fenced : ℕ) → StandBetween t w r d
-    → named ≡ named_set t w.values (after w r) r.assigns → fenced ≡ fenced_set t r
+    → named ≡ named_by t w r → fenced ≡ fenced_set t r
     → late_of_states t d (record { crtcs = 2 ^ 32 - 1; planes = 2 ^ 32 - 1; conns = 2 ^ 32 - 1 }) r.flags named fenced ≡ late_refusal t w.things w.values (after w r) r
 whole_is t w r d named fenced stand named_is fenced_is =
     rw (named_is, fenced_is) (late_of_states-is t w r d (record { crtcs = 2 ^ 32 - 1; planes = 2 ^ 32 - 1; conns = 2 ^ 32 - 1 })

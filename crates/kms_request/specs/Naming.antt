@@ -1,5 +1,6 @@
 -- The CRTCs that a request names, by what it sets and by the old states of the objects that it sets.
 use Rattle.std.specs.Prelude.{◌≡◌, ℕ, ◌<◌, ◌^◌, Bool, true, ◌||◌, ◌==◌, Option, Some, None, IsTrue, All, is_some, if◌then◌else◌}
+use Rattle.kms_model.specs.Device.Places.{state_at}
 use Rattle.kms_model.specs.declared.objects.Kind.TheVariants.{Crtc, Plane, Conn}
 use Rattle.kms_model.specs.declared.objects.Topology.{Topology}
 use Rattle.kms_model.specs.declared.scripts.Request.{Request}
@@ -15,7 +16,6 @@ use Rattle.kms_model.specs.declared.worlds.Look.{Look}
 use Rattle.kms_model.specs.declared.worlds.World.{World}
 use Rattle.kms_model.specs.Device.Masks.{has_bit}
 use Rattle.kms_model.specs.Device.Objects.{index_of, is_id_of, object_id}
-use Rattle.kms_model.specs.Request.Late.{duplicate_at}
 use Rattle.kms_model.specs.Device.Properties.{keeps_limits}
 use Rattle.kms_model.specs.Device.Sound.{IsSound}
 use Rattle.kms_model.specs.Request.Resolves.{IsResolved}
@@ -33,8 +33,8 @@ number_in number None = 0
 -- a number of a plane or of a connector that is duplicated, 0 for every other object
 abbrev pub routed_number : (Both PlaneState → ℕ) → (Both ConnState → ℕ) → Duplicates → ℕ → ℕ
 routed_number plane conn d object =
-    if is_id_of Plane object then number_in plane (duplicate_at d.planes (index_of object))
-    else (if is_id_of Conn object then number_in conn (duplicate_at d.conns (index_of object))
+    if is_id_of Plane object then number_in plane (state_at d.planes (index_of object))
+    else (if is_id_of Conn object then number_in conn (state_at d.conns (index_of object))
     else 0)
 
 -- the CRTC in the old state of a plane or a connector, 0 without one
@@ -62,8 +62,8 @@ set_names d s crtc =
 -- a plane or a connector is duplicated (of other objects nothing is asked)
 abbrev pub is_routed_duplicated : Duplicates → ℕ → Bool
 is_routed_duplicated d object =
-    if is_id_of Plane object then is_some (duplicate_at d.planes (index_of object))
-    else (if is_id_of Conn object then is_some (duplicate_at d.conns (index_of object))
+    if is_id_of Plane object then is_some (state_at d.planes (index_of object))
+    else (if is_id_of Conn object then is_some (state_at d.conns (index_of object))
     else true)
 
 -- Duplicates with what a request sets: over some device, a sound world and what the request's labels name, `resolved` is

@@ -1,5 +1,6 @@
 -- Requests against duplicates of the whole device.
 use Rattle.std.specs.Prelude.{◌≡◌, ℕ, ◌<◌, Bool, true, false, ◌||◌, ◌==◌, List, None, filter, is_none, is_some}
+use Rattle.kms_model.specs.Device.Places.{state_at}
 use Rattle.kms_model.specs.declared.objects.Kind.{Kind}
 use Rattle.kms_model.specs.declared.objects.Kind.TheVariants.{Crtc, Plane, Conn, Enc}
 use Rattle.kms_model.specs.declared.objects.Topology.{Topology}
@@ -11,7 +12,6 @@ use Rattle.kms_model.specs.declared.worlds.Look.{Look}
 use Rattle.kms_model.specs.declared.worlds.World.{World}
 use Rattle.kms_model.specs.Request.Agreement.{AgreesNew, AgreesOld}
 use Rattle.kms_model.specs.Request.Apply.{after, object_of}
-use Rattle.kms_model.specs.Request.Late.{duplicate_at}
 use Rattle.kms_model.specs.Request.Lookups.{look_up}
 use Rattle.kms_model.specs.Device.Masks.{has_bit}
 use Rattle.kms_model.specs.Device.Objects.{count_of}
@@ -28,9 +28,9 @@ is_named_between d a crtc = ((object_of a == crtc) || (old_crtc_id d (object_of 
 
 -- every object of a device is duplicated
 pub record AreAllDuplicated (t : Topology) (d : Duplicates) : Type 0 where
-  pub crtcs : (index : ℕ) → index < count_of t Crtc → is_some (duplicate_at d.crtcs index) ≡ true
-  pub planes : (index : ℕ) → index < count_of t Plane → is_some (duplicate_at d.planes index) ≡ true
-  pub conns : (index : ℕ) → index < count_of t Conn → is_some (duplicate_at d.conns index) ≡ true
+  pub crtcs : (index : ℕ) → index < count_of t Crtc → is_some (state_at d.crtcs index) ≡ true
+  pub planes : (index : ℕ) → index < count_of t Plane → is_some (state_at d.planes index) ≡ true
+  pub conns : (index : ℕ) → index < count_of t Conn → is_some (state_at d.conns index) ≡ true
 
 -- Duplicates of the whole device before and after a request in a sound world: none of refusals 1 to 8 is due there, the
 -- old states are those of the world's values, and the new ones those of the values after the request.

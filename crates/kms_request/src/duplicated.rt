@@ -1,7 +1,8 @@
 //! Duplicated states, by the index of their object.
 ghost use Rattle.std.specs.Prelude.{◌≡◌, option_copied};
 ghost use Rattle.kms_model.specs.Device.Masks.{has_bit};
-ghost use Rattle.kms_model.specs.Request.Late.{duplicate_at, duplicate_in};
+ghost use Rattle.kms_model.specs.Device.Places.{state_at};
+ghost use Rattle.kms_model.specs.Request.Late.{duplicate_in};
 
 use kms_model::{Both, has_bit};
 
@@ -14,7 +15,7 @@ pub(crate) fn is_in(mask: u32, index: usize) -> bool
 
 /// The states of the object with an index, where they are duplicated.
 pub(crate) fn duplicate_at<S: Copy>(states: &[Option<Both<S>>], index: usize) -> Option<&Both<S>>
-    ensures { option_copied result ≡ duplicate_at states.now index }
+    ensures { option_copied result ≡ state_at states.now index }
 {
     match states.get(index) {
         Some(Some(both)) => Some(both),

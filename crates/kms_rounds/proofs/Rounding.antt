@@ -4,6 +4,7 @@ use Rattle.std.specs.Prelude.{reverse, ◌==◌}
 use Rattle.std.specs.List.{fold, range_with_len}
 use Rattle.std.proofs.lemmas.Bool.{eq-eqb, eqb-true, false≢true}
 use Rattle.std.proofs.lemmas.List.{reverse-append, reverse-reverse}
+use Rattle.kms_model.specs.Firsts.{one_if}
 use Rattle.kms_model.specs.declared.replies.Step.{Step}
 use Rattle.kms_model.specs.declared.scripts.Script.{Script}
 use Rattle.kms_model.specs.Machine.Effects.{next}
@@ -13,7 +14,6 @@ use Rattle.kms_model.specs.Order.Rounds.{is_still, round}
 use Rattle.kms_model.specs.Order.Turns.{Progress, does, settles, turn}
 use Rattle.kms_model.specs.Script.WellFormed.{IsWellFormed}
 use Rattle.kms_laws.specs.Ends.{is_moving, moves_in}
-use Rattle.kms_laws.specs.TailsLeft.{one_if}
 use Rattle.kms_laws.proofs.Modes.{plain-from}
 use Rattle.kms_laws.proofs.Resting.{run-of}
 use Rattle.kms_laws.proofs.RoundsEnd.{few-moves}

@@ -4,11 +4,12 @@ use Rattle.std.specs.Prelude.{OnOk}
 use Rattle.std.specs.Fmt.{decimal}
 use Rattle.std.specs.List.{flat_map}
 use Rattle.std.proofs.lemmas.List.Concat.{flat_map-append}
+use Rattle.kms_model.specs.Device.Modes.{mode_numbers}
 use Rattle.kms_model.specs.declared.copying.NoMemory.{NoMemory}
 use Rattle.kms_model.specs.declared.objects.Mode.{Mode}
 use Rattle.kms_model.specs.Report.TextLines.{line}
 use Rattle.kms_model.specs.Script.Words.{until}
-use Rattle.kms_script.specs.Printed.{fields, mode_line_numbers}
+use Rattle.kms_script.specs.Printed.{fields}
 use Rattle.kms_model.specs.Script.Spelling.{spelt_mode}
 
 -- a line is its first word, the others with a blank before each, and a line feed
@@ -30,12 +31,12 @@ module _ {X : Type 0} where
   lines-flat f [] = refl
   lines-flat f (x ∷ xs) = flat_map-append line (f x) (flat_map f xs) ∙ ap (λ (bs : List ℕ). flat_map line (f x) ++ bs) (lines-flat f xs)
 
-pub mode-fields : (m : Mode) → flat_map (λ n. 32 ∷ decimal n) (mode_line_numbers m) ++ 32 ∷ until 0 m.name ≡ fields (spelt_mode m)
+pub mode-fields : (m : Mode) → flat_map (λ n. 32 ∷ decimal n) (mode_numbers m) ++ 32 ∷ until 0 m.name ≡ fields (spelt_mode m)
 mode-fields m =
     let name = until 0 m.name in
-    ap (λ (bs : List ℕ). bs ++ 32 ∷ name) (sym (fields-map decimal (mode_line_numbers m)))
-    ∙ ap (λ (bs : List ℕ). fields (map decimal (mode_line_numbers m)) ++ bs) (sym (append-nil (32 ∷ name)))
-    ∙ sym (flat_map-append (λ (w : List ℕ). 32 ∷ w) (map decimal (mode_line_numbers m)) (name ∷ []))
+    ap (λ (bs : List ℕ). bs ++ 32 ∷ name) (sym (fields-map decimal (mode_numbers m)))
+    ∙ ap (λ (bs : List ℕ). fields (map decimal (mode_numbers m)) ++ bs) (sym (append-nil (32 ∷ name)))
+    ∙ sym (flat_map-append (λ (w : List ℕ). 32 ∷ w) (map decimal (mode_numbers m)) (name ∷ []))
 
 -- What the last of several calls added, where it had memory
 

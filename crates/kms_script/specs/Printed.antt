@@ -1,8 +1,7 @@
 -- What the printer adds to a text, piece by piece.
-use Rattle.std.specs.Prelude.{ℕ, List, ◌∷◌, []}
+use Rattle.std.specs.Prelude.{ℕ, List, ◌∷◌}
 use Rattle.std.specs.Fmt.{decimal}
 use Rattle.std.specs.List.{flat_map}
-use Rattle.kms_model.specs.declared.objects.Mode.{Mode}
 use Rattle.kms_model.specs.Script.Spelling.{format_at_bit, format_word}
 use Rattle.kms_script.specs.declared.printing_words.Items.{Items}
 use Rattle.kms_script.specs.declared.printing_words.Items.TheVariants.{Crtcs, Formats}
@@ -20,8 +19,3 @@ bits_in Formats = 3
 abbrev pub item_word : Items → ℕ → List ℕ
 item_word Crtcs bit = decimal bit
 item_word Formats bit = format_word (format_at_bit bit)
-
--- the numbers of a mode, in the order of its line
-abbrev pub mode_line_numbers : Mode → List ℕ
-mode_line_numbers m =
-    m.clock ∷ m.hdisplay ∷ m.hsync_start ∷ m.hsync_end ∷ m.htotal ∷ m.hskew ∷ m.vdisplay ∷ m.vsync_start ∷ m.vsync_end ∷ m.vtotal ∷ m.vscan ∷ m.vrefresh ∷ m.flags ∷ m.kind ∷ []

@@ -38,7 +38,7 @@ pub use inputs::{Parsed, parse};
 pub use kms_model::Why;
 pub use limits::{MAX_ASSIGNS, MAX_BLOB, MAX_COMMANDS, MAX_INPUT, MAX_LABELS, MAX_SCRIPT};
 pub use numbers::read_int;
-pub use one_line::{LineError, NameIndex, read_command};
+pub use one_line::{LineError, NameIndex, read_command, read_command_with};
 pub use printing::print;
 pub use printing_steps::print_step;
 pub use schedules::schedules_are_read_back;

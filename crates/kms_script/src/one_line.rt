@@ -95,30 +95,6 @@ impl NameIndex {
     {
         self.names.into_words()
     }
-
-    /// The command that a line spells, without its line feed, as `read_command` gives it. A call takes no longer for
-    /// the names of earlier lines than to find those of this line among them.
-    ///
-    /// The names must with the line's bytes be fewer than 4,294,967,295.
-    pub fn read(&mut self, alloc: Global, line: &[u8]) -> Result<Command, LineError>
-        requires few { length self.old.words + length line.now < 4294967295 }
-        ensures value { GivesCommand result
-            (line_read self.old.profile self.old.words line.now) self.new.words }
-        ensures profile { self.new.profile ≡ self.old.profile }
-        ensures few { length self.new.words ≤ length self.old.words + length line.now + 2 }
-        ensures unchanged { OnErr result (self.new ≡ self.old) }
-    {
-        match read_line(&mut self.names, alloc, line) {
-            Ok(command) => {
-                self.names.keep(alloc);
-                Ok(command)
-            }
-            Err(stop) => {
-                self.names.undo(alloc);
-                Err(line_error(stop))
-            }
-        }
-    }
 }
 
 /// The command that a line spells, without its line feed. The line's new labels and unknown names of properties go
@@ -127,7 +103,7 @@ impl NameIndex {
 /// call. Each object may have any index to 255, whatever the device has.
 ///
 /// The names must differ, as they do after this call, and with the line's bytes be fewer than 4,294,967,295. A call
-/// goes over all of them: for many lines take a `NameIndex`.
+/// goes over all of them: for many lines take a `NameIndex` and `read_command_with`.
 pub fn read_command(
     alloc: Global,
     topology: &Topology,
@@ -143,7 +119,35 @@ pub fn read_command(
     ensures unchanged { OnErr result (names.new ≡ names.old) }
 {
     let mut index = NameIndex::of(alloc, topology.profile, names.as_slice())?;
-    let command = index.read(alloc, line)?;
+    let command = read_command_with(alloc, &mut index, line)?;
     *names = index.into_names();
     Ok(command)
+}
+
+/// The command that a line spells, without its line feed, as `read_command` gives it, with an index of the names of
+/// earlier lines. A call takes no longer for those than to find this line's names among them.
+///
+/// The names must with the line's bytes be fewer than 4,294,967,295.
+pub fn read_command_with(
+    alloc: Global,
+    index: &mut NameIndex,
+    line: &[u8],
+) -> Result<Command, LineError>
+    requires few { length index.old.words + length line.now < 4294967295 }
+    ensures value { GivesCommand result
+        (line_read index.old.profile index.old.words line.now) index.new.words }
+    ensures profile { index.new.profile ≡ index.old.profile }
+    ensures few { length index.new.words ≤ length index.old.words + length line.now + 2 }
+    ensures unchanged { OnErr result (index.new ≡ index.old) }
+{
+    match read_line(&mut index.names, alloc, line) {
+        Ok(command) => {
+            index.names.keep(alloc);
+            Ok(command)
+        }
+        Err(stop) => {
+            index.names.undo(alloc);
+            Err(line_error(stop))
+        }
+    }
 }

@@ -2,8 +2,9 @@
 ghost use Rattle.std.specs.Prelude.{◌≡◌, ◌++◌, ◌∷◌, [], map, codes, OnOk};
 ghost use Rattle.std.specs.Fmt.{decimal};
 ghost use Rattle.std.specs.List.{flat_map};
+ghost use Rattle.kms_model.specs.Device.Modes.{mode_numbers};
 ghost use Rattle.kms_model.specs.Report.TextLines.{line};
-ghost use Rattle.kms_script.specs.Printed.{fields, mode_line_numbers};
+ghost use Rattle.kms_script.specs.Printed.{fields};
 ghost use Rattle.kms_model.specs.Script.Spelling.{assign_word, command_words, format_word, hex_word, spelt_mode, name_word, pattern_words, pixel_word};
 
 use crate::printing_words::{
@@ -72,7 +73,7 @@ fn push_pattern(text: &mut Vec<u8>, format: Format, pattern: &Pattern) -> Result
 
 /// The numbers of a mode, in the order of its line.
 fn mode_numbers(mode: &Mode) -> [u32; 14]
-    ensures { result ≡ mode_line_numbers mode.now }
+    ensures { result ≡ mode_numbers mode.now }
 {
     [
         mode.clock,

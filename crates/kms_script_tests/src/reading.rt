@@ -3,8 +3,8 @@ ghost use Rattle.std.specs.Prelude.{◌<◌, length};
 
 use kms_model::{Part, Script, Seq, Topology};
 use kms_script::{
-    LineError, NameIndex, ParseError, Why, is_label, parse, print, read_command, read_dec,
-    read_int, read_topology,
+    LineError, NameIndex, ParseError, Why, is_label, parse, print, read_command, read_command_with,
+    read_dec, read_int, read_topology,
 };
 use std::alloc::{AllocError, Global};
 use std::test::Fail;
@@ -507,8 +507,8 @@ fn two_indexed(alloc: Global, first: &[u8], second: &[u8]) -> Result<usize, Line
     requires second { length second.now < 1024 }
 {
     let mut index = NameIndex::new(alloc, 1);
-    index.read(alloc, first)?;
-    let _ = index.read(alloc, second);
+    read_command_with(alloc, &mut index, first)?;
+    let _ = read_command_with(alloc, &mut index, second);
     Ok(index.into_names().len())
 }
 

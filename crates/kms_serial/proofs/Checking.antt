@@ -1,6 +1,7 @@
 -- Requests on a device all of whose objects are duplicated.
 use Rattle.std.proofs.Common.{◌≡◌, ℕ, List, length, Option, None, refl, sym, ap, ◌∙◌}
 use Rattle.std.specs.Prelude.{is_some}
+use Rattle.kms_model.specs.Device.Places.{state_at}
 use Rattle.kms_model.specs.declared.objects.Topology.{Topology}
 use Rattle.kms_model.specs.declared.scripts.Request.{Request}
 use Rattle.kms_model.specs.declared.states.Both.{Both}
@@ -10,7 +11,7 @@ use Rattle.kms_model.specs.Request.Lookups.{look_up}
 use Rattle.kms_model.specs.Request.Refusals.{early_refusal}
 use Rattle.kms_model.specs.Request.Verdict.{verdict}
 use Rattle.kms_model.proofs.Items.{or_else-none}
-use Rattle.kms_state.specs.Places.{OldStates, old_states, olds, state_at}
+use Rattle.kms_state.specs.Places.{OldStates, old_states, olds}
 use Rattle.kms_state.proofs.Slots.{there_old}
 use Rattle.kms_request.specs.Whole.{ArePresent, ArePresentSomewhere, StandBetween}
 use Rattle.kms_serial.specs.Device.{StandsInWorld}

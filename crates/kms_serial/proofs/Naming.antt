@@ -7,6 +7,7 @@ use Rattle.std.specs.Ordering.{int_eq}
 use Rattle.std.proofs.lemmas.Bool.{or_cases, false≢true}
 use Rattle.std.proofs.lemmas.Bool.Decides.{Decides-int_eq}
 use Rattle.kms_model.specs.declared.objects.Kind.TheVariants as kind
+use Rattle.kms_model.specs.Device.Places.{state_at}
 use Rattle.kms_model.specs.declared.objects.Topology.{Topology}
 use Rattle.kms_model.specs.declared.properties.TheConstants.{FB_ID}
 use Rattle.kms_model.specs.declared.states.Both.{Both}
@@ -20,7 +21,6 @@ use Rattle.kms_model.specs.Frames.FrameBytes.{buffer_id_in}
 use Rattle.kms_model.specs.Frames.Images.{image_of, seen_in}
 use Rattle.kms_model.specs.Device.Objects.{object_id, count_of}
 use Rattle.kms_model.specs.Device.Sound.{AreNumbered, has_legal_mode, IsSound}
-use Rattle.kms_model.specs.Request.Late.{duplicate_at}
 use Rattle.kms_model.specs.Device.States.{framebuffer_in, framebuffer_of, gamma_of, mode_of, plane_at}
 use Rattle.kms_model.specs.Script.Words.{◌>>=◌}
 use Rattle.kms_model.specs.Device.World.{value, thing_numbered, thing_with_id}
@@ -91,9 +91,9 @@ fb_id-is t w index sound framed within =
 
 -- the same of a state that is duplicated
 pub fb_of_state : (t : Topology) (w : World) (d : Duplicates) (index : ℕ) (o : Option (Both PlaneState)) → StandsInWorld t w d → index < length t.planes
-    → duplicate_at d.planes index ≡ o → pos (framebuffer_id (option_map (λ b. b.new) o)) ≡ value w.values (object_id kind.Plane index) FB_ID
+    → state_at d.planes index ≡ o → pos (framebuffer_id (option_map (λ b. b.new) o)) ≡ value w.values (object_id kind.Plane index) FB_ID
 fb_of_state t w d index None stands within is =
-    absurd (let some = stands.present.whole.planes.there index within in let none : is_some (duplicate_at d.planes index) ≡ false = rw is refl in cc)
+    absurd (let some = stands.present.whole.planes.there index within in let none : is_some (state_at d.planes index) ≡ false = rw is refl in cc)
 fb_of_state t w d index (Some both) stands within is =
     let new = stands.present.new.planes index both (flatten-some (slice_get d.planes index) both is) in
     ap (λ (s : PlaneState). pos (id_or_zero s.fb)) new ∙ fb_id-is t w index stands.sound stands.framed within

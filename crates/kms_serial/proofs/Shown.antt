@@ -5,6 +5,7 @@ use Rattle.std.proofs.lemmas.Bool.{and_parts}
 use Rattle.std.proofs.lemmas.Bool.Decides.{nat_tests}
 use Rattle.std.proofs.lemmas.Int.{ints}
 use Rattle.kms_model.specs.declared.objects.Kind.TheVariants as kind
+use Rattle.kms_model.specs.Device.Places.{state_at}
 use Rattle.kms_model.specs.declared.objects.Topology.{Topology}
 use Rattle.kms_model.specs.declared.states.Both.{Both}
 use Rattle.kms_model.specs.declared.states.CrtcState.{CrtcState}
@@ -12,7 +13,6 @@ use Rattle.kms_model.specs.declared.states.Duplicates.{Duplicates}
 use Rattle.kms_model.specs.declared.states.PlaneState.{PlaneState}
 use Rattle.kms_model.specs.declared.worlds.World.{World}
 use Rattle.kms_model.specs.Request.Agreement.{on_crtc}
-use Rattle.kms_model.specs.Request.Late.{duplicate_at}
 use Rattle.kms_model.specs.Device.Masks.{has_bit}
 use Rattle.kms_model.specs.Device.Objects.{object_id}
 use Rattle.kms_model.specs.Device.States.{crtc_at, plane_at}
@@ -21,7 +21,7 @@ use Rattle.kms_model.proofs.MaskLemmas.{has_bit-mask_below}
 use Rattle.kms_model.proofs.StateLemmas.{sound-plane_in_range}
 use Rattle.kms_model.proofs.Facts.{implied_from, list_all-from}
 use Rattle.kms_picture.specs.Covered.{are_placeable, is_placeable, is_near_rect, is_near_plane, may_picture}
-use Rattle.kms_picture.proofs.FromSound.{near-place, near-size, near-dst}
+use Rattle.kms_picture.proofs.FromSound.{near-dst}
 use Rattle.kms_serial.specs.Device.{StandsInWorld}
 
 le-int_le : (a b : ℤ) → a ≤ℤ b → int_le a b ≡ true
@@ -32,8 +32,8 @@ above_zero (pos n) le = refl
 above_zero (negsuc n) le = absurd (omega (arith, ints, le))
 
 -- a plane of a device that stands is ready
-ready_plane : (t : Topology) (w : World) (d : Duplicates) (index : ℕ) (o : Option (Both PlaneState)) → StandsInWorld t w d → duplicate_at d.planes index ≡ o → index < length t.planes → is_near_plane o ≡ true
-ready_plane t w d index None stands is lt = absurd (let some = stands.present.whole.planes.there index lt in let none : is_some (duplicate_at d.planes index) ≡ false = rw is refl in cc)
+ready_plane : (t : Topology) (w : World) (d : Duplicates) (index : ℕ) (o : Option (Both PlaneState)) → StandsInWorld t w d → state_at d.planes index ≡ o → index < length t.planes → is_near_plane o ≡ true
+ready_plane t w d index None stands is lt = absurd (let some = stands.present.whole.planes.there index lt in let none : is_some (state_at d.planes index) ≡ false = rw is refl in cc)
 ready_plane t w d index (Some both) stands is lt =
     let at = flatten-some (slice_get d.planes index) both is in
     let new : both.new ≡ plane_at w.things w.values (object_id kind.Plane index) = stands.present.new.planes index both at in
@@ -45,14 +45,14 @@ within t w crtc index has =
     let parts = and_parts (nat_lt index (length t.planes)) _ (sym (has_bit-mask_below (λ i. crtc_at w.values (object_id kind.Plane i) == crtc) (length t.planes) index) ∙ has) in
     grind (arith, nat_tests, parts.0)
 
-covered_crtc : (t : Topology) (w : World) (d : Duplicates) (crtc : ℕ) (o : Option (Both CrtcState)) → StandsInWorld t w d → duplicate_at d.crtcs crtc ≡ o → crtc < t.crtcs → are_placeable d.planes o ≡ true
-covered_crtc t w d crtc None stands is lt = absurd (let some = stands.present.whole.crtcs.there crtc lt in let none : is_some (duplicate_at d.crtcs crtc) ≡ false = rw is refl in cc)
+covered_crtc : (t : Topology) (w : World) (d : Duplicates) (crtc : ℕ) (o : Option (Both CrtcState)) → StandsInWorld t w d → state_at d.crtcs crtc ≡ o → crtc < t.crtcs → are_placeable d.planes o ≡ true
+covered_crtc t w d crtc None stands is lt = absurd (let some = stands.present.whole.crtcs.there crtc lt in let none : is_some (state_at d.crtcs crtc) ≡ false = rw is refl in cc)
 covered_crtc t w d crtc (Some both) stands is lt =
     let at = flatten-some (slice_get d.crtcs crtc) both is in
     let planes : both.new.planes ≡ on_crtc t w.values (object_id kind.Crtc crtc) kind.Plane = ap (λ (s : CrtcState). s.planes) (stands.present.new.crtcs crtc both at) in
-    list_all-from (is_placeable d.planes both.new.planes) 0 16 (λ i. implied_from (has_bit both.new.planes i) (is_near_plane (duplicate_at d.planes i))
-    (λ has. ready_plane t w d i (duplicate_at d.planes i) stands refl (within t w (object_id kind.Crtc crtc) i (sym (ap (λ m. has_bit m i) planes) ∙ has))))
+    list_all-from (is_placeable d.planes both.new.planes) 0 16 (λ i. implied_from (has_bit both.new.planes i) (is_near_plane (state_at d.planes i))
+    (λ has. ready_plane t w d i (state_at d.planes i) stands refl (within t w (object_id kind.Crtc crtc) i (sym (ap (λ m. has_bit m i) planes) ∙ has))))
 
 -- the picture of each CRTC of a device that stands can be told
 pub may_picture-stands : (t : Topology) (w : World) (d : Duplicates) (crtc : ℕ) → StandsInWorld t w d → crtc < t.crtcs → may_picture d crtc ≡ true
-may_picture-stands t w d crtc stands lt = covered_crtc t w d crtc (duplicate_at d.crtcs crtc) stands refl lt
+may_picture-stands t w d crtc stands lt = covered_crtc t w d crtc (state_at d.crtcs crtc) stands refl lt

@@ -2,6 +2,7 @@
 use Rattle.std.proofs.Common.{◌≡◌, ℕ, ◌≤◌, true, List, [], ◌∷◌, refl, sym, ap, ◌∙◌, subst, arith}
 use Rattle.std.specs.Prelude.{nat_le, if◌then◌else◌}
 use Rattle.std.proofs.lemmas.Bool.{and_parts, leb-true}
+use Rattle.kms_model.specs.Order.Turns.{lock_step}
 use Rattle.kms_model.specs.declared.objects.Kind.{Kind}
 use Rattle.kms_model.specs.declared.objects.Kind.TheVariants.{Conn, Crtc, Enc, Plane}
 use Rattle.kms_model.specs.declared.objects.ObjId.{ObjId}
@@ -15,7 +16,7 @@ use Rattle.kms_model.specs.Machine.State.{doing_at}
 use Rattle.kms_model.proofs.KindsOfIds.{HasKind, has_kind}
 use Rattle.kms_model.proofs.TouchedLemmas.{HasFewObjects}
 use Rattle.kms_calls.specs.declared.contexts.Locked.{Locked}
-use Rattle.kms_calls.specs.Locks.{MayLock, lock_step, lock_steps, locked_answer}
+use Rattle.kms_calls.specs.Locks.{MayLock, lock_steps, locked_answer}
 use Rattle.kms_next.specs.Next.{IsLegal}
 use Rattle.kms_stores.specs.Run.{Run, gains, machine}
 use Rattle.kms_core.proofs.Applied.{IsIdOf, flush_kind, lock_asked, lock_there, locked_step, vblank_kind}
@@ -51,7 +52,7 @@ pub same_id : (id : ObjId) → first_id (kind_of id.0) ≤ id.0 → id.0 ≡ obj
 same_id id is_id = omega (arith, is_id)
 
 module _ (v : Run) (client : ℕ) (id : ObjId) (asked : may_ask v client id ≡ true) where
-  pub asked_is : IsLegal v (lock_step client id)
+  pub asked_is : IsLegal v (lock_step client id.0)
   asked_is = (and_parts (nat_le 100 id.0) _ asked).1
 
   pub asked_id : first_id (kind_of id.0) ≤ id.0
@@ -70,4 +71,4 @@ module _ (v : Run) (client : ℕ) (id : ObjId) (asked : may_ask v client id ≡ 
   pub one_step : (answer : Locked) → answer ≡ locked_answer v client id → lock_steps client id answer ≡ asked_steps v client id
   one_step answer is =
       locked_step v client (kind_of id.0) (index_of id.0) id answer asked_is named (same_id id asked_id) is
-      ∙ ap (λ b. if b then lock_step client id ∷ [] else []) (sym asked)
+      ∙ ap (λ b. if b then lock_step client id.0 ∷ [] else []) (sym asked)

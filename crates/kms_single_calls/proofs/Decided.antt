@@ -5,6 +5,7 @@ use Rattle.std.specs.Option.{option_flatten}
 use Rattle.std.proofs.lemmas.Bool.{cases_lt, eq-eqb, ltb-false, ltb-true}
 use Rattle.std.proofs.lemmas.Option.{unwrap_or-slice_get}
 use Rattle.std.proofs.lemmas.List.{get_or-map}
+use Rattle.kms_model.specs.Device.Places.{state_at}
 use Rattle.kms_model.specs.declared.objects.Kind.{Kind}
 use Rattle.kms_model.specs.declared.objects.Kind.TheVariants.{Conn, Crtc, Plane}
 use Rattle.kms_model.specs.declared.objects.Ticket.{Ticket}
@@ -28,7 +29,6 @@ use Rattle.kms_model.specs.Device.Objects.{object_id}
 use Rattle.kms_model.specs.Firsts.{or_else}
 use Rattle.kms_model.specs.Machine.State.{Machine, command_at, doing_at, has_value, holds}
 use Rattle.kms_model.specs.Machine.Steps.{ticket_of, ticket_taking}
-use Rattle.kms_model.specs.Request.Late.{duplicate_at}
 use Rattle.kms_model.specs.Machine.Commits.{lockable}
 use Rattle.kms_model.proofs.Facts.{number-in}
 use Rattle.kms_laws.specs.Laws.{ContextsStand, has_context}
@@ -126,7 +126,7 @@ flat None = refl
 flat (Some o) = refl
 
 -- a state that is there by its place is there
-pub same_there : {S : Type 0} (states : List (Option (Both S))) (i : ℕ) → is_some (duplicate_at states i) ≡ is_some (slice_index_or states i None)
+pub same_there : {S : Type 0} (states : List (Option (Both S))) (i : ℕ) → is_some (state_at states i) ≡ is_some (slice_index_or states i None)
 same_there states i = ap is_some (flat (slice_get states i) ∙ unwrap_or-slice_get states i None)
 
 module _ (r : Run) (c : RequestContext) (takes : HasTaken r c) (checked : Checked) (kept : old_states checked.states ≡ old_states c.states) where

@@ -3,6 +3,7 @@ use Rattle.std.proofs.Common.{◌≡◌, ℕ, zero, suc, ◌-◌, Bool, true, fa
 use Rattle.std.specs.Bool.{then_some}
 use Rattle.std.specs.Prelude.{◌==◌, ◌&&◌, ◌||◌, is_some, nat_le, if◌then◌else◌}
 use Rattle.std.proofs.lemmas.Bool.{and_parts, eqb-true, false≢true, or_cases}
+use Rattle.kms_model.specs.Device.Places.{state_at}
 use Rattle.kms_model.specs.declared.objects.Kind.{Kind}
 use Rattle.kms_model.specs.declared.objects.Kind.TheVariants.{Conn, Crtc, Enc, Plane}
 use Rattle.kms_model.specs.declared.objects.ObjId.{ObjId}
@@ -16,7 +17,7 @@ use Rattle.kms_model.specs.declared.worlds.World.{World}
 use Rattle.kms_model.specs.Device.Objects.{first_id, kind_of}
 use Rattle.kms_model.specs.Machine.State.{doing_at, holds, request_at}
 use Rattle.kms_model.specs.Request.Deciding.{AreFresh}
-use Rattle.kms_state.specs.Places.{is_duplicated, is_duplicated_of, none_duplicated, state_at, state_of}
+use Rattle.kms_state.specs.Places.{is_duplicated, is_duplicated_of, none_duplicated, state_of}
 use Rattle.kms_state.specs.StandsIn.{Agrees, IsStateOf, KeepsNew, KeepsOld}
 use Rattle.kms_calls.specs.Locks.{has_lock, held_state, present_state}
 use Rattle.kms_calls.specs.States.{state_of_kind}

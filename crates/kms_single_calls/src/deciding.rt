@@ -2,7 +2,7 @@
 //! call that decides it.
 ghost use Rattle.std.specs.Prelude.{ℕ, ◌≡◌, ◌↔◌, ◌<◌, ◌≤◌, IfOk, IsTrue, OnErr, false, is_some, length, map, true};
 ghost use Rattle.kms_model.specs.Device.Masks.{has_bit};
-ghost use Rattle.kms_model.specs.Request.Late.{duplicate_at};
+ghost use Rattle.kms_model.specs.Device.Places.{state_at};
 ghost use Rattle.kms_model.specs.Request.Lookups.{look_up};
 ghost use Rattle.kms_check.specs.Moves.{AcceptedAs};
 ghost use Rattle.kms_stores.specs.Decisions.{IsDecided, steps_of, world};
@@ -129,7 +129,7 @@ fn has_states(checked: &Checked) -> bool
 fn are_there<S: Copy>(states: &[Option<Both<S>>], set: u32) -> bool
     requires { length states.now ≤ 32 }
     ensures { IsTrue result ↔ ((i : ℕ) → i < length states.now → has_bit set i ≡ true
-        → is_some (duplicate_at states.now i) ≡ true) }
+        → is_some (state_at states.now i) ≡ true) }
 {
     for index in 0..states.len() {
         if has_bit(set, index as u32) && !is_there(states, index) {
@@ -141,7 +141,7 @@ fn are_there<S: Copy>(states: &[Option<Both<S>>], set: u32) -> bool
 
 /// Whether the object with an index is there.
 fn is_there<S: Copy>(states: &[Option<Both<S>>], index: usize) -> bool
-    ensures { result ≡ is_some (duplicate_at states.now index) }
+    ensures { result ≡ is_some (state_at states.now index) }
 {
     matches!(states.get(index), Some(Some(_)))
 }

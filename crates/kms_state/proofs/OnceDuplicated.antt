@@ -4,6 +4,7 @@ use Rattle.std.specs.Prelude.{◌==◌, ◌||◌}
 use Rattle.std.specs.Option.{option_flatten}
 use Rattle.std.proofs.lemmas.Bool.{cases_eq, cases_lt, eq-eqb, false≢true, le-leb, lt-leb, ne_eqb}
 use Rattle.std.proofs.lemmas.Option.{slice_get_within}
+use Rattle.kms_model.specs.Device.Places.{alike}
 use Rattle.kms_model.specs.declared.objects.Kind.{Kind}
 use Rattle.kms_model.specs.declared.objects.Kind.TheVariants.{Crtc, Plane, Conn, Enc}
 use Rattle.kms_model.specs.declared.states.ConnState.{ConnState}
@@ -14,7 +15,7 @@ use Rattle.kms_model.specs.declared.states.ObjState.TheVariants as state
 use Rattle.kms_model.specs.Device.Objects.{first_id, object_id, kind_of}
 use Rattle.kms_model.specs.Device.States.{plane_at}
 use Rattle.kms_model.specs.Request.Agreement.{conn_state_at, crtc_state_at}
-use Rattle.kms_state.specs.Places.{duplicated, is_duplicated, is_duplicated_of, is_free, is_free_place, state_of, unchanged}
+use Rattle.kms_state.specs.Places.{duplicated, is_duplicated, is_duplicated_of, is_free, is_free_place, state_of}
 use Rattle.kms_state.specs.StandsIn.{KeepsNew, KeepsOld}
 use Rattle.kms_model.proofs.KindsOfIds.{kind-conn, kind-crtc, kind-plane}
 use Rattle.kms_state.proofs.Slots.{AreNew-set, AreOld-set, slice_get-set_other, slice_get-set_same}
@@ -61,7 +62,7 @@ other_kind o id kind other is_o is_id apart b = sym (ap (λ x. x || b) (ne_eqb o
 
 there_after_crtc : (d : Duplicates) (id o : ℕ) (s : CrtcState) (kind : Kind) → kind_of o ≡ kind → kind_of id ≡ Crtc → IsFree Crtc d.crtcs id
     → is_duplicated_of kind (duplicated d id (state.Crtc s)) o ≡ ((o == id) || is_duplicated_of kind d o)
-there_after_crtc d id o s Crtc is_o is_id place = put_in Crtc d.crtcs id (unchanged s) o place
+there_after_crtc d id o s Crtc is_o is_id place = put_in Crtc d.crtcs id (alike s) o place
 there_after_crtc d id o s Plane is_o is_id place = other_kind o id Plane Crtc is_o is_id (λ e. cc) (is_some (state_of Plane d.planes o))
 there_after_crtc d id o s Conn is_o is_id place = other_kind o id Conn Crtc is_o is_id (λ e. cc) (is_some (state_of Conn d.conns o))
 there_after_crtc d id o s Enc is_o is_id place = other_kind o id Enc Crtc is_o is_id (λ e. cc) false
@@ -69,7 +70,7 @@ there_after_crtc d id o s Enc is_o is_id place = other_kind o id Enc Crtc is_o i
 there_after_plane : (d : Duplicates) (id o : ℕ) (s : PlaneState) (kind : Kind) → kind_of o ≡ kind → kind_of id ≡ Plane → IsFree Plane d.planes id
     → is_duplicated_of kind (duplicated d id (state.Plane s)) o ≡ ((o == id) || is_duplicated_of kind d o)
 there_after_plane d id o s Crtc is_o is_id place = other_kind o id Crtc Plane is_o is_id (λ e. cc) (is_some (state_of Crtc d.crtcs o))
-there_after_plane d id o s Plane is_o is_id place = put_in Plane d.planes id (unchanged s) o place
+there_after_plane d id o s Plane is_o is_id place = put_in Plane d.planes id (alike s) o place
 there_after_plane d id o s Conn is_o is_id place = other_kind o id Conn Plane is_o is_id (λ e. cc) (is_some (state_of Conn d.conns o))
 there_after_plane d id o s Enc is_o is_id place = other_kind o id Enc Plane is_o is_id (λ e. cc) false
 
@@ -77,7 +78,7 @@ there_after_conn : (d : Duplicates) (id o : ℕ) (s : ConnState) (kind : Kind) �
     → is_duplicated_of kind (duplicated d id (state.Conn s)) o ≡ ((o == id) || is_duplicated_of kind d o)
 there_after_conn d id o s Crtc is_o is_id place = other_kind o id Crtc Conn is_o is_id (λ e. cc) (is_some (state_of Crtc d.crtcs o))
 there_after_conn d id o s Plane is_o is_id place = other_kind o id Plane Conn is_o is_id (λ e. cc) (is_some (state_of Plane d.planes o))
-there_after_conn d id o s Conn is_o is_id place = put_in Conn d.conns id (unchanged s) o place
+there_after_conn d id o s Conn is_o is_id place = put_in Conn d.conns id (alike s) o place
 there_after_conn d id o s Enc is_o is_id place = other_kind o id Enc Conn is_o is_id (λ e. cc) false
 
 -- a CRTC's state duplicated
@@ -101,32 +102,32 @@ pub crtc_new : (d : Duplicates) (id : ℕ) (s : CrtcState) → is_free Crtc d.cr
 crtc_new d id s h t things values is agrees =
     let at : id ≡ object_id Crtc (id - first_id Crtc) = omega (arith, (free Crtc d.crtcs id h).from) in
     let f : ℕ → CrtcState = λ index. crtc_state_at t things values (object_id Crtc index) in
-    record { crtcs = AreNew-set f f d.crtcs (id - first_id Crtc) (unchanged s) agrees.crtcs (λ k h ne. refl) (is ∙ ap (crtc_state_at t things values) at); planes = agrees.planes; conns = agrees.conns }
+    record { crtcs = AreNew-set f f d.crtcs (id - first_id Crtc) (alike s) agrees.crtcs (λ k h ne. refl) (is ∙ ap (crtc_state_at t things values) at); planes = agrees.planes; conns = agrees.conns }
 
 pub plane_new : (d : Duplicates) (id : ℕ) (s : PlaneState) → is_free Plane d.planes id ≡ true → KeepsNew d id (state.Plane s) (duplicated d id (state.Plane s))
 plane_new d id s h t things values is agrees =
     let at : id ≡ object_id Plane (id - first_id Plane) = omega (arith, (free Plane d.planes id h).from) in
     let f : ℕ → PlaneState = λ index. plane_at things values (object_id Plane index) in
-    record { crtcs = agrees.crtcs; planes = AreNew-set f f d.planes (id - first_id Plane) (unchanged s) agrees.planes (λ k h ne. refl) (is ∙ ap (plane_at things values) at); conns = agrees.conns }
+    record { crtcs = agrees.crtcs; planes = AreNew-set f f d.planes (id - first_id Plane) (alike s) agrees.planes (λ k h ne. refl) (is ∙ ap (plane_at things values) at); conns = agrees.conns }
 
 pub conn_new : (d : Duplicates) (id : ℕ) (s : ConnState) → is_free Conn d.conns id ≡ true → KeepsNew d id (state.Conn s) (duplicated d id (state.Conn s))
 conn_new d id s h t things values is agrees =
     let at : id ≡ object_id Conn (id - first_id Conn) = omega (arith, (free Conn d.conns id h).from) in
     let f : ℕ → ConnState = λ index. conn_state_at values (object_id Conn index) in
-    record { crtcs = agrees.crtcs; planes = agrees.planes; conns = AreNew-set f f d.conns (id - first_id Conn) (unchanged s) agrees.conns (λ k h ne. refl) (is ∙ ap (conn_state_at values) at) }
+    record { crtcs = agrees.crtcs; planes = agrees.planes; conns = AreNew-set f f d.conns (id - first_id Conn) (alike s) agrees.conns (λ k h ne. refl) (is ∙ ap (conn_state_at values) at) }
 
 -- agreement of the old states
 pub crtc_old : (d : Duplicates) (id : ℕ) (s : CrtcState) → is_free Crtc d.crtcs id ≡ true → KeepsOld d id (state.Crtc s) (duplicated d id (state.Crtc s))
 crtc_old d id s h t things values is agrees =
     let at : id ≡ object_id Crtc (id - first_id Crtc) = omega (arith, (free Crtc d.crtcs id h).from) in
-    record { crtcs = AreOld-set (λ index. crtc_state_at t things values (object_id Crtc index)) d.crtcs (id - first_id Crtc) (unchanged s) agrees.crtcs (is ∙ ap (crtc_state_at t things values) at); planes = agrees.planes; conns = agrees.conns }
+    record { crtcs = AreOld-set (λ index. crtc_state_at t things values (object_id Crtc index)) d.crtcs (id - first_id Crtc) (alike s) agrees.crtcs (is ∙ ap (crtc_state_at t things values) at); planes = agrees.planes; conns = agrees.conns }
 
 pub plane_old : (d : Duplicates) (id : ℕ) (s : PlaneState) → is_free Plane d.planes id ≡ true → KeepsOld d id (state.Plane s) (duplicated d id (state.Plane s))
 plane_old d id s h t things values is agrees =
     let at : id ≡ object_id Plane (id - first_id Plane) = omega (arith, (free Plane d.planes id h).from) in
-    record { crtcs = agrees.crtcs; planes = AreOld-set (λ index. plane_at things values (object_id Plane index)) d.planes (id - first_id Plane) (unchanged s) agrees.planes (is ∙ ap (plane_at things values) at); conns = agrees.conns }
+    record { crtcs = agrees.crtcs; planes = AreOld-set (λ index. plane_at things values (object_id Plane index)) d.planes (id - first_id Plane) (alike s) agrees.planes (is ∙ ap (plane_at things values) at); conns = agrees.conns }
 
 pub conn_old : (d : Duplicates) (id : ℕ) (s : ConnState) → is_free Conn d.conns id ≡ true → KeepsOld d id (state.Conn s) (duplicated d id (state.Conn s))
 conn_old d id s h t things values is agrees =
     let at : id ≡ object_id Conn (id - first_id Conn) = omega (arith, (free Conn d.conns id h).from) in
-    record { crtcs = agrees.crtcs; planes = agrees.planes; conns = AreOld-set (λ index. conn_state_at values (object_id Conn index)) d.conns (id - first_id Conn) (unchanged s) agrees.conns (is ∙ ap (conn_state_at values) at) }
+    record { crtcs = agrees.crtcs; planes = agrees.planes; conns = AreOld-set (λ index. conn_state_at values (object_id Conn index)) d.conns (id - first_id Conn) (alike s) agrees.conns (is ∙ ap (conn_state_at values) at) }

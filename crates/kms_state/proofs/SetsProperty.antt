@@ -6,6 +6,7 @@ use Rattle.std.specs.Ordering.{int_eq}
 use Rattle.std.proofs.lemmas.Bool.{cases_eq, cases_lt, eq-eqb, ne_eqb, eqb-true, lt-leb, false≢true, ltb-true, not-true}
 use Rattle.std.proofs.lemmas.Bool.Decides.{same_from_decides, Decides-eqb, Decides-int_eq, Decides-like}
 use Rattle.std.proofs.lemmas.Option.{slice_get_within}
+use Rattle.kms_model.specs.Device.Places.{state_at}
 use Rattle.kms_model.specs.declared.objects.Gamma.{Gamma}
 use Rattle.kms_model.specs.declared.objects.Kind.{Kind}
 use Rattle.kms_model.specs.declared.objects.Kind.TheVariants.{Crtc, Plane, Conn, Enc}
@@ -31,7 +32,7 @@ use Rattle.kms_model.specs.Request.SetRanges.{may_set}
 use Rattle.kms_model.specs.Request.Agreement.{AgreesNew, AreNew, StandsFor, conn_state_at, crtc_state_at}
 use Rattle.kms_model.proofs.SetLemmas.{may_set-takes, takes}
 use Rattle.kms_model.proofs.ValueLemmas.{Puts, Puts-put}
-use Rattle.kms_state.specs.Places.{is_duplicated, is_duplicated_of, state_at, state_of, old_states}
+use Rattle.kms_state.specs.Places.{is_duplicated, is_duplicated_of, state_of, old_states}
 use Rattle.kms_state.specs.Changes.{HasObject, IsSet, Sets, after_crtc, after_number, after_value, new_number, plane_after_set, rerouted, set_to, with_new}
 use Rattle.kms_state.proofs.Frames.{conn_state_at-other, crtc_at-kept, crtc_state_at-other, on_crtc-same, plane_at-other, same_crtc_state}
 use Rattle.kms_model.proofs.KindsOfIds.{has_kind, kind-conn, kind-crtc, kind-plane}

@@ -5,6 +5,7 @@ use Rattle.std.specs.Option.{option_flatten}
 use Rattle.std.proofs.Math.ListN.{length-set}
 use Rattle.std.proofs.lemmas.Bool.{cases_eq, cases_lt, eq-eqb, ne_eqb, le-leb, lt-leb}
 use Rattle.std.proofs.lemmas.Option.{none-some, same_Some, slice_get-map, slice_get_within}
+use Rattle.kms_model.specs.Device.Places.{state_at}
 use Rattle.kms_model.specs.declared.objects.Kind.{Kind}
 use Rattle.kms_model.specs.declared.objects.Kind.TheVariants.{Crtc, Plane, Conn, Enc}
 use Rattle.kms_model.specs.declared.objects.Topology.{Topology}
@@ -16,7 +17,7 @@ use Rattle.kms_model.specs.declared.states.CrtcState.{CrtcState}
 use Rattle.kms_model.specs.declared.states.Both.{Both}
 use Rattle.kms_model.specs.Device.Objects.{first_id, object_id, kind_of}
 use Rattle.kms_model.specs.Request.Agreement.{AgreesOld, AreNew, AreOld, conn_state_at, crtc_state_at}
-use Rattle.kms_state.specs.Places.{is_duplicated, is_duplicated_of, old_states, olds, state_at, state_of}
+use Rattle.kms_state.specs.Places.{is_duplicated, is_duplicated_of, old_states, olds, state_of}
 use Rattle.kms_state.specs.Changes.{with_new, put_at, changed, rerouted, with_routed}
 
 pub slice_get-set_same : {A : Type 0} (xs : List A) (i : ℕ) (x : A) → i < length xs → slice_get (set xs i x) i ≡ Some x

@@ -1,7 +1,7 @@
 -- Where duplicated states of objects are kept. From: "Atomic Mode Setting"; drm_atomic_get_existing_crtc_state and its
 -- like.
 use Rattle.std.specs.Prelude.{ℕ, ◌-◌, Bool, true, false, nat_le, List, map, replicate, set, slice_get, Option, Some, None, is_some, option_map, if◌then◌else◌}
-use Rattle.std.specs.Option.{option_flatten}
+use Rattle.kms_model.specs.Device.Places.{alike, state_at}
 use Rattle.kms_model.specs.declared.objects.Kind.{Kind}
 use Rattle.kms_model.specs.declared.objects.Kind.TheVariants.{Crtc, Plane, Conn, Enc}
 use Rattle.kms_model.specs.declared.states.Both.{Both}
@@ -12,10 +12,6 @@ use Rattle.kms_model.specs.declared.states.ObjState.{ObjState}
 use Rattle.kms_model.specs.declared.states.ObjState.TheVariants as state
 use Rattle.kms_model.specs.declared.states.PlaneState.{PlaneState}
 use Rattle.kms_model.specs.Device.Objects.{first_id, kind_of}
-
--- what is duplicated at an index, if anything
-abbrev pub state_at : {S : Type 0} → List (Option S) → ℕ → Option S
-state_at states index = option_flatten (slice_get states index)
 
 -- what is duplicated of an object of a kind, by its id
 abbrev pub state_of : {S : Type 0} → Kind → List (Option S) → ℕ → Option S
@@ -37,10 +33,6 @@ abbrev pub none_duplicated : Duplicates
 none_duplicated =
     record { crtcs = replicate 4 None; planes = replicate 16 None; conns = replicate 8 None }
 
--- an object that was just duplicated
-abbrev pub unchanged : {S : Type 0} → S → Both S
-unchanged s = record { old = s; new = s }
-
 abbrev pub is_free_place : {S : Type 0} → Option (Option S) → Bool
 is_free_place None = false
 is_free_place (Some None) = true
@@ -59,11 +51,11 @@ may_duplicate d id (state.Conn s) = is_free Conn d.conns id
 -- an object's state duplicated
 abbrev pub duplicated : Duplicates → ℕ → ObjState → Duplicates
 duplicated d id (state.Crtc s) =
-    record d { crtcs = set d.crtcs (id - first_id Crtc) (Some (unchanged s)) }
+    record d { crtcs = set d.crtcs (id - first_id Crtc) (Some (alike s)) }
 duplicated d id (state.Plane s) =
-    record d { planes = set d.planes (id - first_id Plane) (Some (unchanged s)) }
+    record d { planes = set d.planes (id - first_id Plane) (Some (alike s)) }
 duplicated d id (state.Conn s) =
-    record d { conns = set d.conns (id - first_id Conn) (Some (unchanged s)) }
+    record d { conns = set d.conns (id - first_id Conn) (Some (alike s)) }
 
 -- the old states
 pub record OldStates : Type 0 where

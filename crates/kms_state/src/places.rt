@@ -1,5 +1,6 @@
 //! The calls of duplicates: duplicating states, finding them, and setting their properties.
 ghost use Rattle.std.specs.Prelude.{◌≡◌, ◌==◌, ◌||◌, ℕ, IsTrue, List, is_some, option_map};
+ghost use Rattle.kms_model.specs.Device.Places.{state_at};
 ghost use Rattle.kms_model.specs.declared.objects.Topology.{Topology};
 ghost use Rattle.kms_model.specs.declared.sets.SetValue.TheVariants as to;
 ghost use Rattle.kms_model.specs.declared.states.Duplicates.{Duplicates};
@@ -9,7 +10,7 @@ ghost use Rattle.kms_model.specs.Request.Agreement.{AgreesNew, AgreesOld};
 ghost use Rattle.kms_model.specs.Request.SetRanges.{may_set};
 ghost use Rattle.kms_state.specs.Changes.{Sets, after_set};
 ghost use Rattle.kms_model.specs.Device.Objects.{kind_of};
-ghost use Rattle.kms_state.specs.Places.{duplicated, is_duplicated, may_duplicate, none_duplicated, old_states, state_at};
+ghost use Rattle.kms_state.specs.Places.{duplicated, is_duplicated, may_duplicate, none_duplicated, old_states};
 ghost use Rattle.kms_state.specs.StandsIn.{KeepsNew, KeepsOld};
 
 use crate::sets::{move_conn, move_plane, set_active, set_fb, set_gamma, set_mode, set_number};

@@ -4,9 +4,9 @@ use Rattle.std.specs.Prelude.{Option, is_some, slice_get, slice_index_or}
 use Rattle.std.proofs.lemmas.Bool.{cases_lt}
 use Rattle.std.proofs.lemmas.List.{get_or_default, get_or_past}
 use Rattle.std.specs.Option.{option_flatten}
+use Rattle.kms_model.specs.Device.Places.{state_at}
 use Rattle.kms_model.specs.declared.states.Both.{Both}
 use Rattle.kms_model.specs.Request.Agreement.{AreNew, AreOld}
-use Rattle.kms_model.specs.Request.Late.{duplicate_at}
 use Rattle.kms_things.specs.Present.{AreWhole}
 use Rattle.kms_stores.specs.SwappedIn.{AreSwappedIn, swapped_in}
 
@@ -56,7 +56,7 @@ swapped_whole count present checked after is whole = record {
   there = λ index low. same index ∙ whole.there index low;
   only = λ index some. whole.only index (sym (same index) ∙ some);
 } where
-  same : (index : ℕ) → is_some (duplicate_at after index) ≡ is_some (duplicate_at present index)
+  same : (index : ℕ) → is_some (state_at after index) ≡ is_some (state_at present index)
   same index =
       ap is_some (there_is after index ∙ is.at index) ∙ swapped_some (slice_index_or present index None) (slice_index_or checked index None)
       ∙ ap is_some (sym (there_is present index))

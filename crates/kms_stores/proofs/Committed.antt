@@ -3,8 +3,8 @@ use Rattle.std.proofs.Common.{◌≡◌, ℕ, ◌+◌, ◌<◌, Bool, List, Some
 use Rattle.std.specs.Prelude.{Option, is_some, slice_get, slice_index_or}
 use Rattle.std.specs.Option.{option_flatten}
 use Rattle.std.proofs.lemmas.Option.{get_or_from_slice_get}
+use Rattle.kms_model.specs.Device.Places.{state_at}
 use Rattle.kms_model.specs.declared.states.Both.{Both}
-use Rattle.kms_model.specs.Request.Late.{duplicate_at}
 use Rattle.std.proofs.lemmas.Bool.{and_from, false≢true, lt-ltb}
 use Rattle.kms_model.specs.declared.objects.Kind.{Kind}
 use Rattle.kms_model.specs.declared.objects.Kind.TheVariants.{Crtc, Plane, Conn}
@@ -44,7 +44,7 @@ use Rattle.kms_stores.proofs.AfterCommit.{swapped_agree, swapped_whole}
 -- What is touched was duplicated
 
 -- what is there in a list is there by its place
-pub there_at : {S : Type 0} (states : List (Option (Both S))) (i : ℕ) → is_some (duplicate_at states i) ≡ true → is_some (slice_index_or states i None) ≡ true
+pub there_at : {S : Type 0} (states : List (Option (Both S))) (i : ℕ) → is_some (state_at states i) ≡ true → is_some (slice_index_or states i None) ≡ true
 there_at {S} states i some = of_slot (slice_get states i) refl some where
   of_slot : (o : Option (Option (Both S))) → slice_get states i ≡ o → is_some (option_flatten o) ≡ true → is_some (slice_index_or states i None) ≡ true
   of_slot None is some = absurd cc

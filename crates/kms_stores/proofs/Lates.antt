@@ -4,6 +4,7 @@ use Rattle.std.specs.Prelude.{Option, filter, slice_index_or, ◌&&◌, ◌||◌
 use Rattle.std.specs.List.{range_with_len}
 use Rattle.std.proofs.lemmas.Bool.{and_from, or_right}
 use Rattle.std.proofs.lemmas.List.{get_or_default}
+use Rattle.kms_model.specs.Firsts.{one_if}
 use Rattle.kms_model.specs.declared.objects.Kind.TheVariants.{Crtc}
 use Rattle.kms_model.specs.declared.objects.ObjId.{ObjId}
 use Rattle.kms_model.specs.declared.objects.Topology.{Topology}
@@ -29,7 +30,6 @@ use Rattle.kms_model.proofs.MaskLemmas.{has_bit-mask_below}
 use Rattle.kms_laws.proofs.ClientProgress.{taking-from}
 use Rattle.kms_laws.proofs.Steps.{request-is}
 use Rattle.kms_laws.proofs.SmallNumbers.{numbers_fit}
-use Rattle.kms_laws.specs.TailsLeft.{one_if}
 use Rattle.kms_signal.specs.InStep.{IsQueueOf}
 use Rattle.kms_signal.specs.Queues.{Queue, empty_queue, space_used}
 use Rattle.kms_track.specs.InStep.{awaited_answer, busy_answer}

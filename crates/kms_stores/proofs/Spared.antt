@@ -2,6 +2,7 @@
 use Rattle.std.proofs.Common.{◌≡◌, ℕ, zero, suc, ◌+◌, ◌*◌, ◌<◌, ◌≤◌, true, false, List, [], ◌∷◌, ◌++◌, length, Option, Some, None, inl, inr, refl, sym, ap, ◌∙◌, subst, arith}
 use Rattle.std.specs.Prelude.{◌==◌, is_some, if◌then◌else◌}
 use Rattle.std.proofs.lemmas.Bool.{cases_Bool, cases_eq, eq-eqb, ne_eqb}
+use Rattle.kms_model.specs.Firsts.{one_if}
 use Rattle.kms_model.specs.declared.replies.Reply.{Reply}
 use Rattle.kms_model.specs.declared.replies.Step.{Step}
 use Rattle.kms_model.specs.declared.runs.Latch.{Latch}
@@ -11,7 +12,7 @@ use Rattle.kms_model.specs.Machine.Histories.{at, legal}
 use Rattle.kms_model.specs.Machine.State.{Machine}
 use Rattle.kms_model.specs.Stores.Tables.{value_with_id}
 use Rattle.kms_model.proofs.TouchedLemmas.{few_objects}
-use Rattle.kms_laws.specs.TailsLeft.{LeavesLessInAll, all_left, commit_of_step, is_swap, one_if, sum, tail_left}
+use Rattle.kms_laws.specs.TailsLeft.{LeavesLessInAll, all_left, commit_of_step, is_swap, sum, tail_left}
 use Rattle.kms_laws.proofs.LeftInAll.{all_shorter, cleaned_over, commits_counted}
 use Rattle.kms_laws.proofs.ShorterTails.{tails_short}
 use Rattle.kms_laws.proofs.Sizes.{sum-more}

@@ -55,9 +55,10 @@ abbrev pub fence_of : List Thing → Command → Reply → Option ℕ
 fence_of things (command.Signal label) r = fence_if_done r (thing_labelled things label)
 fence_of things _ r = None
 
-abbrev pub only_if : Bool → Option Command → Option Command
-only_if false c = None
-only_if true c = c
+-- what there may be, where a test says so
+abbrev pub only_if : {A : Type 0} → Bool → Option A → Option A
+only_if false o = None
+only_if true o = o
 
 -- the command at which a client is idle
 abbrev pub idle_command_at : Run → ℕ → Option Command

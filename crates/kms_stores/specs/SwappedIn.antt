@@ -1,5 +1,6 @@
 -- The present states of a device's objects after a commit. From: drm_atomic_helper_swap_state.
 use Rattle.std.specs.Prelude.{◌≡◌, ℕ, ◌+◌, Bool, false, ◌==◌, List, [], ◌∷◌, length, Option, Some, None, slice_index_or, if◌then◌else◌}
+use Rattle.kms_model.specs.Device.Places.{alike}
 use Rattle.kms_model.specs.declared.objects.Kind.TheVariants.{Crtc}
 use Rattle.kms_model.specs.declared.objects.ObjId.{ObjId}
 use Rattle.kms_model.specs.declared.states.Both.{Both}
@@ -11,7 +12,6 @@ use Rattle.kms_model.specs.Device.World.{thing_labelled}
 use Rattle.kms_model.specs.Machine.Commits.{id_of_thing}
 use Rattle.kms_model.specs.Request.Flags.{wants_event}
 use Rattle.kms_model.specs.Stores.Tables.{slot}
-use Rattle.kms_things.specs.Starting.{alike}
 use Rattle.kms_stores.specs.Swaps.{count_in}
 
 -- the state of an object of the device: the new one where it was checked, else as it was
@@ -53,15 +53,15 @@ labels_in asked =
     ∷ label_in asked (object_id Crtc 2) ∷ label_in asked (object_id Crtc 3) ∷ []
 
 -- the id of the thing that was made under a label, where one is asked for
-abbrev pub id_under : List Thing → Option ℕ → Option ℕ
-id_under things None = None
-id_under things (Some label) = id_of_thing (thing_labelled things label)
+abbrev pub id_made_under : List Thing → Option ℕ → Option ℕ
+id_made_under things None = None
+id_made_under things (Some label) = id_of_thing (thing_labelled things label)
 
 -- the ids of those that were made under labels, one place for each CRTC that a device can have
 abbrev pub fences_under : List Thing → List (Option ℕ) → List (Option ℕ)
 fences_under things labels =
-    id_under things (slice_index_or labels 0 None) ∷ id_under things (slice_index_or labels 1 None)
-    ∷ id_under things (slice_index_or labels 2 None) ∷ id_under things (slice_index_or labels 3 None) ∷ []
+    id_made_under things (slice_index_or labels 0 None) ∷ id_made_under things (slice_index_or labels 1 None)
+    ∷ id_made_under things (slice_index_or labels 2 None) ∷ id_made_under things (slice_index_or labels 3 None) ∷ []
 
 -- how many events a request with these flags, which names these CRTCs, asks for
 abbrev pub events_asked_for : ℕ → ℕ → ℕ

@@ -1,6 +1,7 @@
 -- What a swap answers and does. From: "Atomic Mode Setting"; `drm_file.c`, drm_event_reserve_init; `drm_atomic_helper.c`,
 -- drm_atomic_helper_setup_commit, drm_atomic_helper_swap_state.
 use Rattle.std.specs.Prelude.{◌≡◌, ℕ, ◌+◌, ◌*◌, ◌<◌, nat_lt, is_some, slice_index_or, ◌&&◌, List, [], length, true, ⊤, Option, Some, None, false, if◌then◌else◌}
+use Rattle.kms_model.specs.Firsts.{one_if}
 use Rattle.kms_model.specs.declared.objects.ObjId.{ObjId}
 use Rattle.kms_model.specs.declared.objects.Topology.{Topology}
 use Rattle.kms_model.specs.declared.replies.Reply.{Reply}
@@ -23,7 +24,6 @@ use Rattle.kms_model.specs.Request.Lookups.{look_up}
 use Rattle.kms_model.specs.Request.Resolves.{IsResolved}
 use Rattle.kms_model.specs.Request.Verdict.{verdict}
 use Rattle.kms_clients.specs.Standing.{IsClient}
-use Rattle.kms_laws.specs.TailsLeft.{one_if}
 use Rattle.kms_signal.specs.Queues.{Queue, space_used}
 use Rattle.kms_track.specs.InStep.{awaited_answer}
 use Rattle.kms_track.specs.StepLaws.{HasStates}

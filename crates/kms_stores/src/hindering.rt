@@ -1,7 +1,7 @@
 //! What hinders the commit of an accepted request.
 ghost use Rattle.std.specs.Prelude.{◌≡◌, ◌+◌, ◌*◌, ◌≤◌, ◌&&◌, nat_lt, length, None, Some, if◌then◌else◌};
-ghost use Rattle.kms_laws.specs.TailsLeft.{one_if};
 ghost use Rattle.kms_model.specs.declared.replies.Reply.TheVariants as reply;
+ghost use Rattle.kms_model.specs.Firsts.{one_if};
 ghost use Rattle.kms_model.specs.Request.Flags.{is_nonblock, wants_event};
 ghost use Rattle.kms_signal.specs.Queues.{space_used};
 ghost use Rattle.kms_track.specs.Tracking.{busy_of};

@@ -1,7 +1,7 @@
 -- Counts of indices that pass a test.
 use Rattle.std.proofs.Common.{◌≡◌, ◌≢◌, ℕ, zero, suc, ◌+◌, ◌<◌, ◌≤◌, Bool, true, false, inl, inr, add-one, arith, refl, ap, ◌∙◌}
 use Rattle.std.proofs.lemmas.Bool.{cases_eq}
-use Rattle.kms_laws.specs.TailsLeft.{one_if}
+use Rattle.kms_model.specs.Firsts.{one_if}
 use Rattle.kms_tails.specs.Remaining.{count_below}
 
 pub none_counted : (test : ℕ → Bool) → count_below test 0 ≡ 0

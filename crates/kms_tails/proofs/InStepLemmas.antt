@@ -22,7 +22,7 @@ use Rattle.kms_tails.specs.declared.progress.Mark.{Mark}
 use Rattle.kms_tails.specs.declared.progress.Mark.TheVariants.{Claimed, WroteCrtc, WrotePlane, Flushed, Done, Latched}
 use Rattle.kms_tails.specs.declared.progress.Progress.{Progress}
 use Rattle.kms_tails.specs.declared.tail.Tail.{Tail}
-use Rattle.kms_tails.specs.InStep.{AreTailsOf, IsKept, IsProgressOf, IsTailFor, IsTailOf, IsUntouched}
+use Rattle.kms_tails.specs.InStep.{AreTailsOf, IsKept, IsProgressOf, IsTailFor, IsTailOf, IsTailUntouched}
 use Rattle.kms_tails.specs.Remaining.{first_tail, marked, marked_slots, marked_tail, no_tails, with_mark}
 use Rattle.kms_tails.proofs.Bits.{bit_marked, other_marked}
 
@@ -62,7 +62,7 @@ module _ (marks others : Marks) (latches more : List Latch) where
   kept_same t c k None same kept = same.cleaned ∙ kept
   kept_same t c k (Some x) same kept = (same.cleaned ∙ kept.0, tail_with t c k x x.progress kept.1 (progress_same k x.progress same kept.1.progress))
 
-  untouched_same : (k : ℕ) → SameDone marks others latches more k → IsUntouched marks latches k → IsUntouched others more k
+  untouched_same : (k : ℕ) → SameDone marks others latches more k → IsTailUntouched marks latches k → IsTailUntouched others more k
   untouched_same k same was = record {
     claimed = same.claimed ∙ was.claimed;
     written = λ object. same.written object ∙ was.written object;
@@ -242,7 +242,7 @@ or_nothing None = refl
 or_nothing (Some x) = refl
 
 module _ (t : Topology) (c : Commit) (cs : List Commit) (marks : Marks) (latches : List Latch) (v w : Rooms Tail) (n client : ℕ) (r : Request) (checked : Checked) (out_fences : List (Option ℕ)) where
-  fresh : IsUntouched marks latches n → IsProgressOf marks latches n (first_tail client r checked out_fences).progress
+  fresh : IsTailUntouched marks latches n → IsProgressOf marks latches n (first_tail client r checked out_fences).progress
   fresh was = record {
     claimed = sym was.claimed;
     crtcs = λ i few. has_bit-zero i ∙ sym (was.written (100 + i));
@@ -252,7 +252,7 @@ module _ (t : Topology) (c : Commit) (cs : List Commit) (marks : Marks) (latches
     latched = λ i few. has_bit-zero i ∙ sym (was.latched (100 + i));
   }
 
-  first_of : IsTailFor t c client r checked out_fences → IsUntouched marks latches n → IsTailOf t c marks latches n (first_tail client r checked out_fences)
+  first_of : IsTailFor t c client r checked out_fences → IsTailUntouched marks latches n → IsTailOf t c marks latches n (first_tail client r checked out_fences)
   first_of for was = record {
     client = sym for.client_is;
     user_data = ap (λ (r : Request). r.user_data) (sym for.request_is);
@@ -278,7 +278,7 @@ module _ (t : Topology) (c : Commit) (cs : List Commit) (marks : Marks) (latches
         ];
     untouched = λ k above. stand.untouched k (omega (arith, above));
   } where
-    untouched_n : IsUntouched marks latches n
+    untouched_n : IsTailUntouched marks latches n
     untouched_n = stand.untouched n (omega (arith, is_n))
 
     here : IsKept t (commit_at t (c ∷ cs) n) marks latches n (Some (first_tail client r checked out_fences))

@@ -64,7 +64,7 @@ IsKept t c marks latches k None = has_number marks.cleaned k ≡ true
 IsKept t c marks latches k (Some x) = (has_number marks.cleaned k ≡ false) × IsTailOf t c marks latches k x
 
 -- nothing was done of a commit with a number
-pub record IsUntouched (marks : Marks) (latches : List Latch) (k : ℕ) : Type 0 where
+pub record IsTailUntouched (marks : Marks) (latches : List Latch) (k : ℕ) : Type 0 where
   pub claimed : has_number marks.claimed k ≡ false
   pub written : (object : ℕ) → has_pair marks.written k object ≡ false
   pub flushed : (crtc : ℕ) → has_pair marks.flushed k crtc ≡ false
@@ -76,7 +76,7 @@ pub record IsUntouched (marks : Marks) (latches : List Latch) (k : ℕ) : Type 0
 pub record AreTailsOf (t : Topology) (commits : List Commit) (marks : Marks) (latches : List Latch) (v : Rooms Tail) : Type 0 where
   pub below : AreBelow (length commits) v.slots
   pub kept : (k : ℕ) → k < length commits → IsKept t (commit_at t commits k) marks latches k (value_with_id v.slots k)
-  pub untouched : (k : ℕ) → length commits ≤ k → IsUntouched marks latches k
+  pub untouched : (k : ℕ) → length commits ≤ k → IsTailUntouched marks latches k
 
 abbrev pub IsInStep : Topology → Machine → Rooms Tail → Type 0
 IsInStep t m v = AreTailsOf t m.device.commits m.device.marks m.records.latches v

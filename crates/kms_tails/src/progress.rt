@@ -1,6 +1,6 @@
 //! How far the tail of a commit has come.
 ghost use Rattle.std.specs.Prelude.{◌≡◌, ◌<◌, ◌≤◌, IfSome};
-ghost use Rattle.kms_laws.specs.TailsLeft.{one_if};
+ghost use Rattle.kms_model.specs.Firsts.{one_if};
 ghost use Rattle.kms_tails.specs.Remaining.{IsMark, count_below, first_left, is_left, no_progress, with_bit, with_mark};
 
 use kms_model::has_bit;

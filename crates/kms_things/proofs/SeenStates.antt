@@ -2,6 +2,7 @@
 use Rattle.std.proofs.Common.{◌≡◌, ℕ, ◌<◌, true, List, Option, Some, refl, sym, ap, ◌∙◌, subst}
 use Rattle.std.specs.Prelude.{is_some, slice_get}
 use Rattle.kms_model.specs.declared.objects.Kind.TheVariants as kind
+use Rattle.kms_model.specs.Device.Places.{state_at}
 use Rattle.kms_model.specs.declared.objects.Topology.{Topology}
 use Rattle.kms_model.specs.declared.states.Both.{Both}
 use Rattle.kms_model.specs.declared.states.Duplicates.{Duplicates}
@@ -11,12 +12,11 @@ use Rattle.kms_model.specs.declared.worlds.World.{World}
 use Rattle.kms_model.specs.Device.Objects.{count_of, object_id}
 use Rattle.kms_model.specs.Device.States.{plane_at}
 use Rattle.kms_model.specs.Request.Agreement.{AgreesNew, AgreesOld, AreNew, AreOld, crtc_state_at}
-use Rattle.kms_model.specs.Request.Late.{duplicate_at}
 use Rattle.kms_model.proofs.Items.{ids-has}
 use Rattle.kms_model.proofs.SeenLemmas.{AreSeenAlike, gamma-seen, mode-seen, plane-seen}
 use Rattle.kms_things.specs.Present.{AreWhole, IsPresent, IsWhole}
 
-there : {S : Type 0} (states : List (Option (Both S))) (index : ℕ) (both : Both S) → slice_get states index ≡ Some (Some both) → is_some (duplicate_at states index) ≡ true
+there : {S : Type 0} (states : List (Option (Both S))) (index : ℕ) (both : Both S) → slice_get states index ≡ Some (Some both) → is_some (state_at states index) ≡ true
 there states index both at = rw at refl
 
 old_same : {S : Type 0} (count : ℕ) (f g : ℕ → S) (states : List (Option (Both S))) → AreWhole count states → ((index : ℕ) → index < count → f index ≡ g index) → AreOld f states → AreOld g states

@@ -6,13 +6,13 @@ use Rattle.std.proofs.lemmas.Bool.Decides.{nat_tests, eqb_tells}
 use Rattle.std.proofs.lemmas.Bool.{and_parts, cases_lt, leb-true}
 use Rattle.std.proofs.lemmas.Option.{slice_get_past}
 use Rattle.kms_model.specs.declared.objects.Kind.TheVariants as kind
+use Rattle.kms_model.specs.Device.Places.{alike, state_at}
 use Rattle.kms_model.specs.declared.objects.PlaneInfo.{PlaneInfo}
 use Rattle.kms_model.specs.declared.objects.Topology.{Topology}
 use Rattle.kms_model.specs.declared.properties.TheConstants.{TYPE, FB_ID, CRTC_ID, CRTC_X, CRTC_Y, CRTC_W, CRTC_H, SRC_X, SRC_Y, SRC_W, SRC_H, ALPHA, BLEND, ZPOS, ACTIVE}
 use Rattle.kms_model.specs.declared.states.Both.{Both}
 use Rattle.kms_model.specs.declared.worlds.Setting.{Setting}
 use Rattle.kms_model.specs.Request.Agreement.{AreNew, AreOld, conn_state_at, crtc_state_at}
-use Rattle.kms_model.specs.Request.Late.{duplicate_at}
 use Rattle.kms_model.specs.Device.Masks.{mask_below}
 use Rattle.kms_model.specs.Device.Objects.{count_of, object_id}
 use Rattle.kms_model.specs.Device.Properties.{keeps_limits}
@@ -24,7 +24,7 @@ use Rattle.kms_model.proofs.SoundStart.{start-crtc, start-zero}
 use Rattle.kms_model.proofs.StartValues.{has_number, plane_numbers, plane_value}
 use Rattle.kms_model.proofs.TouchedLemmas.{few_objects}
 use Rattle.kms_things.specs.Present.{AreWhole, IsPresent}
-use Rattle.kms_things.specs.Starting.{alike, off_conn, off_crtc, off_plane, start_states, states_below}
+use Rattle.kms_things.specs.Starting.{off_conn, off_crtc, off_plane, start_states, states_below}
 
 not_on : (crtc other : ℕ) → crtc ≡ 0 → 0 < other → eqb crtc other ≡ false
 not_on crtc other off some = grind (arith, nat_tests)
@@ -73,10 +73,10 @@ below_get room f count index lt = range_get (state_if f count) 0 room index lt �
 below_past : {S : Type 0} (room : ℕ) (f : ℕ → S) (count index : ℕ) → room ≤ index → slice_get (states_below room f count) index ≡ None
 below_past room f count index le = range_past (state_if f count) 0 room index le
 
-below_there : {S : Type 0} (room : ℕ) (f : ℕ → S) (count index : ℕ) → count ≤ room → index < count → duplicate_at (states_below room f count) index ≡ Some (alike (f index))
+below_there : {S : Type 0} (room : ℕ) (f : ℕ → S) (count index : ℕ) → count ≤ room → index < count → state_at (states_below room f count) index ≡ Some (alike (f index))
 below_there room f count index few lt = let e : nat_lt index count ≡ true = grind (arith, nat_tests) in rw (below_get room f count index (omega arith), e) refl
 
-below_none : {S : Type 0} (room : ℕ) (f : ℕ → S) (count index : ℕ) → count ≤ index → duplicate_at (states_below room f count) index ≡ None
+below_none : {S : Type 0} (room : ℕ) (f : ℕ → S) (count index : ℕ) → count ≤ index → state_at (states_below room f count) index ≡ None
 below_none room f count index le =
     let e : nat_lt index count ≡ false = grind (arith, nat_tests) in
     elim (cases_lt index room) [
@@ -87,13 +87,13 @@ below_none room f count index le =
 below_whole : {S : Type 0} (room : ℕ) (f : ℕ → S) (count : ℕ) → count ≤ room → AreWhole count (states_below room f count)
 below_whole room f count few = record {
   there = λ index lt. rw (below_there room f count index few lt) refl;
-  only = λ index some. elim (cases_lt index count) [ inl lt ↦ lt | inr le ↦ absurd (let e : is_some (duplicate_at (states_below room f count) index) ≡ false = rw (below_none room f count index le) refl in cc) ];
+  only = λ index some. elim (cases_lt index count) [ inl lt ↦ lt | inr le ↦ absurd (let e : is_some (state_at (states_below room f count) index) ≡ false = rw (below_none room f count index le) refl in cc) ];
 }
 
 -- a state that is there is that of its index
 below_both : {S : Type 0} (room : ℕ) (f : ℕ → S) (count index : ℕ) (both : Both S) → count ≤ room → slice_get (states_below room f count) index ≡ Some (Some both) → (index < count) × (both ≡ alike (f index))
 below_both room f count index both few at =
-    let d : duplicate_at (states_below room f count) index ≡ Some both = rw at refl in
+    let d : state_at (states_below room f count) index ≡ Some both = rw at refl in
     elim (cases_lt index count) [
       | inl lt ↦ (lt, (let t = below_there room f count index few lt in cc))
       | inr le ↦ absurd (let n = below_none room f count index le in cc)

@@ -3,8 +3,9 @@ use Rattle.std.proofs.Common.{◌≡◌, ◌≢◌, ℕ, zero, suc, ◌+◌, ◌
 use Rattle.std.specs.Prelude.{map, nat_lt}
 use Rattle.std.specs.List.{range_with_len}
 use Rattle.std.proofs.lemmas.Bool.Decides.{nat_tests}
+use Rattle.kms_model.specs.Device.Places.{alike}
 use Rattle.kms_model.specs.declared.states.Both.{Both}
-use Rattle.kms_things.specs.Starting.{alike, states_below}
+use Rattle.kms_things.specs.Starting.{states_below}
 
 map-range_same : {X : Type 0} (g h : ℕ → X) (a n : ℕ) → ((k : ℕ) → a ≤ k → g k ≡ h k) → map g (range_with_len a n) ≡ map h (range_with_len a n)
 map-range_same g h a zero same = refl

@@ -5,6 +5,7 @@ use Rattle.std.proofs.lemmas.Grind.{common_steps}
 use Rattle.std.proofs.lemmas.List.Edits.{map_over_more}
 use Rattle.std.specs.Prelude.{is_some, slice_get}
 use Rattle.std.specs.Option.{option_flatten, option_map}
+use Rattle.kms_model.specs.Device.Places.{alike, state_at}
 use Rattle.kms_model.specs.declared.objects.Topology.{Topology}
 use Rattle.kms_model.specs.declared.scripts.Request.{Request}
 use Rattle.kms_model.specs.declared.states.Both.{Both}
@@ -12,9 +13,7 @@ use Rattle.kms_model.specs.declared.states.Duplicates.{Duplicates}
 use Rattle.kms_model.specs.declared.worlds.World.{World}
 use Rattle.kms_model.specs.Request.Agreement.{AreNew, AreOld}
 use Rattle.kms_model.specs.Request.Apply.{after}
-use Rattle.kms_model.specs.Request.Late.{duplicate_at}
 use Rattle.kms_things.specs.Present.{AreWhole, IsAfter, IsPresent}
-use Rattle.kms_things.specs.Starting.{alike}
 use Rattle.kms_things.specs.Swapping.{alike_new, swapped, swapped_states}
 
 -- one state more is swapped
@@ -34,7 +33,7 @@ is_some-alike (Some (Some both)) = refl
 
 swapped_whole : {S : Type 0} (count : ℕ) (states : List (Option (Both S))) → AreWhole count states → AreWhole count (swapped_states states)
 swapped_whole count states whole =
-    let same : (index : ℕ) → is_some (duplicate_at (swapped_states states) index) ≡ is_some (duplicate_at states index) = λ index. ap (λ o. is_some (option_flatten o)) (swapped_at states index) ∙ is_some-alike (slice_get states index) in
+    let same : (index : ℕ) → is_some (state_at (swapped_states states) index) ≡ is_some (state_at states index) = λ index. ap (λ o. is_some (option_flatten o)) (swapped_at states index) ∙ is_some-alike (slice_get states index) in
     record {
       there = λ index lt. same index ∙ whole.there index lt;
       only = λ index some. whole.only index (sym (same index) ∙ some);

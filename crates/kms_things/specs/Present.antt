@@ -1,5 +1,6 @@
 -- The present states of a device's objects, and those after a request.
 use Rattle.std.specs.Prelude.{◌≡◌, ℕ, ◌<◌, true, List, length, Option, is_some}
+use Rattle.kms_model.specs.Device.Places.{state_at}
 use Rattle.kms_model.specs.declared.objects.Topology.{Topology}
 use Rattle.kms_model.specs.declared.states.Both.{Both}
 use Rattle.kms_model.specs.declared.states.Duplicates.{Duplicates}
@@ -7,12 +8,11 @@ use Rattle.kms_model.specs.declared.worlds.World.{World}
 use Rattle.kms_model.specs.declared.scripts.Request.{Request}
 use Rattle.kms_model.specs.Request.Agreement.{AgreesNew, AgreesOld}
 use Rattle.kms_model.specs.Request.Apply.{after}
-use Rattle.kms_model.specs.Request.Late.{duplicate_at}
 
 -- of the objects of a kind, the first ones are duplicated, and no other place is taken
 pub record AreWhole {S : Type 0} (count : ℕ) (states : List (Option (Both S))) : Type 0 where
-  pub there : (index : ℕ) → index < count → is_some (duplicate_at states index) ≡ true
-  pub only : (index : ℕ) → is_some (duplicate_at states index) ≡ true → index < count
+  pub there : (index : ℕ) → index < count → is_some (state_at states index) ≡ true
+  pub only : (index : ℕ) → is_some (state_at states index) ≡ true → index < count
 
 -- every object of a device is duplicated
 pub record IsWhole (t : Topology) (d : Duplicates) : Type 0 where

@@ -1,6 +1,7 @@
 -- The typed states of a device's objects before the first command.
 use Rattle.std.specs.Prelude.{ℕ, false, nat_lt, List, length, map, Option, Some, None, if◌then◌else◌}
 use Rattle.std.specs.List.{range_with_len}
+use Rattle.kms_model.specs.Device.Places.{alike}
 use Rattle.kms_model.specs.declared.objects.Topology.{Topology}
 use Rattle.kms_model.specs.declared.states.Both.{Both}
 use Rattle.kms_model.specs.declared.states.ConnState.{ConnState}
@@ -19,10 +20,6 @@ off_plane index = record { fb = None; crtc = 0; dst = nowhere; src = nowhere; al
 
 abbrev pub off_conn : ConnState
 off_conn = record { crtc = 0 }
-
--- an object's state, old and new alike
-abbrev pub alike : {S : Type 0} → S → Both S
-alike s = record { old = s; new = s }
 
 -- the states of the first objects of a kind, by their indices, in room for some objects
 abbrev pub states_below : {S : Type 0} → ℕ → (ℕ → S) → ℕ → List (Option (Both S))

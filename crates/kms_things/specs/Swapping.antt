@@ -1,9 +1,9 @@
 -- New states that become the present ones.
 use Rattle.std.specs.Prelude.{List, map, Option}
 use Rattle.std.specs.Option.{option_map}
+use Rattle.kms_model.specs.Device.Places.{alike}
 use Rattle.kms_model.specs.declared.states.Both.{Both}
 use Rattle.kms_model.specs.declared.states.Duplicates.{Duplicates}
-use Rattle.kms_things.specs.Starting.{alike}
 
 -- a state that is there, old as new
 abbrev pub alike_new : {S : Type 0} → Option (Both S) → Option (Both S)

@@ -1,9 +1,10 @@
 //! The states of a device's objects before the first command.
 ghost use Rattle.std.specs.Prelude.{◌≡◌, ◌≤◌};
+ghost use Rattle.kms_model.specs.Device.Places.{alike};
 ghost use Rattle.kms_model.specs.Device.Sound.{IsDevice};
 ghost use Rattle.kms_model.specs.Device.World.{start};
 ghost use Rattle.kms_things.specs.Present.{IsPresent};
-ghost use Rattle.kms_things.specs.Starting.{alike, off_conn, off_crtc, off_plane, start_states, states_below};
+ghost use Rattle.kms_things.specs.Starting.{off_conn, off_crtc, off_plane, start_states, states_below};
 
 use kms_model::{Both, ConnState, CrtcState, Duplicates, PlaneState, Topology};
 

@@ -5,6 +5,7 @@ use Rattle.std.specs.Option.{option_flatten}
 use Rattle.std.proofs.lemmas.Bool.{and_parts, cases_eq, cases_lt, eq-eqb, false≢true, ltb-true, ne_eqb}
 use Rattle.std.proofs.lemmas.Option.{get_or_from_slice_get}
 use borrow.Author.Tests.{le-ltb, lt-ltb}
+use Rattle.kms_model.specs.Device.Places.{state_at}
 use Rattle.kms_model.specs.declared.objects.Kind.{Kind}
 use Rattle.kms_model.specs.declared.objects.Kind.TheVariants.{Crtc, Plane, Conn}
 use Rattle.kms_model.specs.declared.objects.Topology.{Topology}
@@ -25,7 +26,6 @@ use Rattle.kms_model.specs.Machine.Commits.{is_on_before_or_after, new_values, o
 use Rattle.kms_model.specs.Machine.State.{Commit}
 use Rattle.kms_model.specs.Request.Apply.{after}
 use Rattle.kms_model.specs.Request.Deciding.{IsChecked}
-use Rattle.kms_model.specs.Request.Late.{duplicate_at}
 use Rattle.kms_model.specs.Request.Lookups.{look_up}
 use Rattle.kms_model.specs.Request.Named.{moves_on}
 use Rattle.kms_model.specs.Request.Sets.{in_fences}
@@ -81,7 +81,7 @@ record Stands {S : Type 0} (states : List (Option (Both S))) (i : ℕ) : Type 0 
   pub there : slice_get states i ≡ Some (Some both)
   pub read : get_or states i None ≡ Some both
 
-stands_at : {S : Type 0} (states : List (Option (Both S))) (i : ℕ) → is_some (duplicate_at states i) ≡ true → Stands states i
+stands_at : {S : Type 0} (states : List (Option (Both S))) (i : ℕ) → is_some (state_at states i) ≡ true → Stands states i
 stands_at {S} states i some = of_slot (slice_get states i) refl some
   where
     of_slot : (o : Option (Option (Both S))) → slice_get states i ≡ o → is_some (option_flatten o) ≡ true → Stands states i
@@ -146,7 +146,7 @@ module _ (t : Topology) (c : Commit) (checked : Checked) (device : IsDevice t) (
       member_there test (count_of t kind) j mask (ap (λ m. has_bit m j) is ∙ has_bit-mask_below test (count_of t kind) j) has
 
   -- an object that is on a CRTC or on none is, before and after, on those that its duplicates say
-  on_routed : {S : Type 0} (kind : Kind) (j i mask : ℕ) (states : List (Option (Both S))) (crtc_of : S → ℕ) (sides : Option (Both S) → Sides) → is_some (duplicate_at states j) ≡ true → j < 100 → i < 4
+  on_routed : {S : Type 0} (kind : Kind) (j i mask : ℕ) (states : List (Option (Both S))) (crtc_of : S → ℕ) (sides : Option (Both S) → Sides) → is_some (state_at states j) ≡ true → j < 100 → i < 4
       → mask ≡ mask_below (λ index. touches_routed t c.world.things c.world.values (after c.world c.request) c.request.assigns (object_id kind index)) (count_of t kind) → has_bit mask j ≡ true
       → ((both : Both S) → sides (Some both) ≡ record { old = crtc_of both.old; new = crtc_of both.new })
       → ((object crtc : ℕ) → is_on_before_or_after kind c object crtc ≡ moves_on (old_values c) (new_values c) crtc object)
@@ -163,13 +163,13 @@ module _ (t : Topology) (c : Commit) (checked : Checked) (device : IsDevice t) (
       ∙ ap (λ (s : Sides). is_side s (crtc_id i)) (sym (sides_are there.both))
       ∙ ap (λ (o : Option (Both _)). is_side (sides o) (crtc_id i)) (sym there.read)
 
-  on_plane : (j i : ℕ) → j < 16 → i < 4 → has_bit checked.touched.planes j ≡ true → is_some (duplicate_at checked.states.planes j) ≡ true
+  on_plane : (j i : ℕ) → j < 16 → i < 4 → has_bit checked.touched.planes j ≡ true → is_some (state_at checked.states.planes j) ≡ true
       → (is_of_device t (crtc_id i) && is_on_before_or_after (kind_of (object_id Plane j)) c (object_id Plane j) (crtc_id i)) ≡ is_side (plane_sides (get_or checked.states.planes j None)) (crtc_id i)
   on_plane j i low few has some = on_routed Plane j i checked.touched.planes checked.states.planes (λ (s : PlaneState). s.crtc) plane_sides some (omega (arith, low)) few (ap (λ (m : Mask). m.planes) is.touched) has
       (λ both. refl) (λ object crtc. refl) (sound-plane_crtc t c.world j sound) (sound-plane_crtc t _ j next)
       (λ both there. (ap (λ (s : PlaneState). s.crtc) (is.old.planes j both there), ap (λ (s : PlaneState). s.crtc) (is.new.planes j both there)))
 
-  on_connector : (j i : ℕ) → j < 8 → i < 4 → has_bit checked.touched.conns j ≡ true → is_some (duplicate_at checked.states.conns j) ≡ true
+  on_connector : (j i : ℕ) → j < 8 → i < 4 → has_bit checked.touched.conns j ≡ true → is_some (state_at checked.states.conns j) ≡ true
       → (is_of_device t (crtc_id i) && is_on_before_or_after (kind_of (object_id Conn j)) c (object_id Conn j) (crtc_id i)) ≡ is_side (connector_sides (get_or checked.states.conns j None)) (crtc_id i)
   on_connector j i low few has some = on_routed Conn j i checked.touched.conns checked.states.conns (λ (s : ConnState). s.crtc) connector_sides some (omega (arith, low)) few (ap (λ (m : Mask). m.conns) is.touched) has
       (λ both. refl) (λ object crtc. refl) (sound-conn_crtc t c.world j sound) (sound-conn_crtc t _ j next)

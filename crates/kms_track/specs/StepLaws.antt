@@ -1,5 +1,6 @@
 -- That a tracker which is told of each step of a machine stands for the machine after it.
 use Rattle.std.specs.Prelude.{◌≡◌, ℕ, ◌<◌, ◌&&◌, Bool, true, false, List, length, map, is_some, Some, None}
+use Rattle.kms_model.specs.Device.Places.{state_at}
 use Rattle.kms_model.specs.declared.objects.Kind.TheVariants.{Crtc}
 use Rattle.kms_model.specs.declared.objects.Topology.{Topology}
 use Rattle.kms_model.specs.declared.replies.Step.{Step}
@@ -16,7 +17,6 @@ use Rattle.kms_model.specs.Machine.Effects.{next}
 use Rattle.kms_model.specs.Machine.Histories.{legal}
 use Rattle.kms_model.specs.Machine.State.{Commit, DeviceState, Machine, go_at, request_at}
 use Rattle.kms_model.specs.Request.Deciding.{IsChecked}
-use Rattle.kms_model.specs.Request.Late.{duplicate_at}
 use Rattle.kms_model.specs.Request.Lookups.{look_up}
 use Rattle.kms_model.specs.Request.Sets.{in_fences}
 use Rattle.kms_model.specs.Request.Touched.{touched_by, touches}
@@ -104,8 +104,8 @@ FollowsTheOthers =
 
 -- the planes and connectors that were checked as touched have both states
 pub record HasStates (checked : Checked) : Type 0 where
-  pub planes : (i : ℕ) → i < 16 → has_bit checked.touched.planes i ≡ true → is_some (duplicate_at checked.states.planes i) ≡ true
-  pub conns : (i : ℕ) → i < 8 → has_bit checked.touched.conns i ≡ true → is_some (duplicate_at checked.states.conns i) ≡ true
+  pub planes : (i : ℕ) → i < 16 → has_bit checked.touched.planes i ≡ true → is_some (state_at checked.states.planes i) ≡ true
+  pub conns : (i : ℕ) → i < 8 → has_bit checked.touched.conns i ≡ true → is_some (state_at checked.states.conns i) ≡ true
 
 -- What was checked of an accepted request, in a sound world, is what a tracker is told of its commit.
 abbrev pub ChecksAreFollowed : Type 0

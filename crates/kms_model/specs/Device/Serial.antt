@@ -1,5 +1,6 @@
 -- The device of one thread: what a journal leaves and what it shows.
 use Rattle.std.specs.Prelude.{ℕ, zero, suc, Bool, true, false, List, [], ◌∷◌, ◌++◌, Option, Some, None, if◌then◌else◌, slice_get}
+use Rattle.kms_model.specs.Firsts.{listed}
 use Rattle.kms_model.specs.declared.objects.Topology.{Topology}
 use Rattle.kms_model.specs.declared.pictures.Picture.{Picture}
 use Rattle.kms_model.specs.declared.replies.Reply.{Reply}
@@ -65,10 +66,7 @@ execute_in t w client (Some c) = (execute t w client c).world
 
 abbrev pub shown_in : Topology → ℕ → World → ℕ → Option Command → List Pictured
 shown_in t crtc w client None = []
-shown_in t crtc w client (Some c) = list_of (shown_by t crtc w.values c (execute t w client c)) where
-  list_of : Option Pictured → List Pictured
-  list_of None = []
-  list_of (Some p) = p ∷ []
+shown_in t crtc w client (Some c) = listed (shown_by t crtc w.values c (execute t w client c))
 
 unfoldable pub serial_from : Script → World → List Entry → World
 serial_from s w [] = w

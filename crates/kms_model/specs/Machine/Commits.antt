@@ -2,11 +2,11 @@
 -- drm_atomic_helper_wait_for_dependencies, drm_atomic_helper_wait_for_flip_done.
 use Rattle.std.specs.Prelude.{ℕ, zero, suc, ◌==◌, ◌&&◌, ◌||◌, not, Bool, true, false, List, [], ◌∷◌, ◌++◌, length, map, Option, Some, None, if◌then◌else◌}
 use Rattle.std.specs.List.{list_any, list_all}
+use Rattle.kms_model.specs.Device.Sound.{empty_request}
 use Rattle.kms_model.specs.declared.objects.Kind.TheVariants.{Crtc, Plane, Conn, Enc}
 use Rattle.kms_model.specs.declared.objects.Kind.{Kind}
 use Rattle.kms_model.specs.declared.objects.Topology.{Topology}
 use Rattle.kms_model.specs.declared.runs.Latch.{Latch}
-use Rattle.kms_model.specs.declared.scripts.Request.{Request}
 use Rattle.kms_model.specs.declared.states.CrtcState.{CrtcState}
 use Rattle.kms_model.specs.declared.states.PlaneState.{PlaneState}
 use Rattle.kms_model.specs.declared.worlds.Setting.{Setting}
@@ -50,12 +50,9 @@ has_latched latches k crtc = list_any (is_latch_of k crtc) latches
 
 -- Commits by their numbers
 
-abbrev pub no_request : Request
-no_request = record { flags = 0; user_data = 0; assigns = [] }
-
 -- what stands for a commit that is not there
 abbrev pub no_commit : Topology → Commit
-no_commit t = record { client = 0; command = 0; request = no_request; world = start t }
+no_commit t = record { client = 0; command = 0; request = empty_request; world = start t }
 
 -- the commit with a number, which is that of the commits before it
 unfoldable pub commit_at : Topology → List Commit → ℕ → Commit

@@ -5,6 +5,7 @@ use Rattle.std.specs.Prelude.{ℕ, ◌==◌, ◌||◌, Bool, not, pos, List, [],
 use Rattle.std.specs.List.{flat_map}
 use Rattle.std.specs.Int.{w32, to_le_bytes, from_le_bytes, cast_signed, cast_unsigned}
 use Rattle.std.specs.Option.{option_map_or}
+use Rattle.kms_model.specs.Firsts.{one_if}
 use Rattle.kms_model.specs.declared.objects.Format.{Format}
 use Rattle.kms_model.specs.declared.objects.Format.TheVariants.{Xr24, Ar24, Rg16}
 use Rattle.kms_model.specs.declared.objects.Kind.TheVariants.{Plane}
@@ -135,16 +136,13 @@ abbrev pub gamma_words : Option Gamma → List ℕ
 gamma_words None = no_gamma_words
 gamma_words (Some g) = words_of_bytes (gamma_bytes g)
 
-abbrev pub flag_word : Bool → ℕ
-flag_word b = if b then 1 else 0
-
 -- the words of a CRTC in a state, with the connector whose CRTC it is, or 0
 unfoldable pub crtc_words : ℕ → CrtcState → CrtcWords
 crtc_words conn s = record {
-  active = flag_word s.active;
+  active = one_if s.active;
   conn = conn;
   mode = mode_words s.mode;
-  gamma_on = flag_word (is_some s.gamma);
+  gamma_on = one_if (is_some s.gamma);
   gamma = gamma_words s.gamma;
 }
 

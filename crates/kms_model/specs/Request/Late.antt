@@ -3,7 +3,8 @@
 -- drm_atomic_helper_check_planes.
 use Rattle.std.specs.Prelude.{ℕ, ◌-◌, ◌<◌, Bool, false, not, ◌&&◌, ◌||◌, ◌==◌, nat_lt, List, length, filter, is_some, slice_get, Option, Some, None, IfSome, if◌then◌else◌}
 use Rattle.std.specs.List.{list_any, range_with_len}
-use Rattle.std.specs.Option.{option_and_then, option_flatten}
+use Rattle.std.specs.Option.{option_and_then}
+use Rattle.kms_model.specs.Device.Places.{state_at}
 use Rattle.kms_model.specs.declared.objects.Kind.TheVariants.{Crtc, Plane, Conn}
 use Rattle.kms_model.specs.declared.objects.Mode.{Mode}
 use Rattle.kms_model.specs.declared.objects.Topology.{Topology}
@@ -23,13 +24,9 @@ use Rattle.kms_model.specs.Device.Objects.{first_id, count_of}
 use Rattle.kms_model.specs.Device.Sound.{IsPlaneInRange}
 use Rattle.kms_model.specs.Request.Checks.{plane_refusal, crtc_refusal, conn_refusal, shown_refusal}
 
--- what is duplicated at an index
-abbrev pub duplicate_at : {S : Type 0} → List (Option (Both S)) → ℕ → Option (Both S)
-duplicate_at states index = option_flatten (slice_get states index)
-
 -- what is duplicated of an object of a set
 abbrev pub duplicate_in : {S : Type 0} → ℕ → List (Option (Both S)) → ℕ → Option (Both S)
-duplicate_in mask states index = if has_bit mask index then duplicate_at states index else None
+duplicate_in mask states index = if has_bit mask index then state_at states index else None
 
 -- how many of the first n objects are in a set
 abbrev pub members : ℕ → ℕ → ℕ
@@ -53,7 +50,7 @@ route_refusal_of both = refused_if MODE_XOR_CONNECTOR (differs (is_some both.new
 
 -- the mode of a CRTC that is duplicated, by its id
 abbrev pub new_mode : List (Option (Both CrtcState)) → ℕ → Option Mode
-new_mode crtcs id = option_and_then (λ both. both.new.mode) (duplicate_at crtcs (id - first_id Crtc))
+new_mode crtcs id = option_and_then (λ both. both.new.mode) (state_at crtcs (id - first_id Crtc))
 
 abbrev pub shown_refusal_of : ℕ → List (Option (Both CrtcState)) → Both PlaneState → Option ℕ
 shown_refusal_of profile crtcs both = shown_refusal profile (new_mode crtcs both.new.crtc) both.new

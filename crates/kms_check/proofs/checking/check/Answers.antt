@@ -9,7 +9,7 @@ use Rattle.kms_model.specs.declared.states.Mask.{Mask}
 use Rattle.kms_model.specs.declared.worlds.World.{World}
 use Rattle.kms_model.specs.Request.Lookups.{look_up}
 use Rattle.kms_model.specs.Device.Objects.{count_of}
-use Rattle.kms_model.specs.Request.Touched.{named_set, touched_set}
+use Rattle.kms_model.specs.Request.Touched.{named_by, touched_by}
 use Rattle.kms_model.proofs.TouchedLemmas.{after}
 use Rattle.kms_request.specs.Answers.{refusal_number}
 use Rattle.kms_model.specs.Request.Deciding.{AreOfSoundWorld, IsAskedFor, IsOfRequest}
@@ -35,7 +35,7 @@ set_found c w r is = set-lacking _ w r _ _ _ _ _ is c.as_slice-sets.ensures.valu
 
 record NamedKnown (t : Topology) (w : World) (r : Request) (resolved : Resolved) (d : Duplicates) (named : ℕ) (found : Option Mask) : Type 0 where
   has : HasSets t w r resolved d
-  named_is : named ≡ named_set t w.values (after w r) r.assigns
+  named_is : named ≡ named_by t w r
   named_found : lacking d (named_group t w r) ≡ found
 
 named_known : (c : After-lacking-2) (w : World) (r : Request) → IsOfRequest c.args.topology.now w r c.args.resolved.now c.args.states
@@ -46,7 +46,7 @@ named_known c w r is =
     let room : HasRoom d = record { crtcs = omega arith; planes = omega arith; conns = omega arith } in
     let lacks : lacking d (set_group t r) ≡ c.lacking.result = set-lacking t w r c.args.resolved.now d _ _ _ is c.as_slice-sets.ensures.value c.objects_set-set.ensures c.lacking.ensures in
     let has : HasSets t w r c.args.resolved.now d = record { is = is; room = room; none = lacks ∙ c.in_default.is } in
-    let named_is : c.named-named.result ≡ named_set t w.values (after w r) r.assigns = named-known t w r c.args.resolved.now d c.named-named.result has c.named-named.ensures in
+    let named_is : c.named-named.result ≡ named_by t w r = named-known t w r c.args.resolved.now d c.named-named.result has c.named-named.ensures in
     record { has = has; named_is = named_is; named_found = named-lacking t w r d _ _ _ named_is c.only_crtcs.ensures c.lacking-2.ensures }
 
 record AllKnown (t : Topology) (w : World) (r : Request) (resolved : Resolved) (d d' : Duplicates) (named : ℕ) (found : Option Mask) : Type 0 where
@@ -115,7 +115,7 @@ late_refusal-requires c =
 record Known (t : Topology) (w : World) (r : Request) (resolved : Resolved) (d d' : Duplicates) (named : ℕ) (touched : Mask) : Type 0 where
   applied_to : HasApplied t w r resolved d d' named
   none : lacking d (affected_group t w r) ≡ None
-  touched_is : touched ≡ touched_set t w.things w.values (after w r) r.assigns
+  touched_is : touched ≡ touched_by t w r
 
 known : (c : After-union-touched) (w : World) (r : Request) → IsOfRequest c.args.topology.now w r c.args.resolved.now c.args.states
     → AllKnown c.args.topology.now w r c.args.resolved.now c.args.states c.apply.new.states c.named-named.result c.lacking-3.result

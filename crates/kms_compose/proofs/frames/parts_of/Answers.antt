@@ -2,12 +2,13 @@ use Rattle.std.proofs.Common.{◌≡◌, ◌<◌, ℕ, ◌+◌, List, [], ◌∷
 use Rattle.std.specs.Prelude.{All, IfSome}
 use Rattle.std.proofs.lemmas.List.{append-nil, at_drop_more}
 use Rattle.std.proofs.lemmas.List.Elements.{All-push}
+use Rattle.kms_model.specs.Firsts.{listed}
 use Rattle.kms_model.specs.declared.pictures.Colour.{Colour}
 use Rattle.kms_model.specs.declared.pictures.Layer.{Layer}
 use Rattle.kms_model.specs.Frames.FrameBytes.{black, composed, layer_colour, mixed}
 use Rattle.kms_compose.specs.declared.parts.VisiblePart.{VisiblePart}
 use Rattle.kms_compose.specs.Images.{IsShowable, word_under}
-use Rattle.kms_compose.specs.Parts.{IsPart, listed, part_colour, parts_over, seen_colour}
+use Rattle.kms_compose.specs.Parts.{IsPart, part_colour, parts_over, seen_colour}
 use Rattle.kms_compose.proofs.frames.parts_of.Goals as goal
 
 all_listed : (parts : List VisiblePart) (p : Option VisiblePart) → All IsPart parts → IfSome p IsPart → All IsPart (parts ++ listed p)

@@ -1,12 +1,12 @@
 use Rattle.std.proofs.Common.{◌≡◌, ℕ, ◌+◌, true, List, length, slice_index, refl, ap, ◌∙◌, rules}
 use Rattle.std.proofs.lemmas.List.FromFn.{get_or-map-range_with_len, length-map-range_with_len}
-use Rattle.kms_compose.specs.Sources.{is_unscaled, source_place}
+use Rattle.kms_compose.specs.Sources.{is_axis_unscaled, source_place}
 use Rattle.kms_compose.proofs.Places.{unscaled_place}
 use Rattle.kms_compose.proofs.parts.places_of.Goals as goal
 
-pub returns-then-is_unscaled-clause-places : goal.returns-then-is_unscaled-clause-places
-returns-then-is_unscaled-clause-places c = λ k within.
-    let same : is_unscaled c.args.reach.now ≡ true = search rules in
+pub returns-then-is_axis_unscaled-clause-places : goal.returns-then-is_axis_unscaled-clause-places
+returns-then-is_axis_unscaled-clause-places c = λ k within.
+    let same : is_axis_unscaled c.args.reach.now ≡ true = search rules in
     ap (λ (n : ℕ). n + k) c.source_place.ensures ∙ unscaled_place c.args.reach.now c.args.first c.args.count k c.requires.seen same within
 
 pub returns-in_ok-places-clause-count : goal.returns-in_ok-places-clause-count

@@ -1,5 +1,6 @@
 use Rattle.std.proofs.Common.{◌≡◌, ap, ◌∙◌, arith, refl, Some}
-use Rattle.kms_things.specs.Starting.{alike, off_plane, states_below}
+use Rattle.kms_model.specs.Device.Places.{alike}
+use Rattle.kms_things.specs.Starting.{off_plane, states_below}
 use Rattle.kms_things.proofs.StatesBelow.{below_more}
 use Rattle.kms_things.proofs.starting.start_planes.Goals as goal
 
