@@ -2,14 +2,11 @@ ghost use Rattle.kms_wwlock.specs.Objects.{IsLockable};
 ghost use Rattle.kms_clients.specs.Standing.{IsClient};
 
 use super::*;
-use kms_model::{Doing, FIRST_CRTC_ID, FIRST_PLANE_ID, ObjId, Place, Ticket};
+use kms_model::{Doing, ObjId, Place, Ticket};
+use kms_samples::{CRTC, PLANE};
 use kms_wwlock::Lock;
 use std::process::Abort;
 use std::test::Fail;
-
-const CRTC: ObjId = ObjId(FIRST_CRTC_ID);
-
-const PLANE: ObjId = ObjId(FIRST_PLANE_ID);
 
 fn at_first(doing: Doing) -> Place {
     Place { command: 1, doing }

@@ -1,12 +1,7 @@
 use super::*;
-use kms_model::{
-    FIRST_CONNECTOR_ID, FIRST_CRTC_ID, FIRST_PLANE_ID, MAX_CONNECTORS, MAX_CRTCS, ObjId, Ticket,
-};
+use kms_model::{FIRST_CONNECTOR_ID, FIRST_CRTC_ID, MAX_CONNECTORS, MAX_CRTCS, ObjId, Ticket};
+use kms_samples::{CRTC, PLANE};
 use std::test::Fail;
-
-const CRTC: ObjId = ObjId(FIRST_CRTC_ID);
-
-const PLANE: ObjId = ObjId(FIRST_PLANE_ID);
 
 const LAST_CRTC: ObjId = ObjId(FIRST_CRTC_ID + MAX_CRTCS - 1);
 
