@@ -6,16 +6,16 @@ ghost use Rattle.kms_model.specs.Request.Lookups.{look_up};
 ghost use Rattle.kms_model.specs.Request.Sets.{look_in};
 
 use crate::{Refused, check};
-use kms_model::flags::ALLOW_MODESET;
+use kms_model::flags::{ALLOW_MODESET, PAGE_FLIP_EVENT};
 use kms_model::properties::{
     ACTIVE, ALPHA, CRTC_H, CRTC_ID, CRTC_W, CRTC_X, FB_ID, GAMMA_LUT, MODE_ID, SRC_H, SRC_W, SRC_X,
 };
 use kms_model::{
-    Assign, Both, Checked, ConnState, CrtcState, Duplicates, FbInfo, Format, Gamma, Kind, Look,
-    Lookups, Mask, NoMemory, ObjId, PlaneState, Rect, Refusal, Seq, Value,
+    Assign, Both, Checked, ConnState, CrtcState, Duplicates, FbInfo, Format, Kind, Look, Lookups,
+    Mask, NoMemory, ObjId, PlaneState, Rect, Refusal, Seq, Value,
 };
 use kms_request::{reach, resolve};
-use kms_samples::{double, in_profile_2, light, on_crtc, on_plane, request, set, tiny};
+use kms_samples::{FLAT_GAMMA, double, in_profile_2, light, on_crtc, on_plane, request, set, tiny};
 use std::alloc::Global;
 use std::test::Fail;
 
@@ -235,7 +235,7 @@ fn a_request_is_refused_by_the_state_after_it(rt: HostRuntime) -> Result<(), Fai
         ),
         (ALLOW_MODESET, plugged, Refusal::CONNECTOR_NOT_POSSIBLE),
         (
-            0x1,
+            PAGE_FLIP_EVENT,
             on_crtc(ACTIVE, Value::Num(0)),
             Refusal::SIGNAL_WHILE_OFF,
         ),
@@ -301,7 +301,7 @@ fn a_request_is_refused_by_what_the_device_can_do(rt: HostRuntime) -> Result<(),
     for (given, flags, first, more, refusal) in [
         (
             DARK,
-            0x1,
+            PAGE_FLIP_EVENT,
             &[][..],
             &[][..],
             Some(Refusal::EVENT_WITHOUT_CRTC),
@@ -399,25 +399,18 @@ fn planes_of_profile_2_scale_little(rt: HostRuntime) -> Result<(), Fail> {
     Ok(())
 }
 
-/// A table of which each channel tells another one apart.
-const TABLE: Gamma = Gamma {
-    red: [71; 256],
-    green: [72; 256],
-    blue: [73; 256],
-};
-
 /// A changed table is no modeset, and is there after the request.
 #[test]
 fn a_changed_table_needs_no_modeset(rt: HostRuntime) -> Result<(), Fail> {
     let a = rt.alloc();
-    let looks = [(MODE, Look::Gamma(TABLE, 1001))];
+    let looks = [(MODE, Look::Gamma(FLAT_GAMMA, 1001))];
     let found = Seq::from_vec(Vec::from_array(a, looks)?);
     let table = [on_crtc(GAMMA_LUT, Value::Named(MODE))];
     let gamma = match checked_in_profile_2(a, LIT, &found, &table, &[])? {
         Ok(checked) => checked.states.crtcs[0].and_then(|both| both.new.gamma),
         Err(_) => None,
     };
-    assert!(rt; gamma == Some(TABLE));
+    assert!(rt; gamma == Some(FLAT_GAMMA));
     Ok(())
 }
 

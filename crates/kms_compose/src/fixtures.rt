@@ -19,14 +19,18 @@ pub fn rect(x: i64, y: i64, w: i64, h: i64) -> Rect
     Rect { x, y, w, h }
 }
 
-/// Which framebuffer a layer shows, by its id, from where, in 16.16 fixed point, and where on the mode, with the numbers of
-/// its plane's alpha, from 0 to 65535, and blend mode, from 0 to 2.
+/// What a layer shows, and where.
 #[derive(Clone, Copy)]
 pub struct LayerPlace {
+    /// The id of the framebuffer.
     pub fb: u32,
+    /// Its part that is shown, in 16.16 fixed point.
     pub src: Rect,
+    /// Where on the mode, in pixels.
     pub dst: Rect,
+    /// The number of its plane's alpha, from 0 to 65535.
     pub alpha: u32,
+    /// The number of its plane's blend mode, from 0 to 2.
     pub blend: u32,
 }
 

@@ -2,7 +2,7 @@
 use super::*;
 use crate::fixtures::{LayerPlace, PIXEL, image, opaque, picture, rect};
 use kms_model::{Format, Gamma, Mode, Rect, Seq};
-use kms_samples::sized_mode;
+use kms_samples::{mixed_gamma, sized_mode};
 use std::alloc::Global;
 use std::process::Abort;
 use std::test::Fail;
@@ -207,21 +207,6 @@ fn the_largest_numbers_are_shown(rt: HostRuntime) -> Result<(), Fail> {
     are_shown(&rt, rt.alloc(), &[last])
 }
 
-/// A table whose channels differ: red inverts, green adds 1 and blue halves.
-fn table() -> Gamma {
-    let mut gamma = Gamma {
-        red: [0; 256],
-        green: [0; 256],
-        blue: [0; 256],
-    };
-    for value in 0..256 {
-        gamma.red[value] = (255 - value) as u8;
-        gamma.green[value] = (value as u8).wrapping_add(1);
-        gamma.blue[value] = (value / 2) as u8;
-    }
-    gamma
-}
-
 // By hand: 200, 180, 160 under a half of 64, 32, 16 is 132, 106, 88, and under a half of that by plane's alpha 98, 69, 52.
 #[test]
 fn a_table_is_over_the_colour_of_all_layers(rt: HostRuntime) -> Result<(), Fail> {
@@ -237,7 +222,7 @@ fn a_table_is_over_the_colour_of_all_layers(rt: HostRuntime) -> Result<(), Fail>
     let through = composed(
         &rt,
         rt.alloc(),
-        (mode, Some(table())),
+        (mode, Some(mixed_gamma())),
         (2, 1),
         &places,
         &words,

@@ -5,7 +5,7 @@ ghost use Rattle.kms_histlock.specs.Passes.{IsSamePass};
 
 use kms_device::{Device, Pass};
 use kms_device_tests::{commit, make, return_from};
-use kms_model::{NoMemory, Reply, Step};
+use kms_model::{MAX_CRTCS, NoMemory, Reply, Step};
 use std::alloc::Global;
 use std::sync::Wait;
 
@@ -14,9 +14,6 @@ const MOST_LOOKS: u32 = 1_000_000;
 
 /// How many steps the tail of a commit has, at most.
 const MOST_STEPS: u32 = 31;
-
-/// How many CRTCs a device has, at most.
-const MOST_CRTCS: u32 = 4;
 
 /// Makes things for the client of a pass until it is at none, so many at most.
 pub fn prepare<W: Wait>(
@@ -90,7 +87,7 @@ fn vblank_each<W: Wait>(rt: &W, device: &Device, pass: &mut Pass)
     requires own { pass.old.lock ≡ device.now.lock }
     ensures same { IsSamePass pass.old pass.new }
 {
-    for crtc in 0..MOST_CRTCS {
+    for crtc in 0..MAX_CRTCS {
         let _went = device.vblank(rt, pass, crtc);
     }
 }

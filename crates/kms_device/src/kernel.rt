@@ -38,7 +38,8 @@ impl Model for Kernel {
 
     ghost view = { λ k. k.core.value };
 
-    ghost invariant = { λ k. NeverEnds k.core.value.steps × AreBlankingCounts k.counts k.core.value.steps };
+    ghost invariant = { λ k. NeverEnds k.core.value.steps
+        × AreBlankingCounts k.counts k.core.value.steps };
 }
 
 impl Kept for Kernel {

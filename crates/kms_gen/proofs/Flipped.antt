@@ -5,6 +5,7 @@ use Rattle.std.specs.Fmt.{decimal}
 use Rattle.std.specs.List.{list_all}
 use Rattle.std.proofs.lemmas.Bool.{and_from, and_parts}
 use Rattle.std.proofs.lemmas.List.Folds.{list_all-append}
+use Rattle.kms_model.specs.declared.flags.TheConstants.{PAGE_FLIP_EVENT}
 use Rattle.kms_model.specs.declared.objects.Kind.{Kind}
 use Rattle.kms_model.specs.declared.objects.Kind.TheVariants.{Plane}
 use Rattle.kms_model.specs.declared.properties.TheConstants.{ALPHA, CRTC_X, FB_ID}
@@ -48,7 +49,7 @@ set_read names word given prop kind index id v parts of_prop of_value = rw (part
 -- Requests
 
 request_read : (names : Names) (index : ℕ) (ws : List (List ℕ)) (sets : List Assign) → index ≤ 18446744073709551615 → list_all (list_all is_inner) ws ≡ true → assigns_read names ws ≡ Some (sets, names)
-    → atomic_read names (fields (codes "0x1" ∷ decimal index ∷ ws)) ≡ Some (Atomic (record { flags = 1; user_data = index; assigns = sets }), names)
+    → atomic_read names (fields (codes "0x1" ∷ decimal index ∷ ws)) ≡ Some (Atomic (record { flags = PAGE_FLIP_EVENT; user_data = index; assigns = sets }), names)
 unfolding atomic_read hex
 request_read names index ws sets le inner given =
     rw (field_of (codes "0x1") (decimal index ∷ ws) refl, number_of 18446744073709551615 index ws (omega arith) le, words_of_fields ws inner, given) refl
@@ -104,7 +105,7 @@ abbrev sets : ℕ → Drawn → List Assign
 sets crtc d = on_plane crtc FB_ID (Named (drawn_framebuffer crtc d.number)) ∷ on_plane crtc ALPHA (Num (pos (alpha d))) ∷ on_plane crtc CRTC_X (Num (pos (left d))) ∷ []
 
 abbrev pub commit : ℕ → Drawn → Command
-commit crtc d = Atomic (record { flags = 1; user_data = d.index; assigns = sets crtc d })
+commit crtc d = Atomic (record { flags = PAGE_FLIP_EVENT; user_data = d.index; assigns = sets crtc d })
 
 -- the framebuffer by a test
 abbrev shown_by : Bool → ℕ → ℕ

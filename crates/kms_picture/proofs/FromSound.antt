@@ -22,7 +22,6 @@ use Rattle.kms_model.proofs.MaskLemmas.{has_bit-mask_below}
 use Rattle.kms_model.proofs.StateLemmas.{sound-plane_in_range}
 use Rattle.kms_model.proofs.TouchedLemmas.{HasFewObjects, few_objects}
 use Rattle.kms_model.proofs.Facts.{list_all-from}
-use Rattle.kms_state.specs.Places.{state_at}
 use Rattle.kms_state.proofs.Slots.{slot_at}
 use Rattle.kms_picture.specs.Covered.{FitsDuplicates, are_placeable, is_placeable, is_near, is_near_rect, is_near_plane, may_picture}
 

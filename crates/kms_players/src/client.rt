@@ -33,7 +33,13 @@ impl<'a, G: Gate> Model for Client<'a, G> {
 
     ghost Value = { ClientState };
 
-    ghost view = { λ c. record { device = c.site.device.now; client = c.site.client; pass = c.pass; kept = c.kept; last = c.last } };
+    ghost view = { λ c. record {
+      device = c.site.device.now;
+      client = c.site.client;
+      pass = c.pass;
+      kept = c.kept;
+      last = c.last;
+    } };
 
     ghost invariant = { λ c. IsAtDevice c.site.device.now c.site.client c.pass
         × IsUnderWay (run_seen c.site.device.now.script c.pass) c.site.client c.kept c.under_way };

@@ -30,7 +30,12 @@ impl<'a, G: Gate> Model for VblankTick<'a, G> {
 
     ghost Value = { TickState };
 
-    ghost view = { λ t. record { device = t.device.now; crtc = t.crtc; pass = t.pass; last = t.last } };
+    ghost view = { λ t. record {
+      device = t.device.now;
+      crtc = t.crtc;
+      pass = t.pass;
+      last = t.last;
+    } };
 
     ghost invariant = { λ t. t.pass.lock ≡ t.device.now.lock };
 }

@@ -31,7 +31,13 @@ impl<'a, G: Gate> Model for Worker<'a, G> {
 
     ghost Value = { WorkerState };
 
-    ghost view = { λ w. record { device = w.device.now; number = w.number; pass = w.pass; hand = w.hand; last = w.last } };
+    ghost view = { λ w. record {
+      device = w.device.now;
+      number = w.number;
+      pass = w.pass;
+      hand = w.hand;
+      last = w.last;
+    } };
 
     ghost invariant = { λ w. w.pass.lock ≡ w.device.now.lock };
 }

@@ -5,7 +5,7 @@ ghost use Rattle.kms_model.specs.Device.Sound.{IsPlaneInRange};
 use crate::RegFile;
 use crate::words::{CrtcWords, PlaneWords};
 use kms_model::{CrtcState, FbInfo, Format, Gamma, Picture, PlaneState, Rect};
-use kms_samples::{CONN, CRTC, PLANE, SECOND_CRTC, full_hd, split, tiny};
+use kms_samples::{CONN, CRTC, PLANE, SECOND_CRTC, full_hd, mixed_gamma, split, tiny};
 use std::process::Abort;
 use std::test::Fail;
 
@@ -162,25 +162,10 @@ fn the_words_of_a_mode_are_its_bytes(rt: HostRuntime) {
     assert_eq!(rt; CrtcWords::of(0, &CrtcState::OFF).mode, [0; 17]);
 }
 
-/// A table whose channels differ: red inverts, green keeps, and blue is 7 but for the last value.
-fn a_gamma() -> Gamma {
-    let mut gamma = Gamma {
-        red: [0; 256],
-        green: [0; 256],
-        blue: [7; 256],
-    };
-    for value in 0..256 {
-        gamma.red[value] = (255 - value) as u8;
-        gamma.green[value] = value as u8;
-    }
-    gamma.blue[255] = 9;
-    gamma
-}
-
 /// A CRTC that is on, with a table.
 fn lit_with_gamma() -> CrtcState {
     CrtcState {
-        gamma: Some(a_gamma()),
+        gamma: Some(mixed_gamma()),
         ..lit()
     }
 }
@@ -191,11 +176,11 @@ fn the_words_of_a_table_are_its_channels_one_after_the_other(rt: HostRuntime) {
     assert_eq!(rt; words.gamma_on, 1);
     assert_eq!(rt; words.gamma[0], 0xfcfd_feff);
     assert_eq!(rt; words.gamma[63], 0x0001_0203);
-    assert_eq!(rt; words.gamma[64], 0x0302_0100);
-    assert_eq!(rt; words.gamma[127], 0xfffe_fdfc);
-    assert_eq!(rt; words.gamma[128], 0x0707_0707);
-    assert_eq!(rt; words.gamma[191], 0x0907_0707);
-    assert!(rt; words.gamma() == Some(a_gamma()));
+    assert_eq!(rt; words.gamma[64], 0x0403_0201);
+    assert_eq!(rt; words.gamma[127], 0x00ff_fefd);
+    assert_eq!(rt; words.gamma[128], 0x0101_0000);
+    assert_eq!(rt; words.gamma[191], 0x7f7f_7e7e);
+    assert!(rt; words.gamma() == Some(mixed_gamma()));
     let without = CrtcWords::of(0, &lit());
     assert_eq!(rt; without.gamma_on, 0);
     assert!(rt; without.gamma == [0; 192]);
@@ -225,7 +210,7 @@ fn a_changed_table_is_shown_from_its_latch_on(rt: HostRuntime) -> Result<(), Fai
     assert!(rt; regs.flush(1).is_none());
     assert!(rt; shows_gamma(&regs, 1, None), "flushed");
     assert!(rt; meet_vblank(&rt, &mut regs, 1).is_some());
-    assert!(rt; shows_gamma(&regs, 1, Some(a_gamma())), "latched");
+    assert!(rt; shows_gamma(&regs, 1, Some(mixed_gamma())), "latched");
     write_crtc(&rt, &mut regs, 1, CONN.0, &lit_with_gamma(), &lit());
     assert!(rt; regs.flush(1).is_none());
     assert!(rt; meet_vblank(&rt, &mut regs, 1).is_some());

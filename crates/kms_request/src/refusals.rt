@@ -16,7 +16,8 @@ use kms_model::properties::{FB_ID, GAMMA_LUT, IN_FENCE_FD, MODE_ID, OUT_FENCE_PT
 use kms_model::{Assign, Kind, Look, PropRef, Range, Refusal, Request, Topology, Value};
 use kms_props::{AtomicFlags, PropertyRow, from_bits, row_in};
 
-/// What is wrong with flags: 1, there is another bit; 2, PAGE_FLIP_ASYNC is set; 3, TEST_ONLY and PAGE_FLIP_EVENT are set.
+/// What is wrong with flags: `UNKNOWN_FLAG`, there is another bit; `ASYNC_FLIP`, PAGE_FLIP_ASYNC is set;
+/// `TEST_WITH_EVENT`, TEST_ONLY and PAGE_FLIP_EVENT are set.
 fn flags_refusal(flags: u32) -> Option<Refusal>
     ensures { refusal_number result ≡ flags_refusal flags }
 {
@@ -106,9 +107,9 @@ fn is_in_range<L: Looker>(
     }
 }
 
-/// What is wrong with an assignment by itself, whatever comes before it: 4, its object does not exist; 5, the object
-/// does not have the property, on a device of this profile; 6, the property is immutable; 7, the value is not among the
-/// property's.
+/// What is wrong with an assignment by itself, whatever comes before it: `NO_OBJECT`, its object does not exist;
+/// `NO_PROPERTY`, the object does not have the property, on a device of this profile; `IMMUTABLE_PROPERTY`, the property
+/// is immutable; `INVALID_VALUE`, the value is not among the property's.
 #[tactic(auto, unfolding(kms_model::specs::Request::Refusals::own_refusal))]
 pub(crate) fn own_refusal<L: Looker>(topology: &Topology, found: &L, a: &Assign) -> Option<Refusal>
     ensures refusal { refusal_number result ≡ own_refusal topology.now (L.meaning found.now) a.now }
@@ -149,7 +150,7 @@ fn note_fence(fenced: &mut [bool; 16], a: &Assign)
     }
 }
 
-/// The first that is wrong with assignments, from 4 to 8.
+/// The first that is wrong with assignments, from `NO_OBJECT` to `SECOND_IN_FENCE`.
 #[tactic(auto, unfolding(kms_model::specs::Request::Refusals::assigns_refusal, kms_model::specs::Request::Refusals::assign_refusal))]
 fn first_refusal<L: Looker>(topology: &Topology, found: &L, assigns: &[Assign]) -> Option<Refusal>
     requires { IsTrue (keeps_limits topology.now) }

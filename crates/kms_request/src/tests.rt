@@ -2,16 +2,17 @@
 ghost use Rattle.kms_model.specs.Device.Sound.{IsDevice};
 
 use crate::{RequestError, early, named, resolve};
+use kms_model::flags::{ALLOW_MODESET, NONBLOCK, PAGE_FLIP_ASYNC, PAGE_FLIP_EVENT, TEST_ONLY};
 use kms_model::properties::{
     ACTIVE, ALPHA, BLEND, CRTC_H, CRTC_ID, CRTC_W, CRTC_X, CRTC_Y, FB_ID, GAMMA_LUT, IN_FENCE_FD,
     MODE_ID, OUT_FENCE_PTR, SRC_H, SRC_W, SRC_X, SRC_Y, TYPE, ZPOS,
 };
 use kms_model::{
-    Assign, Both, ConnState, Duplicates, FIRST_CRTC_ID, FIRST_PLANE_ID, FbInfo, Format, Gamma,
-    Kind, Look, Lookups, Mode, NoMemory, ObjId, PlaneState, PropRef, Rect, Refusal, Request,
-    Resolved, Seq, SetValue, Topology, Value,
+    Assign, Both, ConnState, Duplicates, FIRST_CRTC_ID, FIRST_PLANE_ID, FbInfo, Format, Kind, Look,
+    Lookups, Mode, NoMemory, ObjId, PlaneState, PropRef, Rect, Refusal, Request, Resolved, Seq,
+    SetValue, Topology, Value,
 };
-use kms_samples::{in_profile_2, on_crtc, on_plane, request, set, single, split, tiny};
+use kms_samples::{FLAT_GAMMA, in_profile_2, on_crtc, on_plane, request, set, single, split, tiny};
 use std::alloc::Global;
 use std::process::Abort;
 use std::test::Fail;
@@ -33,13 +34,6 @@ const MISSING: u32 = 6;
 
 const GAMMA: u32 = 7;
 
-/// A table of which each channel tells another one apart.
-const TABLE: Gamma = Gamma {
-    red: [71; 256],
-    green: [72; 256],
-    blue: [73; 256],
-};
-
 const INFO: FbInfo = FbInfo {
     id: 1001,
     width: 1,
@@ -55,7 +49,7 @@ fn looks(alloc: Global) -> Result<Lookups, NoMemory> {
         (FENCE, Look::Fence(1004)),
         (BUFFER, Look::Buffer(1005)),
         (CLOSED, Look::Closed),
-        (GAMMA, Look::Gamma(TABLE, 1006)),
+        (GAMMA, Look::Gamma(FLAT_GAMMA, 1006)),
     ];
     Ok(Seq::from_vec(entries.to_vec(alloc)?))
 }
@@ -117,14 +111,17 @@ fn assert_no_value<R: Abort>(rt: &R, alloc: Global, assign: Assign) -> Result<()
 fn small_requests_are_refused_on_the_smallest_device(rt: HostRuntime) -> Result<(), NoMemory> {
     let a = rt.alloc();
     let small = single(a)?;
-    for (flags, want) in [(0x1, None), (0x101, Some(Refusal::TEST_WITH_EVENT))] {
+    for (flags, want) in [
+        (PAGE_FLIP_EVENT, None),
+        (TEST_ONLY | PAGE_FLIP_EVENT, Some(Refusal::TEST_WITH_EVENT)),
+    ] {
         let off = [on_crtc(ACTIVE, Value::Num(0))];
         assert_early_on(&rt, a, &small, flags, &off, want)?;
     }
     for (flags, want) in [
-        (0x2, Some(Refusal::ASYNC_FLIP)),
+        (PAGE_FLIP_ASYNC, Some(Refusal::ASYNC_FLIP)),
         (0x4, Some(Refusal::UNKNOWN_FLAG)),
-        (0x1, None),
+        (PAGE_FLIP_EVENT, None),
         (0, None),
     ] {
         assert_early_on(&rt, a, &small, flags, &[], want)?;
@@ -149,7 +146,7 @@ fn small_requests_are_refused_on_the_smallest_device(rt: HostRuntime) -> Result<
     Ok(())
 }
 
-/// An assignment for each of 4 to 8; 8 is due where a fence was named before.
+/// An assignment for each from `NO_OBJECT` to `SECOND_IN_FENCE`, which is due where a fence was named before.
 fn wrong_assignments() -> [(Assign, Refusal); 5] {
     [
         (
@@ -172,8 +169,8 @@ fn wrong_flags_are_told_before_wrong_assignments(rt: HostRuntime) -> Result<(), 
     let fence = on_plane(IN_FENCE_FD, Value::Named(FENCE));
     for (flags, want) in [
         (0x4, Refusal::UNKNOWN_FLAG),
-        (0x2, Refusal::ASYNC_FLIP),
-        (0x101, Refusal::TEST_WITH_EVENT),
+        (PAGE_FLIP_ASYNC, Refusal::ASYNC_FLIP),
+        (TEST_ONLY | PAGE_FLIP_EVENT, Refusal::TEST_WITH_EVENT),
     ] {
         for (wrong, _) in wrong_assignments() {
             assert_early(&rt, a, flags, &[fence, wrong], Some(want))?;
@@ -226,25 +223,34 @@ fn flags_are_refused_in_order(rt: HostRuntime) -> Result<(), NoMemory> {
     let a = rt.alloc();
     for (flags, want) in [
         (0, None),
-        (0x701, Some(Refusal::TEST_WITH_EVENT)),
-        (0x601, None),
+        (
+            TEST_ONLY | PAGE_FLIP_EVENT | NONBLOCK | ALLOW_MODESET,
+            Some(Refusal::TEST_WITH_EVENT),
+        ),
+        (PAGE_FLIP_EVENT | NONBLOCK | ALLOW_MODESET, None),
         (0x4, Some(Refusal::UNKNOWN_FLAG)),
         (0x800, Some(Refusal::UNKNOWN_FLAG)),
         (0x8000_0000, Some(Refusal::UNKNOWN_FLAG)),
-        (0x2, Some(Refusal::ASYNC_FLIP)),
-        (0x101, Some(Refusal::TEST_WITH_EVENT)),
-        (0x100, None),
-        (0x1, None),
-        (0x806, Some(Refusal::UNKNOWN_FLAG)),
-        (0x103, Some(Refusal::ASYNC_FLIP)),
-        (0x105, Some(Refusal::UNKNOWN_FLAG)),
+        (PAGE_FLIP_ASYNC, Some(Refusal::ASYNC_FLIP)),
+        (TEST_ONLY | PAGE_FLIP_EVENT, Some(Refusal::TEST_WITH_EVENT)),
+        (TEST_ONLY, None),
+        (PAGE_FLIP_EVENT, None),
+        (0x804 | PAGE_FLIP_ASYNC, Some(Refusal::UNKNOWN_FLAG)),
+        (
+            TEST_ONLY | PAGE_FLIP_ASYNC | PAGE_FLIP_EVENT,
+            Some(Refusal::ASYNC_FLIP),
+        ),
+        (
+            0x4 | TEST_ONLY | PAGE_FLIP_EVENT,
+            Some(Refusal::UNKNOWN_FLAG),
+        ),
     ] {
         assert_early(&rt, a, flags, &[], want)?;
     }
     assert_early(
         &rt,
         a,
-        0x101,
+        TEST_ONLY | PAGE_FLIP_EVENT,
         &[set(Kind::Crtc, 9, ACTIVE, Value::Num(5))],
         Some(Refusal::TEST_WITH_EVENT),
     )

@@ -54,11 +54,14 @@ pub struct Execution {
     pub options: Options,
 }
 
-/// A script that is generated, by its seed and the count of its commits, from 1 to 4000; and whether it is run.
+/// A script that is generated.
 #[derive(Clone, Copy, Debug, PartialEq, Eq)]
 pub struct Generation {
+    /// The number that its choices are made of.
     pub seed: u64,
+    /// The count of its commits, from 1 to 4000.
     pub commits: u32,
+    /// Whether it is run.
     pub run: bool,
 }
 

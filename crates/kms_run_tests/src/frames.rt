@@ -45,8 +45,7 @@ fn one_plane_stands_over_another(rt: HostRuntime) -> Result<(), Fail> {
     assert_shows(
         &rt,
         &[
-            "kms 1\ncrtcs 1\nplane primary 0 XR24\nplane overlay 0 XR24\nconn 0\nclient\n",
-            script!(pixel("b", "f", "00ff0000")),
+            script!(overlaid "client\n" pixel("b", "f", "00ff0000")),
             MADE_MODE,
             script!(pixel("c", "g", "000000ff")),
             LIGHTS,

@@ -146,7 +146,7 @@ fn framebuffers_are_freed_in_order(rt: HostRuntime) -> Result<(), Fail> {
     assert_drains(
         &rt,
         &[
-            "kms 1\ncrtcs 1\nplane primary 0 XR24\nplane overlay 0 XR24\nconn 0\n",
+            script!(overlaid),
             MADE,
             LIGHTS,
             SET,

@@ -1,5 +1,7 @@
--- Modes, devices and requests that tests are about.
-use Rattle.std.specs.Prelude.{ℕ, pos, List, [], ◌∷◌, replicate}
+-- Modes, devices, tables of colour values and requests that tests are about.
+use Rattle.std.specs.Prelude.{ℕ, ◌+◌, ◌-◌, ◌/◌, ◌%◌, pos, List, [], ◌∷◌, map, replicate}
+use Rattle.std.specs.List.{range_with_len}
+use Rattle.kms_model.specs.declared.objects.Gamma.{Gamma}
 use Rattle.kms_model.specs.declared.objects.Kind.TheVariants.{Crtc, Plane, Conn}
 use Rattle.kms_model.specs.declared.objects.Mode.{Mode}
 use Rattle.kms_model.specs.declared.objects.PlaneInfo.{PlaneInfo}
@@ -53,6 +55,14 @@ split = device_with 2 (plane_of_both ∷ plane_of_both ∷ []) (3 ∷ [])
 -- a device in profile 2
 abbrev pub in_profile_2 : Topology → Topology
 in_profile_2 t = record t { profile = 2 }
+
+-- a table of which red inverts, green adds 1 and blue halves
+abbrev pub mixed_gamma : Gamma
+mixed_gamma = record {
+  red = map (λ value. 255 - value) (range_with_len 0 256);
+  green = map (λ value. (value + 1) % 256) (range_with_len 0 256);
+  blue = map (λ value. value / 2) (range_with_len 0 256);
+}
 
 -- what lights the first CRTC, by the labels of a framebuffer and of a mode of one pixel
 abbrev pub light : ℕ → ℕ → List Assign

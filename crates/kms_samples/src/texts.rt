@@ -8,6 +8,7 @@
 /// | `single`, `single(PROFILE)` | the head of a script whose device is [`single`](crate::single), of profile 1 or this one |
 /// | `screens` | the head of a script with two CRTCs, each with a primary plane and a connector of its own |
 /// | `sharing` | the head of a script with two CRTCs, an overlay plane of both and a connector of each |
+/// | `overlaid` | the head of a script with one CRTC, a primary and an overlay plane of it and a connector of it |
 /// | `tiny(MODE)` | the line that makes the mode [`tiny`](crate::tiny) under a label, with the name `tiny` |
 /// | `pixel(BUFFER, FB, COLOUR)` | the lines that make a buffer of one pixel of a colour, and a framebuffer of it |
 /// | `made` | the lines that make the pixel `00616263` as `b`, its framebuffer `f` and the mode `m` |
@@ -40,6 +41,11 @@ macro_rules! script {
     (@[$($text:tt)*] sharing $($more:tt)*) => {
         $crate::script!(
             @[$($text)* "kms 1\ncrtcs 2\nplane overlay 0,1 XR24\nconn 0\nconn 1\n"] $($more)*
+        )
+    };
+    (@[$($text:tt)*] overlaid $($more:tt)*) => {
+        $crate::script!(
+            @[$($text)* "kms 1\ncrtcs 1\nplane primary 0 XR24\nplane overlay 0 XR24\nconn 0\n"] $($more)*
         )
     };
     (@[$($text:tt)*] tiny($mode:literal) $($more:tt)*) => {

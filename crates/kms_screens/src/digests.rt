@@ -1,5 +1,5 @@
 //! Digests, two at a time.
-ghost use Rattle.std.specs.Prelude.{◌≡◌, ◌-◌, ◌*◌, length};
+ghost use Rattle.std.specs.Prelude.{◌≡◌};
 ghost use Rattle.sha2.specs.Sha256.{sha256};
 ghost use Rattle.kms_screens.specs.Screens.{AreFronts};
 
@@ -24,7 +24,7 @@ pub fn digest_of_frame(frame: &[u8], fronts: &mut Fronts) -> [u8; 32]
     ensures fronts { AreFronts fronts.new frame.now }
 {
     let mut hasher = fronts.last(frame);
-    let (_, mut rest) = frame.split_at(fronts.end(frame));
+    let (_, mut rest) = frame.split_at(frame.len() - fronts.left(frame));
     for _place in fronts.states.len()..PLACES {
         if rest.len() < fronts.step {
             break;
@@ -36,14 +36,6 @@ pub fn digest_of_frame(frame: &[u8], fronts: &mut Fronts) -> [u8; 32]
     }
     hasher.update(rest);
     hasher.finalize()
-}
-
-/// How many bytes of a frame its digest has still to take in.
-fn left(frame: &[u8], fronts: &Fronts) -> usize
-    requires { AreFronts fronts.now frame.now }
-    ensures { result ≡ length frame.now - length fronts.now.states.items * fronts.now.step }
-{
-    frame.len() - fronts.end(frame)
 }
 
 /// The SHA-256 of each of two frames, side by side where both have much left to take in.
@@ -61,7 +53,7 @@ pub fn both_digests<R: Threads>(
     ensures other { result.1 ≡ sha256 other.now }
     ensures others { AreFronts others.new other.now }
 {
-    if left(one, fronts).min(left(other, others)) < WORTH_A_THREAD {
+    if fronts.left(one).min(others.left(other)) < WORTH_A_THREAD {
         return (digest_of_frame(one, fronts), digest_of_frame(other, others));
     }
     let mut first = || -> [u8; 32]

@@ -1,5 +1,5 @@
 //! The states of a digest at places within a frame.
-ghost use Rattle.std.specs.Prelude.{◌≡◌, ◌<◌, ◌*◌, ◌++◌, ◌∷◌, [], List, ℕ, IfOk, length, take};
+ghost use Rattle.std.specs.Prelude.{◌≡◌, ◌<◌, ◌-◌, ◌*◌, ◌++◌, ◌∷◌, [], List, ℕ, IfOk, length, take};
 ghost use Rattle.arrayvec.specs.ArrayVec.{array_vec_len};
 ghost use Rattle.sha2.specs.Hashers.{Holds256};
 ghost use Rattle.kms_screens.specs.Screens.{AreFronts};
@@ -56,14 +56,12 @@ impl Fronts {
         })
     }
 
-    /// How many bytes of a frame lie before the last place that has a state.
-    pub fn end(&self, frame: &[u8]) -> usize
+    /// How many bytes of a frame lie behind the last place that has a state: those that its digest has still to take in.
+    pub fn left(&self, frame: &[u8]) -> usize
         requires { AreFronts self.now frame.now }
-        ensures { result ≡ length self.now.states.items * self.now.step }
+        ensures { result ≡ length frame.now - length self.now.states.items * self.now.step }
     {
-        // Read for its range: the product is no more than that.
-        let _whole = frame.len();
-        self.states.len() * self.step
+        frame.len() - self.states.len() * self.step
     }
 
     /// The last state that is there, or that of no bytes.

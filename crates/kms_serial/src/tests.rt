@@ -4,7 +4,7 @@ ghost use Rattle.kms_model.specs.Device.Sound.{IsDevice};
 ghost use Rattle.kms_model.specs.Script.WellFormed.{IsFitCommand};
 
 use crate::Serial;
-use kms_model::flags::ALLOW_MODESET;
+use kms_model::flags::{ALLOW_MODESET, PAGE_FLIP_ASYNC, PAGE_FLIP_EVENT, TEST_ONLY};
 use kms_model::properties::{
     ACTIVE, ALPHA, CRTC_H, CRTC_ID, CRTC_W, CRTC_X, FB_ID, GAMMA_LUT, IN_FENCE_FD, MODE_ID,
     OUT_FENCE_PTR, SRC_H, SRC_W, SRC_X, TYPE,
@@ -168,11 +168,16 @@ fn a_request_is_refused_by_its_flags_and_assignments(rt: HostRuntime) -> Result<
     let fixed = [on_plane(TYPE, Value::Num(1))];
     let bright = [on_plane(ALPHA, Value::Num(65536))];
     let cases = [
-        refused(0x1, &off, &[], Refusal::SIGNAL_WHILE_OFF),
-        refused(0x101, &off, &[], Refusal::TEST_WITH_EVENT),
-        refused(0x2, &[], &[], Refusal::ASYNC_FLIP),
+        refused(PAGE_FLIP_EVENT, &off, &[], Refusal::SIGNAL_WHILE_OFF),
+        refused(
+            TEST_ONLY | PAGE_FLIP_EVENT,
+            &off,
+            &[],
+            Refusal::TEST_WITH_EVENT,
+        ),
+        refused(PAGE_FLIP_ASYNC, &[], &[], Refusal::ASYNC_FLIP),
         refused(0x4, &[], &[], Refusal::UNKNOWN_FLAG),
-        refused(0x1, &[], &[], Refusal::EVENT_WITHOUT_CRTC),
+        refused(PAGE_FLIP_EVENT, &[], &[], Refusal::EVENT_WITHOUT_CRTC),
         committed(0, &[], 0),
         refused(0, &other, &[], Refusal::NO_OBJECT),
         refused(0, &elsewhere, &[], Refusal::NO_PROPERTY),
@@ -273,7 +278,7 @@ fn a_request_is_refused_by_its_routes(rt: HostRuntime) -> Result<(), Fail> {
         set(Kind::Plane, 1, CRTC_ID, Value::Crtc(1)),
     ];
     let plugged = [set(Kind::Conn, 0, CRTC_ID, Value::Crtc(1))];
-    let hop = [on_plane(CRTC_ID, Value::Crtc(1))];
+    let switch = [on_plane(CRTC_ID, Value::Crtc(1))];
     let routes = [
         refused(ALLOW_MODESET, &away, &[], Refusal::CRTC_NOT_POSSIBLE),
         refused(
@@ -283,7 +288,7 @@ fn a_request_is_refused_by_its_routes(rt: HostRuntime) -> Result<(), Fail> {
             Refusal::CONNECTOR_NOT_POSSIBLE,
         ),
         committed(ALLOW_MODESET, &all, 0),
-        refused(ALLOW_MODESET, &hop, &[], Refusal::SWITCHES_CRTC),
+        refused(ALLOW_MODESET, &switch, &[], Refusal::SWITCHES_CRTC),
     ];
     assert_answers_of(&rt, a, pair(a)?, 1, Format::Xr24, &routes)?;
     Ok(())

@@ -2,6 +2,7 @@
 use Rattle.std.proofs.Common.{◌≡◌, ℕ, zero, suc, ◌<◌, List, [], ◌∷◌, replicate, get_or, pos, true, false, Option, Some, None, arith, refl, sym, ap, ◌∙◌}
 use Rattle.std.specs.Prelude.{is_some, slice_get}
 use Rattle.std.proofs.lemmas.Bool.{false≢true}
+use Rattle.kms_model.specs.declared.flags.TheConstants.{PAGE_FLIP_EVENT}
 use Rattle.kms_model.specs.declared.objects.Kind.TheVariants as kind
 use Rattle.kms_model.specs.declared.objects.Topology.{Topology}
 use Rattle.kms_model.specs.declared.properties.TheConstants.{ACTIVE}
@@ -31,7 +32,7 @@ abbrev pub one : Topology
 one = record { profile = 1; crtcs = 1; planes = record { kind = 1; crtcs = 1; formats = 1 } ∷ []; conns = 1 ∷ [] }
 
 abbrev pub turns_off : Request
-turns_off = record { flags = 0x1; user_data = 9; assigns = record { kind = kind.Crtc; index = 0; prop = Known ACTIVE; value = value.Num (pos 0) } ∷ [] }
+turns_off = record { flags = PAGE_FLIP_EVENT; user_data = 9; assigns = record { kind = kind.Crtc; index = 0; prop = Known ACTIVE; value = value.Num (pos 0) } ∷ [] }
 
 abbrev pub commit : Commit
 commit = record { client = 1; command = 1; request = turns_off; world = start one }

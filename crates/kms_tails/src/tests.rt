@@ -1,7 +1,8 @@
 use super::*;
+use kms_model::flags::{NONBLOCK, PAGE_FLIP_EVENT};
 use kms_model::{
-    Both, Checked, ConnState, CrtcState, Duplicates, FIRST_PLANE_ID, Mask, ObjId, PlaneState,
-    Request, Seq,
+    Both, Checked, ConnState, CrtcState, Duplicates, FIRST_CONNECTOR_ID, FIRST_PLANE_ID, Mask,
+    ObjId, PlaneState, Request, Seq,
 };
 use kms_samples::{CRTC, SECOND_CRTC};
 use std::test::Fail;
@@ -55,7 +56,7 @@ fn checked_on(active: bool, crtcs: u32, planes: u32, named: u32) -> Checked {
 /// A nonblocking request that asks for events.
 fn request(rt: &impl AllocGlobal) -> Request {
     Request {
-        flags: 0x201,
+        flags: PAGE_FLIP_EVENT | NONBLOCK,
         user_data: 9,
         assigns: Seq::new(rt.alloc()),
     }
@@ -124,7 +125,10 @@ fn a_tail_keeps_what_its_latches_need(rt: HostRuntime) -> Result<(), Fail> {
         (3, 9, true)
     );
     assert_eq!(rt; (tail.out_fence(0), tail.out_fence(1)), (None, Some(1007)));
-    assert_eq!(rt; (tail.connector(0), tail.connector(1)), (303, 0));
+    assert_eq!(rt;
+        (tail.connector(0), tail.connector(1)),
+        (FIRST_CONNECTOR_ID + 3, 0)
+    );
     assert_eq!(rt; tail.progress, Progress::none());
     Ok(())
 }

@@ -2,8 +2,11 @@
 use crate::kinds::kind_bit;
 use kms_core::Core;
 use kms_core_tests::{Object, crtc, flush, lock, plane, vblank, write};
-use kms_model::{Kind, NoMemory, Step};
+use kms_model::{FIRST_CRTC_ID, FIRST_PLANE_ID, Kind, NoMemory, Step};
 use std::test::Fail;
+
+/// The index of a CRTC whose id would be that of the first plane.
+const AT_PLANE: u32 = FIRST_PLANE_ID - FIRST_CRTC_ID;
 
 /// Each object of the device, and others that it does not have.
 pub(crate) fn objects(rt: &impl AllocGlobal) -> Result<Vec<Object>, NoMemory> {
@@ -16,7 +19,7 @@ pub(crate) fn objects(rt: &impl AllocGlobal) -> Result<Vec<Object>, NoMemory> {
     }
     let (kind, index) = (Kind::Enc, 0);
     objects.push(Object { kind, index })?;
-    objects.push(crtc(100))?;
+    objects.push(crtc(AT_PLANE))?;
     Ok(objects)
 }
 
