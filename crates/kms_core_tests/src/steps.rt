@@ -34,7 +34,7 @@ pub fn plane(index: u32) -> Object
     }
 }
 
-/// A client, by its number from 1, asks for the lock of an object.
+/// The client of a number, from 1, asks for the lock of an object.
 pub fn lock(client: u32, object: Object) -> Step
     ensures { result ≡ step.Lock client object.kind object.index }
 {
