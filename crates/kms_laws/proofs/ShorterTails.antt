@@ -22,7 +22,7 @@ use Rattle.kms_model.specs.Machine.Steps.{may_claim}
 use Rattle.kms_model.proofs.Items.{IsIn, filter-same}
 use Rattle.kms_model.proofs.TouchedLemmas.{HasFewObjects}
 use Rattle.kms_model.proofs.CommitFacts.{touches_old}
-use Rattle.kms_laws.specs.TailsLeft.{LeavesLess, commit_of_step, one_if, steps_left, tail_left, unflushed, unlatched, unwritten}
+use Rattle.kms_laws.specs.TailsLeft.{LeavesLess, commit_of_step, steps_left, tail_left, unflushed, unlatched, unwritten}
 use Rattle.kms_laws.proofs.Basics.{both_bools, number_more, number_now, pair_more, pair_now}
 use Rattle.kms_laws.proofs.EachStep.{Carries, IsWrite, by_bool, by_fence, by_latch, by_two, each_step, latched_as, made_as, swapped_as}
 use Rattle.kms_laws.proofs.Numbered.{names_old}
