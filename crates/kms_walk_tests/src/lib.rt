@@ -13,6 +13,8 @@ mod kinds;
 #[cfg(test)]
 mod long_walks;
 #[cfg(test)]
+mod pairs;
+#[cfg(test)]
 mod turns;
 #[cfg(test)]
 mod walks;

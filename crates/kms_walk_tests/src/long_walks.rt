@@ -1,9 +1,10 @@
 //! Walks that are one history of 2,000 steps each.
 use crate::crowds::crowd;
 use crate::kinds::{BUT_STALL, STALL, kinds_in};
-use crate::walks::{Walk, catch_up, go_on, walk_of};
+use crate::pairs::{Way, walk};
+use crate::walks::{Walk, catch_up, go_on};
 use kms_core::Core;
-use kms_core_tests::{holds, started};
+use kms_core_tests::holds;
 use std::test::Fail;
 
 /// Walks on, and after every fiftieth step a second machine does the same.
@@ -21,7 +22,7 @@ fn go_far(
 }
 
 /// In a walk each kind of step is done, but for the end of a dead history, and each kind is refused.
-fn go_all_ways(
+pub(crate) fn go_all_ways(
     rt: &impl AllocGlobal,
     core: &mut Core,
     again: &mut Core,
@@ -37,10 +38,7 @@ fn go_all_ways(
 /// The walk of a seed over five rounds of each client.
 fn walk_far(rt: &impl AllocGlobal, seed: u64) -> Result<(), Fail> {
     let text = crowd(rt, "abcde", "signal")?;
-    let mut core = started(rt, text.as_str())?;
-    let mut again = started(rt, text.as_str())?;
-    let mut walk = walk_of(rt, seed)?;
-    go_all_ways(rt, &mut core, &mut again, &mut walk)
+    holds(!walk(rt, text.as_str(), seed, Way::Far)?, "it goes on")
 }
 
 #[test]

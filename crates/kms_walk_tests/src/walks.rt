@@ -13,6 +13,8 @@ pub(crate) struct Walk {
     dice: Dice,
     objects: Vec<Object>,
     commits: Commits,
+    /// The steps that were legal when they were asked for last, of those of each kind.
+    legal: Vec<Step>,
     /// The kinds of steps of which some was not legal when it was asked for.
     pub(crate) refused: u32,
 }
@@ -27,6 +29,7 @@ pub(crate) fn walk_of(rt: &impl AllocGlobal, seed: u64) -> Result<Walk, NoMemory
             first: 0,
             cleaned: Vec::new(rt.alloc()),
         },
+        legal: Vec::new(rt.alloc()),
         refused: 0,
     })
 }
@@ -59,25 +62,30 @@ fn choose(core: &Core, dice: &mut Dice, legal: &[Step]) -> Option<Step> {
     legal.get(dice.roll(legal.len())).copied()
 }
 
-/// The steps that are legal next, of those of each kind that are asked for.
-fn legal_steps(rt: &impl AllocGlobal, core: &Core, walk: &mut Walk) -> Result<Vec<Step>, Fail> {
+/// Asks which steps are legal next, of those of each kind.
+fn ask(rt: &impl AllocGlobal, core: &Core, walk: &mut Walk) -> Result<(), Fail> {
     let asked = ask_all(rt, core, &walk.commits, walk.objects.as_slice())?;
     walk.refused |= asked.refused;
-    Ok(asked.legal)
+    walk.legal = asked.legal;
+    Ok(())
 }
 
 /// Does a legal step, by the dice. False where nothing moves any more.
 fn step_once(rt: &impl AllocGlobal, core: &mut Core, walk: &mut Walk) -> Result<bool, Fail> {
-    let legal = legal_steps(rt, core, walk)?;
-    let is_enabled = has_move(core, &legal);
+    ask(rt, core, walk)?;
+    let is_enabled = has_move(core, walk.legal.as_slice());
     holds(core.enabled() == is_enabled, "it moves by a legal step")?;
-    if !is_enabled {
-        return Ok(false);
+    if is_enabled {
+        do_one(rt, core, walk)?;
     }
-    let step = choose(core, &mut walk.dice, &legal).ok_or("a step is legal")?;
+    Ok(is_enabled)
+}
+
+/// Does one of the steps that are legal, by the dice.
+fn do_one(rt: &impl AllocGlobal, core: &mut Core, walk: &mut Walk) -> Result<(), Fail> {
+    let step = choose(core, &mut walk.dice, walk.legal.as_slice()).ok_or("a step is legal")?;
     holds(do_step(core, rt.alloc(), &step)?, "it is legal still")?;
-    walk.commits.did(step)?;
-    Ok(true)
+    Ok(walk.commits.did(step)?)
 }
 
 /// Does so many legal steps, by the dice. False where nothing moves any more before.
@@ -108,8 +116,9 @@ pub(crate) fn end(rt: &impl AllocGlobal, core: &mut Core, walk: &mut Walk) -> Re
         return holds(!core.legal(&Step::Stall), "it has its end");
     }
     holds(do_step(core, rt.alloc(), &Step::Stall)?, "it is ended")?;
-    let legal = legal_steps(rt, core, walk)?;
-    holds(legal.is_empty() && !core.enabled(), "nothing is legal")
+    ask(rt, core, walk)?;
+    let is_over = walk.legal.is_empty() && !core.enabled();
+    holds(is_over, "nothing is legal")
 }
 
 /// Whether two machines allow the same of all steps that are asked for.

@@ -1,31 +1,28 @@
 //! Walks to the end of a history.
 use crate::crowds::crowd;
-use crate::walks::{Walk, catch_up, end, go_on, walk_of};
+use crate::pairs::{Way, walk};
+use crate::walks::{Walk, catch_up, end, go_on};
 use kms_core::Core;
-use kms_core_tests::{holds, started};
+use kms_core_tests::holds;
 use std::test::Fail;
 
-/// Walks until nothing moves any more, and does the same on a second machine. It gives whether the history was dead.
-fn go_to_the_end(
+/// Walks until nothing moves any more, and does the same on a second machine.
+pub(crate) fn go_to_the_end(
     rt: &impl AllocGlobal,
     core: &mut Core,
     again: &mut Core,
     walk: &mut Walk,
-) -> Result<bool, Fail> {
+) -> Result<(), Fail> {
     holds(!go_on(rt, core, walk, 10000)?, "it comes to its end")?;
     end(rt, core, walk)?;
-    catch_up(rt, core, again, walk)?;
-    Ok(core.is_stalled())
+    catch_up(rt, core, again, walk)
 }
 
 /// The walk of a seed over one round of each client. `after` is what a client does with the fence that its commit waits for.
 /// It gives whether the history was dead.
 fn walk_to_the_end(rt: &impl AllocGlobal, after: &str, seed: u64) -> Result<bool, Fail> {
     let text = crowd(rt, "a", after)?;
-    let mut core = started(rt, text.as_str())?;
-    let mut again = started(rt, text.as_str())?;
-    let mut walk = walk_of(rt, seed)?;
-    go_to_the_end(rt, &mut core, &mut again, &mut walk)
+    walk(rt, text.as_str(), seed, Way::ToTheEnd)
 }
 
 #[test]
