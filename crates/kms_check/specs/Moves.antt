@@ -52,7 +52,7 @@ pub record AsksFor (t : Topology) (r : Request) (used : List (ℕ × Look)) (d :
   pub asks : IsResolved t (look_in used) r resolved
   pub least : (w : World) → IsOfRequest t w r resolved d → least_lacking t w r d ≡ Some id.0
 
--- the first of refusals 9 to 24, as a check gives it; what the request touches is duplicated
+-- the first late refusal, as a check gives it; what the request touches is duplicated
 pub record RefusedLate (t : Topology) (r : Request) (used : List (ℕ × Look)) (d : Duplicates) (why : Refusal) : Type 0 where
   pub resolved : Resolved
   pub asks : IsResolved t (look_in used) r resolved

@@ -20,7 +20,7 @@ use kms_request::{
 /// Why a request is not accepted.
 #[derive(Clone, Copy, Debug, PartialEq, Eq)]
 pub enum Refused {
-    /// One of refusals 9 to 24.
+    /// A late refusal.
     Of(Refusal),
     /// More objects have to be locked, and their states duplicated.
     MoreLocks {
@@ -34,7 +34,7 @@ pub enum Refused {
 /// Where the duplicates do not cover what the request touches, it asks for more: there are three groups, first the
 /// objects that the request sets, then the CRTCs that it names, then the planes and connectors of CRTCs that need a
 /// modeset, and `MoreLocks` has the objects that are not duplicated of the first group of which one is not. Otherwise
-/// it applies what the request sets, and gives the first of refusals 9 to 24 over the whole device, or the states before
+/// it applies what the request sets, and gives the first late refusal over the whole device, or the states before
 /// and after with the CRTCs that are named and the objects that are touched. It looks at touched objects alone.
 ///
 /// `resolved` is what a request asks for over this device, with what its labels named when they were looked up. The old

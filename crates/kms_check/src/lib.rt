@@ -1,4 +1,4 @@
-//! The check of the state after a request: refusals 9 to 24, by the objects that the request touches alone; and what a client
+//! The check of the state after a request: the late refusals, by the objects that the request touches alone; and what a client
 //! that takes locks for its request asks for next.
 //!
 //! `check` first asks for the duplicated states of what the request touches, in three groups; then it applies what the

@@ -20,7 +20,7 @@ use std::alloc::Global;
 /// What a client that takes locks for a request does next.
 #[derive(Debug, Drop)]
 pub enum Move {
-    /// The request is refused, with a number from 1 to 24.
+    /// The request is refused, with an early or a late refusal.
     Refuse(Refusal),
     /// This object is to be locked, and its state duplicated.
     Lock(ObjId),
@@ -32,8 +32,8 @@ pub enum Move {
 ///
 /// `looks` has what each label of the request named at some time, and `states` has the states of the objects that the
 /// client locked for the request, which are those of a device that holds what is accepted; each new state is the old
-/// one. The request is refused by itself, with one of refusals 1 to 8, or by the state after it, with one of refusals 9
-/// to 24; it is accepted; or the least object is locked of the first group of objects that is not duplicated whole. It is
+/// one. The request is refused by itself, with an early refusal, or by the state after it, with a late
+/// one; it is accepted; or the least object is locked of the first group of objects that is not duplicated whole. It is
 /// refused by the state after it, and accepted, only where all that it touches is duplicated. The only error is want of
 /// memory.
 pub fn next_move(

@@ -12,7 +12,7 @@ use kms_model::{Answered, Checked, Lookups, NoMemory, Refusal, Reply, Step, Tick
 use kms_stores::{Decided, Stores, first_stale, make_step_room, taker};
 
 /// Refuses the request of the client whose context has a ticket and takes locks. `used` tells what the request's labels
-/// named. `why` is the first of refusals 1 to 8 with that; or the first of refusals 9 to 24, as a check of present
+/// named. `why` is the first early refusal with that; or the first late refusal, as a check of present
 /// states gives it, and then the context holds what the request touches. `Again` comes exactly where a label names
 /// something else now, with the first. Want of memory leaves all as it was. (Kernel: `drm_atomic_check_only`.)
 pub fn refuse(

@@ -118,7 +118,7 @@ pub record IsDecidingFor (r : Run) (client : ℕ) (t : Ticket) (used : List (ℕ
   pub at : request_at r.script (machine r) client ≡ Some request
   pub labels : map (λ l. l.0) used ≡ labels_of request.assigns
 
--- the first of refusals 9 to 24, as a check gives it with such duplicates; the context holds each object of the device that the
+-- the first late refusal, as a check gives it with such duplicates; the context holds each object of the device that the
 -- request touches
 pub record IsRefusedWith (r : Run) (client : ℕ) (used : List (ℕ × Look)) (request : Request) (why : Refusal) : Type 0 where
   pub resolved : Resolved

@@ -150,7 +150,7 @@ held-in_range t w q (Thing none) (Named label) numbered kept is =
 held-in_range t w q (Thing none) (New label) numbered kept is = let same = eqb-true q OUT_FENCE_PTR is in let e : is_kept OUT_FENCE_PTR ≡ true = subst (λ r. is_kept r ≡ true) same kept in absurd cc
 held-in_range t w q (Thing none) (Crtc index) numbered kept is = absurd cc
 
--- What refusals 4 to 8 let through
+-- What the refusals of assignments let through
 
 pub record IsAccepted (t : Topology) (w : World) (a : Assign) : Type 0 where
   pub object_exists : exists t a.kind a.index ≡ true

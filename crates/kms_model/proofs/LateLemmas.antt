@@ -1,4 +1,4 @@
--- Refusals 9 to 24 of duplicated states are those of the values that the states agree with.
+-- The late refusals of duplicated states are those of the values that the states agree with.
 use Rattle.std.proofs.Common.{◌≡◌, ℕ, zero, suc, ◌+◌, ◌-◌, ◌<◌, ◌≤◌, ◌⊎◌, Bool, true, false, List, [], ◌∷◌, length, map, Option, Some, None, inl, inr, arith, refl, sym, ap, ◌∙◌, subst}
 use Rattle.std.specs.Prelude.{◌&&◌, ◌||◌, ◌==◌, not, ℤ, pos, negsuc, int_le, is_some, filter, slice_get, if◌then◌else◌, nat_lt}
 use Rattle.std.specs.List.{list_any, range_with_len}

@@ -1,4 +1,4 @@
--- Requests that pass refusals 1 to 8, and what their assignments set.
+-- Requests that pass the early refusals, and what their assignments set.
 use Rattle.std.proofs.Common.{◌≡◌, ℕ, ◌≤◌, List, [], ◌∷◌, Bool, true, false, Option, Some, None, ℤ, pos, negsuc, refl, sym, subst, arith, inl, inr, lit<}
 use Rattle.std.specs.Prelude.{not, ◌&&◌, int_le, nat_le, find, All, IfSome, length}
 use Rattle.std.specs.List.{list_all}
@@ -58,7 +58,7 @@ all_allowed t f earlier (a ∷ assigns) none =
     let both = none_of_both (assign_refusal t f earlier a) (assigns_refusal t f (a ∷ earlier) assigns) none in
     All-cons (IsAllowed t f) a assigns (allowed t f earlier a both.0) (all_allowed t f (a ∷ earlier) assigns both.1)
 
--- each assignment of a request that passes refusals 1 to 8
+-- each assignment of a request that passes the early refusals
 pub accepted_allowed : (t : Topology) (f : ℕ → Look) (r : Request) → early_refusal t f r ≡ None → All (IsAllowed t f) r.assigns
 unfolding early_refusal
 accepted_allowed t f r none = all_allowed t f [] r.assigns (none_of_both (flags_refusal r.flags) _ none).1

@@ -153,7 +153,7 @@ pub early-parts : (t : Topology) (w : World) (r : Request) → early_refusal t (
 unfolding early_refusal
 early-parts t w r none = or_else-none (flags_refusal r.flags) (assigns_refusal t (look_up w) [] r.assigns) none
 
--- the values after a request that refusals 1 to 8 let through are held
+-- the values after a request that the early refusals let through are held
 pub apply-held : (t : Topology) (w : World) (r : Request) → IsSound t w → early_refusal t (look_up w) r ≡ None → are_held t w.things (after w r) ≡ true
 apply-held t w r sound early =
     are_held-kept t w.things w.things w.values (after w r)

@@ -36,7 +36,7 @@ use Rattle.kms_model.proofs.HeldValues.{IsAccepted, accepted-assign, all_held-fr
 use Rattle.kms_model.proofs.SeenLemmas.{plane_crtc-held, shown-off}
 use Rattle.kms_model.proofs.SoundKept.{same_mode-self, differs-self, early-parts}
 
--- a request that refusals 1 to 8 let through, in a sound world of a device
+-- a request that the early refusals let through, in a sound world of a device
 pub record IsRequestAt (t : Topology) (w : World) (r : Request) : Type 0 where
   pub device : IsDevice t
   pub sound : IsSound t w

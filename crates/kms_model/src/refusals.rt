@@ -1,8 +1,9 @@
 //! The rules that refuse a command: their numbers, their names and where they come from.
 //!
-//! The numbers, their order and the error number of each are this device's own. Requests are refused by 1 to 24 and,
-//! once they are accepted, by 25 and 26; other commands are refused by 31 to 35. What each rule says stands in the
-//! table of `rule_of`.
+//! The numbers, their order and the error number of each are this device's own. A request is refused early, by 1 to 8,
+//! for its flags, its assignments and what its labels name, which needs no state; late, by 9 to 24, for the states
+//! after it; and once it is accepted, by 25 and 26. Other commands are refused by 31 to 35. What each rule says stands
+//! in the table of `rule_of`.
 ghost use Rattle.std.specs.Prelude.{◌≡◌, IfSome, Some, ◌++◌, ◌∷◌, is_some};
 ghost use Rattle.kms_model.specs.Report.Replies.{refusal_text};
 ghost use Rattle.kms_model.specs.Report.Rules.{errno_of, is_rule, rule_name, rule_source, rule_text};

@@ -60,7 +60,7 @@ no_more f p before after is out same = same ∙ out ∙ ap (λ b. b && f p) (sym
 pub takes_at : (r v : Run) (client : ℕ) (request : Request) → r ≡ v → Some request ≡ request_taken v.script (machine v) client → Takes r.script (machine r) client request
 takes_at r v client request same is = taken_parts r.script (machine r) client request (is ∙ ap (λ (w : Run). request_taken w.script (machine w) client) (sym same))
 
--- Refusals 1 to 8
+-- The early refusals
 
 some_number : (o : Option Refusal) → is_some (refusal_number o) ≡ is_some o
 some_number None = refl
@@ -148,7 +148,7 @@ pub no_swap : (s : Script) (m : Machine) (client : ℕ) → None ≡ request_tak
 unfolding may
 no_swap s m client is = sym (taking-none s m client (may_swap s.topology m client) is)
 
--- no request is accepted for which one of refusals 1 to 8 is due
+-- no request is accepted for which an early refusal is due
 not_accepted : (s : Script) (m : Machine) (request : Request) → is_some (early_in s.topology m.device.world request) ≡ true → is_none (verdict s.topology m.device.world request) ≡ false
 unfolding verdict
 not_accepted s m request early = by (early_in s.topology m.device.world request) refl early where

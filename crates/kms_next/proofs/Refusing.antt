@@ -63,7 +63,7 @@ use Rattle.kms_stores.proofs.Places.{client_there, is_client}
 use Rattle.kms_next.proofs.Presented.{presented, tells_now}
 use Rattle.kms_next.proofs.Taken.{Takes, taken_parts, taking-is}
 
--- Refusals 1 to 8
+-- The early refusals
 
 early_is : (r : Run) (st : Stores) (request : Request) (o : Option Refusal) → Stands r st
     → refusal_number o ≡ early_refusal r.script.topology (λ label. look_of (thing_labelled st.made.things label)) request → early_in r.script.topology (world r) request ≡ refusal_number o

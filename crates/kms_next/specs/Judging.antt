@@ -16,8 +16,8 @@ use Rattle.kms_stores.specs.Swaps.{late_reply}
 abbrev pub request_taken : Script → Machine → ℕ → Option Request
 request_taken s m client = only_if (is_taking (doing_at m client)) (request_at s m client)
 
--- what is told of a request, where none of refusals 1 to 8 is due: whether a client holds what it touches; the first of
--- refusals 9 to 24; the answer where there is no space for its events, or it is busy; whether nothing keeps its commit waiting
+-- what is told of a request, where no early refusal is due: whether a client holds what it touches; the first
+-- late refusal; the answer where there is no space for its events, or it is busy; whether nothing keeps its commit waiting
 pub record IsJudgedLate (t : Topology) (m : Machine) (client : ℕ) (r : Request) (j : Judged) : Type 0 where
   pub none : early_in t m.device.world r ≡ None
   pub holds : j.holds ≡ holds_touched t m client r
@@ -25,7 +25,7 @@ pub record IsJudgedLate (t : Topology) (m : Machine) (client : ℕ) (r : Request
   pub hindered : j.hindered ≡ late_reply t m client r
   pub ready : j.ready ≡ is_ready t m r
 
--- nothing more is told where one of refusals 1 to 8 is due
+-- nothing more is told where an early refusal is due
 abbrev pub IsJudged : Topology → Machine → ℕ → Request → Option Judged → Type 0
 IsJudged t m client r None = is_some (early_in t m.device.world r) ≡ true
 IsJudged t m client r (Some j) = IsJudgedLate t m client r j

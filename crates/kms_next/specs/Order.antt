@@ -55,7 +55,7 @@ pub record AreNeeds (t : Topology) (w : World) (n : Needs) : Type 0 where
   pub affected : n.affected ≡ affected_group t w n.request.now
   pub touched : n.touched ≡ touched_by t w n.request.now
 
--- they are those of the request for which a client takes locks, and none of refusals 1 to 8 is due
+-- they are those of the request for which a client takes locks, and no early refusal is due
 pub record NeedsLocks (run : Run) (client : ℕ) (n : Needs) : Type 0 where
   pub taken : Some n.request.now ≡ request_taken run.script (machine run) client
   pub none : early_in run.script.topology (world run) n.request.now ≡ None

@@ -26,7 +26,7 @@ pub(crate) enum Group {
     Any,
 }
 
-/// What a request needs locked, for which none of refusals 1 to 8 is due.
+/// What a request needs locked, for which no early refusal is due.
 #[derive(Clone, Copy)]
 pub(crate) struct Needs<'a> {
     pub(crate) request: &'a Request,

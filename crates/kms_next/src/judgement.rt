@@ -3,12 +3,12 @@ ghost use Rattle.std.specs.Prelude.{◌≡◌, ◌&&◌, ◌||◌, not, is_none,
 
 use kms_model::{Refusal, Reply};
 
-/// What is told of a request for which none of refusals 1 to 8 is due.
+/// What is told of a request for which no early refusal is due.
 #[derive(Clone, Copy)]
 pub(crate) struct Judged {
     /// The client's context holds what the request touches.
     pub(crate) holds: bool,
-    /// The first of refusals 9 to 24 that is due.
+    /// The first late refusal that is due.
     pub(crate) late: Option<Refusal>,
     /// The answer where there is no space for its events, or where it does not wait and is busy.
     pub(crate) hindered: Option<Reply>,
@@ -25,14 +25,14 @@ impl Judged {
         self.holds && (self.late.is_some() || (!is_test && self.hindered.is_some()))
     }
 
-    /// Whether the request is a test, and none of refusals 9 to 24 is due, with what it touches held.
+    /// Whether the request is a test, and no late refusal is due, with what it touches held.
     pub(crate) fn is_accepted(self, is_test: bool) -> bool
         ensures { result ≡ (is_test && (self.holds && is_none self.late)) }
     {
         is_test && self.holds && self.late.is_none()
     }
 
-    /// Whether the request is no test, none of refusals 9 to 24 is due, with what it touches held, nothing hinders its
+    /// Whether the request is no test, no late refusal is due, with what it touches held, nothing hinders its
     /// commit, and it waits for no other.
     pub(crate) fn is_committed(self, is_test: bool) -> bool
         ensures { result ≡ (not is_test && (self.holds && (is_none self.late

@@ -51,8 +51,8 @@ pub(crate) fn may_lock(stores: &Stores, client: u32, kind: Kind, index: u32) -> 
             .is_free_or_older(client, ObjId::of(kind, index))
 }
 
-/// Whether the request of a client, by its number from 1, that takes locks may be refused: one of refusals 1 to 8 is
-/// due; or the client holds what the request touches, and one of refusals 9 to 24 is due, or it is no test, and there
+/// Whether the request of a client, by its number from 1, that takes locks may be refused: an early refusal is
+/// due; or the client holds what the request touches, and a late refusal is due, or it is no test, and there
 /// is no space for its events or it is busy. Any number may be asked for. (Kernel: `drm_atomic_check_only`,
 /// `drm_event_reserve_init`, `drm_atomic_helper_setup_commit`.)
 pub(crate) fn may_refuse(stores: &Stores, client: u32) -> bool
@@ -68,7 +68,7 @@ pub(crate) fn may_refuse(stores: &Stores, client: u32) -> bool
 }
 
 /// Whether the request of a client, by its number from 1, that takes locks may be told to be accepted: it is a test,
-/// the client holds what it touches, and none of refusals 1 to 24 is due. Any number may be asked for. (Kernel:
+/// the client holds what it touches, and no early or late refusal is due. Any number may be asked for. (Kernel:
 /// `drm_mode_atomic_ioctl`, `DRM_MODE_ATOMIC_TEST_ONLY`.)
 pub(crate) fn may_test(stores: &Stores, client: u32) -> bool
     ensures { result ≡ may stores.now.script (machine stores.now) (step.Test client) }
@@ -83,7 +83,7 @@ pub(crate) fn may_test(stores: &Stores, client: u32) -> bool
 }
 
 /// Whether the request of a client, by its number from 1, that takes locks may be committed: it is no test, the client
-/// holds what it touches, none of refusals 1 to 24 is due, there is space for its events, it is not busy, and its
+/// holds what it touches, no early or late refusal is due, there is space for its events, it is not busy, and its
 /// commit waits for no other. Any number may be asked for. (Kernel: `drm_atomic_helper_commit`,
 /// `drm_atomic_helper_swap_state`.)
 pub(crate) fn may_swap(stores: &Stores, client: u32) -> bool
@@ -98,7 +98,7 @@ pub(crate) fn may_swap(stores: &Stores, client: u32) -> bool
     }
 }
 
-/// What is told of the request for which a client, by its number from 1, takes locks; none where one of refusals 1 to 8
+/// What is told of the request for which a client, by its number from 1, takes locks; none where an early refusal
 /// is due.
 pub(crate) fn judged(stores: &Stores, client: u32, request: &Request) -> Option<Judged>
     requires { Some request.now ≡ request_taken stores.now.script (machine stores.now) client }
@@ -142,7 +142,7 @@ pub fn refusal_reply(stores: &Stores, client: u32, request: &Request) -> Reply
     }
 }
 
-/// What a check gives for a request for which none of refusals 1 to 24 is due: the states of all objects before it and
+/// What a check gives for a request for which no early or late refusal is due: the states of all objects before it and
 /// after it, and what it names and touches.
 pub fn checked(stores: &Stores, request: &Request) -> Checked
     requires { early_in stores.now.script.topology (world stores.now) request.now ≡ None }

@@ -63,7 +63,7 @@ counted-allowed t f a counts = own-allowed t f a (none-is (own_refusal t f a) co
 pub counted-settable : (t : Topology) (f : ℕ → Look) (a : Assign) → IsDevice t → is_none (own_refusal t f a) ≡ true → IsSettable a
 counted-settable t f a device counts = allowed_settable t f a (limits_of t device) (counted-allowed t f a counts)
 
--- so is each of a request for which none of refusals 1 to 8 is due
+-- so is each of a request for which no early refusal is due
 pub all-counted : (t : Topology) (f : ℕ → Look) (r : Request) → early_refusal t f r ≡ None → allowed_by t f r.assigns ≡ r.assigns
 all-counted t f r early =
     filter-all (λ a. is_none (own_refusal t f a)) r.assigns

@@ -29,7 +29,7 @@ use Rattle.kms_request.proofs.NamedLemmas.{shorter}
 
 -- What a request sets
 
--- an assignment of a request for which none of refusals 1 to 8 is due is allowed
+-- an assignment of a request for which no early refusal is due is allowed
 pub allowed-each : (t : Topology) (f : ℕ → Look) (r : Request) (a : Assign) → early_refusal t f r ≡ None → IsIn a r.assigns → IsAllowed t f a
 allowed-each t f r a accepted is = all_in (IsAllowed t f) r.assigns a (accepted_allowed t f r accepted) is
 

@@ -1,4 +1,4 @@
--- The order in which refusals 10 to 23 are tried.
+-- The order in which the late refusals of single objects are tried.
 use Rattle.std.specs.Prelude.{ℕ, Bool, Option, IfSome, ⊤}
 use Rattle.std.specs.List.{list_any, range_with_len}
 use Rattle.std.specs.Option.{option_and_then}

@@ -32,7 +32,7 @@ pub record AreAllDuplicated (t : Topology) (d : Duplicates) : Type 0 where
   pub planes : (index : ℕ) → index < count_of t Plane → is_some (state_at d.planes index) ≡ true
   pub conns : (index : ℕ) → index < count_of t Conn → is_some (state_at d.conns index) ≡ true
 
--- Duplicates of the whole device before and after a request in a sound world: none of refusals 1 to 8 is due there, the
+-- Duplicates of the whole device before and after a request in a sound world: no early refusal is due there, the
 -- old states are those of the world's values, and the new ones those of the values after the request.
 pub record StandBetween (t : Topology) (w : World) (r : Request) (d : Duplicates) : Type 0 where
   pub device : IsDevice t

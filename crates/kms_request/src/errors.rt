@@ -4,7 +4,7 @@ use kms_model::Refusal;
 /// Why a request is not resolved.
 #[derive(Clone, Copy, Debug, PartialEq, Eq)]
 pub enum RequestError {
-    /// It is refused, with a number from 1 to 8.
+    /// It is refused, with an early refusal.
     Of(Refusal),
     /// Memory ran out. It comes only where no refusal is due.
     NoMemory,

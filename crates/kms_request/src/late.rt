@@ -1,4 +1,4 @@
-//! Refusals 9 to 24 of duplicated states. (Kernel: `drm_atomic_check_only`, `drm_atomic_helper_check_modeset`,
+//! The late refusals of duplicated states. (Kernel: `drm_atomic_check_only`, `drm_atomic_helper_check_modeset`,
 //! `drm_atomic_helper_check_planes`.)
 ghost use Rattle.std.specs.Prelude.{◌≡◌, ◌<◌, ◌&&◌, ◌==◌, ℕ, Bool, not, IfSome, slice_get};
 ghost use Rattle.std.specs.List.{list_any, range_with_len};
@@ -215,7 +215,7 @@ fn some_needs_modeset(topology: &Topology, states: &Duplicates, objects: &Mask) 
     ).is_some_and(|both| needs_modeset(both)))
 }
 
-/// The first refusal from 9 to 24 of a set of duplicated objects.
+/// The first late refusal of a set of duplicated objects.
 ///
 /// The numbers of the planes of the set are in the ranges of their properties.
 #[tactic(auto, unfolding(kms_model::specs::Request::Late::late_of_states))]

@@ -7,7 +7,7 @@ ghost use Rattle.kms_model.specs.Request.Reach.{reaches};
 ghost use Rattle.kms_model.specs.Request.Touched.{touches};
 ghost use Rattle.kms_model.specs.Request.Verdict.{early_in};
 
-/// Where none of refusals 1 to 8 is due, what a request reaches is what it touches.
+/// Where no early refusal is due, what a request reaches is what it touches.
 pub fn reach_of_accepted_is_touched()
     ensures { (t : Topology) (w : World) (r : Request) (object : ℕ) → early_in t w r ≡ None
         → reaches t w r object ≡ touches t w r object }

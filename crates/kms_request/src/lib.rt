@@ -1,9 +1,9 @@
 //! Refusals of a request, and what an accepted one asks for.
 //!
-//! `early` gives the first of refusals 1 to 8: those that a request's flags, its assignments and what its labels name
+//! `early` gives the first early refusal: those that a request's flags, its assignments and what its labels name
 //! decide. `resolve` makes of a request that passes them what it asks for, with its labels looked up, `set_of` what one
-//! assignment sets, and `named` gives the CRTCs that the request names. `late_refusal` gives the first of refusals 9 to
-//! 24 of a set of duplicated objects, and `full_check` that of the whole device.
+//! assignment sets, and `named` gives the CRTCs that the request names. `late_refusal` gives the first late
+//! refusal of a set of duplicated objects, and `full_check` that of the whole device.
 #![tactic(auto)]
 
 mod duplicated;

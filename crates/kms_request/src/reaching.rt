@@ -21,7 +21,7 @@ use kms_model::{Duplicates, Mask, Request, Topology};
 use kms_state::Duplicating;
 
 /// The states of all objects after those assignments of a request with which nothing is wrong by themselves, so after each
-/// one where none of refusals 1 to 8 is due. `found` tells what labels name. Before, the states are the device's present
+/// one where no early refusal is due. `found` tells what labels name. Before, the states are the device's present
 /// ones. It takes no memory.
 pub fn changed<L: Looker>(
     topology: &Topology,

@@ -1,4 +1,4 @@
-//! Refusals 1 to 8. (Kernel: `drm_atomic_uapi.c`, `drm_mode_atomic_ioctl`, `drm_atomic_set_property`.)
+//! The early refusals. (Kernel: `drm_atomic_uapi.c`, `drm_mode_atomic_ioctl`, `drm_atomic_set_property`.)
 ghost use Rattle.std.specs.Prelude.{◌≡◌, ◌<◌, ◌≤◌, ℕ, ◌&&◌, ◌==◌, List, [], ◌∷◌, All, IfSome, IsNone, IsTrue, Option, Some, None, is_some, option_map, slice_index_or, slice_set, false, if◌then◌else◌};
 ghost use Rattle.std.specs.List.{list_any};
 ghost use Rattle.kms_model.specs.Request.Apply.{prop_of};
@@ -171,7 +171,7 @@ fn first_refusal<L: Looker>(topology: &Topology, found: &L, assigns: &[Assign]) 
     None
 }
 
-/// The first refusal from 1 to 8 that is due to a request, over what its labels name; `None` where none of them is.
+/// The first early refusal that is due to a request, over what its labels name; `None` where none of them is.
 ///
 /// Of the device's 1 to 4 CRTCs, 1 to 16 planes and 1 to 8 connectors its assignments may name others. It takes no
 /// memory.

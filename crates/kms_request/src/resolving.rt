@@ -15,7 +15,7 @@ use crate::sets::last_sets;
 use kms_model::{Lookups, Request, Resolved, Topology};
 use std::alloc::Global;
 
-/// What a request asks for, with its labels looked up. It is refused exactly where one of refusals 1 to 8 is due, with
+/// What a request asks for, with its labels looked up. It is refused exactly where an early refusal is due, with
 /// the first of them; want of memory comes only where none is. `found` tells what the request's labels name.
 pub fn resolve(
     alloc: Global,

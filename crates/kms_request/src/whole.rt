@@ -96,9 +96,9 @@ fn with_number(numbers: &Numbers, count: usize) -> u32
     mask
 }
 
-/// The first refusal from 9 to 24 of a request, where all objects of the device are looked at; `None` where there is
-/// none. Every object of the device is duplicated, before the request and after it, in some sound world, and none of
-/// refusals 1 to 8 is due there. It takes no memory.
+/// The first late refusal of a request, where all objects of the device are looked at; `None` where there is
+/// none. Every object of the device is duplicated, before the request and after it, in some sound world, and no early
+/// refusal is due there. It takes no memory.
 pub fn full_check(topology: &Topology, states: &Duplicates, request: &Request) -> Option<Refusal>
     requires { StandSomewhere topology.now request.now states.now }
     ensures { (w : World) → StandBetween topology.now w request.now states.now

@@ -46,7 +46,7 @@ present t w d stands = record {
 pub present_there : (t : Topology) (w : World) (d : Duplicates) → StandsInWorld t w d → ArePresentSomewhere look_up t (look_up w) d
 present_there t w d stands = record { world = w; present = present t w d stands; tells = λ label. refl }
 
--- those after a request for which none of refusals 1 to 8 is due
+-- those after a request for which no early refusal is due
 pub stands_after : (t : Topology) (w : World) (r : Request) (before after : Duplicates) → StandsInWorld t w before → old_states after ≡ old_states before → StandBetween t w r after → IsAfter t w r after
 stands_after t w r before after stands same between = record {
   whole = whole_after t before after same stands.present.whole;

@@ -68,7 +68,7 @@ pub record AsksForMore (r : Run) (c : RequestContext) (used : List (ℕ × Look)
   pub id : ObjId
   pub asks : AsksFor r.script.topology c.request used c.states id
 
--- the request passes refusals 1 to 8, but no sound world has both what was looked up and the context's states
+-- the request passes the early refusals, but no sound world has both what was looked up and the context's states
 pub record IsOfNoWorld (r : Run) (c : RequestContext) (used : List (ℕ × Look)) : Type 0 where
   pub resolved : Resolved
   pub asks : IsResolved r.script.topology (look_in used) c.request resolved

@@ -91,11 +91,11 @@ pub record IsGiven (r : Run) (used : List (ℕ × Look)) (request : Request) (re
   pub asks : IsResolved r.script.topology (look_in used) request resolved
   pub old : AgreesOld r.script.topology (world r).things (world r).values duplicates
 
--- the first of refusals 1 to 8, with `used`
+-- the first early refusal, with `used`
 pub record IsRefusedEarly (r : Run) (used : List (ℕ × Look)) (request : Request) (why : Refusal) : Type 0 where
   pub first : early_refusal r.script.topology (look_in used) request ≡ Some why.0
 
--- the first of refusals 9 to 24, as a check gives it; the context holds each object of the device that the request touches, as
+-- the first late refusal, as a check gives it; the context holds each object of the device that the request touches, as
 -- `used` and the duplicates give it
 pub record IsRefusedLate (r : Run) (t : ℕ) (used : List (ℕ × Look)) (request : Request) (why : Refusal) : Type 0 where
   pub resolved : Resolved

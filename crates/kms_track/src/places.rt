@@ -4,8 +4,8 @@ ghost use Rattle.kms_track.specs.Places.{object_at_place, mask_has, sides_at};
 
 use kms_model::{Duplicates, Kind, MAX_CRTCS, MAX_PLANES, Mask, ObjId, has_bit};
 
-/// The place of the first connector.
-const FIRST_CONNECTOR_PLACE: u32 = MAX_CRTCS + MAX_PLANES;
+/// How many places CRTCs and planes have; those of connectors come after them.
+const CRTCS_AND_PLANES: u32 = MAX_CRTCS + MAX_PLANES;
 
 /// The CRTCs of an object before and after a commit.
 #[derive(Clone, Copy, Debug, PartialEq, Eq)]
@@ -23,10 +23,10 @@ pub fn object_at_place(place: u32) -> ObjId
 {
     if place < MAX_CRTCS {
         ObjId::of(Kind::Crtc, place)
-    } else if place < FIRST_CONNECTOR_PLACE {
+    } else if place < CRTCS_AND_PLANES {
         ObjId::of(Kind::Plane, place - MAX_CRTCS)
     } else {
-        ObjId::of(Kind::Conn, place - FIRST_CONNECTOR_PLACE)
+        ObjId::of(Kind::Conn, place - CRTCS_AND_PLANES)
     }
 }
 
@@ -37,10 +37,10 @@ pub fn has_object(mask: &Mask, place: u32) -> bool
 {
     if place < MAX_CRTCS {
         has_bit(mask.crtcs, place)
-    } else if place < FIRST_CONNECTOR_PLACE {
+    } else if place < CRTCS_AND_PLANES {
         has_bit(mask.planes, place - MAX_CRTCS)
     } else {
-        has_bit(mask.conns, place - FIRST_CONNECTOR_PLACE)
+        has_bit(mask.conns, place - CRTCS_AND_PLANES)
     }
 }
 
@@ -53,7 +53,7 @@ pub(crate) fn sides_at(states: &Duplicates, place: u32) -> Sides
     if place < MAX_CRTCS {
         let id = ObjId::of(Kind::Crtc, place).0;
         Sides { old: id, new: id }
-    } else if place < FIRST_CONNECTOR_PLACE {
+    } else if place < CRTCS_AND_PLANES {
         match states.planes[(place - MAX_CRTCS) as usize] {
             Some(both) => Sides {
                 old: both.old.crtc,
@@ -62,7 +62,7 @@ pub(crate) fn sides_at(states: &Duplicates, place: u32) -> Sides
             None => Sides { old: 0, new: 0 },
         }
     } else {
-        match states.conns[(place - FIRST_CONNECTOR_PLACE) as usize] {
+        match states.conns[(place - CRTCS_AND_PLANES) as usize] {
             Some(both) => Sides {
                 old: both.old.crtc,
                 new: both.new.crtc,

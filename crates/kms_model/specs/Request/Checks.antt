@@ -139,7 +139,7 @@ event_refusal t old new r = refused_if EVENT_WITHOUT_CRTC (wants_event r.flags &
 abbrev pub modeset_refusal : Topology → List Thing → List Setting → List Setting → ℕ → Option ℕ
 modeset_refusal t things old new flags = refused_if MODESET_NOT_ALLOWED (not (allows_modeset flags) && list_any (needs_modeset t things old new) (ids_of t Crtc))
 
--- the first refusal from 9 to 24 of a request that makes new values of old ones: all objects of the device are tried
+-- the first late refusal of a request that makes new values of old ones: all objects of the device are tried
 unfoldable pub late_refusal : Topology → List Thing → List Setting → List Setting → Request → Option ℕ
 late_refusal t things old new r =
     or_else (event_refusal t old new r)

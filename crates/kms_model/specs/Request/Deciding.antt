@@ -54,7 +54,7 @@ pub record IsChecked (t : Topology) (w : World) (r : Request) (c : Checked) : Ty
   pub named : c.named ≡ named_by t w r
   pub touched : c.touched ≡ touched_by t w r
 
--- What a check gives for a request, what it asks for and duplicates: what was checked, or the first of refusals 9 to 24,
+-- What a check gives for a request, what it asks for and duplicates: what was checked, or the first late refusal,
 -- in each world that they are of.
 
 abbrev pub GivesChecked : Topology → Request → Resolved → Duplicates → Checked → Type 0

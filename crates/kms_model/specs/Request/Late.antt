@@ -1,4 +1,4 @@
--- Refusals 9 to 24 of duplicated states: those of the objects of a set, in the order of their indices. From:
+-- The late refusals of duplicated states: those of the objects of a set, in the order of their indices. From:
 -- `drm_atomic.c`, drm_atomic_check_only; `drm_atomic_helper.c`, drm_atomic_helper_check_modeset,
 -- drm_atomic_helper_check_planes.
 use Rattle.std.specs.Prelude.{ℕ, ◌-◌, ◌<◌, Bool, false, not, ◌&&◌, ◌||◌, ◌==◌, nat_lt, List, length, filter, is_some, slice_get, Option, Some, None, IfSome, if◌then◌else◌}
@@ -67,7 +67,7 @@ needs_modeset_if (Some both) = needs_modeset_between both
 abbrev pub first_in : {S : Type 0} → ℕ → List (Option (Both S)) → (ℕ → Both S → Option ℕ) → ℕ → Option ℕ
 first_in mask states f n = first_some (λ index. option_and_then (f index) (duplicate_in mask states index)) (range_with_len 0 n)
 
--- the first refusal from 9 to 24 of a set of objects
+-- the first late refusal of a set of objects
 unfoldable pub late_of_states : Topology → Duplicates → Mask → ℕ → ℕ → ℕ → Option ℕ
 late_of_states t d objects flags named fenced =
     or_else (refused_if EVENT_WITHOUT_CRTC (wants_event flags && (named == 0)))

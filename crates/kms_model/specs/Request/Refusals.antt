@@ -117,6 +117,6 @@ unfoldable pub assigns_refusal : Topology → (ℕ → Look) → List Assign →
 assigns_refusal t f earlier [] = None
 assigns_refusal t f earlier (a ∷ assigns) = or_else (assign_refusal t f earlier a) (assigns_refusal t f (a ∷ earlier) assigns)
 
--- the first refusal from 1 to 8 of a request, where a function tells what labels name
+-- the first early refusal of a request, where a function tells what labels name
 unfoldable pub early_refusal : Topology → (ℕ → Look) → Request → Option ℕ
 early_refusal t f r = or_else (flags_refusal r.flags) (assigns_refusal t f [] r.assigns)

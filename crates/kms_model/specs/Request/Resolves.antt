@@ -1,4 +1,4 @@
--- What holds of a request that passes refusals 1 to 8, and what it asks for.
+-- What holds of a request that passes the early refusals, and what it asks for.
 use Rattle.std.specs.Prelude.{◌≡◌, ℕ, ◌<◌, ◌≤◌, ◌^◌, false, ℤ, pos, negsuc, None, IsTrue, ⊤}
 use Rattle.kms_model.specs.declared.objects.Kind.{Kind}
 use Rattle.kms_model.specs.declared.objects.Kind.TheVariants as kind
@@ -14,7 +14,7 @@ use Rattle.kms_model.specs.Device.Objects.{exists}
 use Rattle.kms_model.specs.Request.Refusals.{early_refusal, has_property, is_immutable, is_value}
 use Rattle.kms_model.specs.Request.Sets.{in_fences, last_sets, out_fences}
 
--- An assignment for which none of refusals 4 to 7 is due: its object exists and has the property, which may be set, and
+-- An assignment that is not refused by itself: its object exists and has the property, which may be set, and
 -- the value is among the property's values.
 pub record IsAllowed (t : Topology) (f : ℕ → Look) (a : Assign) : Type 0 where
   pub exists : IsTrue (exists t a.kind a.index)
@@ -48,7 +48,7 @@ pub record IsSettable (a : Assign) : Type 0 where
   pub prop : prop_of a.prop ≤ 19
   pub value : IsSettableValue a.value
 
--- What a request asks for, over a device and what labels name: none of refusals 1 to 8 is due, and the parts are those of
+-- What a request asks for, over a device and what labels name: no early refusal is due, and the parts are those of
 -- its assignments.
 pub record IsResolved (t : Topology) (f : ℕ → Look) (r : Request) (resolved : Resolved) : Type 0 where
   pub accepted : early_refusal t f r ≡ None

@@ -10,13 +10,13 @@ use Rattle.kms_model.specs.Request.Apply.{after}
 use Rattle.kms_model.specs.Request.Refusals.{early_refusal}
 use Rattle.kms_model.specs.Request.Checks.{late_refusal}
 
--- the first refusal from 1 to 8 of a request in a world, and the first from 9 to 24
+-- the first early refusal of a request in a world, and the first late one
 abbrev pub early_in : Topology → World → Request → Option ℕ
 early_in t w r = early_refusal t (look_up w) r
 
 abbrev pub late_in : Topology → World → Request → Option ℕ
 late_in t w r = late_refusal t w.things w.values (after w r) r
 
--- the first refusal of a request in a world, from 1 to 24; none where it is accepted
+-- the first refusal of a request in a world, early or late; none where it is accepted
 unfoldable pub verdict : Topology → World → Request → Option ℕ
 verdict t w r = or_else (early_in t w r) (late_in t w r)
