@@ -1,11 +1,10 @@
 -- Texts that grow by a piece for each item of a list.
 use Rattle.std.proofs.Common.{◌≡◌, ℕ, ◌+◌, ◌<◌, ◌≤◌, Bool, ◌==◌, List, [], ◌∷◌, ◌++◌, length, get_or, take, filter, sym, ap, ◌∙◌, append_assoc}
 use Rattle.std.specs.List.{filter_map, flat_map}
-use Rattle.std.proofs.lemmas.List.{append-nil, take_more, take_all}
+use Rattle.std.proofs.lemmas.List.{take_more, take_all}
 use Rattle.std.proofs.lemmas.List.Concat.{flat_map-append}
 use Rattle.std.proofs.lemmas.List.Elements.{filter-append, filter_map-append}
 use Rattle.kms_model.specs.declared.replies.Answered.{Answered}
-use Rattle.kms_model.specs.declared.replies.Event.{Event}
 use Rattle.kms_model.specs.declared.runs.Latch.{Latch}
 use Rattle.kms_model.specs.Machine.State.{Machine}
 use Rattle.kms_model.specs.Report.History as history

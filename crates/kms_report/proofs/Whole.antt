@@ -1,5 +1,5 @@
 -- The report from its sections.
-use Rattle.std.proofs.Common.{◌≡◌, ℕ, Bool, List, [], ◌∷◌, ◌++◌, length, map, refl, sym, ap, ◌∙◌, append_assoc}
+use Rattle.std.proofs.Common.{◌≡◌, ℕ, List, [], ◌∷◌, ◌++◌, length, map, refl, sym, ap, ◌∙◌, append_assoc}
 use Rattle.std.specs.Prelude.{codes, reverse}
 use Rattle.std.specs.List.{flat_map, range_with_len}
 use Rattle.kms_model.specs.declared.replies.Answered.{Answered}

@@ -9,11 +9,11 @@ ghost use Rattle.kms_report.specs.Telling.{HasSmallIndex, history_options, entry
 
 use crate::answers::{Section, push_sections};
 use crate::ends::push_end;
-use crate::latches::push_latches;
 use crate::lines::{push_entry, push_freed, push_step};
+use crate::tellers::Tells;
 use kms_core::Core;
 use kms_model::{Latch, NoMemory, Script, Seq, Step};
-use kms_screens::{Hands, OneThread, SeveralThreads};
+use kms_screens::{OneThread, SeveralThreads};
 use std::alloc::Global;
 use std::thread::Threads;
 
@@ -38,8 +38,8 @@ fn push_journal(alloc: Global, text: &mut Vec<u8>, journal: &[(u32, u32)]) -> Re
 }
 
 /// Adds the latches of all CRTCs, of which there are so many.
-fn push_all_latches<H: Hands>(
-    hands: &H,
+fn push_all_latches<T: Tells>(
+    teller: &T,
     alloc: Global,
     text: &mut Vec<u8>,
     core: &Core,
@@ -47,14 +47,14 @@ fn push_all_latches<H: Hands>(
     latches: &[Latch],
     pixmap: bool,
 ) -> Result<(), NoMemory>
-    requires hands { H.can_work hands.now }
+    requires teller { T.can_tell teller.now }
     requires can { All (λ l. EachCanBeShown (things_of core.now) l.picture) latches.now }
     ensures { OnOk result (text.new.items ≡ text.old.items
         ++ flat_map (latches_text (machine core.now) pixmap latches.now)
         (range_with_len 0 crtcs)) }
 {
     for crtc in 0..crtcs {
-        push_latches(hands, alloc, text, core, crtc, latches, pixmap)?;
+        teller.push(alloc, text, core, crtc, latches, pixmap)?;
     }
     Ok(())
 }
@@ -99,15 +99,15 @@ fn push_trace(alloc: Global, text: &mut Vec<u8>, core: &Core, wanted: bool) -> R
     push_steps(alloc, text, core.history())
 }
 
-/// The report, by these hands.
-fn report_by<H: Hands>(
-    hands: &H,
+/// The report, by one who tells of latches.
+fn report_by<T: Tells>(
+    teller: &T,
     alloc: Global,
     script: &Script,
     core: &Core,
     options: Options,
 ) -> Result<Seq<u8>, NoMemory>
-    requires hands { H.can_work hands.now }
+    requires teller { T.can_tell teller.now }
     requires script { script.now ≡ core.now.script }
     ensures { IfOk result (λ text. text
         ≡ history.text core.now.script core.now.steps (history_options options)) }
@@ -121,7 +121,7 @@ fn report_by<H: Hands>(
     push_journal(alloc, &mut text, core.journal())?;
     push_sections(alloc, &mut text, Section::Replies, clients, core.replies())?;
     push_all_latches(
-        hands,
+        teller,
         alloc,
         &mut text,
         core,
@@ -157,8 +157,10 @@ pub fn report(
     report_by(&OneThread, alloc, script, core, options)
 }
 
-/// The same report, made by several threads that only compute: the first frame of a CRTC, and each of another size or with
-/// another table of colour values, row by row in two for each processor, up to 64, and two digests at a time.
+/// The same report, made by several threads that only compute: the first frame of a CRTC row by row in two for each processor, up
+/// to 64. Where its frames have a quarter of a MiB or more, and are not wanted as pixmaps, two lanes take turns in its pictures,
+/// and each makes its own frames side by side with the other, each of the one before it. Else each frame of another size or with
+/// another table of colour values is made like the first, and two digests at a time.
 pub fn report_with<R: Threads + Sync>(
     rt: &R,
     alloc: Global,

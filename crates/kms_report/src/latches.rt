@@ -1,6 +1,7 @@
 //! The lines of latches.
 ghost use Rattle.std.specs.Prelude.{◌≡◌, ◌*◌, ◌++◌, ◌∷◌, [], codes, length, string_bytes, All, IfOk, OnOk};
 ghost use Rattle.std.specs.Fmt.{decimal};
+ghost use Rattle.hex.specs.Hex.{encode_lower};
 ghost use Rattle.sha2.specs.Sha256.{sha256};
 ghost use Rattle.kms_stores.specs.Run.{machine};
 ghost use Rattle.kms_model.specs.declared.pictures.Picture.TheVariants.{On};
@@ -19,13 +20,32 @@ use kms_screens::{Hands, Screen};
 use std::alloc::{AllocError, Global};
 
 /// `L CRTC COMMIT COUNT `
-fn front_of(alloc: Global, latch: &Latch) -> Result<String, AllocError>
+pub fn front_of(alloc: Global, latch: &Latch) -> Result<String, AllocError>
     ensures { IfOk result (λ text. string_bytes text ≡ latch_front latch.now) }
 {
     let crtc = latch.crtc;
     let commit = latch.commit;
     let count = latch.count;
     format!(in alloc; "L {crtc} {commit} {count} ")
+}
+
+/// Adds the end of the line of a latch that is off.
+pub fn push_off(text: &mut Vec<u8>) -> Result<(), NoMemory>
+    ensures { OnOk result (text.new.items ≡ text.old.items ++ codes "off\n") }
+{
+    text.extend_from_slice(b"off\n")?;
+    Ok(())
+}
+
+/// Adds the end of the line of a latch that is on, of its frame's digest.
+pub fn push_digits(alloc: Global, text: &mut Vec<u8>, digest: &[u8; 32]) -> Result<(), NoMemory>
+    ensures { OnOk result (text.new.items
+        ≡ text.old.items ++ (encode_lower digest.now ++ 10 ∷ [])) }
+{
+    let digits = hex::encode(alloc, digest.as_slice())?;
+    text.extend_from_slice(digits.as_bytes())?;
+    text.push(b'\n')?;
+    Ok(())
 }
 
 /// Adds the end of the line of a latch that is on, of its frame and the frame's SHA-256, and the frame as a pixmap where it is
@@ -43,9 +63,7 @@ fn push_frame(
     ensures { OnOk result (text.new.items
         ≡ text.old.items ++ lit_line pixmap mode.now frame.now) }
 {
-    let digits = hex::encode(alloc, digest.as_slice())?;
-    text.extend_from_slice(digits.as_bytes())?;
-    text.push(b'\n')?;
+    push_digits(alloc, text, digest)?;
     if !pixmap {
         return Ok(());
     }
@@ -76,7 +94,7 @@ fn push_latch<H: Hands>(
 {
     text.extend_from_slice(front_of(alloc, latch)?.as_bytes())?;
     let Picture::On(shown) = &latch.picture else {
-        text.extend_from_slice(b"off\n")?;
+        push_off(text)?;
         return Ok(screen);
     };
     let screen = showing(hands, alloc, core, screen, latch, after)?;
@@ -118,8 +136,34 @@ fn push_if_on<H: Hands>(
     push_latch(hands, alloc, text, core, screen, latch, after, pixmap)
 }
 
-/// Adds the lines of the latches of the CRTC with an index, from 0 to 3, of all latches in order of time. Each frame is
-/// made of one of the two before it where that has its size and its table of colour values, else anew.
+/// Adds the lines of the latches of a CRTC. Each frame is made of one of the two before it, at first of those that are kept, where
+/// that has its size and its table of colour values, else anew.
+pub fn push_after<H: Hands>(
+    hands: &H,
+    alloc: Global,
+    text: &mut Vec<u8>,
+    core: &Core,
+    mut screen: Screen,
+    crtc: u32,
+    latches: &[Latch],
+    pixmap: bool,
+) -> Result<(), NoMemory>
+    requires hands { H.can_work hands.now }
+    requires screen { AreKeptFramesOf (things_of core.now) screen }
+    requires can { All (λ l. EachCanBeShown (things_of core.now) l.picture) latches.now }
+    ensures { OnOk result (text.new.items ≡ text.old.items
+        ++ latches_text (machine core.now) pixmap latches.now crtc) }
+{
+    for place in 0..latches.len() {
+        let latch = &latches[place];
+        let after = &latches[place + 1..];
+        screen = push_if_on(hands, alloc, text, core, screen, crtc, latch, after, pixmap)?;
+    }
+    Ok(())
+}
+
+/// Adds the lines of the latches of a CRTC, with their frames as pixmaps where these are wanted. Each frame is made of one of the
+/// two before it where that has its size and its table of colour values, else anew.
 pub fn push_latches<H: Hands>(
     hands: &H,
     alloc: Global,
@@ -134,11 +178,6 @@ pub fn push_latches<H: Hands>(
     ensures { OnOk result (text.new.items ≡ text.old.items
         ++ latches_text (machine core.now) pixmap latches.now crtc) }
 {
-    let mut screen = Screen::dark(alloc);
-    for place in 0..latches.len() {
-        let latch = &latches[place];
-        let after = &latches[place + 1..];
-        screen = push_if_on(hands, alloc, text, core, screen, crtc, latch, after, pixmap)?;
-    }
-    Ok(())
+    let screen = Screen::dark(alloc);
+    push_after(hands, alloc, text, core, screen, crtc, latches, pixmap)
 }

@@ -10,10 +10,12 @@ mod answers;
 mod ends;
 mod histories;
 mod images;
+mod lanes;
 mod latches;
 mod lines;
 mod pixmaps;
 mod showing;
+mod tellers;
 
 pub use histories::{Options, report, report_with};
 use kms_compose::Frame;

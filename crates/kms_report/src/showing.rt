@@ -14,7 +14,7 @@ use kms_screens::{Hands, Screen, is_same};
 use std::alloc::Global;
 
 /// Whether a latch shows another picture than this one on a CRTC, and is on.
-fn is_other(latch: &Latch, crtc: u32, picture: &Picture) -> bool {
+pub fn is_other(latch: &Latch, crtc: u32, picture: &Picture) -> bool {
     latch.crtc == crtc
         && matches!(latch.picture, Picture::On(_))
         && !is_same(&latch.picture, picture)

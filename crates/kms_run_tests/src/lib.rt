@@ -14,6 +14,8 @@ mod frames;
 #[cfg(test)]
 mod generated;
 #[cfg(test)]
+mod lanes;
+#[cfg(test)]
 mod meeting;
 #[cfg(test)]
 mod refusals;

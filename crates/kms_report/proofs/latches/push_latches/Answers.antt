@@ -1,7 +1,5 @@
-use Rattle.std.proofs.Common.{sym}
-use Rattle.std.proofs.lemmas.List.{append-nil}
 use Rattle.kms_report.specs.Images.{things_of}
 use Rattle.kms_report.proofs.latches.push_latches.Goals as goal
 
-pub loop-place-init : goal.loop-place-init
-loop-place-init g c = record { told = sym (append-nil c.args.text.now.items); stands = c.dark-screen.ensures.things (things_of c.args.core.now) }
+pub push_after-requires-clause-screen : goal.push_after-requires-clause-screen
+push_after-requires-clause-screen g c = c.dark-screen.ensures.things (things_of c.args.core.now)

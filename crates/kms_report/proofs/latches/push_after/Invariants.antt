@@ -3,7 +3,7 @@ use Rattle.kms_stores.specs.Run.{machine}
 use Rattle.kms_report.specs.Images.{things_of}
 use Rattle.kms_report.specs.Telling.{latches_text}
 use Rattle.kms_screens.specs.Screens.{AreKeptFramesOf}
-use Rattle.kms_report.proofs.latches.push_latches.Given as goal
+use Rattle.kms_report.proofs.latches.push_after.Given as goal
 
 abbrev pub invariant-loop-place : goal.invariant-loop-place
 invariant-loop-place g l = record {

@@ -1,0 +1,212 @@
+//! Who tells of latches: one thread, or several, of which two make frames side by side.
+ghost use Rattle.std.specs.Prelude.{◌≡◌, ◌++◌, ◌∷◌, [], ℕ, List, false, length, ◌<◌, All, IfOk, IfSome, OnOk};
+ghost use Rattle.std.specs.Thread.{IsSync};
+ghost use Rattle.kms_stores.specs.Run.{machine};
+ghost use Rattle.kms_model.specs.Frames.Shown.{EachCanBeShown};
+ghost use Rattle.kms_report.specs.Images.{things_of};
+ghost use Rattle.kms_report.specs.Lanes.{Begins, lane_digests};
+ghost use Rattle.kms_report.specs.Telling.{latches_text};
+ghost use Rattle.kms_report.specs.declared.lanes.Lane.TheVariants as Lane;
+ghost use Rattle.kms_screens.specs.Screens.{AreKeptFramesOf};
+
+use crate::lanes::{Lane, digests_by_lanes, lanes_of};
+use crate::latches::{front_of, push_after, push_digits, push_latches, push_off};
+use crate::showing::{is_other, showing};
+use kms_core::Core;
+use kms_model::{Latch, NoMemory, Picture};
+use kms_screens::{OneThread, Screen, SeveralThreads};
+use std::alloc::Global;
+use std::thread::Threads;
+
+/// Adds the line of a latch, where it is of this CRTC: of a latch that is on with the first of some digests. Gives the others.
+fn push_told<'a>(
+    alloc: Global,
+    text: &mut Vec<u8>,
+    core: &Core,
+    crtc: u32,
+    latch: &Latch,
+    digests: &'a [[u8; 32]],
+) -> Result<&'a [[u8; 32]], NoMemory>
+    requires { (others : List (List ℕ)) × Begins (things_of core.now) crtc latch.now digests.now others }
+    ensures text { OnOk result (text.new.items
+        ≡ text.old.items ++ latches_text (machine core.now) false (latch.now ∷ []) crtc) }
+    ensures others { IfOk result (λ rest. (others : List (List ℕ))
+        → Begins (things_of core.now) crtc latch.now digests.now others → rest.now ≡ others) }
+{
+    if latch.crtc != crtc {
+        return Ok(digests);
+    }
+    text.extend_from_slice(front_of(alloc, latch)?.as_bytes())?;
+    let Picture::On(_) = &latch.picture else {
+        push_off(text)?;
+        return Ok(digests);
+    };
+    let Some((digest, others)) = digests.split_first() else {
+        unreachable!()
+    };
+    push_digits(alloc, text, digest)?;
+    Ok(others)
+}
+
+/// Adds the lines of the latches of a CRTC, with the digests of their frames by lanes.
+fn push_all_told(
+    alloc: Global,
+    text: &mut Vec<u8>,
+    core: &Core,
+    crtc: u32,
+    latches: &[Latch],
+    lanes: &[Lane],
+    mut first: &[[u8; 32]],
+    mut second: &[[u8; 32]],
+) -> Result<(), NoMemory>
+    requires lanes { length lanes.now ≡ length latches.now }
+    requires first { first.now
+        ≡ lane_digests (things_of core.now) crtc Lane.First latches.now lanes.now }
+    requires second { second.now
+        ≡ lane_digests (things_of core.now) crtc Lane.Second latches.now lanes.now }
+    ensures { OnOk result (text.new.items ≡ text.old.items
+        ++ latches_text (machine core.now) false latches.now crtc) }
+{
+    for place in 0..latches.len() {
+        let latch = &latches[place];
+        match lanes[place] {
+            Lane::First => first = push_told(alloc, text, core, crtc, latch, first)?,
+            Lane::Second => second = push_told(alloc, text, core, crtc, latch, second)?,
+        }
+    }
+    Ok(())
+}
+
+/// How many bytes of a frame are worth a lane of its own: a quarter of a MiB, whose digest takes about a millisecond.
+const WORTH_A_LANE: usize = 262_144;
+
+/// Whether both frames of a screen are worth a lane.
+fn are_large(screen: &Screen) -> bool {
+    let (first, second) = (&screen.first.drawn.frame, &screen.second.drawn.frame);
+    first.len().min(second.len()) >= WORTH_A_LANE
+}
+
+/// The place of the first latch of a CRTC that is on.
+fn first_lit(crtc: u32, latches: &[Latch]) -> Option<usize>
+    ensures { IfSome result (λ place. place < length latches.now) }
+{
+    for (place, latch) in latches.iter().enumerate() {
+        if is_other(latch, crtc, &Picture::Off) {
+            return Some(place);
+        }
+    }
+    None
+}
+
+/// Adds the lines of the latches of a CRTC, of which a screen keeps one frame or two: with the digests of two lanes where both are
+/// large.
+fn push_shown<R: Threads + Sync>(
+    hands: &SeveralThreads<'_, R>,
+    alloc: Global,
+    text: &mut Vec<u8>,
+    core: &Core,
+    screen: Screen,
+    crtc: u32,
+    latches: &[Latch],
+) -> Result<(), NoMemory>
+    requires hands { IsSync R.row }
+    requires screen { AreKeptFramesOf (things_of core.now) screen }
+    requires can { All (λ l. EachCanBeShown (things_of core.now) l.picture) latches.now }
+    ensures { OnOk result (text.new.items ≡ text.old.items
+        ++ latches_text (machine core.now) false latches.now crtc) }
+{
+    if !are_large(&screen) {
+        return push_after(hands, alloc, text, core, screen, crtc, latches, false);
+    }
+    let lanes = lanes_of(alloc, crtc, latches)?;
+    let lanes = lanes.as_slice();
+    let digests = digests_by_lanes(hands.rt, alloc, core, screen, crtc, latches, lanes)?;
+    let (first, second) = (digests.0.as_slice(), digests.1.as_slice());
+    push_all_told(alloc, text, core, crtc, latches, lanes, first, second)
+}
+
+/// Adds the lines of the latches of a CRTC. Its first frame is made by several threads, and so is the next other one, of a copy of
+/// it; then two lanes make the others side by side.
+fn push_by_lanes<R: Threads + Sync>(
+    hands: &SeveralThreads<'_, R>,
+    alloc: Global,
+    text: &mut Vec<u8>,
+    core: &Core,
+    crtc: u32,
+    latches: &[Latch],
+) -> Result<(), NoMemory>
+    requires hands { IsSync R.row }
+    requires can { All (λ l. EachCanBeShown (things_of core.now) l.picture) latches.now }
+    ensures { OnOk result (text.new.items ≡ text.old.items
+        ++ latches_text (machine core.now) false latches.now crtc) }
+{
+    let Some(place) = first_lit(crtc, latches) else {
+        return push_latches(hands, alloc, text, core, crtc, latches, false);
+    };
+    let dark = Screen::dark(alloc);
+    let (latch, after) = (&latches[place], &latches[place + 1..]);
+    let screen = showing(hands, alloc, core, dark, latch, after)?;
+    push_shown(hands, alloc, text, core, screen, crtc, latches)
+}
+
+/// Who tells of latches.
+pub trait Tells {
+    // They may be at work in several threads.
+    ghost can_tell: { Self → Type 0 };
+
+    /// Adds the lines of the latches of the CRTC with an index, from 0 to 3, of all latches in order of time, each with its frame
+    /// as a pixmap behind it where that is wanted. The only error is want of memory.
+    fn push(
+        &self,
+        alloc: Global,
+        text: &mut Vec<u8>,
+        core: &Core,
+        crtc: u32,
+        latches: &[Latch],
+        pixmap: bool,
+    ) -> Result<(), NoMemory>
+        requires can { can_tell self.now }
+        requires latches { All (λ l. EachCanBeShown (things_of core.now) l.picture) latches.now }
+        ensures { OnOk result (text.new.items ≡ text.old.items
+            ++ latches_text (machine core.now) pixmap latches.now crtc) };
+}
+
+impl Tells for OneThread {
+    ghost use Rattle.std.specs.Prelude.{⊤};
+
+    ghost can_tell = { λ _. ⊤ };
+
+    fn push(
+        &self,
+        alloc: Global,
+        text: &mut Vec<u8>,
+        core: &Core,
+        crtc: u32,
+        latches: &[Latch],
+        pixmap: bool,
+    ) -> Result<(), NoMemory> {
+        push_latches(self, alloc, text, core, crtc, latches, pixmap)
+    }
+}
+
+impl<'a, R: Threads + Sync> Tells for SeveralThreads<'a, R> {
+    ghost use Rattle.std.specs.Thread.{IsSync};
+
+    ghost can_tell = { λ _. IsSync R.row };
+
+    fn push(
+        &self,
+        alloc: Global,
+        text: &mut Vec<u8>,
+        core: &Core,
+        crtc: u32,
+        latches: &[Latch],
+        pixmap: bool,
+    ) -> Result<(), NoMemory> {
+        if pixmap {
+            push_latches(self, alloc, text, core, crtc, latches, pixmap)
+        } else {
+            push_by_lanes(self, alloc, text, core, crtc, latches)
+        }
+    }
+}
