@@ -1,7 +1,7 @@
 pub mod Decimals
 pub mod ImageLemmas
 pub mod KeptImages
-pub mod LaneLemmas
+pub mod StrandLemmas
 pub mod LatchText
 pub mod Pieces
 pub mod Ranges

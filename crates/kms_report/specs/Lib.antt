@@ -1,3 +1,3 @@
 pub mod Images
-pub mod Lanes
+pub mod Strands
 pub mod Telling

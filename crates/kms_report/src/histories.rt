@@ -157,10 +157,11 @@ pub fn report(
     report_by(&OneThread, alloc, script, core, options)
 }
 
-/// The same report, made by several threads that only compute: the first frame of a CRTC row by row in two for each processor, up
-/// to 64. Where its frames have a quarter of a MiB or more, and are not wanted as pixmaps, two lanes take turns in its pictures,
-/// and each makes its own frames side by side with the other, each of the one before it. Else each frame of another size or with
-/// another table of colour values is made like the first, and two digests at a time.
+/// The same report, made by several threads that only compute: the first frame of a CRTC row by row in two for each
+/// processor, up to 64. Where its frames have a quarter of a MiB or more, and are not wanted as pixmaps, two strands
+/// take turns in its pictures, and each makes its own frames side by side with the other, each of the one before it.
+/// Else each frame of another size or with another table of colour values is made like the first, and two digests at a
+/// time.
 pub fn report_with<R: Threads + Sync>(
     rt: &R,
     alloc: Global,

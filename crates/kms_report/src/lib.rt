@@ -10,11 +10,11 @@ mod answers;
 mod ends;
 mod histories;
 mod images;
-mod lanes;
 mod latches;
 mod lines;
 mod pixmaps;
 mod showing;
+mod strands;
 mod tellers;
 
 pub use histories::{Options, report, report_with};

@@ -4,21 +4,22 @@ ghost use Rattle.std.specs.Thread.{IsSync};
 ghost use Rattle.kms_stores.specs.Run.{machine};
 ghost use Rattle.kms_model.specs.Frames.Shown.{EachCanBeShown};
 ghost use Rattle.kms_report.specs.Images.{things_of};
-ghost use Rattle.kms_report.specs.Lanes.{Begins, lane_digests};
+ghost use Rattle.kms_report.specs.Strands.{Begins, strand_digests};
 ghost use Rattle.kms_report.specs.Telling.{latches_text};
-ghost use Rattle.kms_report.specs.declared.lanes.Lane.TheVariants as Lane;
+ghost use Rattle.kms_report.specs.declared.strands.Strand.TheVariants as Strand;
 ghost use Rattle.kms_screens.specs.Screens.{AreKeptFramesOf};
 
-use crate::lanes::{Lane, digests_by_lanes, lanes_of};
 use crate::latches::{front_of, push_after, push_digits, push_latches, push_off};
 use crate::showing::{is_other, showing};
+use crate::strands::{Strand, digests_by_strands, strands_of};
 use kms_core::Core;
 use kms_model::{Latch, NoMemory, Picture};
 use kms_screens::{OneThread, Screen, SeveralThreads};
 use std::alloc::Global;
 use std::thread::Threads;
 
-/// Adds the line of a latch, where it is of this CRTC: of a latch that is on with the first of some digests. Gives the others.
+/// Adds the line of a latch, where it is of this CRTC: of a latch that is on with the first of some digests. Gives the
+/// others.
 fn push_told<'a>(
     alloc: Global,
     text: &mut Vec<u8>,
@@ -48,42 +49,42 @@ fn push_told<'a>(
     Ok(others)
 }
 
-/// Adds the lines of the latches of a CRTC, with the digests of their frames by lanes.
+/// Adds the lines of the latches of a CRTC, with the digests of their frames by strands.
 fn push_all_told(
     alloc: Global,
     text: &mut Vec<u8>,
     core: &Core,
     crtc: u32,
     latches: &[Latch],
-    lanes: &[Lane],
+    strands: &[Strand],
     mut first: &[[u8; 32]],
     mut second: &[[u8; 32]],
 ) -> Result<(), NoMemory>
-    requires lanes { length lanes.now ≡ length latches.now }
+    requires strands { length strands.now ≡ length latches.now }
     requires first { first.now
-        ≡ lane_digests (things_of core.now) crtc Lane.First latches.now lanes.now }
+        ≡ strand_digests (things_of core.now) crtc Strand.First latches.now strands.now }
     requires second { second.now
-        ≡ lane_digests (things_of core.now) crtc Lane.Second latches.now lanes.now }
+        ≡ strand_digests (things_of core.now) crtc Strand.Second latches.now strands.now }
     ensures { OnOk result (text.new.items ≡ text.old.items
         ++ latches_text (machine core.now) false latches.now crtc) }
 {
     for place in 0..latches.len() {
         let latch = &latches[place];
-        match lanes[place] {
-            Lane::First => first = push_told(alloc, text, core, crtc, latch, first)?,
-            Lane::Second => second = push_told(alloc, text, core, crtc, latch, second)?,
+        match strands[place] {
+            Strand::First => first = push_told(alloc, text, core, crtc, latch, first)?,
+            Strand::Second => second = push_told(alloc, text, core, crtc, latch, second)?,
         }
     }
     Ok(())
 }
 
-/// How many bytes of a frame are worth a lane of its own: a quarter of a MiB, whose digest takes about a millisecond.
-const WORTH_A_LANE: usize = 262_144;
+/// How many bytes of a frame are worth a strand of its own: a quarter of a MiB, whose digest takes about a millisecond.
+const WORTH_A_STRAND: usize = 262_144;
 
-/// Whether both frames of a screen are worth a lane.
+/// Whether both frames of a screen are worth a strand.
 fn are_large(screen: &Screen) -> bool {
     let (first, second) = (&screen.first.drawn.frame, &screen.second.drawn.frame);
-    first.len().min(second.len()) >= WORTH_A_LANE
+    first.len().min(second.len()) >= WORTH_A_STRAND
 }
 
 /// The place of the first latch of a CRTC that is on.
@@ -98,8 +99,8 @@ fn first_lit(crtc: u32, latches: &[Latch]) -> Option<usize>
     None
 }
 
-/// Adds the lines of the latches of a CRTC, of which a screen keeps one frame or two: with the digests of two lanes where both are
-/// large.
+/// Adds the lines of the latches of a CRTC, of which a screen keeps one frame or two: with the digests of two strands
+/// where both are large.
 fn push_shown<R: Threads + Sync>(
     hands: &SeveralThreads<'_, R>,
     alloc: Global,
@@ -118,16 +119,16 @@ fn push_shown<R: Threads + Sync>(
     if !are_large(&screen) {
         return push_after(hands, alloc, text, core, screen, crtc, latches, false);
     }
-    let lanes = lanes_of(alloc, crtc, latches)?;
-    let lanes = lanes.as_slice();
-    let digests = digests_by_lanes(hands.rt, alloc, core, screen, crtc, latches, lanes)?;
+    let strands = strands_of(alloc, crtc, latches)?;
+    let strands = strands.as_slice();
+    let digests = digests_by_strands(hands.rt, alloc, core, screen, crtc, latches, strands)?;
     let (first, second) = (digests.0.as_slice(), digests.1.as_slice());
-    push_all_told(alloc, text, core, crtc, latches, lanes, first, second)
+    push_all_told(alloc, text, core, crtc, latches, strands, first, second)
 }
 
-/// Adds the lines of the latches of a CRTC. Its first frame is made by several threads, and so is the next other one, of a copy of
-/// it; then two lanes make the others side by side.
-fn push_by_lanes<R: Threads + Sync>(
+/// Adds the lines of the latches of a CRTC. Its first frame is made by several threads, and so is the next other one,
+/// of a copy of it; then two strands make the others side by side.
+fn push_by_strands<R: Threads + Sync>(
     hands: &SeveralThreads<'_, R>,
     alloc: Global,
     text: &mut Vec<u8>,
@@ -154,8 +155,8 @@ pub trait Tells {
     // They may be at work in several threads.
     ghost can_tell: { Self → Type 0 };
 
-    /// Adds the lines of the latches of the CRTC with an index, from 0 to 3, of all latches in order of time, each with its frame
-    /// as a pixmap behind it where that is wanted. The only error is want of memory.
+    /// Adds the lines of the latches of the CRTC with an index, from 0 to 3, of all latches in order of time, each with
+    /// its frame as a pixmap behind it where that is wanted. The only error is want of memory.
     fn push(
         &self,
         alloc: Global,
@@ -206,7 +207,7 @@ impl<'a, R: Threads + Sync> Tells for SeveralThreads<'a, R> {
         if pixmap {
             push_latches(self, alloc, text, core, crtc, latches, pixmap)
         } else {
-            push_by_lanes(self, alloc, text, core, crtc, latches)
+            push_by_strands(self, alloc, text, core, crtc, latches)
         }
     }
 }

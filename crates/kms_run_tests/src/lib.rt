@@ -14,8 +14,6 @@ mod frames;
 #[cfg(test)]
 mod generated;
 #[cfg(test)]
-mod lanes;
-#[cfg(test)]
 mod meeting;
 #[cfg(test)]
 mod refusals;
@@ -29,6 +27,8 @@ mod schedules;
 mod session;
 #[cfg(test)]
 mod statuses;
+#[cfg(test)]
+mod strands;
 #[cfg(test)]
 mod texts;
 #[cfg(test)]

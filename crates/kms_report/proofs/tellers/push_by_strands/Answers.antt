@@ -3,7 +3,7 @@ use Rattle.std.proofs.lemmas.List.Elements.{All-drop, All-take}
 use Rattle.kms_model.specs.Frames.Shown.{EachCanBeShown}
 use Rattle.kms_model.specs.declared.runs.Latch.{Latch}
 use Rattle.kms_report.specs.Images.{things_of}
-use Rattle.kms_report.proofs.tellers.push_by_lanes.Goals as goal
+use Rattle.kms_report.proofs.tellers.push_by_strands.Goals as goal
 
 pub showing-requires-clause-screen : goal.showing-requires-clause-screen
 showing-requires-clause-screen g c = c.dark-dark.ensures.things (things_of c.args.core.now)

@@ -1,4 +1,4 @@
-//! Large frames, which two lanes make side by side.
+//! Large frames, which two strands make side by side.
 use crate::asserting::assert_answers;
 use kms_run::Status;
 use std::test::Fail;

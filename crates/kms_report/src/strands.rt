@@ -1,10 +1,10 @@
-//! The digests of a CRTC's frames, made in two lanes side by side.
+//! The digests of a CRTC's frames, made in two strands side by side.
 ghost use Rattle.std.specs.Prelude.{◌≡◌, ◌++◌, ◌<◌, All, IfOk, IfSome, List, OnOk, length};
 ghost use Rattle.kms_model.specs.declared.worlds.Thing.{Thing};
 ghost use Rattle.kms_model.specs.Frames.Shown.{EachCanBeShown};
 ghost use Rattle.kms_report.specs.Images.{things_of};
-ghost use Rattle.kms_report.specs.Lanes.{is_lane, is_lit, lane_digests, latch_digests};
-ghost use Rattle.kms_report.specs.declared.lanes.Lane.TheVariants as Lane;
+ghost use Rattle.kms_report.specs.Strands.{is_strand, is_lit, strand_digests, latch_digests};
+ghost use Rattle.kms_report.specs.declared.strands.Strand.TheVariants as Strand;
 ghost use Rattle.kms_screens.specs.Screens.{AreKeptFramesOf};
 
 use crate::showing::{is_other, showing};
@@ -18,30 +18,31 @@ use std::thread::{Threads, join_mut};
 /// The digests of frames, in order.
 type Digests = Vec<[u8; 32]>;
 
-/// One of two lanes. Each keeps one frame, and makes of it the frames of the latches that are its own, one after the other.
+/// One of two strands. Each keeps one frame, and makes of it the frames of the latches that are its own, one after the
+/// other.
 #[derive(Clone, Copy, Debug, PartialEq, Eq)]
-pub enum Lane {
+pub enum Strand {
     /// That of the first picture.
     First,
     /// That of the next other picture.
     Second,
 }
 
-impl Lane {
+impl Strand {
     /// The other one.
-    fn other(self) -> Lane {
+    fn other(self) -> Strand {
         match self {
-            Lane::First => Lane::Second,
-            Lane::Second => Lane::First,
+            Strand::First => Strand::Second,
+            Strand::Second => Strand::First,
         }
     }
 
     /// Whether it is this one.
-    fn is(self, lane: Lane) -> bool
-        ensures { result ≡ is_lane self lane }
+    fn is(self, strand: Strand) -> bool
+        ensures { result ≡ is_strand self strand }
     {
-        match (self, lane) {
-            (Lane::First, Lane::First) | (Lane::Second, Lane::Second) => true,
+        match (self, strand) {
+            (Strand::First, Strand::First) | (Strand::Second, Strand::Second) => true,
             _ => false,
         }
     }
@@ -54,25 +55,25 @@ fn is_lit(latch: &Latch, crtc: u32) -> bool
     latch.crtc == crtc && matches!(latch.picture, Picture::On(_))
 }
 
-/// A lane for each latch. Those of a CRTC that are on change lanes with each other picture, so that a picture that comes twice in
-/// a row, or with one other in turn, stays in its lane.
-pub fn lanes_of(alloc: Global, crtc: u32, latches: &[Latch]) -> Result<Vec<Lane>, NoMemory>
-    ensures { IfOk result (λ lanes. length lanes.items ≡ length latches.now) }
+/// A strand for each latch. Those of a CRTC that are on change strands with each other picture, so that a picture that
+/// comes twice in a row, or with one other in turn, stays in its strand.
+pub fn strands_of(alloc: Global, crtc: u32, latches: &[Latch]) -> Result<Vec<Strand>, NoMemory>
+    ensures { IfOk result (λ strands. length strands.items ≡ length latches.now) }
 {
-    let mut lanes = Vec::with_capacity(alloc, latches.len())?;
-    let mut lane = Lane::Second;
+    let mut strands = Vec::with_capacity(alloc, latches.len())?;
+    let mut strand = Strand::Second;
     let mut shown = &Picture::Off;
     for latch in latches {
         if is_other(latch, crtc, shown) {
-            lane = lane.other();
+            strand = strand.other();
             shown = &latch.picture;
         }
-        lanes.push(lane)?;
+        strands.push(strand)?;
     }
-    Ok(lanes)
+    Ok(strands)
 }
 
-/// Adds the digest of a latch's frame, where the latch is one of a CRTC, on, and of the lane that keeps the screen.
+/// Adds the digest of a latch's frame, where the latch is one of a CRTC, on, and of the strand that keeps the screen.
 fn push_digest(
     alloc: Global,
     digests: &mut Digests,
@@ -96,49 +97,49 @@ fn push_digest(
     Ok(screen)
 }
 
-/// The digests of the frames of those latches of a CRTC that are on and of a lane.
-fn digests_of_lane(
+/// The digests of the frames of those latches of a CRTC that are on and of a strand.
+fn digests_of_strand(
     alloc: Global,
     core: &Core,
     mut screen: Screen,
     crtc: u32,
     latches: &[Latch],
-    lanes: &[Lane],
-    lane: Lane,
+    strands: &[Strand],
+    strand: Strand,
 ) -> Result<Digests, NoMemory>
     requires screen { AreKeptFramesOf (things_of core.now) screen }
     requires latches { All (λ l. EachCanBeShown (things_of core.now) l.picture) latches.now }
-    requires lanes { length lanes.now ≡ length latches.now }
+    requires strands { length strands.now ≡ length latches.now }
     ensures { IfOk result (λ digests. digests.items
-        ≡ lane_digests (things_of core.now) crtc lane latches.now lanes.now) }
+        ≡ strand_digests (things_of core.now) crtc strand latches.now strands.now) }
 {
     let mut digests = Vec::new(alloc);
     for place in 0..latches.len() {
-        let is_own = lane.is(lanes[place]);
+        let is_own = strand.is(strands[place]);
         let latch = &latches[place];
         screen = push_digest(alloc, &mut digests, core, screen, crtc, latch, is_own)?;
     }
     Ok(digests)
 }
 
-/// The same for a lane that keeps the first frame of a screen.
+/// The same for a strand that keeps the first frame of a screen.
 fn digests_beside(
     alloc: Global,
     core: &Core,
     screen: &mut Screen,
     crtc: u32,
     latches: &[Latch],
-    lanes: &[Lane],
-    lane: Lane,
+    strands: &[Strand],
+    strand: Strand,
 ) -> Result<Digests, NoMemory>
     requires screen { AreKeptFramesOf (things_of core.now) screen.old }
     requires latches { All (λ l. EachCanBeShown (things_of core.now) l.picture) latches.now }
-    requires lanes { length lanes.now ≡ length latches.now }
+    requires strands { length strands.now ≡ length latches.now }
     ensures { IfOk result (λ digests. digests.items
-        ≡ lane_digests (things_of core.now) crtc lane latches.now lanes.now) }
+        ≡ strand_digests (things_of core.now) crtc strand latches.now strands.now) }
 {
     let own = mem::replace(screen, Screen::dark(alloc));
-    digests_of_lane(alloc, core, own, crtc, latches, lanes, lane)
+    digests_of_strand(alloc, core, own, crtc, latches, strands, strand)
 }
 
 /// The two frames of a screen, each on a screen of its own.
@@ -156,40 +157,50 @@ fn parted(alloc: Global, screen: Screen) -> (Screen, Screen)
     (one, other)
 }
 
-/// The digests of the frames of those latches of a CRTC that are on, by their lanes, made side by side: each lane begins with one of
-/// a screen's frames. No other frame is kept or made beside these two.
-pub fn digests_by_lanes<R: Threads>(
+/// The digests of the frames of those latches of a CRTC that are on, by their strands, made side by side: each strand
+/// begins with one of a screen's frames. No other frame is kept or made beside these two.
+pub fn digests_by_strands<R: Threads>(
     rt: &R,
     alloc: Global,
     core: &Core,
     screen: Screen,
     crtc: u32,
     latches: &[Latch],
-    lanes: &[Lane],
+    strands: &[Strand],
 ) -> Result<(Digests, Digests), NoMemory>
     requires screen { AreKeptFramesOf (things_of core.now) screen }
     requires latches { All (λ l. EachCanBeShown (things_of core.now) l.picture) latches.now }
-    requires lanes { length lanes.now ≡ length latches.now }
+    requires strands { length strands.now ≡ length latches.now }
     ensures first { IfOk result (λ both. both.0.items
-        ≡ lane_digests (things_of core.now) crtc Lane.First latches.now lanes.now) }
+        ≡ strand_digests (things_of core.now) crtc Strand.First latches.now strands.now) }
     ensures second { IfOk result (λ both. both.1.items
-        ≡ lane_digests (things_of core.now) crtc Lane.Second latches.now lanes.now) }
+        ≡ strand_digests (things_of core.now) crtc Strand.Second latches.now strands.now) }
 {
     let (mut one, mut other) = parted(alloc, screen);
     let mut first = || -> Result<Digests, NoMemory>
         requires { AreKeptFramesOf (things_of core.now) one
             × All (λ l. EachCanBeShown (things_of core.now) l.picture) latches.now
-            × (length lanes.now ≡ length latches.now) }
+            × (length strands.now ≡ length latches.now) }
         ensures { IfOk result (λ digests. digests.items
-            ≡ lane_digests (things_of core.entry.now) crtc Lane.First latches.entry.now lanes.entry.now) }
-    { digests_beside(alloc, core, &mut one, crtc, latches, lanes, Lane::First) };
+            ≡ strand_digests (things_of core.entry.now) crtc Strand.First latches.entry.now strands.entry.now) }
+    { digests_beside(alloc, core, &mut one, crtc, latches, strands, Strand::First) };
     let mut second = || -> Result<Digests, NoMemory>
         requires { AreKeptFramesOf (things_of core.now) other
             × All (λ l. EachCanBeShown (things_of core.now) l.picture) latches.now
-            × (length lanes.now ≡ length latches.now) }
+            × (length strands.now ≡ length latches.now) }
         ensures { IfOk result (λ digests. digests.items
-            ≡ lane_digests (things_of core.entry.now) crtc Lane.Second latches.entry.now lanes.entry.now) }
-    { digests_beside(alloc, core, &mut other, crtc, latches, lanes, Lane::Second) };
+            ≡ strand_digests (things_of core.entry.now) crtc Strand.Second latches.entry.now strands.entry.now) }
+    {
+        digests_beside(
+            alloc,
+            core,
+            &mut other,
+            crtc,
+            latches,
+            strands,
+            Strand::Second,
+        )
+    };
     let (of_first, of_second) = join_mut(rt, &mut first, &mut second);
     Ok((of_first?, of_second?))
 }

@@ -1,0 +1,87 @@
+-- The digests of a strand, one latch after the other.
+use Rattle.std.proofs.Common.{◌≡◌, ◌<◌, ◌≤◌, ◌+◌, ◌++◌, ◌∷◌, ◌==◌, ℕ, Bool, true, false, List, [], drop, take, get_or, length, refl, sym, ap, ◌∙◌, append_assoc}
+use Rattle.std.specs.List.{filter, flat_map}
+use Rattle.std.proofs.lemmas.Grind.{flat_map-append}
+use Rattle.std.proofs.lemmas.List.{append-nil, drop_all, drop_more, take_more}
+use Rattle.std.proofs.lemmas.List.Elements.{filter-append}
+use Rattle.kms_model.specs.declared.runs.Latch.{Latch}
+use Rattle.kms_model.specs.declared.worlds.Thing.{Thing}
+use Rattle.kms_model.specs.Machine.State.{Machine}
+use Rattle.kms_model.specs.Report.History.{latch_line}
+use Rattle.kms_report.specs.Telling.{latches_text}
+use Rattle.kms_report.specs.declared.strands.Strand.{Strand}
+use Rattle.kms_report.specs.declared.strands.Strand.TheVariants.{First, Second}
+use Rattle.kms_report.specs.Strands.{Begins, is_strand, strand_digests, latch_digests}
+
+-- those from a place on are that of the latch there, and those behind it
+pub from_place : (things : List Thing) (crtc : ℕ) (strand : Strand) (latches : List Latch) (strands : List Strand) (k : ℕ) (l : Latch) (m : Strand)
+    → k < length latches → k < length strands
+    → strand_digests things crtc strand (drop k latches) (drop k strands)
+    ≡ latch_digests things crtc (is_strand strand (get_or strands k m)) (get_or latches k l) ++ strand_digests things crtc strand (drop (k + 1) latches) (drop (k + 1) strands)
+unfolding strand_digests
+from_place things crtc strand latches strands k l m within beside = rw (drop_more latches k l within, drop_more strands k m beside) refl
+
+-- one latch more is told
+pub one_more : (things : List Thing) (crtc : ℕ) (strand : Strand) (latches : List Latch) (strands : List Strand) (k : ℕ) (l : Latch) (m : Strand)
+    → k < length latches → k < length strands → (old new whole : List (List ℕ)) (own : Bool) (latch : Latch)
+    → old ++ strand_digests things crtc strand (drop k latches) (drop k strands) ≡ whole
+    → own ≡ is_strand strand (get_or strands k m) → latch ≡ get_or latches k l
+    → new ≡ old ++ latch_digests things crtc own latch
+    → new ++ strand_digests things crtc strand (drop (k + 1) latches) (drop (k + 1) strands) ≡ whole
+one_more things crtc strand latches strands k l m within beside old new whole own latch told owns is grows =
+    ap (λ (d : List (List ℕ)). d ++ behind) (grows ∙ ap (λ (d : List (List ℕ)). old ++ d) same)
+    ∙ append_assoc old (latch_digests things crtc (is_strand strand (get_or strands k m)) (get_or latches k l)) behind
+    ∙ ap (λ (d : List (List ℕ)). old ++ d) (sym (from_place things crtc strand latches strands k l m within beside))
+    ∙ told
+  where
+    behind : List (List ℕ)
+    behind = strand_digests things crtc strand (drop (k + 1) latches) (drop (k + 1) strands)
+
+    same : latch_digests things crtc own latch ≡ latch_digests things crtc (is_strand strand (get_or strands k m)) (get_or latches k l)
+    same = rw (owns, is) refl
+
+-- no latch is left
+pub all_told : (things : List Thing) (crtc : ℕ) (strand : Strand) (latches : List Latch) (strands : List Strand) (k : ℕ) → length latches ≤ k
+    → (digests whole : List (List ℕ)) → digests ++ strand_digests things crtc strand (drop k latches) (drop k strands) ≡ whole → digests ≡ whole
+unfolding strand_digests
+all_told things crtc strand latches strands k past digests whole told =
+    sym (append-nil digests) ∙ ap (λ (d : List (List ℕ)). digests ++ d) (sym nothing) ∙ told
+  where
+    nothing : strand_digests things crtc strand (drop k latches) (drop k strands) ≡ []
+    nothing = rw (drop_all k latches past) refl
+
+same_strand : (strand : Strand) → is_strand strand strand ≡ true
+same_strand First = refl
+same_strand Second = refl
+
+-- those of a strand from a latch of it on begin with that of the latch
+pub own_first : (things : List Thing) (crtc : ℕ) (strand : Strand) (latches : List Latch) (strands : List Strand) (k : ℕ) (l : Latch) (m : Strand)
+    → k < length latches → k < length strands → get_or strands k m ≡ strand → (latch : Latch) → latch ≡ get_or latches k l
+    → Begins things crtc latch (strand_digests things crtc strand (drop k latches) (drop k strands)) (strand_digests things crtc strand (drop (k + 1) latches) (drop (k + 1) strands))
+own_first things crtc strand latches strands k l m within beside own latch is =
+    from_place things crtc strand latches strands k l m within beside ∙ rw (own, same_strand strand, is) refl
+
+-- and from a latch of the other strand on are those from the next one on
+pub other_first : (things : List Thing) (crtc : ℕ) (strand : Strand) (latches : List Latch) (strands : List Strand) (k : ℕ) (l : Latch) (m : Strand)
+    → k < length latches → k < length strands → is_strand strand (get_or strands k m) ≡ false
+    → strand_digests things crtc strand (drop k latches) (drop k strands) ≡ strand_digests things crtc strand (drop (k + 1) latches) (drop (k + 1) strands)
+other_first things crtc strand latches strands k l m within beside other =
+    from_place things crtc strand latches strands k l m within beside ∙ rw other refl
+
+-- the lines of a CRTC's latches, up to one more of the latches
+pub one_line_more : (m : Machine) (pixmap : Bool) (latches : List Latch) (crtc k : ℕ) (l : Latch) → k < length latches → (front before after : List ℕ) (latch : Latch)
+    → latch ≡ get_or latches k l → before ≡ front ++ latches_text m pixmap (take k latches) crtc
+    → after ≡ before ++ latches_text m pixmap (latch ∷ []) crtc → after ≡ front ++ latches_text m pixmap (take (k + 1) latches) crtc
+one_line_more m pixmap latches crtc k l within front before after latch is told more =
+    more ∙ ap (λ (t : List ℕ). t ++ latches_text m pixmap (latch ∷ []) crtc) told
+    ∙ append_assoc front (latches_text m pixmap (take k latches) crtc) (latches_text m pixmap (latch ∷ []) crtc)
+    ∙ ap (λ (t : List ℕ). front ++ t) (sym longer)
+  where
+    mine : Latch → Bool
+    mine x = x.crtc == crtc
+
+    longer : latches_text m pixmap (take (k + 1) latches) crtc ≡ latches_text m pixmap (take k latches) crtc ++ latches_text m pixmap (latch ∷ []) crtc
+    longer =
+        ap (λ (ls : List Latch). flat_map (latch_line m pixmap) (filter mine ls)) (take_more latches k l within ∙ ap (λ (x : Latch). take k latches ++ x ∷ []) (sym is))
+        ∙ ap (flat_map (latch_line m pixmap)) (filter-append mine (take k latches) (latch ∷ []))
+        ∙ flat_map-append (latch_line m pixmap) (filter mine (take k latches)) (filter mine (latch ∷ []))
