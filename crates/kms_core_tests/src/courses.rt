@@ -172,9 +172,21 @@ fn play_both(
     course: &[&str],
 ) -> Result<(), Fail> {
     let mut core = started_from(rt, script)?;
-    follow(&mut core, rt.alloc(), front)?;
-    follow(&mut core, rt.alloc(), course)?;
-    call_again(rt, script, &core)
+    play_on(rt, &mut core, script, front, course)
+}
+
+/// The same on a machine that was started from the script. (A function that owns a machine drops it at each of its ends, and so
+/// has few of them.)
+fn play_on(
+    rt: &impl AllocGlobal,
+    core: &mut Core,
+    script: &[&str],
+    front: &[&str],
+    course: &[&str],
+) -> Result<(), Fail> {
+    follow(core, rt.alloc(), front)?;
+    follow(core, rt.alloc(), course)?;
+    call_again(rt, script, core)
 }
 
 /// Follows a course from the start of the script that some pieces spell. Its history is then made again by single calls.

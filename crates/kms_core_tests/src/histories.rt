@@ -139,12 +139,22 @@ fn many_events(alloc: Global) -> Result<String, AllocError> {
     Ok(text)
 }
 
+/// What fills the space for events, from the start of the script that some pieces spell. The history is then made again by single
+/// calls.
+fn play_full(rt: &impl AllocGlobal, script: &[&str]) -> Result<(), Fail> {
+    let mut core = started_from(rt, script)?;
+    fill_on(rt, &mut core, script)
+}
+
+/// The same on a machine that was started from the script.
+fn fill_on(rt: &impl AllocGlobal, core: &mut Core, script: &[&str]) -> Result<(), Fail> {
+    fill(rt, core)?;
+    call_again(rt, script, core)
+}
+
 /// A client has room for 128 events that it did not read. Reading one makes room for one.
 #[test]
 fn events_fill_their_space(rt: HostRuntime) -> Result<(), Fail> {
     let more = many_events(rt.alloc())?;
-    let script = lighting_script("0x400", more.as_str());
-    let mut core = started_from(&rt, &script)?;
-    fill(&rt, &mut core)?;
-    call_again(&rt, &script, &core)
+    play_full(&rt, &lighting_script("0x400", more.as_str()))
 }
