@@ -1,6 +1,6 @@
 //! Players at a device, on one thread.
 ghost use Rattle.std.specs.Prelude.{◌≡◌, length, IfOk};
-ghost use Rattle.kms_histlock.specs.Passes.{IsSamePass, new_pass};
+ghost use Rattle.kms_histlock.specs.Passes.{IsSamePass, new_pass, new_passes};
 ghost use Rattle.kms_model.specs.Script.WellFormed.{IsWellFormed};
 ghost use Rattle.kms_players.specs.Players.{name_of_pass};
 
@@ -105,6 +105,24 @@ impl Gate for Counter {
 /// The four passes of a device.
 type Four = (Pass, Pass, Pass, Pass);
 
+/// The passes of a device that has four, in the order of their ranks.
+fn four(rt: &impl Abort, device: &Device, passes: Seq<Pass>) -> Four
+    requires { passes ≡ new_passes device.now.lock 4 }
+    ensures one { result.0 ≡ new_pass device.now.lock 1 }
+    ensures other { result.1 ≡ new_pass device.now.lock 2 }
+    ensures worker { result.2 ≡ new_pass device.now.lock 3 }
+    ensures tick { result.3 ≡ new_pass device.now.lock 4 }
+{
+    let mut passes = passes.into_vec();
+    let (Some(tick), Some(worker)) = (passes.pop(), passes.pop()) else {
+        panic!(rt; "no passes")
+    };
+    let (Some(other), Some(one)) = (passes.pop(), passes.pop()) else {
+        panic!(rt; "no passes")
+    };
+    (one, other, worker, tick)
+}
+
 /// A device of the two clients, with a pass for each, for a worker and for what ticks.
 fn started(rt: &(impl Abort + AllocGlobal)) -> Result<(Device, Four), Fail>
     ensures seats { IfOk result (λ d. d.0.seats ≡ 4) }
@@ -119,14 +137,8 @@ fn started(rt: &(impl Abort + AllocGlobal)) -> Result<(Device, Four), Fail>
         panic!(rt; "another script")
     }
     let (device, passes) = Device::new(rt.alloc(), parsed.script, 4)?;
-    let mut passes = passes.into_vec();
-    let (Some(tick), Some(worker)) = (passes.pop(), passes.pop()) else {
-        panic!(rt; "no passes")
-    };
-    let (Some(other), Some(one)) = (passes.pop(), passes.pop()) else {
-        panic!(rt; "no passes")
-    };
-    Ok((device, (one, other, worker, tick)))
+    let passes = four(rt, &device, passes);
+    Ok((device, passes))
 }
 
 /// Ends the device, and gives the machine.
