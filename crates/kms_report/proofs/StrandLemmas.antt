@@ -1,17 +1,14 @@
 -- The digests of a strand, one latch after the other.
-use Rattle.std.proofs.Common.{◌≡◌, ◌<◌, ◌≤◌, ◌+◌, ◌++◌, ◌∷◌, ◌==◌, ℕ, Bool, true, false, List, [], drop, take, get_or, length, refl, sym, ap, ◌∙◌, append_assoc}
-use Rattle.std.specs.List.{filter, flat_map}
-use Rattle.std.proofs.lemmas.Grind.{flat_map-append}
-use Rattle.std.proofs.lemmas.List.{append-nil, drop_all, drop_more, take_more}
-use Rattle.std.proofs.lemmas.List.Elements.{filter-append}
+use Rattle.std.proofs.Common.{◌≡◌, ◌<◌, ◌≤◌, ◌+◌, ◌++◌, ◌∷◌, ℕ, Bool, true, false, List, [], drop, take, get_or, length, refl, sym, ap, ◌∙◌, append_assoc}
+use Rattle.std.proofs.lemmas.List.{append-nil, drop_all, drop_more}
 use Rattle.kms_model.specs.declared.runs.Latch.{Latch}
 use Rattle.kms_model.specs.declared.worlds.Thing.{Thing}
 use Rattle.kms_model.specs.Machine.State.{Machine}
-use Rattle.kms_model.specs.Report.History.{latch_line}
 use Rattle.kms_report.specs.Telling.{latches_text}
 use Rattle.kms_report.specs.declared.strands.Strand.{Strand}
 use Rattle.kms_report.specs.declared.strands.Strand.TheVariants.{First, Second}
 use Rattle.kms_report.specs.Strands.{Begins, is_strand, strand_digests, latch_digests}
+use Rattle.kms_report.proofs.Pieces.{latches-join, one_more as one_piece_more}
 
 -- those from a place on are that of the latch there, and those behind it
 pub from_place : (things : List Thing) (crtc : ℕ) (strand : Strand) (latches : List Latch) (strands : List Strand) (k : ℕ) (l : Latch) (m : Strand)
@@ -61,7 +58,7 @@ pub own_first : (things : List Thing) (crtc : ℕ) (strand : Strand) (latches : 
 own_first things crtc strand latches strands k l m within beside own latch is =
     from_place things crtc strand latches strands k l m within beside ∙ rw (own, same_strand strand, is) refl
 
--- and from a latch of the other strand on are those from the next one on
+-- those of a strand from a latch of the other one on are those from the next latch on
 pub other_first : (things : List Thing) (crtc : ℕ) (strand : Strand) (latches : List Latch) (strands : List Strand) (k : ℕ) (l : Latch) (m : Strand)
     → k < length latches → k < length strands → is_strand strand (get_or strands k m) ≡ false
     → strand_digests things crtc strand (drop k latches) (drop k strands) ≡ strand_digests things crtc strand (drop (k + 1) latches) (drop (k + 1) strands)
@@ -73,15 +70,5 @@ pub one_line_more : (m : Machine) (pixmap : Bool) (latches : List Latch) (crtc k
     → latch ≡ get_or latches k l → before ≡ front ++ latches_text m pixmap (take k latches) crtc
     → after ≡ before ++ latches_text m pixmap (latch ∷ []) crtc → after ≡ front ++ latches_text m pixmap (take (k + 1) latches) crtc
 one_line_more m pixmap latches crtc k l within front before after latch is told more =
-    more ∙ ap (λ (t : List ℕ). t ++ latches_text m pixmap (latch ∷ []) crtc) told
-    ∙ append_assoc front (latches_text m pixmap (take k latches) crtc) (latches_text m pixmap (latch ∷ []) crtc)
-    ∙ ap (λ (t : List ℕ). front ++ t) (sym longer)
-  where
-    mine : Latch → Bool
-    mine x = x.crtc == crtc
-
-    longer : latches_text m pixmap (take (k + 1) latches) crtc ≡ latches_text m pixmap (take k latches) crtc ++ latches_text m pixmap (latch ∷ []) crtc
-    longer =
-        ap (λ (ls : List Latch). flat_map (latch_line m pixmap) (filter mine ls)) (take_more latches k l within ∙ ap (λ (x : Latch). take k latches ++ x ∷ []) (sym is))
-        ∙ ap (flat_map (latch_line m pixmap)) (filter-append mine (take k latches) (latch ∷ []))
-        ∙ flat_map-append (latch_line m pixmap) (filter mine (take k latches)) (filter mine (latch ∷ []))
+    one_piece_more (λ (ls : List Latch). latches_text m pixmap ls crtc) (latches-join m pixmap crtc) latches k l front before after within told
+    (more ∙ ap (λ (x : Latch). before ++ latches_text m pixmap (x ∷ []) crtc) is)

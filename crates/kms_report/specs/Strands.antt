@@ -16,6 +16,7 @@ is_strand First Second = false
 is_strand Second First = false
 is_strand Second Second = true
 
+-- a picture that is on has a frame
 abbrev has_frame : Picture → Bool
 has_frame Off = false
 has_frame (On shown) = true

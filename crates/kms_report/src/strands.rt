@@ -3,14 +3,14 @@ ghost use Rattle.std.specs.Prelude.{◌≡◌, ◌++◌, ◌<◌, All, IfOk, IfS
 ghost use Rattle.kms_model.specs.declared.worlds.Thing.{Thing};
 ghost use Rattle.kms_model.specs.Frames.Shown.{EachCanBeShown};
 ghost use Rattle.kms_report.specs.Images.{things_of};
-ghost use Rattle.kms_report.specs.Strands.{is_strand, is_lit, strand_digests, latch_digests};
+ghost use Rattle.kms_report.specs.Strands.{is_strand, strand_digests, latch_digests};
 ghost use Rattle.kms_report.specs.declared.strands.Strand.TheVariants as Strand;
 ghost use Rattle.kms_screens.specs.Screens.{AreKeptFramesOf};
 
-use crate::showing::{is_other, showing};
+use crate::showing::{is_lit, next_other, showing};
 use kms_core::Core;
 use kms_model::{Latch, NoMemory, Picture};
-use kms_screens::{OneThread, Screen};
+use kms_screens::{OneThread, Screen, is_same};
 use std::alloc::Global;
 use std::mem;
 use std::thread::{Threads, join_mut};
@@ -48,27 +48,70 @@ impl Strand {
     }
 }
 
-/// Whether a latch is one of a CRTC, and on.
-fn is_lit(latch: &Latch, crtc: u32) -> bool
-    ensures { result ≡ is_lit crtc latch.now }
-{
-    latch.crtc == crtc && matches!(latch.picture, Picture::On(_))
+/// Whether a picture is this one, where there is one.
+fn is_next(picture: &Picture, next: Option<&Picture>) -> bool {
+    match next {
+        Some(next) => is_same(picture, next),
+        None => false,
+    }
 }
 
-/// A strand for each latch. Those of a CRTC that are on change strands with each other picture, so that a picture that
-/// comes twice in a row, or with one other in turn, stays in its strand.
+/// How far the latches of a CRTC are shared out: the last picture's strand, and the picture of which each strand keeps
+/// the frame then.
+#[derive(Drop)]
+struct Sharing<'a> {
+    strand: Strand,
+    first: &'a Picture,
+    second: &'a Picture,
+}
+
+impl<'a> Sharing<'a> {
+    /// The picture of which a strand keeps the frame.
+    fn kept(&self, strand: Strand) -> &'a Picture {
+        match strand {
+            Strand::First => self.first,
+            Strand::Second => self.second,
+        }
+    }
+
+    /// Gives this picture to the last picture's strand, which keeps its frame from now on.
+    fn keep(&mut self, picture: &'a Picture) {
+        match self.strand {
+            Strand::First => self.first = picture,
+            Strand::Second => self.second = picture,
+        }
+    }
+
+    /// Gives the picture of a latch of a CRTC that is on, by the latches behind it: to the strand that keeps it, else to
+    /// the one that did not get the last picture, but where that one keeps the next other picture.
+    fn share(&mut self, crtc: u32, latch: &'a Latch, after: &[Latch]) {
+        let picture = &latch.picture;
+        if !is_lit(latch, crtc) || is_same(self.kept(self.strand), picture) {
+            return;
+        }
+        let other = self.kept(self.strand.other());
+        if is_same(other, picture) || !is_next(other, next_other(after, crtc, picture)) {
+            self.strand = self.strand.other();
+        }
+        self.keep(picture);
+    }
+}
+
+/// A strand for each latch. Those of a CRTC that are on change strands where the picture changes, so that a picture that
+/// comes twice in a row, or by turns with one other, stays in its strand; and a strand whose picture comes next keeps it,
+/// so that of three pictures by turns every second one is there.
 pub fn strands_of(alloc: Global, crtc: u32, latches: &[Latch]) -> Result<Vec<Strand>, NoMemory>
     ensures { IfOk result (λ strands. length strands.items ≡ length latches.now) }
 {
     let mut strands = Vec::with_capacity(alloc, latches.len())?;
-    let mut strand = Strand::Second;
-    let mut shown = &Picture::Off;
-    for latch in latches {
-        if is_other(latch, crtc, shown) {
-            strand = strand.other();
-            shown = &latch.picture;
-        }
-        strands.push(strand)?;
+    let mut sharing = Sharing {
+        strand: Strand::Second,
+        first: &Picture::Off,
+        second: &Picture::Off,
+    };
+    for place in 0..latches.len() {
+        sharing.share(crtc, &latches[place], &latches[place + 1..]);
+        strands.push(sharing.strand)?;
     }
     Ok(strands)
 }
@@ -97,33 +140,9 @@ fn push_digest(
     Ok(screen)
 }
 
-/// The digests of the frames of those latches of a CRTC that are on and of a strand.
+/// The digests of the frames of those latches of a CRTC that are on and of a strand, which takes what a
+/// screen keeps and leaves it dark.
 fn digests_of_strand(
-    alloc: Global,
-    core: &Core,
-    mut screen: Screen,
-    crtc: u32,
-    latches: &[Latch],
-    strands: &[Strand],
-    strand: Strand,
-) -> Result<Digests, NoMemory>
-    requires screen { AreKeptFramesOf (things_of core.now) screen }
-    requires latches { All (λ l. EachCanBeShown (things_of core.now) l.picture) latches.now }
-    requires strands { length strands.now ≡ length latches.now }
-    ensures { IfOk result (λ digests. digests.items
-        ≡ strand_digests (things_of core.now) crtc strand latches.now strands.now) }
-{
-    let mut digests = Vec::new(alloc);
-    for place in 0..latches.len() {
-        let is_own = strand.is(strands[place]);
-        let latch = &latches[place];
-        screen = push_digest(alloc, &mut digests, core, screen, crtc, latch, is_own)?;
-    }
-    Ok(digests)
-}
-
-/// The same for a strand that keeps the first frame of a screen.
-fn digests_beside(
     alloc: Global,
     core: &Core,
     screen: &mut Screen,
@@ -138,8 +157,14 @@ fn digests_beside(
     ensures { IfOk result (λ digests. digests.items
         ≡ strand_digests (things_of core.now) crtc strand latches.now strands.now) }
 {
-    let own = mem::replace(screen, Screen::dark(alloc));
-    digests_of_strand(alloc, core, own, crtc, latches, strands, strand)
+    let mut own = mem::replace(screen, Screen::dark(alloc));
+    let mut digests = Vec::new(alloc);
+    for place in 0..latches.len() {
+        let is_own = strand.is(strands[place]);
+        let latch = &latches[place];
+        own = push_digest(alloc, &mut digests, core, own, crtc, latch, is_own)?;
+    }
+    Ok(digests)
 }
 
 /// The two frames of a screen, each on a screen of its own.
@@ -183,7 +208,7 @@ pub fn digests_by_strands<R: Threads>(
             × (length strands.now ≡ length latches.now) }
         ensures { IfOk result (λ digests. digests.items
             ≡ strand_digests (things_of core.entry.now) crtc Strand.First latches.entry.now strands.entry.now) }
-    { digests_beside(alloc, core, &mut one, crtc, latches, strands, Strand::First) };
+    { digests_of_strand(alloc, core, &mut one, crtc, latches, strands, Strand::First) };
     let mut second = || -> Result<Digests, NoMemory>
         requires { AreKeptFramesOf (things_of core.now) other
             × All (λ l. EachCanBeShown (things_of core.now) l.picture) latches.now
@@ -191,7 +216,7 @@ pub fn digests_by_strands<R: Threads>(
         ensures { IfOk result (λ digests. digests.items
             ≡ strand_digests (things_of core.entry.now) crtc Strand.Second latches.entry.now strands.entry.now) }
     {
-        digests_beside(
+        digests_of_strand(
             alloc,
             core,
             &mut other,

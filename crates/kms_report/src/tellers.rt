@@ -10,7 +10,7 @@ ghost use Rattle.kms_report.specs.declared.strands.Strand.TheVariants as Strand;
 ghost use Rattle.kms_screens.specs.Screens.{AreKeptFramesOf};
 
 use crate::latches::{front_of, push_after, push_digits, push_latches, push_off};
-use crate::showing::{is_other, showing};
+use crate::showing::{is_lit, showing};
 use crate::strands::{Strand, digests_by_strands, strands_of};
 use kms_core::Core;
 use kms_model::{Latch, NoMemory, Picture};
@@ -18,8 +18,8 @@ use kms_screens::{OneThread, Screen, SeveralThreads};
 use std::alloc::Global;
 use std::thread::Threads;
 
-/// Adds the line of a latch, where it is of this CRTC: of a latch that is on with the first of some digests. Gives the
-/// others.
+/// Adds the line of a latch, where it is of this CRTC: of a latch that is on with the first of some digests. Gives those
+/// that are still to be told.
 fn push_told<'a>(
     alloc: Global,
     text: &mut Vec<u8>,
@@ -92,7 +92,7 @@ fn first_lit(crtc: u32, latches: &[Latch]) -> Option<usize>
     ensures { IfSome result (λ place. place < length latches.now) }
 {
     for (place, latch) in latches.iter().enumerate() {
-        if is_other(latch, crtc, &Picture::Off) {
+        if is_lit(latch, crtc) {
             return Some(place);
         }
     }

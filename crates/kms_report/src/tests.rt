@@ -1,6 +1,9 @@
 ghost use Rattle.std.specs.Prelude.{◌≡◌, length, IfOk};
 
 use super::*;
+use crate::strands::{Strand, strands_of};
+use kms_model::{Latch, Layers, Picture, Shown};
+use kms_samples::{CONN, sized_mode};
 use std::test::Fail;
 
 #[test]
@@ -60,5 +63,54 @@ fn the_largest_frame_is_written(rt: HostRuntime) -> Result<(), Fail> {
     let frame = filled(rt.alloc(), 0, 50331648)?;
     let text = ppm(rt.alloc(), &frame, 4096, 4096)?;
     assert_eq!(rt; text.len(), 17 + 2 * 50331648);
+    Ok(())
+}
+
+/// The picture that a letter stands for: a dot for the one that is off, and each other for one of a size of its own.
+fn picture_of(letter: u8) -> Picture {
+    if letter == b'.' {
+        return Picture::Off;
+    }
+    Picture::On(Shown {
+        mode: sized_mode(u16::from(letter), 1),
+        conn: CONN.0,
+        gamma: None,
+        layers: Layers::new(),
+    })
+}
+
+/// Whether the latches that letters stand for are shared out in this way between the first strand and the second. Small
+/// letters stand for latches of another CRTC.
+fn are_shared_out(alloc: Global, letters: &[u8], wanted: &[u8]) -> Result<bool, NoMemory> {
+    let mut latches = Vec::new(alloc);
+    for letter in letters {
+        latches.push(Latch {
+            crtc: u32::from(*letter >= b'a'),
+            commit: 0,
+            count: 0,
+            picture: picture_of(*letter),
+        })?;
+    }
+    let strands = strands_of(alloc, 0, latches.as_slice())?;
+    for (strand, digit) in strands.iter().zip(wanted) {
+        if (*strand == Strand::First) != (*digit == b'1') {
+            return Ok(false);
+        }
+    }
+    Ok(strands.len() == wanted.len())
+}
+
+#[test]
+fn latches_are_shared_out_between_two_strands(rt: HostRuntime) -> Result<(), Fail> {
+    for (letters, wanted) in [
+        (b"".as_slice(), b"".as_slice()),
+        (b"ABCD", b"1212"),
+        (b"ABABA", b"12121"),
+        (b"AABBCC", b"112211"),
+        (b"ABCABCABC", b"122112212"),
+        (b".A.aBbA.", b"21112211"),
+    ] {
+        assert!(rt; are_shared_out(rt.alloc(), letters, wanted)?);
+    }
     Ok(())
 }

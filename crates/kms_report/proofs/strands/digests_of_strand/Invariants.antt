@@ -8,5 +8,5 @@ abbrev pub invariant-loop-place : goal.invariant-loop-place
 invariant-loop-place l = record {
   told : l.digests.items ++ strand_digests (things_of l.core) l.crtc l.strand (drop l.place l.latches) (drop l.place l.strands)
       ≡ strand_digests (things_of l.core) l.crtc l.strand l.latches l.strands;
-  stands : AreKeptFramesOf (things_of l.core) l.screen;
+  stands : AreKeptFramesOf (things_of l.core) l.own;
 }
