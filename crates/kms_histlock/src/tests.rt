@@ -11,7 +11,7 @@ use std::test::Fail;
 use std::thread::{Threads, join};
 
 /// A note: whose it is, and its number among that owner's.
-#[derive(Clone, Copy, PartialEq, Eq, Debug)]
+#[derive(Clone, Copy, PartialEq, Eq)]
 struct Note {
     owner: u32,
     number: u32,

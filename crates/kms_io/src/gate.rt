@@ -2,7 +2,7 @@
 use std::sync::Wait;
 
 /// Where in a run a player comes to the gate. Its two numbers there say who comes.
-#[derive(Clone, Copy, Debug, PartialEq, Eq)]
+#[derive(Clone, Copy, PartialEq, Eq)]
 pub enum Point {
     /// A client, before each check of a request: its number and the number of its command.
     Check,
@@ -23,7 +23,7 @@ pub trait Gate {
 }
 
 /// A gate that holds nobody.
-#[derive(Clone, Copy, Debug, PartialEq, Eq)]
+#[derive(Clone, Copy, PartialEq, Eq)]
 pub struct NoGate;
 
 impl Gate for NoGate {

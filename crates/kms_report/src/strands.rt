@@ -20,7 +20,7 @@ type Digests = Vec<[u8; 32]>;
 
 /// One of two strands. Each keeps one frame, and makes of it the frames of the latches that are its own, one after the
 /// other.
-#[derive(Clone, Copy, Debug, PartialEq, Eq)]
+#[derive(Clone, Copy, PartialEq, Eq)]
 pub enum Strand {
     /// That of the first picture.
     First,
