@@ -1,5 +1,5 @@
 #!/bin/sh
-# Runs the checks that need the built program, and those of the kernel's headers, one after the other, and says of each whether it
+# Runs the checks of the built program, of the manual and of the kernel's headers, one after the other, and says of each whether it
 # passed, failed or was skipped for want of a tool. `.ci/run` runs it behind the gate, which leaves the program.
 #
 # usage: checks/all.sh PROGRAM [PASSED]      PASSED: how many the gate passed, which the last line counts too
