@@ -30,23 +30,3 @@ impl Gate for NoGate {
     /// Returns at once.
     fn at<R: Wait>(&self, _rt: &R, _point: Point, _a: u32, _b: u32) {}
 }
-
-#[cfg(test)]
-mod tests {
-    use super::*;
-
-    fn passed<R: Wait, G: Gate + Sync>(rt: &R, gate: &G, points: &[Point]) -> u32 {
-        let mut passed = 0u32;
-        for point in points {
-            gate.at(rt, *point, 1, 0);
-            passed = passed.saturating_add(1);
-        }
-        passed
-    }
-
-    #[test]
-    fn no_gate_lets_everybody_pass(rt: HostRuntime) {
-        let points = [Point::Check, Point::Answered, Point::Claim, Point::Vblank];
-        assert_eq!(rt; passed(&rt, &NoGate, &points), 4);
-    }
-}

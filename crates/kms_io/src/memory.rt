@@ -207,6 +207,3 @@ impl Sink for MemSink {
         Ok(count)
     }
 }
-
-#[cfg(test)]
-mod tests;
