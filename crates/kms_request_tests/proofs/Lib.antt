@@ -1,1 +1,2 @@
 mod ReachRows
+pub mod Standing

@@ -1,5 +1,4 @@
 //! Whether a command is answered as a line says, and whether the calls that tell so before agree.
-ghost use Rattle.std.specs.Prelude.{◌≡◌, IsTrue};
 ghost use Rattle.kms_model.specs.Device.Sound.{IsDevice};
 ghost use Rattle.kms_model.specs.Request.Deciding.{AreFresh, AreOfSoundWorld};
 ghost use Rattle.kms_request_tests.specs.Standing.{Stands};
@@ -64,6 +63,7 @@ fn if_early(refusal: Option<Refusal>) -> Option<Refusal> {
 }
 
 /// The refusal that a request meets where it is resolved.
+#[tactic(auto, using(crate::proofs::Standing::stands_limits))]
 fn unresolved(
     alloc: Global,
     topology: &Topology,
@@ -80,6 +80,7 @@ fn unresolved(
 }
 
 /// Whether a request meets this refusal early, where it is due early.
+#[tactic(auto, using(crate::proofs::Standing::stands_limits))]
 fn meets_early(
     alloc: Global,
     topology: &Topology,
@@ -115,6 +116,7 @@ fn meets_in_time(
 }
 
 /// The present states of a device.
+#[tactic(auto, using(crate::proofs::Standing::present_held, crate::proofs::Standing::present_fresh))]
 pub(crate) fn states_of(topology: &Topology, device: &Serial) -> Duplicates
     requires { Stands topology.now device.now }
     ensures held { AreOfSoundWorld topology.now result }
@@ -124,6 +126,7 @@ pub(crate) fn states_of(topology: &Topology, device: &Serial) -> Duplicates
 }
 
 /// Whether each call says of a request that it is refused as in this reply, or accepted.
+#[tactic(auto, using(crate::proofs::Standing::stands_device))]
 fn agree_on(
     alloc: Global,
     topology: &Topology,

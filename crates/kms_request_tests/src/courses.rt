@@ -52,6 +52,7 @@ fn script_text(alloc: Global, device: &str, course: &str) -> Result<String, Fail
 }
 
 /// The same, read.
+#[tactic(auto, using(crate::proofs::Standing::formed_device))]
 fn script_of(alloc: Global, device: &str, course: &str) -> Result<Script, Fail>
     ensures { IfOk result (λ s. IsDevice s.topology) }
 {
@@ -83,6 +84,7 @@ fn is_fit(command: &Command) -> bool
 }
 
 /// What a device answers to a client's command.
+#[tactic(auto, using(crate::proofs::Standing::stands_after))]
 fn ask(
     alloc: Global,
     topology: &Topology,
@@ -188,6 +190,7 @@ fn copy_of(alloc: Global, topology: &Topology) -> Result<Topology, NoMemory>
 }
 
 /// A device before the first command.
+#[tactic(auto, using(crate::proofs::Standing::stands_start))]
 fn device_of(alloc: Global, topology: &Topology) -> Result<Serial, NoMemory>
     requires { IsDevice topology.now }
     ensures { IfOk result (Stands topology.now) }

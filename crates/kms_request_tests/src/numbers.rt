@@ -12,6 +12,7 @@ use std::alloc::Global;
 use std::process::Abort;
 
 /// Asserts which refusal one assignment meets on a device, where labels name nothing.
+#[tactic(auto, using(crate::proofs::Standing::stands_limits))]
 fn assert_refused<R: Abort>(
     rt: &R,
     alloc: Global,

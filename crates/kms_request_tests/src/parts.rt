@@ -1,15 +1,14 @@
 //! Lines of a course on what a request names and touches, and on what it needs while states are missing.
-ghost use Rattle.std.specs.Prelude.{◌≡◌, cond, replicate, None};
+ghost use Rattle.std.specs.Prelude.{◌≡◌, cond, replicate, IfOk, None};
 ghost use Rattle.kms_model.specs.declared.objects.Topology.{Topology};
-ghost use Rattle.kms_model.specs.Request.Deciding.{AreFresh, AreOfSoundWorld};
-ghost use Rattle.kms_model.specs.Device.Sound.{IsDevice};
+ghost use Rattle.kms_model.specs.Request.Deciding.{AreFresh, AreOfSoundWorld, IsAskedFor};
 ghost use Rattle.kms_request_tests.specs.Standing.{Stands};
 
 use crate::answers::{is_named, looks_of, states_of};
 use kms_check::{Move, Refused, check, next_move};
 use kms_model::{
-    Both, Checked, Command, ConnState, CrtcState, Duplicates, Lookups, Mask, ObjId, PlaneState,
-    Request, Resolved, SetValue, Topology,
+    Both, Checked, Command, ConnState, CrtcState, Duplicates, Mask, ObjId, PlaneState, Request,
+    Resolved, SetValue, Topology,
 };
 use kms_request::{named, resolve};
 use kms_serial::Serial;
@@ -38,6 +37,7 @@ fn conns_if(is: bool, states: &Duplicates) -> [Option<Both<ConnState>>; 8]
 }
 
 /// The states of some kinds of objects, which are named with commas between them.
+#[tactic(auto, using(crate::proofs::Standing::held_of_kinds, crate::proofs::Standing::fresh_of_kinds))]
 fn states_of_kinds(states: &Duplicates, kinds: &str) -> Duplicates
     ensures held { (t : Topology) → AreOfSoundWorld t states.now → AreOfSoundWorld t result }
     ensures fresh { AreFresh states.now → AreFresh result }
@@ -50,22 +50,26 @@ fn states_of_kinds(states: &Duplicates, kinds: &str) -> Duplicates
     }
 }
 
-/// What a request asks for.
+/// What a request asks for on a device.
+#[tactic(auto, using(crate::proofs::Standing::stands_device, crate::proofs::Standing::stands_limits, crate::proofs::Standing::asked_for))]
 fn resolved(
     alloc: Global,
     topology: &Topology,
+    device: &Serial,
     request: &Request,
-    looks: &Lookups,
 ) -> Result<Resolved, Fail>
-    requires { IsDevice topology.now }
+    requires { Stands topology.now device.now }
+    ensures { IfOk result (IsAskedFor topology.now) }
 {
-    match resolve(alloc, topology, request, looks) {
+    let looks = looks_of(alloc, device, request)?;
+    match resolve(alloc, topology, request, &looks) {
         Ok(resolved) => Ok(resolved),
         Err(_) => Err(Fail::new("the request is resolved")),
     }
 }
 
 /// What a check of a request answers over the states of some kinds of objects.
+#[tactic(auto, using(crate::proofs::Standing::stands_device))]
 fn checked(
     alloc: Global,
     topology: &Topology,
@@ -75,9 +79,8 @@ fn checked(
 ) -> Result<Result<Checked, Refused>, Fail>
     requires { Stands topology.now device.now }
 {
-    let looks = looks_of(alloc, device, request)?;
     let states = states_of(topology, device);
-    let resolved = resolved(alloc, topology, request, &looks)?;
+    let resolved = resolved(alloc, topology, device, request)?;
     Ok(check(topology, states_of_kinds(&states, kinds), &resolved))
 }
 
@@ -125,8 +128,7 @@ fn names(
 ) -> Result<bool, Fail>
     requires { Stands topology.now device.now }
 {
-    let looks = looks_of(alloc, device, request)?;
-    let resolved = resolved(alloc, topology, request, &looks)?;
+    let resolved = resolved(alloc, topology, device, request)?;
     let want: u32 = want.parse()?;
     Ok(named(&resolved, &device.states()) == want)
 }
@@ -173,8 +175,7 @@ fn sets(
 ) -> Result<bool, Fail>
     requires { Stands topology.now device.now }
 {
-    let looks = looks_of(alloc, device, request)?;
-    let resolved = resolved(alloc, topology, request, &looks)?;
+    let resolved = resolved(alloc, topology, device, request)?;
     let text = sets_text(alloc, &resolved)?;
     Ok(text.as_str() == want)
 }
@@ -190,8 +191,7 @@ fn fences(
     requires { Stands topology.now device.now }
 {
     let (waits, makes) = want.split_once(',').ok_or("two lists")?;
-    let looks = looks_of(alloc, device, request)?;
-    let resolved = resolved(alloc, topology, request, &looks)?;
+    let resolved = resolved(alloc, topology, device, request)?;
     let ins = numbered_text(alloc, resolved.in_fences.as_slice())?;
     let outs = numbered_text(alloc, resolved.out_fences.as_slice())?;
     Ok(ins.as_str() == waits && outs.as_str() == makes)
@@ -227,6 +227,7 @@ fn is_move(alloc: Global, next: &Move, want: &str) -> Result<bool, Fail> {
 }
 
 /// Whether the next move over the states of some kinds is this one.
+#[tactic(auto, using(crate::proofs::Standing::stands_device))]
 fn goes_on(
     alloc: Global,
     topology: &Topology,
