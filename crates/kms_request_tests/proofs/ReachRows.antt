@@ -62,12 +62,35 @@ pub same_mode_closed : reached (assigns_to kind.Crtc 0 MODE_ID (value.Named 1) �
 unfolding reaches own_refusal touches
 same_mode_closed = refl
 
--- What no request may set: an object that the device does not have, whose number would be that of a plane; a property that
+-- A plane that goes to another CRTC reaches both. A CRTC that goes off, and one that a second connector comes to, reaches what
+-- is on it.
+abbrev singles : List Assign
+singles =
+    assigns_to kind.Plane 0 CRTC_ID (value.Crtc 1)
+    ∷ assigns_to kind.Crtc 0 ACTIVE (value.Num (pos 0))
+    ∷ assigns_to kind.Conn 1 CRTC_ID (value.Crtc 0)
+    ∷ []
+
+pub one_assignment_reaches_what_it_touches : map (λ a. reached (a ∷ [])) singles ≡
+    (true ∷ true ∷ true ∷ false ∷ false ∷ false ∷ false ∷ [])
+    ∷ (true ∷ false ∷ true ∷ false ∷ true ∷ false ∷ false ∷ [])
+    ∷ (true ∷ false ∷ true ∷ false ∷ true ∷ true ∷ false ∷ [])
+    ∷ []
+unfolding reaches own_refusal touches
+one_assignment_reaches_what_it_touches = refl
+
+-- of three assignments the first and the last are refused
+pub refused_assignments_reach_nothing_among_others : reached (assigns_to kind.Plane 0 ALPHA (value.Num (pos 65536)) ∷ assigns_to kind.Conn 1 CRTC_ID (value.Crtc 1) ∷ assigns_to kind.Crtc 0 ACTIVE (value.Num (pos 2)) ∷ []) ≡ false ∷ true ∷ false ∷ false ∷ false ∷ true ∷ false ∷ []
+unfolding reaches own_refusal touches
+refused_assignments_reach_nothing_among_others = refl
+
+-- What no request may set: an object that the device does not have, also one whose number would be that of a plane; a property that
 -- the object does not have; one that no request may set; a value out of range; a label that is not made; one of another
 -- kind; and any property of an encoder, which has none.
 abbrev refused : List Assign
 refused =
-    assigns_to kind.Crtc 100 ACTIVE (value.Num (pos 0))
+    assigns_to kind.Crtc 2 ACTIVE (value.Num (pos 0))
+    ∷ assigns_to kind.Crtc 100 ACTIVE (value.Num (pos 0))
     ∷ assigns_to kind.Crtc 0 ALPHA (value.Num (pos 0))
     ∷ assigns_to kind.Plane 0 TYPE (value.Num (pos 1))
     ∷ assigns_to kind.Plane 0 ALPHA (value.Num (pos 65536))
