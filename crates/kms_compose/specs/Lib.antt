@@ -1,6 +1,5 @@
 pub mod Areas
 pub mod Changes
-pub mod Example
 pub mod Images
 pub mod Parts
 pub mod Sources

@@ -20,12 +20,3 @@ pub use images::{FbImage, Images};
 pub use recomposing::{recompose, recompose_kept};
 pub use sameness::{is_same_layer, is_same_size, is_same_table};
 pub use threads::frame_rows;
-
-#[cfg(test)]
-mod fixtures;
-#[cfg(test)]
-mod recompose_tests;
-#[cfg(test)]
-mod scaling_tests;
-#[cfg(test)]
-mod tests;

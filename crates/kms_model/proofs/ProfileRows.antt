@@ -1,6 +1,6 @@
 -- Worked examples of profile 2, computed: scaled planes, sources that begin between pixels, and tables of colour values.
 use Rattle.std.proofs.Common.{◌≡◌, ℕ, ◌-◌, List, [], ◌∷◌, ◌++◌, drop, map, refl, codes, replicate, Some, None, Ok}
-use Rattle.std.specs.Prelude.{slice_index}
+use Rattle.std.specs.Prelude.{neg_ℤ, pos, slice_index}
 use Rattle.std.specs.List.{flat_map, range_with_len}
 use Rattle.std.specs.Option.{option_map}
 use Rattle.kms_model.specs.declared.flags.TheConstants.{ALLOW_MODESET}
@@ -22,6 +22,7 @@ use Rattle.kms_model.specs.declared.scripts.Value.TheVariants as value
 use Rattle.kms_model.specs.Device.GammaBytes.{gamma_of_bytes}
 use Rattle.kms_model.specs.Device.Modes.{plain_mode}
 use Rattle.kms_model.specs.Device.Serial.{Entry, show}
+use Rattle.kms_model.specs.Frames.FrameBytes.{source_at}
 use Rattle.kms_model.specs.Script.CommandLines.{line_read}
 use Rattle.kms_model.proofs.MachineInputs.{one, pixmaps, report_of_script}
 use Rattle.kms_model.proofs.OneThread.{replies}
@@ -97,6 +98,10 @@ at_most_four_times_as_wide = refl
 pub at_least_a_quarter_as_wide : replies (device_of 2) ((made_wide (1 ∷ 2 ∷ 3 ∷ 4 ∷ 5 ∷ []) 5 ++ wide 262144 1 ∷ wide 262145 1 ∷ []) ∷ []) ≡ three_made ++ reply.Commit 0 ∷ refused refusal.SCALED ∷ []
 unfolding on_literals
 at_least_a_quarter_as_wide = refl
+
+-- the last two pixels of the widest destination show the last pixel of the widest source
+pub widest_source_is_shown_to_its_end : map (source_at (pos 0) (pos 4294967295) (neg_ℤ (pos 262140)) (pos 262142)) (0 ∷ 1 ∷ []) ≡ 65535 ∷ 65535 ∷ []
+widest_source_is_shown_to_its_end = refl
 
 -- Sources that begin between pixels
 

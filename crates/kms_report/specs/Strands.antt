@@ -1,29 +1,11 @@
 -- The digests of a CRTC's frames, by the strands in which they are made.
-use Rattle.std.specs.Prelude.{◌≡◌, ℕ, ◌==◌, ◌&&◌, Bool, true, false, List, [], ◌∷◌, ◌++◌, if◌then◌else◌}
+use Rattle.std.specs.Prelude.{◌≡◌, ℕ, ◌&&◌, Bool, true, List, [], ◌∷◌, ◌++◌, if◌then◌else◌}
 use Rattle.sha2.specs.Sha256.{sha256}
-use Rattle.kms_model.specs.declared.pictures.Picture.{Picture}
-use Rattle.kms_model.specs.declared.pictures.Picture.TheVariants.{Off, On}
 use Rattle.kms_model.specs.declared.runs.Latch.{Latch}
 use Rattle.kms_model.specs.declared.worlds.Thing.{Thing}
 use Rattle.kms_model.specs.Frames.FrameBytes.{frame_bytes}
-use Rattle.kms_report.specs.declared.strands.Strand.{Strand}
-use Rattle.kms_report.specs.declared.strands.Strand.TheVariants.{First, Second}
-
--- two strands are the same
-abbrev pub is_strand : Strand → Strand → Bool
-is_strand First First = true
-is_strand First Second = false
-is_strand Second First = false
-is_strand Second Second = true
-
--- a picture that is on has a frame
-abbrev has_frame : Picture → Bool
-has_frame Off = false
-has_frame (On shown) = true
-
--- a latch is one of a CRTC, and on
-abbrev pub is_lit : ℕ → Latch → Bool
-is_lit crtc l = (l.crtc == crtc) && has_frame l.picture
+use Rattle.kms_screens.specs.declared.strands.Strand.{Strand}
+use Rattle.kms_screens.specs.Strands.{is_lit, is_strand}
 
 -- the digest of a latch's frame, where the latch is one of a CRTC, on, and of the strand that is meant
 abbrev pub latch_digests : List Thing → ℕ → Bool → Latch → List (List ℕ)

@@ -42,6 +42,3 @@ pub fn ppm(alloc: Global, frame: &Frame, width: u32, height: u32) -> Result<Seq<
     let text = pixmaps::text_of(alloc, frame.as_slice(), width, height)?;
     Ok(Seq::from_vec(text))
 }
-
-#[cfg(test)]
-mod tests;

@@ -1,43 +1,16 @@
 //! The frames of latches, made one of another.
-ghost use Rattle.std.specs.Prelude.{◌≡◌, List, All, IfOk, IfSome, OnOk};
+ghost use Rattle.std.specs.Prelude.{All, IfOk, IfSome, OnOk};
 ghost use Rattle.kms_compose.specs.Images.{AreImagesIn, CanShow};
-ghost use Rattle.kms_model.specs.declared.worlds.Thing.{Thing};
 ghost use Rattle.kms_model.specs.Frames.Shown.{EachCanBeShown};
 ghost use Rattle.kms_report.specs.Images.{KeepsImages, ShowsKept, things_of};
-ghost use Rattle.kms_report.specs.Strands.{is_lit};
 ghost use Rattle.kms_screens.specs.Screens.{Has, AreKeptFramesOf};
 
 use crate::images::push_images;
 use kms_compose::Images;
 use kms_core::Core;
 use kms_model::{Latch, NoMemory, Picture, Seq};
-use kms_screens::{Hands, Screen, is_same};
+use kms_screens::{Hands, Screen, next_other};
 use std::alloc::Global;
-
-/// Whether a latch is one of a CRTC, and on.
-pub fn is_lit(latch: &Latch, crtc: u32) -> bool
-    ensures { result ≡ is_lit crtc latch.now }
-{
-    latch.crtc == crtc && matches!(latch.picture, Picture::On(_))
-}
-
-/// Whether a latch shows another picture than this one on a CRTC, and is on.
-pub fn is_other(latch: &Latch, crtc: u32, picture: &Picture) -> bool {
-    is_lit(latch, crtc) && !is_same(&latch.picture, picture)
-}
-
-/// The picture of the first of these latches that shows another one than this on a CRTC, and is on.
-pub fn next_other<'a>(latches: &'a [Latch], crtc: u32, picture: &Picture) -> Option<&'a Picture>
-    ensures { (things : List Thing) → All (λ l. EachCanBeShown things l.picture) latches.now
-        → IfSome result (λ p. EachCanBeShown things p.now) }
-{
-    for latch in latches {
-        if is_other(latch, crtc, picture) {
-            return Some(&latch.picture);
-        }
-    }
-    None
-}
 
 /// Adds the images of a picture, where there is one.
 fn push_next<'a>(

@@ -1,12 +1,14 @@
-//! Tests of reports: the whole text for histories that were worked out by hand. A test makes its machine and lends it to a
-//! function with its steps, which is proved once. Scripts and steps are those of `kms_core_tests`, where they serve.
+//! Tests of frames, of what is kept of them, and of reports: what neither a clause nor the report of a script says. Reports of
+//! scripts are cases of `kms_cases`.
 #![tactic(auto)]
 
 #[cfg(test)]
-mod comparing;
+mod frames;
 #[cfg(test)]
-mod ends;
+mod screens;
 #[cfg(test)]
-mod kinds;
+mod spots;
+#[cfg(test)]
+mod strands;
 #[cfg(test)]
 mod texts;

@@ -1,2 +1,2 @@
-pub mod Dots
 pub mod Screens
+pub mod Strands

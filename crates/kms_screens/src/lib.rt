@@ -1,4 +1,5 @@
-//! What a CRTC showed last: two pictures, each with its frame and the frame's digest, of which the next ones are made.
+//! What a CRTC showed last: two pictures, each with its frame and the frame's digest, of which the next ones are made; and how
+//! two strands share out what it shows.
 #![tactic(auto)]
 
 mod digests;
@@ -6,12 +7,11 @@ mod fronts;
 mod hands;
 mod kept;
 mod screen;
+mod strands;
 
 pub use digests::digest_of;
 pub use fronts::Fronts;
 pub use hands::{Hands, OneThread, SeveralThreads};
 pub use kept::{Drawn, KeptFrame, is_same};
 pub use screen::Screen;
-
-#[cfg(test)]
-mod tests;
+pub use strands::{Strand, is_lit, next_other, strands_of};

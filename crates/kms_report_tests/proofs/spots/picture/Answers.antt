@@ -1,6 +1,6 @@
 use Rattle.std.proofs.Common.{◌≡◌, [], ◌∷◌, rules}
-use Rattle.kms_screens.proofs.Dots.{both_shown}
-use Rattle.kms_screens.proofs.tests.dots.Goals as goal
+use Rattle.kms_report_tests.proofs.Spots.{both_shown}
+use Rattle.kms_report_tests.proofs.spots.picture.Goals as goal
 
 pub returns : goal.returns
 returns c =

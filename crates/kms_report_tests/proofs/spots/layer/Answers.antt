@@ -1,5 +1,5 @@
 use Rattle.std.proofs.Common.{arith, rules}
-use Rattle.kms_screens.proofs.tests.layer.Goals as goal
+use Rattle.kms_report_tests.proofs.spots.layer.Goals as goal
 
 pub returns-clause-fits : goal.returns-clause-fits
 returns-clause-fits c = record {
