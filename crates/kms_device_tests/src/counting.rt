@@ -220,28 +220,40 @@ const SIDE_BY_SIDE: Run<'static> = Run {
     is_shared: true,
 };
 
-/// Players come to rest in one thread, and in several.
-#[test]
-fn players_come_to_rest(rt: HostRuntime) {
-    let runs = [
-        ALL_END,
-        Run {
-            threads: 4,
-            ..ALL_END
-        },
-        TWO_STAY,
-        Run {
-            threads: 4,
-            ..TWO_STAY
-        },
-        NO_PLAYER,
-        ONE_PLAYER,
-        SIDE_BY_SIDE,
-    ];
-    for run in &runs {
+// Gives the counters of each of some runs their turns.
+fn assert_runs<R: Abort + AllocGlobal + Threads + Wait + Sync>(rt: &R, runs: &[Run<'_>]) {
+    for run in runs {
         assert!(rt; 0 < run.threads && run.threads <= 16);
-        assert_run(&rt, run);
+        assert_run(rt, run);
     }
+}
+
+#[test]
+fn all_players_end(rt: HostRuntime) {
+    let in_four = Run {
+        threads: 4,
+        ..ALL_END
+    };
+    assert_runs(&rt, &[ALL_END, in_four]);
+}
+
+#[test]
+fn two_players_stay(rt: HostRuntime) {
+    let in_four = Run {
+        threads: 4,
+        ..TWO_STAY
+    };
+    assert_runs(&rt, &[TWO_STAY, in_four]);
+}
+
+#[test]
+fn threads_without_a_player_end(rt: HostRuntime) {
+    assert_runs(&rt, &[NO_PLAYER, ONE_PLAYER]);
+}
+
+#[test]
+fn turns_go_on_side_by_side(rt: HostRuntime) {
+    assert_runs(&rt, &[SIDE_BY_SIDE]);
 }
 
 // A turn without memory ends the run.
