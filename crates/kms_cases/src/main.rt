@@ -1,13 +1,10 @@
 //! `kms_cases`: reads cases from its standard input, has the program answer each in memory, and prints a line a case.
 #![tactic(auto)]
 
-mod cases;
-mod faults;
-mod reading;
 mod running;
 mod telling;
 
-use reading::{CasesError, read_cases};
+use kms_casebook::{FileError, read_cases};
 use std::io;
 use std::io::Read;
 use std::process::ExitCode;
@@ -20,11 +17,11 @@ fn answer_all<R: AllocGlobal + Input + Print + Threads + Sync>(rt: &R) -> io::Re
     rt.reader().read_to_end(&mut text)?;
     match read_cases(rt.alloc(), text.as_slice()) {
         Ok(cases) => tell_all(rt, cases.as_slice()),
-        Err(CasesError::Fault { line, why }) => {
+        Err(FileError::Fault { line, why }) => {
             println!(rt; "line {line}: {why}")?;
             Ok(false)
         }
-        Err(CasesError::NoMemory) => Err(io::Error::from(io::ErrorKind::OutOfMemory)),
+        Err(FileError::NoMemory) => Err(io::Error::from(io::ErrorKind::OutOfMemory)),
     }
 }
 

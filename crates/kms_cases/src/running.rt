@@ -1,6 +1,6 @@
 //! A case answered by the program, over memory.
 
-use crate::cases::{Case, Ending};
+use kms_casebook::{Case, Ending};
 use kms_io::{MemSink, MemSource};
 use kms_run::{is_run, kms_plain, status_text};
 use std::alloc::{AllocError, Global};

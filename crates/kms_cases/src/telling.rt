@@ -1,8 +1,7 @@
 //! What is found, compared with what is wanted, and told.
 
-use crate::cases::{Case, Ending};
 use crate::running::run_case;
-use kms_marked::show;
+use kms_casebook::{Case, Ending, show};
 use std::io;
 use std::thread::Threads;
 
@@ -25,7 +24,7 @@ pub fn tell_all<R: AllocGlobal + Print + Threads + Sync>(
 fn tell_case<R: AllocGlobal + Print + Threads + Sync>(rt: &R, case: &Case) -> io::Result<bool> {
     let name = case.name.as_str();
     let Some(found) = run_case(rt, rt.alloc(), case)? else {
-        println!(rt; "{name}: words of run")?;
+        println!(rt; "{name}: words of run are for tests")?;
         return Ok(false);
     };
     let ended = tell_ending(rt, name, case.ending.as_ref(), &found.ending)?;

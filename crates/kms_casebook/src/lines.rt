@@ -1,11 +1,11 @@
 //! A line taken apart.
 
 /// The greatest number of times that a line says a text.
-pub const MOST_TIMES: u32 = 65536;
+const MOST_TIMES: u32 = 65536;
 
 /// A line: a mark, how many times it says its text, and the text.
 #[derive(Clone, Copy, Drop)]
-pub struct Marked<'a> {
+pub(crate) struct Marked<'a> {
     pub mark: &'a str,
     pub times: u32,
     pub text: &'a str,
@@ -13,7 +13,7 @@ pub struct Marked<'a> {
 
 /// Takes a line apart at its first space, or at its end. Digits behind the mark say how many times the text is said; where
 /// there are none, it is said once. None where they are no number from 1 to [`MOST_TIMES`].
-pub fn read_marked(line: &str) -> Option<Marked<'_>> {
+pub(crate) fn read_marked(line: &str) -> Option<Marked<'_>> {
     let (front, text) = match line.split_once(' ') {
         Some(parts) => parts,
         None => (line, ""),

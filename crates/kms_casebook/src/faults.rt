@@ -1,6 +1,6 @@
 //! Why a line of a file of cases may not stand.
 
-use kms_marked::Unspelled;
+use crate::spelling::Unspelled;
 use std::alloc::{AllocError, AllocFailed};
 use std::fmt;
 
@@ -17,8 +17,10 @@ pub enum Why {
     Case,
     /// The head of a case has no name and colon.
     Head,
-    /// Its words ask for threads that wait for one another.
-    Threads,
+    /// A case of this name stands before it.
+    Twice,
+    /// It names a case that does not stand before it.
+    Other,
     /// It says a status, which has no number or is said before.
     Status,
     /// The case has lines of all that is written and of parts of it.
@@ -33,16 +35,25 @@ impl fmt::Display for Why {
             Why::Spelling => "the text spells no bytes",
             Why::Case => "no case stands before it",
             Why::Head => "a case has a name, a colon and words",
-            Why::Threads => "words of run are for tests",
+            Why::Twice => "a case of this name stands before it",
+            Why::Other => "no case of this name stands before it",
             Why::Status => "a case has one status, a number and a text",
             Why::Both => "a case has lines of all that is written, or of parts of it",
         })
     }
 }
 
+/// Why a file is not read.
+#[derive(Clone, Copy, Drop)]
+pub enum FileError {
+    /// The first line that may not stand, counted from 1.
+    Fault { line: usize, why: Why },
+    NoMemory,
+}
+
 /// Why a line is not read.
 #[derive(Clone, Copy, Drop)]
-pub enum LineError {
+pub(crate) enum LineError {
     Fault(Why),
     NoMemory,
 }

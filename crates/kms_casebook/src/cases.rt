@@ -1,7 +1,7 @@
 //! A case: what the program is given, and what is wanted of it.
 
 use crate::faults::{LineError, Why};
-use kms_marked::spell;
+use crate::spelling::spell_line;
 use std::alloc::Global;
 
 /// What is wanted of a run's end.
@@ -12,21 +12,23 @@ pub struct Ending {
     pub text: String,
 }
 
-/// A case. Where it has parts, each is looked for in what is written, at the begin of a line and behind the one before; else
-/// what is written is the whole output.
+/// A case.
 #[derive(Drop)]
 pub struct Case {
     pub name: String,
     pub words: Vec<String>,
+    /// None where the program ends well.
     pub ending: Option<Ending>,
     pub input: Vec<u8>,
+    /// All that the program writes, where there are no parts.
     pub output: Vec<u8>,
+    /// What stands at the begins of lines that the program writes, each behind the one before.
     pub parts: Vec<Vec<u8>>,
 }
 
 impl Case {
     /// A case without an input, of which nothing is wanted but that it ends well.
-    pub fn new(alloc: Global, name: String, words: Vec<String>) -> Case {
+    pub(crate) fn new(alloc: Global, name: String, words: Vec<String>) -> Case {
         Case {
             name,
             words,
@@ -38,7 +40,7 @@ impl Case {
     }
 
     /// Says how the run ends.
-    pub fn set_ending(&mut self, ending: Ending) -> Result<(), LineError> {
+    pub(crate) fn set_ending(&mut self, ending: Ending) -> Result<(), LineError> {
         if self.ending.is_some() {
             return Err(LineError::Fault(Why::Status));
         }
@@ -47,7 +49,12 @@ impl Case {
     }
 
     /// Puts bytes behind the output.
-    pub fn add_output(&mut self, alloc: Global, text: &str, times: u32) -> Result<(), LineError> {
+    pub(crate) fn add_output(
+        &mut self,
+        alloc: Global,
+        text: &str,
+        times: u32,
+    ) -> Result<(), LineError> {
         if !self.parts.is_empty() {
             return Err(LineError::Fault(Why::Both));
         }
@@ -55,22 +62,32 @@ impl Case {
     }
 
     /// Puts bytes behind the input.
-    pub fn add_input(&mut self, alloc: Global, text: &str, times: u32) -> Result<(), LineError> {
+    pub(crate) fn add_input(
+        &mut self,
+        alloc: Global,
+        text: &str,
+        times: u32,
+    ) -> Result<(), LineError> {
         say(alloc, &mut self.input, text, times)
     }
 
+    /// Puts the input of another case behind the input.
+    pub(crate) fn add_input_of(&mut self, other: &Case) -> Result<(), LineError> {
+        Ok(self.input.extend_from_slice(other.input.as_slice())?)
+    }
+
     /// Adds a part of the output.
-    pub fn add_part(&mut self, alloc: Global, text: &str) -> Result<(), LineError> {
+    pub(crate) fn add_part(&mut self, alloc: Global, text: &str) -> Result<(), LineError> {
         if !self.output.is_empty() {
             return Err(LineError::Fault(Why::Both));
         }
-        Ok(self.parts.push(spell(alloc, text)?)?)
+        Ok(self.parts.push(spell_line(alloc, text)?)?)
     }
 }
 
 /// Puts the bytes that a text spells behind others, so many times.
 fn say(alloc: Global, into: &mut Vec<u8>, text: &str, times: u32) -> Result<(), LineError> {
-    let bytes = spell(alloc, text)?;
+    let bytes = spell_line(alloc, text)?;
     for _ in 0..times {
         into.extend_from_slice(bytes.as_slice())?;
     }
