@@ -1,12 +1,14 @@
 //! Rectangles and quotients, worked by hand.
-ghost use Rattle.std.specs.Prelude.{◌≡◌, IsTrue};
-ghost use Rattle.kms_model.specs.Frames.Rectangles.{IsNear, IsNearRect};
+ghost use Rattle.std.specs.Prelude.{◌≡◌, true};
+ghost use Rattle.kms_model.specs.Frames.Rectangles.{IsNearRect};
 
 use kms_geom::{clip, div_round, fits_source, is_scaled_little};
 use kms_model::Rect;
 use std::process::Abort;
 
-/// The greatest number of a rectangle.
+/// The least and the greatest number of a rectangle.
+const LEAST: i64 = -4294967295;
+
 const MOST: i64 = 4294967295;
 
 /// A pixel in 16.16 fixed point.
@@ -18,31 +20,28 @@ fn rect(numbers: [i64; 4]) -> Rect {
     Rect { x, y, w, h }
 }
 
-/// Whether a rectangle may have a number.
-fn is_near(number: i64) -> bool
-    ensures { IsTrue result → IsNear number }
+/// Whether the numbers of a rectangle are in their ranges.
+fn is_near(r: &Rect) -> bool
+    ensures { result ≡ true → IsNearRect r.now }
 {
-    -MOST <= number && number <= MOST
-}
-
-/// Whether both numbers are such.
-fn are_near(first: i64, second: i64) -> bool
-    ensures first { IsTrue result → IsNear first }
-    ensures second { IsTrue result → IsNear second }
-{
-    is_near(first) && is_near(second)
-}
-
-/// Whether a rectangle has no other number.
-fn is_near_rect(r: Rect) -> bool
-    ensures { IsTrue result → IsNearRect r }
-{
-    are_near(r.x, r.y) && are_near(r.w, r.h)
+    if r.x < LEAST || r.y < LEAST {
+        return false;
+    }
+    if r.w < LEAST || r.h < LEAST {
+        return false;
+    }
+    if r.x > MOST || r.y > MOST {
+        return false;
+    }
+    if r.w > MOST || r.h > MOST {
+        return false;
+    }
+    true
 }
 
 /// Asserts what two rectangles have in common.
 fn assert_common(rt: &impl Abort, case: &str, dst: Rect, area: Rect, common: Option<Rect>) {
-    assert!(rt; is_near_rect(dst) && is_near_rect(area), "{case}");
+    assert!(rt; is_near(&dst) && is_near(&area), "{case}");
     assert!(rt; clip(dst, area) == common, "{case}");
 }
 
@@ -78,7 +77,7 @@ fn a_clipped_rectangle_is_what_both_have(rt: HostRuntime) {
         ("two places", [0, 0, 9, 9], [5, 6, 9, 9], Some([5, 6, 4, 3])),
         ("a size below 0", [3, 3, -2, -2], [1, 1, 9, 9], None),
         ("far", [MOST; 4], [MOST; 4], Some([MOST; 4])),
-        ("far apart", [-MOST, -MOST, MOST, MOST], [MOST; 4], None),
+        ("far apart", [LEAST, LEAST, MOST, MOST], [MOST; 4], None),
     ];
     for (case, dst, area, common) in other_areas {
         assert_common(&rt, case, rect(dst), rect(area), common.map(rect));
@@ -87,7 +86,7 @@ fn a_clipped_rectangle_is_what_both_have(rt: HostRuntime) {
 
 /// Asserts whether a source fits a framebuffer.
 fn assert_fits(rt: &impl Abort, src: Rect, width: u32, height: u32, fits: bool) {
-    assert!(rt; is_near_rect(src));
+    assert!(rt; is_near(&src));
     assert!(rt;
         fits_source(src, width, height) == fits,
         "{} {} {} {} in {width}x{height}",
