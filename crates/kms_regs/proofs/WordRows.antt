@@ -1,5 +1,5 @@
 -- Worked examples of the words of CRTCs and planes, computed: no call of a register file tells a word.
-use Rattle.std.proofs.Common.{◌≡◌, ℕ, ◌+◌, Bool, true, false, List, [], ◌∷◌, map, Option, Some, None, refl}
+use Rattle.std.proofs.Common.{◌≡◌, ◌+◌, Bool, true, false, [], ◌∷◌, map, Option, Some, None, refl}
 use Rattle.std.specs.Prelude.{◌-◌, ◌/◌, ◌%◌, pos, negsuc, replicate, slice_index}
 use Rattle.std.specs.List.{range_with_len}
 use Rattle.kms_model.specs.declared.objects.Format.TheVariants.{Ar24}
@@ -10,7 +10,7 @@ use Rattle.kms_model.specs.declared.states.CrtcState.{CrtcState}
 use Rattle.kms_model.specs.declared.states.PlaneState.{PlaneState}
 use Rattle.kms_model.specs.Device.Modes.{full_hd}
 use Rattle.kms_model.specs.Device.Objects.{object_id}
-use Rattle.kms_model.specs.Machine.Registers.{CrtcWords, PlaneWords, crtc_words, first_crtc_words, first_plane_words, gamma_in_words, mode_in_words, plane_in, plane_words, words_of_bytes}
+use Rattle.kms_model.specs.Machine.Registers.{CrtcWords, crtc_words, first_crtc_words, first_plane_words, gamma_in_words, mode_in_words, plane_in, plane_words, words_of_bytes}
 
 -- a CRTC that is on, or off, with a mode and a table of colour values, if any
 abbrev crtc : Bool → Option Mode → Option Gamma → CrtcState
