@@ -3,32 +3,13 @@ ghost use Rattle.std.specs.Prelude.{◌≡◌};
 ghost use Rattle.kms_compose.specs.Images.{CanShow, HasImage};
 ghost use Rattle.kms_report_tests.specs.Spots.{spot_fb};
 
-use crate::spots::{Spot, View, WORDS, images, picture};
+use crate::spots::{OPAQUE, Spot, View, WORDS, images, picture};
 use kms_compose::{Images, frame, frame_rows, recompose, recompose_kept};
 use kms_model::Picture;
 use std::alloc::Global;
 use std::process::Abort;
 use std::test::Fail;
 use std::thread::Threads;
-
-/// An opaque spot.
-fn at(x: i16, y: i16) -> Spot {
-    Spot { x, y, alpha: 65535 }
-}
-
-/// The same, half transparent.
-fn pale(x: i16, y: i16) -> Spot {
-    Spot { x, y, alpha: 32768 }
-}
-
-/// Two spots in a mode of 4x6, in which each row has 12 bytes.
-fn view(spots: [Spot; 2]) -> View {
-    View {
-        size: (4, 6),
-        spots,
-        is_flat: false,
-    }
-}
 
 /// Ends the test where the frame of a picture, made of that of another one, keeps another number of bytes, or is another than
 /// the one that threads make, or is not made back.
@@ -58,27 +39,66 @@ fn assert_kept<R: Abort + Threads + Sync>(
     Ok(())
 }
 
+/// Half transparent.
+const PALE: u16 = 32768;
+
+/// Two spots, those that they become, and how many bytes stay.
+type Case = ([Spot; 2], [Spot; 2], usize);
+
+/// The lower spot of most cases, and the same half transparent.
+const LEFT: Spot = Spot(0, 2, OPAQUE);
+
+const PALE_LEFT: Spot = Spot(0, 2, PALE);
+
+/// The upper spot of most cases, and the same half transparent.
+const RIGHT: Spot = Spot(1, 3, OPAQUE);
+
+const PALE_RIGHT: Spot = Spot(1, 3, PALE);
+
+/// In a mode of 4x6, in which each row has 12 bytes.
+const CASES: [Case; 11] = [
+    ([LEFT, RIGHT], [LEFT, RIGHT], 72),
+    ([LEFT, RIGHT], [PALE_LEFT, RIGHT], 24),
+    ([LEFT, RIGHT], [LEFT, PALE_RIGHT], 36),
+    ([LEFT, RIGHT], [PALE_LEFT, PALE_RIGHT], 24),
+    ([LEFT, RIGHT], [RIGHT, LEFT], 36),
+    ([LEFT, RIGHT], [LEFT, Spot(1, 1, OPAQUE)], 12),
+    ([LEFT, Spot(1, 1, OPAQUE)], [LEFT, RIGHT], 12),
+    ([LEFT, RIGHT], [LEFT, Spot(1, -1, OPAQUE)], 0),
+    ([LEFT, Spot(1, 5, OPAQUE)], [LEFT, Spot(1, 5, PALE)], 60),
+    ([LEFT, Spot(1, -1, OPAQUE)], [LEFT, Spot(1, -1, PALE)], 0),
+    ([LEFT, Spot(1, 6, OPAQUE)], [LEFT, Spot(1, 6, PALE)], 72),
+];
+
+/// Spots in the mode of the cases.
+fn view(spots: [Spot; 2]) -> View {
+    View {
+        size: (4, 6),
+        spots,
+        is_flat: false,
+    }
+}
+
+/// Ends the test where a case is not as it is wanted.
+fn assert_case<R: Abort + Threads + Sync>(
+    rt: &R,
+    alloc: Global,
+    images: &Images,
+    case: &Case,
+    place: usize,
+) -> Result<(), Fail>
+    requires { HasImage images.now spot_fb }
+{
+    let old = picture(&view(case.0));
+    let new = picture(&view(case.1));
+    assert_kept(rt, alloc, images, &old, &new, case.2, place)
+}
+
 #[test]
 fn rows_above_all_that_is_drawn_are_kept(rt: HostRuntime) -> Result<(), Fail> {
     let images = images(rt.alloc(), &WORDS)?;
-    let two = [at(0, 2), at(1, 3)];
-    let cases = [
-        (two, two, 72),
-        (two, [pale(0, 2), at(1, 3)], 24),
-        (two, [at(0, 2), pale(1, 3)], 36),
-        (two, [pale(0, 2), pale(1, 3)], 24),
-        (two, [at(1, 3), at(0, 2)], 36),
-        (two, [at(0, 2), at(1, 1)], 12),
-        ([at(0, 2), at(1, 1)], two, 12),
-        (two, [at(0, 2), at(1, -1)], 0),
-        ([at(0, 2), at(1, 5)], [at(0, 2), pale(1, 5)], 60),
-        ([at(0, 2), at(1, -1)], [at(0, 2), pale(1, -1)], 0),
-        ([at(0, 2), at(1, 6)], [at(0, 2), pale(1, 6)], 72),
-    ];
-    for (case, (before, after, count)) in cases.iter().enumerate() {
-        let old = picture(&view(*before));
-        let new = picture(&view(*after));
-        assert_kept(&rt, rt.alloc(), &images, &old, &new, *count, case)?;
+    for (place, case) in CASES.iter().enumerate() {
+        assert_case(&rt, rt.alloc(), &images, case, place)?;
     }
     Ok(())
 }
@@ -87,7 +107,7 @@ fn rows_above_all_that_is_drawn_are_kept(rt: HostRuntime) -> Result<(), Fail> {
 #[test]
 fn no_row_is_kept_where_each_is_made_anew(rt: HostRuntime) -> Result<(), Fail> {
     let images = images(rt.alloc(), &WORDS)?;
-    let plain = view([at(0, 2), at(1, 3)]);
+    let plain = view([LEFT, RIGHT]);
     let old = picture(&plain);
     let flat = picture(&View {
         is_flat: true,

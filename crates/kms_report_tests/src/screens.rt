@@ -3,7 +3,7 @@
 ghost use Rattle.std.specs.Prelude.{◌≡◌};
 ghost use Rattle.kms_screens.specs.Screens.{AreKeptFramesOver};
 
-use crate::spots::{Spot, View, WORDS, images, picture};
+use crate::spots::{OPAQUE, Spot, View, WORDS, images, picture};
 use kms_compose::{Frame, Images};
 use kms_model::{NoMemory, Picture};
 use kms_screens::{Drawn, Fronts, Hands, OneThread, Screen, SeveralThreads};
@@ -62,14 +62,9 @@ fn dark(alloc: Global, images: &Images) -> Screen
 
 /// Two opaque spots in a mode of this size.
 fn spots(size: (u16, u16), one: (i16, i16), other: (i16, i16)) -> View {
-    let at = |place: (i16, i16)| Spot {
-        x: place.0,
-        y: place.1,
-        alpha: 65535,
-    };
     View {
         size,
-        spots: [at(one), at(other)],
+        spots: [Spot(one.0, one.1, OPAQUE), Spot(other.0, other.1, OPAQUE)],
         is_flat: false,
     }
 }

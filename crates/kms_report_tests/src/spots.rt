@@ -12,13 +12,12 @@ use kms_model::{
 use kms_samples::{CONN, FLAT_GAMMA, PLANE, sized_mode};
 use std::alloc::Global;
 
-/// Where the framebuffer is shown, and the number of its plane's alpha.
+/// The column and the row at which the framebuffer is shown, and the number of its plane's alpha.
 #[derive(Clone, Copy)]
-pub struct Spot {
-    pub x: i16,
-    pub y: i16,
-    pub alpha: u16,
-}
+pub struct Spot(pub i16, pub i16, pub u16);
+
+/// The alpha of what is opaque.
+pub const OPAQUE: u16 = 65535;
 
 /// What a CRTC that is on shows.
 #[derive(Clone, Copy)]
@@ -61,8 +60,8 @@ fn layer(mode: &Mode, spot: Spot) -> Layer
     ensures fb { result.fb ≡ spot_fb }
 {
     let dst = Rect {
-        x: i64::from(spot.x),
-        y: i64::from(spot.y),
+        x: i64::from(spot.0),
+        y: i64::from(spot.1),
         w: 1,
         h: 2,
     };
@@ -83,7 +82,7 @@ fn layer(mode: &Mode, spot: Spot) -> Layer
             h: 131072,
         },
         visible: clip(dst, area),
-        alpha: u32::from(spot.alpha),
+        alpha: u32::from(spot.2),
         blend: 0,
     }
 }

@@ -1,6 +1,8 @@
 //! Digests and pixmaps, which a report does not show alone, and a report by one thread.
 ghost use Rattle.std.specs.Prelude.{◌≡◌, ◌*◌, length};
 
+use crate::spots::{OPAQUE, Spot, View, WORDS, images, picture};
+use kms_compose::frame;
 use kms_core::Core;
 use kms_model::{Part, Seq};
 use kms_report::{Options, digest, ppm, report};
@@ -10,6 +12,13 @@ use kms_script::parse;
 use std::alloc::Global;
 use std::process::Abort;
 use std::test::Fail;
+
+/// The largest mode, with spots beside it.
+const LARGEST: View = View {
+    size: (4096, 4096),
+    spots: [Spot(-1, 0, OPAQUE), Spot(4096, 0, OPAQUE)],
+    is_flat: false,
+};
 
 /// Ends the test where the frame of these bytes has another digest.
 fn assert_digest(rt: &impl Abort, alloc: Global, bytes: &[u8], wanted: &str) -> Result<(), Fail> {
@@ -62,10 +71,12 @@ fn a_pixmap_has_a_line_for_each_row(rt: HostRuntime) -> Result<(), Fail> {
     assert_pixmap(&rt, rt.alloc(), &[], (4294967295, 0), none)
 }
 
-// 17 bytes of first lines, and two for each number.
+// A frame of 3 bytes for each pixel; 17 bytes of first lines, and two for each number.
 #[test]
-fn the_largest_frame_is_written(rt: HostRuntime) -> Result<(), Fail> {
-    let frame = Seq::from_vec(vec![in rt.alloc(); 0u8; 50331648]?);
+fn the_largest_frame_is_made_and_written(rt: HostRuntime) -> Result<(), Fail> {
+    let images = images(rt.alloc(), &WORDS)?;
+    let frame = frame(rt.alloc(), &picture(&LARGEST), &images)?;
+    assert!(rt; frame.len() == 50331648, "{} bytes", frame.len());
     let text = ppm(rt.alloc(), &frame, 4096, 4096)?;
     assert!(rt; text.len() == 17 + 2 * 50331648, "{} bytes", text.len());
     Ok(())

@@ -1,5 +1,5 @@
 use Rattle.std.proofs.Common.{◌≡◌, [], ◌∷◌, rules}
-use Rattle.kms_report_tests.proofs.Spots.{both_shown}
+use Rattle.kms_report_tests.proofs.BothShown.{both_shown}
 use Rattle.kms_report_tests.proofs.spots.picture.Goals as goal
 
 pub returns : goal.returns
