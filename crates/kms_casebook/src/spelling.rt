@@ -1,5 +1,4 @@
 //! The bytes that a text spells, and a text that spells bytes.
-
 ghost use Rattle.std.specs.Prelude.{◌<◌, IfOk};
 
 use std::alloc::{AllocError, AllocFailed, Global};

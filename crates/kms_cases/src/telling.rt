@@ -125,12 +125,14 @@ fn tell_parts<R: AllocGlobal + Print>(
     Ok(true)
 }
 
-/// What stands behind the first line that begins with a part, and the lines before it.
+/// What stands behind the first line that begins with a part, its rest and the lines after it.
 fn behind<'a>(text: &'a [u8], part: &[u8]) -> Option<&'a [u8]> {
-    let mut rest = text;
-    while !rest.starts_with(part) {
-        let place = rest.iter().position(|byte| *byte == b'\n')?;
-        rest = &rest[place + 1..];
+    for place in 0..text.len() {
+        if place == 0 || text[place - 1] == b'\n' {
+            if let Some(rest) = text[place..].strip_prefix(part) {
+                return Some(rest);
+            }
+        }
     }
-    Some(&rest[part.len()..])
+    None
 }

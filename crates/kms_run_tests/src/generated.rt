@@ -14,7 +14,8 @@ fn a_failing_write_leaves_a_front_of_the_script(rt: HostRuntime) -> Result<(), F
     let words = words(alloc, &["gen", "0", "1"])?;
     let status = kms_main(&rt, alloc, &words, &mut source, &mut sink, &NoGate);
     assert!(rt; status == Status::WriteFault);
-    assert!(rt; sink.written() == b"kms 1\ncrtcs 2\nplane primary 0 XR");
+    let front = b"kms 1\ncrtcs 2\nplane primary 0 XR".as_slice();
+    assert!(rt; sink.written() == front);
     Ok(())
 }
 

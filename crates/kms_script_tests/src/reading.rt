@@ -75,6 +75,7 @@ fn has_names(script: &Script, names: &[&str]) -> bool {
     script.names.len() == names.len()
         && script
             .names
+            .as_slice()
             .iter()
             .zip(names)
             .all(|(name, want)| name.as_slice() == want.as_bytes())
@@ -85,7 +86,11 @@ fn the_example_is_a_script(rt: HostRuntime) -> Result<(), Fail> {
     let script = script(rt.alloc(), EXAMPLE.as_bytes())?;
     assert!(rt; script.version == 1 && script.topology.crtcs == 1);
     assert!(rt; has_names(&script, &["b", "f", "m"]));
-    let counts = script.clients.iter().map(|commands| commands.len());
+    let counts = script
+        .clients
+        .as_slice()
+        .iter()
+        .map(|commands| commands.len());
     assert!(rt; counts.eq([4, 1]));
     Ok(())
 }
