@@ -4,6 +4,7 @@ ghost use Rattle.kms_model.specs.Stores.Kept.{fbs_closed};
 
 use kms_buffers::{Buffers, FbStore, MakeError};
 use kms_model::{Denied, FbInfo, Format, Image, NoMemory, Pattern};
+use std::alloc::Global;
 use std::process::Abort;
 
 /// A framebuffer of one pixel.
@@ -83,14 +84,21 @@ fn assert_words(
     );
 }
 
-#[test]
-fn patterns_give_their_words(rt: HostRuntime) -> Result<(), MakeError> {
-    let alloc = rt.alloc();
+/// A store of a buffer for each pattern that is worked out.
+fn pattern_store(alloc: Global) -> Result<Buffers, MakeError> {
     let mut buffers = Buffers::new(alloc);
     buffers.create(alloc, 1, 1000, 301, 3, Format::Xr24, &Pattern::Ramp)?;
     buffers.create(alloc, 1, 1001, 301, 3, Format::Rg16, &Pattern::Ramp)?;
     let checker = Pattern::Checker { p: 5, q: 6, n: 2 };
     buffers.create(alloc, 1, 1002, 4, 3, Format::Ar24, &checker)?;
+    Ok(buffers)
+}
+
+#[test]
+fn patterns_give_their_words(rt: HostRuntime) {
+    let Ok(buffers) = pattern_store(rt.alloc()) else {
+        panic!(rt; "the buffers are made");
+    };
     let squares = [5, 5, 6, 6, 5, 5, 6, 6, 6, 6, 5, 5];
     let images = [
         (1000, (301, 3), Format::Xr24, 902, [0xff2c022e].as_slice()),
@@ -101,7 +109,6 @@ fn patterns_give_their_words(rt: HostRuntime) -> Result<(), MakeError> {
         assert_words(&rt, buffers.image(id), sides, format, at, words);
     }
     assert!(rt; buffers.image(1003).is_none(), "no buffer");
-    Ok(())
 }
 
 #[test]
