@@ -17,7 +17,7 @@ trap 'rm -rf "$work"' EXIT
 tests=$work/crates/memory_tests
 (cd "$top" && tar -cf - --exclude=out HANDLES crates.txt crates) | tar -xf - -C "$work"
 mkdir -p "$tests/src"
-echo "memory_tests: kms_model kms_core kms_core_tests kms_report" >>"$work/crates.txt"
+echo "memory_tests: kms_model kms_core kms_course kms_report kms_samples" >>"$work/crates.txt"
 printf '//! Want of memory.\n#![tactic(auto)]\n\n#[cfg(test)]\nmod memory;\n' >"$tests/src/lib.rt"
 
 # The tests of a run, that of its last allocation first; they are done in the order of their names.

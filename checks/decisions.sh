@@ -1,7 +1,7 @@
 #!/bin/sh
 # Tests the calls of the core that take locks and decide requests, one by one, as clients make them: a request is resolved
 # with look-ups, states are duplicated as locks are taken, and a check of them is handed to `swap` or `test`. Look-ups that
-# grew old are told. `kms_call_tests` makes these calls too, each once it has asked whether it may, and is proved. Here are
+# grew old are told. `kms_courses` makes these calls too, each once it has asked whether it may, and is proved. Here are
 # besides a lock that is the client's own or a younger one's, and a request that its context decides again. These tests run
 # what is proved, but are themselves not proved, since no run can ask for the conditions of these; so they are no part of
 # the gate.

@@ -1,6 +1,6 @@
 #!/bin/sh
 # Runs a built program on the examples and compares what it writes with their reports, the drawing among them. Each is run on
-# one, two and four processors, as far as they are there, since as many threads make a report. No part of the gate.
+# one, two and four processors, as far as they are there, since as many threads make a report.
 #
 # usage: checks/examples.sh PROGRAM
 set -eu

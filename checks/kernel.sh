@@ -1,6 +1,6 @@
 #!/bin/sh
 # Runs a built program on the scripts that docs/KERNEL.md names, and looks for the lines that stand there, in their order, in
-# what it writes. A line that ends with two points is the beginning of one. No part of the gate.
+# what it writes. A line that ends with two points is the beginning of one.
 #
 # usage: checks/kernel.sh PROGRAM
 set -eu

@@ -1,5 +1,5 @@
 #!/usr/bin/env python3
-"""Runs a built program at each limit that docs/DEVICE.md names, and one past it. No part of the gate.
+"""Runs a built program at each limit that docs/DEVICE.md names, and one past it.
 
 usage: checks/limits.py PROGRAM
 

@@ -1,6 +1,6 @@
 #!/bin/sh
 # Compiles tools/on_kernel/on_kernel.c with all warnings as errors, and once more as a static program. Says so and does nothing
-# where a C compiler, libdrm's headers or its library are missing. No part of the gate.
+# where a C compiler, libdrm's headers or its library are missing.
 #
 # usage: checks/on_kernel.sh [FOLDER]      FOLDER: where the programs are left (on_kernel, on_kernel_static)
 set -eu

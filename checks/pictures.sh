@@ -1,6 +1,6 @@
 #!/bin/sh
-# Makes the pictures of docs/DEVICE.md anew, those of frames with a built program, and compares them with what stands there. The
-# bytes of a PNG file are those of one version of zlib; another may pack the same pixels otherwise. No part of the gate.
+# Makes the pictures of docs/DEVICE.md anew, those of frames with a built program, and compares them with what stands there, frames
+# pixel by pixel.
 #
 # usage: checks/pictures.sh PROGRAM
 set -eu
@@ -12,10 +12,10 @@ trap 'rm -rf "$folder"' EXIT
 "$top/tools/commit_path.py" | cmp - "$top/docs/pictures/commit.svg"
 echo "commit_path.py: as docs/pictures/commit.svg"
 "$program" one --ppm <"$top/examples/blend_modes.kms" | "$top/tools/frames.py" "$folder" 8
-diff -r "$folder" "$top/docs/pictures/blend"
+"$top/tools/frames.py" --same "$folder" "$top/docs/pictures/blend"
 echo "one --ppm < blend_modes.kms: as docs/pictures/blend"
 rm -r "$folder"
 mkdir "$folder"
 "$program" one --ppm <"$top/examples/scaling.kms" | "$top/tools/frames.py" "$folder" 8
-diff -r "$folder" "$top/docs/pictures/scaling"
+"$top/tools/frames.py" --same "$folder" "$top/docs/pictures/scaling"
 echo "one --ppm < scaling.kms: as docs/pictures/scaling"

@@ -1,6 +1,6 @@
 #!/bin/sh
 # Runs a built program on every script of docs/TUTORIAL.md and compares what it writes, and its status, with the report behind
-# the script. No part of the gate.
+# the script.
 #
 # usage: checks/tutorial.sh PROGRAM
 set -eu

@@ -2,8 +2,11 @@
 """Makes pictures (PNG) of the frames of a report.
 
     kms one --ppm < SCRIPT | tools/frames.py FOLDER SCALE
+    tools/frames.py --same FOLDER OTHER
 
-Writes FOLDER/crtcC_commitK.png for each frame that CRTC C latched of commit K, each pixel SCALE times as wide and as high.
+The first writes FOLDER/crtcC_commitK.png for each frame that CRTC C latched of commit K, each pixel SCALE times as wide and as
+high. The second ends with status 1 where two folders of such pictures differ in a name or in a pixel; how the pixels are packed
+does not matter.
 """
 import pathlib
 import struct
@@ -28,7 +31,22 @@ def enlarged(row, scale):
     return b"".join(row[i:i + 3] * scale for i in range(0, len(row), 3))
 
 
+def unpacked(file):
+    """The size and the rows of a picture of ours, as `png` has them."""
+    data = file.read_bytes()
+    size, at = data[16:24], 33
+    (length,) = struct.unpack(">I", data[at:at + 4])
+    return size, zlib.decompress(data[at + 8:at + 8 + length])
+
+
+def are_same(folder, other):
+    names = [sorted(file.name for file in it.glob("*.png")) for it in (folder, other)]
+    return names[0] == names[1] and all(unpacked(folder / it) == unpacked(other / it) for it in names[0])
+
+
 def main():
+    if len(sys.argv) == 4 and sys.argv[1] == "--same":
+        sys.exit(not are_same(pathlib.Path(sys.argv[2]), pathlib.Path(sys.argv[3])))
     folder, scale = pathlib.Path(sys.argv[1]), int(sys.argv[2])
     lines = iter(sys.stdin.read().split("\n"))
     for line in lines:

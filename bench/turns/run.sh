@@ -6,5 +6,5 @@ set -eu
 here=$(cd "$(dirname "$0")" && pwd)
 . "$here/../program.sh"
 (cd "$top" && tar -cf - --exclude=out HANDLES crates.txt crates) | tar -xf - -C "$work"
-program bench_turns kms_model kms_device kms_crowd_tests kms_script
+program bench_turns kms_model kms_device kms_pass_calls kms_script
 rt try 2>&1 | grep "passes:\|error"

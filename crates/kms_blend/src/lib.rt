@@ -101,8 +101,3 @@ fn blend_lanes<M: BlendMode>(a: u32, q: u8x16, f: u8x16, b: u8x16) -> u8x16
         M::blend_lanes(a, q, f, b)
     }
 }
-
-#[cfg(test)]
-mod row_tests;
-#[cfg(test)]
-mod tests;

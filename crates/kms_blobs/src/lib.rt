@@ -13,6 +13,3 @@ pub use gammas::{GAMMA_BYTES, gamma_of_bytes};
 pub use kms_model::BadMode;
 pub use modes::{MODE_BYTES, decode_mode, encode_mode, is_legal_mode, mode_of};
 pub use store::BlobStore;
-
-#[cfg(test)]
-mod tests;

@@ -19,7 +19,7 @@ use std::marker::Model;
 
 /// The open blobs. Contracts see them as the list of the blobs with their ids, in the order in which they were
 /// made.
-#[derive(Debug, Drop)]
+#[derive(Drop)]
 pub struct BlobStore {
     blobs: IdTable<Blob>,
 }

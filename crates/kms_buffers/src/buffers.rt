@@ -19,7 +19,7 @@ pub const LARGEST_SIDE: u32 = 4096;
 pub const LARGEST_BYTES: u64 = 268435456;
 
 /// Why a buffer is not made.
-#[derive(Clone, Copy, Debug, PartialEq, Eq)]
+#[derive(Clone, Copy, PartialEq, Eq)]
 pub enum MakeError {
     /// `INVALID_SIZE`: a side is 0 or above 4096 pixels.
     BadSize,
@@ -46,7 +46,7 @@ impl From<NoMemory> for MakeError {
 
 /// All buffers. Contracts see them as their list with their ids, in the order in which they were made.
 /// (Kernel: "Dumb Buffer Objects".)
-#[derive(Debug, Drop)]
+#[derive(Drop)]
 pub struct Buffers {
     buffers: IdTable<Buffer>,
     // The bytes of all buffers.

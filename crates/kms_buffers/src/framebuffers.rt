@@ -17,7 +17,7 @@ use std::marker::Model;
 
 /// The framebuffers that something refers to. Contracts see them as their list with their ids, in the order in
 /// which they were added. (Kernel: "Frame Buffer Abstraction"; `drm_framebuffer_get`, `drm_framebuffer_put`.)
-#[derive(Debug, Drop)]
+#[derive(Drop)]
 pub struct FbStore {
     fbs: IdTable<Framebuffer>,
 }

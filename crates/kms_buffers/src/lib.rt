@@ -10,6 +10,3 @@ mod patterns;
 
 pub use buffers::{Buffers, LARGEST_BYTES, LARGEST_SIDE, MakeError};
 pub use framebuffers::FbStore;
-
-#[cfg(test)]
-mod tests;

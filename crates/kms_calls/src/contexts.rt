@@ -12,7 +12,7 @@ use kms_wwlock::{Lock, Relock};
 use std::alloc::Global;
 
 /// What is answered where a lock is asked for.
-#[derive(Clone, Copy, Debug, PartialEq, Eq)]
+#[derive(Clone, Copy, PartialEq, Eq)]
 pub enum Locked {
     /// The object was free, and the context holds it now.
     Got {

@@ -1,7 +1,6 @@
 pub mod ApplyingLemmas
 pub mod Conclusions
 pub mod Covered
-pub mod ExampleLemmas
 pub mod LackingLemmas
 pub mod PlaneRanges
 pub mod Readiness

@@ -1,5 +1,4 @@
 pub mod Lacking
 pub mod Applying
 pub mod Answers
-pub mod Example
 pub mod Moves

@@ -18,7 +18,7 @@ use kms_request::{
 };
 
 /// Why a request is not accepted.
-#[derive(Clone, Copy, Debug, PartialEq, Eq)]
+#[derive(Clone, Copy, PartialEq, Eq)]
 pub enum Refused {
     /// A late refusal.
     Of(Refusal),

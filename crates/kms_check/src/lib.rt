@@ -15,8 +15,3 @@ mod moving;
 
 pub use checking::{Refused, check};
 pub use moving::{Move, next_move};
-
-#[cfg(test)]
-mod moving_tests;
-#[cfg(test)]
-mod tests;

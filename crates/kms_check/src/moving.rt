@@ -18,7 +18,7 @@ use kms_track::object_at_place;
 use std::alloc::Global;
 
 /// What a client that takes locks for a request does next.
-#[derive(Debug, Drop)]
+#[derive(Drop)]
 pub enum Move {
     /// The request is refused, with an early or a late refusal.
     Refuse(Refusal),

@@ -17,7 +17,7 @@ use std::marker::Model;
 
 /// The places of up to 16 clients and the locks that their contexts hold. Contracts tell, for each machine whose contexts
 /// these clients stand for, what is answered and that they stand for its contexts after the step.
-#[derive(Debug, Drop)]
+#[derive(Drop)]
 pub struct Clients {
     places: [Place; MAX_CLIENTS as usize],
     table: LockTable,

@@ -10,7 +10,5 @@
 #![tactic(auto)]
 
 mod clients;
-#[cfg(test)]
-mod tests;
 
 pub use clients::Clients;

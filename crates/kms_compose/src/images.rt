@@ -6,7 +6,7 @@ ghost use Rattle.kms_compose.specs.Images.{image_seen, seen_under};
 use kms_model::{Image, Seq};
 
 /// A framebuffer's id, and the image that it shows.
-#[derive(Clone, Copy, Debug)]
+#[derive(Clone, Copy)]
 pub struct FbImage<'a> {
     /// The framebuffer's id.
     pub fb: u32,

@@ -24,7 +24,7 @@ pub struct Attempt {
 }
 
 /// What came of an attempt.
-#[derive(Clone, Copy, Debug, PartialEq, Eq)]
+#[derive(Clone, Copy, PartialEq, Eq)]
 pub enum Attempted {
     /// A step was made that records no reply; or an object that was held already gave its state; or a label names something else
     /// than it did, and all look-ups were made anew.

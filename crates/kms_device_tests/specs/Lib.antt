@@ -1,2 +1,1 @@
-pub mod Resolving
-pub mod Told
+pub mod Beyond

@@ -1,9 +1,9 @@
 //! Contexts that meet, through two passes.
 use crate::opening::{assert_again, assert_calls, closed, opened};
 use crate::texts::TESTING;
-use crate::{Call, Told};
 use kms_core::Core;
 use kms_model::{Answered, Kind, Reply, Step, Ticket};
+use kms_pass_calls::{Call, Told};
 use kms_samples::{CRTC, PLANE};
 use std::process::Abort;
 

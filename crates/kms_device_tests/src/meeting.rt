@@ -4,10 +4,10 @@ ghost use Rattle.kms_histlock.specs.Passes.{IsSamePass};
 
 use crate::opening::{assert_again, closed, opened};
 use crate::texts::{MAKING, TURNING_OFF};
-use crate::{Call, Told, make_call};
 use kms_core::Core;
 use kms_device::{Device, Pass};
 use kms_model::{NoMemory, Reply};
+use kms_pass_calls::{Call, Told, make_call};
 use std::alloc::Global;
 use std::process::Abort;
 use std::sync::Wait;

@@ -2,11 +2,11 @@
 ghost use Rattle.std.specs.Prelude.{◌≡◌};
 ghost use Rattle.kms_histlock.specs.Passes.{IsSamePass, new_pass};
 
-use crate::{Call, Told, again, anew, make_call};
 use kms_core::Core;
-use kms_core_tests::tells_same;
+use kms_course::{again, anew, tells_same};
 use kms_device::{Device, Pass};
 use kms_model::{NoMemory, Part, Seq};
+use kms_pass_calls::{Call, Told, make_call};
 use kms_script::parse;
 use std::alloc::Global;
 use std::process::Abort;

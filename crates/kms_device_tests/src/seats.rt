@@ -4,10 +4,10 @@ ghost use Rattle.kms_histlock.specs.Passes.{IsSamePass};
 
 use crate::opening::{assert_again, assert_calls, closed, opened};
 use crate::texts::{LIGHTING, MAKING};
-use crate::{Call, Told};
 use kms_core::Core;
 use kms_device::{Device, Pass};
 use kms_model::{Kind, Reply, Step};
+use kms_pass_calls::{Call, Told};
 use kms_samples::{CRTC, PLANE};
 use std::process::Abort;
 use std::sync::Wait;

@@ -7,7 +7,5 @@ mod flips;
 mod labels;
 mod numbers;
 mod scripts;
-#[cfg(test)]
-mod tests;
 
 pub use scripts::{generate, generated_scripts_are_well_formed};

@@ -120,6 +120,3 @@ pub fn div_round(n: u64, d: u64) -> u64
 {
     (n + (d - 1) / 2) / d
 }
-
-#[cfg(test)]
-mod tests;

@@ -2,7 +2,7 @@
 use std::sync::Wait;
 
 /// Where in a run a player comes to the gate. Its two numbers there say who comes.
-#[derive(Clone, Copy, Debug, PartialEq, Eq)]
+#[derive(Clone, Copy, PartialEq, Eq)]
 pub enum Point {
     /// A client, before each check of a request: its number and the number of its command.
     Check,
@@ -23,30 +23,10 @@ pub trait Gate {
 }
 
 /// A gate that holds nobody.
-#[derive(Clone, Copy, Debug, PartialEq, Eq)]
+#[derive(Clone, Copy, PartialEq, Eq)]
 pub struct NoGate;
 
 impl Gate for NoGate {
     /// Returns at once.
     fn at<R: Wait>(&self, _rt: &R, _point: Point, _a: u32, _b: u32) {}
-}
-
-#[cfg(test)]
-mod tests {
-    use super::*;
-
-    fn passed<R: Wait, G: Gate + Sync>(rt: &R, gate: &G, points: &[Point]) -> u32 {
-        let mut passed = 0u32;
-        for point in points {
-            gate.at(rt, *point, 1, 0);
-            passed = passed.saturating_add(1);
-        }
-        passed
-    }
-
-    #[test]
-    fn no_gate_lets_everybody_pass(rt: HostRuntime) {
-        let points = [Point::Check, Point::Answered, Point::Claim, Point::Vblank];
-        assert_eq!(rt; passed(&rt, &NoGate, &points), 4);
-    }
 }

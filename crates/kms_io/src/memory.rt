@@ -12,7 +12,7 @@ use std::alloc::Global;
 use std::marker::Model;
 
 /// A source in memory, which tells what is left. A contract sees it as a `SourceState`.
-#[derive(Debug, Drop)]
+#[derive(Drop)]
 pub struct MemSource {
     bytes: Vec<u8>,
     place: usize,
@@ -107,7 +107,7 @@ fn contains(numbers: &[u32], number: u64) -> bool
 
 /// A sink in memory, which tells what was written and takes no memory for it later. A contract sees it
 /// as a `SinkState`.
-#[derive(Debug, Drop)]
+#[derive(Drop)]
 pub struct MemSink {
     bytes: Vec<u8>,
     room: usize,
@@ -207,6 +207,3 @@ impl Sink for MemSink {
         Ok(count)
     }
 }
-
-#[cfg(test)]
-mod tests;

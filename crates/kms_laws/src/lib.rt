@@ -1,6 +1,6 @@
 //! The laws of the machine: what holds of every history of every script, proved over the definitions alone. Each is the
-//! contract of a function that does nothing. So the edits that must be refused are not of bodies, but of the statements and
-//! of the rules beside which they are false (must-fail/).
+//! contract of a function that does nothing, so no edit of a body says anything of it; rules beside which a law is false stand
+//! in `proofs/FalseNeighbours.antt`, a history each.
 #![tactic(auto)]
 
 mod bounds;

@@ -7,7 +7,7 @@ use std::marker::Model;
 
 /// A list that is written at its end alone, into places that were kept before. Contracts see its items, for how many
 /// further ones a place is kept, and for how many beyond these there is memory.
-#[derive(Debug, Drop)]
+#[derive(Drop)]
 pub struct Ledger<T> {
     items: Vec<T>,
     places: usize,

@@ -3,8 +3,6 @@
 
 mod ledgers;
 mod logs;
-#[cfg(test)]
-mod tests;
 
 pub use ledgers::Ledger;
 pub use logs::Log;

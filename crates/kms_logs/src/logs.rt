@@ -6,7 +6,7 @@ use std::alloc::Global;
 use std::marker::Model;
 
 /// A list that is written at its end alone. Contracts see its items, and for how many further ones there is memory.
-#[derive(Debug, Drop)]
+#[derive(Drop)]
 pub struct Log<T> {
     items: Vec<T>,
 }

@@ -3,3 +3,4 @@ pub mod Replies
 pub mod Rules
 pub mod History
 pub mod TextLines
+pub mod RuleRows

@@ -6,7 +6,7 @@ use std::marker::Model;
 
 /// The layers of a picture from the lowest to the highest, at most 16, in place. Contracts see the list of
 /// layers.
-#[derive(Clone, Copy, Debug, PartialEq, Eq)]
+#[derive(Clone, Copy, PartialEq, Eq)]
 pub struct Layers {
     items: [Layer; 16],
     count: usize,

@@ -109,7 +109,7 @@ fn is_among(first: u32, count: u32, number: u32) -> bool
 pub struct Ticket(pub u32);
 
 /// The kind of a display object.
-#[derive(Clone, Copy, Debug, PartialEq, Eq)]
+#[derive(Clone, Copy, PartialEq, Eq)]
 pub enum Kind {
     /// A CRTC, which latches frames.
     Crtc,
@@ -136,7 +136,7 @@ impl Kind {
 }
 
 /// A pixel format. (Header: `drm_fourcc.h`.)
-#[derive(Clone, Copy, Debug, PartialEq, Eq)]
+#[derive(Clone, Copy, PartialEq, Eq)]
 pub enum Format {
     /// `DRM_FORMAT_XRGB8888`: 32 bits a pixel, no alpha.
     Xr24,
@@ -161,7 +161,7 @@ impl Format {
 }
 
 /// A display mode. (Header: `drm_mode.h`, `struct drm_mode_modeinfo`.)
-#[derive(Clone, Copy, Debug, PartialEq, Eq)]
+#[derive(Clone, Copy, PartialEq, Eq)]
 pub struct Mode {
     /// The pixel clock in kHz, at least 1 in a legal mode.
     pub clock: u32,
@@ -196,7 +196,7 @@ pub struct Mode {
 }
 
 /// What a plane is. (Kernel: "Plane Abstraction", `struct drm_plane`.)
-#[derive(Clone, Copy, Debug, PartialEq, Eq)]
+#[derive(Clone, Copy, PartialEq, Eq)]
 pub struct PlaneInfo {
     /// The value of its property `type`: 0 overlay, 1 primary, 2 cursor.
     pub kind: u32,
@@ -208,7 +208,7 @@ pub struct PlaneInfo {
 
 /// A table of colour values: what a channel's value becomes. The place in each list is the value before, from 0 to 255.
 /// (Header: `drm_mode.h`, `struct drm_color_lut`, of which the upper 8 of 16 bits are kept.)
-#[derive(Clone, Copy, Debug, PartialEq, Eq)]
+#[derive(Clone, Copy, PartialEq, Eq)]
 pub struct Gamma {
     /// What each value of red becomes, from 0 to 255.
     pub red: [u8; 256],
@@ -219,7 +219,7 @@ pub struct Gamma {
 }
 
 /// The display objects of a device.
-#[derive(Debug, PartialEq, Eq, Drop)]
+#[derive(PartialEq, Eq, Drop)]
 pub struct Topology {
     /// The profile of the device, which is the version of its script: 1, or 2 where planes may scale and begin between
     /// pixels, and CRTCs have gamma tables.

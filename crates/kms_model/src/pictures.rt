@@ -3,7 +3,7 @@ use crate::layers::Layers;
 use crate::objects::{Format, Gamma, Mode};
 
 /// A rectangle, in pixels (a destination) or in 16.16 fixed point (a source).
-#[derive(Clone, Copy, Debug, PartialEq, Eq)]
+#[derive(Clone, Copy, PartialEq, Eq)]
 pub struct Rect {
     /// The left edge: from -2147483648 to 2147483647 pixels, or from 0 to 4294967295 in 16.16.
     pub x: i64,
@@ -26,7 +26,7 @@ impl Rect {
 }
 
 /// A framebuffer.
-#[derive(Clone, Copy, Debug, PartialEq, Eq)]
+#[derive(Clone, Copy, PartialEq, Eq)]
 pub struct FbInfo {
     /// Its id, from 1000 on.
     pub id: u32,
@@ -39,7 +39,7 @@ pub struct FbInfo {
 }
 
 /// A plane that a CRTC shows. (Kernel: "Plane Composition Properties".)
-#[derive(Clone, Copy, Debug, PartialEq, Eq)]
+#[derive(Clone, Copy, PartialEq, Eq)]
 pub struct Layer {
     /// The plane's id.
     pub plane: u32,
@@ -76,7 +76,7 @@ impl Layer {
 }
 
 /// What a CRTC that is on shows.
-#[derive(Clone, Copy, Debug, PartialEq, Eq)]
+#[derive(Clone, Copy, PartialEq, Eq)]
 pub struct Shown {
     /// The mode.
     pub mode: Mode,
@@ -89,7 +89,7 @@ pub struct Shown {
 }
 
 /// What a CRTC shows.
-#[derive(Clone, Copy, Debug, PartialEq, Eq)]
+#[derive(Clone, Copy, PartialEq, Eq)]
 pub enum Picture {
     /// Nothing: the CRTC is off.
     Off,
@@ -98,7 +98,7 @@ pub enum Picture {
 }
 
 /// A pixel's colour, with its alpha. Each channel is from 0 to 255.
-#[derive(Clone, Copy, Debug, PartialEq, Eq)]
+#[derive(Clone, Copy, PartialEq, Eq)]
 pub struct Colour {
     /// From 0 (transparent) to 255 (opaque).
     pub alpha: u8,

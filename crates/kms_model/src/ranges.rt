@@ -1,7 +1,7 @@
 //! What a property may be set to.
 
 /// The values of a property. (Kernel: "KMS Properties"; the kinds of property of `drm_property.c`.)
-#[derive(Clone, Copy, Debug, PartialEq, Eq)]
+#[derive(Clone, Copy, PartialEq, Eq)]
 pub enum Range {
     /// A number between two bounds, both of them among the values. An enumeration is such a range.
     Numbers {

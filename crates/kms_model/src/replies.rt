@@ -2,7 +2,7 @@
 use crate::objects::{Kind, ObjId};
 
 /// A flip event. (Header: `drm.h`, `struct drm_event_vblank`.)
-#[derive(Clone, Copy, Debug, PartialEq, Eq)]
+#[derive(Clone, Copy, PartialEq, Eq)]
 pub struct Event {
     /// The user data of the request that asked for it.
     pub user_data: u64,
@@ -15,15 +15,15 @@ pub struct Event {
 /// The number of a refused request, from 1 to 26. The flags are tried first, then each assignment, then what is wrong
 /// with the state after the request, kind of object by kind of object. An accepted request is refused by 25 and 26
 /// alone.
-#[derive(Clone, Copy, Debug, PartialEq, Eq)]
+#[derive(Clone, Copy, PartialEq, Eq)]
 pub struct Refusal(pub u32);
 
 /// The number of another refused command, from 31 to 35.
-#[derive(Clone, Copy, Debug, PartialEq, Eq)]
+#[derive(Clone, Copy, PartialEq, Eq)]
 pub struct Denied(pub u32);
 
 /// What is answered to a command.
-#[derive(Clone, Copy, Debug, PartialEq, Eq)]
+#[derive(Clone, Copy, PartialEq, Eq)]
 pub enum Reply {
     /// A thing was made.
     Made {
@@ -62,7 +62,7 @@ pub enum Reply {
 }
 
 /// A recorded reply.
-#[derive(Clone, Copy, Debug, PartialEq, Eq)]
+#[derive(Clone, Copy, PartialEq, Eq)]
 pub struct Answered {
     /// The client, counted from 1.
     pub client: u32,
@@ -76,7 +76,7 @@ pub struct Answered {
 
 /// One step of a run: an event of a client, a worker, a vblank or the end of a dead history. Clients are counted
 /// from 1 and commits from 0; `kind` and `index` (from 0) name a display object.
-#[derive(Clone, Copy, Debug, PartialEq, Eq)]
+#[derive(Clone, Copy, PartialEq, Eq)]
 pub enum Step {
     /// A client's acquire context begins. (Kernel: "KMS Locking", `drm_modeset_acquire_init`.)
     Begin { client: u32 },

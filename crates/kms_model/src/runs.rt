@@ -18,7 +18,7 @@ pub enum Doing {
 }
 
 /// Where a client stands.
-#[derive(Clone, Copy, Debug, PartialEq, Eq)]
+#[derive(Clone, Copy, PartialEq, Eq)]
 pub struct Place {
     /// The number of the command that it stands at, counted from 1; the number after the last one at its end. A client
     /// that waits for its commit still stands at the command that committed.
@@ -28,7 +28,7 @@ pub struct Place {
 }
 
 /// A picture that a CRTC latched. (Kernel: "Vertical Blanking".)
-#[derive(Clone, Copy, Debug, PartialEq, Eq)]
+#[derive(Clone, Copy, PartialEq, Eq)]
 pub struct Latch {
     /// The CRTC's index.
     pub crtc: u32,

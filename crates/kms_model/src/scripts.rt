@@ -6,7 +6,7 @@ use crate::list::Seq;
 use crate::objects::{Format, Kind, Mode, Topology};
 
 /// Which property an assignment names.
-#[derive(Clone, Copy, Debug, PartialEq, Eq)]
+#[derive(Clone, Copy, PartialEq, Eq)]
 pub enum PropRef {
     /// A property of the device, by its id (see `properties`).
     Known(u32),
@@ -15,7 +15,7 @@ pub enum PropRef {
 }
 
 /// A value that an assignment gives. Labels are indices in the script's names.
-#[derive(Clone, Copy, Debug, PartialEq, Eq)]
+#[derive(Clone, Copy, PartialEq, Eq)]
 pub enum Value {
     /// A number, from -9223372036854775808 to 18446744073709551615.
     Num(i128),
@@ -28,7 +28,7 @@ pub enum Value {
 }
 
 /// One assignment of a request. (Kernel: "Atomic Mode Setting".)
-#[derive(Clone, Copy, Debug, PartialEq, Eq)]
+#[derive(Clone, Copy, PartialEq, Eq)]
 pub struct Assign {
     /// The kind of the object that is set.
     pub kind: Kind,
@@ -55,7 +55,7 @@ impl Assign {
 }
 
 /// An atomic request. (Header: `drm_mode.h`, `struct drm_mode_atomic`.)
-#[derive(Debug, PartialEq, Eq, Drop)]
+#[derive(PartialEq, Eq, Drop)]
 pub struct Request {
     /// `DRM_MODE_PAGE_FLIP_EVENT` 0x1, `DRM_MODE_PAGE_FLIP_ASYNC` 0x2, `DRM_MODE_ATOMIC_TEST_ONLY` 0x100,
     /// `DRM_MODE_ATOMIC_NONBLOCK` 0x200, `DRM_MODE_ATOMIC_ALLOW_MODESET` 0x400.
@@ -68,7 +68,7 @@ pub struct Request {
 
 /// What a buffer is filled with. A word is a pixel in the buffer's format: 32 bits for XR24 and AR24, 16 for
 /// RG16.
-#[derive(Debug, PartialEq, Eq, Drop)]
+#[derive(PartialEq, Eq, Drop)]
 pub enum Pattern {
     /// The same word everywhere.
     Solid(u32),
@@ -88,7 +88,7 @@ pub enum Pattern {
 }
 
 /// One call of a client. Labels are indices in the script's names, below 2^32.
-#[derive(Debug, PartialEq, Eq, Drop)]
+#[derive(PartialEq, Eq, Drop)]
 pub enum Command {
     /// Makes a buffer. (Kernel: "Dumb Buffer Objects".)
     Buffer {
@@ -151,7 +151,7 @@ pub enum Command {
 }
 
 /// A script: the device and what each client calls.
-#[derive(Debug, PartialEq, Eq, Drop)]
+#[derive(PartialEq, Eq, Drop)]
 pub struct Script {
     /// The version of its first line, 1 or 2: the profile of its device.
     pub version: u32,
@@ -179,7 +179,7 @@ pub enum Why {
 }
 
 /// What may follow the script in an input.
-#[derive(Clone, Copy, Debug, PartialEq, Eq)]
+#[derive(Clone, Copy, PartialEq, Eq)]
 pub enum Part {
     /// Nothing.
     Script,

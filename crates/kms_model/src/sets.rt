@@ -9,7 +9,7 @@ use crate::worlds::Look;
 pub type Lookups = Seq<(u32, Look)>;
 
 /// What a property of an object is set to.
-#[derive(Clone, Copy, Debug)]
+#[derive(Clone, Copy)]
 pub enum SetValue {
     /// A number, from -2147483648 to 4294967295: every property but those below.
     Num(i64),
@@ -26,7 +26,7 @@ pub enum SetValue {
 }
 
 /// A property of an object that a request sets, with its last value.
-#[derive(Clone, Copy, Debug)]
+#[derive(Clone, Copy)]
 pub struct Set {
     /// The object.
     pub object: ObjId,
@@ -37,7 +37,7 @@ pub struct Set {
 }
 
 /// What an accepted request asks for, with its labels looked up. (Kernel: `struct drm_atomic_state`.)
-#[derive(Debug, Drop)]
+#[derive(Drop)]
 pub struct Resolved {
     /// The request's flags, of the bits 0x703.
     pub flags: u32,

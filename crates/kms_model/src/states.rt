@@ -3,7 +3,7 @@ use crate::objects::{Gamma, Mode};
 use crate::pictures::{FbInfo, Rect};
 
 /// A plane's state. (Kernel: `struct drm_plane_state`.)
-#[derive(Clone, Copy, Debug, PartialEq, Eq)]
+#[derive(Clone, Copy, PartialEq, Eq)]
 pub struct PlaneState {
     /// Its framebuffer, if any.
     pub fb: Option<FbInfo>,
@@ -35,7 +35,7 @@ impl PlaneState {
 }
 
 /// A CRTC's state. (Kernel: `struct drm_crtc_state`.)
-#[derive(Clone, Copy, Debug, PartialEq, Eq)]
+#[derive(Clone, Copy, PartialEq, Eq)]
 pub struct CrtcState {
     /// Whether it is on.
     pub active: bool,
@@ -61,7 +61,7 @@ impl CrtcState {
 }
 
 /// A connector's state. (Kernel: `struct drm_connector_state`.)
-#[derive(Clone, Copy, Debug, PartialEq, Eq)]
+#[derive(Clone, Copy, PartialEq, Eq)]
 pub struct ConnState {
     /// The id of its CRTC, or 0.
     pub crtc: u32,
@@ -73,7 +73,7 @@ impl ConnState {
 }
 
 /// The state of an object with a lock.
-#[derive(Clone, Copy, Debug, PartialEq, Eq)]
+#[derive(Clone, Copy, PartialEq, Eq)]
 pub enum ObjState {
     /// A plane's.
     Plane(PlaneState),
@@ -84,7 +84,7 @@ pub enum ObjState {
 }
 
 /// The state of an object before and after a request. (Kernel: `struct __drm_planes_state` and its like.)
-#[derive(Clone, Copy, Debug)]
+#[derive(Clone, Copy)]
 pub struct Both<T> {
     /// The state before the request.
     pub old: T,
@@ -94,7 +94,7 @@ pub struct Both<T> {
 
 /// The duplicated states of objects, in place: the place in each array is the object's index, and an object that
 /// was not duplicated is absent. (Kernel: `struct drm_atomic_state`.) It takes a few kilobytes.
-#[derive(Clone, Copy, Debug)]
+#[derive(Clone, Copy)]
 pub struct Duplicates {
     /// The CRTCs, by index.
     pub crtcs: [Option<Both<CrtcState>>; 4],
@@ -105,7 +105,7 @@ pub struct Duplicates {
 }
 
 /// A set of objects, each field a mask: bit i of a field stands for the object of that kind with index i.
-#[derive(Clone, Copy, Debug, PartialEq, Eq)]
+#[derive(Clone, Copy, PartialEq, Eq)]
 pub struct Mask {
     /// The CRTCs.
     pub crtcs: u32,
@@ -116,7 +116,7 @@ pub struct Mask {
 }
 
 /// What a check accepted. (Kernel: `drm_atomic_check_only`.)
-#[derive(Clone, Copy, Debug)]
+#[derive(Clone, Copy)]
 pub struct Checked {
     /// The states before and after the request.
     pub states: Duplicates,

@@ -4,7 +4,7 @@ use crate::objects::Format;
 use crate::pictures::FbInfo;
 
 /// A blob of bytes. (Header: `drm_mode.h`, `struct drm_mode_create_blob`.)
-#[derive(Debug, Drop)]
+#[derive(Drop)]
 pub struct Blob {
     /// The client that made it, counted from 1.
     pub owner: u32,
@@ -13,7 +13,7 @@ pub struct Blob {
 }
 
 /// A buffer with its words. (Kernel: "Dumb Buffer Objects".)
-#[derive(Debug, Drop)]
+#[derive(Drop)]
 pub struct Buffer {
     /// The client that made it, counted from 1.
     pub owner: u32,
@@ -28,7 +28,7 @@ pub struct Buffer {
 }
 
 /// A framebuffer with its references. (Kernel: "Frame Buffer Abstraction", `drm_framebuffer_get`.)
-#[derive(Clone, Copy, Debug, PartialEq, Eq)]
+#[derive(Clone, Copy, PartialEq, Eq)]
 pub struct Framebuffer {
     /// The client that made it, counted from 1.
     pub owner: u32,
@@ -43,7 +43,7 @@ pub struct Framebuffer {
 }
 
 /// A buffer as others read it.
-#[derive(Clone, Copy, Debug)]
+#[derive(Clone, Copy)]
 pub struct Image<'a> {
     /// Its width in pixels.
     pub width: u32,

@@ -7,7 +7,7 @@ use std::alloc::Global;
 use std::marker::Model;
 
 /// A value with its id.
-#[derive(Debug, Drop)]
+#[derive(Drop)]
 pub struct Slot<T> {
     /// The id.
     pub id: u32,
@@ -16,7 +16,7 @@ pub struct Slot<T> {
 }
 
 /// Values by their ids, in rising order of the ids. A look-up halves what is left at each step.
-#[derive(Debug, Drop)]
+#[derive(Drop)]
 pub struct IdTable<T> {
     slots: Vec<Slot<T>>,
 }

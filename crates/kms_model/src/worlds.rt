@@ -5,7 +5,7 @@ use crate::pictures::FbInfo;
 use crate::scripts::Pattern;
 
 /// The value of one property of one object.
-#[derive(Clone, Copy, Debug, PartialEq, Eq)]
+#[derive(Clone, Copy, PartialEq, Eq)]
 pub struct Setting {
     /// The object's id.
     pub object: u32,
@@ -16,7 +16,7 @@ pub struct Setting {
 }
 
 /// What a thing is.
-#[derive(Debug, PartialEq, Eq, Drop)]
+#[derive(PartialEq, Eq, Drop)]
 pub enum Content {
     /// A buffer of `width` by `height` pixels.
     Buffer {
@@ -41,7 +41,7 @@ pub enum Content {
 }
 
 /// A thing that a command made. It stays in the world after it was closed.
-#[derive(Debug, PartialEq, Eq, Drop)]
+#[derive(PartialEq, Eq, Drop)]
 pub struct Thing {
     /// Its label, as an index in the script's names.
     pub label: u32,
@@ -56,7 +56,7 @@ pub struct Thing {
 }
 
 /// The state of the one-thread device.
-#[derive(Debug, PartialEq, Eq, Drop)]
+#[derive(PartialEq, Eq, Drop)]
 pub struct World {
     /// Each property of each object, in the order of the device's objects.
     pub values: Seq<Setting>,
@@ -69,7 +69,7 @@ pub struct World {
 }
 
 /// What a label names, with its id.
-#[derive(Clone, Copy, Debug, PartialEq, Eq)]
+#[derive(Clone, Copy, PartialEq, Eq)]
 pub enum Look {
     /// Nothing was made under it yet.
     Missing,

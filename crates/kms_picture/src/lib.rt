@@ -3,8 +3,6 @@
 
 mod law;
 mod pictures;
-#[cfg(test)]
-mod tests;
 
 pub use law::profile_1_scales_nothing;
 pub use pictures::{may_picture, picture};

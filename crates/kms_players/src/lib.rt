@@ -9,8 +9,6 @@ mod client;
 mod name;
 mod resting;
 mod site;
-#[cfg(test)]
-mod tests;
 mod tick;
 mod worker;
 

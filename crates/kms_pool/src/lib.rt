@@ -9,8 +9,6 @@ mod player;
 mod quiet;
 mod rounds;
 mod rules;
-#[cfg(test)]
-mod tests;
 mod work;
 
 pub use player::{Player, Turn};

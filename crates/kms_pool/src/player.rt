@@ -7,7 +7,7 @@ use std::alloc::Global;
 use std::sync::Wait;
 
 /// What a turn came to.
-#[derive(Clone, Copy, PartialEq, Eq, Debug)]
+#[derive(Clone, Copy, PartialEq, Eq)]
 pub enum Turn {
     /// The player did something, and may do more.
     Did,

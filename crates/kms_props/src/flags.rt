@@ -10,7 +10,7 @@ use bitflags::{Flag, Flags, bitflag_items};
 use kms_model::flags;
 
 /// The flags of an atomic request. Contracts see their bits, `bits_of`.
-#[derive(Clone, Copy, Debug, PartialEq, Eq)]
+#[derive(Clone, Copy, PartialEq, Eq)]
 pub struct AtomicFlags(u32);
 
 bitflag_items! {

@@ -10,7 +10,7 @@ use crate::table::Table;
 use kms_model::Format;
 
 /// A row of the table of formats.
-#[derive(Clone, Copy, Debug, PartialEq, Eq)]
+#[derive(Clone, Copy, PartialEq, Eq)]
 pub struct FormatRow {
     /// The four characters of its name as a little-endian word.
     pub code: u32,

@@ -11,8 +11,6 @@ mod formats;
 mod properties;
 mod registers;
 mod table;
-#[cfg(test)]
-mod tests;
 
 pub use devices::check_topology;
 pub use flags::{AtomicFlags, from_bits, is_nonblock, is_test, wants_event};

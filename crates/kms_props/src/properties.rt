@@ -14,7 +14,7 @@ use kms_model::properties::{
 use kms_model::{Kind, Range};
 
 /// A row of the table of properties.
-#[derive(Clone, Copy, Debug, PartialEq, Eq)]
+#[derive(Clone, Copy, PartialEq, Eq)]
 pub struct PropertyRow {
     /// The id, from 1 to 19 (see `kms_model::properties`).
     pub id: u32,

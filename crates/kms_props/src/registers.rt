@@ -9,7 +9,7 @@ use kms_model::Kind;
 
 /// A register of a plane or of a CRTC: a number from 0 to 20, its place in the table. Each of its words has 32 bits;
 /// signed values stand in two's complement.
-#[derive(Clone, Copy, Debug, PartialEq, Eq)]
+#[derive(Clone, Copy, PartialEq, Eq)]
 pub struct Register(pub u32);
 
 impl Register {
@@ -78,7 +78,7 @@ impl Register {
 }
 
 /// What the words of a register are before anything is written.
-#[derive(Clone, Copy, Debug, PartialEq, Eq)]
+#[derive(Clone, Copy, PartialEq, Eq)]
 pub enum Start {
     /// A number.
     Word(u32),
@@ -87,7 +87,7 @@ pub enum Start {
 }
 
 /// A row of the table of registers.
-#[derive(Clone, Copy, Debug, PartialEq, Eq)]
+#[derive(Clone, Copy, PartialEq, Eq)]
 pub struct RegisterRow {
     /// The register.
     pub register: Register,

@@ -1,7 +1,7 @@
 //! Tables, and how they are read.
 
 /// A table of `N` rows. A key that several rows have stands for the first of them.
-#[derive(Clone, Copy, Debug, PartialEq, Eq)]
+#[derive(Clone, Copy, PartialEq, Eq)]
 pub struct Table<R, const N: usize> {
     /// The rows, in order.
     pub rows: [R; N],

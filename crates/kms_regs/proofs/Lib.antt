@@ -12,4 +12,5 @@ pub mod Signed
 pub mod WordsBack
 pub mod MachineEffects
 mod OneCrtc
+mod WordRows
 pub mod TableBytes

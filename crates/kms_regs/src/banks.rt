@@ -12,7 +12,7 @@ use kms_model::{Kind, ObjId};
 use std::marker::Model;
 
 /// The words of all planes and CRTCs of the largest device, by index. Contracts see them as the definitions' registers.
-#[derive(Debug, Drop)]
+#[derive(Drop)]
 pub struct Bank {
     planes: [PlaneWords; 16],
     crtcs: [CrtcWords; 4],

@@ -22,7 +22,7 @@ use std::marker::Model;
 ///
 /// Contracts tell for each state of a machine that the register file stands for, that it stands for the state after the
 /// write, the flush or the vertical blanking. It does not know which commit goes.
-#[derive(Debug, Drop)]
+#[derive(Drop)]
 pub struct RegFile {
     planes: u32,
     shadow: Bank,

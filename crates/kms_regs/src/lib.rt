@@ -13,6 +13,3 @@ mod words;
 
 pub use file::RegFile;
 pub use law::{follows_the_machine, latch_shows_what_was_written};
-
-#[cfg(test)]
-mod tests;

@@ -28,7 +28,7 @@ const GAMMA_WORDS: usize = 192;
 const GAMMA_VALUES: usize = 768;
 
 /// The words of a plane, by the table of registers. Contracts see them as the definitions' words.
-#[derive(Clone, Copy, Debug, PartialEq, Eq)]
+#[derive(Clone, Copy, PartialEq, Eq)]
 pub struct PlaneWords {
     /// The CRTC's id, or 0.
     pub crtc: u32,
@@ -109,7 +109,7 @@ impl Model for PlaneWords {
 }
 
 /// The words of a CRTC, by the table of registers. Contracts see them as the definitions' words.
-#[derive(Clone, Copy, Debug, PartialEq, Eq)]
+#[derive(Clone, Copy, PartialEq, Eq)]
 pub struct CrtcWords {
     /// 1 where it is on, else 0.
     pub active: u32,

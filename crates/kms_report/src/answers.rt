@@ -9,7 +9,7 @@ use kms_model::{Answered, NoMemory};
 use std::alloc::Global;
 
 /// A section that stands by client.
-#[derive(Clone, Copy, Debug, PartialEq, Eq)]
+#[derive(Clone, Copy, PartialEq, Eq)]
 pub enum Section {
     /// The replies; the commands of a client are answered in order.
     Replies,

@@ -8,7 +8,6 @@ pub mod SameAnswers
 pub mod GroupLemmas
 pub mod AffectedLemmas
 pub mod SetGroups
-mod ReachRows
 pub mod Reached
 pub mod Picked
 pub mod ChangedLemmas

@@ -2,7 +2,7 @@
 use kms_model::Refusal;
 
 /// Why a request is not resolved.
-#[derive(Clone, Copy, Debug, PartialEq, Eq)]
+#[derive(Clone, Copy, PartialEq, Eq)]
 pub enum RequestError {
     /// It is refused, with an early refusal.
     Of(Refusal),

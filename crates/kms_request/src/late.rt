@@ -20,7 +20,7 @@ use kms_model::{Duplicates, Kind, Mask, Mode, Refusal, Topology};
 use kms_props::AtomicFlags;
 
 /// What a request asks for, besides what it sets.
-#[derive(Clone, Copy, Debug)]
+#[derive(Clone, Copy)]
 pub struct Asked {
     /// Its flags.
     pub flags: AtomicFlags,

@@ -38,6 +38,3 @@ pub use sets::{object_of, prop_of, set_of};
 pub use spanning::spans;
 pub use states::needs_modeset;
 pub use whole::{full_check, named_in};
-
-#[cfg(test)]
-mod tests;

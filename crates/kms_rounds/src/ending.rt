@@ -7,7 +7,7 @@ ghost use Rattle.kms_rounds.specs.Over as over;
 use kms_core::Core;
 
 /// How a history ended, or that it did not.
-#[derive(Clone, Copy, Debug, PartialEq, Eq)]
+#[derive(Clone, Copy, PartialEq, Eq)]
 pub enum End {
     /// Every client is at its end, and every commit is cleaned.
     Drained,

@@ -4,8 +4,6 @@
 mod ending;
 mod replaying;
 mod rounds;
-#[cfg(test)]
-mod tests;
 mod turns;
 
 pub use ending::{End, end_of};

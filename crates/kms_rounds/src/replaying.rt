@@ -8,7 +8,7 @@ use kms_model::{NoMemory, Step};
 use std::alloc::Global;
 
 /// Why a schedule is not replayed.
-#[derive(Clone, Copy, Debug, PartialEq, Eq)]
+#[derive(Clone, Copy, PartialEq, Eq)]
 pub enum ReplayError {
     /// A step is not legal after those before it: the first such, by its place in the schedule, counted from 1.
     Illegal { at: u64 },

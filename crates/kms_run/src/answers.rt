@@ -21,7 +21,7 @@ pub struct FullReport {
 }
 
 /// Why there is no report.
-#[derive(Clone, Copy, Debug, PartialEq, Eq)]
+#[derive(Clone, Copy, PartialEq, Eq)]
 pub enum NoAnswer {
     /// The first line that may not stand where it stands, counted from 1, and why; line 0 is the whole input.
     Fault { line: u32, why: Why },

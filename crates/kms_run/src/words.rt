@@ -14,7 +14,7 @@ const MOST_COMMITS: u32 = 4000;
 const MOST_THREADS: u32 = 16;
 
 /// What is done with the script that was read.
-#[derive(Clone, Copy, Debug, PartialEq, Eq)]
+#[derive(Clone, Copy, PartialEq, Eq)]
 pub enum Action {
     /// `one`: one thread does the steps of all actors.
     One,
@@ -48,14 +48,14 @@ impl Action {
 }
 
 /// What is done with a script that is read, and what its report has besides its lines.
-#[derive(Clone, Copy, Debug, PartialEq, Eq)]
+#[derive(Clone, Copy, PartialEq, Eq)]
 pub struct Execution {
     pub action: Action,
     pub options: Options,
 }
 
 /// A script that is generated.
-#[derive(Clone, Copy, Debug, PartialEq, Eq)]
+#[derive(Clone, Copy, PartialEq, Eq)]
 pub struct Generation {
     /// The number that its choices are made of.
     pub seed: u64,
@@ -72,7 +72,7 @@ pub const NO_OPTIONS: Options = Options {
 };
 
 /// What legal words ask for.
-#[derive(Clone, Copy, Debug, PartialEq, Eq)]
+#[derive(Clone, Copy, PartialEq, Eq)]
 pub enum Task {
     /// `one`, `replay` or `run`: a script is read and executed.
     Execute(Execution),

@@ -1,6 +1,6 @@
 //! Sources and sinks that fail, at each of their calls in turn.
-use crate::asserting::{joined, lit, sink, source, words};
-use crate::texts::{ABC, LIT, LIT_REPLIES};
+use crate::asserting::{sink, source, words};
+use crate::texts::{LIT, LIT_REPORT};
 use kms_io::{MemSink, MemSource};
 use kms_run::{Status, is_run, kms_plain};
 use std::alloc::Global;
@@ -64,28 +64,21 @@ fn write_fails<R: Threads + Sync>(
 
 #[test]
 fn each_failing_read_writes_nothing(rt: HostRuntime) -> Result<(), Fail> {
-    let text = lit(rt.alloc(), &[])?;
-    assert_eq!(rt; text.len().div_ceil(READ) + 1, READS as usize);
+    assert!(rt; LIT.len().div_ceil(READ) + 1 == READS as usize);
     for number in 1..READS + 1 {
-        assert!(rt;
-            read_fails(&rt, rt.alloc(), text.as_str(), number)?,
-            "read {number}"
-        );
+        assert!(rt; read_fails(&rt, rt.alloc(), LIT, number)?, "read {number}");
     }
-    assert!(rt; !read_fails(&rt, rt.alloc(), text.as_str(), READS + 1)?);
+    assert!(rt; !read_fails(&rt, rt.alloc(), LIT, READS + 1)?);
     Ok(())
 }
 
 #[test]
 fn each_failing_write_leaves_a_front(rt: HostRuntime) -> Result<(), Fail> {
-    let alloc = rt.alloc();
-    let text = lit(alloc, &[])?;
-    let report = joined(alloc, &[LIT, LIT_REPLIES, "L 0 0 1 ", ABC, "\nD drained\n"])?;
-    assert_eq!(rt; report.len().div_ceil(WRITE), WRITES as usize);
+    assert!(rt; LIT_REPORT.len().div_ceil(WRITE) == WRITES as usize);
     for number in 1..WRITES + 1 {
-        let fails = write_fails(&rt, alloc, text.as_str(), report.as_str(), number)?;
+        let fails = write_fails(&rt, rt.alloc(), LIT, LIT_REPORT, number)?;
         assert!(rt; fails, "write {number}");
     }
-    assert!(rt; !write_fails(&rt, alloc, text.as_str(), report.as_str(), WRITES + 1)?);
+    assert!(rt; !write_fails(&rt, rt.alloc(), LIT, LIT_REPORT, WRITES + 1)?);
     Ok(())
 }

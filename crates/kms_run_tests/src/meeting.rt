@@ -69,7 +69,7 @@ fn clients_meet_at_their_checks(rt: HostRuntime) -> Result<(), Fail> {
     let mut sink = sink(alloc, 4096, &[])?;
     let words = words(alloc, &["run", "--threads", "4"])?;
     let status = kms_main(&rt, alloc, &words, &mut source, &mut sink, &gate);
-    assert_eq!(rt; status, Status::Ok);
+    assert!(rt; status == Status::Ok);
     assert!(rt; gate.first_check.load(Ordering::SeqCst));
     assert!(rt; gate.second_check.load(Ordering::SeqCst));
     assert!(rt; gate.second_answer.load(Ordering::SeqCst));

@@ -1,32 +1,64 @@
 //! Runs by threads.
-use crate::asserting::{assert_answers, has_line, lit, run};
-use crate::texts::{ABC, HEAD, LIT, LIT_REPLIES, WAITING};
+use crate::asserting::{has_line, joined, run};
+use crate::texts::{
+    BEFORE_TABLE, BEHIND_TABLE, LIT, LIT_REPORT, SCALED, SCALED_REPORT, TABLE_REPORT, WAITING,
+};
 use kms_run::Status;
-use std::alloc::Global;
+use kms_samples::script;
+use std::alloc::{AllocError, Global};
+use std::sync::Wait;
 use std::test::Fail;
+use std::thread::Threads;
 
-#[test]
-fn one_thread_runs_the_empty_device(rt: HostRuntime) -> Result<(), Fail> {
-    let words = ["run", "--threads", "1"];
-    assert_answers(&rt, &words, HEAD, Status::Ok, &["D drained\n"])
+/// Whether so many threads drain a script, and write this.
+fn drains<R: Threads + Wait + Sync>(
+    rt: &R,
+    alloc: Global,
+    threads: &str,
+    text: &str,
+    report: &str,
+) -> Result<bool, Fail> {
+    let (status, sink) = run(rt, alloc, &["run", "--threads", threads], text)?;
+    Ok(status == Status::Ok && sink.written() == report.as_bytes())
+}
+
+/// The line of a blob: a table that inverts each channel.
+fn inverting(alloc: Global) -> Result<String, AllocError> {
+    let mut text = String::new(alloc);
+    for entry in 0..256 {
+        let value = 255 - entry;
+        for _ in 0..6 {
+            write!(text, "{value:02x}")?;
+        }
+        text.push_str("0000")?;
+    }
+    joined(alloc, &[BEFORE_TABLE, text.as_str(), BEHIND_TABLE])
 }
 
 /// Of a script of one client the report is that of `one`.
 #[test]
-fn four_threads_light_the_crtc(rt: HostRuntime) -> Result<(), Fail> {
-    let text = lit(rt.alloc(), &[])?;
-    let report = &[LIT, LIT_REPLIES, "L 0 0 1 ", ABC, "\nD drained\n"];
-    let words = ["run", "--threads", "4"];
-    assert_answers(&rt, &words, text.as_str(), Status::Ok, report)
+fn threads_drain_scripts_of_one_client(rt: HostRuntime) -> Result<(), Fail> {
+    let alloc = rt.alloc();
+    let table = inverting(alloc)?;
+    let rows = [
+        ("the empty device", "1", script!(single), "D drained\n"),
+        ("a first commit", "4", LIT, LIT_REPORT),
+        ("a scaled plane", "4", SCALED, SCALED_REPORT),
+        ("a table", "4", table.as_str(), TABLE_REPORT),
+    ];
+    for (case, threads, text, report) in &rows {
+        assert!(rt; drains(&rt, alloc, threads, text, report)?, "{case}");
+    }
+    Ok(())
 }
 
 /// A run that waits for a fence which nobody signals comes to rest, and its history is ended.
 #[test]
 fn a_fence_that_nobody_signals_stalls_threads(rt: HostRuntime) -> Result<(), Fail> {
-    let text = lit(rt.alloc(), &[WAITING])?;
+    let text = joined(rt.alloc(), &[LIT, WAITING])?;
     let words = ["run", "--threads", "4", "--trace"];
     let (status, sink) = run(&rt, rt.alloc(), &words, text.as_str())?;
-    assert_eq!(rt; status, Status::Stalled);
+    assert!(rt; status == Status::Stalled);
     assert!(rt; sink.written().ends_with(b"\nT stall\n") && has_line(&sink, "D stalled n"));
     Ok(())
 }
@@ -52,10 +84,10 @@ fn steps_of_threads_are_replayed(rt: HostRuntime) -> Result<(), Fail> {
     let text = String::from_utf8(Vec::from_slice(alloc, script.written())?)?;
     let trace = ["run", "--threads", "3", "--trace"];
     let (status, report) = run(&rt, alloc, &trace, text.as_str())?;
-    assert_eq!(rt; status, Status::Ok);
+    assert!(rt; status == Status::Ok);
     let text = with_schedule(alloc, script.written(), report.written())?;
     let (status, replayed) = run(&rt, alloc, &["replay", "--trace"], text.as_str())?;
-    assert_eq!(rt; status, Status::Ok);
+    assert!(rt; status == Status::Ok);
     assert!(rt; replayed.written() == report.written());
     Ok(())
 }

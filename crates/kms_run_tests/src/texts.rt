@@ -1,45 +1,12 @@
 //! The scripts and the lines that tests are put together from.
 use kms_samples::script;
 
-/// A device with one CRTC, one plane and one connector.
-pub(crate) const HEAD: &str = script!(single);
+/// A script whose client lights the CRTC.
+pub(crate) const LIT: &str = script!(single "client\n" made lights);
 
-/// A client that makes a buffer, a framebuffer and a mode of one pixel.
-pub(crate) const MADE: &str = script!("client\n" made);
-
-/// The line of a mode of one pixel.
-pub(crate) const MADE_MODE: &str = script!(tiny("m"));
-
-/// What a request sets that lights the CRTC.
-pub(crate) const SET: &str = script!(light);
-
-/// What a request sets that puts the CRTC out again.
-pub(crate) const UNSET: &str =
-    "crtc0.ACTIVE=0 crtc0.MODE_ID=0 conn0.CRTC_ID=0 plane0.FB_ID=0 plane0.CRTC_ID=0";
-
-/// The lines of the journal of a client's first four commands.
-pub(crate) const LIT: &str = "J 1 1\nJ 1 2\nJ 1 3\nJ 1 4\n";
-
-/// The replies to them.
-pub(crate) const LIT_REPLIES: &str =
-    "R 1 1 0 made 1000\nR 1 2 1 made 1001\nR 1 3 2 made 1002\nR 1 4 3 commit 0\n";
-
-/// The steps of a client that lights the CRTC, up to its swap.
-pub(crate) const LIT_STEPS: &str =
-    "T make 1\nT make 1\nT make 1\nT begin 1\nT lock 1 crtc0\nT lock 1 plane0\nT lock 1 conn0\nT swap 1\n";
-
-/// The steps of the first commit's tail, up to its latch.
-pub(crate) const TAIL: &str =
-    "T claim 0\nT write 0 crtc0\nT write 0 plane0\nT flush 0 crtc0\nT hwdone 0\nT vblank crtc0\n";
-
-/// The digest of the frame of one pixel 61 62 63.
-pub(crate) const ABC: &str = "ba7816bf8f01cfea414140de5dae2223b00361a396177a9cb410ff61f20015ad";
-
-/// The digest of the frame of one pixel 66 6f 6f.
-pub(crate) const FOO: &str = "2c26b46b68ffc68ff99b453c1d30413413422d706483bfa0f98a5e886266e7ae";
-
-/// The digest of the frame of one black pixel.
-pub(crate) const BLACK: &str = "709e80c88487a2411e1ee4dfb9f22a861492d20c4765150c0c794abd70f8147c";
+/// What `one` and `run` write of it.
+pub(crate) const LIT_REPORT: &str =
+    "J 1 1\nJ 1 2\nJ 1 3\nJ 1 4\nR 1 1 0 made 1000\nR 1 2 1 made 1001\nR 1 3 2 made 1002\nR 1 4 3 commit 0\nL 0 0 1 ba7816bf8f01cfea414140de5dae2223b00361a396177a9cb410ff61f20015ad\nD drained\n";
 
 /// Commands of a client that has lit the CRTC: a commit waits for an out-fence, and the last one for a fence that nobody
 /// signals.
@@ -53,9 +20,25 @@ pub(crate) const TWO_SCREENS: &str = script!(
     "client\n" pixel("b2", "f2", "00666f6f") tiny("m2") lights(0, "f2", "m2")
 );
 
-/// A client's first request, up to what it sets.
-pub(crate) const LIGHTS: &str = "atomic 0x400 0 ";
+/// A script of profile 2 that shows each of two pixels twice.
+pub(crate) const SCALED: &str = script!(
+    single(2)
+    "client\nbuffer b 2 1 XR24 pixels 00616263 00666f6f\naddfb f b\n"
+    "mode m 1 4 4 4 4 0 1 1 1 1 0 60 0 0 wide\n"
+    "atomic 0x400 0 " screen(0, "m")
+    " plane0.FB_ID=@f plane0.CRTC_ID=crtc0 plane0.CRTC_H=1 plane0.SRC_H=65536"
+    " plane0.CRTC_W=4 plane0.SRC_W=131072\n"
+);
 
-/// The lines of the journal of a client's first three commands, and their replies.
-pub(crate) const MADE_ONLY: &str =
-    "J 1 1\nJ 1 2\nJ 1 3\nR 1 1 0 made 1000\nR 1 2 1 made 1001\nR 1 3 2 made 1002\n";
+/// What is written of it.
+pub(crate) const SCALED_REPORT: &str =
+    "J 1 1\nJ 1 2\nJ 1 3\nJ 1 4\nR 1 1 0 made 1000\nR 1 2 1 made 1001\nR 1 3 2 made 1002\nR 1 4 3 commit 0\nL 0 0 1 de5a6fb237d38c1df9e3176502b0d071f240fcea9e0f7334b38016f536fe617f\nD drained\n";
+
+/// A script of profile 2 up to the bytes of a table, and what follows them: it lights the CRTC with the table.
+pub(crate) const BEFORE_TABLE: &str = script!(single(2) "client\n" made "blob g ");
+
+pub(crate) const BEHIND_TABLE: &str = script!("\natomic 0x400 0 " light " crtc0.GAMMA_LUT=@g\n");
+
+/// What is written of it where the table inverts each channel.
+pub(crate) const TABLE_REPORT: &str =
+    "J 1 1\nJ 1 2\nJ 1 3\nJ 1 4\nJ 1 5\nR 1 1 0 made 1000\nR 1 2 1 made 1001\nR 1 3 2 made 1002\nR 1 4 3 made 1003\nR 1 5 4 commit 0\nL 0 0 1 8d7a83ff31a8b084d7c69c1ae6366858716612eca969680c5e43618552d574df\nD drained\n";

@@ -61,7 +61,7 @@ pub trait Hands {
 }
 
 /// One thread, which does one thing after the other.
-#[derive(Clone, Copy, Debug)]
+#[derive(Clone, Copy)]
 pub struct OneThread;
 
 impl Hands for OneThread {

@@ -11,7 +11,7 @@ use kms_model::{Topology, Why};
 use std::alloc::Global;
 
 /// A device at the front of an input.
-#[derive(Debug, PartialEq, Eq, Drop)]
+#[derive(PartialEq, Eq, Drop)]
 pub struct TopologyRead {
     /// The version of the input's first line, 1 or 2, which is the device's profile.
     pub version: u32,

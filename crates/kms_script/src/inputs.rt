@@ -21,7 +21,7 @@ use kms_model::{Part, Script, Seq, Step, Why};
 use std::alloc::Global;
 
 /// What an input has.
-#[derive(Debug, PartialEq, Eq, Drop)]
+#[derive(PartialEq, Eq, Drop)]
 pub struct Parsed {
     /// The script.
     pub script: Script,

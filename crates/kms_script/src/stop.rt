@@ -7,7 +7,7 @@ use kms_model::{NoMemory, Why};
 use std::alloc::AllocFailed;
 
 /// Why reading stops at a line.
-#[derive(Clone, Copy, Debug, PartialEq, Eq)]
+#[derive(Clone, Copy, PartialEq, Eq)]
 pub enum Stop {
     /// The line may not stand there.
     Fault(Why),

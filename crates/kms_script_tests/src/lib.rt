@@ -1,7 +1,9 @@
-//! Tests of `kms_script` by its public calls: scripts, lines, steps and schedules that are read, each fault and each limit, and
-//! what is printed of them.
+//! Tests of `kms_script` by its public calls, of what the cases of `kms_cases` cannot say: scripts, lines, steps and reports that
+//! are read, limits that no case can spell, and what is printed. And tests of the files in which the cases stand.
 #![tactic(auto)]
 
+#[cfg(test)]
+mod casebook;
 #[cfg(test)]
 mod printing;
 #[cfg(test)]

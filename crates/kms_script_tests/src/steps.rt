@@ -5,30 +5,30 @@ use std::alloc::{AllocError, Global};
 use std::test::Fail;
 
 /// Whether a line is read as a step, and this step is printed as the line.
-fn is_line_of(alloc: Global, line: &[u8], want: Step) -> Result<bool, AllocError> {
-    let Some(step) = read_step(line) else {
+fn is_line_of(alloc: Global, line: &str, want: Step) -> Result<bool, AllocError> {
+    let Some(step) = read_step(line.as_bytes()) else {
         return Ok(false);
     };
     let text = print_step(alloc, &step).map_err(|_| AllocError)?;
-    Ok(step == want && text.as_slice() == line)
+    Ok(step == want && text.as_slice() == line.as_bytes())
 }
 
 #[test]
 fn a_step_of_a_client_has_its_line(rt: HostRuntime) -> Result<(), Fail> {
     let alloc = rt.alloc();
     for (line, step) in [
-        (b"T begin 1".as_slice(), Step::Begin { client: 1 }),
-        (b"T backoff 16", Step::BackOff { client: 16 }),
-        (b"T relock 10", Step::Relock { client: 10 }),
-        (b"T refuse 0", Step::Refuse { client: 0 }),
-        (b"T test 4294967295", Step::Test { client: u32::MAX }),
-        (b"T swap 2", Step::Swap { client: 2 }),
-        (b"T make 3", Step::Make { client: 3 }),
-        (b"T signal 4", Step::Signal { client: 4 }),
-        (b"T read 5", Step::Read { client: 5 }),
-        (b"T return 6", Step::Return { client: 6 }),
+        ("T begin 1", Step::Begin { client: 1 }),
+        ("T backoff 16", Step::BackOff { client: 16 }),
+        ("T relock 10", Step::Relock { client: 10 }),
+        ("T refuse 0", Step::Refuse { client: 0 }),
+        ("T test 4294967295", Step::Test { client: u32::MAX }),
+        ("T swap 2", Step::Swap { client: 2 }),
+        ("T make 3", Step::Make { client: 3 }),
+        ("T signal 4", Step::Signal { client: 4 }),
+        ("T read 5", Step::Read { client: 5 }),
+        ("T return 6", Step::Return { client: 6 }),
     ] {
-        assert!(rt; is_line_of(alloc, line, step)?, "{step:?}");
+        assert!(rt; is_line_of(alloc, line, step)?, "{line}");
     }
     Ok(())
 }
@@ -37,12 +37,12 @@ fn a_step_of_a_client_has_its_line(rt: HostRuntime) -> Result<(), Fail> {
 fn a_step_of_a_commit_has_its_line(rt: HostRuntime) -> Result<(), Fail> {
     let alloc = rt.alloc();
     for (line, step) in [
-        (b"T claim 0".as_slice(), Step::Claim { commit: 0 }),
-        (b"T hwdone 4294967295", Step::HwDone { commit: u32::MAX }),
-        (b"T cleanup 100", Step::Cleanup { commit: 100 }),
-        (b"T stall", Step::Stall),
+        ("T claim 0", Step::Claim { commit: 0 }),
+        ("T hwdone 4294967295", Step::HwDone { commit: u32::MAX }),
+        ("T cleanup 100", Step::Cleanup { commit: 100 }),
+        ("T stall", Step::Stall),
     ] {
-        assert!(rt; is_line_of(alloc, line, step)?, "{step:?}");
+        assert!(rt; is_line_of(alloc, line, step)?, "{line}");
     }
     Ok(())
 }
@@ -53,7 +53,7 @@ fn a_step_with_an_object_has_its_line(rt: HostRuntime) -> Result<(), Fail> {
     let (client, commit) = (1, 20);
     for (line, step) in [
         (
-            b"T lock 1 crtc0".as_slice(),
+            "T lock 1 crtc0",
             Step::Lock {
                 client,
                 kind: Kind::Crtc,
@@ -61,7 +61,7 @@ fn a_step_with_an_object_has_its_line(rt: HostRuntime) -> Result<(), Fail> {
             },
         ),
         (
-            b"T lock 1 enc0",
+            "T lock 1 enc0",
             Step::Lock {
                 client,
                 kind: Kind::Enc,
@@ -69,7 +69,7 @@ fn a_step_with_an_object_has_its_line(rt: HostRuntime) -> Result<(), Fail> {
             },
         ),
         (
-            b"T write 20 plane15",
+            "T write 20 plane15",
             Step::Write {
                 commit,
                 kind: Kind::Plane,
@@ -77,7 +77,7 @@ fn a_step_with_an_object_has_its_line(rt: HostRuntime) -> Result<(), Fail> {
             },
         ),
         (
-            b"T flush 20 crtc255",
+            "T flush 20 crtc255",
             Step::Flush {
                 commit,
                 kind: Kind::Crtc,
@@ -85,14 +85,14 @@ fn a_step_with_an_object_has_its_line(rt: HostRuntime) -> Result<(), Fail> {
             },
         ),
         (
-            b"T vblank conn7",
+            "T vblank conn7",
             Step::Vblank {
                 kind: Kind::Conn,
                 index: 7,
             },
         ),
     ] {
-        assert!(rt; is_line_of(alloc, line, step)?, "{step:?}");
+        assert!(rt; is_line_of(alloc, line, step)?, "{line}");
     }
     Ok(())
 }
@@ -162,7 +162,7 @@ fn a_line_of_another_form_has_no_step(rt: HostRuntime) -> Result<(), Fail> {
         b"T begin\t1",
         b"T begin 1\0",
     ] {
-        assert!(rt; read_step(line).is_none());
+        assert!(rt; read_step(line).is_none(), "{line:?}");
     }
     Ok(())
 }

@@ -7,6 +7,3 @@ mod store;
 mod values;
 
 pub use serial::Serial;
-
-#[cfg(test)]
-mod tests;

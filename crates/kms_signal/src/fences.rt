@@ -10,7 +10,7 @@ use std::marker::Model;
 
 /// The fences that were made, by their ids, each with whether it is signalled. Contracts see them with the room that
 /// there is for further ones. (Kernel: "DMA Fences", `struct dma_fence`.)
-#[derive(Debug, Drop)]
+#[derive(Drop)]
 pub struct Fences {
     fences: RoomTable<bool>,
 }

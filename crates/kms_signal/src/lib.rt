@@ -13,8 +13,6 @@ mod fences;
 mod law;
 mod queues;
 mod tables;
-#[cfg(test)]
-mod tests;
 
 pub use bytes::{EVENT_BYTES, event_bytes, flip_event};
 pub use fences::Fences;

@@ -15,7 +15,7 @@ pub const EVENT_SPACE: u32 = 4096;
 const MOST_EVENTS: u32 = EVENT_SPACE / EVENT_BYTES;
 
 /// Why no space is reserved.
-#[derive(Clone, Copy, Debug, PartialEq, Eq)]
+#[derive(Clone, Copy, PartialEq, Eq)]
 pub enum ReserveError {
     /// The space does not suffice.
     NoSpace {
@@ -28,7 +28,7 @@ pub enum ReserveError {
 
 /// The flip events of a client: how many are reserved, and those that were delivered and not read. (Kernel: `drm_file.c`,
 /// `struct drm_pending_event`.)
-#[derive(Debug, Drop)]
+#[derive(Drop)]
 pub struct EventQueue {
     reserved: u32,
     unread: VecDeque<Event>,

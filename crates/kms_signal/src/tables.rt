@@ -8,7 +8,7 @@ use std::marker::Model;
 
 /// Values by their ids, in rising order of the ids. Contracts see them with the room that there is for further ones, a
 /// count: so many calls of `push` find memory. A look-up halves what is left at each step.
-#[derive(Debug, Drop)]
+#[derive(Drop)]
 pub struct RoomTable<T> {
     slots: Vec<Slot<T>>,
 }

@@ -6,7 +6,5 @@
 
 mod places;
 mod sets;
-#[cfg(test)]
-mod tests;
 
 pub use places::Duplicating;

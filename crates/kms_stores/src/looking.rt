@@ -15,7 +15,7 @@ use kms_things::Things;
 use std::alloc::Global;
 
 /// What a call that decides about a request answers.
-#[derive(Clone, Copy, Debug, PartialEq, Eq)]
+#[derive(Clone, Copy, PartialEq, Eq)]
 pub enum Decided {
     /// The request is decided.
     Done {
@@ -46,7 +46,7 @@ pub enum Decided {
 }
 
 /// A label that names something else than it did.
-#[derive(Clone, Copy, Debug)]
+#[derive(Clone, Copy)]
 pub struct Stale {
     /// The label, by its number from 0.
     pub label: u32,

@@ -6,7 +6,7 @@ use kms_model::{Kind, Range, Rule};
 use std::fmt;
 
 /// The row of the objects of a kind.
-#[derive(Clone, Copy, Debug)]
+#[derive(Clone, Copy)]
 pub struct ObjectRow {
     /// The kind.
     pub kind: Kind,
@@ -27,7 +27,7 @@ impl fmt::Display for ObjectRow {
 }
 
 /// The row of a rule.
-#[derive(Clone, Copy, Debug)]
+#[derive(Clone, Copy)]
 pub struct RefusalRow(pub Rule);
 
 /// The number, the error number, the name, when it refuses and the kernel's function.
@@ -45,7 +45,7 @@ impl fmt::Display for RefusalRow {
 }
 
 /// What a property may be set to.
-#[derive(Clone, Copy, Debug)]
+#[derive(Clone, Copy)]
 pub struct SettableValues {
     /// Which things it takes, where it takes things.
     pub things: &'static str,
@@ -68,7 +68,7 @@ impl fmt::Display for SettableValues {
 }
 
 /// What the value of a property is before the first command.
-#[derive(Clone, Copy, Debug, PartialEq, Eq)]
+#[derive(Clone, Copy, PartialEq, Eq)]
 pub enum AtStart {
     /// A number.
     Number(i128),
@@ -92,7 +92,7 @@ impl fmt::Display for AtStart {
 }
 
 /// The row of a property of a kind of object.
-#[derive(Clone, Copy, Debug)]
+#[derive(Clone, Copy)]
 pub struct PropertyRow {
     /// The kind.
     pub kind: Kind,

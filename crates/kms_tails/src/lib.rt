@@ -13,8 +13,6 @@ mod law;
 mod progress;
 mod tail;
 mod tails;
-#[cfg(test)]
-mod tests;
 
 pub use law::{follow_the_machine, legal_steps_are_left};
 pub use progress::Progress;

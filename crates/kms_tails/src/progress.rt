@@ -6,7 +6,7 @@ ghost use Rattle.kms_tails.specs.Remaining.{IsMark, count_below, first_left, is_
 use kms_model::has_bit;
 
 /// How far the tail of a commit has come. In a mask bit i stands for the object with index i.
-#[derive(Clone, Copy, Debug, PartialEq, Eq)]
+#[derive(Clone, Copy, PartialEq, Eq)]
 pub struct Progress {
     /// Whether a worker has claimed it.
     pub claimed: bool,
@@ -23,7 +23,7 @@ pub struct Progress {
 }
 
 /// What a step does of a commit. CRTCs, from 0 to 3, and planes, from 0 to 15, are given by their indices.
-#[derive(Clone, Copy, Debug, PartialEq, Eq)]
+#[derive(Clone, Copy, PartialEq, Eq)]
 pub(crate) enum Mark {
     /// A worker claims it.
     Claimed,

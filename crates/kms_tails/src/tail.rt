@@ -18,7 +18,7 @@ use kms_props::wants_event;
 
 /// What the tail of a commit that is swapped in needs, and how far it has come. It takes a few kilobytes, in place.
 /// (Kernel: `struct drm_atomic_state`, `struct drm_crtc_commit`, `struct drm_pending_vblank_event`.)
-#[derive(Clone, Copy, Debug)]
+#[derive(Clone, Copy)]
 pub struct Tail {
     /// The client that committed, counted from 1: its events are delivered there.
     pub client: u32,

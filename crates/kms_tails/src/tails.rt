@@ -24,7 +24,7 @@ const MOST_STEPS: usize = 31;
 /// The tails of the commits that are swapped in and not cleaned, by the numbers of the commits. Contracts see them with the
 /// room that there is for further ones, a count, and tell, for each list of commits with marks and latches that they stand
 /// for, that they stand for it after the step. A look-up halves what is left at each step.
-#[derive(Debug, Drop)]
+#[derive(Drop)]
 pub struct Tails {
     slots: Vec<Slot<Tail>>,
 }

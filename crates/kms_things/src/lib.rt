@@ -18,6 +18,3 @@ mod things;
 pub use starting::start_states;
 pub use swapping::swapped;
 pub use things::Things;
-
-#[cfg(test)]
-mod tests;

@@ -8,7 +8,7 @@ use kms_model::{Checked, Kind, MAX_LOCKABLE, Mask, ObjId};
 use kms_signal::Fences;
 
 /// The last two commits that touched an object.
-#[derive(Clone, Copy, Debug, PartialEq, Eq)]
+#[derive(Clone, Copy, PartialEq, Eq)]
 pub struct Last {
     /// The number of the last one, counted from 0, if any.
     pub commit: Option<u32>,
@@ -33,7 +33,7 @@ impl Last {
 }
 
 /// An object that a commit touches.
-#[derive(Clone, Copy, Debug, PartialEq, Eq)]
+#[derive(Clone, Copy, PartialEq, Eq)]
 pub struct Touched {
     /// The number of the last commit before it that touched the object, counted from 0, if any.
     pub previous: Option<u32>,
@@ -42,7 +42,7 @@ pub struct Touched {
 }
 
 /// A commit that is set up and not cleaned. (Kernel: `struct drm_crtc_commit`.)
-#[derive(Clone, Copy, Debug)]
+#[derive(Clone, Copy)]
 pub struct Pending {
     /// Whether a worker has claimed it.
     pub claimed: bool,

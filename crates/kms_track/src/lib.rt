@@ -14,8 +14,6 @@
 mod commits;
 mod law;
 mod places;
-#[cfg(test)]
-mod tests;
 mod tracker;
 
 pub use commits::{Last, Pending, Touched};

@@ -8,7 +8,7 @@ use kms_model::{Duplicates, Kind, MAX_CRTCS, MAX_PLANES, Mask, ObjId, has_bit};
 const CRTCS_AND_PLANES: u32 = MAX_CRTCS + MAX_PLANES;
 
 /// The CRTCs of an object before and after a commit.
-#[derive(Clone, Copy, Debug, PartialEq, Eq)]
+#[derive(Clone, Copy, PartialEq, Eq)]
 pub struct Sides {
     /// The id of its CRTC before the commit, or 0. A CRTC's is its own.
     pub old: u32,

@@ -11,7 +11,7 @@ use std::marker::Model;
 
 /// The commits that were set up. Contracts see how many, the last two of each object, and those that are not cleaned, with
 /// the room that there is for further ones.
-#[derive(Debug, Drop)]
+#[derive(Drop)]
 pub struct Tracker {
     count: u32,
     last: [Last; 28],

@@ -7,9 +7,10 @@ use Rattle.kms_model.specs.declared.objects.Ticket.{Ticket}
 use Rattle.kms_model.specs.Device.Objects.{object_id}
 use Rattle.kms_wwlock.specs.declared.contexts.ContextDoing.TheVariants.{Taking, MustBackOff, BackedOff}
 use Rattle.kms_wwlock.specs.declared.table.Lock.TheVariants.{Got, Own, Older, Younger}
+use Rattle.kms_wwlock.specs.declared.table.Relock.TheVariants as relock
 use Rattle.kms_wwlock.specs.Objects.{lock_place}
 use Rattle.kms_wwlock.specs.Table.{Table, holder_of, doing_of}
-use Rattle.kms_wwlock.specs.Calls.{lock_answer, after_lock, after_backoff}
+use Rattle.kms_wwlock.specs.Calls.{lock_answer, after_lock, after_backoff, relock_answer, after_relock, after_drop_all}
 use Rattle.kms_wwlock.specs.Waits.{Lock, Begin, ContextWaits, ForYounger, after_all, empty_table}
 
 abbrev object : Kind → ℕ → ObjId
@@ -56,3 +57,19 @@ backs_off : (doing_of asked second ≡ Some (MustBackOff (object Plane 0))) × (
     × (doing_of backed first ≡ Some Taking) × (holder_of backed (object Crtc 0) ≡ None) × (holder_of backed (object Plane 0) ≡ Some first)
 unfolding lock_place
 backs_off = (refl, refl, refl, refl, refl)
+
+-- the older one takes the CRTC, and the younger one waits for the plane until the older one is over
+abbrev taken : Table
+taken = after_lock backed first (object Crtc 0) Got
+
+abbrev over : Table
+over = after_drop_all taken first
+
+abbrev again : Table
+again = after_relock over second relock.Got
+
+relocks : (lock_answer first (holder_of backed (object Crtc 0)) ≡ Got) × (lock_answer first (holder_of taken (object Crtc 0)) ≡ Own)
+    × (relock_answer taken second ≡ relock.Held first) × (relock_answer over second ≡ relock.Got)
+    × (holder_of again (object Plane 0) ≡ Some second) × (holder_of again (object Crtc 0) ≡ None) × (doing_of again second ≡ Some Taking)
+unfolding lock_place
+relocks = (refl, refl, refl, refl, refl, refl, refl)

@@ -6,7 +6,7 @@ ghost use Rattle.kms_wwlock.specs.Calls.{with_doing};
 use kms_model::{ObjId, Ticket};
 
 /// What a context that has begun and is not over is doing.
-#[derive(Clone, Copy, Debug, PartialEq, Eq)]
+#[derive(Clone, Copy, PartialEq, Eq)]
 pub enum ContextDoing {
     /// It may take locks.
     Taking,
@@ -18,7 +18,7 @@ pub enum ContextDoing {
 
 /// An acquire context that has begun and is not over. (Kernel: `struct drm_modeset_acquire_ctx`, whose
 /// field `contended` is the object of the last two cases of `ContextDoing`.)
-#[derive(Clone, Copy, Debug, PartialEq, Eq)]
+#[derive(Clone, Copy, PartialEq, Eq)]
 pub struct Context {
     /// Its ticket, by which it is known.
     pub ticket: Ticket,

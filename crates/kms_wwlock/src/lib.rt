@@ -15,8 +15,6 @@ mod contexts;
 mod holders;
 mod law;
 mod table;
-#[cfg(test)]
-mod tests;
 
 pub use contexts::{Context, ContextDoing};
 pub use law::no_cycle_of_waits;

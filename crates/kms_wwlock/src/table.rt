@@ -9,7 +9,7 @@ use std::alloc::Global;
 use std::marker::Model;
 
 /// What `LockTable::lock` answers.
-#[derive(Clone, Copy, Debug, PartialEq, Eq)]
+#[derive(Clone, Copy, PartialEq, Eq)]
 pub enum Lock {
     /// The object was free, and the context holds it now.
     Got,
@@ -28,7 +28,7 @@ pub enum Lock {
 }
 
 /// What `LockTable::relock` answers.
-#[derive(Clone, Copy, Debug, PartialEq, Eq)]
+#[derive(Clone, Copy, PartialEq, Eq)]
 pub enum Relock {
     /// The object was free. The context holds it now and may take locks.
     Got,
@@ -41,7 +41,7 @@ pub enum Relock {
 
 /// Who holds the modeset lock of each object, and the contexts that have begun and are not over. The cost of
 /// a call grows with the open contexts alone, and not with those that are over.
-#[derive(Debug, Drop)]
+#[derive(Drop)]
 pub struct LockTable {
     holders: [Option<Ticket>; LOCKABLE],
     contexts: Vec<Context>,

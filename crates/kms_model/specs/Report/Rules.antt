@@ -81,17 +81,24 @@ rule_rows =
     ∷ denies denied.NOT_SIGNALLABLE (codes "NOT_SIGNALLABLE") EINVAL (codes "the label is no fence that a `fence` command made") (codes "own")
     ∷ []
 
+abbrev pub has_number : ℕ → RuleRow → Bool
+has_number n row = row.number == n
+
 -- a rule has the number
 abbrev pub is_rule : ℕ → Bool
-is_rule n = list_any (λ row. row.number == n) rule_rows
+is_rule n = list_any (has_number n) rule_rows
 
 -- the row of a number; a rule without texts where no rule has it
 abbrev row_or_none : ℕ → Option RuleRow → RuleRow
 row_or_none n (Some row) = row
 row_or_none n None = record { number = n; name = []; errno = EINVAL; text = []; source = [] }
 
-abbrev rule_row : ℕ → RuleRow
-rule_row n = row_or_none n (find (λ row. row.number == n) rule_rows)
+-- the row of a number, where a rule has it
+abbrev pub row_found : ℕ → Option RuleRow
+row_found n = find (has_number n) rule_rows
+
+abbrev pub rule_row : ℕ → RuleRow
+rule_row n = row_or_none n (row_found n)
 
 -- the name of a rule's error number; EINVAL where no rule has the number
 abbrev pub errno_of : ℕ → List ℕ

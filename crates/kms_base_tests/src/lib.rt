@@ -1,0 +1,18 @@
+//! Tests of the crates below the machine, by their public calls: sources and sinks, rectangles, blended channels, the device's
+//! tables, blobs, buffers with their framebuffers, and lists that are written at their ends.
+#![tactic(auto)]
+
+#[cfg(test)]
+mod blending;
+#[cfg(test)]
+mod blobs;
+#[cfg(test)]
+mod buffers;
+#[cfg(test)]
+mod lists;
+#[cfg(test)]
+mod rectangles;
+#[cfg(test)]
+mod streams;
+#[cfg(test)]
+mod tables;

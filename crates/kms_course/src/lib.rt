@@ -1,0 +1,26 @@
+//! Courses: what is done on a machine, and what it tells meanwhile, as text of a line for each; and what the tests of the
+//! machine share besides.
+#![tactic(auto)]
+
+mod answers;
+mod calls;
+mod comparing;
+mod courses;
+mod ends;
+mod lists;
+mod moves;
+mod places;
+mod playing;
+mod refusing;
+mod replays;
+mod starting;
+mod steps;
+
+pub use calls::call_decision;
+pub use comparing::{looks_same, tells_same};
+pub use courses::{follow, step_of};
+pub use moves::{do_step, goes, next_of, place_of};
+pub use playing::{Played, play};
+pub use replays::{again, anew};
+pub use starting::{NotStarted, started};
+pub use steps::{Object, crtc, flush, lock, plane, vblank, write};

@@ -1,0 +1,320 @@
+//! Players at a device, on one thread.
+ghost use Rattle.std.specs.Prelude.{◌≡◌, length};
+ghost use Rattle.kms_histlock.specs.Passes.{new_pass, new_passes};
+ghost use Rattle.kms_model.specs.Script.WellFormed.{IsWellFormed};
+ghost use Rattle.kms_players.specs.Players.{name_of_pass};
+
+use crate::gates::{Came, Counter, WORKER};
+use kms_core::Core;
+use kms_device::{Device, Pass};
+use kms_model::{NoMemory, Part, Script, Seq};
+use kms_players::{Client, VblankTick, Worker};
+use kms_pool::{Player, Turn};
+use kms_samples::script;
+use kms_script::parse;
+use std::alloc::Global;
+use std::process::Abort;
+use std::sync::Wait;
+
+/// Two clients of one CRTC. The first lights it, dims its plane in a commit that is waited for, and reads the event; the second
+/// signals the fence that the commit waits for, once it has made a buffer.
+const TWO: &str = script!(
+    single
+    "client\n" made "fence n\n" lights "atomic 0x1 7 plane0.alpha=9 plane0.IN_FENCE_FD=@n\nwait\n"
+    "client\nbuffer c 1 1 XR24 solid 00616263\natomic 0x100 0 plane0.alpha=8\nsignal n\n"
+);
+
+/// The script of the two clients.
+fn two(rt: &(impl Abort + AllocGlobal)) -> Script
+    ensures formed { IsWellFormed result }
+    ensures clients { length result.clients ≡ 2 }
+{
+    let Ok(parsed) = parse(rt.alloc(), TWO.as_bytes(), Part::Script) else {
+        panic!(rt; "it is a script")
+    };
+    assert!(rt; parsed.script.clients.len() == 2, "it has two clients");
+    parsed.script
+}
+
+/// The four passes of a device.
+type Four = (Pass, Pass, Pass, Pass);
+
+/// The passes of a device that has four, in the order of their ranks.
+fn four(rt: &impl Abort, device: &Device, passes: Seq<Pass>) -> Four
+    requires { passes ≡ new_passes device.now.lock 4 }
+    ensures one { result.0 ≡ new_pass device.now.lock 1 }
+    ensures other { result.1 ≡ new_pass device.now.lock 2 }
+    ensures worker { result.2 ≡ new_pass device.now.lock 3 }
+    ensures tick { result.3 ≡ new_pass device.now.lock 4 }
+{
+    let mut passes = passes.into_vec();
+    let (Some(tick), Some(worker)) = (passes.pop(), passes.pop()) else {
+        panic!(rt; "no passes")
+    };
+    let (Some(other), Some(one)) = (passes.pop(), passes.pop()) else {
+        panic!(rt; "no passes")
+    };
+    (one, other, worker, tick)
+}
+
+/// A device of the two clients, with a pass for each, for a worker and for what ticks.
+fn opened(rt: &(impl Abort + AllocGlobal)) -> (Device, Four)
+    ensures seats { result.0.seats ≡ 4 }
+    ensures clients { length result.0.script.clients ≡ 2 }
+    ensures one { result.1.0 ≡ new_pass result.0.lock 1 }
+    ensures other { result.1.1 ≡ new_pass result.0.lock 2 }
+    ensures worker { result.1.2 ≡ new_pass result.0.lock 3 }
+    ensures tick { result.1.3 ≡ new_pass result.0.lock 4 }
+{
+    let Ok((device, passes)) = Device::new(rt.alloc(), two(rt), 4) else {
+        panic!(rt; "there is memory")
+    };
+    let passes = four(rt, &device, passes);
+    (device, passes)
+}
+
+/// Ends the device, and gives the machine.
+fn closed(rt: &(impl Abort + AllocGlobal), device: Device, passes: Four) -> Core
+    requires seats { device.seats ≡ 4 }
+    requires one { passes.0.lock ≡ device.lock }
+    requires other { passes.1.lock ≡ device.lock }
+    requires worker { passes.2.lock ≡ device.lock }
+    requires tick { passes.3.lock ≡ device.lock }
+    requires first { passes.0.rank ≡ 1 }
+{
+    let (one, other, worker, tick) = passes;
+    let Ok(passes) = Vec::from_array(rt.alloc(), [one, other, worker, tick]) else {
+        panic!(rt; "there is memory")
+    };
+    device.close(Seq::from_vec(passes))
+}
+
+/// Two clients, a worker and what ticks.
+#[derive(Drop)]
+struct Players<'a> {
+    one: Client<'a, Counter>,
+    other: Client<'a, Counter>,
+    worker: Worker<'a, Counter>,
+    tick: VblankTick<'a, Counter>,
+}
+
+impl<'a> Players<'a> {
+    ghost use Rattle.std.specs.Prelude.{◌≡◌, length};
+    ghost use Rattle.kms_players.specs.Players.{name_of_pass};
+
+    fn new(device: &'a Device, gate: &'a Counter, passes: Four) -> Players<'a>
+        requires clients { length device.now.script.clients ≡ 2 }
+        requires one { (passes.0.lock ≡ device.now.lock) × (passes.0.rank ≡ 1) }
+        requires other { (passes.1.lock ≡ device.now.lock) × (passes.1.rank ≡ 2) }
+        requires worker { (passes.2.lock ≡ device.now.lock) × (passes.2.rank ≡ 3) }
+        requires tick { (passes.3.lock ≡ device.now.lock) × (passes.3.rank ≡ 4) }
+        ensures one { result.one.pass ≡ passes.0 }
+        ensures other { result.other.pass ≡ passes.1 }
+        ensures worker { result.worker.pass ≡ passes.2 }
+        ensures tick { result.tick.pass ≡ passes.3 }
+    {
+        let (one, other, worker, tick) = passes;
+        Players {
+            one: Client::new(device, gate, 1, one),
+            other: Client::new(device, gate, 2, other),
+            worker: Worker::new(device, gate, WORKER, worker),
+            tick: VblankTick::new(device, gate, 0, tick),
+        }
+    }
+
+    /// A turn of each, one after the other. Tells whether all have ended.
+    fn round<W: Wait>(&mut self, rt: &W, alloc: Global) -> Result<bool, NoMemory>
+        ensures one { name_of_pass self.new.one.pass ≡ name_of_pass self.old.one.pass }
+        ensures other { name_of_pass self.new.other.pass ≡ name_of_pass self.old.other.pass }
+        ensures worker { name_of_pass self.new.worker.pass ≡ name_of_pass self.old.worker.pass }
+        ensures tick { name_of_pass self.new.tick.pass ≡ name_of_pass self.old.tick.pass }
+    {
+        let one = self.one.turn(rt, alloc)?;
+        let other = self.other.turn(rt, alloc)?;
+        let worker = self.worker.turn(rt, alloc)?;
+        let tick = self.tick.turn(rt, alloc)?;
+        Ok(all_ended(&[one, other, worker, tick]))
+    }
+
+    /// Rounds until all have ended, a thousand at most. Tells whether they have.
+    fn finish<W: Wait>(&mut self, rt: &W, alloc: Global) -> Result<bool, NoMemory>
+        ensures one { name_of_pass self.new.one.pass ≡ name_of_pass self.old.one.pass }
+        ensures other { name_of_pass self.new.other.pass ≡ name_of_pass self.old.other.pass }
+        ensures worker { name_of_pass self.new.worker.pass ≡ name_of_pass self.old.worker.pass }
+        ensures tick { name_of_pass self.new.tick.pass ≡ name_of_pass self.old.tick.pass }
+    {
+        for _ in 0..1000 {
+            if self.round(rt, alloc)? {
+                return Ok(true);
+            }
+        }
+        Ok(false)
+    }
+
+    /// The passes, when the players are given up.
+    fn into_passes(self) -> Four
+        ensures one { result.0 ≡ self.entry.one.pass }
+        ensures other { result.1 ≡ self.entry.other.pass }
+        ensures worker { result.2 ≡ self.entry.worker.pass }
+        ensures tick { result.3 ≡ self.entry.tick.pass }
+    {
+        let Players {
+            one,
+            other,
+            worker,
+            tick,
+        } = self;
+        (
+            one.into_pass(),
+            other.into_pass(),
+            worker.into_pass(),
+            tick.into_pass(),
+        )
+    }
+}
+
+/// Whether each player has ended.
+fn all_ended(turns: &[Turn]) -> bool {
+    turns.iter().all(|turn| *turn == Turn::Ended)
+}
+
+/// Asserts that so many have come to a gate.
+fn assert_came(rt: &impl Abort, gate: &Counter, wanted: Came, when: &str) {
+    assert!(rt; gate.came() == wanted, "{when}");
+}
+
+/// Asserts that the players finish, and gives their passes.
+fn drained(
+    rt: &(impl Abort + AllocGlobal + Wait),
+    device: &Device,
+    gate: &Counter,
+    passes: Four,
+) -> Four
+    requires clients { length device.now.script.clients ≡ 2 }
+    requires one { (passes.0.lock ≡ device.now.lock) × (passes.0.rank ≡ 1) }
+    requires other { (passes.1.lock ≡ device.now.lock) × (passes.1.rank ≡ 2) }
+    requires worker { (passes.2.lock ≡ device.now.lock) × (passes.2.rank ≡ 3) }
+    requires tick { (passes.3.lock ≡ device.now.lock) × (passes.3.rank ≡ 4) }
+    ensures one { name_of_pass result.0 ≡ name_of_pass passes.0 }
+    ensures other { name_of_pass result.1 ≡ name_of_pass passes.1 }
+    ensures worker { name_of_pass result.2 ≡ name_of_pass passes.2 }
+    ensures tick { name_of_pass result.3 ≡ name_of_pass passes.3 }
+{
+    let mut players = Players::new(device, gate, passes);
+    let finished = players.finish(rt, rt.alloc());
+    assert!(rt; finished == Ok(true), "all have ended");
+    players.into_passes()
+}
+
+#[test]
+fn players_on_one_thread_drain_a_history(rt: HostRuntime) {
+    let gate = Counter::new(0);
+    let (device, passes) = opened(&rt);
+    let passes = drained(&rt, &device, &gate, passes);
+    let core = closed(&rt, device, passes);
+    assert!(rt; core.drained() && core.replies().len() == 10);
+    let came = gate.came();
+    let wanted = Came {
+        answers: 7,
+        other_answers: 3,
+        strange: 0,
+        ..came
+    };
+    assert_came(&rt, &gate, wanted, "all have ended");
+    assert!(rt; came.checks > 3 && came.claims > 1 && came.ticks > 1);
+}
+
+/// What ticks for a CRTC that is not there does nothing, and comes to the gate. It gives its pass.
+fn ticked(rt: &(impl Abort + Wait), device: &Device, gate: &Counter, pass: Pass) -> Pass
+    requires own { pass.lock ≡ device.now.lock }
+    ensures same { name_of_pass result ≡ name_of_pass pass }
+{
+    let mut tick = VblankTick::new(device, gate, 1, pass);
+    let turn = tick.play(rt);
+    assert!(rt; turn != Turn::Did, "nothing ticks");
+    tick.into_pass()
+}
+
+/// Nobody so far.
+const NOBODY: Came = Came {
+    checks: 0,
+    answers: 0,
+    other_answers: 0,
+    claims: 0,
+    ticks: 0,
+    strange: 0,
+};
+
+#[test]
+fn what_ticks_comes_to_the_gate_with_its_crtc(rt: HostRuntime) {
+    let gate = Counter::new(1);
+    let (device, (one, other, worker, pass)) = opened(&rt);
+    let pass = ticked(&rt, &device, &gate, pass);
+    let core = closed(&rt, device, (one, other, worker, pass));
+    assert!(rt; core.history().is_empty());
+    let wanted = Came { ticks: 1, ..NOBODY };
+    assert_came(&rt, &gate, wanted, "it ticked");
+}
+
+/// Turns of the first client, as many as it needs to commit for the first time.
+fn commit<W: Wait>(
+    rt: &W,
+    alloc: Global,
+    client: &mut Client<'_, Counter>,
+) -> Result<(), NoMemory> {
+    for _ in 0..20 {
+        let _turn = client.play(rt, alloc)?;
+    }
+    Ok(())
+}
+
+/// Turns of a worker until one does nothing, a hundred at most. Tells how many did something.
+fn work<W: Wait>(rt: &W, worker: &mut Worker<'_, Counter>) -> u32 {
+    let mut did = 0u32;
+    for _ in 0..100 {
+        if worker.play(rt) != Turn::Did {
+            return did;
+        }
+        did = did.saturating_add(1);
+    }
+    did
+}
+
+/// Asserts that a worker does something in so many turns, and has come for so many commits then.
+fn assert_works(
+    rt: &(impl Abort + Wait),
+    worker: &mut Worker<'_, Counter>,
+    gate: &Counter,
+    turns: u32,
+    claims: u64,
+) {
+    let did = work(rt, worker);
+    assert!(rt;
+        did == turns && gate.came().claims == claims,
+        "{turns} turns: {did}"
+    );
+}
+
+/// Asserts what the worker does once the first client has committed.
+fn assert_claims(
+    rt: &(impl Abort + AllocGlobal + Wait),
+    players: &mut Players<'_>,
+    gate: &Counter,
+) {
+    let committed = commit(rt, rt.alloc(), &mut players.one);
+    assert!(rt; committed.is_ok() && gate.came().claims == 0);
+    // the claim, two writes, the flush, and that they are done; the clean-up has to wait
+    assert_works(rt, &mut players.worker, gate, 5, 1);
+    let turn = players.tick.play(rt);
+    assert!(rt; turn == Turn::Did && gate.came().claims == 1);
+    // the clean-up, and then nothing is there to claim
+    assert_works(rt, &mut players.worker, gate, 1, 2);
+}
+
+#[test]
+fn a_worker_claims_no_commit_while_it_has_one(rt: HostRuntime) {
+    let gate = Counter::new(0);
+    let (device, passes) = opened(&rt);
+    let mut players = Players::new(&device, &gate, passes);
+    assert_claims(&rt, &mut players, &gate);
+}

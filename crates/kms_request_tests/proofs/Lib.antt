@@ -1,0 +1,2 @@
+mod ReachRows
+pub mod Standing
