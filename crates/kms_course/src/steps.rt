@@ -6,7 +6,7 @@ ghost use Rattle.kms_model.specs.declared.replies.Step.TheVariants as step;
 use kms_model::{Kind, Step};
 
 /// A display object, by its kind and its index.
-#[derive(Clone, Copy, Debug)]
+#[derive(Clone, Copy)]
 pub struct Object {
     /// Its kind.
     pub kind: Kind,

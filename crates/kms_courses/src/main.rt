@@ -71,12 +71,10 @@ fn print_case<R: Print + AllocGlobal>(
 
 /// Plays each case.
 fn print_cases<R: Print + AllocGlobal>(rt: &R, texts: &[Text<'_>]) -> Result<(), Stop> {
-    let mut rest = texts;
-    while let [text, behind @ ..] = rest {
+    for (place, text) in texts.iter().enumerate() {
         if text.kind == Kind::Script {
-            print_case(rt, text, behind.first())?;
+            print_case(rt, text, texts.get(place.saturating_add(1)))?;
         }
-        rest = behind;
     }
     Ok(())
 }

@@ -104,8 +104,10 @@ pub(crate) fn assert_calls(
     ensures one { IsSamePass one.old one.new }
     ensures other { IsSamePass other.old other.new }
 {
+    let mut number = 0u32;
     for (seat, what, want) in calls {
+        number = number.saturating_add(1);
         let told = call_at(rt, rt.alloc(), device, one, other, *seat, *what);
-        assert!(rt; told == Ok(*want), "{what:?} at {seat}: {told:?}");
+        assert!(rt; told == Ok(*want), "call {number}, at {seat}");
     }
 }
