@@ -84,7 +84,6 @@ fn is_fit(command: &Command) -> bool
 }
 
 /// What a device answers to a client's command.
-#[tactic(auto, using(crate::proofs::Standing::stands_after))]
 fn ask(
     alloc: Global,
     topology: &Topology,

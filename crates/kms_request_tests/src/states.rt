@@ -206,20 +206,16 @@ const WHOLE: PlaneState = PlaneState {
 fn each_property_of_a_plane_is_set_by_itself(rt: HostRuntime) {
     let mut states = device(&rt);
     put(&rt, &mut states, PLANE, FB_ID, SetValue::Fb(Some(FB)));
-    let numbers = [
+    let destination = [
         (CRTC_X, -2147483648),
         (CRTC_Y, 2147483647),
         (CRTC_W, 4),
         (CRTC_H, 5),
-        (SRC_X, 4294967295),
-        (SRC_Y, 7),
-        (SRC_W, 8),
-        (SRC_H, 9),
-        (ALPHA, 10),
-        (BLEND, 2),
-        (ZPOS, 255),
     ];
-    put_numbers(&rt, &mut states, &numbers);
+    put_numbers(&rt, &mut states, &destination);
+    let source = [(SRC_X, 4294967295), (SRC_Y, 7), (SRC_W, 8), (SRC_H, 9)];
+    put_numbers(&rt, &mut states, &source);
+    put_numbers(&rt, &mut states, &[(ALPHA, 10), (BLEND, 2), (ZPOS, 255)]);
     put(&rt, &mut states, PLANE, IN_FENCE_FD, SetValue::Fence);
     assert!(rt; states.new_plane(0) == Some(WHOLE));
     assert!(rt; states.plane(0).is_some_and(|b| b.old.zpos == 1));
