@@ -141,7 +141,10 @@ pub(crate) fn catch_up(
 ) -> Result<(), Fail> {
     let done = again.history().len();
     let steps = core.history().get(done..).ok_or("it is behind")?;
-    replay(alloc, again, steps)?;
+    holds(
+        replay(alloc, again, steps).is_ok(),
+        "its steps are done again",
+    )?;
     holds(tells_same(core, again), "both tell the same")?;
     let looks = looks_same(core, again, alloc)?;
     holds(looks, "labels name the same on both")?;

@@ -89,7 +89,7 @@ fn assert_report(rt: &impl Abort, alloc: Global, core: &Core, wanted: &str) -> R
         ppm: true,
     };
     let text = report(alloc, core.script(), core, options)?;
-    assert!(rt; text.as_slice() == wanted.as_bytes(), "{text:?}");
+    assert!(rt; text.as_slice() == wanted.as_bytes(), "{wanted}");
     Ok(())
 }
 
