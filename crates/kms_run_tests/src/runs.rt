@@ -25,8 +25,8 @@ fn drains<R: Threads + Wait + Sync>(
 /// The line of a blob: a table that inverts each channel.
 fn inverting(alloc: Global) -> Result<String, AllocError> {
     let mut text = String::new(alloc);
-    for entry in 0..256 {
-        let value = 255 - entry;
+    for entry in 0..256u32 {
+        let value = 255u32.saturating_sub(entry);
         for _ in 0..6 {
             write!(text, "{value:02x}")?;
         }
