@@ -1,5 +1,5 @@
 //! Players at a device, on one thread.
-ghost use Rattle.std.specs.Prelude.{◌≡◌, length};
+ghost use Rattle.std.specs.Prelude.{◌≡◌, ◌<◌, length};
 ghost use Rattle.kms_histlock.specs.Passes.{new_pass, new_passes};
 ghost use Rattle.kms_model.specs.Script.WellFormed.{IsWellFormed};
 ghost use Rattle.kms_players.specs.Players.{name_of_pass};
@@ -227,6 +227,7 @@ fn players_on_one_thread_drain_a_history(rt: HostRuntime) {
 /// What ticks for a CRTC that is not there does nothing, and comes to the gate. It gives its pass.
 fn ticked(rt: &(impl Abort + Wait), device: &Device, gate: &Counter, pass: Pass) -> Pass
     requires own { pass.lock ≡ device.now.lock }
+    requires above { length device.now.script.clients < pass.rank }
     ensures same { name_of_pass result ≡ name_of_pass pass }
 {
     let mut tick = VblankTick::new(device, gate, 1, pass);
