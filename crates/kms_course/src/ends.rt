@@ -44,6 +44,11 @@ fn is_awake(core: &Core) -> bool {
 /// Whether a history is what one thread makes of the script, to its end.
 pub(crate) fn is_of_one_thread(core: &Core, alloc: Global) -> Result<bool, NoMemory> {
     let mut one = anew(alloc, core)?;
-    finish(alloc, &mut one)?;
+    ends_alike(&mut one, core, alloc)
+}
+
+/// Whether one thread makes a history on a new machine of its script.
+fn ends_alike(one: &mut Core, core: &Core, alloc: Global) -> Result<bool, NoMemory> {
+    finish(alloc, one)?;
     Ok(one.history() == core.history())
 }

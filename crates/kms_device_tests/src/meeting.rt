@@ -44,6 +44,14 @@ fn both<R: Threads + Wait + Sync>(
     )
 }
 
+/// Whether two calls were told these, in either order.
+fn are_told(calls: (Result<Told, NoMemory>, Result<Told, NoMemory>), a: Told, b: Told) -> bool {
+    match calls {
+        (Ok(x), Ok(y)) => (x == a && y == b) || (x == b && y == a),
+        _ => false,
+    }
+}
+
 /// Asserts that a machine has so many steps and commands in its journal.
 fn assert_went(rt: &(impl Abort + AllocGlobal), core: &Core, steps: usize, commands: usize) {
     assert!(rt; core.history().len() == steps && core.journal().len() == commands);
@@ -54,9 +62,8 @@ fn assert_went(rt: &(impl Abort + AllocGlobal), core: &Core, steps: usize, comma
 fn two_clients_in_two_threads_make_a_thing_each(rt: HostRuntime) {
     let (device, one, other) = opened(&rt, MAKING);
     let ((one, first), (other, second)) = both(&rt, rt.alloc(), &device, one, other, Call::Make);
-    let made = |id| Ok(Told::Replied(Reply::Made { id }));
-    let answers = (first, second);
-    assert!(rt; answers == (made(1000), made(1001)) || answers == (made(1001), made(1000)));
+    let made = |id| Told::Replied(Reply::Made { id });
+    assert!(rt; are_told((first, second), made(1000), made(1001)));
     let core = closed(&rt, device, one, other);
     assert_went(&rt, &core, 2, 2);
 }
@@ -65,9 +72,8 @@ fn two_clients_in_two_threads_make_a_thing_each(rt: HostRuntime) {
 fn two_clients_in_two_threads_commit(rt: HostRuntime) {
     let (device, one, other) = opened(&rt, TURNING_OFF);
     let ((one, first), (other, second)) = both(&rt, rt.alloc(), &device, one, other, Call::Commit);
-    let told = |commit| Ok(Told::Replied(Reply::Commit { commit }));
-    let answers = (first, second);
-    assert!(rt; answers == (told(0), told(1)) || answers == (told(1), told(0)));
+    let committed = |commit| Told::Replied(Reply::Commit { commit });
+    assert!(rt; are_told((first, second), committed(0), committed(1)));
     let core = closed(&rt, device, one, other);
     assert_went(&rt, &core, 6, 2);
 }

@@ -1,6 +1,7 @@
 //! Players at a device, on one thread.
 ghost use Rattle.std.specs.Prelude.{◌≡◌, ◌<◌, length};
 ghost use Rattle.kms_histlock.specs.Passes.{new_pass, new_passes};
+ghost use Rattle.kms_device_tests.specs.Four.{AreFour};
 ghost use Rattle.kms_model.specs.Script.WellFormed.{IsWellFormed};
 ghost use Rattle.kms_players.specs.Players.{name_of_pass};
 
@@ -61,10 +62,7 @@ fn four(rt: &impl Abort, device: &Device, passes: Seq<Pass>) -> Four
 fn opened(rt: &(impl Abort + AllocGlobal)) -> (Device, Four)
     ensures seats { result.0.seats ≡ 4 }
     ensures clients { length result.0.script.clients ≡ 2 }
-    ensures one { result.1.0 ≡ new_pass result.0.lock 1 }
-    ensures other { result.1.1 ≡ new_pass result.0.lock 2 }
-    ensures worker { result.1.2 ≡ new_pass result.0.lock 3 }
-    ensures tick { result.1.3 ≡ new_pass result.0.lock 4 }
+    ensures passes { AreFour result.0 result.1 }
 {
     let Ok((device, passes)) = Device::new(rt.alloc(), two(rt), 4) else {
         panic!(rt; "there is memory")
@@ -76,11 +74,7 @@ fn opened(rt: &(impl Abort + AllocGlobal)) -> (Device, Four)
 /// Ends the device, and gives the machine.
 fn closed(rt: &(impl Abort + AllocGlobal), device: Device, passes: Four) -> Core
     requires seats { device.seats ≡ 4 }
-    requires one { passes.0.lock ≡ device.lock }
-    requires other { passes.1.lock ≡ device.lock }
-    requires worker { passes.2.lock ≡ device.lock }
-    requires tick { passes.3.lock ≡ device.lock }
-    requires first { passes.0.rank ≡ 1 }
+    requires passes { AreFour device passes }
 {
     let (one, other, worker, tick) = passes;
     let Ok(passes) = Vec::from_array(rt.alloc(), [one, other, worker, tick]) else {
@@ -104,10 +98,7 @@ impl<'a> Players<'a> {
 
     fn new(device: &'a Device, gate: &'a Counter, passes: Four) -> Players<'a>
         requires clients { length device.now.script.clients ≡ 2 }
-        requires one { (passes.0.lock ≡ device.now.lock) × (passes.0.rank ≡ 1) }
-        requires other { (passes.1.lock ≡ device.now.lock) × (passes.1.rank ≡ 2) }
-        requires worker { (passes.2.lock ≡ device.now.lock) × (passes.2.rank ≡ 3) }
-        requires tick { (passes.3.lock ≡ device.now.lock) × (passes.3.rank ≡ 4) }
+        requires passes { AreFour device.now passes }
         ensures one { result.one.pass ≡ passes.0 }
         ensures other { result.other.pass ≡ passes.1 }
         ensures worker { result.worker.pass ≡ passes.2 }
@@ -191,14 +182,8 @@ fn drained(
     passes: Four,
 ) -> Four
     requires clients { length device.now.script.clients ≡ 2 }
-    requires one { (passes.0.lock ≡ device.now.lock) × (passes.0.rank ≡ 1) }
-    requires other { (passes.1.lock ≡ device.now.lock) × (passes.1.rank ≡ 2) }
-    requires worker { (passes.2.lock ≡ device.now.lock) × (passes.2.rank ≡ 3) }
-    requires tick { (passes.3.lock ≡ device.now.lock) × (passes.3.rank ≡ 4) }
-    ensures one { name_of_pass result.0 ≡ name_of_pass passes.0 }
-    ensures other { name_of_pass result.1 ≡ name_of_pass passes.1 }
-    ensures worker { name_of_pass result.2 ≡ name_of_pass passes.2 }
-    ensures tick { name_of_pass result.3 ≡ name_of_pass passes.3 }
+    requires passes { AreFour device.now passes }
+    ensures { AreFour device.now result }
 {
     let mut players = Players::new(device, gate, passes);
     let finished = players.finish(rt, rt.alloc());
@@ -206,12 +191,8 @@ fn drained(
     players.into_passes()
 }
 
-#[test]
-fn players_on_one_thread_drain_a_history(rt: HostRuntime) {
-    let gate = Counter::new(0);
-    let (device, passes) = opened(&rt);
-    let passes = drained(&rt, &device, &gate, passes);
-    let core = closed(&rt, device, passes);
+/// Asserts that both clients had all their answers, and came to the gate with each.
+fn assert_drained(rt: &impl Abort, core: &Core, gate: &Counter) {
     assert!(rt; core.drained() && core.replies().len() == 10);
     let came = gate.came();
     let wanted = Came {
@@ -220,20 +201,30 @@ fn players_on_one_thread_drain_a_history(rt: HostRuntime) {
         strange: 0,
         ..came
     };
-    assert_came(&rt, &gate, wanted, "all have ended");
+    assert_came(rt, gate, wanted, "all have ended");
     assert!(rt; came.checks > 3 && came.claims > 1 && came.ticks > 1);
 }
 
-/// What ticks for a CRTC that is not there does nothing, and comes to the gate. It gives its pass.
-fn ticked(rt: &(impl Abort + Wait), device: &Device, gate: &Counter, pass: Pass) -> Pass
-    requires own { pass.lock ≡ device.now.lock }
-    requires above { length device.now.script.clients < pass.rank }
-    ensures same { name_of_pass result ≡ name_of_pass pass }
+#[test]
+fn players_on_one_thread_drain_a_history(rt: HostRuntime) {
+    let gate = Counter::new(0);
+    let (device, passes) = opened(&rt);
+    let passes = drained(&rt, &device, &gate, passes);
+    let core = closed(&rt, device, passes);
+    assert_drained(&rt, &core, &gate);
+}
+
+/// What ticks for a CRTC that is not there does nothing, and comes to the gate. It gives the passes.
+fn ticked(rt: &(impl Abort + Wait), device: &Device, gate: &Counter, passes: Four) -> Four
+    requires clients { length device.now.script.clients ≡ 2 }
+    requires passes { AreFour device.now passes }
+    ensures { AreFour device.now result }
 {
+    let (one, other, worker, pass) = passes;
     let mut tick = VblankTick::new(device, gate, 1, pass);
     let turn = tick.play(rt);
     assert!(rt; turn != Turn::Did, "nothing ticks");
-    tick.into_pass()
+    (one, other, worker, tick.into_pass())
 }
 
 /// Nobody so far.
@@ -246,15 +237,20 @@ const NOBODY: Came = Came {
     strange: 0,
 };
 
+/// Asserts that nothing was done, and that what ticks came to the gate once.
+fn assert_ticked(rt: &impl Abort, core: &Core, gate: &Counter) {
+    assert!(rt; core.history().is_empty());
+    let wanted = Came { ticks: 1, ..NOBODY };
+    assert_came(rt, gate, wanted, "it ticked");
+}
+
 #[test]
 fn what_ticks_comes_to_the_gate_with_its_crtc(rt: HostRuntime) {
     let gate = Counter::new(1);
-    let (device, (one, other, worker, pass)) = opened(&rt);
-    let pass = ticked(&rt, &device, &gate, pass);
-    let core = closed(&rt, device, (one, other, worker, pass));
-    assert!(rt; core.history().is_empty());
-    let wanted = Came { ticks: 1, ..NOBODY };
-    assert_came(&rt, &gate, wanted, "it ticked");
+    let (device, passes) = opened(&rt);
+    let passes = ticked(&rt, &device, &gate, passes);
+    let core = closed(&rt, device, passes);
+    assert_ticked(&rt, &core, &gate);
 }
 
 /// Turns of the first client, as many as it needs to commit for the first time.

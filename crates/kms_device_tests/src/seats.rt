@@ -70,6 +70,19 @@ fn lit() -> [Step; 16] {
     ]
 }
 
+/// The calls of a worker and of what ticks that find nothing to do.
+fn idling() -> [(u32, Call, Told); 7] {
+    [
+        (2, Call::Claim, Told::Nothing),
+        (2, Call::Write(0, CRTC), Told::Nothing),
+        (2, Call::Flush(0, 0), Told::Nothing),
+        (2, Call::HwDone(0), Told::Nothing),
+        (2, Call::Cleanup(0), Told::Nothing),
+        (2, Call::Vblank(0), Told::Nothing),
+        (2, Call::Vblank(9), Told::Nothing),
+    ]
+}
+
 /// How many vertical blankings the first CRTC had, and how long the history is, as a pass reads them.
 fn read(device: &Device, pass: &mut Pass) -> (u64, u64)
     requires own { pass.old.lock ≡ device.now.lock }
@@ -101,16 +114,7 @@ fn another_seat_reads_the_count_and_the_length(rt: HostRuntime) {
 #[test]
 fn workers_find_nothing_before_the_first_commit(rt: HostRuntime) {
     let (device, mut one, mut other) = opened(&rt, MAKING);
-    let calls = [
-        (2, Call::Claim, Told::Nothing),
-        (2, Call::Write(0, CRTC), Told::Nothing),
-        (2, Call::Flush(0, 0), Told::Nothing),
-        (2, Call::HwDone(0), Told::Nothing),
-        (2, Call::Cleanup(0), Told::Nothing),
-        (2, Call::Vblank(0), Told::Nothing),
-        (2, Call::Vblank(9), Told::Nothing),
-    ];
-    assert_calls(&rt, &device, &mut one, &mut other, &calls);
+    assert_calls(&rt, &device, &mut one, &mut other, &idling());
     assert!(rt; read(&device, &mut other) == (0, 0));
     let core = closed(&rt, device, one, other);
     assert!(rt; core.history().is_empty());

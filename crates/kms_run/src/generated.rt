@@ -15,8 +15,8 @@ use kms_gen::generate;
 use kms_model::{Answered, NoMemory, Reply, Seq};
 use kms_report::report_with;
 use kms_rounds::finish;
+use kms_screens::digest_of;
 use kms_script::print;
-use sha2::{Digest, Sha256};
 use std::alloc::{AllocError, Global};
 use std::thread::Threads;
 
@@ -79,7 +79,7 @@ fn report_digest<R: Threads + Sync>(rt: &R, alloc: Global, core: &Core) -> Resul
         ≡ said.report_digest core.now.script core.now.steps) }
 {
     let report = report_with(rt, alloc, core.script(), core, NO_OPTIONS)?;
-    Ok(hex::encode(alloc, Sha256::digest(report.as_slice()).as_slice())?)
+    Ok(hex::encode(alloc, digest_of(report.as_slice()).as_slice())?)
 }
 
 /// The six lines of a history that is drained.

@@ -2,7 +2,7 @@
 ghost use Rattle.std.specs.Prelude.{◌≡◌, ◌≤◌, IfOk, map, All};
 ghost use Rattle.kms_model.specs.Script.WellFormed.{IsWellFormed};
 ghost use Rattle.kms_players.specs.Players.{name_of_pass};
-ghost use Rattle.kms_run.specs.Answers.{Answers};
+ghost use Rattle.kms_run.specs.Answers.{Answers, IsReportOf};
 ghost use Rattle.kms_run.specs.Running.{AreAllPasses, IsFinishedOf, IsRunOf, IsSeat, player_of, seats_for};
 ghost use Rattle.kms_run.specs.declared.words.Action.TheVariants as Action;
 ghost use Rattle.kms_run.specs.Words.{AreFewThreads};
@@ -12,7 +12,7 @@ use crate::words::{Action, Execution};
 use kms_core::Core;
 use kms_device::{Device, Pass};
 use kms_io::Gate;
-use kms_model::{NoMemory, Part, Script, Seq};
+use kms_model::{NoMemory, Part, Script, Seq, Step};
 use kms_players::{AnyPlayer, Client, VblankTick, Worker};
 use kms_pool::{Player, drive};
 use kms_report::Options;
@@ -120,6 +120,30 @@ fn ran<R: Threads + Wait + Sync, G: Gate + Sync>(
     continued(alloc, device, passes)
 }
 
+/// The report of a run of a script, and of a schedule behind it, which says nothing here, by 1 to 16 threads.
+fn run_told<R: Threads + Wait + Sync, G: Gate + Sync>(
+    rt: &R,
+    alloc: Global,
+    script: Script,
+    schedule: &[Step],
+    threads: u32,
+    options: Options,
+    gate: &G,
+) -> Result<FullReport, NoMemory>
+    requires formed { IsWellFormed script }
+    requires threads { AreFewThreads threads }
+    ensures { IfOk result (λ report.
+        IsReportOf (record { action = Action.Run threads; options = options }) script
+        schedule.now report.ended report.text) }
+{
+    let core = ran(rt, alloc, script, threads, gate)?;
+    let asked = Execution {
+        action: Action::Run { threads },
+        options,
+    };
+    full_report(rt, alloc, &core, &asked, schedule)
+}
+
 /// The report of a run of the script that an input spells, by 1 to 16 threads; or the input's first fault. The input's bytes
 /// are given up before anything is executed. That the threads come to rest is not promised.
 pub(crate) fn run_answer<R: Threads + Wait + Sync, G: Gate + Sync>(
@@ -136,10 +160,7 @@ pub(crate) fn run_answer<R: Threads + Wait + Sync, G: Gate + Sync>(
 {
     let parsed = parse(alloc, &input, Part::Script)?;
     drop(input);
-    let core = ran(rt, alloc, parsed.script, threads, gate)?;
-    let asked = Execution {
-        action: Action::Run { threads },
-        options,
-    };
-    Ok(full_report(rt, alloc, &core, &asked, parsed.steps.as_slice())?)
+    let script = parsed.script;
+    let steps = parsed.steps.as_slice();
+    Ok(run_told(rt, alloc, script, steps, threads, options, gate)?)
 }

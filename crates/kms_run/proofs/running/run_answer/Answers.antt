@@ -1,6 +1,4 @@
-use Rattle.std.proofs.Common.{◌≡◌, List, Ok, subst}
-use Rattle.kms_model.specs.declared.replies.Step.{Step}
-use Rattle.kms_model.specs.declared.scripts.Script.{Script}
+use Rattle.std.proofs.Common.{◌≡◌, Ok, subst}
 use Rattle.kms_model.specs.declared.scripts.Part.TheVariants as part
 use Rattle.kms_model.specs.Script.Schedules.{input_of}
 use Rattle.kms_script.specs.Stated.{parts_in}
@@ -12,10 +10,9 @@ use Rattle.kms_run.proofs.running.run_answer.Goals as goal
 pub returns : goal.returns
 returns g c =
     let parsed = c.in_ok-parsed.parsed in
-    let report = c.in_ok-full_report.field-0 in
-    let asked : Execution = record { action = action.Run c.args.threads; options = c.args.options } in
-    let of : Script → List Step → Type 0 = λ s steps. IsReportOf asked s steps report.ended report.text in record {
+    let report = c.in_ok-run_told.field-0 in
+    let asked : Execution = record { action = action.Run c.args.threads; options = c.args.options } in record {
       parts = parts_in parsed;
       spelled = subst (λ bytes. input_of part.Script bytes ≡ Ok (parts_in parsed)) c.deref.ensures.value c.in_ok-parsed.ensures.value;
-      report = subst (λ s. of s parsed.steps) c.in_ok-core.ensures.script (subst (of c.in_ok-core.core.script) c.as_slice.ensures.value c.in_ok-full_report.ensures);
+      report = subst (λ steps. IsReportOf asked parsed.script steps report.ended report.text) c.as_slice-steps.ensures.value c.in_ok-run_told.ensures;
     }
