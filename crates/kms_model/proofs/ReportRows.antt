@@ -4,6 +4,7 @@ use Rattle.std.specs.Result.{result_err}
 use Rattle.kms_model.specs.declared.objects.Kind.TheVariants as kind
 use Rattle.kms_model.specs.declared.replies.Event.{Event}
 use Rattle.kms_model.specs.declared.replies.Reply.TheVariants as reply
+use Rattle.kms_model.specs.declared.replies.Step.{Step}
 use Rattle.kms_model.specs.declared.replies.Step.TheVariants as step
 use Rattle.kms_model.specs.declared.reports.End.TheVariants.{Open}
 use Rattle.kms_model.specs.declared.reports.Report.{Report}
@@ -119,10 +120,20 @@ pub each_text_has_its_first_line_outside : map (λ o. result_err (report_read o.
 unfolding on_audits
 each_text_has_its_first_line_outside = refl
 
--- A history
+-- The first script's history of one thread, as a value and as text
 
--- the history of one thread as a value, and its text
-pub seen_report_has_the_text_of_the_history : report_text (seen_report (script 0x400 0) (finished_within (script 0x400 0) 64 []))
-    ≡ text (script 0x400 0) (finished_within (script 0x400 0) 64 []) plain
+abbrev first_history : List Step
+first_history = finished_within (script 0x400 0) 64 []
+
+abbrev pub first_report : List ℕ
+first_report =
+    codes "J 1 1\nJ 1 2\nJ 1 3\nJ 1 4\nR 1 1 0 made 1000\nR 1 2 1 made 1001\nR 1 3 2 made 1002\nR 1 4 3 commit 0\n"
+    ++ codes "L 0 0 1 ba7816bf8f01cfea414140de5dae2223b00361a396177a9cb410ff61f20015ad\nD drained\n"
+
+pub text_of_the_history : text (script 0x400 0) first_history plain ≡ first_report
 unfolding on_audits
-seen_report_has_the_text_of_the_history = refl
+text_of_the_history = refl
+
+pub text_of_the_seen_report : report_text (seen_report (script 0x400 0) first_history) ≡ first_report
+unfolding on_audits
+text_of_the_seen_report = refl
