@@ -39,18 +39,18 @@ abbrev every_value : ℕ → Report
 every_value far = record {
   journal = (1, 1) ∷ (16, 4294967295) ∷ [];
   replies =
-    (1, 1, 0, reply.Made 1000)
-    ∷ (1, 2, 1, reply.Done)
-    ∷ (1, 3, 1, reply.Commit 4294967295)
-    ∷ (1, 4, 2, reply.Tested)
-    ∷ (1, 5, 2, reply.Refused (record { 0 = 4 }))
-    ∷ (1, 6, 2, reply.Space 4096)
-    ∷ (1, 7, 2, reply.Busy (record { 0 = 203 }) 7)
-    ∷ (1, 8, 2, reply.Busy (record { 0 = far }) 7)
-    ∷ (1, 9, 2, reply.Denied 34)
-    ∷ (1, 10, 2, reply.Event (event 18446744073709551615 4294967295 101))
-    ∷ (1, 11, 2, reply.NoEvent)
-    ∷ [];
+      (1, 1, 0, reply.Made 1000)
+      ∷ (1, 2, 1, reply.Done)
+      ∷ (1, 3, 1, reply.Commit 4294967295)
+      ∷ (1, 4, 2, reply.Tested)
+      ∷ (1, 5, 2, reply.Refused (record { 0 = 4 }))
+      ∷ (1, 6, 2, reply.Space 4096)
+      ∷ (1, 7, 2, reply.Busy (record { 0 = 203 }) 7)
+      ∷ (1, 8, 2, reply.Busy (record { 0 = far }) 7)
+      ∷ (1, 9, 2, reply.Denied 34)
+      ∷ (1, 10, 2, reply.Event (event 18446744073709551615 4294967295 101))
+      ∷ (1, 11, 2, reply.NoEvent)
+      ∷ [];
   latches = (0, 0, 18446744073709551615, Some digest) ∷ (3, 1, 0, None) ∷ [];
   events = (1, event 5 1 101) ∷ [];
   freed = (codes "f_1", 1001) ∷ [];

@@ -1,5 +1,5 @@
 -- When the other lines of a report are right, and the first line of a report that is not. This device's own.
-use Rattle.std.specs.Prelude.{ℕ, ◌+◌, Bool, true, false, not, ◌&&◌, ◌==◌, nat_lt, nat_le, List, [], ◌∷◌, ◌++◌, length, map, filter, slice_get, is_some, Option, Some, None, option_map, if◌then◌else◌}
+use Rattle.std.specs.Prelude.{ℕ, ◌+◌, Bool, true, false, not, ◌&&◌, ◌==◌, nat_lt, nat_le, List, [], ◌∷◌, ◌++◌, length, map, filter, slice_get, is_some, Option, Some, None, option_map}
 use Rattle.std.specs.List.{enumerate_from, filter_map, find, last_or, list_all, list_any, position, range_with_len}
 use Rattle.std.specs.Option.{option_map_or}
 use Rattle.std.specs.Str.{bytes_eq}
@@ -79,7 +79,7 @@ latch_is_right s r before l =
     exists s.topology Crtc l.crtc
     && (is_not_below (λ other. other.crtc) before l
     && tells_of l (lines_of_crtc l.crtc before)
-        (slice_get (show s (entries_in r) (object_id Crtc l.crtc)) (length (lines_of_crtc l.crtc before))))
+    (slice_get (show s (entries_in r) (object_id Crtc l.crtc)) (length (lines_of_crtc l.crtc before))))
 
 -- Events: the E lines, each a client and an event
 
