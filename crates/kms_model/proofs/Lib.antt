@@ -1,5 +1,6 @@
 pub mod AppliedValues
 pub mod ApplyLemmas
+pub mod AuditRows
 pub mod CommitFacts
 pub mod CrtcLemmas
 pub mod Facts
@@ -18,6 +19,7 @@ pub mod MachineRows
 pub mod MaskLemmas
 pub mod ModeRoundTrip
 pub mod ObjectLemmas
+pub mod OnAudits
 pub mod OnLiterals
 pub mod OnMachines
 pub mod OnScripts
@@ -26,6 +28,7 @@ pub mod OpenLemmas
 pub mod ProfileRows
 pub mod PropertyTable
 pub mod ReachLaw
+pub mod ReportRows
 pub mod RequestLemmas
 pub mod Rows
 pub mod SameLooks

@@ -1,27 +1,15 @@
 -- What holds of a history for those who tell of it. From: "Frame Buffer Abstraction", drm_framebuffer_get: a framebuffer that is
 -- shown stays, open or closed; `drm_read`: what is read is what was delivered.
-use Rattle.std.specs.Prelude.{◌≡◌, ℕ, ◌==◌, List, filter, reverse, Option, Some, None}
-use Rattle.std.specs.List.{All, filter_map}
-use Rattle.kms_model.specs.declared.replies.Answered.{Answered}
-use Rattle.kms_model.specs.declared.replies.Event.{Event}
-use Rattle.kms_model.specs.declared.replies.Reply.{Reply}
-use Rattle.kms_model.specs.declared.replies.Reply.TheVariants as reply
+use Rattle.std.specs.Prelude.{◌≡◌, ℕ, reverse}
+use Rattle.std.specs.List.{All}
 use Rattle.kms_model.specs.Frames.Shown.{EachCanBeShown}
 use Rattle.kms_model.specs.Machine.Histories.{at, read_by, replies}
 use Rattle.kms_model.specs.Promises.{InEachHistory}
+use Rattle.kms_model.specs.Report.Right.{events_told}
 
 -- each picture that was latched can be composed over the present things
 abbrev pub LatchesCanBeShown : Type 0
 LatchesCanBeShown = InEachHistory (λ s h. All (λ l. EachCanBeShown (at s h).device.world.things l.picture) (reverse (at s h).records.latches))
-
--- the event that a reply tells
-abbrev pub event_in : Reply → Option Event
-event_in (reply.Event e) = Some e
-event_in _ = None
-
--- the events that replies tell a client
-abbrev pub events_told : ℕ → List Answered → List Event
-events_told client answers = filter_map (λ a. event_in a.reply) (filter (λ a. a.client == client) answers)
 
 -- what each client has read is what its replies tell
 abbrev pub EventsAreTold : Type 0
