@@ -13,11 +13,13 @@ pub mod JournalLemmas
 pub mod KindsOfIds
 pub mod LastLemmas
 pub mod LateLemmas
+pub mod LegacyRows
 pub mod MachineInputs
 pub mod MachineRows
 pub mod MaskLemmas
 pub mod ModeRoundTrip
 pub mod ObjectLemmas
+pub mod OnLegacy
 pub mod OnLiterals
 pub mod OnMachines
 pub mod OnScripts
