@@ -31,9 +31,9 @@ abbrev pub LegacyLined : Type 0
 LegacyLined = Result LegacyDraft Why
 
 -- commands behind such lines
-abbrev pub with_commands : List LegacyCommand → Lined → LegacyLined
-with_commands commands (Ok d) = Ok (record { draft = d; commands = commands })
-with_commands commands (Err why) = Err why
+abbrev pub followed_by : List LegacyCommand → Lined → LegacyLined
+followed_by commands (Ok d) = Ok (record { draft = d; commands = commands })
+followed_by commands (Err why) = Err why
 
 -- A command, or a call: at most 4096 of them, and 4096 labels in all. A second `client` is none, and neither is a request.
 unfoldable pub legacy_command_line : LegacyDraft → List ℕ → LegacyLined
@@ -45,11 +45,11 @@ legacy_command_line d text =
 
 -- up to `client` a line is one of scripts
 unfoldable pub legacy_line : LegacyDraft → List ℕ → LegacyLined
-legacy_line d text = if d.draft.has_client then legacy_command_line d text else with_commands [] (script_line d.draft text)
+legacy_line d text = if d.draft.has_client then legacy_command_line d text else followed_by [] (script_line d.draft text)
 
 -- some bytes more, where a script may have them
 abbrev pub legacy_sized : ℕ → LegacyLined → LegacyLined
-legacy_sized n (Ok d) = with_commands d.commands (sized n (Ok d.draft))
+legacy_sized n (Ok d) = followed_by d.commands (sized n (Ok d.draft))
 legacy_sized n (Err why) = Err why
 
 -- a line, or its first fault in the order Bytes, Cut, Form, Label, Limit

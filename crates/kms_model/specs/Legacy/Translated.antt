@@ -107,7 +107,7 @@ lone_commands (commands ∷ rest) = commands
 
 -- A script says by requests what a script with older calls says. It is well formed, so its names are those of its own lines in
 -- order of first occurrence: a call says its framebuffer before its mode, and its request the mode first; a label of calls
--- that leave no line is no name.
+-- that leave no line is no name. Its text may have more bytes than a script may have.
 pub record IsTranslated (s : LegacyScript) (out : Script) : Type 0 where
   pub version : out.version ≡ s.base.version
   pub topology : out.topology ≡ s.base.topology
