@@ -1,10 +1,12 @@
 -- Worked examples of scripts with older calls, computed: what texts spell, what calls ask for, and that the translated script
 -- shows the screen.
-use Rattle.std.proofs.Common.{◌≡◌, ◌<◌, ℕ, zero, suc, Bool, true, false, List, [], ◌∷◌, ◌++◌, length, map, refl, codes, pos, Option, Some, None, Result, Ok, Err}
-use Rattle.std.specs.Prelude.{◌==◌, negsuc}
+use Rattle.std.proofs.Common.{◌≡◌, ℕ, Bool, true, false, List, [], ◌∷◌, ◌++◌, length, map, refl, codes, pos, Option, Some, None, Result, Ok, Err}
+use Rattle.std.specs.Prelude.{◌&&◌, ◌==◌, ℤ, negsuc}
 use Rattle.std.specs.Cmp.Lexicographic.{pointwise}
+use Rattle.std.specs.List.{flat_map}
+use Rattle.std.specs.Ordering.{int_eq}
 use Rattle.std.specs.Str.{bytes_eq}
-use Rattle.kms_model.specs.declared.flags.TheConstants.{PAGE_FLIP_EVENT, NONBLOCK, ALLOW_MODESET}
+use Rattle.kms_model.specs.declared.flags.TheConstants.{NONBLOCK, ALLOW_MODESET}
 use Rattle.kms_model.specs.declared.legacy.LegacyCall.{LegacyCall}
 use Rattle.kms_model.specs.declared.legacy.LegacyCall.TheVariants as call
 use Rattle.kms_model.specs.declared.legacy.LegacyCommand.{LegacyCommand}
@@ -15,8 +17,10 @@ use Rattle.kms_model.specs.declared.objects.Format.TheVariants.{Xr24, Rg16}
 use Rattle.kms_model.specs.declared.objects.Kind.TheVariants as kind
 use Rattle.kms_model.specs.declared.objects.Topology.{Topology}
 use Rattle.kms_model.specs.declared.pictures.FbInfo.{FbInfo}
+use Rattle.kms_model.specs.declared.pictures.Layer.{Layer}
 use Rattle.kms_model.specs.declared.pictures.Picture.{Picture}
 use Rattle.kms_model.specs.declared.pictures.Picture.TheVariants.{Off, On}
+use Rattle.kms_model.specs.declared.pictures.Rect.{Rect}
 use Rattle.kms_model.specs.declared.properties.TheConstants.{FB_ID, CRTC_ID, CRTC_X, CRTC_Y, CRTC_W, CRTC_H, SRC_X, SRC_Y, SRC_W, SRC_H, ACTIVE, MODE_ID}
 use Rattle.kms_model.specs.declared.scripts.Assign.{Assign}
 use Rattle.kms_model.specs.declared.scripts.Command.{Command}
@@ -31,8 +35,8 @@ use Rattle.kms_model.specs.Device.Execution.{execute}
 use Rattle.kms_model.specs.Device.World.{start}
 use Rattle.kms_model.specs.Frames.Pictures.{picture}
 use Rattle.kms_model.specs.Legacy.LegacyLines.{legacy_input}
-use Rattle.kms_model.specs.Legacy.Screen.{KeepsScreen, Screen, blank_screen, screen_after, screen_picture, with_placed}
-use Rattle.kms_model.specs.Legacy.Translated.{AreTranslated, lone_commands, translated}
+use Rattle.kms_model.specs.Legacy.Screen.{Screen, blank_screen, screen_after, screen_next, screen_picture}
+use Rattle.kms_model.specs.Legacy.Translated.{AreTranslated, after_line, lone_commands, meant, translated}
 use Rattle.kms_model.specs.Legacy.Translation.{Present, call_request, cursor, primary, special_plane}
 use Rattle.kms_model.specs.Script.InputLines.{Fault}
 use Rattle.kms_model.specs.Script.Spelling.{spelling}
@@ -112,15 +116,44 @@ pub flip_of_a_dark_crtc_is_refused : translated names names device (executed (st
 unfolding on_legacy
 flip_of_a_dark_crtc_is_refused = refl
 
--- what holds of the first index holds of each of one CRTC
-of_one : {P : ℕ → Type 0} → P 0 → (crtc : ℕ) → crtc < 1 → P crtc
-of_one p zero less = p
-of_one p (suc crtc) less = absurd (omega (arith, less))
+-- Pictures by their numbers
 
--- before and after each of the six commands
-pub its_screen_is_kept : KeepsScreen old_script new_script
+abbrev rect_numbers : Rect → List ℤ
+rect_numbers r = r.x ∷ r.y ∷ r.w ∷ r.h ∷ []
+
+abbrev visible_numbers : Option Rect → List ℤ
+visible_numbers None = []
+visible_numbers (Some r) = rect_numbers r
+
+abbrev layer_numbers : Layer → List ℤ
+layer_numbers l = pos l.plane ∷ pos l.fb.id ∷ rect_numbers l.dst ++ rect_numbers l.src ++ visible_numbers l.visible ++ pos l.alpha ∷ pos l.blend ∷ []
+
+abbrev numbers_in : Picture → List ℤ
+numbers_in Off = []
+numbers_in (On s) = pos s.mode.hdisplay ∷ pos s.mode.vdisplay ∷ pos s.conn ∷ flat_map layer_numbers s.layers
+
+abbrev shows : World → Screen → Bool
+shows w screen = pointwise int_eq (numbers_in (picture device w.things w.values 100)) (numbers_in (screen_picture device screen 0))
+
+-- before and after each line of the old script the device's one CRTC shows the screen
+abbrev shows_along : World → Screen → List LegacyCommand → List Command → Bool
+shows_along w screen [] lines = shows w screen
+shows_along w screen (c ∷ cs) lines =
+    let next = after_line device w (meant names names device w c) lines in
+    shows w screen && shows_along next.world (screen_next names names device w next.accepted c screen) cs next.lines
+
+pub its_screen_is_kept : shows_along (start device) blank_screen old_script.commands (lone_commands new_script.clients) ≡ true
 unfolding on_legacy
-its_screen_is_kept = (of_one refl, (of_one refl, (of_one refl, (of_one refl, (of_one refl, (of_one refl, of_one refl))))))
+its_screen_is_kept = refl
+
+abbrev made_fb : FbInfo
+made_fb = record { id = 1001; width = 1; height = 1; format = Xr24 }
+
+-- the screen at its end
+pub its_screen_is_one_pixel : numbers_in (screen_picture device (screen_after device None (Some made_fb) flips (screen_after device (Some named_tiny) (Some made_fb) lights blank_screen)) 0)
+    ≡ map pos (1 ∷ 1 ∷ 300 ∷ 200 ∷ 1001 ∷ 0 ∷ 0 ∷ 1 ∷ 1 ∷ 0 ∷ 0 ∷ 65536 ∷ 65536 ∷ 0 ∷ 0 ∷ 1 ∷ 1 ∷ 65535 ∷ 0 ∷ [])
+unfolding on_legacy
+its_screen_is_one_pixel = refl
 
 -- Planes of a type
 
@@ -149,7 +182,7 @@ pub second_crtc_has_no_plane : special_plane (record planes_of_two { planes = re
 unfolding on_legacy
 second_crtc_has_no_plane = refl
 
-pub no_cursor_plane_is_refused : translated [] [] device (start device) (call.CursorMove 0 1 1) ≡ Err NO_PLANE.0
+pub no_cursor_plane_is_refused : translated [] [] device (start device) (call.CursorMove 0 (pos 1) (pos 1)) ≡ Err NO_PLANE.0
 unfolding on_legacy
 no_cursor_plane_is_refused = refl
 
@@ -331,11 +364,8 @@ names_of_the_call_are_not_the_names = refl
 abbrev with_cursor : Topology
 with_cursor = record device { planes = record { kind = 1; crtcs = 1; formats = 1 } ∷ record { kind = 2; crtcs = 1; formats = 1 } ∷ [] }
 
-abbrev tiny_fb : FbInfo
-tiny_fb = record { id = 1001; width = 1; height = 1; format = Xr24 }
-
 abbrev lit_screen : Screen
-lit_screen = screen_after with_cursor (Some named_tiny) (Some tiny_fb) lights blank_screen
+lit_screen = screen_after with_cursor (Some named_tiny) (Some made_fb) lights blank_screen
 
 abbrev layers_in : Picture → ℕ
 layers_in Off = 0
@@ -344,12 +374,12 @@ layers_in (On s) = length s.layers
 -- A cursor plane that is not there is not moved: a screen on which the move had put it would show a layer more.
 pub moving_places_no_plane : map (λ screen. layers_in (screen_picture with_cursor screen 0)) (
     screen_after with_cursor None None (call.CursorMove 0 (pos 0) (pos 0)) lit_screen
-    ∷ screen_after with_cursor None (Some tiny_fb) (call.Cursor 0 1 (pos 0) (pos 0)) lit_screen
+    ∷ screen_after with_cursor None (Some made_fb) (call.Cursor 0 1 (pos 0) (pos 0)) lit_screen
     ∷ []) ≡ 1 ∷ 2 ∷ []
 unfolding on_legacy
 moving_places_no_plane = refl
 
 pub moving_is_not_placing : (layers_in (screen_picture with_cursor (screen_after with_cursor None None (call.CursorMove 0 (pos 0) (pos 0)) lit_screen) 0)
-    == layers_in (screen_picture with_cursor (screen_after with_cursor None (Some tiny_fb) (call.Cursor 0 1 (pos 0) (pos 0)) lit_screen) 0)) ≡ false
+    == layers_in (screen_picture with_cursor (screen_after with_cursor None (Some made_fb) (call.Cursor 0 1 (pos 0) (pos 0)) lit_screen) 0)) ≡ false
 unfolding on_legacy
 moving_is_not_placing = refl

@@ -139,7 +139,7 @@ screen_picture t screen crtc = lit_picture t screen crtc (lit_at screen crtc)
 -- What a translation keeps
 
 -- each CRTC of the device shows what the screen shows there
-abbrev pub ShowsScreen : Topology → World → Screen → Type 0
+unfoldable pub ShowsScreen : Topology → World → Screen → Type 0
 ShowsScreen t w screen = (crtc : ℕ) → crtc < t.crtcs → picture t w.things w.values (object_id Crtc crtc) ≡ screen_picture t screen crtc
 
 -- the screen after a line, in the world before it: an accepted call changes it, and nothing else does
