@@ -1,159 +1,32 @@
--- Worked examples of scripts with older calls, computed: what texts spell, what calls ask for, and that the translated script
--- shows the screen.
-use Rattle.std.proofs.Common.{◌≡◌, ℕ, Bool, true, false, List, [], ◌∷◌, ◌++◌, length, map, refl, codes, pos, Option, Some, None, Result, Ok, Err}
-use Rattle.std.specs.Prelude.{◌&&◌, ◌==◌, ℤ, negsuc}
-use Rattle.std.specs.Cmp.Lexicographic.{pointwise}
-use Rattle.std.specs.List.{flat_map}
-use Rattle.std.specs.Ordering.{int_eq}
-use Rattle.std.specs.Str.{bytes_eq}
+-- Worked examples of older calls, computed: what texts spell, and what calls ask for.
+use Rattle.std.proofs.Common.{◌≡◌, ℕ, true, false, List, [], ◌∷◌, ◌++◌, map, refl, codes, pos, Some, None, Result, Ok, Err}
+use Rattle.std.specs.Prelude.{negsuc}
 use Rattle.kms_model.specs.declared.flags.TheConstants.{NONBLOCK, ALLOW_MODESET}
-use Rattle.kms_model.specs.declared.legacy.LegacyCall.{LegacyCall}
 use Rattle.kms_model.specs.declared.legacy.LegacyCall.TheVariants as call
-use Rattle.kms_model.specs.declared.legacy.LegacyCommand.{LegacyCommand}
-use Rattle.kms_model.specs.declared.legacy.LegacyCommand.TheVariants.{Plain, Call}
+use Rattle.kms_model.specs.declared.legacy.LegacyCommand.TheVariants.{Call}
 use Rattle.kms_model.specs.declared.legacy.LegacyScript.{LegacyScript}
 use Rattle.kms_model.specs.declared.legacy.TheConstants.LegacyRefusal.{NO_PLANE, NOT_SHOWN, FORMAT_CHANGES}
 use Rattle.kms_model.specs.declared.objects.Format.TheVariants.{Xr24, Rg16}
 use Rattle.kms_model.specs.declared.objects.Kind.TheVariants as kind
 use Rattle.kms_model.specs.declared.objects.Topology.{Topology}
 use Rattle.kms_model.specs.declared.pictures.FbInfo.{FbInfo}
-use Rattle.kms_model.specs.declared.pictures.Layer.{Layer}
-use Rattle.kms_model.specs.declared.pictures.Picture.{Picture}
-use Rattle.kms_model.specs.declared.pictures.Picture.TheVariants.{Off, On}
-use Rattle.kms_model.specs.declared.pictures.Rect.{Rect}
 use Rattle.kms_model.specs.declared.properties.TheConstants.{FB_ID, CRTC_ID, CRTC_X, CRTC_Y, CRTC_W, CRTC_H, SRC_X, SRC_Y, SRC_W, SRC_H, ACTIVE, MODE_ID}
-use Rattle.kms_model.specs.declared.scripts.Assign.{Assign}
-use Rattle.kms_model.specs.declared.scripts.Command.{Command}
-use Rattle.kms_model.specs.declared.scripts.Command.TheVariants as command
-use Rattle.kms_model.specs.declared.scripts.Pattern.TheVariants.{Solid}
 use Rattle.kms_model.specs.declared.scripts.Script.{Script}
 use Rattle.kms_model.specs.declared.scripts.Value.TheVariants as value
-use Rattle.kms_model.specs.declared.scripts.Why.{Why}
 use Rattle.kms_model.specs.declared.scripts.Why.TheVariants.{Form, Label}
-use Rattle.kms_model.specs.declared.worlds.World.{World}
-use Rattle.kms_model.specs.Device.Execution.{execute}
+use Rattle.kms_model.specs.declared.scripts.Why.{Why}
 use Rattle.kms_model.specs.Device.World.{start}
-use Rattle.kms_model.specs.Frames.Pictures.{picture}
 use Rattle.kms_model.specs.Legacy.LegacyLines.{legacy_input}
-use Rattle.kms_model.specs.Legacy.Screen.{Screen, blank_screen, screen_after, screen_next, screen_picture}
-use Rattle.kms_model.specs.Legacy.Translated.{AreTranslated, after_line, lone_commands, meant, translated}
+use Rattle.kms_model.specs.Legacy.Translated.{translated}
 use Rattle.kms_model.specs.Legacy.Translation.{Present, call_request, cursor, primary, special_plane}
 use Rattle.kms_model.specs.Script.InputLines.{Fault}
-use Rattle.kms_model.specs.Script.Spelling.{spelling}
-use Rattle.kms_model.specs.Script.WholeInput.{input}
 use Rattle.kms_model.proofs.OnLegacy.{on_legacy}
-use Rattle.kms_model.proofs.Rows.{device, head, made, named_tiny}
+use Rattle.kms_model.proofs.Rows.{device, head}
 use Rattle.kms_model.proofs.VerdictRows.{number, sets}
 
--- A flip before the CRTC is lit, what lights it, and a flip behind that
-
-abbrev names : List (List ℕ)
-names = codes "b" ∷ codes "f" ∷ codes "m" ∷ []
-
-abbrev making : List Command
-making = command.Buffer 0 1 1 Xr24 (Solid 0x00616263) ∷ command.AddFb 1 0 ∷ command.Mode 2 named_tiny ∷ []
-
-abbrev flips : LegacyCall
-flips = call.PageFlip 0 1 true 7
-
-abbrev lights : LegacyCall
-lights = call.SetCrtc 0 1 0 0 2 0
-
+-- the device of the first script, with no client
 abbrev base_with : List (List ℕ) → Script
 base_with words = record { version = 1; topology = device; names = words; clients = [] }
-
-abbrev old_script : LegacyScript
-old_script = record { base = base_with names; client = true; commands = map (λ c. Plain c) making ++ Call flips ∷ Call lights ∷ Call flips ∷ [] }
-
-pub script_with_older_calls_is_read : legacy_input (head ++ made ++ codes "pageflip 0 @f 0x1 7\nsetcrtc 0 @f 0 0 @m 0\npageflip 0 @f 0x1 7\n") ≡ Ok old_script
-unfolding on_legacy
-script_with_older_calls_is_read = refl
-
-abbrev lit : List Assign
-lit =
-    sets kind.Crtc 0 ACTIVE (number 1)
-    ∷ sets kind.Crtc 0 MODE_ID (value.Named 2)
-    ∷ sets kind.Conn 0 CRTC_ID (value.Crtc 0)
-    ∷ sets kind.Plane 0 FB_ID (value.Named 1)
-    ∷ sets kind.Plane 0 CRTC_ID (value.Crtc 0)
-    ∷ sets kind.Plane 0 CRTC_X (number 0)
-    ∷ sets kind.Plane 0 CRTC_Y (number 0)
-    ∷ sets kind.Plane 0 CRTC_W (number 1)
-    ∷ sets kind.Plane 0 CRTC_H (number 1)
-    ∷ sets kind.Plane 0 SRC_X (number 0)
-    ∷ sets kind.Plane 0 SRC_Y (number 0)
-    ∷ sets kind.Plane 0 SRC_W (number 65536)
-    ∷ sets kind.Plane 0 SRC_H (number 65536)
-    ∷ []
-
-abbrev new_script : Script
-new_script = record {
-  version = 1;
-  topology = device;
-  names = names;
-  clients =
-      (making
-      ++ command.Atomic (record { flags = ALLOW_MODESET; user_data = 0; assigns = lit })
-      ∷ command.Atomic (record { flags = 0x201; user_data = 7; assigns = sets kind.Plane 0 FB_ID (value.Named 1) ∷ [] })
-      ∷ [])
-      ∷ [];
-}
-
-pub its_translation_is_read : input (head ++ made ++ codes "atomic 0x400 0 crtc0.ACTIVE=1 crtc0.MODE_ID=@m conn0.CRTC_ID=crtc0 plane0.FB_ID=@f plane0.CRTC_ID=crtc0 plane0.CRTC_X=0 plane0.CRTC_Y=0 plane0.CRTC_W=1 plane0.CRTC_H=1 plane0.SRC_X=0 plane0.SRC_Y=0 plane0.SRC_W=65536 plane0.SRC_H=65536\natomic 0x201 7 plane0.FB_ID=@f\n") ≡ Ok new_script
-unfolding on_legacy
-its_translation_is_read = refl
-
--- the first flip leaves no line
-pub its_lines_are_translated : AreTranslated names names device (start device) old_script.commands (lone_commands new_script.clients)
-unfolding on_legacy
-its_lines_are_translated = (refl, (refl, (refl, (tt, (refl, (refl, refl))))))
-
-abbrev executed : World → List Command → World
-executed w [] = w
-executed w (c ∷ cs) = executed (execute device w 1 c).world cs
-
-pub flip_of_a_dark_crtc_is_refused : translated names names device (executed (start device) making) flips ≡ Err NOT_SHOWN.0
-unfolding on_legacy
-flip_of_a_dark_crtc_is_refused = refl
-
--- Pictures by their numbers
-
-abbrev rect_numbers : Rect → List ℤ
-rect_numbers r = r.x ∷ r.y ∷ r.w ∷ r.h ∷ []
-
-abbrev visible_numbers : Option Rect → List ℤ
-visible_numbers None = []
-visible_numbers (Some r) = rect_numbers r
-
-abbrev layer_numbers : Layer → List ℤ
-layer_numbers l = pos l.plane ∷ pos l.fb.id ∷ rect_numbers l.dst ++ rect_numbers l.src ++ visible_numbers l.visible ++ pos l.alpha ∷ pos l.blend ∷ []
-
-abbrev numbers_in : Picture → List ℤ
-numbers_in Off = []
-numbers_in (On s) = pos s.mode.hdisplay ∷ pos s.mode.vdisplay ∷ pos s.conn ∷ flat_map layer_numbers s.layers
-
-abbrev shows : World → Screen → Bool
-shows w screen = pointwise int_eq (numbers_in (picture device w.things w.values 100)) (numbers_in (screen_picture device screen 0))
-
--- before and after each line of the old script the device's one CRTC shows the screen
-abbrev shows_along : World → Screen → List LegacyCommand → List Command → Bool
-shows_along w screen [] lines = shows w screen
-shows_along w screen (c ∷ cs) lines =
-    let next = after_line device w (meant names names device w c) lines in
-    shows w screen && shows_along next.world (screen_next names names device w next.accepted c screen) cs next.lines
-
-pub its_screen_is_kept : shows_along (start device) blank_screen old_script.commands (lone_commands new_script.clients) ≡ true
-unfolding on_legacy
-its_screen_is_kept = refl
-
-abbrev made_fb : FbInfo
-made_fb = record { id = 1001; width = 1; height = 1; format = Xr24 }
-
--- the screen at its end
-pub its_screen_is_one_pixel : numbers_in (screen_picture device (screen_after device None (Some made_fb) flips (screen_after device (Some named_tiny) (Some made_fb) lights blank_screen)) 0)
-    ≡ map pos (1 ∷ 1 ∷ 300 ∷ 200 ∷ 1001 ∷ 0 ∷ 0 ∷ 1 ∷ 1 ∷ 0 ∷ 0 ∷ 65536 ∷ 65536 ∷ 0 ∷ 0 ∷ 1 ∷ 1 ∷ 65535 ∷ 0 ∷ [])
-unfolding on_legacy
-its_screen_is_one_pixel = refl
 
 -- Planes of a type
 
@@ -339,47 +212,3 @@ pub other_calls_are_read : legacy_input (head ++ codes "client\nsetcrtc 0 @f 655
     })
 unfolding on_legacy
 other_calls_are_read = refl
-
--- False neighbours
-
--- A translation whose names are those of the call, its framebuffer first, is spelled by no text: what its own text spells has
--- the mode first, as the request says it.
-abbrev names_of : Result Script Fault → List (List ℕ)
-names_of (Ok s) = s.names
-names_of (Err fault) = []
-
-abbrev in_order_of_the_call : Script
-in_order_of_the_call = record {
-  version = 1;
-  topology = device;
-  names = codes "f" ∷ codes "m" ∷ [];
-  clients = (command.Atomic (record { flags = ALLOW_MODESET; user_data = 0; assigns = sets kind.Crtc 0 MODE_ID (value.Named 1) ∷ sets kind.Plane 0 FB_ID (value.Named 0) ∷ [] }) ∷ []) ∷ [];
-}
-
-pub names_of_the_call_are_not_the_names : pointwise bytes_eq (names_of (input (spelling in_order_of_the_call))) in_order_of_the_call.names ≡ false
-unfolding on_legacy
-names_of_the_call_are_not_the_names = refl
-
--- a cursor plane above the primary one
-abbrev with_cursor : Topology
-with_cursor = record device { planes = record { kind = 1; crtcs = 1; formats = 1 } ∷ record { kind = 2; crtcs = 1; formats = 1 } ∷ [] }
-
-abbrev lit_screen : Screen
-lit_screen = screen_after with_cursor (Some named_tiny) (Some made_fb) lights blank_screen
-
-abbrev layers_in : Picture → ℕ
-layers_in Off = 0
-layers_in (On s) = length s.layers
-
--- A cursor plane that is not there is not moved: a screen on which the move had put it would show a layer more.
-pub moving_places_no_plane : map (λ screen. layers_in (screen_picture with_cursor screen 0)) (
-    screen_after with_cursor None None (call.CursorMove 0 (pos 0) (pos 0)) lit_screen
-    ∷ screen_after with_cursor None (Some made_fb) (call.Cursor 0 1 (pos 0) (pos 0)) lit_screen
-    ∷ []) ≡ 1 ∷ 2 ∷ []
-unfolding on_legacy
-moving_places_no_plane = refl
-
-pub moving_is_not_placing : (layers_in (screen_picture with_cursor (screen_after with_cursor None None (call.CursorMove 0 (pos 0) (pos 0)) lit_screen) 0)
-    == layers_in (screen_picture with_cursor (screen_after with_cursor None (Some made_fb) (call.Cursor 0 1 (pos 0) (pos 0)) lit_screen) 0)) ≡ false
-unfolding on_legacy
-moving_is_not_placing = refl

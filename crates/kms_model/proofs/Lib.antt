@@ -14,6 +14,7 @@ pub mod KindsOfIds
 pub mod LastLemmas
 pub mod LateLemmas
 pub mod LegacyRows
+pub mod LegacySessions
 pub mod MachineInputs
 pub mod MachineRows
 pub mod MaskLemmas
