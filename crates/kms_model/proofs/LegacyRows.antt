@@ -1,5 +1,5 @@
 -- Worked examples of older calls, computed: what texts spell, and what calls ask for.
-use Rattle.std.proofs.Common.{◌≡◌, ℕ, true, false, List, [], ◌∷◌, ◌++◌, map, refl, codes, pos, Some, None, Result, Ok, Err}
+use Rattle.std.proofs.Common.{◌≡◌, ℕ, true, false, List, [], ◌∷◌, ◌++◌, map, refl, codes, pos, Option, Some, None, Result, Ok, Err}
 use Rattle.std.specs.Prelude.{negsuc}
 use Rattle.kms_model.specs.declared.flags.TheConstants.{NONBLOCK, ALLOW_MODESET}
 use Rattle.kms_model.specs.declared.legacy.LegacyCall.TheVariants as call
@@ -11,6 +11,7 @@ use Rattle.kms_model.specs.declared.objects.Kind.TheVariants as kind
 use Rattle.kms_model.specs.declared.objects.Topology.{Topology}
 use Rattle.kms_model.specs.declared.pictures.FbInfo.{FbInfo}
 use Rattle.kms_model.specs.declared.properties.TheConstants.{FB_ID, CRTC_ID, CRTC_X, CRTC_Y, CRTC_W, CRTC_H, SRC_X, SRC_Y, SRC_W, SRC_H, ACTIVE, MODE_ID}
+use Rattle.kms_model.specs.declared.scripts.Request.{Request}
 use Rattle.kms_model.specs.declared.scripts.Script.{Script}
 use Rattle.kms_model.specs.declared.scripts.Value.TheVariants as value
 use Rattle.kms_model.specs.declared.scripts.Why.TheVariants.{Form, Label}
@@ -46,12 +47,16 @@ planes_of_two = record {
 }
 
 -- each CRTC has the least that no lower one has
-pub each_crtc_has_its_own_planes : map (λ type. special_plane planes_of_two type 0 ∷ special_plane planes_of_two type 1 ∷ []) (primary ∷ cursor ∷ []) ≡ (Some 1 ∷ Some 3 ∷ []) ∷ (Some 4 ∷ Some 2 ∷ []) ∷ []
+pub each_crtc_has_its_own_planes : map (λ type. special_plane planes_of_two type 0 ∷ special_plane planes_of_two type 1 ∷ []) (primary ∷ cursor ∷ [])
+    ≡ (Some 1 ∷ Some 3 ∷ []) ∷ (Some 4 ∷ Some 2 ∷ []) ∷ []
 unfolding on_legacy
 each_crtc_has_its_own_planes = refl
 
 -- one primary plane that may go on both is that of the first
-pub second_crtc_has_no_plane : special_plane (record planes_of_two { planes = record { kind = 1; crtcs = 3; formats = 1 } ∷ [] }) primary 1 ≡ None
+abbrev one_plane_of_two : Topology
+one_plane_of_two = record planes_of_two { planes = record { kind = 1; crtcs = 3; formats = 1 } ∷ [] }
+
+pub second_crtc_has_no_plane : special_plane one_plane_of_two primary 1 ≡ None
 unfolding on_legacy
 second_crtc_has_no_plane = refl
 
@@ -132,9 +137,18 @@ whole_framebuffer_is_the_cursor = refl
 
 -- A plane that the first CRTC shows is not shown on the second, which is told before the format. A framebuffer that is not
 -- there changes no format.
-pub flips_are_refused : map (λ fb. call_request planes_of_two now None fb (call.PageFlip 1 8 false 0)) (Some (record shown_fb { format = Xr24 }) ∷ None ∷ [])
-    ++ map (λ fb. call_request planes_of_two now None fb (call.PageFlip 0 8 false 0)) (Some (record shown_fb { format = Xr24 }) ∷ None ∷ [])
-    ≡ Err NOT_SHOWN.0 ∷ Err NOT_SHOWN.0 ∷ Err FORMAT_CHANGES.0 ∷ Ok (record { flags = NONBLOCK; user_data = 0; assigns = sets kind.Plane 1 FB_ID (value.Named 8) ∷ [] }) ∷ []
+abbrev flip_to : Option FbInfo → ℕ → Result Request ℕ
+flip_to fb crtc = call_request planes_of_two now None fb (call.PageFlip crtc 8 false 0)
+
+abbrev other_fb : Option FbInfo
+other_fb = Some (record shown_fb { format = Xr24 })
+
+pub flips_are_refused : flip_to other_fb 1 ∷ flip_to None 1 ∷ flip_to other_fb 0 ∷ flip_to None 0 ∷ []
+    ≡ Err NOT_SHOWN.0
+    ∷ Err NOT_SHOWN.0
+    ∷ Err FORMAT_CHANGES.0
+    ∷ Ok (record { flags = NONBLOCK; user_data = 0; assigns = sets kind.Plane 1 FB_ID (value.Named 8) ∷ [] })
+    ∷ []
 unfolding on_legacy
 flips_are_refused = refl
 
@@ -201,7 +215,9 @@ pub other_calls_are_read : legacy_input (head ++ codes "client\nsetcrtc 0 @f 655
       client = true;
       commands =
           Call (call.SetCrtc 0 0 65535 0 1 0)
-          ∷ Call (call.SetPlane 0 0 2 (record { x = negsuc 2147483647; y = pos 2147483647; w = pos 0; h = pos 2147483647 }) (record { x = pos 0; y = pos 4294967295; w = pos 1; h = pos 2 }))
+          ∷ Call (call.SetPlane 0 0 2
+          (record { x = negsuc 2147483647; y = pos 2147483647; w = pos 0; h = pos 2147483647 })
+          (record { x = pos 0; y = pos 4294967295; w = pos 1; h = pos 2 }))
           ∷ Call (call.PlaneOff 0)
           ∷ Call (call.CrtcOff 0)
           ∷ Call (call.PageFlip 0 1 false 18446744073709551615)

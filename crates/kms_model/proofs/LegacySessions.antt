@@ -68,7 +68,11 @@ abbrev base_with : List (List ℕ) → Script
 base_with words = record { version = 1; topology = device; names = words; clients = [] }
 
 abbrev old_script : LegacyScript
-old_script = record { base = base_with names; client = true; commands = map (λ c. Plain c) making ++ Call flips ∷ Call lights ∷ Call flips ∷ [] }
+old_script = record {
+  base = base_with names;
+  client = true;
+  commands = map (λ c. Plain c) making ++ Call flips ∷ Call lights ∷ Call flips ∷ [];
+}
 
 pub script_with_older_calls_is_read : legacy_input (head ++ made ++ codes "pageflip 0 @f 0x1 7\nsetcrtc 0 @f 0 0 @m 0\npageflip 0 @f 0x1 7\n") ≡ Ok old_script
 unfolding on_legacy
@@ -131,15 +135,19 @@ visible_numbers None = []
 visible_numbers (Some r) = rect_numbers r
 
 abbrev layer_numbers : Layer → List ℤ
-layer_numbers l = pos l.plane ∷ pos l.fb.id ∷ rect_numbers l.dst ++ rect_numbers l.src ++ visible_numbers l.visible ++ pos l.alpha ∷ pos l.blend ∷ []
+layer_numbers l =
+    pos l.plane ∷ pos l.fb.id ∷ rect_numbers l.dst ++ rect_numbers l.src ++ visible_numbers l.visible ++ pos l.alpha ∷ pos l.blend ∷ []
 
 abbrev numbers_in : Picture → List ℤ
 numbers_in Off = []
 numbers_in (On s) = pos s.mode.hdisplay ∷ pos s.mode.vdisplay ∷ pos s.conn ∷ flat_map layer_numbers s.layers
 
+abbrev shows_at : Topology → World → Screen → ℕ → Bool
+shows_at t w screen crtc =
+    pointwise int_eq (numbers_in (picture t w.things w.values (object_id kind.Crtc crtc))) (numbers_in (screen_picture t screen crtc))
+
 abbrev shows : Topology → World → Screen → Bool
-shows t w screen =
-    list_all (λ crtc. pointwise int_eq (numbers_in (picture t w.things w.values (object_id kind.Crtc crtc))) (numbers_in (screen_picture t screen crtc))) (indices_of t kind.Crtc)
+shows t w screen = list_all (shows_at t w screen) (indices_of t kind.Crtc)
 
 -- before and after each line of a script with older calls the device shows the screen, where the new script has the same names
 abbrev shows_along : List (List ℕ) → Topology → World → Screen → List LegacyCommand → List Command → Bool
@@ -156,7 +164,10 @@ abbrev made_fb : FbInfo
 made_fb = record { id = 1001; width = 1; height = 1; format = Xr24 }
 
 -- the screen at its end
-pub its_screen_is_one_pixel : numbers_in (screen_picture device (screen_after device None (Some made_fb) flips (screen_after device (Some named_tiny) (Some made_fb) lights blank_screen)) 0)
+abbrev last_screen : Screen
+last_screen = screen_after device None (Some made_fb) flips (screen_after device (Some named_tiny) (Some made_fb) lights blank_screen)
+
+pub its_screen_is_one_pixel : numbers_in (screen_picture device last_screen 0)
     ≡ map pos (1 ∷ 1 ∷ 300 ∷ 200 ∷ 1001 ∷ 0 ∷ 0 ∷ 1 ∷ 1 ∷ 0 ∷ 0 ∷ 65536 ∷ 65536 ∷ 0 ∷ 0 ∷ 1 ∷ 1 ∷ 65535 ∷ 0 ∷ [])
 unfolding on_legacy
 its_screen_is_one_pixel = refl
@@ -192,7 +203,8 @@ unfolding on_legacy
 names_of_both_are_those_of_their_lines = refl
 
 -- a size of what is not made yet is 0
-pub labels_are_numbered_anew : AreTranslated (old_names_in says_before_it_makes) (names_in says_anew) device (start device) (old_lines_in says_before_it_makes) (lines_in says_anew)
+pub labels_are_numbered_anew : AreTranslated (old_names_in says_before_it_makes) (names_in says_anew) device (start device)
+    (old_lines_in says_before_it_makes) (lines_in says_anew)
 unfolding on_legacy
 labels_are_numbered_anew = (tt, (refl, (refl, (refl, (refl, (refl, refl))))))
 
@@ -245,7 +257,16 @@ told_along words t w [] = []
 told_along words t w (c ∷ cs) = told words t w c ∷ told_along words t (world_after words t w c) cs
 
 -- behind the eight things that are made first
-pub session_is_answered : drop 8 (told_along (old_names_in session) (device_in session) (start (device_in session)) (old_lines_in session))
+abbrev session_names : List (List ℕ)
+session_names = old_names_in session
+
+abbrev session_start : World
+session_start = start (device_in session)
+
+abbrev session_left : List Command
+session_left = left_along session_names (device_in session) session_start (old_lines_in session)
+
+pub session_is_answered : drop 8 (told_along session_names (device_in session) session_start (old_lines_in session))
     ≡ Err NOT_SHOWN.0
     ∷ Ok (reply.Commit 0)
     ∷ Ok (refused refusal.MODE_XOR_CONNECTOR)
@@ -276,7 +297,7 @@ unfolding on_legacy
 session_is_answered = refl
 
 -- both CRTCs show the screen before and after each of its lines
-pub session_keeps_the_screen : shows_along (old_names_in session) (device_in session) (start (device_in session)) blank_screen (old_lines_in session) (left_along (old_names_in session) (device_in session) (start (device_in session)) (old_lines_in session)) ≡ true
+pub session_keeps_the_screen : shows_along session_names (device_in session) session_start blank_screen (old_lines_in session) session_left ≡ true
 unfolding on_legacy
 session_keeps_the_screen = refl
 
@@ -289,10 +310,20 @@ in_order_of_the_call = record {
   version = 1;
   topology = device;
   names = codes "f" ∷ codes "m" ∷ [];
-  clients = (command.Atomic (record { flags = ALLOW_MODESET; user_data = 0; assigns = sets kind.Crtc 0 MODE_ID (value.Named 1) ∷ sets kind.Plane 0 FB_ID (value.Named 0) ∷ [] }) ∷ []) ∷ [];
+  clients =
+      (command.Atomic (record {
+        flags = ALLOW_MODESET;
+        user_data = 0;
+        assigns = sets kind.Crtc 0 MODE_ID (value.Named 1) ∷ sets kind.Plane 0 FB_ID (value.Named 0) ∷ [];
+      })
+      ∷ [])
+      ∷ [];
 }
 
-pub names_of_the_call_are_not_the_names : pointwise bytes_eq (names_in (input (spelling in_order_of_the_call))) in_order_of_the_call.names ≡ false
+abbrev its_own_text : Result Script Fault
+its_own_text = input (spelling in_order_of_the_call)
+
+pub names_of_the_call_are_not_the_names : pointwise bytes_eq (names_in its_own_text) in_order_of_the_call.names ≡ false
 unfolding on_legacy
 names_of_the_call_are_not_the_names = refl
 
@@ -307,15 +338,20 @@ abbrev layers_in : Picture → ℕ
 layers_in Off = 0
 layers_in (On s) = length s.layers
 
+abbrev layers_of : Screen → ℕ
+layers_of screen = layers_in (screen_picture with_cursor screen 0)
+
+abbrev moved : Screen
+moved = screen_after with_cursor None None (call.CursorMove 0 (pos 0) (pos 0)) lit_screen
+
+abbrev put : Screen
+put = screen_after with_cursor None (Some made_fb) (call.Cursor 0 1 (pos 0) (pos 0)) lit_screen
+
 -- A cursor plane that is not there is not moved: a screen on which the move had put it would show a layer more.
-pub moving_places_no_plane : map (λ screen. layers_in (screen_picture with_cursor screen 0)) (
-    screen_after with_cursor None None (call.CursorMove 0 (pos 0) (pos 0)) lit_screen
-    ∷ screen_after with_cursor None (Some made_fb) (call.Cursor 0 1 (pos 0) (pos 0)) lit_screen
-    ∷ []) ≡ 1 ∷ 2 ∷ []
+pub moving_places_no_plane : layers_of moved ∷ layers_of put ∷ [] ≡ 1 ∷ 2 ∷ []
 unfolding on_legacy
 moving_places_no_plane = refl
 
-pub moving_is_not_placing : (layers_in (screen_picture with_cursor (screen_after with_cursor None None (call.CursorMove 0 (pos 0) (pos 0)) lit_screen) 0)
-    == layers_in (screen_picture with_cursor (screen_after with_cursor None (Some made_fb) (call.Cursor 0 1 (pos 0) (pos 0)) lit_screen) 0)) ≡ false
+pub moving_is_not_placing : (layers_of moved == layers_of put) ≡ false
 unfolding on_legacy
 moving_is_not_placing = refl

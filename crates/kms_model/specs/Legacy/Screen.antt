@@ -90,7 +90,12 @@ placed_part crtc dst src fb = option_map (λ info. record { crtc = crtc; fb = in
 abbrev pub placed_whole : ℕ → ℤ → ℤ → Option FbInfo → Option Placed
 placed_whole crtc x y fb = do
   info ← fb
-  Some (record { crtc = crtc; fb = info; dst = record { x = x; y = y; w = pos info.width; h = pos info.height }; src = in_fixed 0 0 (info.width, info.height) })
+  Some (record {
+    crtc = crtc;
+    fb = info;
+    dst = record { x = x; y = y; w = pos info.width; h = pos info.height };
+    src = in_fixed 0 0 (info.width, info.height);
+  })
 
 -- another framebuffer, and nothing else
 abbrev pub flipped_to : Option FbInfo → Placed → Placed
@@ -106,31 +111,50 @@ moved_to x y p = record p { dst = record p.dst { x = x; y = y } }
 -- where another CRTC shows that plane. A plane that is not there is not moved.
 unfoldable pub screen_after : Topology → Option Mode → Option FbInfo → LegacyCall → Screen → Screen
 screen_after t mode fb (call.SetCrtc crtc label x y mode_label conn) screen =
-    at_plane (special_plane t primary crtc) (λ plane. with_placed plane (placed_in_mode crtc x y mode fb)) (with_lit crtc (lit_in mode conn) screen)
+    at_plane (special_plane t primary crtc) (λ plane. with_placed plane (placed_in_mode crtc x y mode fb))
+    (with_lit crtc (lit_in mode conn) screen)
 screen_after t mode fb (call.CrtcOff crtc) screen =
     at_plane (special_plane t primary crtc) (λ plane. with_placed plane None) (with_lit crtc None screen)
 screen_after t mode fb (call.SetPlane plane crtc label dst src) screen = with_placed plane (placed_part crtc dst src fb) screen
 screen_after t mode fb (call.PlaneOff plane) screen = with_placed plane None screen
-screen_after t mode fb (call.PageFlip crtc label event user) screen = at_plane (special_plane t primary crtc) (with_changed (flipped_to fb)) screen
+screen_after t mode fb (call.PageFlip crtc label event user) screen =
+    at_plane (special_plane t primary crtc) (with_changed (flipped_to fb)) screen
 screen_after t mode fb (call.Cursor crtc label x y) screen =
     at_plane (special_plane t cursor crtc) (λ plane. with_placed plane (placed_whole crtc x y fb)) screen
-screen_after t mode fb (call.CursorMove crtc x y) screen = at_plane (special_plane t cursor crtc) (with_changed (moved_to x y)) screen
-screen_after t mode fb (call.CursorOff crtc) screen = at_plane (special_plane t cursor crtc) (λ plane. with_placed plane None) screen
+screen_after t mode fb (call.CursorMove crtc x y) screen =
+    at_plane (special_plane t cursor crtc) (with_changed (moved_to x y)) screen
+screen_after t mode fb (call.CursorOff crtc) screen =
+    at_plane (special_plane t cursor crtc) (λ plane. with_placed plane None) screen
 
 -- Pictures
 
--- the layer of a plane that is on a CRTC: clipped to the mode, opaque and Pre-multiplied
+-- the layer of what a plane has: clipped to the mode, opaque and Pre-multiplied
+abbrev pub placed_layer : Mode → ℕ → Placed → Layer
+placed_layer m plane p = record {
+  plane = object_id Plane plane;
+  fb = p.fb;
+  dst = p.dst;
+  src = p.src;
+  visible = clip p.dst (mode_area m);
+  alpha = 65535;
+  blend = 0;
+}
+
+-- that of a plane that is on a CRTC
 abbrev pub screen_layer : Screen → Mode → ℕ → ℕ → Option Layer
 screen_layer screen m crtc plane = do
   p ← placed_at screen plane
-  if p.crtc == crtc
-      then Some (record { plane = object_id Plane plane; fb = p.fb; dst = p.dst; src = p.src; visible = clip p.dst (mode_area m); alpha = 65535; blend = 0 })
-      else None
+  if p.crtc == crtc then Some (placed_layer m plane p) else None
 
 abbrev pub lit_picture : Topology → Screen → ℕ → Option Lit → Picture
 lit_picture t screen crtc None = Off
 lit_picture t screen crtc (Some l) =
-    On (record { mode = l.mode; conn = object_id Conn l.conn; gamma = None; layers = filter_map (screen_layer screen l.mode crtc) (indices_of t Plane) })
+    On (record {
+      mode = l.mode;
+      conn = object_id Conn l.conn;
+      gamma = None;
+      layers = filter_map (screen_layer screen l.mode crtc) (indices_of t Plane);
+    })
 
 -- What the screen shows on a CRTC: nothing without a mode, else its planes from the lowest index to the highest.
 unfoldable pub screen_picture : Topology → Screen → ℕ → Picture
@@ -146,7 +170,8 @@ ShowsScreen t w screen = (crtc : ℕ) → crtc < t.crtcs → picture t w.things 
 unfoldable pub screen_next : List (List ℕ) → List (List ℕ) → Topology → World → Bool → LegacyCommand → Screen → Screen
 screen_next old new t w accepted (Plain c) screen = screen
 screen_next old new t w false (Call c) screen = screen
-screen_next old new t w true (Call c) screen = screen_after t (mode_of_call (look_anew old new w) c) (fb_of_call (look_anew old new w) c) c screen
+screen_next old new t w true (Call c) screen =
+    screen_after t (mode_of_call (look_anew old new w) c) (fb_of_call (look_anew old new w) c) c screen
 
 -- before and after each line of the old script the device shows the screen, from a world and a screen on
 abbrev pub ShowsAlong : List (List ℕ) → List (List ℕ) → Topology → World → Screen → List LegacyCommand → List Command → Type 0

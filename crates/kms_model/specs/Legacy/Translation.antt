@@ -180,7 +180,9 @@ flip_request now plane crtc fb label event user =
 -- yet, and the request is then refused for its value.
 unfoldable pub call_request : Topology → Present → Option Mode → Option FbInfo → LegacyCall → Result Request ℕ
 call_request t now mode fb (call.SetCrtc crtc label x y mode_label conn) = with_plane (special_plane t primary crtc) (λ plane.
-    asks ALLOW_MODESET 0 (crtc_on crtc mode_label conn (conns_now t now crtc) ++ plane_on plane crtc label (sized_at (pos 0) (pos 0) (mode_size mode)) (in_fixed x y (mode_size mode))))
+    let size = mode_size mode in
+    asks ALLOW_MODESET 0
+    (crtc_on crtc mode_label conn (conns_now t now crtc) ++ plane_on plane crtc label (sized_at (pos 0) (pos 0) size) (in_fixed x y size)))
 call_request t now mode fb (call.CrtcOff crtc) = with_plane (special_plane t primary crtc) (λ plane.
     asks ALLOW_MODESET 0 (crtc_off crtc (conns_now t now crtc) ++ plane_off plane))
 call_request t now mode fb (call.SetPlane plane crtc label dst src) = asks 0 0 (plane_on plane crtc label dst src)
