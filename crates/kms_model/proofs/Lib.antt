@@ -14,12 +14,15 @@ pub mod JournalLemmas
 pub mod KindsOfIds
 pub mod LastLemmas
 pub mod LateLemmas
+pub mod LegacyRows
+pub mod LegacySessions
 pub mod MachineInputs
 pub mod MachineRows
 pub mod MaskLemmas
 pub mod ModeRoundTrip
 pub mod ObjectLemmas
 pub mod OnAudits
+pub mod OnLegacy
 pub mod OnLiterals
 pub mod OnMachines
 pub mod OnScripts
