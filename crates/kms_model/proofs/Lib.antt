@@ -21,6 +21,7 @@ pub mod ObjectLemmas
 pub mod OnLiterals
 pub mod OnMachines
 pub mod OnScripts
+pub mod OnSuspending
 pub mod OneThread
 pub mod OpenLemmas
 pub mod ProfileRows
@@ -42,6 +43,7 @@ pub mod StandsLemmas
 pub mod StartValues
 pub mod StateLemmas
 pub mod SumLemmas
+pub mod SuspendRows
 pub mod TableLemmas
 pub mod ThingLemmas
 pub mod TouchedLemmas
