@@ -3,6 +3,7 @@ pub mod ApplyLemmas
 pub mod CommitFacts
 pub mod CrtcLemmas
 pub mod Facts
+pub mod FewerLemmas
 pub mod FramedLemmas
 pub mod GammaRoundTrip
 pub mod HeldValues

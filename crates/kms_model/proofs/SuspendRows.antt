@@ -1,7 +1,7 @@
 -- Worked examples of a device that is turned off and brought back, computed: the two requests, the longer script and its report, what
 -- cannot be brought back, and inputs whose clients may have fewer commands.
-use Rattle.std.proofs.Common.{◌≡◌, ℕ, Bool, false, List, [], ◌∷◌, ◌++◌, map, length, refl, codes, replicate, Option, Some, None, Ok, Err}
-use Rattle.std.specs.Prelude.{◌==◌, reverse}
+use Rattle.std.proofs.Common.{◌≡◌, ℕ, false, List, [], ◌∷◌, ◌++◌, map, length, refl, codes, replicate, Option, Some, None, Ok, Err}
+use Rattle.std.specs.Prelude.{reverse}
 use Rattle.std.specs.List.{flat_map, range_with_len}
 use Rattle.std.specs.Str.{bytes_eq}
 use Rattle.kms_model.specs.declared.flags.TheConstants.{ALLOW_MODESET}
@@ -194,10 +194,18 @@ unfolding on_suspending
 closed_things_are_told = refl
 
 -- another blob with the same mode is named where the first was destroyed
-pub second_blob_is_named : on_line (first_with (command.Mode 3 named_tiny ∷ command.Destroy 2 ∷ []))
+abbrev second_blob : Script
+second_blob = first_with (command.Mode 3 named_tiny ∷ command.Destroy 2 ∷ [])
+
+pub second_blob_is_named : on_line second_blob
     ≡ codes "atomic 0x400 0 crtc0.MODE_ID=@m2 crtc0.ACTIVE=1 conn0.CRTC_ID=crtc0 plane0.FB_ID=@f plane0.CRTC_ID=crtc0\n"
 unfolding on_suspending
 second_blob_is_named = refl
+
+pub second_blob_is_accepted : replies device (extended second_blob (world_of second_blob)).clients
+    ≡ reply.Made 1000 ∷ reply.Made 1001 ∷ reply.Made 1002 ∷ reply.Commit 0 ∷ reply.Made 1003 ∷ reply.Done ∷ reply.Commit 1 ∷ reply.Commit 2 ∷ []
+unfolding on_suspending
+second_blob_is_accepted = refl
 
 -- the first one is named while it is there, whichever MODE_ID names
 abbrev with_second_blob : Script

@@ -14,49 +14,51 @@ use Rattle.kms_model.specs.Device.Objects.{object_id}
 use Rattle.kms_model.specs.Device.States.{mode_at}
 use Rattle.kms_model.specs.Device.World.{value}
 use Rattle.kms_model.specs.Frames.Pictures.{picture}
-use Rattle.kms_model.specs.Headline.{CommitPicture, history_journal, latched_pictures}
+use Rattle.kms_model.specs.Headline.{CommitPicture, entry_answered, history_journal, latched_pictures}
 use Rattle.kms_model.specs.Machine.Histories.{at, is_drained, replies}
 use Rattle.kms_model.specs.Order.Suspending.{has_mode_at}
 use Rattle.kms_model.specs.Script.Longer.{HasRoomForTwo, IsSlept, commands_of_last, extended_after, last_client, world_after}
 use Rattle.kms_model.specs.Script.WellFormed.{IsWellFormed}
 
--- the answer to the first, or the second, command behind the last of a history's last client: it is accepted, as the next commit
-abbrev pub first_behind : Script → List Step → Answered
-first_behind s h = record {
+-- the answers to the two requests behind a history of a script: each is the next commit
+abbrev pub off_answer : Script → List Step → Answered
+off_answer s h = record {
   client = last_client s;
   command = length (commands_of_last s.clients) + 1;
   place = length (history_journal s h);
   reply = Commit (length (at s h).device.commits);
 }
 
-abbrev pub second_behind : Script → List Step → Answered
-second_behind s h = record {
+abbrev pub on_answer : Script → List Step → Answered
+on_answer s h = record {
   client = last_client s;
   command = length (commands_of_last s.clients) + 2;
   place = length (history_journal s h) + 1;
   reply = Commit (length (at s h).device.commits + 1);
 }
 
--- what a CRTC, by its index, latches for two commits, of which the first has a number: nothing, and what it shows in a world
+-- what a CRTC, by its index, latches for both, of which the first commit has a number: nothing, and then what it shows in a world
 abbrev pub off_and_back : Topology → World → ℕ → ℕ → List CommitPicture
 off_and_back t w k crtc =
     record { commit = k; picture = Off }
     ∷ record { commit = k + 1; picture = picture t w.things w.values (object_id Crtc crtc) }
     ∷ []
 
--- A device has its old values again: those of one world are those of another, but MODE_ID may name another blob with the same mode.
+-- A device has its values again, with the same things; but MODE_ID may name another blob that holds the same mode.
 pub record IsBack (t : Topology) (before after : World) : Type 0 where
   pub things : after.things ≡ before.things
   pub values : (object prop : ℕ) → prop ≢ MODE_ID → value after.values object prop ≡ value before.values object prop
   pub modes : (crtc : ℕ) → crtc < t.crtcs
       → mode_at after.things after.values (object_id Crtc crtc) ≡ mode_at before.things before.values (object_id Crtc crtc)
 
--- What a history of a longer script is, that goes on behind a history of a script.
+-- A history of a longer script goes on behind a history of a script.
 pub record SleepsAndWakes (s longer : Script) (h slept : List Step) : Type 0 where
   pub drained : is_drained longer (at longer slept) ≡ true
-  -- both requests are accepted, and nothing else is answered
-  pub answers : replies (at longer slept) ≡ replies (at s h) ++ first_behind s h ∷ second_behind s h ∷ []
-  -- each CRTC with a mode goes off, and then shows what it showed; the others latch nothing
+  -- Both requests are accepted, nothing else is done or answered, and no event is delivered or read.
+  pub journal : history_journal longer slept ≡ history_journal s h ++ entry_answered (off_answer s h) ∷ entry_answered (on_answer s h) ∷ []
+  pub answers : replies (at longer slept) ≡ replies (at s h) ++ off_answer s h ∷ on_answer s h ∷ []
+  pub events : (at longer slept).events ≡ (at s h).events
+  -- Each CRTC with a mode goes off and shows again what it showed. The others latch nothing.
   pub pictures : (crtc : ℕ) → crtc < s.topology.crtcs → has_mode_at (world_after s h) (object_id Crtc crtc) ≡ true
       → latched_pictures longer slept crtc
       ≡ latched_pictures s h crtc ++ off_and_back s.topology (world_after s h) (length (at s h).device.commits) crtc
@@ -64,7 +66,7 @@ pub record SleepsAndWakes (s longer : Script) (h slept : List Step) : Type 0 whe
       → latched_pictures longer slept crtc ≡ latched_pictures s h crtc
   pub back : IsBack s.topology (world_after s h) (world_after longer slept)
 
--- It holds of every script that has room for two commands more, where one thread drains it and nothing that it shows is closed.
+-- It does so for every script that has room for two commands more, where one thread drains it and nothing that it shows is closed.
 abbrev pub SleepAndWake : Type 0
 SleepAndWake =
     (s : Script) (h slept : List Step) → IsWellFormed s → HasRoomForTwo s → IsSlept s h slept
