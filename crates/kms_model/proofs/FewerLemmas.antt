@@ -9,7 +9,8 @@ use Rattle.kms_model.specs.Script.InputLines.{Fault, Row, input_limit, rows_of}
 use Rattle.kms_model.specs.Script.WholeInput.{Draft, Lined, blank_draft, drafted, input, line_after, lines_after, or_fault}
 
 -- behind a line that may stand there within the limit, what follows counts
-further : (most line : ℕ) (r : Lined) (limited free : Draft → Result Draft Fault) (e : Draft) → ((next : Draft) → limited next ≡ Ok e → free next ≡ Ok e)
+further : (most line : ℕ) (r : Lined) (limited free : Draft → Result Draft Fault) (e : Draft)
+    → ((next : Draft) → limited next ≡ Ok e → free next ≡ Ok e)
     → or_fault line (within most r) limited ≡ Ok e → or_fault line r free ≡ Ok e
 further most line (Err why) limited free e go is = absurd cc
 further most line (Ok d) limited free e go is = by_count (nat_lt most (length d.commands)) is
@@ -18,7 +19,8 @@ further most line (Ok d) limited free e go is = by_count (nat_lt most (length d.
     by_count true is = absurd cc
     by_count false is = go d is
 
-pub lines-read : (most : ℕ) (rows : List Row) (d e : Draft) (line : ℕ) → lines_within most d line rows ≡ Ok e → lines_after d line rows ≡ Ok e
+pub lines-read : (most : ℕ) (rows : List Row) (d e : Draft) (line : ℕ)
+    → lines_within most d line rows ≡ Ok e → lines_after d line rows ≡ Ok e
 unfolding lines_within lines_after
 lines-read most [] d e line is = is
 lines-read most (row ∷ rows) d e line is =
@@ -30,11 +32,13 @@ pub input-read : (most : ℕ) (bytes : List ℕ) (s : Script) → input_within m
 unfolding input_within input
 input-read most bytes s is = by_size (nat_lt input_limit (length bytes)) is
   where
-    by_lines : (r : Result Draft Fault) → lines_within most blank_draft 1 (rows_of bytes) ≡ r → drafted r ≡ Ok s → drafted (lines_after blank_draft 1 (rows_of bytes)) ≡ Ok s
+    by_lines : (r : Result Draft Fault) → lines_within most blank_draft 1 (rows_of bytes) ≡ r → drafted r ≡ Ok s
+        → drafted (lines_after blank_draft 1 (rows_of bytes)) ≡ Ok s
     by_lines (Ok d) same is = ap drafted (lines-read most (rows_of bytes) blank_draft d 1 same) ∙ is
     by_lines (Err fault) same is = absurd cc
 
-    by_size : (long : Bool) → (if long then Err (record { line = 0; why = Limit }) else drafted (lines_within most blank_draft 1 (rows_of bytes))) ≡ Ok s
+    by_size : (long : Bool)
+        → (if long then Err (record { line = 0; why = Limit }) else drafted (lines_within most blank_draft 1 (rows_of bytes))) ≡ Ok s
         → (if long then Err (record { line = 0; why = Limit }) else drafted (lines_after blank_draft 1 (rows_of bytes))) ≡ Ok s
     by_size true is = absurd cc
     by_size false is = by_lines (lines_within most blank_draft 1 (rows_of bytes)) refl is

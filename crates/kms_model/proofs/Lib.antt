@@ -4,6 +4,7 @@ pub mod CommitFacts
 pub mod CrtcLemmas
 pub mod Facts
 pub mod FewerLemmas
+pub mod FewerRows
 pub mod FramedLemmas
 pub mod GammaRoundTrip
 pub mod HeldValues
@@ -36,6 +37,7 @@ pub mod SeenLemmas
 pub mod SetLemmas
 pub mod SettingLemmas
 pub mod ShownLemmas
+pub mod SleepRows
 pub mod SoundKept
 pub mod SoundStart
 pub mod SourcePlaces

@@ -1,6 +1,5 @@
--- Worked examples of a device that is turned off and brought back, computed: the two requests, the longer script and its report, what
--- cannot be brought back, and inputs whose clients may have fewer commands.
-use Rattle.std.proofs.Common.{◌≡◌, ℕ, false, List, [], ◌∷◌, ◌++◌, map, length, refl, codes, replicate, Option, Some, None, Ok, Err}
+-- Worked examples of the requests that turn a device off and bring it back, computed; what cannot be brought back; false neighbours.
+use Rattle.std.proofs.Common.{◌≡◌, ℕ, false, List, [], ◌∷◌, ◌++◌, map, length, refl, codes, replicate, Option, Some, None, Ok}
 use Rattle.std.specs.Prelude.{reverse}
 use Rattle.std.specs.List.{flat_map, range_with_len}
 use Rattle.std.specs.Str.{bytes_eq}
@@ -9,49 +8,46 @@ use Rattle.kms_model.specs.declared.objects.Kind.TheVariants as kind
 use Rattle.kms_model.specs.declared.objects.Topology.{Topology}
 use Rattle.kms_model.specs.declared.properties.TheConstants.{ACTIVE, MODE_ID, CRTC_ID, FB_ID}
 use Rattle.kms_model.specs.declared.replies.Reply.TheVariants as reply
-use Rattle.kms_model.specs.declared.replies.Step.{Step}
 use Rattle.kms_model.specs.declared.scripts.Command.{Command}
 use Rattle.kms_model.specs.declared.scripts.Command.TheVariants as command
 use Rattle.kms_model.specs.declared.scripts.Request.{Request}
 use Rattle.kms_model.specs.declared.scripts.Script.{Script}
-use Rattle.kms_model.specs.declared.scripts.Value.TheVariants as value
-use Rattle.kms_model.specs.declared.scripts.Why.{Why}
-use Rattle.kms_model.specs.declared.scripts.Why.TheVariants.{Form, Label, Limit}
+use Rattle.kms_model.specs.declared.scripts.Value.TheVariants as given
 use Rattle.kms_model.specs.declared.worlds.World.{World}
 use Rattle.kms_model.specs.Device.ModeBytes.{mode_bytes}
 use Rattle.kms_model.specs.Device.Modes.{plain_mode}
 use Rattle.kms_model.specs.Device.Serial.{Entry, serial}
-use Rattle.kms_model.specs.Order.Rounds.{finished_within}
 use Rattle.kms_model.specs.Order.Suspending.{closed_object, conn_back, crtc_back, has_crtc_at, has_mode_at, indices_where, modeset, off_request, on_request, open_mode_label, plane_back}
-use Rattle.kms_model.specs.Report.History.{text}
 use Rattle.kms_model.specs.Report.TextLines.{line}
 use Rattle.kms_model.specs.Request.Apply.{after}
-use Rattle.kms_model.specs.Script.FewerCommands.{input_within}
 use Rattle.kms_model.specs.Script.Generated.{generated, generated_device}
-use Rattle.kms_model.specs.Script.InputLines.{Fault}
-use Rattle.kms_model.specs.Script.Longer.{at_last, commands_of_last, extended, extended_after, with_commands}
+use Rattle.kms_model.specs.Script.Longer.{commands_of_last, extended, with_commands}
 use Rattle.kms_model.specs.Script.Spelling.{command_words, spelling}
 use Rattle.kms_model.specs.Script.WholeInput.{input}
-use Rattle.kms_model.proofs.MachineInputs.{plain}
 use Rattle.kms_model.proofs.OneThread.{replies}
 use Rattle.kms_model.proofs.OnSuspending.{on_suspending}
 use Rattle.kms_model.proofs.Rows.{device, head, made, named_tiny, script}
-use Rattle.kms_model.proofs.VerdictRows.{number, request, sets}
+use Rattle.kms_model.proofs.VerdictRows.{number, request, sets, three_made}
 
 -- one client makes a framebuffer and a mode, and lights the CRTC
-abbrev first : Script
+abbrev pub first : Script
 first = script 0x400 0
 
 abbrev entry : ℕ → ℕ → Entry
 entry client n = record { client = client; command = n }
 
 -- the world after the commands of a script with one client
-abbrev world_of : Script → World
+abbrev pub world_of : Script → World
 world_of s = serial s (map (entry 1) (range_with_len 1 (length (commands_of_last s.clients))))
 
 -- the same script with more commands, and one name more
-abbrev first_with : List Command → Script
-first_with more = with_commands more (record { version = 1; topology = device; names = codes "b" ∷ codes "f" ∷ codes "m" ∷ codes "m2" ∷ []; clients = first.clients })
+abbrev pub first_with : List Command → Script
+first_with more = with_commands more (record {
+  version = 1;
+  topology = device;
+  names = codes "b" ∷ codes "f" ∷ codes "m" ∷ codes "m2" ∷ [];
+  clients = first.clients;
+})
 
 -- a request as the line of a command
 abbrev request_line : Request → List ℕ
@@ -73,11 +69,11 @@ unfolding on_suspending
 first_script_is_turned_off = refl
 
 pub first_script_is_brought_back : on_request device (world_of first) ≡ modeset (
-    sets kind.Crtc 0 MODE_ID (value.Named 2)
+    sets kind.Crtc 0 MODE_ID (given.Named 2)
     ∷ sets kind.Crtc 0 ACTIVE (number 1)
-    ∷ sets kind.Conn 0 CRTC_ID (value.Crtc 0)
-    ∷ sets kind.Plane 0 FB_ID (value.Named 1)
-    ∷ sets kind.Plane 0 CRTC_ID (value.Crtc 0)
+    ∷ sets kind.Conn 0 CRTC_ID (given.Crtc 0)
+    ∷ sets kind.Plane 0 FB_ID (given.Named 1)
+    ∷ sets kind.Plane 0 CRTC_ID (given.Crtc 0)
     ∷ [])
 unfolding on_suspending
 first_script_is_brought_back = refl
@@ -95,55 +91,26 @@ longer_script_is_read = refl
 
 -- Both requests are accepted on the device of one thread.
 pub both_requests_are_accepted : replies device (extended first (world_of first)).clients
-    ≡ reply.Made 1000 ∷ reply.Made 1001 ∷ reply.Made 1002 ∷ reply.Commit 0 ∷ reply.Commit 1 ∷ reply.Commit 2 ∷ []
+    ≡ three_made ++ reply.Commit 0 ∷ reply.Commit 1 ∷ reply.Commit 2 ∷ []
 unfolding on_suspending
 both_requests_are_accepted = refl
 
--- the report of a script that goes on behind a history, in at most 64 rounds
-abbrev report_behind : Script → List Step → List ℕ
-report_behind longer h = text longer (finished_within longer 64 h) plain
-
-abbrev report_after : Script → List Step → List ℕ
-report_after s h = report_behind (extended_after s h) h
-
-abbrev slept_report : Script → List ℕ
-slept_report s = report_after s (finished_within s 64 [])
-
-pub first_script_sleeps_and_wakes : slept_report first
-    ≡ codes "J 1 1\nJ 1 2\nJ 1 3\nJ 1 4\nJ 1 5\nJ 1 6\nR 1 1 0 made 1000\nR 1 2 1 made 1001\nR 1 3 2 made 1002\nR 1 4 3 commit 0\nR 1 5 4 commit 1\nR 1 6 5 commit 2\nL 0 0 1 ba7816bf8f01cfea414140de5dae2223b00361a396177a9cb410ff61f20015ad\nL 0 1 1 off\nL 0 2 2 ba7816bf8f01cfea414140de5dae2223b00361a396177a9cb410ff61f20015ad\nD drained\n"
-unfolding on_suspending
-first_script_sleeps_and_wakes = refl
-
--- Other scripts
-
--- no client: one is added, whose requests set nothing
-pub empty_device_sleeps_and_wakes : slept_report (record { version = 1; topology = device; names = []; clients = [] })
-    ≡ codes "J 1 1\nJ 1 2\nR 1 1 0 commit 0\nR 1 2 1 commit 1\nD drained\n"
-unfolding on_suspending
-empty_device_sleeps_and_wakes = refl
-
 -- a CRTC that has a mode and is not on
-abbrev dark : Script
+abbrev pub dark : Script
 dark = record {
   version = 1;
   topology = device;
   names = codes "m" ∷ [];
   clients = (
-    command.Mode 0 named_tiny
-    ∷ request ALLOW_MODESET (sets kind.Crtc 0 MODE_ID (value.Named 0) ∷ sets kind.Conn 0 CRTC_ID (value.Crtc 0) ∷ [])
-    ∷ []) ∷ [];
+      command.Mode 0 named_tiny
+      ∷ request ALLOW_MODESET (sets kind.Crtc 0 MODE_ID (given.Named 0) ∷ sets kind.Conn 0 CRTC_ID (given.Crtc 0) ∷ [])
+      ∷ []) ∷ [];
 }
 
--- it is named, and latches twice
-pub dark_crtc_sleeps_and_wakes : slept_report dark
-    ≡ codes "J 1 1\nJ 1 2\nJ 1 3\nJ 1 4\nR 1 1 0 made 1000\nR 1 2 1 commit 0\nR 1 3 2 commit 1\nR 1 4 3 commit 2\nL 0 0 0 off\nL 0 1 0 off\nL 0 2 0 off\nD drained\n"
-unfolding on_suspending
-dark_crtc_sleeps_and_wakes = refl
-
 pub dark_crtc_stays_dark : on_request device (world_of dark) ≡ modeset (
-    sets kind.Crtc 0 MODE_ID (value.Named 0)
+    sets kind.Crtc 0 MODE_ID (given.Named 0)
     ∷ sets kind.Crtc 0 ACTIVE (number 0)
-    ∷ sets kind.Conn 0 CRTC_ID (value.Crtc 0)
+    ∷ sets kind.Conn 0 CRTC_ID (given.Crtc 0)
     ∷ [])
 unfolding on_suspending
 dark_crtc_stays_dark = refl
@@ -165,11 +132,6 @@ pub objects_come_back_by_kind_and_index : generated_line (on_request generated_d
     ≡ codes "atomic 0x400 0 crtc0.MODE_ID=@m1 crtc0.ACTIVE=1 crtc1.MODE_ID=@m1 crtc1.ACTIVE=1 conn0.CRTC_ID=crtc0 conn1.CRTC_ID=crtc1 plane0.FB_ID=@f1 plane0.CRTC_ID=crtc0 plane1.FB_ID=@f2 plane1.CRTC_ID=crtc1\n"
 unfolding on_suspending
 objects_come_back_by_kind_and_index = refl
-
--- the last client gets the commands, also one that has none
-pub last_client_gets_the_commands : at_last (command.Wait ∷ []) ((command.Fence 0 ∷ []) ∷ (command.Fence 1 ∷ []) ∷ [] ∷ [])
-    ≡ (command.Fence 0 ∷ []) ∷ (command.Fence 1 ∷ []) ∷ (command.Wait ∷ []) ∷ []
-last_client_gets_the_commands = refl
 
 -- What cannot be brought back
 
@@ -193,23 +155,24 @@ pub closed_things_are_told : map closed_after (
 unfolding on_suspending
 closed_things_are_told = refl
 
--- another blob with the same mode is named where the first was destroyed
-abbrev second_blob : Script
+-- the first script, with a second blob of the same mode, and the first destroyed
+abbrev pub second_blob : Script
 second_blob = first_with (command.Mode 3 named_tiny ∷ command.Destroy 2 ∷ [])
 
+-- the second blob is named
 pub second_blob_is_named : on_line second_blob
     ≡ codes "atomic 0x400 0 crtc0.MODE_ID=@m2 crtc0.ACTIVE=1 conn0.CRTC_ID=crtc0 plane0.FB_ID=@f plane0.CRTC_ID=crtc0\n"
 unfolding on_suspending
 second_blob_is_named = refl
 
 pub second_blob_is_accepted : replies device (extended second_blob (world_of second_blob)).clients
-    ≡ reply.Made 1000 ∷ reply.Made 1001 ∷ reply.Made 1002 ∷ reply.Commit 0 ∷ reply.Made 1003 ∷ reply.Done ∷ reply.Commit 1 ∷ reply.Commit 2 ∷ []
+    ≡ three_made ++ reply.Commit 0 ∷ reply.Made 1003 ∷ reply.Done ∷ reply.Commit 1 ∷ reply.Commit 2 ∷ []
 unfolding on_suspending
 second_blob_is_accepted = refl
 
 -- the first one is named while it is there, whichever MODE_ID names
 abbrev with_second_blob : Script
-with_second_blob = first_with (command.Mode 3 named_tiny ∷ request 0x0 (sets kind.Crtc 0 MODE_ID (value.Named 3) ∷ []) ∷ [])
+with_second_blob = first_with (command.Mode 3 named_tiny ∷ request 0x0 (sets kind.Crtc 0 MODE_ID (given.Named 3) ∷ []) ∷ [])
 
 pub first_blob_is_named : on_line with_second_blob
     ≡ codes "atomic 0x400 0 crtc0.MODE_ID=@m crtc0.ACTIVE=1 conn0.CRTC_ID=crtc0 plane0.FB_ID=@f plane0.CRTC_ID=crtc0\n"
@@ -219,7 +182,8 @@ first_blob_is_named = refl
 -- False neighbours
 
 -- the last blob that holds a mode has another label
-pub last_blob_is_another : map (λ things. open_mode_label things named_tiny) (reverse (world_of with_second_blob).things ∷ (world_of with_second_blob).things ∷ [])
+pub last_blob_is_another : map (λ things. open_mode_label things named_tiny)
+    (reverse (world_of with_second_blob).things ∷ (world_of with_second_blob).things ∷ [])
     ≡ Some 3 ∷ Some 2 ∷ []
 unfolding on_suspending
 last_blob_is_another = refl
@@ -242,35 +206,3 @@ asleep w = record w { values = after w (off_request device w) }
 pub request_made_asleep_sets_nothing : on_request device (asleep (world_of first)) ≡ modeset []
 unfolding on_suspending
 request_made_asleep_sets_nothing = refl
-
--- Fewer commands of each client
-
-abbrev two_fences : List ℕ
-two_fences = head ++ codes "client\nfence a\nfence b\n"
-
-abbrev fault : ℕ → Why → Fault
-fault line why = record { line = line; why = why }
-
--- of each client: also of one behind another
-pub each_client_has_two_commands : input_within 2 (two_fences ++ codes "client\nfence c\nfence d\n") ≡ input (two_fences ++ codes "client\nfence c\nfence d\n")
-unfolding on_suspending
-each_client_has_two_commands = refl
-
-pub third_command_is_a_fault : map (input_within 2) (
-    -- one command too many, also where a later line has a fault
-    (two_fences ++ codes "fence c\n")
-    ∷ (two_fences ++ codes "fence c\nnonsense\n")
-    -- form and label are told before it
-    ∷ (two_fences ++ codes "fence c d\n")
-    ∷ (two_fences ++ codes "fence a\n")
-    -- a fault of an earlier line is told before it
-    ∷ (head ++ codes "client\nfence a\nfence a\nfence c\n")
-    -- a client behind another, and one before another
-    ∷ (two_fences ++ codes "client\nfence c\nfence d\nfence e\n")
-    ∷ (two_fences ++ codes "fence c\nclient\n")
-    -- no device
-    ∷ codes "kms 1\n"
-    ∷ [])
-    ≡ map Err (fault 8 Limit ∷ fault 8 Limit ∷ fault 8 Form ∷ fault 8 Label ∷ fault 7 Label ∷ fault 11 Limit ∷ fault 8 Limit ∷ fault 2 Form ∷ [])
-unfolding on_suspending
-third_command_is_a_fault = refl

@@ -55,7 +55,8 @@ pub record IsBack (t : Topology) (before after : World) : Type 0 where
 pub record SleepsAndWakes (s longer : Script) (h slept : List Step) : Type 0 where
   pub drained : is_drained longer (at longer slept) ≡ true
   -- Both requests are accepted, nothing else is done or answered, and no event is delivered or read.
-  pub journal : history_journal longer slept ≡ history_journal s h ++ entry_answered (off_answer s h) ∷ entry_answered (on_answer s h) ∷ []
+  pub journal : history_journal longer slept
+      ≡ history_journal s h ++ entry_answered (off_answer s h) ∷ entry_answered (on_answer s h) ∷ []
   pub answers : replies (at longer slept) ≡ replies (at s h) ++ off_answer s h ∷ on_answer s h ∷ []
   pub events : (at longer slept).events ≡ (at s h).events
   -- Each CRTC with a mode goes off and shows again what it showed. The others latch nothing.
