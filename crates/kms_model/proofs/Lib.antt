@@ -3,6 +3,7 @@ pub mod ApplyLemmas
 pub mod CommitFacts
 pub mod CrtcLemmas
 pub mod Facts
+pub mod FewerClients
 pub mod FewerLemmas
 pub mod FewerRows
 pub mod FramedLemmas
