@@ -4,6 +4,9 @@ pub mod AuditRows
 pub mod CommitFacts
 pub mod CrtcLemmas
 pub mod Facts
+pub mod FewerClients
+pub mod FewerLemmas
+pub mod FewerRows
 pub mod FramedLemmas
 pub mod GammaRoundTrip
 pub mod HeldValues
@@ -26,6 +29,7 @@ pub mod OnLegacy
 pub mod OnLiterals
 pub mod OnMachines
 pub mod OnScripts
+pub mod OnSuspending
 pub mod OneThread
 pub mod OpenLemmas
 pub mod ProfileRows
@@ -40,6 +44,7 @@ pub mod SeenLemmas
 pub mod SetLemmas
 pub mod SettingLemmas
 pub mod ShownLemmas
+pub mod SleepRows
 pub mod SoundKept
 pub mod SoundStart
 pub mod SourcePlaces
@@ -48,6 +53,7 @@ pub mod StandsLemmas
 pub mod StartValues
 pub mod StateLemmas
 pub mod SumLemmas
+pub mod SuspendRows
 pub mod TableLemmas
 pub mod ThingLemmas
 pub mod TouchedLemmas
