@@ -57,3 +57,11 @@ pub mod Whole
 pub mod Words
 pub mod Written
 pub mod Busy
+pub mod Labels
+pub mod MadeNames
+pub mod MadeCommands
+pub mod MadeOnce
+pub mod Ended
+pub mod Staying
+pub mod Composed
+pub mod ReadEvents

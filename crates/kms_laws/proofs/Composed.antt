@@ -35,7 +35,7 @@ use Rattle.kms_model.proofs.ShownLemmas.{each_can_be_shown}
 use Rattle.kms_model.proofs.SoundKept.{execution_keeps_sound}
 use Rattle.kms_laws.specs.Laws.{HasSerialWorld}
 use Rattle.kms_laws.proofs.Present.{reverse_more}
-use Rattle.kms_shown.proofs.Staying.{Stay, image-stays, stay-serial}
+use Rattle.kms_laws.proofs.Staying.{Stay, image-stays, stay-serial}
 
 -- a picture that can be composed over some things can be over those that they become
 pub can-stays : (old new : List Thing) → Stay old new → (p : Picture) → EachCanBeShown old p → EachCanBeShown new p

@@ -1,8 +1,6 @@
 //! What holds of every history of every script, for those who tell of it: each call does nothing and has the law as its
 //! contract.
-#![tactic(auto)]
-
-ghost use Rattle.kms_shown.specs.Told.{EventsAreTold, LatchesCanBeShown};
+ghost use Rattle.kms_laws.specs.Told.{EventsAreTold, LatchesCanBeShown};
 
 /// Each picture that a CRTC latched can be composed over the things that there are at the end of the history: each layer has
 /// its place in the mode, and its framebuffer, open or closed, has a word for each pixel.

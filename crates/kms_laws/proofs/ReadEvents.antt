@@ -27,7 +27,7 @@ use Rattle.kms_model.specs.Request.Verdict.{verdict}
 use Rattle.kms_laws.proofs.EachStep.{Carries, by_bool, by_fence, by_two, each_step, locks_leave, made_as, swapped_as, tails_leave}
 use Rattle.kms_laws.proofs.Present.{reverse_more}
 use Rattle.kms_laws.proofs.Steps.{along}
-use Rattle.kms_shown.specs.Told.{event_in, events_told}
+use Rattle.kms_laws.specs.Told.{event_in, events_told}
 
 abbrev pair_if : ℕ → Option Event → Option (ℕ × Event)
 pair_if client None = None
