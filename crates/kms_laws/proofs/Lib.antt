@@ -64,4 +64,6 @@ pub mod MadeOnce
 pub mod Ended
 pub mod Staying
 pub mod Composed
+pub mod FramesShown
+pub mod FramesStay
 pub mod ReadEvents
