@@ -63,6 +63,7 @@ pub mod MadeCommands
 pub mod MadeOnce
 pub mod Ended
 pub mod Staying
+pub mod AnswersFollow
 pub mod Composed
 pub mod FramesShown
 pub mod FramesStay

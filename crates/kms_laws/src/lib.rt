@@ -28,4 +28,6 @@ pub use locks::{
     tests_change_nothing, waits_have_no_cycle,
 };
 pub use once::labels_are_made_once;
-pub use shown::{events_read_are_replies, what_was_latched_can_be_composed};
+pub use shown::{
+    answers_follow_commands, events_read_are_replies, what_was_latched_can_be_composed,
+};
