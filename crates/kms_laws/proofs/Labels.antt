@@ -29,7 +29,7 @@ use Rattle.kms_model.specs.Request.Verdict.{verdict}
 use Rattle.kms_model.proofs.Items.{IsIn, list_any-has}
 use Rattle.kms_model.proofs.LastLemmas.{SetBy, set_by}
 use Rattle.kms_laws.proofs.Closed.{closed_labelled}
-use Rattle.kms_once.specs.Once.{is_new, makes}
+use Rattle.kms_laws.specs.Once.{is_new, makes}
 
 new_is : (v : Value) (label : ℕ) → new_label (Some v) ≡ Some label → is_new v label ≡ true
 new_is (value.New l) label is = (let same : l ≡ label = cc in eq-eqb l label same)

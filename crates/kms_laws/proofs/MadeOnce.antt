@@ -15,9 +15,9 @@ use Rattle.kms_model.specs.Script.Spelling.{lined, spelt_line, spelt_lines}
 use Rattle.kms_model.specs.Script.WellFormed.{IsWellFormed}
 use Rattle.kms_model.specs.Script.WholeInput.{Draft, Lined, blank_draft, client_line, clients_in, clients_of, command_line, conn_at, conn_line, crtcs_at, crtcs_line, first_line, is_nil, later_line, plane_fields, plane_line, script_in, script_line, version_read}
 use Rattle.kms_model.specs.Script.Words.{◌>>=◌, end_at, from, until}
-use Rattle.kms_once.specs.Once.{makes}
-use Rattle.kms_once.proofs.MadeCommands.{IfRead, Makes, command_makes, cond_if, then_if}
-use Rattle.kms_once.proofs.MadeNames.{is_made_at}
+use Rattle.kms_laws.specs.Once.{makes}
+use Rattle.kms_laws.proofs.MadeCommands.{IfRead, Makes, command_makes, cond_if, then_if}
+use Rattle.kms_laws.proofs.MadeNames.{is_made_at}
 
 -- Sums over lists
 

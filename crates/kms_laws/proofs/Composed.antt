@@ -25,6 +25,7 @@ use Rattle.kms_model.specs.Device.Objects.{object_id}
 use Rattle.kms_model.specs.Device.Serial.{Entry, Pictured, command_of, execute_in, pictured, serial, serial_from, show, show_from, shown_after, shown_by, shown_in}
 use Rattle.kms_model.specs.Device.Sound.{IsSound}
 use Rattle.kms_model.specs.Device.World.{start}
+use Rattle.kms_model.specs.Frames.FrameBytes.{frame_bytes}
 use Rattle.kms_model.specs.Frames.Pictures.{picture}
 use Rattle.kms_model.specs.Frames.Shown.{AreFramed, EachCanBeShown}
 use Rattle.kms_model.specs.Headline.{CommitPicture, Headline, history_journal, latched_pictures}
@@ -34,8 +35,9 @@ use Rattle.kms_model.proofs.FramedLemmas.{execution_keeps_framed}
 use Rattle.kms_model.proofs.ShownLemmas.{each_can_be_shown}
 use Rattle.kms_model.proofs.SoundKept.{execution_keeps_sound}
 use Rattle.kms_laws.specs.Laws.{HasSerialWorld}
+use Rattle.kms_laws.proofs.FramesStay.{frame-stays}
 use Rattle.kms_laws.proofs.Present.{reverse_more}
-use Rattle.kms_shown.proofs.Staying.{Stay, image-stays, stay-serial}
+use Rattle.kms_laws.proofs.Staying.{Stay, image-stays, stay-serial}
 
 -- a picture that can be composed over some things can be over those that they become
 pub can-stays : (old new : List Thing) → Stay old new → (p : Picture) → EachCanBeShown old p → EachCanBeShown new p
@@ -55,12 +57,16 @@ can-stays old new stay (On shown) can = λ k d within.
 
 -- The journal of the device of one thread
 
--- what a command makes a CRTC show is its picture in the world after it
-shown_if : (t : Topology) (w : World) (crtc k : ℕ) (b : Bool) (p : Pictured) → cond b (Some (pictured t w crtc k)) None ≡ Some p → p.picture ≡ picture t w.things w.values crtc
-shown_if t w crtc k true p e = let is : pictured t w crtc k ≡ p = cc in ap (λ (x : Pictured). x.picture) (sym is)
+-- what is shown of a CRTC in a world, by some commit
+abbrev IsPictured : Topology → World → ℕ → Pictured → Type 0
+IsPictured t w crtc p = (k : ℕ) × (p ≡ pictured t w crtc k)
+
+-- what a command makes a CRTC show is its picture in the world after it, and the frame of that
+shown_if : (t : Topology) (w : World) (crtc k : ℕ) (b : Bool) (p : Pictured) → cond b (Some (pictured t w crtc k)) None ≡ Some p → IsPictured t w crtc p
+shown_if t w crtc k true p e = let is : pictured t w crtc k ≡ p = cc in (k, sym is)
 shown_if t w crtc k false p e = absurd cc
 
-shown-after : (t : Topology) (crtc : ℕ) (old : List Setting) (r : Request) (w : World) (answer : Reply) (p : Pictured) → shown_after t crtc old r w answer ≡ Some p → p.picture ≡ picture t w.things w.values crtc
+shown-after : (t : Topology) (crtc : ℕ) (old : List Setting) (r : Request) (w : World) (answer : Reply) (p : Pictured) → shown_after t crtc old r w answer ≡ Some p → IsPictured t w crtc p
 shown-after t crtc old r w (reply.Commit k) p e = shown_if t w crtc k (names old w.values r.assigns crtc) p e
 shown-after t crtc old r w (reply.Made id) p e = absurd cc
 shown-after t crtc old r w reply.Done p e = absurd cc
@@ -72,7 +78,7 @@ shown-after t crtc old r w (reply.Denied n) p e = absurd cc
 shown-after t crtc old r w (reply.Event event) p e = absurd cc
 shown-after t crtc old r w reply.NoEvent p e = absurd cc
 
-shown-by : (t : Topology) (crtc : ℕ) (old : List Setting) (c : Command) (x : Executed) (p : Pictured) → shown_by t crtc old c x ≡ Some p → p.picture ≡ picture t x.world.things x.world.values crtc
+shown-by : (t : Topology) (crtc : ℕ) (old : List Setting) (c : Command) (x : Executed) (p : Pictured) → shown_by t crtc old c x ≡ Some p → IsPictured t x.world crtc p
 shown-by t crtc old (command.Atomic r) x p e = shown-after t crtc old r x.world x.reply p e
 shown-by t crtc old (command.Buffer label width height format pattern) x p e = absurd cc
 shown-by t crtc old (command.AddFb label buffer) x p e = absurd cc
@@ -84,17 +90,22 @@ shown-by t crtc old (command.Fence label) x p e = absurd cc
 shown-by t crtc old (command.Signal label) x p e = absurd cc
 shown-by t crtc old command.Wait x p e = absurd cc
 
-abbrev CanEach : List Thing → List Pictured → Type 0
-CanEach things ps = AllByRecursion (λ p. EachCanBeShown things p.picture) ps
+-- what was shown can be composed over these things still, and gives the same frame
+pub record StaysShown (things : List Thing) (p : Pictured) : Type 0 where
+  pub can : EachCanBeShown things p.picture
+  pub frame : p.frame ≡ frame_bytes things p.picture
+
+abbrev pub CanEach : List Thing → List Pictured → Type 0
+CanEach things ps = AllByRecursion (StaysShown things) ps
 
 can-append : (things : List Thing) (ps qs : List Pictured) → CanEach things ps → CanEach things qs → CanEach things (ps ++ qs)
 can-append things [] qs first second = second
 can-append things (p ∷ ps) qs first second = (first.0, can-append things ps qs first.1 second)
 
 -- worlds whose pictures can be composed
-record IsShowing (t : Topology) (w : World) : Type 0 where
-  sound : IsSound t w
-  framed : AreFramed w.things
+pub record IsShowing (t : Topology) (w : World) : Type 0 where
+  pub sound : IsSound t w
+  pub framed : AreFramed w.things
 
 showing-next : (t : Topology) (w : World) (client : ℕ) (o : Option Command) → IsShowing t w → IsShowing t (execute_in t w client o)
 showing-next t w client None S = S
@@ -114,10 +125,16 @@ module _ (s : Script) (crtc : ℕ) where
         let one : shown_in s.topology crtc w client (Some c) ≡ p ∷ [] = rw e refl in
         let v = (execute s.topology w client c).world in
         let N = showing-next s.topology w client (Some c) S in
-        let can : EachCanBeShown things (picture s.topology v.things v.values crtc) = can-stays v.things things stay (picture s.topology v.things v.values crtc) (each_can_be_shown s.topology v crtc N.sound N.framed) in
-        subst (CanEach things) (sym one) (subst (EachCanBeShown things) (sym (shown-by s.topology crtc w.values c (execute s.topology w client c) p e)) can, tt)
+        let shows = picture s.topology v.things v.values crtc in
+        let can : EachCanBeShown v.things shows = each_can_be_shown s.topology v crtc N.sound N.framed in
+        let is = shown-by s.topology crtc w.values c (execute s.topology w client c) p e in
+        let stays : StaysShown things (pictured s.topology v crtc is.0) = record {
+          can = can-stays v.things things stay shows can;
+          frame = sym (frame-stays v.things things stay shows can);
+        } in
+        subst (CanEach things) (sym one) (subst (StaysShown things) (sym is.1) stays, tt)
 
-  show-can : (w : World) (es : List Entry) → IsShowing s.topology w → CanEach (serial_from s w es).things (show_from s crtc w es)
+  pub show-can : (w : World) (es : List Entry) → IsShowing s.topology w → CanEach (serial_from s w es).things (show_from s crtc w es)
   unfolding show_from serial_from
   show-can w [] S = tt
   show-can w (e ∷ es) S =
@@ -134,7 +151,7 @@ CanPairs things ps = AllByRecursion (λ p. EachCanBeShown things p.picture) ps
 
 pairs-can : (things : List Thing) (ps : List Pictured) → CanEach things ps → CanPairs things (map (λ p. record { commit = p.commit; picture = p.picture }) ps)
 pairs-can things [] can = tt
-pairs-can things (p ∷ ps) can = (can.0, pairs-can things ps can.1)
+pairs-can things (p ∷ ps) can = (can.0.can, pairs-can things ps can.1)
 
 pairs-front : (things : List Thing) (xs ys : List CommitPicture) → CanPairs things (xs ++ ys) → CanPairs things xs
 pairs-front things [] ys can = tt

@@ -1,8 +1,6 @@
 //! What happens once: a script makes each label once, and a client has one answer to each of its commands. The facts are
 //! proved over the definitions alone.
-#![tactic(auto)]
-
-ghost use Rattle.kms_once.specs.Once.{MakesLabelsOnce};
+ghost use Rattle.kms_laws.specs.Once.{MakesLabelsOnce};
 
 /// Two commands of a well-formed script that make the same label are one: no text that makes a label twice is a script.
 pub fn labels_are_made_once()

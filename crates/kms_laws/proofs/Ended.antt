@@ -26,7 +26,7 @@ use Rattle.kms_laws.proofs.Steps.{along}
 abbrev pub AreEnded : List (ℕ × Place) → List Entry → Type 0
 AreEnded places journal = (e : Entry) → IsIn e journal → e.command < ended_at (place_of places e.client)
 
-abbrev first_place : Place
+abbrev pub first_place : Place
 first_place = record { command = 1; doing = doing.Idle }
 
 -- a client goes on
@@ -70,7 +70,7 @@ module _ (s : Script) (m : Machine) (all : HasEnded m) where
       → AreEnded ((client, record { command = (place_at m client).command; doing = doing.Returning k }) ∷ m.contexts.places) (record { client = client; command = (place_at m client).command } ∷ m.records.journal)
   joins_back client k none = joined m.contexts.places m.records.journal client (record { command = (place_at m client).command; doing = doing.Returning k }) (omega arith) (omega (arith, none)) all
 
-  lock-taking : (client object : ℕ) → may_lock s m client object ≡ true → is_taking (doing_at m client) ≡ true
+  pub lock-taking : (client object : ℕ) → may_lock s m client object ≡ true → is_taking (doing_at m client) ≡ true
   unfolding may_lock
   lock-taking client object h = (and_parts (is_taking (doing_at m client)) _ (and_parts (taking_at s m client (λ r. reaches s.topology m.device.world r object)) _ h).0).0
 

@@ -4,8 +4,8 @@ use Rattle.kms_model.proofs.SoundStart.{start_is_sound}
 use Rattle.kms_laws.proofs.Headlines.{headline, serial_world}
 use Rattle.kms_laws.proofs.Modes.{plain-from}
 use Rattle.kms_laws.proofs.SmallNumbers.{numbers_fit}
-use Rattle.kms_shown.proofs.Composed.{all-reversed, latches-can}
-use Rattle.kms_shown.proofs.what_was_latched_can_be_composed.Goals as goal
+use Rattle.kms_laws.proofs.Composed.{all-reversed, latches-can}
+use Rattle.kms_laws.proofs.shown.what_was_latched_can_be_composed.Goals as goal
 
 pub returns : goal.returns
 returns c = λ s h formed is.

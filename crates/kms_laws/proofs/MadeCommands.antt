@@ -16,8 +16,8 @@ use Rattle.kms_model.specs.Script.CommandLines.{Names, addfb_read, assign_read, 
 use Rattle.kms_model.specs.Script.Grammar.{blob_bytes, field_words, format_at, hex_at, int, known_property}
 use Rattle.kms_model.specs.Script.Words.{◌>>=◌, dec, dec_at, end_at, field_at, from, is_label, label_at, strip, until}
 use Rattle.kms_model.proofs.Facts.{neither}
-use Rattle.kms_once.specs.Once.{is_new, makes}
-use Rattle.kms_once.proofs.MadeNames.{is_made_at, made_marks, number_of, said_marks, was_marks}
+use Rattle.kms_laws.specs.Once.{is_new, makes}
+use Rattle.kms_laws.proofs.MadeNames.{is_made_at, made_marks, number_of, said_marks, was_marks}
 
 -- names after some labels are made, by their numbers
 pub record Marks (before : Names) (marks : ℕ → Bool) (after : Names) : Type 0 where
