@@ -18,6 +18,7 @@ use Rattle.kms_model.specs.Device.Objects.{object_id}
 use Rattle.kms_model.specs.Device.Serial.{Entry}
 use Rattle.kms_model.specs.Machine.Effects.{answers, backed_off, goes_on, refusal_reply, signals}
 use Rattle.kms_model.specs.Machine.Histories.{at, is_history}
+use Rattle.kms_model.specs.Machine.Registers.{read}
 use Rattle.kms_model.specs.Machine.State.{Machine, doing_at, first_machine, place_at}
 use Rattle.kms_model.specs.Machine.Steps.{ticket_of}
 use Rattle.kms_model.specs.Request.Sets.{obj_id}
@@ -48,12 +49,12 @@ more-below most more (x ∷ xs) le all = ((let a = all.0 in omega (arith, a, le)
 
 -- the replies to a client, in order of time, of replies that stand the newest first
 abbrev of_client : ℕ → List Answered → List Answered
-of_client client as = filter (λ a. a.client == client) (reverse as)
+of_client client all = filter (λ a. a.client == client) (reverse all)
 
-of-more : (client : ℕ) (a : Answered) (as : List Answered) → of_client client (a ∷ as) ≡ of_client client as ++ (if a.client == client then a ∷ [] else [])
-of-more client a as =
-    ap (filter (λ x. x.client == client)) (reverse_more a as)
-    ∙ filter-append (λ x. x.client == client) (reverse as) (a ∷ [])
+of-more : (client : ℕ) (a : Answered) (all : List Answered) → of_client client (a ∷ all) ≡ of_client client all ++ (if a.client == client then a ∷ [] else [])
+of-more client a all =
+    ap (filter (λ x. x.client == client)) (reverse_more a all)
+    ∙ filter-append (λ x. x.client == client) (reverse all) (a ∷ [])
 
 -- Machines
 
@@ -174,8 +175,11 @@ module _ (s : Script) (m : Machine) (all : FollowIn m) where
     stalled = λ h. all;
   }
 
+first_order : (s : Script) → FollowIn (first_machine s.topology)
+unfolding read
+first_order s client = record { in_order = tt; number = refl; below = tt }
+
 -- the replies to each client, in order of time
 pub answers-follow : (s : Script) (h : List Step) → is_history s h ≡ true → (client : ℕ) → AreInOrder 1 0 (of_client client (at s h).records.replies)
 answers-follow s h is client =
-    (along s FollowIn (λ m step all legal. each_step s m (λ step n. FollowIn n) (carries_order s m all) step legal) h (first_machine s.topology)
-    (λ client. record { in_order = tt; number = refl; below = tt }) is client).in_order
+    (along s FollowIn (λ m step all legal. each_step s m (λ step n. FollowIn n) (carries_order s m all) step legal) h (first_machine s.topology) (first_order s) is client).in_order

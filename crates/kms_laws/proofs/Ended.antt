@@ -52,6 +52,10 @@ joined places journal x p over up all e (inr later) = moved places journal x p u
 abbrev pub HasEnded : Machine → Type 0
 HasEnded m = AreEnded m.contexts.places m.records.journal
 
+pub lock-taking : (s : Script) (m : Machine) (client object : ℕ) → may_lock s m client object ≡ true → is_taking (doing_at m client) ≡ true
+unfolding may_lock
+lock-taking s m client object h = (and_parts (is_taking (doing_at m client)) _ (and_parts (taking_at s m client (λ r. reaches s.topology m.device.world r object)) _ h).0).0
+
 module _ (s : Script) (m : Machine) (all : HasEnded m) where
   keeps_on : (client : ℕ) (d : Doing) → answered (doing_at m client) ≡ 0 → AreEnded ((client, record { command = (place_at m client).command; doing = d }) ∷ m.contexts.places) m.records.journal
   keeps_on client d none = moved m.contexts.places m.records.journal client (record { command = (place_at m client).command; doing = d }) (omega (arith, none)) all
@@ -70,17 +74,13 @@ module _ (s : Script) (m : Machine) (all : HasEnded m) where
       → AreEnded ((client, record { command = (place_at m client).command; doing = doing.Returning k }) ∷ m.contexts.places) (record { client = client; command = (place_at m client).command } ∷ m.records.journal)
   joins_back client k none = joined m.contexts.places m.records.journal client (record { command = (place_at m client).command; doing = doing.Returning k }) (omega arith) (omega (arith, none)) all
 
-  pub lock-taking : (client object : ℕ) → may_lock s m client object ≡ true → is_taking (doing_at m client) ≡ true
-  unfolding may_lock
-  lock-taking client object h = (and_parts (is_taking (doing_at m client)) _ (and_parts (taking_at s m client (λ r. reaches s.topology m.device.world r object)) _ h).0).0
-
   pub carries_ended : Carries s m (λ step n. HasEnded n)
   carries_ended = record {
     locks = record {
       begins = λ client c e atomic idle. keeps_on client (doing.Taking (record { 0 = m.contexts.tickets })) (idle-busy (doing_at m client) idle).1;
       takes = λ client kind index is_there lock free. all;
       meets = λ client kind index holder is_there lock held.
-          keeps_on client (doing.MustBackOff (record { 0 = ticket_of (doing_at m client) }) (obj_id (object_id kind index))) (taking-busy (doing_at m client) (lock-taking client (object_id kind index) lock)).1;
+          keeps_on client (doing.MustBackOff (record { 0 = ticket_of (doing_at m client) }) (obj_id (object_id kind index))) (taking-busy (doing_at m client) (lock-taking s m client (object_id kind index) lock)).1;
       backs = λ client back. keeps_on client (backed_off (doing_at m client)) (back-busy (doing_at m client) back).0.1;
       relocks = λ client object asked free. keeps_on client (doing.Taking (record { 0 = ticket_of (doing_at m client) })) (contended-busy (doing_at m client) object asked).1;
       returned = λ client k e clean. goes client (let one = (returning-busy (doing_at m client) k e).1 in omega (arith, one));
