@@ -12,7 +12,7 @@ use Rattle.kms_model.specs.declared.worlds.World.{World}
 use Rattle.kms_model.specs.Device.World.{value}
 use Rattle.kms_model.specs.Frames.FrameBytes.{frame_bytes}
 use Rattle.kms_model.specs.Headline.{CommitPicture, entry_answered, history_journal, latched_pictures}
-use Rattle.kms_model.specs.Machine.Histories.{at, replies as recorded}
+use Rattle.kms_model.specs.Machine.Histories.{at, is_history, replies as recorded}
 use Rattle.kms_model.specs.Machine.State.{unread_at}
 use Rattle.kms_model.specs.Order.Rounds.{finished_within}
 use Rattle.kms_model.specs.Order.SleepAndWake.{off_and_back, off_answer, on_answer}
@@ -97,10 +97,12 @@ has_values_of before after = list_all (λ object. list_all (has_value_of before 
 abbrev both_answers : Script → List Step → List Answered
 both_answers s h = off_answer s h ∷ on_answer s h ∷ []
 
--- whether the answers, the journal and the pictures of a history behind another are those promised, and the values those before
+-- whether what goes on behind a history is one of the longer script, its answers, its journal and its pictures are those promised, and
+-- the values those before
 abbrev keeps_promises : Script → List Step → Script → List Step → List Bool
 keeps_promises s h longer slept =
-    bytes_eq (all_answers longer slept []) (all_answers s h (both_answers s h))
+    is_history longer slept
+    ∷ bytes_eq (all_answers longer slept []) (all_answers s h (both_answers s h))
     ∷ bytes_eq (all_entries longer slept []) (all_entries s h (both_answers s h))
     ∷ bytes_eq (all_pictures longer slept []) (all_pictures s h (shown_and_back s h))
     ∷ has_values_of (world_after s h) (world_after longer slept)
@@ -112,12 +114,12 @@ keeps_behind s h longer = keeps_promises s h longer (finished_within longer 64 h
 abbrev keeps_after : Script → List Step → List Bool
 keeps_after s h = keeps_behind s h (extended_after s h)
 
-pub short_client_keeps_promises : keeps_after with_short_client (finished_within with_short_client 64 []) ≡ true ∷ true ∷ true ∷ true ∷ []
+pub short_client_keeps_promises : keeps_after with_short_client (finished_within with_short_client 64 []) ≡ true ∷ true ∷ true ∷ true ∷ true ∷ []
 unfolding on_suspending
 short_client_keeps_promises = refl
 
 -- with a second blob MODE_ID has another value
-pub second_blob_keeps_all_but_one : keeps_after second_blob (finished_within second_blob 64 []) ≡ true ∷ true ∷ true ∷ false ∷ []
+pub second_blob_keeps_all_but_one : keeps_after second_blob (finished_within second_blob 64 []) ≡ true ∷ true ∷ true ∷ true ∷ false ∷ []
 unfolding on_suspending
 second_blob_keeps_all_but_one = refl
 
