@@ -26,7 +26,7 @@ use Rattle.kms_model.proofs.Rows.{device, head}
 use Rattle.kms_model.proofs.VerdictRows.{number, sets}
 
 -- the device of the first script, with no client
-abbrev base_with : List (List ℕ) → Script
+abbrev pub base_with : List (List ℕ) → Script
 base_with words = record { version = 1; topology = device; names = words; clients = [] }
 
 -- Planes of a type

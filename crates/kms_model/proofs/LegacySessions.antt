@@ -34,17 +34,17 @@ use Rattle.kms_model.specs.declared.scripts.Script.{Script}
 use Rattle.kms_model.specs.declared.scripts.Value.TheVariants as value
 use Rattle.kms_model.specs.declared.worlds.World.{World}
 use Rattle.kms_model.specs.Device.Execution.{execute}
-use Rattle.kms_model.specs.Device.Objects.{object_id}
+use Rattle.kms_model.specs.Device.Objects.{indices_of, object_id}
 use Rattle.kms_model.specs.Device.World.{start}
 use Rattle.kms_model.specs.Firsts.{listed}
 use Rattle.kms_model.specs.Frames.Pictures.{picture}
 use Rattle.kms_model.specs.Legacy.LegacyLines.{legacy_input}
 use Rattle.kms_model.specs.Legacy.Screen.{Screen, blank_screen, screen_after, screen_next, screen_picture}
 use Rattle.kms_model.specs.Legacy.Translated.{AreTranslated, after_line, lone_commands, meant, translated}
-use Rattle.kms_model.specs.Legacy.Translation.{indices_of}
 use Rattle.kms_model.specs.Script.InputLines.{Fault}
 use Rattle.kms_model.specs.Script.Spelling.{spelling}
 use Rattle.kms_model.specs.Script.WholeInput.{input}
+use Rattle.kms_model.proofs.LegacyRows.{base_with}
 use Rattle.kms_model.proofs.OnLegacy.{on_legacy}
 use Rattle.kms_model.proofs.Rows.{device, head, made, mode_made, named_tiny, pixel_made}
 use Rattle.kms_model.proofs.VerdictRows.{number, refused, sets}
@@ -62,10 +62,6 @@ flips = call.PageFlip 0 1 true 7
 
 abbrev lights : LegacyCall
 lights = call.SetCrtc 0 1 0 0 2 0
-
--- the device of the first script, with no client
-abbrev base_with : List (List ℕ) → Script
-base_with words = record { version = 1; topology = device; names = words; clients = [] }
 
 abbrev old_script : LegacyScript
 old_script = record {

@@ -8,4 +8,5 @@ pub mod Spelling
 pub mod WellFormed
 pub mod Schedules
 pub mod Generated
+pub mod Assigning
 pub mod Longer

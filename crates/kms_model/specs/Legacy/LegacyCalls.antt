@@ -39,18 +39,18 @@ abbrev pub is_number : ℕ → ℤ → Bool
 is_number prop z = is_among_row (property prop) (to.Num z)
 
 -- a number of a property
-unfoldable pub number_at : ℕ → List ℕ → Option (ℤ × List ℕ)
-number_at prop bytes = do
+unfoldable pub ranged_at : ℕ → List ℕ → Option (ℤ × List ℕ)
+ranged_at prop bytes = do
   z ← read_at int bytes
   if is_number prop z.0 then Some z else None
 
 -- four numbers of these properties, as a rectangle
 unfoldable pub rect_at : ℕ → ℕ → ℕ → ℕ → List ℕ → Option (Rect × List ℕ)
 rect_at left top width height bytes = do
-  x ← number_at left bytes
-  y ← number_at top x.1
-  w ← number_at width y.1
-  h ← number_at height w.1
+  x ← ranged_at left bytes
+  y ← ranged_at top x.1
+  w ← ranged_at width y.1
+  h ← ranged_at height w.1
   Some (record { x = x.0; y = y.0; w = w.0; h = h.0 }, h.1)
 
 abbrev pub destination_at : List ℕ → Option (Rect × List ℕ)
@@ -62,8 +62,8 @@ part_at bytes = rect_at SRC_X SRC_Y SRC_W SRC_H bytes
 -- the left and the upper edge of a destination, at the end of the line
 unfoldable pub corner_at : List ℕ → Option (ℤ × ℤ)
 corner_at bytes = do
-  x ← number_at CRTC_X bytes
-  y ← number_at CRTC_Y x.1
+  x ← ranged_at CRTC_X bytes
+  y ← ranged_at CRTC_Y x.1
   _ ← end_at y.1
   Some (x.0, y.0)
 
@@ -168,13 +168,13 @@ abbrev pub is_rect : ℕ → ℕ → ℕ → ℕ → Rect → Bool
 is_rect left top width height r = is_number left r.x && (is_number top r.y && (is_number width r.w && is_number height r.h))
 
 -- A call may stand in a script over a device: its objects are there, and its numbers are in their ranges.
-abbrev pub may_stand : Topology → LegacyCall → Bool
-may_stand t (call.SetCrtc crtc fb x y mode conn) = exists t Crtc crtc && (exists t Conn conn && (nat_le x 65535 && nat_le y 65535))
-may_stand t (call.CrtcOff crtc) = exists t Crtc crtc
-may_stand t (call.SetPlane plane crtc fb dst src) =
+abbrev pub call_may_stand : Topology → LegacyCall → Bool
+call_may_stand t (call.SetCrtc crtc fb x y mode conn) = exists t Crtc crtc && (exists t Conn conn && (nat_le x 65535 && nat_le y 65535))
+call_may_stand t (call.CrtcOff crtc) = exists t Crtc crtc
+call_may_stand t (call.SetPlane plane crtc fb dst src) =
     exists t Plane plane && (exists t Crtc crtc && (is_rect CRTC_X CRTC_Y CRTC_W CRTC_H dst && is_rect SRC_X SRC_Y SRC_W SRC_H src))
-may_stand t (call.PlaneOff plane) = exists t Plane plane
-may_stand t (call.PageFlip crtc fb event user) = exists t Crtc crtc
-may_stand t (call.Cursor crtc fb x y) = exists t Crtc crtc && (is_number CRTC_X x && is_number CRTC_Y y)
-may_stand t (call.CursorMove crtc x y) = exists t Crtc crtc && (is_number CRTC_X x && is_number CRTC_Y y)
-may_stand t (call.CursorOff crtc) = exists t Crtc crtc
+call_may_stand t (call.PlaneOff plane) = exists t Plane plane
+call_may_stand t (call.PageFlip crtc fb event user) = exists t Crtc crtc
+call_may_stand t (call.Cursor crtc fb x y) = exists t Crtc crtc && (is_number CRTC_X x && is_number CRTC_Y y)
+call_may_stand t (call.CursorMove crtc x y) = exists t Crtc crtc && (is_number CRTC_X x && is_number CRTC_Y y)
+call_may_stand t (call.CursorOff crtc) = exists t Crtc crtc

@@ -1,6 +1,6 @@
 -- What the user of older calls sees: a screen, which each accepted call changes in its own words, and that translated requests
--- show it.
-use Rattle.std.specs.Prelude.{◌≡◌, ◌<◌, ℕ, ◌==◌, Bool, true, false, ℤ, pos, List, [], ◌∷◌, option_map, Option, Some, None, if◌then◌else◌}
+-- show it. From: `drm_crtc.h`, struct drm_mode_set; that there is such a screen is this project's own.
+use Rattle.std.specs.Prelude.{◌≡◌, ◌<◌, ℕ, ◌==◌, Bool, true, false, ℤ, List, [], ◌∷◌, option_map, Option, Some, None, if◌then◌else◌}
 use Rattle.std.specs.List.{filter_map}
 use Rattle.kms_model.specs.declared.legacy.LegacyCall.{LegacyCall}
 use Rattle.kms_model.specs.declared.legacy.LegacyCall.TheVariants as call
@@ -18,11 +18,12 @@ use Rattle.kms_model.specs.declared.pictures.Rect.{Rect}
 use Rattle.kms_model.specs.declared.scripts.Command.{Command}
 use Rattle.kms_model.specs.declared.scripts.Script.{Script}
 use Rattle.kms_model.specs.declared.worlds.World.{World}
-use Rattle.kms_model.specs.Device.Objects.{object_id}
+use Rattle.kms_model.specs.Device.Objects.{indices_of, object_id}
 use Rattle.kms_model.specs.Device.World.{start}
 use Rattle.kms_model.specs.Frames.Pictures.{clip, mode_area, picture}
-use Rattle.kms_model.specs.Legacy.Translated.{after_line, fb_of_call, lone_commands, look_anew, meant, mode_of_call}
-use Rattle.kms_model.specs.Legacy.Translation.{cursor, in_fixed, indices_of, primary, special_plane}
+use Rattle.kms_model.specs.Legacy.LegacyLines.{SpellsLegacy}
+use Rattle.kms_model.specs.Legacy.Translated.{IsTranslated, after_line, fb_of_call, lone_commands, look_anew, meant, mode_of_call}
+use Rattle.kms_model.specs.Legacy.Translation.{cursor, fb_size, in_fixed, primary, sized_at, special_plane}
 use Rattle.kms_model.specs.Machine.Registers.{read}
 use Rattle.kms_model.specs.Script.Words.{◌>>=◌}
 
@@ -88,14 +89,7 @@ placed_part crtc dst src fb = option_map (λ info. record { crtc = crtc; fb = in
 
 -- a whole framebuffer at a place
 abbrev pub placed_whole : ℕ → ℤ → ℤ → Option FbInfo → Option Placed
-placed_whole crtc x y fb = do
-  info ← fb
-  Some (record {
-    crtc = crtc;
-    fb = info;
-    dst = record { x = x; y = y; w = pos info.width; h = pos info.height };
-    src = in_fixed 0 0 (info.width, info.height);
-  })
+placed_whole crtc x y fb = placed_part crtc (sized_at x y (fb_size fb)) (in_fixed 0 0 (fb_size fb)) fb
 
 -- another framebuffer, and nothing else
 abbrev pub flipped_to : Option FbInfo → Placed → Placed
@@ -185,3 +179,7 @@ ShowsAlong old new t w screen (c ∷ cs) lines =
 abbrev pub KeepsScreen : LegacyScript → Script → Type 0
 KeepsScreen s out =
     ShowsAlong s.base.names out.names s.base.topology (start s.base.topology) blank_screen s.commands (lone_commands out.clients)
+
+-- It does so for every script with older calls that bytes spell, and every script that says the same by requests.
+abbrev pub ScreenIsKept : Type 0
+ScreenIsKept = (s : LegacyScript) (out : Script) (bytes : List ℕ) → SpellsLegacy bytes s → IsTranslated s out → KeepsScreen s out

@@ -114,3 +114,7 @@ pub record IsTranslated (s : LegacyScript) (out : Script) : Type 0 where
   pub clients : out.clients ≡ clients_of s.client (lone_commands out.clients)
   pub lines : AreTranslated s.base.names out.names s.base.topology (start s.base.topology) s.commands (lone_commands out.clients)
   pub well_formed : IsWellFormed out
+
+-- There is at most one such script.
+abbrev pub OneTranslation : Type 0
+OneTranslation = (s : LegacyScript) (out other : Script) → IsTranslated s out → IsTranslated s other → out ≡ other

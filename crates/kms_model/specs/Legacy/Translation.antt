@@ -1,15 +1,15 @@
 -- What an older call asks for: an atomic request, by the device's values as they are before the call. From: `drm_crtc.c`,
--- drm_mode_setcrtc; `drm_plane.c`, drm_mode_setplane, drm_mode_page_flip_ioctl, drm_mode_cursor_common;
--- `drm_atomic_helper.c`, drm_atomic_helper_set_config, drm_atomic_helper_update_plane, drm_atomic_helper_disable_plane,
--- drm_atomic_helper_page_flip, by which drivers translate these calls too.
+-- drm_mode_setcrtc; `drm_plane.c`, drm_mode_setplane, drm_mode_page_flip_ioctl, drm_mode_cursor_common,
+-- drm_mode_cursor_universal; `drm_atomic_helper.c`, drm_atomic_helper_set_config, drm_atomic_helper_update_plane,
+-- drm_atomic_helper_disable_plane, drm_atomic_helper_page_flip, by which drivers translate these calls too; `drm_atomic.c`,
+-- __drm_atomic_helper_set_config, which sets the connectors in this order.
 use Rattle.std.specs.Prelude.{ℕ, zero, suc, ◌+◌, ◌*◌, ◌==◌, ◌&&◌, Bool, false, not, ℤ, pos, List, [], ◌∷◌, ◌++◌, filter, find, map, option_and_then, Option, Some, None, Result, Ok, Err, slice_get, if◌then◌else◌}
-use Rattle.std.specs.List.{cons_option, range_with_len}
+use Rattle.std.specs.List.{cons_option}
 use Rattle.std.specs.Option.{option_map_or}
 use Rattle.kms_model.specs.declared.flags.TheConstants.{PAGE_FLIP_EVENT, NONBLOCK, ALLOW_MODESET}
 use Rattle.kms_model.specs.declared.legacy.LegacyCall.{LegacyCall}
 use Rattle.kms_model.specs.declared.legacy.LegacyCall.TheVariants as call
 use Rattle.kms_model.specs.declared.legacy.TheConstants.LegacyRefusal.{NO_PLANE, NOT_SHOWN, FORMAT_CHANGES}
-use Rattle.kms_model.specs.declared.objects.Kind.{Kind}
 use Rattle.kms_model.specs.declared.objects.Kind.TheVariants.{Crtc, Plane, Conn}
 use Rattle.kms_model.specs.declared.objects.Mode.{Mode}
 use Rattle.kms_model.specs.declared.objects.Topology.{Topology}
@@ -18,15 +18,15 @@ use Rattle.kms_model.specs.declared.pictures.Rect.{Rect}
 use Rattle.kms_model.specs.declared.properties.TheConstants.{FB_ID, CRTC_ID, CRTC_X, CRTC_Y, CRTC_W, CRTC_H, SRC_X, SRC_Y, SRC_W, SRC_H, ACTIVE, MODE_ID}
 use Rattle.kms_model.specs.declared.scripts.Assign.{Assign}
 use Rattle.kms_model.specs.declared.scripts.Request.{Request}
-use Rattle.kms_model.specs.declared.scripts.Value.{Value}
 use Rattle.kms_model.specs.declared.scripts.Value.TheVariants as value
 use Rattle.kms_model.specs.declared.states.Duplicates.{Duplicates}
 use Rattle.kms_model.specs.declared.worlds.World.{World}
 use Rattle.kms_model.specs.Device.Masks.{has_bit}
-use Rattle.kms_model.specs.Device.Objects.{count_of, object_id}
+use Rattle.kms_model.specs.Device.Objects.{indices_of, object_id}
 use Rattle.kms_model.specs.Device.Places.{state_at}
 use Rattle.kms_model.specs.Device.States.{crtc_at, plane_at}
 use Rattle.kms_model.specs.Machine.Commits.{has_number}
+use Rattle.kms_model.specs.Script.Assigning.{plane_off, conn_off, crtc_off}
 use Rattle.kms_model.specs.Script.Generated.{assigns_to}
 use Rattle.kms_model.specs.Script.Grammar.{format_bit}
 
@@ -55,10 +55,6 @@ present_of d = record {
   plane_crtc = λ plane. option_map_or (λ both. both.old.crtc) (state_at d.planes plane) 0;
   plane_fb = λ plane. option_and_then (λ both. both.old.fb) (state_at d.planes plane);
 }
-
--- the indices of a device's objects of a kind, in order
-abbrev pub indices_of : Topology → Kind → List ℕ
-indices_of t kind = range_with_len 0 (count_of t kind)
 
 -- the connectors that are on a CRTC, by index
 abbrev pub conns_now : Topology → Present → ℕ → List ℕ
@@ -93,20 +89,12 @@ special_planes t type (suc crtc) =
     cons_option (least_plane t type lower crtc) lower
 
 -- The primary plane of a CRTC, or its cursor plane: the least of this type that may go on it and is not that of a lower
--- CRTC. From: `drm_crtc.h`, struct drm_crtc, `primary` and `cursor`; which plane it is, is this project's own.
+-- CRTC. From: `drm_crtc.h`, struct drm_crtc, `primary` and `cursor`; `drm_crtc.c`, drm_crtc_init_with_planes, which is given
+-- both; which plane it is, is this project's own.
 abbrev pub special_plane : Topology → ℕ → ℕ → Option ℕ
 special_plane t type crtc = least_plane t type (special_planes t type crtc) crtc
 
 -- Assignments
-
-abbrev pub nothing : Value
-nothing = value.Num (pos 0)
-
-abbrev pub conn_off : ℕ → Assign
-conn_off conn = assigns_to Conn conn CRTC_ID nothing
-
-abbrev pub plane_off : ℕ → List Assign
-plane_off plane = assigns_to Plane plane FB_ID nothing ∷ assigns_to Plane plane CRTC_ID nothing ∷ []
 
 -- a plane shows a part of a framebuffer at a place of a CRTC
 abbrev pub plane_on : ℕ → ℕ → ℕ → Rect → Rect → List Assign
@@ -129,10 +117,6 @@ crtc_on crtc mode conn on_it =
     assigns_to Crtc crtc ACTIVE (value.Num (pos 1))
     ∷ assigns_to Crtc crtc MODE_ID (value.Named mode)
     ∷ (map conn_off (others conn on_it) ++ assigns_to Conn conn CRTC_ID (value.Crtc crtc) ∷ [])
-
--- a CRTC is off, without a mode and without the connectors that are on it now
-abbrev pub crtc_off : ℕ → List ℕ → List Assign
-crtc_off crtc on_it = assigns_to Crtc crtc ACTIVE nothing ∷ assigns_to Crtc crtc MODE_ID nothing ∷ map conn_off on_it
 
 -- Sizes in pixels
 
@@ -184,7 +168,7 @@ call_request t now mode fb (call.SetCrtc crtc label x y mode_label conn) = with_
     asks ALLOW_MODESET 0
     (crtc_on crtc mode_label conn (conns_now t now crtc) ++ plane_on plane crtc label (sized_at (pos 0) (pos 0) size) (in_fixed x y size)))
 call_request t now mode fb (call.CrtcOff crtc) = with_plane (special_plane t primary crtc) (λ plane.
-    asks ALLOW_MODESET 0 (crtc_off crtc (conns_now t now crtc) ++ plane_off plane))
+    asks ALLOW_MODESET 0 (crtc_off crtc ++ (map conn_off (conns_now t now crtc) ++ plane_off plane)))
 call_request t now mode fb (call.SetPlane plane crtc label dst src) = asks 0 0 (plane_on plane crtc label dst src)
 call_request t now mode fb (call.PlaneOff plane) = asks 0 0 (plane_off plane)
 call_request t now mode fb (call.PageFlip crtc label event user) = with_plane (special_plane t primary crtc) (λ plane.

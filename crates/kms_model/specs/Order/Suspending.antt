@@ -1,9 +1,9 @@
 -- The two requests that turn a device off and bring it back. From: `drm_modeset_helper.c`, drm_mode_config_helper_suspend,
--- drm_mode_config_helper_resume; `drm_atomic_helper.c`, drm_atomic_helper_disable_all, drm_atomic_helper_duplicate_state,
--- drm_atomic_helper_commit_duplicated_state. That both are a client's requests, which name framebuffers and modes by labels, and the
--- order of their assignments are this device's own.
+-- drm_mode_config_helper_resume; `drm_atomic_helper.c`, drm_atomic_helper_suspend, which duplicates the states before it turns all
+-- off, drm_atomic_helper_disable_all, drm_atomic_helper_resume, drm_atomic_helper_commit_duplicated_state. That both are a client's
+-- requests, which name framebuffers and modes by labels, and the order of their assignments are this device's own.
 use Rattle.std.specs.Prelude.{ℕ, Bool, not, ◌&&◌, ◌==◌, pos, List, [], ◌∷◌, ◌++◌, map, filter, find, is_some, is_none, unwrap_or, Option, Some, None, if◌then◌else◌}
-use Rattle.std.specs.List.{flat_map, range_with_len}
+use Rattle.std.specs.List.{flat_map}
 use Rattle.std.specs.Option.{option_and_then}
 use Rattle.kms_model.specs.declared.flags.TheConstants.{ALLOW_MODESET}
 use Rattle.kms_model.specs.declared.objects.Kind.{Kind}
@@ -19,12 +19,13 @@ use Rattle.kms_model.specs.declared.worlds.Thing.{Thing}
 use Rattle.kms_model.specs.declared.worlds.World.{World}
 use Rattle.kms_model.specs.Firsts.{or_else}
 use Rattle.kms_model.specs.Device.Modes.{same_mode}
-use Rattle.kms_model.specs.Device.Objects.{object_id, index_of, count_of, ids_of}
+use Rattle.kms_model.specs.Device.Objects.{object_id, index_of, indices_of, ids_of}
 use Rattle.kms_model.specs.Device.States.{mode_at, crtc_at, plane_at}
 use Rattle.kms_model.specs.Device.World.{value, thing_with_id}
 use Rattle.kms_model.specs.Request.Lookups.{look_of}
 use Rattle.kms_model.specs.Request.Sets.{mode_of_look}
 use Rattle.kms_model.specs.Machine.Histories.{label_of_thing}
+use Rattle.kms_model.specs.Script.Assigning.{plane_off, conn_off, crtc_off}
 use Rattle.kms_model.specs.Script.Generated.{assigns_to}
 
 -- What is turned off
@@ -39,24 +40,11 @@ has_mode_at w crtc = is_some (mode_at w.things w.values crtc)
 
 -- the indices of the objects of a kind that pass a test, in order
 abbrev pub indices_where : Topology → Kind → (ℕ → Bool) → List ℕ
-indices_where t kind test = filter (λ index. test (object_id kind index)) (range_with_len 0 (count_of t kind))
+indices_where t kind test = filter (λ index. test (object_id kind index)) (indices_of t kind)
 
 -- assignments with leave for a modeset and no user data
 abbrev pub modeset : List Assign → Request
 modeset assigns = record { flags = ALLOW_MODESET; user_data = 0; assigns = assigns }
-
--- no framebuffer, no mode, no CRTC, not active
-abbrev pub unset : Value
-unset = Num (pos 0)
-
-abbrev pub plane_off : ℕ → List Assign
-plane_off index = assigns_to kind.Plane index FB_ID unset ∷ assigns_to kind.Plane index CRTC_ID unset ∷ []
-
-abbrev pub conn_off : ℕ → Assign
-conn_off index = assigns_to kind.Conn index CRTC_ID unset
-
-abbrev pub crtc_off : ℕ → List Assign
-crtc_off index = assigns_to kind.Crtc index ACTIVE unset ∷ assigns_to kind.Crtc index MODE_ID unset ∷ []
 
 -- The request that turns a device off: planes and connectors leave their CRTCs, and CRTCs lose their modes. Sizes, alpha, zpos and
 -- tables of colour values stay.
@@ -82,7 +70,7 @@ open_label things id = label_if_open (thing_with_id things id)
 abbrev pub names_mode : Mode → Thing → Bool
 names_mode m thing = same_mode (mode_of_look (look_of (Some thing))) (Some m)
 
--- the label of the open blob of least id that holds a mode
+-- the label of the open blob of least id that holds a mode: things are in order of id
 unfoldable pub open_mode_label : List Thing → Mode → Option ℕ
 open_mode_label things m = label_of_thing (find (names_mode m) things)
 

@@ -28,7 +28,7 @@ commands_of_last [] = []
 commands_of_last (commands ∷ []) = commands
 commands_of_last (commands ∷ next ∷ clients) = commands_of_last (next ∷ clients)
 
--- two more fit where the last client has at most so many commands
+-- the most commands of a client for this word, so that two more fit behind the last client's
 abbrev pub most_before_two : ℕ
 most_before_two = 4094
 
