@@ -77,7 +77,7 @@ pub enum LegacyCall {
         /// The upper edge, in the range of `x`.
         y: i64,
     },
-    /// Moves a CRTC's cursor plane. (`DRM_MODE_CURSOR_MOVE`.)
+    /// Moves a CRTC's cursor plane. (Header: `drm_mode.h`, `DRM_MODE_CURSOR_MOVE`.)
     CursorMove {
         /// The CRTC.
         crtc: u32,
@@ -86,7 +86,7 @@ pub enum LegacyCall {
         /// The upper edge, in the range of `x`.
         y: i64,
     },
-    /// Takes a CRTC's cursor plane away.
+    /// Takes a CRTC's cursor plane away. (`drm_mode_cursor_universal`, with no framebuffer.)
     CursorOff {
         /// The CRTC.
         crtc: u32,
@@ -113,7 +113,7 @@ pub struct LegacyScript {
     pub commands: Seq<LegacyCommand>,
 }
 
-/// The number of a call that is refused before it is translated: 43, 41 or 42, which are tried in this order. No reply
+/// The number of the rule that refuses a call before it is translated: 43, 41 or 42, which are tried in this order. No reply
 /// tells it, since the call then leaves no request.
 #[derive(Clone, Copy, PartialEq, Eq)]
 pub struct LegacyRefusal(pub u32);
@@ -139,7 +139,7 @@ const LEGACY_RULES: [Rule; LEGACY_RULE_COUNT] = [
         number: 43,
         name: "NO_PLANE",
         errno: "EINVAL",
-        rule: "the CRTC has no primary plane, or no cursor plane, and the call needs it",
+        rule: "the call needs the CRTC's primary plane or its cursor plane, and there is none",
         source: "own",
     },
     Rule {
