@@ -10,16 +10,20 @@ use Rattle.kms_model.specs.declared.objects.Format.TheVariants.{Xr24, Rg16}
 use Rattle.kms_model.specs.declared.objects.Kind.TheVariants as kind
 use Rattle.kms_model.specs.declared.objects.Topology.{Topology}
 use Rattle.kms_model.specs.declared.pictures.FbInfo.{FbInfo}
+use Rattle.kms_model.specs.declared.pictures.Rect.{Rect}
 use Rattle.kms_model.specs.declared.properties.TheConstants.{FB_ID, CRTC_ID, CRTC_X, CRTC_Y, CRTC_W, CRTC_H, SRC_X, SRC_Y, SRC_W, SRC_H, ACTIVE, MODE_ID}
+use Rattle.kms_model.specs.declared.scripts.Assign.{Assign}
 use Rattle.kms_model.specs.declared.scripts.Request.{Request}
 use Rattle.kms_model.specs.declared.scripts.Script.{Script}
 use Rattle.kms_model.specs.declared.scripts.Value.TheVariants as value
-use Rattle.kms_model.specs.declared.scripts.Why.TheVariants.{Form, Label}
+use Rattle.kms_model.specs.declared.scripts.Why.TheVariants.{Bytes, Cut, Form, Label}
 use Rattle.kms_model.specs.declared.scripts.Why.{Why}
+use Rattle.kms_model.specs.declared.states.Duplicates.{Duplicates}
+use Rattle.kms_model.specs.declared.states.PlaneState.{PlaneState}
 use Rattle.kms_model.specs.Device.World.{start}
 use Rattle.kms_model.specs.Legacy.LegacyLines.{legacy_input}
 use Rattle.kms_model.specs.Legacy.Translated.{translated}
-use Rattle.kms_model.specs.Legacy.Translation.{Present, call_request, cursor, primary, special_plane}
+use Rattle.kms_model.specs.Legacy.Translation.{Present, call_request, cursor, present_of, primary, special_plane}
 use Rattle.kms_model.specs.Script.InputLines.{Fault}
 use Rattle.kms_model.proofs.OnLegacy.{on_legacy}
 use Rattle.kms_model.proofs.Rows.{device, head}
@@ -59,6 +63,25 @@ one_plane_of_two = record planes_of_two { planes = record { kind = 1; crtcs = 3;
 pub second_crtc_has_no_plane : special_plane one_plane_of_two primary 1 ≡ None
 unfolding on_legacy
 second_crtc_has_no_plane = refl
+
+-- The second of three CRTCs has no primary plane, and the third has the one that none of the lower ones has.
+abbrev planes_of_three : Topology
+planes_of_three = record {
+  profile = 1;
+  crtcs = 3;
+  planes =
+      record { kind = 1; crtcs = 7; formats = 1 }
+      ∷ record { kind = 2; crtcs = 7; formats = 1 }
+      ∷ record { kind = 1; crtcs = 5; formats = 1 }
+      ∷ [];
+  conns = 1 ∷ [];
+}
+
+pub third_crtc_has_none_of_the_lower_ones :
+    map (λ type. map (special_plane planes_of_three type) (0 ∷ 1 ∷ 2 ∷ [])) (primary ∷ cursor ∷ [])
+    ≡ (Some 0 ∷ None ∷ Some 2 ∷ []) ∷ (Some 1 ∷ None ∷ None ∷ []) ∷ []
+unfolding on_legacy
+third_crtc_has_none_of_the_lower_ones = refl
 
 pub no_cursor_plane_is_refused : translated [] [] device (start device) (call.CursorMove 0 (pos 1) (pos 1)) ≡ Err NO_PLANE.0
 unfolding on_legacy
@@ -135,6 +158,57 @@ pub whole_framebuffer_is_the_cursor : call_request planes_of_two now None (Some 
 unfolding on_legacy
 whole_framebuffer_is_the_cursor = refl
 
+-- with no leave for a modeset and no user data
+abbrev asks_for : List Assign → Result Request ℕ
+asks_for assigns = Ok (record { flags = 0; user_data = 0; assigns = assigns })
+
+pub planes_are_put_moved_and_taken_away : map (call_request planes_of_two now None (Some shown_fb)) (
+    call.SetPlane 0 1 8 (record { x = negsuc 0; y = pos 2; w = pos 3; h = pos 4 }) (record { x = pos 5; y = pos 6; w = pos 7; h = pos 9 })
+    ∷ call.PlaneOff 0
+    ∷ call.CursorMove 1 (negsuc 4) (pos 6)
+    ∷ call.CursorOff 1
+    ∷ [])
+    ≡ asks_for (
+        sets kind.Plane 0 FB_ID (value.Named 8)
+        ∷ sets kind.Plane 0 CRTC_ID (value.Crtc 1)
+        ∷ sets kind.Plane 0 CRTC_X (value.Num (negsuc 0))
+        ∷ sets kind.Plane 0 CRTC_Y (number 2)
+        ∷ sets kind.Plane 0 CRTC_W (number 3)
+        ∷ sets kind.Plane 0 CRTC_H (number 4)
+        ∷ sets kind.Plane 0 SRC_X (number 5)
+        ∷ sets kind.Plane 0 SRC_Y (number 6)
+        ∷ sets kind.Plane 0 SRC_W (number 7)
+        ∷ sets kind.Plane 0 SRC_H (number 9)
+        ∷ [])
+    ∷ asks_for (sets kind.Plane 0 FB_ID (number 0) ∷ sets kind.Plane 0 CRTC_ID (number 0) ∷ [])
+    ∷ asks_for (sets kind.Plane 2 CRTC_X (value.Num (negsuc 4)) ∷ sets kind.Plane 2 CRTC_Y (number 6) ∷ [])
+    ∷ asks_for (sets kind.Plane 2 FB_ID (number 0) ∷ sets kind.Plane 2 CRTC_ID (number 0) ∷ [])
+    ∷ []
+unfolding on_legacy
+planes_are_put_moved_and_taken_away = refl
+
+-- duplicated states of which a request has taken everything off its CRTC
+abbrev nowhere : Rect
+nowhere = record { x = pos 0; y = pos 0; w = pos 0; h = pos 0 }
+
+abbrev plane_on_second : PlaneState
+plane_on_second = record { fb = Some shown_fb; crtc = 101; dst = nowhere; src = nowhere; alpha = 65535; blend = 0; zpos = 0 }
+
+abbrev taken_off : Duplicates
+taken_off = record {
+  crtcs = [];
+  planes = Some (record { old = plane_on_second; new = record plane_on_second { fb = None; crtc = 0 } }) ∷ [];
+  conns = Some (record { old = record { crtc = 100 }; new = record { crtc = 0 } }) ∷ [];
+}
+
+abbrev read_at : Present → ℕ → ℕ × (ℕ × Option FbInfo)
+read_at p index = (p.conn_crtc index, (p.plane_crtc index, p.plane_fb index))
+
+pub states_are_read_as_they_were : map (read_at (present_of taken_off)) (0 ∷ 1 ∷ [])
+    ≡ (100, (101, Some shown_fb)) ∷ (0, (0, None)) ∷ []
+unfolding on_legacy
+states_are_read_as_they_were = refl
+
 -- A plane that the first CRTC shows is not shown on the second, which is told before the format. A framebuffer that is not
 -- there changes no format.
 abbrev flip_to : Option FbInfo → ℕ → Result Request ℕ
@@ -197,9 +271,17 @@ pub formless_lines_are_faults : map (λ line. legacy_input (behind_client line))
 unfolding on_legacy
 formless_lines_are_faults = refl
 
--- a call before the client, the device without a client, and a label that is made twice
-pub other_faults_are_those_of_scripts : map legacy_input ((head ++ codes "setcrtc 0 off\nclient\n") ∷ codes "kms 1\ncrtcs 1\nplane primary 0 XR24\n" ∷ (head ++ codes "client\nfence f\npageflip 0 @f 0x0 0\nfence f\n") ∷ [])
-    ≡ fault_at 5 Form ∷ fault_at 4 Form ∷ fault_at 8 Label ∷ []
+-- a call before the client, the device without a connector, and a label that is made twice; a line without its end, and a tab,
+-- also in such a line
+pub other_faults_are_those_of_scripts : map legacy_input (
+    (head ++ codes "setcrtc 0 off\nclient\n")
+    ∷ codes "kms 1\ncrtcs 1\nplane primary 0 XR24\n"
+    ∷ (head ++ codes "client\nfence f\npageflip 0 @f 0x0 0\nfence f\n")
+    ∷ (head ++ codes "client\nsetcrtc 0 off")
+    ∷ (head ++ codes "client\nsetcrtc 0 off" ++ 9 ∷ 10 ∷ [])
+    ∷ (head ++ codes "client\nsetcrtc" ++ 9 ∷ codes "0 off")
+    ∷ [])
+    ≡ fault_at 5 Form ∷ fault_at 4 Form ∷ fault_at 8 Label ∷ fault_at 6 Cut ∷ fault_at 6 Bytes ∷ fault_at 6 Bytes ∷ []
 unfolding on_legacy
 other_faults_are_those_of_scripts = refl
 

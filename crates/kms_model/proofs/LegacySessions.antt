@@ -51,19 +51,19 @@ use Rattle.kms_model.proofs.VerdictRows.{number, refused, sets}
 
 -- A flip before the CRTC is lit, what lights it, and a flip behind that
 
-abbrev names : List (List ℕ)
+abbrev pub names : List (List ℕ)
 names = codes "b" ∷ codes "f" ∷ codes "m" ∷ []
 
-abbrev making : List Command
+abbrev pub making : List Command
 making = command.Buffer 0 1 1 Xr24 (Solid 0x00616263) ∷ command.AddFb 1 0 ∷ command.Mode 2 named_tiny ∷ []
 
 abbrev flips : LegacyCall
 flips = call.PageFlip 0 1 true 7
 
-abbrev lights : LegacyCall
+abbrev pub lights : LegacyCall
 lights = call.SetCrtc 0 1 0 0 2 0
 
-abbrev old_script : LegacyScript
+abbrev pub old_script : LegacyScript
 old_script = record {
   base = base_with names;
   client = true;
@@ -91,7 +91,7 @@ lit =
     ∷ sets kind.Plane 0 SRC_H (number 65536)
     ∷ []
 
-abbrev new_script : Script
+abbrev pub new_script : Script
 new_script = record {
   version = 1;
   topology = device;
@@ -113,7 +113,7 @@ pub its_lines_are_translated : AreTranslated names names device (start device) o
 unfolding on_legacy
 its_lines_are_translated = (refl, (refl, (refl, (tt, (refl, (refl, refl))))))
 
-abbrev executed : World → List Command → World
+abbrev pub executed : World → List Command → World
 executed w [] = w
 executed w (c ∷ cs) = executed (execute device w 1 c).world cs
 
@@ -212,9 +212,10 @@ abbrev session_head : List ℕ
 session_head = codes "kms 1\ncrtcs 2\nplane primary 0,1 XR24\nplane primary 0,1 XR24,RG16\nplane cursor 0,1 XR24\nplane overlay 0,1 XR24\nconn 0,1\nconn 0,1\nclient\nbuffer a 1 1 XR24 ramp\naddfb f a\nbuffer b 2 2 XR24 ramp\naddfb g b\nbuffer c 1 1 RG16 ramp\naddfb h c\nmode m 1 1 1 1 1 0 1 1 1 1 0 60 0 0 one\nmode n 1 2 2 2 2 0 2 2 2 2 0 60 0 0 four\n"
 
 -- The connector of the first CRTC is not given to the second, a shown plane does not go straight to another CRTC, and a CRTC
--- with a plane does not go off.
+-- with a plane does not go off. What is shown has its format also where it was closed; a closed framebuffer has none, and its flip
+-- leaves a line.
 abbrev both_lit : List ℕ
-both_lit = codes "pageflip 0 @g 0x0 1\nsetcrtc 0 @g 0 0 @n 0\nsetcrtc 1 @g 1 1 @m 0\nsetcrtc 1 @g 1 1 @m 1\ncursor 0 @f 1 1\ncursor 1 @f 0 0\ncursor 0 move -1 1\nsetplane 3 1 @f 0 0 1 1 0 0 65536 65536\nsetplane 3 0 @f 0 0 1 1 0 0 65536 65536\npageflip 1 @h 0x0 1\npageflip 1 @f 0x0 1\npageflip 0 @g 0x1 3\nclosefb g\nsetcrtc 1 off\n"
+both_lit = codes "pageflip 0 @g 0x0 1\nsetcrtc 0 @g 0 0 @n 0\nsetcrtc 1 @g 1 0 @m 0\nsetcrtc 1 @g 1 0 @m 1\ncursor 0 @f 1 0\ncursor 1 @f 0 0\ncursor 0 move -1 1\nsetplane 3 1 @f 0 0 1 1 0 0 65536 65536\nsetplane 3 0 @f 0 0 1 1 0 0 65536 65536\npageflip 1 @h 0x0 1\npageflip 1 @f 0x0 1\npageflip 0 @g 0x1 3\nclosefb g\npageflip 0 @h 0x0 0\nclosefb h\npageflip 0 @h 0x0 0\nsetcrtc 1 off\n"
 
 -- The second CRTC goes off, and its primary plane is shown on the first, from where `setcrtc 1 off` takes it.
 abbrev one_after_the_other_off : List ℕ
@@ -276,6 +277,9 @@ pub session_is_answered : drop 8 (told_along session_names (device_in session) s
     ∷ Ok (refused refusal.SOURCE_OUTSIDE_FRAMEBUFFER)
     ∷ Ok (reply.Commit 5)
     ∷ Ok reply.Done
+    ∷ Err FORMAT_CHANGES.0
+    ∷ Ok reply.Done
+    ∷ Ok (refused refusal.INVALID_VALUE)
     ∷ Ok (refused refusal.CRTC_NOT_ENABLED)
     ∷ Ok (reply.Commit 6)
     ∷ Ok (reply.Commit 7)

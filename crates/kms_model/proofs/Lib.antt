@@ -17,6 +17,7 @@ pub mod JournalLemmas
 pub mod KindsOfIds
 pub mod LastLemmas
 pub mod LateLemmas
+pub mod LegacyLimits
 pub mod LegacyRows
 pub mod LegacySessions
 pub mod MachineInputs
@@ -59,5 +60,6 @@ pub mod ThingLemmas
 pub mod TouchedLemmas
 pub mod UnionLemmas
 pub mod ValueLemmas
+pub mod TranslatedRows
 pub mod VerdictRows
 pub mod WordBytes

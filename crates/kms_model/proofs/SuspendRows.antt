@@ -1,6 +1,6 @@
 -- Worked examples of the requests that turn a device off and bring it back, computed; what cannot be brought back; false neighbours.
 use Rattle.std.proofs.Common.{◌≡◌, ℕ, false, List, [], ◌∷◌, ◌++◌, map, length, refl, codes, replicate, Option, Some, None, Ok}
-use Rattle.std.specs.Prelude.{reverse}
+use Rattle.std.specs.Prelude.{reverse, ◌+◌}
 use Rattle.std.specs.List.{flat_map, range_with_len}
 use Rattle.std.specs.Str.{bytes_eq}
 use Rattle.kms_model.specs.declared.flags.TheConstants.{ALLOW_MODESET}
@@ -17,11 +17,12 @@ use Rattle.kms_model.specs.declared.worlds.World.{World}
 use Rattle.kms_model.specs.Device.ModeBytes.{mode_bytes}
 use Rattle.kms_model.specs.Device.Modes.{plain_mode}
 use Rattle.kms_model.specs.Device.Serial.{Entry, serial}
+use Rattle.kms_model.specs.Device.World.{start}
 use Rattle.kms_model.specs.Order.Suspending.{closed_object, conn_back, crtc_back, has_crtc_at, has_mode_at, indices_where, modeset, off_request, on_request, open_mode_label, plane_back}
 use Rattle.kms_model.specs.Report.TextLines.{line}
 use Rattle.kms_model.specs.Request.Apply.{after}
 use Rattle.kms_model.specs.Script.Generated.{generated, generated_device}
-use Rattle.kms_model.specs.Script.Longer.{commands_of_last, extended, with_commands}
+use Rattle.kms_model.specs.Script.Longer.{commands_of_last, extended, most_before_two, with_commands}
 use Rattle.kms_model.specs.Script.Spelling.{command_words, spelling}
 use Rattle.kms_model.specs.Script.WholeInput.{input}
 use Rattle.kms_model.proofs.OneThread.{replies}
@@ -114,6 +115,29 @@ pub dark_crtc_stays_dark : on_request device (world_of dark) ≡ modeset (
     ∷ [])
 unfolding on_suspending
 dark_crtc_stays_dark = refl
+
+-- its plane, which is on no CRTC, is not set
+pub dark_crtc_is_turned_off : off_request device (world_of dark) ≡ modeset (
+    sets kind.Conn 0 CRTC_ID (number 0)
+    ∷ sets kind.Crtc 0 ACTIVE (number 0)
+    ∷ sets kind.Crtc 0 MODE_ID (number 0)
+    ∷ [])
+unfolding on_suspending
+dark_crtc_is_turned_off = refl
+
+-- a device of which nothing is on a CRTC and no CRTC has a mode
+pub dark_device_sets_nothing : off_request device (start device) ∷ on_request device (start device) ∷ [] ≡ modeset [] ∷ modeset [] ∷ []
+unfolding on_suspending
+dark_device_sets_nothing = refl
+
+-- what shows nothing lacks nothing
+pub dark_things_are_not_told : map (closed_object device) (start device ∷ world_of dark ∷ []) ≡ None ∷ None ∷ []
+unfolding on_suspending
+dark_things_are_not_told = refl
+
+-- a client may have 4096 commands
+pub two_more_fit : most_before_two + 2 ≡ 4096
+two_more_fit = refl
 
 -- two clients that light a CRTC each, with equal modes in blobs of their own
 abbrev both_lit : World
