@@ -42,7 +42,7 @@ use Rattle.kms_model.specs.Script.InputLines.{Fault}
 use Rattle.kms_model.specs.Script.Spelling.{spelling}
 use Rattle.kms_model.specs.Script.WholeInput.{input}
 use Rattle.kms_model.proofs.OnLegacy.{on_legacy}
-use Rattle.kms_model.proofs.Rows.{device, head, made, mode_made, named_tiny, pixel_made}
+use Rattle.kms_model.proofs.Rows.{device, head, mode_made, named_tiny, pixel_made}
 use Rattle.kms_model.proofs.TranslatedRows.{flips, lights, names, new_script, old_script}
 use Rattle.kms_model.proofs.VerdictRows.{refused, sets}
 

@@ -2,7 +2,7 @@
 -- drm_mode_config_helper_resume; `drm_atomic_helper.c`, drm_atomic_helper_suspend, which duplicates the states before it turns all
 -- off, drm_atomic_helper_disable_all, drm_atomic_helper_resume, drm_atomic_helper_commit_duplicated_state. That both are a client's
 -- requests, which name framebuffers and modes by labels, and the order of their assignments are this device's own.
-use Rattle.std.specs.Prelude.{ℕ, Bool, not, ◌&&◌, ◌==◌, pos, List, [], ◌∷◌, ◌++◌, map, filter, find, is_some, is_none, unwrap_or, Option, Some, None, if◌then◌else◌}
+use Rattle.std.specs.Prelude.{ℕ, Bool, not, ◌&&◌, ◌==◌, List, [], ◌∷◌, ◌++◌, map, filter, find, is_some, is_none, unwrap_or, Option, Some, None, if◌then◌else◌}
 use Rattle.std.specs.List.{flat_map}
 use Rattle.std.specs.Option.{option_and_then}
 use Rattle.kms_model.specs.declared.flags.TheConstants.{ALLOW_MODESET}
