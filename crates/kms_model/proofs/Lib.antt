@@ -58,8 +58,8 @@ pub mod SuspendRows
 pub mod TableLemmas
 pub mod ThingLemmas
 pub mod TouchedLemmas
+pub mod TranslatedRows
 pub mod UnionLemmas
 pub mod ValueLemmas
-pub mod TranslatedRows
 pub mod VerdictRows
 pub mod WordBytes
