@@ -12,6 +12,7 @@ use Rattle.kms_model.specs.declared.scripts.Pattern.TheVariants.{Solid}
 use Rattle.kms_model.specs.declared.scripts.Script.{Script}
 use Rattle.kms_model.specs.declared.scripts.Value.TheVariants as value
 use Rattle.kms_model.specs.Report.Right.{LatchLine, event_is_right, has_a_line, latch_is_right, uses_a_line, wrong_line}
+use Rattle.kms_model.specs.Report.RightAnswers.{first_off}
 use Rattle.kms_model.proofs.AuditRows.{lit, script_of}
 use Rattle.kms_model.proofs.AuditAnswerRows.{lit_and_put_off, lit_report}
 use Rattle.kms_model.proofs.OnAudits.{on_audits}
@@ -44,6 +45,21 @@ pub first_that_is_left_is_used :
     map (λ n. uses_a_line lit_and_put_off lit_report (take n read_events) (1, event 7 1 100)) (0 ∷ 1 ∷ 2 ∷ []) ≡ true ∷ true ∷ false ∷ []
 unfolding on_audits
 first_that_is_left_is_used = refl
+
+-- events of two counts by turns, and L lines for three of them: both rules leave out the fourth
+abbrev by_turns : List (ℕ × Event)
+by_turns = (1, event 7 2 100) ∷ (1, event 7 1 100) ∷ (1, event 7 2 100) ∷ (1, event 7 1 100) ∷ []
+
+abbrev turning : Report
+turning = record lit_report { latches = (0, 0, 2, None) ∷ (0, 1, 1, None) ∷ (0, 0, 4294967298, None) ∷ [] }
+
+pub fourth_has_no_line : first_off (has_a_line lit_and_put_off turning) [] by_turns ≡ Some 3
+unfolding on_audits
+fourth_has_no_line = refl
+
+pub fourth_uses_no_line : first_off (uses_a_line lit_and_put_off turning) [] by_turns ≡ Some 3
+unfolding on_audits
+fourth_uses_no_line = refl
 
 -- no L line fits other data, another sequence, another CRTC or another client
 abbrev other_events : List (ℕ × Event)
