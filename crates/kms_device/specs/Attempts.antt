@@ -301,6 +301,7 @@ pub record Committed (script : Script) (client : ℕ) (reply : Reply) (before af
   pub records : IsLastReply (machine (run_seen script after)) client (place_at (machine (run_seen script before)) client).command reply
   -- each attempt does what `attempt` promises, and so does the last
   pub attempts : List Made
+  -- the pass and what was kept before the last one
   pub until : DevicePass
   pub kept : Attempt
   pub are_attempts : AreAttempts script client before attempts until kept
@@ -313,6 +314,7 @@ pub record BrokenOff (script : Script) (client : ℕ) (before after : DevicePass
   pub again : StaysAt (run_seen script before) (run_seen script after) client
   -- attempts, and no step behind them
   pub attempts : List Made
+  -- the pass and what was kept behind them
   pub until : DevicePass
   pub kept : Attempt
   pub are_attempts : AreAttempts script client before attempts until kept

@@ -17,7 +17,7 @@ LatchesCanBeShown = InEachHistory (λ s h. All (λ l. EachCanBeShown (at s h).de
 abbrev pub EventsAreTold : Type 0
 EventsAreTold = InEachHistory (λ s h. (client : ℕ) → read_by (at s h) client ≡ events_told client (replies (at s h)))
 
--- replies whose commands are numbered on from one, and whose places do not fall
+-- replies whose commands are numbered on from a number, and whose places do not fall
 abbrev pub AreInOrder : ℕ → ℕ → List Answered → Type 0
 AreInOrder command least [] = ⊤
 AreInOrder command least (a ∷ later) = (a.command ≡ command) × ((least ≤ a.place) × AreInOrder (command + 1) a.place later)

@@ -1,5 +1,4 @@
-//! What happens once: a script makes each label once, and a client has one answer to each of its commands. The facts are
-//! proved over the definitions alone.
+//! What happens once: a script makes each label once. It is proved over the definitions alone.
 ghost use Rattle.kms_laws.specs.Once.{MakesLabelsOnce};
 
 /// Two commands of a well-formed script that make the same label are one: no text that makes a label twice is a script.

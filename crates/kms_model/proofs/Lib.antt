@@ -1,5 +1,7 @@
 pub mod AppliedValues
 pub mod ApplyLemmas
+pub mod AuditAnswerRows
+pub mod AuditLatchRows
 pub mod AuditRows
 pub mod CommitFacts
 pub mod CrtcLemmas

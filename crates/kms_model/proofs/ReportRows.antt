@@ -34,7 +34,7 @@ digest = 0x00 ∷ 0xff ∷ replicate 29 0 ++ 0xa9 ∷ []
 abbrev pub event : ℕ → ℕ → ℕ → Event
 event user_data sequence crtc = record { user_data = user_data; sequence = sequence; crtc = crtc }
 
--- what it says: no object has so high an index, and its id is 0
+-- what it says, with an id for the object that no device has: 0 where it was read
 abbrev every_value : ℕ → Report
 every_value far = record {
   journal = (1, 1) ∷ (16, 4294967295) ∷ [];
@@ -114,6 +114,31 @@ outsides =
     ∷ outside (codes "L 0 0 1 000000000000000000000000000000000000000000000000000000000000000\nD drained\n") 1
     -- stalled without a label
     ∷ outside (codes "D stalled\n") 1
+    -- word too many, and one too few
+    ∷ outside (codes "R 1 1 0 done 1\nD drained\n") 1
+    ∷ outside (codes "L 0 0 1 off 1\nD drained\n") 1
+    ∷ outside (codes "D drained 0\n") 1
+    ∷ outside (codes "R 1 1 0 made\nD drained\n") 1
+    ∷ outside (codes "D open\n") 1
+    -- numbers beside those of refusals
+    ∷ outside (codes "R 1 1 0 EINVAL 0\nD drained\n") 1
+    ∷ outside (codes "R 1 1 0 EINVAL 30\nD drained\n") 1
+    ∷ outside (codes "R 1 1 0 EINVAL 36\nD drained\n") 1
+    -- two digits too many
+    ∷ outside (codes "L 0 0 1 000000000000000000000000000000000000000000000000000000000000000000\nD drained\n") 1
+    -- label that begins with a digit
+    ∷ outside (codes "X 1f 1001\nD drained\n") 1
+    -- other fields that are too wide
+    ∷ outside (codes "X f 4294967296\nD drained\n") 1
+    ∷ outside (codes "R 1 1 4294967296 done\nD drained\n") 1
+    ∷ outside (codes "E 1 1 4294967296 100\nD drained\n") 1
+    ∷ outside (codes "E 1 18446744073709551616 1 100\nD drained\n") 1
+    ∷ outside (codes "D open 18446744073709551616\n") 1
+    -- no letter, and another one
+    ∷ outside (codes "\nD drained\n") 1
+    ∷ outside (codes "Q 1 1\nD drained\n") 1
+    -- T line that is no step
+    ∷ outside (codes "D drained\nT swap\n") 2
     ∷ []
 
 pub each_text_has_its_first_line_outside : map (λ o. result_err (report_read o.bytes)) outsides ≡ map (λ o. Some o.number) outsides

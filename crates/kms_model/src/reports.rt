@@ -8,30 +8,31 @@ use crate::replies::{Event, Reply, Step};
 pub enum End {
     /// `drained`: every client is at its end, and every commit is cleaned.
     Drained,
-    /// `stalled`: no step is left but vertical blankings; the label of the fence that the history waits for.
+    /// `stalled`: no step is left but `stall` and vertical blankings that latch nothing; the label of the fence that the
+    /// history waits for.
     Stalled(Seq<u8>),
     /// `open`: neither; how many steps the history has.
     Open(u64),
 }
 
-/// A report without pixmaps, with a list for each letter of its lines.
+/// A report without pixmaps, with a list for each letter of its lines. What it says need not be true: lines of a letter are
+/// as they stood.
 #[derive(PartialEq, Eq, Drop)]
 pub struct Report {
-    /// The lines `J`, in the order of the journal: client and command of an accepted command.
+    /// The lines `J`: client and command of an accepted command.
     pub journal: Seq<(u32, u32)>,
-    /// The lines `R`, in order of client and command: client, command, how many commands had been accepted before,
-    /// and the reply.
+    /// The lines `R`: client, command, how many commands had been accepted before, and the reply.
     pub replies: Seq<(u32, u32, u32, Reply)>,
-    /// The lines `L`, in order of CRTC, then of time: the CRTC's index, the commit, the CRTC's count of vertical
-    /// blankings, and the SHA-256 of the frame's bytes (FIPS 180-4), none where the CRTC is off.
+    /// The lines `L`: the CRTC's index, the commit, the CRTC's count of vertical blankings, and the SHA-256 of the frame's
+    /// bytes (FIPS 180-4), none where the CRTC is off.
     pub latches: Seq<(u32, u32, u64, Option<[u8; 32]>)>,
-    /// The lines `E`, in order of client, then of time: a client, and an event that it read.
+    /// The lines `E`: a client, and an event that it read.
     pub events: Seq<(u32, Event)>,
-    /// The lines `X`, in order of time: label and id of a framebuffer that was freed.
+    /// The lines `X`: label and id of a framebuffer that was freed.
     pub freed: Seq<(Seq<u8>, u32)>,
     /// The line `D`.
     pub end: End,
-    /// The lines `T`, in order of time.
+    /// The lines `T`: steps.
     pub steps: Seq<Step>,
 }
 
@@ -78,7 +79,7 @@ pub enum ReportLine {
     Freed {
         /// Its label.
         label: Seq<u8>,
-        /// Its id, from 1000 on.
+        /// Its id.
         id: u32,
     },
     /// `D` and how the history ended.

@@ -1,5 +1,5 @@
--- Replies as the words at the end of a line spell them. Each has one spelling. This device's own; the names of error numbers
--- are those of `errno.h`.
+-- Replies as the words at the end of a line spell them. Each has one spelling, but a busy reply on an object beyond index 99,
+-- which none is. This device's own; the names of error numbers are those of `errno.h`.
 use Rattle.std.specs.Prelude.{ℕ, nat_lt, List, Option, Some, None, option_map, if◌then◌else◌, codes}
 use Rattle.std.specs.Str.{bytes_eq}
 use Rattle.kms_model.specs.declared.objects.Kind.{Kind}

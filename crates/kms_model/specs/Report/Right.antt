@@ -1,5 +1,5 @@
--- When the other lines of a report are right, and the first line of a report that is not. This device's own.
-use Rattle.std.specs.Prelude.{ℕ, ◌+◌, Bool, true, false, not, ◌&&◌, ◌==◌, nat_lt, nat_le, List, [], ◌∷◌, ◌++◌, length, map, filter, slice_get, is_some, Option, Some, None, option_map}
+-- When the other lines of a report are right, and the first line that is not the device's, of a report and of bytes. This device's own.
+use Rattle.std.specs.Prelude.{ℕ, ◌+◌, Bool, true, false, not, ◌&&◌, ◌==◌, nat_lt, nat_le, List, [], ◌∷◌, ◌++◌, length, map, filter, slice_get, is_some, Option, Some, None, option_map, Result, Ok, Err}
 use Rattle.std.specs.List.{enumerate_from, filter_map, find, last_or, list_all, list_any, position, range_with_len}
 use Rattle.std.specs.Option.{option_map_or}
 use Rattle.std.specs.Str.{bytes_eq}
@@ -25,6 +25,7 @@ use Rattle.kms_model.specs.Device.Serial.{Entry, Pictured, serial, show}
 use Rattle.kms_model.specs.Device.World.{thing_labelled, thing_with_id}
 use Rattle.kms_model.specs.Machine.Commits.{has_number}
 use Rattle.kms_model.specs.Machine.Histories.{is_made_by_command}
+use Rattle.kms_model.specs.Report.ReportLines.{report_read}
 use Rattle.kms_model.specs.Report.RightAnswers.{first_off, entries_in, entry_is_right, commits_of, answers_in, has_answer, same_event, answer_is_right, answers_are_whole}
 use Rattle.kms_model.specs.Report.SeenReport.{digest_shown}
 use Rattle.kms_model.specs.Script.Spelling.{name_word}
@@ -72,8 +73,8 @@ tells_of l before None = false
 tells_of l before (Some p) =
     (l.commit == p.commit) && (same_digest l.digest (digest_shown p.picture p.frame) && may_count p.picture (last_count before) l.count)
 
--- An L line, by the lines before it: the CRTC is on the device, and as many lines of it before, as many pictures the device of
--- one thread shows there before the one that it tells of.
+-- An L line, by the lines before it: the CRTC is on the device and not below that of the line before; with n lines of this CRTC
+-- before, the line tells of the picture number n, from 0, of those that the device of one thread shows there.
 unfoldable pub latch_is_right : Script → Report → List LatchLine → LatchLine → Bool
 latch_is_right s r before l =
     exists s.topology Crtc l.crtc
@@ -189,8 +190,8 @@ end_is_right s r = is_right_end s r r.end
 abbrev pub number_at : ℕ → Option ℕ → Option ℕ
 number_at first place = option_map (λ p. first + p) place
 
--- The number, from 1, of the first line that is not right; none where each line is. The lines behind those of each letter have
--- the numbers here. Nothing is asked of T lines.
+-- The number, from 1, of the first line that is not right; none where each line is. The numbers here are those of the first
+-- line behind each letter's lines. Nothing is asked of T lines.
 unfoldable pub first_wrong : Script → Report → Option ℕ
 first_wrong s r =
     let after_entries = 1 + length r.journal in
@@ -206,3 +207,12 @@ first_wrong s r =
     (or_else (number_if after_events (not (events_are_whole r)))
     (or_else (number_at after_events (first_off (freed_is_right s r) [] r.freed))
     (number_if after_freed (not (end_is_right s r)))))))))
+
+abbrev pub wrong_in : Script → Result Report ℕ → Option ℕ
+wrong_in s (Err number) = Some number
+wrong_in s (Ok r) = first_wrong s r
+
+-- The number, from 1, of the first line of a report's bytes that is not the device's: the first line that no report has there,
+-- and then no other rule is tried, or else the first that is not right. None where each line is right.
+abbrev pub wrong_line : Script → List ℕ → Option ℕ
+wrong_line s bytes = wrong_in s (report_read bytes)

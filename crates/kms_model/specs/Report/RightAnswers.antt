@@ -96,9 +96,8 @@ entry_place r a = position (λ e. is_answer_to e a) (entries_in r)
 abbrev pub is_to_entry : Report → Answered → Bool
 is_to_entry r a = is_some (entry_place r a)
 
--- An R line stands in the order of clients and commands: it is of its client's first command, and the client is higher than
--- that of the line before it, or of the next command of that client. Then its place is not lower, and behind the line of an
--- entry it is higher.
+-- An R line stands in the order of clients and commands. Behind a line of the same client it is of the next command, at no
+-- lower place, and at a higher one where that line is of an entry; else its client is higher, and it is of the first command.
 abbrev pub is_in_turn : Report → Option Answered → Answered → Bool
 is_in_turn r None a = a.command == 1
 is_in_turn r (Some b) a =

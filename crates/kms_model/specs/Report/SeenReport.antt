@@ -1,9 +1,8 @@
 -- The report of a history as a value, without steps and pixmaps. From: this device's own; digests are those of FIPS 180-4.
-use Rattle.std.specs.Prelude.{ℕ, List, [], map, length, slice_index_or, Option, Some, None, if◌then◌else◌}
+use Rattle.std.specs.Prelude.{ℕ, List, [], map, length, slice_index_or, Option, option_map, if◌then◌else◌}
 use Rattle.std.specs.List.{flat_map, range_with_len}
 use Rattle.sha2.specs.Sha256.{sha256}
 use Rattle.kms_model.specs.declared.pictures.Picture.{Picture}
-use Rattle.kms_model.specs.declared.pictures.Picture.TheVariants.{Off, On}
 use Rattle.kms_model.specs.declared.replies.Answered.{Answered}
 use Rattle.kms_model.specs.declared.replies.Event.{Event}
 use Rattle.kms_model.specs.declared.replies.Reply.{Reply}
@@ -14,6 +13,7 @@ use Rattle.kms_model.specs.declared.reports.Report.{Report}
 use Rattle.kms_model.specs.declared.runs.Latch.{Latch}
 use Rattle.kms_model.specs.declared.scripts.Script.{Script}
 use Rattle.kms_model.specs.declared.worlds.Thing.{Thing}
+use Rattle.kms_model.specs.Headline.{frame_or_off}
 use Rattle.kms_model.specs.Device.Serial.{Entry}
 use Rattle.kms_model.specs.Frames.FrameBytes.{frame_bytes}
 use Rattle.kms_model.specs.Machine.Framebuffers.{freed}
@@ -23,8 +23,7 @@ use Rattle.kms_model.specs.Report.History.{answers_to, stalled_name}
 
 -- the SHA-256 of a picture's frame; none where the CRTC is off
 abbrev pub digest_shown : Picture → List ℕ → Option (List ℕ)
-digest_shown Off frame = None
-digest_shown (On shown) frame = Some (sha256 frame)
+digest_shown p frame = option_map sha256 (frame_or_off p frame)
 
 abbrev pub seen_entry : Entry → ℕ × ℕ
 seen_entry e = (e.client, e.command)
