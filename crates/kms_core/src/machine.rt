@@ -5,12 +5,14 @@ ghost use Rattle.kms_model.specs.Script.WellFormed.{IsWellFormed};
 use kms_model::{NoMemory, Script};
 use kms_stores::Stores;
 use std::alloc::Global;
+use std::boxed::Box;
 use std::marker::Model;
 
 /// The machine. Contracts see its script and its history.
 #[derive(Drop)]
 pub struct Core {
-    pub(crate) stores: Stores,
+    // In a box, since who owns a machine moves it, and gives it up at each end.
+    pub(crate) stores: Box<Stores>,
 }
 
 impl Model for Core {
@@ -18,7 +20,7 @@ impl Model for Core {
 
     ghost Value = { Run };
 
-    ghost view = { λ c. c.stores };
+    ghost view = { λ c. c.stores.value };
 }
 
 impl Core {
@@ -28,6 +30,8 @@ impl Core {
         ensures { IfOk result (λ c. c ≡ record { script = script; steps = [] }) }
     {
         let stores = Stores::new(alloc, script)?;
-        Ok(Core { stores })
+        Ok(Core {
+            stores: Box::new(alloc, stores)?,
+        })
     }
 }

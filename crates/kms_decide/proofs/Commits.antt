@@ -74,12 +74,12 @@ use Rattle.kms_decide.specs.Room.{KeepsStored, SameTracking}
 use Rattle.kms_stores.proofs.WithRoom.{stands_with_room}
 use Rattle.kms_decide.proofs.Answering.{MayDecide, may_decide}
 use Rattle.kms_stores.proofs.Committed.{committed_present, has_plane}
-use Rattle.kms_once.proofs.Ended.{history_ended}
+use Rattle.kms_laws.proofs.Ended.{history_ended}
 use Rattle.kms_stores.proofs.Fencing.{thing_made as thing_under}
 use Rattle.kms_stores.proofs.Histories.{goes_on}
-use Rattle.kms_once.proofs.Labels.{asks_made, serial_absent}
-use Rattle.kms_once.specs.Once.{makes}
-use Rattle.kms_once.proofs.MadeOnce.{made_once}
+use Rattle.kms_laws.proofs.Labels.{asks_made, serial_absent}
+use Rattle.kms_laws.specs.Once.{makes}
+use Rattle.kms_laws.proofs.MadeOnce.{made_once}
 use Rattle.kms_stores.proofs.Lates.{OwnQueue, count_named, own_queue}
 use Rattle.kms_decide.proofs.OutFences.{FencesStand, fences_more, found_or_made, out_fences_made}
 use Rattle.kms_decide.proofs.OutLabels.{few_in_fences, label_at_crtc, labels_of_crtcs}

@@ -1,5 +1,5 @@
 -- A commit of several attempts.
-use Rattle.std.proofs.Common.{◌≡◌, ◌≢◌, ℕ, List, [], ◌∷◌, ◌++◌, refl, sym, ap, ◌∙◌, subst, inl, inr}
+use Rattle.std.proofs.Common.{◌≡◌, ◌≢◌, ℕ, false, List, [], ◌∷◌, ◌++◌, refl, sym, ap, ◌∙◌, subst, inl, inr}
 use Rattle.kms_model.specs.declared.replies.Reply.{Reply}
 use Rattle.kms_model.specs.declared.replies.Step.{Step}
 use Rattle.kms_model.specs.declared.runs.Place.{Place}
@@ -9,7 +9,7 @@ use Rattle.kms_stores.specs.Run.{machine}
 use Rattle.kms_device.specs.declared.attempt.Attempt.{Attempt}
 use Rattle.kms_device.specs.declared.attempt.Attempted.{Attempted}
 use Rattle.kms_device.specs.declared.attempt.Attempted.TheVariants as attempted
-use Rattle.kms_device.specs.Attempts.{BrokenOff, Committed, GoesOnAt, IsAttempt, MayAttempt, IsLastReply, Serves, StaysAt, Went, new_attempt}
+use Rattle.kms_device.specs.Attempts.{AnsweredBy, BrokenOff, Committed, GoesOnAt, IsAttempt, MayAttempt, IsLastReply, Serves, StaysAt, Went, gives_reply, new_attempt}
 use Rattle.kms_device.specs.Committing.{GoesOnWith}
 use Rattle.kms_device.specs.Turns.{DevicePass, run_seen}
 use Rattle.kms_device.proofs.Serving.{serves_new}
@@ -22,16 +22,21 @@ made_none script client p kept is_new may = record {
   steps = [];
   went = went_not p;
   stays = record { may = may; command = refl };
+  attempts = [];
+  are_attempts = (refl, is_new);
   serves = subst (Serves (run_seen script p) client) (sym is_new) (serves_new (run_seen script p) client);
 }
 
 module _ (script : Script) (client : ℕ) (p m q : DevicePass) (kept : Attempt) (on : GoesOnWith script client p m kept) where
   -- an attempt that made some steps, or none
-  further : (xs : List Step) (keeps : Attempt) → Went xs m q → StaysAt (run_seen script m) (run_seen script q) client → Serves (run_seen script q) client keeps → GoesOnWith script client p q keeps
-  further xs keeps went stays serves = record {
+  further : (xs : List Step) (did : Attempted) (keeps : Attempt) → Went xs m q → IsAttempt script client m kept q keeps did → gives_reply did ≡ false
+      → StaysAt (run_seen script m) (run_seen script q) client → Serves (run_seen script q) client keeps → GoesOnWith script client p q keeps
+  further xs did keeps went is silent stays serves = record {
     steps = on.steps ++ xs;
     went = went_both on.steps xs p m q on.went went;
     stays = record { may = stays.may; command = stays.command ∙ on.stays.command };
+    attempts = record { pass = m; kept = kept; did = did } ∷ on.attempts;
+    are_attempts = (on.are_attempts, (is, silent));
     serves = serves;
   }
 
@@ -39,10 +44,13 @@ module _ (script : Script) (client : ℕ) (p m q : DevicePass) (kept : Attempt) 
   pub made_more : (did : Attempted) (keeps : Attempt) → ((r : Reply) → did ≢ attempted.Answered r) → IsAttempt script client m kept q keeps did → GoesOnAt (run_seen script m) (run_seen script q) client did → Serves (run_seen script q) client keeps
       → GoesOnWith script client p q keeps
   made_more attempted.Did keeps other is stays serves = elim is [
-    | inl stepped ↦ further (stepped.stepped.next ∷ []) keeps stepped.stepped.went stays serves
-    | inr none ↦ elim none [ inl took ↦ further [] keeps took.went stays serves | inr looked ↦ further [] keeps looked.went stays serves ]
+    | inl stepped ↦ further (stepped.stepped.next ∷ []) attempted.Did keeps stepped.stepped.went (inl stepped) refl stays serves
+    | inr none ↦ elim none [
+      | inl took ↦ further [] attempted.Did keeps took.went (inr (inl took)) refl stays serves
+      | inr looked ↦ further [] attempted.Did keeps looked.went (inr (inr looked)) refl stays serves
+    ]
   ]
-  made_more (attempted.NotYet n) keeps other is stays serves = further [] keeps is.went stays serves
+  made_more (attempted.NotYet n) keeps other is stays serves = further [] (attempted.NotYet n) keeps is.went is refl stays serves
   made_more (attempted.Answered r) keeps other is stays serves = absurd (other r refl)
 
   -- one that gave the reply
@@ -60,8 +68,22 @@ module _ (script : Script) (client : ℕ) (p m q : DevicePass) (kept : Attempt) 
           command = ap (λ (x : Place). x.command) by.stepped.finds.place ∙ on.stays.command;
         };
         records = subst (λ n. IsLastReply (machine (run_seen script q)) client n r) on.stays.command by.records;
+        attempts = on.attempts;
+        until = m;
+        kept = kept;
+        are_attempts = on.are_attempts;
+        answers = subst (AnsweredBy script client r m q kept) by.anew by;
       }
 
   -- no memory
   pub broken : Went [] m q → StaysAt (run_seen script m) (run_seen script q) client → BrokenOff script client p q
-  broken went stays = record { steps = on.steps; went = went_before on.steps p m q on.went went; again = record { may = stays.may; command = stays.command ∙ on.stays.command } }
+  broken went stays = record {
+    steps = on.steps;
+    went = went_before on.steps p m q on.went went;
+    again = record { may = stays.may; command = stays.command ∙ on.stays.command };
+    attempts = on.attempts;
+    until = m;
+    kept = kept;
+    are_attempts = on.are_attempts;
+    last = went;
+  }

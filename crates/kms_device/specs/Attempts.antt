@@ -271,7 +271,25 @@ GoesOnAt before after client (attempted.NotYet n) = StaysAt before after client
 
 -- What commits a request
 
--- Several steps of a client, the last of which recorded the reply to its command; nothing was done behind that.
+-- an attempt that was made: the pass and what was kept before it, and what came of it
+pub record Made : Type 0 where
+  pub pass : DevicePass
+  pub kept : Attempt
+  pub did : Attempted
+
+abbrev pub gives_reply : Attempted → Bool
+gives_reply (attempted.Answered reply) = true
+gives_reply _ = false
+
+-- Attempts one after the other, the newest first, each with what the one before it left, and the first with nothing kept. None
+-- gave a reply.
+abbrev pub AreAttempts : Script → ℕ → DevicePass → List Made → DevicePass → Attempt → Type 0
+AreAttempts script client before [] after kept = (after ≡ before) × (kept ≡ new_attempt)
+AreAttempts script client before (made ∷ earlier) after kept =
+    AreAttempts script client before earlier made.pass made.kept × (IsAttempt script client made.pass made.kept after kept made.did × (gives_reply made.did ≡ false))
+
+-- Attempts of a client, the last of which recorded the reply to its command; nothing was done behind that. Their steps are all
+-- that the pass made.
 pub record Committed (script : Script) (client : ℕ) (reply : Reply) (before after : DevicePass) : Type 0 where
   pub steps : List Step
   pub last : Step
@@ -281,9 +299,23 @@ pub record Committed (script : Script) (client : ℕ) (reply : Reply) (before af
   pub left : after.seen ≡ found.steps ++ last ∷ []
   pub stays : StaysAt (run_seen script before) found client
   pub records : IsLastReply (machine (run_seen script after)) client (place_at (machine (run_seen script before)) client).command reply
+  -- each attempt does what `attempt` promises, and so does the last
+  pub attempts : List Made
+  -- the pass and what was kept before the last one
+  pub until : DevicePass
+  pub kept : Attempt
+  pub are_attempts : AreAttempts script client before attempts until kept
+  pub answers : AnsweredBy script client reply until after kept new_attempt
 
 -- some steps of a client, after which it stands at its request still, which can be tried again
 pub record BrokenOff (script : Script) (client : ℕ) (before after : DevicePass) : Type 0 where
   pub steps : List Step
   pub went : Went steps before after
   pub again : StaysAt (run_seen script before) (run_seen script after) client
+  -- attempts, and no step behind them
+  pub attempts : List Made
+  -- the pass and what was kept behind them
+  pub until : DevicePass
+  pub kept : Attempt
+  pub are_attempts : AreAttempts script client before attempts until kept
+  pub last : Went [] until after

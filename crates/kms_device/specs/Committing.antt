@@ -3,12 +3,14 @@ use Rattle.std.specs.Prelude.{ℕ, List}
 use Rattle.kms_model.specs.declared.replies.Step.{Step}
 use Rattle.kms_model.specs.declared.scripts.Script.{Script}
 use Rattle.kms_device.specs.declared.attempt.Attempt.{Attempt}
-use Rattle.kms_device.specs.Attempts.{Serves, StaysAt, Went}
+use Rattle.kms_device.specs.Attempts.{AreAttempts, Made, Serves, StaysAt, Went}
 use Rattle.kms_device.specs.Turns.{DevicePass, run_seen}
 
--- It made some steps, gave no reply yet, and can go on with what it keeps.
+-- It made some attempts, whose steps these are, gave no reply yet, and can go on with what it keeps.
 pub record GoesOnWith (script : Script) (client : ℕ) (before after : DevicePass) (kept : Attempt) : Type 0 where
   pub steps : List Step
   pub went : Went steps before after
   pub stays : StaysAt (run_seen script before) (run_seen script after) client
+  pub attempts : List Made
+  pub are_attempts : AreAttempts script client before attempts after kept
   pub serves : Serves (run_seen script after) client kept

@@ -19,8 +19,8 @@ pub trait Source {
 
     /// Moves bytes of what is left to the front of `into`, which is not empty, and answers how many.
     /// 0 is the end of the input: it comes exactly where nothing is left. [`Failed`] comes only where
-    /// the count of faults rose, and takes nothing. What stands in `into` behind the bytes that were
-    /// moved is left open.
+    /// the count of faults rose, and takes nothing; all else leaves the count as it was. What stands in
+    /// `into` behind the bytes that were moved is left open.
     fn read(&mut self, into: &mut [u8]) -> Result<usize, Failed>
         requires { 0 < length into.old }
         ensures bound { ReadsAtMost result into.new }
@@ -39,7 +39,7 @@ pub trait Sink {
 
     /// Writes bytes from the front of `piece`, which is not empty, behind what was written, and answers
     /// how many: from 1 to the piece's length. [`Failed`] comes only where the count of faults rose, and
-    /// writes nothing. A sink that can take nothing of a piece fails.
+    /// writes nothing; all else leaves the count as it was. A sink that can take nothing of a piece fails.
     fn write(&mut self, piece: &[u8]) -> Result<usize, Failed>
         requires { 0 < length piece.now }
         ensures bound { WritesSome result piece.now }

@@ -16,8 +16,12 @@ use Rattle.kms_model.specs.Headline.{CommitPicture, Headline, IsPrefixOf, Stands
 use Rattle.kms_model.specs.Machine.Commits.{commit_names, has_number, is_cleaned}
 use Rattle.kms_model.specs.Machine.Histories.{at, client_numbers, commit_numbers, is_at_end, is_drained, is_history}
 use Rattle.kms_model.specs.Machine.State.{Commit, Machine}
+use Rattle.kms_model.specs.Device.World.{start}
+use Rattle.kms_model.proofs.SoundStart.{start_is_sound}
 use Rattle.kms_model.proofs.Items.{IsIn, ids-has, list_all-at}
 use Rattle.kms_laws.specs.Laws.{HasSerialWorld}
+use Rattle.kms_laws.proofs.Composed.{IsShowing}
+use Rattle.kms_laws.proofs.FramesShown.{frames-follow, frames-same}
 use Rattle.kms_laws.proofs.Invariants.{commit_picture, latched_at, picture_at, shown}
 use Rattle.kms_laws.proofs.Present.{pair_of, reverse_more, reverse_or}
 use Rattle.kms_laws.proofs.Steps.{Holds, IsPlainScript, history_kept}
@@ -121,18 +125,22 @@ all_reversed P (x ∷ xs) all = subst (All P) (sym (reverse_more x xs)) (All-app
     one holds zero d l = holds
     one holds (suc k) d l = absurd (omega arith)
 
+pub serial_world : (s : Script) (h : List Step) → IsPlainScript s → is_history s h ≡ true → HasSerialWorld s h
+serial_world s h plain is = let H = history_kept s h plain is in record { is_serial = H.present.is_serial; is_sound = H.present.sound }
+
 pub headline : (s : Script) (h : List Step) → IsPlainScript s → is_history s h ≡ true → Headline s h
 unfolding pair_of_latch
 headline s h plain is =
     let H = history_kept s h plain is in
+    let starts : IsShowing s.topology (start s.topology) = record { sound = start_is_sound s.topology plain.device; framed = tt } in
+    let world = serial_world s h plain is in
     record {
       in_order = λ crtc l. in_order s (at s h) H crtc l;
       all_of_them = λ drained crtc l. all_of_them s (at s h) H (drained_clean s (at s h) drained) crtc l;
+      frames_in_order = λ crtc l. let front = in_order s (at s h) H crtc l in (_, frames-follow s h starts world crtc front.0 front.1);
+      all_frames = λ drained crtc l. frames-same s h starts world crtc (all_of_them s (at s h) H (drained_clean s (at s h) drained) crtc l);
       verdicts = all_reversed (StandsAtPlace s (history_journal s h)) (at s h).records.replies H.replies;
     }
-
-pub serial_world : (s : Script) (h : List Step) → IsPlainScript s → is_history s h ≡ true → HasSerialWorld s h
-serial_world s h plain is = let H = history_kept s h plain is in record { is_serial = H.present.is_serial; is_sound = H.present.sound }
 
 pub all_shown : (s : Script) (h : List Step) → IsPlainScript s → is_history s h ≡ true → list_all (is_cleaned (at s h).device) (commit_numbers (at s h)) ≡ true
     → (crtc : ℕ) → crtc < s.topology.crtcs → latched_pictures s h crtc ≡ shown_pictures s (history_journal s h) crtc

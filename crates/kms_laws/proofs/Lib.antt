@@ -57,3 +57,14 @@ pub mod Whole
 pub mod Words
 pub mod Written
 pub mod Busy
+pub mod Labels
+pub mod MadeNames
+pub mod MadeCommands
+pub mod MadeOnce
+pub mod Ended
+pub mod Staying
+pub mod AnswersFollow
+pub mod Composed
+pub mod FramesShown
+pub mod FramesStay
+pub mod ReadEvents

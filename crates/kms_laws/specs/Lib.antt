@@ -3,3 +3,5 @@ pub mod Ends
 pub mod Laws
 pub mod Numbers
 pub mod TailsLeft
+pub mod Once
+pub mod Told

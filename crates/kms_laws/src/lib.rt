@@ -7,6 +7,8 @@ mod bounds;
 mod ends;
 mod headline;
 mod locks;
+mod once;
+mod shown;
 
 pub use bounds::{
     all_tails_get_shorter, counts_are_blankings, numbers_fit_their_types, tails_are_short,
@@ -24,4 +26,8 @@ pub use headline::{
 pub use locks::{
     busy_has_its_cause, contexts_stand, held_objects_are_framed, old_look_ups_ask_within_reach,
     tests_change_nothing, waits_have_no_cycle,
+};
+pub use once::labels_are_made_once;
+pub use shown::{
+    answers_follow_commands, events_read_are_replies, what_was_latched_can_be_composed,
 };

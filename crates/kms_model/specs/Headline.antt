@@ -1,11 +1,12 @@
 -- The headline: for every script and every interleaving of clients, workers, fences and vertical blankings, the pictures that
 -- each CRTC latches are, in order, a prefix of those that the device of one thread shows when it executes the journal's
 -- commands one by one, and all of them once the run has drained; every verdict on a request is that device's at its place
--- in the journal.
+-- in the journal. The frames of those pictures, byte by byte, are that device's too.
 use Rattle.std.specs.Prelude.{◌≡◌, ℕ, ◌≤◌, ◌<◌, true, List, ◌++◌, length, map, take, Option, Some, None, ⊤}
 use Rattle.std.specs.List.{All}
 use Rattle.kms_model.specs.declared.objects.Kind.TheVariants.{Crtc}
 use Rattle.kms_model.specs.declared.pictures.Picture.{Picture}
+use Rattle.kms_model.specs.declared.pictures.Picture.TheVariants.{Off, On}
 use Rattle.kms_model.specs.declared.replies.Answered.{Answered}
 use Rattle.kms_model.specs.declared.replies.Reply.{Reply}
 use Rattle.kms_model.specs.declared.replies.Reply.TheVariants as reply
@@ -17,6 +18,7 @@ use Rattle.kms_model.specs.declared.scripts.Script.{Script}
 use Rattle.kms_model.specs.declared.worlds.World.{World}
 use Rattle.kms_model.specs.Device.Objects.{object_id}
 use Rattle.kms_model.specs.Device.Serial.{Entry, command_of, serial, show}
+use Rattle.kms_model.specs.Frames.FrameBytes.{frame_bytes}
 use Rattle.kms_model.specs.Request.Verdict.{verdict}
 use Rattle.kms_model.specs.Machine.Histories.{at, is_drained, is_history, journal, latched, replies}
 use Rattle.kms_model.specs.Script.WellFormed.{IsWellFormed}
@@ -37,9 +39,27 @@ shown_pictures s entries crtc = map (λ p. record { commit = p.commit; picture =
 abbrev pub history_journal : Script → List Step → List Entry
 history_journal s h = journal (at s h)
 
--- The pictures latched are a prefix of those shown.
-abbrev pub IsPrefixOf : List CommitPicture → List CommitPicture → Type 0
-IsPrefixOf some all = (rest : List CommitPicture) × (all ≡ some ++ rest)
+-- A commit and the bytes of a frame of a CRTC, three for each pixel; none where the CRTC is off.
+pub record CommitFrame : Type 0 where
+  pub commit : ℕ
+  pub frame : Option (List ℕ)
+
+-- the frame of a picture that has these bytes
+abbrev pub frame_or_off : Picture → List ℕ → Option (List ℕ)
+frame_or_off Off bytes = None
+frame_or_off (On shown) bytes = Some bytes
+
+-- the frames of what a CRTC latches in a history, over the things at its end: a report tells their digests
+abbrev pub latched_frames : Script → List Step → ℕ → List CommitFrame
+latched_frames s h crtc = map (λ l. record { commit = l.commit; frame = frame_or_off l.picture (frame_bytes (at s h).device.world.things l.picture) }) (latched (at s h) crtc)
+
+-- the frames of what the device of one thread shows on a CRTC, each over the things that there are at its entry of the journal
+abbrev pub shown_frames : Script → List Entry → ℕ → List CommitFrame
+shown_frames s entries crtc = map (λ p. record { commit = p.commit; frame = frame_or_off p.picture p.frame }) (show s entries (object_id Crtc crtc))
+
+-- one list begins with another
+abbrev pub IsPrefixOf : {A : Type 0} → List A → List A → Type 0
+IsPrefixOf {A} some all = (rest : List A) × (all ≡ some ++ rest)
 
 -- The verdict of the device of one thread on a request in a world, by what was answered: the number that refused it, or
 -- none; a commit has the number of the commits before it. Nothing else is answered to a request.
@@ -67,6 +87,8 @@ pub record StandsAtPlace (s : Script) (entries : List Entry) (a : Answered) : Ty
 pub record Headline (s : Script) (h : List Step) : Type 0 where
   pub in_order : (crtc : ℕ) → crtc < s.topology.crtcs → IsPrefixOf (latched_pictures s h crtc) (shown_pictures s (history_journal s h) crtc)
   pub all_of_them : is_drained s (at s h) ≡ true → (crtc : ℕ) → crtc < s.topology.crtcs → latched_pictures s h crtc ≡ shown_pictures s (history_journal s h) crtc
+  pub frames_in_order : (crtc : ℕ) → crtc < s.topology.crtcs → IsPrefixOf (latched_frames s h crtc) (shown_frames s (history_journal s h) crtc)
+  pub all_frames : is_drained s (at s h) ≡ true → (crtc : ℕ) → crtc < s.topology.crtcs → latched_frames s h crtc ≡ shown_frames s (history_journal s h) crtc
   pub verdicts : All (StandsAtPlace s (history_journal s h)) (replies (at s h))
 
 abbrev pub HeadlineHolds : Type 0

@@ -5,6 +5,7 @@ pub mod Order
 pub mod Device
 pub mod Request
 pub mod Script
+pub mod Legacy
 pub mod Frames
 pub mod Report
 pub mod Stores

@@ -4,3 +4,8 @@ pub mod Rules
 pub mod History
 pub mod TextLines
 pub mod RuleRows
+pub mod ReplyFields
+pub mod ReportLines
+pub mod SeenReport
+pub mod RightAnswers
+pub mod Right

@@ -3,7 +3,10 @@ pub mod InputLines
 pub mod Grammar
 pub mod CommandLines
 pub mod WholeInput
+pub mod FewerCommands
 pub mod Spelling
 pub mod WellFormed
 pub mod Schedules
 pub mod Generated
+pub mod Assigning
+pub mod Longer

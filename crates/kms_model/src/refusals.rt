@@ -214,7 +214,7 @@ fn rules() -> [Rule; RULE_COUNT]
 }
 
 /// The first rule of a number.
-fn first_of(rules: &[Rule], number: u32) -> Option<Rule>
+pub(crate) fn first_of(rules: &[Rule], number: u32) -> Option<Rule>
     ensures row { option_map row_of result ≡ find (has_number number) (map row_of rules.now) }
     ensures number { IfSome result (λ r. r.number ≡ number) }
 {

@@ -8,7 +8,7 @@ use Rattle.kms_model.specs.declared.replies.Answered.{Answered}
 use Rattle.kms_model.specs.declared.runs.Latch.{Latch}
 use Rattle.kms_model.specs.Machine.State.{Machine}
 use Rattle.kms_model.specs.Report.History as history
-use Rattle.kms_shown.specs.Told.{event_in}
+use Rattle.kms_model.specs.Report.Right.{event_in}
 use Rattle.kms_report.specs.Telling.{events_text, latches_text, replies_text, section_text}
 use Rattle.kms_report.specs.declared.answers.Section.{Section}
 use Rattle.kms_report.specs.declared.answers.Section.TheVariants.{Events, Replies}

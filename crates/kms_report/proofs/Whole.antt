@@ -12,7 +12,7 @@ use Rattle.kms_model.specs.Machine.Framebuffers.{freed}
 use Rattle.kms_model.specs.Machine.Histories.{at, client_numbers, journal, read_by, replies}
 use Rattle.kms_model.specs.Report.History as history
 use Rattle.kms_model.specs.Report.TextLines.{line}
-use Rattle.kms_shown.specs.Told.{events_told}
+use Rattle.kms_model.specs.Report.Right.{events_told}
 use Rattle.kms_report.specs.declared.answers.Section.TheVariants.{Events, Replies}
 use Rattle.kms_report.specs.Telling.{entry_text, events_text, freed_text, latches_text, replies_text, section_text}
 

@@ -13,7 +13,7 @@ use Rattle.kms_model.specs.Report.History.{digest_of}
 use Rattle.kms_model.specs.Report.History as history
 use Rattle.kms_model.specs.Report.TextLines.{line}
 use Rattle.kms_script.specs.Scheduled.{index_in_step}
-use Rattle.kms_shown.specs.Told.{events_told}
+use Rattle.kms_model.specs.Report.Right.{events_told}
 use Rattle.kms_report.specs.declared.answers.Section.{Section}
 use Rattle.kms_report.specs.declared.answers.Section.TheVariants.{Events, Replies}
 use Rattle.kms_report.specs.declared.histories.Options.{Options}

@@ -113,8 +113,8 @@ fn report_by<T: Tells>(
         ≡ history.text core.now.script core.now.steps (history_options options)) }
 {
     core.is_a_history();
-    kms_shown::what_was_latched_can_be_composed();
-    kms_shown::events_read_are_replies();
+    kms_laws::what_was_latched_can_be_composed();
+    kms_laws::events_read_are_replies();
     let clients = script.clients.len() as u32;
     let crtcs = script.topology.crtcs;
     let mut text = Vec::new(alloc);

@@ -4,7 +4,7 @@ ghost use Rattle.std.specs.Fmt.{decimal};
 ghost use Rattle.std.specs.List.{filter_map, flat_map};
 ghost use Rattle.kms_model.specs.Report.History.{answer_line, event_line, step_line};
 ghost use Rattle.kms_model.specs.Report.TextLines.{line};
-ghost use Rattle.kms_shown.specs.Told.{event_in};
+ghost use Rattle.kms_model.specs.Report.Right.{event_in};
 ghost use Rattle.kms_report.specs.Telling.{HasSmallIndex, freed_text};
 
 use kms_model::{Answered, Event, NoMemory, Reply, Seq, Step};

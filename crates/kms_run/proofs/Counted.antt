@@ -8,7 +8,7 @@ use Rattle.kms_model.specs.declared.replies.Event.{Event}
 use Rattle.kms_model.specs.Machine.Histories.{read_by, replies}
 use Rattle.kms_model.specs.Machine.State.{Machine}
 use Rattle.kms_model.proofs.Spans.{flat_map-range_more}
-use Rattle.kms_shown.specs.Told.{event_in, events_told}
+use Rattle.kms_model.specs.Report.Right.{event_in, events_told}
 use Rattle.kms_run.specs.Counting.{tells}
 
 module _ (client : ℕ) where

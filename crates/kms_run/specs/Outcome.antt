@@ -1,5 +1,5 @@
 -- What a call of the program reads and writes, by its status. This device's own.
-use Rattle.std.specs.Prelude.{◌≡◌, ◌↔◌, ℕ, ◌<◌, ◌≤◌, ◌+◌, List, [], length, Err, None, Option, Some, ◌⊎◌, ⊤}
+use Rattle.std.specs.Prelude.{◌≡◌, ◌≢◌, ◌↔◌, ℕ, ◌<◌, ◌≤◌, ◌+◌, List, [], length, Err, None, Option, Some, ◌⊎◌, ⊤}
 use Rattle.std.specs.Io.KnownBytes.{Appends, IsAtEnd}
 use Rattle.kms_io.specs.Bytes.{Begins, Moved}
 use Rattle.kms_io.specs.Causes.{Rose}
@@ -122,9 +122,12 @@ module _ (words : List (List ℕ)) (ended : Status) (left left_after written wri
     pub illegal : (place : ℕ) → ended ≡ status.Illegal place → Moves (TellsIllegal asks left_after place)
     -- Otherwise nothing was written.
     pub read_only : IsSilent ended → Moves WritesNothing
-    -- When the statuses come that the bytes do not determine. No other status comes, but want of memory.
+    -- When the statuses come that the bytes do not determine: a read failed exactly where the status says so, and a write
+    -- likewise. No other status comes, but want of memory.
     pub read_fault : ended ≡ status.ReadFault → Rose read_faults read_faults_after
+    pub no_read_fault : ended ≢ status.ReadFault → read_faults_after ≡ read_faults
     pub write_fault : ended ≡ status.WriteFault → Rose write_faults write_faults_after
+    pub no_write_fault : ended ≢ status.WriteFault → write_faults_after ≡ write_faults
     pub no_other : IsOfExecution ended
 
   -- `gen`
@@ -138,6 +141,7 @@ module _ (words : List (List ℕ)) (ended : Status) (left left_after written wri
     pub silent : ended ≡ status.NoMemory → Writes (λ output. output ≡ [])
     -- A failing write and want of memory are all that may come in the way.
     pub write_fault : ended ≡ status.WriteFault → Rose write_faults write_faults_after
+    pub no_write_fault : ended ≢ status.WriteFault → write_faults_after ≡ write_faults
     pub no_other : IsOfGeneration ended
 
   -- no legal words

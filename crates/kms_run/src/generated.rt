@@ -53,7 +53,7 @@ fn events_read(core: &Core) -> usize
 {
     core.is_a_history();
     kms_laws::numbers_fit_their_types();
-    kms_shown::events_read_are_replies();
+    kms_laws::events_read_are_replies();
     let mut count = 0;
     for client in 0..core.script().clients.len() as u32 {
         count += events_told(core.replies(), client + 1);

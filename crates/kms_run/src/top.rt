@@ -31,6 +31,8 @@ fn read_input<S: Source>(alloc: Global, source: &mut S) -> Result<Vec<u8>, Statu
     ensures silent { IfErr result IsSilent }
     ensures cause { result ≡ Err Status.ReadFault
         → Rose (S.faults source.old) (S.faults source.new) }
+    ensures quiet { result ≢ Err Status.ReadFault
+        → S.faults source.new ≡ S.faults source.old }
 {
     match read_all(alloc, source, MAX_INPUT + 1) {
         Ok(input) => Ok(input),
@@ -46,6 +48,8 @@ fn write_answer<K: Sink>(sink: &mut K, answer: Result<FullReport, NoAnswer>) -> 
         → Wrote (K.written sink.old) (K.written sink.new) (Meets asks result left input) }
     ensures cause { result ≡ Status.WriteFault
         → Rose (K.faults sink.old) (K.faults sink.new) }
+    ensures quiet { result ≢ Status.WriteFault
+        → K.faults sink.new ≡ K.faults sink.old }
     ensures read { result ≢ Status.ReadFault }
 {
     let report = match answer {
@@ -74,8 +78,12 @@ fn executed<R: Threads + Sync, S: Source, K: Sink>(
         (Meets asks.now result (S.left source.new)) }
     ensures read_fault { result ≡ Status.ReadFault
         → Rose (S.faults source.old) (S.faults source.new) }
+    ensures no_read_fault { result ≢ Status.ReadFault
+        → S.faults source.new ≡ S.faults source.old }
     ensures write_fault { result ≡ Status.WriteFault
         → Rose (K.faults sink.old) (K.faults sink.new) }
+    ensures no_write_fault { result ≢ Status.WriteFault
+        → K.faults sink.new ≡ K.faults sink.old }
 {
     match read_input(alloc, source) {
         Ok(input) => write_answer(sink, answer(rt, alloc, input, asks)),
@@ -100,8 +108,12 @@ fn run_executed<R: Threads + Wait + Sync, S: Source, K: Sink, G: Gate + Sync>(
         (S.left source.new)) }
     ensures read_fault { result ≡ Status.ReadFault
         → Rose (S.faults source.old) (S.faults source.new) }
+    ensures no_read_fault { result ≢ Status.ReadFault
+        → S.faults source.new ≡ S.faults source.old }
     ensures write_fault { result ≡ Status.WriteFault
         → Rose (K.faults sink.old) (K.faults sink.new) }
+    ensures no_write_fault { result ≢ Status.WriteFault
+        → K.faults sink.new ≡ K.faults sink.old }
 {
     match read_input(alloc, source) {
         Ok(input) => {
@@ -123,6 +135,8 @@ fn generated<R: Threads + Sync, K: Sink>(
     ensures put { Wrote (K.written sink.old) (K.written sink.new) (MeetsGenerated asks.now result) }
     ensures write_fault { result ≡ Status.WriteFault
         → Rose (K.faults sink.old) (K.faults sink.new) }
+    ensures no_write_fault { result ≢ Status.WriteFault
+        → K.faults sink.new ≡ K.faults sink.old }
 {
     let Ok(text) = generated_text(rt, alloc, asks) else {
         return Status::NoMemory;

@@ -27,6 +27,10 @@ count_of t Enc = length t.conns
 abbrev pub ids_of : Topology → Kind → List ℕ
 ids_of t kind = map (object_id kind) (range_with_len 0 (count_of t kind))
 
+-- their indices
+abbrev pub indices_of : Topology → Kind → List ℕ
+indices_of t kind = range_with_len 0 (count_of t kind)
+
 -- the object is on the device
 abbrev pub exists : Topology → Kind → ℕ → Bool
 exists t kind index = nat_lt index (count_of t kind)

@@ -1,5 +1,0 @@
-use Rattle.kms_once.proofs.MadeOnce.{made_once}
-use Rattle.kms_once.proofs.labels_are_made_once.Goals as goal
-
-pub returns : goal.returns
-returns c = made_once

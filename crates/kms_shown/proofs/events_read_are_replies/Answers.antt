@@ -1,5 +1,0 @@
-use Rattle.kms_shown.proofs.ReadEvents.{read-told}
-use Rattle.kms_shown.proofs.events_read_are_replies.Goals as goal
-
-pub returns : goal.returns
-returns c = λ s h formed is client. read-told s h is client
