@@ -41,8 +41,8 @@ fence_behind d = why_not (legacy_line_after d (line_of (codes "fence f")))
 -- 4096 commands, 4096 labels, of which a command without one makes none, and the bytes of a script
 pub limits_are_those_of_scripts :
     map waits_behind (
-        lines_with 4095 0 0 ∷ lines_with 4096 0 0 ∷ lines_with 0 4096 0
-        ∷ lines_with 0 0 (script_limit - 5) ∷ lines_with 0 0 (script_limit - 4) ∷ [])
+    lines_with 4095 0 0 ∷ lines_with 4096 0 0 ∷ lines_with 0 4096 0
+    ∷ lines_with 0 0 (script_limit - 5) ∷ lines_with 0 0 (script_limit - 4) ∷ [])
     ++ map fence_behind (lines_with 0 4095 0 ∷ lines_with 0 4096 0 ∷ [])
     ≡ None ∷ Some Limit ∷ None ∷ None ∷ Some Limit ∷ None ∷ Some Limit ∷ []
 unfolding on_legacy

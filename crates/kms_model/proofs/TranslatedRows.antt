@@ -121,10 +121,10 @@ mode_after c = mode_of_call (look_up (executed (start device) (c ∷ []))) light
 -- a blob may hold it; a mode that is not legal is none
 pub mode_that_is_not_legal_is_none :
     map mode_after (
-        command.Mode 2 named_tiny
-        ∷ command.Blob 2 (mode_bytes named_tiny)
-        ∷ command.Mode 2 (record named_tiny { clock = 0 })
-        ∷ [])
+    command.Mode 2 named_tiny
+    ∷ command.Blob 2 (mode_bytes named_tiny)
+    ∷ command.Mode 2 (record named_tiny { clock = 0 })
+    ∷ [])
     ≡ Some named_tiny ∷ Some named_tiny ∷ None ∷ []
 unfolding on_legacy on_machines
 mode_that_is_not_legal_is_none = refl
