@@ -2,11 +2,9 @@ pub mod Accepted
 pub mod Alone
 pub mod Decimals
 pub mod DeviceLines
-pub mod Digits
 pub mod DraftGrows
 pub mod DraftText
 pub mod Drafts
-pub mod Fields
 pub mod FitCommands
 pub mod FitScripts
 pub mod FitSteps
@@ -21,16 +19,11 @@ pub mod LineFields
 pub mod Lined
 pub mod LinesSpelt
 pub mod ListedBits
-pub mod Listing
 pub mod ListsSpelt
-pub mod Loops
 pub mod ManyAssigns
 pub mod ManyFields
 pub mod NamesBegin
-pub mod Naming
 pub mod OneSpelling
-pub mod PackedNames
-pub mod Parts
 pub mod ProfileStays
 pub mod ReadBack
 pub mod ReadParts
@@ -40,7 +33,6 @@ pub mod RowsSpelt
 pub mod SchedulesSpelt
 pub mod ScriptLines
 pub mod Sizes
-pub mod Spaced
 pub mod SpelledRows
 pub mod SpeltAssigns
 pub mod SpeltCommands
@@ -56,4 +48,3 @@ pub mod StepsRead
 pub mod StepsSpelt
 pub mod Texts
 pub mod WithinLimit
-pub mod WordsNumbered

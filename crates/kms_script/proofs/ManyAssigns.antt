@@ -16,8 +16,9 @@ use Rattle.kms_model.specs.Script.CommandLines.{Name, Names, Read, assign_words,
 use Rattle.kms_model.specs.Script.Grammar.{field_words, hex_at, int}
 use Rattle.kms_model.specs.Script.Words.{◌>>=◌, dec, dec_at, field_at, is_label, strip}
 use Rattle.kms_script.specs.Lines.{checked}
-use Rattle.kms_script.specs.Overlong.{AddsLabels, assign_label, blank_count, has_many, label_and, label_word, labels_at, labels_made, made_words, packed_all, packed_alone, value_label}
-use Rattle.kms_script.proofs.Fields.{first_word, no_word, pair}
+use Rattle.kms_commands.specs.Packed.{made_words, packed_all, packed_alone}
+use Rattle.kms_script.specs.Overlong.{AddsLabels, assign_label, blank_count, has_many, label_and, label_word, labels_at, labels_made, value_label}
+use Rattle.kms_commands.proofs.Fields.{first_word, no_word, pair}
 use Rattle.kms_script.proofs.Inverted.{bind_some, some_same}
 use Rattle.kms_script.proofs.LabelsMade.{AllAgree, assigns_agree, twice_in}
 use Rattle.kms_script.proofs.ManyFields.{request_blanks, words_blanks}

@@ -15,7 +15,8 @@ use Rattle.std.proofs.lemmas.Map.Keys.{IsDistinct-IsPermutation}
 use Rattle.std.proofs.lemmas.Slice.Eq.{bytes_eq-Decides}
 use Rattle.kms_model.specs.Script.Words.{is_label, is_label_rest, is_letter}
 use Rattle.kms_model.proofs.Facts.{neither}
-use Rattle.kms_script.specs.Overlong.{begins_with, packed, packed_all, packed_alone, are_rising}
+use Rattle.kms_commands.specs.Packed.{packed, packed_all, packed_alone}
+use Rattle.kms_script.specs.Overlong.{begins_with, are_rising}
 use Rattle.kms_script.proofs.LabelsMade.{twice_in}
 
 -- Numbers in order
@@ -108,17 +109,6 @@ label_digits (b ∷ bs) e =
     let p = and_parts (is_letter b) (nat_le (length bs) 15 && list_all is_label_rest bs) e in
     let q = and_parts (nat_le (length bs) 15) (list_all is_label_rest bs) p.1 in
     (letter_byte b p.0, label_bytes bs q.1)
-
-pub label_short : (w : List ℕ) → is_label w ≡ true → length w ≤ 16
-unfolding is_label
-label_short [] e = absurd cc
-label_short (b ∷ bs) e =
-    let p = and_parts (is_letter b) (nat_le (length bs) 15 && list_all is_label_rest bs) e in
-    let q = and_parts (nat_le (length bs) 15) (list_all is_label_rest bs) p.1 in
-    short (length bs) q.0
-  where
-    short : (n : ℕ) → nat_le n 15 ≡ true → suc n ≤ 16
-    short n le = grind (arith, nat_tests)
 
 first_digit : (b c m n : ℕ) → b < 256 → c < 256 → b + 256 * m ≡ c + 256 * n → (b ≡ c) × (m ≡ n)
 first_digit b c m n lb lc e = (omega (arith, lb, lc, e), omega (arith, lb, lc, e))

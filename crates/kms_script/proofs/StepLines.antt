@@ -9,7 +9,7 @@ use Rattle.kms_model.specs.Report.History.{step_line, step_words}
 use Rattle.kms_model.specs.Script.Schedules.{IsFitStep, IsSpeltOnce, step_read}
 use Rattle.kms_script.specs.Scheduled.{IsStepLine, index_in_step, step_text}
 use Rattle.kms_script.proofs.Inverted.{some_same}
-use Rattle.kms_script.proofs.Spaced.{line-fields}
+use Rattle.kms_commands.proofs.Spaced.{line-fields}
 use Rattle.kms_script.proofs.StepsRead.{line_is_read}
 use Rattle.kms_script.proofs.StepsSpelt.{line_of_step}
 

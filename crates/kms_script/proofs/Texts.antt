@@ -11,7 +11,7 @@ use Rattle.kms_model.specs.declared.scripts.Command.{Command}
 use Rattle.kms_model.specs.declared.scripts.Script.{Script}
 use Rattle.kms_model.specs.Report.TextLines.{line}
 use Rattle.kms_model.specs.Script.Spelling.{client_lines, command_words, conn_words, device_lines, spelt_plane, spelling, text_of}
-use Rattle.kms_script.proofs.Spaced.{added, lines-flat, lines-map}
+use Rattle.kms_commands.proofs.Spaced.{added, lines-flat, lines-map}
 
 abbrev planes_text : Topology → List ℕ
 planes_text t = flat_map (λ p. line (spelt_plane p)) t.planes

@@ -1,10 +1,5 @@
 pub mod Drafted
-pub mod Fitting
 pub mod Lines
-pub mod Listed
-pub mod Named
-pub mod Numbered
 pub mod Overlong
-pub mod Printed
 pub mod Scheduled
 pub mod Stated

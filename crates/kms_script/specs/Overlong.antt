@@ -54,23 +54,6 @@ atomic_labels bytes = do
   user ← dec_at 18446744073709551615 flags.1
   labels_at user.1
 
--- the words of names that are made
-abbrev pub made_words : List Name → List (List ℕ)
-made_words names = map (λ n. n.word) (filter (λ n. n.is_made) names)
-
--- a word as a number, whose digits to the base 256 are its bytes
-abbrev pub packed : List ℕ → ℕ
-packed [] = 0
-packed (b ∷ bs) = b + 256 * packed bs
-
--- a label as a number
-abbrev pub packed_alone : List ℕ → List ℕ
-packed_alone word = if is_label word then packed word ∷ [] else []
-
--- the numbers of those words that are labels
-abbrev pub packed_all : List (List ℕ) → List ℕ
-packed_all words = flat_map packed_alone words
-
 -- the numbers of the labels that fields make are added, where all of them are assignments
 abbrev pub AddsLabels : Bool → Option (List (List ℕ)) → List ℕ → List ℕ → Type 0
 AddsLabels true (Some labels) old new = new ≡ old ++ packed_all labels

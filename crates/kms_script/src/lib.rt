@@ -4,43 +4,31 @@
 //! alone, and `read_command` one line of a client. `read_step` and `print_step` read and write a line of a schedule.
 #![tactic(auto)]
 
-mod commands;
 mod devices;
 mod draft;
 mod endings;
 mod faults;
 mod inputs;
-mod limits;
 mod lines;
-mod lists;
-mod modes;
-mod names;
-mod numbering;
-mod numbers;
-mod objects;
 mod one_line;
 mod overlong;
-mod patterns;
 mod printing;
-mod printing_commands;
 mod printing_steps;
-mod printing_words;
-mod requests;
 mod rows;
 mod schedules;
 mod steps;
 mod stop;
-mod words;
 
 pub use devices::{TopologyRead, read_topology};
 pub use faults::ParseError;
 pub use inputs::{Parsed, parse};
+pub use kms_commands::{
+    MAX_ASSIGNS, MAX_BLOB, MAX_COMMANDS, MAX_INPUT, MAX_LABELS, MAX_SCRIPT, is_label, read_dec,
+    read_int,
+};
 pub use kms_model::Why;
-pub use limits::{MAX_ASSIGNS, MAX_BLOB, MAX_COMMANDS, MAX_INPUT, MAX_LABELS, MAX_SCRIPT};
-pub use numbers::read_int;
 pub use one_line::{LineError, NameIndex, read_command, read_command_with};
 pub use printing::print;
 pub use printing_steps::print_step;
 pub use schedules::schedules_are_read_back;
 pub use steps::{read_step, steps_have_one_line};
-pub use words::{is_label, read_dec};

@@ -2,13 +2,11 @@
 ghost use Rattle.std.specs.Prelude.{◌≡◌, ◌+◌, ◌≤◌, false, IfOk, OnOk, length};
 ghost use Rattle.kms_model.specs.Script.WellFormed.{IsFitCommand};
 ghost use Rattle.kms_script.specs.Lines.{GivesLine, line_of};
-ghost use Rattle.kms_script.specs.Named.{HasRoomForNames, NamesGrow};
+ghost use Rattle.kms_commands.specs.Named.{HasRoomForNames, NamesGrow};
 
-use crate::commands::command_of;
-use crate::names::Names;
 use crate::overlong::{fault_of_many, has_many};
 use crate::stop::Stop;
-use crate::words::split_at_byte;
+use kms_commands::{Names, command_of, split_at_byte};
 use kms_model::{Command, Why};
 use std::alloc::Global;
 

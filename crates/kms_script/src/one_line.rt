@@ -6,8 +6,8 @@ ghost use Rattle.kms_model.specs.Script.CommandLines.{line_read};
 ghost use Rattle.kms_script.specs.Stated.{GivesCommand, line_error};
 
 use crate::lines::read_line;
-use crate::names::Names;
 use crate::stop::Stop;
+use kms_commands::Names;
 use kms_model::{Command, NoMemory, Seq, Topology, Why};
 use std::alloc::Global;
 use std::marker::Model;
@@ -58,7 +58,7 @@ pub struct NameIndex {
 
 impl Model for NameIndex {
     ghost use Rattle.std.specs.Prelude.{◌≡◌};
-    ghost use Rattle.kms_script.specs.Named.{Indexed, kept};
+    ghost use Rattle.kms_commands.specs.Named.{Indexed, kept};
 
     ghost Value = { Indexed };
 

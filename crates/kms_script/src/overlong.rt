@@ -5,14 +5,14 @@ ghost use Rattle.std.specs.Bool.{Decides, nat_eq};
 ghost use Rattle.std.specs.List.{IsDistinct};
 ghost use Rattle.kms_model.specs.Script.CommandLines.{atomic_read};
 ghost use Rattle.kms_script.specs.Lines.{checked};
-ghost use Rattle.kms_script.specs.Named.{HasRoomForNames};
-ghost use Rattle.kms_script.specs.Overlong.{AddsLabels, assign_label, atomic_labels, blank_count, has_many, labels_at, made_words, packed, packed_alone, label_word, are_rising, value_label};
+ghost use Rattle.kms_commands.specs.Named.{HasRoomForNames};
+ghost use Rattle.kms_commands.specs.Packed.{made_words};
+ghost use Rattle.kms_script.specs.Overlong.{AddsLabels, assign_label, atomic_labels, blank_count, has_many, labels_at, label_word, are_rising, value_label};
 
-use crate::limits::MAX_ASSIGNS;
-use crate::names::Names;
-use crate::numbers::{read_int, take_hex};
-use crate::objects::read_assign_words;
-use crate::words::{is_label, read_dec, strip, take_dec, take_field};
+use kms_commands::{
+    MAX_ASSIGNS, Names, is_label, push_packed, read_assign_words, read_dec, read_int, strip,
+    take_dec, take_field, take_hex,
+};
 use kms_model::{NoMemory, Why};
 use std::alloc::Global;
 
@@ -69,28 +69,6 @@ fn assign_label(word: &[u8]) -> Option<&[u8]>
 {
     let words = read_assign_words(word)?;
     value_label(words.value)
-}
-
-/// A word of at most 16 bytes as a number, whose digits to the base 256 are its bytes, the lowest first.
-fn packed(word: &[u8]) -> u128
-    requires { length word.now ≤ 16 }
-    ensures value { result ≡ packed word.now }
-    ensures small { result < 256 ^ length word.now }
-{
-    match word {
-        [first, rest @ ..] => u128::from(*first) + 256 * packed(rest),
-        [] => 0,
-    }
-}
-
-/// Adds the number of a word that is a label.
-pub fn push_packed(numbers: &mut Vec<u128>, word: &[u8]) -> Result<(), NoMemory>
-    ensures { OnOk result (numbers.new.items ≡ numbers.old.items ++ packed_alone word.now) }
-{
-    if is_label(word) {
-        numbers.push(packed(word))?;
-    }
-    Ok(())
 }
 
 /// Adds the numbers of the labels that the assignments of all fields make: false where a field is no assignment.

@@ -6,8 +6,7 @@ ghost use Rattle.kms_model.specs.Report.TextLines.{line};
 ghost use Rattle.kms_model.specs.Script.WholeInput.{input, script_limit};
 ghost use Rattle.kms_model.specs.Script.Spelling.{Spells, client_lines, conn_words, device_lines, spelt_plane, spelling, text_of};
 
-use crate::printing_commands::{push_command, push_number, push_word};
-use crate::printing_words::{push_crtcs, push_formats, type_word};
+use kms_commands::{push_command, push_crtcs, push_formats, push_number, push_word, type_word};
 use kms_model::{Command, NoMemory, PlaneInfo, Script, Seq, Topology};
 use std::alloc::Global;
 

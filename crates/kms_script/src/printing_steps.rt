@@ -4,11 +4,10 @@ ghost use Rattle.std.specs.Fmt.{decimal};
 ghost use Rattle.std.specs.Option.{ForSome};
 ghost use Rattle.kms_model.specs.Report.History.{named_object, step_line, step_words};
 ghost use Rattle.kms_model.specs.Script.Schedules.{IsFitStep, step_read};
-ghost use Rattle.kms_script.specs.Printed.{fields};
+ghost use Rattle.kms_commands.specs.Printed.{fields};
 ghost use Rattle.kms_script.specs.Scheduled.{index_in_step, step_text};
 
-use crate::printing_commands::{push_number, push_word};
-use crate::printing_words::{kind_word, push_decimal};
+use kms_commands::{kind_word, push_decimal, push_number, push_word};
 use kms_model::{Kind, NoMemory, Seq, Step};
 use std::alloc::Global;
 

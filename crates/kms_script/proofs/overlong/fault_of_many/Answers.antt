@@ -1,7 +1,8 @@
 use Rattle.std.proofs.Common.{◌≡◌, ◌++◌, ℕ, List, [], true, false, not, Err, ap, refl, sym, subst, ◌∙◌, rules}
 use Rattle.kms_model.specs.Script.CommandLines.{atomic_read}
 use Rattle.kms_script.specs.Lines.{checked}
-use Rattle.kms_script.specs.Overlong.{AddsLabels, labels_at, made_words, packed_all}
+use Rattle.kms_commands.specs.Packed.{made_words, packed_all}
+use Rattle.kms_script.specs.Overlong.{AddsLabels, labels_at}
 use Rattle.kms_script.proofs.ManyAssigns.{many_decided, no_flags, no_labels, no_user, why_of}
 use Rattle.kms_script.proofs.overlong.fault_of_many.Goals as goal
 use Rattle.kms_script.proofs.overlong.fault_of_many.Goals.{After-are_distinct}
