@@ -272,7 +272,7 @@ GoesOnAt before after client (attempted.NotYet n) = StaysAt before after client
 -- What commits a request
 
 -- an attempt that was made: the pass and what was kept before it, and what came of it
-pub record Made : Type 0 where
+pub record MadeAttempt : Type 0 where
   pub pass : DevicePass
   pub kept : Attempt
   pub did : Attempted
@@ -283,7 +283,7 @@ gives_reply _ = false
 
 -- Attempts one after the other, the newest first, each with what the one before it left, and the first with nothing kept. None
 -- gave a reply.
-abbrev pub AreAttempts : Script → ℕ → DevicePass → List Made → DevicePass → Attempt → Type 0
+abbrev pub AreAttempts : Script → ℕ → DevicePass → List MadeAttempt → DevicePass → Attempt → Type 0
 AreAttempts script client before [] after kept = (after ≡ before) × (kept ≡ new_attempt)
 AreAttempts script client before (made ∷ earlier) after kept =
     AreAttempts script client before earlier made.pass made.kept × (IsAttempt script client made.pass made.kept after kept made.did × (gives_reply made.did ≡ false))
@@ -300,7 +300,7 @@ pub record Committed (script : Script) (client : ℕ) (reply : Reply) (before af
   pub stays : StaysAt (run_seen script before) found client
   pub records : IsLastReply (machine (run_seen script after)) client (place_at (machine (run_seen script before)) client).command reply
   -- each attempt does what `attempt` promises, and so does the last
-  pub attempts : List Made
+  pub attempts : List MadeAttempt
   -- the pass and what was kept before the last one
   pub until : DevicePass
   pub kept : Attempt
@@ -313,7 +313,7 @@ pub record BrokenOff (script : Script) (client : ℕ) (before after : DevicePass
   pub went : Went steps before after
   pub again : StaysAt (run_seen script before) (run_seen script after) client
   -- attempts, and no step behind them
-  pub attempts : List Made
+  pub attempts : List MadeAttempt
   -- the pass and what was kept behind them
   pub until : DevicePass
   pub kept : Attempt

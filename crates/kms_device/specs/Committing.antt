@@ -3,7 +3,7 @@ use Rattle.std.specs.Prelude.{ℕ, List}
 use Rattle.kms_model.specs.declared.replies.Step.{Step}
 use Rattle.kms_model.specs.declared.scripts.Script.{Script}
 use Rattle.kms_device.specs.declared.attempt.Attempt.{Attempt}
-use Rattle.kms_device.specs.Attempts.{AreAttempts, Made, Serves, StaysAt, Went}
+use Rattle.kms_device.specs.Attempts.{AreAttempts, MadeAttempt, Serves, StaysAt, Went}
 use Rattle.kms_device.specs.Turns.{DevicePass, run_seen}
 
 -- It made some attempts, whose steps these are, gave no reply yet, and can go on with what it keeps.
@@ -11,6 +11,6 @@ pub record GoesOnWith (script : Script) (client : ℕ) (before after : DevicePas
   pub steps : List Step
   pub went : Went steps before after
   pub stays : StaysAt (run_seen script before) (run_seen script after) client
-  pub attempts : List Made
+  pub attempts : List MadeAttempt
   pub are_attempts : AreAttempts script client before attempts after kept
   pub serves : Serves (run_seen script after) client kept

@@ -12,15 +12,13 @@ use kms_core::Core;
 use kms_histlock::Kept;
 use kms_model::{NoMemory, Script, Step};
 use std::alloc::Global;
-use std::boxed::Box;
 use std::marker::Model;
 
 /// The machine, as the lock keeps it. Its history was not ended: the device has no call for that. Contracts see the machine's
 /// script and history.
 #[derive(Drop)]
 pub struct Kernel {
-    // In a box, since the value moves at each turn.
-    core: Box<Core>,
+    core: Core,
     // How many vertical blankings each CRTC had.
     counts: [u64; 4],
 }
@@ -36,10 +34,9 @@ impl Model for Kernel {
 
     ghost Value = { Run };
 
-    ghost view = { λ k. k.core.value };
+    ghost view = { λ k. k.core };
 
-    ghost invariant = { λ k. NeverEnds k.core.value.steps
-        × AreBlankingCounts k.counts k.core.value.steps };
+    ghost invariant = { λ k. NeverEnds k.core.steps × AreBlankingCounts k.counts k.core.steps };
 }
 
 impl Kept for Kernel {
@@ -83,9 +80,8 @@ impl Kernel {
         requires { IsWellFormed script }
         ensures { IfOk result (λ k. k ≡ record { script = script; steps = [] }) }
     {
-        let core = Core::new(alloc, script)?;
         Ok(Kernel {
-            core: Box::new(alloc, core)?,
+            core: Core::new(alloc, script)?,
             counts: [0; 4],
         })
     }
@@ -122,7 +118,7 @@ impl Kernel {
     pub(crate) fn into_core(self) -> Core
         ensures { result ≡ self }
     {
-        Box::into_inner(self.core)
+        self.core
     }
 }
 

@@ -115,10 +115,6 @@ journal m = reverse m.records.journal
 abbrev pub replies : Machine → List Answered
 replies m = reverse m.records.replies
 
--- the reply to a command, if it is recorded
-abbrev pub reply_to : Machine → ℕ → ℕ → Option Answered
-reply_to m client command = find (λ a. (a.client == client) && (a.command == command)) (replies m)
-
 -- the latches of a CRTC, by its index
 abbrev pub latched : Machine → ℕ → List Latch
 latched m crtc = filter (λ l. l.crtc == crtc) (reverse m.records.latches)
