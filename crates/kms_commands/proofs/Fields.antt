@@ -8,7 +8,7 @@ use Rattle.kms_model.specs.Script.CommandLines.{Names, assign_read, assigns_read
 use Rattle.kms_model.specs.Script.Grammar.{parted, field_words}
 use Rattle.kms_model.specs.Script.Words.{◌>>=◌, until, from, field_at}
 use Rattle.kms_commands.specs.Named.{assigns_at}
-use Rattle.kms_commands.proofs.Parts.{later_parts, first_part}
+use Rattle.kms_words.proofs.Parts.{later_parts, first_part}
 
 next_step : (t : Bool) (b : ℕ) (bs : List ℕ) → (b == 32) ≡ t → field_words (from 32 bs) ≡ Some (later_parts 32 (from 32 bs)) → field_words (cond t (b ∷ bs) (from 32 bs)) ≡ Some (later_parts 32 (cond t (b ∷ bs) (from 32 bs)))
 next_step true b bs e ih = rw e refl

@@ -9,7 +9,7 @@ use Rattle.kms_model.specs.declared.copying.NoMemory.{NoMemory}
 use Rattle.kms_model.specs.declared.objects.Mode.{Mode}
 use Rattle.kms_model.specs.Report.TextLines.{line}
 use Rattle.kms_model.specs.Script.Words.{until}
-use Rattle.kms_commands.specs.Printed.{fields}
+use Rattle.kms_words.specs.Printed.{fields}
 use Rattle.kms_model.specs.Script.Spelling.{spelt_mode}
 
 -- a line is its first word, the others with a blank before each, and a line feed

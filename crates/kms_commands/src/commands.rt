@@ -1,17 +1,16 @@
 //! Commands of one line.
 ghost use Rattle.std.specs.Prelude.{◌≡◌, ◌≤◌, ◌+◌, ℕ, Some, IfOk, OnOk, IfSome, length, option_map};
 ghost use Rattle.kms_model.specs.Script.CommandLines.{buffer_read, label_alone, addfb_read, mode_read, blob_read, thing_read, label_read, command_read, is_over};
-ghost use Rattle.kms_commands.specs.Fitting.{HasFilled};
+ghost use Rattle.kms_words.specs.Fitting.{HasFilled};
 ghost use Rattle.kms_commands.specs.Named.{HasRoomForNames, NamesGrow, made_alone, said_alone};
 
-use crate::lists::take_format;
-use crate::modes::take_mode;
 use crate::names::Names;
-use crate::numbers::read_blob;
-use crate::patterns::take_pattern;
 use crate::requests::read_atomic;
-use crate::words::{MOST, split_at_byte, take_dec, take_end, take_field, take_label};
 use kms_model::{Command, Mode, NoMemory};
+use kms_words::{
+    MOST, read_blob, split_at_byte, take_dec, take_end, take_field, take_format, take_label,
+    take_mode, take_pattern,
+};
 use std::alloc::Global;
 
 /// One label.

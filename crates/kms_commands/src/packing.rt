@@ -2,8 +2,8 @@
 ghost use Rattle.std.specs.Prelude.{◌≡◌, ◌≤◌, ◌<◌, ◌^◌, ◌++◌, OnOk, length};
 ghost use Rattle.kms_commands.specs.Packed.{packed, packed_alone};
 
-use crate::words::is_label;
 use kms_model::NoMemory;
+use kms_words::is_label;
 
 /// A word of at most 16 bytes as a number, whose digits to the base 256 are its bytes, the lowest first.
 fn packed(word: &[u8]) -> u128

@@ -4,14 +4,14 @@ ghost use Rattle.std.specs.Fmt.{decimal};
 ghost use Rattle.std.specs.List.{flat_map};
 ghost use Rattle.kms_model.specs.Device.Modes.{mode_numbers};
 ghost use Rattle.kms_model.specs.Report.TextLines.{line};
-ghost use Rattle.kms_commands.specs.Printed.{fields};
+ghost use Rattle.kms_words.specs.Printed.{fields};
 ghost use Rattle.kms_model.specs.Script.Spelling.{assign_word, command_words, format_word, hex_word, spelt_mode, name_word, pattern_words, pixel_word};
 
-use crate::printing_words::{
-    format_word, name_word, push_assign, push_blob, push_decimal, push_hex, push_pixel,
-};
-use crate::words::split_at_byte;
 use kms_model::{Assign, Command, Format, Mode, NoMemory, Pattern, Request, Seq};
+use kms_words::{
+    format_word, name_word, push_assign, push_blob, push_decimal, push_hex, push_pixel,
+    split_at_byte,
+};
 use std::alloc::Global;
 
 /// Adds a word with a blank before it.

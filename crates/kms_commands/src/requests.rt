@@ -1,14 +1,15 @@
 //! Atomic requests.
 ghost use Rattle.std.specs.Prelude.{◌≡◌, ◌≤◌, ◌+◌, ℕ, Some, IfOk, IfSome, OnOk, length, option_map};
 ghost use Rattle.kms_model.specs.Script.CommandLines.{property_read, value_read, assign_read, atomic_read};
-ghost use Rattle.kms_commands.specs.Fitting.{HasFilled};
+ghost use Rattle.kms_words.specs.Fitting.{HasFilled};
 ghost use Rattle.kms_commands.specs.Named.{HasRoomForNames, NamesGrow, assigns_at};
 
 use crate::names::Names;
-use crate::numbers::{read_int, take_hex};
-use crate::objects::{known_property, read_assign_words};
-use crate::words::{is_label, read_dec, strip, take_dec, take_field};
 use kms_model::{Assign, Command, NoMemory, PropRef, Request, Seq, Value};
+use kms_words::{
+    is_label, known_property, read_assign_words, read_dec, read_int, strip, take_dec, take_field,
+    take_hex,
+};
 use std::alloc::Global;
 
 /// The property of a name.

@@ -7,7 +7,7 @@ use Rattle.std.proofs.lemmas.Bool.{and_parts, eqb-true}
 use Rattle.std.proofs.lemmas.Bool.Decides.{nat_tests}
 use Rattle.kms_model.specs.Script.Grammar.{field_words}
 use Rattle.kms_model.specs.Script.Words.{dec_at, field_at, from, is_digit, strip, until}
-use Rattle.kms_commands.specs.Printed.{fields}
+use Rattle.kms_words.specs.Printed.{fields}
 use Rattle.kms_script.proofs.Decimals.{dec_read, decimal_digits}
 use Rattle.kms_commands.proofs.Fields.{first_word}
 

@@ -9,7 +9,7 @@ use Rattle.kms_model.specs.declared.scripts.Command.{Command}
 use Rattle.kms_model.specs.Device.Sound.{HasPlaneKind, IsDevice}
 use Rattle.kms_model.specs.Script.Generated.{Drawn, commands_for, drawn_from, flip, flips_of, generated, generated_device, next_number}
 use Rattle.kms_model.specs.Script.WellFormed.{IsFitClient, IsFitCommand}
-use Rattle.kms_commands.specs.Fitting.{KeepsLimits}
+use Rattle.kms_words.specs.Fitting.{KeepsLimits}
 
 -- How many commands there are
 

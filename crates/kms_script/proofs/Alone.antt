@@ -13,7 +13,7 @@ use Rattle.kms_model.specs.Script.WholeInput.{Draft, Lined, blank_draft, drafted
 use Rattle.kms_script.specs.declared.faults.ParseError.{ParseError}
 use Rattle.kms_script.specs.declared.faults.ParseError.TheVariants as errors
 use Rattle.kms_script.specs.declared.inputs.Parsed.{Parsed}
-use Rattle.kms_commands.specs.Fitting.{KeepsLimits}
+use Rattle.kms_words.specs.Fitting.{KeepsLimits}
 use Rattle.kms_script.specs.Stated.{Gives, parts_in, parts_of}
 use Rattle.kms_script.proofs.Formed.{well_formed}
 use Rattle.kms_script.proofs.Fronts.{front_spells}

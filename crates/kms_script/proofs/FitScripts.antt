@@ -22,7 +22,7 @@ use Rattle.kms_script.proofs.DraftGrows.{any_profile, with_version}
 use Rattle.kms_script.proofs.FitCommands.{command_fit}
 use Rattle.kms_script.proofs.Inverted.{bind_some, from_bind, map_some, some_same}
 use Rattle.kms_script.proofs.NamesBegin.{Begins}
-use Rattle.kms_commands.proofs.Parts.{first_part, later_parts}
+use Rattle.kms_words.proofs.Parts.{first_part, later_parts}
 use Rattle.kms_script.proofs.ProfileStays.{command_stays}
 use Rattle.kms_script.proofs.RowsSpelt.{ended_draft, is_line}
 use Rattle.kms_script.proofs.SpeltCommands.{names_begin}

@@ -14,7 +14,7 @@ use Rattle.kms_model.specs.Script.WholeInput.{Draft, topology_in}
 use Rattle.kms_model.specs.Script.Words.{between}
 use Rattle.kms_script.proofs.FitScripts.{IsSpelt, spelt_fits}
 use Rattle.kms_script.specs.Drafted.{ended}
-use Rattle.kms_commands.specs.Fitting.{KeepsLimits, IsFitCount, IsFitDevice, IsFitMask, IsFitPlane}
+use Rattle.kms_words.specs.Fitting.{KeepsLimits, IsFitCount, IsFitDevice, IsFitMask, IsFitPlane}
 
 pub by_recursion : {A : Type 0} (P : A → Type 0) (xs : List A) → All P xs → AllByRecursion P xs
 by_recursion P [] all = tt

@@ -11,7 +11,7 @@ use Rattle.kms_model.specs.declared.scripts.Why.TheVariants.{Bytes, Cut, Form, L
 use Rattle.kms_model.specs.Script.CommandLines.{Names, addfb_read, atomic_read, blob_read, buffer_read, command_read, is_over, label_alone, label_read, line_read, making_read, mode_read, naming_read, or_form, thing_read, unless, unmade, words_in}
 use Rattle.kms_model.specs.Script.Words.{end_at, from, label_at, until}
 use Rattle.kms_model.specs.Script.WellFormed.{IsFitCommand}
-use Rattle.kms_commands.specs.Fitting.{HasFilled}
+use Rattle.kms_words.specs.Fitting.{HasFilled}
 use Rattle.kms_script.specs.Lines.{GivesLine, checked, line_of}
 use Rattle.kms_script.specs.Overlong.{blank_count, has_many}
 use Rattle.kms_script.specs.Stated.{GivesCommand, line_error}

@@ -8,7 +8,7 @@ use Rattle.kms_model.specs.Report.TextLines.{line}
 use Rattle.kms_model.specs.Script.Words.{until, from, strip, field_at, end_at}
 use Rattle.kms_model.proofs.Facts.{tail-of}
 use Rattle.kms_script.proofs.Inverted.{if_some, some_same}
-use Rattle.kms_commands.proofs.Parts.{later_parts, first_part}
+use Rattle.kms_words.proofs.Parts.{later_parts, first_part}
 
 -- words with a blank before each, and what follows them
 abbrev pub fields_to : List (List ℕ) → List ℕ → List ℕ

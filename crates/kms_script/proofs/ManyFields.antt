@@ -8,7 +8,7 @@ use Rattle.kms_model.specs.Script.Grammar.{field_words, hex, hex_at, parted}
 use Rattle.kms_model.specs.Script.Words.{until, from, dec, dec_at, field_at}
 use Rattle.kms_script.specs.Overlong.{blank_count}
 use Rattle.kms_script.proofs.Inverted.{bind_some, if_some, some_same}
-use Rattle.kms_commands.proofs.Parts.{later_parts, first_part}
+use Rattle.kms_words.proofs.Parts.{later_parts, first_part}
 
 -- one for a blank
 abbrev pub one_if : Bool → ℕ

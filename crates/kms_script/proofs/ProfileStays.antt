@@ -14,7 +14,7 @@ use Rattle.kms_model.specs.Script.Grammar.{int, known_property}
 use Rattle.kms_model.specs.Script.WellFormed.{IsFitCommand}
 use Rattle.kms_model.specs.Script.WholeInput.{clients_of}
 use Rattle.kms_model.specs.Script.Words.{dec, end_at, from, is_label, label_at, strip, until}
-use Rattle.kms_commands.specs.Fitting.{IsFitProfile}
+use Rattle.kms_words.specs.Fitting.{IsFitProfile}
 use Rattle.kms_script.specs.Lines.{line_of}
 use Rattle.kms_script.proofs.Accepted.{form_ok, ok_same, unless_ok}
 use Rattle.kms_script.proofs.Inverted.{bind_some, choice_some, from_bind, if_some, map_some, or_some, some_same}

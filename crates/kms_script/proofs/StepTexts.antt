@@ -14,7 +14,7 @@ use Rattle.kms_model.specs.Script.Grammar.{is_printable}
 use Rattle.kms_model.specs.Script.InputLines.{rows_of}
 use Rattle.kms_model.specs.Script.Schedules.{IsFitIndex, IsFitNumber, IsFitStep, step_in_row, steps_in}
 use Rattle.kms_model.specs.Script.Words.{is_digit}
-use Rattle.kms_commands.specs.Printed.{fields}
+use Rattle.kms_words.specs.Printed.{fields}
 use Rattle.kms_script.specs.Scheduled.{step_text}
 use Rattle.kms_script.proofs.Decimals.{decimal_digits}
 use Rattle.kms_script.proofs.RowsAgain.{ended_row, first_row}

@@ -13,7 +13,7 @@ use Rattle.kms_model.specs.Report.History.{named_object}
 use Rattle.kms_model.specs.Script.Grammar.{object}
 use Rattle.kms_model.specs.Script.Schedules.{IsFitIndex, IsFitNumber, IsFitStep, greatest_number, lone_step, numbered_step, object_at, step_of_word, step_on_object, step_read, step_with_object}
 use Rattle.kms_model.specs.Script.Words.{dec_at, field_at, from, is_digit, until}
-use Rattle.kms_commands.specs.Printed.{fields}
+use Rattle.kms_words.specs.Printed.{fields}
 use Rattle.kms_script.specs.Scheduled.{step_text}
 use Rattle.kms_script.proofs.Decimals.{dec_read, decimal_digits}
 

@@ -10,7 +10,7 @@ use Rattle.kms_model.specs.declared.replies.Step.TheVariants.{Begin, Lock, BackO
 use Rattle.kms_model.specs.Report.History.{named_object, step_words}
 use Rattle.kms_model.specs.Script.Schedules.{IsFitIndex, IsFitNumber, IsFitStep, greatest_number, lone_step, numbered_step, object_at, step_of_word, step_on_object, step_read, step_with_object}
 use Rattle.kms_model.specs.Script.Words.{dec_at, end_at, field_at, strip}
-use Rattle.kms_commands.specs.Printed.{fields}
+use Rattle.kms_words.specs.Printed.{fields}
 use Rattle.kms_script.specs.Scheduled.{IsStepLine}
 use Rattle.kms_script.proofs.FitWords.{dec_at_fit, object_fit}
 use Rattle.kms_script.proofs.Inverted.{choice_some, from_bind, some_same}

@@ -2,7 +2,7 @@
 use Rattle.std.specs.Prelude.{◌≡◌, ◌≤◌, ◌+◌, ◌*◌, ℕ, List, [], length, Result, Ok, Err, ⊤, false, Bool, ◌||◌, nat_le, nat_lt, true}
 use Rattle.kms_model.specs.Script.InputLines.{Row}
 use Rattle.kms_model.specs.Script.WholeInput.{Draft, Lined, clients_in}
-use Rattle.kms_commands.specs.Fitting.{IsFitDevice, HasFitClients}
+use Rattle.kms_words.specs.Fitting.{IsFitDevice, HasFitClients}
 use Rattle.kms_commands.specs.Named.{HasRoomForNames, NamesGrow}
 use Rattle.kms_script.specs.declared.draft.Draft.{Draft as Held}
 use Rattle.kms_script.specs.declared.faults.ParseError.{ParseError}

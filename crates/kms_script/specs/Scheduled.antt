@@ -13,7 +13,7 @@ use Rattle.kms_model.specs.Script.Schedules.{IsFitStep, greatest_number, input_o
 use Rattle.kms_model.specs.Script.Spelling.{spelling}
 use Rattle.kms_model.specs.Script.WholeInput.{script_limit}
 use Rattle.kms_model.specs.Script.Words.{◌>>=◌, dec_at, end_at}
-use Rattle.kms_commands.specs.Printed.{fields}
+use Rattle.kms_words.specs.Printed.{fields}
 use Rattle.kms_script.specs.Stated.{parts_of}
 
 -- the line of a step, without its line feed: `T`, and the step's words with one blank before each

@@ -3,19 +3,20 @@ ghost use Rattle.std.specs.Prelude.{◌≡◌, ◌<◌, ◌≤◌, ◌+◌, ◌*
 ghost use Rattle.std.specs.List.{list_all};
 ghost use Rattle.kms_model.specs.Script.Grammar.{is_printable};
 ghost use Rattle.kms_model.specs.Script.WholeInput.{blank_draft, is_nil, crtcs_at, plane_type, plane_fields, conn_at, first_line, crtcs_line, plane_line, conn_line, client_line, command_line, later_line, script_line, clients_in, line_after, topology_in, script_in, is_conn_of, is_done, version_read};
-ghost use Rattle.kms_commands.specs.Fitting.{KeepsLimits, IsFitCount, IsFitPlane, IsFitMask, IsFitProfile, HasFitClients};
+ghost use Rattle.kms_words.specs.Fitting.{KeepsLimits, IsFitCount, IsFitPlane, IsFitMask, IsFitProfile, HasFitClients};
 ghost use Rattle.kms_script.specs.Drafted.{draft_in, row_in, IsSoundDraft, HasRoomFor, StaysWithinLimits, Becomes, ended, is_full};
 
 use crate::lines::read_line;
 use crate::rows::Row;
 use crate::stop::Stop;
-use kms_commands::{
-    MAX_COMMANDS, MAX_LABELS, MAX_SCRIPT, Names, read_crtcs, read_formats, split_at_byte, take_dec,
-    take_end, take_field,
-};
+use kms_commands::Names;
 use kms_model::{
     Command, MAX_CLIENTS, MAX_CONNECTORS, MAX_CRTCS, MAX_PLANES, NoMemory, PlaneInfo, Script, Seq,
     Topology, Why,
+};
+use kms_words::{
+    MAX_COMMANDS, MAX_LABELS, MAX_SCRIPT, read_crtcs, read_formats, split_at_byte, take_dec,
+    take_end, take_field,
 };
 use std::alloc::Global;
 use std::mem::replace;

@@ -6,7 +6,7 @@ ghost use Rattle.kms_model.specs.Script.Schedules.{at_end_of_lines, behind_scrip
 ghost use Rattle.kms_model.specs.Script.WholeInput.{blank_draft, input, script_in};
 ghost use Rattle.kms_model.specs.Script.WellFormed.{IsWellFormed};
 ghost use Rattle.kms_model.specs.Script.Spelling.{Spells};
-ghost use Rattle.kms_commands.specs.Fitting.{KeepsLimits};
+ghost use Rattle.kms_words.specs.Fitting.{KeepsLimits};
 ghost use Rattle.kms_script.specs.Scheduled.{IsScheduleText};
 ghost use Rattle.kms_script.specs.Stated.{Gives, parts_in, parts_of};
 ghost use Rattle.kms_script.specs.Drafted.{draft_in, row_in, IsSoundDraft};
@@ -16,8 +16,8 @@ use crate::endings::ends_script;
 use crate::faults::ParseError;
 use crate::rows::{Row, split_line};
 use crate::schedules::read_steps;
-use kms_commands::MAX_INPUT;
 use kms_model::{Part, Script, Seq, Step, Why};
+use kms_words::MAX_INPUT;
 use std::alloc::Global;
 
 /// What an input has.

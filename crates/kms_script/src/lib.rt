@@ -22,11 +22,11 @@ mod stop;
 pub use devices::{TopologyRead, read_topology};
 pub use faults::ParseError;
 pub use inputs::{Parsed, parse};
-pub use kms_commands::{
+pub use kms_model::Why;
+pub use kms_words::{
     MAX_ASSIGNS, MAX_BLOB, MAX_COMMANDS, MAX_INPUT, MAX_LABELS, MAX_SCRIPT, is_label, read_dec,
     read_int,
 };
-pub use kms_model::Why;
 pub use one_line::{LineError, NameIndex, read_command, read_command_with};
 pub use printing::print;
 pub use printing_steps::print_step;

@@ -6,8 +6,9 @@ ghost use Rattle.kms_commands.specs.Named.{HasRoomForNames, NamesGrow};
 
 use crate::overlong::{fault_of_many, has_many};
 use crate::stop::Stop;
-use kms_commands::{Names, command_of, split_at_byte};
+use kms_commands::{Names, command_of};
 use kms_model::{Command, Why};
+use kms_words::split_at_byte;
 use std::alloc::Global;
 
 /// The command that a line spells after the names so far, or its first fault in the order Form, Label, Limit: two

@@ -3,7 +3,7 @@ ghost use Rattle.std.specs.Prelude.{◌≡◌, ◌<◌, ◌≤◌, ◌∷◌, le
 ghost use Rattle.kms_model.specs.Script.InputLines.{rows_of};
 ghost use Rattle.kms_script.specs.Drafted.{row_in};
 
-use kms_commands::split_at_byte;
+use kms_words::split_at_byte;
 
 /// A line of an input.
 #[derive(Clone, Copy)]

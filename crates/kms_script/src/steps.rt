@@ -5,8 +5,8 @@ ghost use Rattle.kms_model.specs.declared.replies.Step.{Step};
 ghost use Rattle.kms_model.specs.Script.Schedules.{IsFitStep, IsSpeltOnce, object_at, step_of_word, step_read, worker_step};
 ghost use Rattle.kms_script.specs.Scheduled.{IsStepLine, index_in_step, last_number, number_and_object, step_text};
 
-use kms_commands::{MOST, read_object, strip, take_dec, take_end, take_field};
 use kms_model::{Kind, Step};
+use kms_words::{MOST, read_object, strip, take_dec, take_end, take_field};
 
 /// The number of a client or a commit, at the end of a line.
 #[tactic(auto, unfolding(crate::specs::Scheduled::last_number))]

@@ -1,7 +1,7 @@
 use Rattle.std.proofs.Common.{◌≡◌, ◌∷◌, ◌++◌, codes, map, rules}
 use Rattle.std.specs.Prelude.{OnOk}
 use Rattle.std.specs.Fmt.{decimal}
-use Rattle.kms_commands.specs.Printed.{fields}
+use Rattle.kms_words.specs.Printed.{fields}
 use Rattle.kms_model.specs.Script.Spelling.{assign_word, hex_word}
 use Rattle.kms_commands.proofs.Spaced.{atomic-added, fields-map}
 use Rattle.kms_commands.proofs.printing_commands.push_atomic.Goals as goal

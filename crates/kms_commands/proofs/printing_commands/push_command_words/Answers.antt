@@ -1,6 +1,6 @@
 use Rattle.std.proofs.Common.{◌≡◌, [], ◌∷◌, ◌++◌, codes, map, rules}
 use Rattle.std.specs.Fmt.{decimal}
-use Rattle.kms_commands.specs.Printed.{fields}
+use Rattle.kms_words.specs.Printed.{fields}
 use Rattle.kms_model.specs.Script.Spelling.{assign_word, format_word, hex_word, spelt_mode, name_word, pattern_words}
 use Rattle.kms_commands.proofs.Spaced.{fields-added, front-added, line-ended}
 use Rattle.kms_commands.proofs.printing_commands.push_command_words.Goals as goal

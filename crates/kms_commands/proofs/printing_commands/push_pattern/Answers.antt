@@ -1,7 +1,7 @@
 use Rattle.std.proofs.Common.{◌≡◌, ◌∷◌, ◌++◌, List, ℕ, codes, ap, sym, rules}
 use Rattle.std.specs.Prelude.{OnOk}
 use Rattle.std.specs.List.{flat_map}
-use Rattle.kms_commands.specs.Printed.{fields}
+use Rattle.kms_words.specs.Printed.{fields}
 use Rattle.kms_model.specs.Script.Spelling.{pixel_word, pattern_words}
 use Rattle.kms_commands.proofs.Spaced.{added, fields-map}
 use Rattle.kms_commands.proofs.printing_commands.push_pattern.Goals as goal

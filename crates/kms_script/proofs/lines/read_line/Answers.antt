@@ -3,7 +3,7 @@ use Rattle.std.specs.Prelude.{◌&&◌, codes}
 use Rattle.std.specs.Str.{bytes_eq}
 use Rattle.kms_model.specs.Script.CommandLines.{command_read}
 use Rattle.kms_model.specs.Script.Words.{from, until}
-use Rattle.kms_commands.specs.Fitting.{HasFilled}
+use Rattle.kms_words.specs.Fitting.{HasFilled}
 use Rattle.kms_script.specs.Overlong.{has_many}
 use Rattle.kms_script.proofs.LineFaults.{atomic_line, fit_command, line_read_well}
 use Rattle.kms_script.proofs.lines.read_line.Goals as goal

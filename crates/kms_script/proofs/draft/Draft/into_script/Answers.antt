@@ -1,7 +1,7 @@
 use Rattle.std.proofs.Common.{◌≡◌, ◌<◌, ◌≤◌, length, subst, sym, rules}
 use Rattle.kms_model.specs.Script.WholeInput.{Draft}
 use Rattle.kms_script.specs.Drafted.{draft_in, ended}
-use Rattle.kms_commands.specs.Fitting.{HasFitClients, IsFitDevice}
+use Rattle.kms_words.specs.Fitting.{HasFitClients, IsFitDevice}
 use Rattle.kms_script.proofs.Formed.{ended_device, keeps_limits}
 use Rattle.kms_script.proofs.draft.Draft.into_script.Goals as goal
 
