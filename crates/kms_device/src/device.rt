@@ -16,6 +16,7 @@ use kms_core::Core;
 use kms_histlock::HistLock;
 use kms_model::{Duplicate, NoMemory, Place, Script, Seq};
 use std::alloc::Global;
+use std::boxed::Box;
 use std::marker::Model;
 use std::sync::Wait;
 
@@ -23,8 +24,9 @@ use std::sync::Wait;
 /// history, behind all that the pass has seen. Nothing is claimed of when a turn comes.
 #[derive(Drop)]
 pub struct Device {
-    script: Script,
-    pub(crate) lock: HistLock<Kernel>,
+    // In boxes, since who owns a device gives it up at each end.
+    script: Box<Script>,
+    pub(crate) lock: Box<HistLock<Kernel>>,
 }
 
 impl Model for Device {
@@ -33,9 +35,10 @@ impl Model for Device {
 
     ghost Value = { SharedDevice };
 
-    ghost view = { λ d. record { lock = d.lock.lock; seats = d.lock.seats; script = d.script } };
+    ghost view = { λ d. record {
+        lock = d.lock.value.lock; seats = d.lock.value.seats; script = d.script.value } };
 
-    ghost invariant = { λ d. d.script ≡ d.lock.fixed };
+    ghost invariant = { λ d. d.script.value ≡ d.lock.value.fixed };
 }
 
 impl Device {
@@ -51,6 +54,7 @@ impl Device {
     {
         let kernel = Kernel::new(alloc, script.copy(alloc)?)?;
         let (lock, passes) = HistLock::new(alloc, kernel, seats)?;
+        let (script, lock) = (Box::new(alloc, script)?, Box::new(alloc, lock)?);
         Ok((Device { script, lock }, passes))
     }
 
@@ -64,7 +68,7 @@ impl Device {
         ensures made { length result.steps ≡ sum_by (λ p. p.made) passes }
         ensures reached { All (λ p. IsReached blankings p result.steps) passes }
     {
-        self.lock.close(passes).into_core()
+        Box::into_inner(self.lock).close(passes).into_core()
     }
 
     /// The script. It waits for nobody.
