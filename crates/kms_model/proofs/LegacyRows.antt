@@ -201,10 +201,10 @@ taken_off = record {
   conns = Some (record { old = record { crtc = 100 }; new = record { crtc = 0 } }) ∷ [];
 }
 
-abbrev read_at : Present → ℕ → ℕ × (ℕ × Option FbInfo)
-read_at p index = (p.conn_crtc index, (p.plane_crtc index, p.plane_fb index))
+abbrev numbers_at : Present → ℕ → ℕ × (ℕ × Option FbInfo)
+numbers_at p index = (p.conn_crtc index, (p.plane_crtc index, p.plane_fb index))
 
-pub states_are_read_as_they_were : map (read_at (present_of taken_off)) (0 ∷ 1 ∷ [])
+pub states_are_read_as_they_were : map (numbers_at (present_of taken_off)) (0 ∷ 1 ∷ [])
     ≡ (100, (101, Some shown_fb)) ∷ (0, (0, None)) ∷ []
 unfolding on_legacy
 states_are_read_as_they_were = refl

@@ -131,20 +131,29 @@ labels_are_numbered_anew = (tt, (refl, (refl, (refl, (refl, (refl, refl))))))
 
 -- A session on two CRTCs
 
--- two primary planes, a cursor plane, an overlay and two connectors, each of both CRTCs; framebuffers of one pixel, of four, and
--- of one in another format; a mode of one pixel and one of four
+-- two primary planes, a cursor plane, an overlay and two connectors, each of both CRTCs; framebuffers of one pixel, two of three by two
+-- over one buffer, and one of one pixel in another format; a mode of one pixel, and one of two by one
 abbrev session_head : List ℕ
-session_head = codes "kms 1\ncrtcs 2\nplane primary 0,1 XR24\nplane primary 0,1 XR24,RG16\nplane cursor 0,1 XR24\nplane overlay 0,1 XR24\nconn 0,1\nconn 0,1\nclient\nbuffer a 1 1 XR24 ramp\naddfb f a\nbuffer b 2 2 XR24 ramp\naddfb g b\nbuffer c 1 1 RG16 ramp\naddfb h c\nmode m 1 1 1 1 1 0 1 1 1 1 0 60 0 0 one\nmode n 1 2 2 2 2 0 2 2 2 2 0 60 0 0 four\n"
+session_head =
+    codes "kms 1\ncrtcs 2\nplane primary 0,1 XR24\nplane primary 0,1 XR24,RG16\nplane cursor 0,1 XR24\nplane overlay 0,1 XR24\n"
+    ++ codes "conn 0,1\nconn 0,1\nclient\nbuffer a 1 1 XR24 ramp\naddfb f a\nbuffer b 3 2 XR24 ramp\naddfb g b\naddfb k b\n"
+    ++ codes "buffer c 1 1 RG16 ramp\naddfb h c\nmode m 1 1 1 1 1 0 1 1 1 1 0 60 0 0 one\nmode n 1 2 2 2 2 0 1 1 1 1 0 60 0 0 two\n"
 
 -- The connector of the first CRTC is not given to the second, a shown plane does not go straight to another CRTC, and a CRTC
--- with a plane does not go off. What is shown has its format also where it was closed; a closed framebuffer has none, and its flip
--- leaves a line.
+-- with a plane does not go off. A flip shows another framebuffer, and the same part of it. What is shown has its format also where
+-- it was closed; a closed framebuffer has none, and its flip leaves a line.
 abbrev both_lit : List ℕ
-both_lit = codes "pageflip 0 @g 0x0 1\nsetcrtc 0 @g 0 0 @n 0\nsetcrtc 1 @g 1 0 @m 0\nsetcrtc 1 @g 1 0 @m 1\ncursor 0 @f 1 0\ncursor 1 @f 0 0\ncursor 0 move -1 1\nsetplane 3 1 @f 0 0 1 1 0 0 65536 65536\nsetplane 3 0 @f 0 0 1 1 0 0 65536 65536\npageflip 1 @h 0x0 1\npageflip 1 @f 0x0 1\npageflip 0 @g 0x1 3\nclosefb g\npageflip 0 @h 0x0 0\nclosefb h\npageflip 0 @h 0x0 0\nsetcrtc 1 off\n"
+both_lit =
+    codes "pageflip 0 @g 0x0 1\nsetcrtc 0 @g 1 1 @n 0\nsetcrtc 1 @g 1 0 @m 0\nsetcrtc 1 @g 1 0 @m 1\ncursor 0 @g 1 0\ncursor 1 @f 0 0\n"
+    ++ codes "cursor 0 move -1 1\nsetplane 3 1 @f 0 0 1 1 0 0 65536 65536\nsetplane 3 0 @f 0 0 1 1 0 0 65536 65536\n"
+    ++ codes "pageflip 1 @h 0x0 1\npageflip 1 @f 0x0 1\npageflip 0 @k 0x1 3\nclosefb k\npageflip 0 @h 0x0 0\nclosefb h\n"
+    ++ codes "pageflip 0 @h 0x0 0\nsetcrtc 1 off\n"
 
 -- The second CRTC goes off, and its primary plane is shown on the first, from where `setcrtc 1 off` takes it.
 abbrev one_after_the_other_off : List ℕ
-one_after_the_other_off = codes "setplane 3 off\nsetcrtc 1 off\ncursor 0 off\ncursor 0 move 1 1\nsetcrtc 0 @g 0 0 @n 1\nsetcrtc 0 @f 0 0 @m 1\nsetplane 1 0 @f 0 0 1 1 0 0 65536 65536\nsetcrtc 1 off\nsetplane 0 off\npageflip 0 @f 0x0 0\nsetcrtc 0 off\n"
+one_after_the_other_off =
+    codes "setplane 3 off\nsetcrtc 1 off\ncursor 0 off\ncursor 0 move 1 1\nsetcrtc 0 @k 0 0 @n 1\nsetcrtc 0 @f 0 0 @m 1\n"
+    ++ codes "setplane 1 0 @f 0 0 1 1 0 0 65536 65536\nsetcrtc 1 off\nsetplane 0 off\npageflip 0 @f 0x0 0\nsetcrtc 0 off\n"
 
 abbrev session : Result LegacyScript Fault
 session = legacy_input (session_head ++ both_lit ++ one_after_the_other_off)
@@ -157,13 +166,13 @@ device_in (Err fault) = device
 abbrev left_by : List (List ℕ) → Topology → World → LegacyCommand → List Command
 left_by words t w c = listed (meant words words t w c)
 
-abbrev world_after : List (List ℕ) → Topology → World → LegacyCommand → World
-world_after words t w c = (after_line t w (meant words words t w c) (left_by words t w c)).world
+abbrev world_behind : List (List ℕ) → Topology → World → LegacyCommand → World
+world_behind words t w c = (after_line t w (meant words words t w c) (left_by words t w c)).world
 
 -- the lines that a script leaves, where the new script has the same names
 abbrev left_along : List (List ℕ) → Topology → World → List LegacyCommand → List Command
 left_along words t w [] = []
-left_along words t w (c ∷ cs) = left_by words t w c ++ left_along words t (world_after words t w c) cs
+left_along words t w (c ∷ cs) = left_by words t w c ++ left_along words t (world_behind words t w c) cs
 
 abbrev answer_to : Topology → World → Result Request ℕ → Result Reply ℕ
 answer_to t w (Ok r) = Ok (execute t w 1 (command.Atomic r)).reply
@@ -176,9 +185,8 @@ told words t w (Call c) = answer_to t w (translated words words t w c)
 
 abbrev told_along : List (List ℕ) → Topology → World → List LegacyCommand → List (Result Reply ℕ)
 told_along words t w [] = []
-told_along words t w (c ∷ cs) = told words t w c ∷ told_along words t (world_after words t w c) cs
+told_along words t w (c ∷ cs) = told words t w c ∷ told_along words t (world_behind words t w c) cs
 
--- behind the eight things that are made first
 abbrev session_names : List (List ℕ)
 session_names = old_names_in session
 
@@ -188,7 +196,8 @@ session_start = start (device_in session)
 abbrev session_left : List Command
 session_left = left_along session_names (device_in session) session_start (old_lines_in session)
 
-pub session_is_answered : drop 8 (told_along session_names (device_in session) session_start (old_lines_in session))
+-- behind the nine things that are made first
+pub session_is_answered : drop 9 (told_along session_names (device_in session) session_start (old_lines_in session))
     ≡ Err NOT_SHOWN.0
     ∷ Ok (reply.Commit 0)
     ∷ Ok (refused refusal.MODE_XOR_CONNECTOR)

@@ -1,14 +1,16 @@
 -- Worked histories of devices that are turned off and brought back, computed.
-use Rattle.std.proofs.Common.{◌≡◌, ℕ, Bool, true, false, List, [], ◌∷◌, ◌++◌, map, length, refl, codes}
+use Rattle.std.proofs.Common.{◌≡◌, ℕ, Bool, true, false, List, [], ◌∷◌, ◌++◌, map, length, refl, codes, Option, Some}
 use Rattle.std.specs.List.{flat_map, list_all, range_with_len}
 use Rattle.std.specs.Ordering.{int_eq}
 use Rattle.std.specs.Str.{bytes_eq}
+use Rattle.kms_model.specs.declared.objects.Mode.{Mode}
 use Rattle.kms_model.specs.declared.replies.Answered.{Answered}
 use Rattle.kms_model.specs.declared.replies.Event.{Event}
 use Rattle.kms_model.specs.declared.replies.Step.{Step}
 use Rattle.kms_model.specs.declared.scripts.Command.TheVariants as command
 use Rattle.kms_model.specs.declared.scripts.Script.{Script}
 use Rattle.kms_model.specs.declared.worlds.World.{World}
+use Rattle.kms_model.specs.Device.States.{mode_at}
 use Rattle.kms_model.specs.Device.World.{value}
 use Rattle.kms_model.specs.Frames.FrameBytes.{frame_bytes}
 use Rattle.kms_model.specs.Headline.{CommitPicture, entry_answered, history_journal, latched_pictures}
@@ -21,7 +23,7 @@ use Rattle.kms_model.specs.Request.Apply.{after}
 use Rattle.kms_model.specs.Script.Longer.{at_last, extended_after, world_after}
 use Rattle.kms_model.proofs.MachineInputs.{plain, report_of_script}
 use Rattle.kms_model.proofs.OnSuspending.{on_suspending}
-use Rattle.kms_model.proofs.Rows.{device, script}
+use Rattle.kms_model.proofs.Rows.{device, named_tiny, script}
 use Rattle.kms_model.proofs.SuspendRows.{dark, first, second_blob}
 
 -- the report of a script that goes on behind a history, in at most 64 rounds
@@ -122,6 +124,17 @@ short_client_keeps_promises = refl
 pub second_blob_keeps_all_but_one : keeps_after second_blob (finished_within second_blob 64 []) ≡ true ∷ true ∷ true ∷ true ∷ false ∷ []
 unfolding on_suspending
 second_blob_keeps_all_but_one = refl
+
+-- the mode of the CRTC before and after
+abbrev modes_behind : Script → List Step → List (Option Mode)
+modes_behind s h =
+    map (λ w. mode_at w.things w.values 100)
+    (world_after s h ∷ world_after (extended_after s h) (finished_within (extended_after s h) 64 h) ∷ [])
+
+-- which holds the same mode
+pub second_blob_keeps_the_mode : modes_behind second_blob (finished_within second_blob 64 []) ≡ Some named_tiny ∷ Some named_tiny ∷ []
+unfolding on_suspending
+second_blob_keeps_the_mode = refl
 
 -- an event that was not read stays so
 abbrev unread_behind : Script → List Step → List Event

@@ -1,6 +1,6 @@
 -- Worked examples of the requests that turn a device off and bring it back, computed; what cannot be brought back; false neighbours.
-use Rattle.std.proofs.Common.{◌≡◌, ℕ, false, List, [], ◌∷◌, ◌++◌, map, length, refl, codes, replicate, Option, Some, None, Ok}
-use Rattle.std.specs.Prelude.{reverse, ◌+◌}
+use Rattle.std.proofs.Common.{◌≡◌, ℕ, Bool, true, false, List, [], ◌∷◌, ◌++◌, map, length, refl, codes, replicate, Option, Some, None, Ok}
+use Rattle.std.specs.Prelude.{reverse, not, ◌+◌, ◌&&◌, ◌==◌}
 use Rattle.std.specs.List.{flat_map, range_with_len}
 use Rattle.std.specs.Str.{bytes_eq}
 use Rattle.kms_model.specs.declared.flags.TheConstants.{ALLOW_MODESET}
@@ -13,7 +13,9 @@ use Rattle.kms_model.specs.declared.scripts.Command.TheVariants as command
 use Rattle.kms_model.specs.declared.scripts.Request.{Request}
 use Rattle.kms_model.specs.declared.scripts.Script.{Script}
 use Rattle.kms_model.specs.declared.scripts.Value.TheVariants as given
+use Rattle.kms_model.specs.declared.worlds.Thing.{Thing}
 use Rattle.kms_model.specs.declared.worlds.World.{World}
+use Rattle.kms_model.specs.Device.Execution.{is_framebuffer}
 use Rattle.kms_model.specs.Device.ModeBytes.{mode_bytes}
 use Rattle.kms_model.specs.Device.Modes.{plain_mode}
 use Rattle.kms_model.specs.Device.Serial.{Entry, serial}
@@ -21,8 +23,8 @@ use Rattle.kms_model.specs.Device.World.{start}
 use Rattle.kms_model.specs.Order.Suspending.{closed_object, conn_back, crtc_back, has_crtc_at, has_mode_at, indices_where, modeset, off_request, on_request, open_mode_label, plane_back}
 use Rattle.kms_model.specs.Report.TextLines.{line}
 use Rattle.kms_model.specs.Request.Apply.{after}
-use Rattle.kms_model.specs.Script.Generated.{generated, generated_device}
-use Rattle.kms_model.specs.Script.Longer.{commands_of_last, extended, most_before_two, with_commands}
+use Rattle.kms_model.specs.Script.Generated.{framebuffer_f, generated, generated_device, mode_m}
+use Rattle.kms_model.specs.Script.Longer.{commands_of_last, extended, last_client, most_before_two, with_commands}
 use Rattle.kms_model.specs.Script.Spelling.{command_words, spelling}
 use Rattle.kms_model.specs.Script.WholeInput.{input}
 use Rattle.kms_model.proofs.OneThread.{replies}
@@ -135,9 +137,18 @@ pub dark_things_are_not_told : map (closed_object device) (start device ∷ worl
 unfolding on_suspending
 dark_things_are_not_told = refl
 
+-- a dark CRTC's mode is needed too
+pub dark_mode_is_told : closed_object device (world_of (with_commands (command.Destroy 0 ∷ []) dark)) ≡ Some 100
+unfolding on_suspending
+dark_mode_is_told = refl
+
 -- a client may have 4096 commands
 pub two_more_fit : most_before_two + 2 ≡ 4096
 two_more_fit = refl
+
+-- the client that gets two more, counted from 1, also where it is added
+pub added_client_is_the_first : map last_client (record first { clients = [] } ∷ first ∷ generated 0 0 ∷ []) ≡ 1 ∷ 1 ∷ 2 ∷ []
+added_client_is_the_first = refl
 
 -- two clients that light a CRTC each, with equal modes in blobs of their own
 abbrev both_lit : World
@@ -178,6 +189,28 @@ pub closed_things_are_told : map closed_after (
     ≡ None ∷ Some 200 ∷ Some 100 ∷ Some 100 ∷ None ∷ None ∷ Some 100 ∷ []
 unfolding on_suspending
 closed_things_are_told = refl
+
+-- a thing that is closed where it passes a test
+abbrev shut_where : (Thing → Bool) → Thing → Thing
+shut_where test thing = record thing { is_open = thing.is_open && not (test thing) }
+
+abbrev shut : (Thing → Bool) → World → World
+shut test w = record w { things = map (shut_where test) w.things }
+
+-- everything, all framebuffers, that of the second plane alone; either blob of the mode that both CRTCs have
+abbrev shut_ones : List (Thing → Bool)
+shut_ones =
+    (λ thing. true)
+    ∷ (λ thing. is_framebuffer thing.content)
+    ∷ (λ thing. thing.label == framebuffer_f 1)
+    ∷ (λ thing. thing.label == mode_m 0)
+    ∷ (λ thing. thing.label == mode_m 1)
+    ∷ []
+
+pub least_object_is_told : map (λ test. closed_object generated_device (shut test both_lit)) shut_ones
+    ≡ Some 100 ∷ Some 200 ∷ Some 201 ∷ None ∷ None ∷ []
+unfolding on_suspending
+least_object_is_told = refl
 
 -- the first script, with a second blob of the same mode, and the first destroyed
 abbrev pub second_blob : Script

@@ -22,7 +22,7 @@ use Rattle.kms_model.specs.Device.Execution.{execute}
 use Rattle.kms_model.specs.Device.ModeBytes.{mode_bytes}
 use Rattle.kms_model.specs.Device.World.{start}
 use Rattle.kms_model.specs.Legacy.LegacyLines.{legacy_input, SpellsLegacy}
-use Rattle.kms_model.specs.Legacy.Translated.{AreTranslated, lone_commands, translated, mode_of_call}
+use Rattle.kms_model.specs.Legacy.Translated.{AreTranslated, after_line, lone_commands, translated, mode_of_call}
 use Rattle.kms_model.specs.Request.Lookups.{look_up}
 use Rattle.kms_model.specs.Script.WholeInput.{input}
 use Rattle.kms_model.proofs.LegacyRows.{base_with}
@@ -99,6 +99,21 @@ its_translation_is_read = refl
 pub its_lines_are_translated : AreTranslated names names device (start device) old_script.commands (lone_commands new_script.clients)
 unfolding on_legacy
 its_lines_are_translated = (refl, (refl, (refl, (tt, (refl, (refl, refl))))))
+
+-- the one client is the first, and owns what is made
+pub lines_are_those_of_client_1 : map (λ thing. thing.owner)
+    (after_line device (start device) (Some (command.Fence 0)) (command.Fence 0 ∷ [])).world.things
+    ≡ 1 ∷ []
+unfolding on_legacy
+lines_are_those_of_client_1 = refl
+
+-- a line too many, and a line too few, are no translation
+pub line_too_many_is_none : AreTranslated [] [] device (start device) [] (command.Wait ∷ []) → ⊥
+line_too_many_is_none is = absurd cc
+
+pub line_too_few_is_none : AreTranslated [] [] device (start device) (Plain command.Wait ∷ []) [] → ⊥
+unfolding on_legacy
+line_too_few_is_none is = is.0
 
 abbrev executed : World → List Command → World
 executed w [] = w

@@ -11,7 +11,9 @@ use crate::refusals::{Rule, first_of};
 use crate::scripts::{Command, Script};
 
 /// An older call. Objects are named by their indices, which are those of objects of the device, and labels are indices
-/// in the script's names, below 2^32. (Kernel: `drm_crtc.c`, `drm_plane.c`.)
+/// in the script's names, below 2^32. `SetCrtc`, `CrtcOff` and `PageFlip` are refused by `NO_PLANE` where the CRTC has no
+/// primary plane, `Cursor`, `CursorMove` and `CursorOff` where it has no cursor plane; `PageFlip` then by `NOT_SHOWN` and
+/// `FORMAT_CHANGES`. (Kernel: `drm_crtc.c`, `drm_plane.c`.)
 #[derive(Clone, Copy, PartialEq, Eq)]
 pub enum LegacyCall {
     /// Shows a framebuffer on a CRTC's primary plane, in a mode and on one connector. (Header: `drm_mode.h`,
@@ -66,7 +68,7 @@ pub enum LegacyCall {
         user_data: u64,
     },
     /// Shows a whole framebuffer on a CRTC's cursor plane. (Header: `drm_mode.h`, `struct drm_mode_cursor2`;
-    /// `drm_mode_cursor_common`.)
+    /// `drm_mode_cursor_common`, `drm_mode_cursor_universal`.)
     Cursor {
         /// The CRTC.
         crtc: u32,

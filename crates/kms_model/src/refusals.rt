@@ -114,7 +114,7 @@ impl Denied {
 /// A rule that refuses a command.
 #[derive(Clone, Copy)]
 pub struct Rule {
-    /// Its number, which is that of a `Refusal` or a `Denied`.
+    /// Its number, which is that of a `Refusal`, a `Denied` or a `LegacyRefusal`.
     pub number: u32,
     /// The name of that constant.
     pub name: &'static str,

@@ -1,6 +1,6 @@
 -- Scripts that say by atomic requests what a script with older calls says. The relation is over the words of lines, so that
 -- both scripts have their own names, each in order of first occurrence.
-use Rattle.std.specs.Prelude.{◌≡◌, ℕ, Bool, false, List, [], ◌∷◌, option_map, Option, Some, None, Result, ⊤}
+use Rattle.std.specs.Prelude.{◌≡◌, ℕ, Bool, false, List, [], ◌∷◌, get_or, option_map, Option, Some, None, Result, ⊤}
 use Rattle.std.specs.List.{position_or_len}
 use Rattle.std.specs.Result.{result_ok}
 use Rattle.std.specs.Str.{bytes_eq}
@@ -102,8 +102,7 @@ AreTranslated old new t w (c ∷ cs) lines =
 
 -- the commands of a script of at most one client
 abbrev pub lone_commands : List (List Command) → List Command
-lone_commands [] = []
-lone_commands (commands ∷ rest) = commands
+lone_commands clients = get_or clients 0 []
 
 -- A script says by requests what a script with older calls says. It is well formed, so its names are those of its own lines in
 -- order of first occurrence: a call says its framebuffer before its mode, and its request the mode first; a label of calls

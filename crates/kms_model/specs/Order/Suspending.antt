@@ -2,7 +2,7 @@
 -- drm_mode_config_helper_resume; `drm_atomic_helper.c`, drm_atomic_helper_suspend, which duplicates the states before it turns all
 -- off, drm_atomic_helper_disable_all, drm_atomic_helper_resume, drm_atomic_helper_commit_duplicated_state. That both are a client's
 -- requests, which name framebuffers and modes by labels, and the order of their assignments are this device's own.
-use Rattle.std.specs.Prelude.{ℕ, Bool, not, ◌&&◌, ◌==◌, List, [], ◌∷◌, ◌++◌, map, filter, find, is_some, is_none, unwrap_or, Option, Some, None, if◌then◌else◌}
+use Rattle.std.specs.Prelude.{ℕ, Bool, not, ◌&&◌, ◌==◌, List, [], ◌∷◌, ◌++◌, map, filter, find, is_some, is_none, unwrap_or, Option, Some}
 use Rattle.std.specs.List.{flat_map}
 use Rattle.std.specs.Option.{option_and_then}
 use Rattle.kms_model.specs.declared.flags.TheConstants.{ALLOW_MODESET}
@@ -21,7 +21,7 @@ use Rattle.kms_model.specs.Firsts.{or_else}
 use Rattle.kms_model.specs.Device.Modes.{same_mode}
 use Rattle.kms_model.specs.Device.Objects.{object_id, index_of, indices_of, ids_of}
 use Rattle.kms_model.specs.Device.States.{mode_at, crtc_at, plane_at}
-use Rattle.kms_model.specs.Device.World.{value, thing_with_id}
+use Rattle.kms_model.specs.Device.World.{value}
 use Rattle.kms_model.specs.Request.Lookups.{look_of}
 use Rattle.kms_model.specs.Request.Sets.{mode_of_look}
 use Rattle.kms_model.specs.Machine.Histories.{label_of_thing}
@@ -56,14 +56,9 @@ off_request t w = modeset (
 
 -- Labels of what is brought back
 
--- the label of a thing where it is open
-abbrev pub label_if_open : Option Thing → Option ℕ
-label_if_open None = None
-label_if_open (Some thing) = if thing.is_open then Some thing.label else None
-
 -- the label of the open thing with an id
 unfoldable pub open_label : List Thing → ℕ → Option ℕ
-open_label things id = label_if_open (thing_with_id things id)
+open_label things id = label_of_thing (find (λ thing. (thing.id == id) && thing.is_open) things)
 
 -- MODE_ID would take a thing's label, as this mode: the thing is an open blob, and its bytes, or a `mode` command, are this legal
 -- mode with all contents, the bytes behind the name's end among them.

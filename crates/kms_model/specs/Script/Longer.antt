@@ -28,7 +28,8 @@ commands_of_last [] = []
 commands_of_last (commands ∷ []) = commands
 commands_of_last (commands ∷ next ∷ clients) = commands_of_last (next ∷ clients)
 
--- the most commands of a client for this word, so that two more fit behind the last client's
+-- the most commands of a client of a script whose device is to be turned off and brought back, so that two more fit behind the last
+-- client's
 abbrev pub most_before_two : ℕ
 most_before_two = 4094
 
