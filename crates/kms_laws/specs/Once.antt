@@ -1,8 +1,6 @@
--- What happens once in a script and in its histories. From: the grammar of scripts, in which a label is made once; "Atomic Mode
--- Setting", a call of which each client has one answer.
-use Rattle.std.specs.Prelude.{◌≡◌, ◌<◌, ℕ, Bool, true, false, ◌==◌, List, Some}
+-- What happens once in a script. From: the grammar of scripts, in which a label is made once.
+use Rattle.std.specs.Prelude.{◌≡◌, ℕ, Bool, true, false, ◌==◌, Some}
 use Rattle.std.specs.List.{list_any}
-use Rattle.kms_model.specs.declared.replies.Step.{Step}
 use Rattle.kms_model.specs.declared.scripts.Command.{Command}
 use Rattle.kms_model.specs.declared.scripts.Command.TheVariants as command
 use Rattle.kms_model.specs.declared.scripts.Script.{Script}

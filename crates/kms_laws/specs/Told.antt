@@ -23,6 +23,6 @@ AreInOrder command least [] = ⊤
 AreInOrder command least (a ∷ later) = (a.command ≡ command) × ((least ≤ a.place) × AreInOrder (command + 1) a.place later)
 
 -- The replies to each client are to its commands from the first on, none left out, and no place is before that of an earlier one:
--- a report, which has them by client and command, has them in order of time.
+-- a report, which has a client's replies by command, has them in order of time.
 abbrev pub AnswersFollow : Type 0
 AnswersFollow = InEachHistory (λ s h. (client : ℕ) → AreInOrder 1 0 (answers_to (at s h) client))

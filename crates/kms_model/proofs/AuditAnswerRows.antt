@@ -12,11 +12,12 @@ use Rattle.kms_model.specs.declared.scripts.Command.{Command}
 use Rattle.kms_model.specs.declared.scripts.Command.TheVariants as command
 use Rattle.kms_model.specs.declared.scripts.Pattern.TheVariants.{Solid}
 use Rattle.kms_model.specs.declared.scripts.Script.{Script}
+use Rattle.kms_model.specs.declared.scripts.Value.TheVariants as value
 use Rattle.kms_model.specs.Report.Right.{first_wrong, wrong_line}
 use Rattle.kms_model.specs.Report.RightAnswers.{answers_in, entries_in, reply_is_right}
 use Rattle.kms_model.proofs.AuditRows.{script_of}
 use Rattle.kms_model.proofs.OnAudits.{on_audits}
-use Rattle.kms_model.proofs.Rows.{named_tiny}
+use Rattle.kms_model.proofs.Rows.{device, named_tiny}
 use Rattle.kms_model.proofs.VerdictRows.{light, number, request, sets}
 
 -- Busy: two requests that do not wait, of a plane that is on no CRTC
@@ -35,12 +36,26 @@ busy_with words = codes "J 1 1\nR 1 1 0 commit 0\nR 1 2 1 " ++ (words ++ codes "
 abbrev late_refusals : List (List ℕ)
 late_refusals =
     codes "EBUSY 26 plane0 0" ∷ codes "EBUSY 26 plane0 1" ∷ codes "EBUSY 26 crtc0 0" ∷ codes "EBUSY 26 crtc255 0" ∷ codes "EBUSY 26 enc0 0"
-    ∷ codes "ENOMEM events 25 4096" ∷ []
+    ∷ codes "ENOMEM events 25 4096" ∷ codes "EBUSY 26 crtc100 0" ∷ []
 
 pub busy_names_an_object_and_its_last_commit : map (λ words. wrong_line quick_twice (busy_with words)) late_refusals
-    ≡ None ∷ Some 3 ∷ Some 3 ∷ Some 3 ∷ Some 3 ∷ Some 3 ∷ []
+    ≡ None ∷ Some 3 ∷ Some 3 ∷ Some 3 ∷ Some 3 ∷ Some 3 ∷ Some 3 ∷ []
 unfolding on_audits
 busy_names_an_object_and_its_last_commit = refl
+
+-- a CRTC and a connector are busy as a plane is
+abbrev leaves : Command
+leaves = request 0x200 (sets kind.Crtc 0 ACTIVE (number 0) ∷ sets kind.Conn 0 CRTC_ID (number 0) ∷ [])
+
+abbrev leaving_with : List ℕ → List ℕ
+leaving_with words = codes "J 1 1\nR 1 1 0 commit 0\nR 1 2 1 " ++ (words ++ codes "\nD open 0\n")
+
+pub crtcs_and_connectors_are_busy :
+    map (λ words. wrong_line (script_of [] ((leaves ∷ leaves ∷ []) ∷ [])) (leaving_with words))
+    (codes "EBUSY 26 crtc0 0" ∷ codes "EBUSY 26 conn0 0" ∷ codes "EBUSY 26 plane0 0" ∷ codes "EBUSY 26 enc0 0" ∷ [])
+    ≡ None ∷ None ∷ Some 3 ∷ Some 3 ∷ []
+unfolding on_audits
+crtcs_and_connectors_are_busy = refl
 
 -- Two commits of a plane, one of the CRTC, and a request behind them
 abbrev late_script : Command → Script
@@ -146,6 +161,33 @@ pub request_without_an_event_has_space : reply_is_right lit_again lit_report (no
 unfolding on_audits
 request_without_an_event_has_space = refl
 
+-- two of three CRTCs are named: their events take 64 bytes
+abbrev two_lit : Script
+two_lit = record {
+  version = 1;
+  topology = record device { crtcs = 3; conns = 1 ∷ 2 ∷ [] };
+  names = codes "m" ∷ [];
+  clients =
+      (command.Mode 0 named_tiny
+      ∷ with_event
+      (sets kind.Crtc 0 ACTIVE (number 1)
+      ∷ sets kind.Crtc 0 MODE_ID (value.Named 0)
+      ∷ sets kind.Conn 0 CRTC_ID (value.Crtc 0)
+      ∷ sets kind.Crtc 1 ACTIVE (number 1)
+      ∷ sets kind.Crtc 1 MODE_ID (value.Named 0)
+      ∷ sets kind.Conn 1 CRTC_ID (value.Crtc 1)
+      ∷ [])
+      ∷ []) ∷ [];
+}
+
+abbrev used_with : List ℕ → List ℕ
+used_with used = codes "J 1 1\nR 1 1 0 made 1000\nR 1 2 1 ENOMEM events 25 " ++ (used ++ codes "\nD open 0\n")
+
+pub each_named_crtc_takes_space :
+    map (λ used. wrong_line two_lit (used_with used)) (codes "4096" ∷ codes "4064" ∷ codes "4032" ∷ []) ≡ None ∷ None ∷ Some 3 ∷ []
+unfolding on_audits
+each_named_crtc_takes_space = refl
+
 -- A false neighbour: replies compared with those of the device at the journal's end. The report of a client that destroys a
 -- blob before it makes it, and is right, would not be.
 
@@ -192,3 +234,30 @@ pub destroyed_mode_is_not_freed :
     (codes "J 1 1\nJ 1 2\nR 1 1 0 made 1000\nR 1 2 1 done\nX m 1000\nD open 0\n") ≡ Some 5
 unfolding on_audits
 destroyed_mode_is_not_freed = refl
+
+-- Two clients: a blob that is another's, and a fence that is signalled before it is made or after it
+
+abbrev owned : Script
+owned = script_of (codes "m" ∷ codes "n" ∷ [])
+    ((command.Mode 0 named_tiny ∷ command.Signal 1 ∷ []) ∷ (command.Destroy 0 ∷ command.Fence 1 ∷ []) ∷ [])
+
+abbrev reports_of_owned : List (List ℕ)
+reports_of_owned =
+    -- signal before the fence, behind it, and one that is done too early
+    codes "J 1 1\nJ 2 2\nR 1 1 0 made 1000\nR 1 2 1 EINVAL 35\nR 2 1 1 EPERM 34\nR 2 2 1 made 1001\nD drained\n"
+    ∷ codes "J 1 1\nJ 2 2\nR 1 1 0 made 1000\nR 1 2 2 done\nR 2 1 1 EPERM 34\nR 2 2 1 made 1001\nD drained\n"
+    ∷ codes "J 1 1\nJ 2 2\nR 1 1 0 made 1000\nR 1 2 1 done\nD open 0\n"
+    -- entry that this client is refused
+    ∷ codes "J 1 1\nJ 2 1\nD open 0\n"
+    -- second command first, of a second client
+    ∷ codes "J 1 1\nJ 2 2\nR 1 1 0 made 1000\nR 2 2 1 made 1001\nD open 0\n"
+    -- J line that is not right, before such an R line
+    ∷ codes "J 3 1\nR 1 2 0 done\nD open 0\n"
+    -- another id
+    ∷ codes "J 1 1\nR 1 1 0 made 1001\nD open 0\n"
+    ∷ []
+
+pub each_report_of_owned_has_its_line : map (wrong_line owned) reports_of_owned
+    ≡ None ∷ None ∷ Some 4 ∷ Some 2 ∷ Some 4 ∷ Some 1 ∷ Some 2 ∷ []
+unfolding on_audits
+each_report_of_owned_has_its_line = refl

@@ -6,15 +6,17 @@ use Rattle.kms_model.specs.declared.properties.TheConstants.{ACTIVE, ALPHA, FB_I
 use Rattle.kms_model.specs.declared.replies.Event.{Event}
 use Rattle.kms_model.specs.declared.replies.Reply.{Reply}
 use Rattle.kms_model.specs.declared.replies.Reply.TheVariants as reply
+use Rattle.kms_model.specs.declared.reports.End.TheVariants.{Drained}
 use Rattle.kms_model.specs.declared.reports.Report.{Report}
+use Rattle.kms_model.specs.declared.scripts.Command.{Command}
 use Rattle.kms_model.specs.declared.scripts.Command.TheVariants as command
 use Rattle.kms_model.specs.declared.scripts.Pattern.TheVariants.{Solid}
 use Rattle.kms_model.specs.declared.scripts.Script.{Script}
 use Rattle.kms_model.specs.declared.scripts.Value.TheVariants as value
-use Rattle.kms_model.specs.Report.Right.{LatchLine, event_is_right, has_a_line, latch_is_right, uses_a_line, wrong_line}
+use Rattle.kms_model.specs.Report.Right.{LatchLine, event_is_right, events_are_whole, has_a_line, latch_is_right, uses_a_line, wrong_line}
 use Rattle.kms_model.specs.Report.RightAnswers.{first_off}
 use Rattle.kms_model.proofs.AuditRows.{lit, script_of}
-use Rattle.kms_model.proofs.AuditAnswerRows.{lit_and_put_off, lit_report}
+use Rattle.kms_model.proofs.AuditAnswerRows.{lit_and_put_off, lit_report, put_off, with_event}
 use Rattle.kms_model.proofs.OnAudits.{on_audits}
 use Rattle.kms_model.proofs.ReportRows.{event}
 use Rattle.kms_model.proofs.Rows.{device, named_tiny}
@@ -99,12 +101,41 @@ reports_of_two_crtcs =
     ∷ dark_with (codes "L 0 1 0 off\nD open 0\n")
     -- CRTC that is not there
     ∷ dark_with (codes "L 0 0 0 off\nL 2 0 0 off\nD open 0\n")
+    -- L line of the first CRTC left out
+    ∷ dark_with (codes "L 1 0 0 off\nL 1 1 0 off\nD drained\n")
     ∷ []
 
 pub each_report_of_two_crtcs_has_its_line : map (wrong_line dark) reports_of_two_crtcs
-    ≡ None ∷ Some 7 ∷ Some 7 ∷ Some 7 ∷ Some 5 ∷ Some 6 ∷ []
+    ≡ None ∷ Some 7 ∷ Some 7 ∷ Some 7 ∷ Some 5 ∷ Some 6 ∷ Some 7 ∷ []
 unfolding on_audits
 each_report_of_two_crtcs_has_its_line = refl
+
+-- a count is compared with that of the line before, and not with the first
+abbrev puts_off : Command
+puts_off = request 0x0 (sets kind.Crtc 0 ACTIVE (number 0) ∷ [])
+
+abbrev thrice_with : List ℕ → List ℕ
+thrice_with rest =
+    codes "J 1 1\nJ 1 2\nJ 1 3\nR 1 1 0 commit 0\nR 1 2 1 commit 1\nR 1 3 2 commit 2\nL 0 0 1 off\nL 0 1 3 off\n" ++ rest
+
+pub third_count_is_not_below_the_second :
+    map (wrong_line (script_of [] ((puts_off ∷ puts_off ∷ puts_off ∷ []) ∷ [])))
+    (thrice_with (codes "L 0 2 3 off\nD drained\n") ∷ thrice_with (codes "L 0 2 2 off\nD open 0\n") ∷ [])
+    ≡ None ∷ Some 9 ∷ []
+unfolding on_audits
+third_count_is_not_below_the_second = refl
+
+-- framebuffers are named in any order
+abbrev two_closed : Script
+two_closed = script_of (codes "b" ∷ codes "f" ∷ codes "g" ∷ [])
+    ((command.Buffer 0 1 1 Xr24 (Solid 0) ∷ command.AddFb 1 0 ∷ command.AddFb 2 0 ∷ command.CloseFb 1 ∷ command.CloseFb 2 ∷ []) ∷ [])
+
+pub framebuffers_are_freed_in_any_order :
+    wrong_line two_closed
+    (codes "J 1 1\nJ 1 2\nJ 1 3\nJ 1 4\nJ 1 5\nR 1 1 0 made 1000\nR 1 2 1 made 1001\nR 1 3 2 made 1002\nR 1 4 3 done\nR 1 5 4 done\n"
+    ++ codes "X g 1002\nX f 1001\nD drained\n") ≡ None
+unfolding on_audits
+framebuffers_are_freed_in_any_order = refl
 
 -- A flip whose event is read, with every letter
 
@@ -164,10 +195,12 @@ reports_behind_events =
     -- commit of the line before, and count that stays where the CRTC is on
     ∷ flip_with told nothing (codes "L 0 0 2 2c26b46b68ffc68ff99b453c1d30413413422d706483bfa0f98a5e886266e7ae\nD open 0\n")
     ∷ flip_with told nothing (codes "L 0 1 1 2c26b46b68ffc68ff99b453c1d30413413422d706483bfa0f98a5e886266e7ae\nD open 0\n")
+    -- event left out, before an X line that is not right
+    ∷ flip_with told nothing (shown_second ++ codes "X f 1001\nX f 1001\nD drained\n")
     ∷ []
 
 pub each_report_behind_events_has_its_line : map (wrong_line flip) reports_behind_events
-    ≡ Some 22 ∷ Some 23 ∷ Some 23 ∷ Some 20 ∷ Some 20 ∷ []
+    ≡ Some 22 ∷ Some 23 ∷ Some 23 ∷ Some 20 ∷ Some 20 ∷ Some 21 ∷ []
 unfolding on_audits
 each_report_behind_events_has_its_line = refl
 
@@ -199,6 +232,36 @@ pub events_come_in_the_order_of_replies :
     ≡ true ∷ false ∷ true ∷ false ∷ false ∷ true ∷ []
 unfolding on_audits
 events_come_in_the_order_of_replies = refl
+
+-- Two clients read one event each, and both tell the same, of counts that are 1 modulo 2^32
+
+abbrev two_readers : Script
+two_readers = script_of (codes "b" ∷ codes "f" ∷ codes "m" ∷ [])
+    ((command.Buffer 0 1 1 Xr24 (Solid 0x00616263) ∷ command.AddFb 1 0 ∷ command.Mode 2 named_tiny ∷ with_event light ∷ command.Wait ∷ [])
+    ∷ (with_event put_off ∷ command.Wait ∷ [])
+    ∷ [])
+
+abbrev read_by_both : List (ℕ × Event) → Report
+read_by_both events = record {
+  journal = (1, 1) ∷ (1, 2) ∷ (1, 3) ∷ (1, 4) ∷ (2, 1) ∷ [];
+  replies = answered_event 1 5 (event 7 1 100) ∷ answered_event 2 2 (event 7 1 100) ∷ [];
+  latches = (0, 0, 1, Some []) ∷ (0, 1, 4294967297, None) ∷ [];
+  events = events;
+  freed = [];
+  end = Drained;
+  steps = [];
+}
+
+pub each_client_reads_its_own : event_is_right two_readers (read_by_both []) ((1, event 7 1 100) ∷ []) (2, event 7 1 100) ≡ true
+unfolding on_audits
+each_client_reads_its_own = refl
+
+pub events_of_each_client_are_whole :
+    map (λ events. events_are_whole (read_by_both events))
+    ([] ∷ ((1, event 7 1 100) ∷ []) ∷ ((2, event 7 1 100) ∷ []) ∷ ((1, event 7 1 100) ∷ (2, event 7 1 100) ∷ []) ∷ [])
+    ≡ false ∷ false ∷ false ∷ true ∷ []
+unfolding on_audits
+events_of_each_client_are_whole = refl
 
 -- An out-fence is no fence of a command
 

@@ -69,10 +69,12 @@ changes =
     ∷ lines_with [] lit drained
     -- label that is no fence's
     ∷ lines_with committed lit (codes "D stalled m\n")
+    -- no R line of an entry, before an L line that is one too many
+    ∷ lines_with [] lit (lit ++ drained)
     ∷ []
 
 pub each_change_has_its_line : map (wrong_line (script 0x400 0)) changes
-    ≡ Some 8 ∷ Some 9 ∷ Some 9 ∷ Some 10 ∷ Some 8 ∷ Some 9 ∷ Some 9 ∷ Some 9 ∷ Some 10 ∷ Some 8 ∷ Some 10 ∷ []
+    ≡ Some 8 ∷ Some 9 ∷ Some 9 ∷ Some 10 ∷ Some 8 ∷ Some 9 ∷ Some 9 ∷ Some 9 ∷ Some 10 ∷ Some 8 ∷ Some 10 ∷ Some 8 ∷ []
 unfolding on_audits
 each_change_has_its_line = refl
 
@@ -161,7 +163,7 @@ each_report_of_three_has_its_line = refl
 
 -- Fences that are signalled, a history that waits for one, and framebuffers that are freed
 
-abbrev closing : Script
+abbrev pub closing : Script
 closing = script_of (codes "b" ∷ codes "f" ∷ codes "n" ∷ codes "q" ∷ [])
     ((command.Buffer 0 1 1 Xr24 (Solid 0) ∷ command.AddFb 1 0 ∷ command.CloseFb 1 ∷ command.Fence 2
     ∷ command.Signal 2 ∷ command.Signal 3 ∷ []) ∷ [])
@@ -170,9 +172,12 @@ abbrev closed_with : List ℕ → List ℕ
 closed_with rest =
     codes "J 1 1\nJ 1 2\nJ 1 3\nJ 1 4\nR 1 1 0 made 1000\nR 1 2 1 made 1001\nR 1 3 2 done\nR 1 4 3 made 1002\n" ++ rest
 
+abbrev pub closing_report : List ℕ
+closing_report = closed_with (codes "R 1 5 4 done\nR 1 6 4 EINVAL 35\nX f 1001\nD drained\n")
+
 abbrev reports_of_closing : List (List ℕ)
 reports_of_closing =
-    closed_with (codes "R 1 5 4 done\nR 1 6 4 EINVAL 35\nX f 1001\nD drained\n")
+    closing_report
     -- signal as an entry
     ∷ codes "J 1 1\nJ 1 2\nJ 1 3\nJ 1 4\nJ 1 5\nD open 0\n"
     -- signal that is not done
@@ -199,10 +204,12 @@ reports_of_closing =
     ∷ codes "J 1 1\nJ 1 2\nR 1 1 0 made 1000\nR 1 2 1 made 1001\nX f 1001\nD open 0\n"
     -- fence that the journal did not make
     ∷ codes "J 1 1\nJ 1 2\nJ 1 3\nR 1 1 0 made 1000\nR 1 2 1 made 1001\nR 1 3 2 done\nD stalled n\n"
+    -- X line that is not right, before such a D line
+    ∷ closed_with (codes "X b 1001\nD stalled f\n")
     ∷ []
 
 pub each_report_of_closing_has_its_line : map (wrong_line closing) reports_of_closing
     ≡ None ∷ Some 5 ∷ Some 9 ∷ Some 10 ∷ Some 10 ∷ Some 9 ∷ Some 9 ∷ Some 10 ∷ None ∷ Some 9 ∷ Some 9
-    ∷ Some 9 ∷ Some 10 ∷ Some 9 ∷ Some 1 ∷ Some 5 ∷ Some 7 ∷ []
+    ∷ Some 9 ∷ Some 10 ∷ Some 9 ∷ Some 1 ∷ Some 5 ∷ Some 7 ∷ Some 9 ∷ []
 unfolding on_audits
 each_report_of_closing_has_its_line = refl

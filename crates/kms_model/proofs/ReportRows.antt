@@ -1,20 +1,28 @@
 -- Worked examples of the grammar of reports, computed: what bytes spell, and the first line that no report has there.
 use Rattle.std.proofs.Common.{◌≡◌, ℕ, List, [], ◌∷◌, ◌++◌, map, replicate, refl, codes, Some, None, Ok}
 use Rattle.std.specs.Result.{result_err}
+use Rattle.kms_model.specs.declared.objects.Format.TheVariants.{Xr24}
 use Rattle.kms_model.specs.declared.objects.Kind.TheVariants as kind
+use Rattle.kms_model.specs.declared.properties.TheConstants.{ALPHA, IN_FENCE_FD}
 use Rattle.kms_model.specs.declared.replies.Event.{Event}
 use Rattle.kms_model.specs.declared.replies.Reply.TheVariants as reply
 use Rattle.kms_model.specs.declared.replies.Step.{Step}
 use Rattle.kms_model.specs.declared.replies.Step.TheVariants as step
 use Rattle.kms_model.specs.declared.reports.End.TheVariants.{Open}
 use Rattle.kms_model.specs.declared.reports.Report.{Report}
+use Rattle.kms_model.specs.declared.scripts.Command.TheVariants as command
+use Rattle.kms_model.specs.declared.scripts.Pattern.TheVariants.{Solid}
+use Rattle.kms_model.specs.declared.scripts.Script.{Script}
+use Rattle.kms_model.specs.declared.scripts.Value.TheVariants as value
 use Rattle.kms_model.specs.Order.Rounds.{finished_within}
 use Rattle.kms_model.specs.Report.History.{text}
 use Rattle.kms_model.specs.Report.ReportLines.{report_read, report_text}
 use Rattle.kms_model.specs.Report.SeenReport.{seen_report}
+use Rattle.kms_model.proofs.AuditRows.{closing, closing_report, lit, script_of}
 use Rattle.kms_model.proofs.MachineInputs.{plain}
 use Rattle.kms_model.proofs.OnAudits.{on_audits}
-use Rattle.kms_model.proofs.Rows.{script}
+use Rattle.kms_model.proofs.Rows.{named_tiny, script}
+use Rattle.kms_model.proofs.VerdictRows.{light, number, request, sets}
 
 -- Both ways
 
@@ -25,8 +33,9 @@ every_line =
     ++ (codes "R 1 1 0 made 1000\nR 1 2 1 done\nR 1 3 1 commit 4294967295\nR 1 4 2 tested\nR 1 5 2 ENOENT 4\n"
     ++ (codes "R 1 6 2 ENOMEM events 25 4096\nR 1 7 2 EBUSY 26 plane3 7\nR 1 8 2 EBUSY 26 crtc255 7\nR 1 9 2 EPERM 34\n"
     ++ (codes "R 1 10 2 event 18446744073709551615 4294967295 101\nR 1 11 2 none\n"
+    ++ (codes "R 1 12 2 EINVAL 1\nR 1 13 2 EINVAL 24\nR 1 14 2 EINVAL 31\nR 1 15 2 EINVAL 35\n"
     ++ (codes "L 0 0 18446744073709551615 00ff0000000000000000000000000000000000000000000000000000000000a9\nL 3 1 0 off\n"
-    ++ codes "E 1 5 1 101\nX f_1 1001\nD open 18446744073709551615\nT swap 1\nT write 0 enc255\n"))))
+    ++ codes "E 1 5 1 101\nX f_1 1001\nD open 18446744073709551615\nT swap 1\nT write 0 enc255\n")))))
 
 abbrev digest : List ℕ
 digest = 0x00 ∷ 0xff ∷ replicate 29 0 ++ 0xa9 ∷ []
@@ -50,6 +59,10 @@ every_value far = record {
       ∷ (1, 9, 2, reply.Denied 34)
       ∷ (1, 10, 2, reply.Event (event 18446744073709551615 4294967295 101))
       ∷ (1, 11, 2, reply.NoEvent)
+      ∷ (1, 12, 2, reply.Refused (record { 0 = 1 }))
+      ∷ (1, 13, 2, reply.Refused (record { 0 = 24 }))
+      ∷ (1, 14, 2, reply.Denied 31)
+      ∷ (1, 15, 2, reply.Denied 35)
       ∷ [];
   latches = (0, 0, 18446744073709551615, Some digest) ∷ (3, 1, 0, None) ∷ [];
   events = (1, event 5 1 101) ∷ [];
@@ -134,6 +147,13 @@ outsides =
     ∷ outside (codes "E 1 1 4294967296 100\nD drained\n") 1
     ∷ outside (codes "E 1 18446744073709551616 1 100\nD drained\n") 1
     ∷ outside (codes "D open 18446744073709551616\n") 1
+    ∷ outside (codes "L 4294967296 0 1 off\nD drained\n") 1
+    ∷ outside (codes "L 0 4294967296 1 off\nD drained\n") 1
+    ∷ outside (codes "R 4294967296 1 0 done\nD drained\n") 1
+    ∷ outside (codes "R 1 4294967296 0 done\nD drained\n") 1
+    ∷ outside (codes "E 4294967296 1 1 100\nD drained\n") 1
+    -- word behind the number of steps
+    ∷ outside (codes "D open 0 1\nD drained\n") 1
     -- no letter, and another one
     ∷ outside (codes "\nD drained\n") 1
     ∷ outside (codes "Q 1 1\nD drained\n") 1
@@ -162,3 +182,36 @@ text_of_the_history = refl
 pub text_of_the_seen_report : report_text (seen_report (script 0x400 0) first_history) ≡ first_report
 unfolding on_audits
 text_of_the_seen_report = refl
+
+-- The same of its history without a step, of one in which a framebuffer is freed, and of one with an event that is read and a
+-- fence that nobody signals
+
+-- a history as text, and as a value that is written as text
+abbrev both_texts : Script → List Step → List (List ℕ)
+both_texts s h = text s h plain ∷ report_text (seen_report s h) ∷ []
+
+abbrev twice : List ℕ → List (List ℕ)
+twice bytes = bytes ∷ bytes ∷ []
+
+pub open_history_is_seen : both_texts (script 0x400 0) [] ≡ twice (codes "D open 0\n")
+unfolding on_audits
+open_history_is_seen = refl
+
+pub freed_framebuffer_is_seen : both_texts closing (finished_within closing 64 []) ≡ twice closing_report
+unfolding on_audits
+freed_framebuffer_is_seen = refl
+
+abbrev waiting : Script
+waiting = script_of (codes "b" ∷ codes "f" ∷ codes "m" ∷ codes "n" ∷ [])
+    ((command.Buffer 0 1 1 Xr24 (Solid 0x00616263) ∷ command.AddFb 1 0 ∷ command.Mode 2 named_tiny
+    ∷ command.Atomic (record { flags = 0x401; user_data = 7; assigns = light }) ∷ command.Wait ∷ command.Fence 3
+    ∷ request 0x0 (sets kind.Plane 0 ALPHA (number 1) ∷ sets kind.Plane 0 IN_FENCE_FD (value.Named 3) ∷ []) ∷ []) ∷ [])
+
+abbrev waiting_report : List ℕ
+waiting_report =
+    codes "J 1 1\nJ 1 2\nJ 1 3\nJ 1 4\nJ 1 6\nJ 1 7\nR 1 1 0 made 1000\nR 1 2 1 made 1001\nR 1 3 2 made 1002\nR 1 4 3 commit 0\n"
+    ++ (codes "R 1 5 4 event 7 1 100\nR 1 6 4 made 1003\nR 1 7 5 commit 1\n" ++ (lit ++ codes "E 1 7 1 100\nD stalled n\n"))
+
+pub read_event_and_awaited_fence_are_seen : both_texts waiting (finished_within waiting 64 []) ≡ twice waiting_report
+unfolding on_audits
+read_event_and_awaited_fence_are_seen = refl

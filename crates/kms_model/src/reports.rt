@@ -1,5 +1,5 @@
-//! Reports without pixmaps as values: what each line says, line by line and together. Clients and commands are counted
-//! from 1; CRTCs, by their index, and commits from 0.
+//! Reports without pixmaps as values: what each line says, line by line and together. The forms are this device's own.
+//! Clients and commands are counted from 1; CRTCs, by their index, and commits from 0.
 use crate::list::Seq;
 use crate::replies::{Event, Reply, Step};
 

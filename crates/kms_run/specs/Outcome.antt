@@ -123,7 +123,7 @@ module _ (words : List (List ℕ)) (ended : Status) (left left_after written wri
     -- Otherwise nothing was written.
     pub read_only : IsSilent ended → Moves WritesNothing
     -- When the statuses come that the bytes do not determine: a read failed exactly where the status says so, and a write
-    -- likewise. No other status comes, but want of memory.
+    -- likewise, as far as a count at its type's end can tell. No other status comes, but want of memory.
     pub read_fault : ended ≡ status.ReadFault → Rose read_faults read_faults_after
     pub no_read_fault : ended ≢ status.ReadFault → read_faults_after ≡ read_faults
     pub write_fault : ended ≡ status.WriteFault → Rose write_faults write_faults_after

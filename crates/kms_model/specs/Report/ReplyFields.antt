@@ -11,13 +11,14 @@ use Rattle.kms_model.specs.Device.Objects.{object_id}
 use Rattle.kms_model.specs.Report.Rules.{ENOMEM, EBUSY, errno_of}
 use Rattle.kms_model.specs.Request.Sets.{obj_id}
 use Rattle.kms_model.specs.Script.Grammar.{object}
+use Rattle.kms_model.specs.Script.Schedules.{greatest_number}
 use Rattle.kms_model.specs.Script.Words.{◌>>=◌, between, strip, field_at, dec_at, end_at}
 
 -- Numbers, in the widths of a report's fields
 
 -- a number below 2^32, and one below 2^64
 abbrev pub word32_at : List ℕ → Option (ℕ × List ℕ)
-word32_at bytes = dec_at 4294967295 bytes
+word32_at bytes = dec_at greatest_number bytes
 
 abbrev pub word64_at : List ℕ → Option (ℕ × List ℕ)
 word64_at bytes = dec_at 18446744073709551615 bytes

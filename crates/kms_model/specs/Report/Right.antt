@@ -1,4 +1,5 @@
--- When the other lines of a report are right, and the first line that is not the device's, of a report and of bytes. This device's own.
+-- When the other lines of a report are right; and the first line, of a report or of bytes, that is not the device's. This
+-- device's own.
 use Rattle.std.specs.Prelude.{ℕ, ◌+◌, Bool, true, false, not, ◌&&◌, ◌==◌, nat_lt, nat_le, List, [], ◌∷◌, ◌++◌, length, map, filter, slice_get, is_some, Option, Some, None, option_map, Result, Ok, Err}
 use Rattle.std.specs.List.{enumerate_from, filter_map, find, last_or, list_all, list_any, position, range_with_len}
 use Rattle.std.specs.Option.{option_map_or}
@@ -20,7 +21,7 @@ use Rattle.kms_model.specs.declared.worlds.Thing.{Thing}
 use Rattle.kms_model.specs.Firsts.{listed, number_if, or_else}
 use Rattle.kms_model.specs.Promises.{event_of_latch}
 use Rattle.kms_model.specs.Device.Execution.{is_framebuffer}
-use Rattle.kms_model.specs.Device.Objects.{exists, object_id}
+use Rattle.kms_model.specs.Device.Objects.{exists, indices_of, object_id}
 use Rattle.kms_model.specs.Device.Serial.{Entry, Pictured, serial, show}
 use Rattle.kms_model.specs.Device.World.{thing_labelled, thing_with_id}
 use Rattle.kms_model.specs.Machine.Commits.{has_number}
@@ -93,10 +94,6 @@ event_in _ = None
 abbrev pub events_told : ℕ → List Answered → List Event
 events_told client answers = filter_map (λ a. event_in a.reply) (filter (λ a. a.client == client) answers)
 
-abbrev pub is_event : Event → Option Event → Bool
-is_event e None = false
-is_event e (Some other) = same_event e other
-
 abbrev pub same_line : ℕ × Event → ℕ × Event → Bool
 same_line e f = (e.0 == f.0) && same_event e.1 f.1
 
@@ -109,7 +106,7 @@ latch_in l = record { crtc = l.crtc; commit = l.commit; count = l.count; picture
 
 -- an L line fits an E line: the event is that of the latch for the client, whose commit asks for it
 abbrev pub fits_line : Script → Report → ℕ × Event → LatchLine → Bool
-fits_line s r e l = is_event e.1 (event_of_latch s.topology (commits_of s (entries_in r)) e.0 (latch_in l))
+fits_line s r e l = option_map_or (same_event e.1) (event_of_latch s.topology (commits_of s (entries_in r)) e.0 (latch_in l)) false
 
 -- Fewer lines before are the same than there are L lines that fit. As all lines that an L line fits are the same, this says
 -- that one is left if each line before used the first that fitted and was left (`uses_a_line`).
@@ -120,7 +117,7 @@ has_a_line s r before e = nat_lt (length (filter (same_line e) before)) (length 
 unfoldable pub event_is_right : Script → Report → List (ℕ × Event) → ℕ × Event → Bool
 event_is_right s r before e =
     is_not_below (λ other. other.0) before e
-    && (is_event e.1 (slice_get (events_told e.0 (answers_in r)) (length (lines_of_client e.0 before)))
+    && (option_map_or (same_event e.1) (slice_get (events_told e.0 (answers_in r)) (length (lines_of_client e.0 before))) false
     && has_a_line s r before e)
 
 -- no event that a reply tells is left out: so the first line behind the E lines may stand there
@@ -169,7 +166,7 @@ all_is_answered s r = list_all (has_answer r) (commands_from 1 s.clients)
 abbrev pub all_is_latched : Script → Report → Bool
 all_is_latched s r =
     list_all (λ crtc. length (lines_of_crtc crtc (latches_in r)) == length (show s (entries_in r) (object_id Crtc crtc)))
-    (range_with_len 0 s.topology.crtcs)
+    (indices_of s.topology Crtc)
 
 -- a `fence` command of the journal made a label
 abbrev pub label_is_of_fence : Script → Report → List ℕ → Bool

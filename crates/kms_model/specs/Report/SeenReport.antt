@@ -1,7 +1,8 @@
 -- The report of a history as a value, without steps and pixmaps. From: this device's own; digests are those of FIPS 180-4.
-use Rattle.std.specs.Prelude.{ℕ, List, [], map, length, slice_index_or, Option, option_map, if◌then◌else◌}
-use Rattle.std.specs.List.{flat_map, range_with_len}
+use Rattle.std.specs.Prelude.{ℕ, List, [], map, length, Option, option_map, if◌then◌else◌}
+use Rattle.std.specs.List.{flat_map}
 use Rattle.sha2.specs.Sha256.{sha256}
+use Rattle.kms_model.specs.declared.objects.Kind.TheVariants.{Crtc}
 use Rattle.kms_model.specs.declared.pictures.Picture.{Picture}
 use Rattle.kms_model.specs.declared.replies.Answered.{Answered}
 use Rattle.kms_model.specs.declared.replies.Event.{Event}
@@ -14,12 +15,14 @@ use Rattle.kms_model.specs.declared.runs.Latch.{Latch}
 use Rattle.kms_model.specs.declared.scripts.Script.{Script}
 use Rattle.kms_model.specs.declared.worlds.Thing.{Thing}
 use Rattle.kms_model.specs.Headline.{frame_or_off}
+use Rattle.kms_model.specs.Device.Objects.{indices_of}
 use Rattle.kms_model.specs.Device.Serial.{Entry}
 use Rattle.kms_model.specs.Frames.FrameBytes.{frame_bytes}
 use Rattle.kms_model.specs.Machine.Framebuffers.{freed}
 use Rattle.kms_model.specs.Machine.Histories.{at, client_numbers, is_dead, is_drained, journal, latched, read_by, stalled_on}
 use Rattle.kms_model.specs.Machine.State.{Machine}
 use Rattle.kms_model.specs.Report.History.{answers_to, stalled_name}
+use Rattle.kms_model.specs.Script.Spelling.{name_word}
 
 -- the SHA-256 of a picture's frame; none where the CRTC is off
 abbrev pub digest_shown : Picture → List ℕ → Option (List ℕ)
@@ -39,7 +42,7 @@ abbrev pub seen_events : Machine → ℕ → List (ℕ × Event)
 seen_events m client = map (λ e. (client, e)) (read_by m client)
 
 abbrev pub seen_thing : List (List ℕ) → Thing → List ℕ × ℕ
-seen_thing names thing = (slice_index_or names thing.label [], thing.id)
+seen_thing names thing = (name_word names thing.label, thing.id)
 
 -- how a history ended: drained, dead and waiting for a fence, or open after so many steps
 abbrev pub seen_end : Script → Machine → ℕ → End
@@ -52,7 +55,7 @@ unfoldable pub report_seen : Script → List Step → Machine → Report
 report_seen s h m = record {
   journal = map seen_entry (journal m);
   replies = flat_map (λ client. map seen_answer (answers_to m client)) (client_numbers s);
-  latches = flat_map (λ crtc. map (seen_latch m) (latched m crtc)) (range_with_len 0 s.topology.crtcs);
+  latches = flat_map (λ crtc. map (seen_latch m) (latched m crtc)) (indices_of s.topology Crtc);
   events = flat_map (seen_events m) (client_numbers s);
   freed = map (seen_thing s.names) (freed s h);
   end = seen_end s m (length h);
