@@ -24,9 +24,9 @@ use std::sync::Wait;
 /// history, behind all that the pass has seen. Nothing is claimed of when a turn comes.
 #[derive(Drop)]
 pub struct Device {
-    // In boxes, since who owns a device gives it up at each end.
+    // In a box, since who owns a device gives it up at each end.
     script: Box<Script>,
-    pub(crate) lock: Box<HistLock<Kernel>>,
+    pub(crate) lock: HistLock<Kernel>,
 }
 
 impl Model for Device {
@@ -35,10 +35,9 @@ impl Model for Device {
 
     ghost Value = { SharedDevice };
 
-    ghost view = { λ d. record {
-        lock = d.lock.value.lock; seats = d.lock.value.seats; script = d.script.value } };
+    ghost view = { λ d. record { lock = d.lock.lock; seats = d.lock.seats; script = d.script.value } };
 
-    ghost invariant = { λ d. d.script.value ≡ d.lock.value.fixed };
+    ghost invariant = { λ d. d.script.value ≡ d.lock.fixed };
 }
 
 impl Device {
@@ -53,8 +52,8 @@ impl Device {
         ensures passes { IfOk result (λ made. made.1 ≡ new_passes made.0.lock seats) }
     {
         let kernel = Kernel::new(alloc, script.copy(alloc)?)?;
+        let script = Box::new(alloc, script)?;
         let (lock, passes) = HistLock::new(alloc, kernel, seats)?;
-        let (script, lock) = (Box::new(alloc, script)?, Box::new(alloc, lock)?);
         Ok((Device { script, lock }, passes))
     }
 
@@ -68,7 +67,7 @@ impl Device {
         ensures made { length result.steps ≡ sum_by (λ p. p.made) passes }
         ensures reached { All (λ p. IsReached blankings p result.steps) passes }
     {
-        Box::into_inner(self.lock).close(passes).into_core()
+        self.lock.close(passes).into_core()
     }
 
     /// The script. It waits for nobody.
