@@ -103,7 +103,6 @@ fn assert_lit(rt: &(impl Abort + AllocGlobal), core: &Core) {
 #[test]
 fn another_seat_reads_the_count_and_the_length(rt: HostRuntime) {
     let (device, mut one, mut other) = opened(&rt, LIGHTING);
-    assert!(rt; read(&device, &mut other) == (0, 0));
     assert_calls(&rt, &device, &mut one, &mut other, &lighting());
     assert!(rt; read(&device, &mut other) == (1, 16));
     let core = closed(&rt, device, one, other);

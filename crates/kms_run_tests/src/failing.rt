@@ -62,6 +62,19 @@ fn write_fails<R: Threads + Sync>(
     Ok(status == Some(Status::WriteFault) && front.flatten().eq(sink.written()))
 }
 
+/// Whether the first write is handed all of a report: the second one fails, and none is made.
+fn is_handed_whole<R: Threads + Sync>(
+    rt: &R,
+    alloc: Global,
+    text: &str,
+    report: &str,
+) -> Result<bool, Fail> {
+    let mut source = source(alloc, text, READ, &[])?;
+    let mut sink = sink(alloc, 4096, &[2])?;
+    let status = one(rt, alloc, &mut source, &mut sink)?;
+    Ok(status == Some(Status::Ok) && sink.written() == report.as_bytes())
+}
+
 #[test]
 fn each_failing_read_writes_nothing(rt: HostRuntime) -> Result<(), Fail> {
     assert!(rt; LIT.len().div_ceil(READ) + 1 == READS as usize);
@@ -80,5 +93,12 @@ fn each_failing_write_leaves_a_front(rt: HostRuntime) -> Result<(), Fail> {
         assert!(rt; fails, "write {number}");
     }
     assert!(rt; !write_fails(&rt, rt.alloc(), LIT, LIT_REPORT, WRITES + 1)?);
+    Ok(())
+}
+
+#[test]
+fn one_write_is_handed_all_that_is_left(rt: HostRuntime) -> Result<(), Fail> {
+    assert!(rt; LIT_REPORT.len() < 4096);
+    assert!(rt; is_handed_whole(&rt, rt.alloc(), LIT, LIT_REPORT)?);
     Ok(())
 }
