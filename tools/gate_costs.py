@@ -32,6 +32,15 @@ def state_of(process):
     return int(fields[1]), sum(map(int, fields[11:15])) / TICKS
 
 
+def is_below(process, root):
+    """Whether a process was begun by another, or by one that it began."""
+    while process > 1:
+        if process == root:
+            return True
+        process = state_of(process)[0]
+    return False
+
+
 def kind_of(words, folder):
     """What a check is for: the kind, and of an edit its number among those of its crate."""
     if "--test" in words:
@@ -44,12 +53,14 @@ def kind_of(words, folder):
     return "library", ""
 
 
-def looked_at(seen):
-    """Notes what each check that runs now has taken so far."""
+def looked_at(seen, gate):
+    """Notes what each check of a gate that runs now has taken so far."""
     for process in filter(str.isdigit, os.listdir("/proc")):
         try:
             words = words_of(process)
             name = os.path.basename(words[0]) if words else ""
+            if name in ("clang", "ld.lld", "rattle-link", "rattle") and not is_below(int(process), gate):
+                continue
             if name in ("clang", "ld.lld", "rattle-link"):
                 seen[process] = "compiler", "", "", state_of(process)[1]
             elif name == "rattle" and "--crate-name" in words:
@@ -67,24 +78,24 @@ def run(folder):
     folder.mkdir(parents=True)
     begun, seen, done, ended = time.time(), {}, [], threading.Event()
 
-    def look():
+    def look(gate):
         while not ended.wait(1):
             now = {}
-            looked_at(now)
+            looked_at(now, gate)
             done.extend(it for process, it in seen.items() if process not in now)
             seen.clear()
             seen.update(now)
 
-    watcher = threading.Thread(target=look)
-    watcher.start()
     with open(folder / "log", "w") as log, subprocess.Popen(["rt", "ci"], stdout=subprocess.PIPE, stderr=subprocess.STDOUT, text=True) as gate:
+        watcher = threading.Thread(target=look, args=[gate.pid])
+        watcher.start()
         for line in gate.stdout:
             print(f"{time.time() - begun:.0f} {line}", end="", file=log, flush=True)
     ended.set()
     watcher.join()
     with open(folder / "checks", "w") as checks:
         for crate, kind, number, seconds in sorted([*done, *seen.values()]):
-            print(crate, kind, number or "-", f"{seconds:.1f}", file=checks)
+            print(crate, kind or "-", number or "-", f"{seconds:.1f}", file=checks)
     return gate.returncode
 
 
