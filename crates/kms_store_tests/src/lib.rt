@@ -1,14 +1,19 @@
-//! Tests of the stores of the machine by their public calls: registers, signals, commits and their tails, locks and clients,
-//! things, and the framebuffers that are given up. A test is a table of calls on a store, each with what it answers; one
-//! function makes the call of a row, so that no function owns a store across many calls.
+//! Tests of what the machine and its threads stand on, by their public calls: registers, signals, commits and their tails, locks
+//! and clients, things, the framebuffers that are given up, the lock whose holders take turns, and the threads that give players
+//! theirs. A test of a store is a table of calls on it, each with what it answers; one function makes the call of a row, so that
+//! no function owns a store across many calls.
 #![tactic(auto)]
 
 #[cfg(test)]
 mod clients;
 #[cfg(test)]
+mod counting;
+#[cfg(test)]
 mod freeing;
 #[cfg(test)]
 mod locks;
+#[cfg(test)]
+mod notebook;
 #[cfg(test)]
 mod registers;
 #[cfg(test)]

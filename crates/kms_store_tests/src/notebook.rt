@@ -25,7 +25,7 @@ struct Notebook {
 }
 
 impl Kept for Notebook {
-    ghost use Rattle.kms_turn_tests.specs.Beyond.{beyond, beyond-longer};
+    ghost use Rattle.kms_store_tests.specs.Beyond.{beyond, beyond-longer};
 
     type Entry = Note;
 

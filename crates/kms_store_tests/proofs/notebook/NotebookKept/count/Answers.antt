@@ -1,6 +1,6 @@
 use Rattle.std.proofs.Common.{◌≡◌, ℕ, zero, suc, ◌-◌, List, [], ◌∷◌, length, arith}
-use Rattle.kms_turn_tests.specs.Beyond.{beyond}
-use Rattle.kms_turn_tests.proofs.notebook.NotebookKept.count.Goals as goal
+use Rattle.kms_store_tests.specs.Beyond.{beyond}
+use Rattle.kms_store_tests.proofs.notebook.NotebookKept.count.Goals as goal
 
 beyond-length : {X : Type 0} (k : ℕ) (xs : List X) → beyond k xs ≡ length xs - k
 beyond-length zero xs = omega arith
