@@ -42,7 +42,7 @@ judge() {
             if (/all memory was there/) ended = 1
             if (/an answer found no memory/) ended = 2
             if (/a step found no memory/) ended = 3
-            if (/error: (NoMemory|AllocError)$/) ended = 4
+            if (/error: (NoMemory|AllocError|AllocFailed .*)$/) ended = 4
             if (ended == 5 || ended < last) print run ": " $0
             if (ended == 5 || ended < last) is_wrong = 1
             last = ended
@@ -51,8 +51,8 @@ judge() {
         END {
             refused = count[2] + count[3] + count[4]
             if (is_wrong || !count[1] || !count[3] || count[1] + refused != most) exit 1
-            print run ": " refused " allocations refused: " count[4] " before the first step, " count[3] \
-                " at a step and " count[2] " at an answer, which were there at the second try"
+            print run ": " refused " allocations refused: " count[4] + 0 " before the first step, " count[3] \
+                " at a step and " count[2] + 0 " at an answer, which were there at the second try"
         }' "$work/said" || {
         echo "$1: not each of $most tests ended as it should:"
         tail -n 5 "$work/said"
