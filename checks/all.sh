@@ -1,6 +1,6 @@
 #!/bin/sh
-# Runs the checks of the built program, of the manual and of the kernel's headers, one after the other, and says of each whether it
-# passed, failed or was skipped for want of a tool. `.ci/run` runs it behind the gate, which leaves the program.
+# Runs the checks of the built program, of the documents and of the kernel's headers, one after the other, and says of each whether
+# it passed, failed or was skipped for want of a tool. `.ci/run` runs it behind the gate, which leaves the program.
 #
 # usage: checks/all.sh PROGRAM [PASSED]      PASSED: how many the gate passed, which the last line counts too
 set -u
@@ -39,6 +39,7 @@ check kernel "" "$top/checks/kernel.sh" "$program"
 check device_tables "" "$top/checks/device_tables.sh" --check
 check limits python3 python3 "$top/checks/limits.py" "$program"
 check pictures python3 "$top/checks/pictures.sh" "$program"
+check documents python3 python3 "$top/tools/documents.py"
 check mode_bytes "" sh "$top/checks/mode_bytes.sh"
 check event_bytes "" sh "$top/checks/event_bytes.sh"
 check on_kernel "" "$top/checks/on_kernel.sh"
