@@ -19,7 +19,7 @@ are made, all different or the last one twice; with names that are said; with a 
 alone; with a blob; and with no line feed.
 
 All these are read by `one`. At last come, for `replay`, inputs of the same two sizes whose script has no command: with a
-schedule of as many lines as fit, of the shortest step and of vertical blankings, the last of no form; and with one line of
+schedule of as many lines as fit, of the shortest step and of vblanks, the last of no form; and with one line of
 a schedule that is far too long: with a number, with an object's index, with blanks alone, with a byte of no line at its end,
 and with no line feed.
 

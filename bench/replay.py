@@ -6,7 +6,7 @@ usage: bench/replay.py PROGRAM [RUNS]
 PROGRAM is the built program `kms`. Two clients flip the planes of a CRTC each, 64x64 pixels, and wait for the event of each
 flip. Printed are, for 1000, 2000 and 4000 flips, the shortest of RUNS runs (5 unless told) of `one`; then that of `replay`
 for schedules of about 25,000, 50,000 and 100,000 steps, made of the steps that `one --trace` told of 1900, 3800 and 4000
-flips, the last with vertical blankings behind them. Both grow as the steps do, and 100,000 steps are replayed in less than a
+flips, the last with vblanks behind them. Both grow as the steps do, and 100,000 steps are replayed in less than a
 second.
 """
 import subprocess
@@ -50,7 +50,7 @@ def least(program, word, text, runs):
 
 
 def schedule(program, flips, blankings):
-    """The script of so many flips with its own steps as a schedule, and vertical blankings behind them; how many steps."""
+    """The script of so many flips with its own steps as a schedule, and vblanks behind them; how many steps."""
     report, _ = run(program, ["one", "--trace"], script(flips))
     steps = [line for line in report.splitlines() if line.startswith("T ")] + ["T vblank crtc0"] * blankings
     return script(flips) + "schedule\n" + "\n".join(steps) + "\n", len(steps)

@@ -4,7 +4,7 @@
     kms one --trace < SCRIPT | tools/timeline.py > PICTURE.svg
 
 Time goes by steps, from left to right. There is one lane for each client, one for each CRTC, and one for each commit, from
-its swap to its cleanup. All is read from the report alone: a latch stands where its CRTC's next vertical blanking follows
+its swap to its cleanup. All is read from the report alone: a latch stands where its CRTC's next vblank follows
 the commit's flush, or at the flush itself where the CRTC goes off; an event belongs to the latch with its CRTC and count.
 """
 import dataclasses
