@@ -12,8 +12,8 @@ ghost use Rattle.kms_model.specs.Frames.FrameBytes.{covers};
 ghost use Rattle.kms_model.specs.Frames.Unscaled.{ShowsUnscaled};
 ghost use Rattle.kms_model.specs.Request.Checks.{shown_refusal};
 
-/// A device of one thread is sound before the first command: its values are among those of their properties,
-/// and a request without assignments is accepted.
+/// A device of one thread is lawful before the first command: its values are among those of their properties, a request
+/// without assignments is accepted, and its things are numbered.
 pub fn start_is_sound()
     ensures { (t : Topology) → IsDevice t → IsLawful t (start t) }
 {}
@@ -26,7 +26,7 @@ pub fn accepted_in_profile_1_is_unscaled()
         → ShowsUnscaled s x y }
 {}
 
-/// Each command leaves a sound device sound, whatever is answered to it.
+/// Each command leaves a lawful device lawful, whatever is answered to it.
 pub fn execution_keeps_sound()
     ensures { (t : Topology) (w : World) (client : ℕ) (c : Command) → IsLawful t w
         → IsLawful t (execute t w client c).world }
