@@ -13,7 +13,7 @@ use Rattle.kms_model.specs.declared.states.Duplicates.{Duplicates}
 use Rattle.kms_model.specs.declared.worlds.World.{World}
 use Rattle.kms_model.specs.Device.Execution.{Executed, execute}
 use Rattle.kms_model.specs.Device.Serial.{Entry, command_of, from_one, is_accepted}
-use Rattle.kms_model.specs.Machine.Effects.{answers, executed, joins_if, made_thing, next, goes_on as client_goes_on}
+use Rattle.kms_model.specs.Machine.Effects.{answers, joins_if, made_thing, next, goes_on as client_goes_on}
 use Rattle.kms_model.specs.Machine.Histories.{legal}
 use Rattle.kms_model.specs.Machine.State.{Machine, Records, command_at, place_at}
 use Rattle.kms_model.specs.Machine.Steps.{is_atomic, is_making, may}

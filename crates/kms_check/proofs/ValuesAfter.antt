@@ -192,7 +192,7 @@ numbered t w r resolved d is = all_in-from (IsNumberedBy t w.things (number_in (
     let within : a.index < count_of t a.kind = Rattle.std.proofs.lemmas.Bool.ltb-true a.index (count_of t a.kind) from.allowed.exists in
     let small : count_of t a.kind ≤ 16 = few_of t a.kind (few_objects t is.device) in
     let stands : StandsFor w.things (set_value (look_up w) (prop_of a.prop) a.value) (value (after w r) (object_of a) (prop_of a.prop)) = elim (cases_Bool (is_kept (prop_of a.prop))) [
-      | inl kept ↦ subst (StandsFor w.things (set_value (look_up w) (prop_of a.prop) a.value)) (sym (value-apply w.things w.values r.assigns (object_of a) (prop_of a.prop) kept ∙ ap (λ v. number_or w.things v (value w.values (object_of a) (prop_of a.prop))) from.last.last)) (stands-accepted t w a is.sound.numbered (accepted-each t w r a at from.is_in))
+      | inl kept ↦ subst (StandsFor w.things (set_value (look_up w) (prop_of a.prop) a.value)) (sym (value-apply w.things w.values r.assigns (object_of a) (prop_of a.prop) kept ∙ ap (λ v. number_or w.things v (value w.values (object_of a) (prop_of a.prop))) from.last.last)) (stands-accepted t w a is.numbered.things (accepted-each t w r a at from.is_in))
       | inr loses ↦ stands-unkept w.things (look_up w) (prop_of a.prop) a.value (value (after w r) (object_of a) (prop_of a.prop)) loses
     ] in
     record {

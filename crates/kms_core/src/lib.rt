@@ -7,7 +7,9 @@ mod machine;
 mod orders;
 mod promises;
 mod queries;
+mod spare;
 
 pub use kms_calls::Locked;
 pub use kms_stores::Decided;
 pub use machine::Core;
+pub use spare::Spare;

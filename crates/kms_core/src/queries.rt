@@ -18,6 +18,7 @@ ghost use Rattle.kms_stores.specs.Run.{machine};
 ghost use Rattle.kms_stores.specs.Stands.{entry_pair};
 
 use crate::machine::Core;
+use crate::spare::Spare;
 use kms_model::{Answered, Command, Doing, Image, Latch, ObjId, ObjState, Place, Script, Step};
 
 impl Core {
@@ -108,12 +109,20 @@ impl Core {
         kms_calls::held_state(&self.stores, client, id)
     }
 
-    /// For how many further steps, and latches, memory was taken: at least for all that the tails of commits which are not
-    /// cleaned have left, so that these take none.
-    pub fn spare(&self) -> usize
-        ensures { all_left self.now.script.topology (machine self.now) ≤ result }
+    /// For how many further steps and latches memory was taken: at least for all that the tails of commits which are not cleaned
+    /// have left, so that these take none.
+    pub fn spare(&self) -> Spare<'_>
+        ensures steps { result.steps.now.items ≡ self.now.steps }
+        ensures latches { result.latches.now.items ≡ reverse (machine self.now).records.latches }
+        ensures room_for_steps { all_left self.now.script.topology (machine self.now)
+            ≤ result.steps.now.room }
+        ensures room_for_latches { all_left self.now.script.topology (machine self.now)
+            ≤ result.latches.now.room }
     {
-        self.stores.steps.room().min(self.stores.latches.room())
+        Spare {
+            steps: &self.stores.steps,
+            latches: &self.stores.latches,
+        }
     }
 
     /// Whether the history was ended: no step is legal any more.

@@ -315,7 +315,7 @@ module _ (r : Run) (st : Stores) (client : ℕ) (checked : Checked) (resolved : 
   holds = history_kept r.script r.steps (plain-from r.script stands.formed) stands.history
 
   at : IsRequestAt r.script.topology (world r) can.ready.request
-  at = record { device = stands.formed.device; sound = holds.present.sound; early = can.asks.accepted }
+  at = record { device = stands.formed.device; lawful = holds.present.lawful; early = can.asks.accepted }
 
   pub is_number : commit ≡ length (machine r).device.commits
   is_number = has.number ∙ stands.stores.tracker.keeps.count
@@ -372,7 +372,7 @@ module _ (r : Run) (st : Stores) (client : ℕ) (checked : Checked) (resolved : 
   tracked : IsInStep r.script.topology (next r.script (machine r) (step.Swap client)) tracker
   tracked =
       swap_follows r.script (machine r) client can.ready.request st.tracker tracker checked (map (λ f. f.1) resolved.in_fences) can.ready.at stands.stores.tracker
-      (checked_for r.script.topology (new_commit (machine r) client can.ready.request) checked stands.formed.device holds.present.sound can.ready.none can.ready.checked_as can.states.states
+      (checked_for r.script.topology (new_commit (machine r) client can.ready.request) checked stands.formed.device holds.present.lawful can.ready.none can.ready.checked_as can.states.states
       (map (λ f. f.1) resolved.in_fences) (ap (map (λ f. f.1)) (sym can.asks.in_fences)))
       has.set_up
 

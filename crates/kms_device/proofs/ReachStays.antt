@@ -21,7 +21,7 @@ use Rattle.kms_model.specs.declared.worlds.World.{World}
 use Rattle.kms_model.specs.Device.Modes.{same_mode}
 use Rattle.kms_model.specs.Device.Objects.{count_of, exists, ids_of, kind_of, object_id}
 use Rattle.kms_model.specs.Device.Properties.{property}
-use Rattle.kms_model.specs.Device.Sound.{IsDevice, IsSound, kept_properties}
+use Rattle.kms_model.specs.Device.Sound.{IsDevice, IsLawful, kept_properties}
 use Rattle.kms_model.specs.Device.States.{crtc_at, mode_at, mode_of, natural}
 use Rattle.kms_model.specs.Device.World.{thing_labelled, thing_numbered, value}
 use Rattle.kms_model.specs.Request.Agreement.{crtc_state_at}
@@ -76,7 +76,7 @@ is_fine t f a none =
       in_range = not_not _ (number_if-none _ _ three.second_none);
     }
 
-module _ (t : Topology) (w v : World) (device : IsDevice t) (sound_w : IsSound t w) (sound_v : IsSound t v) (stay : StayIn w.things v) (items : List Assign) (made : AreMade w items)
+module _ (t : Topology) (w v : World) (device : IsDevice t) (lawful_w : IsLawful t w) (lawful_v : IsLawful t v) (stay : StayIn w.things v) (items : List Assign) (made : AreMade w items)
     (fine : (a : Assign) → IsIn a items → IsFine t (look_up_any w) a) where
   abbrev New_of : World → List Setting
   New_of x = apply x.things x.values items
@@ -136,8 +136,8 @@ module _ (t : Topology) (w v : World) (device : IsDevice t) (sound_w : IsSound t
   mode_set : (a : Assign) → IsIn a items → prop_of a.prop ≡ MODE_ID → mode_of (thing_numbered v.things (number_of v.things a.value)) ≡ mode_of (thing_numbered w.things (number_of w.things a.value))
   mode_set a is prop = by a.value (made a is) (subst (λ p. is_in_range_of t (look_up_any w) a.value (property p) ≡ true) prop (fine a is).in_range)
     where
-      none : (x : World) → IsSound t x → mode_of (thing_numbered x.things (pos 0)) ≡ None
-      none x sound = ap mode_of (thing_numbered-zero 1000 x.things (omega arith) sound.numbered)
+      none : (x : World) → IsLawful t x → mode_of (thing_numbered x.things (pos 0)) ≡ None
+      none x lawful = ap mode_of (thing_numbered-zero 1000 x.things (omega arith) lawful.numbered.things)
 
       by_thing : (label : ℕ) (o : Option Thing) → thing_labelled w.things label ≡ o → is_some o ≡ true
           → mode_of (thing_numbered v.things (id_in (thing_labelled v.things label))) ≡ mode_of (thing_numbered w.things (id_in (thing_labelled w.things label)))
@@ -145,14 +145,14 @@ module _ (t : Topology) (w v : World) (device : IsDevice t) (sound_w : IsSound t
       by_thing label (Some u) found some =
           (let later = stay label u found in
           ap (λ o. mode_of (thing_numbered v.things (id_in o))) later.found
-          ∙ (ap mode_of (thing_numbered-labelled v.things label later.thing sound_v.numbered later.found)
+          ∙ (ap mode_of (thing_numbered-labelled v.things label later.thing lawful_v.numbered.things later.found)
           ∙ (λ i. mode_of (Some (record u { content = later.same_content i })))
-          ∙ sym (ap mode_of (thing_numbered-labelled w.things label u sound_w.numbered found))
+          ∙ sym (ap mode_of (thing_numbered-labelled w.things label u lawful_w.numbered.things found))
           ∙ sym (ap (λ o. mode_of (thing_numbered w.things (id_in o))) found)))
 
       by : (x : Value) → IfSome (label_of x) (λ label. is_some (thing_labelled w.things label) ≡ true) → is_in_range_of t (look_up_any w) x (property MODE_ID) ≡ true
           → mode_of (thing_numbered v.things (number_of v.things x)) ≡ mode_of (thing_numbered w.things (number_of w.things x))
-      by (Num n) made range = (let none_set : n ≡ pos 0 = (Decides-int_eq n (pos 0)).0 range in ap (λ z. mode_of (thing_numbered v.things z)) none_set ∙ (none v sound_v ∙ sym (ap (λ z. mode_of (thing_numbered w.things z)) none_set ∙ none w sound_w)))
+      by (Num n) made range = (let none_set : n ≡ pos 0 = (Decides-int_eq n (pos 0)).0 range in ap (λ z. mode_of (thing_numbered v.things z)) none_set ∙ (none v lawful_v ∙ sym (ap (λ z. mode_of (thing_numbered w.things z)) none_set ∙ none w lawful_w)))
       by (Named label) made range = by_thing label (thing_labelled w.things label) refl made
       by (New label) made range = absurd (false≢true range)
       by (Crtc index) made range = absurd (false≢true range)
@@ -199,11 +199,11 @@ module _ (t : Topology) (w v : World) (device : IsDevice t) (sound_w : IsSound t
         mode_new : mode_at v.things (New_of v) C ≡ mode_at w.things (New_of w) C
         mode_new = new_same (λ n. mode_of (thing_numbered v.things n)) (λ n. mode_of (thing_numbered w.things n)) C MODE_ID refl mode_set (ap (λ (s : CrtcState). s.mode) same)
 
-        flag_of : (x : World) → IsSound t x → value x.values C ACTIVE ≡ (if is_active x.values C then pos 1 else pos 0)
-        flag_of x sound = flag-is (value x.values C ACTIVE) ((all_held-from t x.things x.values sound.held).crtcs.at C _ (ids-has t kind.Crtc index within) (row-at (kept_properties kind.Crtc) 0 _ refl))
+        flag_of : (x : World) → IsLawful t x → value x.values C ACTIVE ≡ (if is_active x.values C then pos 1 else pos 0)
+        flag_of x lawful = flag-is (value x.values C ACTIVE) ((all_held-from t x.things x.values lawful.sound.held).crtcs.at C _ (ids-has t kind.Crtc index within) (row-at (kept_properties kind.Crtc) 0 _ refl))
 
         active_old : value v.values C ACTIVE ≡ value w.values C ACTIVE
-        active_old = flag_of v sound_v ∙ (ap (λ (s : CrtcState). if s.active then pos 1 else pos 0) same ∙ sym (flag_of w sound_w))
+        active_old = flag_of v lawful_v ∙ (ap (λ (s : CrtcState). if s.active then pos 1 else pos 0) same ∙ sym (flag_of w lawful_w))
 
         active_new : value (New_of v) C ACTIVE ≡ value (New_of w) C ACTIVE
         active_new = new_same (λ n. n) (λ n. n) C ACTIVE refl (λ a is e. number_same a is) active_old

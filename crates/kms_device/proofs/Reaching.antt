@@ -185,11 +185,11 @@ module _ (script : Script) (pass : DevicePass) (found : Run) (f : MayBeFound scr
           let lockable : is_lockable T k (id.0 - first_id k) ≡ true = subst (λ k. is_lockable T k (id.0 - first_id k) ≡ true) e h.takes.lockable in
           let low : first_id k ≤ id.0 = subst (λ k. first_id k ≤ id.0) e h.takes.is_id in
           let not_named : in_named_group T W Q id.0 ≡ false = ap (λ b. not b && names W.values (after W Q) Items id.0) (ap is_routed e ∙ r) in
-          affected_still T W V (formed script pass found f).device before.present.sound later.0.present.sound later.1 Items made fine h.takes.request (routed (h.set unset)) k id.0 r
+          affected_still T W V (formed script pass found f).device before.present.lawful later.0.present.lawful later.1 Items made fine h.takes.request (routed (h.set unset)) k id.0 r
           (is_object k e lockable low (sym same ∙ lockable)) (states (h.set unset) (h.named unset not_named)) affected
 
       by_held : (k : Kind) → kind_of id.0 ≡ k → touches_of_kind k T W Q id.0 ≡ true → sets Items id.0 ≡ false → touches_of_kind k T V Q id.0 ≡ true
-      by_held kind.Crtc e is unset = sym (crtc_touched T W V (formed script pass found f).device before.present.sound later.0.present.sound later.1 Items made fine h.takes.request (routed (h.set unset)) id.0) ∙ is
+      by_held kind.Crtc e is unset = sym (crtc_touched T W V (formed script pass found f).device before.present.lawful later.0.present.lawful later.1 Items made fine h.takes.request (routed (h.set unset)) id.0) ∙ is
       by_held kind.Plane e is unset = or_second (sets Items id.0) _ _ unset is (by_routed kind.Plane e refl refl unset)
       by_held kind.Conn e is unset = or_second (sets Items id.0) _ _ unset is (by_routed kind.Conn e refl refl unset)
       by_held kind.Enc e is unset = is

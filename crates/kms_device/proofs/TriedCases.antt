@@ -84,7 +84,7 @@ as_locked script p q kept id a n did keeps length_is did_is keeps_is h =
 pub of_sound_world : (script : Script) (p : DevicePass) (kept : Attempt) → IsReady script p kept → AreOfSoundWorld script.topology kept.states
 of_sound_world script p kept ready = record {
   world = world (run_seen script p);
-  sound = (history_kept script p.seen (plain-from script ready.is_open.formed) ready.is_open.history).present.sound;
+  sound = (history_kept script p.seen (plain-from script ready.is_open.formed) ready.is_open.history).present.lawful.sound;
   old = ready.serves.states.old;
 }
 

@@ -168,7 +168,7 @@ module _ (s : Script) (h : List Step) (last : Step) (plain : IsPlainScript s) (i
   back_same : (t_n : (next s (at s h) last).device.world ≡ (at s h).device.world) (x : Thing) → IsIn x (at s h).device.world.things → is_needed s.topology (next s (at s h) last) x ≡ true → is_needed s.topology (at s h) x ≡ true
   back_same same_world x x_in needed =
       stays s h last plain is is_legal x x x_in (needs_of s.topology (next s (at s h) last) x needed).framebuffer
-      (ap (λ w. thing_with_id w.things x.id) same_world ∙ with-id 1000 (at s h).device.world.things x H.present.sound.numbered x_in) needed
+      (ap (λ w. thing_with_id w.things x.id) same_world ∙ with-id 1000 (at s h).device.world.things x H.present.lawful.numbered.things x_in) needed
 
   -- steps that free nothing
   pub quiet_swap : (client : ℕ) → Commits s (at s h) (next s (at s h) last) client → IsQuiet s.topology (at s h) (next s (at s h) last)
@@ -178,7 +178,7 @@ module _ (s : Script) (h : List Step) (last : Step) (plain : IsPlainScript s) (i
       (λ u v u_in framebuffer found needed. stays s h last plain is is_legal u v u_in framebuffer found needed)
 
   pub quiet_needs : SameNeeds (at s h) (next s (at s h) last) → IsQuiet s.topology (at s h) (next s (at s h) last)
-  quiet_needs S = quiet_same s.topology (at s h) (next s (at s h) last) H.present.sound.numbered S
+  quiet_needs S = quiet_same s.topology (at s h) (next s (at s h) last) H.present.lawful.numbered.things S
 
   -- a latch
   others_same : (c : ℕ) → Latches s (at s h) (next s (at s h) last) c → (other : ℕ) → IsIn other (ids_of s.topology Crtc) → (c ≡ other → ⊥)
@@ -192,20 +192,20 @@ module _ (s : Script) (h : List Step) (last : Step) (plain : IsPlainScript s) (i
 
   pub latch_frees : (c : ℕ) (ids : List ℕ) → Latches s (at s h) (next s (at s h) last) c → AreAllOf ids (λ id. picture_names id (decoded_picture s.topology (at s h).device.live c)) → IsTold s.topology (at s h) (next s (at s h) last) ids
   latch_frees c ids L A =
-      latch_told s.topology (at s h) (next s (at s h) last) c ids H.present.sound.numbered
+      latch_told s.topology (at s h) (next s (at s h) last) c ids H.present.lawful.numbered.things
       (record { world = L.world; commits = L.commits; cleaned = L.cleaned; is_crtc = L.is_crtc; others = others_same c L }) (back_same L.world) A
 
   -- a command
   pub make_frees : (client : ℕ) → (X : Executes s (at s h) (next s (at s h) last) client) → MadeFrees s.topology (at s h) (next s (at s h) last) X.command (execute s.topology (at s h).device.world client X.command).reply
   make_frees client X =
-      let follows = execute_follows s.topology (at s h).device.world client X.command H.present.sound H.present.kept (plain.modes _ X.command X.at_place) (not_atomic X.command X.making) in
+      let follows = execute_follows s.topology (at s h).device.world client X.command H.present.lawful H.present.kept (plain.modes _ X.command X.at_place) (not_atomic X.command X.making) in
       made_frees s.topology (at s h) (next s (at s h) last) client X.command X.making
-      (record { numbered = H.present.sound.numbered; like = follows.like; world = X.world; commits = X.commits; cleaned = X.cleaned; live = X.live })
+      (record { numbered = H.present.lawful.numbered.things; like = follows.like; world = X.world; commits = X.commits; cleaned = X.cleaned; live = X.live })
 
   -- What stands for the history stands for it after the step
 
   goes_further : freed_from s (first_machine s.topology) (h ++ last ∷ []) ≡ freed_from s (first_machine s.topology) h ++ filter (lost (is_needed s.topology (at s h)) (is_needed s.topology (next s (at s h) last)) (next s (at s h) last).device.world.things) (at s h).device.world.things
-  goes_further = freed_last s (first_machine s.topology) h last ∙ ap (λ xs. freed_from s (first_machine s.topology) h ++ xs) (freed_as s (at s h) last H_after.present.sound.numbered)
+  goes_further = freed_last s (first_machine s.topology) h last ∙ ap (λ xs. freed_from s (first_machine s.topology) h ++ xs) (freed_as s (at s h) last H_after.present.lawful.numbered.things)
 
   joined : (xs ys : List Thing) → map label_and_id (xs ++ ys) ≡ map label_and_id xs ++ map label_and_id ys
   joined [] ys = refl

@@ -386,7 +386,7 @@ swap_quiet s m n client x C back =
     t = s.topology
 
     numbered : AreNumbered 1000 m.device.world.things
-    numbered = C.holds.present.sound.numbered
+    numbered = C.holds.present.lawful.numbered.things
 
     E : IsExtended m.device.world.things (committed s.topology m.device.world client x.request).world.things
     E = fences_extend client x.request.assigns _ (ids_of s.topology Crtc)

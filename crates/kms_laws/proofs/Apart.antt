@@ -126,7 +126,7 @@ module _ (t : Topology) (x : Commit) (cs : List Commit) (at : IsRequestAt t x.wo
   on_new : (p : ℕ) → IsIn p (ids_of t Plane) → IsOnCrtc t (plane_after t (x ∷ cs) (suc (length cs)) p).crtc
   on_new p is =
       subst (IsOnCrtc t) (sym (after_crtc p))
-      (on_from t (crtc_at (new_values x) p) (plane_crtc-held t x.world.things (new_values x) p (all_held-from t x.world.things (new_values x) (apply-held t x.world x.request at.sound at.early)) is))
+      (on_from t (crtc_at (new_values x) p) (plane_crtc-held t x.world.things (new_values x) p (all_held-from t x.world.things (new_values x) (apply-held t x.world x.request at.lawful at.early)) is))
 
   apart_new : (p : ℕ) → IsIn p (ids_of t Plane) → IsApart (plane_after t (x ∷ cs) (length cs) p).crtc (plane_after t (x ∷ cs) (suc (length cs)) p).crtc
   apart_new p is = subst (λ z. IsApart z (plane_after t (x ∷ cs) (suc (length cs)) p).crtc) (sym (before_crtc p is)) (subst (IsApart (crtc_at x.world.values p)) (sym (after_crtc p)) (accepted-apart t x.world x.request p none is))
@@ -135,7 +135,7 @@ module _ (t : Topology) (x : Commit) (cs : List Commit) (at : IsRequestAt t x.wo
   pictured_new c is =
       let w1 : World = record x.world { values = new_values x; commits = x.world.commits + 1 } in
       (λ i. picture_in_words t (crtc_new t x cs c i) (λ p. plane_in (plane_new t x cs p i)) c)
-      ∙ words_show t w1 c (sound-apply t x.world x.request (x.world.commits + 1) at.sound none) framed kept is
+      ∙ words_show t w1 c (sound-apply t x.world x.request (x.world.commits + 1) at.lawful none) framed kept is
       ∙ ap (λ (z : Commit). picture t z.world.things (new_values z) c) (sym (commit_new t x cs))
 
   old_words_new : (p : ℕ) → IsIn p (ids_of t Plane) → plane_words (old_plane t (x ∷ cs) (length cs) p) ≡ plane_after t (x ∷ cs) (length cs) p

@@ -24,7 +24,8 @@ use Rattle.kms_model.proofs.SoundKept.{accepted-parts}
 use Rattle.kms_laws.proofs.Basics.{both_bools}
 use Rattle.kms_laws.proofs.ClientProgress.{of_client, taking-from, with_request}
 use Rattle.kms_laws.proofs.NeverStuck.{Along, history_along, still-going}
-use Rattle.kms_laws.proofs.Steps.{IsPlainScript, find-holds, taking-some}
+use Rattle.kms_model.proofs.ThingLemmas.{find-holds}
+use Rattle.kms_laws.proofs.Steps.{IsPlainScript, taking-some}
 
 refuse-may : (s : Script) (m : Machine) (client : ℕ) → legal s m (Refuse client) ≡ true → taking_at s m client (may_refuse s.topology m client) ≡ true
 unfolding legal may

@@ -23,7 +23,7 @@ use Rattle.kms_model.specs.declared.worlds.World.{World}
 use Rattle.kms_model.specs.Device.Execution.{Executed, execute}
 use Rattle.kms_model.specs.Device.Objects.{object_id}
 use Rattle.kms_model.specs.Device.Serial.{Entry, Pictured, command_of, execute_in, pictured, serial, serial_from, show, show_from, shown_after, shown_by, shown_in}
-use Rattle.kms_model.specs.Device.Sound.{IsSound}
+use Rattle.kms_model.specs.Device.Sound.{IsLawful}
 use Rattle.kms_model.specs.Device.World.{start}
 use Rattle.kms_model.specs.Frames.FrameBytes.{frame_bytes}
 use Rattle.kms_model.specs.Frames.Pictures.{picture}
@@ -104,14 +104,14 @@ can-append things (p ∷ ps) qs first second = (first.0, can-append things ps qs
 
 -- worlds whose pictures can be composed
 pub record IsShowing (t : Topology) (w : World) : Type 0 where
-  pub sound : IsSound t w
+  pub lawful : IsLawful t w
   pub framed : AreFramed w.things
 
 showing-next : (t : Topology) (w : World) (client : ℕ) (o : Option Command) → IsShowing t w → IsShowing t (execute_in t w client o)
 showing-next t w client None S = S
 showing-next t w client (Some c) S = record {
-  sound = execution_keeps_sound t w client c S.sound;
-  framed = execution_keeps_framed t w client c S.sound.numbered S.framed;
+  lawful = execution_keeps_sound t w client c S.lawful;
+  framed = execution_keeps_framed t w client c S.lawful.numbered.things S.framed;
 }
 
 module _ (s : Script) (crtc : ℕ) where
@@ -126,7 +126,7 @@ module _ (s : Script) (crtc : ℕ) where
         let v = (execute s.topology w client c).world in
         let N = showing-next s.topology w client (Some c) S in
         let shows = picture s.topology v.things v.values crtc in
-        let can : EachCanBeShown v.things shows = each_can_be_shown s.topology v crtc N.sound N.framed in
+        let can : EachCanBeShown v.things shows = each_can_be_shown s.topology v crtc N.lawful.sound N.framed in
         let is = shown-by s.topology crtc w.values c (execute s.topology w client c) p e in
         let stays : StaysShown things (pictured s.topology v crtc is.0) = record {
           can = can-stays v.things things stay shows can;
@@ -177,16 +177,16 @@ all-reversed P [] all = all
 all-reversed {A} P (x ∷ xs) all = subst (All P) (sym (reverse_more x xs)) (All-push P (reverse xs) x (all-reversed P xs (All-tail P x xs all)) (All-head P x xs all))
 
 -- the latches of a history, of which each has a CRTC of the device
-pub latches-can : (s : Script) (h : List Step) → IsSound s.topology (start s.topology) → AreFramed (start s.topology).things → Headline s h → HasSerialWorld s h
+pub latches-can : (s : Script) (h : List Step) → IsLawful s.topology (start s.topology) → AreFramed (start s.topology).things → Headline s h → HasSerialWorld s h
     → All (λ l. l.crtc < s.topology.crtcs) (reverse (at s h).records.latches)
     → All (λ l. EachCanBeShown (at s h).device.world.things l.picture) (reverse (at s h).records.latches)
-latches-can s h sound framed headline world within k d less =
+latches-can s h lawful framed headline world within k d less =
     let ls = reverse (at s h).records.latches in
     let own = (get_or ls k d).crtc in
     let es = history_journal s h in
     let things = (at s h).device.world.things in
     let front = headline.in_order own (within k d less) in
-    let can : CanEach (serial s es).things (show s es (object_id Crtc own)) = show-can s (object_id Crtc own) (start s.topology) es (record { sound = sound; framed = framed }) in
+    let can : CanEach (serial s es).things (show s es (object_id Crtc own)) = show-can s (object_id Crtc own) (start s.topology) es (record { lawful = lawful; framed = framed }) in
     let now : CanEach things (show s es (object_id Crtc own)) = subst (λ (w : World). CanEach w.things (show s es (object_id Crtc own))) world.is_serial can in
     let all : CanPairs things (latched_pictures s h own ++ front.0) = subst (CanPairs things) front.1 (pairs-can things (show s es (object_id Crtc own)) now) in
     latch-can things own ls k d less refl (pairs-front things (latched_pictures s h own) front.0 all)

@@ -118,7 +118,7 @@ module _ (s : Script) (m : Machine) (H : Holds s m) (F : FencesStand s.topology 
   is_awaited_one : (id : ℕ) → IsIn id (waited_fences s.topology m.device.commits k) → has_number m.device.signalled id ≡ false → is_awaited m id ≡ true
   is_awaited_one id is un =
       let w = F.waits k id within is in
-      let own : thing_with_id m.device.world.things id ≡ Some w.thing = ap (thing_with_id m.device.world.things) (sym w.same_id) ∙ labelled_with_id 1000 w.label m.device.world.things w.thing H.present.sound.numbered w.found in
+      let own : thing_with_id m.device.world.things id ≡ Some w.thing = ap (thing_with_id m.device.world.things) (sym w.same_id) ∙ labelled_with_id 1000 w.label m.device.world.things w.thing H.present.lawful.numbered.things w.found in
       ⊎_elim
       (λ fence. and_from _ _ (ap not un) (ap is_made_by_command own ∙ ap is_made_fence fence))
       (λ o.

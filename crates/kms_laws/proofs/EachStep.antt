@@ -30,9 +30,9 @@ use Rattle.kms_model.specs.Request.Named.{named}
 use Rattle.kms_model.specs.Request.Sets.{obj_id}
 use Rattle.kms_model.specs.Request.Verdict.{verdict}
 use Rattle.kms_model.proofs.Items.{IsIn}
-use Rattle.kms_laws.proofs.Steps.{IsFlush, IsLegal, crtc_of_step, find-holds, flush-found, flushed_at, idle-none, idle-some, legal-cases, none-is, request-is, taking-none, taking-some, value-is}
+use Rattle.kms_laws.proofs.Steps.{IsFlush, IsLegal, crtc_of_step, flush-found, flushed_at, idle-none, idle-some, legal-cases, none-is, request-is, taking-none, taking-some, value-is}
 use Rattle.kms_laws.proofs.Steps.IsLegal.{Ends, May}
-use Rattle.kms_model.proofs.ThingLemmas.{find-in}
+use Rattle.kms_model.proofs.ThingLemmas.{find-holds, find-in}
 
 -- what a write finds
 pub record IsWrite (t : Topology) (d : DeviceState) (k o : ℕ) : Type 0 where

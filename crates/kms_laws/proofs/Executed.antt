@@ -16,7 +16,7 @@ use Rattle.kms_model.specs.declared.worlds.World.{World}
 use Rattle.kms_model.specs.Device.Closing.{closed_if, closed_in}
 use Rattle.kms_model.specs.Device.Execution.{BufferInfo, add_fb, buffer_of, close, close_refusal, close_unless, destroy_refusal, execute, make, make_out_fence, make_out_fences, make_unless, new_buffer_refusal, signal_refusal, signal_unless}
 use Rattle.kms_model.specs.Device.Objects.{ids_of}
-use Rattle.kms_model.specs.Device.Sound.{IsSound}
+use Rattle.kms_model.specs.Device.Sound.{IsLawful}
 use Rattle.kms_model.specs.Device.States.{gamma_in, mode_in, plane_at}
 use Rattle.kms_model.specs.Device.World.{thing_labelled, thing_with_id, value}
 use Rattle.kms_model.specs.Machine.Steps.{is_atomic}
@@ -118,18 +118,18 @@ shut-closed things at id shut thing found = by_found (thing_with_id things id) r
     by_found None e is = absurd cc
     by_found (Some x) e is = let same : closed_if at x ≡ thing = cc in ap (λ (z : Thing). z.is_open) (sym same) ∙ closed_if-open at x (shut x e)
 
--- what a command leaves of a sound world, where it is no request
+-- what a command leaves of a lawful world, where it is no request
 pub record Follows (t : Topology) (w v : World) : Type 0 where
   pub like : IsLike t w v
   pub kept : AreKept v.things
   pub grows : w.next_id ≤ v.next_id
   pub shuts : (id : ℕ) → id < w.next_id → IsShut w.things id → IsShut v.things id
 
-follows-make : (t : Topology) (w : World) (owner label : ℕ) (c : Content) → IsSound t w → AreKept w.things → KeepsMode c → Follows t w (make w owner label c).world
-follows-make t w owner label c sound kept keeps =
+follows-make : (t : Topology) (w : World) (owner label : ℕ) (c : Content) → IsLawful t w → AreKept w.things → KeepsMode c → Follows t w (make w owner label c).world
+follows-make t w owner label c lawful kept keeps =
     let u : Thing = record { label = label; id = w.next_id; owner = owner; content = c; is_open = true } in
     record {
-      like = record { values = refl; count = refl; alike = alike-push t w.things u w.values sound.numbered sound.next sound.held };
+      like = record { values = refl; count = refl; alike = alike-push t w.things u w.values lawful.numbered.things lawful.numbered.next lawful.sound.held };
       kept = kept-push w.things u kept keeps;
       grows = omega arith;
       shuts = λ id below shut. shut-push w.things u id below shut;
@@ -147,47 +147,47 @@ follows-close t w (Some u) kept = record {
   shuts = λ id below shut. shut-closed w.things u.id id shut;
 }
 
-follows-make_unless : (t : Topology) (w : World) (owner label : ℕ) (c : Content) (o : Option ℕ) → IsSound t w → AreKept w.things → KeepsMode c → Follows t w (make_unless w owner label c o).world
-follows-make_unless t w owner label c None sound kept keeps = follows-make t w owner label c sound kept keeps
-follows-make_unless t w owner label c (Some n) sound kept keeps = follows-self t w kept
+follows-make_unless : (t : Topology) (w : World) (owner label : ℕ) (c : Content) (o : Option ℕ) → IsLawful t w → AreKept w.things → KeepsMode c → Follows t w (make_unless w owner label c o).world
+follows-make_unless t w owner label c None lawful kept keeps = follows-make t w owner label c lawful kept keeps
+follows-make_unless t w owner label c (Some n) lawful kept keeps = follows-self t w kept
 
 follows-close_unless : (t : Topology) (w : World) (thing : Option Thing) (o : Option ℕ) → AreKept w.things → Follows t w (close_unless w thing o).world
 follows-close_unless t w thing None kept = follows-close t w thing kept
 follows-close_unless t w thing (Some n) kept = follows-self t w kept
 
-follows-add_fb : (t : Topology) (w : World) (client label : ℕ) (o : Option BufferInfo) → IsSound t w → AreKept w.things → Follows t w (add_fb w client label o).world
-follows-add_fb t w client label None sound kept = follows-self t w kept
-follows-add_fb t w client label (Some b) sound kept = follows-make t w client label _ sound kept (no_mode _ refl refl)
+follows-add_fb : (t : Topology) (w : World) (client label : ℕ) (o : Option BufferInfo) → IsLawful t w → AreKept w.things → Follows t w (add_fb w client label o).world
+follows-add_fb t w client label None lawful kept = follows-self t w kept
+follows-add_fb t w client label (Some b) lawful kept = follows-make t w client label _ lawful kept (no_mode _ refl refl)
 
 follows-signal : (t : Topology) (w : World) (o : Option ℕ) → AreKept w.things → Follows t w (signal_unless w o).world
 follows-signal t w None kept = follows-self t w kept
 follows-signal t w (Some n) kept = follows-self t w kept
 
-pub execute_follows : (t : Topology) (w : World) (client : ℕ) (c : Command) → IsSound t w → AreKept w.things → KeepsModes c → is_atomic c ≡ false → Follows t w (execute t w client c).world
+pub execute_follows : (t : Topology) (w : World) (client : ℕ) (c : Command) → IsLawful t w → AreKept w.things → KeepsModes c → is_atomic c ≡ false → Follows t w (execute t w client c).world
 unfolding execute
-execute_follows t w client (command.Buffer label width height format pattern) sound kept keeps other =
-    follows-make_unless t w client label (content.Buffer width height format pattern) (new_buffer_refusal w.things width height format) sound kept (no_mode _ refl refl)
-execute_follows t w client (command.AddFb label buffer) sound kept keeps other = follows-add_fb t w client label (buffer_of w.things client buffer) sound kept
-execute_follows t w client (command.Mode label m) sound kept keeps other = follows-make t w client label (content.Mode m) sound kept keeps
-execute_follows t w client (command.Blob label bytes) sound kept keeps other = follows-make t w client label (content.Blob bytes) sound kept keeps
-execute_follows t w client (command.Destroy label) sound kept keeps other = follows-close_unless t w (thing_labelled w.things label) (destroy_refusal client (thing_labelled w.things label)) kept
-execute_follows t w client (command.CloseFb label) sound kept keeps other = follows-close_unless t w (thing_labelled w.things label) (close_refusal client (thing_labelled w.things label)) kept
-execute_follows t w client (command.Fence label) sound kept keeps other = follows-make t w client label content.Fence sound kept (no_mode _ refl refl)
-execute_follows t w client (command.Signal label) sound kept keeps other = follows-signal t w (signal_refusal (thing_labelled w.things label)) kept
-execute_follows t w client (command.Atomic r) sound kept keeps other = absurd (false≢true (sym other))
-execute_follows t w client command.Wait sound kept keeps other = follows-self t w kept
+execute_follows t w client (command.Buffer label width height format pattern) lawful kept keeps other =
+    follows-make_unless t w client label (content.Buffer width height format pattern) (new_buffer_refusal w.things width height format) lawful kept (no_mode _ refl refl)
+execute_follows t w client (command.AddFb label buffer) lawful kept keeps other = follows-add_fb t w client label (buffer_of w.things client buffer) lawful kept
+execute_follows t w client (command.Mode label m) lawful kept keeps other = follows-make t w client label (content.Mode m) lawful kept keeps
+execute_follows t w client (command.Blob label bytes) lawful kept keeps other = follows-make t w client label (content.Blob bytes) lawful kept keeps
+execute_follows t w client (command.Destroy label) lawful kept keeps other = follows-close_unless t w (thing_labelled w.things label) (destroy_refusal client (thing_labelled w.things label)) kept
+execute_follows t w client (command.CloseFb label) lawful kept keeps other = follows-close_unless t w (thing_labelled w.things label) (close_refusal client (thing_labelled w.things label)) kept
+execute_follows t w client (command.Fence label) lawful kept keeps other = follows-make t w client label content.Fence lawful kept (no_mode _ refl refl)
+execute_follows t w client (command.Signal label) lawful kept keeps other = follows-signal t w (signal_refusal (thing_labelled w.things label)) kept
+execute_follows t w client (command.Atomic r) lawful kept keeps other = absurd (false≢true (sym other))
+execute_follows t w client command.Wait lawful kept keeps other = follows-self t w kept
 
 -- Out-fences
 
-follows-out_fence : (t : Topology) (client : ℕ) (w : World) (label : Option ℕ) → IsSound t w → AreKept w.things → Follows t w (make_out_fence client w label) × IsSound t (make_out_fence client w label)
-follows-out_fence t client w None sound kept = (follows-self t w kept, sound)
-follows-out_fence t client w (Some label) sound kept = (follows-make t w client label content.OutFence sound kept (no_mode _ refl refl), sound-make t w client label content.OutFence sound)
+follows-out_fence : (t : Topology) (client : ℕ) (w : World) (label : Option ℕ) → IsLawful t w → AreKept w.things → Follows t w (make_out_fence client w label) × IsLawful t (make_out_fence client w label)
+follows-out_fence t client w None lawful kept = (follows-self t w kept, lawful)
+follows-out_fence t client w (Some label) lawful kept = (follows-make t w client label content.OutFence lawful kept (no_mode _ refl refl), sound-make t w client label content.OutFence lawful)
 
-pub follows-out_fences : (t : Topology) (client : ℕ) (assigns : List Assign) (w : World) (crtcs : List ℕ) → IsSound t w → AreKept w.things → Follows t w (make_out_fences client assigns w crtcs)
-follows-out_fences t client assigns w [] sound kept = follows-self t w kept
-follows-out_fences t client assigns w (crtc ∷ crtcs) sound kept =
+pub follows-out_fences : (t : Topology) (client : ℕ) (assigns : List Assign) (w : World) (crtcs : List ℕ) → IsLawful t w → AreKept w.things → Follows t w (make_out_fences client assigns w crtcs)
+follows-out_fences t client assigns w [] lawful kept = follows-self t w kept
+follows-out_fences t client assigns w (crtc ∷ crtcs) lawful kept =
     let v : World = make_out_fence client w (out_fence_label assigns crtc) in
-    let first = follows-out_fence t client w (out_fence_label assigns crtc) sound kept in
+    let first = follows-out_fence t client w (out_fence_label assigns crtc) lawful kept in
     let rest = follows-out_fences t client assigns v crtcs first.1 first.0.kept in
     record {
       like = like-trans t w v (make_out_fences client assigns v crtcs) first.0.like rest.like;

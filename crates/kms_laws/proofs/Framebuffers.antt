@@ -132,7 +132,7 @@ applied_fb t w r p fb at framed some e =
         let by : SetBy r.assigns p FB_ID v = set_by r.assigns p FB_ID v is in
         let ok : IsAccepted t w by.item = accepted-each t w r by.item at by.member in
         let in_row : is_in_range_of t (look_up w) by.item.value (property (prop_of by.item.prop)) ≡ true = ok.is_value in
-        inr (set-open t w v fb at.sound.numbered framed some
+        inr (set-open t w v fb at.lawful.numbered.things framed some
         (subst (λ z. is_in_range_of t (look_up w) z (property FB_ID) ≡ true) by.value_is (subst (λ q. is_in_range_of t (look_up w) by.item.value (property q) ≡ true) by.prop_is in_row)) e)
 
 -- What is kept
@@ -151,7 +151,7 @@ module _ (s : Script) (plain : IsPlainScript s) (fb : ℕ) where
   made-gone m client c H is other F =
       let t = s.topology in
       let w = m.device.world in
-      let f = execute_follows t w client c H.present.sound H.present.kept (plain.modes (entry_at m client) c is) other in
+      let f = execute_follows t w client c H.present.lawful H.present.kept (plain.modes (entry_at m client) c is) other in
       let G = F.gone in
       record {
         whole = record { apart = F.whole.apart; near = F.whole.near; steady = F.whole.steady; told = F.whole.told };
@@ -213,7 +213,7 @@ module _ (s : Script) (plain : IsPlainScript s) (fb : ℕ) where
       f = follows s x m.records.journal m.device.commits (entry_at m client) H.present is none no_test
 
       at : IsRequestAt s.topology m.device.world r
-      at = record { device = plain.device; sound = H.present.sound; early = (accepted-parts s.topology m.device.world r none).first_none }
+      at = record { device = plain.device; lawful = H.present.lawful; early = (accepted-parts s.topology m.device.world r none).first_none }
 
       later : (p : ℕ) → IsIn p (ids_of s.topology Plane) → (plane_words (plane_at m.device.world.things (after m.device.world r) p)).fb ≡ fb → ⊥
       later p i e = ⊎_elim (λ old. G.unnamed p i old) (λ o. open_at-shut m.device.world.things fb G.shut o) (applied_fb s.topology m.device.world r p fb at H.present.framed G.some e)
@@ -297,7 +297,7 @@ module _ (s : Script) (m : Machine) (H : Holds s m) (W : Whole s.topology m.devi
   gone-from thing is framebuffer unneeded =
       let t = s.topology in
       let d = m.device in
-      let numbered = ids-numbered 1000 d.world.things thing H.present.sound.numbered is in
+      let numbered = ids-numbered 1000 d.world.things thing H.present.lawful.numbered.things is in
       let rest = sym (ap (λ b. b && (thing.is_open || (list_any (λ plane. is_fb thing.id (plane_at d.world.things d.world.values plane).fb) (ids_of t Plane) || (list_any (λ crtc. picture_names thing.id (decoded_picture t d.live crtc)) (ids_of t Crtc) || commits_keep t m thing.id)))) framebuffer) ∙ unneeded in
       let one = or_parts thing.is_open _ rest in
       let two = or_parts (list_any (λ plane. is_fb thing.id (plane_at d.world.things d.world.values plane).fb) (ids_of t Plane)) _ one.1 in
@@ -305,7 +305,7 @@ module _ (s : Script) (m : Machine) (H : Holds s m) (W : Whole s.topology m.devi
       let some : 1 ≤ thing.id = omega (arith, numbered.low) in
       record {
         some = some;
-        below = (let a = numbered.high in let b = H.present.sound.next in omega arith);
+        below = (let a = numbered.high in let b = H.present.lawful.numbered.next in omega arith);
         shut = λ later found. ap (λ (z : Thing). z.is_open) (unique later thing (find-in (λ u. u.id == thing.id) d.world.things later found) is (find-same m.device.world.things thing.id later found)) ∙ one.0;
         unnamed = λ p i e. both_bools _ (names_at thing.id (plane_at d.world.things d.world.values p) some e) (list_any-at (λ plane. is_fb thing.id (plane_at d.world.things d.world.values plane).fb) (ids_of t Plane) p two.0 i);
         unlive = λ c i. list_any-at (λ crtc. picture_names thing.id (decoded_picture t d.live crtc)) (ids_of t Crtc) c three.0 i;
@@ -324,8 +324,8 @@ module _ (s : Script) (m : Machine) (H : Holds s m) (W : Whole s.topology m.devi
     where
       unique : (a b : Thing) → IsIn a m.device.world.things → IsIn b m.device.world.things → a.id ≡ b.id → a ≡ b
       unique a b ia ib e =
-          let one = thing_numbered-id 1000 m.device.world.things a H.present.sound.numbered ia in
-          let two = thing_numbered-id 1000 m.device.world.things b H.present.sound.numbered ib in
+          let one = thing_numbered-id 1000 m.device.world.things a H.present.lawful.numbered.things ia in
+          let two = thing_numbered-id 1000 m.device.world.things b H.present.lawful.numbered.things ib in
           let same : Some a ≡ Some b = sym one ∙ ap (λ n. thing_numbered m.device.world.things (pos n)) e ∙ two in
           cc
 

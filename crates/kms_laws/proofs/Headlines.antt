@@ -126,13 +126,13 @@ all_reversed P (x ∷ xs) all = subst (All P) (sym (reverse_more x xs)) (All-app
     one holds (suc k) d l = absurd (omega arith)
 
 pub serial_world : (s : Script) (h : List Step) → IsPlainScript s → is_history s h ≡ true → HasSerialWorld s h
-serial_world s h plain is = let H = history_kept s h plain is in record { is_serial = H.present.is_serial; is_sound = H.present.sound }
+serial_world s h plain is = let H = history_kept s h plain is in record { is_serial = H.present.is_serial; is_lawful = H.present.lawful }
 
 pub headline : (s : Script) (h : List Step) → IsPlainScript s → is_history s h ≡ true → Headline s h
 unfolding pair_of_latch
 headline s h plain is =
     let H = history_kept s h plain is in
-    let starts : IsShowing s.topology (start s.topology) = record { sound = start_is_sound s.topology plain.device; framed = tt } in
+    let starts : IsShowing s.topology (start s.topology) = record { lawful = start_is_sound s.topology plain.device; framed = tt } in
     let world = serial_world s h plain is in
     record {
       in_order = λ crtc l. in_order s (at s h) H crtc l;

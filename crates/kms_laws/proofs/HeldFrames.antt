@@ -130,7 +130,7 @@ module _ (s : Script) (m : Machine) (plain : IsPlainScript s) (H : Holds s m) (L
   make_same : (client : ℕ) (c : Command) → command_at s m client ≡ Some c → is_making c ≡ true → HasSameState s.topology m.device.world (execute s.topology m.device.world client c).world o
   make_same client c e making =
       like_same s.topology m.device.world (execute s.topology m.device.world client c).world o few_here is_there
-      (execute_follows s.topology m.device.world client c H.present.sound H.present.kept (plain.modes _ c e) (not_atomic c making)).like
+      (execute_follows s.topology m.device.world client c H.present.lawful H.present.kept (plain.modes _ c e) (not_atomic c making)).like
 
   -- a request of another client that holds what it touches does not touch the object
   not_touched : (client : ℕ) (r : Request) → Some client ≢ Some holder → holds_touched s.topology m client r ≡ true → touches s.topology m.device.world r o ≡ false
@@ -147,8 +147,8 @@ module _ (s : Script) (m : Machine) (plain : IsPlainScript s) (H : Holds s m) (L
   swap_same : (client : ℕ) (r : Request) → Some client ≢ Some holder → IsSwap s.topology m client r → HasSameState s.topology m.device.world (committed s.topology m.device.world client r).world o
   swap_same client r others found =
       let w1 : World = record m.device.world { values = after m.device.world r; commits = m.device.world.commits + 1 } in
-      let at : IsRequestAt s.topology m.device.world r = record { device = plain.device; sound = H.present.sound; early = (accepted-parts s.topology m.device.world r found.accepted).first_none } in
-      let follows = follows-out_fences s.topology client r.assigns w1 (ids_of s.topology Crtc) (sound-apply s.topology m.device.world r (m.device.world.commits + 1) H.present.sound found.accepted) H.present.kept in
+      let at : IsRequestAt s.topology m.device.world r = record { device = plain.device; lawful = H.present.lawful; early = (accepted-parts s.topology m.device.world r found.accepted).first_none } in
+      let follows = follows-out_fences s.topology client r.assigns w1 (ids_of s.topology Crtc) (sound-apply s.topology m.device.world r (m.device.world.commits + 1) H.present.lawful found.accepted) H.present.kept in
       same_trans s.topology m.device.world w1 (committed s.topology m.device.world client r).world o
       (untouched_same s.topology m.device.world r at o is_there (not_touched client r others found.held) (m.device.world.commits + 1))
       (like_same s.topology w1 (committed s.topology m.device.world client r).world o few_here is_there follows.like)

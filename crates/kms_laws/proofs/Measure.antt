@@ -25,7 +25,7 @@ use Rattle.kms_laws.proofs.Contexts.{LocksStand, doing_in, holder_in}
 use Rattle.kms_laws.proofs.Quiet.{find-fails}
 use Rattle.kms_laws.proofs.ShorterTails.{filter-most}
 use Rattle.kms_laws.proofs.Sizes.{sum-most, sum-one}
-use Rattle.kms_laws.proofs.Steps.{find-holds}
+use Rattle.kms_model.proofs.ThingLemmas.{find-holds}
 
 pub times-less : (a b base : ℕ) → a + 1 ≤ b → a * base + base ≤ b * base
 times-less a b base l = let m = mul-le-mul_right base l in grind (arith, m)

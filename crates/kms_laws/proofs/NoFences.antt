@@ -31,12 +31,12 @@ use Rattle.kms_model.specs.Script.Generated.{Drawn, commands_for, drawn_from, fl
 use Rattle.kms_model.specs.Script.Words.{is_label}
 use Rattle.kms_model.proofs.FramedLemmas.{closed_same}
 use Rattle.kms_model.proofs.Items.{IsIn}
-use Rattle.kms_model.proofs.ThingLemmas.{find-in}
+use Rattle.kms_model.proofs.ThingLemmas.{find-holds, find-in}
 use Rattle.kms_laws.proofs.Basics.{both_bools}
 use Rattle.kms_laws.proofs.Executed.{KeepsModes}
 use Rattle.kms_laws.proofs.Modes.{from_one-in, keeps-from}
 use Rattle.kms_laws.proofs.NeverStuck.{dead_names_a_fence}
-use Rattle.kms_laws.proofs.Steps.{IsPlainScript, find-holds}
+use Rattle.kms_laws.proofs.Steps.{IsPlainScript}
 use Rattle.kms_laws.proofs.Traversal.{IsKept, along_history, world_kept}
 
 -- Things

@@ -34,7 +34,7 @@ use Rattle.kms_model.proofs.SameLooks.{resolved-same}
 use Rattle.kms_model.specs.Request.SameLooks.{TellsLabel, TellsLabels}
 use Rattle.kms_laws.specs.Laws.{AsksWithinReach}
 use Rattle.kms_laws.proofs.Fences.{Labelled, execute_labels, fences_labels}
-use Rattle.kms_laws.proofs.Opened.{agrees-open, all_open, look-open, open-reach, sound-open}
+use Rattle.kms_laws.proofs.Opened.{agrees-open, all_open, look-open, open-reach, all_numbered-open, sound-open}
 use Rattle.kms_laws.proofs.Steps.{Holds, IsPlainScript, along, history_kept, step_kept}
 use Rattle.kms_laws.proofs.Traversal.{IsKept, step_keeps, world_kept}
 
@@ -117,7 +117,7 @@ ask_within_reach s h plain is steps legal_steps r resolved d asks old =
     let there = resolved-open s.topology before now later.1 r resolved asks in
     record {
       world = all_open now;
-      of_request = record { device = plain.device; sound = sound-open s.topology now later.0.present.sound; asks = there; old = agrees-open s.topology now.things now.values d old };
+      of_request = record { device = plain.device; sound = sound-open s.topology now later.0.present.lawful.sound; numbered = all_numbered-open now later.0.present.lawful.numbered; asks = there; old = agrees-open s.topology now.things now.values d old };
       same_values = refl;
       within = λ object touch. sym (open-reach s.topology now r object there.accepted) ∙ touch;
     }

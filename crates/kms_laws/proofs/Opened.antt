@@ -19,7 +19,7 @@ use Rattle.kms_model.specs.declared.worlds.Thing.{Thing}
 use Rattle.kms_model.specs.declared.worlds.World.{World}
 use Rattle.kms_model.specs.Device.Modes.{same_mode}
 use Rattle.kms_model.specs.Device.Objects.{ids_of, kind_of, object_id}
-use Rattle.kms_model.specs.Device.Sound.{AreNumbered, IsSound, empty_request}
+use Rattle.kms_model.specs.Device.Sound.{AreNumbered, IsNumbered, IsSound, empty_request}
 use Rattle.kms_model.specs.Device.States.{framebuffer_of, gamma_at, gamma_of, mode_at, mode_of, plane_at}
 use Rattle.kms_model.specs.Device.World.{put, thing_labelled, thing_numbered}
 use Rattle.kms_model.specs.Device.World as world
@@ -85,12 +85,16 @@ pub sound-open : (t : Topology) (w : World) → IsSound t w → IsSound t (all_o
 sound-open t w sound =
     let alike = alike-open t w.things w.values in
     record {
-      numbered = numbered-open 1000 w.things sound.numbered;
-      next = sound.next ∙ ap (λ n. 1000 + n) (sym (length-map w.things opened));
       held = are_held-kept t w.things (map opened w.things) w.values w.values
           (λ object p row held. held-seen t w.things (map opened w.things) p.id p.range (world.value w.values object p.id) (seen-open w.things (world.value w.values object p.id)) held) sound.held;
       accepted = sym (late-seen t w.things (map opened w.things) w.values w.values empty_request alike alike (all_held-from t w.things w.values sound.held)) ∙ sound.accepted;
     }
+
+pub all_numbered-open : (w : World) → IsNumbered w → IsNumbered (all_open w)
+all_numbered-open w numbered = record {
+  things = numbered-open 1000 w.things numbered.things;
+  next = numbered.next ∙ ap (λ n. 1000 + n) (sym (length-map w.things opened));
+}
 
 -- States
 

@@ -14,7 +14,7 @@ use Rattle.kms_model.specs.declared.worlds.World.{World}
 use Rattle.kms_model.specs.Device.Execution.{Executed, answer, commit, committed, execute}
 use Rattle.kms_model.specs.Device.Objects.{ids_of}
 use Rattle.kms_model.specs.Device.Serial.{Entry, Pictured, command_of, execute_in, is_accepted, pictured, serial, serial_from, show, show_from, shown_by, shown_in}
-use Rattle.kms_model.specs.Device.Sound.{IsSound}
+use Rattle.kms_model.specs.Device.Sound.{IsLawful}
 use Rattle.kms_model.specs.Device.States.{crtc_at, plane_at}
 use Rattle.kms_model.specs.Device.World.{start}
 use Rattle.kms_model.specs.Frames.Pictures.{picture}
@@ -51,7 +51,7 @@ pub record StatesStand (t : Topology) (w : World) (cs : List Commit) : Type 0 wh
   pub crtc : (c : ℕ) → IsIn c (ids_of t Crtc) → words_at t w.things w.values c ≡ crtc_after t cs (length cs) c
 
 pub record Present (s : Script) (w : World) (journal : List Entry) (cs : List Commit) : Type 0 where
-  pub sound : IsSound s.topology w
+  pub lawful : IsLawful s.topology w
   pub framed : AreFramed w.things
   pub kept : AreKept w.things
   pub states : StatesStand s.topology w cs
@@ -115,10 +115,10 @@ pub made_present : (s : Script) (w : World) (journal : List Entry) (cs : List Co
 made_present s w journal cs e c P is keeps other =
     let t = s.topology in
     let v = (execute t w e.client c).world in
-    let f = execute_follows t w e.client c P.sound P.kept keeps other in
+    let f = execute_follows t w e.client c P.lawful P.kept keeps other in
     record {
-      sound = execution_keeps_sound t w e.client c P.sound;
-      framed = execution_keeps_framed t w e.client c P.sound.numbered P.framed;
+      lawful = execution_keeps_sound t w e.client c P.lawful;
+      framed = execution_keeps_framed t w e.client c P.lawful.numbered.things P.framed;
       kept = f.kept;
       states = states_like t w v cs f.like P.states;
       count = f.like.count ∙ P.count;
@@ -211,16 +211,16 @@ module _ (s : Script) (x : Commit) (journal : List Entry) (cs : List Commit) (e 
 
   pub follows : Follows s.topology w1 v
   follows =
-      follows-out_fences s.topology e.client x.request.assigns w1 (ids_of s.topology Crtc) (sound-apply s.topology x.world x.request (x.world.commits + 1) P.sound none) P.kept
+      follows-out_fences s.topology e.client x.request.assigns w1 (ids_of s.topology Crtc) (sound-apply s.topology x.world x.request (x.world.commits + 1) P.lawful none) P.kept
 
   pub executed-is : execute s.topology x.world e.client (command.Atomic x.request) ≡ committed s.topology x.world e.client x.request
   executed-is = committed-executed s.topology x.world e.client x.request none no_test
 
-  new_sound : IsSound s.topology v
-  new_sound = subst (λ (z : Executed). IsSound s.topology z.world) executed-is (execution_keeps_sound s.topology x.world e.client (command.Atomic x.request) P.sound)
+  new_lawful : IsLawful s.topology v
+  new_lawful = subst (λ (z : Executed). IsLawful s.topology z.world) executed-is (execution_keeps_sound s.topology x.world e.client (command.Atomic x.request) P.lawful)
 
   new_framed : AreFramed v.things
-  new_framed = subst (λ (z : Executed). AreFramed z.world.things) executed-is (execution_keeps_framed s.topology x.world e.client (command.Atomic x.request) P.sound.numbered P.framed)
+  new_framed = subst (λ (z : Executed). AreFramed z.world.things) executed-is (execution_keeps_framed s.topology x.world e.client (command.Atomic x.request) P.lawful.numbered.things P.framed)
 
   pub new_states : StatesStand s.topology v (x ∷ cs)
   new_states = record {
@@ -231,7 +231,7 @@ module _ (s : Script) (x : Commit) (journal : List Entry) (cs : List Commit) (e 
   -- what the commit shows is what its words show
   new_picture : (c : ℕ) → IsIn c (ids_of s.topology Crtc) → picture s.topology v.things v.values c ≡ picture_at s.topology (x ∷ cs) (suc (length cs)) c
   new_picture c i =
-      sym (words_show s.topology v c new_sound new_framed follows.kept i)
+      sym (words_show s.topology v c new_lawful new_framed follows.kept i)
       ∙ picture-alike s.topology (words_at s.topology v.things v.values c) _ _ c (λ p ip. ap plane_in (new_states.plane p ip))
       ∙ ap (λ z. picture_in_words s.topology z (λ p. plane_in (plane_after s.topology (x ∷ cs) (suc (length cs)) p)) c) (new_states.crtc c i)
 
@@ -260,7 +260,7 @@ module _ (s : Script) (x : Commit) (journal : List Entry) (cs : List Commit) (e 
 
   pub swap_present : Present s v (e ∷ journal) (x ∷ cs)
   swap_present = record {
-    sound = new_sound;
+    lawful = new_lawful;
     framed = new_framed;
     kept = follows.kept;
     states = new_states;

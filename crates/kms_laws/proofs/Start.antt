@@ -62,7 +62,7 @@ start_states t device = record { plane = λ p is. start_plane t p device is; crt
 pub start_present : (s : Script) → IsDevice s.topology → Present s (start s.topology) [] []
 unfolding serial_from show_from shown
 start_present s device = record {
-  sound = start_is_sound s.topology device;
+  lawful = start_is_sound s.topology device;
   framed = tt;
   kept = tt;
   states = start_states s.topology device;

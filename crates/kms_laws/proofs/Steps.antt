@@ -35,7 +35,7 @@ use Rattle.kms_model.specs.Request.Flags.{is_nonblock, is_test, wants_event}
 use Rattle.kms_model.specs.Request.Verdict.{early_in, late_in, verdict}
 use Rattle.kms_model.proofs.Items.{IsIn, ids-has, list_all-at}
 use Rattle.kms_model.proofs.SoundKept.{accepted-parts}
-use Rattle.kms_model.proofs.ThingLemmas.{find-in}
+use Rattle.kms_model.proofs.ThingLemmas.{find-holds, find-in}
 use Rattle.kms_model.proofs.TouchedLemmas.{IsRequestAt}
 use Rattle.kms_model.proofs.Facts.{implied}
 use Rattle.kms_laws.proofs.Basics.{both_bools, pair_now, read_same}
@@ -68,14 +68,6 @@ Holds s m = Inv s m.device.world m.device.commits m.device.marks m.device.shadow
 pub value-is : (n : ℕ) (o : Option ℕ) → has_value n o ≡ true → o ≡ Some n
 value-is n None h = absurd (false≢true h)
 value-is n (Some k) h = ap Some (eqb-true k n h)
-
-pub find-holds : {A : Type 0} (p : A → Bool) (xs : List A) (x : A) → find p xs ≡ Some x → p x ≡ true
-find-holds p [] x e = absurd cc
-find-holds {A} p (y ∷ ys) x e =
-    elim (cases_Bool (p y)) [
-      | inl is ↦ (let same : Some y ≡ Some x = sym (cond-true (p y) (Some y) (find p ys) is) ∙ e in let yx : y ≡ x = cc in ap p (sym yx) ∙ is)
-      | inr other ↦ find-holds p ys x (sym (cond-false (p y) (Some y) (find p ys) other) ∙ e)
-    ]
 
 pub none-is : {A : Type 0} (o : Option A) → is_none o ≡ true → o ≡ None
 none-is None h = refl
@@ -294,7 +286,7 @@ swap_kept s m client plain H h = go (request_at s m client) refl
 
         now : Inv s (committed s.topology m.device.world client r).world (x ∷ m.device.commits) m.device.marks m.device.shadow m.device.go m.records.latches (entry_at m client ∷ m.records.journal) answered.records.replies
         now =
-            let at : IsRequestAt s.topology m.device.world r = record { device = plain.device; sound = H.present.sound; early = (accepted-parts s.topology m.device.world r none).first_none } in
+            let at : IsRequestAt s.topology m.device.world r = record { device = plain.device; lawful = H.present.lawful; early = (accepted-parts s.topology m.device.world r none).first_none } in
             let A = answers_kept s m client (reply.Commit (length m.device.commits)) H (subst (IsVerdict s m.device.world (reply.Commit (length m.device.commits))) (sym is) (none, sym H.present.count)) in
             record {
               tail = swap_tail H.tail x (commits_more s.topology x m.device.commits at H.present.states H.tail.commits);

@@ -21,7 +21,7 @@ use Rattle.kms_model.specs.Machine.Steps.{is_lockable, may, may_lock}
 use Rattle.kms_model.specs.Order.Rounds.{is_still, round, rounds}
 use Rattle.kms_model.specs.Order.Turns.{Progress, client_goes, client_step, does, does_then, first_missing, is_answering, lock_step, most_of_turn, next_lock, returns, settles, tail_step, tails_go, turn}
 use Rattle.kms_model.proofs.Items.{IsIn, IsObject, ids-in, list_any-has}
-use Rattle.kms_model.proofs.ThingLemmas.{find-in}
+use Rattle.kms_model.proofs.ThingLemmas.{find-holds, find-in}
 use Rattle.kms_model.proofs.TouchedLemmas.{HasFewObjects}
 use Rattle.kms_model.proofs.Facts.{or_else-some}
 use Rattle.kms_laws.specs.Ends.{is_moving}
@@ -31,7 +31,7 @@ use Rattle.kms_laws.proofs.NeverStuck.{Along, history_along, still-going}
 use Rattle.kms_laws.proofs.Objects.{conn_kind, crtc_kind, plane_kind}
 use Rattle.kms_laws.proofs.Present.{reverse_more}
 use Rattle.kms_laws.proofs.Quiet.{filter-in, first-in, map-from, tried}
-use Rattle.kms_laws.proofs.Steps.{IsPlainScript, find-holds}
+use Rattle.kms_laws.proofs.Steps.{IsPlainScript}
 
 -- Runs
 

@@ -23,7 +23,7 @@ use Rattle.kms_model.specs.declared.worlds.Thing.{Thing}
 use Rattle.kms_model.specs.declared.worlds.World.{World}
 use Rattle.kms_model.specs.Device.ModeBytes.{mode_held}
 use Rattle.kms_model.specs.Device.Objects.{ids_of}
-use Rattle.kms_model.specs.Device.Sound.{AreNumbered, IsBetween, IsPlaneInRange, IsSound}
+use Rattle.kms_model.specs.Device.Sound.{AreNumbered, IsBetween, IsPlaneInRange, IsLawful}
 use Rattle.kms_model.specs.Device.States.{connector_on, framebuffer_in, framebuffer_of, gamma_at, gamma_in, gamma_of, mode_at, mode_in, mode_of, natural, plane_at}
 use Rattle.kms_model.specs.Device.World.{thing_numbered, value}
 use Rattle.kms_model.specs.Frames.Pictures.{layers_with, picture, picture_in, put_plane, seen_on, shown_with}
@@ -97,10 +97,10 @@ state_back s range known = (λ i. plane_with (fb_back s.fb known i) (signed_back
     (pos_back 2147483647 s.dst.w range.w i) (pos_back 2147483647 s.dst.h range.h i)
     (pos_back 4294967295 s.src.x range.src_x i) (pos_back 4294967295 s.src.y range.src_y i) (pos_back 4294967295 s.src.w range.src_w i) (pos_back 4294967295 s.src.h range.src_h i) s)
 
-pub plane_back : (t : Topology) (w : World) (p : ℕ) → IsSound t w → AreFramed w.things → IsIn p (ids_of t Plane) → plane_in (plane_words (plane_at w.things w.values p)) ≡ plane_at w.things w.values p
-plane_back t w p sound framed is =
-    state_back (plane_at w.things w.values p) (plane_in_range t w.things w.values p (all_held-from t w.things w.values sound.held) is)
-    (λ f e. fb_some w.things (value w.values p FB_ID) f sound.numbered framed e)
+pub plane_back : (t : Topology) (w : World) (p : ℕ) → IsLawful t w → AreFramed w.things → IsIn p (ids_of t Plane) → plane_in (plane_words (plane_at w.things w.values p)) ≡ plane_at w.things w.values p
+plane_back t w p lawful framed is =
+    state_back (plane_at w.things w.values p) (plane_in_range t w.things w.values p (all_held-from t w.things w.values lawful.sound.held) is)
+    (λ f e. fb_some w.things (value w.values p FB_ID) f lawful.numbered.things framed e)
 
 -- Modes and tables of colour values
 
@@ -146,11 +146,11 @@ picture-alike t w f g c h =
     ap (λ layers. if not (w.active == 0) then On (shown_with (mode_in_words w) w.conn (gamma_in_words w) layers) else Off) (layers-alike f g (mode_in_words w) c (ids_of t Plane) h)
 
 -- what a CRTC's words show, where they are those of values, is what the values show
-pub words_show : (t : Topology) (w : World) (c : ℕ) → IsSound t w → AreFramed w.things → AreKept w.things → IsIn c (ids_of t Crtc)
+pub words_show : (t : Topology) (w : World) (c : ℕ) → IsLawful t w → AreFramed w.things → AreKept w.things → IsIn c (ids_of t Crtc)
     → picture_in_words t (words_at t w.things w.values c) (λ p. plane_in (plane_words (plane_at w.things w.values p))) c ≡ picture t w.things w.values c
 unfolding crtc_words picture
-words_show t w c sound framed kept is =
-    picture-alike t (words_at t w.things w.values c) _ (plane_at w.things w.values) c (λ p i. plane_back t w p sound framed i)
+words_show t w c lawful framed kept is =
+    picture-alike t (words_at t w.things w.values c) _ (plane_at w.things w.values) c (λ p i. plane_back t w p lawful framed i)
     ∙ by_active (int_eq (value w.values c ACTIVE) (pos 0)) refl
   where
     -- the table of colour values of the words of one, or of none
@@ -176,7 +176,7 @@ words_show t w c sound framed kept is =
     some_mode : is_active w.values c ≡ true → is_some (mode_at w.things w.values c) ≡ true
     some_mode on =
         let o : IsObject t Crtc c = ids-in t Crtc c is in
-        subst (λ z. is_active w.values z ≡ true → is_some (mode_at w.things w.values z) ≡ true) (sym o.same) (sound-mode t w o.index sound o.within) on
+        subst (λ z. is_active w.values z ≡ true → is_some (mode_at w.things w.values z) ≡ true) (sym o.same) (sound-mode t w o.index lawful.sound o.within) on
 
     by_active : (off : Bool) → int_eq (value w.values c ACTIVE) (pos 0) ≡ off
         → (if not (one_if (not off) == 0) then shows (mode_at w.things w.values c) else Off) ≡ (if off then Off else picture_in t w.things w.values c (mode_at w.things w.values c))

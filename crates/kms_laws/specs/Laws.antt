@@ -11,7 +11,7 @@ use Rattle.kms_model.specs.declared.sets.Resolved.{Resolved}
 use Rattle.kms_model.specs.declared.states.Duplicates.{Duplicates}
 use Rattle.kms_model.specs.declared.worlds.World.{World}
 use Rattle.kms_model.specs.Device.Serial.{serial}
-use Rattle.kms_model.specs.Device.Sound.{IsSound}
+use Rattle.kms_model.specs.Device.Sound.{IsLawful}
 use Rattle.kms_model.specs.declared.worlds.Thing.{Thing}
 use Rattle.kms_model.specs.Device.Execution.{is_framebuffer}
 use Rattle.kms_model.specs.Device.World.{thing_with_id}
@@ -29,10 +29,10 @@ use Rattle.kms_model.specs.Request.Reach.{reaches}
 use Rattle.kms_model.specs.Request.Resolves.{IsResolved}
 use Rattle.kms_model.specs.Request.Touched.{touches}
 
--- The world of the machine is that of the device of one thread after the journal, and it is sound.
+-- The world of the machine is that of the device of one thread after the journal, and it is lawful.
 pub record HasSerialWorld (s : Script) (h : List Step) : Type 0 where
   pub is_serial : serial s (history_journal s h) ≡ (at s h).device.world
-  pub is_sound : IsSound s.topology (at s h).device.world
+  pub is_lawful : IsLawful s.topology (at s h).device.world
 
 -- Where every commit is cleaned, each CRTC has latched all that the device of one thread shows for the journal, also where clients
 -- have commands left.

@@ -18,7 +18,7 @@ use Rattle.kms_model.specs.Report.RightAnswers.{answers_in, entries_in, reply_is
 use Rattle.kms_model.proofs.AuditRows.{script_of}
 use Rattle.kms_model.proofs.OnAudits.{on_audits}
 use Rattle.kms_model.proofs.Rows.{device, named_tiny}
-use Rattle.kms_model.proofs.VerdictRows.{light, number, request, sets}
+use Rattle.kms_model.proofs.VerdictRows.{light, number, put_off, request, sets}
 
 -- Busy: two requests that do not wait, of a plane that is on no CRTC
 
@@ -113,15 +113,6 @@ places_count_entries = refl
 
 -- Space, counts and events: a framebuffer that is lit and put off, each with an event, and a request with an event that is none
 -- of the journal's
-
-abbrev pub put_off : List Assign
-put_off =
-    sets kind.Crtc 0 ACTIVE (number 0)
-    ∷ sets kind.Crtc 0 MODE_ID (number 0)
-    ∷ sets kind.Conn 0 CRTC_ID (number 0)
-    ∷ sets kind.Plane 0 FB_ID (number 0)
-    ∷ sets kind.Plane 0 CRTC_ID (number 0)
-    ∷ []
 
 abbrev pub with_event : List Assign → Command
 with_event assigns = command.Atomic (record { flags = 0x401; user_data = 7; assigns = assigns })

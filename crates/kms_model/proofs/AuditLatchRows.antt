@@ -16,11 +16,11 @@ use Rattle.kms_model.specs.declared.scripts.Value.TheVariants as value
 use Rattle.kms_model.specs.Report.Right.{LatchLine, event_is_right, events_are_whole, has_a_line, latch_is_right, uses_a_line, wrong_line}
 use Rattle.kms_model.specs.Report.RightAnswers.{first_off}
 use Rattle.kms_model.proofs.AuditRows.{lit, script_of}
-use Rattle.kms_model.proofs.AuditAnswerRows.{lit_and_put_off, lit_report, put_off, with_event}
+use Rattle.kms_model.proofs.AuditAnswerRows.{lit_and_put_off, lit_report, with_event}
 use Rattle.kms_model.proofs.OnAudits.{on_audits}
 use Rattle.kms_model.proofs.ReportRows.{event}
 use Rattle.kms_model.proofs.Rows.{device, named_tiny}
-use Rattle.kms_model.proofs.VerdictRows.{light, number, request, sets}
+use Rattle.kms_model.proofs.VerdictRows.{light, number, request, sets, put_off}
 
 -- Counts and latches of the framebuffer that is lit and put off
 

@@ -39,7 +39,7 @@ use Rattle.kms_model.specs.Device.Sound.{AreNumbered, has_legal_mode, is_taken, 
 use Rattle.kms_model.proofs.PropertyTable.{rows_found}
 use Rattle.kms_model.proofs.Items.{IsIn, list_all-at, list_all-from, list_any-has, ids-has, or_else-none, number_if-none}
 use Rattle.kms_model.proofs.AppliedValues.{targets, value-assign}
-use Rattle.kms_model.proofs.ThingLemmas.{IsNumberedIn, ids-numbered, find-in, thing_numbered-labelled, IsSeenAlike, seen-push}
+use Rattle.kms_model.proofs.ThingLemmas.{IsNumberedIn, ids-numbered, find-holds, find-in, thing_numbered-labelled, IsSeenAlike, seen-push}
 use Rattle.kms_model.proofs.Facts.{by_recursion-at}
 
 -- The table's rows
@@ -250,18 +250,10 @@ found_apart n things u number None numbered next found some = absurd cc
 found_apart n things u number (Some v) numbered next found some =
     λ same. let is = find-in (λ x. int_eq (pos x.id) number) things v found in
     let at : IsNumberedIn n things v.id = ids-numbered n things v numbered is in
-    let e : int_eq (pos v.id) number ≡ true = find-holds things number v found in
+    let e : int_eq (pos v.id) number ≡ true = find-holds (λ x. int_eq (pos x.id) number) things v found in
     let w : pos v.id ≡ pos u.id = (Decides-int_eq (pos v.id) number).0 e ∙ same in
     let ids : v.id ≡ u.id = cc in
     omega (arith, at.high, next, ids)
-  where
-    find-holds : (ts : List worlds.Thing) (z : ℤ) (x : worlds.Thing) → thing_numbered ts z ≡ Some x → int_eq (pos x.id) z ≡ true
-    find-holds [] z x e = absurd cc
-    find-holds (y ∷ ys) z x e =
-        elim (cases_Bool (int_eq (pos y.id) z)) [
-          | inl is ↦ (let s : Some y ≡ Some x = sym (cond-true (int_eq (pos y.id) z) (Some y) (thing_numbered ys z) is) ∙ e in let yx : y ≡ x = cc in subst (λ a. int_eq (pos a.id) z ≡ true) yx is)
-          | inr other ↦ find-holds ys z x (sym (cond-false (int_eq (pos y.id) z) (Some y) (thing_numbered ys z) other) ∙ e)
-        ]
 
 -- what a property takes is a thing
 taken-some : (q : ℕ) (o : Option worlds.Thing) → is_taken q o ≡ true → is_some o ≡ true

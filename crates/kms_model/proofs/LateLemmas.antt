@@ -246,7 +246,7 @@ shown-same t w r d objects stand covers =
         ap (λ m. shown_refusal t.profile m s) (new_mode-at t w r d j s.crtc stand (ap (λ x. x.crtc) is ∙ same) (covers.has_crtc_of i j within inside below same)) ∙ ap (λ x. shown_refusal t.profile (mode_at w.things (after w r) x.crtc) x) is
 
     held : (i : ℕ) → i < count_of t kind.Plane → IsCrtcOrNone t (crtc_at (after w r) (object_id kind.Plane i))
-    held i within = plane_crtc-held t w.things (after w r) (object_id kind.Plane i) (all_held-from t w.things (after w r) (apply-held t w r stand.at.sound stand.at.early)) (ids-has t kind.Plane i within)
+    held i within = plane_crtc-held t w.things (after w r) (object_id kind.Plane i) (all_held-from t w.things (after w r) (apply-held t w r stand.at.lawful stand.at.early)) (ids-has t kind.Plane i within)
 
 -- ACTIVE is 0 or 1
 zero_or_one : (z : ℤ) → (int_le (pos 0) z && int_le z (pos 1)) ≡ true → (z ≡ pos 0) ⊎ (z ≡ pos 1)
@@ -294,8 +294,8 @@ needs_modeset-states t w r i both at within old new =
     let crtc : ℕ = object_id kind.Crtc i in
     let is : IsIn crtc (ids_of t kind.Crtc) = ids-has t kind.Crtc i within in
     let actives = actives-differ (value w.values crtc ACTIVE) (value (after w r) crtc ACTIVE)
-    (active-held t w.things w.values crtc (all_held-from t w.things w.values at.sound.held) is)
-    (active-held t w.things (after w r) crtc (all_held-from t w.things (after w r) (apply-held t w r at.sound at.early)) is) in
+    (active-held t w.things w.values crtc (all_held-from t w.things w.values at.lawful.sound.held) is)
+    (active-held t w.things (after w r) crtc (all_held-from t w.things (after w r) (apply-held t w r at.lawful at.early)) is) in
     rw (old, new) (ap (λ b. not (same_mode (mode_at w.things w.values crtc) (mode_at w.things (after w r) crtc)) || b)
     (ap (λ b. b || not (on_crtc t w.values crtc kind.Conn == on_crtc t (after w r) crtc kind.Conn)) actives
     ∙ ap (λ b. not (int_eq (value w.values crtc ACTIVE) (value (after w r) crtc ACTIVE)) || b) (conns-differ t w.values (after w r) crtc)))

@@ -39,7 +39,7 @@ use Rattle.kms_model.specs.Stores.Kept.{Seen, row_words, buffer_words}
 use Rattle.kms_model.specs.Device.World.{value, thing_numbered, thing_with_id}
 use Rattle.kms_model.proofs.TouchedLemmas.{accepts}
 use Rattle.kms_model.proofs.Items.{IsIn, or_else-none, number_if-none, ids-in, with_ids-has}
-use Rattle.kms_model.proofs.ThingLemmas.{find-in, ids-numbered}
+use Rattle.kms_model.proofs.ThingLemmas.{find-in, found_with_id, ids-numbered}
 use Rattle.kms_model.proofs.StateLemmas.{sound-plane_in_range}
 use Rattle.kms_model.proofs.Facts.{by_recursion-at, all-from_recursion, all_map}
 use Rattle.kms_model.specs.Frames.Shown.{AreFramed, IsFramed, FramesIn, shown_buffer, HasWords, CanBeShown, EachCanBeShown}
@@ -218,12 +218,12 @@ fb-content (content.Blob bytes) fb e = absurd cc
 fb-content content.Fence fb e = absurd cc
 fb-content content.OutFence fb e = absurd cc
 
-is-thing : (things : List Thing) (number : ℤ) (o : Option Thing) (fb : FbInfo) → AreNumbered 1000 things → thing_numbered things number ≡ o → framebuffer_of o ≡ Some fb → IsThing things fb
-is-thing things number None fb numbered at e = absurd cc
-is-thing things number (Some t) fb numbered at e =
+is-thing : (things : List Thing) (number : ℤ) (o : Option Thing) (fb : FbInfo) → thing_numbered things number ≡ o → framebuffer_of o ≡ Some fb → IsThing things fb
+is-thing things number None fb at e = absurd cc
+is-thing things number (Some t) fb at e =
     let c = fb-content t.content fb e in
     let there = find-in (λ u. int_eq (pos u.id) number) things t at in
-    record { thing = t; buffer = c.0; found = with-id 1000 things t numbered there; content = c.1; there = there }
+    record { thing = t; buffer = c.0; found = found_with_id things number t at; content = c.1; there = there }
 
 has-words : (things : List Thing) (fb : FbInfo) → AreFramed things → IsThing things fb → HasWords things fb
 has-words things fb framed is =
@@ -244,7 +244,7 @@ can_be_shown t w m crtc plane fb sound framed is seen =
     let on = is-on (plane_at w.things w.values plane) crtc fb seen in
     record {
       placed = placed t w m crtc plane fb sound is seen;
-      words = has-words w.things fb framed (is-thing w.things (value w.values plane FB_ID) (thing_numbered w.things (value w.values plane FB_ID)) fb sound.numbered refl on.has);
+      words = has-words w.things fb framed (is-thing w.things (value w.values plane FB_ID) (thing_numbered w.things (value w.values plane FB_ID)) fb refl on.has);
     }
 
 each-in : (t : Topology) (w : World) (crtc : ℕ) (o : Option Mode) → IsSound t w → AreFramed w.things → EachCanBeShown w.things (picture_in t w.things w.values crtc o)

@@ -1,4 +1,4 @@
--- Execution keeps a world sound.
+-- Execution keeps a world lawful.
 use Rattle.std.proofs.Common.{◌≡◌, ℕ, ◌+◌, Bool, true, false, List, [], ◌∷◌, ◌++◌, Option, Some, None, arith, refl, sym, ap, ◌∙◌, length-append}
 use Rattle.std.specs.Prelude.{◌&&◌, ◌==◌, not, is_none, if◌then◌else◌, nat_eq}
 use Rattle.std.specs.List.{list_any}
@@ -39,7 +39,7 @@ use Rattle.kms_model.specs.Request.Refusals.{flags_refusal, assigns_refusal, ear
 use Rattle.kms_model.specs.Request.Checks.{switches_crtc, has_crtc, is_beyond, is_active, with_ids, placed_refusal, plane_refusal_with, plane_refusal, plane_refusal_at, crtc_refusal, crtc_refusal_at, conn_refusal_at, clone_refusal_at, route_refusal_at, shown_refusal_at, event_refusal, late_refusal}
 use Rattle.kms_model.specs.Request.Touched.{asks_signal, out_fence_label}
 use Rattle.kms_model.specs.Device.Execution.{make, make_unless, answer, add_fb, buffer_of, BufferInfo}
-use Rattle.kms_model.specs.Device.Sound.{are_held, empty_request, IsSound}
+use Rattle.kms_model.specs.Device.Sound.{are_held, empty_request, IsLawful}
 use Rattle.kms_model.specs.Request.Verdict.{verdict}
 use Rattle.kms_model.specs.Device.Closing.{closed_if, closed_in}
 use Rattle.kms_model.specs.Device.Execution.{close, close_unless, signal_unless, make_out_fence, make_out_fences, committed, commit, execute, new_buffer_refusal, destroy_refusal, close_refusal, signal_refusal}
@@ -118,30 +118,32 @@ late-again t things old new r none =
 
 -- Things that come and are closed
 
-pub sound-make : (t : Topology) (w : World) (owner label : ℕ) (c : Content) → IsSound t w → IsSound t (make w owner label c).world
-sound-make t w owner label c sound =
+pub sound-make : (t : Topology) (w : World) (owner label : ℕ) (c : Content) → IsLawful t w → IsLawful t (make w owner label c).world
+sound-make t w owner label c lawful =
     let u : Thing = record { label = label; id = w.next_id; owner = owner; content = c; is_open = true } in
-    let alike = alike-push t w.things u w.values sound.numbered sound.next sound.held in
+    let alike = alike-push t w.things u w.values lawful.numbered.things lawful.numbered.next lawful.sound.held in
     record {
-      numbered = numbered-push 1000 w.things u sound.numbered sound.next;
-      next = ap (λ n. n + 1) sound.next ∙ omega (arith, length-append w.things (u ∷ []));
-      held = are_held-kept t w.things (w.things ++ u ∷ []) w.values w.values (λ object p row held. held-push t w.things u p.id p.range (value w.values object p.id) sound.numbered sound.next held) sound.held;
-      accepted = sym (late-seen t w.things (w.things ++ u ∷ []) w.values w.values empty_request alike alike (all_held-from t w.things w.values sound.held)) ∙ sound.accepted;
+      sound = record {
+        held = are_held-kept t w.things (w.things ++ u ∷ []) w.values w.values (λ object p row held. held-push t w.things u p.id p.range (value w.values object p.id) lawful.numbered.things lawful.numbered.next held) lawful.sound.held;
+        accepted = sym (late-seen t w.things (w.things ++ u ∷ []) w.values w.values empty_request alike alike (all_held-from t w.things w.values lawful.sound.held)) ∙ lawful.sound.accepted;
+      };
+      numbered = record { things = numbered-push 1000 w.things u lawful.numbered.things lawful.numbered.next; next = ap (λ n. n + 1) lawful.numbered.next ∙ omega (arith, length-append w.things (u ∷ [])) };
     }
 
-sound-closed : (t : Topology) (w : World) (id : ℕ) → IsSound t w → IsSound t (record w { things = closed_in w.things id })
-sound-closed t w id sound =
+sound-closed : (t : Topology) (w : World) (id : ℕ) → IsLawful t w → IsLawful t (record w { things = closed_in w.things id })
+sound-closed t w id lawful =
     let alike = alike-closed t w.things id w.values in
     record {
-      numbered = numbered-closed 1000 w.things id sound.numbered;
-      next = sound.next ∙ ap (λ n. 1000 + n) (sym (length-map w.things (closed_if id)));
-      held = are_held-kept t w.things (closed_in w.things id) w.values w.values (λ object p row held. held-seen t w.things (closed_in w.things id) p.id p.range (value w.values object p.id) (seen-closed w.things id (value w.values object p.id)) held) sound.held;
-      accepted = sym (late-seen t w.things (closed_in w.things id) w.values w.values empty_request alike alike (all_held-from t w.things w.values sound.held)) ∙ sound.accepted;
+      sound = record {
+        held = are_held-kept t w.things (closed_in w.things id) w.values w.values (λ object p row held. held-seen t w.things (closed_in w.things id) p.id p.range (value w.values object p.id) (seen-closed w.things id (value w.values object p.id)) held) lawful.sound.held;
+        accepted = sym (late-seen t w.things (closed_in w.things id) w.values w.values empty_request alike alike (all_held-from t w.things w.values lawful.sound.held)) ∙ lawful.sound.accepted;
+      };
+      numbered = record { things = numbered-closed 1000 w.things id lawful.numbered.things; next = lawful.numbered.next ∙ ap (λ n. 1000 + n) (sym (length-map w.things (closed_if id))) };
     }
 
-pub sound-close : (t : Topology) (w : World) (o : Option Thing) → IsSound t w → IsSound t (close w o)
-sound-close t w None sound = sound
-sound-close t w (Some u) sound = sound-closed t w u.id sound
+pub sound-close : (t : Topology) (w : World) (o : Option Thing) → IsLawful t w → IsLawful t (close w o)
+sound-close t w None lawful = lawful
+sound-close t w (Some u) lawful = sound-closed t w u.id lawful
 
 -- Requests
 
@@ -154,68 +156,69 @@ unfolding early_refusal
 early-parts t w r none = or_else-none (flags_refusal r.flags) (assigns_refusal t (look_up w) [] r.assigns) none
 
 -- the values after a request that the early refusals let through are held
-pub apply-held : (t : Topology) (w : World) (r : Request) → IsSound t w → early_refusal t (look_up w) r ≡ None → are_held t w.things (after w r) ≡ true
-apply-held t w r sound early =
+pub apply-held : (t : Topology) (w : World) (r : Request) → IsLawful t w → early_refusal t (look_up w) r ≡ None → are_held t w.things (after w r) ≡ true
+apply-held t w r lawful early =
     are_held-kept t w.things w.things w.values (after w r)
-    (λ object p row held. held-apply t w [] r.assigns w.values object p sound.numbered row (early-parts t w r early).second_none held) sound.held
+    (λ object p row held. held-apply t w [] r.assigns w.values object p lawful.numbered.things row (early-parts t w r early).second_none held) lawful.sound.held
 
-pub sound-apply : (t : Topology) (w : World) (r : Request) (commits : ℕ) → IsSound t w → verdict t w r ≡ None → IsSound t (record w { values = after w r; commits = commits })
-sound-apply t w r commits sound none =
+pub sound-apply : (t : Topology) (w : World) (r : Request) (commits : ℕ) → IsLawful t w → verdict t w r ≡ None → IsLawful t (record w { values = after w r; commits = commits })
+sound-apply t w r commits lawful none =
     let parts = accepted-parts t w r none in
     record {
-      numbered = sound.numbered;
-      next = sound.next;
-      held = apply-held t w r sound parts.first_none;
-      accepted = late-again t w.things w.values (after w r) r parts.second_none;
+      sound = record {
+        held = apply-held t w r lawful parts.first_none;
+        accepted = late-again t w.things w.values (after w r) r parts.second_none;
+      };
+      numbered = record { things = lawful.numbered.things; next = lawful.numbered.next };
     }
 
-sound-out_fence : (t : Topology) (client : ℕ) (w : World) (label : Option ℕ) → IsSound t w → IsSound t (make_out_fence client w label)
-sound-out_fence t client w None sound = sound
-sound-out_fence t client w (Some label) sound = sound-make t w client label content.OutFence sound
+sound-out_fence : (t : Topology) (client : ℕ) (w : World) (label : Option ℕ) → IsLawful t w → IsLawful t (make_out_fence client w label)
+sound-out_fence t client w None lawful = lawful
+sound-out_fence t client w (Some label) lawful = sound-make t w client label content.OutFence lawful
 
-pub sound-out_fences : (t : Topology) (client : ℕ) (assigns : List Assign) (w : World) (crtcs : List ℕ) → IsSound t w → IsSound t (make_out_fences client assigns w crtcs)
-sound-out_fences t client assigns w [] sound = sound
-sound-out_fences t client assigns w (crtc ∷ crtcs) sound =
-    sound-out_fences t client assigns (make_out_fence client w (out_fence_label assigns crtc)) crtcs (sound-out_fence t client w (out_fence_label assigns crtc) sound)
+pub sound-out_fences : (t : Topology) (client : ℕ) (assigns : List Assign) (w : World) (crtcs : List ℕ) → IsLawful t w → IsLawful t (make_out_fences client assigns w crtcs)
+sound-out_fences t client assigns w [] lawful = lawful
+sound-out_fences t client assigns w (crtc ∷ crtcs) lawful =
+    sound-out_fences t client assigns (make_out_fence client w (out_fence_label assigns crtc)) crtcs (sound-out_fence t client w (out_fence_label assigns crtc) lawful)
 
-sound-committed : (t : Topology) (w : World) (client : ℕ) (r : Request) → IsSound t w → verdict t w r ≡ None → IsSound t (committed t w client r).world
-sound-committed t w client r sound none =
-    sound-out_fences t client r.assigns (record w { values = after w r; commits = w.commits + 1 }) (ids_of t kind.Crtc) (sound-apply t w r (w.commits + 1) sound none)
+sound-committed : (t : Topology) (w : World) (client : ℕ) (r : Request) → IsLawful t w → verdict t w r ≡ None → IsLawful t (committed t w client r).world
+sound-committed t w client r lawful none =
+    sound-out_fences t client r.assigns (record w { values = after w r; commits = w.commits + 1 }) (ids_of t kind.Crtc) (sound-apply t w r (w.commits + 1) lawful none)
 
-tested-or : (t : Topology) (w : World) (client : ℕ) (r : Request) (test : Bool) → IsSound t w → IsSound t (committed t w client r).world → IsSound t (if test then answer w reply.Tested else committed t w client r).world
-tested-or t w client r true sound after = sound
-tested-or t w client r false sound after = after
+tested-or : (t : Topology) (w : World) (client : ℕ) (r : Request) (test : Bool) → IsLawful t w → IsLawful t (committed t w client r).world → IsLawful t (if test then answer w reply.Tested else committed t w client r).world
+tested-or t w client r true lawful after = lawful
+tested-or t w client r false lawful after = after
 
-sound-commit : (t : Topology) (w : World) (client : ℕ) (r : Request) (o : Option ℕ) → verdict t w r ≡ o → IsSound t w → IsSound t (commit t w client r o).world
-sound-commit t w client r None is sound = tested-or t w client r (is_test r.flags) sound (sound-committed t w client r sound is)
-sound-commit t w client r (Some n) is sound = sound
+sound-commit : (t : Topology) (w : World) (client : ℕ) (r : Request) (o : Option ℕ) → verdict t w r ≡ o → IsLawful t w → IsLawful t (commit t w client r o).world
+sound-commit t w client r None is lawful = tested-or t w client r (is_test r.flags) lawful (sound-committed t w client r lawful is)
+sound-commit t w client r (Some n) is lawful = lawful
 
-sound-make_unless : (t : Topology) (w : World) (owner label : ℕ) (c : Content) (o : Option ℕ) → IsSound t w → IsSound t (make_unless w owner label c o).world
-sound-make_unless t w owner label c None sound = sound-make t w owner label c sound
-sound-make_unless t w owner label c (Some n) sound = sound
+sound-make_unless : (t : Topology) (w : World) (owner label : ℕ) (c : Content) (o : Option ℕ) → IsLawful t w → IsLawful t (make_unless w owner label c o).world
+sound-make_unless t w owner label c None lawful = sound-make t w owner label c lawful
+sound-make_unless t w owner label c (Some n) lawful = lawful
 
-sound-add_fb : (t : Topology) (w : World) (owner label : ℕ) (b : Option BufferInfo) → IsSound t w → IsSound t (add_fb w owner label b).world
-sound-add_fb t w owner label None sound = sound
-sound-add_fb t w owner label (Some b) sound = sound-make t w owner label _ sound
+sound-add_fb : (t : Topology) (w : World) (owner label : ℕ) (b : Option BufferInfo) → IsLawful t w → IsLawful t (add_fb w owner label b).world
+sound-add_fb t w owner label None lawful = lawful
+sound-add_fb t w owner label (Some b) lawful = sound-make t w owner label _ lawful
 
-sound-close_unless : (t : Topology) (w : World) (u : Option Thing) (o : Option ℕ) → IsSound t w → IsSound t (close_unless w u o).world
-sound-close_unless t w u None sound = sound-close t w u sound
-sound-close_unless t w u (Some n) sound = sound
+sound-close_unless : (t : Topology) (w : World) (u : Option Thing) (o : Option ℕ) → IsLawful t w → IsLawful t (close_unless w u o).world
+sound-close_unless t w u None lawful = sound-close t w u lawful
+sound-close_unless t w u (Some n) lawful = lawful
 
-sound-signal_unless : (t : Topology) (w : World) (o : Option ℕ) → IsSound t w → IsSound t (signal_unless w o).world
-sound-signal_unless t w None sound = sound
-sound-signal_unless t w (Some n) sound = sound
+sound-signal_unless : (t : Topology) (w : World) (o : Option ℕ) → IsLawful t w → IsLawful t (signal_unless w o).world
+sound-signal_unless t w None lawful = lawful
+sound-signal_unless t w (Some n) lawful = lawful
 
--- A command leaves a sound world sound.
-pub execution_keeps_sound : (t : Topology) (w : World) (client : ℕ) (c : Command) → IsSound t w → IsSound t (execute t w client c).world
+-- A command leaves a lawful world lawful.
+pub execution_keeps_sound : (t : Topology) (w : World) (client : ℕ) (c : Command) → IsLawful t w → IsLawful t (execute t w client c).world
 unfolding execute
-execution_keeps_sound t w client (command.Buffer label width height format pattern) sound = sound-make_unless t w client label (content.Buffer width height format pattern) (new_buffer_refusal w.things width height format) sound
-execution_keeps_sound t w client (command.AddFb label buffer) sound = sound-add_fb t w client label (buffer_of w.things client buffer) sound
-execution_keeps_sound t w client (command.Mode label m) sound = sound-make t w client label (content.Mode m) sound
-execution_keeps_sound t w client (command.Blob label bytes) sound = sound-make t w client label (content.Blob bytes) sound
-execution_keeps_sound t w client (command.Destroy label) sound = sound-close_unless t w (thing_labelled w.things label) (destroy_refusal client (thing_labelled w.things label)) sound
-execution_keeps_sound t w client (command.CloseFb label) sound = sound-close_unless t w (thing_labelled w.things label) (close_refusal client (thing_labelled w.things label)) sound
-execution_keeps_sound t w client (command.Fence label) sound = sound-make t w client label content.Fence sound
-execution_keeps_sound t w client (command.Signal label) sound = sound-signal_unless t w (signal_refusal (thing_labelled w.things label)) sound
-execution_keeps_sound t w client (command.Atomic r) sound = sound-commit t w client r (verdict t w r) refl sound
-execution_keeps_sound t w client command.Wait sound = sound
+execution_keeps_sound t w client (command.Buffer label width height format pattern) lawful = sound-make_unless t w client label (content.Buffer width height format pattern) (new_buffer_refusal w.things width height format) lawful
+execution_keeps_sound t w client (command.AddFb label buffer) lawful = sound-add_fb t w client label (buffer_of w.things client buffer) lawful
+execution_keeps_sound t w client (command.Mode label m) lawful = sound-make t w client label (content.Mode m) lawful
+execution_keeps_sound t w client (command.Blob label bytes) lawful = sound-make t w client label (content.Blob bytes) lawful
+execution_keeps_sound t w client (command.Destroy label) lawful = sound-close_unless t w (thing_labelled w.things label) (destroy_refusal client (thing_labelled w.things label)) lawful
+execution_keeps_sound t w client (command.CloseFb label) lawful = sound-close_unless t w (thing_labelled w.things label) (close_refusal client (thing_labelled w.things label)) lawful
+execution_keeps_sound t w client (command.Fence label) lawful = sound-make t w client label content.Fence lawful
+execution_keeps_sound t w client (command.Signal label) lawful = sound-signal_unless t w (signal_refusal (thing_labelled w.things label)) lawful
+execution_keeps_sound t w client (command.Atomic r) lawful = sound-commit t w client r (verdict t w r) refl lawful
+execution_keeps_sound t w client command.Wait lawful = lawful

@@ -20,7 +20,7 @@ use Rattle.kms_model.specs.Device.World.{value, start_crtc, start_plane, start_p
 use Rattle.kms_model.specs.Device.States.{natural, mode_at, crtc_at, plane_at}
 use Rattle.kms_model.specs.Request.Apply.{is_kept}
 use Rattle.kms_model.specs.Request.Named.{needs_modeset}
-use Rattle.kms_model.specs.Device.Sound.{HasPlaneKind, IsDevice, is_held, empty_request, IsSound}
+use Rattle.kms_model.specs.Device.Sound.{HasPlaneKind, IsDevice, is_held, empty_request, IsLawful}
 use Rattle.kms_model.specs.Request.Checks.{with_ids, conns_on, plane_refusal, plane_refusal_at, crtc_refusal_at, conn_refusal_at, clone_refusal_at, route_refusal_at, shown_refusal, shown_refusal_at, late_refusal}
 use Rattle.kms_model.proofs.Items.{IsIn, IsObject, ids-in, list_all-at, list_any-none, or_else-nones, none-number_if, first_some-none}
 use Rattle.kms_model.proofs.AppliedValues.{ComesFrom, value-cases}
@@ -156,10 +156,11 @@ start-accepted t device =
     (none-number_if 24 _ (list_any-none (needs_modeset t [] values values) (ids_of t kind.Crtc) (λ crtc is. needs_modeset-self t [] values crtc))))))))
 
 -- The device of one thread is sound before the first command.
-pub start_is_sound : (t : Topology) → IsDevice t → IsSound t (start t)
+pub start_is_sound : (t : Topology) → IsDevice t → IsLawful t (start t)
 start_is_sound t device = record {
-  numbered = tt;
-  next = refl;
-  held = are_held-from t [] (start t).values (record { crtcs = all-start t kind.Crtc device; planes = all-start t kind.Plane device; conns = all-start t kind.Conn device });
-  accepted = start-accepted t device;
+  sound = record {
+    held = are_held-from t [] (start t).values (record { crtcs = all-start t kind.Crtc device; planes = all-start t kind.Plane device; conns = all-start t kind.Conn device });
+    accepted = start-accepted t device;
+  };
+  numbered = record { things = tt; next = refl };
 }

@@ -2,11 +2,11 @@
 use Rattle.std.proofs.Common.{◌≡◌, ◌≢◌, ℕ, ◌+◌, ◌<◌, ◌≤◌, Bool, true, false, List, [], ◌∷◌, ◌++◌, length, Option, Some, inl, inr, arith, refl, sym, ap, ◌∙◌}
 use Rattle.std.specs.Prelude.{◌==◌, ℤ, pos, if◌then◌else◌, find}
 use Rattle.std.specs.Ordering.{int_eq}
-use Rattle.std.proofs.lemmas.Bool.{cases_Bool, cond-true, cond-false, false_from_ne_true}
+use Rattle.std.proofs.lemmas.Bool.{cases_Bool, cond-true, cond-false, eq-eqb, eqb-true, false_from_ne_true, false≢true}
 use Rattle.std.proofs.lemmas.Bool.Decides.{Decides-int_eq}
 use Rattle.kms_model.specs.declared.worlds.Content.{Content}
 use Rattle.kms_model.specs.declared.worlds.Thing.{Thing}
-use Rattle.kms_model.specs.Device.World.{thing_labelled, thing_numbered}
+use Rattle.kms_model.specs.Device.World.{thing_labelled, thing_numbered, thing_with_id}
 use Rattle.kms_model.specs.Device.States.{framebuffer_of, framebuffer_in, gamma_of, gamma_in, mode_of, mode_in}
 use Rattle.kms_model.specs.Device.Sound.{AreNumbered}
 use Rattle.kms_model.specs.Device.Closing.{closed_if, closed_in}
@@ -32,6 +32,14 @@ int_eq-same n = (Decides-int_eq (pos n) (pos n)).1 refl
 int_eq-other : (m n : ℕ) → m ≢ n → int_eq (pos m) (pos n) ≡ false
 int_eq-other m n other = false_from_ne_true (int_eq (pos m) (pos n)) (λ e. let same = (Decides-int_eq (pos m) (pos n)).0 e in other cc)
 
+-- the tests of an id and of a value that is that id tell the same
+same_test : (m n : ℕ) → int_eq (pos m) (pos n) ≡ (m == n)
+same_test m n =
+    elim (cases_Bool (m == n)) [
+      | inl is ↦ (let e : m ≡ n = eqb-true m n is in ap (λ k. int_eq (pos m) (pos k)) (sym e) ∙ int_eq-same m ∙ sym is)
+      | inr other ↦ int_eq-other m n (λ e. false≢true (sym other ∙ eq-eqb m n e)) ∙ sym other
+    ]
+
 -- a thing is found by its id
 pub thing_numbered-id : (n : ℕ) (things : List Thing) (t : Thing) → AreNumbered n things → IsIn t things → thing_numbered things (pos t.id) ≡ Some t
 thing_numbered-id n [] t numbered is = absurd is
@@ -52,6 +60,25 @@ find-in {A} p (y ∷ ys) x found =
       | inl is ↦ inl (let e : Some y ≡ Some x = sym (cond-true (p y) (Some y) (find p ys) is) ∙ found in cc)
       | inr other ↦ inr (find-in p ys x (sym (cond-false (p y) (Some y) (find p ys) other) ∙ found))
     ]
+
+-- and it passes the test
+pub find-holds : {A : Type 0} (p : A → Bool) (xs : List A) (x : A) → find p xs ≡ Some x → p x ≡ true
+find-holds p [] x e = absurd cc
+find-holds {A} p (y ∷ ys) x e =
+    elim (cases_Bool (p y)) [
+      | inl is ↦ (let same : Some y ≡ Some x = sym (cond-true (p y) (Some y) (find p ys) is) ∙ e in let yx : y ≡ x = cc in ap p (sym yx) ∙ is)
+      | inr other ↦ find-holds p ys x (sym (cond-false (p y) (Some y) (find p ys) other) ∙ e)
+    ]
+
+same_find : (things : List Thing) (id : ℕ) → thing_numbered things (pos id) ≡ thing_with_id things id
+same_find [] id = refl
+same_find (u ∷ us) id = ap (λ b. if b then Some u else thing_numbered us (pos id)) (same_test u.id id) ∙ ap (λ o. if u.id == id then Some u else o) (same_find us id)
+
+-- what a property's value finds is found by its id
+pub found_with_id : (things : List Thing) (number : ℤ) (t : Thing) → thing_numbered things number ≡ Some t → thing_with_id things t.id ≡ Some t
+found_with_id things number t found =
+    let is : pos t.id ≡ number = (Decides-int_eq (pos t.id) number).0 (find-holds (λ u. int_eq (pos u.id) number) things t found) in
+    sym (same_find things t.id) ∙ ap (thing_numbered things) is ∙ found
 
 -- the thing under a label is found by its id
 pub thing_numbered-labelled : (things : List Thing) (label : ℕ) (t : Thing) → AreNumbered 1000 things → thing_labelled things label ≡ Some t → thing_numbered things (pos t.id) ≡ Some t

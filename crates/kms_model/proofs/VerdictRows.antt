@@ -188,8 +188,8 @@ abbrev report : Options → List (List Command) → List ℕ
 report options clients = report_of_script options (record { version = 1; topology = device; names = names; clients = clients })
 
 -- a CRTC that goes off latches `off` and keeps its count; a framebuffer is freed once it is closed and no plane has it
-abbrev off : List Assign
-off =
+abbrev pub put_off : List Assign
+put_off =
     sets kind.Crtc 0 ACTIVE (number 0)
     ∷ sets kind.Crtc 0 MODE_ID (number 0)
     ∷ sets kind.Conn 0 CRTC_ID (number 0)
@@ -197,7 +197,7 @@ off =
     ∷ sets kind.Plane 0 CRTC_ID (number 0)
     ∷ []
 
-pub closed_framebuffer_is_freed_when_its_plane_goes_off : report plain ((made ++ request ALLOW_MODESET light ∷ command.CloseFb 1 ∷ request ALLOW_MODESET off ∷ []) ∷ [])
+pub closed_framebuffer_is_freed_when_its_plane_goes_off : report plain ((made ++ request ALLOW_MODESET light ∷ command.CloseFb 1 ∷ request ALLOW_MODESET put_off ∷ []) ∷ [])
     ≡ codes "J 1 1\nJ 1 2\nJ 1 3\nJ 1 4\nJ 1 5\nJ 1 6\nR 1 1 0 made 1000\nR 1 2 1 made 1001\nR 1 3 2 made 1002\nR 1 4 3 commit 0\nR 1 5 4 done\nR 1 6 5 commit 1\nL 0 0 1 709e80c88487a2411e1ee4dfb9f22a861492d20c4765150c0c794abd70f8147c\nL 0 1 1 off\nX f 1001\nD drained\n"
 unfolding on_machines
 closed_framebuffer_is_freed_when_its_plane_goes_off = refl

@@ -1,6 +1,6 @@
 -- What holds of every history besides the headline: each promise by its name.
-use Rattle.std.specs.Prelude.{◌≡◌, ◌≢◌, ℕ, ◌<◌, ◌==◌, ◌&&◌, not, true, false, List, [], ◌++◌, length, map, filter, find, reverse, ◌%◌, ◌^◌, Option, Some, None, ◌↔◌, if◌then◌else◌}
-use Rattle.std.specs.List.{All, flat_map, filter_map}
+use Rattle.std.specs.Prelude.{◌≡◌, ◌≢◌, ℕ, nat_eq, ◌<◌, ◌==◌, ◌&&◌, not, true, false, List, [], ◌∷◌, ◌++◌, length, map, filter, find, reverse, ◌%◌, ◌^◌, Option, Some, None, ◌↔◌, if◌then◌else◌}
+use Rattle.std.specs.List.{All, IsDistinct, flat_map, filter_map}
 use Rattle.kms_model.specs.declared.objects.Kind.TheVariants.{Crtc, Plane, Conn}
 use Rattle.kms_model.specs.declared.objects.Topology.{Topology}
 use Rattle.kms_model.specs.declared.pictures.Picture.{Picture}
@@ -24,7 +24,7 @@ use Rattle.kms_model.specs.Request.Sets.{obj_id}
 use Rattle.kms_model.specs.Request.Verdict.{verdict}
 use Rattle.kms_model.specs.Machine.Commits.{asks_event, commit_at, commit_names, has_latched, is_claimed, is_cleaned, new_values, previous, waited_fences}
 use Rattle.kms_model.specs.Machine.Effects.{decided, next, refusal_reply}
-use Rattle.kms_model.specs.Machine.Framebuffers.{is_needed}
+use Rattle.kms_model.specs.Machine.Framebuffers.{freed, freed_by_step, is_in_things, is_needed}
 use Rattle.kms_model.specs.Machine.Histories.{at, commit_numbers, is_awaited, is_dead, is_history, last_latched, legal, stalled_on}
 use Rattle.kms_model.specs.Machine.Registers.{decoded_picture}
 use Rattle.kms_model.specs.Machine.State.{Commit, Machine, doing_at, holds, request_at, reserved_at, unread_at}
@@ -116,6 +116,17 @@ EventsOnce = InEachHistory (λ s h. (client : ℕ) →
 abbrev pub FramebuffersOnce : Type 0
 FramebuffersOnce = AtEachStep (λ s m step. All (λ thing. is_framebuffer thing.content ≡ true → is_needed s.topology m thing ≡ false
     → (later : Thing) → thing_with_id (next s m step).device.world.things thing.id ≡ Some later → is_needed s.topology (next s m step) later ≡ false) m.device.world.things)
+
+-- What a history freed: no framebuffer twice, and each that was made where it is not needed. A step frees what is needed before
+-- it and not after it.
+pub record FreesEachOnce (s : Script) (h : List Step) : Type 0 where
+  pub once : IsDistinct nat_eq (map (λ thing. thing.id) (freed s h))
+  pub unneeded : All (λ thing. is_framebuffer thing.content ≡ true
+      → is_in_things (freed s h) thing ≡ not (is_needed s.topology (at s h) thing)) (at s h).device.world.things
+  pub first : (step : Step) → legal s (at s h) step ≡ true → freed s (h ++ step ∷ []) ≡ freed s h ++ freed_by_step s (at s h) step
+
+abbrev pub FreedOnce : Type 0
+FreedOnce = InEachHistory FreesEachOnce
 
 -- Tests
 

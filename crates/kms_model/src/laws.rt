@@ -6,16 +6,16 @@ ghost use Rattle.kms_model.specs.declared.scripts.Command.{Command};
 ghost use Rattle.kms_model.specs.declared.states.PlaneState.{PlaneState};
 ghost use Rattle.kms_model.specs.declared.worlds.World.{World};
 ghost use Rattle.kms_model.specs.Device.World.{start};
-ghost use Rattle.kms_model.specs.Device.Sound.{IsDevice, IsPlaneInRange, IsSound};
+ghost use Rattle.kms_model.specs.Device.Sound.{IsDevice, IsPlaneInRange, IsLawful};
 ghost use Rattle.kms_model.specs.Device.Execution.{execute};
 ghost use Rattle.kms_model.specs.Frames.FrameBytes.{covers};
 ghost use Rattle.kms_model.specs.Frames.Unscaled.{ShowsUnscaled};
 ghost use Rattle.kms_model.specs.Request.Checks.{shown_refusal};
 
-/// A device of one thread is sound before the first command: its values are among those of their properties,
-/// and a request without assignments is accepted.
+/// A device of one thread is lawful before the first command: its values are among those of their properties, a request
+/// without assignments is accepted, and its things are numbered.
 pub fn start_is_sound()
-    ensures { (t : Topology) → IsDevice t → IsSound t (start t) }
+    ensures { (t : Topology) → IsDevice t → IsLawful t (start t) }
 {}
 
 /// A plane that profile 1 accepts shows, at each pixel of its destination, the place of the framebuffer that it shows
@@ -26,8 +26,8 @@ pub fn accepted_in_profile_1_is_unscaled()
         → ShowsUnscaled s x y }
 {}
 
-/// Each command leaves a sound device sound, whatever is answered to it.
+/// Each command leaves a lawful device lawful, whatever is answered to it.
 pub fn execution_keeps_sound()
-    ensures { (t : Topology) (w : World) (client : ℕ) (c : Command) → IsSound t w
-        → IsSound t (execute t w client c).world }
+    ensures { (t : Topology) (w : World) (client : ℕ) (c : Command) → IsLawful t w
+        → IsLawful t (execute t w client c).world }
 {}

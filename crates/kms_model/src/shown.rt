@@ -4,7 +4,7 @@ ghost use Rattle.kms_model.specs.declared.objects.Topology.{Topology};
 ghost use Rattle.kms_model.specs.declared.scripts.Command.{Command};
 ghost use Rattle.kms_model.specs.declared.worlds.World.{World};
 ghost use Rattle.kms_model.specs.Device.Execution.{execute};
-ghost use Rattle.kms_model.specs.Device.Sound.{IsSound};
+ghost use Rattle.kms_model.specs.Device.Sound.{IsLawful, IsSound};
 ghost use Rattle.kms_model.specs.Device.World.{start};
 ghost use Rattle.kms_model.specs.Frames.Pictures.{picture};
 ghost use Rattle.kms_model.specs.Frames.Shown.{AreFramed, EachCanBeShown};
@@ -20,5 +20,5 @@ pub fn what_is_shown_can_be_composed()
 pub fn framebuffers_have_their_buffers()
     ensures start { (t : Topology) → AreFramed (start t).things }
     ensures kept { (t : Topology) (w : World) (client : ℕ) (c : Command)
-        → IsSound t w → AreFramed w.things → AreFramed (execute t w client c).world.things }
+        → IsLawful t w → AreFramed w.things → AreFramed (execute t w client c).world.things }
 {}

@@ -15,7 +15,8 @@ presented r st stands =
     let states = stands.stores.world.states in
     record {
       device = stands.formed.device;
-      sound = (history_kept r.script r.steps (plain-from r.script stands.formed) stands.history).present.sound;
+      sound = (history_kept r.script r.steps (plain-from r.script stands.formed) stands.history).present.lawful.sound;
+      numbered = (history_kept r.script r.steps (plain-from r.script stands.formed) stands.history).present.lawful.numbered;
       old = states.old;
       new = states.new;
       all = record { crtcs = states.whole.crtcs.there; planes = states.whole.planes.there; conns = states.whole.conns.there };

@@ -4,7 +4,7 @@ ghost use Rattle.kms_model.specs.declared.objects.Topology.{Topology};
 ghost use Rattle.kms_model.specs.declared.scripts.Command.{Command};
 ghost use Rattle.kms_model.specs.declared.worlds.World.{World};
 ghost use Rattle.kms_model.specs.Device.Execution.{execute};
-ghost use Rattle.kms_model.specs.Device.Sound.{IsSound};
+ghost use Rattle.kms_model.specs.Device.Sound.{IsLawful, IsSound};
 ghost use Rattle.kms_picture.specs.Unscaled.{EachShowsUnscaled};
 
 /// In a sound world of a device with profile 1 each plane that is on a CRTC shows, at each pixel of its destination, the
@@ -14,5 +14,5 @@ pub fn profile_1_scales_nothing()
     ensures before { (t : Topology) (w : World) → t.profile ≡ 1 → IsSound t w
         → EachShowsUnscaled t w }
     ensures after { (t : Topology) (w : World) (client : ℕ) (c : Command)
-        → t.profile ≡ 1 → IsSound t w → EachShowsUnscaled t (execute t w client c).world }
+        → t.profile ≡ 1 → IsLawful t w → EachShowsUnscaled t (execute t w client c).world }
 {}

@@ -132,7 +132,7 @@ in_range_if true (Some (Some both)) fits = fits both refl
 pub planes_in_range : (t : Topology) (w : World) (r : Request) (d : Duplicates) (planes : ℕ) → StandBetween t w r d → ArePlanesInRange t d planes
 planes_in_range t w r d planes stand index there =
     let new : List Setting = after w r in
-    let held = all_held-from t w.things new (apply-held t w r stand.sound stand.early) in
+    let held = all_held-from t w.things new (apply-held t w r (record { sound = stand.sound; numbered = stand.numbered }) stand.early) in
     in_range_if (has_bit planes index) (slice_get d.planes index) (λ both is.
     subst IsPlaneInRange (sym (stand.new.planes index both is)) (plane_in_range t w.things new (object_id Plane index) held (ids-has t Plane index there)))
 
@@ -156,4 +156,4 @@ pub whole_is : (t : Topology) (w : World) (r : Request) (d : Duplicates) (named 
     → late_of_states t d (record { crtcs = 2 ^ 32 - 1; planes = 2 ^ 32 - 1; conns = 2 ^ 32 - 1 }) r.flags named fenced ≡ late_refusal t w.things w.values (after w r) r
 whole_is t w r d named fenced stand named_is fenced_is =
     rw (named_is, fenced_is) (late_of_states-is t w r d (record { crtcs = 2 ^ 32 - 1; planes = 2 ^ 32 - 1; conns = 2 ^ 32 - 1 })
-    (record { at = record { device = stand.device; sound = stand.sound; early = stand.early }; old = stand.old; new = stand.new }) (all_cover t w r d stand))
+    (record { at = record { device = stand.device; lawful = record { sound = stand.sound; numbered = stand.numbered }; early = stand.early }; old = stand.old; new = stand.new }) (all_cover t w r d stand))

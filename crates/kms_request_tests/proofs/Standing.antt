@@ -12,7 +12,7 @@ use Rattle.kms_model.specs.declared.states.Duplicates.{Duplicates}
 use Rattle.kms_model.specs.declared.worlds.Look.{Look}
 use Rattle.kms_model.specs.Device.Execution.{Executed, execute}
 use Rattle.kms_model.specs.Device.Properties.{keeps_limits}
-use Rattle.kms_model.specs.Device.Sound.{IsDevice, IsSound}
+use Rattle.kms_model.specs.Device.Sound.{IsDevice, IsLawful}
 use Rattle.kms_model.specs.Device.World.{start}
 use Rattle.kms_model.specs.Request.Agreement.{AgreesOld, AreOld}
 use Rattle.kms_model.specs.Request.Deciding.{AreFresh, AreFreshIn, AreOfSoundWorld, IsAskedFor}
@@ -28,7 +28,7 @@ use Rattle.kms_request_tests.specs.Standing.{Stands}
 
 -- a device before the first command
 pub stands_start : (t : Topology) (d : Device) → IsDevice t → d ≡ record { topology = t; world = start t } → Stands t d
-stands_start t d device is = subst (Stands t) (sym is) (record { device = device; same = refl; sound = start_is_sound t device })
+stands_start t d device is = subst (Stands t) (sym is) (record { device = device; same = refl; lawful = start_is_sound t device })
 
 -- and after a command
 pub stands_after : (t : Topology) (old new : Device) (client : ℕ) (c : Command) (r : Reply) → Stands t old → execute old.topology old.world client c ≡ record { world = new.world; reply = r } → new.topology ≡ old.topology → Stands t new
@@ -37,7 +37,7 @@ stands_after t old new client c r s executed same =
     record {
       device = s.device;
       same = same ∙ s.same;
-      sound = subst (λ (e : Executed). IsSound t e.world) here (execution_keeps_sound t old.world client c s.sound);
+      lawful = subst (λ (e : Executed). IsLawful t e.world) here (execution_keeps_sound t old.world client c s.lawful);
     }
 
 pub stands_device : (t : Topology) (d : Device) → Stands t d → IsDevice t
@@ -53,7 +53,7 @@ stands_limits t device = limits_of t device
 pub present_held : (t : Topology) (d : Device) (states : Duplicates) → Stands t d → IsPresent d.topology d.world states → AreOfSoundWorld t states
 present_held t d states s present = record {
   world = d.world;
-  sound = s.sound;
+  sound = s.lawful.sound;
   old = subst (λ (u : Topology). AgreesOld u d.world.things d.world.values states) s.same present.old;
 }
 

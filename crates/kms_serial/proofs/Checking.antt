@@ -37,7 +37,8 @@ whole_after t before after same whole = record {
 pub present : (t : Topology) (w : World) (d : Duplicates) → StandsInWorld t w d → ArePresent t w d
 present t w d stands = record {
   device = stands.device;
-  sound = stands.sound;
+  sound = stands.lawful.sound;
+  numbered = stands.lawful.numbered;
   old = stands.present.old;
   new = stands.present.new;
   all = record { crtcs = stands.present.whole.crtcs.there; planes = stands.present.whole.planes.there; conns = stands.present.whole.conns.there };

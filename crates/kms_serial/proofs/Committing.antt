@@ -19,7 +19,7 @@ use Rattle.kms_model.specs.Device.Execution.{committed, execute, make_out_fence,
 use Rattle.kms_model.specs.Request.Flags.{is_test}
 use Rattle.kms_model.specs.Device.Objects.{object_id}
 use Rattle.kms_model.specs.Device.Execution.{Executed}
-use Rattle.kms_model.specs.Device.Sound.{IsSound}
+use Rattle.kms_model.specs.Device.Sound.{IsLawful}
 use Rattle.std.proofs.lemmas.List.FromFn.{length-map-range_with_len}
 use Rattle.kms_model.specs.Request.Touched.{out_fence_label}
 use Rattle.kms_model.specs.Request.Verdict.{verdict}
@@ -72,9 +72,9 @@ record IsSeenWithin (t : Topology) (n : ℕ) (w after : World) : Type 0 where
 within_none : (t : Topology) (w : World) → IsSeenWithin t 0 w w
 within_none t w = record { values = refl; alike = (seen_same t w).alike; ids = omega arith; commits = refl }
 
-within_one : (t : Topology) (client : ℕ) (w : World) (label : Option ℕ) → IsSound t w → IsSeenWithin t 1 w (make_out_fence client w label)
-within_one t client w None sound = record { values = refl; alike = (seen_same t w).alike; ids = omega arith; commits = refl }
-within_one t client w (Some label) sound = record { values = refl; alike = (seen_made t w client label content.OutFence sound).alike; ids = omega arith; commits = refl }
+within_one : (t : Topology) (client : ℕ) (w : World) (label : Option ℕ) → IsLawful t w → IsSeenWithin t 1 w (make_out_fence client w label)
+within_one t client w None lawful = record { values = refl; alike = (seen_same t w).alike; ids = omega arith; commits = refl }
+within_one t client w (Some label) lawful = record { values = refl; alike = (seen_made t w client label content.OutFence lawful).alike; ids = omega arith; commits = refl }
 
 within_then : (t : Topology) (m n : ℕ) (u v w : World) → IsSeenWithin t m u v → IsSeenWithin t n v w → IsSeenWithin t (m + n) u w
 within_then t m n u v w first second =
@@ -90,11 +90,11 @@ within_then t m n u v w first second =
       commits = second.commits ∙ first.commits;
     }
 
-within_fences : (t : Topology) (client : ℕ) (assigns : List Assign) (w : World) (crtcs : List ℕ) → IsSound t w → IsSeenWithin t (length crtcs) w (make_out_fences client assigns w crtcs)
-within_fences t client assigns w [] sound = within_none t w
-within_fences t client assigns w (crtc ∷ crtcs) sound =
+within_fences : (t : Topology) (client : ℕ) (assigns : List Assign) (w : World) (crtcs : List ℕ) → IsLawful t w → IsSeenWithin t (length crtcs) w (make_out_fences client assigns w crtcs)
+within_fences t client assigns w [] lawful = within_none t w
+within_fences t client assigns w (crtc ∷ crtcs) lawful =
     let one = make_out_fence client w (out_fence_label assigns crtc) in
-    let more = within_then t 1 (length crtcs) w one (make_out_fences client assigns one crtcs) (within_one t client w (out_fence_label assigns crtc) sound) (within_fences t client assigns one crtcs (sound-out_fences t client assigns w (crtc ∷ []) sound)) in
+    let more = within_then t 1 (length crtcs) w one (make_out_fences client assigns one crtcs) (within_one t client w (out_fence_label assigns crtc) lawful) (within_fences t client assigns one crtcs (sound-out_fences t client assigns w (crtc ∷ []) lawful)) in
     record { values = more.values; alike = more.alike; ids = omega (arith, more.ids); commits = more.commits }
 
 -- The device after a commit
@@ -117,28 +117,28 @@ refuses t w client r n some = rw some refl
 length-range : (f : ℕ → ℕ) (a n : ℕ) → length (map f (range_with_len a n)) ≡ n
 length-range f a n = length-map-range_with_len f a n
 
-within_after : (t : Topology) (w : World) (client : ℕ) (r : Request) → IsSound t w → verdict t w r ≡ None
+within_after : (t : Topology) (w : World) (client : ℕ) (r : Request) → IsLawful t w → verdict t w r ≡ None
     → IsSeenWithin t t.crtcs (record w { values = after w r; commits = w.commits + 1 }) (committed t w client r).world
-within_after t w client r sound none =
+within_after t w client r lawful none =
     let before : World = record w { values = after w r; commits = w.commits + 1 } in
-    subst (λ n. IsSeenWithin t n before (committed t w client r).world) (length-range (object_id kind.Crtc) 0 t.crtcs) (within_fences t client r.assigns before (map (object_id kind.Crtc) (range_with_len 0 t.crtcs)) (sound-apply t w r (w.commits + 1) sound none))
+    subst (λ n. IsSeenWithin t n before (committed t w client r).world) (length-range (object_id kind.Crtc) 0 t.crtcs) (within_fences t client r.assigns before (map (object_id kind.Crtc) (range_with_len 0 t.crtcs)) (sound-apply t w r (w.commits + 1) lawful none))
 
-pub grows_committed : (t : Topology) (w : World) (client : ℕ) (r : Request) → IsSound t w → t.crtcs ≤ 4 → verdict t w r ≡ None → Grows w (committed t w client r).world
-grows_committed t w client r sound few none = let within = within_after t w client r sound none in record { ids = omega (arith, within.ids); commits = omega (arith, within.commits) }
+pub grows_committed : (t : Topology) (w : World) (client : ℕ) (r : Request) → IsLawful t w → t.crtcs ≤ 4 → verdict t w r ≡ None → Grows w (committed t w client r).world
+grows_committed t w client r lawful few none = let within = within_after t w client r lawful none in record { ids = omega (arith, within.ids); commits = omega (arith, within.commits) }
 
-pub values_committed : (t : Topology) (w : World) (client : ℕ) (r : Request) → IsSound t w → verdict t w r ≡ None → (committed t w client r).world.values ≡ after w r
-values_committed t w client r sound none = (within_after t w client r sound none).values
+pub values_committed : (t : Topology) (w : World) (client : ℕ) (r : Request) → IsLawful t w → verdict t w r ≡ None → (committed t w client r).world.values ≡ after w r
+values_committed t w client r lawful none = (within_after t w client r lawful none).values
 
 -- a device stands after a commit
 pub stands_committed : (t : Topology) (w : World) (d new : Duplicates) (client : ℕ) (r : Request) → StandsInWorld t w d → verdict t w r ≡ None → is_test r.flags ≡ false → IsAfter t w r new → StandsInWorld t (committed t w client r).world (swapped new)
 stands_committed t w d new client r stands none test is =
     let before : World = record w { values = after w r; commits = w.commits + 1 } in
-    let within = within_after t w client r stands.sound none in
+    let within = within_after t w client r stands.lawful none in
     let executed = executes t w client r none test in
     let now = swapped_present t w r new is in
     record {
       device = stands.device;
-      sound = subst (λ (e : Executed). IsSound t e.world) executed (execution_keeps_sound t w client (command.Atomic r) stands.sound);
-      framed = subst (λ (e : Executed). AreFramed e.world.things) executed (execution_keeps_framed t w client (command.Atomic r) stands.sound.numbered stands.framed);
+      lawful = subst (λ (e : Executed). IsLawful t e.world) executed (execution_keeps_sound t w client (command.Atomic r) stands.lawful);
+      framed = subst (λ (e : Executed). AreFramed e.world.things) executed (execution_keeps_framed t w client (command.Atomic r) stands.lawful.numbered.things stands.framed);
       present = present_seen t before (committed t w client r).world (swapped new) within.values within.alike (record { whole = now.whole; old = now.old; new = now.new });
     }

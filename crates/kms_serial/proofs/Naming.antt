@@ -20,7 +20,7 @@ use Rattle.kms_model.specs.declared.worlds.World.{World}
 use Rattle.kms_model.specs.Frames.FrameBytes.{buffer_id_in}
 use Rattle.kms_model.specs.Frames.Images.{image_of, seen_in}
 use Rattle.kms_model.specs.Device.Objects.{object_id, count_of}
-use Rattle.kms_model.specs.Device.Sound.{AreNumbered, has_legal_mode, IsSound}
+use Rattle.kms_model.specs.Device.Sound.{AreNumbered, has_legal_mode, IsLawful}
 use Rattle.kms_model.specs.Device.States.{framebuffer_in, framebuffer_of, gamma_of, mode_of, plane_at}
 use Rattle.kms_model.specs.Script.Words.{◌>>=◌}
 use Rattle.kms_model.specs.Device.World.{value, thing_numbered, thing_with_id}
@@ -81,13 +81,13 @@ is-held false true d e h = refl
 is-held false false d e h = absurd cc
 
 -- a plane is set to the id of its state's framebuffer
-pub fb_id-is : (t : Topology) (w : World) (index : ℕ) → IsSound t w → AreFramed w.things → index < count_of t kind.Plane
+pub fb_id-is : (t : Topology) (w : World) (index : ℕ) → IsLawful t w → AreFramed w.things → index < count_of t kind.Plane
     → pos (id_or_zero (plane_at w.things w.values (object_id kind.Plane index)).fb) ≡ value w.values (object_id kind.Plane index) FB_ID
-fb_id-is t w index sound framed within =
+fb_id-is t w index lawful framed within =
     let z = value w.values (object_id kind.Plane index) FB_ID in
-    number-of w.things z (thing_numbered w.things z) sound.numbered framed refl
+    number-of w.things z (thing_numbered w.things z) lawful.numbered.things framed refl
     (is-held (int_eq z (pos 0)) (is_some (framebuffer_of (thing_numbered w.things z))) (has_legal_mode (mode_of (thing_numbered w.things z))) (is_some (gamma_of (thing_numbered w.things z)))
-    (fb-held t w.things w.values (object_id kind.Plane index) (all_held-from t w.things w.values sound.held) (ids-has t kind.Plane index within)))
+    (fb-held t w.things w.values (object_id kind.Plane index) (all_held-from t w.things w.values lawful.sound.held) (ids-has t kind.Plane index within)))
 
 -- the same of a state that is duplicated
 pub fb_of_state : (t : Topology) (w : World) (d : Duplicates) (index : ℕ) (o : Option (Both PlaneState)) → StandsInWorld t w d → index < length t.planes
@@ -96,7 +96,7 @@ fb_of_state t w d index None stands within is =
     absurd (let some = stands.present.whole.planes.there index within in let none : is_some (state_at d.planes index) ≡ false = rw is refl in cc)
 fb_of_state t w d index (Some both) stands within is =
     let new = stands.present.new.planes index both (flatten-some (slice_get d.planes index) both is) in
-    ap (λ (s : PlaneState). pos (id_or_zero s.fb)) new ∙ fb_id-is t w index stands.sound stands.framed within
+    ap (λ (s : PlaneState). pos (id_or_zero s.fb)) new ∙ fb_id-is t w index stands.lawful stands.framed within
 
 no-buffer : (c : Content) → framebuffer_in c ≡ None → buffer_id_in c ≡ None
 no-buffer (content.Framebuffer info of) e = absurd cc

@@ -37,7 +37,7 @@ ready_plane t w d index None stands is lt = absurd (let some = stands.present.wh
 ready_plane t w d index (Some both) stands is lt =
     let at = flatten-some (slice_get d.planes index) both is in
     let new : both.new ≡ plane_at w.things w.values (object_id kind.Plane index) = stands.present.new.planes index both at in
-    subst (λ s. is_near_rect s.dst ≡ true) (sym new) (near-dst (plane_at w.things w.values (object_id kind.Plane index)) (sound-plane_in_range t w index stands.sound lt))
+    subst (λ s. is_near_rect s.dst ≡ true) (sym new) (near-dst (plane_at w.things w.values (object_id kind.Plane index)) (sound-plane_in_range t w index stands.lawful.sound lt))
 
 -- planes beyond the device are on no CRTC
 within : (t : Topology) (w : World) (crtc index : ℕ) → has_bit (on_crtc t w.values crtc kind.Plane) index ≡ true → index < length t.planes

@@ -9,4 +9,4 @@ use Rattle.kms_serial.specs.Device.{StandsInWorld}
 
 -- the device before the first command stands
 pub start_stands : (t : Topology) → IsDevice t → StandsInWorld t (start t) (start_states t)
-start_stands t device = record { device = device; sound = start_is_sound t device; framed = tt; present = start_present t device }
+start_stands t device = record { device = device; lawful = start_is_sound t device; framed = tt; present = start_present t device }

@@ -1,4 +1,4 @@
--- The worlds that commits start from are sound, and so are those after them; a CRTC's words are those after the commits
+-- The worlds that commits start from are lawful, and so are those after them; a CRTC's words are those after the commits
 -- before, and the client is one of the script's.
 use Rattle.std.proofs.Common.{◌≡◌, ℕ, ◌+◌, ◌<◌, ◌≤◌, List, ◌∷◌, length, true, sym, ap, ◌∙◌, subst, arith, ⊎_elim}
 use Rattle.std.proofs.lemmas.Bool.{cases_lt, false_from_ne_true}
@@ -9,7 +9,7 @@ use Rattle.kms_model.specs.declared.runs.Latch.{Latch}
 use Rattle.kms_model.specs.declared.scripts.Command.TheVariants as command
 use Rattle.kms_model.specs.declared.scripts.Script.{Script}
 use Rattle.kms_model.specs.Device.Objects.{ids_of}
-use Rattle.kms_model.specs.Device.Sound.{IsSound}
+use Rattle.kms_model.specs.Device.Sound.{IsLawful}
 use Rattle.kms_model.specs.Machine.Commits.{commit_at, commit_names, commit_touches, has_pair, lockable, new_values, old_values}
 use Rattle.kms_model.specs.Machine.Histories.{at, is_history}
 use Rattle.kms_model.specs.Machine.Registers.{CrtcWords, crtc_register}
@@ -38,8 +38,8 @@ use Rattle.kms_stores.proofs.Places.{client_there}
 pub record IsSoundCommit (t : Topology) (clients : ℕ) (c : Commit) (words : ℕ → CrtcWords) : Type 0 where
   pub low : 1 ≤ c.client
   pub high : c.client ≤ clients
-  pub sound : IsSound t c.world
-  pub sound_after : IsSound t (record c.world { values = new_values c; commits = c.world.commits + 1 })
+  pub lawful : IsLawful t c.world
+  pub lawful_after : IsLawful t (record c.world { values = new_values c; commits = c.world.commits + 1 })
   pub old_words : (crtc : ℕ) → IsIn crtc (ids_of t Crtc) → words_at t c.world.things (old_values c) crtc ≡ words crtc
 
 abbrev pub AreSoundCommits : Topology → ℕ → List Commit → Type 0
@@ -51,10 +51,10 @@ one_more t clients x cs all one k low =
     (λ (old : k < length cs). (
     let was = all k old in
     let now : IsSoundCommit t clients (commit_at t (x ∷ cs) k) (crtc_after t cs k) = subst (λ (c : Commit). IsSoundCommit t clients c (crtc_after t cs k)) (sym (commit_old t x cs k old)) was in
-    record { low = now.low; high = now.high; sound = now.sound; sound_after = now.sound_after; old_words = λ crtc is. now.old_words crtc is ∙ sym (crtc_old t x cs k crtc (omega (arith, old))) }))
+    record { low = now.low; high = now.high; lawful = now.lawful; lawful_after = now.lawful_after; old_words = λ crtc is. now.old_words crtc is ∙ sym (crtc_old t x cs k crtc (omega (arith, old))) }))
     (λ (same : length cs ≡ k). subst (λ n. IsSoundCommit t clients (commit_at t (x ∷ cs) n) (crtc_after t (x ∷ cs) n)) same (
     let now : IsSoundCommit t clients (commit_at t (x ∷ cs) (length cs)) (crtc_after t cs (length cs)) = subst (λ (c : Commit). IsSoundCommit t clients c (crtc_after t cs (length cs))) (sym (commit_new t x cs)) one in
-    record { low = now.low; high = now.high; sound = now.sound; sound_after = now.sound_after; old_words = λ crtc is. now.old_words crtc is ∙ sym (crtc_old t x cs (length cs) crtc (omega arith)) }))
+    record { low = now.low; high = now.high; lawful = now.lawful; lawful_after = now.lawful_after; old_words = λ crtc is. now.old_words crtc is ∙ sym (crtc_old t x cs (length cs) crtc (omega arith)) }))
     (is_old k (length cs) low)
 
 abbrev Sound : Script → DeviceState → List Latch → Type 0
@@ -64,7 +64,7 @@ sound_kept : (s : Script) → IsKept s (Sound s)
 sound_kept s =
     few_kept s (λ w cs ls. AreSoundCommits s.topology (length s.clients) cs) (λ m client c is other all. all)
     (λ m client r H is none all. one_more s.topology (length s.clients) (commit_of m client r) m.device.commits all
-    (record { low = (client_there s m client (command.Atomic r) is).0; high = (client_there s m client (command.Atomic r) is).1; sound = H.present.sound; sound_after = sound-apply s.topology m.device.world r (m.device.world.commits + 1) H.present.sound none; old_words = H.present.states.crtc }))
+    (record { low = (client_there s m client (command.Atomic r) is).0; high = (client_there s m client (command.Atomic r) is).1; lawful = H.present.lawful; lawful_after = sound-apply s.topology m.device.world r (m.device.world.commits + 1) H.present.lawful none; old_words = H.present.states.crtc }))
     (λ d ls k c count T found all. all)
 
 record AlsoSound (s : Script) (m : Machine) : Type 0 where

@@ -125,5 +125,5 @@ module _ (t : Topology) (w : World) (r : Request) (at : IsRequestAt t w r) (chec
   pub committed_present : (client : ℕ) (present news : Duplicates) → verdict t w r ≡ None → AreKept w.things → IsPresent t w present → IsSwappedIn present checked.states news → IsPresent t (committed t w client r).world news
   committed_present client present news none kept was swaps =
       let v : World = record w { values = after w r; commits = w.commits + 1 } in
-      let follows = follows-out_fences t client r.assigns v (ids_of t Crtc) (sound-apply t w r (w.commits + 1) at.sound none) kept in
+      let follows = follows-out_fences t client r.assigns v (ids_of t Crtc) (sound-apply t w r (w.commits + 1) at.lawful none) kept in
       present_seen t v (committed t w client r).world news follows.like.values follows.like.alike (values_present present news was swaps)

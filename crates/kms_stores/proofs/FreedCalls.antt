@@ -66,7 +66,7 @@ needed_places t m things ids same numbered rising needed =
     at id (Some x) found e needed = needed x (find-same m.device.world.things id x found) e
 
 numbered_of : (r : Run) (st : Stores) → Stands r st → AreNumbered 1000 (machine r).device.world.things
-numbered_of r st stands = (history_kept r.script r.steps (plain-from r.script stands.formed) stands.history).present.sound.numbered
+numbered_of r st stands = (history_kept r.script r.steps (plain-from r.script stands.formed) stands.history).present.lawful.numbered.things
 
 -- those of the picture that a CRTC shows
 pub live_places : (r : Run) (st : Stores) (c : ℕ) (ids : List ℕ) → Stands r st → IsIn c (ids_of r.script.topology Crtc) → AreAllOf ids (λ id. picture_names id (decoded_picture r.script.topology (machine r).device.live c)) → framebuffers_in st.made.things ids ≤ st.freed.places

@@ -41,7 +41,8 @@ pub of_request : (r : Run) (used : List (ℕ × Look)) (request : Request) (reso
     → TellsLabels (look_in used) (look_up (world r)) request.assigns → IsGiven r used request resolved duplicates → IsOfRequest r.script.topology (world r) request resolved duplicates
 of_request r used request resolved duplicates formed history told given = record {
   device = formed.device;
-  sound = (history_kept r.script r.steps (plain-from r.script formed) history).present.sound;
+  sound = (history_kept r.script r.steps (plain-from r.script formed) history).present.lawful.sound;
+  numbered = (history_kept r.script r.steps (plain-from r.script formed) history).present.lawful.numbered;
   asks = resolved-same r.script.topology (look_in used) (look_up (world r)) request resolved told given.asks;
   old = given.old;
 }

@@ -20,7 +20,7 @@ use Rattle.kms_model.specs.declared.worlds.World.{World}
 use Rattle.kms_model.specs.Device.Masks.{has_bit, mask_below}
 use Rattle.kms_model.specs.Device.Objects.{count_of, kind_of, object_id}
 use Rattle.kms_model.specs.Device.Sound.IsCrtcOrNone.{IsCrtc, IsNone}
-use Rattle.kms_model.specs.Device.Sound.{IsCrtcOrNone, IsDevice, IsSound}
+use Rattle.kms_model.specs.Device.Sound.{IsCrtcOrNone, IsDevice, IsLawful}
 use Rattle.kms_model.specs.Device.States.{crtc_at}
 use Rattle.kms_model.specs.Machine.Commits.{is_on_before_or_after, new_values, old_values}
 use Rattle.kms_model.specs.Machine.State.{Commit}
@@ -119,12 +119,12 @@ crtc_is_side t p i low few on =
     and_off true = refl
     and_off false = refl
 
-module _ (t : Topology) (c : Commit) (checked : Checked) (device : IsDevice t) (sound : IsSound t c.world) (accepted : verdict t c.world c.request ≡ None) (is : IsChecked t c.world c.request checked) (states : HasStates checked) where
+module _ (t : Topology) (c : Commit) (checked : Checked) (device : IsDevice t) (lawful : IsLawful t c.world) (accepted : verdict t c.world c.request ≡ None) (is : IsChecked t c.world c.request checked) (states : HasStates checked) where
   limits : IsWithinPlaces t
   limits = device_within t device
 
-  next : IsSound t (record c.world { values = new_values c; commits = c.world.commits })
-  next = sound-apply t c.world c.request c.world.commits sound accepted
+  next : IsLawful t (record c.world { values = new_values c; commits = c.world.commits })
+  next = sound-apply t c.world c.request c.world.commits lawful accepted
 
   mask_is : (p : ℕ) → mask_has checked.touched p ≡ mask_has (touched_by t c.world c.request) p
   mask_is p = ap (λ (m : Mask). mask_has m p) is.touched
@@ -166,13 +166,13 @@ module _ (t : Topology) (c : Commit) (checked : Checked) (device : IsDevice t) (
   on_plane : (j i : ℕ) → j < 16 → i < 4 → has_bit checked.touched.planes j ≡ true → is_some (state_at checked.states.planes j) ≡ true
       → (is_of_device t (crtc_id i) && is_on_before_or_after (kind_of (object_id Plane j)) c (object_id Plane j) (crtc_id i)) ≡ is_side (plane_sides (get_or checked.states.planes j None)) (crtc_id i)
   on_plane j i low few has some = on_routed Plane j i checked.touched.planes checked.states.planes (λ (s : PlaneState). s.crtc) plane_sides some (omega (arith, low)) few (ap (λ (m : Mask). m.planes) is.touched) has
-      (λ both. refl) (λ object crtc. refl) (sound-plane_crtc t c.world j sound) (sound-plane_crtc t _ j next)
+      (λ both. refl) (λ object crtc. refl) (sound-plane_crtc t c.world j lawful.sound) (sound-plane_crtc t _ j next.sound)
       (λ both there. (ap (λ (s : PlaneState). s.crtc) (is.old.planes j both there), ap (λ (s : PlaneState). s.crtc) (is.new.planes j both there)))
 
   on_connector : (j i : ℕ) → j < 8 → i < 4 → has_bit checked.touched.conns j ≡ true → is_some (state_at checked.states.conns j) ≡ true
       → (is_of_device t (crtc_id i) && is_on_before_or_after (kind_of (object_id Conn j)) c (object_id Conn j) (crtc_id i)) ≡ is_side (connector_sides (get_or checked.states.conns j None)) (crtc_id i)
   on_connector j i low few has some = on_routed Conn j i checked.touched.conns checked.states.conns (λ (s : ConnState). s.crtc) connector_sides some (omega (arith, low)) few (ap (λ (m : Mask). m.conns) is.touched) has
-      (λ both. refl) (λ object crtc. refl) (sound-conn_crtc t c.world j sound) (sound-conn_crtc t _ j next)
+      (λ both. refl) (λ object crtc. refl) (sound-conn_crtc t c.world j lawful.sound) (sound-conn_crtc t _ j next.sound)
       (λ both there. (ap (λ (s : ConnState). s.crtc) (is.old.conns j both there), ap (λ (s : ConnState). s.crtc) (is.new.conns j both there)))
 
   on_place_side : (p i : ℕ) → p < 28 → i < 4 → mask_has checked.touched p ≡ true

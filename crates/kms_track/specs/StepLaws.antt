@@ -11,7 +11,7 @@ use Rattle.kms_model.specs.declared.states.Checked.{Checked}
 use Rattle.kms_model.specs.declared.worlds.World.{World}
 use Rattle.kms_model.specs.Device.Objects.{object_id, ids_of}
 use Rattle.kms_model.specs.Device.Masks.{has_bit}
-use Rattle.kms_model.specs.Device.Sound.{IsDevice, IsSound}
+use Rattle.kms_model.specs.Device.Sound.{IsDevice, IsLawful}
 use Rattle.kms_model.specs.Machine.Commits.{commit_concerns, commit_names, commit_touches, is_claimed, is_hw_done, lockable, new_crtc}
 use Rattle.kms_model.specs.Machine.Effects.{next}
 use Rattle.kms_model.specs.Machine.Histories.{legal}
@@ -107,11 +107,11 @@ pub record HasStates (checked : Checked) : Type 0 where
   pub planes : (i : ℕ) → i < 16 → has_bit checked.touched.planes i ≡ true → is_some (state_at checked.states.planes i) ≡ true
   pub conns : (i : ℕ) → i < 8 → has_bit checked.touched.conns i ≡ true → is_some (state_at checked.states.conns i) ≡ true
 
--- What was checked of an accepted request, in a sound world, is what a tracker is told of its commit.
+-- What was checked of an accepted request, in a lawful world, is what a tracker is told of its commit.
 abbrev pub ChecksAreFollowed : Type 0
 ChecksAreFollowed =
     (t : Topology) (c : Commit) (checked : Checked) (fences : List ℕ)
-    → IsDevice t → IsSound t c.world → verdict t c.world c.request ≡ None
+    → IsDevice t → IsLawful t c.world → verdict t c.world c.request ≡ None
     → IsChecked t c.world c.request checked → HasStates checked
     → map (λ f. f.1) (in_fences t (look_up c.world) c.request.assigns) ≡ fences
     → IsCheckedFor t c checked fences

@@ -204,14 +204,14 @@ module _ (r : Run) (st : Stores) (k : ℕ) (x : Tail) (stands : Stands r st) (in
     unfolding old_plane
     old_in_range =
         let S = commits_sound r.script r.steps (plain-from r.script stands.formed) stands.history k (write_within r st k (object_id Plane index) stands W) in
-        sound-plane_in_range t (commit_at t d.commits k).world index S.sound there
+        sound-plane_in_range t (commit_at t d.commits k).world index S.lawful.sound there
 
     new_in_range : IsPlaneInRange (new_plane t d.commits k (object_id Plane index))
     unfolding new_plane
     new_in_range =
         let c = commit_at t d.commits k in
         let S = commits_sound r.script r.steps (plain-from r.script stands.formed) stands.history k (write_within r st k (object_id Plane index) stands W) in
-        sound-plane_in_range t (record c.world { values = new_values c; commits = c.world.commits + 1 }) index S.sound_after there
+        sound-plane_in_range t (record c.world { values = new_values c; commits = c.world.commits + 1 }) index S.lawful_after.sound there
 
     plane_held : (o : Option (Both PlaneState)) → is_some o ≡ true → IfSome o (AreStates (old_plane t d.commits k (object_id Plane index)) (new_plane t d.commits k (object_id Plane index))) → HoldsPlane st.registers index o
     plane_held None some states = absurd (false≢true some)

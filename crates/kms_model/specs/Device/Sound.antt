@@ -85,13 +85,20 @@ are_held t things values = holds_values t things values Crtc && (holds_values t 
 abbrev pub empty_request : Request
 empty_request = record { flags = 0; user_data = 0; assigns = [] }
 
--- A world is sound where its things are numbered in the order of making, each value is among its property's values, and
--- the request without flags and assignments is accepted.
+-- A world is sound where each value is among its property's values, and the request without flags and assignments is accepted.
 pub record IsSound (t : Topology) (w : World) : Type 0 where
-  pub numbered : AreNumbered 1000 w.things
-  pub next : w.next_id ≡ 1000 + length w.things
   pub held : IsTrue (are_held t w.things w.values)
   pub accepted : late_refusal t w.things w.values w.values empty_request ≡ None
+
+-- The things of a world are numbered from 1000 on in the order of making, and so is the next one.
+pub record IsNumbered (w : World) : Type 0 where
+  pub things : AreNumbered 1000 w.things
+  pub next : w.next_id ≡ 1000 + length w.things
+
+-- what the start is and each command keeps
+pub record IsLawful (t : Topology) (w : World) : Type 0 where
+  pub sound : IsSound t w
+  pub numbered : IsNumbered w
 
 -- What the states of a sound world's objects have
 

@@ -10,11 +10,13 @@ use Rattle.kms_model.specs.declared.replies.Step.{Step}
 use Rattle.kms_model.specs.declared.replies.Step.TheVariants.{Begin, Lock, BackOff, Relock, Refuse, Test, Swap, Make, Signal, Claim, Write, Flush, HwDone, Vblank, Cleanup, Read, Return, Stall}
 use Rattle.kms_model.specs.declared.runs.Doing.{Doing}
 use Rattle.kms_model.specs.declared.runs.Doing.TheVariants as doing
+use Rattle.kms_model.specs.declared.runs.Latch.{Latch}
 use Rattle.kms_model.specs.declared.runs.Place.{Place}
 use Rattle.kms_model.specs.declared.scripts.Command.{Command}
 use Rattle.kms_model.specs.declared.scripts.Command.TheVariants as command
 use Rattle.kms_model.specs.declared.scripts.Request.{Request}
 use Rattle.kms_model.specs.declared.scripts.Script.{Script}
+use Rattle.kms_model.specs.declared.worlds.World.{World}
 use Rattle.kms_model.specs.Device.Execution.{Executed, execute, committed}
 use Rattle.kms_model.specs.Device.Objects.{object_id, index_of, is_id_of}
 use Rattle.kms_model.specs.Device.Serial.{is_accepted}
@@ -143,15 +145,17 @@ abbrev pub joins_if : Bool → Machine → ℕ → Machine
 joins_if true m client = joins_journal m client
 joins_if false m client = m
 
-abbrev pub executed : Machine → ℕ → Executed → Machine
-executed m client e =
-    let joined = joins_if (is_accepted e.reply) (answers m client e.reply) client in
-    goes_on (record joined { device = record joined.device { world = e.world } }) client
+abbrev pub puts_world : Machine → World → Machine
+puts_world m w = record m { device = record m.device { world = w } }
+
+-- a command of a client is answered, joins the journal where it is accepted, and leaves its world
+abbrev pub executes : Machine → ℕ → Executed → Machine
+executes m client e = goes_on (puts_world (joins_if (is_accepted e.reply) (answers m client e.reply) client) e.world) client
 
 -- a thing is made or closed, or that is refused
 unfoldable pub made_thing : Topology → Machine → ℕ → Option Command → Machine
 made_thing t m client None = m
-made_thing t m client (Some c) = executed m client (execute t m.device.world client c)
+made_thing t m client (Some c) = executes m client (execute t m.device.world client c)
 
 abbrev pub signals : Machine → Option ℕ → Machine
 signals m None = m
@@ -216,16 +220,20 @@ delivers t m k crtc count =
 abbrev pub delivers_if : Topology → Machine → ℕ → ℕ → ℕ → Machine
 delivers_if t m k crtc count = if asks_event t m.device.commits k then delivers t m k crtc count else m
 
+-- the live words once the shadow words of a CRTC have become live
+abbrev pub live_then : Topology → Machine → ℕ → Registers
+live_then t m crtc = latched_registers t m.device.shadow m.device.live crtc
+
+-- what is recorded of a commit that latches at a CRTC: the picture that the live words are then
+abbrev pub latch_of : Topology → Machine → ℕ → ℕ → ℕ → Latch
+latch_of t m k crtc count = record { crtc = index_of crtc; commit = k; count = count; picture = decoded_picture t (live_then t m crtc) crtc }
+
 -- a commit latches at a CRTC: the live words become the shadow words there, and the picture is recorded
 abbrev pub latches_picture : Topology → Machine → ℕ → ℕ → ℕ → Machine
-latches_picture t m k crtc count =
-    let live = latched_registers t m.device.shadow m.device.live crtc in
-    record m {
-      device = record m.device { live = live };
-      records = record m.records {
-        latches = record { crtc = index_of crtc; commit = k; count = count; picture = decoded_picture t live crtc } ∷ m.records.latches;
-      };
-    }
+latches_picture t m k crtc count = record m {
+  device = record m.device { live = live_then t m crtc };
+  records = record m.records { latches = latch_of t m k crtc count ∷ m.records.latches };
+}
 
 -- a commit latches at a CRTC with a count: its event for that CRTC is delivered, and its out-fence there is signalled
 unfoldable pub latches : Topology → Machine → ℕ → ℕ → ℕ → Machine

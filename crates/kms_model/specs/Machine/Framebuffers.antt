@@ -1,6 +1,6 @@
 -- Which framebuffers are needed, and which a step frees. From: "Frame Buffer Abstraction", drm_framebuffer_get,
 -- drm_framebuffer_put, `drm_atomic_helper.c`, drm_atomic_helper_cleanup_planes.
-use Rattle.std.specs.Prelude.{ℕ, ◌==◌, ◌&&◌, ◌||◌, not, Bool, false, List, [], ◌∷◌, ◌++◌, filter, Option, Some, None}
+use Rattle.std.specs.Prelude.{ℕ, ◌==◌, ◌&&◌, ◌||◌, not, Bool, false, List, [], ◌∷◌, ◌++◌, filter, Option, Some, None, if◌then◌else◌}
 use Rattle.std.specs.List.{list_any}
 use Rattle.kms_model.specs.declared.objects.Kind.TheVariants.{Crtc, Plane}
 use Rattle.kms_model.specs.declared.objects.Topology.{Topology}
@@ -12,7 +12,8 @@ use Rattle.kms_model.specs.declared.scripts.Script.{Script}
 use Rattle.kms_model.specs.declared.worlds.Thing.{Thing}
 use Rattle.kms_model.specs.Device.Execution.{is_framebuffer}
 use Rattle.kms_model.specs.Device.Objects.{ids_of}
-use Rattle.kms_model.specs.Device.States.{plane_at}
+use Rattle.kms_model.specs.Device.States.{framebuffer_in, plane_at}
+use Rattle.kms_model.specs.Device.World.{thing_with_id}
 use Rattle.kms_model.specs.Machine.Commits.{commit_touches, old_plane, new_plane, is_cleaned}
 use Rattle.kms_model.specs.Machine.Effects.{next}
 use Rattle.kms_model.specs.Machine.Histories.{commit_numbers}
@@ -49,6 +50,15 @@ unfoldable pub is_needed : Topology → Machine → Thing → Bool
 is_needed t m thing =
     is_framebuffer thing.content
     && (thing.is_open || (values_name t m.device thing.id || (live_names t m.device thing.id || commits_keep t m thing.id)))
+
+-- a framebuffer, where it is needed
+abbrev pub if_needed : Topology → Machine → Option Thing → Option FbInfo
+if_needed t m None = None
+if_needed t m (Some thing) = if is_needed t m thing then framebuffer_in thing.content else None
+
+-- the framebuffer with an id that a machine has: none exactly where nothing needs it
+unfoldable pub stored_framebuffer : Topology → Machine → ℕ → Option FbInfo
+stored_framebuffer t m id = if_needed t m (thing_with_id m.device.world.things id)
 
 abbrev pub needed_things : Topology → Machine → List Thing
 needed_things t m = filter (is_needed t m) m.device.world.things

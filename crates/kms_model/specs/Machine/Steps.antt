@@ -111,14 +111,21 @@ holds_touched t m client r = list_all (λ object. not (touches t m.device.world 
 
 -- Refusals of an accepted request
 
--- 32 bytes for each event of a client that is reserved or unread
-abbrev pub space_used : Events → ℕ → ℕ
-space_used e client = 32 * (reserved_at e client + length (unread_at e client))
+-- the bytes of an event (`struct drm_event_vblank`), and those that each client has for its events (`drm_file.event_space`)
+abbrev pub event_size : ℕ
+event_size = 32
 
--- there is no space for the events of a request: 4096 bytes for each client
+abbrev pub event_space : ℕ
+event_space = 4096
+
+-- the bytes of a client's events that are reserved or unread
+abbrev pub space_used : Events → ℕ → ℕ
+space_used e client = event_size * (reserved_at e client + length (unread_at e client))
+
+-- there is no space for the events of a request
 unfoldable pub lacks_space : Topology → Machine → ℕ → Request → Bool
 lacks_space t m client r =
-    wants_event r.flags && nat_lt 4096 (space_used m.events client + 32 * length (named t m.device.world r))
+    wants_event r.flags && nat_lt event_space (space_used m.events client + event_size * length (named t m.device.world r))
 
 -- the last commit that touched an object, where there is one, has not flipped for it
 unfoldable pub is_pending : Topology → Machine → ℕ → Bool

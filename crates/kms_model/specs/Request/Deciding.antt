@@ -9,7 +9,7 @@ use Rattle.kms_model.specs.declared.states.Checked.{Checked}
 use Rattle.kms_model.specs.declared.states.Duplicates.{Duplicates}
 use Rattle.kms_model.specs.declared.worlds.Look.{Look}
 use Rattle.kms_model.specs.declared.worlds.World.{World}
-use Rattle.kms_model.specs.Device.Sound.{IsDevice, IsSound}
+use Rattle.kms_model.specs.Device.Sound.{IsDevice, IsNumbered, IsSound}
 use Rattle.kms_model.specs.Request.Agreement.{AgreesOld, AgreesNew}
 use Rattle.kms_model.specs.Request.Apply.{after}
 use Rattle.kms_model.specs.Request.Lookups.{look_up}
@@ -17,11 +17,12 @@ use Rattle.kms_model.specs.Request.Resolves.{IsResolved}
 use Rattle.kms_model.specs.Request.Touched.{named_by, touched_by}
 use Rattle.kms_model.specs.Request.Verdict.{late_in}
 
--- Duplicates and what a request asks for are those of a request in a sound world: `resolved` is what it asks for with
+-- Duplicates and what a request asks for are those of a request in a sound world with numbered things: `resolved` is what it asks for with
 -- what its labels name there, and the old states are those of the world's values.
 pub record IsOfRequest (t : Topology) (w : World) (r : Request) (resolved : Resolved) (d : Duplicates) : Type 0 where
   pub device : IsDevice t
   pub sound : IsSound t w
+  pub numbered : IsNumbered w
   pub asks : IsResolved t (look_up w) r resolved
   pub old : AgreesOld t w.things w.values d
 

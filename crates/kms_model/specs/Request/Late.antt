@@ -67,6 +67,9 @@ needs_modeset_if (Some both) = needs_modeset_between both
 abbrev pub first_in : {S : Type 0} → ℕ → List (Option (Both S)) → (ℕ → Both S → Option ℕ) → ℕ → Option ℕ
 first_in mask states f n = first_some (λ index. option_and_then (f index) (duplicate_in mask states index)) (range_with_len 0 n)
 
+abbrev pub needs_any_modeset : Topology → Duplicates → Mask → Bool
+needs_any_modeset t d objects = list_any (λ index. needs_modeset_if (duplicate_in objects.crtcs d.crtcs index)) (range_with_len 0 (count_of t Crtc))
+
 -- the first late refusal of a set of objects
 unfoldable pub late_of_states : Topology → Duplicates → Mask → ℕ → ℕ → ℕ → Option ℕ
 late_of_states t d objects flags named fenced =
@@ -77,7 +80,7 @@ late_of_states t d objects flags named fenced =
     (or_else (first_in objects.crtcs d.crtcs (λ index both. clone_refusal_of t both) (count_of t Crtc))
     (or_else (first_in objects.crtcs d.crtcs (λ index both. route_refusal_of both) (count_of t Crtc))
     (or_else (first_in objects.planes d.planes (λ index both. shown_refusal_of t.profile d.crtcs both) (count_of t Plane))
-    (refused_if MODESET_NOT_ALLOWED (not (allows_modeset flags) && list_any (λ index. needs_modeset_if (duplicate_in objects.crtcs d.crtcs index)) (range_with_len 0 (count_of t Crtc))))))))))
+    (refused_if MODESET_NOT_ALLOWED (not (allows_modeset flags) && needs_any_modeset t d objects))))))))
 
 -- the numbers of the planes of a set are in the ranges of their properties
 abbrev pub ArePlanesInRange : Topology → Duplicates → ℕ → Type 0

@@ -161,7 +161,26 @@ mode_fields bytes = do
   f ← dec_at 4294967295 r.1
   k ← dec_at 4294967295 f.1
   n ← name_at k.1
-  Some (record { clock = clock.0; hdisplay = h.0; hsync_start = h.1; hsync_end = h.2; htotal = h.3; hskew = h.4; vdisplay = v.0; vsync_start = v.1; vsync_end = v.2; vtotal = v.3; vscan = v.4; vrefresh = r.0; flags = f.0; kind = k.0; name = n.0 }, n.1)
+  Some (
+    record {
+      clock = clock.0;
+      hdisplay = h.0;
+      hsync_start = h.1;
+      hsync_end = h.2;
+      htotal = h.3;
+      hskew = h.4;
+      vdisplay = v.0;
+      vsync_start = v.1;
+      vsync_end = v.2;
+      vtotal = v.3;
+      vscan = v.4;
+      vrefresh = r.0;
+      flags = f.0;
+      kind = k.0;
+      name = n.0;
+    },
+    n.1,
+  )
 
 -- `LABEL` and 15 words
 unfoldable pub mode_read : Names → List ℕ → Read

@@ -81,7 +81,11 @@ blob_bytes word = if between 2 4096 (length word) then hex_bytes word else None
 
 -- the format of a name
 abbrev pub format_named : List ℕ → Option Format
-format_named word = if bytes_eq word (codes "XR24") then Some Xr24 else (if bytes_eq word (codes "AR24") then Some Ar24 else (if bytes_eq word (codes "RG16") then Some Rg16 else None))
+format_named word =
+    if bytes_eq word (codes "XR24") then Some Xr24
+    else (if bytes_eq word (codes "AR24") then Some Ar24
+    else (if bytes_eq word (codes "RG16") then Some Rg16
+    else None))
 
 unfoldable pub format_at : List ℕ → Option (Format × List ℕ)
 format_at bytes = read_at format_named bytes

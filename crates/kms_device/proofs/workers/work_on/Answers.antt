@@ -6,7 +6,7 @@ use Rattle.kms_model.specs.declared.replies.Step.TheVariants as step
 use Rattle.kms_model.specs.declared.scripts.Script.{Script}
 use Rattle.kms_stores.specs.Run.{gains}
 use Rattle.kms_device.specs.Steps.{is_legal, step_if}
-use Rattle.kms_laws.proofs.Steps.{find-holds}
+use Rattle.kms_model.proofs.ThingLemmas.{find-holds}
 use Rattle.kms_device.proofs.Tails.{first_told}
 use Rattle.kms_device.proofs.workers.work_on.Goals as goal
 

@@ -54,7 +54,7 @@ loop-a-preserved g c =
       olds = c.set.ensures.old ∙ c.loop-a.invariant.olds;
       new = λ w present tells.
           subst (λ (values : List Setting). AgreesNew t w.things values c.set.new.self) (sym (apply_counted t f w.things w.values assigns i nothing within counts))
-          (set-agrees t f a c.set_of.result present.device counts is w (apply w.things w.values (allowed_by t f (take i assigns))) c.loop-a.after c.set.new.self tells present.sound.numbered c.set.ensures.new
+          (set-agrees t f a c.set_of.result present.device counts is w (apply w.things w.values (allowed_by t f (take i assigns))) c.loop-a.after c.set.new.self tells present.numbered.things c.set.ensures.new
           (c.loop-a.invariant.new w present tells));
     }
 

@@ -14,7 +14,7 @@ returns c = record {
   vblank_with_go = vblank_with_go_follows;
   cleanup = cleanup_follows;
   others = others_follow;
-  checked = λ t commit checked fences device sound accepted is states are. checked_for t commit checked device sound accepted is states fences are;
+  checked = λ t commit checked fences device lawful accepted is states are. checked_for t commit checked device lawful accepted is states fences are;
   touched = λ t w r p place. sym (in_touched t w r p place);
   device = device_within;
 }

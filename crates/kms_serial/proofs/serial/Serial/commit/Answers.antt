@@ -21,10 +21,10 @@ returns-clause-executed c =
 
 pub returns-clause-named : goal.returns-clause-named
 returns-clause-named c =
-    let values = values_committed c.self.inside.topology c.self.inside.store c.args.client c.args.request.now c.self.invariant.sound c.in-Ok.ensures.accepted in
+    let values = values_committed c.self.inside.topology c.self.inside.store c.args.client c.args.request.now c.self.invariant.lawful c.in-Ok.ensures.accepted in
     rw (← c.self.view_is, c.in_ok-commit.ensures.world, values) (c.named_in.ensures c.self.inside.topology c.self.inside.store c.in-Ok.ensures.between)
 
 pub returns-clause-grows : goal.returns-clause-grows
 returns-clause-grows c =
     rw (← c.self.view_is, c.in_ok-commit.ensures.world)
-    (grows_committed c.self.inside.topology c.self.inside.store c.args.client c.args.request.now c.self.invariant.sound (few_objects c.self.inside.topology c.self.invariant.device).crtcs c.in-Ok.ensures.accepted)
+    (grows_committed c.self.inside.topology c.self.inside.store c.args.client c.args.request.now c.self.invariant.lawful (few_objects c.self.inside.topology c.self.invariant.device).crtcs c.in-Ok.ensures.accepted)

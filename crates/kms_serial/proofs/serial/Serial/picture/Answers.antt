@@ -18,5 +18,5 @@ returns-clause-shown c =
     let t = c.self.inside.topology in
     let w = c.self.inside.store in
     let is : c.picture.result ≡ picture t w.things w.values (object_id kind.Crtc c.args.crtc) = c.picture.ensures t w.things w.values (has_room t c.self.invariant.device) c.self.invariant.present.new in
-    let shown = each_can_be_shown t w (object_id kind.Crtc c.args.crtc) c.self.invariant.sound c.self.invariant.framed in
+    let shown = each_can_be_shown t w (object_id kind.Crtc c.args.crtc) c.self.invariant.lawful.sound c.self.invariant.framed in
     subst (λ (v : Device). EachCanBeShown v.world.things c.picture.result) c.self.view_is (subst (EachCanBeShown w.things) (sym is) shown)
