@@ -1,6 +1,6 @@
 -- What is freed between two machines, by candidates in order of id.
 use Rattle.std.proofs.Common.{◌≡◌, ℕ, suc, ◌+◌, ◌≤◌, List, [], ◌∷◌, ◌++◌, length, map, Bool, true, false, not, ◌&&◌, ◌||◌, ◌==◌, Option, Some, None, refl, sym, ap, ◌∙◌, subst, arith, inl, inr}
-use Rattle.std.specs.Prelude.{if◌then◌else◌, filter}
+use Rattle.std.specs.Prelude.{if◌then◌else◌, filter, ⊤}
 use Rattle.std.specs.List.{flat_map, list_any}
 use Rattle.std.proofs.lemmas.Bool.{and_from, and_parts, cases_eq, cond-false, cond-true, eq-eqb, ne_eqb, or_left}
 use Rattle.kms_model.specs.declared.objects.Topology.{Topology}
@@ -84,7 +84,35 @@ abbrev pub IsSameOrNone : Option Thing → Option Thing → Type 0
 IsSameOrNone None o = o ≡ None
 IsSameOrNone (Some x) o = IsSameThing x o
 
-needed_framebuffer : (t : Topology) (m : Machine) (x : Thing) → is_framebuffer x.content ≡ false → is_needed t m x ≡ false
+-- a thing stays, and a new one is a framebuffer exactly where it is needed
+abbrev pub IsGrownAt : Topology → Machine → Option Thing → Option Thing → Type 0
+IsGrownAt t n None None = ⊤
+IsGrownAt t n None (Some y) = is_framebuffer y.content ≡ is_needed t n y
+IsGrownAt t n (Some x) o = IsSameThing x o
+
+abbrev pub IsGrown : Topology → Machine → Machine → Type 0
+IsGrown t m n = (id : ℕ) → IsGrownAt t n (thing_with_id m.device.world.things id) (thing_with_id n.device.world.things id)
+
+pub grown_stay : (t : Topology) (m n : Machine)
+    → ((id : ℕ) → IsSameOrNone (thing_with_id m.device.world.things id) (thing_with_id n.device.world.things id)) → IsGrown t m n
+grown_stay t m n stay = λ id. at (thing_with_id m.device.world.things id) (thing_with_id n.device.world.things id) (stay id) where
+  at : (o p : Option Thing) → IsSameOrNone o p → IsGrownAt t n o p
+  at None None same = tt
+  at None (Some y) same = absurd cc
+  at (Some x) p same = same
+
+pub same_or_none : (o : Option Thing) → IsSameOrNone o o
+same_or_none None = refl
+same_or_none (Some x) = record { thing = x; found = refl; label = refl; id = refl; content = refl }
+
+-- where no thing changes
+pub grown_same : (t : Topology) (m n : Machine) → n.device.world.things ≡ m.device.world.things → IsGrown t m n
+grown_same t m n same =
+    grown_stay t m n (λ id.
+    subst (λ things. IsSameOrNone (thing_with_id m.device.world.things id) (thing_with_id things id)) (sym same)
+    (same_or_none (thing_with_id m.device.world.things id)))
+
+pub needed_framebuffer : (t : Topology) (m : Machine) (x : Thing) → is_framebuffer x.content ≡ false → is_needed t m x ≡ false
 unfolding is_needed
 needed_framebuffer t m x none = rw none refl
 

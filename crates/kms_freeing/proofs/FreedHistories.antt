@@ -196,7 +196,9 @@ module _ (s : Script) (h : List Step) (last : Step) (plain : IsPlainScript s) (i
       (record { world = L.world; commits = L.commits; cleaned = L.cleaned; is_crtc = L.is_crtc; others = others_same c L }) (back_same L.world) A
 
   -- a command
-  pub make_frees : (client : ℕ) → (X : Executes s (at s h) (next s (at s h) last) client) → MadeFrees s.topology (at s h) (next s (at s h) last) X.command (execute s.topology (at s h).device.world client X.command).reply
+  pub make_frees : (client : ℕ) → (X : Executes s (at s h) (next s (at s h) last) client)
+      → MadeFrees s.topology (at s h) (next s (at s h) last) client X.command
+      (execute s.topology (at s h).device.world client X.command).reply
   make_frees client X =
       let follows = execute_follows s.topology (at s h).device.world client X.command H.present.lawful H.present.kept (plain.modes _ X.command X.at_place) (not_atomic X.command X.making) in
       made_frees s.topology (at s h) (next s (at s h) last) client X.command X.making
@@ -228,8 +230,10 @@ module _ (s : Script) (h : List Step) (last : Step) (plain : IsPlainScript s) (i
   pub quiet_freed : (v w : Reserved (ℕ × ℕ)) → AreFreed s h v → w.items ≡ v.items → v.places ≤ w.places → IsQuiet s.topology (at s h) (next s (at s h) last) → AreFreed s (h ++ last ∷ []) w
   quiet_freed v w F items places Q = none_freed v w 0 F items (omega (arith, places)) Q.none (let few = Q.fewer in omega (arith, few))
 
-  pub added_freed : (v w : Reserved (ℕ × ℕ)) → AreFreed s h v → w.items ≡ v.items → v.places + 1 ≤ w.places → IsAdded s.topology (at s h) (next s (at s h) last) → AreFreed s (h ++ last ∷ []) w
-  added_freed v w F items places Q = none_freed v w 1 F items places Q.none Q.one_more
+  pub added_freed : (v w : Reserved (ℕ × ℕ)) (client label buffer id : ℕ) → AreFreed s h v → w.items ≡ v.items → v.places + 1 ≤ w.places
+      → IsAdded s.topology (at s h) (next s (at s h) last) client label buffer id
+      → AreFreed s (h ++ last ∷ []) w
+  added_freed v w client label buffer id F items places Q = none_freed v w 1 F items places Q.none Q.one_more
 
   pub told_freed : (v w : Reserved (ℕ × ℕ)) (ids : List ℕ) → AreFreed s h v → IsTold s.topology (at s h) (next s (at s h) last) ids → w.items ≡ v.items ++ freed_among s.topology (next s (at s h) last) ids
       → v.places ≡ w.places + length (freed_among s.topology (next s (at s h) last) ids) → AreFreed s (h ++ last ∷ []) w
@@ -247,8 +251,8 @@ module _ (s : Script) (h : List Step) (last : Step) (plain : IsPlainScript s) (i
     as_long (x ∷ xs) = ap suc (as_long xs)
 
   -- a step of a kind that frees nothing
-  pub kind_freed : (v w : Reserved (ℕ × ℕ)) → AreFreed s h v → w.items ≡ v.items → v.places ≤ w.places → may_free last ≡ false → AreFreed s (h ++ last ∷ []) w
-  kind_freed v w F items places quiet = quiet_freed v w F items places (by_kind last quiet (changes s (at s h) last is_legal) quiet_swap quiet_needs) where
+  pub kind_quiet : may_free last ≡ false → IsQuiet s.topology (at s h) (next s (at s h) last)
+  kind_quiet quiet = by_kind last quiet (changes s (at s h) last is_legal) quiet_swap quiet_needs where
     by_kind : (last : Step) → may_free last ≡ false → Changes s (at s h) last (next s (at s h) last) → ((client : ℕ) → Commits s (at s h) (next s (at s h) last) client → IsQuiet s.topology (at s h) (next s (at s h) last))
         → (SameNeeds (at s h) (next s (at s h) last) → IsQuiet s.topology (at s h) (next s (at s h) last)) → IsQuiet s.topology (at s h) (next s (at s h) last)
     by_kind (step.Swap client) e change swap needs = swap client change

@@ -27,9 +27,10 @@ use Rattle.kms_model.proofs.ShownLemmas.{with-id}
 use Rattle.kms_laws.proofs.Closed.{closed_labelled, closed_with_id}
 use Rattle.kms_laws.proofs.Executed.{IsLike, plane_like}
 use Rattle.kms_freeing.specs.Freeing.{AreRising}
+use Rattle.kms_freeing.specs.Stored.{held_as, held_where}
 use Rattle.kms_freeing.proofs.FreedLists.{filter-none, passes}
-use Rattle.kms_freeing.proofs.FreedBetween.{IsSameOrNone, fewer_needed, freed_told, lost, places_suffice}
-use Rattle.kms_freeing.proofs.FreedSteps.{IsLonger, IsQuiet, IsTold, kept_same, live_same, longer_count, longer_none, needed_by, needed_same, needs_of, quiet_longer, values_same}
+use Rattle.kms_freeing.proofs.FreedBetween.{IsGrown, IsSameOrNone, fewer_needed, freed_told, grown_stay, lost, needed_framebuffer, places_suffice}
+use Rattle.kms_freeing.proofs.FreedSteps.{IsLonger, IsQuiet, IsTold, kept_same, live_same, longer_count, longer_grown, longer_none, needed_by, needed_same, needs_of, quiet_longer, values_same}
 
 -- A command that is no request leaves what is needed of each thing as it is, and the things in one of three ways.
 pub record IsExecuted (t : Topology) (m n : Machine) (w : World) : Type 0 where
@@ -65,21 +66,55 @@ pushed_quiet t m n w u X more none = quiet_longer t m n (u ∷ []) X.numbered (p
   is_none x (inl same) = ap (λ (z : Thing). is_framebuffer z.content) (sym same) ∙ none
   is_none x (inr rest) = absurd rest
 
+-- the framebuffer that is added, of a buffer
+abbrev pub added_thing : ℕ → ℕ → ℕ → BufferInfo → Thing
+added_thing id client label b = record {
+  label = label;
+  id = id;
+  owner = client;
+  content = content.Framebuffer (record { id = id; width = b.width; height = b.height; format = b.format }) b.id;
+  is_open = true;
+}
+
 -- a framebuffer is added: nothing is freed, and one more is needed
-pub record IsAdded (t : Topology) (m n : Machine) : Type 0 where
+pub record IsAdded (t : Topology) (m n : Machine) (client label buffer id : ℕ) : Type 0 where
+  pub source : BufferInfo
+  pub found : buffer_of m.device.world.things client buffer ≡ Some source
+  pub own : id ≡ m.device.world.next_id
+  pub longer : IsLonger t m n (added_thing m.device.world.next_id client label source ∷ [])
+  pub needed : is_needed t n (added_thing m.device.world.next_id client label source) ≡ true
+  pub grown : IsGrown t m n
   pub none : filter (lost (is_needed t m) (is_needed t n) n.device.world.things) m.device.world.things ≡ []
   pub one_more : length (filter (is_needed t n) n.device.world.things) ≤ length (filter (is_needed t m) m.device.world.things) + 1
 
-pushed_added : (t : Topology) (m n : Machine) (w : World) (u : Thing) → IsExecuted t m n w → w.things ≡ m.device.world.things ++ u ∷ [] → IsAdded t m n
-pushed_added t m n w u X more =
+pushed_added : (t : Topology) (m n : Machine) (w : World) (client label buffer : ℕ) (b : BufferInfo) → IsExecuted t m n w
+    → w.things ≡ m.device.world.things ++ added_thing m.device.world.next_id client label b ∷ []
+    → buffer_of m.device.world.things client buffer ≡ Some b → IsAdded t m n client label buffer m.device.world.next_id
+pushed_added t m n w client label buffer b X more found =
+    let u : Thing = added_thing m.device.world.next_id client label b in
     let L = pushed t m n w u X more in
     let count = longer_count t m n (u ∷ []) L in
-    let one = most (is_needed t n u) in
-    record { none = longer_none t m n (u ∷ []) X.numbered L; one_more = omega (arith, count, one) }
+    let one = most u (is_needed t n u) in
+    let needed = needed_by t n u (record { framebuffer = refl; why = inl refl }) in
+    record {
+      source = b;
+      found = found;
+      own = refl;
+      longer = L;
+      needed = needed;
+      grown = longer_grown t m n (u ∷ []) L (is_one u (sym needed));
+      none = longer_none t m n (u ∷ []) X.numbered L;
+      one_more = omega (arith, count, one);
+    }
   where
-    most : (b : Bool) → length (if b then u ∷ [] else []) ≤ 1
-    most true = omega arith
-    most false = omega arith
+    is_one : (u : Thing) → is_framebuffer u.content ≡ is_needed t n u → (y : Thing) → IsIn y (u ∷ [])
+        → is_framebuffer y.content ≡ is_needed t n y
+    is_one u both y (inl same) = subst (λ z. is_framebuffer z.content ≡ is_needed t n z) same both
+    is_one u both y (inr rest) = absurd rest
+
+    most : (u : Thing) (b : Bool) → length (if b then u ∷ [] else []) ≤ 1
+    most u true = omega arith
+    most u false = omega arith
 
 -- A thing is closed
 
@@ -128,11 +163,15 @@ module _ (t : Topology) (m n : Machine) (w : World) (u : Thing) (X : IsExecuted 
   fewer : length (filter (is_needed t n) n.device.world.things) + length (filter (lost (is_needed t m) (is_needed t n) n.device.world.things) m.device.world.things) ≤ length (filter (is_needed t m) m.device.world.things)
   fewer = fewer_needed (is_needed t m) (is_needed t n) m.device.world.things n.device.world.things X.numbered numbered_now back
 
+  pub closed_grown : IsGrown t m n
+  closed_grown = grown_stay t m n stay
+
   pub closed_told : u.is_open ≡ true → IsTold t m n (u.id ∷ [])
   closed_told opened = record {
     told = freed_told t m n X.numbered numbered_now stay (u.id ∷ []) rising needed (λ x x_in was off. inl (sym (only_this x x_in was off)));
     room = places_suffice t m n X.numbered numbered_now stay (u.id ∷ []) rising needed;
     fewer = fewer;
+    back = back;
   } where
     rising : AreRising 0 (u.id ∷ [])
     rising = (omega arith, tt)
@@ -149,7 +188,7 @@ module _ (t : Topology) (m n : Machine) (w : World) (u : Thing) (X : IsExecuted 
   closed_quiet none =
       let nothing = filter-none (lost (is_needed t m) (is_needed t n) n.device.world.things) m.device.world.things never in
       let size = fewer in
-      record { none = nothing; fewer = omega (arith, size) }
+      record { none = nothing; fewer = omega (arith, size); grown = closed_grown; steady = steady }
     where
       never : (x : Thing) → IsIn x m.device.world.things → lost (is_needed t m) (is_needed t n) n.device.world.things x ≡ false
       never x x_in = by_lost (lost (is_needed t m) (is_needed t n) n.device.world.things x) refl where
@@ -166,30 +205,61 @@ module _ (t : Topology) (m n : Machine) (w : World) (u : Thing) (X : IsExecuted 
             let is_u : x ≡ u = cc in
             absurd (false≢true (sym none ∙ ap (λ (z : Thing). is_framebuffer z.content) (sym is_u) ∙ (needs_of t m x both.0).framebuffer))
 
+      -- the thing itself is not stored, and the others are as they were
+      steady : (id : ℕ) → held_where (is_needed t n) (thing_with_id n.device.world.things id) ≡ held_where (is_needed t m)
+          (thing_with_id m.device.world.things id)
+      steady id = ap (held_where (is_needed t n))
+          (ap (λ things. thing_with_id things id) now ∙ closed_with_id m.device.world.things u.id id)
+          ∙ at (thing_with_id m.device.world.things id) refl where
+            unstored : (v : Machine) (x : Thing) → is_framebuffer x.content ≡ false → held_where (is_needed t v) (Some x) ≡ None
+            unstored v x off = ap (λ b. if b then held_as x x.content else None) (needed_framebuffer t v x off)
+
+            at : (o : Option Thing) → thing_with_id m.device.world.things id ≡ o
+                → held_where (is_needed t n) (option_map (closed_if u.id) o) ≡ held_where (is_needed t m) o
+            at None found = refl
+            at (Some x) found = elim (cases_eq x.id u.id) [
+              | inr apart ↦ ap (λ z. held_where (is_needed t n) (Some z))
+                  (cond-false (x.id == u.id) (record x { is_open = false }) x (ne_eqb x.id u.id apart))
+                  ∙ ap (λ b. if b then held_as x x.content else None) (same_test t m n w X x)
+              | inl same ↦ (
+                  let x_in = find-in (λ (z : Thing). z.id == id) m.device.world.things x found in
+                  let one : Some x ≡ Some u = sym (with-id 1000 m.device.world.things x X.numbered x_in)
+                  ∙ ap (thing_with_id m.device.world.things) same ∙ with-id 1000 m.device.world.things u X.numbered u_in in
+                  let is_u : x ≡ u = cc in
+                  let off : is_framebuffer x.content ≡ false = ap (λ (z : Thing). is_framebuffer z.content) is_u ∙ none in
+                  unstored n (closed_if u.id x) (ap is_framebuffer (closed_same u.id x).content ∙ off) ∙ sym (unstored m x off))
+            ]
+
 -- Commands
 
 -- a framebuffer is closed
-pub record IsClosed (t : Topology) (m n : Machine) (label : ℕ) : Type 0 where
+pub record IsClosed (t : Topology) (m n : Machine) (client label : ℕ) : Type 0 where
   pub thing : Thing
+  pub was : thing_labelled m.device.world.things label ≡ Some thing
+  pub may : close_refusal client (Some thing) ≡ None
+  pub shut : n.device.world.things ≡ closed_in m.device.world.things thing.id
   pub now : Thing
   pub found : thing_labelled n.device.world.things label ≡ Some now
   pub same_id : now.id ≡ thing.id
   pub told : IsTold t m n (thing.id ∷ [])
+  pub grown : IsGrown t m n
 
 -- what a command frees, by what it is and how it is answered
-abbrev pub MadeFrees : Topology → Machine → Machine → Command → Reply → Type 0
-MadeFrees t m n (command.AddFb label buffer) (reply.Made id) = IsAdded t m n
-MadeFrees t m n (command.CloseFb label) reply.Done = IsClosed t m n label
-MadeFrees t m n _ _ = IsQuiet t m n
+abbrev pub MadeFrees : Topology → Machine → Machine → ℕ → Command → Reply → Type 0
+MadeFrees t m n client (command.AddFb label buffer) (reply.Made id) = IsAdded t m n client label buffer id
+MadeFrees t m n client (command.CloseFb label) reply.Done = IsClosed t m n client label
+MadeFrees t m n client _ _ = IsQuiet t m n
 
 module _ (t : Topology) (m n : Machine) where
   unless : (owner label : ℕ) (c : Content) (o : Option ℕ) → is_framebuffer c ≡ false → IsExecuted t m n (make_unless m.device.world owner label c o).world → IsQuiet t m n
   unless owner label c None none X = pushed_quiet t m n _ (record { label = label; id = m.device.world.next_id; owner = owner; content = c; is_open = true }) X refl none
   unless owner label c (Some k) none X = left_quiet t m n _ X refl
 
-  adds : (client label buffer : ℕ) (o : Option BufferInfo) → IsExecuted t m n (add_fb m.device.world client label o).world → MadeFrees t m n (command.AddFb label buffer) (add_fb m.device.world client label o).reply
-  adds client label buffer None X = left_quiet t m n _ X refl
-  adds client label buffer (Some b) X = pushed_added t m n _ _ X refl
+  adds : (client label buffer : ℕ) (o : Option BufferInfo) → buffer_of m.device.world.things client buffer ≡ o
+      → IsExecuted t m n (add_fb m.device.world client label o).world
+      → MadeFrees t m n client (command.AddFb label buffer) (add_fb m.device.world client label o).reply
+  adds client label buffer None found X = left_quiet t m n _ X refl
+  adds client label buffer (Some b) found X = pushed_added t m n _ client label buffer b X refl found
 
   blob_only : (client : ℕ) (u : Thing) → destroy_refusal client (Some u) ≡ None → is_framebuffer u.content ≡ false
   blob_only client u e = by_content u.content e where
@@ -219,26 +289,31 @@ module _ (t : Topology) (m n : Machine) where
     by_content content.OutFence b e = absurd cc
 
   closes : (client label : ℕ) (o : Option Thing) → thing_labelled m.device.world.things label ≡ o → (r : Option ℕ) → close_refusal client o ≡ r → IsExecuted t m n (close_unless m.device.world o r).world
-      → MadeFrees t m n (command.CloseFb label) (close_unless m.device.world o r).reply
+      → MadeFrees t m n client (command.CloseFb label) (close_unless m.device.world o r).reply
   closes client label o found (Some k) refusal X = left_quiet t m n _ X refl
   closes client label None found None refusal X = absurd cc
   closes client label (Some u) found None refusal X =
       record {
         thing = u;
+        was = found;
+        may = refusal;
+        shut = ap (λ (w : World). w.things) X.world;
         now = closed_if u.id u;
         found = ap (λ (w : World). thing_labelled w.things label) X.world ∙ closed_labelled m.device.world.things u.id label ∙ ap (option_map (closed_if u.id)) found;
         same_id = same_id (u.id == u.id);
         told = closed_told t m n _ u X refl (find-in (λ x. x.label == label) m.device.world.things u found) (open_only client u refusal);
+        grown = closed_grown t m n _ u X refl (find-in (λ x. x.label == label) m.device.world.things u found);
       }
     where
       same_id : (b : Bool) → (if b then record u { is_open = false } else u).id ≡ u.id
       same_id true = refl
       same_id false = refl
 
-  pub made_frees : (client : ℕ) (c : Command) → is_making c ≡ true → IsExecuted t m n (execute t m.device.world client c).world → MadeFrees t m n c (execute t m.device.world client c).reply
+  pub made_frees : (client : ℕ) (c : Command) → is_making c ≡ true → IsExecuted t m n (execute t m.device.world client c).world
+      → MadeFrees t m n client c (execute t m.device.world client c).reply
   unfolding execute
   made_frees client (command.Buffer label width height format pattern) making X = unless client label (content.Buffer width height format pattern) (new_buffer_refusal m.device.world.things width height format) refl X
-  made_frees client (command.AddFb label buffer) making X = adds client label buffer (buffer_of m.device.world.things client buffer) X
+  made_frees client (command.AddFb label buffer) making X = adds client label buffer (buffer_of m.device.world.things client buffer) refl X
   made_frees client (command.Mode label mode) making X = unless client label (content.Mode mode) None refl X
   made_frees client (command.Blob label bytes) making X = unless client label (content.Blob bytes) None refl X
   made_frees client (command.Destroy label) making X = destroys client label (thing_labelled m.device.world.things label) refl (destroy_refusal client (thing_labelled m.device.world.things label)) refl X

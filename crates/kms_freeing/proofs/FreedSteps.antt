@@ -1,6 +1,6 @@
 -- What each kind of step frees.
 use Rattle.std.proofs.Common.{◌≡◌, ℕ, suc, ◌+◌, ◌<◌, ◌≤◌, List, [], ◌∷◌, ◌++◌, length, map, Bool, true, false, not, ◌&&◌, ◌||◌, ◌==◌, Option, Some, None, refl, sym, ap, ◌∙◌, subst, arith, inl, inr, ◌⊎◌}
-use Rattle.std.specs.Prelude.{filter}
+use Rattle.std.specs.Prelude.{filter, if◌then◌else◌}
 use Rattle.std.specs.List.{list_any, range_with_len}
 use Rattle.std.proofs.lemmas.Bool.{and_from, and_parts, cases_Bool, cases_eq, cond-false, cond-true, eq-eqb, eqb-true, false≢true, ne_eqb, not-true, or_cases, or_from, or_left, or_parts, or_right}
 use Rattle.kms_model.specs.declared.objects.Kind.TheVariants.{Crtc, Plane}
@@ -27,7 +27,7 @@ use Rattle.kms_model.proofs.Items.{IsIn, list_any-has, list_any-same, list_any-s
 use Rattle.kms_laws.proofs.Framebuffers.{framebuffers_once, range-below, word_fb, find-same}
 use Rattle.kms_laws.proofs.Invariants.{plane_after}
 use Rattle.kms_laws.proofs.Numbered.{plane_old}
-use Rattle.kms_model.proofs.ThingLemmas.{ids-numbered}
+use Rattle.kms_model.proofs.ThingLemmas.{find-in, ids-numbered}
 use Rattle.kms_model.proofs.CommitFacts.{commit_old, commit_new, touches_old}
 use Rattle.kms_model.proofs.ShownLemmas.{with-id}
 use Rattle.kms_model.proofs.CrtcLemmas.{all_in}
@@ -36,8 +36,9 @@ use Rattle.kms_model.specs.declared.states.PlaneState.{PlaneState}
 use Rattle.kms_laws.proofs.Steps.{Holds, IsPlainScript}
 use Rattle.kms_laws.proofs.Headlines.{range-in}
 use Rattle.kms_freeing.specs.Freeing.{AreAllOf, AreRising, freed_among, is_framebuffer_in, label_and_id}
+use Rattle.kms_freeing.specs.Stored.{held_as, held_where}
 use Rattle.kms_freeing.proofs.FreedLists.{filter-none, length-fewer, passes}
-use Rattle.kms_freeing.proofs.FreedBetween.{IsSameOrNone, fewer_needed, freed_told, lost, places_suffice}
+use Rattle.kms_freeing.proofs.FreedBetween.{IsGrown, IsGrownAt, IsSameOrNone, fewer_needed, freed_told, lost, needed_framebuffer, places_suffice, same_or_none}
 
 -- What is needed is told by four parts of a machine.
 
@@ -68,10 +69,14 @@ values_same t m n id same = list_any-same _ _ (ids_of t Plane) (λ p is. ap (λ 
 
 -- Where nothing is freed
 
--- nothing is freed between two machines, and no more is needed after than before
+-- nothing is freed between two machines, no more is needed after than before, and the same is stored
 pub record IsQuiet (t : Topology) (m n : Machine) : Type 0 where
   pub none : filter (lost (is_needed t m) (is_needed t n) n.device.world.things) m.device.world.things ≡ []
   pub fewer : length (filter (is_needed t n) n.device.world.things) ≤ length (filter (is_needed t m) m.device.world.things)
+  pub grown : IsGrown t m n
+  pub steady : (id : ℕ)
+      → held_where (is_needed t n) (thing_with_id n.device.world.things id) ≡ held_where (is_needed t m)
+      (thing_with_id m.device.world.things id)
 
 -- the things of a machine, and further ones
 pub record IsLonger (t : Topology) (m n : Machine) (more : List Thing) : Type 0 where
@@ -84,6 +89,15 @@ with_id_longer (u ∷ us) more id x found =
     elim (cases_Bool (u.id == id)) [
       | inl here ↦ cond-true (u.id == id) (Some u) (thing_with_id (us ++ more) id) here ∙ sym (cond-true (u.id == id) (Some u) (thing_with_id us id) here) ∙ found
       | inr away ↦ cond-false (u.id == id) (Some u) (thing_with_id (us ++ more) id) away ∙ with_id_longer us more id x (sym (cond-false (u.id == id) (Some u) (thing_with_id us id) away) ∙ found)
+    ]
+
+with_id_none : (xs more : List Thing) (id : ℕ) → thing_with_id xs id ≡ None → thing_with_id (xs ++ more) id ≡ thing_with_id more id
+with_id_none [] more id none = refl
+with_id_none (u ∷ us) more id none =
+    elim (cases_Bool (u.id == id)) [
+      | inl here ↦ (let never : Some u ≡ None = sym (cond-true (u.id == id) (Some u) (thing_with_id us id) here) ∙ none in absurd cc)
+      | inr away ↦ cond-false (u.id == id) (Some u) (thing_with_id (us ++ more) id) away
+          ∙ with_id_none us more id (sym (cond-false (u.id == id) (Some u) (thing_with_id us id) away) ∙ none)
     ]
 
 pub filter-longer : {A : Type 0} (p : A → Bool) (xs more : List A) → length (filter p (xs ++ more)) ≡ length (filter p xs) + length (filter p more)
@@ -108,12 +122,53 @@ longer_count t m n more L =
     let old = length-fewer (is_needed t m) (is_needed t n) m.device.world.things (λ x is e. sym (L.same x is) ∙ e) in
     omega (arith, parts, old)
 
+-- what a look-up finds after further things were made
+module _ (t : Topology) (m n : Machine) (more : List Thing) (L : IsLonger t m n more) where
+  -- a thing that was there
+  pub longer_old : (id : ℕ) (x : Thing) → thing_with_id m.device.world.things id ≡ Some x → thing_with_id n.device.world.things id ≡ Some x
+  longer_old id x found = ap (λ things. thing_with_id things id) L.things ∙ with_id_longer m.device.world.things more id x found
+
+  -- a further one
+  pub longer_new : (id : ℕ) → thing_with_id m.device.world.things id ≡ None → thing_with_id n.device.world.things id ≡ thing_with_id more id
+  longer_new id none = ap (λ things. thing_with_id things id) L.things ∙ with_id_none m.device.world.things more id none
+
+  pub longer_grown : ((y : Thing) → IsIn y more → is_framebuffer y.content ≡ is_needed t n y) → IsGrown t m n
+  longer_grown each = λ id. at id (thing_with_id m.device.world.things id) refl (thing_with_id n.device.world.things id) refl where
+    at : (id : ℕ) (o : Option Thing) → thing_with_id m.device.world.things id ≡ o → (p : Option Thing)
+        → thing_with_id n.device.world.things id ≡ p → IsGrownAt t n o p
+    at id None none None now = tt
+    at id None none (Some y) now = each y (find-in (λ (u : Thing). u.id == id) more y (sym (longer_new id none) ∙ now))
+    at id (Some x) found p now = record { thing = x; found = sym now ∙ longer_old id x found; label = refl; id = refl; content = refl }
+
+  -- where no further one is a framebuffer, the same is stored
+  pub longer_steady : ((y : Thing) → IsIn y more → is_framebuffer y.content ≡ false)
+      → (id : ℕ) → held_where (is_needed t n) (thing_with_id n.device.world.things id) ≡ held_where (is_needed t m)
+      (thing_with_id m.device.world.things id)
+  longer_steady none = λ id. at id (thing_with_id m.device.world.things id) refl where
+    no_fb : (id : ℕ) (p : Option Thing) → thing_with_id more id ≡ p → held_where (is_needed t n) p ≡ None
+    no_fb id None found = refl
+    no_fb id (Some y) found =
+        ap (λ b. if b then held_as y y.content else None)
+        (needed_framebuffer t n y (none y (find-in (λ (u : Thing). u.id == id) more y found)))
+
+    at : (id : ℕ) (o : Option Thing) → thing_with_id m.device.world.things id ≡ o
+        → held_where (is_needed t n) (thing_with_id n.device.world.things id) ≡ held_where (is_needed t m) o
+    at id None found = ap (held_where (is_needed t n)) (longer_new id found) ∙ no_fb id (thing_with_id more id) refl
+    at id (Some x) found =
+        ap (held_where (is_needed t n)) (longer_old id x found)
+        ∙ ap (λ b. if b then held_as x x.content else None) (L.same x (find-in (λ (u : Thing). u.id == id) m.device.world.things x found))
+
 pub quiet_longer : (t : Topology) (m n : Machine) (more : List Thing) → AreNumbered 1000 m.device.world.things → IsLonger t m n more → ((x : Thing) → IsIn x more → is_framebuffer x.content ≡ false) → IsQuiet t m n
 unfolding is_needed
 quiet_longer t m n more numbered L none =
     let count = longer_count t m n more L in
     let no_more = ap length (filter-none (is_needed t n) more (λ x is. rw (none x is) refl)) in
-    record { none = longer_none t m n more numbered L; fewer = omega (arith, count, no_more) }
+    record {
+      none = longer_none t m n more numbered L;
+      fewer = omega (arith, count, no_more);
+      grown = longer_grown t m n more L (λ y is. none y is ∙ sym (needed_framebuffer t n y (none y is)));
+      steady = longer_steady t m n more L none;
+    }
 
 -- the parts that tell what is needed are as they were
 pub record SameNeeds (m n : Machine) : Type 0 where
@@ -162,6 +217,8 @@ pub record IsTold (t : Topology) (m n : Machine) (ids : List ℕ) : Type 0 where
   pub told : map label_and_id (filter (lost (is_needed t m) (is_needed t n) n.device.world.things) m.device.world.things) ≡ freed_among t n ids
   pub room : length (filter (λ id. is_framebuffer_in (thing_with_id n.device.world.things id)) ids) ≤ length (filter (is_needed t m) m.device.world.things)
   pub fewer : length (filter (is_needed t n) n.device.world.things) + length (filter (lost (is_needed t m) (is_needed t n) n.device.world.things) m.device.world.things) ≤ length (filter (is_needed t m) m.device.world.things)
+  pub back : (y : Thing) → IsIn y n.device.world.things → is_needed t n y ≡ true
+      → passes (is_needed t m) (thing_with_id m.device.world.things y.id) ≡ true
 
 -- the parts of what is needed, of a thing
 pub record Needs (t : Topology) (m : Machine) (x : Thing) : Type 0 where
@@ -213,9 +270,11 @@ module _ (t : Topology) (m n : Machine) (numbered : AreNumbered 1000 m.device.wo
   numbered_now : AreNumbered 1000 n.device.world.things
   numbered_now = subst (AreNumbered 1000) (sym same) numbered
 
-  same_or_none : (o : Option Thing) → IsSameOrNone o o
-  same_or_none None = refl
-  same_or_none (Some x) = record { thing = x; found = refl; label = refl; id = refl; content = refl }
+  was_needed : (y : Thing) → IsIn y n.device.world.things → is_needed t n y ≡ true
+      → passes (is_needed t m) (thing_with_id m.device.world.things y.id) ≡ true
+  was_needed y is needed =
+      let old : IsIn y m.device.world.things = subst (IsIn y) same is in
+      ap (passes (is_needed t m)) (with-id 1000 m.device.world.things y numbered old) ∙ back y old needed
 
   pub told_by : (ids : List ℕ) → AreRising 0 ids
       → ((id : ℕ) → IsIn id ids → (x : Thing) → x.id ≡ id → is_framebuffer x.content ≡ true → is_needed t m x ≡ true)
@@ -226,9 +285,8 @@ module _ (t : Topology) (m n : Machine) (numbered : AreNumbered 1000 m.device.wo
         (λ x is needed off. all x needed (sym (ap (passes (is_needed t n)) (found_now x is)) ∙ off));
     room = places_suffice t m n numbered numbered_now (λ id. subst (λ things. IsSameOrNone (thing_with_id m.device.world.things id) (thing_with_id things id)) (sym same) (same_or_none (thing_with_id m.device.world.things id)))
         ids rising (λ id is x found framebuffer. each id is x (find-same m.device.world.things id x found) framebuffer);
-    fewer = fewer_needed (is_needed t m) (is_needed t n) m.device.world.things n.device.world.things numbered numbered_now (λ y is needed.
-        let old : IsIn y m.device.world.things = subst (IsIn y) same is in
-        ap (passes (is_needed t m)) (with-id 1000 m.device.world.things y numbered old) ∙ back y old needed);
+    fewer = fewer_needed (is_needed t m) (is_needed t n) m.device.world.things n.device.world.things numbered numbered_now was_needed;
+    back = was_needed;
   }
 
 -- a commit is cleaned

@@ -5,3 +5,5 @@ pub mod FreedLatches
 pub mod FreedMakes
 pub mod FreedHistories
 pub mod PutIds
+pub mod FreedEach
+pub mod StoredSteps
