@@ -50,7 +50,10 @@ fn a_framebuffer_is_kept_while_something_refers_to_it(rt: HostRuntime) -> Result
         2,
         Err(Denied::NOT_FOUND),
     );
-    assert!(rt; store.has(1001) && store.give(1001), "the last reference");
+    assert!(rt;
+        store.info(1001).is_some() && store.give(1001),
+        "the last reference"
+    );
     assert_closes(&rt, "gone", &mut store, 1, Err(Denied::NOT_FOUND));
     Ok(())
 }

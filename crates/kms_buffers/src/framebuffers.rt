@@ -1,5 +1,6 @@
 //! The store of framebuffers.
-ghost use Rattle.std.specs.Prelude.{◌≡◌, ℕ, List, [], ◌∷◌, ◌++◌, IsTrue, OnOk, OnErr, is_some, option_copied};
+ghost use Rattle.std.specs.Prelude.{◌≡◌, ℕ, List, [], ◌∷◌, ◌++◌, IsTrue, OnOk, OnErr, option_copied};
+ghost use Rattle.std.specs.Option.{option_map};
 ghost use Rattle.kms_model.specs.declared.worlds.Content.TheVariants as content;
 ghost use Rattle.kms_model.specs.declared.worlds.Thing.{Thing};
 ghost use Rattle.kms_model.specs.declared.worlds.World.{World};
@@ -113,11 +114,11 @@ impl FbStore {
         Ok(fb.references == 1)
     }
 
-    /// Whether something refers to the framebuffer with an id, so that it is in the store.
-    pub fn has(&self, id: u32) -> bool
-        ensures { result ≡ is_some (value_with_id self.now id) }
+    /// What the framebuffer with an id is; none exactly where nothing refers to it, so that it is not in the store.
+    pub fn info(&self, id: u32) -> Option<FbInfo>
+        ensures { result ≡ option_map (λ fb. fb.info) (value_with_id self.now id) }
     {
-        self.fbs.get(id).is_some()
+        Some(self.fbs.get(id)?.info)
     }
 
     /// Takes a reference more of the framebuffer with an id, which is in the store and has fewer than 4294967295.

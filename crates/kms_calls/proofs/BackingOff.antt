@@ -88,7 +88,8 @@ module _ (r v : Run) (st : Stores) (t : Ticket) (stands : Stands r st) (same : r
       → Stands (record { script = r.script; steps = steps }) (record st { clients = clients })
   unfolding next
   backoff_goes_on clients before steps may is more now =
-      goes_on r st (record st { clients = clients }) (step.BackOff found) refl refl steps (more ∙ ap (λ (xs : List Step). xs ++ step.BackOff found ∷ []) is) stands (backoff_legal may)
+      goes_on r st (record st { clients = clients }) (step.BackOff found) refl refl refl steps
+      (more ∙ ap (λ (xs : List Step). xs ++ step.BackOff found ∷ []) is) stands (backoff_legal may)
       (stands_beside r.script (machine r) (drops_locks (now_doing (machine r) found (backed_off (doing_at (machine r) found))) found) st clients (record { device = refl; records = refl; events = refl; stalled = refl }) now stands.stores)
 
   -- the history gains a step of the client that was found, and no other has the ticket
@@ -142,7 +143,8 @@ module _ (r v : Run) (st : Stores) (t : Ticket) (stands : Stands r st) (same : r
       → steps ≡ before ++ step.Relock found ∷ [] → Clients.AreClientsOf (Clients.after_relock (machine r) found again.Got) clients → Stands (record { script = r.script; steps = steps }) (record st { clients = clients })
   unfolding next legal may
   relock_goes_on clients before steps may told is more now =
-      goes_on r st (record st { clients = clients }) (step.Relock found) refl refl steps (more ∙ ap (λ (xs : List Step). xs ++ step.Relock found ∷ []) is) stands (relock_legal may told)
+      goes_on r st (record st { clients = clients }) (step.Relock found) refl refl refl steps
+      (more ∙ ap (λ (xs : List Step). xs ++ step.Relock found ∷ []) is) stands (relock_legal may told)
       (stands_beside r.script (machine r) (relocked (machine r) found (contended (doing_at (machine r) found))) st clients (same_relocked (machine r) found (contended (doing_at (machine r) found))) now stands.stores) where
         free : (h : Option ℕ) → again.Got ≡ Clients.relock_answer (machine r) h → is_none h ≡ true
         free None e = refl

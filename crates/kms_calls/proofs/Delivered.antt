@@ -127,7 +127,8 @@ reads_event r v st client answer clients journal replies queues before steps sta
     let queue = stands.stores.queues.queue client there.low there.high in
     let told : read_reply (unread_at m.events client) (reserved_at m.events client) ≡ Some answer =
     sym (ap (λ events. read_reply events (queue_of st.queues client).reserved) queue.unread ∙ ap (λ n. read_reply (unread_at m.events client) n) queue.reserved) ∙ has.told in
-    goes_on r st (record st { clients = clients; journal = journal; replies = replies; queues = queues }) (step.Read client) refl refl steps (more ∙ ap (λ (xs : List Step). xs ++ step.Read client ∷ []) is) stands
+    goes_on r st (record st { clients = clients; journal = journal; replies = replies; queues = queues })
+    (step.Read client) refl refl refl steps (more ∙ ap (λ (xs : List Step). xs ++ step.Read client ∷ []) is) stands
     (and_from (not m.stalled) _ (ap not (stands.stores.ended ∙ going)) (and_from _ _ asked (may_read (unread_at m.events client) (reserved_at m.events client) answer told)))
     (read_stands r.script m client (unread_at m.events client) answer st clients journal replies queues told has.clients_stand
     (records_answered m st client (place_of st.clients client).command answer journal.items replies.items has.journal_kept has.replies_more there.number stands.stores.recorded)

@@ -28,18 +28,19 @@ use Rattle.kms_laws.proofs.Steps.{history_kept, not_atomic}
 use Rattle.kms_signal.specs.FenceSets.{FenceSet}
 use Rattle.kms_things.proofs.SeenStates.{present_seen}
 use Rattle.kms_things.specs.Commands.{IsNoRequest}
+use Rattle.kms_things.specs.Counting.{fbs_after}
 use Rattle.kms_things.specs.Made.{HasIds, Made, with_made}
 use Rattle.kms_things.specs.Present.{IsPresent}
 use Rattle.kms_stores.specs.Calls.{MayMake, answered, joined, reply_at, reply_to_command, with_fence_of}
 use Rattle.kms_logs.specs.Logs.{Reserved}
-use Rattle.kms_stores.specs.Needs.{Accounts, HasPlaceFor}
+use Rattle.kms_stores.specs.Needs.{Accounts, HasPlaceFor, MayAccount}
 use Rattle.kms_logs.specs.Logs.{Logged}
 use Rattle.kms_stores.specs.Run.{Run, machine}
 use Rattle.kms_stores.specs.Stands.{AreMadeFences, IsWorldOf, Stores, Stands, StandsAt}
 use Rattle.kms_stores.proofs.Beside.{moved, stands_moved}
 use Rattle.kms_stores.proofs.Fencing.{executed_fenced, executed_more, made_stand}
-use Rattle.kms_stores.proofs.FreedCalls.{closed_place, made_freed, world_after}
-use Rattle.kms_stores.proofs.Histories.{goes_freeing, same_freed, with_freed}
+use Rattle.kms_stores.proofs.FreedCalls.{closed_place, made_freed, made_stored, may_account, world_after}
+use Rattle.kms_stores.proofs.Histories.{goes_freeing, same_freed, with_fbs, with_freed}
 use Rattle.kms_stores.proofs.Places.{IsIdleAt, idle_there, not_ended}
 use Rattle.kms_stores.proofs.Recorded.{joined_if, joined_more, records_answered}
 
@@ -147,7 +148,7 @@ made_stands r st client c reply clients journal replies made fences stands there
     let holds = (history_kept r.script r.steps (plain-from r.script stands.formed) stands.history).present in
     let other = not_atomic c has.found.passes in
     let is = execution_is t w st.made made st.present client c reply stands.stores.world has.executed_as in
-    let follows = execute_follows t w client c holds.sound holds.kept ((plain-from r.script stands.formed).modes (record { client = client; command = (place_at m client).command }) c has.found.at) other in
+    let follows = execute_follows t w client c holds.lawful holds.kept ((plain-from r.script stands.formed).modes (record { client = client; command = (place_at m client).command }) c has.found.at) other in
     let slots : fences.slots ≡ with_fence_of c w.next_id st.fences.slots = has.fences_now ∙ ap (λ n. with_fence_of c n st.fences.slots) (sym stands.stores.world.next_id) in
     let records : Records = record m.records { replies = answered client (place_at m client).command (length m.records.journal) reply ∷ m.records.replies } in
     rw has.found.at (rw is (rw (executed_moved m client reply (with_made w made) (is_accepted reply))
@@ -161,11 +162,15 @@ made_stands r st client c reply clients journal replies made fences stands there
     (executed_more w.next_id c st.fences fences slots) stands.stores.queues stands.stores)))
 
 pub makes : (r v : Run) (st : Stores) (client : ℕ) (c : Command) (reply : Reply) (clients : Standing) (journal : Logged (ℕ × ℕ)) (replies : Logged Answered) (made : Made) (fences : FenceSet) (before steps : List Step) → Stands r st → r ≡ v → MayMake v client
-    → HasMade r st client c reply clients journal replies made fences → before ≡ r.steps → steps ≡ before ++ step.Make client ∷ []
-    → (roomy freed : Reserved (ℕ × ℕ)) → roomy.items ≡ st.freed.items → roomy.places ≡ st.freed.places → Accounts made st.present st.registers st.tails r.script.topology.crtcs c reply roomy freed
-    → Stands (record { script = r.script; steps = steps }) (record st { clients = clients; journal = journal; replies = replies; made = made; fences = fences; freed = freed })
-makes r v st client c reply clients journal replies made fences before steps stands same now has is more roomy freed same_items same_places accounts =
+    → HasMade r st client c reply clients journal replies made fences → made.fbs ≡ fbs_after st.made client c → before ≡ r.steps
+    → steps ≡ before ++ step.Make client ∷ []
+    → (roomy freed : Reserved (ℕ × ℕ)) (left : Made) → roomy.items ≡ st.freed.items → roomy.places ≡ st.freed.places
+    → Accounts made left st.present st.registers st.tails r.script.topology.crtcs c reply roomy freed
+    → Stands (record { script = r.script; steps = steps })
+    (record st { clients = clients; journal = journal; replies = replies; made = left; fences = fences; freed = freed })
+makes r v st client c reply clients journal replies made fences before steps stands same now has counted is more roomy freed left same_items same_places accounts =
     let new : Stores = record st { clients = clients; journal = journal; replies = replies; made = made; fences = fences } in
+    let n = next r.script (machine r) (step.Make client) in
     let may = subst (λ (w : Run). MayMake w client) (sym same) now in
     let told = ap (λ (e : Executed). e.reply) (execution_is r.script.topology (machine r).device.world st.made made st.present client c reply stands.stores.world has.executed_as) in
     let after = made_stands r st client c reply clients journal replies made fences stands (idle_maker r v st client stands same now) has in
@@ -174,9 +179,16 @@ makes r v st client c reply clients journal replies made fences before steps sta
       history = stands.history;
       stores = with_freed r.script (machine r) st roomy stands.stores;
       freed = same_freed r.script r.steps r.steps st.freed roomy refl same_items same_places stands.freed;
+      stored = stands.stored;
     } in
-    goes_freeing r st (record new { freed = freed }) (step.Make client) steps (more ∙ ap (λ (xs : List Step). xs ++ step.Make client ∷ []) is) stands may
-    (with_freed r.script (next r.script (machine r) (step.Make client)) new freed after) (made_freed r (record st { freed = roomy }) client c reply with_room may has.found.at told new freed after accounts)
+    let kept = made_stored r
+    (record st { freed = roomy }) client c reply with_room may has.found.at told new freed left after counted accounts in
+    goes_freeing r st (record new { freed = freed; made = left }) (step.Make client) steps
+    (more ∙ ap (λ (xs : List Step). xs ++ step.Make client ∷ []) is) stands may
+    (subst (λ z. StandsAt r.script n (record new { freed = freed; made = z })) (sym kept.same)
+    (with_fbs r.script n (record new { freed = freed }) kept.fbs (with_freed r.script n new freed after)))
+    (made_freed r (record st { freed = roomy }) client c reply with_room may has.found.at told new freed left after accounts)
+    (rw kept.same kept.stored)
 
 -- there is a place for a framebuffer that was closed
 pub place_for : (r v : Run) (st : Stores) (client : ℕ) (c : Command) (reply : Reply) (made : Made) → Stands r st → r ≡ v → MayMake v client → command_at r.script (machine r) client ≡ Some c
@@ -186,3 +198,15 @@ place_for r v st client c reply made stands same now at executed_as =
     let executed_is = execution_is r.script.topology (machine r).device.world st.made made st.present client c reply stands.stores.world executed_as in
     closed_place r st client c reply stands may at (ap (λ (e : Executed). e.reply) executed_is) made
     (ap (λ (w : World). w.things) (world_after r st client c reply stands may at (ap (λ (e : Executed). e.reply) executed_is)) ∙ ap (λ (e : Executed). e.world.things) executed_is)
+
+-- and the framebuffer that was added or closed is in the store
+pub stored_for : (r v : Run) (st : Stores) (client : ℕ) (c : Command) (reply : Reply) (made : Made) → Stands r st → r ≡ v → MayMake v client
+    → command_at r.script (machine r) client ≡ Some c
+    → ((t : Topology) (w : World) → execute t (with_made w st.made) client c ≡ record { world = with_made w made; reply = reply })
+    → made.fbs ≡ fbs_after st.made client c → MayAccount made c reply
+stored_for r v st client c reply made stands same now at executed_as counted =
+    let may = subst (λ (w : Run). MayMake w client) (sym same) now in
+    let executed_is = execution_is r.script.topology (machine r).device.world st.made made st.present client c reply stands.stores.world executed_as in
+    may_account r st client c reply stands may at (ap (λ (e : Executed). e.reply) executed_is) made
+    (ap (λ (w : World). w.things) (world_after r st client c reply stands may at (ap (λ (e : Executed). e.reply) executed_is))
+    ∙ ap (λ (e : Executed). e.world.things) executed_is) counted

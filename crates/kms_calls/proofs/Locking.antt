@@ -64,7 +64,8 @@ pub begins : (r v : Run) (st : Stores) (client : ℕ) (clients : Standing) (befo
     → AreClientsOf (begun (machine r) client).contexts clients → Stands (record { script = r.script; steps = steps }) (record st { clients = clients })
 unfolding next
 begins r v st client clients before steps stands same asked is more now =
-    goes_on r st (record st { clients = clients }) (step.Begin client) refl refl steps (more ∙ ap (λ (xs : List Step). xs ++ step.Begin client ∷ []) is) stands (subst (λ (w : Run). MayBegin w client) (sym same) asked)
+    goes_on r st (record st { clients = clients }) (step.Begin client) refl refl refl steps
+    (more ∙ ap (λ (xs : List Step). xs ++ step.Begin client ∷ []) is) stands (subst (λ (w : Run). MayBegin w client) (sym same) asked)
     (stands_beside r.script (machine r) (begun (machine r) client) st clients (record { device = refl; records = refl; events = refl; stalled = refl }) now stands.stores)
 
 -- lock
@@ -135,6 +136,7 @@ stays r st clients steps is stands now = rw is (record {
   formed = stands.formed;
   history = stands.history;
   freed = stands.freed;
+  stored = stands.stored;
   stores = stands_beside r.script (machine r) (machine r) st clients (record { device = refl; records = refl; events = refl; stalled = refl }) now stands.stores;
 })
 
@@ -166,7 +168,9 @@ pub lock_goes_on : (r : Run) (st : Stores) (id : ObjId) (client : ℕ) (answer :
     → AreClientsOf (after_lock (machine r) client id.0 answer) clients → Stands (record { script = r.script; steps = steps }) (record st { clients = clients })
 unfolding next
 lock_goes_on r st id client answer clients before steps stands L told event is more now =
-    goes_on r st (record st { clients = clients }) (lock_step client id.0) refl refl steps (more ∙ ap (λ (xs : List Step). xs ++ lock_step client id.0 ∷ []) is) stands (lock_legal r id client L (ap is_step (sym told) ∙ event))
+    goes_on r st (record st { clients = clients }) (lock_step client id.0) refl refl refl steps
+    (more ∙ ap (λ (xs : List Step). xs ++ lock_step client id.0 ∷ []) is) stands
+    (lock_legal r id client L (ap is_step (sym told) ∙ event))
     (rw (object_is id.0 L.is_id)
     (stands_beside r.script (machine r) (locked (machine r) client id.0 (holder_at (machine r) id.0)) st clients (same_locked (machine r) client id.0 (holder_at (machine r) id.0)) (rw (an_event (machine r) client id.0 answer event) at now) stands.stores))
 

@@ -68,7 +68,8 @@ unfolding next legal may
 returns r v st client clients before steps stands same now over is more after =
     let asked = subst (λ (w : Run). MayReturn w client) (sym same) now in
     let over_now : is_over_at r client ≡ true = ap (λ (w : Run). is_over_at w client) same ∙ over in
-    goes_on r st (record st { clients = clients }) (step.Return client) refl refl steps (more ∙ ap (λ (xs : List Step). xs ++ step.Return client ∷ []) is) stands
+    goes_on r st (record st { clients = clients }) (step.Return client) refl refl refl steps
+    (more ∙ ap (λ (xs : List Step). xs ++ step.Return client ∷ []) is) stands
     (let parts = and_parts (not (machine r).stalled) _ over_now in
     and_from (not (machine r).stalled) _ parts.0 (rw asked.returning (ap (is_some_cleaned (machine r)) (sym asked.returning) ∙ parts.1)))
     (stands_beside r.script (machine r) (client_goes_on (machine r) client) st clients (record { device = refl; records = refl; events = refl; stalled = refl }) after stands.stores)

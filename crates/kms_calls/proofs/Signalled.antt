@@ -122,7 +122,8 @@ pub signals_one : (r v : Run) (st : Stores) (client : ℕ) (c : Command) (reply 
     → Stands (record { script = r.script; steps = steps }) (record st { clients = clients; journal = journal; replies = replies; fences = set })
 signals_one r v st client c reply clients journal replies set before steps stands same now has is more =
     let one = signal_is c has.found.passes in
-    goes_on r st (record st { clients = clients; journal = journal; replies = replies; fences = set }) (step.Signal client) refl refl steps (more ∙ ap (λ (xs : List Step). xs ++ step.Signal client ∷ []) is) stands
+    goes_on r st (record st { clients = clients; journal = journal; replies = replies; fences = set })
+    (step.Signal client) refl refl refl steps (more ∙ ap (λ (xs : List Step). xs ++ step.Signal client ∷ []) is) stands
     (subst (λ (w : Run). MaySignal w client) (sym same) now)
     (signalled_stands r st client one.label reply clients journal replies set stands (idle_signaller r v st client stands same now)
     (subst (λ x. HasSignalled r st client x reply clients journal replies set) one.is has))

@@ -39,7 +39,7 @@ pub fn make(stores: &mut Stores, alloc: Global, client: u32) -> Result<Reply, No
     make_fence(alloc, &mut stores.fences, command, id);
     account(
         &mut stores.freed,
-        &stores.things,
+        &mut stores.things,
         &stores.present,
         &stores.registers,
         &stores.tails,

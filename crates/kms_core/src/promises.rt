@@ -1,5 +1,6 @@
 //! The laws of the machine, of the history that a core has: each is the contract of a call that does nothing but cite it.
 ghost use Rattle.kms_model.specs.Headline.{Headline};
+ghost use Rattle.kms_model.specs.Promises.{FreesEachOnce};
 ghost use Rattle.kms_laws.specs.Laws.{ContextsStand, HasSerialWorld};
 ghost use Rattle.kms_core.specs.Promises.{AsksWithinItsReach, DeliversOnce, FramesWhatIsHeld, FreesOnce, CanGoOn, IsBusyWithCause, LatchesWhole, NamesItsFence, ReservesEach, ShowsAllOnceCleaned, ShowsTheLast, TestsAlone, WaitsInNoCycle};
 ghost use Rattle.kms_stores.specs.Run.{machine};
@@ -69,6 +70,15 @@ impl Core {
     {
         self.is_a_history();
         kms_laws::framebuffers_are_freed_once();
+    }
+
+    /// What was freed so far: no framebuffer twice, and each that was made exactly where nothing needs it. A step frees
+    /// those that were needed before it and are not needed after it.
+    pub fn frees_each_once(&self)
+        ensures { FreesEachOnce self.now.script self.now.steps }
+    {
+        self.is_a_history();
+        kms_freeing::each_framebuffer_is_freed_once();
     }
 
     /// A request that is tested changes nothing but its reply, its locks and its client's place.

@@ -19,7 +19,9 @@ ghost use Rattle.kms_stores.specs.Stands.{entry_pair};
 
 use crate::machine::Core;
 use crate::spare::Spare;
-use kms_model::{Answered, Command, Doing, Image, Latch, ObjId, ObjState, Place, Script, Step};
+use kms_model::{
+    Answered, Command, Doing, FbInfo, Image, Latch, ObjId, ObjState, Place, Script, Step,
+};
 
 impl Core {
     /// The script.
@@ -138,6 +140,16 @@ impl Core {
         ensures { result ≡ is_some (go_at (machine self.now).device (object_id Crtc crtc)) }
     {
         kms_next::has_go(&self.stores, crtc)
+    }
+
+    /// What the framebuffer with an id is, while the machine has it: while it is open, or the present state of a plane, a
+    /// picture that a CRTC shows or a commit that is not cleaned up names it. None exactly where nothing needs it: no
+    /// framebuffer had the id, or it was freed. (Kernel: "Frame Buffer Abstraction"; `drm_framebuffer_put`.)
+    pub fn framebuffer(&self, id: u32) -> Option<FbInfo>
+        ensures { result
+            ≡ framebuffers.stored_framebuffer self.now.script.topology (machine self.now) id }
+    {
+        kms_stores::framebuffer(&self.stores, id)
     }
 
     /// The words of a framebuffer's buffer, also after the framebuffer was closed; none exactly where no framebuffer ever

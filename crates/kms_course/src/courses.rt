@@ -21,6 +21,7 @@
 //! | `client 2 none` | there is no such client |
 //! | `goes 0`, `rests 0` | whether a CRTC latches at its next vertical blanking |
 //! | `image 1001 [6382179]` | the words of a framebuffer |
+//! | `framebuffer 1001 1x1`, `framebuffer 1001 none` | a framebuffer that something needs, by its size; nothing needs it |
 //! | `next 1 T begin 1`, `tail T claim 0` | what is next in the order of one thread is this step, which is done |
 //! | `next 1 none`, `tail none` | nothing is next |
 //! | `asks 1 200 got` | the single call by which a client asks for an object's lock, by its id, is answered so |
@@ -108,6 +109,20 @@ fn has_words(core: &Core, alloc: Global, rest: &str) -> Result<bool, NoMemory> {
     }
 }
 
+/// Whether a machine has a framebuffer, in this size, or has none with its id.
+fn has_framebuffer(core: &Core, alloc: Global, rest: &str) -> Result<bool, NoMemory> {
+    let Some((id, size)) = numbered(rest) else {
+        return Ok(false);
+    };
+    match core.framebuffer(id) {
+        Some(fb) => {
+            let text = format!(in alloc; "{}x{}", fb.width, fb.height)?;
+            Ok(text.as_str() == size)
+        }
+        None => Ok(size == "none"),
+    }
+}
+
 /// Whether a machine tells what a line says, by its first word and the rest.
 fn tells(
     core: &Core,
@@ -123,6 +138,7 @@ fn tells(
         "goes" => Ok(goes_at(core, rest) == Some(true)),
         "rests" => Ok(goes_at(core, rest) == Some(false)),
         "image" => has_words(core, alloc, rest),
+        "framebuffer" => has_framebuffer(core, alloc, rest),
         "D" => Ok(ends(core, rest)),
         "count" => Ok(counts(core, rest)),
         "one" => Ok(rest == "thread" && is_of_one_thread(core, alloc)?),

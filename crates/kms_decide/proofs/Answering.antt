@@ -83,4 +83,6 @@ decided_stands r v st client command place step reply clients replies more befor
       latched = recorded.latched;
     })
     stands.stores.ended stands.stores in
-    goes_same r st (record st { clients = clients; replies = more }) step (rw decides.does (record { world = refl; commits = refl; cleaned = refl; live = refl })) refl steps (steps_more ∙ ap (λ (xs : List Step). xs ++ step ∷ []) steps_are) stands decides.legal (rw decides.does after)
+    goes_same r st (record st { clients = clients; replies = more }) step
+    (rw decides.does (record { world = refl; commits = refl; cleaned = refl; live = refl })) refl refl steps
+    (steps_more ∙ ap (λ (xs : List Step). xs ++ step ∷ []) steps_are) stands decides.legal (rw decides.does after)

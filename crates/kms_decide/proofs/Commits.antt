@@ -227,6 +227,7 @@ module _ (r : Run) (st : Stores) (client : ℕ) (checked : Checked) (resolved : 
         formed = base.formed;
         history = base.history;
         freed = base.freed;
+        stored = base.stored;
         stores = record {
           clients = base.stores.clients;
           recorded = base.stores.recorded;
@@ -295,6 +296,7 @@ pub record HasCommitted (r : Run) (st : Stores) (client : ℕ) (checked : Checke
   pub replies_more : replies.items ≡ st.replies.items ++ answered client (place_of st.clients client).command (length st.journal.items) (reply.Commit commit) ∷ []
   pub journal_more : journal.items ≡ st.journal.items ++ (client, (place_of st.clients client).command) ∷ []
   pub made_as : (w : World) (assigns : List Assign) (crtcs : List ℕ) → take r.script.topology.crtcs (labels_in resolved.out_fences) ≡ map (out_fence_label assigns) crtcs → make_out_fences client assigns (with_made w st.made) crtcs ≡ with_made w made
+  pub counted : made.fbs ≡ st.made.fbs
   pub present_swapped : IsSwappedIn st.present checked.states present
   pub fences_more : fences.slots ≡ st.fences.slots ++ fences_for st.made.next_id (take r.script.topology.crtcs (labels_in resolved.out_fences))
   pub queues_stand : AreQueues (length r.script.clients) (machine r).events queues
@@ -502,5 +504,5 @@ module _ (r : Run) (st : Stores) (client : ℕ) (checked : Checked) (resolved : 
   pub commits : (before steps : List Step) → before ≡ r.steps → steps ≡ before ++ step.Swap client ∷ []
       → Stands (record { script = r.script; steps = steps }) (record st { clients = clients; journal = journal; replies = replies; made = made; present = present; fences = fences; queues = slice_set queues (client - 1) queue; tracker = tracker; tails = tails })
   commits before steps is more =
-      goes_on r st (record st { clients = clients; journal = journal; replies = replies; made = made; present = present; fences = fences; queues = slice_set queues (client - 1) queue; tracker = tracker; tails = tails }) (step.Swap client) refl refl steps
+      goes_on r st (record st { clients = clients; journal = journal; replies = replies; made = made; present = present; fences = fences; queues = slice_set queues (client - 1) queue; tracker = tracker; tails = tails }) (step.Swap client) refl refl has.counted steps
       (more ∙ ap (λ (xs : List Step). xs ++ step.Swap client ∷ []) is) stands can.legal committed_stands

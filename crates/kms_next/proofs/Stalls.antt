@@ -19,7 +19,9 @@ use Rattle.kms_stores.proofs.FirstTails.{nothing_found, nothing_further, somethi
 pub stalls : (r v : Run) (st : Stores) (before steps : List Step) → Stands r st → r ≡ v → legal v.script (machine v) step.Stall ≡ true → before ≡ r.steps → steps ≡ before ++ step.Stall ∷ [] → Stands (record { script = r.script; steps = steps }) (record st { stalled = true })
 unfolding next
 stalls r v st before steps stands same asked is more =
-    goes_on r st (record st { stalled = true }) step.Stall refl refl steps (more ∙ ap (λ (xs : List Step). xs ++ step.Stall ∷ []) is) stands (subst (λ (w : Run). legal w.script (machine w) step.Stall ≡ true) (sym same) asked)
+    goes_on r st (record st { stalled = true }) step.Stall refl refl refl steps
+    (more ∙ ap (λ (xs : List Step). xs ++ step.Stall ∷ []) is) stands
+    (subst (λ (w : Run). legal w.script (machine w) step.Stall ≡ true) (sym same) asked)
     (told_anew r.script (machine r) st (machine r).contexts (machine r).records.replies true st.clients st.replies st.latches st.freed true stands.stores.clients stands.stores.recorded refl stands.stores)
 
 -- Commits

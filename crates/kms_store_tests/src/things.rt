@@ -41,8 +41,8 @@ enum Call {
     IsOpen,
     /// It is closed, and names it still where closed things count.
     IsClosed,
-    /// Whether something refers to the framebuffer.
-    IsReferred(bool),
+    /// Whether the framebuffer is stored, as something refers to it.
+    IsStored(bool),
     /// Whether the thing with an id has an image.
     HasImage(u32, bool),
 }
@@ -56,7 +56,7 @@ const CLOSING: [Call; 16] = [
     Call::Ask(2, Asked::Fence, Reply::Made { id: 1002 }),
     Call::IsOpen,
     Call::IsMissing(3),
-    Call::IsReferred(true),
+    Call::IsStored(true),
     Call::Ask(2, Asked::CloseFb, NOT_FOUND),
     Call::Ask(1, Asked::CloseFb, Reply::Done),
     Call::Ask(1, Asked::CloseFb, NOT_FOUND),
@@ -68,7 +68,7 @@ const CLOSING: [Call; 16] = [
         Reply::Denied(Denied::NOT_SIGNALLABLE.0),
     ),
     Call::IsClosed,
-    Call::IsReferred(false),
+    Call::IsStored(false),
     Call::HasImage(FB_ID, true),
     Call::HasImage(1002, false),
 ];
@@ -137,7 +137,7 @@ fn answers(things: &mut Things, alloc: Global, call: Call) -> Result<bool, NoMem
                 && things.look_any(FB) == framebuffer()
                 && things.framebuffer(FB_ID) == Some((FB, false))
         }
-        Call::IsReferred(want) => things.is_referred(FB_ID) == want,
+        Call::IsStored(want) => things.stored(FB_ID).is_some() == want,
         Call::HasImage(id, want) => things.image(id).is_some() == want,
     })
 }

@@ -66,6 +66,7 @@ stands_first s clients present queues registers formed clients_stand present_sta
     ended = refl;
   };
   freed = record { items = refl; places = omega arith };
+  stored = λ id. refl;
 }
 
 -- no tail has anything left

@@ -1,10 +1,12 @@
 -- A history that goes on by a step.
-use Rattle.std.proofs.Common.{◌≡◌, ℕ, Bool, true, false, List, [], ◌∷◌, ◌++◌, ap, ◌∙◌, arith}
+use Rattle.std.proofs.Common.{◌≡◌, ℕ, Bool, true, false, List, [], ◌∷◌, ◌++◌, ap, ◌∙◌, arith, subst, sym}
 use Rattle.std.proofs.lemmas.Bool.{and_parts}
 use Rattle.kms_model.specs.declared.replies.Answered.{Answered}
 use Rattle.kms_model.specs.declared.replies.Step.{Step}
 use Rattle.kms_model.specs.declared.runs.Latch.{Latch}
 use Rattle.kms_model.specs.declared.scripts.Script.{Script}
+use Rattle.kms_model.specs.declared.stores.Framebuffer.{Framebuffer}
+use Rattle.kms_model.specs.declared.tables.Slot.{Slot}
 use Rattle.kms_model.specs.Machine.Effects.{next}
 use Rattle.kms_model.specs.Machine.Histories.{are_legal, at, is_history, legal, run_steps}
 use Rattle.kms_model.specs.Machine.Registers.{Registers}
@@ -23,17 +25,21 @@ use Rattle.kms_track.specs.InStep.{IsTrackerOf}
 use Rattle.kms_track.specs.Tracking.{Tracking}
 use Rattle.kms_stores.specs.Run.{Run, machine}
 use Rattle.kms_stores.specs.Stands.{AreRecords, Stores, StandsAt, Stands}
-use Rattle.kms_freeing.proofs.FreedHistories.{kind_freed, quiet_freed, quiet_needs}
-use Rattle.kms_freeing.proofs.FreedSteps.{SameNeeds}
+use Rattle.kms_freeing.specs.Stored.{AreStored}
+use Rattle.kms_freeing.proofs.FreedHistories.{kind_quiet, quiet_freed, quiet_needs}
+use Rattle.kms_freeing.proofs.FreedSteps.{IsQuiet, SameNeeds}
+use Rattle.kms_freeing.proofs.StoredSteps.{quiet_stored}
 
--- the stores stand where they stand for the machine after the step, and for what is freed then
+-- the stores stand where they stand for the machine after the step, for what is freed then, and for what is stored
 pub goes_freeing : (r : Run) (old new : Stores) (step : Step) (steps : List Step) → steps ≡ r.steps ++ step ∷ [] → Stands r old → legal r.script (machine r) step ≡ true → StandsAt r.script (next r.script (machine r) step) new
-    → AreFreed r.script (r.steps ++ step ∷ []) new.freed → Stands (record { script = r.script; steps = steps }) new
-goes_freeing r old new step steps is stands is_legal after freed = record {
+    → AreFreed r.script (r.steps ++ step ∷ []) new.freed → AreStored r.script.topology (next r.script (machine r) step) new.made.fbs
+    → Stands (record { script = r.script; steps = steps }) new
+goes_freeing r old new step steps is stands is_legal after freed stored = record {
   formed = stands.formed;
   history = rw is (legal-more r.script (first_machine r.script.topology) r.steps step stands.history is_legal);
   stores = rw (is, run-more r.script (first_machine r.script.topology) r.steps step) after;
   freed = rw is freed;
+  stored = rw (is, run-more r.script (first_machine r.script.topology) r.steps step) stored;
 }
 
 legal_then : (s : Script) (m : Machine) (h : List Step) (step : Step) → are_legal s m (h ++ step ∷ []) ≡ true → legal s (run_steps s m h) step ≡ true
@@ -46,21 +52,36 @@ pub legal_last : (s : Script) (h steps : List Step) (step : Step) → steps ≡ 
 legal_last s h steps step is all = legal_then s (first_machine s.topology) h step (rw is at all)
 
 -- the same of a step that frees nothing
-pub goes_on : (r : Run) (old new : Stores) (step : Step) → may_free step ≡ false → new.freed ≡ old.freed → (steps : List Step) → steps ≡ r.steps ++ step ∷ [] → Stands r old → legal r.script (machine r) step ≡ true
-    → StandsAt r.script (next r.script (machine r) step) new → Stands (record { script = r.script; steps = steps }) new
-goes_on r old new step quiet same steps is stands is_legal after =
+pub goes_quiet : (r : Run) (old new : Stores) (step : Step) → IsQuiet r.script.topology (machine r) (next r.script (machine r) step)
+    → new.freed ≡ old.freed → new.made.fbs ≡ old.made.fbs → (steps : List Step) → steps ≡ r.steps ++ step ∷ []
+    → Stands r old → legal r.script (machine r) step ≡ true → StandsAt r.script (next r.script (machine r) step) new
+    → Stands (record { script = r.script; steps = steps }) new
+goes_quiet r old new step quiet same same_fbs steps is stands is_legal after =
     goes_freeing r old new step steps is stands is_legal after
-    (kind_freed r.script r.steps step (plain-from r.script stands.formed) stands.history is_legal old.freed new.freed stands.freed (ap (λ (v : Reserved (ℕ × ℕ)). v.items) same)
+    (quiet_freed r.script r.steps step (plain-from r.script stands.formed) stands.history is_legal old.freed new.freed stands.freed
+    (ap (λ (v : Reserved (ℕ × ℕ)). v.items) same)
     (let places = ap (λ (v : Reserved (ℕ × ℕ)). v.places) same in omega (arith, places)) quiet)
+    (subst (AreStored r.script.topology (next r.script (machine r) step)) (sym same_fbs)
+    (quiet_stored r.script.topology (machine r) (next r.script (machine r) step) old.made.fbs quiet stands.stored))
+
+-- by its kind
+pub goes_on : (r : Run) (old new : Stores) (step : Step) → may_free step ≡ false → new.freed ≡ old.freed → new.made.fbs ≡ old.made.fbs
+    → (steps : List Step) → steps ≡ r.steps ++ step ∷ [] → Stands r old → legal r.script (machine r) step ≡ true
+    → StandsAt r.script (next r.script (machine r) step) new → Stands (record { script = r.script; steps = steps }) new
+goes_on r old new step quiet same same_fbs steps is stands is_legal after =
+    goes_quiet r old new step
+    (kind_quiet r.script r.steps step
+    (plain-from r.script stands.formed) stands.history is_legal quiet) same same_fbs steps is stands is_legal after
 
 -- and of one that changes nothing that tells what is needed
-pub goes_same : (r : Run) (old new : Stores) (step : Step) → SameNeeds (machine r) (next r.script (machine r) step) → new.freed ≡ old.freed → (steps : List Step) → steps ≡ r.steps ++ step ∷ [] → Stands r old → legal r.script (machine r) step ≡ true
+pub goes_same : (r : Run) (old new : Stores) (step : Step) → SameNeeds (machine r) (next r.script (machine r) step) → new.freed ≡ old.freed
+    → new.made.fbs ≡ old.made.fbs → (steps : List Step) → steps ≡ r.steps ++ step ∷ [] → Stands r old
+    → legal r.script (machine r) step ≡ true
     → StandsAt r.script (next r.script (machine r) step) new → Stands (record { script = r.script; steps = steps }) new
-goes_same r old new step needs same steps is stands is_legal after =
-    let plain = plain-from r.script stands.formed in
-    goes_freeing r old new step steps is stands is_legal after
-    (quiet_freed r.script r.steps step plain stands.history is_legal old.freed new.freed stands.freed (ap (λ (v : Reserved (ℕ × ℕ)). v.items) same)
-    (let places = ap (λ (v : Reserved (ℕ × ℕ)). v.places) same in omega (arith, places)) (quiet_needs r.script r.steps step plain stands.history is_legal needs))
+goes_same r old new step needs same same_fbs steps is stands is_legal after =
+    goes_quiet r old new step
+    (quiet_needs r.script r.steps step
+    (plain-from r.script stands.formed) stands.history is_legal needs) same same_fbs steps is stands is_legal after
 
 -- stores that stand do so where clients, answers, what was freed and the end are told anew, and latches have other memory
 pub told_anew : (s : Script) (m : Machine) (st : Stores) (contexts : Contexts) (replies : List Answered) (ended : Bool) (clients : Standing) (answers : Logged Answered) (shown : Logged Latch) (freed : Reserved (ℕ × ℕ)) (stalled : Bool)
@@ -85,6 +106,24 @@ told_anew s m st contexts replies ended clients answers shown freed stalled in_s
 pub with_freed : (s : Script) (m : Machine) (st : Stores) (freed : Reserved (ℕ × ℕ)) → StandsAt s m st → StandsAt s m (record st { freed = freed })
 with_freed s m st freed stands =
     told_anew s m st m.contexts m.records.replies m.stalled st.clients st.replies st.latches freed st.stalled stands.clients stands.recorded stands.ended stands
+
+-- and with any references
+pub with_fbs : (s : Script) (m : Machine) (st : Stores) (fbs : List (Slot Framebuffer)) → StandsAt s m st
+    → StandsAt s m (record st { made = record st.made { fbs = fbs } })
+with_fbs s m st fbs stands = record {
+  clients = stands.clients;
+  recorded = stands.recorded;
+  world = record { things = stands.world.things; next_id = stands.world.next_id; states = stands.world.states };
+  fences = stands.fences;
+  fenced = stands.fenced;
+  out_fenced = stands.out_fenced;
+  queues = stands.queues;
+  tracker = stands.tracker;
+  tails = stands.tails;
+  registers = stands.registers;
+  going = stands.going;
+  ended = stands.ended;
+}
 
 -- and where marks, shadow words and what follows these are told anew
 pub written_anew : (s : Script) (m : Machine) (shadow : Registers) (marks : Marks) (st : Stores) (tracker : Tracking) (v : Rooms Tail) (new : RegisterFile) → StandsForDevice s.topology (record m.device { shadow = shadow; marks = marks }) new

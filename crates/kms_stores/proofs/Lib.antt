@@ -17,5 +17,6 @@ pub mod CommitStates
 pub mod Seeking
 pub mod Ranges
 pub mod FreedIds
+pub mod StoredCalls
 pub mod FreedCalls
 pub mod FirstTails

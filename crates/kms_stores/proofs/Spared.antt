@@ -145,6 +145,7 @@ with_latches r st shown stands is = record {
   stores = told_anew r.script (machine r) st (machine r).contexts (machine r).records.replies (machine r).stalled st.clients st.replies shown st.freed st.stalled stands.stores.clients
       (record { accepted = stands.stores.recorded.accepted; answered = stands.stores.recorded.answered; latched = is ∙ stands.stores.recorded.latched }) stands.stores.ended stands.stores;
   freed = stands.freed;
+  stored = stands.stored;
 }
 
 -- all holds where nothing but memory for steps was taken

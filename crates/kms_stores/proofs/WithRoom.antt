@@ -16,6 +16,7 @@ pub stands_with_room : (r : Run) (st : Stores) (journal : Logged (ℕ × ℕ)) (
 stands_with_room r st journal replies made fences steps stands is same_journal same_replies same_made same_set freed same_freed_items same_places = record {
   formed = stands.formed;
   history = rw is stands.history;
+  stored = rw (is, same_made) stands.stored;
   freed = same_freed r.script r.steps steps st.freed freed is same_freed_items same_places stands.freed;
   stores = rw is (record {
     clients = stands.stores.clients;

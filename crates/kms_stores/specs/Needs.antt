@@ -1,21 +1,25 @@
 -- What tells which framebuffers are needed, as the stores of a core have it.
-use Rattle.std.specs.Prelude.{ℕ, ◌≡◌, ◌+◌, ◌≤◌, [], ◌∷◌, ◌++◌, List, length, Some, ⊤}
+use Rattle.std.specs.Prelude.{ℕ, ◌≡◌, ◌+◌, ◌≤◌, false, [], ◌∷◌, ◌++◌, List, length, Option, Some, None, ⊤}
 use Rattle.kms_model.specs.declared.objects.Topology.{Topology}
 use Rattle.kms_model.specs.declared.replies.Reply.{Reply}
 use Rattle.kms_model.specs.declared.replies.Reply.TheVariants as reply
 use Rattle.kms_model.specs.declared.scripts.Command.{Command}
 use Rattle.kms_model.specs.declared.scripts.Command.TheVariants as command
 use Rattle.kms_model.specs.declared.states.Duplicates.{Duplicates}
+use Rattle.kms_model.specs.declared.stores.Framebuffer.{Framebuffer}
 use Rattle.kms_model.specs.declared.worlds.Thing.{Thing}
 use Rattle.kms_model.specs.Device.Sound.{IsDevice}
 use Rattle.kms_model.specs.Device.World.{thing_labelled}
 use Rattle.kms_model.specs.Machine.State.{Machine}
+use Rattle.kms_model.specs.Stores.Kept.{MayTake, fbs_taken}
+use Rattle.kms_model.specs.Stores.Tables.{value_with_id}
 use Rattle.kms_regs.specs.File.{RegisterFile, StandsForDevice}
 use Rattle.kms_signal.specs.Rooms.{Rooms}
 use Rattle.kms_tails.specs.declared.tail.Tail.{Tail}
 use Rattle.kms_tails.specs.InStep.{AreTailsOf}
 use Rattle.kms_things.specs.Made.{Made}
 use Rattle.kms_freeing.specs.Freeing.{framebuffers_in, freed_among}
+use Rattle.kms_freeing.specs.Stored.{AreHeld, without_freed}
 use Rattle.kms_logs.specs.Logs.{Reserved}
 use Rattle.kms_stores.specs.Stands.{IsWorldOf}
 
@@ -27,30 +31,52 @@ pub record TellNeeds (t : Topology) (m : Machine) (made : Made) (present : Dupli
   pub written : StandsForDevice t m.device registers
   pub kept : AreTailsOf t m.device.commits m.device.marks m.records.latches tails
 
--- those of some framebuffers are recorded that these stores do not need
-pub record Frees (made : Made) (present : Duplicates) (registers : RegisterFile) (tails : Rooms Tail) (crtcs : ℕ) (ids : List ℕ) (old new : Reserved (ℕ × ℕ)) : Type 0 where
-  pub items : (t : Topology) (m : Machine) → TellNeeds t m made present registers tails crtcs → new.items ≡ old.items ++ freed_among t m ids
-  pub places : (t : Topology) (m : Machine) → TellNeeds t m made present registers tails crtcs → old.places ≡ new.places + length (freed_among t m ids)
+-- a framebuffer has one reference, which is not that of being open
+abbrev pub HasLast : Option Framebuffer → Type 0
+HasLast None = ⊥
+HasLast (Some fb) = (fb.is_open ≡ false) × (fb.references ≡ 1)
+
+-- those of some framebuffers are recorded that these stores do not need, and leave the store
+pub record Frees (before after : Made) (present : Duplicates) (registers : RegisterFile) (tails : Rooms Tail) (crtcs : ℕ) (ids : List ℕ)
+    (old new : Reserved (ℕ × ℕ)) : Type 0 where
+  pub items : (t : Topology) (m : Machine) → TellNeeds t m before present registers tails crtcs
+      → new.items ≡ old.items ++ freed_among t m ids
+  pub places : (t : Topology) (m : Machine) → TellNeeds t m before present registers tails crtcs
+      → old.places ≡ new.places + length (freed_among t m ids)
+  pub made : (t : Topology) (m : Machine) → TellNeeds t m before present registers tails crtcs
+      → after ≡ record before { fbs = without_freed (freed_among t m ids) before.fbs }
 
 -- nothing is recorded, and as many places are kept
-pub record KeepsPlaces (old new : Reserved (ℕ × ℕ)) : Type 0 where
+pub record KeepsPlaces (before after : Made) (old new : Reserved (ℕ × ℕ)) : Type 0 where
   pub items : new.items ≡ old.items
   pub places : new.places ≡ old.places
+  pub made : after ≡ before
 
--- a place more is kept
-pub record KeepsPlace (old new : Reserved (ℕ × ℕ)) : Type 0 where
+-- a place more is kept, and a reference of a framebuffer is taken
+pub record KeepsPlace (before after : Made) (id : ℕ) (old new : Reserved (ℕ × ℕ)) : Type 0 where
   pub items : new.items ≡ old.items
   pub places : new.places ≡ old.places + 1
+  pub made : after ≡ record before { fbs = fbs_taken before.fbs id }
 
--- A framebuffer that was added gets a place; one that was closed is freed where nothing needs it. Other commands free nothing.
-abbrev pub Accounts : Made → Duplicates → RegisterFile → Rooms Tail → ℕ → Command → Reply → Reserved (ℕ × ℕ) → Reserved (ℕ × ℕ) → Type 0
-Accounts made present registers tails crtcs (command.AddFb label buffer) (reply.Made id) old new = KeepsPlace old new
-Accounts made present registers tails crtcs (command.CloseFb label) reply.Done old new =
-    (u : Thing) → thing_labelled made.things label ≡ Some u → Frees made present registers tails crtcs (u.id ∷ []) old new
-Accounts made present registers tails crtcs _ _ old new = KeepsPlaces old new
+-- A framebuffer that was added gets a place, and the device takes a reference; one that was closed is freed where nothing needs it.
+-- Other commands free nothing.
+abbrev pub Accounts : Made → Made → Duplicates → RegisterFile → Rooms Tail → ℕ → Command → Reply → Reserved (ℕ × ℕ) → Reserved (ℕ × ℕ)
+    → Type 0
+Accounts before after present registers tails crtcs (command.AddFb label buffer) (reply.Made id) old new =
+    KeepsPlace before after id old new
+Accounts before after present registers tails crtcs (command.CloseFb label) reply.Done old new =
+    (u : Thing) → thing_labelled before.things label ≡ Some u → Frees before after present registers tails crtcs (u.id ∷ []) old new
+Accounts before after present registers tails crtcs _ _ old new = KeepsPlaces before after old new
 
 -- there is a place for the framebuffer that was closed
 abbrev pub HasPlaceFor : Made → Command → Reply → ℕ → Type 0
 HasPlaceFor made (command.CloseFb label) reply.Done places =
     (u : Thing) → thing_labelled made.things label ≡ Some u → framebuffers_in made.things (u.id ∷ []) ≤ places
 HasPlaceFor made _ _ places = ⊤
+
+-- the framebuffer that was added or closed is in the store, with room for a reference
+abbrev pub MayAccount : Made → Command → Reply → Type 0
+MayAccount made (command.AddFb label buffer) (reply.Made id) = MayTake (value_with_id made.fbs id)
+MayAccount made (command.CloseFb label) reply.Done = (u : Thing) → thing_labelled made.things label ≡ Some u → AreHeld made.things made.fbs
+    (u.id ∷ [])
+MayAccount made _ _ = ⊤

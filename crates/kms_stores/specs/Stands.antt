@@ -33,6 +33,7 @@ use Rattle.kms_things.specs.Present.{IsPresent}
 use Rattle.kms_track.specs.InStep.{IsTrackerOf}
 use Rattle.kms_track.specs.Tracking.{Tracking}
 use Rattle.kms_freeing.specs.Freeing.{AreFreed}
+use Rattle.kms_freeing.specs.Stored.{AreStored}
 use Rattle.kms_logs.specs.Logs.{Reserved}
 use Rattle.kms_logs.specs.Logs.{Logged}
 use Rattle.kms_stores.specs.Run.{Run, machine}
@@ -129,12 +130,13 @@ pub record StandsAt (s : Script) (m : Machine) (st : Stores) : Type 0 where
   pub ended : m.stalled ≡ st.stalled
 
 -- the script is well formed, the steps are a history of it, and the stores stand for the machine after them and
--- for what they freed
+-- for what they freed; what is needed is stored
 pub record Stands (r : Run) (st : Stores) : Type 0 where
   pub formed : IsWellFormed r.script
   pub history : is_history r.script r.steps ≡ true
   pub stores : StandsAt r.script (machine r) st
   pub freed : AreFreed r.script r.steps st.freed
+  pub stored : AreStored r.script.topology (machine r) st.made.fbs
 
 -- memory was taken for so many further steps and latches, as many as the tails of all commits have left
 pub record HasSpare (r : Run) (room shown : ℕ) : Type 0 where

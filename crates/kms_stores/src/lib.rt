@@ -8,7 +8,7 @@ mod machine;
 mod records;
 mod waiting;
 
-pub use freeing::{account, free, kept_ids};
+pub use freeing::{account, framebuffer, free, kept_ids};
 pub use hindering::{count_in, late_reply};
 pub use looking::{Decided, Stale, first_stale, lookups, taker};
 pub use machine::Stores;

@@ -1,5 +1,6 @@
 //! The things that were made, by label and by id, with the words of buffers.
-ghost use Rattle.std.specs.Prelude.{◌≡◌, ◌<◌, ℕ, List, [], ◌∷◌, ◌++◌, map, is_some, IfNone, IfOk, IfSome, IsTrue, None, OnErr, OnOk, Some, length, option_copied, ◌≤◌};
+ghost use Rattle.std.specs.Prelude.{◌≡◌, ◌<◌, ℕ, List, [], ◌∷◌, ◌++◌, map, IfNone, IfOk, IfSome, IsTrue, None, OnErr, OnOk, Some, length, option_copied, ◌≤◌};
+ghost use Rattle.std.specs.Option.{option_map};
 ghost use Rattle.kms_model.specs.declared.worlds.Content.TheVariants as content;
 ghost use Rattle.kms_model.specs.declared.worlds.World.{World};
 ghost use Rattle.kms_model.specs.Device.Closing.{closed_in};
@@ -262,11 +263,12 @@ impl Things {
         index::close(&mut self.made, id);
     }
 
-    /// Whether something refers to the framebuffer with an id: its being open, or a reference that was taken.
-    pub fn is_referred(&self, fb: u32) -> bool
-        ensures { result ≡ is_some (value_with_id self.now.fbs fb) }
+    /// What the framebuffer with an id is that something refers to: its being open, or a reference that was taken. None
+    /// exactly where nothing does.
+    pub fn stored(&self, fb: u32) -> Option<FbInfo>
+        ensures { result ≡ option_map (λ held. held.info) (value_with_id self.now.fbs fb) }
     {
-        self.fbs.has(fb)
+        self.fbs.info(fb)
     }
 
     /// Takes a reference more of the framebuffer with an id that something refers to and that has fewer than

@@ -37,6 +37,7 @@ use Rattle.kms_signal.proofs.StepLemmas as signals_follow
 use Rattle.kms_tails.specs.declared.tail.Tail.{Tail}
 use Rattle.kms_tails.specs.InStep.{StandsAfterLatch}
 use Rattle.kms_tails.proofs.StepLemmas as tails_follow
+use Rattle.kms_things.specs.Made.{Made}
 use Rattle.kms_track.specs.Tracking.{Tracking}
 use Rattle.kms_track.proofs.StepLemmas as tracker_follows
 use Rattle.kms_work.specs.Latching.{IsLatching, LatchIsTold, MayBlank, goes_at}
@@ -147,7 +148,8 @@ blanks_without r v st crtc shown new before steps stands same asked was more is 
     let none = S.going.go crtc (blanks_low r v st crtc stands same asked) ∙ off in
     let B = blank_without s m crtc none in
     let L = signals_follow.vblank_follows s m crtc none in
-    goes_same r st (record st { latches = shown; registers = new }) (step.Vblank Crtc crtc) B.needs refl steps (more ∙ ap (λ (xs : List Step). xs ++ step.Vblank Crtc crtc ∷ []) was) stands (blanks_legal r v crtc same asked)
+    goes_same r st (record st { latches = shown; registers = new }) (step.Vblank Crtc crtc) B.needs refl refl steps
+    (more ∙ ap (λ (xs : List Step). xs ++ step.Vblank Crtc crtc ∷ []) was) stands (blanks_legal r v crtc same asked)
     (stands_shown s m (next s m (step.Vblank Crtc crtc)) st shown st.fences st.queues st.tracker st.tails new st.goes
     (record {
       same = B.same;
@@ -237,9 +239,12 @@ pub record HasBlanked (st : Stores) (k crtc : ℕ) (count : ℕ) (picture : Pict
 
 pub blanks_with : (r v : Run) (st : Stores) (k crtc count : ℕ) (picture : Picture) (new : RegisterFile) (w : Rooms Tail) (tracker : Tracking) (fences : FenceSet) (queues : List Queue) (shown : Logged Latch) (steps : List Step)
     → Stands r st → r ≡ v → MayBlank v crtc → steps ≡ r.steps ++ step.Vblank Crtc crtc ∷ [] → HasBlanked st k crtc count picture new w tracker fences queues shown.items
-    → (ids : List ℕ) (freed : Reserved (ℕ × ℕ)) → AreAllOf ids (λ id. picture_names id (decoded_picture r.script.topology (machine r).device.live (object_id Crtc crtc))) → Frees st.made st.present new w r.script.topology.crtcs ids st.freed freed
-    → Stands (record { script = r.script; steps = steps }) (record st { latches = shown; fences = fences; queues = queues; tracker = tracker; tails = w; registers = new; goes = slice_set st.goes crtc None; freed = freed })
-blanks_with r v st k crtc count picture new w tracker fences queues shown steps stands same asked more has ids freed all frees =
+    → (ids : List ℕ) (freed : Reserved (ℕ × ℕ)) (made : Made)
+    → AreAllOf ids (λ id. picture_names id (decoded_picture r.script.topology (machine r).device.live (object_id Crtc crtc)))
+    → Frees st.made made st.present new w r.script.topology.crtcs ids st.freed freed
+    → Stands (record { script = r.script; steps = steps })
+    (record st { latches = shown; fences = fences; queues = queues; tracker = tracker; tails = w; registers = new; goes = slice_set st.goes crtc None; freed = freed; made = made })
+blanks_with r v st k crtc count picture new w tracker fences queues shown steps stands same asked more has ids freed made all frees =
     let s = r.script in
     let t = s.topology in
     let m = machine r in
@@ -256,8 +261,10 @@ blanks_with r v st k crtc count picture new w tracker fences queues shown steps 
     let picture_is : picture ≡ latched_picture t d c = picture_from (go_at d c) (latched_picture t d c) picture (has.tells t d S.registers) in
     let one : n.records.latches ≡ l ∷ m.records.latches =
     registers_follow.vblank_recorded s m k crtc B.go ∙ (λ i. record { crtc = sym index_is i; commit = k; count = sym count_is i; picture = sym picture_is i } ∷ m.records.latches) in
-    goes_latching r st (record st { latches = shown; fences = fences; queues = queues; tracker = tracker; tails = w; registers = new; goes = slice_set st.goes crtc None }) (step.Vblank Crtc crtc) c ids freed
-    (latches_by s m n c l (changes s m (step.Vblank Crtc crtc) (blanks_legal r v crtc same asked)) index_is B.is_crtc one) all frees steps more stands (blanks_legal r v crtc same asked)
+    goes_latching r st (record st { latches = shown; fences = fences; queues = queues; tracker = tracker; tails = w; registers = new; goes = slice_set st.goes crtc None }) (step.Vblank Crtc crtc) c ids freed made
+    (latches_by s m n c l
+    (changes s m (step.Vblank Crtc crtc) (blanks_legal r v crtc same asked)) index_is B.is_crtc one) all frees refl steps more stands
+    (blanks_legal r v crtc same asked)
     (latched_shown r n st (count_at d c + 1) d.marks st.tails w tracker fences queues shown l new (slice_set st.goes crtc None)
     (record {
       low = B.low;

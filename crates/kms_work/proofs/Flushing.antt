@@ -37,6 +37,7 @@ use Rattle.kms_tails.specs.declared.tail.Tail.{Tail}
 use Rattle.kms_tails.specs.InStep as tails
 use Rattle.kms_tails.specs.InStep.{StandsAfter, StandsAfterLatch}
 use Rattle.kms_tails.proofs.StepLemmas as tails_follow
+use Rattle.kms_things.specs.Made.{Made}
 use Rattle.kms_track.specs.Tracking.{Tracking}
 use Rattle.kms_track.proofs.StepLemmas as tracker_follows
 use Rattle.kms_work.specs.Latching.{IsLatching, LatchIsTold, MayFlush}
@@ -167,7 +168,9 @@ flushes_on r v st k crtc shown new u before steps stands same asked was more is 
     let on = sym shadow ∙ on_from (is_on_in m.device.shadow (object_id Crtc crtc)) _ (tells s.topology m.device S.registers) in
     let O = flush_on s m k crtc on in
     let L = signals_follow.flush_follows s m k crtc on in
-    goes_same r st (record st { latches = shown; tails = u; registers = new; goes = slice_set st.goes crtc (Some k) }) (step.Flush k Crtc crtc) O.needs refl steps (more ∙ ap (λ (xs : List Step). xs ++ step.Flush k Crtc crtc ∷ []) was) stands N.is_legal
+    goes_same r st (record st { latches = shown; tails = u; registers = new; goes = slice_set st.goes crtc (Some k) })
+    (step.Flush k Crtc crtc) O.needs refl refl steps
+    (more ∙ ap (λ (xs : List Step). xs ++ step.Flush k Crtc crtc ∷ []) was) stands N.is_legal
     (stands_shown s m (next s m (step.Flush k Crtc crtc)) st shown st.fences st.queues st.tracker u new (slice_set st.goes crtc (Some k))
     (record {
       same = flush_same s m k crtc;
@@ -219,9 +222,12 @@ pub record HasFlushedOff (st : Stores) (k crtc : ℕ) (count : ℕ) (picture : P
 
 pub flushes_off : (r v : Run) (st : Stores) (k crtc count : ℕ) (picture : Picture) (new : RegisterFile) (u w : Rooms Tail) (tracker : Tracking) (fences : FenceSet) (queues : List Queue) (shown : Logged Latch) (steps : List Step)
     → Stands r st → r ≡ v → MayFlush v k crtc → steps ≡ r.steps ++ step.Flush k Crtc crtc ∷ [] → HasFlushedOff st k crtc count picture new u w tracker fences queues shown.items
-    → (ids : List ℕ) (freed : Reserved (ℕ × ℕ)) → AreAllOf ids (λ id. picture_names id (decoded_picture r.script.topology (machine r).device.live (object_id Crtc crtc))) → Frees st.made st.present new w r.script.topology.crtcs ids st.freed freed
-    → Stands (record { script = r.script; steps = steps }) (record st { latches = shown; fences = fences; queues = queues; tracker = tracker; tails = w; registers = new; freed = freed })
-flushes_off r v st k crtc count picture new u w tracker fences queues shown steps stands same asked more has ids freed all frees =
+    → (ids : List ℕ) (freed : Reserved (ℕ × ℕ)) (made : Made)
+    → AreAllOf ids (λ id. picture_names id (decoded_picture r.script.topology (machine r).device.live (object_id Crtc crtc)))
+    → Frees st.made made st.present new w r.script.topology.crtcs ids st.freed freed
+    → Stands (record { script = r.script; steps = steps })
+    (record st { latches = shown; fences = fences; queues = queues; tracker = tracker; tails = w; registers = new; freed = freed; made = made })
+flushes_off r v st k crtc count picture new u w tracker fences queues shown steps stands same asked more has ids freed made all frees =
     let s = r.script in
     let t = s.topology in
     let m = machine r in
@@ -240,8 +246,10 @@ flushes_off r v st k crtc count picture new u w tracker fences queues shown step
     let picture_is : picture ≡ latched_picture t d c = has.latched t d S.registers in
     let one : n.records.latches ≡ l ∷ m.records.latches =
     registers_follow.flush_recorded s m k crtc off ∙ (λ i. record { crtc = sym index_is i; commit = k; count = sym count_is i; picture = sym picture_is i } ∷ m.records.latches) in
-    goes_latching r st (record st { latches = shown; fences = fences; queues = queues; tracker = tracker; tails = w; registers = new }) (step.Flush k Crtc crtc) c ids freed
-    (latches_by s m n c l (changes s m (step.Flush k Crtc crtc) N.is_legal) index_is N.flush.is_crtc one) all frees steps more stands N.is_legal
+    goes_latching r st (record st { latches = shown; fences = fences; queues = queues; tracker = tracker; tails = w; registers = new })
+    (step.Flush k Crtc crtc) c ids freed made
+    (latches_by s m n c l
+    (changes s m (step.Flush k Crtc crtc) N.is_legal) index_is N.flush.is_crtc one) all frees refl steps more stands N.is_legal
     (latched_shown r n st (count_at d c) (tails.with_flushed k c d.marks) u w tracker fences queues shown l new st.goes
     (record {
       low = N.low;

@@ -19,18 +19,20 @@ use Rattle.kms_tails.specs.declared.tail.Tail.{Tail}
 use Rattle.kms_tails.specs.InStep as tails
 use Rattle.kms_tails.specs.InStep.{AreTailsOf, IsKept, StandsAfter}
 use Rattle.kms_tails.proofs.StepLemmas as tails_follow
+use Rattle.kms_things.specs.Made.{Made}
 use Rattle.kms_track.specs.InStep.{IsTrackerOf}
 use Rattle.kms_track.specs.StepLaws.{HasNames}
 use Rattle.kms_track.specs.Tracking.{Tracking, changed_commit, with_claim, with_done}
 use Rattle.kms_track.proofs.CheckedLemmas.{device_within}
 use Rattle.kms_track.proofs.StepLemmas as tracker_follows
+use Rattle.kms_freeing.specs.Stored.{AreHeld}
 use Rattle.kms_freeing.specs.Freeing.{AreAllOf, framebuffers_in}
 use Rattle.kms_logs.specs.Logs.{Reserved}
 use Rattle.kms_stores.specs.Needs.{Frees}
 use Rattle.kms_stores.specs.Run.{Run, machine}
 use Rattle.kms_stores.specs.Stands.{Stores, Stands, StandsAt}
 use Rattle.kms_stores.specs.Work.{AreFewTails, MayBeDone, MayCleanUp, TellsOver, is_commit_over}
-use Rattle.kms_stores.proofs.FreedCalls.{goes_cleaning, kept_places}
+use Rattle.kms_stores.proofs.FreedCalls.{goes_cleaning, kept_held, kept_places}
 use Rattle.kms_stores.proofs.Histories.{goes_on, written_anew}
 use Rattle.kms_stores.proofs.Spared.{IsOwn, own_step}
 use Rattle.kms_laws.proofs.SmallNumbers.{numbers_fit}
@@ -45,7 +47,8 @@ pub claims : (r : Run) (st : Stores) (k : ℕ) (tracker : Tracking) (v : Rooms T
     → tracker ≡ changed_commit st.tracker k with_claim → StandsAfter k st.tails v (tails.with_claimed k) → Stands (record { script = r.script; steps = steps }) (record st { tracker = tracker; tails = v })
 unfolding next
 claims r st k tracker v before steps stands is was more tracked after =
-    goes_on r st (record st { tracker = tracker; tails = v }) (step.Claim k) refl refl steps (more ∙ ap (λ (xs : List Step). xs ++ step.Claim k ∷ []) was) stands is
+    goes_on r st (record st { tracker = tracker; tails = v }) (step.Claim k) refl refl refl steps
+    (more ∙ ap (λ (xs : List Step). xs ++ step.Claim k ∷ []) was) stands is
     (stands_marked r.script (machine r) (tails.with_claimed k (machine r).device.marks) st tracker v (rw tracked (tracker_follows.claim_follows r.script (machine r) k st.tracker is stands.stores.tracker))
     (tails_follow.claim_follows r.script (machine r) k st.tails v is stands.stores.tails after) stands.stores)
 
@@ -55,7 +58,8 @@ pub ends_writing : (r v : Run) (st : Stores) (k : ℕ) (tracker : Tracking) (w :
 unfolding next
 ends_writing r v st k tracker w before steps stands same asked was more tracked after =
     let is = subst (λ (x : Run). MayBeDone x k) (sym same) asked in
-    goes_on r st (record st { tracker = tracker; tails = w }) (step.HwDone k) refl refl steps (more ∙ ap (λ (xs : List Step). xs ++ step.HwDone k ∷ []) was) stands is
+    goes_on r st (record st { tracker = tracker; tails = w }) (step.HwDone k) refl refl refl steps
+    (more ∙ ap (λ (xs : List Step). xs ++ step.HwDone k ∷ []) was) stands is
     (stands_marked r.script (machine r) (tails.with_done k (machine r).device.marks) st tracker w (rw tracked (tracker_follows.hw_done_follows r.script (machine r) k st.tracker is stands.stores.tracker))
     (tails_follow.hw_done_follows r.script (machine r) k st.tails w is stands.stores.tails after) stands.stores)
 
@@ -87,13 +91,16 @@ pub record HasForgotten (k : ℕ) (old new : Tracking) : Type 0 where
 
 pub cleans_up : (r v : Run) (st : Stores) (k : ℕ) (tracker : Tracking) (w : Rooms Tail) (before steps : List Step) → Stands r st → r ≡ v → MayCleanUp v k → is_commit_over r k ≡ true → before ≡ r.steps → steps ≡ before ++ step.Cleanup k ∷ []
     → HasForgotten k st.tracker tracker → StandsAfter k st.tails w (tails.with_cleaned k)
-    → (ids : List ℕ) (freed : Reserved (ℕ × ℕ)) → AreAllOf ids (λ id. commit_keeps r.script.topology (machine r).device id k) → Frees st.made st.present st.registers w r.script.topology.crtcs ids st.freed freed
-    → Stands (record { script = r.script; steps = steps }) (record st { tracker = tracker; tails = w; freed = freed })
+    → (ids : List ℕ) (freed : Reserved (ℕ × ℕ)) (made : Made) → AreAllOf ids (λ id. commit_keeps r.script.topology (machine r).device id k)
+    → Frees st.made made st.present st.registers w r.script.topology.crtcs ids st.freed freed
+    → Stands (record { script = r.script; steps = steps }) (record st { tracker = tracker; tails = w; freed = freed; made = made })
 unfolding next
-cleans_up r v st k tracker w before steps stands same asked is_now was more forgot after ids freed all frees =
+cleans_up r v st k tracker w before steps stands same asked is_now was more forgot after ids freed made all frees =
     let may = subst (λ (x : Run). MayCleanUp x k) (sym same) asked in
     let is = cleanup_legal r k (subst (λ (x : Run). MayCleanUp x k) (sym same) asked) is_now in
-    goes_cleaning r st (record st { tracker = tracker; tails = w }) k ids freed (claimed_within r v st k stands same asked) may.kept all frees steps (more ∙ ap (λ (xs : List Step). xs ++ step.Cleanup k ∷ []) was) stands is
+    goes_cleaning r st (record st { tracker = tracker; tails = w }) k ids freed made
+    (claimed_within r v st k stands same asked) may.kept all frees refl steps
+    (more ∙ ap (λ (xs : List Step). xs ++ step.Cleanup k ∷ []) was) stands is
     (stands_marked r.script (machine r) (tails.with_cleaned k (machine r).device.marks) st tracker w
     (tracker_follows.cleanup_follows r.script (machine r) k st.tracker tracker is (has_names r st stands) (device_within r.script.topology stands.formed.device) stands.stores.tracker forgot.count forgot.lasts forgot.pending)
     (tails_follow.cleanup_follows r.script (machine r) k st.tails w is stands.stores.tails after) stands.stores)
@@ -125,6 +132,11 @@ tail_keeps_all r v st k x found ids stands same asked some all is =
 
 pub cleanup_places : (r v : Run) (st : Stores) (k : ℕ) (ids : List ℕ) → Stands r st → r ≡ v → MayCleanUp v k → AreAllOf ids (λ id. commit_keeps r.script.topology (machine r).device id k) → framebuffers_in st.made.things ids ≤ st.freed.places
 cleanup_places r v st k ids stands same asked all = kept_places r st k ids stands (claimed_within r v st k stands same asked) (subst (λ (x : Run). MayCleanUp x k) (sym same) asked).kept all
+
+pub cleanup_held : (r v : Run) (st : Stores) (k : ℕ) (ids : List ℕ) → Stands r st → r ≡ v → MayCleanUp v k
+    → AreAllOf ids (λ id. commit_keeps r.script.topology (machine r).device id k) → AreHeld st.made.things st.made.fbs ids
+cleanup_held r v st k ids stands same asked all =
+    kept_held r st k ids stands (claimed_within r v st k stands same asked) (subst (λ (x : Run). MayCleanUp x k) (sym same) asked).kept all
 
 -- the tails after it are few
 pub few_cleaned : (r v : Run) (st : Stores) (k : ℕ) (w : Rooms Tail) → Stands r st → r ≡ v → MayCleanUp v k → StandsAfter k st.tails w (tails.with_cleaned k) → AreFewTails w

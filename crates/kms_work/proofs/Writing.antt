@@ -297,7 +297,8 @@ writes_object r v st k id x new w before steps stands same asked finds was more 
     let kind = kind_of id.0 in
     let index = index_of id.0 in
     let object = object_id kind index in
-    goes_on r st (record st { registers = new; tails = w }) (write_step k id) refl refl steps (more ∙ ap (λ (xs : List Step). xs ++ write_step k id ∷ []) was) stands N.is_legal
+    goes_on r st (record st { registers = new; tails = w }) (write_step k id) refl refl refl steps
+    (more ∙ ap (λ (xs : List Step). xs ++ write_step k id ∷ []) was) stands N.is_legal
     (written_anew r.script (machine r) (written_registers t d k object) (tails.with_written k object d.marks) st st.tracker w new
     (registers_stand r st k x kind index new stands N.there N.write (tail_is r st k object x stands N.write finds) written)
     (tracker_follows.others_follow r.script (machine r) (write_step k id) st.tracker refl stands.stores.tracker)

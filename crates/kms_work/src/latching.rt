@@ -9,7 +9,8 @@ ghost use Rattle.kms_regs.specs.File.{StandsForDevice};
 ghost use Rattle.kms_signal.specs.Rooms.{Rooms};
 ghost use Rattle.kms_tails.specs.declared.tail.Tail.{Tail as CommitTail};
 ghost use Rattle.kms_tails.specs.InStep.{StandsAfterLatch};
-ghost use Rattle.kms_freeing.specs.Freeing.{framebuffers_in};
+ghost use Rattle.kms_freeing.specs.Freeing.{AreRising, framebuffers_in};
+ghost use Rattle.kms_freeing.specs.Stored.{AreHeld};
 ghost use Rattle.kms_work.specs.Latching.{IsLatching, LatchIsTold, MayBlank, MayFlush, event_told, goes_at, told_if};
 ghost use Rattle.kms_stores.specs.Needs.{Frees};
 ghost use Rattle.kms_stores.specs.Run.{gains, if_ok};
@@ -56,7 +57,7 @@ pub fn flush(stores: &mut Stores, commit: u32, crtc: u32)
         &mut stores.fences,
         &mut stores.queues,
         &mut stores.freed,
-        &stores.things,
+        &mut stores.things,
         &stores.present,
         &stores.registers,
         stores.script.topology.crtcs,
@@ -100,7 +101,7 @@ pub fn vblank(stores: &mut Stores, crtc: u32) -> Result<bool, NoMemory>
         &mut stores.fences,
         &mut stores.queues,
         &mut stores.freed,
-        &stores.things,
+        &mut stores.things,
         &stores.present,
         &stores.registers,
         stores.script.topology.crtcs,
@@ -131,15 +132,15 @@ fn latch_of(registers: &RegFile, crtc: u32, commit: u32, picture: Picture) -> La
     }
 }
 
-/// A commit latches at a CRTC. Of the framebuffers that the picture before named, given by their ids, those are freed that
-/// nothing needs any more. There is a place for each.
+/// A commit latches at a CRTC. Of the framebuffers that the picture before named, given by their ids in rising order, those
+/// are freed that nothing needs any more. There is a place for each, and the store has them.
 fn show(
     tails: &mut Tails,
     tracker: &mut Tracker,
     fences: &mut Fences,
     queues: &mut Vec<EventQueue>,
     freed: &mut Ledger<(u32, u32)>,
-    things: &Things,
+    things: &mut Things,
     present: &Duplicates,
     registers: &RegFile,
     crtcs: u32,
@@ -151,11 +152,13 @@ fn show(
     requires there { IsLatching tails.old queues.old.items shown.now }
     requires few { (left : Rooms CommitTail)
         → StandsAfterLatch shown.now.commit shown.now.crtc tails.old left → AreFewTails left }
-    requires places { framebuffers_in things.now.things ids_before.now ≤ freed.old.places }
+    requires places { framebuffers_in things.old.things ids_before.now ≤ freed.old.places }
+    requires rising { AreRising 0 ids_before.now }
+    requires held { AreHeld things.old.things things.old.fbs ids_before.now }
     ensures told { LatchIsTold tails.old tails.new tracker.old tracker.new fences.old fences.new
         queues.old.items queues.new.items shown.now }
-    ensures freed { Frees things.now present.now registers.now tails.new crtcs ids_before.now
-        freed.old freed.new }
+    ensures freed { Frees things.old things.new present.now registers.now tails.new crtcs
+        ids_before.now freed.old freed.new }
 {
     latch(tails, tracker, fences, queues, shown);
     free(freed, things, present, registers, tails, crtcs, ids_before);

@@ -86,7 +86,7 @@ pub fn cleanup(stores: &mut Stores, commit: u32) -> bool
     stores.tails.remove(commit);
     free(
         &mut stores.freed,
-        &stores.things,
+        &mut stores.things,
         &stores.present,
         &stores.registers,
         &stores.tails,

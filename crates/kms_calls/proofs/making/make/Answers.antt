@@ -4,7 +4,7 @@ use Rattle.kms_model.specs.declared.runs.Place.{Place}
 use Rattle.kms_model.specs.Machine.Steps.{is_making}
 use Rattle.kms_laws.proofs.Steps.{not_atomic}
 use Rattle.kms_stores.specs.Run.{machine}
-use Rattle.kms_calls.proofs.Executed.{has_ids, idle_maker, is_found, makes, never_absent, no_request, place_for, tells_reply}
+use Rattle.kms_calls.proofs.Executed.{has_ids, idle_maker, is_found, makes, never_absent, no_request, place_for, stored_for, tells_reply}
 use Rattle.kms_stores.proofs.WithRoom.{stands_with_room}
 use Rattle.kms_stores.proofs.Seeking.{few_tails}
 use Rattle.kms_stores.specs.Insides.{run_in, stores_of}
@@ -45,6 +45,13 @@ account-requires-clause-place c =
     (is_found (run_in c.stores.inside) (stores_of c.stores.inside) c.args.client c.place-number.result.command is_making c.in-Some.command.now c.stores.invariant.stands (idle_maker (run_in c.stores.inside) c.args.stores.now (stores_of c.stores.inside) c.args.client c.stores.invariant.stands c.stores.view_is c.requires) (ap (λ (p : Place). p.command) c.place-number.ensures) (ap option_copied (sym c.in-Some.is) ∙ c.command_of.ensures)).at
     (λ t w. c.in_ok-reply.ensures.executed t w))
 
+pub account-requires-clause-stored : goal.account-requires-clause-stored
+account-requires-clause-stored c =
+    stored_for (run_in c.stores.inside) c.args.stores.now
+    (stores_of c.stores.inside) c.args.client c.in-Some.command.now c.in_ok-reply.reply c.execute.new.self c.stores.invariant.stands c.stores.view_is c.requires
+    (is_found (run_in c.stores.inside) (stores_of c.stores.inside) c.args.client c.place-number.result.command is_making c.in-Some.command.now c.stores.invariant.stands (idle_maker (run_in c.stores.inside) c.args.stores.now (stores_of c.stores.inside) c.args.client c.stores.invariant.stands c.stores.view_is c.requires) (ap (λ (p : Place). p.command) c.place-number.ensures) (ap option_copied (sym c.in-Some.is) ∙ c.command_of.ensures)).at
+    (λ t w. c.in_ok-reply.ensures.executed t w) c.in_ok-reply.ensures.counted
+
 pub account-requires-clause-few : goal.account-requires-clause-few
 account-requires-clause-few c = few_tails (run_in c.stores.inside) (stores_of c.stores.inside) c.stores.invariant.stands
 
@@ -64,6 +71,6 @@ invariant_of-stores-2 c =
       replies_more = c.answer.ensures ∙ rw (c.in_ok-make_room.ensures.replies, c.in_ok-make_room.ensures.journal, c.place-number.ensures) refl;
       journal_more = c.join.ensures ∙ rw (c.in_ok-make_room.ensures.journal, c.place-number.ensures) refl;
     })
-    c.in_ok-make_room.ensures.steps c.push.ensures.items
-    c.make_room-3.new.self c.account.new.freed c.in_ok-make_room-3.ensures.items c.in_ok-make_room-3.ensures.places c.account.ensures in
+    c.in_ok-reply.ensures.counted c.in_ok-make_room.ensures.steps c.push.ensures.items
+    c.make_room-3.new.self c.account.new.freed c.account.new.things c.in_ok-make_room-3.ensures.items c.in_ok-make_room-3.ensures.places c.account.ensures in
     record { stands = stands; spare = other_spared _ _ _ _ _ _ _ _ _ _ c.stores.invariant.stands stands c.in_ok-make_room.ensures.steps c.push.ensures.items refl c.stores.invariant.spare c.in_ok-make_room.ensures.steps_room c.push.ensures.room }

@@ -104,6 +104,7 @@ invariant_of-stores-2 c =
       replies_more = c.reply_commit.ensures.replies ∙ rw (c.in_ok-make_commit_room.ensures.replies, c.in_ok-make_commit_room.ensures.journal, c.place-number.ensures) refl;
       journal_more = c.reply_commit.ensures.journal ∙ rw (c.in_ok-make_commit_room.ensures.journal, c.place-number.ensures) refl;
       made_as = λ w assigns crtcs is. c.in_ok-make_out_fences.ensures.made w assigns crtcs (rw (c.out_labels-labels.ensures, c.as_slice.ensures.value) is);
+      counted = c.in_ok-make_out_fences.ensures.counted;
       present_swapped = c.present_after-stores-inside.ensures;
       fences_more = c.in_ok-make_out_fences.ensures.fences ∙ rw (c.in_ok-make_commit_room.ensures.kept.fences, c.out_labels-labels.ensures, c.as_slice.ensures.value) refl;
       queues_stand =

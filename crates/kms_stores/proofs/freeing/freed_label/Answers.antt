@@ -1,4 +1,4 @@
-use Rattle.std.proofs.Common.{◌∙◌, sym, refl}
+use Rattle.std.proofs.Common.{◌∙◌, Some, ap, sym, refl}
 use Rattle.kms_stores.proofs.FreedIds.{entry_is, entry_some, entry_told}
 use Rattle.kms_stores.proofs.freeing.freed_label.Goals as goal
 
@@ -17,5 +17,6 @@ returns c = record {
   label = λ t m tell.
       sym (entry_told t m c.args.things.now.things c.args.id c.in_ok-label.label c.in_ok-label.is_open c.is_named.result tell.world.things (entry_some c.args.things.now.things c.args.id c.in_ok-label.label c.in_ok-label.is_open (sym c.in_ok-label.was ∙ c.framebuffer.ensures)) (c.is_named.ensures t m c.args.things.now tell)
       ∙ rw (c.if-is_open.false, c.if-is_named.false) refl);
+  closed = sym (sym c.in_ok-label.was ∙ c.framebuffer.ensures) ∙ ap (λ b. Some (c.in_ok-label.label, b)) c.if-is_open.false;
   there = entry_is c.args.things.now.things c.args.id c.in_ok-label.label c.in_ok-label.is_open (entry_some c.args.things.now.things c.args.id c.in_ok-label.label c.in_ok-label.is_open (sym c.in_ok-label.was ∙ c.framebuffer.ensures));
 }

@@ -3,7 +3,7 @@ use Rattle.kms_model.specs.declared.objects.Kind.TheVariants.{Crtc}
 use Rattle.kms_model.specs.declared.replies.Step.TheVariants.{Flush}
 use Rattle.kms_model.specs.Device.Objects.{object_id}
 use Rattle.kms_work.proofs.Flushing.{few_flushed, flush_latches, flushes_next, flushes_off, flushes_on, off_has_picture, tells_none}
-use Rattle.kms_stores.proofs.FreedCalls.{live_all, live_few, live_places}
+use Rattle.kms_stores.proofs.FreedCalls.{live_all, live_few, live_held, live_places}
 use Rattle.kms_stores.specs.Insides.{run_in, stores_of}
 use Rattle.kms_stores.proofs.Spared.{own_room, own_spared, own_step, tail_spared}
 use Rattle.kms_work.proofs.latching.flush.Goals as goal
@@ -78,6 +78,18 @@ show-requires-clause-places c =
     (flushes_next (run_in c.stores.inside) c.args.stores.now (stores_of c.stores.inside) c.args.commit c.args.crtc c.stores.invariant.stands c.stores.view_is c.requires).flush.is_crtc
     (live_all (run_in c.stores.inside) (stores_of c.stores.inside) (object_id Crtc c.args.crtc) c.as_slice.result.now c.shown_ids-ids_before.result.items c.as_slice-2.result.now c.stores.invariant.stands c.shown_ids-ids_before.ensures (λ t d stand. c.as_slice.ensures ∙ c.live_layers-before.ensures t d stand) c.as_slice-2.ensures.value)
 
+pub show-requires-clause-held : goal.show-requires-clause-held
+show-requires-clause-held c =
+    live_held (run_in c.stores.inside) (stores_of c.stores.inside)
+    (object_id Crtc c.args.crtc) c.as_slice-2.result.now c.stores.invariant.stands
+    (flushes_next (run_in c.stores.inside) c.args.stores.now (stores_of c.stores.inside) c.args.commit c.args.crtc c.stores.invariant.stands c.stores.view_is c.requires).flush.is_crtc
+    (live_all (run_in c.stores.inside) (stores_of c.stores.inside) (object_id Crtc c.args.crtc) c.as_slice.result.now c.shown_ids-ids_before.result.items c.as_slice-2.result.now c.stores.invariant.stands c.shown_ids-ids_before.ensures (λ t d stand. c.as_slice.ensures ∙ c.live_layers-before.ensures t d stand) c.as_slice-2.ensures.value)
+
+pub show-requires-clause-rising : goal.show-requires-clause-rising
+show-requires-clause-rising c =
+    (live_all (run_in c.stores.inside) (stores_of c.stores.inside)
+    (object_id Crtc c.args.crtc) c.as_slice.result.now c.shown_ids-ids_before.result.items c.as_slice-2.result.now c.stores.invariant.stands c.shown_ids-ids_before.ensures (λ t d stand. c.as_slice.ensures ∙ c.live_layers-before.ensures t d stand) c.as_slice-2.ensures.value).rising
+
 pub show-requires-clause-few : goal.show-requires-clause-few
 show-requires-clause-few c =
     rw c.latch_of-shown.ensures.shown
@@ -102,7 +114,7 @@ invariant_of-stores-2 c =
       told = rw shown at c.show.ensures.told;
       recorded = rw shown at c.push-2.ensures.items;
     })
-    c.as_slice-2.result.now c.show.new.freed
+    c.as_slice-2.result.now c.show.new.freed c.show.new.things
     (live_all r st (object_id Crtc c.args.crtc) c.as_slice.result.now c.shown_ids-ids_before.result.items c.as_slice-2.result.now c.stores.invariant.stands c.shown_ids-ids_before.ensures (λ t d stand. c.as_slice.ensures ∙ c.live_layers-before.ensures t d stand) c.as_slice-2.ensures.value)
     c.show.ensures.freed in
     record {

@@ -4,7 +4,7 @@ use Rattle.kms_model.specs.declared.objects.Kind.TheVariants.{Crtc}
 use Rattle.kms_model.specs.declared.replies.Step.TheVariants.{Vblank}
 use Rattle.kms_model.specs.Device.Objects.{object_id}
 use Rattle.kms_work.proofs.Blanking.{blank_latches, blanks_crtc, blanks_for, blanks_legal, blanks_low, blanks_with, blanks_without, count_fits, few_blanked, goes_is, has_picture}
-use Rattle.kms_stores.proofs.FreedCalls.{live_all, live_few, live_places}
+use Rattle.kms_stores.proofs.FreedCalls.{live_all, live_few, live_held, live_places}
 use Rattle.kms_stores.specs.Insides.{run_in, stores_of}
 use Rattle.kms_stores.proofs.Spared.{other_spared, tail_room, tail_spared}
 use Rattle.kms_work.proofs.latching.vblank.Goals as goal
@@ -88,6 +88,20 @@ show-requires-clause-places c =
     (blanks_crtc r c.args.stores.now st c.in-Some.commit c.args.crtc c.stores.invariant.stands c.stores.view_is c.requires c.in-Some.is)
     (live_all r st (object_id Crtc c.args.crtc) c.as_slice.result.now c.shown_ids-ids_before.result.items c.as_slice-2.result.now c.stores.invariant.stands c.shown_ids-ids_before.ensures (λ t d stand. c.as_slice.ensures ∙ c.live_layers-before.ensures t d stand) c.as_slice-2.ensures.value)
 
+pub show-requires-clause-held : goal.show-requires-clause-held
+show-requires-clause-held c =
+    let r = run_in c.stores.inside in
+    let st = stores_of c.stores.inside in
+    live_held r st (object_id Crtc c.args.crtc) c.as_slice-2.result.now c.stores.invariant.stands
+    (blanks_crtc r c.args.stores.now st c.in-Some.commit c.args.crtc c.stores.invariant.stands c.stores.view_is c.requires c.in-Some.is)
+    (live_all r st (object_id Crtc c.args.crtc) c.as_slice.result.now c.shown_ids-ids_before.result.items c.as_slice-2.result.now c.stores.invariant.stands c.shown_ids-ids_before.ensures (λ t d stand. c.as_slice.ensures ∙ c.live_layers-before.ensures t d stand) c.as_slice-2.ensures.value)
+
+pub show-requires-clause-rising : goal.show-requires-clause-rising
+show-requires-clause-rising c =
+    let r = run_in c.stores.inside in
+    let st = stores_of c.stores.inside in
+    (live_all r st (object_id Crtc c.args.crtc) c.as_slice.result.now c.shown_ids-ids_before.result.items c.as_slice-2.result.now c.stores.invariant.stands c.shown_ids-ids_before.ensures (λ t d stand. c.as_slice.ensures ∙ c.live_layers-before.ensures t d stand) c.as_slice-2.ensures.value).rising
+
 pub show-requires-clause-few : goal.show-requires-clause-few
 show-requires-clause-few c =
     rw c.latch_of-shown.ensures.shown
@@ -111,7 +125,7 @@ invariant_of-stores-2 c =
       told = rw shown at c.show.ensures.told;
       recorded = rw shown at c.push-3.ensures.items;
     })
-    c.as_slice-2.result.now c.show.new.freed
+    c.as_slice-2.result.now c.show.new.freed c.show.new.things
     (live_all r st (object_id Crtc c.args.crtc) c.as_slice.result.now c.shown_ids-ids_before.result.items c.as_slice-2.result.now c.stores.invariant.stands c.shown_ids-ids_before.ensures (λ t d stand. c.as_slice.ensures ∙ c.live_layers-before.ensures t d stand) c.as_slice-2.ensures.value)
     c.show.ensures.freed in
     record {

@@ -2,13 +2,25 @@ use Rattle.std.proofs.Common.{◌∙◌, ap, refl, sym}
 use Rattle.std.specs.Option.{option_copied}
 use Rattle.kms_model.specs.declared.replies.Step.TheVariants.{Cleanup}
 use Rattle.kms_stores.specs.Insides.{run_in, stores_of}
-use Rattle.kms_work.proofs.Marking.{cleans_up, cleanup_places, few_cleaned, owns_cleanup, tail_keeps_all}
+use Rattle.kms_work.proofs.Marking.{cleans_up, cleanup_held, cleanup_places, few_cleaned, owns_cleanup, tail_keeps_all}
 use Rattle.kms_stores.proofs.Spared.{own_room, own_spared}
 use Rattle.kms_work.proofs.workers.cleanup.Goals as goal
 
 pub free-requires-clause-places : goal.free-requires-clause-places
 free-requires-clause-places c =
     cleanup_places (run_in c.stores.inside) c.args.stores.now (stores_of c.stores.inside) c.args.commit c.as_slice.result.now c.stores.invariant.stands c.stores.view_is c.requires
+    (tail_keeps_all (run_in c.stores.inside) c.args.stores.now (stores_of c.stores.inside) c.args.commit c.in-Some.tail.now c.kept_ids-kept_ids.result.items c.as_slice.result.now c.stores.invariant.stands c.stores.view_is c.requires
+    (ap option_copied (sym c.in-Some.is) ∙ c.get.ensures.value) c.kept_ids-kept_ids.ensures c.as_slice.ensures.value)
+
+pub free-requires-clause-rising : goal.free-requires-clause-rising
+free-requires-clause-rising c =
+    (tail_keeps_all (run_in c.stores.inside) c.args.stores.now (stores_of c.stores.inside) c.args.commit c.in-Some.tail.now c.kept_ids-kept_ids.result.items c.as_slice.result.now c.stores.invariant.stands c.stores.view_is c.requires
+    (ap option_copied (sym c.in-Some.is) ∙ c.get.ensures.value) c.kept_ids-kept_ids.ensures c.as_slice.ensures.value).rising
+
+pub free-requires-clause-held : goal.free-requires-clause-held
+free-requires-clause-held c =
+    cleanup_held (run_in c.stores.inside) c.args.stores.now
+    (stores_of c.stores.inside) c.args.commit c.as_slice.result.now c.stores.invariant.stands c.stores.view_is c.requires
     (tail_keeps_all (run_in c.stores.inside) c.args.stores.now (stores_of c.stores.inside) c.args.commit c.in-Some.tail.now c.kept_ids-kept_ids.result.items c.as_slice.result.now c.stores.invariant.stands c.stores.view_is c.requires
     (ap option_copied (sym c.in-Some.is) ∙ c.get.ensures.value) c.kept_ids-kept_ids.ensures c.as_slice.ensures.value)
 
@@ -32,7 +44,7 @@ invariant_of-stores c =
     let stands =
     cleans_up r c.args.stores.now st k c.cleanup.new.self c.remove.new.self r.steps c.push.new.self.items c.stores.invariant.stands c.stores.view_is c.requires owns.over
     refl c.push.ensures.items (record { count = c.cleanup.ensures.count; lasts = c.cleanup.ensures.lasts; pending = c.cleanup.ensures.pending }) c.remove.ensures.stands
-    c.as_slice.result.now c.free.new.freed
+    c.as_slice.result.now c.free.new.freed c.free.new.things
     (tail_keeps_all r c.args.stores.now st k c.in-Some.tail.now c.kept_ids-kept_ids.result.items c.as_slice.result.now c.stores.invariant.stands c.stores.view_is c.requires
     (ap option_copied (sym c.in-Some.is) ∙ c.get.ensures.value) c.kept_ids-kept_ids.ensures c.as_slice.ensures.value)
     c.free.ensures in
