@@ -1,6 +1,0 @@
-pub mod Answering
-pub mod Swaps
-pub mod OutFences
-pub mod OutLabels
-pub mod Commits
-pub mod Swapped

@@ -1,5 +1,0 @@
-pub mod Marking
-pub mod Writing
-pub mod Latched
-pub mod Flushing
-pub mod Blanking
