@@ -1,5 +1,5 @@
 //! Tests of the crates below the machine, by their public calls: sources and sinks, rectangles, blended channels, the device's
-//! tables, blobs, buffers with their framebuffers, and lists that are written at their ends.
+//! tables, blobs, and buffers with their framebuffers.
 #![tactic(auto)]
 
 #[cfg(test)]
@@ -8,8 +8,6 @@ mod blending;
 mod blobs;
 #[cfg(test)]
 mod buffers;
-#[cfg(test)]
-mod lists;
 #[cfg(test)]
 mod rectangles;
 #[cfg(test)]

@@ -31,19 +31,19 @@ use Rattle.kms_laws.proofs.Stalled.{legal-going}
 use Rattle.kms_laws.proofs.Steps.{flush-found, value-is}
 use Rattle.kms_wwlock.specs.declared.table.Lock.TheVariants as table
 use Rattle.kms_wwlock.specs.declared.table.Relock.TheVariants as again
-use Rattle.kms_stores.specs.Calls.{MayRead, MayReturn, is_over_at, read_reply_at, read_reply, read_step, unless_ended}
-use Rattle.kms_calls.specs.Locks.{MayBackOff, MayLock, MayRelock, is_step, lock_steps, locked_answer, object_or_zero, present_state, relock_steps, relocked_answer, relocked_as}
-use Rattle.kms_calls.specs.declared.contexts.Locked.{Locked}
-use Rattle.kms_next.specs.Next.{IsLegal}
-use Rattle.kms_stores.specs.Run.{Run, machine}
-use Rattle.kms_stores.specs.Stands.{Stores, Stands}
-use Rattle.kms_stores.specs.Work.{MayCleanUp, MayWrite, is_commit_over, write_step}
-use Rattle.kms_next.proofs.ClientSteps.{answered_is, must_not}
-use Rattle.kms_calls.proofs.Locking.{steps_of_lock}
-use Rattle.kms_next.proofs.Outside.{outside}
-use Rattle.kms_stores.proofs.Places.{not_ended}
-use Rattle.kms_next.proofs.TailSteps.{crtc_kind}
-use Rattle.kms_next.proofs.Taken.{lockable_exists}
+use Rattle.kms_core.specs.Calls.{MayRead, MayReturn, is_over_at, read_reply_at, read_reply, read_step, unless_ended}
+use Rattle.kms_core.specs.Locks.{MayBackOff, MayLock, MayRelock, is_step, lock_steps, locked_answer, object_or_zero, present_state, relock_steps, relocked_answer, relocked_as}
+use Rattle.kms_core.specs.declared.calls.contexts.Locked.{Locked}
+use Rattle.kms_core.specs.Next.{IsLegal}
+use Rattle.kms_core.specs.Run.{Run, machine}
+use Rattle.kms_core.specs.Stands.{Stores, Stands}
+use Rattle.kms_core.specs.Work.{MayCleanUp, MayWrite, is_commit_over, write_step}
+use Rattle.kms_core.proofs.next.ClientSteps.{answered_is, must_not}
+use Rattle.kms_core.proofs.calls.Locking.{steps_of_lock}
+use Rattle.kms_core.proofs.next.Outside.{outside}
+use Rattle.kms_core.proofs.Places.{not_ended}
+use Rattle.kms_core.proofs.next.TailSteps.{crtc_kind}
+use Rattle.kms_core.proofs.next.Taken.{lockable_exists}
 
 -- Objects of the device
 

@@ -38,11 +38,11 @@ use Rattle.kms_track.proofs.CheckedLemmas.{device_within, in_touched}
 use Rattle.kms_track.proofs.MachineAnswers.{busy_machine}
 use Rattle.kms_track.proofs.NotYetAnswers.{awaited_told, not_yet_machine}
 use Rattle.kms_track.specs.Places.{mask_has}
-use Rattle.kms_stores.specs.Decisions.{Decides, world}
-use Rattle.kms_stores.specs.Run.{Run, machine}
-use Rattle.kms_stores.specs.Stands.{Stores, Stands, queue_of}
-use Rattle.kms_stores.specs.Swaps.{IsReadyToCommit, busy_as, count_in, late_reply, late_told, refused_or, swap_answer, swap_answer_of, waits_or_commits}
-use Rattle.kms_stores.proofs.Places.{client_there}
+use Rattle.kms_core.specs.Decisions.{Decides, world}
+use Rattle.kms_core.specs.Run.{Run, machine}
+use Rattle.kms_core.specs.Stands.{Stores, Stands, queue_of}
+use Rattle.kms_core.specs.Swaps.{IsReadyToCommit, busy_as, count_in, late_reply, late_told, refused_or, swap_answer, swap_answer_of, waits_or_commits}
+use Rattle.kms_core.proofs.Places.{client_there}
 
 -- a client's queue
 pub record OwnQueue (r : Run) (st : Stores) (client : ℕ) : Type 0 where

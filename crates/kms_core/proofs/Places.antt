@@ -18,8 +18,8 @@ use Rattle.kms_clients.specs.InStep.{AreClientsOf, HasNoContext}
 use Rattle.kms_laws.proofs.Steps.{idle-none, idle-some}
 use Rattle.kms_laws.proofs.SmallNumbers.{numbers_fit}
 use Rattle.kms_laws.proofs.Sizes.{command-there}
-use Rattle.kms_stores.specs.Run.{Run, machine}
-use Rattle.kms_stores.specs.Stands.{Stores, Stands}
+use Rattle.kms_core.specs.Run.{Run, machine}
+use Rattle.kms_core.specs.Stands.{Stores, Stands}
 
 pub idle_is : (d : Doing) → is_idle d ≡ true → d ≡ doing.Idle
 idle_is doing.Idle e = refl

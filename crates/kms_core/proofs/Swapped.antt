@@ -15,17 +15,17 @@ use Rattle.kms_model.specs.Machine.State.{Machine, request_at}
 use Rattle.kms_model.specs.Request.Lookups.{look_up}
 use Rattle.kms_clients.specs.Standing.{doing_in}
 use Rattle.kms_track.specs.InStep.{awaited_answer}
-use Rattle.kms_stores.specs.declared.looking.Decided.{Decided}
-use Rattle.kms_stores.specs.declared.looking.Decided.TheVariants as answer
-use Rattle.kms_stores.specs.Decisions.{IsDecided, IsFirstStale, steps_of, taker, taker_in, world}
-use Rattle.kms_stores.specs.Run.{Run, gains, machine}
+use Rattle.kms_core.specs.declared.stores.looking.Decided.{Decided}
+use Rattle.kms_core.specs.declared.stores.looking.Decided.TheVariants as answer
+use Rattle.kms_core.specs.Decisions.{IsDecided, IsFirstStale, steps_of, taker, taker_in, world}
+use Rattle.kms_core.specs.Run.{Run, gains, machine}
 use Rattle.kms_model.specs.Script.WellFormed.{IsWellFormed}
-use Rattle.kms_stores.specs.Stands.{Stores, Stands}
-use Rattle.kms_stores.specs.Swaps.{IsReadyToCommit, MayCommit, MaySwap, MaySwapUnless, hindered_steps, late_reply, or_answer, refused_or, swap_answer, swap_answer_of, waits_or_commits}
-use Rattle.kms_stores.proofs.Accepted.{accepted_now}
-use Rattle.kms_stores.proofs.Fresh.{fresh_now, named_among, tells_now}
-use Rattle.kms_stores.proofs.Takers.{taker_as}
-use Rattle.kms_stores.proofs.Verdicts.{of_request}
+use Rattle.kms_core.specs.Stands.{Stores, Stands}
+use Rattle.kms_core.specs.Swaps.{IsReadyToCommit, MayCommit, MaySwap, MaySwapUnless, hindered_steps, late_reply, or_answer, refused_or, swap_answer, swap_answer_of, waits_or_commits}
+use Rattle.kms_core.proofs.stores.Accepted.{accepted_now}
+use Rattle.kms_core.proofs.stores.Fresh.{fresh_now, named_among, tells_now}
+use Rattle.kms_core.proofs.Takers.{taker_as}
+use Rattle.kms_core.proofs.Verdicts.{of_request}
 
 -- What is asked for
 

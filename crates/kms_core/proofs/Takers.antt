@@ -11,9 +11,9 @@ use Rattle.kms_clients.specs.Standing.{Standing, IsClient, doing_in, place_of}
 use Rattle.kms_laws.proofs.Steps.{value-is}
 use Rattle.kms_track.specs.Places.{first_below}
 use Rattle.kms_track.proofs.PlaceLemmas.{first_same}
-use Rattle.kms_stores.specs.Decisions.{number_or_0, taker, taker_at, taker_in}
-use Rattle.kms_stores.specs.Run.{Run, machine}
-use Rattle.kms_stores.specs.Stands.{Stores, Stands}
+use Rattle.kms_core.specs.Decisions.{number_or_0, taker, taker_at, taker_in}
+use Rattle.kms_core.specs.Run.{Run, machine}
+use Rattle.kms_core.specs.Stands.{Stores, Stands}
 
 -- it is the same in the store of clients
 pub same_taker : (m : Machine) (clients : Standing) (t : ℕ) → AreClientsOf m.contexts clients → taker_in (doing_in clients.places) t ≡ taker m t

@@ -28,13 +28,13 @@ use Rattle.kms_model.proofs.Facts.{implied_from}
 use Rattle.kms_laws.proofs.ClientProgress.{taking-from}
 use Rattle.kms_laws.proofs.Modes.{plain-from}
 use Rattle.kms_laws.proofs.Steps.{history_kept}
-use Rattle.kms_stores.specs.Decisions.{Decides, IsDeciding, IsFirstStale, IsGiven, IsRefusedEarly, IsRefusedLate, MayRefuse, taker, world}
-use Rattle.kms_stores.specs.Run.{Run, machine}
-use Rattle.kms_stores.specs.Stands.{Stores, Stands}
+use Rattle.kms_core.specs.Decisions.{Decides, IsDeciding, IsFirstStale, IsGiven, IsRefusedEarly, IsRefusedLate, MayRefuse, taker, world}
+use Rattle.kms_core.specs.Run.{Run, machine}
+use Rattle.kms_core.specs.Stands.{Stores, Stands}
 use Rattle.kms_clients.specs.Standing.{doing_in}
-use Rattle.kms_stores.specs.Decisions.{taker_in}
-use Rattle.kms_stores.proofs.Fresh.{tells_now}
-use Rattle.kms_stores.proofs.Takers.{IsTaker, taker_as, takes}
+use Rattle.kms_core.specs.Decisions.{taker_in}
+use Rattle.kms_core.proofs.stores.Fresh.{tells_now}
+use Rattle.kms_core.proofs.Takers.{IsTaker, taker_as, takes}
 
 -- what a check was given is of the request in the present world
 pub of_request : (r : Run) (used : List (ℕ × Look)) (request : Request) (resolved : Resolved) (duplicates : Duplicates) → IsWellFormed r.script → is_history r.script r.steps ≡ true

@@ -34,10 +34,10 @@ use Rattle.kms_model.specs.Request.Touched.{touches}
 use Rattle.kms_model.specs.Request.Verdict.{late_in}
 use Rattle.kms_clients.specs.Standing.{IsClient}
 use Rattle.kms_track.specs.Places.{first_below, mask_has, object_at_place}
-use Rattle.kms_stores.specs.declared.looking.Decided.{Decided}
-use Rattle.kms_stores.specs.declared.looking.Decided.TheVariants as answer
-use Rattle.kms_stores.specs.Run.{Run, machine}
-use Rattle.kms_stores.specs.declared.looking.Stale.{Stale}
+use Rattle.kms_core.specs.declared.stores.looking.Decided.{Decided}
+use Rattle.kms_core.specs.declared.stores.looking.Decided.TheVariants as answer
+use Rattle.kms_core.specs.Run.{Run, machine}
+use Rattle.kms_core.specs.declared.stores.looking.Stale.{Stale}
 
 -- The client of a ticket
 

@@ -1,7 +1,7 @@
 -- What the fields of the stores are seen as: a script with a history, and the stores that stand for its machine.
-use Rattle.kms_stores.specs.declared.machine.Stores.TheInside.{Inside}
-use Rattle.kms_stores.specs.Run.{Run}
-use Rattle.kms_stores.specs.Stands.{StandsWithSpare, Stores}
+use Rattle.kms_core.specs.declared.stores.Stores.TheInside.{Inside}
+use Rattle.kms_core.specs.Run.{Run}
+use Rattle.kms_core.specs.Stands.{StandsWithSpare, Stores}
 
 abbrev pub run_in : Inside → Run
 run_in c = record { script = c.script; steps = c.steps.items }

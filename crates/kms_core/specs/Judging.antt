@@ -8,9 +8,9 @@ use Rattle.kms_model.specs.Machine.State.{Machine, doing_at, request_at}
 use Rattle.kms_model.specs.Machine.Steps.{holds_touched, is_ready, is_taking}
 use Rattle.kms_model.specs.Request.Verdict.{early_in, late_in}
 use Rattle.kms_request.specs.Answers.{refusal_number}
-use Rattle.kms_next.specs.declared.judgement.Judged.{Judged}
-use Rattle.kms_stores.specs.Calls.{only_if}
-use Rattle.kms_stores.specs.Swaps.{late_reply}
+use Rattle.kms_core.specs.declared.next.judgement.Judged.{Judged}
+use Rattle.kms_core.specs.Calls.{only_if}
+use Rattle.kms_core.specs.Swaps.{late_reply}
 
 -- the request for which a client takes locks
 abbrev pub request_taken : Script → Machine → ℕ → Option Request

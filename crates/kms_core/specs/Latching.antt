@@ -16,8 +16,8 @@ use Rattle.kms_signal.specs.StepLaws.{with_signal}
 use Rattle.kms_tails.specs.declared.tail.Tail.{Tail}
 use Rattle.kms_tails.specs.InStep.{StandsAfterLatch}
 use Rattle.kms_track.specs.Tracking.{Tracking, changed_commit, with_latch}
-use Rattle.kms_stores.specs.Run.{Run, machine}
-use Rattle.kms_stores.specs.Stands.{queue_of}
+use Rattle.kms_core.specs.Run.{Run, machine}
+use Rattle.kms_core.specs.Stands.{queue_of}
 
 -- a commit flushes the CRTC with an index next, and the history was not ended
 abbrev pub MayFlush : Run → ℕ → ℕ → Type 0

@@ -20,10 +20,10 @@ use Rattle.kms_wwlock.specs.declared.table.Lock.{Lock as TableLock}
 use Rattle.kms_wwlock.specs.declared.table.Lock.TheVariants as table
 use Rattle.kms_wwlock.specs.declared.table.Relock.{Relock as TableRelock}
 use Rattle.kms_wwlock.specs.declared.table.Relock.TheVariants as again
-use Rattle.kms_calls.specs.declared.contexts.Locked.{Locked}
-use Rattle.kms_calls.specs.declared.contexts.Locked.TheVariants as locked
-use Rattle.kms_calls.specs.States.{state_of_kind}
-use Rattle.kms_stores.specs.Run.{Run, machine}
+use Rattle.kms_core.specs.declared.calls.contexts.Locked.{Locked}
+use Rattle.kms_core.specs.declared.calls.contexts.Locked.TheVariants as locked
+use Rattle.kms_core.specs.States.{state_of_kind}
+use Rattle.kms_core.specs.Run.{Run, machine}
 
 -- the client is idle at an atomic request, and the history was not ended
 abbrev pub MayBegin : Run → ℕ → Type 0

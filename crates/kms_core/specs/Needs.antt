@@ -18,10 +18,10 @@ use Rattle.kms_signal.specs.Rooms.{Rooms}
 use Rattle.kms_tails.specs.declared.tail.Tail.{Tail}
 use Rattle.kms_tails.specs.InStep.{AreTailsOf}
 use Rattle.kms_things.specs.Made.{Made}
-use Rattle.kms_freeing.specs.Freeing.{framebuffers_in, freed_among}
-use Rattle.kms_freeing.specs.Stored.{AreHeld, without_freed}
-use Rattle.kms_logs.specs.Logs.{Reserved}
-use Rattle.kms_stores.specs.Stands.{IsWorldOf}
+use Rattle.kms_core.specs.Freeing.{framebuffers_in, freed_among}
+use Rattle.kms_core.specs.Stored.{AreHeld, without_freed}
+use Rattle.kms_core.specs.Logs.{Reserved}
+use Rattle.kms_core.specs.Stands.{IsWorldOf}
 
 -- these stores stand for their parts of a machine, whose device has so many CRTCs
 pub record TellNeeds (t : Topology) (m : Machine) (made : Made) (present : Duplicates) (registers : RegisterFile) (tails : Rooms Tail) (crtcs : ℕ) : Type 0 where

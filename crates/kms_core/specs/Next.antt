@@ -14,7 +14,7 @@ use Rattle.kms_model.specs.Machine.State.{Machine, has_value}
 use Rattle.kms_model.specs.Machine.Steps.{may}
 use Rattle.kms_tails.specs.declared.tail.Tail.{Tail}
 use Rattle.kms_tails.specs.Remaining.{next_flush_of, next_latch_of, next_write_of}
-use Rattle.kms_stores.specs.Run.{Run, machine}
+use Rattle.kms_core.specs.Run.{Run, machine}
 
 -- no client of the script has a number
 abbrev pub IsOutside : Script → ℕ → Type 0

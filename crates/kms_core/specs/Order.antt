@@ -16,12 +16,12 @@ use Rattle.kms_model.specs.Request.Groups.{affected_group, named_group}
 use Rattle.kms_model.specs.Request.Resolves.{IsSettable}
 use Rattle.kms_model.specs.Request.Touched.{touched_by}
 use Rattle.kms_model.specs.Request.Verdict.{early_in}
-use Rattle.kms_next.specs.declared.groups.Group.{Group}
-use Rattle.kms_next.specs.declared.groups.Group.TheVariants as group
-use Rattle.kms_next.specs.declared.groups.Needs.{Needs}
-use Rattle.kms_stores.specs.Decisions.{world}
-use Rattle.kms_next.specs.Judging.{request_taken}
-use Rattle.kms_stores.specs.Run.{Run, machine}
+use Rattle.kms_core.specs.declared.next.groups.Group.{Group}
+use Rattle.kms_core.specs.declared.next.groups.Group.TheVariants as group
+use Rattle.kms_core.specs.declared.next.groups.Needs.{Needs}
+use Rattle.kms_core.specs.Decisions.{world}
+use Rattle.kms_core.specs.Judging.{request_taken}
+use Rattle.kms_core.specs.Run.{Run, machine}
 
 -- an object is in a group
 abbrev pub in_group : Topology → World → Request → Group → ℕ → Bool

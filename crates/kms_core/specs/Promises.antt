@@ -25,7 +25,7 @@ use Rattle.kms_model.specs.Request.Resolves.{IsResolved}
 use Rattle.kms_model.specs.Request.Sets.{obj_id}
 use Rattle.kms_model.specs.Request.Verdict.{verdict}
 use Rattle.kms_laws.specs.Laws.{AsksWithinReach, StaysFree, TellsFence, can_move}
-use Rattle.kms_stores.specs.Run.{Run, machine}
+use Rattle.kms_core.specs.Run.{Run, machine}
 
 -- the live picture of a CRTC is the last that it latched
 abbrev pub ShowsTheLast : Run → Type 0

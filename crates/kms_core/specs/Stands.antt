@@ -32,11 +32,11 @@ use Rattle.kms_things.specs.Made.{Made}
 use Rattle.kms_things.specs.Present.{IsPresent}
 use Rattle.kms_track.specs.InStep.{IsTrackerOf}
 use Rattle.kms_track.specs.Tracking.{Tracking}
-use Rattle.kms_freeing.specs.Freeing.{AreFreed}
-use Rattle.kms_freeing.specs.Stored.{AreStored}
-use Rattle.kms_logs.specs.Logs.{Reserved}
-use Rattle.kms_logs.specs.Logs.{Logged}
-use Rattle.kms_stores.specs.Run.{Run, machine}
+use Rattle.kms_core.specs.Freeing.{AreFreed}
+use Rattle.kms_core.specs.Stored.{AreStored}
+use Rattle.kms_core.specs.Logs.{Reserved}
+use Rattle.kms_core.specs.Logs.{Logged}
+use Rattle.kms_core.specs.Run.{Run, machine}
 
 -- the stores of a core
 pub record Stores : Type 0 where

@@ -12,7 +12,7 @@ use Rattle.kms_model.specs.Device.World.{thing_labelled}
 use Rattle.kms_model.specs.Machine.Commits.{id_of_thing}
 use Rattle.kms_model.specs.Request.Flags.{wants_event}
 use Rattle.kms_model.specs.Stores.Tables.{slot}
-use Rattle.kms_stores.specs.Swaps.{count_in}
+use Rattle.kms_core.specs.Swaps.{count_in}
 
 -- the state of an object of the device: the new one where it was checked, else as it was
 abbrev pub swapped_in : {S : Type 0} → Option (Both S) → Option (Both S) → Option (Both S)

@@ -28,10 +28,10 @@ use Rattle.kms_signal.specs.Queues.{Queue, space_used}
 use Rattle.kms_track.specs.InStep.{awaited_answer}
 use Rattle.kms_track.specs.StepLaws.{HasStates}
 use Rattle.kms_track.specs.Tracking.{Tracking, busy_of}
-use Rattle.kms_stores.specs.declared.looking.Decided.{Decided}
-use Rattle.kms_stores.specs.declared.looking.Decided.TheVariants as answer
-use Rattle.kms_stores.specs.Decisions.{IsAccepted, IsDeciding, steps_of, world}
-use Rattle.kms_stores.specs.Run.{Run, machine}
+use Rattle.kms_core.specs.declared.stores.looking.Decided.{Decided}
+use Rattle.kms_core.specs.declared.stores.looking.Decided.TheVariants as answer
+use Rattle.kms_core.specs.Decisions.{IsAccepted, IsDeciding, steps_of, world}
+use Rattle.kms_core.specs.Run.{Run, machine}
 
 -- What a swap asks for
 

@@ -23,7 +23,7 @@ use Rattle.kms_signal.specs.Rooms.{Rooms}
 use Rattle.kms_tails.specs.declared.tail.Tail.{Tail}
 use Rattle.kms_tails.specs.InStep.{AreTailsOf}
 use Rattle.kms_tails.specs.Remaining.{connector_of}
-use Rattle.kms_stores.specs.Run.{Run, machine}
+use Rattle.kms_core.specs.Run.{Run, machine}
 
 -- the history was not ended
 abbrev pub IsGoing : Run → Type 0

@@ -2,15 +2,15 @@
 ghost use Rattle.std.specs.Prelude.{ℕ, ◌≡◌, ◌∷◌, [], IsOk, Some, true};
 ghost use Rattle.kms_laws.specs.TailsLeft.{commit_of_step};
 ghost use Rattle.kms_model.specs.declared.replies.Step.TheVariants as step;
-ghost use Rattle.kms_next.specs.Next.{IsLegal, is_of_worker};
-ghost use Rattle.kms_stores.specs.Run.{gains, if_ok, machine};
+ghost use Rattle.kms_core.specs.Next.{IsLegal, is_of_worker};
+ghost use Rattle.kms_core.specs.Run.{gains, if_ok, machine};
 
-use kms_calls::{backoff, begin, lock, make, read, relock, return_from, signal};
-use kms_decide::{commit, decide};
+use crate::calls::{backoff, begin, lock, make, read, relock, return_from, signal};
+use crate::deciding::{commit, decide};
+use crate::next::{checked, doing, refusal_reply, request_taken, resolved, stall};
+use crate::stores::Stores;
+use crate::tails::{claim_commit, cleanup, flush, hw_done, vblank, write};
 use kms_model::{Doing, Kind, NoMemory, ObjId, Reply, Step};
-use kms_next::{checked, doing, refusal_reply, request_taken, resolved, stall};
-use kms_stores::Stores;
-use kms_work::{claim_commit, cleanup, flush, hw_done, vblank, write};
 use std::alloc::Global;
 
 /// Does a step that is legal next, as `legal` tells. A request is decided by the plain check of the whole device. Want of

@@ -1,27 +1,35 @@
 //! The calls of clients and of workers, and steps that are done: each is a call on the stores.
 ghost use Rattle.std.specs.Prelude.{ℕ, ◌≡◌, IfOk, OnErr, [], ◌∷◌, ◌<◌, Some, IsOk, true};
 ghost use Rattle.kms_model.specs.declared.replies.Step.TheVariants as step;
-ghost use Rattle.kms_stores.specs.Run.{machine, gains, if_ok};
-ghost use Rattle.kms_calls.specs.Locks.{MayBegin, MayLock, IsTaking, locked_answer, lock_steps, HasContext, MayBackOff, MayRelock, relocked_answer, relock_steps};
-ghost use Rattle.kms_stores.specs.Calls.{MayMake, MaySignal, reply_at, MayRead, MayReturn, is_over_at, read_reply_at, read_step, return_step};
+ghost use Rattle.kms_core.specs.Run.{machine, gains, if_ok};
+ghost use Rattle.kms_core.specs.Locks.{MayBegin, MayLock, IsTaking, locked_answer, lock_steps, HasContext, MayBackOff, MayRelock, relocked_answer, relock_steps};
+ghost use Rattle.kms_core.specs.Calls.{MayMake, MaySignal, reply_at, MayRead, MayReturn, is_over_at, read_reply_at, read_step, return_step};
 ghost use Rattle.kms_model.specs.Request.Lookups.{lookups, look_up};
-ghost use Rattle.kms_stores.specs.declared.looking.Decided.TheVariants as decided;
-ghost use Rattle.kms_stores.specs.Decisions.{world, IsDecided, MayRefuse, MayTest, steps_of, taker};
+ghost use Rattle.kms_core.specs.declared.stores.looking.Decided.TheVariants as decided;
+ghost use Rattle.kms_core.specs.Decisions.{world, IsDecided, MayRefuse, MayTest, steps_of, taker};
 ghost use Rattle.kms_model.specs.declared.replies.Reply.TheVariants as reply;
 ghost use Rattle.kms_laws.specs.TailsLeft.{commit_of_step};
-ghost use Rattle.kms_stores.specs.Swaps.{MaySwap, swap_answer};
-ghost use Rattle.kms_stores.specs.Work.{MayBeDone, MayCleanUp, MayWrite, claim_steps, cleanup_steps, first_claim, is_commit_over, write_step};
+ghost use Rattle.kms_core.specs.Swaps.{MaySwap, swap_answer};
+ghost use Rattle.kms_core.specs.Work.{MayBeDone, MayCleanUp, MayWrite, claim_steps, cleanup_steps, first_claim, is_commit_over, write_step};
 ghost use Rattle.kms_model.specs.declared.objects.Kind.TheVariants.{Crtc};
-ghost use Rattle.kms_work.specs.Latching.{MayBlank, MayFlush, goes_at};
-ghost use Rattle.kms_next.specs.Next.{IsLegal};
+ghost use Rattle.kms_core.specs.Latching.{MayBlank, MayFlush, goes_at};
+ghost use Rattle.kms_core.specs.Next.{IsLegal};
+
+mod contexts;
+mod making;
+mod reading;
+mod states;
 
 use crate::applying;
 use crate::machine::Core;
-use kms_calls::Locked;
+use crate::stores::Decided;
+pub use contexts::{Locked, backoff, begin, lock, relock};
 use kms_model::{
     Checked, Lookups, NoMemory, ObjId, Refusal, Reply, Request, Resolved, Step, Ticket,
 };
-use kms_stores::Decided;
+pub use making::{make, signal};
+pub use reading::{read, return_from};
+pub use states::{has_lock, held_state};
 use std::alloc::Global;
 
 impl Core {
@@ -32,10 +40,10 @@ impl Core {
         ensures ticket { IfOk result (λ t. t.0 ≡ (machine self.old).contexts.tickets) }
         ensures history { self.new ≡ gains self.old (if_ok result (λ t. step.Begin client ∷ [])) }
     {
-        kms_calls::begin(&mut self.stores, alloc, client)
+        contexts::begin(&mut self.stores, alloc, client)
     }
 
-    /// Asks for an object in the context of a ticket, which takes locks, as `kms_calls::lock` tells. Want of memory leaves
+    /// Asks for an object in the context of a ticket, which takes locks, as `calls::lock` tells. Want of memory leaves
     /// all as it was.
     pub fn lock(&mut self, t: Ticket, id: ObjId) -> Result<Locked, NoMemory>
         requires { MayLock self.old t id }
@@ -45,7 +53,7 @@ impl Core {
             → self.new ≡ gains self.old (if_ok result (lock_steps client id)) }
         ensures unchanged { OnErr result (self.new ≡ self.old) }
     {
-        kms_calls::lock(&mut self.stores, t, id)
+        contexts::lock(&mut self.stores, t, id)
     }
 
     /// Drops all locks of the context of a ticket, which must back off. Want of memory leaves all as it was.
@@ -55,7 +63,7 @@ impl Core {
             → self.new ≡ gains self.old (if_ok result (λ u. step.BackOff client ∷ [])) }
         ensures unchanged { OnErr result (self.new ≡ self.old) }
     {
-        kms_calls::backoff(&mut self.stores, t)
+        contexts::backoff(&mut self.stores, t)
     }
 
     /// Asks again for the object that the context of a ticket backed off for: `Got` with its present state, or `Held`, which
@@ -68,7 +76,7 @@ impl Core {
             → self.new ≡ gains self.old (if_ok result (relock_steps client)) }
         ensures unchanged { OnErr result (self.new ≡ self.old) }
     {
-        kms_calls::relock(&mut self.stores, t)
+        contexts::relock(&mut self.stores, t)
     }
 
     /// Executes the command of a client, by its number from 1, that is idle at one which makes or closes a thing, and gives
@@ -79,7 +87,7 @@ impl Core {
         ensures history { self.new
             ≡ gains self.old (if_ok result (λ reply. step.Make client ∷ [])) }
     {
-        kms_calls::make(&mut self.stores, alloc, client)
+        making::make(&mut self.stores, alloc, client)
     }
 
     /// Signals the fence of a client, by its number from 1, that is idle at a `signal`, and gives the reply: a refusal,
@@ -90,7 +98,7 @@ impl Core {
         ensures history { self.new
             ≡ gains self.old (if_ok result (λ reply. step.Signal client ∷ [])) }
     {
-        kms_calls::signal(&mut self.stores, client)
+        making::signal(&mut self.stores, client)
     }
 
     /// Reads the oldest unread event for a client, by its number from 1, that is idle at a `wait`, or answers that none will
@@ -100,7 +108,7 @@ impl Core {
         ensures reply { IfOk result (λ reply. reply ≡ read_reply_at self.old client) }
         ensures history { self.new ≡ gains self.old (if_ok result (read_step client)) }
     {
-        kms_calls::read(&mut self.stores, client)
+        reading::read(&mut self.stores, client)
     }
 
     /// Lets a client, by its number from 1, that waits for its commit go on, where the commit is cleaned and the history was
@@ -110,7 +118,7 @@ impl Core {
         ensures answer { IfOk result (λ over. over ≡ is_over_at self.old client) }
         ensures history { self.new ≡ gains self.old (if_ok result (return_step client)) }
     {
-        kms_calls::return_from(&mut self.stores, client)
+        reading::return_from(&mut self.stores, client)
     }
 
     /// For each label that a request names, what it names now. The only error is want of memory.
@@ -118,10 +126,10 @@ impl Core {
         ensures { IfOk result (λ found.
             found ≡ lookups (world self.now) request.now) }
     {
-        kms_stores::lookups(&self.stores, alloc, request)
+        crate::stores::lookups(&self.stores, alloc, request)
     }
 
-    /// Refuses the request of the client whose context has a ticket and takes locks, as `kms_decide::refuse` tells. Want of
+    /// Refuses the request of the client whose context has a ticket and takes locks, as `deciding::refuse` tells. Want of
     /// memory leaves all as it was.
     pub fn refuse(&mut self, t: Ticket, used: &Lookups, why: Refusal) -> Result<Decided, NoMemory>
         requires { MayRefuse self.old t.0 used.now why }
@@ -131,11 +139,11 @@ impl Core {
             (steps_of (taker (machine self.old) t.0)
             (step.Refuse (taker (machine self.old) t.0)))) }
     {
-        kms_decide::refuse(&mut self.stores, t, used, why)
+        crate::deciding::refuse(&mut self.stores, t, used, why)
     }
 
     /// Tells that the request of the client whose context has a ticket and takes locks would be accepted, as
-    /// `kms_decide::test` tells. Want of memory leaves all as it was.
+    /// `deciding::test` tells. Want of memory leaves all as it was.
     pub fn test(
         &mut self,
         t: Ticket,
@@ -149,10 +157,10 @@ impl Core {
             (steps_of (taker (machine self.old) t.0)
             (step.Test (taker (machine self.old) t.0)))) }
     {
-        kms_decide::test(&mut self.stores, t, used, checked)
+        crate::deciding::test(&mut self.stores, t, used, checked)
     }
 
-    /// Commits the request of the client whose context has a ticket and takes locks, or refuses it, as `kms_decide::swap`
+    /// Commits the request of the client whose context has a ticket and takes locks, or refuses it, as `deciding::swap`
     /// tells. Want of memory leaves all as it was.
     pub fn swap(
         &mut self,
@@ -169,7 +177,7 @@ impl Core {
             (steps_of (taker (machine self.old) t.0)
             (step.Swap (taker (machine self.old) t.0)))) }
     {
-        kms_decide::swap(&mut self.stores, alloc, t, used, checked, resolved)
+        crate::deciding::swap(&mut self.stores, alloc, t, used, checked, resolved)
     }
 
     /// Claims the least commit whose tail may begin, and gives its number, counted from 0. None exactly where there is
@@ -178,7 +186,7 @@ impl Core {
         ensures answer { result ≡ first_claim self.old }
         ensures history { self.new ≡ gains self.old (claim_steps result) }
     {
-        kms_work::claim(&mut self.stores)
+        crate::tails::claim(&mut self.stores)
     }
 
     /// Writes the registers of the CRTC or the plane that a commit, by its number from 0, writes next.
@@ -186,7 +194,7 @@ impl Core {
         requires { MayWrite self.old commit id }
         ensures history { self.new ≡ gains self.old (write_step commit id ∷ []) }
     {
-        kms_work::write(&mut self.stores, commit, id);
+        crate::tails::write(&mut self.stores, commit, id);
     }
 
     /// Flushes the CRTC with an index, from 0 to 3, for the commit, by its number from 0, that flushes it next; where it
@@ -195,7 +203,7 @@ impl Core {
         requires { MayFlush self.old commit crtc }
         ensures history { self.new ≡ gains self.old (step.Flush commit Crtc crtc ∷ []) }
     {
-        kms_work::flush(&mut self.stores, commit, crtc);
+        crate::tails::flush(&mut self.stores, commit, crtc);
     }
 
     /// Tells that all registers of a commit, by its number from 0, are written and flushed.
@@ -203,7 +211,7 @@ impl Core {
         requires { MayBeDone self.old commit }
         ensures history { self.new ≡ gains self.old (step.HwDone commit ∷ []) }
     {
-        kms_work::hw_done(&mut self.stores, commit);
+        crate::tails::hw_done(&mut self.stores, commit);
     }
 
     /// The CRTC with an index, from 0 to 3, has a vertical blanking. True exactly where a commit latches, which takes no
@@ -215,7 +223,7 @@ impl Core {
             (if_ok result (λ went. step.Vblank Crtc crtc ∷ [])) }
         ensures no_memory { goes_at self.old crtc ≡ true → IsOk result }
     {
-        kms_work::vblank(&mut self.stores, crtc)
+        crate::tails::vblank(&mut self.stores, crtc)
     }
 
     /// Cleans up a commit, by its number from 0; false, and nothing changes, exactly where it is not over.
@@ -224,7 +232,7 @@ impl Core {
         ensures answer { result ≡ is_commit_over self.old commit }
         ensures history { self.new ≡ gains self.old (cleanup_steps commit result) }
     {
-        kms_work::cleanup(&mut self.stores, commit)
+        crate::tails::cleanup(&mut self.stores, commit)
     }
 
     /// Does a step that is legal next, as `legal` tells. A request is decided by the plain check of the whole device. Want of

@@ -1,15 +1,21 @@
-//! Decisions on requests.
+//! Requests that are refused, tested and committed.
 ghost use Rattle.std.specs.Prelude.{◌≡◌, ◌<◌, [], ◌∷◌, IfOk, None};
 ghost use Rattle.kms_model.specs.Request.Lookups.{look_up};
 ghost use Rattle.kms_model.specs.declared.replies.Reply.TheVariants as reply;
 ghost use Rattle.kms_model.specs.declared.replies.Step.TheVariants as step;
-ghost use Rattle.kms_stores.specs.declared.looking.Decided.TheVariants as decided;
-ghost use Rattle.kms_stores.specs.Decisions.{Decides, IsDecided, IsFirstStale, MayRefuse, MayTest};
-ghost use Rattle.kms_stores.specs.Decisions.{steps_of, taker, world};
-ghost use Rattle.kms_stores.specs.Run.{gains, if_ok, machine};
+ghost use Rattle.kms_core.specs.declared.stores.looking.Decided.TheVariants as decided;
+ghost use Rattle.kms_core.specs.Decisions.{Decides, IsDecided, IsFirstStale, MayRefuse, MayTest};
+ghost use Rattle.kms_core.specs.Decisions.{steps_of, taker, world};
+ghost use Rattle.kms_core.specs.Run.{gains, if_ok, machine};
 
+mod committing;
+mod present;
+mod swapping;
+
+use crate::stores::{Decided, Stores, first_stale, make_step_room, taker};
+pub use committing::commit;
 use kms_model::{Answered, Checked, Lookups, NoMemory, Refusal, Reply, Step, Ticket};
-use kms_stores::{Decided, Stores, first_stale, make_step_room, taker};
+pub use swapping::swap;
 
 /// Refuses the request of the client whose context has a ticket and takes locks. `used` tells what the request's labels
 /// named. `why` is the first early refusal with that; or the first late refusal, as a check of present

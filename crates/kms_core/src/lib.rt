@@ -3,13 +3,21 @@
 
 mod applying;
 mod calls;
+mod deciding;
+mod freeing;
+mod lists;
 mod machine;
+mod next;
 mod orders;
 mod promises;
 mod queries;
 mod spare;
+mod stores;
+mod tails;
 
-pub use kms_calls::Locked;
-pub use kms_stores::Decided;
+pub use calls::{Locked, has_lock};
+pub use freeing::{any_names, both_name, put_both, shown_ids};
+pub use lists::{Ledger, Log};
 pub use machine::Core;
 pub use spare::Spare;
+pub use stores::Decided;

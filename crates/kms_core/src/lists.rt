@@ -1,5 +1,4 @@
 //! Lists that are written at their ends alone, into memory that was taken beforehand: the records of a machine.
-#![tactic(auto)]
 
 mod ledgers;
 mod logs;

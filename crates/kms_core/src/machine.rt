@@ -2,8 +2,8 @@
 ghost use Rattle.std.specs.Prelude.{◌≡◌, [], IfOk};
 ghost use Rattle.kms_model.specs.Script.WellFormed.{IsWellFormed};
 
+use crate::stores::Stores;
 use kms_model::{NoMemory, Script};
-use kms_stores::Stores;
 use std::alloc::Global;
 use std::boxed::Box;
 use std::marker::Model;
@@ -16,7 +16,7 @@ pub struct Core {
 }
 
 impl Model for Core {
-    ghost use Rattle.kms_stores.specs.Run.{Run};
+    ghost use Rattle.kms_core.specs.Run.{Run};
 
     ghost Value = { Run };
 

@@ -1,5 +1,4 @@
 //! What may be done next in a history, and what one thread does next.
-#![tactic(auto)]
 
 mod client_steps;
 mod groups;

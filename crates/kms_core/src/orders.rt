@@ -1,10 +1,10 @@
 //! What may be done next, and what one thread does next. None of these calls takes memory but the end of a dead history.
 ghost use Rattle.std.specs.Prelude.{◌≡◌, ◌≤◌, length, [], ◌∷◌, ◌<◌};
 ghost use Rattle.kms_model.specs.Machine.Histories.{is_at_end, is_dead, is_drained, is_enabled, legal, stalled_on};
-ghost use Rattle.kms_stores.specs.Run.{machine, gains, if_ok};
+ghost use Rattle.kms_core.specs.Run.{machine, gains, if_ok};
 ghost use Rattle.kms_model.specs.Order.Turns.{client_step, tail_step};
 ghost use Rattle.kms_model.specs.declared.replies.Step.TheVariants as step;
-ghost use Rattle.kms_next.specs.Next.{IsLegal};
+ghost use Rattle.kms_core.specs.Next.{IsLegal};
 
 use crate::machine::Core;
 use kms_model::{NoMemory, Step};
@@ -14,7 +14,7 @@ impl Core {
     pub fn legal(&self, step: &Step) -> bool
         ensures { result ≡ legal self.now.script (machine self.now) step.now }
     {
-        kms_next::legal(&self.stores, step)
+        crate::next::legal(&self.stores, step)
     }
 
     /// Whether a step is legal next, other than the end of a dead history and a vertical blanking of a CRTC that does not
@@ -22,14 +22,14 @@ impl Core {
     pub fn enabled(&self) -> bool
         ensures { result ≡ is_enabled self.now.script (machine self.now) }
     {
-        kms_next::enabled(&self.stores)
+        crate::next::enabled(&self.stores)
     }
 
     /// Whether every client is at its end, with no command left, and every commit is cleaned.
     pub fn drained(&self) -> bool
         ensures { result ≡ is_drained self.now.script (machine self.now) }
     {
-        kms_next::drained(&self.stores)
+        crate::next::drained(&self.stores)
     }
 
     /// Whether the history is dead: not drained, and no step is legal but vertical blankings of CRTCs that do not go; also
@@ -37,7 +37,7 @@ impl Core {
     pub fn is_dead(&self) -> bool
         ensures { result ≡ is_dead self.now.script (machine self.now) }
     {
-        kms_next::is_dead(&self.stores)
+        crate::next::is_dead(&self.stores)
     }
 
     /// Whether a client, given by its number from 1 to that of the clients, is at its end: idle, with no command left.
@@ -46,17 +46,17 @@ impl Core {
         requires high { client ≤ length self.now.script.clients }
         ensures { result ≡ is_at_end self.now.script (machine self.now) client }
     {
-        kms_next::is_at_end(&self.stores, client)
+        crate::next::is_at_end(&self.stores, client)
     }
 
     /// The next step of a client, given by its number from 1 to that of the clients, in the order of one thread, as
-    /// `kms_next::client_step` tells. None where it can do none, and where the history was ended.
+    /// `next::client_step` tells. None where it can do none, and where the history was ended.
     pub fn client_step(&self, client: u32) -> Option<Step>
         requires low { 1 ≤ client }
         requires high { client ≤ length self.now.script.clients }
         ensures { result ≡ client_step self.now.script (machine self.now) client }
     {
-        kms_next::client_step(&self.stores, client)
+        crate::next::client_step(&self.stores, client)
     }
 
     /// The next step of a tail in the order of one thread: the first that is legal of the least commit that has one, or else
@@ -64,7 +64,7 @@ impl Core {
     pub fn tail_step(&self) -> Option<Step>
         ensures { result ≡ tail_step self.now.script (machine self.now) }
     {
-        kms_next::tail_step(&self.stores)
+        crate::next::tail_step(&self.stores)
     }
 
     /// Ends a history that is dead: no step is legal any more. Want of memory leaves all as it was.
@@ -72,7 +72,7 @@ impl Core {
         requires { IsLegal self.old step.Stall }
         ensures history { self.new ≡ gains self.old (if_ok result (λ u. step.Stall ∷ [])) }
     {
-        kms_next::stall(&mut self.stores)
+        crate::next::stall(&mut self.stores)
     }
 
     /// The label, by its number from 0, of the fence that a dead history waits for. None where there is none, and where
@@ -80,6 +80,6 @@ impl Core {
     pub fn stalled_on(&self) -> Option<u32>
         ensures { result ≡ stalled_on self.now.script (machine self.now) }
     {
-        kms_next::stalled_on(&self.stores)
+        crate::next::stalled_on(&self.stores)
     }
 }

@@ -3,7 +3,7 @@ ghost use Rattle.kms_model.specs.Headline.{Headline};
 ghost use Rattle.kms_model.specs.Promises.{FreesEachOnce};
 ghost use Rattle.kms_laws.specs.Laws.{ContextsStand, HasSerialWorld};
 ghost use Rattle.kms_core.specs.Promises.{AsksWithinItsReach, DeliversOnce, FramesWhatIsHeld, FreesOnce, CanGoOn, IsBusyWithCause, LatchesWhole, NamesItsFence, ReservesEach, ShowsAllOnceCleaned, ShowsTheLast, TestsAlone, WaitsInNoCycle};
-ghost use Rattle.kms_stores.specs.Run.{machine};
+ghost use Rattle.kms_core.specs.Run.{machine};
 
 use crate::machine::Core;
 
@@ -78,7 +78,7 @@ impl Core {
         ensures { FreesEachOnce self.now.script self.now.steps }
     {
         self.is_a_history();
-        kms_freeing::each_framebuffer_is_freed_once();
+        crate::freeing::each_framebuffer_is_freed_once();
     }
 
     /// A request that is tested changes nothing but its reply, its locks and its client's place.

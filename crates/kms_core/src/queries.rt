@@ -11,11 +11,11 @@ ghost use Rattle.kms_model.specs.Machine.Histories.{is_history};
 ghost use Rattle.kms_model.specs.Machine.State.{doing_at, go_at, place_at};
 ghost use Rattle.kms_model.specs.Script.WellFormed.{IsWellFormed};
 ghost use Rattle.kms_laws.specs.TailsLeft.{all_left};
-ghost use Rattle.kms_calls.specs.Locks.{held_state};
-ghost use Rattle.kms_stores.specs.Calls.{idle_command_at};
-ghost use Rattle.kms_freeing.specs.Freeing.{label_and_id};
-ghost use Rattle.kms_stores.specs.Run.{machine};
-ghost use Rattle.kms_stores.specs.Stands.{entry_pair};
+ghost use Rattle.kms_core.specs.Locks.{held_state};
+ghost use Rattle.kms_core.specs.Calls.{idle_command_at};
+ghost use Rattle.kms_core.specs.Freeing.{label_and_id};
+ghost use Rattle.kms_core.specs.Run.{machine};
+ghost use Rattle.kms_core.specs.Stands.{entry_pair};
 
 use crate::machine::Core;
 use crate::spare::Spare;
@@ -92,7 +92,7 @@ impl Core {
     pub fn doing(&self, client: u32) -> Doing
         ensures { result ≡ doing_at (machine self.now) client }
     {
-        kms_next::doing(&self.stores, client)
+        crate::next::doing(&self.stores, client)
     }
 
     /// The command at which a client, by its number from 1, is idle; none where it is at its end, has an acquire
@@ -100,7 +100,7 @@ impl Core {
     pub fn idle_command(&self, client: u32) -> Option<&Command>
         ensures { option_copied result ≡ idle_command_at self.now client }
     {
-        kms_next::idle_command(&self.stores, client)
+        crate::next::idle_command(&self.stores, client)
     }
 
     /// The present state of an object that the context of a client, by its number from 1, holds. None exactly where it holds
@@ -108,7 +108,7 @@ impl Core {
     pub fn held_state(&self, client: u32, id: ObjId) -> Option<ObjState>
         ensures { result ≡ held_state self.now client id }
     {
-        kms_calls::held_state(&self.stores, client, id)
+        crate::calls::held_state(&self.stores, client, id)
     }
 
     /// For how many further steps and latches memory was taken: at least for all that the tails of commits which are not cleaned
@@ -139,7 +139,7 @@ impl Core {
         requires { crtc < 4 }
         ensures { result ≡ is_some (go_at (machine self.now).device (object_id Crtc crtc)) }
     {
-        kms_next::has_go(&self.stores, crtc)
+        crate::next::has_go(&self.stores, crtc)
     }
 
     /// What the framebuffer with an id is, while the machine has it: while it is open, or the present state of a plane, a
@@ -149,7 +149,7 @@ impl Core {
         ensures { result
             ≡ framebuffers.stored_framebuffer self.now.script.topology (machine self.now) id }
     {
-        kms_stores::framebuffer(&self.stores, id)
+        crate::freeing::framebuffer(&self.stores, id)
     }
 
     /// The words of a framebuffer's buffer, also after the framebuffer was closed; none exactly where no framebuffer ever

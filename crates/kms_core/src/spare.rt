@@ -1,7 +1,7 @@
 //! The memory that was taken for steps and latches to come.
 ghost use Rattle.std.specs.Prelude.{◌≡◌, min};
 
-use kms_logs::Log;
+use crate::lists::Log;
 use kms_model::{Latch, Step};
 
 /// The lists of a machine's steps and latches, with the room that each has.

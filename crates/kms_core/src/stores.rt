@@ -1,20 +1,29 @@
-//! The stores of the machine.
+//! The stores of the machine: what they stand for, how they grow by what is recorded, and what they tell of a request.
 ghost use Rattle.std.specs.Prelude.{◌≡◌, ◌≤◌, IfOk, [], replicate};
 ghost use Rattle.kms_model.specs.Script.WellFormed.{IsWellFormed};
 ghost use Rattle.kms_signal.specs.Queues.{empty_queue};
 
+mod hindering;
+mod looking;
+mod records;
+mod waiting;
+
+use crate::lists::{Ledger, Log};
+pub use hindering::{count_in, late_reply};
 use kms_clients::Clients;
-use kms_logs::{Ledger, Log};
 use kms_model::{Answered, Duplicates, Latch, NoMemory, Script, Step};
 use kms_regs::RegFile;
 use kms_signal::{EventQueue, Fences};
 use kms_tails::Tails;
 use kms_things::{Things, start_states};
 use kms_track::Tracker;
+pub use looking::{Decided, Stale, first_stale, lookups, taker};
+pub use records::{answer, join, make_room, make_spare, make_step_room};
 use std::alloc::Global;
 use std::marker::Model;
+pub use waiting::{next_reply, signal_fence};
 
-/// The stores of the machine. Contracts see its script and its history. The fields are those of the crates that do its
+/// The stores of the machine. Contracts see its script and its history. The fields are for the modules that do its
 /// calls; what the stores stand for holds wherever they are changed.
 #[derive(Drop)]
 pub struct Stores {
@@ -54,11 +63,11 @@ pub struct Stores {
 }
 
 impl Model for Stores {
-    ghost use Rattle.kms_stores.specs.Run.{Run};
+    ghost use Rattle.kms_core.specs.Run.{Run};
 
     ghost Value = { Run };
 
-    ghost use Rattle.kms_stores.specs.Insides.{AreStanding, run_in};
+    ghost use Rattle.kms_core.specs.Insides.{AreStanding, run_in};
 
     ghost view = { run_in };
 

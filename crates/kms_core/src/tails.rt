@@ -1,5 +1,4 @@
 //! The tails of commits: their registers, their latches and their end.
-#![tactic(auto)]
 
 mod latching;
 mod workers;

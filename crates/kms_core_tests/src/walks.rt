@@ -6,7 +6,7 @@ use crate::turns::is_in_order;
 use kms_core::Core;
 use kms_course::{Object, do_step, goes, looks_same, tells_same};
 use kms_model::{NoMemory, Step};
-use kms_rounds::replay;
+use kms_one_thread::replay;
 use std::alloc::Global;
 use std::test::Fail;
 

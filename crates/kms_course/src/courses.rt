@@ -40,7 +40,7 @@ use crate::places::{numbered, stands};
 use crate::refusing::is_refused;
 use kms_core::Core;
 use kms_model::{NoMemory, Step};
-use kms_rounds::finish;
+use kms_one_thread::finish;
 use kms_script::read_step;
 use std::alloc::Global;
 

@@ -2,7 +2,7 @@
 use crate::replays::anew;
 use kms_core::Core;
 use kms_model::NoMemory;
-use kms_rounds::{End, end_of, finish};
+use kms_one_thread::{End, end_of, finish};
 use std::alloc::Global;
 
 /// Whether a history waits for the fence with a name.

@@ -5,7 +5,7 @@ ghost use Rattle.kms_model.specs.Device.Objects.{object_id};
 ghost use Rattle.kms_model.specs.Machine.Histories.{legal};
 ghost use Rattle.kms_model.specs.Machine.State.{go_at, place_at};
 ghost use Rattle.kms_model.specs.Order.Turns.{client_step};
-ghost use Rattle.kms_stores.specs.Run.{gains, if_ok, machine};
+ghost use Rattle.kms_core.specs.Run.{gains, if_ok, machine};
 
 use kms_core::Core;
 use kms_model::{NoMemory, Place, Step};

@@ -6,7 +6,7 @@ use crate::replays::{again, anew};
 use crate::starting::{NotStarted, started};
 use kms_core::Core;
 use kms_model::NoMemory;
-use kms_rounds::ReplayError;
+use kms_one_thread::ReplayError;
 use std::alloc::Global;
 
 /// What became of a course.

@@ -3,7 +3,7 @@ ghost use Rattle.std.specs.Prelude.{◌≡◌, [], IfOk};
 
 use kms_core::Core;
 use kms_model::{Duplicate, NoMemory};
-use kms_rounds::{ReplayError, replay};
+use kms_one_thread::{ReplayError, replay};
 use std::alloc::Global;
 
 /// A new machine of the script of a machine. The error is want of memory.

@@ -7,7 +7,7 @@ use Rattle.std.proofs.lemmas.List.Elements.{All-append, All-head, All-nil, All-c
 use Rattle.kms_model.specs.declared.objects.Kind.TheVariants.{Crtc}
 use Rattle.kms_model.specs.declared.replies.Step.{Step}
 use Rattle.kms_model.specs.declared.replies.Step.TheVariants.{Vblank, Stall}
-use Rattle.kms_stores.specs.Run.{Run}
+use Rattle.kms_core.specs.Run.{Run}
 use Rattle.kms_device.specs.Kernels.{AddsPlain, AreBlankingCounts, is_plain}
 use Rattle.kms_laws.specs.Blankings.{blankings, is_blanking, one_more_if}
 use Rattle.kms_device.specs.Steps.{NeverEnds, is_stall}

@@ -14,11 +14,11 @@ use Rattle.kms_model.specs.Request.Flags.{is_nonblock, wants_event}
 use Rattle.kms_model.specs.Request.Lookups.{look_up, lookups}
 use Rattle.kms_check.specs.declared.moving.Move.{Move}
 use Rattle.kms_check.specs.Moves.{IsMove}
-use Rattle.kms_stores.specs.Calls.{answered}
-use Rattle.kms_stores.specs.Decisions.{IsDecided, world}
-use Rattle.kms_stores.specs.declared.looking.Decided.{Decided}
-use Rattle.kms_stores.specs.declared.looking.Decided.TheVariants as answer
-use Rattle.kms_stores.specs.Run.{Run, machine}
+use Rattle.kms_core.specs.Calls.{answered}
+use Rattle.kms_core.specs.Decisions.{IsDecided, world}
+use Rattle.kms_core.specs.declared.stores.looking.Decided.{Decided}
+use Rattle.kms_core.specs.declared.stores.looking.Decided.TheVariants as answer
+use Rattle.kms_core.specs.Run.{Run, machine}
 use Rattle.kms_device.specs.declared.attempt.Attempt.{Attempt}
 use Rattle.kms_device.specs.declared.attempt.Attempted.TheVariants as attempted
 use Rattle.kms_device.specs.Attempts.{ComesNext, MayAttempt, IsLastReply, Serves, is_lock, new_attempt}

@@ -41,10 +41,10 @@ use Rattle.kms_laws.proofs.OldLookUps.{ask_within_reach}
 use Rattle.kms_laws.proofs.Sizes.{command-there}
 use Rattle.kms_laws.proofs.Steps.{IsPlainScript, request-is, value-is}
 use Rattle.kms_track.specs.Places.{object_at_place}
-use Rattle.kms_stores.specs.Decisions.{IsAccepted, IsDeciding, IsRefusedLate, MayRefuse, MayTest, taker, world}
-use Rattle.kms_calls.specs.Locks.{IsTaking, MayLock}
-use Rattle.kms_stores.specs.Run.{Run, machine}
-use Rattle.kms_stores.specs.Swaps.{MaySwap}
+use Rattle.kms_core.specs.Decisions.{IsAccepted, IsDeciding, IsRefusedLate, MayRefuse, MayTest, taker, world}
+use Rattle.kms_core.specs.Locks.{IsTaking, MayLock}
+use Rattle.kms_core.specs.Run.{Run, machine}
+use Rattle.kms_core.specs.Swaps.{MaySwap}
 use Rattle.kms_device.specs.Asking.{AreOfLocks, HoldsEach, IsAcceptedWith, IsDecidingFor, IsRefusedWith, MayAskFor, MayBeRefused, MayBeSwapped, MayBeTested, TakesLocks}
 use Rattle.kms_device.specs.Turns.{DevicePass, MayBeFound, run_seen}
 use Rattle.kms_device.proofs.Found.{going-found, history, place-found, stays-found}

@@ -30,14 +30,14 @@ use Rattle.kms_track.specs.Told.{not_marked}
 use Rattle.kms_check.specs.declared.moving.Move.{Move}
 use Rattle.kms_check.specs.declared.moving.Move.TheVariants as move
 use Rattle.kms_check.specs.Moves.{AcceptedAs, IsMove, RefusedBy}
-use Rattle.kms_stores.specs.declared.looking.Decided.{Decided}
-use Rattle.kms_stores.specs.declared.looking.Decided.TheVariants as answer
-use Rattle.kms_stores.specs.Decisions.{Decides, IsDecided, steps_of, world}
-use Rattle.kms_stores.specs.Run.{Run, machine}
-use Rattle.kms_stores.specs.Swaps.{IsReadyToCommit, late_reply, refused_or, swap_answer, swap_answer_of, waits_or_commits}
-use Rattle.kms_stores.proofs.Lates.{late_refuses}
-use Rattle.kms_decide.proofs.Swapped.{ready_now}
-use Rattle.kms_stores.proofs.Verdicts.{refuses}
+use Rattle.kms_core.specs.declared.stores.looking.Decided.{Decided}
+use Rattle.kms_core.specs.declared.stores.looking.Decided.TheVariants as answer
+use Rattle.kms_core.specs.Decisions.{Decides, IsDecided, steps_of, world}
+use Rattle.kms_core.specs.Run.{Run, machine}
+use Rattle.kms_core.specs.Swaps.{IsReadyToCommit, late_reply, refused_or, swap_answer, swap_answer_of, waits_or_commits}
+use Rattle.kms_core.proofs.Lates.{late_refuses}
+use Rattle.kms_core.proofs.Swapped.{ready_now}
+use Rattle.kms_core.proofs.Verdicts.{refuses}
 use Rattle.kms_device.specs.declared.attempt.Attempt.{Attempt}
 use Rattle.kms_device.specs.declared.attempt.Attempted.{Attempted}
 use Rattle.kms_device.specs.declared.attempt.Attempted.TheVariants as attempted

@@ -12,9 +12,9 @@ use Rattle.kms_model.specs.Machine.Histories.{are_legal, at, is_history, legal, 
 use Rattle.kms_model.specs.Machine.State.{Machine, doing_at, first_machine, place_at}
 use Rattle.kms_model.specs.Machine.Steps.{idle_at, is_atomic, is_idle, is_making, is_signal, is_wait, may, returning_of}
 use Rattle.kms_model.specs.Promises.{client_of_step}
-use Rattle.kms_stores.specs.Calls.{MayMake, MayRead, MayReturn, MaySignal}
-use Rattle.kms_calls.specs.Locks.{HasContext, MayBackOff, MayBegin, MayRelock}
-use Rattle.kms_stores.specs.Run.{Run, machine}
+use Rattle.kms_core.specs.Calls.{MayMake, MayRead, MayReturn, MaySignal}
+use Rattle.kms_core.specs.Locks.{HasContext, MayBackOff, MayBegin, MayRelock}
+use Rattle.kms_core.specs.Run.{Run, machine}
 use Rattle.kms_clients.specs.Standing.{ticket_in}
 use Rattle.kms_device.specs.Asking.{ContextBackedOff, ContextMustBackOff}
 use Rattle.kms_device.specs.Turns.{DevicePass, MayBeFound, run_seen}

@@ -15,7 +15,7 @@ use Rattle.kms_laws.proofs.Basics.{in_either}
 use Rattle.kms_laws.proofs.Modes.{plain-from}
 use Rattle.kms_laws.proofs.NeverStuck.{history_facts}
 use Rattle.kms_laws.proofs.Steps.{value-is}
-use Rattle.kms_stores.specs.Run.{Run, machine}
+use Rattle.kms_core.specs.Run.{Run, machine}
 use Rattle.kms_device.specs.Turns.{IsOpen}
 
 pub record IsLockableId (t : Topology) (id : ℕ) : Type 0 where

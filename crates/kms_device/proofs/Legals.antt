@@ -14,9 +14,9 @@ use Rattle.kms_model.proofs.TouchedLemmas.{few_objects}
 use Rattle.kms_laws.proofs.Modes.{plain-from}
 use Rattle.kms_laws.proofs.Stalled.{legal-going}
 use Rattle.kms_laws.proofs.Steps.{history_kept}
-use Rattle.kms_work.specs.Latching.{MayBlank, goes_at}
-use Rattle.kms_stores.specs.Run.{Run, machine}
-use Rattle.kms_stores.specs.Work.{MayCleanUp, is_commit_over}
+use Rattle.kms_core.specs.Latching.{MayBlank, goes_at}
+use Rattle.kms_core.specs.Run.{Run, machine}
+use Rattle.kms_core.specs.Work.{MayCleanUp, is_commit_over}
 use Rattle.kms_device.specs.Steps.{NeverEnds, blanks_at, is_legal}
 use Rattle.kms_device.proofs.Runs.{open-at}
 

@@ -19,12 +19,12 @@ use Rattle.kms_model.specs.Machine.State.{Machine, doing_at, has_value, holder_a
 use Rattle.kms_model.specs.Machine.Steps.{contended, is_free_for, may, returning_of, ticket_of}
 use Rattle.kms_laws.proofs.Basics.{read_other, read_same}
 use Rattle.kms_clients.specs.InStep.{holder_of_contended, relock_answer}
-use Rattle.kms_calls.specs.declared.contexts.Locked.{Locked}
-use Rattle.kms_calls.specs.declared.contexts.Locked.TheVariants as answer
-use Rattle.kms_stores.specs.Decisions.{world}
-use Rattle.kms_calls.specs.Locks.{object_or_zero, present_state, relock_steps, relocked_answer, relocked_as}
-use Rattle.kms_stores.specs.Run.{Run, machine}
-use Rattle.kms_calls.specs.States.{state_of_kind}
+use Rattle.kms_core.specs.declared.calls.contexts.Locked.{Locked}
+use Rattle.kms_core.specs.declared.calls.contexts.Locked.TheVariants as answer
+use Rattle.kms_core.specs.Decisions.{world}
+use Rattle.kms_core.specs.Locks.{object_or_zero, present_state, relock_steps, relocked_answer, relocked_as}
+use Rattle.kms_core.specs.Run.{Run, machine}
+use Rattle.kms_core.specs.States.{state_of_kind}
 use Rattle.kms_device.specs.declared.attempt.Attempt.{Attempt}
 use Rattle.kms_device.specs.declared.attempt.Attempted.TheVariants as attempted
 use Rattle.kms_device.specs.Attempts.{ComesNextAt, Serves, WaitsAt, taken_in}

@@ -36,7 +36,7 @@ use Rattle.kms_model.specs.Device.Sound.{IsDevice}
 use Rattle.kms_model.proofs.TouchedLemmas.{HasFewObjects, few_objects}
 use Rattle.kms_model.proofs.Facts.{number-in}
 use Rattle.kms_check.proofs.Readiness.{HasRoom}
-use Rattle.kms_calls.specs.States.{state_of_kind}
+use Rattle.kms_core.specs.States.{state_of_kind}
 use Rattle.kms_state.specs.Places.{is_free, is_free_place, may_duplicate, is_duplicated, is_duplicated_of, state_of}
 use Rattle.kms_state.proofs.Slots.{slot_at}
 use Rattle.kms_laws.proofs.Modes.{plain-from}
@@ -44,8 +44,8 @@ use Rattle.kms_laws.proofs.OldLookUps.{ask_within_reach}
 use Rattle.kms_check.specs.Moves.{AcceptedAs, AsksFor, RefusedBy}
 use Rattle.kms_check.proofs.Asked.{IsAsked, asked-touches}
 use Rattle.kms_check.proofs.Covering.{HasAll, accepted-states}
-use Rattle.kms_stores.specs.Decisions.{labels_of, world}
-use Rattle.kms_stores.specs.Run.{Run, machine}
+use Rattle.kms_core.specs.Decisions.{labels_of, world}
+use Rattle.kms_core.specs.Run.{Run, machine}
 use Rattle.kms_device.specs.declared.attempt.Attempt.{Attempt}
 use Rattle.kms_device.specs.Asking.{AreOfLocks, HoldsEach, IsAcceptedWith, IsDecidingFor, MayAskFor, MayBeRefused, MayBeSwapped, MayBeTested}
 use Rattle.kms_device.specs.Attempts.{AreLookedUp}

@@ -39,9 +39,9 @@ use Rattle.kms_model.proofs.SameLooks.{early-same}
 use Rattle.kms_laws.proofs.OldLookUps.{StayIn, stay_kept}
 use Rattle.kms_laws.proofs.Steps.{Holds, history_kept, step_kept, none-is}
 use Rattle.kms_laws.proofs.Traversal.{step_keeps}
-use Rattle.kms_stores.specs.Decisions.{world}
-use Rattle.kms_calls.specs.Locks.{IsTaking, MayLock}
-use Rattle.kms_stores.specs.Run.{Run, machine}
+use Rattle.kms_core.specs.Decisions.{world}
+use Rattle.kms_core.specs.Locks.{IsTaking, MayLock}
+use Rattle.kms_core.specs.Run.{Run, machine}
 use Rattle.kms_device.specs.Asking.{HoldsGroup, IsNextByGroups, MayLockNext}
 use Rattle.kms_device.specs.Turns.{DevicePass, MayBeFound, run_seen}
 use Rattle.kms_device.proofs.Deciding.{Kept, formed, kept, kind-is, lock_found, may_lock, plain, seen-history}

@@ -10,7 +10,7 @@ use Rattle.kms_model.specs.Machine.Histories.{are_legal, at, is_history, legal, 
 use Rattle.kms_model.specs.Machine.State.{Machine}
 use Rattle.kms_model.specs.Promises.{client_of_step}
 use Rattle.kms_laws.proofs.Stalled.{ending}
-use Rattle.kms_stores.specs.Decisions.{number_or_0}
+use Rattle.kms_core.specs.Decisions.{number_or_0}
 use Rattle.kms_device.specs.Steps.{NeverEnds, is_stall, owner}
 
 -- the machine after more steps

@@ -24,10 +24,10 @@ use Rattle.kms_state.specs.Places.{duplicated, may_duplicate, none_duplicated}
 use Rattle.kms_state.proofs.OnceDuplicated.{conn_old, crtc_old, free, plane_old}
 use Rattle.kms_state.proofs.Slots.{slice_get-set_other, slice_get-set_same}
 use Rattle.kms_histlock.specs.Rules.{IsStart}
-use Rattle.kms_stores.specs.Decisions.{world}
-use Rattle.kms_calls.specs.Locks.{present_state}
-use Rattle.kms_stores.specs.Run.{Run, machine}
-use Rattle.kms_calls.specs.States.{state_of_kind}
+use Rattle.kms_core.specs.Decisions.{world}
+use Rattle.kms_core.specs.Locks.{present_state}
+use Rattle.kms_core.specs.Run.{Run, machine}
+use Rattle.kms_core.specs.States.{state_of_kind}
 use Rattle.kms_device.specs.declared.attempt.Attempt.{Attempt}
 use Rattle.kms_device.specs.Asking.{AreOfLocks, HoldsEach}
 use Rattle.kms_device.specs.Attempts.{AreLookedUp, Serves, new_attempt, taken_in}

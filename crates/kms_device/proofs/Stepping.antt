@@ -8,7 +8,7 @@ use Rattle.kms_model.specs.Machine.Effects.{next}
 use Rattle.kms_model.specs.Machine.Histories.{are_legal, at, is_history, legal, run_steps}
 use Rattle.kms_model.specs.Machine.State.{Machine, doing_at, first_machine, place_at, request_at, request_in}
 use Rattle.kms_model.specs.Machine.Steps.{returning_of}
-use Rattle.kms_stores.specs.Run.{Run, machine}
+use Rattle.kms_core.specs.Run.{Run, machine}
 use Rattle.kms_histlock.specs.Rules.{IsStart}
 use Rattle.kms_device.specs.Attempts.{MayAttempt}
 use Rattle.kms_device.specs.Turns.{DevicePass, IsOpen, DeviceTurn, run_seen}

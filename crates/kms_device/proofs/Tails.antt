@@ -20,8 +20,8 @@ use Rattle.kms_model.specs.Script.WellFormed.{IsWellFormed}
 use Rattle.kms_model.proofs.KindsOfIds.{index_of-object, kind_of-object}
 use Rattle.kms_model.proofs.TouchedLemmas.{few_objects, few_of}
 use Rattle.kms_model.proofs.Facts.{cond_mapped}
-use Rattle.kms_stores.specs.Run.{Run, machine}
-use Rattle.kms_stores.specs.Work.{write_step}
+use Rattle.kms_core.specs.Run.{Run, machine}
+use Rattle.kms_core.specs.Work.{write_step}
 use Rattle.kms_device.specs.Steps.{is_legal, may_write, step_if, tail_of}
 
 -- By kinds

@@ -10,7 +10,7 @@ use Rattle.kms_model.specs.Machine.State.{Machine, doing_at, has_value}
 use Rattle.kms_model.specs.Machine.Steps.{ticket_of, ticket_taking}
 use Rattle.kms_laws.specs.Laws.{has_context}
 use Rattle.kms_track.specs.Places.{first_below}
-use Rattle.kms_stores.specs.Decisions.{number_or_0, taker, taker_at}
+use Rattle.kms_core.specs.Decisions.{number_or_0, taker, taker_at}
 
 none-below : (f : ℕ → Option ℕ) (n : ℕ) → ((j : ℕ) → j < n → f j ≡ None) → first_below f n ≡ None
 unfolding first_below

@@ -26,10 +26,10 @@ use Rattle.kms_wwlock.specs.declared.table.Lock.TheVariants as table
 use Rattle.kms_check.specs.declared.moving.Move.{Move}
 use Rattle.kms_check.specs.declared.moving.Move.TheVariants as move
 use Rattle.kms_check.specs.Moves.{AsksFor, IsMove}
-use Rattle.kms_calls.specs.declared.contexts.Locked.{Locked}
-use Rattle.kms_calls.specs.declared.contexts.Locked.TheVariants as answer
-use Rattle.kms_calls.specs.Locks.{lock_steps, locked_answer, locked_as, present_state}
-use Rattle.kms_stores.specs.Run.{Run, machine}
+use Rattle.kms_core.specs.declared.calls.contexts.Locked.{Locked}
+use Rattle.kms_core.specs.declared.calls.contexts.Locked.TheVariants as answer
+use Rattle.kms_core.specs.Locks.{lock_steps, locked_answer, locked_as, present_state}
+use Rattle.kms_core.specs.Run.{Run, machine}
 use Rattle.kms_device.specs.declared.attempt.Attempt.{Attempt}
 use Rattle.kms_device.specs.declared.attempt.Attempted.TheVariants as attempted
 use Rattle.kms_device.specs.Steps.{owner}

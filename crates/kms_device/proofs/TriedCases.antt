@@ -29,13 +29,13 @@ use Rattle.kms_laws.proofs.Modes.{plain-from}
 use Rattle.kms_laws.proofs.Steps.{history_kept, request-is}
 use Rattle.kms_check.proofs.Readiness.{HasRoom}
 use Rattle.kms_check.specs.Moves.{AcceptedAs, AsksFor, RefusedBy}
-use Rattle.kms_calls.specs.declared.contexts.Locked.{Locked}
-use Rattle.kms_stores.specs.declared.looking.Decided.{Decided}
-use Rattle.kms_stores.specs.declared.looking.Decided.TheVariants as answer
-use Rattle.kms_stores.specs.Decisions.{IsDecided, steps_of, world}
-use Rattle.kms_calls.specs.Locks.{MayBegin, lock_steps, locked_answer}
-use Rattle.kms_stores.specs.Run.{Run, machine}
-use Rattle.kms_stores.specs.Swaps.{swap_answer}
+use Rattle.kms_core.specs.declared.calls.contexts.Locked.{Locked}
+use Rattle.kms_core.specs.declared.stores.looking.Decided.{Decided}
+use Rattle.kms_core.specs.declared.stores.looking.Decided.TheVariants as answer
+use Rattle.kms_core.specs.Decisions.{IsDecided, steps_of, world}
+use Rattle.kms_core.specs.Locks.{MayBegin, lock_steps, locked_answer}
+use Rattle.kms_core.specs.Run.{Run, machine}
+use Rattle.kms_core.specs.Swaps.{swap_answer}
 use Rattle.kms_device.specs.declared.attempt.Attempt.{Attempt}
 use Rattle.kms_device.specs.declared.attempt.Attempted.{Attempted}
 use Rattle.kms_device.specs.declared.attempt.Attempted.TheVariants as attempted

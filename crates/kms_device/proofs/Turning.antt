@@ -10,15 +10,15 @@ use Rattle.kms_model.specs.declared.replies.Step.{Step}
 use Rattle.kms_model.specs.declared.replies.Step.TheVariants.{Claim, Read, Refuse, Relock, Return}
 use Rattle.kms_model.specs.declared.scripts.Script.{Script}
 use Rattle.kms_histlock.specs.Passes.{MayFind}
-use Rattle.kms_calls.specs.declared.contexts.Locked.{Locked}
-use Rattle.kms_calls.specs.declared.contexts.Locked.TheVariants as locked
-use Rattle.kms_stores.specs.declared.looking.Decided.{Decided}
-use Rattle.kms_stores.specs.declared.looking.Decided.TheVariants as decided
-use Rattle.kms_stores.specs.Calls.{read_step, return_step}
-use Rattle.kms_stores.specs.Decisions.{steps_of}
-use Rattle.kms_calls.specs.Locks.{lock_steps, relock_steps}
-use Rattle.kms_stores.specs.Run.{Run, gains, if_ok}
-use Rattle.kms_stores.specs.Work.{claim_steps}
+use Rattle.kms_core.specs.declared.calls.contexts.Locked.{Locked}
+use Rattle.kms_core.specs.declared.calls.contexts.Locked.TheVariants as locked
+use Rattle.kms_core.specs.declared.stores.looking.Decided.{Decided}
+use Rattle.kms_core.specs.declared.stores.looking.Decided.TheVariants as decided
+use Rattle.kms_core.specs.Calls.{read_step, return_step}
+use Rattle.kms_core.specs.Decisions.{steps_of}
+use Rattle.kms_core.specs.Locks.{lock_steps, relock_steps}
+use Rattle.kms_core.specs.Run.{Run, gains, if_ok}
+use Rattle.kms_core.specs.Work.{claim_steps}
 use Rattle.kms_device.specs.Kernels.{AddsPlainOf, is_plain}
 use Rattle.kms_laws.specs.Blankings.{blankings}
 use Rattle.kms_device.specs.Steps.{owner, step_if}

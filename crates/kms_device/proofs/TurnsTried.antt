@@ -15,7 +15,7 @@ use Rattle.kms_model.specs.Machine.State.{Machine, doing_at, holds, place_at}
 use Rattle.kms_model.specs.Machine.Steps.{returning_of}
 use Rattle.kms_laws.proofs.Basics.{read_same}
 use Rattle.kms_histlock.specs.Rules.{IsStart}
-use Rattle.kms_stores.specs.Run.{Run, machine}
+use Rattle.kms_core.specs.Run.{Run, machine}
 use Rattle.kms_device.specs.declared.attempt.Attempt.{Attempt}
 use Rattle.kms_device.specs.declared.attempt.Attempted.TheVariants as attempted
 use Rattle.kms_device.specs.Attempts.{ComesNext, ComesNextAt, FindsRequest, MayAttempt, Serves, StaysAt, Stepped, WaitsAt, looks_after, states_after, Went, new_attempt}

@@ -5,7 +5,7 @@ use Rattle.std.proofs.lemmas.Bool.{eq-eqb, ne_eqb}
 use Rattle.std.proofs.lemmas.List.Elements.{All-head, All-tail, filter-append}
 use Rattle.kms_model.specs.declared.replies.Step.{Step}
 use Rattle.kms_model.specs.declared.scripts.Script.{Script}
-use Rattle.kms_stores.specs.Run.{Run}
+use Rattle.kms_core.specs.Run.{Run}
 use Rattle.kms_device.specs.Attempts.{Went, own_steps}
 use Rattle.kms_device.specs.Steps.{owner}
 use Rattle.kms_device.specs.Turns.{DevicePass, DeviceTurn}

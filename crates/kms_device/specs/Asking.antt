@@ -31,9 +31,9 @@ use Rattle.kms_model.specs.Request.Sets.{look_in}
 use Rattle.kms_model.specs.Request.Touched.{touches}
 use Rattle.kms_model.specs.Request.Verdict.{late_in}
 use Rattle.kms_histlock.specs.Rules.{IsStart}
-use Rattle.kms_stores.specs.Decisions.{HoldsAll, IsRefusedEarly, labels_of, world}
-use Rattle.kms_stores.specs.Run.{Run, machine}
-use Rattle.kms_stores.specs.Swaps.{HasAllStates}
+use Rattle.kms_core.specs.Decisions.{HoldsAll, IsRefusedEarly, labels_of, world}
+use Rattle.kms_core.specs.Run.{Run, machine}
+use Rattle.kms_core.specs.Swaps.{HasAllStates}
 
 -- Contexts
 

@@ -2,7 +2,7 @@
 use Rattle.std.specs.Prelude.{◌≡◌, ◌⊎◌, ℕ, Bool, true, false, List, All, slice_index_or}
 use Rattle.kms_model.specs.declared.replies.Step.{Step}
 use Rattle.kms_model.specs.declared.replies.Step.TheVariants.{Stall, Vblank}
-use Rattle.kms_stores.specs.Run.{Run, gains}
+use Rattle.kms_core.specs.Run.{Run, gains}
 use Rattle.kms_laws.specs.Blankings.{blankings}
 use Rattle.kms_device.specs.Steps.{owner}
 

@@ -12,10 +12,10 @@ use Rattle.kms_model.specs.Device.Objects.{exists, first_id, kind_of}
 use Rattle.kms_model.specs.Machine.Histories.{for_each, legal}
 use Rattle.kms_model.specs.Promises.{client_of_step}
 use Rattle.kms_laws.specs.Blankings.{blankings, is_blanking, one_more_if}
-use Rattle.kms_stores.specs.Decisions.{number_or_0}
-use Rattle.kms_work.specs.Latching.{goes_at}
-use Rattle.kms_stores.specs.Run.{Run, machine}
-use Rattle.kms_stores.specs.Work.{write_step}
+use Rattle.kms_core.specs.Decisions.{number_or_0}
+use Rattle.kms_core.specs.Latching.{goes_at}
+use Rattle.kms_core.specs.Run.{Run, machine}
+use Rattle.kms_core.specs.Work.{write_step}
 
 -- the client whose step it is; 0 for nobody's
 abbrev pub owner : Step → ℕ

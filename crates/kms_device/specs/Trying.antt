@@ -12,12 +12,12 @@ use Rattle.kms_model.specs.declared.worlds.Look.{Look}
 use Rattle.kms_model.specs.Machine.State.{doing_at, request_at}
 use Rattle.kms_model.specs.Request.Lookups.{lookups}
 use Rattle.kms_state.specs.Places.{duplicated, may_duplicate}
-use Rattle.kms_calls.specs.declared.contexts.Locked.{Locked}
-use Rattle.kms_calls.specs.declared.contexts.Locked.TheVariants as locked
-use Rattle.kms_stores.specs.declared.looking.Decided.{Decided}
-use Rattle.kms_stores.specs.declared.looking.Decided.TheVariants as decided
-use Rattle.kms_stores.specs.Decisions.{steps_of, world}
-use Rattle.kms_stores.specs.Run.{machine}
+use Rattle.kms_core.specs.declared.calls.contexts.Locked.{Locked}
+use Rattle.kms_core.specs.declared.calls.contexts.Locked.TheVariants as locked
+use Rattle.kms_core.specs.declared.stores.looking.Decided.{Decided}
+use Rattle.kms_core.specs.declared.stores.looking.Decided.TheVariants as decided
+use Rattle.kms_core.specs.Decisions.{steps_of, world}
+use Rattle.kms_core.specs.Run.{machine}
 use Rattle.kms_device.specs.declared.attempt.Attempt.{Attempt}
 use Rattle.kms_device.specs.declared.attempt.Attempted.{Attempted}
 use Rattle.kms_device.specs.declared.attempt.Attempted.TheVariants as attempted

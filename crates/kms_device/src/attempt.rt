@@ -1,6 +1,6 @@
 //! A client's request, one step at a time, and whole.
 ghost use Rattle.std.specs.Prelude.{◌≡◌, ℕ, [], IfOk, OnErr};
-ghost use Rattle.kms_stores.specs.Run.{Run};
+ghost use Rattle.kms_core.specs.Run.{Run};
 ghost use Rattle.kms_device.specs.Attempts.{BrokenOff, Committed, GoesOnAt, IsAttempt, MayAttempt, Serves, StaysAt, Went, new_attempt};
 ghost use Rattle.kms_device.specs.Turns.{run_seen};
 

@@ -2,9 +2,9 @@
 ghost use Rattle.std.specs.Prelude.{◌≡◌, ◌∷◌, [], IfOk};
 ghost use Rattle.kms_model.specs.declared.replies.Step.TheVariants as step;
 ghost use Rattle.kms_model.specs.Request.Lookups.{lookups};
-ghost use Rattle.kms_stores.specs.Calls.{MayMake, MayRead, MayReturn, MaySignal, is_over_at, read_reply_at, read_step, reply_at, return_step};
-ghost use Rattle.kms_stores.specs.Decisions.{world};
-ghost use Rattle.kms_stores.specs.Run.{if_ok};
+ghost use Rattle.kms_core.specs.Calls.{MayMake, MayRead, MayReturn, MaySignal, is_over_at, read_reply_at, read_step, reply_at, return_step};
+ghost use Rattle.kms_core.specs.Decisions.{world};
+ghost use Rattle.kms_core.specs.Run.{if_ok};
 ghost use Rattle.kms_device.specs.Turns.{DeviceTurn, run_seen};
 
 use crate::device::Device;

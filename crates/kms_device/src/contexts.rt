@@ -1,8 +1,8 @@
 //! Calls of a client on its acquire context and its locks. Each goes through the pass of the client's number.
 ghost use Rattle.std.specs.Prelude.{◌≡◌, ◌∷◌, [], IfOk, ⊤};
 ghost use Rattle.kms_model.specs.declared.replies.Step.TheVariants as step;
-ghost use Rattle.kms_calls.specs.Locks.{MayBegin, lock_steps, locked_answer, relock_steps, relocked_answer};
-ghost use Rattle.kms_stores.specs.Run.{if_ok, machine};
+ghost use Rattle.kms_core.specs.Locks.{MayBegin, lock_steps, locked_answer, relock_steps, relocked_answer};
+ghost use Rattle.kms_core.specs.Run.{if_ok, machine};
 ghost use Rattle.kms_device.specs.Asking.{ContextBackedOff, MayLockNext, ContextMustBackOff};
 ghost use Rattle.kms_device.specs.Turns.{DeviceTurn, run_seen};
 

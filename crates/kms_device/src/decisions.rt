@@ -4,10 +4,10 @@ ghost use Rattle.std.specs.Prelude.{◌≡◌, IfOk};
 ghost use Rattle.kms_model.specs.declared.replies.Reply.TheVariants as reply;
 ghost use Rattle.kms_model.specs.declared.replies.Step.TheVariants as step;
 ghost use Rattle.kms_model.specs.Request.Lookups.{look_up};
-ghost use Rattle.kms_stores.specs.declared.looking.Decided.TheVariants as decided;
-ghost use Rattle.kms_stores.specs.Decisions.{IsDecided, steps_of, world};
-ghost use Rattle.kms_stores.specs.Run.{if_ok};
-ghost use Rattle.kms_stores.specs.Swaps.{swap_answer};
+ghost use Rattle.kms_core.specs.declared.stores.looking.Decided.TheVariants as decided;
+ghost use Rattle.kms_core.specs.Decisions.{IsDecided, steps_of, world};
+ghost use Rattle.kms_core.specs.Run.{if_ok};
+ghost use Rattle.kms_core.specs.Swaps.{swap_answer};
 ghost use Rattle.kms_device.specs.Asking.{MayBeRefused, MayBeSwapped, MayBeTested};
 ghost use Rattle.kms_device.specs.Turns.{DeviceTurn, run_seen};
 

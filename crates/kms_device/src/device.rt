@@ -6,7 +6,7 @@ ghost use Rattle.kms_histlock.specs.Passes.{IsReached, new_passes};
 ghost use Rattle.kms_model.specs.Machine.Histories.{is_drained};
 ghost use Rattle.kms_model.specs.Machine.State.{place_at};
 ghost use Rattle.kms_model.specs.Script.WellFormed.{IsWellFormed};
-ghost use Rattle.kms_stores.specs.Run.{Run, machine};
+ghost use Rattle.kms_core.specs.Run.{Run, machine};
 ghost use Rattle.kms_device.specs.Kernels.{AddsPlainOf};
 ghost use Rattle.kms_laws.specs.Blankings.{blankings};
 ghost use Rattle.kms_device.specs.Turns.{Called, MayBeFound, DeviceTurn};

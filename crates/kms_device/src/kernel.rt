@@ -4,7 +4,7 @@ ghost use Rattle.std.specs.Fn.{FnOnceReturnsAtMut, FnOnceTakesAtMut};
 ghost use Rattle.kms_model.specs.declared.objects.Kind.TheVariants.{Crtc};
 ghost use Rattle.kms_model.specs.declared.replies.Step.TheVariants as step;
 ghost use Rattle.kms_model.specs.Script.WellFormed.{IsWellFormed};
-ghost use Rattle.kms_stores.specs.Run.{Run, gains};
+ghost use Rattle.kms_core.specs.Run.{Run, gains};
 ghost use Rattle.kms_device.specs.Kernels.{AddsPlain};
 ghost use Rattle.kms_device.specs.Steps.{blanks_at, step_if};
 
@@ -28,7 +28,7 @@ pub struct Kernel {
 pub type Pass = kms_histlock::Pass<Kernel>;
 
 impl Model for Kernel {
-    ghost use Rattle.kms_stores.specs.Run.{Run};
+    ghost use Rattle.kms_core.specs.Run.{Run};
     ghost use Rattle.kms_device.specs.Kernels.{AreBlankingCounts};
     ghost use Rattle.kms_device.specs.Steps.{NeverEnds};
 
@@ -40,7 +40,7 @@ impl Model for Kernel {
 }
 
 impl Kept for Kernel {
-    ghost use Rattle.kms_stores.specs.Run.{Run};
+    ghost use Rattle.kms_core.specs.Run.{Run};
     ghost use Rattle.kms_laws.specs.Blankings.{blankings};
     ghost use Rattle.kms_device.specs.Steps.{blankings-grow, owner};
     ghost use Rattle.kms_device.specs.Turns.{IsOpen};

@@ -4,7 +4,7 @@ ghost use Rattle.kms_model.specs.declared.runs.Doing.TheVariants as doing;
 ghost use Rattle.kms_model.specs.Machine.State.{doing_at, request_at};
 ghost use Rattle.kms_model.specs.Request.Flags.{is_test};
 ghost use Rattle.kms_check.specs.Moves.{AcceptedAs, AsksFor, RefusedBy};
-ghost use Rattle.kms_stores.specs.Run.{machine};
+ghost use Rattle.kms_core.specs.Run.{machine};
 ghost use Rattle.kms_device.specs.Attempts.{MayAttempt, Serves};
 ghost use Rattle.kms_device.specs.Trying.{Concludes, IsReady, LooksInVain, TakesLocksFor, Tried, Works, attempted_of, kept_in, kept_of, with_state};
 ghost use Rattle.kms_device.specs.Turns.{run_seen};

@@ -4,8 +4,8 @@ ghost use Rattle.std.specs.List.{range_with_len};
 ghost use Rattle.std.specs.Option.{option_to_list};
 ghost use Rattle.kms_model.specs.declared.objects.Kind.TheVariants.{Crtc};
 ghost use Rattle.kms_model.specs.declared.replies.Step.TheVariants as step;
-ghost use Rattle.kms_stores.specs.Run.{Run, gains};
-ghost use Rattle.kms_stores.specs.Work.{claim_steps, first_claim, write_step};
+ghost use Rattle.kms_core.specs.Run.{Run, gains};
+ghost use Rattle.kms_core.specs.Work.{claim_steps, first_claim, write_step};
 ghost use Rattle.kms_device.specs.Steps.{blanks_at, is_legal, may_write, write_or_flush, step_if, tail_of};
 ghost use Rattle.kms_device.specs.Turns.{DeviceTurn};
 

@@ -11,10 +11,10 @@ use Rattle.kms_model.specs.Frames.Shown.{EachCanBeShown}
 use Rattle.kms_compose.specs.Changes.{IsSameSize}
 use Rattle.kms_compose.specs.Images.{CanShow, word_under}
 use Rattle.kms_compose.specs.declared.images.FbImage.{FbImage}
-use Rattle.kms_screens.specs.declared.fronts.Fronts.{Fronts}
-use Rattle.kms_screens.specs.declared.kept.Drawn.{Drawn}
-use Rattle.kms_screens.specs.declared.kept.KeptFrame.{KeptFrame}
-use Rattle.kms_screens.specs.declared.screen.Screen.{Screen}
+use Rattle.kms_kept_frames.specs.declared.fronts.Fronts.{Fronts}
+use Rattle.kms_kept_frames.specs.declared.kept.Drawn.{Drawn}
+use Rattle.kms_kept_frames.specs.declared.kept.KeptFrame.{KeptFrame}
+use Rattle.kms_kept_frames.specs.declared.screen.Screen.{Screen}
 
 -- Of the states of a frame's digest the first holds the first step of the frame, and each other one holds a step more than the
 -- one before it.

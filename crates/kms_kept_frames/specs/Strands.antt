@@ -3,8 +3,8 @@ use Rattle.std.specs.Prelude.{ℕ, ◌==◌, ◌&&◌, Bool, true, false}
 use Rattle.kms_model.specs.declared.pictures.Picture.{Picture}
 use Rattle.kms_model.specs.declared.pictures.Picture.TheVariants.{Off, On}
 use Rattle.kms_model.specs.declared.runs.Latch.{Latch}
-use Rattle.kms_screens.specs.declared.strands.Strand.{Strand}
-use Rattle.kms_screens.specs.declared.strands.Strand.TheVariants.{First, Second}
+use Rattle.kms_kept_frames.specs.declared.strands.Strand.{Strand}
+use Rattle.kms_kept_frames.specs.declared.strands.Strand.TheVariants.{First, Second}
 
 -- two strands are the same
 abbrev pub is_strand : Strand → Strand → Bool

@@ -1,7 +1,7 @@
 //! Digests, two at a time.
 ghost use Rattle.std.specs.Prelude.{◌≡◌};
 ghost use Rattle.sha2.specs.Sha256.{sha256};
-ghost use Rattle.kms_screens.specs.Screens.{AreFronts};
+ghost use Rattle.kms_kept_frames.specs.Screens.{AreFronts};
 
 use crate::fronts::{Fronts, PLACES};
 use sha2::{Digest, Sha256};

@@ -2,7 +2,7 @@
 ghost use Rattle.std.specs.Prelude.{◌≡◌, ◌<◌, ◌-◌, ◌*◌, ◌++◌, ◌∷◌, [], List, ℕ, IfOk, length, take};
 ghost use Rattle.arrayvec.specs.ArrayVec.{array_vec_len};
 ghost use Rattle.sha2.specs.Hashers.{Holds256};
-ghost use Rattle.kms_screens.specs.Screens.{AreFronts};
+ghost use Rattle.kms_kept_frames.specs.Screens.{AreFronts};
 
 use arrayvec::ArrayVec;
 use sha2::{Digest, Sha256};

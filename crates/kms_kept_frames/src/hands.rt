@@ -3,7 +3,7 @@ ghost use Rattle.std.specs.Prelude.{◌≡◌, IfOk};
 ghost use Rattle.sha2.specs.Sha256.{sha256};
 ghost use Rattle.kms_model.specs.Frames.FrameBytes.{frame_of};
 ghost use Rattle.kms_compose.specs.Images.{CanShow, word_under};
-ghost use Rattle.kms_screens.specs.Screens.{AreFronts, IsDrawnOver, IsRenewed};
+ghost use Rattle.kms_kept_frames.specs.Screens.{AreFronts, IsDrawnOver, IsRenewed};
 
 use crate::digests::{both_digests, digest_of_frame};
 use crate::fronts::Fronts;

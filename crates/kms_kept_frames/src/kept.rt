@@ -1,7 +1,7 @@
 //! Frames that are kept.
 ghost use Rattle.std.specs.Prelude.{◌≡◌, ◌⊎◌, ◌↔◌, IfOk, IsTrue, OnOk};
 ghost use Rattle.kms_compose.specs.Images.{CanShow};
-ghost use Rattle.kms_screens.specs.Screens.{AreOfOneSizeAndTable, IsDrawnOver, IsDrawnOf, IsRenewed};
+ghost use Rattle.kms_kept_frames.specs.Screens.{AreOfOneSizeAndTable, IsDrawnOver, IsDrawnOf, IsRenewed};
 
 use crate::digests::{WORTH_A_THREAD, digest_of_frame};
 use crate::fronts::Fronts;

@@ -3,7 +3,7 @@ ghost use Rattle.std.specs.Prelude.{◌≡◌, ◌⊎◌, ◌↔◌, List, IfOk,
 ghost use Rattle.kms_model.specs.declared.worlds.Thing.{Thing};
 ghost use Rattle.kms_compose.specs.Images.{CanShow};
 ghost use Rattle.kms_compose.specs.declared.images.FbImage.{FbImage};
-ghost use Rattle.kms_screens.specs.Screens.{AreFronts, Has, IsDrawnOver, IsKeptFrameOf, IsKeptFrameOver, AreKeptFramesOf, AreKeptFramesOver};
+ghost use Rattle.kms_kept_frames.specs.Screens.{AreFronts, Has, IsDrawnOver, IsKeptFrameOf, IsKeptFrameOver, AreKeptFramesOf, AreKeptFramesOver};
 
 use crate::digests::{digest_of, digest_of_frame};
 use crate::fronts::Fronts;

@@ -2,7 +2,7 @@
 ghost use Rattle.std.specs.Prelude.{◌≡◌, All, IfOk, IfSome, List, length};
 ghost use Rattle.kms_model.specs.declared.worlds.Thing.{Thing};
 ghost use Rattle.kms_model.specs.Frames.Shown.{EachCanBeShown};
-ghost use Rattle.kms_screens.specs.Strands.{is_lit, is_strand};
+ghost use Rattle.kms_kept_frames.specs.Strands.{is_lit, is_strand};
 
 use crate::kept::is_same;
 use kms_model::{Latch, NoMemory, Picture};

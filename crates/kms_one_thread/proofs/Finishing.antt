@@ -10,9 +10,9 @@ use Rattle.kms_model.specs.Order.Rounds.{IsFinished, ends, is_still, round, roun
 use Rattle.kms_model.specs.Order.Turns.{Progress, does}
 use Rattle.kms_model.specs.Script.WellFormed.{IsWellFormed}
 use Rattle.kms_laws.specs.Ends.{RoundsEnd}
-use Rattle.kms_stores.specs.Run.{Run, gains, machine}
-use Rattle.kms_rounds.specs.Rounds.{ExtendsRun, progress}
-use Rattle.kms_rounds.proofs.Histories.{goes_then, progress_step, stays}
+use Rattle.kms_core.specs.Run.{Run, gains, machine}
+use Rattle.kms_one_thread.specs.Rounds.{ExtendsRun, progress}
+use Rattle.kms_one_thread.proofs.Histories.{goes_then, progress_step, stays}
 
 pub ended : (old new : Run) → legal old.script (machine old) Stall ≡ true → new ≡ gains old (Stall ∷ []) → progress new ≡ ends old.script (progress old)
 ended old new dead after = progress_step old new Stall after ∙ sym (cond-true (legal old.script (machine old) Stall) (does old.script (progress old) Stall) (progress old) dead)

@@ -10,9 +10,9 @@ use Rattle.kms_model.specs.Script.WellFormed.{IsWellFormed}
 use Rattle.kms_laws.proofs.Modes.{plain-from}
 use Rattle.kms_laws.proofs.NeverStuck.{history_along}
 use Rattle.kms_laws.proofs.Turning.{client-legal}
-use Rattle.kms_stores.specs.Run.{Run, gains, machine}
-use Rattle.kms_rounds.specs.Rounds.{ExtendsRun, progress}
-use Rattle.kms_rounds.proofs.Histories.{goes_by, run_does, stays}
+use Rattle.kms_core.specs.Run.{Run, gains, machine}
+use Rattle.kms_one_thread.specs.Rounds.{ExtendsRun, progress}
+use Rattle.kms_one_thread.proofs.Histories.{goes_by, run_does, stays}
 
 -- the step that a client does next is legal
 pub client_legal : (r : Run) (client : ℕ) (step : Step) → IsWellFormed r.script → is_history r.script r.steps ≡ true → Some step ≡ client_step r.script (machine r) client → legal r.script (machine r) step ≡ true

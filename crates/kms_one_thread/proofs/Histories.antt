@@ -7,8 +7,8 @@ use Rattle.kms_model.specs.Machine.State.{first_machine}
 use Rattle.kms_model.specs.Order.Rounds.{run_of}
 use Rattle.kms_model.specs.Order.Turns.{does}
 use Rattle.kms_laws.proofs.Turning.{run-more}
-use Rattle.kms_stores.specs.Run.{Run, gains}
-use Rattle.kms_rounds.specs.Rounds.{ExtendsRun, progress}
+use Rattle.kms_core.specs.Run.{Run, gains}
+use Rattle.kms_one_thread.specs.Rounds.{ExtendsRun, progress}
 
 -- a history with a step more is one whose run does the step
 pub run_does : (s : Script) (h : List Step) (step : Step) → run_of s (h ++ step ∷ []) ≡ does s (run_of s h) step

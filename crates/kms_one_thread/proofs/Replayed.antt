@@ -9,8 +9,8 @@ use Rattle.kms_model.specs.Machine.Effects.{next}
 use Rattle.kms_model.specs.Machine.Histories.{first_illegal, legal}
 use Rattle.kms_model.specs.Machine.State.{Machine, first_machine}
 use Rattle.kms_laws.proofs.Turning.{run-more}
-use Rattle.kms_stores.specs.Run.{Run, gains, machine}
-use Rattle.kms_rounds.specs.Replays.{Did, StopsAt, illegal_behind}
+use Rattle.kms_core.specs.Run.{Run, gains, machine}
+use Rattle.kms_one_thread.specs.Replays.{Did, StopsAt, illegal_behind}
 
 -- so many steps are done, and the first that is not legal is among the others
 pub record IsReplaying (old now : Run) (steps : List Step) (done : ℕ) : Type 0 where

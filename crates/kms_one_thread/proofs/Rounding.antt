@@ -19,9 +19,9 @@ use Rattle.kms_laws.proofs.Resting.{run-of}
 use Rattle.kms_laws.proofs.RoundsEnd.{few-moves}
 use Rattle.kms_laws.proofs.Turning.{IsRun, Later, later-length, later-run, later-still, round-later, run-does}
 use Rattle.kms_laws.proofs.Turning.Later.{More, Same}
-use Rattle.kms_stores.specs.Run.{Run}
-use Rattle.kms_rounds.specs.Rounds.{ExtendsRun, moves_left, progress}
-use Rattle.kms_rounds.proofs.Histories.{goes_then, progress_length, stays}
+use Rattle.kms_core.specs.Run.{Run}
+use Rattle.kms_one_thread.specs.Rounds.{ExtendsRun, moves_left, progress}
+use Rattle.kms_one_thread.proofs.Histories.{goes_then, progress_length, stays}
 
 -- Turns
 

@@ -27,9 +27,9 @@ use Rattle.kms_laws.proofs.Sizes.{sum-most}
 use Rattle.kms_laws.proofs.Steps.{Holds, history_kept}
 use Rattle.kms_laws.proofs.Swapped.{flush_within}
 use Rattle.kms_laws.proofs.Turning.{tail-legal, run-more}
-use Rattle.kms_stores.specs.Run.{Run, gains, machine}
-use Rattle.kms_rounds.specs.Rounds.{ExtendsRun, progress}
-use Rattle.kms_rounds.proofs.Histories.{goes_by, run_does, stays}
+use Rattle.kms_core.specs.Run.{Run, gains, machine}
+use Rattle.kms_one_thread.specs.Rounds.{ExtendsRun, progress}
+use Rattle.kms_one_thread.proofs.Histories.{goes_by, run_does, stays}
 
 -- Whose tail a step is of
 

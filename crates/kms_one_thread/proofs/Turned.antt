@@ -8,10 +8,10 @@ use Rattle.kms_model.specs.declared.replies.Step.TheVariants.{Return}
 use Rattle.kms_model.specs.Device.Objects.{ids_of, object_id}
 use Rattle.kms_model.specs.Machine.Histories.{is_at_end, legal}
 use Rattle.kms_model.specs.Order.Turns.{does, most_of_turn, returns, settles, turn}
-use Rattle.kms_stores.specs.Run.{Run, gains, machine}
-use Rattle.kms_rounds.specs.Rounds.{progress}
-use Rattle.kms_rounds.proofs.Going.{gone}
-use Rattle.kms_rounds.proofs.Histories.{progress_step}
+use Rattle.kms_core.specs.Run.{Run, gains, machine}
+use Rattle.kms_one_thread.specs.Rounds.{progress}
+use Rattle.kms_one_thread.proofs.Going.{gone}
+use Rattle.kms_one_thread.proofs.Histories.{progress_step}
 
 pub few_steps : (t : Topology) → t.crtcs + length t.planes + length t.conns + 4 ≡ most_of_turn t
 few_steps t =

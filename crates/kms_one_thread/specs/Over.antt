@@ -3,8 +3,8 @@ use Rattle.std.specs.Prelude.{Bool, true, false}
 use Rattle.kms_model.specs.declared.scripts.Script.{Script}
 use Rattle.kms_model.specs.Machine.Histories.{is_dead, is_drained}
 use Rattle.kms_model.specs.Machine.State.{Machine}
-use Rattle.kms_rounds.specs.declared.ending.End.{End}
-use Rattle.kms_rounds.specs.declared.ending.End.TheVariants.{Drained, Dead, Open}
+use Rattle.kms_one_thread.specs.declared.ending.End.{End}
+use Rattle.kms_one_thread.specs.declared.ending.End.TheVariants.{Drained, Dead, Open}
 
 -- no history is both
 abbrev pub end_by : (drained dead : Bool) → End

@@ -2,9 +2,9 @@
 use Rattle.std.specs.Prelude.{◌≡◌, ◌≤◌, ℕ, ◌-◌, List, length, take, Option, Some}
 use Rattle.kms_model.specs.declared.replies.Step.{Step}
 use Rattle.kms_model.specs.Machine.Histories.{first_illegal}
-use Rattle.kms_stores.specs.Run.{Run, gains, machine}
-use Rattle.kms_rounds.specs.declared.replaying.ReplayError.{ReplayError}
-use Rattle.kms_rounds.specs.declared.replaying.ReplayError.TheVariants.{Illegal, NoMemory}
+use Rattle.kms_core.specs.Run.{Run, gains, machine}
+use Rattle.kms_one_thread.specs.declared.replaying.ReplayError.{ReplayError}
+use Rattle.kms_one_thread.specs.declared.replaying.ReplayError.TheVariants.{Illegal, NoMemory}
 
 -- the place of the first step that is not legal after the history and the steps before it, counted from 1
 abbrev pub illegal_behind : Run → List Step → Option ℕ

@@ -5,7 +5,7 @@ use Rattle.kms_model.specs.Machine.State.{first_machine}
 use Rattle.kms_model.specs.Order.Rounds.{run_of}
 use Rattle.kms_model.specs.Order.Turns.{Progress}
 use Rattle.kms_laws.specs.Ends.{moves_in}
-use Rattle.kms_stores.specs.Run.{Run}
+use Rattle.kms_core.specs.Run.{Run}
 
 -- the history of a core, and the machine after it
 abbrev pub progress : Run → Progress

@@ -1,8 +1,8 @@
 //! How a history ended.
 ghost use Rattle.std.specs.Prelude.{◌≡◌, false, true};
 ghost use Rattle.kms_model.specs.Machine.Histories as told;
-ghost use Rattle.kms_stores.specs.Run.{machine};
-ghost use Rattle.kms_rounds.specs.Over as over;
+ghost use Rattle.kms_core.specs.Run.{machine};
+ghost use Rattle.kms_one_thread.specs.Over as over;
 
 use kms_core::Core;
 

@@ -1,7 +1,7 @@
 //! Schedules, replayed.
 ghost use Rattle.std.specs.Prelude.{◌≡◌, None, OnErr, OnOk, IfErr};
-ghost use Rattle.kms_stores.specs.Run.{Run, gains};
-ghost use Rattle.kms_rounds.specs.Replays.{Stops, illegal_behind};
+ghost use Rattle.kms_core.specs.Run.{Run, gains};
+ghost use Rattle.kms_one_thread.specs.Replays.{Stops, illegal_behind};
 
 use kms_core::Core;
 use kms_model::{NoMemory, Step};
@@ -18,7 +18,7 @@ pub enum ReplayError {
 
 impl From<NoMemory> for ReplayError {
     ghost use Rattle.std.specs.Prelude.{◌≡◌};
-    ghost use Rattle.kms_rounds.specs.declared.replaying.ReplayError.TheVariants as error;
+    ghost use Rattle.kms_one_thread.specs.declared.replaying.ReplayError.TheVariants as error;
 
     ghost from_gives = { λ _ e. e ≡ error.NoMemory };
 

@@ -2,7 +2,7 @@
 ghost use Rattle.std.specs.Prelude.{◌≡◌, ◌<◌, IfOk, OnOk, false, not, true};
 ghost use Rattle.kms_model.specs.Order.Rounds as order;
 ghost use Rattle.kms_laws.specs.Ends.{EndsOver};
-ghost use Rattle.kms_rounds.specs.Rounds.{ExtendsRun, moves_left, progress};
+ghost use Rattle.kms_one_thread.specs.Rounds.{ExtendsRun, moves_left, progress};
 
 use crate::turns::{settle, turn};
 use kms_core::Core;

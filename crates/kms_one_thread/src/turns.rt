@@ -2,7 +2,7 @@
 //! commits, and its way back from a blocking commit that is cleaned. No step takes longer for those that are over.
 ghost use Rattle.std.specs.Prelude.{◌≡◌, ◌≤◌, OnOk, length};
 ghost use Rattle.kms_model.specs.Order.Turns as order;
-ghost use Rattle.kms_rounds.specs.Rounds.{ExtendsRun, progress};
+ghost use Rattle.kms_one_thread.specs.Rounds.{ExtendsRun, progress};
 
 use kms_core::Core;
 use kms_model::{NoMemory, Step};

@@ -27,9 +27,9 @@ use Rattle.kms_model.specs.Request.SameLooks.{TellsLabels}
 use Rattle.kms_model.specs.Request.Sets.{look_in}
 use Rattle.kms_model.specs.Request.Touched.{is_affected, sets, touches, touches_of_kind}
 use Rattle.kms_model.proofs.SameLooks.{resolved-same, world_tells}
-use Rattle.kms_stores.specs.Calls.{MayMake}
-use Rattle.kms_stores.specs.Decisions.{world}
-use Rattle.kms_stores.specs.Run.{Run, machine}
+use Rattle.kms_core.specs.Calls.{MayMake}
+use Rattle.kms_core.specs.Decisions.{world}
+use Rattle.kms_core.specs.Run.{Run, machine}
 use Rattle.kms_device.specs.Asking.{MayAskFor, TakesLocks}
 use Rattle.kms_device.specs.Attempts.{new_attempt}
 use Rattle.kms_device.specs.Trying.{IsReady}

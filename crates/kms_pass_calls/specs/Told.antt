@@ -1,7 +1,7 @@
 -- What answers tell, in the short form of tests.
 use Rattle.std.specs.Prelude.{Option, Some, None}
-use Rattle.kms_calls.specs.declared.contexts.Locked.{Locked}
-use Rattle.kms_calls.specs.declared.contexts.Locked.TheVariants as locked
+use Rattle.kms_core.specs.declared.calls.contexts.Locked.{Locked}
+use Rattle.kms_core.specs.declared.calls.contexts.Locked.TheVariants as locked
 use Rattle.kms_pass_calls.specs.declared.calling.Told.{Told}
 use Rattle.kms_pass_calls.specs.declared.calling.Told.TheVariants as told
 

@@ -1,7 +1,7 @@
 //! Calls of the client of a pass, which are made where it stands at them.
 ghost use Rattle.std.specs.Prelude.{◌≡◌, true, IfSome};
 ghost use Rattle.kms_histlock.specs.Passes.{IsSamePass};
-ghost use Rattle.kms_stores.specs.Calls.{MayMake, MayReturn};
+ghost use Rattle.kms_core.specs.Calls.{MayMake, MayReturn};
 ghost use Rattle.kms_device.specs.Turns.{run_seen};
 
 use crate::places::{at_request, client_of};

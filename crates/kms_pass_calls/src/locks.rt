@@ -8,8 +8,7 @@ ghost use Rattle.kms_model.specs.Request.Touched.{sets};
 ghost use Rattle.kms_pass_calls.specs.Resolving.{Resolves};
 
 use crate::places::at_request;
-use kms_calls::has_lock;
-use kms_core::Locked;
+use kms_core::{Locked, has_lock};
 use kms_device::{Device, Pass};
 use kms_model::{Assign, Doing, Lookups, NoMemory, ObjId, Request, Ticket, Topology};
 use kms_request::{RequestError, resolve};

@@ -2,7 +2,7 @@
 ghost use Rattle.std.specs.Prelude.{◌≡◌, ◌≤◌, length, Some, IfSome};
 ghost use Rattle.kms_histlock.specs.Passes.{IsSamePass};
 ghost use Rattle.kms_model.specs.Machine.State.{doing_at, request_at};
-ghost use Rattle.kms_stores.specs.Run.{machine};
+ghost use Rattle.kms_core.specs.Run.{machine};
 ghost use Rattle.kms_device.specs.Attempts.{new_attempt};
 ghost use Rattle.kms_device.specs.Trying.{IsReady};
 ghost use Rattle.kms_device.specs.Turns.{run_seen};

@@ -9,8 +9,8 @@ use Rattle.kms_model.specs.declared.scripts.Script.{Script}
 use Rattle.kms_model.specs.Machine.Histories.{is_drained}
 use Rattle.kms_pool.specs.declared.player.Turn as pool
 use Rattle.kms_pool.specs.declared.player.Turn.TheVariants.{Did, Ended, NotYet}
-use Rattle.kms_stores.specs.Run.{Run, machine}
-use Rattle.kms_stores.specs.Work.{first_claim}
+use Rattle.kms_core.specs.Run.{Run, machine}
+use Rattle.kms_core.specs.Work.{first_claim}
 use Rattle.kms_device.specs.Steps.{blanks_at, is_legal, tail_of}
 use Rattle.kms_device.specs.Turns.{DevicePass, DeviceTurn}
 use Rattle.kms_players.specs.PlayerTurns.{FindsNoStep, TickTurn, WorkerTurn, step_of_tick, step_of_worker, told_at}

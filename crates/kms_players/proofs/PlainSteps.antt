@@ -14,9 +14,9 @@ use Rattle.kms_model.specs.declared.scripts.Script.{Script}
 use Rattle.kms_model.specs.Machine.Histories.{are_legal, legal}
 use Rattle.kms_model.specs.Machine.State.{Machine, command_at, doing_at, first_machine, request_in, reserved_at, unread_at}
 use Rattle.kms_model.specs.Machine.Steps.{idle_at, is_idle, is_making, is_signal, is_wait, may, returning_of}
-use Rattle.kms_stores.specs.Calls.{MayMake, MayRead, MaySignal, MayReturn, idle_command_at, is_over_at, only_if, read_reply_at, read_reply, unless_ended}
-use Rattle.kms_stores.specs.Run.{Run, machine}
-use Rattle.kms_stores.proofs.Places.{idle_is}
+use Rattle.kms_core.specs.Calls.{MayMake, MayRead, MaySignal, MayReturn, idle_command_at, is_over_at, only_if, read_reply_at, read_reply, unless_ended}
+use Rattle.kms_core.specs.Run.{Run, machine}
+use Rattle.kms_core.proofs.Places.{idle_is}
 use Rattle.kms_device.specs.Steps.{is_legal}
 use Rattle.kms_device.specs.Turns.{DevicePass, IsOpen, MayBeFound, DeviceTurn, run_seen}
 use Rattle.kms_device.proofs.Found.{going-found, may_read, may_return}

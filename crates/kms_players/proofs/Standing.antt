@@ -21,8 +21,8 @@ use Rattle.kms_laws.proofs.Modes.{plain-from}
 use Rattle.kms_laws.proofs.NeverStuck.{history_facts}
 use Rattle.kms_pool.specs.declared.player.Turn as pool
 use Rattle.kms_pool.specs.declared.player.Turn.TheVariants.{Did, Ended, NotYet}
-use Rattle.kms_stores.specs.Calls.{idle_command_at, only_if}
-use Rattle.kms_stores.specs.Run.{Run, machine}
+use Rattle.kms_core.specs.Calls.{idle_command_at, only_if}
+use Rattle.kms_core.specs.Run.{Run, machine}
 use Rattle.kms_device.specs.declared.attempt.Attempt.{Attempt}
 use Rattle.kms_device.specs.Attempts.{MayAttempt, Serves, StaysAt, Went, new_attempt}
 use Rattle.kms_device.specs.Turns.{DevicePass, IsOpen, DeviceTurn, run_seen}

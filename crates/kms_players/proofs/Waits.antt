@@ -2,7 +2,7 @@
 use Rattle.std.proofs.Common.{◌≡◌, List, [], ◌++◌, append-nil, refl, sym, ap, ◌∙◌}
 use Rattle.kms_model.specs.declared.replies.Step.{Step}
 use Rattle.kms_model.specs.declared.scripts.Script.{Script}
-use Rattle.kms_stores.specs.Run.{Run}
+use Rattle.kms_core.specs.Run.{Run}
 use Rattle.kms_device.specs.Attempts.{Went}
 use Rattle.kms_device.specs.Turns.{DevicePass, IsOpen, MayBeFound, DeviceTurn, run_seen}
 use Rattle.kms_device.proofs.Went.{went_turn}

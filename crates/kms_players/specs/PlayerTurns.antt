@@ -15,8 +15,8 @@ use Rattle.kms_model.specs.Machine.Histories.{is_at_end, is_drained}
 use Rattle.kms_model.specs.Machine.State.{command_at, doing_at}
 use Rattle.kms_pool.specs.declared.player.Turn as pool
 use Rattle.kms_pool.specs.declared.player.Turn.TheVariants.{Did, Ended, NotYet}
-use Rattle.kms_stores.specs.Run.{Run, machine}
-use Rattle.kms_stores.specs.Work.{first_claim}
+use Rattle.kms_core.specs.Run.{Run, machine}
+use Rattle.kms_core.specs.Work.{first_claim}
 use Rattle.kms_device.specs.declared.attempt.Attempt.{Attempt}
 use Rattle.kms_device.specs.declared.attempt.Attempted.{Attempted}
 use Rattle.kms_device.specs.declared.attempt.Attempted.TheVariants as attempted

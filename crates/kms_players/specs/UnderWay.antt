@@ -1,7 +1,7 @@
 -- What a client keeps true of itself between its turns. From: this device's own.
 use Rattle.std.specs.Prelude.{◌≡◌, ◌≤◌, ℕ, length, Option, Some, None}
 use Rattle.kms_model.specs.Machine.State.{place_at}
-use Rattle.kms_stores.specs.Run.{Run, machine}
+use Rattle.kms_core.specs.Run.{Run, machine}
 use Rattle.kms_device.specs.declared.attempt.Attempt.{Attempt}
 use Rattle.kms_device.specs.Attempts.{MayAttempt, Serves, new_attempt}
 use Rattle.kms_device.specs.Turns.{DevicePass, SharedDevice}

@@ -1,7 +1,7 @@
 //! Players that found nothing to do.
 ghost use Rattle.std.specs.Prelude.{◌≡◌, [], true};
 ghost use Rattle.kms_model.specs.Machine.Histories.{is_drained};
-ghost use Rattle.kms_stores.specs.Run.{machine};
+ghost use Rattle.kms_core.specs.Run.{machine};
 ghost use Rattle.kms_device.specs.Turns.{DeviceTurn};
 ghost use Rattle.kms_players.specs.PlayerTurns.{told_at};
 

@@ -3,8 +3,8 @@ ghost use Rattle.std.specs.Prelude.{◌≡◌, [], Some, None, IfOk, OnErr, opti
 ghost use Rattle.kms_model.specs.Device.Serial.{command_of};
 ghost use Rattle.kms_model.specs.Machine.State.{place_at, request_in};
 ghost use Rattle.kms_pool.specs.declared.player.Turn.TheVariants.{Did};
-ghost use Rattle.kms_stores.specs.Calls.{MayRead, MayReturn, idle_command_at};
-ghost use Rattle.kms_stores.specs.Run.{machine};
+ghost use Rattle.kms_core.specs.Calls.{MayRead, MayReturn, idle_command_at};
+ghost use Rattle.kms_core.specs.Run.{machine};
 ghost use Rattle.kms_device.specs.Attempts.{Went, new_attempt};
 ghost use Rattle.kms_device.specs.Turns.{IsOpen, run_seen};
 ghost use Rattle.kms_players.specs.Players.{name_of_pass};

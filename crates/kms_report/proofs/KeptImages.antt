@@ -13,9 +13,9 @@ use Rattle.kms_model.specs.Stores.Kept.{Seen}
 use Rattle.kms_compose.specs.Images.{AreImagesIn, CanShow, image_seen, seen_under}
 use Rattle.kms_compose.specs.declared.images.FbImage.{FbImage}
 use Rattle.kms_compose.proofs.SameFrames.{frame_same}
-use Rattle.kms_screens.specs.declared.kept.KeptFrame.{KeptFrame}
-use Rattle.kms_screens.specs.declared.screen.Screen.{Screen}
-use Rattle.kms_screens.specs.Screens.{Has, IsKeptFrameOf, IsKeptFrameOver, AreKeptFramesOf, AreKeptFramesOver}
+use Rattle.kms_kept_frames.specs.declared.kept.KeptFrame.{KeptFrame}
+use Rattle.kms_kept_frames.specs.declared.screen.Screen.{Screen}
+use Rattle.kms_kept_frames.specs.Screens.{Has, IsKeptFrameOf, IsKeptFrameOver, AreKeptFramesOf, AreKeptFramesOver}
 use Rattle.kms_report.specs.Images.{IsPushed, KeepsImages, ShowsKept}
 
 -- what a choice comes to, by its test

@@ -5,9 +5,9 @@ use Rattle.kms_model.specs.declared.runs.Latch.{Latch}
 use Rattle.kms_model.specs.declared.worlds.Thing.{Thing}
 use Rattle.kms_model.specs.Machine.State.{Machine}
 use Rattle.kms_report.specs.Telling.{latches_text}
-use Rattle.kms_screens.specs.declared.strands.Strand.{Strand}
-use Rattle.kms_screens.specs.declared.strands.Strand.TheVariants.{First, Second}
-use Rattle.kms_screens.specs.Strands.{is_strand}
+use Rattle.kms_kept_frames.specs.declared.strands.Strand.{Strand}
+use Rattle.kms_kept_frames.specs.declared.strands.Strand.TheVariants.{First, Second}
+use Rattle.kms_kept_frames.specs.Strands.{is_strand}
 use Rattle.kms_report.specs.Strands.{Begins, strand_digests, latch_digests}
 use Rattle.kms_report.proofs.Pieces.{latches-join, one_more as one_piece_more}
 

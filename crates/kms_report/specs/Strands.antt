@@ -4,8 +4,8 @@ use Rattle.sha2.specs.Sha256.{sha256}
 use Rattle.kms_model.specs.declared.runs.Latch.{Latch}
 use Rattle.kms_model.specs.declared.worlds.Thing.{Thing}
 use Rattle.kms_model.specs.Frames.FrameBytes.{frame_bytes}
-use Rattle.kms_screens.specs.declared.strands.Strand.{Strand}
-use Rattle.kms_screens.specs.Strands.{is_lit, is_strand}
+use Rattle.kms_kept_frames.specs.declared.strands.Strand.{Strand}
+use Rattle.kms_kept_frames.specs.Strands.{is_lit, is_strand}
 
 -- the digest of a latch's frame, where the latch is one of a CRTC, on, and of the strand that is meant
 abbrev pub latch_digests : List Thing → ℕ → Bool → Latch → List (List ℕ)

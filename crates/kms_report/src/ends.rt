@@ -1,7 +1,7 @@
 //! How a history ended.
 ghost use Rattle.std.specs.Prelude.{◌≡◌, ◌++◌, ◌∷◌, [], OnOk, codes, length};
 ghost use Rattle.std.specs.Fmt.{decimal};
-ghost use Rattle.kms_stores.specs.Run.{machine};
+ghost use Rattle.kms_core.specs.Run.{machine};
 ghost use Rattle.kms_model.specs.Machine.Histories.{stalled_on};
 ghost use Rattle.kms_model.specs.Report.History.{end_words, stalled_name};
 ghost use Rattle.kms_model.specs.Report.TextLines.{line};

@@ -1,7 +1,7 @@
 //! The report of a history.
 ghost use Rattle.std.specs.Prelude.{◌≡◌, ◌++◌, All, IfOk, OnOk};
 ghost use Rattle.std.specs.List.{flat_map, range_with_len};
-ghost use Rattle.kms_stores.specs.Run.{machine};
+ghost use Rattle.kms_core.specs.Run.{machine};
 ghost use Rattle.kms_model.specs.Frames.Shown.{EachCanBeShown};
 ghost use Rattle.kms_model.specs.Report.History as history;
 ghost use Rattle.kms_report.specs.Images.{things_of};
@@ -12,8 +12,8 @@ use crate::ends::push_end;
 use crate::lines::{push_entry, push_freed, push_step};
 use crate::tellers::Tells;
 use kms_core::Core;
+use kms_kept_frames::{OneThread, SeveralThreads};
 use kms_model::{Latch, NoMemory, Script, Seq, Step};
-use kms_screens::{OneThread, SeveralThreads};
 use std::alloc::Global;
 use std::thread::Threads;
 

@@ -3,20 +3,20 @@ ghost use Rattle.std.specs.Prelude.{◌≡◌, ◌*◌, ◌++◌, ◌∷◌, [],
 ghost use Rattle.std.specs.Fmt.{decimal};
 ghost use Rattle.hex.specs.Hex.{encode_lower};
 ghost use Rattle.sha2.specs.Sha256.{sha256};
-ghost use Rattle.kms_stores.specs.Run.{machine};
+ghost use Rattle.kms_core.specs.Run.{machine};
 ghost use Rattle.kms_model.specs.declared.pictures.Picture.TheVariants.{On};
 ghost use Rattle.kms_model.specs.Frames.Shown.{EachCanBeShown};
 ghost use Rattle.kms_model.specs.Report.History.{latch_line};
 ghost use Rattle.kms_report.specs.Images.{things_of};
 ghost use Rattle.kms_report.specs.Telling.{latch_front, latches_text, lit_line};
-ghost use Rattle.kms_screens.specs.Screens.{AreKeptFramesOf};
+ghost use Rattle.kms_kept_frames.specs.Screens.{AreKeptFramesOf};
 
 use crate::pixmaps::push_pixmap;
 use crate::showing::showing;
 use kms_compose::Frame;
 use kms_core::Core;
+use kms_kept_frames::{Hands, Screen};
 use kms_model::{Latch, Mode, NoMemory, Picture};
-use kms_screens::{Hands, Screen};
 use std::alloc::{AllocError, Global};
 
 /// `L CRTC COMMIT COUNT `

@@ -19,8 +19,8 @@ mod tellers;
 
 pub use histories::{Options, report, report_with};
 use kms_compose::Frame;
+use kms_kept_frames::digest_of;
 use kms_model::{NoMemory, Seq};
-use kms_screens::digest_of;
 use std::alloc::Global;
 
 /// The SHA-256 of a frame's bytes (FIPS 180-4), as 64 lower-case hexadecimal digits. The only error is want of memory.

@@ -3,13 +3,13 @@ ghost use Rattle.std.specs.Prelude.{All, IfOk, IfSome, OnOk};
 ghost use Rattle.kms_compose.specs.Images.{AreImagesIn, CanShow};
 ghost use Rattle.kms_model.specs.Frames.Shown.{EachCanBeShown};
 ghost use Rattle.kms_report.specs.Images.{KeepsImages, ShowsKept, things_of};
-ghost use Rattle.kms_screens.specs.Screens.{Has, AreKeptFramesOf};
+ghost use Rattle.kms_kept_frames.specs.Screens.{Has, AreKeptFramesOf};
 
 use crate::images::push_images;
 use kms_compose::Images;
 use kms_core::Core;
+use kms_kept_frames::{Hands, Screen, next_other};
 use kms_model::{Latch, NoMemory, Picture, Seq};
-use kms_screens::{Hands, Screen, next_other};
 use std::alloc::Global;
 
 /// Adds the images of a picture, where there is one.

@@ -4,14 +4,14 @@ ghost use Rattle.kms_model.specs.declared.worlds.Thing.{Thing};
 ghost use Rattle.kms_model.specs.Frames.Shown.{EachCanBeShown};
 ghost use Rattle.kms_report.specs.Images.{things_of};
 ghost use Rattle.kms_report.specs.Strands.{strand_digests, latch_digests};
-ghost use Rattle.kms_screens.specs.Screens.{AreKeptFramesOf};
-ghost use Rattle.kms_screens.specs.Strands.{is_strand};
-ghost use Rattle.kms_screens.specs.declared.strands.Strand.TheVariants as Strand;
+ghost use Rattle.kms_kept_frames.specs.Screens.{AreKeptFramesOf};
+ghost use Rattle.kms_kept_frames.specs.Strands.{is_strand};
+ghost use Rattle.kms_kept_frames.specs.declared.strands.Strand.TheVariants as Strand;
 
 use crate::showing::showing;
 use kms_core::Core;
+use kms_kept_frames::{OneThread, Screen, Strand, is_lit};
 use kms_model::{Latch, NoMemory};
-use kms_screens::{OneThread, Screen, Strand, is_lit};
 use std::alloc::Global;
 use std::mem;
 use std::thread::{Threads, join_mut};

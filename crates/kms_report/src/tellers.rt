@@ -1,20 +1,20 @@
 //! Who tells of latches: one thread, or several, of which two make frames side by side.
 ghost use Rattle.std.specs.Prelude.{◌≡◌, ◌++◌, ◌∷◌, [], ℕ, List, false, length, ◌<◌, All, IfOk, IfSome, OnOk};
 ghost use Rattle.std.specs.Thread.{IsSync};
-ghost use Rattle.kms_stores.specs.Run.{machine};
+ghost use Rattle.kms_core.specs.Run.{machine};
 ghost use Rattle.kms_model.specs.Frames.Shown.{EachCanBeShown};
 ghost use Rattle.kms_report.specs.Images.{things_of};
 ghost use Rattle.kms_report.specs.Strands.{Begins, strand_digests};
 ghost use Rattle.kms_report.specs.Telling.{latches_text};
-ghost use Rattle.kms_screens.specs.Screens.{AreKeptFramesOf};
-ghost use Rattle.kms_screens.specs.declared.strands.Strand.TheVariants as Strand;
+ghost use Rattle.kms_kept_frames.specs.Screens.{AreKeptFramesOf};
+ghost use Rattle.kms_kept_frames.specs.declared.strands.Strand.TheVariants as Strand;
 
 use crate::latches::{front_of, push_after, push_digits, push_latches, push_off};
 use crate::showing::showing;
 use crate::strands::digests_by_strands;
 use kms_core::Core;
+use kms_kept_frames::{OneThread, Screen, SeveralThreads, Strand, is_lit, strands_of};
 use kms_model::{Latch, NoMemory, Picture};
-use kms_screens::{OneThread, Screen, SeveralThreads, Strand, is_lit, strands_of};
 use std::alloc::Global;
 use std::thread::Threads;
 

@@ -3,12 +3,12 @@
 ghost use Rattle.std.specs.Prelude.{◌≡◌, IfOk};
 ghost use Rattle.kms_compose.specs.Images.{HasImage};
 ghost use Rattle.kms_report_tests.specs.Spots.{ShowsSpots, spot_fb};
-ghost use Rattle.kms_screens.specs.Screens.{AreKeptFramesOver};
+ghost use Rattle.kms_kept_frames.specs.Screens.{AreKeptFramesOver};
 
 use crate::spots::{OPAQUE, Spot, View, WORDS, images, picture};
 use kms_compose::{Frame, Images};
+use kms_kept_frames::{Drawn, Fronts, Hands, OneThread, Screen, SeveralThreads};
 use kms_model::{NoMemory, Picture};
-use kms_screens::{Drawn, Fronts, Hands, OneThread, Screen, SeveralThreads};
 use std::alloc::Global;
 use std::cell::Cell;
 use std::process::Abort;

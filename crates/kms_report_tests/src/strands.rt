@@ -1,7 +1,7 @@
 //! How latches are shared out between two strands.
+use kms_kept_frames::{Strand, strands_of};
 use kms_model::{Latch, Layers, Picture, Shown};
 use kms_samples::{CONN, sized_mode};
-use kms_screens::{Strand, strands_of};
 use std::alloc::Global;
 use std::process::Abort;
 use std::test::Fail;

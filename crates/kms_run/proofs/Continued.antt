@@ -3,7 +3,7 @@ use Rattle.std.proofs.Common.{◌≡◌, List, Result, Ok, Err, subst, sym, ◌�
 use Rattle.std.specs.Prelude.{IfOk}
 use Rattle.kms_model.specs.declared.copying.NoMemory.{NoMemory}
 use Rattle.kms_model.specs.declared.scripts.Script.{Script}
-use Rattle.kms_stores.specs.Run.{Run}
+use Rattle.kms_core.specs.Run.{Run}
 use Rattle.kms_device.specs.Turns.{DevicePass, SharedDevice}
 use Rattle.kms_laws.specs.Ends.{IsOver}
 use Rattle.kms_run.specs.Answers.{IsContinued}

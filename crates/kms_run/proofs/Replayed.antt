@@ -3,10 +3,10 @@ use Rattle.std.proofs.Common.{◌≡◌, ℕ, List, [], refl, subst, sym, ap, �
 use Rattle.kms_model.specs.declared.replies.Step.{Step}
 use Rattle.kms_model.specs.declared.scripts.Script.{Script}
 use Rattle.kms_model.specs.Machine.Histories.{at, first_illegal, illegal_at, run_steps}
-use Rattle.kms_stores.specs.Run.{Run}
-use Rattle.kms_rounds.specs.declared.replaying.ReplayError.{ReplayError}
-use Rattle.kms_rounds.specs.declared.replaying.ReplayError.TheVariants.{Illegal}
-use Rattle.kms_rounds.specs.Replays.{Stops, illegal_behind}
+use Rattle.kms_core.specs.Run.{Run}
+use Rattle.kms_one_thread.specs.declared.replaying.ReplayError.{ReplayError}
+use Rattle.kms_one_thread.specs.declared.replaying.ReplayError.TheVariants.{Illegal}
+use Rattle.kms_one_thread.specs.Replays.{Stops, illegal_behind}
 use Rattle.kms_run.specs.declared.words.Action.TheVariants.{Replay}
 use Rattle.kms_run.specs.Answers.{IsIllegalOf}
 

@@ -8,8 +8,8 @@ use Rattle.kms_model.specs.Order.Rounds.{IsFinished, IsOne}
 use Rattle.kms_model.specs.Report.History as report
 use Rattle.kms_model.specs.Script.Schedules.{Parts, input_of}
 use Rattle.kms_report.specs.Telling as telling
-use Rattle.kms_rounds.specs.declared.ending.End.{End}
-use Rattle.kms_rounds.specs.declared.ending.End.TheVariants as end
+use Rattle.kms_one_thread.specs.declared.ending.End.{End}
+use Rattle.kms_one_thread.specs.declared.ending.End.TheVariants as end
 use Rattle.kms_run.specs.declared.answers.FullReport.{FullReport}
 use Rattle.kms_run.specs.declared.answers.NoAnswer.{NoAnswer}
 use Rattle.kms_run.specs.declared.answers.NoAnswer.TheVariants as stops

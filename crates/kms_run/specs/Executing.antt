@@ -2,7 +2,7 @@
 use Rattle.std.specs.Prelude.{List, Result, Ok, Err, ⊤}
 use Rattle.kms_model.specs.declared.replies.Step.{Step}
 use Rattle.kms_model.specs.declared.scripts.Script.{Script}
-use Rattle.kms_stores.specs.Run.{Run}
+use Rattle.kms_core.specs.Run.{Run}
 use Rattle.kms_laws.specs.Ends.{IsOver}
 use Rattle.kms_script.specs.declared.faults.ParseError.{ParseError}
 use Rattle.kms_script.specs.declared.faults.ParseError.TheVariants as parsing

@@ -6,8 +6,8 @@ use Rattle.kms_io.specs.Causes.{Rose}
 use Rattle.kms_model.specs.declared.scripts.Why.{Why}
 use Rattle.kms_model.specs.Script.InputLines.{input_limit}
 use Rattle.kms_model.specs.Script.Schedules.{input_of}
-use Rattle.kms_rounds.specs.declared.ending.End.{End}
-use Rattle.kms_rounds.specs.declared.ending.End.TheVariants as end
+use Rattle.kms_one_thread.specs.declared.ending.End.{End}
+use Rattle.kms_one_thread.specs.declared.ending.End.TheVariants as end
 use Rattle.kms_run.specs.declared.status.Status.{Status}
 use Rattle.kms_run.specs.declared.status.Status.TheVariants as status
 use Rattle.kms_run.specs.declared.words.Task.TheVariants.{Execute, Generate}

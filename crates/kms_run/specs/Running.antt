@@ -6,7 +6,7 @@ use Rattle.kms_model.specs.declared.replies.Step.{Step}
 use Rattle.kms_model.specs.declared.scripts.Script.{Script}
 use Rattle.kms_model.specs.Machine.Histories.{is_history}
 use Rattle.kms_model.specs.Order.Rounds.{IsFinished}
-use Rattle.kms_stores.specs.Run.{Run}
+use Rattle.kms_core.specs.Run.{Run}
 use Rattle.kms_laws.specs.Blankings.{blankings}
 use Rattle.kms_device.specs.Attempts.{new_attempt}
 use Rattle.kms_device.specs.Turns.{DevicePass, SharedDevice}

@@ -3,8 +3,8 @@ use Rattle.std.specs.Prelude.{ℕ, List, [], ◌++◌, codes}
 use Rattle.std.specs.Fmt.{decimal}
 use Rattle.kms_model.specs.declared.scripts.Why.{Why}
 use Rattle.kms_model.specs.declared.scripts.Why.TheVariants.{Bytes, Cut, Form, Label, Limit}
-use Rattle.kms_rounds.specs.declared.ending.End.{End}
-use Rattle.kms_rounds.specs.declared.ending.End.TheVariants as end
+use Rattle.kms_one_thread.specs.declared.ending.End.{End}
+use Rattle.kms_one_thread.specs.declared.ending.End.TheVariants as end
 use Rattle.kms_run.specs.declared.status.Status.{Status}
 use Rattle.kms_run.specs.declared.status.Status.TheVariants as status
 

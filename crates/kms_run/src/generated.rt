@@ -1,7 +1,7 @@
 //! What `gen` writes: a generated script, or what one thread comes to that runs it.
 ghost use Rattle.std.specs.Prelude.{◌≡◌, ◌≤◌, ◌∷◌, IfOk, [], codes, length, string_bytes, true};
 ghost use Rattle.std.specs.List.{count_by};
-ghost use Rattle.kms_stores.specs.Run.{machine};
+ghost use Rattle.kms_core.specs.Run.{machine};
 ghost use Rattle.kms_model.specs.Machine.Histories.{is_drained};
 ghost use Rattle.kms_model.specs.Script.Generated.{generated};
 ghost use Rattle.kms_model.specs.Script.Spelling.{Spells};
@@ -12,10 +12,10 @@ ghost use Rattle.kms_run.specs.Words.{HasFewCommits};
 use crate::words::{Generation, NO_OPTIONS};
 use kms_core::Core;
 use kms_gen::generate;
+use kms_kept_frames::digest_of;
 use kms_model::{Answered, NoMemory, Reply, Seq};
+use kms_one_thread::finish;
 use kms_report::report_with;
-use kms_rounds::finish;
-use kms_screens::digest_of;
 use kms_script::print;
 use std::alloc::{AllocError, Global};
 use std::thread::Threads;

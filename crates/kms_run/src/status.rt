@@ -4,7 +4,7 @@ ghost use Rattle.std.specs.Fmt.{decimal};
 ghost use Rattle.kms_run.specs.StatusText.{why_text, status_text};
 
 use kms_model::{NoMemory, Why};
-use kms_rounds::End;
+use kms_one_thread::End;
 use std::alloc::{AllocError, Global};
 
 /// How a run of the program ends.

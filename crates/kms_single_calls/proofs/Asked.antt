@@ -15,10 +15,10 @@ use Rattle.kms_model.specs.Device.Objects.{first_id, index_of, kind_of, object_i
 use Rattle.kms_model.specs.Machine.State.{doing_at}
 use Rattle.kms_model.proofs.KindsOfIds.{HasKind, has_kind}
 use Rattle.kms_model.proofs.TouchedLemmas.{HasFewObjects}
-use Rattle.kms_calls.specs.declared.contexts.Locked.{Locked}
-use Rattle.kms_calls.specs.Locks.{MayLock, lock_steps, locked_answer}
-use Rattle.kms_next.specs.Next.{IsLegal}
-use Rattle.kms_stores.specs.Run.{Run, gains, machine}
+use Rattle.kms_core.specs.declared.calls.contexts.Locked.{Locked}
+use Rattle.kms_core.specs.Locks.{MayLock, lock_steps, locked_answer}
+use Rattle.kms_core.specs.Next.{IsLegal}
+use Rattle.kms_core.specs.Run.{Run, gains, machine}
 use Rattle.kms_core.proofs.Applied.{IsIdOf, flush_kind, lock_asked, lock_there, locked_step, vblank_kind}
 use Rattle.kms_single_calls.specs.Calls.{asked_steps, may_ask}
 

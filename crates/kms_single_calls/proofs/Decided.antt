@@ -39,13 +39,13 @@ use Rattle.kms_check.specs.Moves.{AcceptedAs, RefusedBy}
 use Rattle.kms_check.proofs.Covering.{accepted-states}
 use Rattle.kms_check.proofs.Readiness.{is_duplicated-object, is_kind_duplicated}
 use Rattle.kms_track.specs.Places.{first_below, object_at_place}
-use Rattle.kms_stores.specs.declared.looking.Decided.{Decided}
-use Rattle.kms_stores.specs.declared.looking.Decided.TheVariants as decided
-use Rattle.kms_stores.specs.Decisions.{HoldsAll, IsAccepted, IsDecided, IsDeciding, MayRefuse, labels_of, number_or_0, steps_of, taker, taker_at, world}
-use Rattle.kms_stores.specs.Run.{Run, gains, if_ok, machine}
-use Rattle.kms_stores.specs.Swaps.{HasAllStates, swap_answer}
-use Rattle.kms_stores.proofs.Places.{client_there}
-use Rattle.kms_stores.proofs.Takers.{found_at}
+use Rattle.kms_core.specs.declared.stores.looking.Decided.{Decided}
+use Rattle.kms_core.specs.declared.stores.looking.Decided.TheVariants as decided
+use Rattle.kms_core.specs.Decisions.{HoldsAll, IsAccepted, IsDecided, IsDeciding, MayRefuse, labels_of, number_or_0, steps_of, taker, taker_at, world}
+use Rattle.kms_core.specs.Run.{Run, gains, if_ok, machine}
+use Rattle.kms_core.specs.Swaps.{HasAllStates, swap_answer}
+use Rattle.kms_core.proofs.Places.{client_there}
+use Rattle.kms_core.proofs.Takers.{found_at}
 use Rattle.kms_core.proofs.Applied.{IsHistoryOf}
 use Rattle.kms_single_calls.specs.declared.contexts.RequestContext.{RequestContext}
 use Rattle.kms_single_calls.specs.Deciding.{AreOfLabels, IsOfNoWorld, accepting_answer, accepting_step}

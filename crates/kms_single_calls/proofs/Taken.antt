@@ -19,9 +19,9 @@ use Rattle.kms_model.specs.Machine.State.{doing_at, holds, request_at}
 use Rattle.kms_model.specs.Request.Deciding.{AreFresh}
 use Rattle.kms_state.specs.Places.{is_duplicated, is_duplicated_of, none_duplicated, state_of}
 use Rattle.kms_state.specs.StandsIn.{Agrees, IsStateOf, KeepsNew, KeepsOld}
-use Rattle.kms_calls.specs.Locks.{has_lock, held_state, present_state}
-use Rattle.kms_calls.specs.States.{state_of_kind}
-use Rattle.kms_stores.specs.Run.{Run, machine}
+use Rattle.kms_core.specs.Locks.{has_lock, held_state, present_state}
+use Rattle.kms_core.specs.States.{state_of_kind}
+use Rattle.kms_core.specs.Run.{Run, machine}
 use Rattle.kms_single_calls.specs.declared.contexts.RequestContext.{RequestContext}
 use Rattle.kms_single_calls.specs.Taking.{HasTaken, taken_up}
 

@@ -9,7 +9,7 @@ use Rattle.kms_model.specs.Device.Objects.{first_id}
 use Rattle.kms_model.specs.Machine.Histories.{legal}
 use Rattle.kms_model.specs.Machine.State.{doing_at}
 use Rattle.kms_model.specs.Machine.Steps.{contended}
-use Rattle.kms_stores.specs.Run.{Run, machine}
+use Rattle.kms_core.specs.Run.{Run, machine}
 
 -- a call does the step by itself: it takes no lock and decides nothing, and it is told its commit
 abbrev pub is_single : Step → Bool

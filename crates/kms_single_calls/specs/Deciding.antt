@@ -16,11 +16,11 @@ use Rattle.kms_model.specs.Request.Lookups.{look_up}
 use Rattle.kms_model.specs.Request.Resolves.{IsResolved}
 use Rattle.kms_model.specs.Request.Sets.{look_in}
 use Rattle.kms_check.specs.Moves.{AcceptedAs, AsksFor, RefusedBy}
-use Rattle.kms_stores.specs.declared.looking.Decided.{Decided}
-use Rattle.kms_stores.specs.declared.looking.Decided.TheVariants as decided
-use Rattle.kms_stores.specs.Decisions.{IsDecided, labels_of, steps_of, world}
-use Rattle.kms_stores.specs.Run.{Run, gains, machine}
-use Rattle.kms_stores.specs.Swaps.{swap_answer}
+use Rattle.kms_core.specs.declared.stores.looking.Decided.{Decided}
+use Rattle.kms_core.specs.declared.stores.looking.Decided.TheVariants as decided
+use Rattle.kms_core.specs.Decisions.{IsDecided, labels_of, steps_of, world}
+use Rattle.kms_core.specs.Run.{Run, gains, machine}
+use Rattle.kms_core.specs.Swaps.{swap_answer}
 use Rattle.kms_single_calls.specs.declared.contexts.RequestContext.{RequestContext}
 
 -- the look-ups are of the labels of the context's request

@@ -10,8 +10,8 @@ use Rattle.kms_model.specs.declared.scripts.Script.{Script}
 use Rattle.kms_model.specs.Machine.State.{Machine, doing_at, holds, request_at}
 use Rattle.kms_state.specs.Places.{duplicated, is_duplicated, may_duplicate, none_duplicated}
 use Rattle.kms_state.specs.StandsIn.{Agrees}
-use Rattle.kms_calls.specs.Locks.{has_lock, present_state}
-use Rattle.kms_stores.specs.Run.{Run, machine}
+use Rattle.kms_core.specs.Locks.{has_lock, present_state}
+use Rattle.kms_core.specs.Run.{Run, machine}
 use Rattle.kms_single_calls.specs.declared.contexts.RequestContext.{RequestContext}
 
 -- The client takes locks for its request in a context with this ticket. The states are the present ones, and the context

@@ -5,9 +5,9 @@ ghost use Rattle.kms_model.specs.Device.Masks.{has_bit};
 ghost use Rattle.kms_model.specs.Device.Places.{state_at};
 ghost use Rattle.kms_model.specs.Request.Lookups.{look_up};
 ghost use Rattle.kms_check.specs.Moves.{AcceptedAs};
-ghost use Rattle.kms_stores.specs.Decisions.{IsDecided, steps_of, world};
-ghost use Rattle.kms_stores.specs.Run.{gains, if_ok, machine};
-ghost use Rattle.kms_stores.specs.Swaps.{HasAllStates};
+ghost use Rattle.kms_core.specs.Decisions.{IsDecided, steps_of, world};
+ghost use Rattle.kms_core.specs.Run.{gains, if_ok, machine};
+ghost use Rattle.kms_core.specs.Swaps.{HasAllStates};
 ghost use Rattle.kms_single_calls.specs.Deciding.{AreOfLabels, ComesTo, accepting_answer, accepting_step};
 ghost use Rattle.kms_single_calls.specs.Taking.{HasTaken};
 

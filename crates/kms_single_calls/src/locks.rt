@@ -1,8 +1,8 @@
 //! Locks by their single calls, each made once it is found out that it may be made.
 ghost use Rattle.std.specs.Prelude.{◌≡◌, IfOk};
 ghost use Rattle.std.specs.Bool.{then_some};
-ghost use Rattle.kms_calls.specs.Locks.{locked_answer, relock_steps, relocked_answer};
-ghost use Rattle.kms_stores.specs.Run.{gains, if_ok};
+ghost use Rattle.kms_core.specs.Locks.{locked_answer, relock_steps, relocked_answer};
+ghost use Rattle.kms_core.specs.Run.{gains, if_ok};
 ghost use Rattle.kms_single_calls.specs.Calls.{asked_steps, may_ask, may_ask_again, steps_if};
 
 use kms_core::{Core, Locked};

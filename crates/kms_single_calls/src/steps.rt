@@ -2,8 +2,8 @@
 ghost use Rattle.std.specs.Prelude.{◌≡◌, ◌&&◌, ◌∷◌, [], IfOk, true, if◌then◌else◌};
 ghost use Rattle.kms_model.specs.declared.replies.Step.TheVariants as step;
 ghost use Rattle.kms_model.specs.Machine.Histories.{legal};
-ghost use Rattle.kms_next.specs.Next.{IsLegal, is_of_worker};
-ghost use Rattle.kms_stores.specs.Run.{gains, if_ok, machine};
+ghost use Rattle.kms_core.specs.Next.{IsLegal, is_of_worker};
+ghost use Rattle.kms_core.specs.Run.{gains, if_ok, machine};
 ghost use Rattle.kms_single_calls.specs.Calls.{is_single};
 
 use kms_core::Core;

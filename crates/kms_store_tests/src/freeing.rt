@@ -4,7 +4,7 @@ ghost use Rattle.arrayvec.specs.ArrayVec.{array_vec_len};
 
 use crate::rows::{assert_row, assert_rows};
 use arrayvec::ArrayVec;
-use kms_freeing::{any_names, both_name, put_both, shown_ids};
+use kms_core::{any_names, both_name, put_both, shown_ids};
 use kms_model::{Both, FbInfo, Format, Layer, PlaneState};
 
 /// A framebuffer with an id.

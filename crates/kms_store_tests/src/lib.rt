@@ -1,6 +1,6 @@
 //! Tests of what the machine and its threads stand on, by their public calls: registers, signals, commits and their tails, locks
-//! and clients, things, the framebuffers that are given up, the lock whose holders take turns, and the threads that give players
-//! theirs. A test of a store is a table of calls on it, each with what it answers; one function makes the call of a row, so that
+//! and clients, things, the framebuffers that are given up, lists, the lock whose holders take turns, and the threads that give
+//! players theirs. A test of a store is a table of calls on it, each with what it answers; one function makes the call of a row, so that
 //! no function owns a store across many calls.
 #![tactic(auto)]
 
@@ -10,6 +10,8 @@ mod clients;
 mod counting;
 #[cfg(test)]
 mod freeing;
+#[cfg(test)]
+mod lists;
 #[cfg(test)]
 mod locks;
 #[cfg(test)]

@@ -1,5 +1,5 @@
 //! Lists that are written at their ends, into memory that was taken beforehand.
-use kms_logs::{Ledger, Log};
+use kms_core::{Ledger, Log};
 use kms_model::NoMemory;
 
 #[test]

@@ -27,15 +27,15 @@ use Rattle.kms_model.specs.Machine.Steps.{contended}
 use Rattle.kms_laws.proofs.Contexts.{asked_of}
 use Rattle.kms_wwlock.specs.declared.table.Relock.{Relock as TableRelock}
 use Rattle.kms_wwlock.specs.declared.table.Relock.TheVariants as again
-use Rattle.kms_calls.specs.States.{stored_state}
-use Rattle.kms_calls.proofs.Locking.{stays}
-use Rattle.kms_calls.proofs.Stored.{stored, on_device}
+use Rattle.kms_core.specs.States.{stored_state}
+use Rattle.kms_core.proofs.calls.Locking.{stays}
+use Rattle.kms_core.proofs.calls.Stored.{stored, on_device}
 use Rattle.kms_model.proofs.TouchedLemmas.{few_objects}
-use Rattle.kms_calls.specs.Locks.{MayBackOff, MayRelock, HasContext, present_state, relocked_as, relocked_answer, object_or_zero}
-use Rattle.kms_stores.specs.Run.{Run, machine, gains}
-use Rattle.kms_stores.specs.Stands.{Stores, Stands}
-use Rattle.kms_stores.proofs.Beside.{stands_beside, same_relocked}
-use Rattle.kms_stores.proofs.Histories.{goes_on}
+use Rattle.kms_core.specs.Locks.{MayBackOff, MayRelock, HasContext, present_state, relocked_as, relocked_answer, object_or_zero}
+use Rattle.kms_core.specs.Run.{Run, machine, gains}
+use Rattle.kms_core.specs.Stands.{Stores, Stands}
+use Rattle.kms_core.proofs.stores.Beside.{stands_beside, same_relocked}
+use Rattle.kms_core.proofs.stores.Histories.{goes_on}
 
 pub with_ticket : (d : Doing) (t : Ticket) → ticket_in d ≡ Some t → has_context d ≡ true
 with_ticket doing.Idle t e = absurd cc

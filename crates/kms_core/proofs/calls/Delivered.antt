@@ -20,14 +20,14 @@ use Rattle.kms_clients.specs.Standing.{Standing, place_of}
 use Rattle.kms_signal.proofs.StepLemmas.{queues_follow_others_read, queues_follow_read}
 use Rattle.kms_signal.specs.InStep.{IsQueueOf}
 use Rattle.kms_signal.specs.Queues.{Queue, after_read, empty_queue}
-use Rattle.kms_stores.specs.Calls.{MayRead, answered, read_reply_at, read_reply, unless_ended}
-use Rattle.kms_logs.specs.Logs.{Logged}
-use Rattle.kms_stores.specs.Run.{Run, machine}
-use Rattle.kms_stores.specs.Stands.{Stores, Stands, StandsAt, AreQueues, AreRecords, queue_of}
-use Rattle.kms_stores.proofs.Beside.{stands_moved}
-use Rattle.kms_stores.proofs.Histories.{goes_on}
-use Rattle.kms_stores.proofs.Places.{IsIdleAt, idle_there}
-use Rattle.kms_stores.proofs.Recorded.{records_answered}
+use Rattle.kms_core.specs.Calls.{MayRead, answered, read_reply_at, read_reply, unless_ended}
+use Rattle.kms_core.specs.Logs.{Logged}
+use Rattle.kms_core.specs.Run.{Run, machine}
+use Rattle.kms_core.specs.Stands.{Stores, Stands, StandsAt, AreQueues, AreRecords, queue_of}
+use Rattle.kms_core.proofs.stores.Beside.{stands_moved}
+use Rattle.kms_core.proofs.stores.Histories.{goes_on}
+use Rattle.kms_core.proofs.Places.{IsIdleAt, idle_there}
+use Rattle.kms_core.proofs.stores.Recorded.{records_answered}
 
 pub idle_reader : (r v : Run) (st : Stores) (client : ℕ) → Stands r st → r ≡ v → MayRead v client → IsIdleAt r st client is_wait
 idle_reader r v st client stands same now = idle_there r st client is_wait stands (subst (λ (w : Run). MayRead w client) (sym same) now)

@@ -31,18 +31,18 @@ use Rattle.kms_things.specs.Commands.{IsNoRequest}
 use Rattle.kms_things.specs.Counting.{fbs_after}
 use Rattle.kms_things.specs.Made.{HasIds, Made, with_made}
 use Rattle.kms_things.specs.Present.{IsPresent}
-use Rattle.kms_stores.specs.Calls.{MayMake, answered, joined, reply_at, reply_to_command, with_fence_of}
-use Rattle.kms_logs.specs.Logs.{Reserved}
-use Rattle.kms_stores.specs.Needs.{Accounts, HasPlaceFor, MayAccount}
-use Rattle.kms_logs.specs.Logs.{Logged}
-use Rattle.kms_stores.specs.Run.{Run, machine}
-use Rattle.kms_stores.specs.Stands.{AreMadeFences, IsWorldOf, Stores, Stands, StandsAt}
-use Rattle.kms_stores.proofs.Beside.{moved, stands_moved}
-use Rattle.kms_stores.proofs.Fencing.{executed_fenced, executed_more, made_stand}
-use Rattle.kms_stores.proofs.FreedCalls.{closed_place, made_freed, made_stored, may_account, world_after}
-use Rattle.kms_stores.proofs.Histories.{goes_freeing, same_freed, with_fbs, with_freed}
-use Rattle.kms_stores.proofs.Places.{IsIdleAt, idle_there, not_ended}
-use Rattle.kms_stores.proofs.Recorded.{joined_if, joined_more, records_answered}
+use Rattle.kms_core.specs.Calls.{MayMake, answered, joined, reply_at, reply_to_command, with_fence_of}
+use Rattle.kms_core.specs.Logs.{Reserved}
+use Rattle.kms_core.specs.Needs.{Accounts, HasPlaceFor, MayAccount}
+use Rattle.kms_core.specs.Logs.{Logged}
+use Rattle.kms_core.specs.Run.{Run, machine}
+use Rattle.kms_core.specs.Stands.{AreMadeFences, IsWorldOf, Stores, Stands, StandsAt}
+use Rattle.kms_core.proofs.stores.Beside.{moved, stands_moved}
+use Rattle.kms_core.proofs.stores.Fencing.{executed_fenced, executed_more, made_stand}
+use Rattle.kms_core.proofs.stores.FreedCalls.{closed_place, made_freed, made_stored, may_account, world_after}
+use Rattle.kms_core.proofs.stores.Histories.{goes_freeing, same_freed, with_fbs, with_freed}
+use Rattle.kms_core.proofs.Places.{IsIdleAt, idle_there, not_ended}
+use Rattle.kms_core.proofs.stores.Recorded.{joined_if, joined_more, records_answered}
 
 -- Commands
 

@@ -7,11 +7,11 @@ use Rattle.kms_model.specs.declared.objects.ObjId.{ObjId}
 use Rattle.kms_model.specs.Device.Objects.{first_id, index_of, kind_of}
 use Rattle.kms_model.specs.Machine.State.{has_value, holder_at, holds}
 use Rattle.kms_model.specs.Machine.Steps.{is_lockable}
-use Rattle.kms_calls.specs.Locks.{has_lock, held_state, present_state}
-use Rattle.kms_calls.specs.States.{stored_state}
-use Rattle.kms_calls.proofs.Stored.{stored}
-use Rattle.kms_stores.specs.Run.{Run, machine}
-use Rattle.kms_stores.specs.Stands.{Stands, Stores}
+use Rattle.kms_core.specs.Locks.{has_lock, held_state, present_state}
+use Rattle.kms_core.specs.States.{stored_state}
+use Rattle.kms_core.proofs.calls.Stored.{stored}
+use Rattle.kms_core.specs.Run.{Run, machine}
+use Rattle.kms_core.specs.Stands.{Stands, Stores}
 
 pub held_is : (r v : Run) (st : Stores) (client : ℕ) (id : ObjId) → Stands r st → r ≡ v → has_lock r.script.topology id.0 ≡ true → holder_at (machine r) id.0 ≡ Some client
     → stored_state st.present id.0 ≡ held_state v client id

@@ -39,15 +39,15 @@ use Rattle.kms_clients.specs.InStep.{after_lock, lock_answer}
 use Rattle.kms_wwlock.specs.declared.table.Lock.{Lock as TableLock}
 use Rattle.kms_wwlock.specs.declared.table.Lock.TheVariants as table
 use Rattle.kms_model.specs.declared.states.ObjState.{ObjState}
-use Rattle.kms_calls.specs.Locks.{MayBegin, MayLock, IsTaking, is_step, lock_steps, locked_as, locked_answer, present_state}
-use Rattle.kms_calls.specs.States.{stored_state}
-use Rattle.kms_calls.proofs.Stored.{stored}
-use Rattle.kms_calls.specs.declared.contexts.Locked.{Locked}
-use Rattle.kms_stores.specs.Run.{Run, machine, gains}
-use Rattle.kms_stores.specs.Stands.{Stores, Stands}
-use Rattle.kms_stores.proofs.Beside.{stands_beside, same_locked}
-use Rattle.kms_stores.proofs.Histories.{goes_on}
-use Rattle.kms_stores.proofs.Places.{may_idle, MayIdle, not_ended, object_is}
+use Rattle.kms_core.specs.Locks.{MayBegin, MayLock, IsTaking, is_step, lock_steps, locked_as, locked_answer, present_state}
+use Rattle.kms_core.specs.States.{stored_state}
+use Rattle.kms_core.proofs.calls.Stored.{stored}
+use Rattle.kms_core.specs.declared.calls.contexts.Locked.{Locked}
+use Rattle.kms_core.specs.Run.{Run, machine, gains}
+use Rattle.kms_core.specs.Stands.{Stores, Stands}
+use Rattle.kms_core.proofs.stores.Beside.{stands_beside, same_locked}
+use Rattle.kms_core.proofs.stores.Histories.{goes_on}
+use Rattle.kms_core.proofs.Places.{may_idle, MayIdle, not_ended, object_is}
 
 -- begin
 

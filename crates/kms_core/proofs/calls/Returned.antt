@@ -16,12 +16,12 @@ use Rattle.kms_laws.proofs.SmallNumbers.{numbers_fit}
 use Rattle.kms_laws.proofs.ContextsAtAll.{returning-is}
 use Rattle.kms_track.proofs.MachineAnswers.{cleaned_machine}
 use Rattle.kms_track.specs.Tracking.{cleaned_of}
-use Rattle.kms_stores.specs.Calls.{MayReturn, is_some_cleaned, is_over_at}
-use Rattle.kms_stores.specs.Run.{Run, machine}
-use Rattle.kms_stores.specs.Stands.{Stores, Stands}
-use Rattle.kms_stores.proofs.Beside.{stands_beside}
-use Rattle.kms_stores.proofs.Histories.{goes_on}
-use Rattle.kms_stores.proofs.Places.{is_client}
+use Rattle.kms_core.specs.Calls.{MayReturn, is_some_cleaned, is_over_at}
+use Rattle.kms_core.specs.Run.{Run, machine}
+use Rattle.kms_core.specs.Stands.{Stores, Stands}
+use Rattle.kms_core.proofs.stores.Beside.{stands_beside}
+use Rattle.kms_core.proofs.stores.Histories.{goes_on}
+use Rattle.kms_core.proofs.Places.{is_client}
 
 -- what the store has of the client
 pub record WaitsFor (r : Run) (st : Stores) (client : ℕ) : Type 0 where

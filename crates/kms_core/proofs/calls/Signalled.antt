@@ -22,17 +22,17 @@ use Rattle.kms_signal.proofs.InStepLemmas as fences
 use Rattle.kms_signal.specs.FenceSets.{FenceSet, is_made}
 use Rattle.kms_signal.specs.StepLaws.{with_signal}
 use Rattle.kms_things.specs.Made.{with_made}
-use Rattle.kms_stores.specs.Calls.{MaySignal, answered, fence_of, reply_at, reply_to_command}
-use Rattle.kms_logs.specs.Logs.{Logged}
-use Rattle.kms_stores.specs.Run.{Run, machine}
-use Rattle.kms_stores.specs.Stands.{AreRecords, Stores, Stands, StandsAt}
+use Rattle.kms_core.specs.Calls.{MaySignal, answered, fence_of, reply_at, reply_to_command}
+use Rattle.kms_core.specs.Logs.{Logged}
+use Rattle.kms_core.specs.Run.{Run, machine}
+use Rattle.kms_core.specs.Stands.{AreRecords, Stores, Stands, StandsAt}
 use Rattle.kms_signal.proofs.FenceLemmas.{still_made}
-use Rattle.kms_stores.proofs.Beside.{stands_moved}
-use Rattle.kms_calls.proofs.Executed.{IsFound, world_of}
-use Rattle.kms_stores.proofs.Fencing.{signalled_fenced, signals_made}
-use Rattle.kms_stores.proofs.Histories.{goes_on}
-use Rattle.kms_stores.proofs.Places.{IsIdleAt, idle_there, not_ended}
-use Rattle.kms_stores.proofs.Recorded.{records_answered}
+use Rattle.kms_core.proofs.stores.Beside.{stands_moved}
+use Rattle.kms_core.proofs.calls.Executed.{IsFound, world_of}
+use Rattle.kms_core.proofs.stores.Fencing.{signalled_fenced, signals_made}
+use Rattle.kms_core.proofs.stores.Histories.{goes_on}
+use Rattle.kms_core.proofs.Places.{IsIdleAt, idle_there, not_ended}
+use Rattle.kms_core.proofs.stores.Recorded.{records_answered}
 
 pub idle_signaller : (r v : Run) (st : Stores) (client : ℕ) → Stands r st → r ≡ v → MaySignal v client → IsIdleAt r st client is_signal
 unfolding legal may

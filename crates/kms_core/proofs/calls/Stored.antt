@@ -25,7 +25,7 @@ use Rattle.kms_model.specs.Machine.Steps.{is_lockable}
 use Rattle.kms_model.specs.Request.Agreement.{conn_state_at, crtc_state_at}
 use Rattle.kms_state.proofs.Slots.{slot_at}
 use Rattle.kms_things.specs.Present.{IsPresent}
-use Rattle.kms_calls.specs.States.{state_of_kind, stored_of_kind, stored_state}
+use Rattle.kms_core.specs.States.{state_of_kind, stored_of_kind, stored_state}
 
 -- the state in a slot that is there
 in_slot : {S : Type 0} (states : List (Option (Both S))) (index : ℕ) (wrap : S → ObjState) (s : S) → is_some (state_at states index) ≡ true

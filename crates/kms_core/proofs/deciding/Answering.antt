@@ -15,11 +15,11 @@ use Rattle.kms_clients.specs.InStep.{AreClientsOf, IsTaking, after_decision}
 use Rattle.kms_clients.specs.Standing.{Standing, IsClient, place_of}
 use Rattle.kms_laws.proofs.Present.{reverse_more}
 use Rattle.kms_laws.proofs.SmallNumbers.{numbers_fit}
-use Rattle.kms_stores.specs.Decisions.{Decides}
-use Rattle.kms_logs.specs.Logs.{Logged}
-use Rattle.kms_stores.specs.Run.{Run, machine}
-use Rattle.kms_stores.specs.Stands.{Stores, StandsAt, Stands, entry_pair}
-use Rattle.kms_stores.proofs.Histories.{goes_same, told_anew}
+use Rattle.kms_core.specs.Decisions.{Decides}
+use Rattle.kms_core.specs.Logs.{Logged}
+use Rattle.kms_core.specs.Run.{Run, machine}
+use Rattle.kms_core.specs.Stands.{Stores, StandsAt, Stands, entry_pair}
+use Rattle.kms_core.proofs.stores.Histories.{goes_same, told_anew}
 
 taking_is : (d : Doing) → is_taking d ≡ true → IsTaking d
 taking_is doing.Idle e = absurd cc

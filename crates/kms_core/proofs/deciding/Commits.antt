@@ -63,29 +63,29 @@ use Rattle.kms_track.proofs.CheckedLemmas.{checked_for}
 use Rattle.kms_track.proofs.StepLemmas.{swap_follows}
 use Rattle.kms_track.specs.InStep.{IsInStep}
 use Rattle.kms_track.specs.Tracking.{IsSetUp, Tracking}
-use Rattle.kms_stores.specs.Calls.{answered}
-use Rattle.kms_logs.specs.Logs.{Logged}
-use Rattle.kms_stores.specs.Run.{Run, machine}
-use Rattle.kms_stores.specs.Decisions.{world}
-use Rattle.kms_stores.specs.SwappedIn.{IsSwappedIn, events_asked_for, fences_for, fences_under, id_made_under, label_in, labels_in}
-use Rattle.kms_stores.specs.Stands.{AreOutFencesMade, AreQueues, AreRecords, IsWorldOf, Stores, Stands, StandsAt, entry_pair, is_fence, queue_of}
-use Rattle.kms_stores.specs.Swaps.{MayCommit}
-use Rattle.kms_decide.specs.Room.{KeepsStored, SameTracking}
-use Rattle.kms_stores.proofs.WithRoom.{stands_with_room}
-use Rattle.kms_decide.proofs.Answering.{MayDecide, may_decide}
-use Rattle.kms_stores.proofs.Committed.{committed_present, has_plane}
+use Rattle.kms_core.specs.Calls.{answered}
+use Rattle.kms_core.specs.Logs.{Logged}
+use Rattle.kms_core.specs.Run.{Run, machine}
+use Rattle.kms_core.specs.Decisions.{world}
+use Rattle.kms_core.specs.SwappedIn.{IsSwappedIn, events_asked_for, fences_for, fences_under, id_made_under, label_in, labels_in}
+use Rattle.kms_core.specs.Stands.{AreOutFencesMade, AreQueues, AreRecords, IsWorldOf, Stores, Stands, StandsAt, entry_pair, is_fence, queue_of}
+use Rattle.kms_core.specs.Swaps.{MayCommit}
+use Rattle.kms_core.specs.Room.{KeepsStored, SameTracking}
+use Rattle.kms_core.proofs.stores.WithRoom.{stands_with_room}
+use Rattle.kms_core.proofs.deciding.Answering.{MayDecide, may_decide}
+use Rattle.kms_core.proofs.stores.Committed.{committed_present, has_plane}
 use Rattle.kms_laws.proofs.Ended.{history_ended}
-use Rattle.kms_stores.proofs.Fencing.{thing_made as thing_under}
-use Rattle.kms_stores.proofs.Histories.{goes_on}
+use Rattle.kms_core.proofs.stores.Fencing.{thing_made as thing_under}
+use Rattle.kms_core.proofs.stores.Histories.{goes_on}
 use Rattle.kms_laws.proofs.Labels.{asks_made, serial_absent}
 use Rattle.kms_laws.specs.Once.{makes}
 use Rattle.kms_laws.proofs.MadeOnce.{made_once}
-use Rattle.kms_stores.proofs.Lates.{OwnQueue, count_named, own_queue}
-use Rattle.kms_decide.proofs.OutFences.{FencesStand, fences_more, found_or_made, out_fences_made}
-use Rattle.kms_decide.proofs.OutLabels.{few_in_fences, label_at_crtc, labels_of_crtcs}
-use Rattle.kms_stores.proofs.Recorded.{joined_more, records_answered}
-use Rattle.kms_stores.proofs.Spared.{with_latches}
-use Rattle.kms_decide.proofs.Swaps.{SwapLeaves, clients_swapped, swap_leaves}
+use Rattle.kms_core.proofs.Lates.{OwnQueue, count_named, own_queue}
+use Rattle.kms_core.proofs.deciding.OutFences.{FencesStand, fences_more, found_or_made, out_fences_made}
+use Rattle.kms_core.proofs.deciding.OutLabels.{few_in_fences, label_at_crtc, labels_of_crtcs}
+use Rattle.kms_core.proofs.stores.Recorded.{joined_more, records_answered}
+use Rattle.kms_core.proofs.stores.Spared.{with_latches}
+use Rattle.kms_core.proofs.deciding.Swaps.{SwapLeaves, clients_swapped, swap_leaves}
 
 -- The journal
 

@@ -14,9 +14,9 @@ use Rattle.kms_model.specs.Stores.Tables.{slot}
 use Rattle.kms_signal.proofs.InStepLemmas.{fence_made}
 use Rattle.kms_signal.specs.FenceSets.{FenceSet, is_made}
 use Rattle.kms_signal.specs.InStep.{AreFencesOf}
-use Rattle.kms_stores.specs.SwappedIn.{fences_for, next_after}
-use Rattle.kms_stores.specs.Stands.{AreMadeFences}
-use Rattle.kms_stores.proofs.Fencing.{fence_fenced, fresh, pushed_more, same_fences, same_slots}
+use Rattle.kms_core.specs.SwappedIn.{fences_for, next_after}
+use Rattle.kms_core.specs.Stands.{AreMadeFences}
+use Rattle.kms_core.proofs.stores.Fencing.{fence_fenced, fresh, pushed_more, same_fences, same_slots}
 
 -- the fences stand for those of a world
 pub record FencesStand (w : World) (signalled : List ℕ) (fences : FenceSet) : Type 0 where

@@ -20,7 +20,7 @@ use Rattle.kms_model.specs.Request.Touched.{last_value, new_label, out_fence_lab
 use Rattle.kms_model.proofs.Items.{IsIn, ids-has}
 use Rattle.kms_model.proofs.LastLemmas.{SetBy, set_by}
 use Rattle.kms_model.proofs.TouchedLemmas.{IsRequestAt, accepted-each, few_objects, few_of, first_id-apart}
-use Rattle.kms_stores.specs.SwappedIn.{label_in, labels_in}
+use Rattle.kms_core.specs.SwappedIn.{label_in, labels_in}
 
 -- Lists without what is not there
 

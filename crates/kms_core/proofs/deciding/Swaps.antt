@@ -13,7 +13,7 @@ use Rattle.kms_model.specs.Request.Flags.{is_nonblock, wants_event}
 use Rattle.kms_clients.specs.InStep.{AreClientsOf, after_decision, after_swap}
 use Rattle.kms_clients.specs.Standing.{Standing}
 use Rattle.kms_signal.specs.StepLaws.{new_commit}
-use Rattle.kms_stores.specs.Calls.{answered}
+use Rattle.kms_core.specs.Calls.{answered}
 use Rattle.std.specs.Prelude.{Some}
 
 either_machine : (P : Machine → Type 0) (b : Bool) (x y : Machine) → P x → P y → P (if b then x else y)

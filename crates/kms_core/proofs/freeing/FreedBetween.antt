@@ -18,8 +18,8 @@ use Rattle.kms_laws.proofs.Framebuffers.{find-same}
 use Rattle.kms_model.proofs.Items.{IsIn, filter-same}
 use Rattle.kms_model.proofs.ShownLemmas.{with-id}
 use Rattle.kms_model.proofs.HeldValues.{filter-in}
-use Rattle.kms_freeing.specs.Freeing.{AreRising, freed_among, freed_entry, is_framebuffer_in, label_and_id}
-use Rattle.kms_freeing.proofs.FreedLists.{as_many, entries, filter-filter, ids_rise, length-parts, listed, passes, rising_filter, with_id_before}
+use Rattle.kms_core.specs.Freeing.{AreRising, freed_among, freed_entry, is_framebuffer_in, label_and_id}
+use Rattle.kms_core.proofs.freeing.FreedLists.{as_many, entries, filter-filter, ids_rise, length-parts, listed, passes, rising_filter, with_id_before}
 
 -- What a history frees goes on by what its last step frees.
 pub freed_last : (s : Script) (m : Machine) (h : List Step) (step : Step) → freed_from s m (h ++ step ∷ []) ≡ freed_from s m h ++ freed_by_step s (run_steps s m h) step

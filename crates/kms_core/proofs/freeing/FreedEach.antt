@@ -29,12 +29,12 @@ use Rattle.kms_model.proofs.ThingLemmas.{find-in}
 use Rattle.kms_laws.proofs.Framebuffers.{all_in-from, find-same}
 use Rattle.kms_laws.proofs.Steps.{IsPlainScript, history_kept, step_kept}
 use Rattle.kms_laws.proofs.Turning.{legal-more, run-more}
-use Rattle.kms_freeing.specs.Freeing.{AreRising}
-use Rattle.kms_freeing.proofs.FreedBetween.{IsGrown, IsGrownAt, IsSameThing, freed_as, freed_last, grown_same, lost, passes_in}
-use Rattle.kms_freeing.proofs.FreedHistories.{Changes, Commits, Executes, Latches, changes, make_frees, quiet_needs, quiet_swap}
-use Rattle.kms_freeing.proofs.FreedLists.{ids_rise, passes}
-use Rattle.kms_freeing.proofs.FreedMakes.{MadeFrees}
-use Rattle.kms_freeing.proofs.FreedSteps.{SameNeeds, needs_of, stays}
+use Rattle.kms_core.specs.Freeing.{AreRising}
+use Rattle.kms_core.proofs.freeing.FreedBetween.{IsGrown, IsGrownAt, IsSameThing, freed_as, freed_last, grown_same, lost, passes_in}
+use Rattle.kms_core.proofs.freeing.FreedHistories.{Changes, Commits, Executes, Latches, changes, make_frees, quiet_needs, quiet_swap}
+use Rattle.kms_core.proofs.freeing.FreedLists.{ids_rise, passes}
+use Rattle.kms_core.proofs.freeing.FreedMakes.{MadeFrees}
+use Rattle.kms_core.proofs.freeing.FreedSteps.{SameNeeds, needs_of, stays}
 
 -- Ids that differ
 

@@ -29,12 +29,12 @@ use Rattle.kms_laws.proofs.Steps.{Holds, IsPlainScript, flushed_at, history_kept
 use Rattle.kms_laws.proofs.Traversal.{commit_of, step_keeps}
 use Rattle.kms_laws.proofs.Whole.{Whole, history_whole, whole_kept}
 use Rattle.kms_laws.proofs.Turning.{run-more}
-use Rattle.kms_freeing.specs.Freeing.{AreAllOf, AreFreed, freed_among, label_and_id, may_free}
-use Rattle.kms_logs.specs.Logs.{Reserved}
-use Rattle.kms_freeing.proofs.FreedBetween.{freed_as, freed_last, lost}
-use Rattle.kms_freeing.proofs.FreedLatches.{latch_told}
-use Rattle.kms_freeing.proofs.FreedMakes.{IsAdded, MadeFrees, made_frees}
-use Rattle.kms_freeing.proofs.FreedSteps.{IsQuiet, IsTold, SameNeeds, cleaned_as, needs_of, quiet_same, stays, swap_quiet}
+use Rattle.kms_core.specs.Freeing.{AreAllOf, AreFreed, freed_among, label_and_id, may_free}
+use Rattle.kms_core.specs.Logs.{Reserved}
+use Rattle.kms_core.proofs.freeing.FreedBetween.{freed_as, freed_last, lost}
+use Rattle.kms_core.proofs.freeing.FreedLatches.{latch_told}
+use Rattle.kms_core.proofs.freeing.FreedMakes.{IsAdded, MadeFrees, made_frees}
+use Rattle.kms_core.proofs.freeing.FreedSteps.{IsQuiet, IsTold, SameNeeds, cleaned_as, needs_of, quiet_same, stays, swap_quiet}
 
 -- What each step changes of the parts that tell what is needed
 

@@ -12,8 +12,8 @@ use Rattle.kms_model.specs.Machine.Framebuffers.{commits_keep, is_needed, live_n
 use Rattle.kms_model.specs.Machine.Registers.{decoded_picture}
 use Rattle.kms_model.specs.Machine.State.{DeviceState, Machine}
 use Rattle.kms_model.proofs.Items.{IsIn, list_any-has, list_any-some}
-use Rattle.kms_freeing.specs.Freeing.{AreAllOf}
-use Rattle.kms_freeing.proofs.FreedSteps.{IsTold, all_of, each_of, kept_same, needed_by, needs_of, told_by, values_same}
+use Rattle.kms_core.specs.Freeing.{AreAllOf}
+use Rattle.kms_core.proofs.freeing.FreedSteps.{IsTold, all_of, each_of, kept_same, needed_by, needs_of, told_by, values_same}
 
 pub live_some : (t : Topology) (d : DeviceState) (id : ℕ) → live_names t d id ≡ true → (c : ℕ) × (IsIn c (ids_of t Crtc) × (picture_names id (decoded_picture t d.live c) ≡ true))
 unfolding live_names

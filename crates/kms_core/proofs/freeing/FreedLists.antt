@@ -8,7 +8,7 @@ use Rattle.kms_model.specs.Device.Sound.{AreNumbered}
 use Rattle.kms_model.specs.Device.World.{thing_with_id}
 use Rattle.kms_model.proofs.Items.{IsIn, filter-same}
 use Rattle.kms_model.proofs.ThingLemmas.{ids-numbered}
-use Rattle.kms_freeing.specs.Freeing.{AreRising, put_id, put_ids}
+use Rattle.kms_core.specs.Freeing.{AreRising, put_id, put_ids}
 
 -- a test of what may be there
 abbrev pub passes : (Thing → Bool) → Option Thing → Bool

@@ -26,11 +26,11 @@ use Rattle.kms_model.proofs.ThingLemmas.{find-in, numbered-closed}
 use Rattle.kms_model.proofs.ShownLemmas.{with-id}
 use Rattle.kms_laws.proofs.Closed.{closed_labelled, closed_with_id}
 use Rattle.kms_laws.proofs.Executed.{IsLike, plane_like}
-use Rattle.kms_freeing.specs.Freeing.{AreRising}
-use Rattle.kms_freeing.specs.Stored.{held_as, held_where}
-use Rattle.kms_freeing.proofs.FreedLists.{filter-none, passes}
-use Rattle.kms_freeing.proofs.FreedBetween.{IsGrown, IsSameOrNone, fewer_needed, freed_told, grown_stay, lost, needed_framebuffer, places_suffice}
-use Rattle.kms_freeing.proofs.FreedSteps.{IsLonger, IsQuiet, IsTold, kept_same, live_same, longer_count, longer_grown, longer_none, needed_by, needed_same, needs_of, quiet_longer, values_same}
+use Rattle.kms_core.specs.Freeing.{AreRising}
+use Rattle.kms_core.specs.Stored.{held_as, held_where}
+use Rattle.kms_core.proofs.freeing.FreedLists.{filter-none, passes}
+use Rattle.kms_core.proofs.freeing.FreedBetween.{IsGrown, IsSameOrNone, fewer_needed, freed_told, grown_stay, lost, needed_framebuffer, places_suffice}
+use Rattle.kms_core.proofs.freeing.FreedSteps.{IsLonger, IsQuiet, IsTold, kept_same, live_same, longer_count, longer_grown, longer_none, needed_by, needed_same, needs_of, quiet_longer, values_same}
 
 -- A command that is no request leaves what is needed of each thing as it is, and the things in one of three ways.
 pub record IsExecuted (t : Topology) (m n : Machine) (w : World) : Type 0 where

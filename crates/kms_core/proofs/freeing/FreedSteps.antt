@@ -35,10 +35,10 @@ use Rattle.kms_model.specs.declared.pictures.FbInfo.{FbInfo}
 use Rattle.kms_model.specs.declared.states.PlaneState.{PlaneState}
 use Rattle.kms_laws.proofs.Steps.{Holds, IsPlainScript}
 use Rattle.kms_laws.proofs.Headlines.{range-in}
-use Rattle.kms_freeing.specs.Freeing.{AreAllOf, AreRising, freed_among, is_framebuffer_in, label_and_id}
-use Rattle.kms_freeing.specs.Stored.{held_as, held_where}
-use Rattle.kms_freeing.proofs.FreedLists.{filter-none, length-fewer, passes}
-use Rattle.kms_freeing.proofs.FreedBetween.{IsGrown, IsGrownAt, IsSameOrNone, fewer_needed, freed_told, lost, needed_framebuffer, places_suffice, same_or_none}
+use Rattle.kms_core.specs.Freeing.{AreAllOf, AreRising, freed_among, is_framebuffer_in, label_and_id}
+use Rattle.kms_core.specs.Stored.{held_as, held_where}
+use Rattle.kms_core.proofs.freeing.FreedLists.{filter-none, length-fewer, passes}
+use Rattle.kms_core.proofs.freeing.FreedBetween.{IsGrown, IsGrownAt, IsSameOrNone, fewer_needed, freed_told, lost, needed_framebuffer, places_suffice, same_or_none}
 
 -- What is needed is told by four parts of a machine.
 

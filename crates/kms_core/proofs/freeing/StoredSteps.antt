@@ -27,12 +27,12 @@ use Rattle.kms_model.proofs.ThingLemmas.{find-in, ids-numbered}
 use Rattle.kms_model.proofs.ShownLemmas.{with-id}
 use Rattle.kms_laws.proofs.Closed.{closed_with_id}
 use Rattle.kms_laws.proofs.Framebuffers.{find-same}
-use Rattle.kms_freeing.specs.Freeing.{AreRising, freed_among, label_and_id}
-use Rattle.kms_freeing.specs.Stored.{AreHeld, AreStored, held_as, held_where, without_freed}
-use Rattle.kms_freeing.proofs.FreedBetween.{lost, needed_framebuffer, passes_in}
-use Rattle.kms_freeing.proofs.FreedLists.{passes, rising_low}
-use Rattle.kms_freeing.proofs.FreedMakes.{IsAdded, IsClosed, added_thing}
-use Rattle.kms_freeing.proofs.FreedSteps.{IsQuiet, IsTold, longer_new, longer_old, needed_by}
+use Rattle.kms_core.specs.Freeing.{AreRising, freed_among, label_and_id}
+use Rattle.kms_core.specs.Stored.{AreHeld, AreStored, held_as, held_where, without_freed}
+use Rattle.kms_core.proofs.freeing.FreedBetween.{lost, needed_framebuffer, passes_in}
+use Rattle.kms_core.proofs.freeing.FreedLists.{passes, rising_low}
+use Rattle.kms_core.proofs.freeing.FreedMakes.{IsAdded, IsClosed, added_thing}
+use Rattle.kms_core.proofs.freeing.FreedSteps.{IsQuiet, IsTold, longer_new, longer_old, needed_by}
 
 -- Tables
 

@@ -21,12 +21,12 @@ use Rattle.kms_clients.specs.Standing.{place_of}
 use Rattle.kms_signal.specs.Queues.{Queue, empty_queue}
 use Rattle.kms_track.specs.Tracking.{cleaned_of}
 use Rattle.kms_track.proofs.MachineAnswers.{cleaned_machine}
-use Rattle.kms_stores.specs.Calls.{idle_command_at, is_some_cleaned, only_if, read_reply}
-use Rattle.kms_next.specs.Next.{IsOutside}
-use Rattle.kms_stores.specs.Run.{Run, machine}
-use Rattle.kms_stores.specs.Stands.{Stores, Stands, queue_of}
-use Rattle.kms_next.proofs.Outside.{outside}
-use Rattle.kms_stores.proofs.Places.{client_there, is_client}
+use Rattle.kms_core.specs.Calls.{idle_command_at, is_some_cleaned, only_if, read_reply}
+use Rattle.kms_core.specs.Next.{IsOutside}
+use Rattle.kms_core.specs.Run.{Run, machine}
+use Rattle.kms_core.specs.Stands.{Stores, Stands, queue_of}
+use Rattle.kms_core.proofs.next.Outside.{outside}
+use Rattle.kms_core.proofs.Places.{client_there, is_client}
 
 -- What clients do
 

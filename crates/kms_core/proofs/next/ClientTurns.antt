@@ -19,14 +19,14 @@ use Rattle.kms_model.specs.Request.Reach.{reaches}
 use Rattle.kms_model.proofs.Items.{or_else-nones}
 use Rattle.kms_laws.proofs.Headlines.{range-in}
 use Rattle.kms_laws.proofs.Quiet.{find-none, unable-quiet}
-use Rattle.kms_next.specs.Judging.{request_taken}
-use Rattle.kms_stores.specs.Calls.{only_if}
-use Rattle.kms_stores.specs.Run.{Run, machine}
-use Rattle.kms_stores.specs.Stands.{Stores, Stands}
-use Rattle.kms_next.proofs.JudgedRequests.{no_refuse, no_swap, no_test}
-use Rattle.kms_next.proofs.Movers.{able}
-use Rattle.kms_next.proofs.TailTurns.{ended_unable}
-use Rattle.kms_next.proofs.Taken.{taken_parts}
+use Rattle.kms_core.specs.Judging.{request_taken}
+use Rattle.kms_core.specs.Calls.{only_if}
+use Rattle.kms_core.specs.Run.{Run, machine}
+use Rattle.kms_core.specs.Stands.{Stores, Stands}
+use Rattle.kms_core.proofs.next.JudgedRequests.{no_refuse, no_swap, no_test}
+use Rattle.kms_core.proofs.next.Movers.{able}
+use Rattle.kms_core.proofs.next.TailTurns.{ended_unable}
+use Rattle.kms_core.proofs.next.Taken.{taken_parts}
 
 -- the first of the steps of a client but for its locks, by what may be done
 abbrev tried_by : ℕ → (refuse test swap begin make signal read back relock : Bool) → Option Step

@@ -6,9 +6,9 @@ use Rattle.std.proofs.lemmas.Bool.{false≢true}
 use Rattle.kms_model.specs.Machine.Commits.{is_cleaned}
 use Rattle.kms_model.specs.Machine.Histories.{client_numbers, commit_numbers, is_at_end, is_drained}
 use Rattle.kms_tails.specs.InStep as tails
-use Rattle.kms_stores.specs.Run.{Run, machine}
-use Rattle.kms_stores.specs.Stands.{Stores, Stands}
-use Rattle.kms_stores.proofs.Ranges.{all_pass, one_fails}
+use Rattle.kms_core.specs.Run.{Run, machine}
+use Rattle.kms_core.specs.Stands.{Stores, Stands}
+use Rattle.kms_core.proofs.stores.Ranges.{all_pass, one_fails}
 
 pub none_is : {A : Type 0} (o : Option A) (b : Bool) → is_some o ≡ not b → b ≡ is_none o
 none_is None true e = refl

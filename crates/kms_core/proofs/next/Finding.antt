@@ -11,7 +11,7 @@ use Rattle.kms_model.specs.Firsts.{or_else}
 use Rattle.kms_model.specs.Machine.Commits.{lockable}
 use Rattle.kms_model.specs.Order.Turns.{or_those}
 use Rattle.kms_model.proofs.Facts.{cond_mapped}
-use Rattle.kms_stores.proofs.Ranges.{any_mapped}
+use Rattle.kms_core.proofs.stores.Ranges.{any_mapped}
 
 cond_first : {A : Type 0} (b : Bool) (x : A) (o p : Option A) → cond b (Some x) (or_else o p) ≡ or_else (cond b (Some x) o) p
 cond_first true x o p = refl

@@ -26,18 +26,18 @@ use Rattle.kms_track.specs.Places.{all_below}
 use Rattle.kms_track.specs.Tracking.{not_yet_of}
 use Rattle.kms_track.proofs.CheckedLemmas.{device_within}
 use Rattle.kms_track.proofs.NotYetAnswers.{not_yet_machine}
-use Rattle.kms_next.specs.declared.judgement.Judged.{Judged}
-use Rattle.kms_stores.specs.Decisions.{world}
-use Rattle.kms_next.specs.Judging.{IsJudged, IsJudgedLate, request_taken}
-use Rattle.kms_stores.specs.Decisions.{held_at}
-use Rattle.kms_stores.specs.Run.{Run, machine}
-use Rattle.kms_stores.specs.Stands.{Stores, Stands, queue_of}
-use Rattle.kms_stores.specs.Swaps.{late_reply, late_told}
-use Rattle.kms_stores.proofs.Accepted.{mask_holds}
-use Rattle.kms_stores.proofs.Lates.{late_same, queue_there}
-use Rattle.kms_stores.proofs.Seeking.{both_off}
-use Rattle.kms_next.proofs.Presented.{tells_now}
-use Rattle.kms_next.proofs.Taken.{Takes, taken_parts, taking-is, taking-none}
+use Rattle.kms_core.specs.declared.next.judgement.Judged.{Judged}
+use Rattle.kms_core.specs.Decisions.{world}
+use Rattle.kms_core.specs.Judging.{IsJudged, IsJudgedLate, request_taken}
+use Rattle.kms_core.specs.Decisions.{held_at}
+use Rattle.kms_core.specs.Run.{Run, machine}
+use Rattle.kms_core.specs.Stands.{Stores, Stands, queue_of}
+use Rattle.kms_core.specs.Swaps.{late_reply, late_told}
+use Rattle.kms_core.proofs.stores.Accepted.{mask_holds}
+use Rattle.kms_core.proofs.Lates.{late_same, queue_there}
+use Rattle.kms_core.proofs.stores.Seeking.{both_off}
+use Rattle.kms_core.proofs.next.Presented.{tells_now}
+use Rattle.kms_core.proofs.next.Taken.{Takes, taken_parts, taking-is, taking-none}
 
 -- Places
 

@@ -7,9 +7,9 @@ use Rattle.kms_model.specs.declared.replies.Step.{Step}
 use Rattle.kms_model.specs.declared.replies.Step.TheVariants as step
 use Rattle.kms_model.specs.Machine.Histories.{client_numbers, commit_numbers, is_dead, is_drained, is_enabled, legal, steps_of_client, steps_of_commit, steps_with_go}
 use Rattle.kms_model.specs.Machine.Steps.{may}
-use Rattle.kms_next.specs.Next.{moves}
-use Rattle.kms_stores.specs.Run.{Run, machine}
-use Rattle.kms_stores.specs.Stands.{Stores, Stands}
+use Rattle.kms_core.specs.Next.{moves}
+use Rattle.kms_core.specs.Run.{Run, machine}
+use Rattle.kms_core.specs.Stands.{Stores, Stands}
 
 pub ended_told : (r v : Run) (st : Stores) → Stands r st → r ≡ v → st.stalled ≡ (machine v).stalled
 ended_told r v st stands same = sym stands.stores.ended ∙ ap (λ (w : Run). (machine w).stalled) same

@@ -16,12 +16,12 @@ use Rattle.kms_model.specs.Machine.Steps.{is_crtc_of, may}
 use Rattle.kms_model.proofs.Items.{list_any-none}
 use Rattle.kms_laws.proofs.Drained.{no_step}
 use Rattle.kms_tails.specs.InStep as tails
-use Rattle.kms_next.specs.Next.{client_moves, context_steps, decision_steps, locks_one, other_steps, tail_moves, writes_some}
-use Rattle.kms_stores.specs.Run.{Run, machine}
-use Rattle.kms_stores.specs.Stands.{Stores, Stands}
-use Rattle.kms_stores.proofs.CommitStates.{facts}
-use Rattle.kms_stores.proofs.FirstTails.{of_all, up_to_first}
-use Rattle.kms_stores.proofs.Ranges.{any_filtered, any_flat, any_mapped, none_pass, one_passes}
+use Rattle.kms_core.specs.Next.{client_moves, context_steps, decision_steps, locks_one, other_steps, tail_moves, writes_some}
+use Rattle.kms_core.specs.Run.{Run, machine}
+use Rattle.kms_core.specs.Stands.{Stores, Stands}
+use Rattle.kms_core.proofs.stores.CommitStates.{facts}
+use Rattle.kms_core.proofs.stores.FirstTails.{of_all, up_to_first}
+use Rattle.kms_core.proofs.stores.Ranges.{any_filtered, any_flat, any_mapped, none_pass, one_passes}
 
 or_false : (b : Bool) → (b || false) ≡ b
 or_false true = refl

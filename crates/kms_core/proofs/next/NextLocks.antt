@@ -38,20 +38,20 @@ use Rattle.kms_request.specs.Groups.{affected_below}
 use Rattle.kms_request.specs.Whole.{is_member}
 use Rattle.kms_request.proofs.AffectedLemmas.{affected-is}
 use Rattle.kms_request.proofs.Reached.{touched-member}
-use Rattle.kms_next.specs.declared.groups.Group.{Group}
-use Rattle.kms_next.specs.declared.groups.Group.TheVariants as group
-use Rattle.kms_next.specs.declared.groups.Needs.{Needs}
-use Rattle.kms_stores.specs.Decisions.{world}
-use Rattle.kms_next.specs.Judging.{request_taken}
-use Rattle.kms_next.specs.Order.{AreNeeds, NeedsLocks, first_lacked, is_missing, is_open, lacks}
-use Rattle.kms_stores.specs.Run.{Run, machine}
-use Rattle.kms_stores.specs.Stands.{Stores, Stands}
-use Rattle.kms_stores.specs.Swaps.{HasAllStates}
-use Rattle.kms_stores.proofs.AfterCommit.{there_is}
-use Rattle.kms_next.proofs.Finding.{any_lockable, found_filtered, found_lockable, found_those}
-use Rattle.kms_next.proofs.Presented.{presented}
-use Rattle.kms_next.proofs.Refusing.{early_at, settable_now}
-use Rattle.kms_next.proofs.Taken.{lockable_exists, taken_parts, taking-is}
+use Rattle.kms_core.specs.declared.next.groups.Group.{Group}
+use Rattle.kms_core.specs.declared.next.groups.Group.TheVariants as group
+use Rattle.kms_core.specs.declared.next.groups.Needs.{Needs}
+use Rattle.kms_core.specs.Decisions.{world}
+use Rattle.kms_core.specs.Judging.{request_taken}
+use Rattle.kms_core.specs.Order.{AreNeeds, NeedsLocks, first_lacked, is_missing, is_open, lacks}
+use Rattle.kms_core.specs.Run.{Run, machine}
+use Rattle.kms_core.specs.Stands.{Stores, Stands}
+use Rattle.kms_core.specs.Swaps.{HasAllStates}
+use Rattle.kms_core.proofs.stores.AfterCommit.{there_is}
+use Rattle.kms_core.proofs.next.Finding.{any_lockable, found_filtered, found_lockable, found_those}
+use Rattle.kms_core.proofs.next.Presented.{presented}
+use Rattle.kms_core.proofs.next.Refusing.{early_at, settable_now}
+use Rattle.kms_core.proofs.next.Taken.{lockable_exists, taken_parts, taking-is}
 
 -- Groups
 

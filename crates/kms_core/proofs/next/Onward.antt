@@ -2,9 +2,9 @@
 use Rattle.std.proofs.Common.{ℕ, ◌+◌, ◌-◌, ◌<◌, Fits, Some, arith}
 use mir.Syntax.{w32}
 use Rattle.kms_tails.specs.InStep as tails
-use Rattle.kms_stores.specs.Run.{Run}
-use Rattle.kms_stores.specs.Stands.{Stores, Stands}
-use Rattle.kms_stores.proofs.Seeking.{few_tails, goes_up, less_left}
+use Rattle.kms_core.specs.Run.{Run}
+use Rattle.kms_core.specs.Stands.{Stores, Stands}
+use Rattle.kms_core.proofs.stores.Seeking.{few_tails, goes_up, less_left}
 
 module _ (r : Run) (st : Stores) (stands : Stands r st) (from k : ℕ) (first : tails.FindsFirst st.tails from (Some k)) where
   -- there is a number behind the one found

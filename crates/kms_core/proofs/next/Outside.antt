@@ -19,8 +19,8 @@ use Rattle.kms_clients.specs.Standing.{first_place}
 use Rattle.kms_laws.proofs.Basics.{read_other}
 use Rattle.kms_laws.proofs.EachStep.{Carries, by_bool, by_fence, by_two, each_step, made_as, swapped_as, tails_leave}
 use Rattle.kms_laws.proofs.Steps.{along}
-use Rattle.kms_next.specs.Next.{IsOutside}
-use Rattle.kms_stores.proofs.Places.{client_there}
+use Rattle.kms_core.specs.Next.{IsOutside}
+use Rattle.kms_core.proofs.Places.{client_there}
 
 abbrev AreOutside : Script → List (ℕ × Place) → Type 0
 AreOutside s places = (client : ℕ) → IsOutside s client → read first_place places client ≡ first_place

@@ -6,9 +6,9 @@ use Rattle.kms_model.specs.Request.Lookups.{look_of, look_of_any, look_up, look_
 use Rattle.kms_laws.proofs.Modes.{plain-from}
 use Rattle.kms_laws.proofs.Steps.{history_kept}
 use Rattle.kms_request.specs.Whole.{ArePresent, ArePresentSomewhere, TellSame}
-use Rattle.kms_stores.specs.Decisions.{world}
-use Rattle.kms_stores.specs.Run.{Run}
-use Rattle.kms_stores.specs.Stands.{Stores, Stands}
+use Rattle.kms_core.specs.Decisions.{world}
+use Rattle.kms_core.specs.Run.{Run}
+use Rattle.kms_core.specs.Stands.{Stores, Stands}
 
 pub presented : (r : Run) (st : Stores) → Stands r st → ArePresent r.script.topology (world r) st.present
 presented r st stands =

@@ -49,19 +49,19 @@ use Rattle.kms_request.specs.declared.errors.RequestError.{RequestError}
 use Rattle.kms_request.specs.declared.errors.RequestError.TheVariants.{Of}
 use Rattle.kms_request.specs.Answers.{ComesFrom, refusal_number}
 use Rattle.kms_request.specs.Whole.{ArePresent, StandBetween, TellSame}
-use Rattle.kms_next.specs.declared.judgement.Judged.{Judged}
-use Rattle.kms_stores.specs.Decisions.{Decides, world}
-use Rattle.kms_next.specs.Judging.{IsJudged, IsJudgedLate, request_taken}
-use Rattle.kms_next.specs.Next.{IsLegal}
-use Rattle.kms_stores.specs.Run.{Run, machine}
-use Rattle.kms_stores.specs.Stands.{Stores, Stands}
-use Rattle.kms_stores.specs.Swaps.{HasAllStates, MayCommit}
-use Rattle.kms_stores.proofs.Committed.{there_at}
-use Rattle.kms_next.proofs.JudgedRequests.{no_refuse, no_swap, refuse_late}
-use Rattle.kms_stores.proofs.Lates.{late_parts}
-use Rattle.kms_stores.proofs.Places.{client_there, is_client}
-use Rattle.kms_next.proofs.Presented.{presented, tells_now}
-use Rattle.kms_next.proofs.Taken.{Takes, taken_parts, taking-is}
+use Rattle.kms_core.specs.declared.next.judgement.Judged.{Judged}
+use Rattle.kms_core.specs.Decisions.{Decides, world}
+use Rattle.kms_core.specs.Judging.{IsJudged, IsJudgedLate, request_taken}
+use Rattle.kms_core.specs.Next.{IsLegal}
+use Rattle.kms_core.specs.Run.{Run, machine}
+use Rattle.kms_core.specs.Stands.{Stores, Stands}
+use Rattle.kms_core.specs.Swaps.{HasAllStates, MayCommit}
+use Rattle.kms_core.proofs.stores.Committed.{there_at}
+use Rattle.kms_core.proofs.next.JudgedRequests.{no_refuse, no_swap, refuse_late}
+use Rattle.kms_core.proofs.Lates.{late_parts}
+use Rattle.kms_core.proofs.Places.{client_there, is_client}
+use Rattle.kms_core.proofs.next.Presented.{presented, tells_now}
+use Rattle.kms_core.proofs.next.Taken.{Takes, taken_parts, taking-is}
 
 -- The early refusals
 

@@ -9,11 +9,11 @@ use Rattle.kms_model.specs.Machine.Commits.{has_number, is_claimed}
 use Rattle.kms_model.specs.Machine.Effects.{next}
 use Rattle.kms_model.specs.Machine.Histories.{awaited_by, awaited_label, commit_numbers, is_dead, label_of_thing, legal, stalled_on}
 use Rattle.kms_tails.specs.InStep as tails
-use Rattle.kms_stores.specs.Run.{Run, machine}
-use Rattle.kms_stores.specs.Stands.{Stores, Stands}
-use Rattle.kms_stores.proofs.CommitStates.{facts}
-use Rattle.kms_stores.proofs.Histories.{goes_on, told_anew}
-use Rattle.kms_stores.proofs.FirstTails.{nothing_found, nothing_further, something_found}
+use Rattle.kms_core.specs.Run.{Run, machine}
+use Rattle.kms_core.specs.Stands.{Stores, Stands}
+use Rattle.kms_core.proofs.stores.CommitStates.{facts}
+use Rattle.kms_core.proofs.stores.Histories.{goes_on, told_anew}
+use Rattle.kms_core.proofs.stores.FirstTails.{nothing_found, nothing_further, something_found}
 
 -- the history is ended
 pub stalls : (r v : Run) (st : Stores) (before steps : List Step) → Stands r st → r ≡ v → legal v.script (machine v) step.Stall ≡ true → before ≡ r.steps → steps ≡ before ++ step.Stall ∷ [] → Stands (record { script = r.script; steps = steps }) (record st { stalled = true })

@@ -26,11 +26,11 @@ use Rattle.kms_tails.proofs.StepLemmas.{legal_below}
 use Rattle.kms_track.specs.Tracking.{pending_ready, ready_of}
 use Rattle.kms_track.proofs.CheckedLemmas.{device_within}
 use Rattle.kms_track.proofs.MachineAnswers.{ready_machine}
-use Rattle.kms_next.specs.Next.{ends_next, flushes_next, is_over_tail, writes_next}
-use Rattle.kms_stores.specs.Run.{Run, machine}
-use Rattle.kms_stores.specs.Stands.{Stores, Stands}
-use Rattle.kms_stores.proofs.CommitStates.{facts}
-use Rattle.kms_stores.proofs.Seeking.{waited_made}
+use Rattle.kms_core.specs.Next.{ends_next, flushes_next, is_over_tail, writes_next}
+use Rattle.kms_core.specs.Run.{Run, machine}
+use Rattle.kms_core.specs.Stands.{Stores, Stands}
+use Rattle.kms_core.proofs.stores.CommitStates.{facts}
+use Rattle.kms_core.proofs.stores.Seeking.{waited_made}
 
 -- a history that was not ended
 abbrev going : Machine → Machine

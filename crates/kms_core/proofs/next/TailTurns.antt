@@ -20,11 +20,11 @@ use Rattle.kms_laws.proofs.Modes.{plain-from}
 use Rattle.kms_laws.proofs.NeverStuck.{history_along}
 use Rattle.kms_laws.proofs.Quiet.{find-none, unable-quiet}
 use Rattle.kms_laws.proofs.Resting.{over-unable}
-use Rattle.kms_stores.specs.Run.{Run, machine}
-use Rattle.kms_stores.specs.Stands.{Stores, Stands}
-use Rattle.kms_stores.proofs.CommitStates.{facts}
-use Rattle.kms_next.proofs.Finding.{found_both, found_mapped}
-use Rattle.kms_next.proofs.Movers.{able, goes_able}
+use Rattle.kms_core.specs.Run.{Run, machine}
+use Rattle.kms_core.specs.Stands.{Stores, Stands}
+use Rattle.kms_core.proofs.stores.CommitStates.{facts}
+use Rattle.kms_core.proofs.next.Finding.{found_both, found_mapped}
+use Rattle.kms_core.proofs.next.Movers.{able, goes_able}
 
 -- Where the history was ended
 

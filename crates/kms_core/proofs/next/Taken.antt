@@ -16,13 +16,13 @@ use Rattle.kms_model.specs.Request.Reach.{reaches}
 use Rattle.kms_model.proofs.TouchedLemmas.{HasFewObjects}
 use Rattle.kms_clients.specs.Standing.{IsClient}
 use Rattle.kms_laws.proofs.Steps.{request-is}
-use Rattle.kms_stores.specs.Calls.{only_if}
+use Rattle.kms_core.specs.Calls.{only_if}
 use Rattle.kms_wwlock.specs.Objects.{IsLockable}
 use Rattle.kms_model.specs.declared.objects.ObjId.{ObjId}
-use Rattle.kms_next.specs.Judging.{request_taken}
-use Rattle.kms_stores.specs.Run.{Run, machine}
-use Rattle.kms_stores.specs.Stands.{Stores, Stands}
-use Rattle.kms_stores.proofs.Places.{client_there, is_client}
+use Rattle.kms_core.specs.Judging.{request_taken}
+use Rattle.kms_core.specs.Run.{Run, machine}
+use Rattle.kms_core.specs.Stands.{Stores, Stands}
+use Rattle.kms_core.proofs.Places.{client_there, is_client}
 
 -- What may follow
 

@@ -31,16 +31,16 @@ use Rattle.kms_track.proofs.CheckedLemmas.{device_within, in_touched}
 use Rattle.kms_track.proofs.Lockables.{all_lockable}
 use Rattle.kms_track.proofs.PlaceLemmas.{all_same}
 use Rattle.kms_track.proofs.There.{on_place}
-use Rattle.kms_stores.specs.Decisions.{held_at}
-use Rattle.kms_stores.specs.Decisions.{Decides, HoldsAll, IsAccepted, IsDeciding, IsFirstStale, MayTest, taker, world}
-use Rattle.kms_stores.specs.Run.{Run, machine}
+use Rattle.kms_core.specs.Decisions.{held_at}
+use Rattle.kms_core.specs.Decisions.{Decides, HoldsAll, IsAccepted, IsDeciding, IsFirstStale, MayTest, taker, world}
+use Rattle.kms_core.specs.Run.{Run, machine}
 use Rattle.kms_model.specs.Script.WellFormed.{IsWellFormed}
-use Rattle.kms_stores.specs.Stands.{Stores, Stands}
+use Rattle.kms_core.specs.Stands.{Stores, Stands}
 use Rattle.kms_clients.specs.Standing.{doing_in}
-use Rattle.kms_stores.specs.Decisions.{taker_in}
-use Rattle.kms_stores.proofs.Fresh.{tells_now}
-use Rattle.kms_stores.proofs.Takers.{taker_as}
-use Rattle.kms_stores.proofs.Verdicts.{Decider, decider, of_request}
+use Rattle.kms_core.specs.Decisions.{taker_in}
+use Rattle.kms_core.proofs.stores.Fresh.{tells_now}
+use Rattle.kms_core.proofs.Takers.{taker_as}
+use Rattle.kms_core.proofs.Verdicts.{Decider, decider, of_request}
 
 -- Locks
 

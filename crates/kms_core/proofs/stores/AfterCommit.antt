@@ -8,7 +8,7 @@ use Rattle.kms_model.specs.Device.Places.{state_at}
 use Rattle.kms_model.specs.declared.states.Both.{Both}
 use Rattle.kms_model.specs.Request.Agreement.{AreNew, AreOld}
 use Rattle.kms_things.specs.Present.{AreWhole}
-use Rattle.kms_stores.specs.SwappedIn.{AreSwappedIn, swapped_in}
+use Rattle.kms_core.specs.SwappedIn.{AreSwappedIn, swapped_in}
 
 -- what is there, by two look-ups
 

@@ -11,8 +11,8 @@ use Rattle.kms_signal.specs.FenceSets.{FenceSet, is_made}
 use Rattle.kms_signal.specs.InStep.{AreFencesOf}
 use Rattle.kms_signal.specs.Queues.{Queue}
 use Rattle.kms_things.specs.Made.{Made}
-use Rattle.kms_logs.specs.Logs.{Logged}
-use Rattle.kms_stores.specs.Stands.{Stores, StandsAt, AreMadeFences, AreQueues, AreRecords, IsWorldOf}
+use Rattle.kms_core.specs.Logs.{Logged}
+use Rattle.kms_core.specs.Stands.{Stores, StandsAt, AreMadeFences, AreQueues, AreRecords, IsWorldOf}
 
 -- all but the clients' contexts is as it was
 pub record SameBeside (old new : Machine) : Type 0 where

@@ -29,9 +29,9 @@ use Rattle.kms_laws.proofs.Present.{is_old}
 use Rattle.kms_laws.proofs.Requests.{words_at}
 use Rattle.kms_laws.proofs.Steps.{Holds, IsPlainScript, along, first_kept, step_kept}
 use Rattle.kms_laws.proofs.Traversal.{IsKept, commit_of, few_kept, step_keeps}
-use Rattle.kms_stores.specs.Run.{Run, machine}
-use Rattle.kms_stores.specs.Stands.{Stores, Stands}
-use Rattle.kms_stores.proofs.Places.{client_there}
+use Rattle.kms_core.specs.Run.{Run, machine}
+use Rattle.kms_core.specs.Stands.{Stores, Stands}
+use Rattle.kms_core.proofs.Places.{client_there}
 
 -- The law
 

@@ -37,9 +37,9 @@ use Rattle.kms_things.specs.Present.{IsPresent}
 use Rattle.kms_things.proofs.SeenStates.{present_seen}
 use Rattle.kms_track.proofs.There.{in_left, in_right}
 use Rattle.kms_track.specs.StepLaws.{HasStates}
-use Rattle.kms_stores.specs.SwappedIn.{IsSwappedIn}
-use Rattle.kms_stores.specs.Swaps.{HasAllStates}
-use Rattle.kms_stores.proofs.AfterCommit.{swapped_agree, swapped_whole}
+use Rattle.kms_core.specs.SwappedIn.{IsSwappedIn}
+use Rattle.kms_core.specs.Swaps.{HasAllStates}
+use Rattle.kms_core.proofs.stores.AfterCommit.{swapped_agree, swapped_whole}
 
 -- What is touched was duplicated
 

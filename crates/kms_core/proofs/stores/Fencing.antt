@@ -25,8 +25,8 @@ use Rattle.kms_signal.proofs.SlotLemmas.{below-push, below-with_value, value_abo
 use Rattle.kms_signal.specs.FenceSets.{FenceSet, is_made}
 use Rattle.kms_signal.specs.InStep.{AreFencesOf}
 use Rattle.kms_signal.specs.StepLaws.{with_signal}
-use Rattle.kms_stores.specs.Calls.{fence_if_done, fence_of, with_fence_of}
-use Rattle.kms_stores.specs.Stands.{AreMadeFences, IsMadeFence, is_fence}
+use Rattle.kms_core.specs.Calls.{fence_if_done, fence_of, with_fence_of}
+use Rattle.kms_core.specs.Stands.{AreMadeFences, IsMadeFence, is_fence}
 
 -- Things
 

@@ -20,7 +20,7 @@ use Rattle.kms_tails.specs.Remaining.{no_tails}
 use Rattle.kms_things.specs.Present.{IsPresent}
 use Rattle.kms_track.proofs.InStepLemmas.{first_in_step}
 use Rattle.kms_track.specs.Laws.{no_tracking}
-use Rattle.kms_stores.specs.Stands.{HasSpare, Stands, Stores}
+use Rattle.kms_core.specs.Stands.{HasSpare, Stands, Stores}
 
 -- the stores before the first step, but for those whose making says that they stand
 abbrev pub first_stores : Standing → Duplicates → List Queue → RegisterFile → Stores

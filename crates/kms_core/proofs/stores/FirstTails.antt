@@ -11,9 +11,9 @@ use Rattle.kms_signal.specs.Rooms.{Rooms}
 use Rattle.kms_tails.specs.declared.tail.Tail.{Tail}
 use Rattle.kms_tails.specs.InStep as tails
 use Rattle.kms_tails.specs.InStep.{AreTailsOf}
-use Rattle.kms_stores.specs.Run.{Run, machine}
-use Rattle.kms_stores.specs.Stands.{Stores, Stands}
-use Rattle.kms_stores.proofs.Ranges.{none_some, one_some}
+use Rattle.kms_core.specs.Run.{Run, machine}
+use Rattle.kms_core.specs.Stands.{Stores, Stands}
+use Rattle.kms_core.proofs.stores.Ranges.{none_some, one_some}
 
 -- What holds of commits that are cleaned and of those before a number holds of those up to the first that is found from there.
 module _ (t : Topology) (commits : List Commit) (marks : Marks) (latches : List Latch) (v : Rooms Tail) (stand : AreTailsOf t commits marks latches v) (P : ℕ → Type 0) (over : (j : ℕ) → has_number marks.cleaned j ≡ true → P j) where

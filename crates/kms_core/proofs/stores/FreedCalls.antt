@@ -34,25 +34,25 @@ use Rattle.kms_laws.proofs.Headlines.{range-in}
 use Rattle.kms_laws.proofs.Modes.{plain-from}
 use Rattle.kms_laws.proofs.Steps.{IsPlainScript, history_kept}
 use Rattle.kms_laws.proofs.Framebuffers.{find-same}
-use Rattle.kms_freeing.specs.Freeing.{AreAllOf, AreFreed, AreRising, framebuffers_in, freed_among, is_framebuffer_in, layers_name}
-use Rattle.kms_freeing.specs.Stored.{AreHeld, AreStored, without_freed}
-use Rattle.kms_logs.specs.Logs.{Reserved}
-use Rattle.kms_stores.specs.Needs.{Accounts, Frees, HasPlaceFor, MayAccount, TellNeeds}
-use Rattle.kms_stores.specs.Run.{Run, machine}
-use Rattle.kms_stores.specs.Stands.{Stores, Stands, StandsAt}
-use Rattle.kms_freeing.proofs.FreedHistories.{Executes, Latches, added_freed, changes, latch_frees, make_frees, quiet_freed, told_freed}
+use Rattle.kms_core.specs.Freeing.{AreAllOf, AreFreed, AreRising, framebuffers_in, freed_among, is_framebuffer_in, layers_name}
+use Rattle.kms_core.specs.Stored.{AreHeld, AreStored, without_freed}
+use Rattle.kms_core.specs.Logs.{Reserved}
+use Rattle.kms_core.specs.Needs.{Accounts, Frees, HasPlaceFor, MayAccount, TellNeeds}
+use Rattle.kms_core.specs.Run.{Run, machine}
+use Rattle.kms_core.specs.Stands.{Stores, Stands, StandsAt}
+use Rattle.kms_core.proofs.freeing.FreedHistories.{Executes, Latches, added_freed, changes, latch_frees, make_frees, quiet_freed, told_freed}
 use Rattle.kms_regs.specs.Layers.{picture_layers}
 use Rattle.kms_regs.proofs.FewLayers.{shown_few}
-use Rattle.kms_freeing.proofs.FreedLatches.{live_by}
-use Rattle.kms_freeing.proofs.FreedLists.{as_many, passes, rising_filter}
-use Rattle.kms_freeing.proofs.FreedMakes.{MadeFrees}
-use Rattle.kms_freeing.proofs.FreedSteps.{IsTold, SameNeeds, cleaned_as, cleanup_told, each_of, keeps_by, needed_by}
-use Rattle.kms_freeing.proofs.StoredSteps.{WereStored, closed_held, closed_were, needed_held, quiet_stored, same_stored, told_stored}
+use Rattle.kms_core.proofs.freeing.FreedLatches.{live_by}
+use Rattle.kms_core.proofs.freeing.FreedLists.{as_many, passes, rising_filter}
+use Rattle.kms_core.proofs.freeing.FreedMakes.{MadeFrees}
+use Rattle.kms_core.proofs.freeing.FreedSteps.{IsTold, SameNeeds, cleaned_as, cleanup_told, each_of, keeps_by, needed_by}
+use Rattle.kms_core.proofs.freeing.StoredSteps.{WereStored, closed_held, closed_were, needed_held, quiet_stored, same_stored, told_stored}
 use Rattle.kms_things.specs.Counting.{fbs_after}
 use Rattle.kms_things.specs.Made.{Made}
 use Rattle.kms_model.specs.Stores.Kept.{fbs_taken}
-use Rattle.kms_stores.proofs.Histories.{goes_freeing, with_fbs, with_freed}
-use Rattle.kms_stores.proofs.StoredCalls.{IsLeft, LeavesFbs, added_takes, closed_is, execute_leaves, taken_stored}
+use Rattle.kms_core.proofs.stores.Histories.{goes_freeing, with_fbs, with_freed}
+use Rattle.kms_core.proofs.stores.StoredCalls.{IsLeft, LeavesFbs, added_takes, closed_is, execute_leaves, taken_stored}
 
 -- the stores that stand for a machine tell what it needs
 pub tell_needs : (s : Script) (m : Machine) (st : Stores) → IsDevice s.topology → StandsAt s m st → TellNeeds s.topology m st.made st.present st.registers st.tails s.topology.crtcs

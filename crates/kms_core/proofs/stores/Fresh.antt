@@ -9,12 +9,12 @@ use Rattle.kms_model.specs.Request.Lookups.{look_of, look_up, lookups}
 use Rattle.kms_model.specs.Request.SameLooks.{TellsLabels}
 use Rattle.kms_model.specs.Request.Sets.{look_in}
 use Rattle.kms_model.proofs.SameLooks.{world_tells}
-use Rattle.kms_stores.specs.declared.looking.Decided.{Decided}
-use Rattle.kms_stores.specs.declared.looking.Decided.TheVariants as answer
-use Rattle.kms_stores.specs.declared.looking.Stale.{Stale}
-use Rattle.kms_stores.specs.Decisions.{IsDecided, IsFirstStale, labels_of, world}
-use Rattle.kms_stores.specs.Run.{Run}
-use Rattle.kms_stores.specs.Stands.{Stores, Stands}
+use Rattle.kms_core.specs.declared.stores.looking.Decided.{Decided}
+use Rattle.kms_core.specs.declared.stores.looking.Decided.TheVariants as answer
+use Rattle.kms_core.specs.declared.stores.looking.Stale.{Stale}
+use Rattle.kms_core.specs.Decisions.{IsDecided, IsFirstStale, labels_of, world}
+use Rattle.kms_core.specs.Run.{Run}
+use Rattle.kms_core.specs.Stands.{Stores, Stands}
 
 -- what a label names among things
 abbrev pub named_among : List Thing → ℕ → Look

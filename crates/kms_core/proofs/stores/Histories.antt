@@ -15,20 +15,20 @@ use Rattle.kms_clients.specs.InStep.{AreClientsOf}
 use Rattle.kms_clients.specs.Standing.{Standing}
 use Rattle.kms_laws.proofs.Modes.{plain-from}
 use Rattle.kms_laws.proofs.Turning.{run-more, legal-more}
-use Rattle.kms_freeing.specs.Freeing.{AreFreed, may_free}
-use Rattle.kms_logs.specs.Logs.{Logged, Reserved}
+use Rattle.kms_core.specs.Freeing.{AreFreed, may_free}
+use Rattle.kms_core.specs.Logs.{Logged, Reserved}
 use Rattle.kms_regs.specs.File.{RegisterFile, StandsForDevice}
 use Rattle.kms_signal.specs.Rooms.{Rooms}
 use Rattle.kms_tails.specs.declared.tail.Tail.{Tail}
 use Rattle.kms_tails.specs.InStep.{AreTailsOf}
 use Rattle.kms_track.specs.InStep.{IsTrackerOf}
 use Rattle.kms_track.specs.Tracking.{Tracking}
-use Rattle.kms_stores.specs.Run.{Run, machine}
-use Rattle.kms_stores.specs.Stands.{AreRecords, Stores, StandsAt, Stands}
-use Rattle.kms_freeing.specs.Stored.{AreStored}
-use Rattle.kms_freeing.proofs.FreedHistories.{kind_quiet, quiet_freed, quiet_needs}
-use Rattle.kms_freeing.proofs.FreedSteps.{IsQuiet, SameNeeds}
-use Rattle.kms_freeing.proofs.StoredSteps.{quiet_stored}
+use Rattle.kms_core.specs.Run.{Run, machine}
+use Rattle.kms_core.specs.Stands.{AreRecords, Stores, StandsAt, Stands}
+use Rattle.kms_core.specs.Stored.{AreStored}
+use Rattle.kms_core.proofs.freeing.FreedHistories.{kind_quiet, quiet_freed, quiet_needs}
+use Rattle.kms_core.proofs.freeing.FreedSteps.{IsQuiet, SameNeeds}
+use Rattle.kms_core.proofs.freeing.StoredSteps.{quiet_stored}
 
 -- the stores stand where they stand for the machine after the step, for what is freed then, and for what is stored
 pub goes_freeing : (r : Run) (old new : Stores) (step : Step) (steps : List Step) → steps ≡ r.steps ++ step ∷ [] → Stands r old → legal r.script (machine r) step ≡ true → StandsAt r.script (next r.script (machine r) step) new

@@ -7,8 +7,8 @@ use Rattle.kms_model.specs.declared.runs.Latch.{Latch}
 use Rattle.kms_model.specs.Device.Serial.{Entry}
 use Rattle.kms_model.specs.Machine.State.{Machine, Records, place_at}
 use Rattle.kms_laws.proofs.Present.{reverse_more}
-use Rattle.kms_stores.specs.Calls.{answered, joined}
-use Rattle.kms_stores.specs.Stands.{AreRecords, Stores, entry_pair}
+use Rattle.kms_core.specs.Calls.{answered, joined}
+use Rattle.kms_core.specs.Stands.{AreRecords, Stores, entry_pair}
 
 -- as many commands were accepted
 pub places_same : (r : Records) (journal : List (ℕ × ℕ)) (replies : List Answered) (latches : List Latch) → AreRecords r journal replies latches → length journal ≡ length r.journal

@@ -27,12 +27,12 @@ use Rattle.kms_tails.specs.InStep.{AreTailsOf}
 use Rattle.kms_track.specs.Tracking.{ready_of}
 use Rattle.kms_track.proofs.CheckedLemmas.{device_within}
 use Rattle.kms_track.proofs.MachineAnswers.{ready_machine}
-use Rattle.kms_stores.specs.Run.{Run, machine}
-use Rattle.kms_stores.specs.Stands.{Stores, Stands, is_fence}
-use Rattle.kms_stores.specs.Work.{AreFewTails, FindsFirstWhere, IsFirstOf, IsGoing, IsPassedBy, first_claim}
-use Rattle.kms_stores.proofs.CommitStates.{facts}
-use Rattle.kms_stores.proofs.Fencing.{thing_made}
-use Rattle.kms_stores.proofs.FirstTails.{before_first, of_all, up_to_first}
+use Rattle.kms_core.specs.Run.{Run, machine}
+use Rattle.kms_core.specs.Stands.{Stores, Stands, is_fence}
+use Rattle.kms_core.specs.Work.{AreFewTails, FindsFirstWhere, IsFirstOf, IsGoing, IsPassedBy, first_claim}
+use Rattle.kms_core.proofs.stores.CommitStates.{facts}
+use Rattle.kms_core.proofs.stores.Fencing.{thing_made}
+use Rattle.kms_core.proofs.stores.FirstTails.{before_first, of_all, up_to_first}
 
 -- The loop
 

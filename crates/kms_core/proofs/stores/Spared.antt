@@ -21,12 +21,12 @@ use Rattle.kms_tails.specs.declared.tail.Tail.{Tail}
 use Rattle.kms_tails.specs.InStep.{IsKept}
 use Rattle.kms_tails.specs.StepLaws.{commit_of_tail_step}
 use Rattle.kms_tails.proofs.StepLemmas.{legal_below}
-use Rattle.kms_stores.specs.Decisions.{Decides}
-use Rattle.kms_logs.specs.Logs.{Logged}
-use Rattle.kms_stores.specs.Run.{Run, machine}
-use Rattle.kms_stores.specs.Stands.{HasSpare, StandsWithSpare, Stands, Stores}
-use Rattle.kms_stores.proofs.CommitStates.{facts}
-use Rattle.kms_stores.proofs.Histories.{legal_last, told_anew}
+use Rattle.kms_core.specs.Decisions.{Decides}
+use Rattle.kms_core.specs.Logs.{Logged}
+use Rattle.kms_core.specs.Run.{Run, machine}
+use Rattle.kms_core.specs.Stands.{HasSpare, StandsWithSpare, Stands, Stores}
+use Rattle.kms_core.proofs.stores.CommitStates.{facts}
+use Rattle.kms_core.proofs.stores.Histories.{legal_last, told_anew}
 
 -- Each commit that has steps left has a tail
 

@@ -19,18 +19,18 @@ use Rattle.kms_model.specs.Device.World.{thing_labelled, thing_with_id}
 use Rattle.kms_model.specs.Machine.State.{Machine}
 use Rattle.kms_model.specs.Stores.Kept.{MayGive, MayTake, after_give, after_take, fbs_closed, fbs_given, fbs_taken, framebuffer, open_references, taken}
 use Rattle.kms_model.specs.Stores.Tables.{slot, value_with_id, with_value, without_id}
-use Rattle.kms_freeing.specs.Freeing.{AreRising, entry_of, freed_among, freed_entry}
-use Rattle.kms_freeing.specs.Stored.{AreHeld, AreStored, held_as, held_where, without_freed}
-use Rattle.kms_freeing.proofs.FreedLists.{rising_weaker}
-use Rattle.kms_freeing.proofs.FreedMakes.{IsAdded, IsClosed}
-use Rattle.kms_freeing.proofs.StoredSteps.{added_stored, held_without, joined_freed, push_other, push_this, unstored, with_other, with_this}
+use Rattle.kms_core.specs.Freeing.{AreRising, entry_of, freed_among, freed_entry}
+use Rattle.kms_core.specs.Stored.{AreHeld, AreStored, held_as, held_where, without_freed}
+use Rattle.kms_core.proofs.freeing.FreedLists.{rising_weaker}
+use Rattle.kms_core.proofs.freeing.FreedMakes.{IsAdded, IsClosed}
+use Rattle.kms_core.proofs.freeing.StoredSteps.{added_stored, held_without, joined_freed, push_other, push_this, unstored, with_other, with_this}
 use Rattle.kms_things.specs.Counting.{fbs_added, fbs_after, fbs_without}
 use Rattle.kms_regs.specs.File.{RegisterFile}
 use Rattle.kms_signal.specs.Rooms.{Rooms}
 use Rattle.kms_tails.specs.declared.tail.Tail.{Tail}
 use Rattle.kms_things.specs.Framebuffers.{framebuffer_entry}
 use Rattle.kms_things.specs.Made.{Made}
-use Rattle.kms_stores.specs.Needs.{HasLast, TellNeeds}
+use Rattle.kms_core.specs.Needs.{HasLast, TellNeeds}
 
 -- what was made is as it was, but for the references of framebuffers, and what is needed is stored
 pub record IsLeft (t : Topology) (n : Machine) (before left : Made) : Type 0 where

@@ -2,13 +2,13 @@
 use Rattle.std.proofs.Common.{◌≡◌, ℕ, List}
 use Rattle.kms_model.specs.declared.replies.Answered.{Answered}
 use Rattle.kms_model.specs.declared.replies.Step.{Step}
-use Rattle.kms_logs.specs.Logs.{Logged, Reserved}
+use Rattle.kms_core.specs.Logs.{Logged, Reserved}
 use Rattle.kms_signal.specs.FenceSets.{FenceSet}
 use Rattle.kms_things.specs.Made.{Made}
-use Rattle.kms_stores.specs.Run.{Run, machine}
-use Rattle.kms_stores.specs.Stands.{Stands, Stores}
-use Rattle.kms_stores.proofs.Fencing.{same_fences, same_slots}
-use Rattle.kms_stores.proofs.Histories.{same_freed}
+use Rattle.kms_core.specs.Run.{Run, machine}
+use Rattle.kms_core.specs.Stands.{Stands, Stores}
+use Rattle.kms_core.proofs.stores.Fencing.{same_fences, same_slots}
+use Rattle.kms_core.proofs.stores.Histories.{same_freed}
 
 pub stands_with_room : (r : Run) (st : Stores) (journal : Logged (ℕ × ℕ)) (replies : Logged Answered) (made : Made) (fences : FenceSet) (steps : List Step) → Stands r st → steps ≡ r.steps → journal.items ≡ st.journal.items → replies.items ≡ st.replies.items
     → made ≡ st.made → fences.slots ≡ st.fences.slots → (freed : Reserved (ℕ × ℕ)) → freed.items ≡ st.freed.items → freed.places ≡ st.freed.places

@@ -40,23 +40,23 @@ use Rattle.kms_tails.proofs.StepLemmas as tails_follow
 use Rattle.kms_things.specs.Made.{Made}
 use Rattle.kms_track.specs.Tracking.{Tracking}
 use Rattle.kms_track.proofs.StepLemmas as tracker_follows
-use Rattle.kms_work.specs.Latching.{IsLatching, LatchIsTold, MayFlush}
-use Rattle.kms_logs.specs.Logs.{Logged}
-use Rattle.kms_stores.specs.Run.{Run, machine}
-use Rattle.kms_stores.specs.Stands.{Stores, Stands, queue_of}
-use Rattle.kms_stores.proofs.CommitStates.{commits_sound, facts}
-use Rattle.kms_freeing.specs.Freeing.{AreAllOf}
-use Rattle.kms_logs.specs.Logs.{Reserved}
-use Rattle.kms_stores.specs.Needs.{Frees}
-use Rattle.kms_stores.specs.Work.{AreFewTails}
-use Rattle.kms_stores.proofs.FreedCalls.{goes_latching, latches_by}
-use Rattle.kms_freeing.proofs.FreedHistories.{changes}
-use Rattle.kms_freeing.proofs.FreedSteps.{SameNeeds}
-use Rattle.kms_stores.proofs.Histories.{goes_same}
+use Rattle.kms_core.specs.Latching.{IsLatching, LatchIsTold, MayFlush}
+use Rattle.kms_core.specs.Logs.{Logged}
+use Rattle.kms_core.specs.Run.{Run, machine}
+use Rattle.kms_core.specs.Stands.{Stores, Stands, queue_of}
+use Rattle.kms_core.proofs.stores.CommitStates.{commits_sound, facts}
+use Rattle.kms_core.specs.Freeing.{AreAllOf}
+use Rattle.kms_core.specs.Logs.{Reserved}
+use Rattle.kms_core.specs.Needs.{Frees}
+use Rattle.kms_core.specs.Work.{AreFewTails}
+use Rattle.kms_core.proofs.stores.FreedCalls.{goes_latching, latches_by}
+use Rattle.kms_core.proofs.freeing.FreedHistories.{changes}
+use Rattle.kms_core.proofs.freeing.FreedSteps.{SameNeeds}
+use Rattle.kms_core.proofs.stores.Histories.{goes_same}
 use Rattle.kms_laws.proofs.SmallNumbers.{numbers_fit}
 use Rattle.kms_model.specs.Machine.Framebuffers.{picture_names}
 use Rattle.kms_model.specs.Machine.Registers.{decoded_picture}
-use Rattle.kms_work.proofs.Latched.{FoundTail, IsFlushed, SameParts, found_tail, going_set, is_latching, latched_shown, latches_go, latches_signalled, more_signalled, same_either, same_latches, shadow_flushed, stands_shown}
+use Rattle.kms_core.proofs.tails.Latched.{FoundTail, IsFlushed, SameParts, found_tail, going_set, is_latching, latched_shown, latches_go, latches_signalled, more_signalled, same_either, same_latches, shadow_flushed, stands_shown}
 
 -- What is asked
 

@@ -34,12 +34,12 @@ use Rattle.kms_tails.specs.declared.tail.Tail.{Tail as CommitTail}
 use Rattle.kms_tails.specs.InStep.{AreTailsOf, IsKept, IsTailOf, out_fence_at}
 use Rattle.kms_track.specs.InStep.{IsTrackerOf}
 use Rattle.kms_track.specs.Tracking.{Tracking}
-use Rattle.kms_work.specs.Latching.{IsLatching, LatchIsTold, event_told, told_if}
-use Rattle.kms_logs.specs.Logs.{Logged}
-use Rattle.kms_stores.specs.Run.{Run, machine}
-use Rattle.kms_stores.specs.Stands.{AreGoing, AreMadeFences, AreQueues, Stores, Stands, StandsAt, queue_of}
-use Rattle.kms_stores.proofs.CommitStates.{commits_sound}
-use Rattle.kms_stores.proofs.Fencing.{signalled_fenced}
+use Rattle.kms_core.specs.Latching.{IsLatching, LatchIsTold, event_told, told_if}
+use Rattle.kms_core.specs.Logs.{Logged}
+use Rattle.kms_core.specs.Run.{Run, machine}
+use Rattle.kms_core.specs.Stands.{AreGoing, AreMadeFences, AreQueues, Stores, Stands, StandsAt, queue_of}
+use Rattle.kms_core.proofs.stores.CommitStates.{commits_sound}
+use Rattle.kms_core.proofs.stores.Fencing.{signalled_fenced}
 
 -- What a latch leaves alone
 

@@ -25,16 +25,16 @@ use Rattle.kms_track.specs.StepLaws.{HasNames}
 use Rattle.kms_track.specs.Tracking.{Tracking, changed_commit, with_claim, with_done}
 use Rattle.kms_track.proofs.CheckedLemmas.{device_within}
 use Rattle.kms_track.proofs.StepLemmas as tracker_follows
-use Rattle.kms_freeing.specs.Stored.{AreHeld}
-use Rattle.kms_freeing.specs.Freeing.{AreAllOf, framebuffers_in}
-use Rattle.kms_logs.specs.Logs.{Reserved}
-use Rattle.kms_stores.specs.Needs.{Frees}
-use Rattle.kms_stores.specs.Run.{Run, machine}
-use Rattle.kms_stores.specs.Stands.{Stores, Stands, StandsAt}
-use Rattle.kms_stores.specs.Work.{AreFewTails, MayBeDone, MayCleanUp, TellsOver, is_commit_over}
-use Rattle.kms_stores.proofs.FreedCalls.{goes_cleaning, kept_held, kept_places}
-use Rattle.kms_stores.proofs.Histories.{goes_on, written_anew}
-use Rattle.kms_stores.proofs.Spared.{IsOwn, own_step}
+use Rattle.kms_core.specs.Stored.{AreHeld}
+use Rattle.kms_core.specs.Freeing.{AreAllOf, framebuffers_in}
+use Rattle.kms_core.specs.Logs.{Reserved}
+use Rattle.kms_core.specs.Needs.{Frees}
+use Rattle.kms_core.specs.Run.{Run, machine}
+use Rattle.kms_core.specs.Stands.{Stores, Stands, StandsAt}
+use Rattle.kms_core.specs.Work.{AreFewTails, MayBeDone, MayCleanUp, TellsOver, is_commit_over}
+use Rattle.kms_core.proofs.stores.FreedCalls.{goes_cleaning, kept_held, kept_places}
+use Rattle.kms_core.proofs.stores.Histories.{goes_on, written_anew}
+use Rattle.kms_core.proofs.stores.Spared.{IsOwn, own_step}
 use Rattle.kms_laws.proofs.SmallNumbers.{numbers_fit}
 
 -- all stores stand with other marks

@@ -40,12 +40,12 @@ use Rattle.kms_tails.specs.Remaining.{connector_of}
 use Rattle.kms_tails.proofs.Queries.{connector_at, crtc_is, plane_is, touched_crtc, touched_plane}
 use Rattle.kms_tails.proofs.StepLemmas as tails_follow
 use Rattle.kms_track.proofs.StepLemmas as tracker_follows
-use Rattle.kms_stores.specs.Run.{Run, machine}
-use Rattle.kms_stores.specs.Stands.{Stores, Stands}
-use Rattle.kms_stores.specs.Work.{HoldsCrtc, HoldsOld, HoldsPlane, IsCrtcWritten, IsPlaneWritten, IsWritten, MayWrite, write_step}
-use Rattle.kms_stores.proofs.CommitStates.{commits_sound, shadow_crtc, facts}
-use Rattle.kms_stores.proofs.Histories.{goes_on, written_anew}
-use Rattle.kms_stores.proofs.Places.{object_is}
+use Rattle.kms_core.specs.Run.{Run, machine}
+use Rattle.kms_core.specs.Stands.{Stores, Stands}
+use Rattle.kms_core.specs.Work.{HoldsCrtc, HoldsOld, HoldsPlane, IsCrtcWritten, IsPlaneWritten, IsWritten, MayWrite, write_step}
+use Rattle.kms_core.proofs.stores.CommitStates.{commits_sound, shadow_crtc, facts}
+use Rattle.kms_core.proofs.stores.Histories.{goes_on, written_anew}
+use Rattle.kms_core.proofs.Places.{object_is}
 
 -- What is asked
 

@@ -2,12 +2,12 @@
 ghost use Rattle.std.specs.Prelude.{ℕ, ◌≡◌, IfOk, OnErr, [], ◌∷◌};
 ghost use Rattle.kms_model.specs.declared.replies.Step.TheVariants as step;
 ghost use Rattle.kms_model.specs.Order.Turns.{lock_step};
-ghost use Rattle.kms_stores.specs.Run.{machine, gains, if_ok};
-ghost use Rattle.kms_calls.specs.Locks.{MayBegin, MayLock, IsTaking, locked_answer, locked_as, lock_steps, is_step, HasContext, MayBackOff, MayRelock, relocked_answer, relock_steps};
+ghost use Rattle.kms_core.specs.Run.{machine, gains, if_ok};
+ghost use Rattle.kms_core.specs.Locks.{MayBegin, MayLock, IsTaking, locked_answer, locked_as, lock_steps, is_step, HasContext, MayBackOff, MayRelock, relocked_answer, relock_steps};
 
-use crate::states::present_state;
+use crate::calls::states::present_state;
+use crate::stores::{Stores, make_step_room};
 use kms_model::{Doing, NoMemory, ObjId, ObjState, Step, Ticket};
-use kms_stores::{Stores, make_step_room};
 use kms_wwlock::{Lock, Relock};
 use std::alloc::Global;
 

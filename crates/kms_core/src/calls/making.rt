@@ -2,12 +2,13 @@
 ghost use Rattle.std.specs.Prelude.{◌≡◌, ◌<◌, IfOk, [], ◌∷◌};
 ghost use Rattle.kms_model.specs.declared.replies.Step.TheVariants as step;
 ghost use Rattle.kms_model.specs.Stores.Tables.{AreBelow};
-ghost use Rattle.kms_stores.specs.Calls.{MayMake, MaySignal, fence_of, reply_at, with_fence_of};
-ghost use Rattle.kms_stores.specs.Run.{gains, if_ok};
+ghost use Rattle.kms_core.specs.Calls.{MayMake, MaySignal, fence_of, reply_at, with_fence_of};
+ghost use Rattle.kms_core.specs.Run.{gains, if_ok};
 
+use crate::freeing::account;
+use crate::stores::{Stores, answer, join, make_room, signal_fence};
 use kms_model::{Command, NoMemory, Reply, Step, command_of};
 use kms_signal::Fences;
-use kms_stores::{Stores, account, answer, join, make_room, signal_fence};
 use kms_things::Things;
 use std::alloc::Global;
 

@@ -1,10 +1,10 @@
 //! Events that clients read, and commits that they wait for.
 ghost use Rattle.std.specs.Prelude.{◌≡◌, IfOk};
-ghost use Rattle.kms_stores.specs.Calls.{MayRead, MayReturn, is_over_at, read_reply_at, read_step, return_step};
-ghost use Rattle.kms_stores.specs.Run.{gains, if_ok};
+ghost use Rattle.kms_core.specs.Calls.{MayRead, MayReturn, is_over_at, read_reply_at, read_step, return_step};
+ghost use Rattle.kms_core.specs.Run.{gains, if_ok};
 
+use crate::stores::{Stores, answer, make_room, make_step_room, next_reply};
 use kms_model::{Doing, NoMemory, Reply, Step};
-use kms_stores::{Stores, answer, make_room, make_step_room, next_reply};
 
 /// Reads the oldest unread event for a client, by its number from 1, that is idle at a `wait`, or answers that none
 /// will come where none is reserved, and lets the client go on. None exactly where nothing is unread and something is

@@ -1,12 +1,12 @@
 //! The present states of objects.
 ghost use Rattle.std.specs.Prelude.{◌≡◌};
 ghost use Rattle.kms_model.specs.Machine.Steps.{is_lockable};
-ghost use Rattle.kms_calls.specs.Locks.{has_lock, held_state};
-ghost use Rattle.kms_calls.specs.States.{stored_state};
+ghost use Rattle.kms_core.specs.Locks.{has_lock, held_state};
+ghost use Rattle.kms_core.specs.States.{stored_state};
 
+use crate::stores::Stores;
 use kms_model::{Duplicates, Kind, ObjId, ObjState, Topology};
 use kms_state::Duplicating;
-use kms_stores::Stores;
 
 /// The present state of an object that the context of a client, by its number from 1, holds. None exactly where it holds no
 /// such object; any numbers may be asked for. (Kernel: `drm_modeset_is_locked`, and the states that `drm_state_dump`

@@ -17,22 +17,22 @@ ghost use Rattle.kms_signal.specs.Queues.{HasSpace};
 ghost use Rattle.kms_tails.specs.InStep.{StandsAfterSwap};
 ghost use Rattle.kms_things.specs.Made.{HasIds, with_made};
 ghost use Rattle.kms_track.specs.Tracking.{IsSetUp};
-ghost use Rattle.kms_stores.specs.Calls.{answered, joined};
-ghost use Rattle.kms_stores.specs.Run.{gains, if_ok, machine};
-ghost use Rattle.kms_decide.specs.Room.{KeepsStored};
-ghost use Rattle.kms_stores.specs.Swaps.{MayCommit};
-ghost use Rattle.kms_stores.specs.SwappedIn.{events_asked_for, fences_for, fences_under, id_made_under, label_in, labels_in, next_after};
+ghost use Rattle.kms_core.specs.Calls.{answered, joined};
+ghost use Rattle.kms_core.specs.Run.{gains, if_ok, machine};
+ghost use Rattle.kms_core.specs.Room.{KeepsStored};
+ghost use Rattle.kms_core.specs.Swaps.{MayCommit};
+ghost use Rattle.kms_core.specs.SwappedIn.{events_asked_for, fences_for, fences_under, id_made_under, label_in, labels_in, next_after};
 
-use crate::present::present_after;
+use crate::deciding::present::present_after;
+use crate::lists::Log;
+use crate::stores::{Stores, answer, count_in, join, make_room, make_spare};
 use kms_clients::Clients;
-use kms_logs::Log;
 use kms_model::{
     Answered, Checked, FIRST_CRTC_ID, Latch, MAX_CRTCS, NoMemory, ObjId, Reply, Request, Resolved,
     Script, Seq, Step, request_of,
 };
 use kms_props::{is_nonblock, wants_event};
 use kms_signal::{EventQueue, Fences};
-use kms_stores::{Stores, answer, count_in, join, make_room, make_spare};
 use kms_tails::Tails;
 use kms_things::Things;
 use kms_track::Tracker;

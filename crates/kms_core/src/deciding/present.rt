@@ -1,6 +1,6 @@
 //! The present states after a commit.
 ghost use Rattle.std.specs.Prelude.{◌≡◌, length};
-ghost use Rattle.kms_stores.specs.SwappedIn.{AreSwappedIn, IsSwappedIn, swapped_in};
+ghost use Rattle.kms_core.specs.SwappedIn.{AreSwappedIn, IsSwappedIn, swapped_in};
 
 use kms_model::{Both, Duplicates};
 

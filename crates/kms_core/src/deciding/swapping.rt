@@ -3,16 +3,16 @@ ghost use Rattle.std.specs.Prelude.{◌≡◌, length, IfOk, None, Some};
 ghost use Rattle.kms_model.specs.declared.replies.Reply.TheVariants as reply;
 ghost use Rattle.kms_model.specs.declared.replies.Step.TheVariants as step;
 ghost use Rattle.kms_model.specs.Request.Lookups.{look_up};
-ghost use Rattle.kms_stores.specs.declared.looking.Decided.TheVariants as decided;
-ghost use Rattle.kms_stores.specs.Decisions.{IsDecided, steps_of, taker, world};
-ghost use Rattle.kms_stores.specs.Run.{gains, if_ok, machine};
-ghost use Rattle.kms_stores.specs.Swaps.{hindered_steps, or_answer};
-ghost use Rattle.kms_stores.specs.Swaps.{IsReadyToCommit, MaySwap, MaySwapUnless, swap_answer};
+ghost use Rattle.kms_core.specs.declared.stores.looking.Decided.TheVariants as decided;
+ghost use Rattle.kms_core.specs.Decisions.{IsDecided, steps_of, taker, world};
+ghost use Rattle.kms_core.specs.Run.{gains, if_ok, machine};
+ghost use Rattle.kms_core.specs.Swaps.{hindered_steps, or_answer};
+ghost use Rattle.kms_core.specs.Swaps.{IsReadyToCommit, MaySwap, MaySwapUnless, swap_answer};
 
-use crate::committing::commit;
+use crate::deciding::committing::commit;
 use crate::deciding::decide;
+use crate::stores::{Decided, Stores, first_stale, late_reply, taker};
 use kms_model::{Checked, Lookups, NoMemory, Reply, Resolved, Step, Ticket};
-use kms_stores::{Decided, Stores, first_stale, late_reply, taker};
 use std::alloc::Global;
 
 /// Commits the request of the client whose context has a ticket and takes locks, or refuses it for want of space for its

@@ -3,7 +3,7 @@ ghost use Rattle.std.specs.Prelude.{◌≡◌};
 ghost use Rattle.std.specs.List.{list_any};
 ghost use Rattle.kms_model.specs.Machine.Commits.{has_number};
 ghost use Rattle.kms_model.specs.Machine.Framebuffers.{is_fb};
-ghost use Rattle.kms_freeing.specs.Freeing.{both_ids, state_names};
+ghost use Rattle.kms_core.specs.Freeing.{both_ids, state_names};
 
 use kms_model::{Both, FbInfo, PlaneState};
 

@@ -15,7 +15,7 @@ pub struct Ledger<T> {
 
 impl<T> Model for Ledger<T> {
     ghost use Rattle.std.specs.Prelude.{◌+◌, ◌-◌, ◌≤◌, vec_len, vec_capacity};
-    ghost use Rattle.kms_logs.specs.Logs.{Reserved};
+    ghost use Rattle.kms_core.specs.Logs.{Reserved};
 
     ghost Value = { Reserved T };
 

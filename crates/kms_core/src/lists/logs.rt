@@ -13,7 +13,7 @@ pub struct Log<T> {
 
 impl<T> Model for Log<T> {
     ghost use Rattle.std.specs.Prelude.{◌-◌, vec_len, vec_capacity};
-    ghost use Rattle.kms_logs.specs.Logs.{Logged};
+    ghost use Rattle.kms_core.specs.Logs.{Logged};
 
     ghost Value = { Logged T };
 

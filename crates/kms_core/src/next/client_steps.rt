@@ -4,12 +4,12 @@ ghost use Rattle.kms_model.specs.declared.replies.Step.TheVariants as step;
 ghost use Rattle.kms_model.specs.Machine.Histories.{is_at_end};
 ghost use Rattle.kms_model.specs.Machine.State.{doing_at, reserved_at, unread_at};
 ghost use Rattle.kms_model.specs.Machine.Steps.{is_atomic, is_making, is_signal, is_wait, may};
-ghost use Rattle.kms_stores.specs.Calls.{idle_command_at};
-ghost use Rattle.kms_next.specs.Next.{IsOutside};
-ghost use Rattle.kms_stores.specs.Run.{machine};
+ghost use Rattle.kms_core.specs.Calls.{idle_command_at};
+ghost use Rattle.kms_core.specs.Next.{IsOutside};
+ghost use Rattle.kms_core.specs.Run.{machine};
 
+use crate::stores::{Stores, next_reply};
 use kms_model::{Command, Doing, command_of};
-use kms_stores::{Stores, next_reply};
 
 /// Whether the script has a client with a number.
 fn has_client(stores: &Stores, client: u32) -> bool

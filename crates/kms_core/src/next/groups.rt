@@ -6,9 +6,9 @@ ghost use Rattle.kms_model.specs.Device.Objects.{object_id};
 ghost use Rattle.kms_model.specs.Machine.Steps.{is_lockable};
 ghost use Rattle.kms_model.specs.Request.Resolves.{IsSettable};
 ghost use Rattle.kms_model.specs.Request.Touched.{sets};
-ghost use Rattle.kms_next.specs.Order.{AreNeeds, in_group};
+ghost use Rattle.kms_core.specs.Order.{AreNeeds, in_group};
 
-use crate::judging::is_member;
+use crate::next::judging::is_member;
 use kms_model::{Assign, Kind, Mask, ObjId, Request};
 use kms_request::object_of;
 

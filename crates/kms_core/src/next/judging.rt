@@ -12,14 +12,15 @@ ghost use Rattle.kms_model.specs.Request.Verdict.{early_in, verdict};
 ghost use Rattle.kms_clients.specs.InStep.{AreClientsOf};
 ghost use Rattle.kms_request.specs.Whole.{is_member};
 ghost use Rattle.kms_track.specs.Places.{all_below};
-ghost use Rattle.kms_stores.specs.Decisions.{world};
-ghost use Rattle.kms_stores.specs.Swaps.{HasAllStates};
-ghost use Rattle.kms_next.specs.Judging.{IsJudged, request_taken};
-ghost use Rattle.kms_stores.specs.Decisions.{held_at};
-ghost use Rattle.kms_stores.specs.Run.{machine};
+ghost use Rattle.kms_core.specs.Decisions.{world};
+ghost use Rattle.kms_core.specs.Swaps.{HasAllStates};
+ghost use Rattle.kms_core.specs.Judging.{IsJudged, request_taken};
+ghost use Rattle.kms_core.specs.Decisions.{held_at};
+ghost use Rattle.kms_core.specs.Run.{machine};
 
-use crate::judgement::Judged;
-use crate::lookers::{Ever, Now};
+use crate::next::judgement::Judged;
+use crate::next::lookers::{Ever, Now};
+use crate::stores::{Stores, late_reply, lookups};
 use kms_clients::Clients;
 use kms_model::{
     Checked, Command, Doing, Kind, MAX_LOCKABLE, Mask, NoMemory, ObjId, Reply, Request, Resolved,
@@ -27,7 +28,6 @@ use kms_model::{
 };
 use kms_props::is_test;
 use kms_request::{RequestError, changed, early, exists, full_check, reach, resolve, spans};
-use kms_stores::{Stores, late_reply, lookups};
 use kms_track::{has_object, object_at_place};
 use std::alloc::Global;
 

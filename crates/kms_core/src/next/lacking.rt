@@ -11,18 +11,18 @@ ghost use Rattle.kms_model.specs.Order.Turns.{lock_step, next_lock};
 ghost use Rattle.kms_model.specs.Request.Verdict.{early_in};
 ghost use Rattle.kms_clients.specs.InStep.{AreClientsOf};
 ghost use Rattle.kms_wwlock.specs.Objects.{IsLockable};
-ghost use Rattle.kms_stores.specs.Decisions.{world};
-ghost use Rattle.kms_next.specs.Judging.{request_taken};
-ghost use Rattle.kms_next.specs.Order.{NeedsLocks, first_lacked, is_missing, is_open, lacks, lacks_some};
-ghost use Rattle.kms_stores.specs.Run.{machine};
+ghost use Rattle.kms_core.specs.Decisions.{world};
+ghost use Rattle.kms_core.specs.Judging.{request_taken};
+ghost use Rattle.kms_core.specs.Order.{NeedsLocks, first_lacked, is_missing, is_open, lacks, lacks_some};
+ghost use Rattle.kms_core.specs.Run.{machine};
 
-use crate::groups::{Group, Needs};
-use crate::judging::{checked, is_member};
-use crate::moving::objects;
+use crate::next::groups::{Group, Needs};
+use crate::next::judging::{checked, is_member};
+use crate::next::moving::objects;
+use crate::stores::Stores;
 use kms_clients::Clients;
 use kms_model::{Kind, ObjId, Request, Step};
 use kms_request::{affected, only_crtcs};
-use kms_stores::Stores;
 
 /// The lock that a client, by its number from 1, takes next for a request.
 pub(crate) fn lock_step(stores: &Stores, client: u32, request: &Request) -> Option<Step>

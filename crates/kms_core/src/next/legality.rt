@@ -3,16 +3,18 @@ ghost use Rattle.std.specs.Prelude.{◌≡◌};
 ghost use Rattle.std.specs.List.{list_all};
 ghost use Rattle.kms_model.specs.Machine.Histories.{client_numbers, is_at_end, is_dead, is_drained, is_enabled, legal};
 ghost use Rattle.kms_model.specs.Machine.Steps.{may};
-ghost use Rattle.kms_stores.specs.Run.{machine};
+ghost use Rattle.kms_core.specs.Run.{machine};
 
-use crate::client_steps::{
+use crate::next::client_steps::{
     is_at_end, may_back_off, may_begin, may_make, may_read, may_relock, may_return, may_signal,
 };
-use crate::judging::{may_lock, may_refuse, may_swap, may_test};
-use crate::moving::can_move;
-use crate::tail_steps::{may_be_done, may_blank, may_claim, may_clean_up, may_flush, may_write};
+use crate::next::judging::{may_lock, may_refuse, may_swap, may_test};
+use crate::next::moving::can_move;
+use crate::next::tail_steps::{
+    may_be_done, may_blank, may_claim, may_clean_up, may_flush, may_write,
+};
+use crate::stores::Stores;
 use kms_model::Step;
-use kms_stores::Stores;
 
 /// Whether a step is legal next: its conditions hold, and the history was not ended.
 pub fn legal(stores: &Stores, step: &Step) -> bool

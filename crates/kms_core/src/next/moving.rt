@@ -6,17 +6,17 @@ ghost use Rattle.kms_model.specs.declared.replies.Step.TheVariants as step;
 ghost use Rattle.kms_model.specs.Device.Objects.{count_of};
 ghost use Rattle.kms_model.specs.Machine.Histories.{client_numbers, commit_numbers, steps_of_client, steps_of_commit, steps_with_go};
 ghost use Rattle.kms_model.specs.Machine.Steps.{may};
-ghost use Rattle.kms_next.specs.Next.{client_moves, context_steps, decision_steps, flushes_some, locks_one, locks_some, moves, other_steps, tail_moves, writes_some};
-ghost use Rattle.kms_stores.specs.Run.{machine};
+ghost use Rattle.kms_core.specs.Next.{client_moves, context_steps, decision_steps, flushes_some, locks_one, locks_some, moves, other_steps, tail_moves, writes_some};
+ghost use Rattle.kms_core.specs.Run.{machine};
 
-use crate::client_steps::{
+use crate::next::client_steps::{
     may_back_off, may_begin, may_make, may_read, may_relock, may_return, may_signal,
 };
-use crate::judging::{may_lock, may_refuse, may_swap, may_test};
-use crate::tail_steps::{has_go, may_be_done, may_claim, may_clean_up, may_flush, may_write};
+use crate::next::judging::{may_lock, may_refuse, may_swap, may_test};
+use crate::next::tail_steps::{has_go, may_be_done, may_claim, may_clean_up, may_flush, may_write};
+use crate::stores::Stores;
 use kms_model::Kind;
 use kms_request::count_of;
-use kms_stores::Stores;
 
 /// Whether a step is legal, while the history goes on, other than `stall` and a vertical blanking of a CRTC that does not
 /// go.

@@ -1,15 +1,17 @@
 //! The order in which one thread does the steps of a client. It takes no memory.
 ghost use Rattle.std.specs.Prelude.{◌≡◌, ◌≤◌, None, Some, false, length};
 ghost use Rattle.kms_model.specs.Order.Turns.{client_step};
-ghost use Rattle.kms_next.specs.Judging.{request_taken};
-ghost use Rattle.kms_stores.specs.Run.{machine};
+ghost use Rattle.kms_core.specs.Judging.{request_taken};
+ghost use Rattle.kms_core.specs.Run.{machine};
 
-use crate::client_steps::{may_back_off, may_begin, may_make, may_read, may_relock, may_signal};
-use crate::judging::{judged, request_taken};
-use crate::lacking::lock_step;
+use crate::next::client_steps::{
+    may_back_off, may_begin, may_make, may_read, may_relock, may_signal,
+};
+use crate::next::judging::{judged, request_taken};
+use crate::next::lacking::lock_step;
+use crate::stores::Stores;
 use kms_model::{Request, Step};
 use kms_props::is_test;
-use kms_stores::Stores;
 
 /// The next step of a client, given by its number from 1 to that of the clients, in the order of one thread: what decides
 /// its request where that is legal, what its command is, or else the next lock that it takes. None where it can do none,

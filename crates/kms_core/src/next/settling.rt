@@ -8,12 +8,12 @@ ghost use Rattle.kms_model.specs.Firsts.{first_some};
 ghost use Rattle.kms_model.specs.Machine.Histories.{commit_numbers, steps_of_commit, steps_with_go};
 ghost use Rattle.kms_model.specs.Machine.Steps.{may};
 ghost use Rattle.kms_model.specs.Order.Turns.{tail_step};
-ghost use Rattle.kms_stores.specs.Run.{machine};
+ghost use Rattle.kms_core.specs.Run.{machine};
 
-use crate::moving::objects;
-use crate::tail_steps::{has_go, may_be_done, may_claim, may_clean_up, may_flush, may_write};
+use crate::next::moving::objects;
+use crate::next::tail_steps::{has_go, may_be_done, may_claim, may_clean_up, may_flush, may_write};
+use crate::stores::Stores;
 use kms_model::{Kind, Step};
-use kms_stores::Stores;
 
 /// The next step of a tail in the order of one thread: the first that is legal of the least commit that has one, or else
 /// the vertical blanking of the first CRTC that has GO. None where there is none, and where the history was ended.

@@ -5,12 +5,12 @@ ghost use Rattle.kms_model.specs.Device.World.{thing_with_id};
 ghost use Rattle.kms_model.specs.Firsts.{first_some};
 ghost use Rattle.kms_model.specs.Machine.Histories.{awaited_by, commit_numbers, is_awaited, label_of_thing, stalled_on};
 ghost use Rattle.kms_track.specs.Tracking.{fence_ids};
-ghost use Rattle.kms_next.specs.Next.{IsLegal, if_awaited};
-ghost use Rattle.kms_stores.specs.Run.{machine, gains, if_ok};
+ghost use Rattle.kms_core.specs.Next.{IsLegal, if_awaited};
+ghost use Rattle.kms_core.specs.Run.{machine, gains, if_ok};
 
-use crate::legality::is_dead;
+use crate::next::legality::is_dead;
+use crate::stores::{Stores, make_step_room};
 use kms_model::{Content, NoMemory, Step};
-use kms_stores::{Stores, make_step_room};
 
 /// Ends a history that is dead: no step is legal any more. Want of memory leaves all as it was.
 pub fn stall(stores: &mut Stores) -> Result<(), NoMemory>

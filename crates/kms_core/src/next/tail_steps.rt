@@ -8,12 +8,12 @@ ghost use Rattle.kms_model.specs.Machine.Registers.{is_on_in};
 ghost use Rattle.kms_model.specs.Machine.State.{go_at, has_value};
 ghost use Rattle.kms_model.specs.Machine.Steps.{is_crtc_of, may};
 ghost use Rattle.kms_tails.specs.Remaining.{next_flush_of};
-ghost use Rattle.kms_next.specs.Next.{ends_next, flushes_next, is_over_tail, writes_next};
-ghost use Rattle.kms_stores.specs.Run.{machine};
+ghost use Rattle.kms_core.specs.Next.{ends_next, flushes_next, is_over_tail, writes_next};
+ghost use Rattle.kms_core.specs.Run.{machine};
 
+use crate::stores::Stores;
 use kms_model::{Kind, ObjId, Topology};
 use kms_request::exists;
-use kms_stores::Stores;
 use kms_tails::Tail;
 
 /// Whether the tail of a commit, by its number from 0, may begin: it is not claimed, the fences that it waits for are

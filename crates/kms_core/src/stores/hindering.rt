@@ -5,7 +5,7 @@ ghost use Rattle.kms_model.specs.Firsts.{one_if};
 ghost use Rattle.kms_model.specs.Request.Flags.{is_nonblock, wants_event};
 ghost use Rattle.kms_signal.specs.Queues.{space_used};
 ghost use Rattle.kms_track.specs.Tracking.{busy_of};
-ghost use Rattle.kms_stores.specs.Swaps.{busy_as, count_in, late_told};
+ghost use Rattle.kms_core.specs.Swaps.{busy_as, count_in, late_told};
 
 use kms_model::{Mask, Reply, has_bit};
 use kms_props::{is_nonblock, wants_event};

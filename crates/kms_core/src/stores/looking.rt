@@ -2,11 +2,11 @@
 ghost use Rattle.std.specs.Prelude.{◌≡◌, ◌<◌, ◌↔◌, IfOk, IsTrue};
 ghost use Rattle.kms_model.specs.Device.World.{thing_labelled};
 ghost use Rattle.kms_model.specs.Request.Lookups.{look_of, lookups};
-ghost use Rattle.kms_stores.specs.declared.looking.Decided.TheVariants as decided;
-ghost use Rattle.kms_stores.specs.Decisions.{IsFirstStale, labels_of, looks_at, taker_at, taker_in, world};
+ghost use Rattle.kms_core.specs.declared.stores.looking.Decided.TheVariants as decided;
+ghost use Rattle.kms_core.specs.Decisions.{IsFirstStale, labels_of, looks_at, taker_at, taker_in, world};
 ghost use Rattle.kms_clients.specs.Standing.{doing_in};
 
-use crate::machine::Stores;
+use crate::stores::Stores;
 use kms_clients::Clients;
 use kms_model::{
     Assign, Doing, Look, Lookups, MAX_CLIENTS, NoMemory, ObjId, Reply, Request, Ticket, Value,

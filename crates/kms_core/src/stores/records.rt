@@ -1,9 +1,9 @@
 //! What is recorded of commands.
 ghost use Rattle.std.specs.Prelude.{◌≡◌, ◌<◌, ◌≤◌, ◌+◌, ◌*◌, ◌∷◌, ◌++◌, [], length, OnOk};
 ghost use Rattle.kms_model.specs.Device.Serial.{is_accepted};
-ghost use Rattle.kms_stores.specs.Calls.{answered, joined};
+ghost use Rattle.kms_core.specs.Calls.{answered, joined};
 
-use kms_logs::Log;
+use crate::lists::Log;
 use kms_model::{Answered, Latch, NoMemory, Reply, Step};
 use kms_tails::Tails;
 

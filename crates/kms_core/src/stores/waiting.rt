@@ -1,7 +1,7 @@
 //! What others wait for: events, and fences.
 ghost use Rattle.std.specs.Prelude.{◌≡◌};
 ghost use Rattle.kms_signal.specs.StepLaws.{with_signal};
-ghost use Rattle.kms_stores.specs.Calls.{read_reply};
+ghost use Rattle.kms_core.specs.Calls.{read_reply};
 
 use kms_model::Reply;
 use kms_signal::{EventQueue, Fences};

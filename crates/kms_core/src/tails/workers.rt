@@ -3,13 +3,14 @@ ghost use Rattle.std.specs.Prelude.{◌≡◌, ◌<◌, [], ◌∷◌, slice_ind
 ghost use Rattle.kms_model.specs.declared.replies.Step.TheVariants as step;
 ghost use Rattle.kms_model.specs.Device.Objects.{index_of, kind_of};
 ghost use Rattle.kms_track.specs.Tracking.{ready_of};
-ghost use Rattle.kms_stores.specs.Run.{gains};
-ghost use Rattle.kms_stores.specs.Work.{AreFewTails, FindsFirstWhere, HoldsCrtc, HoldsOld, HoldsPlane, IsCrtcWritten, IsPlaneWritten, IsWritten, MayBeDone, MayClaim, MayCleanUp, MayWrite, TellsOver, claim_steps, cleanup_steps, first_claim, is_commit_over, write_step};
+ghost use Rattle.kms_core.specs.Run.{gains};
+ghost use Rattle.kms_core.specs.Work.{AreFewTails, FindsFirstWhere, HoldsCrtc, HoldsOld, HoldsPlane, IsCrtcWritten, IsPlaneWritten, IsWritten, MayBeDone, MayClaim, MayCleanUp, MayWrite, TellsOver, claim_steps, cleanup_steps, first_claim, is_commit_over, write_step};
 
+use crate::freeing::{free, kept_ids};
+use crate::stores::Stores;
 use kms_model::{Kind, ObjId, Step};
 use kms_regs::RegFile;
 use kms_signal::Fences;
-use kms_stores::{Stores, free, kept_ids};
 use kms_tails::{Tail, Tails};
 use kms_track::Tracker;
 

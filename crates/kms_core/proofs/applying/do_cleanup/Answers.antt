@@ -1,7 +1,7 @@
 use Rattle.std.proofs.Common.{◌∙◌, ap}
-use Rattle.kms_stores.specs.Run.{gains}
-use Rattle.kms_stores.specs.Work.{cleanup_steps}
-use Rattle.kms_stores.specs.Insides.{run_in, stores_of}
+use Rattle.kms_core.specs.Run.{gains}
+use Rattle.kms_core.specs.Work.{cleanup_steps}
+use Rattle.kms_core.specs.Insides.{run_in, stores_of}
 use Rattle.kms_core.proofs.Applied.{cleanup_asked, cleanup_done, history_now}
 use Rattle.kms_core.proofs.applying.do_cleanup.Goals as goal
 

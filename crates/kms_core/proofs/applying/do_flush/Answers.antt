@@ -1,4 +1,4 @@
-use Rattle.kms_stores.specs.Insides.{run_in, stores_of}
+use Rattle.kms_core.specs.Insides.{run_in, stores_of}
 use Rattle.kms_core.proofs.Applied.{few_now, flush_kind}
 use Rattle.kms_core.proofs.applying.do_flush.Goals as goal
 

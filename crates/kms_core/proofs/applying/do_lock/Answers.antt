@@ -1,6 +1,6 @@
 use Rattle.std.proofs.Common.{◌∙◌, ap, sym}
-use Rattle.kms_stores.specs.Run.{gains}
-use Rattle.kms_stores.specs.Insides.{run_in, stores_of}
+use Rattle.kms_core.specs.Run.{gains}
+use Rattle.kms_core.specs.Insides.{run_in, stores_of}
 use Rattle.kms_core.proofs.Applied.{few_now, lock_asked, lock_index, lock_named, lock_there, locked_step}
 use Rattle.kms_core.proofs.applying.do_lock.Goals as goal
 

@@ -1,5 +1,5 @@
 use Rattle.std.proofs.Common.{◌∙◌, ap}
-use Rattle.kms_stores.specs.Run.{gains}
+use Rattle.kms_core.specs.Run.{gains}
 use Rattle.kms_core.proofs.Applied.{read_asked, read_done}
 use Rattle.kms_core.proofs.applying.do_read.Goals as goal
 

@@ -1,5 +1,5 @@
-use Rattle.kms_stores.specs.Insides.{run_in, stores_of}
-use Rattle.kms_next.proofs.Refusing.{decides_refuse, may_refuse_now, refuse_taken}
+use Rattle.kms_core.specs.Insides.{run_in, stores_of}
+use Rattle.kms_core.proofs.next.Refusing.{decides_refuse, may_refuse_now, refuse_taken}
 use Rattle.kms_core.proofs.applying.do_refuse.Goals as goal
 
 pub unreachable-requires : goal.unreachable-requires

@@ -1,7 +1,7 @@
 use Rattle.std.proofs.Common.{◌∙◌, ap}
-use Rattle.kms_stores.specs.Calls.{return_step}
-use Rattle.kms_stores.specs.Run.{gains}
-use Rattle.kms_stores.specs.Insides.{run_in, stores_of}
+use Rattle.kms_core.specs.Calls.{return_step}
+use Rattle.kms_core.specs.Run.{gains}
+use Rattle.kms_core.specs.Insides.{run_in, stores_of}
 use Rattle.kms_core.proofs.Applied.{history_now, return_asked, return_done}
 use Rattle.kms_core.proofs.applying.do_return.Goals as goal
 

@@ -1,5 +1,5 @@
-use Rattle.kms_stores.specs.Insides.{run_in, stores_of}
-use Rattle.kms_next.proofs.Refusing.{commits_now, swap_early_none, swap_taken}
+use Rattle.kms_core.specs.Insides.{run_in, stores_of}
+use Rattle.kms_core.proofs.next.Refusing.{commits_now, swap_early_none, swap_taken}
 use Rattle.kms_core.proofs.applying.do_swap.Goals as goal
 
 pub unreachable-requires : goal.unreachable-requires

@@ -1,5 +1,5 @@
-use Rattle.kms_stores.specs.Insides.{run_in, stores_of}
-use Rattle.kms_next.proofs.Refusing.{decides_test}
+use Rattle.kms_core.specs.Insides.{run_in, stores_of}
+use Rattle.kms_core.proofs.next.Refusing.{decides_test}
 use Rattle.kms_core.proofs.applying.do_test.Goals as goal
 
 pub decide-requires : goal.decide-requires

@@ -1,6 +1,6 @@
 use Rattle.std.proofs.Common.{◌∙◌, ap}
-use Rattle.kms_stores.specs.Run.{gains}
-use Rattle.kms_stores.specs.Insides.{run_in, stores_of}
+use Rattle.kms_core.specs.Run.{gains}
+use Rattle.kms_core.specs.Insides.{run_in, stores_of}
 use Rattle.kms_core.proofs.Applied.{few_now, write_done, write_index, write_named, written_named}
 use Rattle.kms_core.proofs.applying.do_write.Goals as goal
 

@@ -1,10 +1,10 @@
 use Rattle.std.proofs.Common.{ap, length, subst, sym}
-use Rattle.kms_stores.specs.Decisions.{Decides}
-use Rattle.kms_stores.specs.Run.{Run, machine}
-use Rattle.kms_decide.proofs.Answering.{decided_stands, may_decide_as}
-use Rattle.kms_stores.specs.Insides.{run_in, stores_of}
-use Rattle.kms_stores.proofs.Spared.{decision_other, other_spared}
-use Rattle.kms_decide.proofs.deciding.decide.Goals as goal
+use Rattle.kms_core.specs.Decisions.{Decides}
+use Rattle.kms_core.specs.Run.{Run, machine}
+use Rattle.kms_core.proofs.deciding.Answering.{decided_stands, may_decide_as}
+use Rattle.kms_core.specs.Insides.{run_in, stores_of}
+use Rattle.kms_core.proofs.stores.Spared.{decision_other, other_spared}
+use Rattle.kms_core.proofs.deciding.decide.Goals as goal
 
 pub decide-requires-clause-command : goal.decide-requires-clause-command
 decide-requires-clause-command c =

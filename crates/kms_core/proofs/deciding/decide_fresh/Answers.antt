@@ -1,8 +1,8 @@
 use Rattle.std.proofs.Common.{refl}
-use Rattle.kms_stores.specs.declared.looking.Decided.TheVariants as answer
-use Rattle.kms_stores.proofs.Fresh.{answers_again, fresh_now}
-use Rattle.kms_stores.specs.Insides.{run_in, stores_of}
-use Rattle.kms_decide.proofs.deciding.decide_fresh.Goals as goal
+use Rattle.kms_core.specs.declared.stores.looking.Decided.TheVariants as answer
+use Rattle.kms_core.proofs.stores.Fresh.{answers_again, fresh_now}
+use Rattle.kms_core.specs.Insides.{run_in, stores_of}
+use Rattle.kms_core.proofs.deciding.decide_fresh.Goals as goal
 
 pub returns-in-Some-clause-answer : goal.returns-in-Some-clause-answer
 returns-in-Some-clause-answer c =

@@ -1,11 +1,11 @@
 use Rattle.std.proofs.Common.{ap, ◌∙◌}
 use Rattle.kms_model.specs.declared.replies.Step.TheVariants as step
-use Rattle.kms_stores.specs.Decisions.{steps_of}
-use Rattle.kms_stores.specs.Run.{gains, if_ok}
-use Rattle.kms_stores.specs.Insides.{run_in, stores_of}
-use Rattle.kms_stores.proofs.Takers.{taker_as}
-use Rattle.kms_stores.proofs.Accepted.{tests_as}
-use Rattle.kms_decide.proofs.deciding.test.Goals as goal
+use Rattle.kms_core.specs.Decisions.{steps_of}
+use Rattle.kms_core.specs.Run.{gains, if_ok}
+use Rattle.kms_core.specs.Insides.{run_in, stores_of}
+use Rattle.kms_core.proofs.Takers.{taker_as}
+use Rattle.kms_core.proofs.stores.Accepted.{tests_as}
+use Rattle.kms_core.proofs.deciding.test.Goals as goal
 
 pub decide_fresh-requires : goal.decide_fresh-requires
 decide_fresh-requires c = λ fresh.

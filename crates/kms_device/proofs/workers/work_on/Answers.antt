@@ -4,7 +4,7 @@ use Rattle.std.specs.List.{range_with_len}
 use Rattle.kms_model.specs.declared.objects.Kind.TheVariants.{Crtc, Plane}
 use Rattle.kms_model.specs.declared.replies.Step.TheVariants as step
 use Rattle.kms_model.specs.declared.scripts.Script.{Script}
-use Rattle.kms_stores.specs.Run.{gains}
+use Rattle.kms_core.specs.Run.{gains}
 use Rattle.kms_device.specs.Steps.{is_legal, step_if}
 use Rattle.kms_model.proofs.ThingLemmas.{find-holds}
 use Rattle.kms_device.proofs.Tails.{first_told}

@@ -1,7 +1,7 @@
 use Rattle.std.proofs.Common.{◌+◌, length, ap, ◌∙◌, arith}
 use Rattle.std.proofs.lemmas.List.{length_push}
-use Rattle.kms_screens.proofs.FrontLemmas.{one_step}
-use Rattle.kms_screens.proofs.digests.digest_of_frame.Goals as goal
+use Rattle.kms_kept_frames.proofs.FrontLemmas.{one_step}
+use Rattle.kms_kept_frames.proofs.digests.digest_of_frame.Goals as goal
 
 pub loop-place-preserved : goal.loop-place-preserved
 loop-place-preserved c =

@@ -1,6 +1,6 @@
 use Rattle.std.proofs.Common.{◌≡◌, length}
-use Rattle.kms_screens.proofs.FrontLemmas.{IsAt}
-use Rattle.kms_screens.proofs.digests.digest_of_frame.Given as goal
+use Rattle.kms_kept_frames.proofs.FrontLemmas.{IsAt}
+use Rattle.kms_kept_frames.proofs.digests.digest_of_frame.Given as goal
 
 abbrev pub invariant-loop-place : goal.invariant-loop-place
 invariant-loop-place l = record {

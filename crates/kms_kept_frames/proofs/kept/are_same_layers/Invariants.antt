@@ -1,5 +1,5 @@
 use Rattle.std.proofs.Common.{◌≡◌, length, take}
-use Rattle.kms_screens.proofs.kept.are_same_layers.Given as goal
+use Rattle.kms_kept_frames.proofs.kept.are_same_layers.Given as goal
 
 abbrev pub invariant-loop-place : goal.invariant-loop-place
 invariant-loop-place l = record {

@@ -1,7 +1,7 @@
 use Rattle.std.proofs.Common.{◌+◌, sym, ap, subst}
-use Rattle.kms_rounds.specs.Replays.{StopsAt}
-use Rattle.kms_rounds.proofs.Replayed.{all_legal, replaying_next, stops_at}
-use Rattle.kms_rounds.proofs.replaying.replay.Goals as goal
+use Rattle.kms_one_thread.specs.Replays.{StopsAt}
+use Rattle.kms_one_thread.proofs.Replayed.{all_legal, replaying_next, stops_at}
+use Rattle.kms_one_thread.proofs.replaying.replay.Goals as goal
 
 pub returns-then-not-legal-clause-stops : goal.returns-then-not-legal-clause-stops
 returns-then-not-legal-clause-stops c =

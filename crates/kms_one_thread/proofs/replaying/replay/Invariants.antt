@@ -1,6 +1,6 @@
 use Rattle.std.proofs.Common.{◌≡◌}
-use Rattle.kms_rounds.proofs.Replayed.{IsReplaying}
-use Rattle.kms_rounds.proofs.replaying.replay.Given as goal
+use Rattle.kms_one_thread.proofs.Replayed.{IsReplaying}
+use Rattle.kms_one_thread.proofs.replaying.replay.Given as goal
 
 abbrev pub invariant-loop-step : goal.invariant-loop-step
 invariant-loop-step l = record {

@@ -1,8 +1,8 @@
 use Rattle.std.proofs.Common.{sym, ◌∙◌}
 use Rattle.std.proofs.lemmas.Bool.{not-false, not-true}
 use Rattle.std.proofs.lemmas.Result.{on_ok_weaker}
-use Rattle.kms_rounds.proofs.Finishing.{finished_at, finishing_first, finishing_next}
-use Rattle.kms_rounds.proofs.rounds.finish.Goals as goal
+use Rattle.kms_one_thread.proofs.Finishing.{finished_at, finishing_first, finishing_next}
+use Rattle.kms_one_thread.proofs.rounds.finish.Goals as goal
 
 pub rounds-init : goal.rounds-init
 rounds-init c = finishing_first c.args.core.now

@@ -1,6 +1,6 @@
-use Rattle.kms_rounds.specs.Rounds.{moves_left}
-use Rattle.kms_rounds.proofs.Finishing.{IsFinishing}
-use Rattle.kms_rounds.proofs.rounds.finish.Given as goal
+use Rattle.kms_one_thread.specs.Rounds.{moves_left}
+use Rattle.kms_one_thread.proofs.Finishing.{IsFinishing}
+use Rattle.kms_one_thread.proofs.rounds.finish.Given as goal
 
 abbrev pub invariant-rounds : goal.invariant-rounds
 invariant-rounds l = IsFinishing l.fn.core l.core

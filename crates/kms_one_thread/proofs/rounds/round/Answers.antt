@@ -1,8 +1,8 @@
 use Rattle.std.proofs.Common.{◌-◌, ◌+◌, length, not, sym, ap, ◌∙◌, arith}
 use Rattle.std.specs.Prelude.{◌==◌}
 use Rattle.std.proofs.lemmas.Bool.{not-false, not-true}
-use Rattle.kms_rounds.proofs.Rounding.{moved_is, round_less, round_still, turning_last, turning_next}
-use Rattle.kms_rounds.proofs.rounds.round.Goals as goal
+use Rattle.kms_one_thread.proofs.Rounding.{moved_is, round_less, round_still, turning_last, turning_next}
+use Rattle.kms_one_thread.proofs.rounds.round.Goals as goal
 
 pub loop-client-preserved : goal.loop-client-preserved
 loop-client-preserved c =

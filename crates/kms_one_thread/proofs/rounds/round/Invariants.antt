@@ -1,6 +1,6 @@
 use Rattle.std.proofs.Common.{◌-◌}
-use Rattle.kms_rounds.proofs.Rounding.{IsTurning}
-use Rattle.kms_rounds.proofs.rounds.round.Given as goal
+use Rattle.kms_one_thread.proofs.Rounding.{IsTurning}
+use Rattle.kms_one_thread.proofs.rounds.round.Given as goal
 
 abbrev pub invariant-loop-client : goal.invariant-loop-client
 invariant-loop-client l = IsTurning l.fn.core l.core l.client (l.client-end - l.client)

@@ -1,6 +1,6 @@
 use Rattle.std.proofs.Common.{◌-◌, ◌+◌, sym, ◌∙◌, arith}
-use Rattle.kms_rounds.proofs.Going.{client_legal, going_answered, going_further, going_last, going_none}
-use Rattle.kms_rounds.proofs.turns.go.Goals as goal
+use Rattle.kms_one_thread.proofs.Going.{client_legal, going_answered, going_further, going_last, going_none}
+use Rattle.kms_one_thread.proofs.turns.go.Goals as goal
 
 pub returns-in_default-clause-gone : goal.returns-in_default-clause-gone
 returns-in_default-clause-gone c = going_none c.args.core.now c.loop-done.core c.args.client _ c.loop-done.invariant c.in_default.ensures

@@ -1,6 +1,6 @@
 use Rattle.std.proofs.Common.{◌-◌}
-use Rattle.kms_rounds.proofs.Going.{IsGoing}
-use Rattle.kms_rounds.proofs.turns.go.Given as goal
+use Rattle.kms_one_thread.proofs.Going.{IsGoing}
+use Rattle.kms_one_thread.proofs.turns.go.Given as goal
 
 abbrev pub invariant-loop-done : goal.invariant-loop-done
 invariant-loop-done l = IsGoing l.fn.core l.core l.client (l._done-end - l._done)

@@ -1,7 +1,7 @@
 use Rattle.std.proofs.Common.{ap, ◌∙◌, length, arith}
 use Rattle.kms_model.specs.declared.scripts.Script.{Script}
-use Rattle.kms_rounds.proofs.Turned.{few_steps}
-use Rattle.kms_rounds.proofs.turns.most_of_turn.Goals as goal
+use Rattle.kms_one_thread.proofs.Turned.{few_steps}
+use Rattle.kms_one_thread.proofs.turns.most_of_turn.Goals as goal
 
 pub returns : goal.returns
 returns c =

@@ -1,8 +1,8 @@
 use Rattle.std.proofs.Common.{subst}
 use Rattle.std.specs.Prelude.{IsOk}
 use Rattle.std.proofs.lemmas.Bool.{false≢true}
-use Rattle.kms_rounds.proofs.Settling.{next_legal, next_less, next_tail, settling_first, settling_none, settling_some}
-use Rattle.kms_rounds.proofs.turns.settle.Goals as goal
+use Rattle.kms_one_thread.proofs.Settling.{next_legal, next_less, next_tail, settling_first, settling_none, settling_some}
+use Rattle.kms_one_thread.proofs.turns.settle.Goals as goal
 
 pub settling-init : goal.settling-init
 settling-init c = settling_first c.args.core.now

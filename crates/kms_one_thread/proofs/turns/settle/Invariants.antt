@@ -1,7 +1,7 @@
 use Rattle.kms_laws.specs.TailsLeft.{all_left}
-use Rattle.kms_stores.specs.Run.{machine}
-use Rattle.kms_rounds.proofs.Settling.{IsSettling}
-use Rattle.kms_rounds.proofs.turns.settle.Given as goal
+use Rattle.kms_core.specs.Run.{machine}
+use Rattle.kms_one_thread.proofs.Settling.{IsSettling}
+use Rattle.kms_one_thread.proofs.turns.settle.Given as goal
 
 abbrev pub invariant-settling : goal.invariant-settling
 invariant-settling l = IsSettling l.fn.core l.core

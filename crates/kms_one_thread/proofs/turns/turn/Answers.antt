@@ -1,7 +1,7 @@
 use Rattle.std.proofs.Common.{sym}
 use Rattle.std.proofs.lemmas.Result.{on_ok_weaker}
-use Rattle.kms_rounds.proofs.Turned.{at_end, turned}
-use Rattle.kms_rounds.proofs.turns.turn.Goals as goal
+use Rattle.kms_one_thread.proofs.Turned.{at_end, turned}
+use Rattle.kms_one_thread.proofs.turns.turn.Goals as goal
 
 pub returns-then-is_at_end-clause-turn : goal.returns-then-is_at_end-clause-turn
 returns-then-is_at_end-clause-turn c = at_end c.args.core.now c.args.client (sym c.if-is_at_end.ensures)

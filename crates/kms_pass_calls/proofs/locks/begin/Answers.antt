@@ -1,5 +1,5 @@
 use Rattle.std.proofs.Common.{◌∙◌, sym, subst}
-use Rattle.kms_calls.specs.Locks.{MayBegin}
+use Rattle.kms_core.specs.Locks.{MayBegin}
 use Rattle.kms_device.specs.Attempts.{new_attempt}
 use Rattle.kms_device.specs.Turns.{run_seen}
 use Rattle.kms_device.proofs.TriedCases.{may_begin_at}

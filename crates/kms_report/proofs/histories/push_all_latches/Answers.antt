@@ -1,5 +1,5 @@
 use Rattle.std.proofs.Common.{arith}
-use Rattle.kms_stores.specs.Run.{machine}
+use Rattle.kms_core.specs.Run.{machine}
 use Rattle.kms_report.specs.Telling.{latches_text}
 use Rattle.kms_report.proofs.Ranges.{appended_range}
 use Rattle.kms_report.proofs.histories.push_all_latches.Goals as goal

@@ -1,8 +1,8 @@
 use Rattle.std.proofs.Common.{◌≡◌, ◌++◌, take}
-use Rattle.kms_stores.specs.Run.{machine}
+use Rattle.kms_core.specs.Run.{machine}
 use Rattle.kms_report.specs.Images.{things_of}
 use Rattle.kms_report.specs.Telling.{latches_text}
-use Rattle.kms_screens.specs.Screens.{AreKeptFramesOf}
+use Rattle.kms_kept_frames.specs.Screens.{AreKeptFramesOf}
 use Rattle.kms_report.proofs.latches.push_after.Given as goal
 
 abbrev pub invariant-loop-place : goal.invariant-loop-place

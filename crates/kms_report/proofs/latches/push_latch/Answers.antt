@@ -1,6 +1,6 @@
 use Rattle.std.proofs.Common.{◌≡◌, ℕ, List, ◌++◌, length, ap, ◌∙◌, rules}
 use Rattle.kms_model.specs.Frames.FrameBytes.{frame_bytes, frame_of, word_of}
-use Rattle.kms_stores.specs.Run.{machine}
+use Rattle.kms_core.specs.Run.{machine}
 use Rattle.kms_report.specs.Images.{things_of}
 use Rattle.kms_report.specs.Telling.{latch_front, lit_line}
 use Rattle.kms_report.proofs.ImageLemmas.{length-frame}

@@ -1,7 +1,7 @@
 use Rattle.std.proofs.Common.{◌≡◌, ◌++◌, drop}
 use Rattle.kms_report.specs.Images.{things_of}
 use Rattle.kms_report.specs.Strands.{strand_digests}
-use Rattle.kms_screens.specs.Screens.{AreKeptFramesOf}
+use Rattle.kms_kept_frames.specs.Screens.{AreKeptFramesOf}
 use Rattle.kms_report.proofs.strands.digests_of_strand.Given as goal
 
 abbrev pub invariant-loop-place : goal.invariant-loop-place

@@ -1,8 +1,8 @@
 use Rattle.std.proofs.Common.{◌≡◌, ◌<◌, ◌∙◌, ap, arith, false, get_or, length, rules}
-use Rattle.kms_stores.specs.Run.{machine}
+use Rattle.kms_core.specs.Run.{machine}
 use Rattle.kms_report.specs.Images.{things_of}
-use Rattle.kms_screens.specs.Strands.{is_strand}
-use Rattle.kms_screens.specs.declared.strands.Strand.TheVariants.{First, Second}
+use Rattle.kms_kept_frames.specs.Strands.{is_strand}
+use Rattle.kms_kept_frames.specs.declared.strands.Strand.TheVariants.{First, Second}
 use Rattle.kms_report.proofs.StrandLemmas.{one_line_more, other_first, own_first}
 use Rattle.kms_report.proofs.tellers.push_all_told.Goals.{in-First+in_ok-first-in-First, in-Second+in_ok-second-in-Second}
 use Rattle.kms_report.proofs.tellers.push_all_told.Goals as goal

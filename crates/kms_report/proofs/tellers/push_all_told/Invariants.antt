@@ -1,9 +1,9 @@
 use Rattle.std.proofs.Common.{◌≡◌, ◌++◌, drop, false, take}
-use Rattle.kms_stores.specs.Run.{machine}
+use Rattle.kms_core.specs.Run.{machine}
 use Rattle.kms_report.specs.Images.{things_of}
 use Rattle.kms_report.specs.Strands.{strand_digests}
 use Rattle.kms_report.specs.Telling.{latches_text}
-use Rattle.kms_screens.specs.declared.strands.Strand.TheVariants.{First, Second}
+use Rattle.kms_kept_frames.specs.declared.strands.Strand.TheVariants.{First, Second}
 use Rattle.kms_report.proofs.tellers.push_all_told.Given as goal
 
 abbrev pub invariant-loop-place : goal.invariant-loop-place

@@ -2,7 +2,7 @@ use Rattle.std.proofs.Common.{◌≡◌, ◌+◌, ◌∙◌, length, ap, arith}
 use Rattle.std.specs.List.{count_by}
 use Rattle.std.proofs.lemmas.List.{length-reverse}
 use Rattle.kms_model.specs.Machine.Histories.{replies}
-use Rattle.kms_stores.specs.Run.{machine}
+use Rattle.kms_core.specs.Run.{machine}
 use Rattle.kms_run.specs.Counting.{tells}
 use Rattle.kms_run.proofs.Counted.{counted_more}
 use Rattle.kms_run.proofs.generated.events_read.Goals as goal

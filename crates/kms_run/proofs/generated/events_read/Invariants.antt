@@ -1,7 +1,7 @@
 use Rattle.std.proofs.Common.{◌≡◌, ◌≤◌, ◌*◌, length}
 use Rattle.std.specs.List.{flat_map, range_with_len}
 use Rattle.kms_model.specs.Machine.Histories.{read_by}
-use Rattle.kms_stores.specs.Run.{machine}
+use Rattle.kms_core.specs.Run.{machine}
 use Rattle.kms_run.proofs.generated.events_read.Given as goal
 
 abbrev pub invariant-loop-client : goal.invariant-loop-client

@@ -1,7 +1,7 @@
 use Rattle.std.proofs.Common.{rules, ◌≡◌, Some}
 use Rattle.kms_model.specs.declared.runs.Doing.TheVariants as doing
 use Rattle.kms_model.specs.Machine.State.{doing_at, request_at}
-use Rattle.kms_stores.specs.Run.{machine}
+use Rattle.kms_core.specs.Run.{machine}
 use Rattle.kms_single_calls.proofs.Taken.{bare_taken}
 use Rattle.kms_single_calls.proofs.contexts.bare_context.Goals as goal
 

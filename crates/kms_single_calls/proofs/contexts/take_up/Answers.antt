@@ -1,5 +1,5 @@
 use Rattle.std.proofs.Common.{rules, ◌≡◌, Some}
-use Rattle.kms_calls.specs.Locks.{held_state}
+use Rattle.kms_core.specs.Locks.{held_state}
 use Rattle.kms_single_calls.proofs.Taken.{with_held}
 use Rattle.kms_single_calls.proofs.contexts.take_up.Goals as goal
 

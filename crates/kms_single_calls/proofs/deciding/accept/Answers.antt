@@ -1,6 +1,6 @@
 use Rattle.std.proofs.Common.{◌≡◌, sym}
-use Rattle.kms_stores.specs.Decisions.{IsAccepted, IsDeciding, taker}
-use Rattle.kms_stores.specs.Run.{machine}
+use Rattle.kms_core.specs.Decisions.{IsAccepted, IsDeciding, taker}
+use Rattle.kms_core.specs.Run.{machine}
 use Rattle.kms_core.proofs.Applied.{IsHistoryOf}
 use Rattle.kms_single_calls.proofs.Decided.{accepts, decides, own_taker, swap_answered, swap_done, test_answered, test_done}
 use Rattle.kms_single_calls.proofs.deciding.accept.Goals as goal

@@ -1,7 +1,7 @@
 use Rattle.std.proofs.Common.{◌≡◌, rules, refl, sym, ◌∙◌, inl, inr}
 use Rattle.std.proofs.lemmas.Bool.{false≢true}
 use Rattle.kms_model.specs.Request.Lookups.{lookups}
-use Rattle.kms_stores.specs.Decisions.{world}
+use Rattle.kms_core.specs.Decisions.{world}
 use Rattle.kms_single_calls.proofs.Decided.{alike_given, of_labels}
 use Rattle.kms_single_calls.proofs.deciding.decide.Goals as goal
 

@@ -3,7 +3,7 @@ use Rattle.std.proofs.lemmas.Bool.{false≢true}
 use Rattle.kms_model.specs.declared.replies.Reply.TheVariants as reply
 use Rattle.kms_model.specs.declared.replies.Step.TheVariants as step
 use Rattle.kms_check.specs.Moves.{AcceptedAs, RefusedBy}
-use Rattle.kms_stores.specs.declared.looking.Decided.TheVariants as decided
+use Rattle.kms_core.specs.declared.stores.looking.Decided.TheVariants as decided
 use Rattle.kms_core.proofs.Applied.{IsHistoryOf}
 use Rattle.kms_single_calls.specs.Deciding.{accepting_answer, accepting_step}
 use Rattle.kms_single_calls.proofs.Decided.{may_refuse, no_world, own_taker, steps_own}

@@ -1,6 +1,6 @@
 use Rattle.std.proofs.Common.{◌≡◌, true, sym, ap, ◌∙◌}
 use Rattle.kms_model.proofs.TouchedLemmas.{few_objects}
-use Rattle.kms_stores.specs.Run.{gains}
+use Rattle.kms_core.specs.Run.{gains}
 use Rattle.kms_single_calls.specs.Calls.{may_ask}
 use Rattle.kms_single_calls.proofs.Asked.{lock_allowed, one_step, taking_there}
 use Rattle.kms_single_calls.proofs.locks.call_lock.Goals as goal

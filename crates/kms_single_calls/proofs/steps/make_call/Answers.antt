@@ -1,4 +1,4 @@
-use Rattle.kms_stores.specs.Calls.{read_step, return_step}
+use Rattle.kms_core.specs.Calls.{read_step, return_step}
 use Rattle.kms_model.specs.declared.objects.Kind.TheVariants.{Crtc}
 use Rattle.kms_model.specs.declared.replies.Step.TheVariants as step
 use Rattle.std.proofs.Common.{[], ◌∷◌, ap, ◌∙◌, refl}

@@ -2,7 +2,7 @@ use Rattle.std.proofs.Common.{[], ◌∷◌, ap, ◌∙◌, refl}
 use Rattle.kms_model.specs.declared.objects.Kind.TheVariants.{Crtc}
 use Rattle.kms_model.specs.declared.replies.Step.TheVariants as step
 use Rattle.kms_model.proofs.TouchedLemmas.{few_objects}
-use Rattle.kms_stores.specs.Work.{cleanup_steps, write_step}
+use Rattle.kms_core.specs.Work.{cleanup_steps, write_step}
 use Rattle.kms_core.proofs.Applied.{cleanup_asked, cleanup_done, flush_kind, write_done, write_index, write_named, written_named}
 use Rattle.kms_single_calls.proofs.Asked.{done_as, flush_asked, legal_as}
 use Rattle.kms_single_calls.proofs.steps.make_call_of_worker.Goals as goal

@@ -1,11 +1,11 @@
 use Rattle.std.proofs.Common.{ap, [], ◌∷◌, refl}
 use Rattle.kms_clients.specs.Standing.{ticket_in}
 use Rattle.kms_model.specs.declared.replies.Step.TheVariants as step
-use Rattle.kms_stores.specs.Run.{machine}
-use Rattle.kms_calls.proofs.BackingOff.{client_of_context, is_found, must_place, backoff_goes_on, gains_step}
-use Rattle.kms_stores.specs.Insides.{run_in, stores_of}
-use Rattle.kms_stores.proofs.Spared.{other_spared}
-use Rattle.kms_calls.proofs.contexts.backoff.Goals as goal
+use Rattle.kms_core.specs.Run.{machine}
+use Rattle.kms_core.proofs.calls.BackingOff.{client_of_context, is_found, must_place, backoff_goes_on, gains_step}
+use Rattle.kms_core.specs.Insides.{run_in, stores_of}
+use Rattle.kms_core.proofs.stores.Spared.{other_spared}
+use Rattle.kms_core.proofs.calls.contexts.backoff.Goals as goal
 
 pub unreachable-requires : goal.unreachable-requires
 unreachable-requires c =

@@ -1,9 +1,9 @@
 use Rattle.std.proofs.Common.{refl}
-use Rattle.kms_stores.specs.Run.{machine}
-use Rattle.kms_calls.proofs.Locking.{begins, begins_idle, tickets_fit}
-use Rattle.kms_stores.specs.Insides.{run_in, stores_of}
-use Rattle.kms_stores.proofs.Spared.{other_spared}
-use Rattle.kms_calls.proofs.contexts.begin.Goals as goal
+use Rattle.kms_core.specs.Run.{machine}
+use Rattle.kms_core.proofs.calls.Locking.{begins, begins_idle, tickets_fit}
+use Rattle.kms_core.specs.Insides.{run_in, stores_of}
+use Rattle.kms_core.proofs.stores.Spared.{other_spared}
+use Rattle.kms_core.proofs.calls.contexts.begin.Goals as goal
 
 pub begin-requires-clause-client : goal.begin-requires-clause-client
 begin-requires-clause-client c = (begins_idle (run_in c.stores.inside) c.args.stores.now (stores_of c.stores.inside) c.args.client c.stores.invariant.stands c.stores.view_is c.requires).is_client

@@ -1,10 +1,10 @@
 use Rattle.std.proofs.Common.{◌∙◌, sym, ap, ◌++◌, ◌∷◌, [], refl}
 use Rattle.kms_model.specs.declared.replies.Step.{Step}
-use Rattle.kms_stores.specs.Run.{machine}
-use Rattle.kms_calls.proofs.Locking.{asks, locks_of, lock_answered, lock_goes_on, lock_history, lock_stays}
-use Rattle.kms_stores.specs.Insides.{run_in, stores_of}
-use Rattle.kms_stores.proofs.Spared.{other_spared, same_le, still_spared}
-use Rattle.kms_calls.proofs.contexts.lock.Goals as goal
+use Rattle.kms_core.specs.Run.{machine}
+use Rattle.kms_core.proofs.calls.Locking.{asks, locks_of, lock_answered, lock_goes_on, lock_history, lock_stays}
+use Rattle.kms_core.specs.Insides.{run_in, stores_of}
+use Rattle.kms_core.proofs.stores.Spared.{other_spared, same_le, still_spared}
+use Rattle.kms_core.proofs.calls.contexts.lock.Goals as goal
 
 pub lock-answer-requires-clause-taking : goal.lock-answer-requires-clause-taking
 lock-answer-requires-clause-taking c = (asks (run_in c.stores.inside) c.args.stores.now (stores_of c.stores.inside) c.args.t c.args.id c.in-Some.client c.stores.invariant.stands c.stores.view_is c.requires c.in-Some.ensures.some).place

@@ -10,12 +10,12 @@ use Rattle.kms_model.specs.declared.runs.Place.{Place}
 use Rattle.kms_clients.specs.InStep as Clients
 use Rattle.kms_clients.specs.Standing.{place_of}
 use Rattle.kms_wwlock.specs.declared.table.Relock.{Relock}
-use Rattle.kms_calls.specs.States.{stored_state}
-use Rattle.kms_stores.specs.Run.{Run, machine}
-use Rattle.kms_calls.proofs.BackingOff.{client_of_context, is_found, off_place, off_stored, off_there, relock_answered, relock_goes_on, relock_stays, gains_step}
-use Rattle.kms_stores.specs.Insides.{run_in, stores_of}
-use Rattle.kms_stores.proofs.Spared.{other_spared, same_le, still_spared}
-use Rattle.kms_calls.proofs.contexts.relock.Goals as goal
+use Rattle.kms_core.specs.States.{stored_state}
+use Rattle.kms_core.specs.Run.{Run, machine}
+use Rattle.kms_core.proofs.calls.BackingOff.{client_of_context, is_found, off_place, off_stored, off_there, relock_answered, relock_goes_on, relock_stays, gains_step}
+use Rattle.kms_core.specs.Insides.{run_in, stores_of}
+use Rattle.kms_core.proofs.stores.Spared.{other_spared, same_le, still_spared}
+use Rattle.kms_core.proofs.calls.contexts.relock.Goals as goal
 
 pub unreachable-requires : goal.unreachable-requires
 unreachable-requires c =

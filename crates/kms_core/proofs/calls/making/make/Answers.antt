@@ -3,13 +3,13 @@ use Rattle.std.specs.Option.{option_copied}
 use Rattle.kms_model.specs.declared.runs.Place.{Place}
 use Rattle.kms_model.specs.Machine.Steps.{is_making}
 use Rattle.kms_laws.proofs.Steps.{not_atomic}
-use Rattle.kms_stores.specs.Run.{machine}
-use Rattle.kms_calls.proofs.Executed.{has_ids, idle_maker, is_found, makes, never_absent, no_request, place_for, stored_for, tells_reply}
-use Rattle.kms_stores.proofs.WithRoom.{stands_with_room}
-use Rattle.kms_stores.proofs.Seeking.{few_tails}
-use Rattle.kms_stores.specs.Insides.{run_in, stores_of}
-use Rattle.kms_stores.proofs.Spared.{other_spared, same_le, still_spared}
-use Rattle.kms_calls.proofs.making.make.Goals as goal
+use Rattle.kms_core.specs.Run.{machine}
+use Rattle.kms_core.proofs.calls.Executed.{has_ids, idle_maker, is_found, makes, never_absent, no_request, place_for, stored_for, tells_reply}
+use Rattle.kms_core.proofs.stores.WithRoom.{stands_with_room}
+use Rattle.kms_core.proofs.stores.Seeking.{few_tails}
+use Rattle.kms_core.specs.Insides.{run_in, stores_of}
+use Rattle.kms_core.proofs.stores.Spared.{other_spared, same_le, still_spared}
+use Rattle.kms_core.proofs.calls.making.make.Goals as goal
 
 pub place-number-requires : goal.place-number-requires
 place-number-requires c = (idle_maker (run_in c.stores.inside) c.args.stores.now (stores_of c.stores.inside) c.args.client c.stores.invariant.stands c.stores.view_is c.requires).is_client

@@ -3,12 +3,12 @@ use Rattle.std.specs.Option.{option_copied}
 use Rattle.kms_model.specs.declared.runs.Place.{Place}
 use Rattle.kms_model.specs.Machine.Steps.{is_signal}
 use Rattle.kms_laws.proofs.Steps.{signal-other}
-use Rattle.kms_stores.specs.Run.{machine}
-use Rattle.kms_calls.proofs.Executed.{is_found, never_absent, no_request}
-use Rattle.kms_stores.specs.Insides.{run_in, stores_of}
-use Rattle.kms_calls.proofs.Signalled.{idle_signaller, signals_one, tells_signal}
-use Rattle.kms_stores.proofs.Spared.{other_spared}
-use Rattle.kms_calls.proofs.making.signal.Goals as goal
+use Rattle.kms_core.specs.Run.{machine}
+use Rattle.kms_core.proofs.calls.Executed.{is_found, never_absent, no_request}
+use Rattle.kms_core.specs.Insides.{run_in, stores_of}
+use Rattle.kms_core.proofs.calls.Signalled.{idle_signaller, signals_one, tells_signal}
+use Rattle.kms_core.proofs.stores.Spared.{other_spared}
+use Rattle.kms_core.proofs.calls.making.signal.Goals as goal
 
 pub place-number-requires : goal.place-number-requires
 place-number-requires c = (idle_signaller (run_in c.stores.inside) c.args.stores.now (stores_of c.stores.inside) c.args.client c.stores.invariant.stands c.stores.view_is c.requires).is_client

@@ -1,12 +1,12 @@
 use Rattle.std.proofs.Common.{rules, ◌∙◌, ◌-◌, ap, sym, refl}
 use Rattle.std.specs.Prelude.{slice_set}
 use Rattle.kms_signal.specs.Queues.{Queue, after_read}
-use Rattle.kms_stores.specs.Calls.{read_reply}
-use Rattle.kms_stores.specs.Run.{machine}
-use Rattle.kms_calls.proofs.Delivered.{found_queue, has_queue, idle_reader, none_told, reads_event, told_reply}
-use Rattle.kms_stores.specs.Insides.{run_in, stores_of}
-use Rattle.kms_stores.proofs.Spared.{other_spared}
-use Rattle.kms_calls.proofs.reading.read.Goals as goal
+use Rattle.kms_core.specs.Calls.{read_reply}
+use Rattle.kms_core.specs.Run.{machine}
+use Rattle.kms_core.proofs.calls.Delivered.{found_queue, has_queue, idle_reader, none_told, reads_event, told_reply}
+use Rattle.kms_core.specs.Insides.{run_in, stores_of}
+use Rattle.kms_core.proofs.stores.Spared.{other_spared}
+use Rattle.kms_core.proofs.calls.reading.read.Goals as goal
 
 pub go_on-requires : goal.go_on-requires
 go_on-requires c =

@@ -1,10 +1,10 @@
 use Rattle.std.proofs.Common.{◌∙◌, ◌&&◌, ap, not, sym, refl}
 use Rattle.kms_model.specs.declared.runs.Place.{Place}
-use Rattle.kms_stores.specs.Run.{machine}
-use Rattle.kms_stores.specs.Insides.{run_in, stores_of}
-use Rattle.kms_calls.proofs.Returned.{returns, tells_over, waits_for}
-use Rattle.kms_stores.proofs.Spared.{other_spared}
-use Rattle.kms_calls.proofs.reading.return_from.Goals as goal
+use Rattle.kms_core.specs.Run.{machine}
+use Rattle.kms_core.specs.Insides.{run_in, stores_of}
+use Rattle.kms_core.proofs.calls.Returned.{returns, tells_over, waits_for}
+use Rattle.kms_core.proofs.stores.Spared.{other_spared}
+use Rattle.kms_core.proofs.calls.reading.return_from.Goals as goal
 
 pub go_on-requires-clause-command : goal.go_on-requires-clause-command
 go_on-requires-clause-command c = (waits_for (run_in c.stores.inside) c.args.stores.now (stores_of c.stores.inside) c.args.client c.stores.invariant.stands c.stores.view_is c.requires).command_fits

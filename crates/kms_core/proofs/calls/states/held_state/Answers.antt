@@ -1,9 +1,9 @@
 use Rattle.std.proofs.Common.{◌≡◌, true, Some, sym, rules, ◌∙◌}
-use Rattle.kms_stores.specs.Insides.{run_in, stores_of}
-use Rattle.kms_stores.specs.Run.{machine}
-use Rattle.kms_calls.specs.Locks.{has_lock}
-use Rattle.kms_calls.proofs.HeldStates.{held_is}
-use Rattle.kms_calls.proofs.states.held_state.Goals as goal
+use Rattle.kms_core.specs.Insides.{run_in, stores_of}
+use Rattle.kms_core.specs.Run.{machine}
+use Rattle.kms_core.specs.Locks.{has_lock}
+use Rattle.kms_core.proofs.calls.HeldStates.{held_is}
+use Rattle.kms_core.proofs.calls.states.held_state.Goals as goal
 
 pub returns : goal.returns
 returns c =

@@ -4,12 +4,12 @@ use Rattle.kms_model.specs.declared.runs.Place.{Place}
 use Rattle.kms_signal.specs.FenceSets.{FenceSet}
 use Rattle.kms_signal.specs.Queues.{Queue, empty_queue}
 use Rattle.kms_tails.specs.InStep.{StandsAfterSwap}
-use Rattle.kms_stores.specs.Run.{machine}
-use Rattle.kms_stores.specs.SwappedIn.{fences_under, labels_in}
-use Rattle.kms_decide.proofs.Commits.{again, below_tails, commits, decider, few_commits, few_waits, found_queue, has_ids, high, may_now, own, queues_same, roomy, set_up_same, space_again, there}
-use Rattle.kms_stores.specs.Insides.{run_in, stores_of}
-use Rattle.kms_stores.proofs.Spared.{still_spared, swap_spared, with_latches}
-use Rattle.kms_decide.proofs.committing.commit.Goals as goal
+use Rattle.kms_core.specs.Run.{machine}
+use Rattle.kms_core.specs.SwappedIn.{fences_under, labels_in}
+use Rattle.kms_core.proofs.deciding.Commits.{again, below_tails, commits, decider, few_commits, few_waits, found_queue, has_ids, high, may_now, own, queues_same, roomy, set_up_same, space_again, there}
+use Rattle.kms_core.specs.Insides.{run_in, stores_of}
+use Rattle.kms_core.proofs.stores.Spared.{still_spared, swap_spared, with_latches}
+use Rattle.kms_core.proofs.deciding.committing.commit.Goals as goal
 
 pub invariant_of-stores : goal.invariant_of-stores
 invariant_of-stores c =

@@ -2,7 +2,7 @@ use Rattle.std.proofs.Common.{◌≡◌, ◌∙◌, Some, ap, sym, subst}
 use Rattle.std.specs.Option.{option_copied}
 use Rattle.kms_model.specs.declared.scripts.Request.{Request}
 use Rattle.kms_tails.specs.InStep.{StandsAfterSwap}
-use Rattle.kms_decide.proofs.committing.keep_tail.Goals as goal
+use Rattle.kms_core.proofs.deciding.committing.keep_tail.Goals as goal
 
 pub returns : goal.returns
 returns c = λ r is. (

@@ -1,6 +1,6 @@
 use Rattle.std.proofs.Common.{◌≡◌, drop}
-use Rattle.kms_stores.specs.SwappedIn.{label_in}
-use Rattle.kms_decide.proofs.committing.label_at.Given as goal
+use Rattle.kms_core.specs.SwappedIn.{label_in}
+use Rattle.kms_core.proofs.deciding.committing.label_at.Given as goal
 
 -- the label among the rest is that among all
 abbrev pub invariant-loop-object : goal.invariant-loop-object

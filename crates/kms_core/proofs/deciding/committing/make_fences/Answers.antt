@@ -1,8 +1,8 @@
 use Rattle.std.proofs.Common.{◌∙◌, ◌++◌, ◌+◌, drop, None, ap, sym, arith, length-drop}
 use Rattle.std.proofs.lemmas.List.{at_drop_more}
-use Rattle.kms_stores.specs.SwappedIn.{fences_for}
-use Rattle.kms_decide.proofs.OutFences.{one_made}
-use Rattle.kms_decide.proofs.committing.make_fences.Goals as goal
+use Rattle.kms_core.specs.SwappedIn.{fences_for}
+use Rattle.kms_core.proofs.deciding.OutFences.{one_made}
+use Rattle.kms_core.proofs.deciding.committing.make_fences.Goals as goal
 
 pub make_one-next-requires-clause-room : goal.make_one-next-requires-clause-room
 make_one-next-requires-clause-room c = omega (arith, c.loop-label.invariant.room, length-drop c.loop-label.label-index c.args.labels.now, c.loop-label-test.true)

@@ -1,7 +1,7 @@
 use Rattle.std.proofs.Common.{◌≡◌, ◌+◌, ◌++◌, ◌≤◌, drop, length}
 use Rattle.kms_model.specs.Stores.Tables.{AreBelow}
-use Rattle.kms_stores.specs.SwappedIn.{fences_for}
-use Rattle.kms_decide.proofs.committing.make_fences.Given as goal
+use Rattle.kms_core.specs.SwappedIn.{fences_for}
+use Rattle.kms_core.proofs.deciding.committing.make_fences.Given as goal
 
 -- the fences that are made, and those of the rest, are those of all
 abbrev pub invariant-loop-label : goal.invariant-loop-label

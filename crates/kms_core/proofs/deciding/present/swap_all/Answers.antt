@@ -1,8 +1,8 @@
 use Rattle.std.proofs.Common.{◌<◌, None, get_or, length, arith, refl, ◌∙◌, length-set}
 use Rattle.kms_track.proofs.Writes.{each_below, each_behind}
-use Rattle.kms_stores.specs.SwappedIn.{swapped_in}
-use Rattle.kms_stores.proofs.AfterCommit.{swapped_all, swapped_here}
-use Rattle.kms_decide.proofs.present.swap_all.Goals as goal
+use Rattle.kms_core.specs.SwappedIn.{swapped_in}
+use Rattle.kms_core.proofs.stores.AfterCommit.{swapped_all, swapped_here}
+use Rattle.kms_core.proofs.deciding.present.swap_all.Goals as goal
 
 pub loop-index-init : goal.loop-index-init
 loop-index-init g c = record { size = refl; done = λ p low. absurd (omega (arith, low)); left = λ p low. refl }

@@ -1,6 +1,6 @@
 use Rattle.std.proofs.Common.{◌≡◌, ℕ, ◌<◌, ◌≤◌, None, get_or, length}
-use Rattle.kms_stores.specs.SwappedIn.{swapped_in}
-use Rattle.kms_decide.proofs.present.swap_all.Given as goal
+use Rattle.kms_core.specs.SwappedIn.{swapped_in}
+use Rattle.kms_core.proofs.deciding.present.swap_all.Given as goal
 
 abbrev pub invariant-loop-index : goal.invariant-loop-index
 invariant-loop-index g l = record {

@@ -1,7 +1,7 @@
 use Rattle.std.proofs.Common.{Some, None}
-use Rattle.kms_stores.specs.Insides.{run_in, stores_of}
-use Rattle.kms_stores.proofs.Lates.{few_events, indexed_queue, late_decides, swap_answers, swap_may}
-use Rattle.kms_decide.proofs.swapping.hindered.Goals as goal
+use Rattle.kms_core.specs.Insides.{run_in, stores_of}
+use Rattle.kms_core.proofs.Lates.{few_events, indexed_queue, late_decides, swap_answers, swap_may}
+use Rattle.kms_core.proofs.deciding.swapping.hindered.Goals as goal
 
 pub late_reply-requires : goal.late_reply-requires
 late_reply-requires c =

@@ -1,11 +1,11 @@
 use Rattle.std.proofs.Common.{sym}
-use Rattle.kms_stores.specs.Decisions.{taker}
-use Rattle.kms_stores.specs.Run.{machine}
-use Rattle.kms_stores.specs.Swaps.{swap_answer}
-use Rattle.kms_stores.proofs.Fresh.{answers_again, fresh_now}
-use Rattle.kms_stores.specs.Insides.{run_in, stores_of}
-use Rattle.kms_decide.proofs.Swapped.{commit_as, committed_as, gained_as, hindered_as, ready_as, steps_as}
-use Rattle.kms_decide.proofs.swapping.swap.Goals as goal
+use Rattle.kms_core.specs.Decisions.{taker}
+use Rattle.kms_core.specs.Run.{machine}
+use Rattle.kms_core.specs.Swaps.{swap_answer}
+use Rattle.kms_core.proofs.stores.Fresh.{answers_again, fresh_now}
+use Rattle.kms_core.specs.Insides.{run_in, stores_of}
+use Rattle.kms_core.proofs.Swapped.{commit_as, committed_as, gained_as, hindered_as, ready_as, steps_as}
+use Rattle.kms_core.proofs.deciding.swapping.swap.Goals as goal
 
 pub returns-in-Some-clause-answer : goal.returns-in-Some-clause-answer
 returns-in-Some-clause-answer c =

@@ -1,8 +1,8 @@
 use Rattle.std.proofs.Common.{arith, sym, ap, ◌∙◌}
 use Rattle.std.specs.Option.{option_copied}
-use Rattle.kms_stores.proofs.FreedIds.{keeps_found, keeps_in, keeps_none, never_missing, tail_keeps}
-use Rattle.kms_stores.proofs.Seeking.{goes_up, less_left, one_passed}
-use Rattle.kms_stores.proofs.freeing.commits_keep.Goals as goal
+use Rattle.kms_core.proofs.stores.FreedIds.{keeps_found, keeps_in, keeps_none, never_missing, tail_keeps}
+use Rattle.kms_core.proofs.stores.Seeking.{goes_up, less_left, one_passed}
+use Rattle.kms_core.proofs.freeing.freed.commits_keep.Goals as goal
 
 pub unreachable-requires : goal.unreachable-requires
 unreachable-requires c = never_missing c.args.tails.now c.seeking.from c.in-Some.commit c.requires c.in-Some.ensures.machine (sym (ap option_copied c.in_default-get.is) ∙ c.get.ensures.value)

@@ -1,7 +1,7 @@
 use Rattle.std.proofs.Common.{◌-◌}
-use Rattle.kms_stores.proofs.FreedIds.{tail_keeps}
-use Rattle.kms_stores.proofs.Seeking.{ArePassed}
-use Rattle.kms_stores.proofs.freeing.commits_keep.Given as goal
+use Rattle.kms_core.proofs.stores.FreedIds.{tail_keeps}
+use Rattle.kms_core.proofs.stores.Seeking.{ArePassed}
+use Rattle.kms_core.proofs.freeing.freed.commits_keep.Given as goal
 
 -- the commits so far are cleaned or do not keep it
 abbrev pub invariant-seeking : goal.invariant-seeking

@@ -1,9 +1,9 @@
 use Rattle.std.proofs.Common.{◌∙◌, ap, subst}
 use Rattle.kms_model.specs.Machine.Framebuffers.{stored_framebuffer}
-use Rattle.kms_freeing.proofs.StoredSteps.{told_info}
-use Rattle.kms_stores.specs.Insides.{run_in, stores_of}
-use Rattle.kms_stores.specs.Run.{Run, machine}
-use Rattle.kms_stores.proofs.freeing.framebuffer.Goals as goal
+use Rattle.kms_core.proofs.freeing.StoredSteps.{told_info}
+use Rattle.kms_core.specs.Insides.{run_in, stores_of}
+use Rattle.kms_core.specs.Run.{Run, machine}
+use Rattle.kms_core.proofs.freeing.freed.framebuffer.Goals as goal
 
 pub returns : goal.returns
 returns c =

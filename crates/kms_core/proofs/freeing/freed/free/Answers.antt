@@ -2,13 +2,13 @@ use Rattle.std.proofs.Common.{◌∙◌, ◌≡◌, ◌+◌, ◌++◌, ap, sym, 
 use Rattle.std.specs.Prelude.{IfSome, Some, true, false}
 use Rattle.std.proofs.lemmas.List.{at_drop_more, drop_all}
 use Rattle.kms_model.specs.Device.World.{thing_with_id}
-use Rattle.kms_freeing.specs.Freeing.{freed_among, is_framebuffer_in}
-use Rattle.kms_freeing.specs.Stored.{without_freed}
-use Rattle.kms_freeing.proofs.PutIds.{among_ends, among_items, among_needs, among_places, among_room}
+use Rattle.kms_core.specs.Freeing.{freed_among, is_framebuffer_in}
+use Rattle.kms_core.specs.Stored.{without_freed}
+use Rattle.kms_core.proofs.freeing.PutIds.{among_ends, among_items, among_needs, among_places, among_room}
 use Rattle.kms_things.specs.Framebuffers.{framebuffer_entry}
 use Rattle.kms_things.specs.Made.{Made}
-use Rattle.kms_stores.proofs.StoredCalls.{among_fbs, among_held, fbs_again, first_held, last_held, rest_rising, tells_still}
-use Rattle.kms_stores.proofs.freeing.free.Goals as goal
+use Rattle.kms_core.proofs.stores.StoredCalls.{among_fbs, among_held, fbs_again, first_held, last_held, rest_rising, tells_still}
+use Rattle.kms_core.proofs.freeing.freed.free.Goals as goal
 
 pub release-requires-clause-place : goal.release-requires-clause-place
 release-requires-clause-place c =

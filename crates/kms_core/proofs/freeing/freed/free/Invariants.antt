@@ -1,11 +1,11 @@
 use Rattle.std.proofs.Common.{◌≡◌, ◌≤◌, ◌+◌, ◌++◌, drop, length}
 use Rattle.kms_model.specs.declared.objects.Topology.{Topology}
 use Rattle.kms_model.specs.Machine.State.{Machine}
-use Rattle.kms_freeing.specs.Freeing.{AreRising, framebuffers_in, freed_among}
-use Rattle.kms_freeing.specs.Stored.{AreHeld, without_freed}
-use Rattle.kms_stores.specs.Needs.{TellNeeds}
-use Rattle.kms_stores.proofs.StoredCalls.{OnlyFbs}
-use Rattle.kms_stores.proofs.freeing.free.Given as goal
+use Rattle.kms_core.specs.Freeing.{AreRising, framebuffers_in, freed_among}
+use Rattle.kms_core.specs.Stored.{AreHeld, without_freed}
+use Rattle.kms_core.specs.Needs.{TellNeeds}
+use Rattle.kms_core.proofs.stores.StoredCalls.{OnlyFbs}
+use Rattle.kms_core.proofs.freeing.freed.free.Given as goal
 
 -- what is recorded with what the rest free is what all free, and so is what has left the store; there are places for the rest, and the
 -- store has them

@@ -1,6 +1,6 @@
 use Rattle.std.proofs.Common.{◌∙◌, Some, ap, sym, refl}
-use Rattle.kms_stores.proofs.FreedIds.{entry_is, entry_some, entry_told}
-use Rattle.kms_stores.proofs.freeing.freed_label.Goals as goal
+use Rattle.kms_core.proofs.stores.FreedIds.{entry_is, entry_some, entry_told}
+use Rattle.kms_core.proofs.freeing.freed.freed_label.Goals as goal
 
 pub returns-then-is_open-clause-label : goal.returns-then-is_open-clause-label
 returns-then-is_open-clause-label c = λ t m tell.

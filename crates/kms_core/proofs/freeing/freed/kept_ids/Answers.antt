@@ -1,9 +1,9 @@
 use Rattle.std.proofs.Common.{◌≡◌, ◌∙◌, ap, arith, refl, sym, subst, length}
 use Rattle.arrayvec.specs.ArrayVec.{array_vec_len}
-use Rattle.kms_freeing.specs.Freeing.{AreAllOf, put_ids}
+use Rattle.kms_core.specs.Freeing.{AreAllOf, put_ids}
 use Rattle.kms_model.specs.Machine.Framebuffers.{commit_keeps}
-use Rattle.kms_stores.proofs.FreedIds.{first_ids, kept_all, put_end, put_on}
-use Rattle.kms_stores.proofs.freeing.kept_ids.Goals as goal
+use Rattle.kms_core.proofs.stores.FreedIds.{first_ids, kept_all, put_end, put_on}
+use Rattle.kms_core.proofs.freeing.freed.kept_ids.Goals as goal
 
 pub loop-index-init : goal.loop-index-init
 loop-index-init c = record {

@@ -1,8 +1,8 @@
 use Rattle.std.proofs.Common.{◌≡◌, ◌≤◌, ◌-◌, ◌*◌, []}
 use Rattle.arrayvec.specs.ArrayVec.{array_vec_len}
-use Rattle.kms_freeing.specs.Freeing.{put_ids}
-use Rattle.kms_stores.specs.Freeing.{all_ids, tail_ids}
-use Rattle.kms_stores.proofs.freeing.kept_ids.Given as goal
+use Rattle.kms_core.specs.Freeing.{put_ids}
+use Rattle.kms_core.specs.KeptFramebuffers.{all_ids, tail_ids}
+use Rattle.kms_core.proofs.freeing.freed.kept_ids.Given as goal
 
 -- the rest put to those so far are all
 abbrev pub invariant-loop-index : goal.invariant-loop-index

@@ -1,6 +1,6 @@
 use Rattle.std.proofs.Common.{sym, arith}
-use Rattle.kms_freeing.proofs.PutIds.{live_found, live_none, live_on}
-use Rattle.kms_stores.proofs.freeing.live_names.Goals as goal
+use Rattle.kms_core.proofs.freeing.PutIds.{live_found, live_none, live_on}
+use Rattle.kms_core.proofs.freeing.freed.live_names.Goals as goal
 
 pub returns-then-shows : goal.returns-then-shows
 returns-then-shows c = λ t d count stands. sym (live_found t d c.args.id c.loop-crtc.crtc (let l = c.loop-crtc-test.true in omega (arith, l, count)) (sym (c.if-shows.ensures t d stands)))

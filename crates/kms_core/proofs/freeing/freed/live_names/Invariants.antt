@@ -6,7 +6,7 @@ use Rattle.kms_model.specs.Machine.Framebuffers.{picture_names}
 use Rattle.kms_model.specs.Machine.Registers.{decoded_picture}
 use Rattle.kms_model.specs.Machine.State.{DeviceState}
 use Rattle.kms_regs.specs.File.{StandsForDevice}
-use Rattle.kms_stores.proofs.freeing.live_names.Given as goal
+use Rattle.kms_core.proofs.freeing.freed.live_names.Given as goal
 
 -- those so far do not show it
 abbrev pub invariant-loop-crtc : goal.invariant-loop-crtc

@@ -1,6 +1,6 @@
 use Rattle.std.proofs.Common.{◌∙◌, ap}
-use Rattle.kms_stores.proofs.StoredCalls.{gives_last, may_give}
-use Rattle.kms_stores.proofs.freeing.release.Goals as goal
+use Rattle.kms_core.proofs.stores.StoredCalls.{gives_last, may_give}
+use Rattle.kms_core.proofs.freeing.freed.release.Goals as goal
 
 pub give-last-requires : goal.give-last-requires
 give-last-requires c = may_give _ (rw c.in-Some.is at c.requires.last)

@@ -1,8 +1,8 @@
 use Rattle.std.proofs.Common.{◌∙◌, ap}
 use Rattle.kms_model.specs.Machine.Commits.{has_number}
-use Rattle.kms_freeing.specs.Freeing.{both_ids}
-use Rattle.kms_stores.proofs.FreedIds.{first_ids, tail_end, tail_here, tail_on}
-use Rattle.kms_stores.proofs.freeing.tail_names.Goals as goal
+use Rattle.kms_core.specs.Freeing.{both_ids}
+use Rattle.kms_core.proofs.stores.FreedIds.{first_ids, tail_end, tail_here, tail_on}
+use Rattle.kms_core.proofs.freeing.freed.tail_names.Goals as goal
 
 pub loop-index-init : goal.loop-index-init
 loop-index-init c = ap (λ xs. has_number xs c.args.id) (first_ids c.args.tail.now)

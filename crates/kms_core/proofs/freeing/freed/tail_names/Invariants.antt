@@ -1,7 +1,7 @@
 use Rattle.std.proofs.Common.{◌≡◌, ◌-◌}
 use Rattle.kms_model.specs.Machine.Commits.{has_number}
-use Rattle.kms_stores.specs.Freeing.{all_ids, tail_ids}
-use Rattle.kms_stores.proofs.freeing.tail_names.Given as goal
+use Rattle.kms_core.specs.KeptFramebuffers.{all_ids, tail_ids}
+use Rattle.kms_core.proofs.freeing.freed.tail_names.Given as goal
 
 -- the states of the rest name it where those of all do
 abbrev pub invariant-loop-index : goal.invariant-loop-index

@@ -1,4 +1,4 @@
-use Rattle.kms_stores.specs.Run.{machine}
+use Rattle.kms_core.specs.Run.{machine}
 use Rattle.kms_core.proofs.machine.Core.tests_requests_alone.Goals as goal
 
 pub returns : goal.returns

@@ -1,6 +1,6 @@
 use Rattle.std.proofs.Common.{◌∙◌, sym}
-use Rattle.kms_next.proofs.ClientSteps.{back_not, back_told}
-use Rattle.kms_next.proofs.client_steps.may_back_off.Goals as goal
+use Rattle.kms_core.proofs.next.ClientSteps.{back_not, back_told}
+use Rattle.kms_core.proofs.next.client_steps.may_back_off.Goals as goal
 
 pub returns-in-MustBackOff : goal.returns-in-MustBackOff
 returns-in-MustBackOff c = back_told c.args.stores.now c.args.client _ (sym c.in-MustBackOff.is ∙ c.doing.ensures)

@@ -1,7 +1,7 @@
 use Rattle.std.proofs.Common.{◌∙◌, ap, sym}
 use Rattle.std.specs.Option.{option_copied}
-use Rattle.kms_next.proofs.ClientSteps.{read_absent, read_answered, read_other, read_there}
-use Rattle.kms_next.proofs.client_steps.may_read.Goals as goal
+use Rattle.kms_core.proofs.next.ClientSteps.{read_absent, read_answered, read_other, read_there}
+use Rattle.kms_core.proofs.next.client_steps.may_read.Goals as goal
 
 pub returns-then-is_wait : goal.returns-then-is_wait
 returns-then-is_wait c =

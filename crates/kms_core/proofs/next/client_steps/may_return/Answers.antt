@@ -1,8 +1,8 @@
 use Rattle.std.proofs.Common.{◌∙◌, sym}
 use Rattle.kms_model.proofs.CommitFacts.{returning_not}
-use Rattle.kms_next.proofs.ClientSteps.{return_not, return_told}
-use Rattle.kms_stores.specs.Insides.{run_in, stores_of}
-use Rattle.kms_next.proofs.client_steps.may_return.Goals as goal
+use Rattle.kms_core.proofs.next.ClientSteps.{return_not, return_told}
+use Rattle.kms_core.specs.Insides.{run_in, stores_of}
+use Rattle.kms_core.proofs.next.client_steps.may_return.Goals as goal
 
 pub returns-in-Returning : goal.returns-in-Returning
 returns-in-Returning c = c.is_cleaned.ensures ∙ return_told (run_in c.stores.inside) c.args.stores.now (stores_of c.stores.inside) c.args.client c.in-Returning.commit c.stores.invariant.stands c.stores.view_is (sym c.in-Returning.is ∙ c.doing.ensures)

@@ -1,7 +1,7 @@
 use Rattle.std.proofs.Common.{◌∙◌, ap, sym, None, Some}
 use Rattle.std.specs.Option.{option_copied}
-use Rattle.kms_next.proofs.ClientSteps.{signal_told}
-use Rattle.kms_next.proofs.client_steps.may_signal.Goals as goal
+use Rattle.kms_core.proofs.next.ClientSteps.{signal_told}
+use Rattle.kms_core.proofs.next.client_steps.may_signal.Goals as goal
 
 pub returns-in-Some : goal.returns-in-Some
 returns-in-Some c = c.is_signal.ensures ∙ signal_told c.args.stores.now c.args.client (Some c.in-Some.command.now) (ap option_copied (sym c.in-Some.is) ∙ c.idle_command.ensures)

@@ -1,7 +1,7 @@
-use Rattle.kms_stores.specs.Insides.{run_in, stores_of}
-use Rattle.kms_next.proofs.Presented.{somewhere_now}
-use Rattle.kms_next.proofs.Refusing.{checked_now, early_at, settable_now, spanned, states_now}
-use Rattle.kms_next.proofs.judging.checked.Goals as goal
+use Rattle.kms_core.specs.Insides.{run_in, stores_of}
+use Rattle.kms_core.proofs.next.Presented.{somewhere_now}
+use Rattle.kms_core.proofs.next.Refusing.{checked_now, early_at, settable_now, spanned, states_now}
+use Rattle.kms_core.proofs.next.judging.checked.Goals as goal
 
 pub changed-states-requires : goal.changed-states-requires
 changed-states-requires c = somewhere_now (run_in c.stores.inside) (stores_of c.stores.inside) c.stores.invariant.stands

@@ -1,7 +1,7 @@
-use Rattle.kms_stores.specs.Decisions.{held_at}
-use Rattle.kms_next.proofs.JudgedRequests.{all_first, no_more, one_more}
-use Rattle.kms_next.proofs.judging.holds_all.Goals.{then-held, else-held}
-use Rattle.kms_next.proofs.judging.holds_all.Goals as goal
+use Rattle.kms_core.specs.Decisions.{held_at}
+use Rattle.kms_core.proofs.next.JudgedRequests.{all_first, no_more, one_more}
+use Rattle.kms_core.proofs.next.judging.holds_all.Goals.{then-held, else-held}
+use Rattle.kms_core.proofs.next.judging.holds_all.Goals as goal
 
 pub loop-place-init : goal.loop-place-init
 loop-place-init c = λ m stand. all_first (held_at m c.args.client c.args.objects.now)

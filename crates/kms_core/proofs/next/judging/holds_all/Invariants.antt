@@ -2,8 +2,8 @@ use Rattle.std.proofs.Common.{◌≡◌}
 use Rattle.kms_model.specs.Machine.State.{Machine}
 use Rattle.kms_clients.specs.InStep.{AreClientsOf}
 use Rattle.kms_track.specs.Places.{all_below}
-use Rattle.kms_stores.specs.Decisions.{held_at}
-use Rattle.kms_next.proofs.judging.holds_all.Given as goal
+use Rattle.kms_core.specs.Decisions.{held_at}
+use Rattle.kms_core.proofs.next.judging.holds_all.Given as goal
 
 -- the objects at the places so far are held
 abbrev pub invariant-loop-place : goal.invariant-loop-place

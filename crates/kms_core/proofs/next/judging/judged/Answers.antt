@@ -2,13 +2,13 @@ use Rattle.std.proofs.Common.{◌≡◌, ◌∙◌, ◌<◌, ◌-◌, length, No
 use Rattle.kms_model.specs.Request.Verdict.{early_in}
 use Rattle.kms_request.specs.Whole.{StandBetween}
 use Rattle.kms_track.specs.Tracking.{not_yet_of}
-use Rattle.kms_stores.specs.Decisions.{world}
-use Rattle.kms_stores.specs.Run.{machine}
-use Rattle.kms_stores.specs.Insides.{run_in, stores_of}
-use Rattle.kms_next.proofs.JudgedRequests.{early_none, judged_late, none_told, takes_at}
-use Rattle.kms_stores.proofs.Lates.{few_at, queue_at, queue_there}
-use Rattle.kms_next.proofs.Presented.{presented, somewhere_now, tells_now}
-use Rattle.kms_next.proofs.judging.judged.Goals as goal
+use Rattle.kms_core.specs.Decisions.{world}
+use Rattle.kms_core.specs.Run.{machine}
+use Rattle.kms_core.specs.Insides.{run_in, stores_of}
+use Rattle.kms_core.proofs.next.JudgedRequests.{early_none, judged_late, none_told, takes_at}
+use Rattle.kms_core.proofs.Lates.{few_at, queue_at, queue_there}
+use Rattle.kms_core.proofs.next.Presented.{presented, somewhere_now, tells_now}
+use Rattle.kms_core.proofs.next.judging.judged.Goals as goal
 
 pub changed-after-requires : goal.changed-after-requires
 changed-after-requires c = somewhere_now (run_in c.stores.inside) (stores_of c.stores.inside) c.stores.invariant.stands

@@ -1,12 +1,12 @@
 use Rattle.std.proofs.Common.{◌∙◌, true, sym, ap}
 use Rattle.kms_model.specs.Machine.Steps.{is_lockable}
 use Rattle.kms_model.proofs.TouchedLemmas.{few_objects}
-use Rattle.kms_stores.specs.Decisions.{world}
-use Rattle.kms_stores.specs.Run.{Run, machine}
-use Rattle.kms_stores.specs.Insides.{run_in, stores_of}
-use Rattle.kms_next.proofs.Presented.{presented, somewhere_ever, tells_ever}
-use Rattle.kms_next.proofs.Taken.{lock_apart, lock_found, lockable_exists, lockable_of, no_lock, not_lockable, taker_number}
-use Rattle.kms_next.proofs.judging.may_lock.Goals as goal
+use Rattle.kms_core.specs.Decisions.{world}
+use Rattle.kms_core.specs.Run.{Run, machine}
+use Rattle.kms_core.specs.Insides.{run_in, stores_of}
+use Rattle.kms_core.proofs.next.Presented.{presented, somewhere_ever, tells_ever}
+use Rattle.kms_core.proofs.next.Taken.{lock_apart, lock_found, lockable_exists, lockable_of, no_lock, not_lockable, taker_number}
+use Rattle.kms_core.proofs.next.judging.may_lock.Goals as goal
 
 pub returns-in_default : goal.returns-in_default
 returns-in_default c = no_lock c.args.stores.now.script (machine c.args.stores.now) c.args.client c.args.kind c.args.index c.in_default.ensures

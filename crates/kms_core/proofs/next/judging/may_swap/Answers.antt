@@ -1,7 +1,7 @@
 use Rattle.std.proofs.Common.{◌∙◌}
-use Rattle.kms_stores.specs.Run.{machine}
-use Rattle.kms_next.proofs.JudgedRequests.{no_swap, swap_early, swap_late}
-use Rattle.kms_next.proofs.judging.may_swap.Goals as goal
+use Rattle.kms_core.specs.Run.{machine}
+use Rattle.kms_core.proofs.next.JudgedRequests.{no_swap, swap_early, swap_late}
+use Rattle.kms_core.proofs.next.judging.may_swap.Goals as goal
 
 pub returns-in_default : goal.returns-in_default
 returns-in_default c = no_swap c.args.stores.now.script (machine c.args.stores.now) c.args.client c.in_default.ensures

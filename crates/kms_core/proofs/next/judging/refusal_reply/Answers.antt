@@ -1,7 +1,7 @@
-use Rattle.kms_stores.specs.Run.{machine}
-use Rattle.kms_stores.specs.Insides.{run_in, stores_of}
-use Rattle.kms_next.proofs.Refusing.{refused_early, refused_last, refused_late, refused_never}
-use Rattle.kms_next.proofs.judging.refusal_reply.Goals as goal
+use Rattle.kms_core.specs.Run.{machine}
+use Rattle.kms_core.specs.Insides.{run_in, stores_of}
+use Rattle.kms_core.proofs.next.Refusing.{refused_early, refused_last, refused_late, refused_never}
+use Rattle.kms_core.proofs.next.judging.refusal_reply.Goals as goal
 
 pub returns-in-Some : goal.returns-in-Some
 returns-in-Some c = refused_early (run_in c.stores.inside) c.args.stores.now (stores_of c.stores.inside) c.args.client c.args.request.now c.in-Some.why c.stores.invariant.stands c.stores.view_is c.in-Some.ensures.first

@@ -1,6 +1,6 @@
-use Rattle.kms_stores.specs.Insides.{run_in}
-use Rattle.kms_next.proofs.Refusing.{resolved_never, resolved_now}
-use Rattle.kms_next.proofs.judging.resolved.Goals as goal
+use Rattle.kms_core.specs.Insides.{run_in}
+use Rattle.kms_core.proofs.next.Refusing.{resolved_never, resolved_now}
+use Rattle.kms_core.proofs.next.judging.resolved.Goals as goal
 
 pub returns-in-Ok : goal.returns-in-Ok
 returns-in-Ok c = resolved_now (run_in c.stores.inside) c.args.stores.now c.args.request.now c.in_ok-found.found c.in-Ok.resolved c.stores.view_is c.in_ok-found.ensures c.in-Ok.ensures.resolved_by

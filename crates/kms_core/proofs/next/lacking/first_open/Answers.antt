@@ -1,10 +1,10 @@
 use Rattle.std.proofs.Common.{None, Some, ap, refl, sym, ◌∙◌}
 use Rattle.std.specs.Option.{option_map}
 use Rattle.kms_model.specs.declared.objects.ObjId.{ObjId}
-use Rattle.kms_next.specs.Order.{is_open}
-use Rattle.kms_stores.specs.Run.{machine}
-use Rattle.kms_next.proofs.NextLocks.{first_told}
-use Rattle.kms_next.proofs.lacking.first_open.Goals as goal
+use Rattle.kms_core.specs.Order.{is_open}
+use Rattle.kms_core.specs.Run.{machine}
+use Rattle.kms_core.proofs.next.NextLocks.{first_told}
+use Rattle.kms_core.proofs.next.lacking.first_open.Goals as goal
 
 pub returns-in-Some : goal.returns-in-Some
 returns-in-Some c =

@@ -1,11 +1,11 @@
 use Rattle.std.proofs.Common.{ap, false, refl, sym, true, ◌∙◌}
 use Rattle.kms_model.specs.Machine.State.{doing_at, holder_at}
 use Rattle.kms_model.specs.Machine.Steps.{is_free_or_older, ticket_of}
-use Rattle.kms_stores.specs.Decisions.{world}
-use Rattle.kms_stores.specs.Run.{Run, machine}
-use Rattle.kms_stores.specs.Insides.{run_in}
-use Rattle.kms_next.proofs.NextLocks.{allowed_told, touched_told}
-use Rattle.kms_next.proofs.lacking.is_allowed.Goals as goal
+use Rattle.kms_core.specs.Decisions.{world}
+use Rattle.kms_core.specs.Run.{Run, machine}
+use Rattle.kms_core.specs.Insides.{run_in}
+use Rattle.kms_core.proofs.next.NextLocks.{allowed_told, touched_told}
+use Rattle.kms_core.proofs.next.lacking.is_allowed.Goals as goal
 
 pub returns-then-is_member : goal.returns-then-is_member
 returns-then-is_member c =

@@ -1,5 +1,5 @@
-use Rattle.kms_next.proofs.NextLocks.{lockable_few}
-use Rattle.kms_next.proofs.lacking.is_missing.Goals as goal
+use Rattle.kms_core.proofs.next.NextLocks.{lockable_few}
+use Rattle.kms_core.proofs.next.lacking.is_missing.Goals as goal
 
 pub has-requires-clause-index : goal.has-requires-clause-index
 has-requires-clause-index c = lockable_few c.args.stores.now.script.topology c.args.kind c.args.index c.requires.needs.device c.requires.lockable

@@ -1,7 +1,7 @@
 use Rattle.std.proofs.Common.{refl}
-use Rattle.kms_stores.specs.Insides.{run_in, stores_of}
-use Rattle.kms_next.proofs.NextLocks.{needs_at}
-use Rattle.kms_next.proofs.lacking.lock_step.Goals as goal
+use Rattle.kms_core.specs.Insides.{run_in, stores_of}
+use Rattle.kms_core.proofs.next.NextLocks.{needs_at}
+use Rattle.kms_core.proofs.next.lacking.lock_step.Goals as goal
 
 pub next_lock-requires : goal.next_lock-requires
 next_lock-requires c =

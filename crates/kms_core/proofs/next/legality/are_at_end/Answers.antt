@@ -1,8 +1,8 @@
 use Rattle.std.proofs.Common.{◌∙◌, ◌+◌, ◌-◌, ◌≡◌, arith, sym, ap, length, subst, ℕ, true}
 use Rattle.kms_model.specs.Machine.Histories.{is_at_end}
-use Rattle.kms_stores.specs.Run.{Run, machine}
-use Rattle.kms_stores.proofs.Ranges.{all_pass, one_fails}
-use Rattle.kms_next.proofs.legality.are_at_end.Goals as goal
+use Rattle.kms_core.specs.Run.{Run, machine}
+use Rattle.kms_core.proofs.stores.Ranges.{all_pass, one_fails}
+use Rattle.kms_core.proofs.next.legality.are_at_end.Goals as goal
 
 pub returns-then-not-is_at_end : goal.returns-then-not-is_at_end
 returns-then-not-is_at_end c =

@@ -1,7 +1,7 @@
 use Rattle.std.proofs.Common.{◌∙◌, sym}
-use Rattle.kms_next.proofs.Drains.{cleaned_told, drained_both, drained_not}
-use Rattle.kms_stores.specs.Insides.{run_in, stores_of}
-use Rattle.kms_next.proofs.legality.drained.Goals as goal
+use Rattle.kms_core.proofs.next.Drains.{cleaned_told, drained_both, drained_not}
+use Rattle.kms_core.specs.Insides.{run_in, stores_of}
+use Rattle.kms_core.proofs.next.legality.drained.Goals as goal
 
 pub returns-then-are_at_end : goal.returns-then-are_at_end
 returns-then-are_at_end c =

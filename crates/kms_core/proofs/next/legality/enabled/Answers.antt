@@ -1,10 +1,10 @@
 use Rattle.std.proofs.Common.{◌∙◌, ap, refl, sym}
 use Rattle.std.specs.Prelude.{◌&&◌, not}
-use Rattle.kms_next.specs.Next.{moves}
-use Rattle.kms_stores.specs.Run.{machine}
-use Rattle.kms_stores.specs.Insides.{run_in, stores_of}
-use Rattle.kms_next.proofs.Legals.{enabled_told, ended_told}
-use Rattle.kms_next.proofs.legality.enabled.Goals as goal
+use Rattle.kms_core.specs.Next.{moves}
+use Rattle.kms_core.specs.Run.{machine}
+use Rattle.kms_core.specs.Insides.{run_in, stores_of}
+use Rattle.kms_core.proofs.next.Legals.{enabled_told, ended_told}
+use Rattle.kms_core.proofs.next.legality.enabled.Goals as goal
 
 pub returns-then-not-stores : goal.returns-then-not-stores
 returns-then-not-stores c = ap (λ x. not x && c.can_move.result) (sym c.if-not-stores.true) ∙ enabled_told c.args.stores.now c.stores.inside.stalled c.can_move.result (ended_told (run_in c.stores.inside) c.args.stores.now (stores_of c.stores.inside) c.stores.invariant.stands c.stores.view_is) c.can_move.ensures

@@ -1,10 +1,10 @@
 use Rattle.std.proofs.Common.{◌∙◌, ap, refl, sym}
 use Rattle.std.specs.Prelude.{◌&&◌, ◌||◌, not}
 use Rattle.kms_model.specs.Machine.Histories.{is_drained, is_enabled}
-use Rattle.kms_stores.specs.Run.{machine}
-use Rattle.kms_stores.specs.Insides.{run_in, stores_of}
-use Rattle.kms_next.proofs.Legals.{dead_told, ended_told}
-use Rattle.kms_next.proofs.legality.is_dead.Goals as goal
+use Rattle.kms_core.specs.Run.{machine}
+use Rattle.kms_core.specs.Insides.{run_in, stores_of}
+use Rattle.kms_core.proofs.next.Legals.{dead_told, ended_told}
+use Rattle.kms_core.proofs.next.legality.is_dead.Goals as goal
 
 pub returns-then-stores : goal.returns-then-stores
 returns-then-stores c =

@@ -2,10 +2,10 @@ use Rattle.std.proofs.Common.{◌∙◌, ap, refl, sym}
 use Rattle.std.specs.Prelude.{◌&&◌, not}
 use Rattle.kms_model.specs.Machine.Histories.{is_dead}
 use Rattle.kms_model.specs.Machine.Steps.{may}
-use Rattle.kms_stores.specs.Run.{machine}
-use Rattle.kms_stores.specs.Insides.{run_in, stores_of}
-use Rattle.kms_next.proofs.Legals.{ended_told, legal_told, stall_told}
-use Rattle.kms_next.proofs.legality.legal.Goals as goal
+use Rattle.kms_core.specs.Run.{machine}
+use Rattle.kms_core.specs.Insides.{run_in, stores_of}
+use Rattle.kms_core.proofs.next.Legals.{ended_told, legal_told, stall_told}
+use Rattle.kms_core.proofs.next.legality.legal.Goals as goal
 
 pub returns-then-not-stores : goal.returns-then-not-stores
 returns-then-not-stores c = ap (λ x. not x && c.is_dead.result) (sym c.if-not-stores.true) ∙ stall_told c.args.stores.now c.args.step.now c.stores.inside.stalled c.is_dead.result c.in-Stall.is (ended_told (run_in c.stores.inside) c.args.stores.now (stores_of c.stores.inside) c.stores.invariant.stands c.stores.view_is) c.is_dead.ensures

@@ -1,7 +1,7 @@
 use Rattle.std.proofs.Common.{◌∙◌, ap, arith, sym}
-use Rattle.kms_stores.specs.Run.{Run}
-use Rattle.kms_next.proofs.Movers.{no_go, some_go}
-use Rattle.kms_next.proofs.moving.has_any_go.Goals as goal
+use Rattle.kms_core.specs.Run.{Run}
+use Rattle.kms_core.proofs.next.Movers.{no_go, some_go}
+use Rattle.kms_core.proofs.next.moving.has_any_go.Goals as goal
 
 pub returns-then-has_go : goal.returns-then-has_go
 returns-then-has_go c =

@@ -2,9 +2,9 @@ use Rattle.std.proofs.Common.{◌∙◌, inl, inr, ◌+◌, ◌-◌, ◌≡◌, 
 use Rattle.std.specs.List.{list_any}
 use Rattle.std.proofs.lemmas.Bool.{cases_lt}
 use Rattle.kms_model.specs.Machine.Histories.{steps_of_client}
-use Rattle.kms_stores.specs.Run.{Run}
-use Rattle.kms_next.proofs.Movers.{able, client_moved, no_client_step, some_client}
-use Rattle.kms_next.proofs.moving.has_client_step.Goals as goal
+use Rattle.kms_core.specs.Run.{Run}
+use Rattle.kms_core.proofs.next.Movers.{able, client_moved, no_client_step, some_client}
+use Rattle.kms_core.proofs.next.moving.has_client_step.Goals as goal
 
 pub returns-then-client_moves : goal.returns-then-client_moves
 returns-then-client_moves c =

@@ -1,8 +1,8 @@
 use Rattle.std.proofs.Common.{sym, ◌∙◌}
-use Rattle.kms_stores.specs.Insides.{run_in, stores_of}
-use Rattle.kms_next.proofs.Movers.{no_tail_step, rests_further, some_tail, tail_moved}
-use Rattle.kms_next.proofs.Onward.{fewer_left, more_fits}
-use Rattle.kms_next.proofs.moving.has_tail_step.Goals as goal
+use Rattle.kms_core.specs.Insides.{run_in, stores_of}
+use Rattle.kms_core.proofs.next.Movers.{no_tail_step, rests_further, some_tail, tail_moved}
+use Rattle.kms_core.proofs.next.Onward.{fewer_left, more_fits}
+use Rattle.kms_core.proofs.next.moving.has_tail_step.Goals as goal
 
 pub returns-then-tail_moves : goal.returns-then-tail_moves
 returns-then-tail_moves c =

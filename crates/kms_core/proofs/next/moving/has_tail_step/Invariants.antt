@@ -2,8 +2,8 @@
 use Rattle.std.proofs.Common.{ℕ, ◌≡◌, ◌-◌, ◌<◌, false}
 use Rattle.std.specs.List.{list_any}
 use Rattle.kms_model.specs.Machine.Histories.{steps_of_commit}
-use Rattle.kms_next.proofs.Movers.{able}
-use Rattle.kms_next.proofs.moving.has_tail_step.Given as goal
+use Rattle.kms_core.proofs.next.Movers.{able}
+use Rattle.kms_core.proofs.next.moving.has_tail_step.Given as goal
 
 abbrev pub invariant-seeking : goal.invariant-seeking
 invariant-seeking l = (j : ℕ) → j < l.from → list_any (able l.stores) (steps_of_commit l.stores.script.topology j) ≡ false

@@ -1,8 +1,8 @@
 use Rattle.std.proofs.Common.{sym, ◌∙◌}
-use Rattle.kms_stores.specs.Insides.{run_in, stores_of}
-use Rattle.kms_next.proofs.Legals.{ended_told}
-use Rattle.kms_next.proofs.ClientTurns.{client_ended}
-use Rattle.kms_next.proofs.ordering.client_step.Goals as goal
+use Rattle.kms_core.specs.Insides.{run_in, stores_of}
+use Rattle.kms_core.proofs.next.Legals.{ended_told}
+use Rattle.kms_core.proofs.next.ClientTurns.{client_ended}
+use Rattle.kms_core.proofs.next.ordering.client_step.Goals as goal
 
 pub returns-then-stores : goal.returns-then-stores
 returns-then-stores c = client_ended (run_in c.stores.inside) c.args.stores.now (stores_of c.stores.inside) c.args.client c.stores.invariant.stands c.stores.view_is c.if-stores.true c.requires.low c.requires.high

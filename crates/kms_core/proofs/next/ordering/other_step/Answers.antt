@@ -1,6 +1,6 @@
 use Rattle.std.proofs.Common.{false, refl, sym, true, ◌∙◌}
-use Rattle.kms_next.proofs.ClientTurns.{lock_none, other_told}
-use Rattle.kms_next.proofs.ordering.other_step.Goals as goal
+use Rattle.kms_core.proofs.next.ClientTurns.{lock_none, other_told}
+use Rattle.kms_core.proofs.next.ordering.other_step.Goals as goal
 
 pub returns-then-may_begin : goal.returns-then-may_begin
 returns-then-may_begin c = other_told c.args.stores.now c.args.client c.requires.going (sym c.requires.none) true _ _ _ _ _ (sym c.if-may_begin.true ∙ c.may_begin.ensures) refl refl refl refl refl

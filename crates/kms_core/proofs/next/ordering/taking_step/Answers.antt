@@ -1,8 +1,8 @@
 use Rattle.std.proofs.Common.{false, refl, sym, true, ◌∙◌}
-use Rattle.kms_stores.specs.Run.{machine}
-use Rattle.kms_next.proofs.JudgedRequests.{refuse_early, refuse_late, swap_late, test_late}
-use Rattle.kms_next.proofs.ClientTurns.{lock_some, taking_told}
-use Rattle.kms_next.proofs.ordering.taking_step.Goals as goal
+use Rattle.kms_core.specs.Run.{machine}
+use Rattle.kms_core.proofs.next.JudgedRequests.{refuse_early, refuse_late, swap_late, test_late}
+use Rattle.kms_core.proofs.next.ClientTurns.{lock_some, taking_told}
+use Rattle.kms_core.proofs.next.ordering.taking_step.Goals as goal
 
 pub returns-in_default : goal.returns-in_default
 returns-in_default c =

@@ -1,7 +1,7 @@
 use Rattle.std.proofs.Common.{◌∙◌, ap, arith, sym}
-use Rattle.kms_stores.specs.Run.{Run}
-use Rattle.kms_next.proofs.TailTurns.{no_blanking, one_blanking}
-use Rattle.kms_next.proofs.settling.first_blanking.Goals as goal
+use Rattle.kms_core.specs.Run.{Run}
+use Rattle.kms_core.proofs.next.TailTurns.{no_blanking, one_blanking}
+use Rattle.kms_core.proofs.next.settling.first_blanking.Goals as goal
 
 pub returns-then-has_go : goal.returns-then-has_go
 returns-then-has_go c =

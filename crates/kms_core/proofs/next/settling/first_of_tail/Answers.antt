@@ -1,6 +1,6 @@
 use Rattle.std.proofs.Common.{Some, ap, false, refl, sym, true, ◌∙◌}
-use Rattle.kms_next.proofs.TailTurns.{first_told}
-use Rattle.kms_next.proofs.settling.first_of_tail.Goals as goal
+use Rattle.kms_core.proofs.next.TailTurns.{first_told}
+use Rattle.kms_core.proofs.next.settling.first_of_tail.Goals as goal
 
 pub returns-then-may_claim : goal.returns-then-may_claim
 returns-then-may_claim c = first_told c.args.stores.now c.args.commit true _ _ _ _ (record { claim = sym c.if-may_claim.true ∙ c.may_claim.ensures; crtc = refl; plane = refl; flush = refl; last = refl })

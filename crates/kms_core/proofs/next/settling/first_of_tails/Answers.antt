@@ -1,10 +1,10 @@
 use Rattle.std.proofs.Common.{sym, ◌∙◌}
 use Rattle.kms_model.specs.declared.replies.Step.{Step}
-use Rattle.kms_stores.proofs.FirstTails.{nothing_found, nothing_further, something_found}
-use Rattle.kms_stores.specs.Insides.{run_in, stores_of}
-use Rattle.kms_next.proofs.TailTurns.{cleaned_none, first_of}
-use Rattle.kms_next.proofs.Onward.{fewer_left, more_fits}
-use Rattle.kms_next.proofs.settling.first_of_tails.Goals as goal
+use Rattle.kms_core.proofs.stores.FirstTails.{nothing_found, nothing_further, something_found}
+use Rattle.kms_core.specs.Insides.{run_in, stores_of}
+use Rattle.kms_core.proofs.next.TailTurns.{cleaned_none, first_of}
+use Rattle.kms_core.proofs.next.Onward.{fewer_left, more_fits}
+use Rattle.kms_core.proofs.next.settling.first_of_tails.Goals as goal
 
 pub returns-in-Some-first_of_tail : goal.returns-in-Some-first_of_tail
 returns-in-Some-first_of_tail c =

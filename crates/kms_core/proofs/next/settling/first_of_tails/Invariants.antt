@@ -1,7 +1,7 @@
 -- the commits so far have no step
 use Rattle.std.proofs.Common.{ℕ, ◌≡◌, ◌-◌, ◌<◌, None}
-use Rattle.kms_next.proofs.TailTurns.{first_of}
-use Rattle.kms_next.proofs.settling.first_of_tails.Given as goal
+use Rattle.kms_core.proofs.next.TailTurns.{first_of}
+use Rattle.kms_core.proofs.next.settling.first_of_tails.Given as goal
 
 abbrev pub invariant-seeking : goal.invariant-seeking
 invariant-seeking l = (j : ℕ) → j < l.from → first_of l.stores j ≡ None

@@ -1,8 +1,8 @@
 use Rattle.std.proofs.Common.{refl, sym, ◌∙◌}
 use Rattle.std.specs.Prelude.{Some}
-use Rattle.kms_stores.specs.Insides.{run_in, stores_of}
-use Rattle.kms_next.proofs.TailTurns.{settle_ended, settle_told}
-use Rattle.kms_next.proofs.settling.tail_step.Goals as goal
+use Rattle.kms_core.specs.Insides.{run_in, stores_of}
+use Rattle.kms_core.proofs.next.TailTurns.{settle_ended, settle_told}
+use Rattle.kms_core.proofs.next.settling.tail_step.Goals as goal
 
 pub returns-then-stores : goal.returns-then-stores
 returns-then-stores c = settle_ended (run_in c.stores.inside) c.args.stores.now (stores_of c.stores.inside) c.stores.invariant.stands c.stores.view_is c.if-stores.true

@@ -1,9 +1,9 @@
 use Rattle.std.proofs.Common.{sym, ◌∙◌}
-use Rattle.kms_stores.specs.Insides.{run_in, stores_of}
-use Rattle.kms_stores.proofs.FirstTails.{tail_within}
-use Rattle.kms_next.proofs.Stalls.{awaits_found, awaits_further, awaits_none}
-use Rattle.kms_next.proofs.Onward.{fewer_left, more_fits}
-use Rattle.kms_next.proofs.stalling.awaited_fence.Goals as goal
+use Rattle.kms_core.specs.Insides.{run_in, stores_of}
+use Rattle.kms_core.proofs.stores.FirstTails.{tail_within}
+use Rattle.kms_core.proofs.next.Stalls.{awaits_found, awaits_further, awaits_none}
+use Rattle.kms_core.proofs.next.Onward.{fewer_left, more_fits}
+use Rattle.kms_core.proofs.next.stalling.awaited_fence.Goals as goal
 
 pub awaited_by-requires : goal.awaited_by-requires
 awaited_by-requires c = tail_within (run_in c.stores.inside) c.args.stores.now (stores_of c.stores.inside) c.stores.invariant.stands c.stores.view_is c.seeking.from c.in-Some.commit c.in-Some.ensures.machine

@@ -1,8 +1,8 @@
 use Rattle.std.proofs.Common.{refl}
-use Rattle.kms_stores.specs.Insides.{run_in, stores_of}
-use Rattle.kms_stores.proofs.Spared.{other_spared}
-use Rattle.kms_next.proofs.Stalls.{stalls}
-use Rattle.kms_next.proofs.stalling.stall.Goals as goal
+use Rattle.kms_core.specs.Insides.{run_in, stores_of}
+use Rattle.kms_core.proofs.stores.Spared.{other_spared}
+use Rattle.kms_core.proofs.next.Stalls.{stalls}
+use Rattle.kms_core.proofs.next.stalling.stall.Goals as goal
 
 pub invariant_of-stores-2 : goal.invariant_of-stores-2
 invariant_of-stores-2 c =

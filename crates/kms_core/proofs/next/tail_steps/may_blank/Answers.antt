@@ -1,8 +1,8 @@
 use Rattle.std.proofs.Common.{◌∙◌, ap, sym}
 use Rattle.kms_model.specs.Machine.Steps.{is_crtc_of}
-use Rattle.kms_stores.specs.Run.{Run}
-use Rattle.kms_next.proofs.TailSteps.{blank_other, blank_told}
-use Rattle.kms_next.proofs.tail_steps.may_blank.Goals as goal
+use Rattle.kms_core.specs.Run.{Run}
+use Rattle.kms_core.proofs.next.TailSteps.{blank_other, blank_told}
+use Rattle.kms_core.proofs.next.tail_steps.may_blank.Goals as goal
 
 pub returns-then-is_crtc_of : goal.returns-then-is_crtc_of
 returns-then-is_crtc_of c =

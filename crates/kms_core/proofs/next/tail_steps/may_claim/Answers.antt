@@ -1,7 +1,7 @@
 use Rattle.std.proofs.Common.{◌∙◌}
-use Rattle.kms_stores.specs.Insides.{run_in, stores_of}
-use Rattle.kms_next.proofs.TailSteps.{claim_told}
-use Rattle.kms_next.proofs.tail_steps.may_claim.Goals as goal
+use Rattle.kms_core.specs.Insides.{run_in, stores_of}
+use Rattle.kms_core.proofs.next.TailSteps.{claim_told}
+use Rattle.kms_core.proofs.next.tail_steps.may_claim.Goals as goal
 
 pub returns : goal.returns
 returns c = c.ready.ensures ∙ claim_told (run_in c.stores.inside) c.args.stores.now (stores_of c.stores.inside) c.args.commit c.stores.invariant.stands c.stores.view_is

@@ -1,7 +1,7 @@
 use Rattle.std.proofs.Common.{◌∙◌, ap, replicate}
 use Rattle.kms_signal.specs.Queues.{empty_queue}
-use Rattle.kms_stores.proofs.First.{spared_first, stands_first}
-use Rattle.kms_stores.proofs.machine.Stores.new.Goals as goal
+use Rattle.kms_core.proofs.stores.First.{spared_first, stands_first}
+use Rattle.kms_core.proofs.stores.Stores.new.Goals as goal
 
 pub invariant_of-result : goal.invariant_of-result
 invariant_of-result c =

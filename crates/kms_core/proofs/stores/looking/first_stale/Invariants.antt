@@ -2,9 +2,9 @@ use Rattle.std.proofs.Common.{drop}
 use Rattle.std.specs.Prelude.{Option}
 use Rattle.kms_model.specs.Device.World.{thing_labelled}
 use Rattle.kms_model.specs.Request.Lookups.{look_of}
-use Rattle.kms_stores.specs.declared.looking.Stale.{Stale}
-use Rattle.kms_stores.specs.Decisions.{IsFirstStale}
-use Rattle.kms_stores.proofs.looking.first_stale.Given as goal
+use Rattle.kms_core.specs.declared.stores.looking.Stale.{Stale}
+use Rattle.kms_core.specs.Decisions.{IsFirstStale}
+use Rattle.kms_core.proofs.stores.looking.first_stale.Given as goal
 
 -- what holds of the rest holds of all
 abbrev pub invariant-loop-label : goal.invariant-loop-label

@@ -1,6 +1,6 @@
 use Rattle.std.proofs.Common.{◌≡◌, ◌++◌, drop}
-use Rattle.kms_stores.specs.Decisions.{labels_of, looks_at}
-use Rattle.kms_stores.proofs.looking.look_ups.Given as goal
+use Rattle.kms_core.specs.Decisions.{labels_of, looks_at}
+use Rattle.kms_core.proofs.stores.looking.look_ups.Given as goal
 
 -- what was found, and what the rest names, are what all name
 abbrev pub invariant-loop-a : goal.invariant-loop-a

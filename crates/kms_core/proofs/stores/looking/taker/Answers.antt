@@ -2,8 +2,8 @@ use Rattle.std.proofs.Common.{arith, refl, sym, ap, rules}
 use Rattle.kms_clients.specs.Standing.{doing_in}
 use Rattle.kms_track.specs.Places.{first_below}
 use Rattle.kms_track.proofs.PlaceLemmas.{none_more, first_found}
-use Rattle.kms_stores.specs.Decisions.{number_or_0, taker_at}
-use Rattle.kms_stores.proofs.looking.taker.Goals as goal
+use Rattle.kms_core.specs.Decisions.{number_or_0, taker_at}
+use Rattle.kms_core.proofs.stores.looking.taker.Goals as goal
 
 pub loop-index-init : goal.loop-index-init
 unfolding first_below

@@ -1,8 +1,8 @@
 use Rattle.std.proofs.Common.{◌≡◌, None}
 use Rattle.kms_clients.specs.Standing.{doing_in}
 use Rattle.kms_track.specs.Places.{first_below}
-use Rattle.kms_stores.specs.Decisions.{taker_at}
-use Rattle.kms_stores.proofs.looking.taker.Given as goal
+use Rattle.kms_core.specs.Decisions.{taker_at}
+use Rattle.kms_core.proofs.stores.looking.taker.Given as goal
 
 abbrev pub invariant-loop-index : goal.invariant-loop-index
 invariant-loop-index l = first_below (taker_at (doing_in l.clients.places) l.t.0) l.index ≡ None

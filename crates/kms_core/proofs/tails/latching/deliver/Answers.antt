@@ -1,8 +1,8 @@
 use Rattle.std.proofs.Common.{◌∙◌, ap, arith}
 use Rattle.std.proofs.lemmas.List.{get_or_default}
 use Rattle.kms_signal.specs.Queues.{delivers, empty_queue}
-use Rattle.kms_work.proofs.Latched.{delivered_one}
-use Rattle.kms_work.proofs.latching.deliver.Goals as goal
+use Rattle.kms_core.proofs.tails.Latched.{delivered_one}
+use Rattle.kms_core.proofs.tails.latching.deliver.Goals as goal
 
 pub returns : goal.returns
 returns c =

@@ -2,11 +2,11 @@ use Rattle.std.proofs.Common.{◌∙◌, refl}
 use Rattle.kms_model.specs.declared.objects.Kind.TheVariants.{Crtc}
 use Rattle.kms_model.specs.declared.replies.Step.TheVariants.{Flush}
 use Rattle.kms_model.specs.Device.Objects.{object_id}
-use Rattle.kms_work.proofs.Flushing.{few_flushed, flush_latches, flushes_next, flushes_off, flushes_on, off_has_picture, tells_none}
-use Rattle.kms_stores.proofs.FreedCalls.{live_all, live_few, live_held, live_places}
-use Rattle.kms_stores.specs.Insides.{run_in, stores_of}
-use Rattle.kms_stores.proofs.Spared.{own_room, own_spared, own_step, tail_spared}
-use Rattle.kms_work.proofs.latching.flush.Goals as goal
+use Rattle.kms_core.proofs.tails.Flushing.{few_flushed, flush_latches, flushes_next, flushes_off, flushes_on, off_has_picture, tells_none}
+use Rattle.kms_core.proofs.stores.FreedCalls.{live_all, live_few, live_held, live_places}
+use Rattle.kms_core.specs.Insides.{run_in, stores_of}
+use Rattle.kms_core.proofs.stores.Spared.{own_room, own_spared, own_step, tail_spared}
+use Rattle.kms_core.proofs.tails.latching.flush.Goals as goal
 
 pub flushed-requires : goal.flushed-requires
 flushed-requires c = (flushes_next (run_in c.stores.inside) c.args.stores.now (stores_of c.stores.inside) c.args.commit c.args.crtc c.stores.invariant.stands c.stores.view_is c.requires).low

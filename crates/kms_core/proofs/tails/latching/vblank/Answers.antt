@@ -3,11 +3,11 @@ use Rattle.std.proofs.lemmas.Bool.{false≢true}
 use Rattle.kms_model.specs.declared.objects.Kind.TheVariants.{Crtc}
 use Rattle.kms_model.specs.declared.replies.Step.TheVariants.{Vblank}
 use Rattle.kms_model.specs.Device.Objects.{object_id}
-use Rattle.kms_work.proofs.Blanking.{blank_latches, blanks_crtc, blanks_for, blanks_legal, blanks_low, blanks_with, blanks_without, count_fits, few_blanked, goes_is, has_picture}
-use Rattle.kms_stores.proofs.FreedCalls.{live_all, live_few, live_held, live_places}
-use Rattle.kms_stores.specs.Insides.{run_in, stores_of}
-use Rattle.kms_stores.proofs.Spared.{other_spared, tail_room, tail_spared}
-use Rattle.kms_work.proofs.latching.vblank.Goals as goal
+use Rattle.kms_core.proofs.tails.Blanking.{blank_latches, blanks_crtc, blanks_for, blanks_legal, blanks_low, blanks_with, blanks_without, count_fits, few_blanked, goes_is, has_picture}
+use Rattle.kms_core.proofs.stores.FreedCalls.{live_all, live_few, live_held, live_places}
+use Rattle.kms_core.specs.Insides.{run_in, stores_of}
+use Rattle.kms_core.proofs.stores.Spared.{other_spared, tail_room, tail_spared}
+use Rattle.kms_core.proofs.tails.latching.vblank.Goals as goal
 
 pub bounds : goal.bounds
 bounds c = blanks_low (run_in c.stores.inside) c.args.stores.now (stores_of c.stores.inside) c.args.crtc c.stores.invariant.stands c.stores.view_is c.requires

@@ -1,9 +1,9 @@
 use Rattle.std.proofs.Common.{None, Some, subst}
-use Rattle.kms_stores.specs.Run.{Run}
-use Rattle.kms_stores.specs.Work.{MayClaim}
-use Rattle.kms_stores.specs.Insides.{run_in, stores_of}
-use Rattle.kms_stores.proofs.Seeking.{claim_found, claim_legal, claim_none, few_tails}
-use Rattle.kms_work.proofs.workers.claim.Goals as goal
+use Rattle.kms_core.specs.Run.{Run}
+use Rattle.kms_core.specs.Work.{MayClaim}
+use Rattle.kms_core.specs.Insides.{run_in, stores_of}
+use Rattle.kms_core.proofs.stores.Seeking.{claim_found, claim_legal, claim_none, few_tails}
+use Rattle.kms_core.proofs.tails.workers.claim.Goals as goal
 
 pub first_ready-requires : goal.first_ready-requires
 first_ready-requires c = few_tails (run_in c.stores.inside) (stores_of c.stores.inside) c.stores.invariant.stands

@@ -1,11 +1,11 @@
 use Rattle.std.proofs.Common.{refl, subst, sym}
 use Rattle.kms_model.specs.declared.replies.Step.TheVariants.{Claim}
-use Rattle.kms_stores.specs.Run.{Run}
-use Rattle.kms_stores.specs.Work.{MayClaim}
-use Rattle.kms_stores.specs.Insides.{run_in, stores_of}
-use Rattle.kms_work.proofs.Marking.{claims}
-use Rattle.kms_stores.proofs.Spared.{own_room, own_spared, own_step}
-use Rattle.kms_work.proofs.workers.claim_commit.Goals as goal
+use Rattle.kms_core.specs.Run.{Run}
+use Rattle.kms_core.specs.Work.{MayClaim}
+use Rattle.kms_core.specs.Insides.{run_in, stores_of}
+use Rattle.kms_core.proofs.tails.Marking.{claims}
+use Rattle.kms_core.proofs.stores.Spared.{own_room, own_spared, own_step}
+use Rattle.kms_core.proofs.tails.workers.claim_commit.Goals as goal
 
 pub push-requires : goal.push-requires
 push-requires c =

@@ -1,10 +1,10 @@
 use Rattle.std.proofs.Common.{◌∙◌, ap, refl, sym}
 use Rattle.std.specs.Option.{option_copied}
 use Rattle.kms_model.specs.declared.replies.Step.TheVariants.{Cleanup}
-use Rattle.kms_stores.specs.Insides.{run_in, stores_of}
-use Rattle.kms_work.proofs.Marking.{cleans_up, cleanup_held, cleanup_places, few_cleaned, owns_cleanup, tail_keeps_all}
-use Rattle.kms_stores.proofs.Spared.{own_room, own_spared}
-use Rattle.kms_work.proofs.workers.cleanup.Goals as goal
+use Rattle.kms_core.specs.Insides.{run_in, stores_of}
+use Rattle.kms_core.proofs.tails.Marking.{cleans_up, cleanup_held, cleanup_places, few_cleaned, owns_cleanup, tail_keeps_all}
+use Rattle.kms_core.proofs.stores.Spared.{own_room, own_spared}
+use Rattle.kms_core.proofs.tails.workers.cleanup.Goals as goal
 
 pub free-requires-clause-places : goal.free-requires-clause-places
 free-requires-clause-places c =

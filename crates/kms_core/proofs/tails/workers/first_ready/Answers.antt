@@ -1,7 +1,7 @@
 use Rattle.std.proofs.Common.{arith, sym, ◌∙◌}
 use Rattle.kms_track.specs.Tracking.{ready_of}
-use Rattle.kms_stores.proofs.Seeking.{goes_up, less_left, none_found, one_found, one_passed}
-use Rattle.kms_work.proofs.workers.first_ready.Goals as goal
+use Rattle.kms_core.proofs.stores.Seeking.{goes_up, less_left, none_found, one_found, one_passed}
+use Rattle.kms_core.proofs.tails.workers.first_ready.Goals as goal
 
 pub returns-then-ready : goal.returns-then-ready
 returns-then-ready c = one_found c.args.tails.now (ready_of c.args.tracker.now c.args.fences.now) c.seeking.from c.in-Some.commit c.seeking.invariant c.in-Some.ensures.machine (sym c.ready.ensures ∙ c.if-ready.true)

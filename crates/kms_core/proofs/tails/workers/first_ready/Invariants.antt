@@ -1,8 +1,8 @@
 -- The commits so far are cleaned or not ready.
 use Rattle.std.proofs.Common.{◌-◌}
 use Rattle.kms_track.specs.Tracking.{ready_of}
-use Rattle.kms_stores.proofs.Seeking.{ArePassed}
-use Rattle.kms_work.proofs.workers.first_ready.Given as goal
+use Rattle.kms_core.proofs.stores.Seeking.{ArePassed}
+use Rattle.kms_core.proofs.tails.workers.first_ready.Given as goal
 
 abbrev pub invariant-seeking : goal.invariant-seeking
 invariant-seeking l = ArePassed l.tails (ready_of l.tracker l.fences) l.from

@@ -1,11 +1,11 @@
 use Rattle.std.proofs.Common.{refl, sym, subst}
 use Rattle.kms_model.specs.declared.replies.Step.TheVariants.{HwDone}
-use Rattle.kms_stores.specs.Run.{Run}
-use Rattle.kms_stores.specs.Work.{MayBeDone}
-use Rattle.kms_stores.specs.Insides.{run_in, stores_of}
-use Rattle.kms_work.proofs.Marking.{ends_writing}
-use Rattle.kms_stores.proofs.Spared.{own_room, own_spared, own_step}
-use Rattle.kms_work.proofs.workers.hw_done.Goals as goal
+use Rattle.kms_core.specs.Run.{Run}
+use Rattle.kms_core.specs.Work.{MayBeDone}
+use Rattle.kms_core.specs.Insides.{run_in, stores_of}
+use Rattle.kms_core.proofs.tails.Marking.{ends_writing}
+use Rattle.kms_core.proofs.stores.Spared.{own_room, own_spared, own_step}
+use Rattle.kms_core.proofs.tails.workers.hw_done.Goals as goal
 
 pub push-requires : goal.push-requires
 push-requires c =

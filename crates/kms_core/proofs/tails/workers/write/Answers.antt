@@ -1,10 +1,10 @@
 use Rattle.std.proofs.Common.{◌∙◌, ◌++◌, ◌∷◌, [], ap, refl}
 use Rattle.kms_model.specs.declared.replies.Step.{Step}
-use Rattle.kms_stores.specs.Work.{write_step}
-use Rattle.kms_stores.specs.Insides.{run_in, stores_of}
-use Rattle.kms_work.proofs.Writing.{has_registers, holds_old, tail_there, writes_next, writes_object}
-use Rattle.kms_stores.proofs.Spared.{own_room, own_spared, own_step}
-use Rattle.kms_work.proofs.workers.write.Goals as goal
+use Rattle.kms_core.specs.Work.{write_step}
+use Rattle.kms_core.specs.Insides.{run_in, stores_of}
+use Rattle.kms_core.proofs.tails.Writing.{has_registers, holds_old, tail_there, writes_next, writes_object}
+use Rattle.kms_core.proofs.stores.Spared.{own_room, own_spared, own_step}
+use Rattle.kms_core.proofs.tails.workers.write.Goals as goal
 
 pub unreachable-requires : goal.unreachable-requires
 unreachable-requires c = tail_there (run_in c.stores.inside) c.args.stores.now (stores_of c.stores.inside) c.args.commit c.args.id c.stores.invariant.stands c.stores.view_is c.requires c.in_default.ensures.kept

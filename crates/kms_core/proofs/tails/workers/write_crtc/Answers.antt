@@ -1,7 +1,7 @@
 use Rattle.std.proofs.Common.{None}
 use Rattle.std.specs.Prelude.{slice_index_or}
-use Rattle.kms_work.proofs.Writing.{crtc_written}
-use Rattle.kms_work.proofs.workers.write_crtc.Goals as goal
+use Rattle.kms_core.proofs.tails.Writing.{crtc_written}
+use Rattle.kms_core.proofs.tails.workers.write_crtc.Goals as goal
 
 pub returns : goal.returns
 returns c =

@@ -2,8 +2,8 @@ use Rattle.std.proofs.Common.{◌∙◌, None, subst, sym, ℕ}
 use Rattle.std.specs.Prelude.{slice_index_or}
 use Rattle.kms_model.specs.declared.objects.Kind.{Kind}
 use Rattle.kms_model.specs.Device.Objects.{index_of}
-use Rattle.kms_stores.specs.Work.{IsCrtcWritten, IsPlaneWritten, IsWritten}
-use Rattle.kms_work.proofs.workers.write_registers.Goals as goal
+use Rattle.kms_core.specs.Work.{IsCrtcWritten, IsPlaneWritten, IsWritten}
+use Rattle.kms_core.proofs.tails.workers.write_registers.Goals as goal
 
 pub returns-in-Crtc : goal.returns-in-Crtc
 returns-in-Crtc c =

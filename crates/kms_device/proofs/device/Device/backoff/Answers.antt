@@ -1,7 +1,7 @@
 use Rattle.std.proofs.Common.{refl, rules}
 use Rattle.std.proofs.iter.Serving.{serving}
 use Rattle.kms_model.specs.declared.replies.Step.TheVariants as step
-use Rattle.kms_calls.specs.Locks.{HasContext, MayBackOff}
+use Rattle.kms_core.specs.Locks.{HasContext, MayBackOff}
 use Rattle.kms_device.proofs.Found.{may_back_off}
 use Rattle.kms_device.proofs.Turning.{adds_of, one_if_ok, turn_of}
 use Rattle.kms_device.proofs.device.Device.backoff.Goals as goal

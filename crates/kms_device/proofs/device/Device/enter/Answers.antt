@@ -1,5 +1,5 @@
 use Rattle.std.proofs.Common.{subst}
-use Rattle.kms_calls.specs.Locks.{MayBegin}
+use Rattle.kms_core.specs.Locks.{MayBegin}
 use Rattle.kms_device.specs.Turns.{run_seen}
 use Rattle.kms_device.proofs.TriedCases.{began_as, may_begin_at, tried_err}
 use Rattle.kms_device.proofs.TurnsTried.{nothing_done}

@@ -1,6 +1,6 @@
 use Rattle.std.proofs.Common.{rules}
 use Rattle.std.proofs.iter.Serving.{serving}
-use Rattle.kms_calls.specs.Locks.{IsTaking, MayLock}
+use Rattle.kms_core.specs.Locks.{IsTaking, MayLock}
 use Rattle.kms_device.proofs.Reaching.{may_take}
 use Rattle.kms_device.proofs.Turning.{adds_of, locks_of, turn_of}
 use Rattle.kms_device.proofs.device.Device.lock.Goals as goal

@@ -1,6 +1,6 @@
 use Rattle.std.proofs.Common.{refl, rules, sym}
 use Rattle.std.proofs.iter.Serving.{serving}
-use Rattle.kms_stores.specs.Calls.{MayMake}
+use Rattle.kms_core.specs.Calls.{MayMake}
 use Rattle.kms_model.specs.declared.replies.Step.TheVariants as step
 use Rattle.kms_device.proofs.Found.{may_make}
 use Rattle.kms_device.proofs.Turning.{adds_of, one_if_ok, turn_of}

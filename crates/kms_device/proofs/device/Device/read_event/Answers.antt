@@ -1,6 +1,6 @@
 use Rattle.std.proofs.Common.{rules}
 use Rattle.std.proofs.iter.Serving.{serving}
-use Rattle.kms_stores.specs.Calls.{MayRead}
+use Rattle.kms_core.specs.Calls.{MayRead}
 use Rattle.kms_device.proofs.Found.{may_read}
 use Rattle.kms_device.proofs.Turning.{adds_of, reads_of, turn_of}
 use Rattle.kms_device.proofs.device.Device.read_event.Goals as goal

@@ -1,9 +1,9 @@
 use Rattle.std.proofs.Common.{◌≡◌, refl, rules}
 use Rattle.std.proofs.iter.Serving.{serving}
 use Rattle.kms_model.specs.declared.replies.Step.TheVariants as step
-use Rattle.kms_stores.specs.Decisions.{MayRefuse}
-use Rattle.kms_stores.specs.Decisions.{taker}
-use Rattle.kms_stores.specs.Run.{machine}
+use Rattle.kms_core.specs.Decisions.{MayRefuse}
+use Rattle.kms_core.specs.Decisions.{taker}
+use Rattle.kms_core.specs.Run.{machine}
 use Rattle.kms_device.proofs.Deciding.{may_refuse, the_taker}
 use Rattle.kms_device.proofs.Turning.{adds_of, decides_of, turn_of}
 use Rattle.kms_device.proofs.device.Device.refuse.Goals as goal

@@ -1,6 +1,6 @@
 use Rattle.std.proofs.Common.{rules}
 use Rattle.std.proofs.iter.Serving.{serving}
-use Rattle.kms_calls.specs.Locks.{HasContext, MayRelock}
+use Rattle.kms_core.specs.Locks.{HasContext, MayRelock}
 use Rattle.kms_device.proofs.Found.{may_relock}
 use Rattle.kms_device.proofs.Turning.{adds_of, relocks_of, turn_of}
 use Rattle.kms_device.proofs.device.Device.relock.Goals as goal

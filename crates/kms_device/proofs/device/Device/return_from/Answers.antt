@@ -1,6 +1,6 @@
 use Rattle.std.proofs.Common.{rules}
 use Rattle.std.proofs.iter.Serving.{serving}
-use Rattle.kms_stores.specs.Calls.{MayReturn}
+use Rattle.kms_core.specs.Calls.{MayReturn}
 use Rattle.kms_device.proofs.Found.{may_return}
 use Rattle.kms_device.proofs.Turning.{adds_of, returns_of, turn_of}
 use Rattle.kms_device.proofs.device.Device.return_from.Goals as goal

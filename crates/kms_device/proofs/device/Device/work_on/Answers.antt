@@ -1,7 +1,7 @@
 use Rattle.std.proofs.Common.{◌≡◌, ℕ, inl, refl, rules, subst, sym}
 use Rattle.std.specs.Prelude.{find}
 use Rattle.std.specs.Option.{option_to_list}
-use Rattle.kms_stores.specs.Run.{Run}
+use Rattle.kms_core.specs.Run.{Run}
 use Rattle.kms_device.specs.Steps.{is_legal, tail_of}
 use Rattle.kms_device.proofs.Tails.{found_of, of_tail}
 use Rattle.kms_device.proofs.Turning.{ArePlainOf, IsOf, IsPlain, adds_of, turn_of}

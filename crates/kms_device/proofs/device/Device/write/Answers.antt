@@ -1,5 +1,5 @@
 use Rattle.std.proofs.Common.{refl, rules}
-use Rattle.kms_stores.specs.Work.{write_step}
+use Rattle.kms_core.specs.Work.{write_step}
 use Rattle.kms_device.proofs.Turning.{adds_of, one_if, turn_of}
 use Rattle.kms_device.proofs.device.Device.write.Goals as goal
 

@@ -1,4 +1,4 @@
-use Rattle.kms_screens.proofs.screen.Screen.dark.Goals as goal
+use Rattle.kms_kept_frames.proofs.screen.Screen.dark.Goals as goal
 
 pub returns-clause-images : goal.returns-clause-images
 returns-clause-images c = λ images. record { first = c.off.ensures.images images; second = c.off-2.ensures.images images }

@@ -1,5 +1,5 @@
 use Rattle.std.proofs.Common.{inl, inr, ◌∙◌}
-use Rattle.kms_screens.proofs.screen.Screen.with_both.Goals as goal
+use Rattle.kms_kept_frames.proofs.screen.Screen.with_both.Goals as goal
 
 pub returns-clause-stands : goal.returns-clause-stands
 returns-clause-stands g c = c.both_hashed.ensures.kept c.args.images.now c.in_ok-one.ensures.0 c.in_ok-other.ensures.0

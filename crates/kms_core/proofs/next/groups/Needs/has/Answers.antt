@@ -1,8 +1,8 @@
 use Rattle.std.proofs.Common.{ap, sym, ◌∙◌}
 use Rattle.kms_model.specs.Device.Objects.{object_id}
-use Rattle.kms_next.specs.Order.{in_group}
-use Rattle.kms_next.proofs.NextLocks.{affected_told, named_told}
-use Rattle.kms_next.proofs.groups.Needs.has.Goals as goal
+use Rattle.kms_core.specs.Order.{in_group}
+use Rattle.kms_core.proofs.next.NextLocks.{affected_told, named_told}
+use Rattle.kms_core.proofs.next.groups.Needs.has.Goals as goal
 
 pub returns-in-Named : goal.returns-in-Named
 returns-in-Named c = λ t w needs on.

@@ -1,0 +1,5 @@
+pub mod Answering
+pub mod Swaps
+pub mod OutFences
+pub mod OutLabels
+pub mod Commits

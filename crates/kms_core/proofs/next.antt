@@ -1,0 +1,16 @@
+pub mod Refusing
+pub mod Taken
+pub mod Presented
+pub mod JudgedRequests
+pub mod Outside
+pub mod Drains
+pub mod TailSteps
+pub mod Movers
+pub mod Onward
+pub mod Legals
+pub mod Stalls
+pub mod ClientSteps
+pub mod Finding
+pub mod TailTurns
+pub mod NextLocks
+pub mod ClientTurns

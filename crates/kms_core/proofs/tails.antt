@@ -1,0 +1,5 @@
+pub mod Marking
+pub mod Writing
+pub mod Latched
+pub mod Flushing
+pub mod Blanking
