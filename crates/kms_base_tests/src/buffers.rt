@@ -1,6 +1,6 @@
 //! The words of buffers, and framebuffers that are kept while something refers to them.
 ghost use Rattle.std.specs.Prelude.{◌≡◌};
-ghost use Rattle.kms_model.specs.Stores.Kept.{fbs_closed};
+ghost use Rattle.kms_model.specs.Things.Kept.{fbs_closed};
 
 use kms_buffers::{Buffers, FbStore, MakeError};
 use kms_model::{Denied, FbInfo, Format, Image, NoMemory, Pattern};

@@ -3,7 +3,7 @@ use Rattle.std.proofs.Common.{◌≡◌, ℕ, List, Bool, true, false, Option, S
 use Rattle.std.specs.Prelude.{◌==◌, not, if◌then◌else◌}
 use Rattle.std.specs.Option.{option_and_then}
 use Rattle.kms_model.specs.declared.replies.TheConstants.Denied.{NOT_FOUND, NOT_OWNER}
-use Rattle.kms_model.specs.declared.stores.Blob.{Blob}
+use Rattle.kms_model.specs.declared.things.Blob.{Blob}
 use Rattle.kms_model.specs.declared.tables.Slot.{Slot}
 use Rattle.kms_model.specs.declared.worlds.Content.{Content}
 use Rattle.kms_model.specs.declared.worlds.Content.TheVariants as content
@@ -13,9 +13,9 @@ use Rattle.kms_model.specs.Device.Sound.{AreNumbered}
 use Rattle.kms_model.specs.Device.World.{thing_with_id}
 use Rattle.kms_model.specs.Firsts.{denied_if}
 use Rattle.kms_model.specs.Device.ModeBytes.{mode_bytes}
-use Rattle.kms_model.specs.Stores.Kept.{blob, destroy_answer}
-use Rattle.kms_model.specs.Stores.OpenThings.{denial, value_if_open}
-use Rattle.kms_model.specs.Stores.Tables.{value_with_id}
+use Rattle.kms_model.specs.Things.Kept.{blob, destroy_answer}
+use Rattle.kms_model.specs.Things.OpenThings.{denial, value_if_open}
+use Rattle.kms_model.specs.Things.Tables.{value_with_id}
 use Rattle.kms_model.proofs.OpenLemmas.{found_open}
 use Rattle.kms_blobs.specs.Things.{blob_in, blobs_of}
 

@@ -1,7 +1,7 @@
 //! The store of blobs.
 ghost use Rattle.std.specs.Prelude.{◌≡◌, ℕ, List, [], ◌∷◌, ◌++◌, OnOk, OnErr, IfOk, option_copied};
-ghost use Rattle.kms_model.specs.Stores.Tables.{AreBelow, slot, value_with_id};
-ghost use Rattle.kms_model.specs.Stores.Kept.{blob, bytes_with_id, destroy_answer, blobs_destroyed};
+ghost use Rattle.kms_model.specs.Things.Tables.{AreBelow, slot, value_with_id};
+ghost use Rattle.kms_model.specs.Things.Kept.{blob, bytes_with_id, destroy_answer, blobs_destroyed};
 ghost use Rattle.kms_model.specs.declared.objects.Mode.{Mode};
 ghost use Rattle.kms_model.specs.declared.worlds.Content.TheVariants as content;
 ghost use Rattle.kms_model.specs.declared.worlds.Thing.{Thing};
@@ -10,7 +10,7 @@ ghost use Rattle.kms_model.specs.Device.ModeBytes.{mode_bytes};
 ghost use Rattle.kms_model.specs.Device.Execution.{destroy_refusal, make};
 ghost use Rattle.kms_model.specs.Device.Sound.{AreNumbered};
 ghost use Rattle.kms_model.specs.Device.World.{thing_with_id};
-ghost use Rattle.kms_model.specs.Stores.OpenThings.{denial, things_after};
+ghost use Rattle.kms_model.specs.Things.OpenThings.{denial, things_after};
 ghost use Rattle.kms_blobs.specs.Things.{blobs_of};
 
 use kms_model::{Blob, Denied, IdTable, NoMemory, Seq};
@@ -27,7 +27,7 @@ pub struct BlobStore {
 impl Model for BlobStore {
     ghost use Rattle.std.specs.Prelude.{List};
     ghost use Rattle.kms_model.specs.declared.tables.Slot.{Slot};
-    ghost use Rattle.kms_model.specs.declared.stores.Blob.{Blob};
+    ghost use Rattle.kms_model.specs.declared.things.Blob.{Blob};
 
     ghost Value = { List (Slot Blob) };
 

@@ -1,8 +1,8 @@
 -- The bytes of all buffers, with one more.
 use Rattle.std.proofs.Common.{◌≡◌, ◌+◌, ◌≤◌, ℕ, List, [], ◌∷◌, ◌++◌, ap, ◌∙◌, sym, add_assoc, arith}
-use Rattle.kms_model.specs.declared.stores.Buffer.{Buffer}
+use Rattle.kms_model.specs.declared.things.Buffer.{Buffer}
 use Rattle.kms_model.specs.declared.tables.Slot.{Slot}
-use Rattle.kms_model.specs.Stores.Kept.{bytes_of, area_bytes, largest_bytes}
+use Rattle.kms_model.specs.Things.Kept.{bytes_of, area_bytes, largest_bytes}
 use Rattle.kms_buffers.specs.Within.{IsCounted}
 
 abbrev pub area_of : Slot Buffer → ℕ

@@ -2,13 +2,13 @@
 use Rattle.std.proofs.Common.{◌≡◌, ◌≢◌, ℕ, ◌<◌, List, [], ◌∷◌, ◌++◌, Some, inl, inr, subst, arith}
 use Rattle.std.specs.Prelude.{not, ◌==◌}
 use Rattle.std.proofs.lemmas.Bool.Decides.{eqb_tells}
-use Rattle.kms_model.specs.declared.stores.Framebuffer.{Framebuffer}
+use Rattle.kms_model.specs.declared.things.Framebuffer.{Framebuffer}
 use Rattle.kms_model.specs.declared.tables.Slot.{Slot}
-use Rattle.kms_model.specs.Stores.Tables.{put_in, value_with_id, with_value, without_id, IsRising, AreBelow}
+use Rattle.kms_model.specs.Things.Tables.{put_in, value_with_id, with_value, without_id, IsRising, AreBelow}
 use Rattle.kms_model.proofs.TableLemmas.{IsRising-with_value, IsRising-without_id, IsRising-push}
 use Rattle.kms_model.proofs.Facts.{cond_holds}
 use Rattle.kms_buffers.specs.Within.{AreStored}
-use Rattle.kms_model.specs.Stores.Kept.{AreCounted, with_fewer}
+use Rattle.kms_model.specs.Things.Kept.{AreCounted, with_fewer}
 
 pub counted_at : (fbs : List (Slot Framebuffer)) (id : ℕ) (fb : Framebuffer) → AreCounted fbs → value_with_id fbs id ≡ Some fb → 0 < fb.references
 counted_at [] id fb counted at = absurd (cc at)

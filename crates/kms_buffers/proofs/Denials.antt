@@ -5,7 +5,7 @@ use Rattle.std.specs.List.{AllByRecursion, cons_option}
 use Rattle.std.specs.Option.{option_and_then}
 use Rattle.std.proofs.lemmas.Bool.Decides.{eqb_tells}
 use Rattle.kms_model.specs.declared.replies.TheConstants.Denied.{NOT_FOUND}
-use Rattle.kms_model.specs.declared.stores.Framebuffer.{Framebuffer}
+use Rattle.kms_model.specs.declared.things.Framebuffer.{Framebuffer}
 use Rattle.kms_model.specs.declared.tables.Slot.{Slot}
 use Rattle.kms_model.specs.declared.worlds.Content.{Content}
 use Rattle.kms_model.specs.declared.worlds.Content.TheVariants as content
@@ -14,9 +14,9 @@ use Rattle.kms_model.specs.Device.Execution.{close_refusal, is_framebuffer}
 use Rattle.kms_model.specs.Device.Sound.{AreNumbered}
 use Rattle.kms_model.specs.Device.World.{thing_with_id}
 use Rattle.kms_model.specs.Firsts.{denied_if}
-use Rattle.kms_model.specs.Stores.Kept.{close_answer, framebuffer, is_last, may_close}
-use Rattle.kms_model.specs.Stores.OpenThings.{denial, value_if_open}
-use Rattle.kms_model.specs.Stores.Tables.{IsRising, slot, value_with_id}
+use Rattle.kms_model.specs.Things.Kept.{close_answer, framebuffer, is_last, may_close}
+use Rattle.kms_model.specs.Things.OpenThings.{denial, value_if_open}
+use Rattle.kms_model.specs.Things.Tables.{IsRising, slot, value_with_id}
 use Rattle.kms_model.proofs.OpenLemmas.{found_open}
 use Rattle.kms_model.proofs.TableLemmas.{others_behind, value-absent}
 use Rattle.kms_buffers.specs.Things.{fb_of_content, open_fbs, open_fbs_of, open_slot}

@@ -7,14 +7,14 @@ use Rattle.std.proofs.lemmas.List.Elements.{filter_map-append}
 use Rattle.kms_model.specs.declared.objects.Format.{Format}
 use Rattle.kms_model.specs.declared.pictures.FbInfo.{FbInfo}
 use Rattle.kms_model.specs.declared.scripts.Pattern.{Pattern}
-use Rattle.kms_model.specs.declared.stores.Framebuffer.{Framebuffer}
+use Rattle.kms_model.specs.declared.things.Framebuffer.{Framebuffer}
 use Rattle.kms_model.specs.declared.tables.Slot.{Slot}
 use Rattle.kms_model.specs.declared.worlds.Content.TheVariants as content
 use Rattle.kms_model.specs.declared.worlds.World.{World}
-use Rattle.kms_model.specs.Stores.OpenThings.{open_value}
+use Rattle.kms_model.specs.Things.OpenThings.{open_value}
 use Rattle.kms_model.specs.Device.Execution.{make}
-use Rattle.kms_model.specs.Stores.Kept.{buffer, framebuffer, with_fewer, MayGive}
-use Rattle.kms_model.specs.Stores.Tables.{slot, put_in, with_value, without_id, value_with_id, IsRising}
+use Rattle.kms_model.specs.Things.Kept.{buffer, framebuffer, with_fewer, MayGive}
+use Rattle.kms_model.specs.Things.Tables.{slot, put_in, with_value, without_id, value_with_id, IsRising}
 use Rattle.kms_model.proofs.OpenLemmas.{without_id-same, without_id-other}
 use Rattle.kms_buffers.specs.Things.{buffer_in, buffers_of, fb_of_content, open_fbs_of, open_slot, open_fbs}
 

@@ -2,15 +2,15 @@
 -- of the other store are its open framebuffers.
 use Rattle.std.specs.Prelude.{ℕ, List, Option, Some, None, if◌then◌else◌}
 use Rattle.std.specs.List.{filter_map}
-use Rattle.kms_model.specs.declared.stores.Buffer.{Buffer}
-use Rattle.kms_model.specs.declared.stores.Framebuffer.{Framebuffer}
+use Rattle.kms_model.specs.declared.things.Buffer.{Buffer}
+use Rattle.kms_model.specs.declared.things.Framebuffer.{Framebuffer}
 use Rattle.kms_model.specs.declared.tables.Slot.{Slot}
 use Rattle.kms_model.specs.declared.worlds.Content.{Content}
 use Rattle.kms_model.specs.declared.worlds.Content.TheVariants as content
 use Rattle.kms_model.specs.declared.worlds.Thing.{Thing}
-use Rattle.kms_model.specs.Stores.OpenThings.{open_values}
-use Rattle.kms_model.specs.Stores.Kept.{buffer, framebuffer}
-use Rattle.kms_model.specs.Stores.Tables.{slot}
+use Rattle.kms_model.specs.Things.OpenThings.{open_values}
+use Rattle.kms_model.specs.Things.Kept.{buffer, framebuffer}
+use Rattle.kms_model.specs.Things.Tables.{slot}
 
 -- the buffer that a content is
 abbrev pub buffer_in : ℕ → ℕ → Content → Option (Slot Buffer)

@@ -1,11 +1,11 @@
 //! The store of buffers.
 ghost use Rattle.std.specs.Prelude.{ℕ, ◌≡◌, ◌<◌, ◌≤◌, [], ◌∷◌, ◌++◌, IsOkUnless, IfOk, Ok, OnOk, OnErr, IfSome, IfNone, false, true};
-ghost use Rattle.kms_model.specs.Stores.Tables.{AreBelow, slot};
+ghost use Rattle.kms_model.specs.Things.Tables.{AreBelow, slot};
 ghost use Rattle.kms_model.specs.declared.worlds.Content.TheVariants as content;
 ghost use Rattle.kms_model.specs.declared.worlds.World.{World};
 ghost use Rattle.kms_model.specs.Device.Execution.{make};
 ghost use Rattle.kms_buffers.specs.Things.{buffers_of};
-ghost use Rattle.kms_model.specs.Stores.Kept.{buffer, Fills, is_bad_side, is_bad_size, bytes_with, area_bytes, largest_bytes, seen_with_id};
+ghost use Rattle.kms_model.specs.Things.Kept.{buffer, Fills, is_bad_side, is_bad_size, bytes_with, area_bytes, largest_bytes, seen_with_id};
 
 use crate::patterns;
 use kms_model::{Buffer, Format, IdTable, Image, NoMemory, Pattern};
@@ -56,8 +56,8 @@ pub struct Buffers {
 impl Model for Buffers {
     ghost use Rattle.std.specs.Prelude.{List, ◌≡◌, ◌≤◌};
     ghost use Rattle.kms_model.specs.declared.tables.Slot.{Slot};
-    ghost use Rattle.kms_model.specs.declared.stores.Buffer.{Buffer};
-    ghost use Rattle.kms_model.specs.Stores.Kept.{bytes_of};
+    ghost use Rattle.kms_model.specs.declared.things.Buffer.{Buffer};
+    ghost use Rattle.kms_model.specs.Things.Kept.{bytes_of};
     ghost use Rattle.kms_buffers.specs.Within.{IsCounted};
 
     ghost Value = { List (Slot Buffer) };

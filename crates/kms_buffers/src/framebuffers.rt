@@ -7,10 +7,10 @@ ghost use Rattle.kms_model.specs.declared.worlds.World.{World};
 ghost use Rattle.kms_model.specs.Device.Execution.{close_refusal, make};
 ghost use Rattle.kms_model.specs.Device.Sound.{AreNumbered};
 ghost use Rattle.kms_model.specs.Device.World.{thing_with_id};
-ghost use Rattle.kms_model.specs.Stores.OpenThings.{denial, things_after};
+ghost use Rattle.kms_model.specs.Things.OpenThings.{denial, things_after};
 ghost use Rattle.kms_buffers.specs.Things.{open_fbs, open_fbs_of};
-ghost use Rattle.kms_model.specs.Stores.Tables.{AreBelow, slot, value_with_id, without_id, with_value};
-ghost use Rattle.kms_model.specs.Stores.Kept.{framebuffer, MayTake, MayGive, AreCounted, close_answer, fbs_closed, fbs_taken, fbs_given, is_last_of, with_fewer, taken, given, closed, may_close};
+ghost use Rattle.kms_model.specs.Things.Tables.{AreBelow, slot, value_with_id, without_id, with_value};
+ghost use Rattle.kms_model.specs.Things.Kept.{framebuffer, MayTake, MayGive, AreCounted, close_answer, fbs_closed, fbs_taken, fbs_given, is_last_of, with_fewer, taken, given, closed, may_close};
 
 use kms_model::{Denied, FbInfo, Framebuffer, IdTable, NoMemory};
 use std::alloc::Global;
@@ -26,7 +26,7 @@ pub struct FbStore {
 impl Model for FbStore {
     ghost use Rattle.std.specs.Prelude.{List};
     ghost use Rattle.kms_model.specs.declared.tables.Slot.{Slot};
-    ghost use Rattle.kms_model.specs.declared.stores.Framebuffer.{Framebuffer};
+    ghost use Rattle.kms_model.specs.declared.things.Framebuffer.{Framebuffer};
     ghost use Rattle.kms_buffers.specs.Within.{AreStored};
 
     ghost Value = { List (Slot Framebuffer) };

@@ -1,7 +1,7 @@
 //! The words of a pattern.
 ghost use Rattle.std.specs.Prelude.{◌≡◌, ◌<◌, ◌≤◌, ◌*◌, ◌+◌, ◌/◌, ◌%◌, ◌==◌, ◌++◌, if◌then◌else◌, IfOk};
 ghost use Rattle.kms_model.specs.Frames.FrameBytes.{word_in};
-ghost use Rattle.kms_model.specs.Stores.Kept.{Fills, buffer_words, row_words};
+ghost use Rattle.kms_model.specs.Things.Kept.{Fills, buffer_words, row_words};
 ghost use Rattle.kms_buffers.specs.Places.{HasWord, HasRow};
 
 use kms_model::{Format, NoMemory, Pattern, Seq};

@@ -13,7 +13,7 @@ use Rattle.kms_model.specs.declared.pictures.Shown.{Shown}
 use Rattle.kms_model.specs.declared.worlds.Thing.{Thing}
 use Rattle.kms_model.specs.Frames.FrameBytes.{black, channels, composed, covers, frame_bytes, frame_of, layer_colour, mixed, source_at, through, word_of}
 use Rattle.kms_model.specs.Frames.Images.{image_of}
-use Rattle.kms_model.specs.Stores.Kept.{Seen}
+use Rattle.kms_model.specs.Things.Kept.{Seen}
 use Rattle.kms_model.proofs.ImageWords.{word_of-image}
 use Rattle.kms_model.proofs.SourcePlaces.{covers-at, source-within}
 use Rattle.kms_model.proofs.Spans.{flat_map-range_same}

@@ -10,7 +10,7 @@ use Rattle.std.proofs.lemmas.Int.{ints, clamps}
 use Rattle.kms_model.specs.declared.objects.Mode.{Mode}
 use Rattle.kms_model.specs.declared.pictures.Layer.{Layer}
 use Rattle.kms_model.specs.declared.pictures.Rect.{Rect}
-use Rattle.kms_model.specs.declared.stores.Image.{Image}
+use Rattle.kms_model.specs.declared.things.Image.{Image}
 use Rattle.kms_model.specs.Device.Sound.{IsBetween}
 use Rattle.kms_model.specs.Device.States.{natural}
 use Rattle.kms_model.specs.Frames.FrameBytes.{covers, layer_colour}

@@ -6,9 +6,9 @@ use Rattle.kms_model.specs.declared.pictures.FbInfo.{FbInfo}
 use Rattle.kms_model.specs.declared.pictures.Layer.{Layer}
 use Rattle.kms_model.specs.declared.pictures.Picture.{Picture}
 use Rattle.kms_model.specs.declared.pictures.Picture.TheVariants.{Off, On}
-use Rattle.kms_model.specs.declared.stores.Image.{Image}
+use Rattle.kms_model.specs.declared.things.Image.{Image}
 use Rattle.kms_model.specs.declared.worlds.Thing.{Thing}
-use Rattle.kms_model.specs.Stores.Kept.{Seen}
+use Rattle.kms_model.specs.Things.Kept.{Seen}
 use Rattle.kms_model.specs.Frames.Shown.{IsSeenAs}
 use Rattle.kms_model.specs.Frames.Images.{FitsMode, image_of, seen_word}
 use Rattle.kms_compose.specs.declared.images.FbImage.{FbImage}

@@ -9,7 +9,7 @@ use Rattle.kms_model.specs.Frames.Rectangles.{fits_source}
 use Rattle.kms_model.specs.Device.States.{natural}
 use Rattle.kms_model.specs.declared.objects.Gamma.{Gamma}
 use Rattle.kms_model.specs.declared.pictures.Rect.{Rect}
-use Rattle.kms_model.specs.declared.stores.Image.{Image}
+use Rattle.kms_model.specs.declared.things.Image.{Image}
 use Rattle.kms_compose.specs.declared.parts.Places.{Places}
 use Rattle.kms_compose.specs.declared.parts.Places.TheVariants.{From, At}
 use Rattle.kms_compose.specs.declared.parts.VisiblePart.{VisiblePart}

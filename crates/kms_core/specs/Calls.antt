@@ -19,7 +19,7 @@ use Rattle.kms_model.specs.Machine.Commits.{id_of_thing, is_cleaned}
 use Rattle.kms_model.specs.Machine.Histories.{legal}
 use Rattle.kms_model.specs.Machine.State.{Machine, command_at, doing_at, reserved_at, unread_at}
 use Rattle.kms_model.specs.Machine.Steps.{idle_at, is_idle, is_wait, returning_of}
-use Rattle.kms_model.specs.Stores.Tables.{slot}
+use Rattle.kms_model.specs.Things.Tables.{slot}
 use Rattle.kms_core.specs.Run.{Run, machine}
 
 -- Commands that are executed at once

@@ -6,13 +6,13 @@ use Rattle.kms_model.specs.declared.replies.Reply.TheVariants as reply
 use Rattle.kms_model.specs.declared.scripts.Command.{Command}
 use Rattle.kms_model.specs.declared.scripts.Command.TheVariants as command
 use Rattle.kms_model.specs.declared.states.Duplicates.{Duplicates}
-use Rattle.kms_model.specs.declared.stores.Framebuffer.{Framebuffer}
+use Rattle.kms_model.specs.declared.things.Framebuffer.{Framebuffer}
 use Rattle.kms_model.specs.declared.worlds.Thing.{Thing}
 use Rattle.kms_model.specs.Device.Sound.{IsDevice}
 use Rattle.kms_model.specs.Device.World.{thing_labelled}
 use Rattle.kms_model.specs.Machine.State.{Machine}
-use Rattle.kms_model.specs.Stores.Kept.{MayTake, fbs_taken}
-use Rattle.kms_model.specs.Stores.Tables.{value_with_id}
+use Rattle.kms_model.specs.Things.Kept.{MayTake, fbs_taken}
+use Rattle.kms_model.specs.Things.Tables.{value_with_id}
 use Rattle.kms_regs.specs.File.{RegisterFile, StandsForDevice}
 use Rattle.kms_signal.specs.Rooms.{Rooms}
 use Rattle.kms_tails.specs.declared.tail.Tail.{Tail}

@@ -17,7 +17,7 @@ use Rattle.kms_model.specs.Machine.Commits.{has_number, out_fence_of}
 use Rattle.kms_model.specs.Machine.Histories.{is_history}
 use Rattle.kms_model.specs.Machine.State.{Commit, Machine, DeviceState, Records, Events, go_at}
 use Rattle.kms_model.specs.Script.WellFormed.{IsWellFormed}
-use Rattle.kms_model.specs.Stores.Tables.{AreBelow}
+use Rattle.kms_model.specs.Things.Tables.{AreBelow}
 use Rattle.kms_clients.specs.InStep.{AreClientsOf}
 use Rattle.kms_clients.specs.Standing.{Standing}
 use Rattle.kms_laws.specs.TailsLeft.{all_left}

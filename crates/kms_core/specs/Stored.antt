@@ -2,7 +2,7 @@
 -- drm_framebuffer_get, drm_framebuffer_put.
 use Rattle.std.specs.Prelude.{ℕ, ◌≡◌, Bool, true, List, [], ◌∷◌, Option, Some, None, if◌then◌else◌, ⊤}
 use Rattle.kms_model.specs.declared.objects.Topology.{Topology}
-use Rattle.kms_model.specs.declared.stores.Framebuffer.{Framebuffer}
+use Rattle.kms_model.specs.declared.things.Framebuffer.{Framebuffer}
 use Rattle.kms_model.specs.declared.tables.Slot.{Slot}
 use Rattle.kms_model.specs.declared.worlds.Content.{Content}
 use Rattle.kms_model.specs.declared.worlds.Content.TheVariants as content
@@ -10,7 +10,7 @@ use Rattle.kms_model.specs.declared.worlds.Thing.{Thing}
 use Rattle.kms_model.specs.Device.World.{thing_with_id}
 use Rattle.kms_model.specs.Machine.Framebuffers.{is_needed}
 use Rattle.kms_model.specs.Machine.State.{Machine}
-use Rattle.kms_model.specs.Stores.Tables.{value_with_id, without_id}
+use Rattle.kms_model.specs.Things.Tables.{value_with_id, without_id}
 
 -- A framebuffer as the store has it: with one reference of the device, which is taken once it is added and given back by the step
 -- that frees it, and one of being open.

@@ -11,7 +11,7 @@ use Rattle.kms_model.specs.Device.Objects.{object_id}
 use Rattle.kms_model.specs.Device.World.{thing_labelled}
 use Rattle.kms_model.specs.Machine.Commits.{id_of_thing}
 use Rattle.kms_model.specs.Request.Flags.{wants_event}
-use Rattle.kms_model.specs.Stores.Tables.{slot}
+use Rattle.kms_model.specs.Things.Tables.{slot}
 use Rattle.kms_core.specs.Swaps.{count_in}
 
 -- the state of an object of the device: the new one where it was checked, else as it was

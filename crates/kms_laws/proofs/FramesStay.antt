@@ -15,7 +15,7 @@ use Rattle.kms_model.specs.Frames.FrameBytes.{black, buffer_id_in, channels, col
 use Rattle.kms_model.specs.Frames.Images.{image_of, seen_in}
 use Rattle.kms_model.specs.Frames.Shown.{CanBeShown, EachCanBeShown, HasWords}
 use Rattle.kms_model.specs.Script.Words.{◌>>=◌}
-use Rattle.kms_model.specs.Stores.Kept.{Seen}
+use Rattle.kms_model.specs.Things.Kept.{Seen}
 use Rattle.kms_laws.proofs.Staying.{Stay}
 
 module _ (old new : List Thing) (stay : Stay old new) where

@@ -14,7 +14,7 @@ use Rattle.kms_model.specs.declared.objects.Mode.{Mode}
 use Rattle.kms_model.specs.declared.scripts.Command.{Command}
 use Rattle.kms_model.specs.declared.scripts.Command.TheVariants as command
 use Rattle.kms_model.specs.declared.scripts.Script.{Script}
-use Rattle.kms_model.specs.declared.stores.BadMode.TheVariants.{Horizontal, Vertical, Clock, Size, Length}
+use Rattle.kms_model.specs.declared.things.BadMode.TheVariants.{Horizontal, Vertical, Clock, Size, Length}
 use Rattle.kms_model.specs.Device.ModeBytes.{AreBytes, decoded, if_legal, mode_bytes, mode_held}
 use Rattle.kms_model.specs.Device.Serial.{Entry, command_of, from_one}
 use Rattle.kms_model.specs.Machine.Registers.{bytes_of_words, words_of_bytes}

@@ -22,7 +22,7 @@ use Rattle.kms_model.specs.declared.worlds.Content.TheVariants as content
 use Rattle.kms_model.specs.declared.worlds.Setting.{Setting}
 use Rattle.kms_model.specs.declared.worlds.Thing as worlds
 use Rattle.kms_model.specs.declared.worlds.World.{World}
-use Rattle.kms_model.specs.declared.stores.BadMode.TheVariants.{Length, Horizontal, Vertical, Clock, Size}
+use Rattle.kms_model.specs.declared.things.BadMode.TheVariants.{Length, Horizontal, Vertical, Clock, Size}
 use Rattle.kms_model.specs.Device.GammaBytes.{gamma_of_bytes}
 use Rattle.kms_model.specs.Device.ModeBytes.{decoded, if_legal, mode_held}
 use Rattle.kms_model.specs.Device.Modes.{is_axis, is_legal_mode}

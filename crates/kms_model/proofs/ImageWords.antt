@@ -14,7 +14,7 @@ use Rattle.kms_model.specs.Script.Words.{◌>>=◌}
 use Rattle.kms_model.specs.Device.World.{thing_with_id}
 use Rattle.kms_model.specs.Frames.FrameBytes.{buffer_id_in, pattern_word, word_in, word_of}
 use Rattle.kms_model.specs.Frames.Images.{image_of, seen_in, seen_word}
-use Rattle.kms_model.specs.Stores.Kept.{Seen, buffer_words}
+use Rattle.kms_model.specs.Things.Kept.{Seen, buffer_words}
 
 -- rows of one length, one after the other
 module _ (f : ℕ → ℕ → ℕ) (width : ℕ) where

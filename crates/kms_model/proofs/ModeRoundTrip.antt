@@ -8,7 +8,7 @@ use Rattle.std.proofs.lemmas.List.{take-append-drop, get_or-take, get_or-drop, l
 use Rattle.std.proofs.Math.Seq.{drop-nil}
 use Rattle.std.proofs.lemmas.Nat.{le_bytes_2, le_bytes_4, from_le_bytes-to_le_bytes_2, from_le_bytes-to_le_bytes_4}
 use Rattle.kms_model.specs.declared.objects.Mode.{Mode}
-use Rattle.kms_model.specs.declared.stores.BadMode.TheVariants.{Horizontal, Vertical, Clock, Size}
+use Rattle.kms_model.specs.declared.things.BadMode.TheVariants.{Horizontal, Vertical, Clock, Size}
 use Rattle.kms_model.specs.Device.Modes.{is_axis, is_legal_mode}
 use Rattle.kms_model.specs.Device.ModeRanges.{FitsTypes}
 use Rattle.kms_model.specs.Device.ModeBytes.{mode_bytes, mode_held, if_legal, decoded}

@@ -10,8 +10,8 @@ use Rattle.kms_model.specs.declared.worlds.Thing.{Thing}
 use Rattle.kms_model.specs.Device.Closing.{closed_if, closed_in}
 use Rattle.kms_model.specs.Device.Sound.{AreNumbered}
 use Rattle.kms_model.specs.Device.World.{thing_with_id}
-use Rattle.kms_model.specs.Stores.OpenThings.{open_value, open_values, value_if_open}
-use Rattle.kms_model.specs.Stores.Tables.{slot, value_with_id, without_id}
+use Rattle.kms_model.specs.Things.OpenThings.{open_value, open_values, value_if_open}
+use Rattle.kms_model.specs.Things.Tables.{slot, value_with_id, without_id}
 
 module _ {V : Type 0} where
   -- the value that stands first where it is open

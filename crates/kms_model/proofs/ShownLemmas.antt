@@ -35,7 +35,7 @@ use Rattle.kms_model.specs.Frames.Pictures.{layer_of, seen_on, put_layer, put_pl
 use Rattle.kms_model.specs.Frames.Rectangles.{fits_source, is_scaled_little}
 use Rattle.kms_model.specs.Device.Sound.{AreNumbered, IsSound, IsPlaneInRange}
 use Rattle.kms_model.specs.Device.States.{natural, framebuffer_in, framebuffer_of, mode_at, plane_at}
-use Rattle.kms_model.specs.Stores.Kept.{Seen, row_words, buffer_words}
+use Rattle.kms_model.specs.Things.Kept.{Seen, row_words, buffer_words}
 use Rattle.kms_model.specs.Device.World.{value, thing_numbered, thing_with_id}
 use Rattle.kms_model.proofs.TouchedLemmas.{accepts}
 use Rattle.kms_model.proofs.Items.{IsIn, or_else-none, number_if-none, ids-in, with_ids-has}

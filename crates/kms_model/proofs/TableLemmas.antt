@@ -7,7 +7,7 @@ use Rattle.std.proofs.lemmas.Bool.{eq-eqb, cases_lt}
 use Rattle.std.proofs.lemmas.Bool.Decides.{eqb_tells}
 use Rattle.std.proofs.lemmas.List.{get_or-map}
 use Rattle.kms_model.specs.declared.tables.Slot.{Slot}
-use Rattle.kms_model.specs.Stores.Tables.{slot, slot_ids, IsRising, AreBelow, value_with_id, with_value, without_id, put_in}
+use Rattle.kms_model.specs.Things.Tables.{slot, slot_ids, IsRising, AreBelow, value_with_id, with_value, without_id, put_in}
 use Rattle.kms_model.proofs.Facts.{cond_holds}
 
 -- an id is nowhere but between two places

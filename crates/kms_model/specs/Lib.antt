@@ -8,5 +8,5 @@ pub mod Script
 pub mod Legacy
 pub mod Frames
 pub mod Report
-pub mod Stores
+pub mod Things
 pub mod Firsts

@@ -25,8 +25,8 @@ mod scripts;
 mod sets;
 mod shown;
 mod states;
-mod stores;
 mod tables;
+mod things;
 mod worlds;
 
 pub use copying::{Duplicate, NoMemory};
@@ -51,6 +51,6 @@ pub use scripts::{Assign, Command, Part, Pattern, PropRef, Request, Script, Valu
 pub use sets::{Lookups, Resolved, Set, SetValue};
 pub use shown::{framebuffers_have_their_buffers, what_is_shown_can_be_composed};
 pub use states::{Both, Checked, ConnState, CrtcState, Duplicates, Mask, ObjState, PlaneState};
-pub use stores::{BadMode, Blob, Buffer, Framebuffer, Image};
 pub use tables::{IdTable, Slot, place_in};
+pub use things::{BadMode, Blob, Buffer, Framebuffer, Image};
 pub use worlds::{Content, Look, Setting, Thing, World};

@@ -1,6 +1,6 @@
 //! Values by their ids, which contracts see as a list.
 ghost use Rattle.std.specs.Prelude.{◌≡◌, ◌≢◌, ℕ, [], ◌∷◌, ◌++◌, length, OnOk, OnErr, IfSome, IfNone, option_copied, slice_index, ◌<◌};
-ghost use Rattle.kms_model.specs.Stores.Tables.{value_with_id, with_value, without_id, AreBelow, IsRising, slot, slot_ids};
+ghost use Rattle.kms_model.specs.Things.Tables.{value_with_id, with_value, without_id, AreBelow, IsRising, slot, slot_ids};
 
 use crate::copying::NoMemory;
 use std::alloc::Global;
@@ -24,7 +24,7 @@ pub struct IdTable<T> {
 impl<T> Model for IdTable<T> {
     ghost use Rattle.std.specs.Prelude.{List};
     ghost use Rattle.kms_model.specs.declared.tables.Slot.{Slot};
-    ghost use Rattle.kms_model.specs.Stores.Tables.{IsRising};
+    ghost use Rattle.kms_model.specs.Things.Tables.{IsRising};
 
     ghost Value = { List (Slot T) };
 

@@ -11,7 +11,7 @@ use Rattle.kms_model.specs.declared.worlds.Thing.{Thing}
 use Rattle.kms_model.specs.Frames.FrameBytes.{pixel, row_bytes, frame_of}
 use Rattle.kms_model.specs.declared.pictures.Picture.TheVariants.{On}
 use Rattle.kms_model.specs.Frames.Images.{image_of}
-use Rattle.kms_model.specs.Stores.Kept.{Seen}
+use Rattle.kms_model.specs.Things.Kept.{Seen}
 use Rattle.kms_compose.specs.Images.{AreImagesIn, IsShowable, image_seen, seen_under}
 use Rattle.kms_compose.specs.declared.images.FbImage.{FbImage}
 use Rattle.kms_model.specs.Frames.Shown.{CanBeShown, HasWords}

@@ -9,7 +9,7 @@ use Rattle.kms_model.specs.declared.pictures.Picture.TheVariants.{Off, On}
 use Rattle.kms_model.specs.declared.worlds.Thing.{Thing}
 use Rattle.kms_model.specs.Frames.Images.{image_of}
 use Rattle.kms_model.specs.Frames.Shown.{EachCanBeShown}
-use Rattle.kms_model.specs.Stores.Kept.{Seen}
+use Rattle.kms_model.specs.Things.Kept.{Seen}
 use Rattle.kms_compose.specs.Images.{AreImagesIn, CanShow, image_seen, seen_under}
 use Rattle.kms_compose.specs.declared.images.FbImage.{FbImage}
 use Rattle.kms_compose.proofs.SameFrames.{frame_same}

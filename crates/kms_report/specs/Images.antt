@@ -6,7 +6,7 @@ use Rattle.kms_model.specs.Frames.Images.{image_of}
 use Rattle.kms_compose.specs.Images.{CanShow, image_seen, seen_under}
 use Rattle.kms_compose.specs.declared.images.FbImage.{FbImage}
 use Rattle.kms_core.specs.Run.{Run, machine}
-use Rattle.kms_model.specs.Stores.Kept.{Seen}
+use Rattle.kms_model.specs.Things.Kept.{Seen}
 use Rattle.kms_kept_frames.specs.declared.screen.Screen.{Screen}
 
 -- the things that there are after the history

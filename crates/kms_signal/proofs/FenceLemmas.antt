@@ -4,7 +4,7 @@ use Rattle.std.specs.Prelude.{◌==◌, Option, Result, Ok, Err, OnOk, OnErr, is
 use Rattle.std.proofs.lemmas.Bool.Decides.{eqb_tells}
 use Rattle.kms_model.specs.declared.tables.Slot.{Slot}
 use Rattle.kms_model.specs.Firsts.{or_else}
-use Rattle.kms_model.specs.Stores.Tables.{slot, value_with_id, with_value}
+use Rattle.kms_model.specs.Things.Tables.{slot, value_with_id, with_value}
 use Rattle.kms_signal.specs.FenceSets.{FenceSet, is_made, is_signalled, or_not, StaySignalled, IsSignalled}
 use Rattle.kms_signal.proofs.SlotLemmas.{value_other, value_same, value_pushed}
 

@@ -8,7 +8,7 @@ use Rattle.kms_model.specs.Firsts.{or_else}
 use Rattle.kms_model.specs.Machine.Commits.{has_number}
 use Rattle.kms_model.specs.Machine.Registers.{read}
 use Rattle.kms_model.specs.Machine.State.{Events, reserved_at, unread_at}
-use Rattle.kms_model.specs.Stores.Tables.{slot, value_with_id}
+use Rattle.kms_model.specs.Things.Tables.{slot, value_with_id}
 use Rattle.kms_signal.specs.FenceSets.{FenceSet, or_not}
 use Rattle.kms_signal.specs.InStep.{AreFencesOf, IsQueueOf}
 use Rattle.kms_signal.specs.Queues.{Queue, empty_queue, reserves, delivers, after_read_of}

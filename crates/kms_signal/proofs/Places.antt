@@ -2,7 +2,7 @@
 use Rattle.std.proofs.Common.{◌≡◌, ℕ, ◌<◌, length, List, get_or, set, Some, ap}
 use Rattle.std.specs.List.{remove}
 use Rattle.kms_model.specs.declared.tables.Slot.{Slot}
-use Rattle.kms_model.specs.Stores.Tables.{IsRising, slot, slot_ids, value_with_id, with_value, without_id}
+use Rattle.kms_model.specs.Things.Tables.{IsRising, slot, slot_ids, value_with_id, with_value, without_id}
 use Rattle.kms_model.proofs.TableLemmas.{FoundAt, found, value-present, with_value-present, without_id-present}
 use Rattle.kms_signal.specs.Rooms.{Rooms}
 

@@ -5,7 +5,7 @@ use Rattle.std.proofs.lemmas.Bool.{eq-eqb}
 use Rattle.std.proofs.lemmas.Bool.Decides.{eqb_tells}
 use Rattle.kms_model.specs.declared.tables.Slot.{Slot}
 use Rattle.kms_model.specs.Firsts.{or_else}
-use Rattle.kms_model.specs.Stores.Tables.{slot, AreBelow, value_with_id, with_value, without_id, put_in}
+use Rattle.kms_model.specs.Things.Tables.{slot, AreBelow, value_with_id, with_value, without_id, put_in}
 
 -- another value under an id
 pub value_other : {T : Type 0} (slots : List (Slot T)) (id other : ℕ) (v : T) → (id == other) ≡ false → value_with_id (with_value slots id v) other ≡ value_with_id slots other

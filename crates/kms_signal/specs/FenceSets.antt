@@ -1,6 +1,6 @@
 -- Fences, each with whether it is signalled. From: "DMA Fences": a fence is signalled once, and stays so.
 use Rattle.std.specs.Prelude.{◌≡◌, ℕ, Bool, true, false, Option, Some, None, is_some}
-use Rattle.kms_model.specs.Stores.Tables.{value_with_id}
+use Rattle.kms_model.specs.Things.Tables.{value_with_id}
 use Rattle.kms_signal.specs.Rooms.{Rooms}
 
 -- the fences by their ids, and for how many further ones there is memory

@@ -3,7 +3,7 @@ use Rattle.std.specs.Prelude.{◌≡◌, ◌==◌, ℕ, ◌+◌, ◌-◌, List, 
 use Rattle.kms_model.specs.declared.replies.Event.{Event}
 use Rattle.kms_model.specs.Machine.Commits.{has_number}
 use Rattle.kms_model.specs.Machine.State.{Events, reserved_at, unread_at}
-use Rattle.kms_model.specs.Stores.Tables.{slot, with_value}
+use Rattle.kms_model.specs.Things.Tables.{slot, with_value}
 use Rattle.kms_signal.specs.FenceSets.{FenceSet}
 use Rattle.kms_signal.specs.InStep.{AreFencesOf, IsQueueOf}
 use Rattle.kms_signal.specs.Queues.{Queue, empty_queue, reserves, delivers, after_read_of}

@@ -17,7 +17,7 @@ use Rattle.kms_model.specs.Machine.Effects.{event_of, next}
 use Rattle.kms_model.specs.Machine.State.{Commit, Machine, command_at, count_at, go_at, place_at, request_at}
 use Rattle.kms_model.specs.Request.Flags.{wants_event}
 use Rattle.kms_model.specs.Request.Named.{named}
-use Rattle.kms_model.specs.Stores.Tables.{with_value}
+use Rattle.kms_model.specs.Things.Tables.{with_value}
 use Rattle.kms_signal.specs.FenceSets.{FenceSet}
 use Rattle.kms_signal.specs.InStep.{AreFencesOf, IsQueueOf}
 use Rattle.kms_signal.specs.Queues.{Queue, after_read, delivers, reserves}

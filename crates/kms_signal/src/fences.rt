@@ -1,6 +1,6 @@
 //! Fences.
 ghost use Rattle.std.specs.Prelude.{◌≡◌, ◌<◌, ◌≤◌, ◌+◌, [], ◌∷◌, ◌++◌, Bool, true, false, OnOk, OnErr, IsOk};
-ghost use Rattle.kms_model.specs.Stores.Tables.{AreBelow, slot, with_value};
+ghost use Rattle.kms_model.specs.Things.Tables.{AreBelow, slot, with_value};
 ghost use Rattle.kms_signal.specs.FenceSets.{is_made, is_signalled, StaySignalled, IsSignalled};
 
 use crate::tables::RoomTable;

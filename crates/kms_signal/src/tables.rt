@@ -1,6 +1,6 @@
 //! Values by their ids, with memory taken beforehand.
 ghost use Rattle.std.specs.Prelude.{◌≡◌, ◌<◌, ◌≤◌, ◌+◌, [], ◌∷◌, ◌++◌, OnOk, OnErr, IsOk, option_copied};
-ghost use Rattle.kms_model.specs.Stores.Tables.{value_with_id, with_value, without_id, AreBelow, IsRising, slot};
+ghost use Rattle.kms_model.specs.Things.Tables.{value_with_id, with_value, without_id, AreBelow, IsRising, slot};
 
 use kms_model::{NoMemory, Slot, place_in};
 use std::alloc::Global;
@@ -16,7 +16,7 @@ pub struct RoomTable<T> {
 impl<T> Model for RoomTable<T> {
     ghost use Rattle.std.specs.Prelude.{◌-◌, vec_len, vec_capacity};
     ghost use Rattle.kms_signal.specs.Rooms.{Rooms};
-    ghost use Rattle.kms_model.specs.Stores.Tables.{IsRising};
+    ghost use Rattle.kms_model.specs.Things.Tables.{IsRising};
 
     ghost Value = { Rooms T };
 

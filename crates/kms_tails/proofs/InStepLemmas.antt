@@ -12,7 +12,7 @@ use Rattle.kms_model.specs.Firsts.{or_else}
 use Rattle.kms_model.specs.Machine.Commits.{commit_at, has_latched, has_number, has_pair}
 use Rattle.kms_model.specs.Machine.State.{Commit, Marks, no_marks}
 use Rattle.kms_model.specs.Request.Flags.{wants_event}
-use Rattle.kms_model.specs.Stores.Tables.{AreBelow, slot, value_with_id, without_id}
+use Rattle.kms_model.specs.Things.Tables.{AreBelow, slot, value_with_id, without_id}
 use Rattle.kms_signal.specs.Rooms.{Rooms}
 use Rattle.kms_signal.proofs.SlotLemmas.{below-push, below-with_value, below-without_id, value_above, value_left, value_other, value_pushed, value_removed, value_same}
 use Rattle.kms_model.proofs.UnionLemmas.{has_bit-zero}

@@ -7,7 +7,7 @@ use Rattle.std.proofs.lemmas.Bool.Decides.{eqb_tells}
 use Rattle.kms_model.specs.Firsts.{one_if}
 use Rattle.kms_model.specs.declared.tables.Slot.{Slot}
 use Rattle.kms_model.specs.Device.Masks.{has_bit}
-use Rattle.kms_model.specs.Stores.Tables.{IsRising, value_with_id, with_value, without_id}
+use Rattle.kms_model.specs.Things.Tables.{IsRising, value_with_id, with_value, without_id}
 use Rattle.kms_model.proofs.TableLemmas.{others_behind, with_value-absent, without_id-absent}
 use Rattle.kms_tails.specs.declared.progress.Mark.{Mark}
 use Rattle.kms_tails.specs.declared.progress.Mark.TheVariants.{Claimed, WroteCrtc, WrotePlane, Flushed, Done, Latched}

@@ -17,7 +17,7 @@ use Rattle.kms_model.specs.declared.tables.Slot.{Slot}
 use Rattle.kms_model.specs.Device.Objects.{first_id, index_of, is_id_of, object_id}
 use Rattle.kms_model.specs.Machine.Commits.{commit_at, has_number}
 use Rattle.kms_model.specs.Machine.State.{Commit, Marks}
-use Rattle.kms_model.specs.Stores.Tables.{AreBelow, IsRising, slot, slot_ids, value_with_id}
+use Rattle.kms_model.specs.Things.Tables.{AreBelow, IsRising, slot, slot_ids, value_with_id}
 use Rattle.kms_model.proofs.KindsOfIds.{kind-crtc, kind-plane}
 use Rattle.kms_model.proofs.TableLemmas.{AreOther, IsRising-with_value, rising_at, value-absent, value-present, with_value-present}
 use Rattle.kms_signal.specs.Rooms.{Rooms}

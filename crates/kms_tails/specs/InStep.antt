@@ -17,7 +17,7 @@ use Rattle.kms_model.specs.Request.Agreement.{crtc_state_at}
 use Rattle.kms_model.specs.Request.Deciding.{IsChecked}
 use Rattle.kms_model.specs.Request.Flags.{wants_event}
 use Rattle.kms_model.specs.Request.Touched.{out_fence_label}
-use Rattle.kms_model.specs.Stores.Tables.{AreBelow, value_with_id}
+use Rattle.kms_model.specs.Things.Tables.{AreBelow, value_with_id}
 use Rattle.kms_signal.specs.Rooms.{Rooms}
 use Rattle.kms_tails.specs.declared.progress.Progress.{Progress}
 use Rattle.kms_tails.specs.declared.tail.Tail.{Tail}

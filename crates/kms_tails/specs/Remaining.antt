@@ -13,7 +13,7 @@ use Rattle.kms_model.specs.Device.Masks.{has_bit}
 use Rattle.kms_model.specs.Device.Objects.{index_of, is_id_of, object_id}
 use Rattle.kms_model.specs.Firsts.{one_if, or_else}
 use Rattle.kms_model.specs.Request.Flags.{wants_event}
-use Rattle.kms_model.specs.Stores.Tables.{slot_ids, value_with_id, with_value}
+use Rattle.kms_model.specs.Things.Tables.{slot_ids, value_with_id, with_value}
 use Rattle.kms_signal.specs.Rooms.{Rooms}
 use Rattle.kms_tails.specs.declared.progress.Mark.{Mark}
 use Rattle.kms_tails.specs.declared.progress.Mark.TheVariants.{Claimed, WroteCrtc, WrotePlane, Flushed, Done, Latched}

@@ -6,7 +6,7 @@ ghost use Rattle.kms_model.specs.declared.runs.Latch.{Latch};
 ghost use Rattle.kms_model.specs.Device.Objects.{object_id};
 ghost use Rattle.kms_model.specs.Machine.Commits.{commit_at};
 ghost use Rattle.kms_model.specs.Machine.State.{Commit, Marks, no_marks};
-ghost use Rattle.kms_model.specs.Stores.Tables.{AreBelow, IsRising, slot, slot_ids, value_with_id, without_id};
+ghost use Rattle.kms_model.specs.Things.Tables.{AreBelow, IsRising, slot, slot_ids, value_with_id, without_id};
 ghost use Rattle.kms_tails.specs.declared.progress.Mark.TheVariants as mark;
 ghost use Rattle.kms_tails.specs.InStep.{AreTailsOf, FindsFirst, HasRegisters, IsKept, StandsAfter, StandsAfterLatch, StandsAfterSwap, StandsAlike, with_claimed, with_cleaned, with_done, with_flushed, with_written};
 ghost use Rattle.kms_tails.specs.Remaining.{IsMark, TakesAll, TakesNone, TakesOne, all_left, first_from, first_tail, marked, no_tails, steps_left, wrote_mark};
@@ -31,7 +31,7 @@ pub struct Tails {
 
 impl Model for Tails {
     ghost use Rattle.std.specs.Prelude.{◌-◌, vec_len, vec_capacity};
-    ghost use Rattle.kms_model.specs.Stores.Tables.{IsRising};
+    ghost use Rattle.kms_model.specs.Things.Tables.{IsRising};
     ghost use Rattle.kms_signal.specs.Rooms.{Rooms};
     ghost use Rattle.kms_tails.specs.declared.tail.Tail.{Tail};
 

@@ -5,7 +5,7 @@ use Rattle.std.specs.List.{AllByRecursion, cons_option}
 use Rattle.std.specs.Option.{option_map}
 use Rattle.std.proofs.lemmas.Bool.Decides.{nat_tests, eqb_tells}
 use Rattle.kms_model.specs.declared.pictures.FbInfo.{FbInfo}
-use Rattle.kms_model.specs.declared.stores.Buffer.{Buffer}
+use Rattle.kms_model.specs.declared.things.Buffer.{Buffer}
 use Rattle.kms_model.specs.declared.tables.Slot.{Slot}
 use Rattle.kms_model.specs.declared.worlds.Content.{Content}
 use Rattle.kms_model.specs.declared.worlds.Content.TheVariants as content
@@ -13,8 +13,8 @@ use Rattle.kms_model.specs.declared.worlds.Thing.{Thing}
 use Rattle.kms_model.specs.Frames.Images.{image_of, seen_in}
 use Rattle.kms_model.specs.Device.Execution.{BufferInfo, buffer_info}
 use Rattle.kms_model.specs.Device.Sound.{AreNumbered}
-use Rattle.kms_model.specs.Stores.Kept.{Seen, seen, seen_with_id}
-use Rattle.kms_model.specs.Stores.Tables.{value_with_id}
+use Rattle.kms_model.specs.Things.Kept.{Seen, seen, seen_with_id}
+use Rattle.kms_model.specs.Things.Tables.{value_with_id}
 use Rattle.kms_model.specs.Script.Words.{◌>>=◌}
 use Rattle.kms_model.specs.Device.World.{thing_with_id}
 use Rattle.kms_buffers.specs.Things as store

@@ -8,7 +8,7 @@ use Rattle.std.proofs.lemmas.List.{length-map, append-nil}
 use Rattle.std.proofs.lemmas.List.Elements.{filter_map-append}
 use Rattle.kms_model.specs.declared.objects.Format.{Format}
 use Rattle.kms_model.specs.declared.scripts.Pattern.{Pattern}
-use Rattle.kms_model.specs.declared.stores.Buffer.{Buffer}
+use Rattle.kms_model.specs.declared.things.Buffer.{Buffer}
 use Rattle.kms_model.specs.declared.tables.Slot.{Slot}
 use Rattle.kms_model.specs.declared.worlds.Content.{Content}
 use Rattle.kms_model.specs.declared.worlds.Content.TheVariants as content
@@ -17,8 +17,8 @@ use Rattle.kms_model.specs.Device.Closing.{closed_if, closed_in}
 use Rattle.kms_model.specs.Device.Execution.{all_bytes, buffer_bytes}
 use Rattle.kms_model.specs.Firsts.{or_else, number_if}
 use Rattle.kms_model.specs.Device.Sound.{AreNumbered}
-use Rattle.kms_model.specs.Stores.Kept.{area_bytes, buffer, bytes_of, bytes_with, largest_bytes}
-use Rattle.kms_model.specs.Stores.Tables.{AreBelow, slot}
+use Rattle.kms_model.specs.Things.Kept.{area_bytes, buffer, bytes_of, bytes_with, largest_bytes}
+use Rattle.kms_model.specs.Things.Tables.{AreBelow, slot}
 use Rattle.kms_buffers.specs.declared.buffers.MakeError.{MakeError}
 use Rattle.kms_buffers.specs.declared.buffers.MakeError.TheVariants as error
 use Rattle.kms_buffers.specs.Things.{buffer_in, buffers_of}

@@ -5,7 +5,7 @@ use Rattle.std.specs.Option.{option_and_then, option_map}
 use Rattle.std.proofs.lemmas.Bool.Decides.{eqb_tells}
 use Rattle.std.proofs.lemmas.List.Elements.{filter_map-append}
 use Rattle.kms_model.specs.declared.replies.Denied.{Denied}
-use Rattle.kms_model.specs.declared.stores.Framebuffer.{Framebuffer}
+use Rattle.kms_model.specs.declared.things.Framebuffer.{Framebuffer}
 use Rattle.kms_model.specs.declared.tables.Slot.{Slot}
 use Rattle.kms_model.specs.declared.worlds.Content.{Content}
 use Rattle.kms_model.specs.declared.worlds.Content.TheVariants as content
@@ -15,9 +15,9 @@ use Rattle.kms_model.specs.Device.Execution.{destroy_refusal, is_blob}
 use Rattle.kms_model.specs.Device.Sound.{AreNumbered}
 use Rattle.kms_model.specs.Device.World.{thing_with_id}
 use Rattle.kms_model.specs.Frames.Shown.{FramesIn}
-use Rattle.kms_model.specs.Stores.Kept.{after_close, after_give, after_take, closed, fbs_closed, fbs_given, fbs_taken, may_close, with_fewer}
-use Rattle.kms_model.specs.Stores.OpenThings.{denial, open_value, things_after, value_if_open}
-use Rattle.kms_model.specs.Stores.Tables.{AreBelow, put_in, value_with_id, with_value, without_id}
+use Rattle.kms_model.specs.Things.Kept.{after_close, after_give, after_take, closed, fbs_closed, fbs_given, fbs_taken, may_close, with_fewer}
+use Rattle.kms_model.specs.Things.OpenThings.{denial, open_value, things_after, value_if_open}
+use Rattle.kms_model.specs.Things.Tables.{AreBelow, put_in, value_with_id, with_value, without_id}
 use Rattle.kms_model.proofs.OpenLemmas.{closed_values, found_open}
 use Rattle.kms_model.proofs.Facts.{cond_holds}
 use Rattle.kms_buffers.specs.Things.{fb_of_content, open_fbs, open_fbs_of}

@@ -4,14 +4,14 @@ use Rattle.std.specs.Option.{option_map}
 use Rattle.std.specs.HashMap.{HashMap, get}
 use Rattle.std.specs.declared.hash.BuildHasherDefault.{BuildHasherDefault}
 use Rattle.std.specs.declared.hash.FoldHasher.{FoldHasher}
-use Rattle.kms_model.specs.declared.stores.Buffer.{Buffer}
-use Rattle.kms_model.specs.declared.stores.Framebuffer.{Framebuffer}
+use Rattle.kms_model.specs.declared.things.Buffer.{Buffer}
+use Rattle.kms_model.specs.declared.things.Framebuffer.{Framebuffer}
 use Rattle.kms_model.specs.declared.tables.Slot.{Slot}
 use Rattle.kms_model.specs.declared.worlds.Content.{Content}
 use Rattle.kms_model.specs.declared.worlds.Thing.{Thing}
 use Rattle.kms_model.specs.Device.Execution.{is_blob}
 use Rattle.kms_model.specs.Device.World.{thing_labelled, thing_with_id}
-use Rattle.kms_model.specs.Stores.Tables.{AreBelow}
+use Rattle.kms_model.specs.Things.Tables.{AreBelow}
 use Rattle.kms_model.specs.Device.Sound.{AreNumbered}
 use Rattle.kms_model.specs.Frames.Shown.{AreFramed}
 use Rattle.kms_model.specs.declared.replies.TheConstants.Denied.{INVALID_SIZE, NO_BUFFER_SPACE}

@@ -1,6 +1,6 @@
 -- What was made, as contracts see it.
 use Rattle.std.specs.Prelude.{ℕ, ◌<◌, Bool, nat_lt, List}
-use Rattle.kms_model.specs.declared.stores.Framebuffer.{Framebuffer}
+use Rattle.kms_model.specs.declared.things.Framebuffer.{Framebuffer}
 use Rattle.kms_model.specs.declared.tables.Slot.{Slot}
 use Rattle.kms_model.specs.declared.worlds.Thing.{Thing}
 use Rattle.kms_model.specs.declared.worlds.World.{World}

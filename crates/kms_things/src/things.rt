@@ -11,8 +11,8 @@ ghost use Rattle.kms_model.specs.Device.States.{framebuffer_of};
 ghost use Rattle.kms_model.specs.Device.World.{thing_labelled, thing_with_id};
 ghost use Rattle.kms_model.specs.Frames.Images.{image_of};
 ghost use Rattle.kms_model.specs.Frames.Shown.{IsFramed};
-ghost use Rattle.kms_model.specs.Stores.Kept.{Fills, MayGive, MayTake, fbs_closed, fbs_given, fbs_taken, framebuffer, is_last_of};
-ghost use Rattle.kms_model.specs.Stores.Tables.{slot, value_with_id};
+ghost use Rattle.kms_model.specs.Things.Kept.{Fills, MayGive, MayTake, fbs_closed, fbs_given, fbs_taken, framebuffer, is_last_of};
+ghost use Rattle.kms_model.specs.Things.Tables.{slot, value_with_id};
 ghost use Rattle.kms_things.specs.Index.{IsBlobAt, IsPlain, number_told};
 ghost use Rattle.kms_things.specs.Made.{HasIds, has_ids, with_made};
 

@@ -8,7 +8,7 @@ use Rattle.kms_model.specs.declared.states.Checked.{Checked}
 use Rattle.kms_model.specs.Machine.Commits.{has_latched, waited_fences}
 use Rattle.kms_model.specs.Machine.State.{Commit, Marks, no_marks}
 use Rattle.kms_model.specs.Request.Touched.{touches}
-use Rattle.kms_model.specs.Stores.Tables.{without_id}
+use Rattle.kms_model.specs.Things.Tables.{without_id}
 use Rattle.kms_model.proofs.CommitFacts.{commit_old, commit_new, waited_old, touches_old, touches_new, concerns_old, concerns_new}
 use Rattle.kms_track.specs.InStep.{told_of, IsUntouched, IsTrackerOf, IsCheckedFor, is_of_device}
 use Rattle.kms_track.specs.Laws.{no_tracking}

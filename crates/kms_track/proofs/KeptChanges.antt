@@ -8,7 +8,7 @@ use Rattle.kms_model.specs.declared.states.Checked.{Checked}
 use Rattle.kms_model.specs.declared.tables.Slot.{Slot}
 use Rattle.kms_model.specs.Machine.Commits.{last_below}
 use Rattle.kms_model.specs.Firsts.{or_else}
-use Rattle.kms_model.specs.Stores.Tables.{AreBelow, value_with_id, without_id}
+use Rattle.kms_model.specs.Things.Tables.{AreBelow, value_with_id, without_id}
 use Rattle.kms_signal.proofs.SlotLemmas.{value_other, value_same, value_pushed, value_removed, value_left, value_above, below-with_value, below-without_id, below-push}
 use Rattle.std.proofs.lemmas.List.{get_or-replicate}
 use Rattle.kms_model.proofs.Facts.{other_number}

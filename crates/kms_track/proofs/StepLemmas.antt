@@ -17,7 +17,7 @@ use Rattle.kms_model.specs.Machine.Histories.{legal}
 use Rattle.kms_model.specs.Machine.Registers.{decoded_picture, latched_registers}
 use Rattle.kms_model.specs.Machine.State.{Machine, go_at, request_at}
 use Rattle.kms_model.specs.Machine.Steps.{may, may_claim}
-use Rattle.kms_model.specs.Stores.Tables.{without_id}
+use Rattle.kms_model.specs.Things.Tables.{without_id}
 use Rattle.kms_model.proofs.Items.{IsIn, list_all-at, list_all-from}
 use Rattle.kms_model.proofs.KindsOfIds.{index_of-object}
 use Rattle.kms_model.proofs.Facts.{implied_from, implied}

@@ -2,7 +2,7 @@
 use Rattle.std.specs.Prelude.{◌≡◌, ℕ, ◌<◌, [], List, replicate}
 use Rattle.kms_model.specs.declared.states.Checked.{Checked}
 use Rattle.kms_model.specs.declared.states.Mask.{Mask}
-use Rattle.kms_model.specs.Stores.Tables.{without_id}
+use Rattle.kms_model.specs.Things.Tables.{without_id}
 use Rattle.kms_signal.specs.FenceSets.{FenceSet, is_signalled}
 use Rattle.kms_track.specs.Places.{crtc_id}
 use Rattle.kms_track.specs.Told.{Told, Keeps, TellsOfSetup, IsCommitOver, told_claim, told_hw_done, told_latch, told_cleanup, may_claim, first_busy, first_awaited}

@@ -10,7 +10,7 @@ use Rattle.kms_model.specs.Machine.Commits.{is_cleaned, waited_fences}
 use Rattle.kms_model.specs.Machine.State.{Commit, Marks, Machine, no_marks}
 use Rattle.kms_model.specs.Machine.Steps as steps
 use Rattle.kms_model.specs.Request.Touched.{touches, named_by}
-use Rattle.kms_model.specs.Stores.Tables.{without_id}
+use Rattle.kms_model.specs.Things.Tables.{without_id}
 use Rattle.kms_signal.specs.FenceSets.{FenceSet, is_made}
 use Rattle.kms_signal.specs.InStep.{AreFencesOf}
 use Rattle.kms_track.specs.InStep.{told_of, IsTrackerOf, IsInStep, IsCheckedFor, IsWithinPlaces, is_of_device, awaited_answer, busy_answer}

@@ -21,7 +21,7 @@ use Rattle.kms_model.specs.Request.Lookups.{look_up}
 use Rattle.kms_model.specs.Request.Sets.{in_fences}
 use Rattle.kms_model.specs.Request.Touched.{touched_by, touches}
 use Rattle.kms_model.specs.Request.Verdict.{verdict}
-use Rattle.kms_model.specs.Stores.Tables.{without_id}
+use Rattle.kms_model.specs.Things.Tables.{without_id}
 use Rattle.kms_model.proofs.Items.{IsIn}
 use Rattle.kms_signal.specs.StepLaws.{leaves_commits, new_commit}
 use Rattle.kms_track.specs.InStep.{IsInStep, IsCheckedFor, IsWithinPlaces, is_of_device}

@@ -7,7 +7,7 @@ use Rattle.kms_model.specs.declared.states.Checked.{Checked}
 use Rattle.kms_model.specs.declared.states.Mask.{Mask}
 use Rattle.kms_model.specs.Device.Masks.{has_bit}
 use Rattle.kms_model.specs.Machine.Commits.{last_below, if_there}
-use Rattle.kms_model.specs.Stores.Tables.{AreBelow}
+use Rattle.kms_model.specs.Things.Tables.{AreBelow}
 use Rattle.kms_track.specs.declared.commits.Pending.{Pending}
 use Rattle.kms_track.specs.declared.commits.Touched.{Touched}
 use Rattle.kms_track.specs.Places.{object_at_place, crtc_id, mask_has, sides_at, is_side, all_below, first_below}

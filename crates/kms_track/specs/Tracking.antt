@@ -7,7 +7,7 @@ use Rattle.kms_model.specs.declared.states.Mask.{Mask}
 use Rattle.kms_model.specs.declared.tables.Slot.{Slot}
 use Rattle.kms_model.specs.Device.Masks.{has_bit}
 use Rattle.kms_model.specs.Request.Sets.{obj_id}
-use Rattle.kms_model.specs.Stores.Tables.{value_with_id, with_value}
+use Rattle.kms_model.specs.Things.Tables.{value_with_id, with_value}
 use Rattle.kms_model.specs.Machine.Commits.{if_there}
 use Rattle.kms_signal.specs.FenceSets.{FenceSet, is_signalled}
 use Rattle.kms_signal.specs.Rooms.{Rooms}

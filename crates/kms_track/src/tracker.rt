@@ -1,6 +1,6 @@
 //! The tracker of commits.
 ghost use Rattle.std.specs.Prelude.{◌≡◌, ℕ, ◌<◌, ◌≤◌, ◌+◌, [], map, replicate, OnOk, OnErr, IfOk, IsOk, length, option_copied};
-ghost use Rattle.kms_model.specs.Stores.Tables.{without_id};
+ghost use Rattle.kms_model.specs.Things.Tables.{without_id};
 
 use crate::commits::{Last, Pending, Touched, all_fences, raise, touched_objects};
 use crate::places::{has_object, object_at_place};
@@ -19,7 +19,7 @@ pub struct Tracker {
 }
 
 impl Model for Tracker {
-    ghost use Rattle.kms_model.specs.Stores.Tables.{AreBelow};
+    ghost use Rattle.kms_model.specs.Things.Tables.{AreBelow};
     ghost use Rattle.kms_track.specs.Tracking.{Tracking};
 
     ghost Value = { Tracking };

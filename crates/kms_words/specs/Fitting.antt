@@ -9,7 +9,7 @@ use Rattle.kms_model.specs.declared.scripts.Pattern.{Pattern}
 use Rattle.kms_model.specs.declared.scripts.Pattern.TheVariants.{Pixels}
 use Rattle.kms_model.specs.declared.scripts.Script.{Script}
 use Rattle.kms_model.specs.Device.Sound.{IsDevice}
-use Rattle.kms_model.specs.Stores.Kept.{Fills}
+use Rattle.kms_model.specs.Things.Kept.{Fills}
 use Rattle.kms_model.specs.Script.WellFormed.{IsFitClient, IsFitCommand}
 use Rattle.kms_model.specs.Script.WholeInput.{Draft, clients_in}
 use Rattle.kms_model.specs.Script.Words.{between}

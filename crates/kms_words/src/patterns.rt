@@ -1,6 +1,6 @@
 //! What a buffer is filled with.
 ghost use Rattle.std.specs.Prelude.{◌≡◌, ◌≤◌, ◌*◌, ℕ, IfOk, IfSome, length, option_map};
-ghost use Rattle.kms_model.specs.Stores.Kept.{Fills};
+ghost use Rattle.kms_model.specs.Things.Kept.{Fills};
 ghost use Rattle.kms_words.specs.Fitting.{IsOfPixels};
 ghost use Rattle.kms_model.specs.Script.CommandLines.{pixels_at, solid_at, checker_at, ramp_at, each_pixel_at, pattern_at};
 

@@ -38,7 +38,7 @@ use Rattle.kms_model.specs.Request.Touched.{out_fence_label}
 use Rattle.kms_model.proofs.Items.{IsIn}
 use Rattle.kms_model.proofs.TouchedLemmas.{IsRequestAt, few_objects}
 use Rattle.kms_model.proofs.CommitFacts.{commit_old, commit_new}
-use Rattle.kms_model.specs.Stores.Tables.{AreBelow}
+use Rattle.kms_model.specs.Things.Tables.{AreBelow}
 use Rattle.kms_clients.specs.InStep.{AreClientsOf, after_decision, after_swap}
 use Rattle.kms_clients.specs.Standing.{Standing, place_of}
 use Rattle.kms_laws.proofs.EachStep.{IsSwap, swap-found}

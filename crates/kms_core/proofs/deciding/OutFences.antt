@@ -10,7 +10,7 @@ use Rattle.kms_model.specs.Device.World.{thing_labelled}
 use Rattle.kms_model.specs.Device.Execution.{make_out_fence, make_out_fences}
 use Rattle.kms_model.specs.Request.Touched.{out_fence_label}
 use Rattle.kms_model.specs.declared.tables.Slot.{Slot}
-use Rattle.kms_model.specs.Stores.Tables.{slot}
+use Rattle.kms_model.specs.Things.Tables.{slot}
 use Rattle.kms_signal.proofs.InStepLemmas.{fence_made}
 use Rattle.kms_signal.specs.FenceSets.{FenceSet, is_made}
 use Rattle.kms_signal.specs.InStep.{AreFencesOf}

@@ -6,7 +6,7 @@ use Rattle.std.specs.Option.{option_map}
 use Rattle.std.proofs.lemmas.Bool.{cases_eq, cond-false, cond-true, eq-eqb, false≢true, ne_eqb}
 use Rattle.kms_model.specs.declared.objects.Topology.{Topology}
 use Rattle.kms_model.specs.declared.pictures.FbInfo.{FbInfo}
-use Rattle.kms_model.specs.declared.stores.Framebuffer.{Framebuffer}
+use Rattle.kms_model.specs.declared.things.Framebuffer.{Framebuffer}
 use Rattle.kms_model.specs.declared.tables.Slot.{Slot}
 use Rattle.kms_model.specs.declared.worlds.Content.{Content}
 use Rattle.kms_model.specs.declared.worlds.Content.TheVariants as content
@@ -20,8 +20,8 @@ use Rattle.kms_model.specs.Device.World.{thing_labelled, thing_with_id}
 use Rattle.kms_model.specs.Firsts.{denied_if}
 use Rattle.kms_model.specs.Machine.Framebuffers.{if_needed, is_needed, stored_framebuffer}
 use Rattle.kms_model.specs.Machine.State.{Machine}
-use Rattle.kms_model.specs.Stores.Kept.{after_close, closed, fbs_closed, with_fewer}
-use Rattle.kms_model.specs.Stores.Tables.{put_in, slot, value_with_id, with_value, without_id}
+use Rattle.kms_model.specs.Things.Kept.{after_close, closed, fbs_closed, with_fewer}
+use Rattle.kms_model.specs.Things.Tables.{put_in, slot, value_with_id, with_value, without_id}
 use Rattle.kms_model.proofs.Items.{IsIn}
 use Rattle.kms_model.proofs.ThingLemmas.{find-in, ids-numbered}
 use Rattle.kms_model.proofs.ShownLemmas.{with-id}

@@ -14,7 +14,7 @@ use Rattle.kms_model.specs.Machine.Histories.{legal}
 use Rattle.kms_model.specs.Machine.Registers.{is_on_in}
 use Rattle.kms_model.specs.Machine.State.{Machine, go_at, has_value}
 use Rattle.kms_model.specs.Machine.Steps.{is_crtc_of, may, may_claim}
-use Rattle.kms_model.specs.Stores.Tables.{value_with_id}
+use Rattle.kms_model.specs.Things.Tables.{value_with_id}
 use Rattle.kms_laws.proofs.Drained.{no_cleanup, no_done, no_flush, no_write}
 use Rattle.kms_signal.proofs.SlotLemmas.{value_above}
 use Rattle.kms_tails.specs.declared.tail.Tail.{Tail}

@@ -17,7 +17,7 @@ use Rattle.kms_model.specs.Device.World.{thing_labelled}
 use Rattle.kms_model.specs.Firsts.{or_else}
 use Rattle.kms_model.specs.Machine.Commits.{has_number}
 use Rattle.kms_model.specs.Machine.Steps.{is_atomic}
-use Rattle.kms_model.specs.Stores.Tables.{AreBelow, slot, value_with_id}
+use Rattle.kms_model.specs.Things.Tables.{AreBelow, slot, value_with_id}
 use Rattle.kms_model.proofs.FramedLemmas.{closed_same}
 use Rattle.kms_signal.proofs.FenceLemmas.{still_made}
 use Rattle.kms_signal.proofs.InStepLemmas.{fence_made}

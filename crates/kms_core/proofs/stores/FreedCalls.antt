@@ -50,7 +50,7 @@ use Rattle.kms_core.proofs.freeing.FreedSteps.{IsTold, SameNeeds, cleaned_as, cl
 use Rattle.kms_core.proofs.freeing.StoredSteps.{WereStored, closed_held, closed_were, needed_held, quiet_stored, same_stored, told_stored}
 use Rattle.kms_things.specs.Counting.{fbs_after}
 use Rattle.kms_things.specs.Made.{Made}
-use Rattle.kms_model.specs.Stores.Kept.{fbs_taken}
+use Rattle.kms_model.specs.Things.Kept.{fbs_taken}
 use Rattle.kms_core.proofs.stores.Histories.{goes_freeing, with_fbs, with_freed}
 use Rattle.kms_core.proofs.stores.StoredCalls.{IsLeft, LeavesFbs, added_takes, closed_is, execute_leaves, taken_stored}
 

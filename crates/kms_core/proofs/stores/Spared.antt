@@ -10,7 +10,7 @@ use Rattle.kms_model.specs.declared.tables.Slot.{Slot}
 use Rattle.kms_model.specs.Machine.Commits.{commit_at}
 use Rattle.kms_model.specs.Machine.Histories.{at, legal}
 use Rattle.kms_model.specs.Machine.State.{Machine}
-use Rattle.kms_model.specs.Stores.Tables.{value_with_id}
+use Rattle.kms_model.specs.Things.Tables.{value_with_id}
 use Rattle.kms_model.proofs.TouchedLemmas.{few_objects}
 use Rattle.kms_laws.specs.TailsLeft.{LeavesLessInAll, all_left, commit_of_step, is_swap, sum, tail_left}
 use Rattle.kms_laws.proofs.LeftInAll.{all_shorter, cleaned_over, commits_counted}

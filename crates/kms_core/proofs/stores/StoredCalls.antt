@@ -6,7 +6,7 @@ use Rattle.kms_model.specs.declared.replies.Reply.{Reply}
 use Rattle.kms_model.specs.declared.replies.Reply.TheVariants as reply
 use Rattle.kms_model.specs.declared.scripts.Command.{Command}
 use Rattle.kms_model.specs.declared.scripts.Command.TheVariants as command
-use Rattle.kms_model.specs.declared.stores.Framebuffer.{Framebuffer}
+use Rattle.kms_model.specs.declared.things.Framebuffer.{Framebuffer}
 use Rattle.kms_model.specs.declared.states.Duplicates.{Duplicates}
 use Rattle.kms_model.specs.declared.tables.Slot.{Slot}
 use Rattle.kms_model.specs.declared.worlds.Content.{Content}
@@ -17,8 +17,8 @@ use Rattle.kms_model.specs.Device.Execution.{BufferInfo, add_fb, buffer_of, clos
 use Rattle.kms_model.specs.Device.Sound.{AreNumbered}
 use Rattle.kms_model.specs.Device.World.{thing_labelled, thing_with_id}
 use Rattle.kms_model.specs.Machine.State.{Machine}
-use Rattle.kms_model.specs.Stores.Kept.{MayGive, MayTake, after_give, after_take, fbs_closed, fbs_given, fbs_taken, framebuffer, open_references, taken}
-use Rattle.kms_model.specs.Stores.Tables.{slot, value_with_id, with_value, without_id}
+use Rattle.kms_model.specs.Things.Kept.{MayGive, MayTake, after_give, after_take, fbs_closed, fbs_given, fbs_taken, framebuffer, open_references, taken}
+use Rattle.kms_model.specs.Things.Tables.{slot, value_with_id, with_value, without_id}
 use Rattle.kms_core.specs.Freeing.{AreRising, entry_of, freed_among, freed_entry}
 use Rattle.kms_core.specs.Stored.{AreHeld, AreStored, held_as, held_where, without_freed}
 use Rattle.kms_core.proofs.freeing.FreedLists.{rising_weaker}

@@ -21,7 +21,7 @@ use Rattle.kms_laws.proofs.Latching.{crtc_same}
 use Rattle.kms_laws.proofs.Modes.{plain-from}
 use Rattle.kms_laws.proofs.Present.{reverse_more}
 use Rattle.kms_laws.proofs.Objects.{concerns_self, crtc_lockable, names-touches}
-use Rattle.kms_model.specs.Stores.Tables.{value_with_id}
+use Rattle.kms_model.specs.Things.Tables.{value_with_id}
 use Rattle.kms_signal.proofs.FenceLemmas.{still_made}
 use Rattle.kms_regs.specs.File.{RegisterFile, StandsForDevice}
 use Rattle.kms_regs.proofs.MachineEffects.{on_in_words}

@@ -11,7 +11,7 @@ use Rattle.kms_model.specs.Machine.Framebuffers.{commit_keeps}
 use Rattle.kms_model.specs.Machine.Histories.{legal}
 use Rattle.kms_model.specs.Machine.State.{Machine, Marks}
 use Rattle.kms_model.specs.Machine.Steps.{may}
-use Rattle.kms_model.specs.Stores.Tables.{value_with_id, without_id}
+use Rattle.kms_model.specs.Things.Tables.{value_with_id, without_id}
 use Rattle.kms_laws.proofs.Modes.{plain-from}
 use Rattle.kms_laws.proofs.NeverStuck.{history_facts}
 use Rattle.kms_signal.specs.Rooms.{Rooms}

@@ -1,7 +1,7 @@
 //! Commands that are executed at once: those that make and close things, and those that signal a fence.
 ghost use Rattle.std.specs.Prelude.{◌≡◌, ◌<◌, IfOk, [], ◌∷◌};
 ghost use Rattle.kms_model.specs.declared.replies.Step.TheVariants as step;
-ghost use Rattle.kms_model.specs.Stores.Tables.{AreBelow};
+ghost use Rattle.kms_model.specs.Things.Tables.{AreBelow};
 ghost use Rattle.kms_core.specs.Calls.{MayMake, MaySignal, fence_of, reply_at, with_fence_of};
 ghost use Rattle.kms_core.specs.Run.{gains, if_ok};
 

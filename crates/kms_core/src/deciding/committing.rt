@@ -10,7 +10,7 @@ ghost use Rattle.kms_model.specs.Device.Serial.{command_of};
 ghost use Rattle.kms_model.specs.Machine.State.{Machine, request_in};
 ghost use Rattle.kms_model.specs.Request.Flags.{is_nonblock};
 ghost use Rattle.kms_model.specs.Request.Touched.{out_fence_label};
-ghost use Rattle.kms_model.specs.Stores.Tables.{AreBelow};
+ghost use Rattle.kms_model.specs.Things.Tables.{AreBelow};
 ghost use Rattle.kms_clients.specs.InStep.{AreClientsOf, IsTaking, after_decision, after_swap};
 ghost use Rattle.kms_clients.specs.Standing.{IsClient, place_of};
 ghost use Rattle.kms_signal.specs.Queues.{HasSpace};

@@ -22,7 +22,7 @@ use Rattle.kms_model.specs.Device.World.{thing_labelled}
 use Rattle.kms_model.specs.Request.Apply.{after}
 use Rattle.kms_model.specs.Device.Closing.{closed_in}
 use Rattle.kms_model.specs.Script.Words.{◌>>=◌}
-use Rattle.kms_model.specs.Stores.Kept.{is_bad_size, area_bytes, largest_bytes}
+use Rattle.kms_model.specs.Things.Kept.{is_bad_size, area_bytes, largest_bytes}
 use Rattle.kms_model.specs.Request.Touched.{out_fence_label}
 use Rattle.kms_model.specs.Request.Verdict.{verdict}
 

@@ -4,8 +4,8 @@ use Rattle.std.specs.Prelude.{ℕ, ◌+◌, not, ◌&&◌, ◌==◌, ◌<◌, na
 use Rattle.std.specs.List.{AllByRecursion}
 use Rattle.std.specs.Int.{w16, w32, to_le_bytes, from_le_bytes}
 use Rattle.kms_model.specs.declared.objects.Mode.{Mode}
-use Rattle.kms_model.specs.declared.stores.BadMode.{BadMode}
-use Rattle.kms_model.specs.declared.stores.BadMode.TheVariants.{Length, Horizontal, Vertical, Clock, Size}
+use Rattle.kms_model.specs.declared.things.BadMode.{BadMode}
+use Rattle.kms_model.specs.declared.things.BadMode.TheVariants.{Length, Horizontal, Vertical, Clock, Size}
 use Rattle.kms_model.specs.Device.Modes.{is_axis}
 
 -- numbers below 256

@@ -12,7 +12,7 @@ use Rattle.kms_model.specs.Frames.Pictures.{clip, mode_area}
 use Rattle.kms_model.specs.Device.Sound.{IsBetween}
 use Rattle.kms_model.specs.Frames.Rectangles.{fits_source, is_scaled_little}
 use Rattle.kms_model.specs.Frames.FrameBytes.{buffer_id_in}
-use Rattle.kms_model.specs.Stores.Kept.{Seen, buffer_words}
+use Rattle.kms_model.specs.Things.Kept.{Seen, buffer_words}
 
 -- the word at (x, y) of what is read of a buffer, row by row
 abbrev pub seen_word : Seen → ℕ → ℕ → ℕ

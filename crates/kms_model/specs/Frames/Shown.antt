@@ -12,7 +12,7 @@ use Rattle.kms_model.specs.declared.worlds.Thing.{Thing}
 use Rattle.kms_model.specs.Device.Execution.{BufferInfo, buffer_info}
 use Rattle.kms_model.specs.Device.World.{thing_with_id}
 use Rattle.kms_model.specs.Frames.Images.{FitsMode, image_of}
-use Rattle.kms_model.specs.Stores.Kept.{Seen}
+use Rattle.kms_model.specs.Things.Kept.{Seen}
 
 -- Framebuffers and their buffers
 

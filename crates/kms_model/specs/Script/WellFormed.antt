@@ -20,7 +20,7 @@ use Rattle.kms_model.specs.Device.Sound.{IsDevice}
 use Rattle.kms_model.specs.Script.Grammar.{digits_of, is_property_word, known_property}
 use Rattle.kms_model.specs.Script.Spelling.{Spells, name_word}
 use Rattle.kms_model.specs.Script.Words.{between, is_label, is_name_byte, until}
-use Rattle.kms_model.specs.Stores.Kept.{Fills}
+use Rattle.kms_model.specs.Things.Kept.{Fills}
 
 -- a pattern fills its buffer, and a request has at most 256 assignments
 abbrev pub IsFitCommand : Command → Type 0

@@ -1,5 +1,5 @@
 use Rattle.std.proofs.Common.{◌≡◌, ◌++◌, ℕ, List, ap, sym, ◌∙◌, arith, rules}
-use Rattle.kms_model.specs.Stores.Kept.{row_words}
+use Rattle.kms_model.specs.Things.Kept.{row_words}
 use Rattle.kms_model.proofs.Spans.{flat_map-range_more}
 use Rattle.kms_buffers.proofs.patterns.words.Goals as goal
 

@@ -1,7 +1,7 @@
 use Rattle.std.proofs.Common.{◌≡◌, ◌+◌, ◌≤◌, List, length, drop, vec_len, vec_capacity}
 use Rattle.std.specs.HashMap.{spare}
-use Rattle.kms_model.specs.declared.stores.Buffer.{Buffer}
-use Rattle.kms_model.specs.declared.stores.Framebuffer.{Framebuffer}
+use Rattle.kms_model.specs.declared.things.Buffer.{Buffer}
+use Rattle.kms_model.specs.declared.things.Framebuffer.{Framebuffer}
 use Rattle.kms_model.specs.declared.tables.Slot.{Slot}
 use Rattle.kms_model.specs.declared.worlds.World.{World}
 use Rattle.kms_things.specs.Index.{AreKept, AreReferred, IsIndex}

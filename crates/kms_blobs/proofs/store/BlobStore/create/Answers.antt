@@ -1,7 +1,7 @@
 use Rattle.std.proofs.Common.{rules, ◌≡◌, [], ◌∷◌, ◌++◌, OnOk, sym, ◌∙◌}
 use Rattle.std.proofs.lemmas.Result.{on_ok_weaker}
-use Rattle.kms_model.specs.Stores.Tables.{slot}
-use Rattle.kms_model.specs.Stores.Kept.{blob}
+use Rattle.kms_model.specs.Things.Tables.{slot}
+use Rattle.kms_model.specs.Things.Kept.{blob}
 use Rattle.kms_blobs.proofs.Things.{made_blob, made_mode}
 use Rattle.kms_blobs.proofs.store.BlobStore.create.Goals as goal
 

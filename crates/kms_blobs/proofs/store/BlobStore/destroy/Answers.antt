@@ -1,8 +1,8 @@
 use Rattle.std.proofs.Common.{rules, ◌≡◌, Err, Ok, ap, sym, ◌∙◌}
 use Rattle.kms_model.specs.declared.replies.TheConstants.Denied.{NOT_FOUND, NOT_OWNER}
-use Rattle.kms_model.specs.Stores.Kept.{destroy_answer}
-use Rattle.kms_model.specs.Stores.OpenThings.{denial}
-use Rattle.kms_model.specs.Stores.Tables.{value_with_id, without_id}
+use Rattle.kms_model.specs.Things.Kept.{destroy_answer}
+use Rattle.kms_model.specs.Things.OpenThings.{denial}
+use Rattle.kms_model.specs.Things.Tables.{value_with_id, without_id}
 use Rattle.kms_blobs.proofs.Denials.{destroys_alike}
 use Rattle.kms_model.proofs.OpenLemmas.{closed_values}
 use Rattle.kms_blobs.specs.Things.{blob_in}

@@ -1,6 +1,6 @@
 use Rattle.std.proofs.Common.{refl, rules, ◌≡◌, [], ◌∷◌, ◌++◌, sym, ◌∙◌}
-use Rattle.kms_model.specs.Stores.Tables.{slot}
-use Rattle.kms_model.specs.Stores.Kept.{buffer}
+use Rattle.kms_model.specs.Things.Tables.{slot}
+use Rattle.kms_model.specs.Things.Kept.{buffer}
 use Rattle.kms_buffers.proofs.Things.{made_buffer}
 use Rattle.kms_buffers.proofs.Bytes.{counted-push}
 use Rattle.kms_buffers.proofs.buffers.Buffers.create.Goals as goal

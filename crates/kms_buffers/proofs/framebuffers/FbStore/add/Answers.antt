@@ -1,9 +1,9 @@
 use Rattle.std.proofs.Common.{rules, ◌≡◌, [], ◌∷◌, ◌++◌, ap, sym, subst, ◌∙◌, arith}
 use Rattle.kms_buffers.proofs.Counted.{kept-push}
-use Rattle.kms_model.specs.declared.stores.Framebuffer.{Framebuffer}
+use Rattle.kms_model.specs.declared.things.Framebuffer.{Framebuffer}
 use Rattle.kms_model.specs.declared.tables.Slot.{Slot}
-use Rattle.kms_model.specs.Stores.Tables.{slot, AreBelow}
-use Rattle.kms_model.specs.Stores.Kept.{framebuffer}
+use Rattle.kms_model.specs.Things.Tables.{slot, AreBelow}
+use Rattle.kms_model.specs.Things.Kept.{framebuffer}
 use Rattle.kms_buffers.specs.Things.{open_fbs}
 use Rattle.kms_buffers.proofs.Things.{made_fb, added_fb}
 use Rattle.kms_buffers.proofs.framebuffers.FbStore.add.Goals as goal

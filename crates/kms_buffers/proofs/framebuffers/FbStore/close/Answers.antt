@@ -1,12 +1,12 @@
 use Rattle.std.proofs.Common.{rules, ◌≡◌, Err, Ok, refl, ap, sym, subst, ◌∙◌}
 use Rattle.kms_model.specs.declared.replies.Denied.{Denied}
-use Rattle.kms_model.specs.declared.stores.Framebuffer.{Framebuffer}
+use Rattle.kms_model.specs.declared.things.Framebuffer.{Framebuffer}
 use Rattle.kms_model.specs.declared.tables.Slot.{Slot}
 use Rattle.std.specs.Prelude.{List, Bool, Result, ◌==◌}
 use Rattle.kms_model.specs.declared.replies.TheConstants.Denied.{NOT_FOUND}
-use Rattle.kms_model.specs.Stores.Kept.{close_answer}
-use Rattle.kms_model.specs.Stores.OpenThings.{denial}
-use Rattle.kms_model.specs.Stores.Tables.{IsRising, value_with_id, without_id}
+use Rattle.kms_model.specs.Things.Kept.{close_answer}
+use Rattle.kms_model.specs.Things.OpenThings.{denial}
+use Rattle.kms_model.specs.Things.Tables.{IsRising, value_with_id, without_id}
 use Rattle.kms_model.proofs.OpenLemmas.{closed_values}
 use Rattle.kms_buffers.specs.Things.{fb_of_content, open_fbs}
 use Rattle.kms_buffers.proofs.Things.{fewer_closed}

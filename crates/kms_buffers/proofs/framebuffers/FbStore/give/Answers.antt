@@ -1,6 +1,6 @@
 use Rattle.std.proofs.Common.{rules, ◌≡◌, Some, refl, ap, sym, subst, ◌∙◌}
-use Rattle.kms_model.specs.Stores.Kept.{MayGive}
-use Rattle.kms_model.specs.Stores.Tables.{value_with_id}
+use Rattle.kms_model.specs.Things.Kept.{MayGive}
+use Rattle.kms_model.specs.Things.Tables.{value_with_id}
 use Rattle.kms_buffers.specs.Things.{open_fbs}
 use Rattle.kms_buffers.proofs.Things.{fewer_same, last_is_closed}
 use Rattle.kms_buffers.proofs.Counted.{AreCounted-with_fewer, kept-with_fewer}

@@ -1,5 +1,5 @@
 use Rattle.std.proofs.Common.{◌≡◌, ◌+◌, ◌++◌, ◌≤◌, drop, length}
-use Rattle.kms_model.specs.Stores.Tables.{AreBelow}
+use Rattle.kms_model.specs.Things.Tables.{AreBelow}
 use Rattle.kms_core.specs.SwappedIn.{fences_for}
 use Rattle.kms_core.proofs.deciding.committing.make_fences.Given as goal
 

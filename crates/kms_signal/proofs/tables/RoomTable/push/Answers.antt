@@ -1,4 +1,4 @@
-use Rattle.kms_model.specs.Stores.Tables.{slot, AreBelow}
+use Rattle.kms_model.specs.Things.Tables.{slot, AreBelow}
 use Rattle.kms_model.proofs.TableLemmas.{IsRising-push}
 use Rattle.kms_signal.proofs.tables.RoomTable.push.Goals as goal
 

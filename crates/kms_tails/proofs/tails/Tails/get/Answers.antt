@@ -1,6 +1,6 @@
 use Rattle.std.proofs.Common.{◌≡◌, Some, None, sym, subst}
 use Rattle.kms_model.specs.Machine.Commits.{commit_at}
-use Rattle.kms_model.specs.Stores.Tables.{value_with_id}
+use Rattle.kms_model.specs.Things.Tables.{value_with_id}
 use Rattle.kms_model.proofs.TableLemmas.{FoundAt, found, absent, value-absent, value-present}
 use Rattle.kms_tails.specs.InStep.{IsKept}
 use Rattle.kms_tails.proofs.tails.Tails.get.Goals as goal

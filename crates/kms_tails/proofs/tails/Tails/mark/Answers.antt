@@ -1,6 +1,6 @@
 use Rattle.std.proofs.Common.{◌+◌, ap, ◌∙◌}
 use Rattle.kms_model.proofs.TableLemmas.{FoundAt, found, absent}
-use Rattle.kms_model.specs.Stores.Tables.{value_with_id}
+use Rattle.kms_model.specs.Things.Tables.{value_with_id}
 use Rattle.kms_signal.proofs.Places.{in_room}
 use Rattle.kms_tails.specs.Remaining.{all_left}
 use Rattle.kms_tails.proofs.LeftLemmas.{marked_left, marked_off}

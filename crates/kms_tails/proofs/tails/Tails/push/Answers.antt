@@ -1,5 +1,5 @@
 use Rattle.std.proofs.Common.{◌≡◌, [], ◌∷◌, ◌++◌, refl}
-use Rattle.kms_model.specs.Stores.Tables.{AreBelow, slot}
+use Rattle.kms_model.specs.Things.Tables.{AreBelow, slot}
 use Rattle.kms_model.proofs.TableLemmas.{IsRising-push}
 use Rattle.kms_tails.specs.Remaining.{first_tail}
 use Rattle.kms_tails.proofs.InStepLemmas.{pushed_stands}

@@ -1,5 +1,5 @@
 use Rattle.std.proofs.Common.{◌≡◌, ◌+◌, ap, ◌∙◌}
-use Rattle.kms_model.specs.Stores.Tables.{without_id}
+use Rattle.kms_model.specs.Things.Tables.{without_id}
 use Rattle.kms_model.proofs.TableLemmas.{FoundAt, found, absent, without_id-absent, without_id-present, IsRising-without_id}
 use Rattle.kms_tails.specs.Remaining.{all_left, steps_left}
 use Rattle.kms_tails.proofs.InStepLemmas.{cleaned_stands}

@@ -1,12 +1,12 @@
 use Rattle.std.proofs.Common.{◌≡◌, ◌+◌, ◌++◌, ◌∷◌, [], List, true, refl, sym, ap, ◌∙◌, subst, arith}
-use Rattle.kms_model.specs.declared.stores.Framebuffer.{Framebuffer}
+use Rattle.kms_model.specs.declared.things.Framebuffer.{Framebuffer}
 use Rattle.kms_model.specs.declared.tables.Slot.{Slot}
 use Rattle.kms_model.specs.declared.worlds.Content.TheVariants as content
 use Rattle.kms_model.specs.declared.worlds.Thing.{Thing}
 use Rattle.kms_model.specs.declared.worlds.World.{World}
 use Rattle.kms_model.specs.Frames.Shown.{IsFramed}
-use Rattle.kms_model.specs.Stores.Kept.{framebuffer}
-use Rattle.kms_model.specs.Stores.Tables.{slot}
+use Rattle.kms_model.specs.Things.Kept.{framebuffer}
+use Rattle.kms_model.specs.Things.Tables.{slot}
 use Rattle.kms_things.specs.Index.{IsIndex}
 use Rattle.kms_things.specs.Made.{Made}
 use Rattle.kms_things.proofs.Kept.{kept_made}

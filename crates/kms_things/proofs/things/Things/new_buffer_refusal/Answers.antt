@@ -1,5 +1,5 @@
 use Rattle.std.proofs.Common.{◌≡◌, ◌∙◌, subst}
-use Rattle.kms_model.specs.Stores.Kept.{bytes_with, is_bad_size}
+use Rattle.kms_model.specs.Things.Kept.{bytes_with, is_bad_size}
 use Rattle.kms_things.specs.Index.{number_told}
 use Rattle.kms_things.proofs.Kept.{refused_by, refusal_told, total_bytes}
 use Rattle.kms_things.proofs.things.Things.new_buffer_refusal.Goals as goal

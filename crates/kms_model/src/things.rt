@@ -1,4 +1,4 @@
-//! What the stores of blobs, buffers and framebuffers keep, beside the ids.
+//! What is kept of blobs, buffers and framebuffers, beside the ids.
 use crate::list::Seq;
 use crate::objects::Format;
 use crate::pictures::FbInfo;

@@ -8,7 +8,7 @@ use Rattle.kms_model.specs.declared.tables.Slot.{Slot}
 use Rattle.kms_model.specs.declared.worlds.Content.{Content}
 use Rattle.kms_model.specs.declared.worlds.Thing.{Thing}
 use Rattle.kms_model.specs.Device.Closing.{closed_in}
-use Rattle.kms_model.specs.Stores.Tables.{slot}
+use Rattle.kms_model.specs.Things.Tables.{slot}
 
 module _ {V : Type 0} (value_of : ℕ → Content → Option V) where
   -- the value that a thing has where it is open

@@ -9,12 +9,12 @@ use Rattle.kms_model.specs.declared.replies.TheConstants.Denied.{NOT_FOUND, NOT_
 use Rattle.kms_model.specs.declared.scripts.Pattern.{Pattern}
 use Rattle.kms_model.specs.declared.scripts.Pattern.TheVariants.{Solid, Checker, Ramp, Pixels}
 use Rattle.kms_model.specs.declared.pictures.FbInfo.{FbInfo}
-use Rattle.kms_model.specs.declared.stores.Blob.{Blob}
-use Rattle.kms_model.specs.declared.stores.Buffer.{Buffer}
-use Rattle.kms_model.specs.declared.stores.Framebuffer.{Framebuffer}
+use Rattle.kms_model.specs.declared.things.Blob.{Blob}
+use Rattle.kms_model.specs.declared.things.Buffer.{Buffer}
+use Rattle.kms_model.specs.declared.things.Framebuffer.{Framebuffer}
 use Rattle.kms_model.specs.Frames.FrameBytes.{word_in}
 use Rattle.kms_model.specs.declared.tables.Slot.{Slot}
-use Rattle.kms_model.specs.Stores.Tables.{value_with_id, with_value, without_id}
+use Rattle.kms_model.specs.Things.Tables.{value_with_id, with_value, without_id}
 
 -- a client's blob with these bytes
 abbrev pub blob : ℕ → List ℕ → Blob
