@@ -1,4 +1,4 @@
-//! The bytes of modes and of tables of colour values, and the store of blobs.
+//! The bytes of modes and of gamma tables, and the store of blobs.
 use kms_blobs::{BadMode, BlobStore, decode_mode, encode_mode, gamma_of_bytes, mode_of};
 use kms_model::{Denied, Mode, NoMemory};
 use kms_samples::full_hd;

@@ -1,4 +1,4 @@
-//! The bytes of a table of colour values.
+//! The bytes of a gamma table.
 ghost use Rattle.std.specs.Prelude.{◌≡◌, ◌<◌, ◌/◌, length};
 ghost use Rattle.kms_model.specs.Device.GammaBytes.{channel_values, gamma_held, gamma_of_bytes};
 

@@ -1,8 +1,8 @@
-//! Blobs, and the modes and tables of colour values that their bytes hold.
+//! Blobs, and the modes and gamma tables that their bytes hold.
 //!
 //! A `BlobStore` keeps the bytes of each open blob under its id, for the client that made it. A mode travels as
 //! the 68 bytes of `struct drm_mode_modeinfo`: `decode_mode` reads a legal mode from them, and `encode_mode`
-//! writes a mode. A table of colour values travels as 256 `struct drm_color_lut`: `gamma_of_bytes` reads it.
+//! writes a mode. A gamma table travels as 256 `struct drm_color_lut`: `gamma_of_bytes` reads it.
 #![tactic(auto)]
 
 mod gammas;

@@ -115,7 +115,7 @@ abbrev pub parts_over : ℕ → ℕ → Colour → List VisiblePart → Colour
 parts_over x y under [] = under
 parts_over x y under (p ∷ ps) = parts_over x y (mixed p.layer under (part_colour p x y)) ps
 
--- the bytes of a pixel of the parts over black, through a table of colour values
+-- the bytes of a pixel of the parts over black, through a gamma table
 abbrev pub part_pixel : Option Gamma → List VisiblePart → ℕ → ℕ → List ℕ
 part_pixel gamma parts y x = channels (through gamma (parts_over x y black parts))
 

@@ -87,7 +87,7 @@ fn push_part<'a>(
     Ok(())
 }
 
-/// The bytes of parts over black, through a table of colour values if there is one, in a mode of this size.
+/// The bytes of parts over black, through a gamma table if there is one, in a mode of this size.
 fn parts_bytes(
     alloc: Global,
     parts: &[VisiblePart],

@@ -23,8 +23,8 @@ use std::alloc::Global;
 use std::mem;
 
 /// Makes the frame of a picture of that of another one: what the layers cover that left, came, or changed in framebuffer,
-/// source, destination, alpha, blend mode or place in the order is drawn anew, and the rest stays. Where the table of colour
-/// values differs, each pixel is drawn anew in the memory of the old frame. Where the size of the mode differs, and where the
+/// source, destination, alpha, blend mode or place in the order is drawn anew, and the rest stays. Where the gamma table
+/// differs, each pixel is drawn anew in the memory of the old frame. Where the size of the mode differs, and where the
 /// CRTC was off or is, the whole frame is made in memory of its own, beside the old one.
 ///
 /// Both pictures and the images are as [`frame`] asks, and the frame is that of the old picture.
@@ -105,7 +105,7 @@ fn remake(
 }
 
 /// Makes the frame of a picture of that of another one in a mode of the same size, and tells how many bytes at its front stay:
-/// what changed layers cover is drawn anew, or each pixel where the tables of colour values differ. All memory is taken before
+/// what changed layers cover is drawn anew, or each pixel where the gamma tables differ. All memory is taken before
 /// a byte changes.
 fn redraw(
     alloc: Global,

@@ -1,4 +1,4 @@
-//! Whether layers, sizes of modes and tables of colour values are the same.
+//! Whether layers, sizes of modes and gamma tables are the same.
 ghost use Rattle.std.specs.Prelude.{◌≡◌, ◌↔◌, IsTrue};
 ghost use Rattle.kms_compose.specs.Changes.{IsSameSize};
 
@@ -29,7 +29,7 @@ pub fn is_same_size(one: &Mode, other: &Mode) -> bool
     one.hdisplay == other.hdisplay && one.vdisplay == other.vdisplay
 }
 
-/// Whether two tables of colour values are the same, or both are missing.
+/// Whether two gamma tables are the same, or both are missing.
 pub fn is_same_table(one: &Option<Gamma>, other: &Option<Gamma>) -> bool
     ensures { IsTrue result ↔ (one.now ≡ other.now) }
 {

@@ -1,4 +1,4 @@
-//! Tables of colour values. (Kernel: "Color Management Properties", `GAMMA_LUT`.)
+//! Gamma tables. (Kernel: "Color Management Properties", `GAMMA_LUT`.)
 ghost use Rattle.std.specs.Prelude.{◌≡◌, ◌<◌, ℕ, length, slice_index, EachIndex};
 ghost use Rattle.kms_model.specs.Frames.FrameBytes.{through};
 ghost use Rattle.kms_compose.specs.Parts.{colour_at};
@@ -16,7 +16,7 @@ fn take_through(list: &[u8; 256], channel: &mut [u8])
     }
 }
 
-/// Takes a row, given by its channels, through a table of colour values, if there is one.
+/// Takes a row, given by its channels, through a gamma table, if there is one.
 pub fn through_gamma(gamma: &Option<Gamma>, red: &mut [u8], green: &mut [u8], blue: &mut [u8])
     requires green { length green.old ≡ length red.old }
     requires blue { length blue.old ≡ length red.old }

@@ -57,7 +57,7 @@ fn shown_rows(
     Ok(Seq::from_vec(bytes))
 }
 
-/// The bytes of parts over black, through a table of colour values if there is one, in a mode of this size.
+/// The bytes of parts over black, through a gamma table if there is one, in a mode of this size.
 fn rows_bytes(
     rt: &(impl Threads + Sync),
     alloc: Global,
@@ -77,7 +77,7 @@ fn rows_bytes(
     Ok(bytes)
 }
 
-/// Draws all rows of parts over black, through a table of colour values if there is one, in a frame of a mode of this width.
+/// Draws all rows of parts over black, through a gamma table if there is one, in a frame of a mode of this width.
 fn draw_rows(
     rt: &(impl Threads + Sync),
     parts: &[VisiblePart],

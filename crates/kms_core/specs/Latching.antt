@@ -1,4 +1,4 @@
--- What flushes and vertical blankings ask for and answer, and what a latch does. From: `drm_atomic_helper.c`,
+-- What flushes and vblanks ask for and answer, and what a latch does. From: `drm_atomic_helper.c`,
 -- drm_atomic_helper_commit_planes; `drm_vblank.c`, drm_crtc_handle_vblank and drm_crtc_send_vblank_event.
 use Rattle.std.specs.Prelude.{ℕ, ◌≡◌, ◌-◌, ◌^◌, ◌%◌, ◌<◌, ◌≤◌, Bool, true, List, length, slice_index_or, slice_set, is_some, None, Some, if◌then◌else◌}
 use Rattle.kms_model.specs.declared.objects.Kind.TheVariants.{Crtc}
@@ -27,7 +27,7 @@ MayFlush r k crtc = legal r.script (machine r) (step.Flush k Crtc crtc) ≡ true
 abbrev pub MayBlank : Run → ℕ → Type 0
 MayBlank r crtc = legal r.script (machine r) (step.Vblank Crtc crtc) ≡ true
 
--- it latches at this vertical blanking
+-- it latches at this vblank
 abbrev pub goes_at : Run → ℕ → Bool
 goes_at r crtc = is_some (go_at (machine r).device (object_id Crtc crtc))
 

@@ -51,7 +51,7 @@ pub record Stores : Type 0 where
   pub tracker : Tracking
   pub tails : Rooms Tail
   pub registers : RegisterFile
-  -- the commit that a CRTC latches at its next vertical blanking, by index
+  -- the commit that a CRTC latches at its next vblank, by index
   pub goes : List (Option ℕ)
   pub stalled : Bool
   pub freed : Reserved (ℕ × ℕ)

@@ -15,7 +15,7 @@ use std::alloc::Global;
 
 /// Does a step that is legal next, as `legal` tells. A request is decided by the plain check of the whole device. Want of
 /// memory leaves all as it was. A step of a commit's tail takes none: a claim, a write, a flush, a commit that is done or
-/// cleaned up, and the vertical blanking of a CRTC that goes.
+/// cleaned up, and the vblank of a CRTC that goes.
 pub(crate) fn apply(stores: &mut Stores, alloc: Global, step: &Step) -> Result<(), NoMemory>
     requires { IsLegal stores.old step.now }
     ensures history { stores.new ≡ gains stores.old (if_ok result (λ u. step.now ∷ [])) }
@@ -197,7 +197,7 @@ fn do_flush(stores: &mut Stores, commit: u32, kind: Kind, index: u32)
     flush(stores, commit, index);
 }
 
-/// A CRTC that goes or is on has a vertical blanking.
+/// A CRTC that goes or is on has a vblank.
 fn do_vblank(stores: &mut Stores, kind: Kind, index: u32) -> Result<(), NoMemory>
     requires { IsLegal stores.old (step.Vblank kind index) }
     ensures history { stores.new

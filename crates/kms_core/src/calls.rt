@@ -214,7 +214,7 @@ impl Core {
         crate::tails::hw_done(&mut self.stores, commit);
     }
 
-    /// The CRTC with an index, from 0 to 3, has a vertical blanking. True exactly where a commit latches, which takes no
+    /// The CRTC with an index, from 0 to 3, has a vblank. True exactly where a commit latches, which takes no
     /// memory. Want of memory leaves all as it was.
     pub fn vblank(&mut self, crtc: u32) -> Result<bool, NoMemory>
         requires { MayBlank self.old crtc }
@@ -237,7 +237,7 @@ impl Core {
 
     /// Does a step that is legal next, as `legal` tells. A request is decided by the plain check of the whole device. Want of
     /// memory leaves all as it was. A step of a commit's tail takes none: a claim, a write, a flush, a commit that is done or
-    /// cleaned up, and the vertical blanking of a CRTC that goes.
+    /// cleaned up, and the vblank of a CRTC that goes.
     pub fn apply(&mut self, alloc: Global, step: &Step) -> Result<(), NoMemory>
         requires { IsLegal self.old step.now }
         ensures history { self.new ≡ gains self.old (if_ok result (λ u. step.now ∷ [])) }

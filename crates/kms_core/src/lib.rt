@@ -1,4 +1,4 @@
-//! The machine: a display device with many clients, workers and vertical blankings.
+//! The machine: a display device with many clients, workers and vblanks.
 #![tactic(auto)]
 
 mod applying;

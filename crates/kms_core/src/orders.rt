@@ -17,7 +17,7 @@ impl Core {
         crate::next::legal(&self.stores, step)
     }
 
-    /// Whether a step is legal next, other than the end of a dead history and a vertical blanking of a CRTC that does not
+    /// Whether a step is legal next, other than the end of a dead history and a vblank of a CRTC that does not
     /// go.
     pub fn enabled(&self) -> bool
         ensures { result ≡ is_enabled self.now.script (machine self.now) }
@@ -32,7 +32,7 @@ impl Core {
         crate::next::drained(&self.stores)
     }
 
-    /// Whether the history is dead: not drained, and no step is legal but vertical blankings of CRTCs that do not go; also
+    /// Whether the history is dead: not drained, and no step is legal but vblanks of CRTCs that do not go; also
     /// where it was ended.
     pub fn is_dead(&self) -> bool
         ensures { result ≡ is_dead self.now.script (machine self.now) }
@@ -60,7 +60,7 @@ impl Core {
     }
 
     /// The next step of a tail in the order of one thread: the first that is legal of the least commit that has one, or else
-    /// the vertical blanking of the first CRTC that has GO. None where there is none, and where the history was ended.
+    /// the vblank of the first CRTC that has GO. None where there is none, and where the history was ended.
     pub fn tail_step(&self) -> Option<Step>
         ensures { result ≡ tail_step self.now.script (machine self.now) }
     {

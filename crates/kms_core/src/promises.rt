@@ -124,7 +124,7 @@ impl Core {
         kms_laws::contexts_stand();
     }
 
-    /// The history is drained, or a step other than `stall` and a vertical blanking without GO may be done in it, or a commit
+    /// The history is drained, or a step other than `stall` and a vblank without GO may be done in it, or a commit
     /// waits for a fence whose label is told.
     pub fn never_sticks(&self)
         ensures { CanGoOn self.now }

@@ -134,7 +134,7 @@ impl Core {
         self.stores.stalled
     }
 
-    /// Whether the CRTC with an index, from 0 to 3, latches a commit at its next vertical blanking.
+    /// Whether the CRTC with an index, from 0 to 3, latches a commit at its next vblank.
     pub fn has_go(&self, crtc: u32) -> bool
         requires { crtc < 4 }
         ensures { result ≡ is_some (go_at (machine self.now).device (object_id Crtc crtc)) }

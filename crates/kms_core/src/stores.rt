@@ -53,7 +53,7 @@ pub struct Stores {
     pub tails: Tails,
     /// The registers.
     pub registers: RegFile,
-    /// The number, counted from 0, of the commit that each CRTC, by its index, latches at its next vertical blanking.
+    /// The number, counted from 0, of the commit that each CRTC, by its index, latches at its next vblank.
     pub goes: [Option<u32>; 4],
     /// Whether the history was ended.
     pub stalled: bool,

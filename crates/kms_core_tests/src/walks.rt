@@ -37,7 +37,7 @@ pub(crate) fn walk_of(alloc: Global, seed: u64) -> Result<Walk, NoMemory> {
     })
 }
 
-/// Whether a legal step is other than the end of a history and a vertical blanking of a CRTC that does not go.
+/// Whether a legal step is other than the end of a history and a vblank of a CRTC that does not go.
 fn moves(core: &Core, step: &Step) -> bool {
     match *step {
         Step::Stall => false,

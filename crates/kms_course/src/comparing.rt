@@ -12,7 +12,7 @@ use std::alloc::Global;
 /// Whether two machines answer these questions in the same way: their script, history, journal, replies, latches and freed
 /// framebuffers; whether they are drained, can go on or have ended, and what holds them up; where each client stands, with the
 /// command at which it is idle, its next step in the order of one thread, and the objects that its context holds, with their
-/// states; the next step of a tail; which CRTCs latch a commit at their next vertical blanking; and the words of each
+/// states; the next step of a tail; which CRTCs latch a commit at their next vblank; and the words of each
 /// framebuffer. What labels name takes memory to tell (`looks_same`). Not compared is for how many steps memory was taken (`spare`): a call that finds none may leave more room
 /// than it found.
 pub fn tells_same(one: &Core, other: &Core) -> bool
@@ -76,7 +76,7 @@ fn holds_same_objects(one: &Core, other: &Core, client: u32) -> bool {
     })
 }
 
-/// Whether the same CRTCs of two machines latch a commit at their next vertical blanking, and the same step of a tail is next.
+/// Whether the same CRTCs of two machines latch a commit at their next vblank, and the same step of a tail is next.
 fn go_the_same(one: &Core, other: &Core) -> bool {
     (0..4).all(|crtc| goes(one, crtc) == goes(other, crtc)) && one.tail_step() == other.tail_step()
 }

@@ -19,7 +19,7 @@
 //! | `client 2 1 backs off 1 200` | it has to drop its locks in the context of a ticket, for an object |
 //! | `client 2 1 backed off 1 200`, `client 2 1 takes 1`, `client 1 1 idle` | it did; it takes locks; it is idle |
 //! | `client 2 none` | there is no such client |
-//! | `goes 0`, `rests 0` | whether a CRTC latches at its next vertical blanking |
+//! | `goes 0`, `rests 0` | whether a CRTC latches at its next vblank |
 //! | `image 1001 [6382179]` | the words of a framebuffer |
 //! | `framebuffer 1001 1x1`, `framebuffer 1001 none` | a framebuffer that something needs, by its size; nothing needs it |
 //! | `next 1 T begin 1`, `tail T claim 0` | what is next in the order of one thread is this step, which is done |
@@ -90,7 +90,7 @@ fn next_line(core: &mut Core, alloc: Global, rest: &str) -> Result<bool, NoMemor
     }
 }
 
-/// Whether a CRTC latches at its next vertical blanking, if it is a number.
+/// Whether a CRTC latches at its next vblank, if it is a number.
 fn goes_at(core: &Core, crtc: &str) -> Option<bool> {
     Some(goes(core, crtc.parse().ok()?))
 }

@@ -46,7 +46,7 @@ pub fn next_of(core: &Core, client: u32) -> Option<Step>
     core.client_step(client)
 }
 
-/// Whether one of the first four CRTCs, by its index, latches at its next vertical blanking. Others do not.
+/// Whether one of the first four CRTCs, by its index, latches at its next vblank. Others do not.
 pub fn goes(core: &Core, crtc: u32) -> bool
     ensures { result ≡ (nat_lt crtc 4
         && is_some (go_at (machine core.now).device (object_id Crtc crtc))) }

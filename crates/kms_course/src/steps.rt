@@ -67,7 +67,7 @@ pub fn flush(commit: u32, object: Object) -> Step
     }
 }
 
-/// A CRTC has a vertical blanking.
+/// A CRTC has a vblank.
 pub fn vblank(object: Object) -> Step
     ensures { result ≡ step.Vblank object.kind object.index }
 {

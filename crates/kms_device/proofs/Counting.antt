@@ -18,7 +18,7 @@ IsPlain x = is_plain x ≡ true
 abbrev IsNoEnd : Step → Type 0
 IsNoEnd x = is_stall x ≡ false
 
--- a plain step is no end, and no vertical blanking
+-- a plain step is no end, and no vblank
 pub plain-end : (x : Step) → is_plain x ≡ true → is_stall x ≡ false
 plain-end Stall h = absurd (false≢true h)
 plain-end _ h = refl
@@ -47,7 +47,7 @@ one_more-few : (b : Bool) (m n : ℕ) → m ≤ n → one_more_if b m ≤ n + 1
 one_more-few true m n l = omega (arith, l)
 one_more-few false m n l = omega (arith, l)
 
--- there are no more vertical blankings than steps
+-- there are no more vblanks than steps
 pub blankings-few : (crtc : ℕ) (xs : List Step) → blankings crtc xs ≤ length xs
 blankings-few crtc [] = omega arith
 blankings-few crtc (x ∷ xs) = let l = one_more-few (is_blanking crtc x) (blankings crtc xs) (length xs) (blankings-few crtc xs) in omega (arith, l)
@@ -63,7 +63,7 @@ plain-keeps counts old new kept adds =
     counted : (crtc : ℕ) → slice_index_or counts crtc 0 ≡ blankings crtc (old.steps ++ adds.steps)
     counted crtc = let none = none-counted crtc adds.steps adds.plain in let more = blankings-append crtc old.steps adds.steps in let is = kept.1 crtc in omega arith
 
--- a vertical blanking is counted
+-- a vblank is counted
 pub blank-keeps : (counts : List ℕ) (old new : Run) (crtc : ℕ) → crtc < length counts → NeverEnds old.steps × AreBlankingCounts counts old.steps → new.steps ≡ old.steps ++ Vblank Crtc crtc ∷ []
     → NeverEnds new.steps × AreBlankingCounts (slice_set counts crtc (slice_index_or counts crtc 0 + 1)) new.steps
 blank-keeps counts old new crtc few kept steps = (

@@ -6,11 +6,11 @@ use Rattle.kms_core.specs.Run.{Run, gains}
 use Rattle.kms_laws.specs.Blankings.{blankings}
 use Rattle.kms_device.specs.Steps.{owner}
 
--- numbers in their order are how many vertical blankings each CRTC had
+-- numbers in their order are how many vblanks each CRTC had
 abbrev pub AreBlankingCounts : List ℕ → List Step → Type 0
 AreBlankingCounts counts steps = (crtc : ℕ) → slice_index_or counts crtc 0 ≡ blankings crtc steps
 
--- a step neither ends the history nor is a vertical blanking
+-- a step neither ends the history nor is a vblank
 abbrev pub is_plain : Step → Bool
 is_plain Stall = false
 is_plain (Vblank kind index) = false

@@ -47,7 +47,7 @@ abbrev pub step_if : Bool → Step → List Step
 step_if false step = []
 step_if true step = step ∷ []
 
--- the device has the CRTC with an index, and it latches a commit at its next vertical blanking
+-- the device has the CRTC with an index, and it latches a commit at its next vblank
 abbrev pub blanks_at : Run → ℕ → Bool
 blanks_at r crtc = exists r.script.topology Crtc crtc && goes_at r crtc
 

@@ -23,7 +23,7 @@ pub struct Attempt {
     pub states: Duplicates,
 }
 
-/// What came of an attempt.
+/// The answer of an attempt.
 #[derive(Clone, Copy, PartialEq, Eq)]
 pub enum Attempted {
     /// A step was made that records no reply; or an object that was held already gave its state; or a label names something else

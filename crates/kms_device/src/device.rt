@@ -88,7 +88,7 @@ impl Device {
         self.lock.length(pass)
     }
 
-    /// How many vertical blankings the CRTC with an index, from 0 to 3, had, as far as one load tells: at least as many as in what
+    /// How many vblanks the CRTC with an index, from 0 to 3, had, as far as one load tells: at least as many as in what
     /// the pass has seen, and as it has read before. The pass keeps the number. It waits for nobody.
     pub fn vblank_count(&self, pass: &mut Pass, crtc: u32) -> u64
         requires own { pass.old.lock ≡ self.now.lock }
@@ -121,7 +121,7 @@ impl Device {
         self.turn(rt, pass, |core: &mut Core| core.drained())
     }
 
-    /// Takes the turn once for a call of the machine that neither ends the history nor makes a vertical blanking. The steps that it
+    /// Takes the turn once for a call of the machine that neither ends the history nor makes a vblank. The steps that it
     /// makes are nobody's, or the client's whose number is the pass's rank.
     pub(crate) fn turn<R, W: Wait, F: FnOnce(&mut Core) -> R>(
         &self,

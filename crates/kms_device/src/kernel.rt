@@ -19,7 +19,7 @@ use std::marker::Model;
 #[derive(Drop)]
 pub struct Kernel {
     core: Core,
-    // How many vertical blankings each CRTC had.
+    // How many vblanks each CRTC had.
     counts: [u64; 4],
 }
 
@@ -86,7 +86,7 @@ impl Kernel {
         })
     }
 
-    /// A call of the machine that neither ends the history nor makes a vertical blanking.
+    /// A call of the machine that neither ends the history nor makes a vblank.
     pub(crate) fn call<R, F: FnOnce(&mut Core) -> R>(&mut self, call: F) -> R
         requires callable { FnOnceTakesAtMut F.FnOnce call self.old }
         requires plain { (left : Run) (r : R) → FnOnceReturnsAtMut F.FnOnce call self.old r left
@@ -96,7 +96,7 @@ impl Kernel {
         call(&mut self.core)
     }
 
-    /// The vertical blanking of the CRTC with an index, where it latches a commit then; false, and nothing changes, exactly where
+    /// The vblank of the CRTC with an index, where it latches a commit then; false, and nothing changes, exactly where
     /// it does not, or the device has no such CRTC.
     pub(crate) fn vblank(&mut self, crtc: u32) -> bool
         ensures answer { result ≡ blanks_at self.old crtc }
@@ -122,7 +122,7 @@ impl Kernel {
     }
 }
 
-/// Whether the device has the CRTC with an index, and it latches a commit at its next vertical blanking.
+/// Whether the device has the CRTC with an index, and it latches a commit at its next vblank.
 fn blanks(core: &Core, crtc: u32) -> bool
     ensures { result ≡ blanks_at core.now crtc }
 {

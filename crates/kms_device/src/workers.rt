@@ -1,4 +1,4 @@
-//! The calls of workers and of vertical blankings. They take no memory, and ask for nothing of what the pass has seen.
+//! The calls of workers and of vblanks. They take no memory, and ask for nothing of what the pass has seen.
 ghost use Rattle.std.specs.Prelude.{◌≡◌, ◌∷◌, [], find, true};
 ghost use Rattle.std.specs.List.{range_with_len};
 ghost use Rattle.std.specs.Option.{option_to_list};
@@ -48,7 +48,7 @@ impl Device {
     }
 
     /// Tells that all registers of a commit, by its number from 0, are written and flushed, as the machine's `hw_done` does.
-    /// False, and no step, exactly where they are not, or it was told, in the history that was found.
+    /// False, and no step, exactly where they are not, or `hw_done` came before, in the history that was found.
     pub fn hw_done<W: Wait>(&self, rt: &W, pass: &mut Pass, commit: u32) -> bool
         requires own { pass.old.lock ≡ self.now.lock }
         ensures { DeviceTurn self.now.script (λ found. result ≡ is_legal found (step.HwDone commit))
@@ -80,7 +80,7 @@ impl Device {
         self.turn(rt, pass, |core: &mut Core| work_on(core, commit))
     }
 
-    /// The CRTC with an index has a vertical blanking at which it latches a commit, as the machine's `vblank` does. False, and no
+    /// The CRTC with an index has a vblank at which it latches a commit, as the machine's `vblank` does. False, and no
     /// step, exactly where it latches none then in the history that was found, or the device has no such CRTC.
     pub fn vblank<W: Wait>(&self, rt: &W, pass: &mut Pass, crtc: u32) -> bool
         requires own { pass.old.lock ≡ self.now.lock }

@@ -30,7 +30,7 @@ pub(crate) struct Came {
     pub(crate) other_answers: u64,
     /// Workers for a commit.
     pub(crate) claims: u64,
-    /// What ticks.
+    /// A vblank player.
     pub(crate) ticks: u64,
     /// Any with numbers that are not theirs.
     pub(crate) strange: u64,
@@ -80,7 +80,7 @@ impl Counter {
 
 impl Gate for Counter {
     /// A client comes to a check with its number and that of the command behind the last answered one, and with each answer
-    /// with the number of the command that it answers; a worker with its number, and what ticks with the index of its CRTC.
+    /// with the number of the command that it answers; a worker with its number, and a vblank player with the index of its CRTC.
     fn at<R: Wait>(&self, _rt: &R, point: Point, a: u32, b: u32) {
         let expected = match (point, a) {
             (Point::Check, 1) => self.check(&self.answers, b),

@@ -58,7 +58,7 @@ fn four(rt: &impl Abort, device: &Device, passes: Seq<Pass>) -> Four
     (one, other, worker, tick)
 }
 
-/// A device of the two clients, with a pass for each, for a worker and for what ticks.
+/// A device of the two clients, with a pass for each, for a worker and for a vblank player.
 fn opened(rt: &(impl Abort + AllocGlobal)) -> (Device, Four)
     ensures seats { result.0.seats ≡ 4 }
     ensures clients { length result.0.script.clients ≡ 2 }
@@ -83,7 +83,7 @@ fn closed(rt: &(impl Abort + AllocGlobal), device: Device, passes: Four) -> Core
     device.close(Seq::from_vec(passes))
 }
 
-/// Two clients, a worker and what ticks.
+/// Two clients, a worker and a vblank player.
 #[derive(Drop)]
 struct Players<'a> {
     one: Client<'a, Counter>,
@@ -214,7 +214,7 @@ fn players_on_one_thread_drain_a_history(rt: HostRuntime) {
     assert_drained(&rt, &core, &gate);
 }
 
-/// What ticks for a CRTC that is not there does nothing, and comes to the gate. It gives the passes.
+/// The vblank player of a CRTC that is not there does nothing, and comes to the gate. It gives the passes.
 fn ticked(rt: &(impl Abort + Wait), device: &Device, gate: &Counter, passes: Four) -> Four
     requires clients { length device.now.script.clients ≡ 2 }
     requires passes { AreFour device.now passes }
@@ -237,7 +237,7 @@ const NOBODY: Came = Came {
     strange: 0,
 };
 
-/// Asserts that nothing was done, and that what ticks came to the gate once.
+/// Asserts that nothing was done, and that the vblank player came to the gate once.
 fn assert_ticked(rt: &impl Abort, core: &Core, gate: &Counter) {
     assert!(rt; core.history().is_empty());
     let wanted = Came { ticks: 1, ..NOBODY };

@@ -70,7 +70,7 @@ fn lit() -> [Step; 16] {
     ]
 }
 
-/// The calls of a worker and of what ticks that find nothing to do.
+/// The calls of a worker and of a vblank player that find nothing to do.
 fn idling() -> [(u32, Call, Told); 7] {
     [
         (2, Call::Claim, Told::Nothing),
@@ -83,7 +83,7 @@ fn idling() -> [(u32, Call, Told); 7] {
     ]
 }
 
-/// How many vertical blankings the first CRTC had, and how long the history is, as a pass reads them.
+/// How many vblanks the first CRTC had, and how long the history is, as a pass reads them.
 fn read(device: &Device, pass: &mut Pass) -> (u64, u64)
     requires own { pass.old.lock ≡ device.now.lock }
     ensures same { IsSamePass pass.old pass.new }

@@ -11,7 +11,7 @@ pub struct Failed;
 
 /// Where bytes come from.
 pub trait Source {
-    /// The bytes that are left, where that is told.
+    /// The bytes that are left, if they are known.
     ghost left: { Self → Option (List ℕ) };
 
     /// How many reads have failed. It never falls, and a source may let it stay at 2^64 - 1.
@@ -31,7 +31,7 @@ pub trait Source {
 
 /// Where bytes go to.
 pub trait Sink {
-    /// The bytes that were written, where that is told.
+    /// The bytes that were written, if they are known.
     ghost written: { Self → Option (List ℕ) };
 
     /// How many writes have failed. It never falls, and a sink may let it stay at 2^64 - 1.

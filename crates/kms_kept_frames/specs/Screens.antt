@@ -56,7 +56,7 @@ IsKeptFrameOver images = IsKeptFrame (CanShow images) (word_under images)
 abbrev pub AreKeptFramesOf : List Thing → Screen → Type 0
 AreKeptFramesOf things = AreKeptFrames (EachCanBeShown things) (word_of things)
 
--- two pictures are on, in modes of one size and with one table of colour values, or none
+-- two pictures are on, in modes of one size and with one gamma table, or none
 abbrev pub AreOfOneSizeAndTable : Picture → Picture → Type 0
 AreOfOneSizeAndTable Off other = ⊥
 AreOfOneSizeAndTable (On one) Off = ⊥

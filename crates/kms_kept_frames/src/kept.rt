@@ -74,7 +74,7 @@ pub fn is_same(one: &Picture, other: &Picture) -> bool
     }
 }
 
-/// Whether two pictures are on, in modes of one size and with one table of colour values, or none: then the frame of one is that
+/// Whether two pictures are on, in modes of one size and with one gamma table, or none: then the frame of one is that
 /// of the other but for what layers cover that differ.
 pub fn is_same_size_and_table(one: &Picture, other: &Picture) -> bool
     ensures { IsTrue result ↔ AreOfOneSizeAndTable one.now other.now }
@@ -170,8 +170,8 @@ fn made<H: Hands>(
     })
 }
 
-/// The frame of a picture. Where a frame of its size and its table of colour values is at hand, only what differs is drawn; else
-/// the one at hand is given up first, and all is drawn.
+/// The frame of a picture. Where the frame given has its size and its gamma table, only what differs is drawn; else
+/// that one is given up first, and all is drawn.
 pub fn redrawn<H: Hands>(
     hands: &H,
     alloc: Global,
@@ -201,8 +201,8 @@ fn copied(alloc: Global, bytes: &[u8]) -> Result<Frame, NoMemory>
     Ok(Seq::from_vec(copy))
 }
 
-/// What is at hand for a picture, beside another frame: where only the other one has the picture's size and table of colour
-/// values, a copy of it, with the states of its digest that are known.
+/// The frame to change for a picture, beside another frame: where only the other one has the picture's size and gamma table, a
+/// copy of it, with the states of its digest that are known.
 pub fn at_hand(
     alloc: Global,
     drawn: Drawn,

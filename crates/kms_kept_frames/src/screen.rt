@@ -215,7 +215,7 @@ impl Screen {
     }
 
     /// A screen that has this picture; one that has it already stays as it is. Else its frame is made of the kept one that goes,
-    /// where that has its size and its table of colour values, and anew where it has not. Where the next picture is given and not
+    /// where that has its size and its gamma table, and anew where it has not. Where the next picture is given and not
     /// kept, its frame is made too, likewise or of a copy of the first one, so that the digests of both are made together. There
     /// are two frames at a time, kept or being made, and none besides. The only error is want of memory.
     pub fn showing<H: Hands>(

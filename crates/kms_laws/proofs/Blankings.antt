@@ -1,4 +1,4 @@
--- The count of a CRTC after a history is the number of its vertical blankings.
+-- The count of a CRTC after a history is the number of its vblanks.
 use Rattle.std.proofs.Common.{◌≡◌, ℕ, suc, ◌+◌, ◌<◌, List, [], ◌∷◌, Bool, true, false, refl, sym, ap, ◌∙◌, arith, ⊎_elim}
 use Rattle.std.proofs.lemmas.Bool.{and_parts, cases_eq, eq-eqb, ne_eqb}
 use Rattle.kms_model.specs.declared.objects.Kind.{Kind}
@@ -22,7 +22,7 @@ of_no_crtc crtc (Vblank kind index) no_blanking = absurd cc
 of_no_crtc crtc _ no_blanking = refl
 
 module _ (s : Script) (m : Machine) (crtc : ℕ) (few : crtc < 4) where
-  -- a step adds one to the count where it is a vertical blanking of the CRTC
+  -- a step adds one to the count where it is a vblank of the CRTC
   abbrev Adds : Step → Machine → Type 0
   Adds step m2 = count_at m2.device (object_id Crtc crtc) ≡ one_more_if (is_blanking crtc step) (count_at m.device (object_id Crtc crtc))
 

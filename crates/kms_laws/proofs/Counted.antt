@@ -1,4 +1,4 @@
--- What is said of a step, of how many commits there are and of the counts of vertical blankings.
+-- What is said of a step, of how many commits there are and of the counts of vblanks.
 use Rattle.std.proofs.Common.{◌≡◌, ℕ, suc, ◌+◌, List, length, Bool, true, false, refl}
 use Rattle.kms_model.specs.declared.objects.Kind.{Kind}
 use Rattle.kms_model.specs.declared.replies.Step.{Step}
@@ -16,7 +16,7 @@ abbrev pub is_vblank : Step → Bool
 is_vblank (Vblank kind index) = true
 is_vblank _ = false
 
--- it holds of each step where it holds of swaps, of vertical blankings and of steps that leave both as they are
+-- it holds of each step where it holds of swaps, of vblanks and of steps that leave both as they are
 module _ (s : Script) (m : Machine) (Q : Step → ℕ → List (ℕ × ℕ) → Type 0) where
   abbrev Told : Step → Machine → Type 0
   Told step m2 = Q step (length m2.device.commits) m2.device.counts

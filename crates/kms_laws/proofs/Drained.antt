@@ -1,4 +1,4 @@
--- In a drained history no step may be done but a vertical blanking without GO.
+-- In a drained history no step may be done but a vblank without GO.
 use Rattle.std.proofs.Common.{◌≡◌, ℕ, ◌<◌, length, true, false, not, ◌&&◌, Option, Some, None, refl, ap, subst, arith, inl, inr, ⊎_elim}
 use Rattle.std.specs.Prelude.{is_some, nat_lt}
 use Rattle.std.specs.List.{flat_map, list_all, range_with_len}

@@ -135,7 +135,7 @@ pub record CarriesAnswers (s : Script) (m : Machine) (P : Step → Machine → T
   pub read_one : (client : ℕ) (c : Command) → command_at s m client ≡ Some c → is_wait c ≡ true → is_idle (doing_at m client) ≡ true → (event : Event) (events : List Event) → unread_at m.events client ≡ event ∷ events
       → P (Read client) (reads m client (event ∷ events))
 
--- what holds of each step of a commit's tail and of each vertical blanking, and the machine after it
+-- what holds of each step of a commit's tail and of each vblank, and the machine after it
 pub record CarriesTails (s : Script) (m : Machine) (P : Step → Machine → Type 0) : Type 0 where
   pub claimed : (k : ℕ) → may_claim s.topology m k ≡ true → P (Claim k) (claims m k)
   pub written : (k : ℕ) (kind : Kind) (index : ℕ) → IsWrite s.topology m.device k (object_id kind index) → P (Write k kind index) (writes s.topology m k (object_id kind index))
@@ -171,7 +171,7 @@ locks_leave s m P same = record {
   returned = λ client k e clean. same (Return client) _;
 }
 
--- what tails and vertical blankings leave of a machine
+-- what tails and vblanks leave of a machine
 pub record Left : Type 0 where
   pub contexts : Contexts
   pub world : World

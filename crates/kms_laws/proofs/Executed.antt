@@ -79,14 +79,14 @@ kept-closed : (things : List Thing) (id : ℕ) → AreKept things → AreKept (c
 kept-closed [] id kept = tt
 kept-closed (u ∷ us) id kept = (subst KeepsMode (sym (closed_same id u).content) kept.0, kept-closed us id kept.1)
 
--- contents with no mode and no table of colour values
+-- contents with no mode and no gamma table
 no_mode : (c : Content) → mode_in c ≡ None → gamma_in c ≡ None → KeepsMode c
 no_mode c none nothing = record {
   mode = λ m e. absurd (let z : None ≡ Some m = sym none ∙ e in cc);
   gamma = λ g e. absurd (let z : None ≡ Some g = sym nothing ∙ e in cc);
 }
 
--- what each command's mode keeps, and its table of colour values
+-- what each command's mode keeps, and its gamma table
 abbrev pub KeepsModes : Command → Type 0
 KeepsModes (command.Mode label m) = KeepsMode (content.Mode m)
 KeepsModes (command.Blob label bytes) = KeepsMode (content.Blob bytes)

@@ -1,4 +1,4 @@
--- Each step but a vertical blanking without GO leaves less to do: a client's commands, a tail, the contexts, or the end.
+-- Each step but a vblank without GO leaves less to do: a client's commands, a tail, the contexts, or the end.
 use Rattle.std.proofs.Common.{◌≡◌, ℕ, ◌+◌, ◌<◌, ◌≤◌, List, ◌∷◌, length, Bool, true, false, not, Option, Some, None, refl, sym, ap, ◌∙◌, subst, arith, inl, inr, ◌⊎◌, ⊎_elim}
 use Rattle.std.specs.Prelude.{if◌then◌else◌, nat_lt}
 use Rattle.std.proofs.lemmas.Bool.{cases_eq, cond-true, cond-false, eq-eqb, false≢true, le-ltb, ltb-true}

@@ -100,7 +100,7 @@ pub straight_moves : Script → Machine → Step → Bool
 straight_moves s m (Swap client) = taking_at s m client (may_swap_straight s.topology m client)
 straight_moves s m step = may s m step
 
--- one commit moves the plane, and the second CRTC has its vertical blanking first
+-- one commit moves the plane, and the second CRTC has its vblank first
 abbrev moved_straight : List ℕ
 moved_straight = two_crtcs ++ codes "atomic 0x200 0 plane0.CRTC_ID=crtc1\n" ++ both_lit ++ codes "T begin 1\nT lock 1 plane0\nT lock 1 crtc0\nT lock 1 crtc1\nT swap 1\nT claim 1\nT write 1 crtc0\nT write 1 crtc1\nT write 1 plane0\nT flush 1 crtc0\nT flush 1 crtc1\nT vblank crtc1\n"
 

@@ -1,4 +1,4 @@
--- What is left to do in all, as one number, and that each step but a vertical blanking without GO lowers it.
+-- What is left to do in all, as one number, and that each step but a vblank without GO lowers it.
 use Rattle.std.proofs.Common.{◌≡◌, ℕ, zero, suc, ◌+◌, ◌*◌, ◌-◌, ◌<◌, ◌^◌, ◌≤◌, List, ◌∷◌, length, Bool, true, false, Option, Some, None, refl, sym, ap, ◌∙◌, subst, arith, inl, inr, ◌⊎◌, ⊎_elim}
 use Rattle.std.specs.Prelude.{if◌then◌else◌, is_some, nat_lt}
 use Rattle.std.specs.List.{range_with_len}
@@ -312,7 +312,7 @@ module _ (s : Script) (formed : IsWellFormed s) (m : Machine) (n : ℕ) (C : Cou
       let c : one_unless m.stalled ≡ 1 = ap one_unless going in
       omega (arith, a, b, c)
 
--- a vertical blanking without GO leaves as much
+-- a vblank without GO leaves as much
 module _ (s : Script) (m : Machine) where
   carries_left : Carries s m (λ step m2. is_moving m step ≡ false → left s m2 ≡ left s m)
   carries_left = record {

@@ -1,4 +1,4 @@
--- What is flushed and has not latched waits for a vertical blanking.
+-- What is flushed and has not latched waits for a vblank.
 use Rattle.std.proofs.Common.{◌≡◌, ℕ, ◌+◌, ◌≤◌, List, ◌∷◌, true, false, Option, Some, None, refl, sym, ap, ◌∙◌, arith, ⊎_elim}
 use Rattle.std.proofs.lemmas.Bool.{cases_eq, cases_lt, false_from_ne_true}
 use Rattle.kms_model.specs.declared.objects.Kind.TheVariants.{Crtc}

@@ -153,7 +153,7 @@ module _ (s : Script) (m : Machine) where
       (those-in (missing_of s.topology m client (in_named_group s.topology m.device.world r)) _ o rest))
       (those-in (missing_of s.topology m client (in_set_group r)) _ o is)
 
-  -- `stall` is no vertical blanking
+  -- `stall` is no vblank
   pub go-no-stall : IsIn Stall (steps_with_go s.topology m) → ⊥
   go-no-stall is = let r = map-from (λ index. Vblank Crtc index) _ Stall is in let e : Vblank Crtc r.number ≡ Stall = r.same in absurd cc
 

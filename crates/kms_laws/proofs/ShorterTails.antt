@@ -228,7 +228,7 @@ module _ (s : Script) (m : Machine) (H : Holds s m) where
           (λ k. let a = latched-fewer s.topology m.device.commits m.device.marks m.records.latches (latch_of s.topology m.device j (object_id kind index) (count_at m.device (object_id kind index))) k in
           let b = ap (λ ls. length (unlatched s.topology m.device.commits ls k)) el in omega (arith, a, b))
 
-  -- a vertical blanking with GO
+  -- a vblank with GO
   blank_case : (kind : Kind) (index j : ℕ) → IsIn (object_id kind index) (ids_of s.topology Crtc) → go_at m.device (object_id kind index) ≡ Some j
       → (m2 : Machine) → m2.device.commits ≡ m.device.commits → m2.device.marks ≡ m.device.marks → m2.records.latches ≡ latch_of s.topology m.device j (object_id kind index) (count_at m.device (object_id kind index) + 1) ∷ m.records.latches → Lowers (Vblank kind index) m2
   blank_case kind index j is g m2 ec em el k old = record {

@@ -361,7 +361,7 @@ module _ (s : Script) (m : Machine) (H : Holds s m) where
       → Inv s m.device.world m.device.commits (record m.device.marks { cleaned = k ∷ m.device.marks.cleaned }) m.device.shadow m.device.go m.records.latches m.records.journal m.records.replies
   cleanup_step k done latched = record { tail = cleanup_kept H.tail k done (all_latched k latched); present = H.present; replies = H.replies }
 
-  -- a commit that is flushed and waits at no vertical blanking latches
+  -- a commit that is flushed and waits at no vblank latches
   latch_step : (k c count : ℕ) → IsIn c (ids_of s.topology Crtc) → has_pair m.device.marks.flushed k c ≡ true → has_latched m.records.latches k c ≡ false → (read None m.device.go c ≡ Some k → ⊥) → Holds s (latches s.topology m k c count)
   unfolding latches
   latch_step k c count i F un waits = signals_kept s _ (out_fence_of s.topology m.device.commits k c) (with_event (asks_event s.topology m.device.commits k))

@@ -330,7 +330,7 @@ flushed_kept {t} {cs} {ms} {sh} {go} {ls} T k c is_crtc written names =
     })
     (record { settled = T.order.settled }) T.shows
 
--- other vertical blankings are waited for
+-- other vblanks are waited for
 with_go : {t : Topology} {cs : List Commit} {ms : Marks} {sh : Registers} {go : List (ℕ × Option ℕ)} {ls : List Latch} (T : Tail t cs ms sh go ls) (now : List (ℕ × Option ℕ))
     → ((j d : ℕ) → read None now d ≡ Some j → IsPending ms.flushed ls j d) → Tail t cs ms sh now ls
 with_go {t} {cs} {ms} {sh} {go} {ls} T now go_is =

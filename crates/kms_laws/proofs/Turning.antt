@@ -56,7 +56,7 @@ run-does s run step R l = record {
   is = ap (is_history s) (reverse_more step run.steps) ∙ legal-more s (first_machine s.topology) (reverse run.steps) step R.is (ap (λ m. legal s m step) (sym R.same) ∙ l);
 }
 
--- a run that goes on, by legal steps that are no vertical blankings without GO
+-- a run that goes on, by legal steps that are no vblanks without GO
 pub data Later (s : Script) : Progress → Progress → Type 0 where
   Same : {run later : Progress} → later ≡ run → Later s run later
   More : {run later : Progress} → (step : Step) → legal s run.machine step ≡ true → is_moving run.machine step ≡ true → Later s (does s run step) later → Later s run later

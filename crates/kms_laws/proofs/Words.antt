@@ -102,17 +102,17 @@ plane_back t w p lawful framed is =
     state_back (plane_at w.things w.values p) (plane_in_range t w.things w.values p (all_held-from t w.things w.values lawful.sound.held) is)
     (λ f e. fb_some w.things (value w.values p FB_ID) f lawful.numbered.things framed e)
 
--- Modes and tables of colour values
+-- Modes and gamma tables
 
 -- a mode is what its words hold
 abbrev pub IsKeptMode : Mode → Type 0
 IsKeptMode m = mode_held (bytes_of_words (mode_words (Some m))) ≡ m
 
--- a table of colour values is what its words hold
+-- a gamma table is what its words hold
 abbrev pub IsKeptGamma : Gamma → Type 0
 IsKeptGamma g = gamma_with (bytes_of_words (gamma_words (Some g))) ≡ g
 
--- so is the mode of a content, if it has one, and its table of colour values
+-- so is the mode of a content, if it has one, and its gamma table
 pub record KeepsMode (c : Content) : Type 0 where
   pub mode : (m : Mode) → mode_in c ≡ Some m → IsKeptMode m
   pub gamma : (g : Gamma) → gamma_in c ≡ Some g → IsKeptGamma g
@@ -153,7 +153,7 @@ words_show t w c lawful framed kept is =
     picture-alike t (words_at t w.things w.values c) _ (plane_at w.things w.values) c (λ p i. plane_back t w p lawful framed i)
     ∙ by_active (int_eq (value w.values c ACTIVE) (pos 0)) refl
   where
-    -- the table of colour values of the words of one, or of none
+    -- the gamma table of the words of one, or of none
     table : Option Gamma → Option Gamma
     table g = if one_if (is_some g) == 1 then Some (gamma_with (bytes_of_words (gamma_words g))) else None
 

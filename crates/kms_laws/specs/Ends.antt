@@ -25,7 +25,7 @@ RoundsAreStill = InEachHistory (λ s h. (is_still s (run_of s h) ≡ true) ↔ I
 abbrev pub RoundsEnd : Type 0
 RoundsEnd = InEachHistory (λ s h. (most : ℕ) → 2 ^ 53 ≤ suc most → is_still s (rounds s most (run_of s h)) ≡ true)
 
--- a step that is no vertical blanking without GO; `stall` is one
+-- a step that is no vblank without GO; `stall` is one
 abbrev pub is_moving : Machine → Step → Bool
 is_moving m (Vblank kind index) = is_some (go_at m.device (object_id kind index))
 is_moving m _ = true

@@ -16,7 +16,7 @@ pub record LatchFits (s : Script) (h : List Step) (l : Latch) : Type 0 where
   pub count : l.count ≤ length h
 
 -- A script has at most 65536 commands, 4096 of each of 16 clients: so many commits, tickets, accepted commands and replies there
--- are at most. A command makes at most 4 things. A CRTC counts one vertical blanking a step. A client has at most 128 events that
+-- are at most. A command makes at most 4 things. A CRTC counts one vblank a step. A client has at most 128 events that
 -- are reserved or unread.
 pub record NumbersFit (s : Script) (h : List Step) : Type 0 where
   pub commands : (client : ℕ) → (place_at (at s h) client).command ≤ 4097

@@ -45,7 +45,7 @@ sum f from (suc n) = f from + sum f (from + 1) n
 abbrev pub all_left : Topology → Machine → ℕ
 all_left t m = sum (tail_left t m) 0 (length m.device.commits)
 
--- the commit of whose tail a step is: a vertical blanking is of that for which its CRTC has GO
+-- the commit of whose tail a step is: a vblank is of that for which its CRTC has GO
 abbrev pub commit_of_step : Machine → Step → Option ℕ
 commit_of_step m (Claim k) = Some k
 commit_of_step m (Write k kind index) = Some k

@@ -10,7 +10,7 @@ pub fn numbers_fit_their_types()
     ensures { AllNumbersFit }
 {}
 
-/// After each history the count of each CRTC is the number of its vertical blankings in the history.
+/// After each history the count of each CRTC is the number of its vblanks in the history.
 pub fn counts_are_blankings()
     ensures { CountsAreBlankings }
 {}
@@ -20,13 +20,13 @@ pub fn tails_are_short()
     ensures { TailsAreShort }
 {}
 
-/// A step of a commit's tail, or the vertical blanking of a CRTC that has GO for the commit, leaves fewer steps of that
+/// A step of a commit's tail, or the vblank of a CRTC that has GO for the commit, leaves fewer steps of that
 /// tail to do, and no step makes more of any tail of a commit that is there.
 pub fn tails_get_shorter()
     ensures { TailsGetShorter }
 {}
 
-/// Of what is left of all tails each step of a tail, and each vertical blanking of a CRTC that has GO, leaves less; a swap
+/// Of what is left of all tails each step of a tail, and each vblank of a CRTC that has GO, leaves less; a swap
 /// makes at most 31 steps more, and no other step makes more. Nothing is left of a commit that is cleaned.
 pub fn all_tails_get_shorter()
     ensures all { AllTailsGetShorter }

@@ -14,7 +14,7 @@ pub fn rounds_are_still_at_ends()
     ensures { RoundsAreStill }
 {}
 
-/// Whatever the order of steps, no history has 2^53 steps but for vertical blankings without GO. So contexts do not back
+/// Whatever the order of steps, no history has 2^53 steps but for vblanks without GO. So contexts do not back
 /// off for ever.
 pub fn histories_have_few_moves()
     ensures { MovesAreFew }

@@ -3,7 +3,7 @@ ghost use Rattle.kms_model.specs.Headline.{HeadlineHolds};
 ghost use Rattle.kms_model.specs.Promises.{DeadNamesAFence, EventsOnce, FramebuffersOnce, InEachHistory, WholePictures};
 ghost use Rattle.kms_laws.specs.Laws.{AllShownOnceCleaned, FramebuffersStayFree, HasSerialWorld, HistoriesGoOn};
 
-/// For every script and every interleaving of clients, workers, fences and vertical blankings: the pictures that each CRTC
+/// For every script and every interleaving of clients, workers, fences and vblanks: the pictures that each CRTC
 /// latches are, in order, a prefix of those that the device of one thread shows when it executes the journal's commands
 /// one by one, and all of them once the run has drained; every verdict on a request is that device's at its place in
 /// the journal.
@@ -41,7 +41,7 @@ pub fn events_come_once()
     ensures { EventsOnce }
 {}
 
-/// Each history is drained, or a step other than `stall` and a vertical blanking without GO may be done in it; or else the least commit
+/// Each history is drained, or a step other than `stall` and a vblank without GO may be done in it; or else the least commit
 /// that is not cleaned is not claimed and waits for a fence that a `fence` command made and that is not signalled, and
 /// that fence's label is the one that a dead history tells.
 pub fn histories_go_on()

@@ -1,4 +1,4 @@
--- A table of colour values, written as words and read; and that a blob holds a table of bytes.
+-- A gamma table, written as words and read; and that a blob holds a table of bytes.
 use Rattle.std.proofs.Common.{◌≡◌, ℕ, zero, suc, ◌+◌, ◌-◌, ◌*◌, ◌/◌, ◌<◌, List, ◌++◌, length, get_or, take, drop, map, Bool, true, false, Some, None, ◌==◌, inl, inr, refl, sym, ap, ◌∙◌, subst, arith}
 use Rattle.std.specs.Prelude.{slice_range, if◌then◌else◌}
 use Rattle.std.specs.List.{range_with_len}

@@ -22,7 +22,7 @@ first_script = head ++ made ++ lights (codes "0x400")
 abbrev quick_script : List ℕ
 quick_script = head ++ made ++ lights (codes "0x600")
 
--- the first steps of these scripts: up to the swap, and the tail up to the vertical blanking
+-- the first steps of these scripts: up to the swap, and the tail up to the vblank
 abbrev up_to_swap : List ℕ
 up_to_swap = codes "schedule\nT make 1\nT make 1\nT make 1\nT begin 1\nT lock 1 crtc0\nT lock 1 plane0\nT lock 1 conn0\nT swap 1\n"
 
@@ -60,7 +60,7 @@ pub missing_plane_is_refused : report_of_script plain (script 0x400 1) ≡ codes
 unfolding on_machines
 missing_plane_is_refused = refl
 
--- A commit that does not wait is refused while the commit before has not flipped, and accepted after its vertical blanking.
+-- A commit that does not wait is refused while the commit before has not flipped, and accepted after its vblank.
 pub commit_is_busy_until_the_flip : replayed plain (quick_script ++ codes "atomic 0x200 0 plane0.alpha=65535\natomic 0x200 0 plane0.alpha=65535\n" ++ up_to_swap ++ second_locks ++ codes "T refuse 1\n" ++ tail_up_to_hwdone ++ codes "T vblank crtc0\n" ++ second_locks ++ codes "T swap 1\n" ++ second_tail) ≡ codes "J 1 1\nJ 1 2\nJ 1 3\nJ 1 4\nJ 1 6\nR 1 1 0 made 1000\nR 1 2 1 made 1001\nR 1 3 2 made 1002\nR 1 4 3 commit 0\nR 1 5 4 EBUSY 26 crtc0 0\nR 1 6 4 commit 1\nL 0 0 1 ba7816bf8f01cfea414140de5dae2223b00361a396177a9cb410ff61f20015ad\nL 0 1 2 ba7816bf8f01cfea414140de5dae2223b00361a396177a9cb410ff61f20015ad\nD drained\n"
 unfolding on_machines
 commit_is_busy_until_the_flip = refl
@@ -138,12 +138,12 @@ pub older_context_waits : not_legal_at (meeting_script ++ codes "schedule\nT beg
 unfolding on_machines
 older_context_waits = refl
 
--- A commit waits for a fence that nobody signals: only vertical blankings without GO are left, and the history is dead.
+-- A commit waits for a fence that nobody signals: only vblanks without GO are left, and the history is dead.
 pub history_is_dead_where_a_fence_is_not_signalled : one plain (first_script ++ codes "atomic 0x200 0 plane0.alpha=65535 crtc0.OUT_FENCE_PTR=+o\natomic 0x0 0 plane0.alpha=65535 plane0.IN_FENCE_FD=@o\nfence n\natomic 0x0 0 plane0.alpha=65535 plane0.IN_FENCE_FD=@n\n") ≡ codes "J 1 1\nJ 1 2\nJ 1 3\nJ 1 4\nJ 1 5\nJ 1 6\nJ 1 7\nJ 1 8\nR 1 1 0 made 1000\nR 1 2 1 made 1001\nR 1 3 2 made 1002\nR 1 4 3 commit 0\nR 1 5 4 commit 1\nR 1 6 5 commit 2\nR 1 7 6 made 1004\nR 1 8 7 commit 3\nL 0 0 1 ba7816bf8f01cfea414140de5dae2223b00361a396177a9cb410ff61f20015ad\nL 0 1 2 ba7816bf8f01cfea414140de5dae2223b00361a396177a9cb410ff61f20015ad\nL 0 2 3 ba7816bf8f01cfea414140de5dae2223b00361a396177a9cb410ff61f20015ad\nD stalled n\n"
 unfolding on_machines
 history_is_dead_where_a_fence_is_not_signalled = refl
 
--- An event is read with the count after its vertical blanking, and a framebuffer that was closed is freed once nothing shows it.
+-- An event is read with the count after its vblank, and a framebuffer that was closed is freed once nothing shows it.
 pub event_is_read_and_framebuffer_is_freed : one plain (first_script ++ codes "buffer b2 1 1 XR24 solid 00666f6f\naddfb f2 b2\natomic 0x1 7 plane0.FB_ID=@f2\nwait\nclosefb f\nwait\n") ≡ codes "J 1 1\nJ 1 2\nJ 1 3\nJ 1 4\nJ 1 5\nJ 1 6\nJ 1 7\nJ 1 9\nR 1 1 0 made 1000\nR 1 2 1 made 1001\nR 1 3 2 made 1002\nR 1 4 3 commit 0\nR 1 5 4 made 1003\nR 1 6 5 made 1004\nR 1 7 6 commit 1\nR 1 8 7 event 7 2 100\nR 1 9 7 done\nR 1 10 8 none\nL 0 0 1 ba7816bf8f01cfea414140de5dae2223b00361a396177a9cb410ff61f20015ad\nL 0 1 2 2c26b46b68ffc68ff99b453c1d30413413422d706483bfa0f98a5e886266e7ae\nE 1 7 2 100\nX f 1001\nD drained\n"
 unfolding on_machines
 event_is_read_and_framebuffer_is_freed = refl
@@ -180,12 +180,12 @@ pub schedule_that_ends_early_is_open : replayed plain (first_script ++ up_to_swa
 unfolding on_machines
 schedule_that_ends_early_is_open = refl
 
--- A vertical blanking without GO latches nothing, and counts.
+-- A vblank without GO latches nothing, and counts.
 pub vblank_without_go_latches_nothing : replayed plain (first_script ++ up_to_swap ++ tail_up_to_hwdone ++ codes "T vblank crtc0\nT vblank crtc0\n") ≡ codes "J 1 1\nJ 1 2\nJ 1 3\nJ 1 4\nR 1 1 0 made 1000\nR 1 2 1 made 1001\nR 1 3 2 made 1002\nR 1 4 3 commit 0\nL 0 0 1 ba7816bf8f01cfea414140de5dae2223b00361a396177a9cb410ff61f20015ad\nD open 15\n"
 unfolding on_machines
 vblank_without_go_latches_nothing = refl
 
--- no vertical blanking of a CRTC that is off and has no GO
+-- no vblank of a CRTC that is off and has no GO
 pub vblank_of_an_off_crtc_is_not_legal : not_legal_at (first_script ++ codes "schedule\nT vblank crtc0\n") ≡ Some 1
 unfolding on_machines
 vblank_of_an_off_crtc_is_not_legal = refl

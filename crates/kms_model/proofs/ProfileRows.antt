@@ -1,4 +1,4 @@
--- Worked examples of profile 2, computed: scaled planes, sources that begin between pixels, and tables of colour values.
+-- Worked examples of profile 2, computed: scaled planes, sources that begin between pixels, and gamma tables.
 use Rattle.std.proofs.Common.{◌≡◌, ℕ, ◌-◌, List, [], ◌∷◌, ◌++◌, drop, map, refl, codes, replicate, Some, None, Ok}
 use Rattle.std.specs.Prelude.{neg_ℤ, pos, slice_index}
 use Rattle.std.specs.List.{flat_map, range_with_len}
@@ -115,7 +115,7 @@ pub profile_1_begins_at_a_pixel : one pixmaps (text_with (codes "1") half_way) �
 unfolding on_machines
 profile_1_begins_at_a_pixel = refl
 
--- Tables of colour values
+-- Gamma tables
 
 -- 256 entries that turn each channel's value over: both bytes of a number of 16 bits are the value turned over
 abbrev inverting : List ℕ

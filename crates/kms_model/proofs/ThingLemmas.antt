@@ -102,7 +102,7 @@ numbered-closed n (u ∷ us) id numbered = (closed_id id u ∙ numbered.0, numbe
 
 -- Things that are seen alike
 
--- two lists of things show the same framebuffer, the same mode and the same table of colour values under a number
+-- two lists of things show the same framebuffer, the same mode and the same gamma table under a number
 pub record IsSeenAlike (xs ys : List Thing) (number : ℤ) : Type 0 where
   pub fb : framebuffer_of (thing_numbered xs number) ≡ framebuffer_of (thing_numbered ys number)
   pub mode : mode_of (thing_numbered xs number) ≡ mode_of (thing_numbered ys number)

@@ -1,4 +1,4 @@
--- The headline: for every script and every interleaving of clients, workers, fences and vertical blankings, the pictures that
+-- The headline: for every script and every interleaving of clients, workers, fences and vblanks, the pictures that
 -- each CRTC latches are, in order, a prefix of those that the device of one thread shows when it executes the journal's
 -- commands one by one, and all of them once the run has drained; every verdict on a request is that device's at its place
 -- in the journal. The frames of those pictures, byte by byte, are that device's too.

@@ -206,7 +206,7 @@ pub struct PlaneInfo {
     pub formats: u32,
 }
 
-/// A table of colour values: what a channel's value becomes. The place in each list is the value before, from 0 to 255.
+/// A gamma table: what a channel's value becomes. The place in each list is the value before, from 0 to 255.
 /// (Header: `drm_mode.h`, `struct drm_color_lut`, of which the upper 8 of 16 bits are kept.)
 #[derive(Clone, Copy, PartialEq, Eq)]
 pub struct Gamma {

@@ -55,5 +55,5 @@ pub const MODE_ID: u32 = 17;
 /// `OUT_FENCE_PTR` of a CRTC: a fence that the commit makes, or 0. It belongs to its request alone.
 pub const OUT_FENCE_PTR: u32 = 18;
 
-/// `GAMMA_LUT` of a CRTC, in profile 2: the blob of its table of colour values, or 0.
+/// `GAMMA_LUT` of a CRTC, in profile 2: the blob of its gamma table, or 0.
 pub const GAMMA_LUT: u32 = 19;

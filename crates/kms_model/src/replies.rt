@@ -104,7 +104,7 @@ pub enum Step {
     Flush { commit: u32, kind: Kind, index: u32 },
     /// The hardware has taken a commit. (`drm_atomic_helper_commit_hw_done`.)
     HwDone { commit: u32 },
-    /// A vertical blanking of a CRTC. (Kernel: "Vertical Blanking".)
+    /// A vblank of a CRTC. (Kernel: "Vertical Blanking".)
     Vblank { kind: Kind, index: u32 },
     /// A commit's states are given up. (`drm_atomic_helper_commit_cleanup_done`.)
     Cleanup { commit: u32 },

@@ -8,7 +8,7 @@ use crate::replies::{Event, Reply, Step};
 pub enum End {
     /// `drained`: every client is at its end, and every commit is cleaned.
     Drained,
-    /// `stalled`: no step is left but `stall` and vertical blankings that latch nothing; the label of the fence that the
+    /// `stalled`: no step is left but `stall` and vblanks that latch nothing; the label of the fence that the
     /// history waits for.
     Stalled(Seq<u8>),
     /// `open`: neither; how many steps the history has.
@@ -23,7 +23,7 @@ pub struct Report {
     pub journal: Seq<(u32, u32)>,
     /// The lines `R`: client, command, how many commands had been accepted before, and the reply.
     pub replies: Seq<(u32, u32, u32, Reply)>,
-    /// The lines `L`: the CRTC's index, the commit, the CRTC's count of vertical blankings, and the SHA-256 of the frame's
+    /// The lines `L`: the CRTC's index, the commit, the CRTC's count of vblanks, and the SHA-256 of the frame's
     /// bytes (FIPS 180-4), none where the CRTC is off.
     pub latches: Seq<(u32, u32, u64, Option<[u8; 32]>)>,
     /// The lines `E`: a client, and an event that it read.
@@ -63,7 +63,7 @@ pub enum ReportLine {
         crtc: u32,
         /// The number of the commit that latched, counted from 0.
         commit: u32,
-        /// The CRTC's count of vertical blankings after the latch.
+        /// The CRTC's count of vblanks after the latch.
         count: u64,
         /// The SHA-256 of the frame's bytes (FIPS 180-4); none where the CRTC is off.
         digest: Option<[u8; 32]>,

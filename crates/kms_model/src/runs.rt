@@ -34,7 +34,7 @@ pub struct Latch {
     pub crtc: u32,
     /// The number of the commit that latched, counted from 0.
     pub commit: u32,
-    /// The CRTC's count of vertical blankings after the latch.
+    /// The CRTC's count of vblanks after the latch.
     pub count: u64,
     /// What the live registers show after it.
     pub picture: Picture,

@@ -17,7 +17,7 @@ pub enum SetValue {
     Fb(Option<FbInfo>),
     /// `MODE_ID`: a mode, or none.
     Mode(Option<Mode>),
-    /// `GAMMA_LUT`: a table of colour values, or none.
+    /// `GAMMA_LUT`: a gamma table, or none.
     Gamma(Option<Gamma>),
     /// `CRTC_ID`: the id of a CRTC, or 0.
     Crtc(u32),

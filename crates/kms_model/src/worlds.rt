@@ -81,7 +81,7 @@ pub enum Look {
     Mode(Mode, u32),
     /// A blob of neither a legal mode nor 2048 bytes, by its id.
     Blob(u32),
-    /// A blob of 2048 bytes, as a table of colour values, and the blob's id.
+    /// A blob of 2048 bytes, as a gamma table, and the blob's id.
     Gamma(Gamma, u32),
     /// A fence, by its id.
     Fence(u32),

@@ -17,6 +17,6 @@ pub record ExtendsRun (old new : Run) : Type 0 where
   pub more : List Step
   pub steps : new.steps ≡ old.steps ++ more
 
--- a history has less than 2^53 steps that are no vertical blankings without GO: how many it may still have
+-- a history has less than 2^53 steps that are no vblanks without GO: how many it may still have
 abbrev pub moves_left : Run → ℕ
 moves_left r = 2 ^ 53 - moves_in r.script (first_machine r.script.topology) r.steps

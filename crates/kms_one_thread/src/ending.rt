@@ -11,7 +11,7 @@ use kms_core::Core;
 pub enum End {
     /// Every client is at its end, and every commit is cleaned.
     Drained,
-    /// Not drained, and no step may be done but vertical blankings of CRTCs that do not go; `stall` ends such a history,
+    /// Not drained, and no step may be done but vblanks of CRTCs that do not go; `stall` ends such a history,
     /// and no step follows it.
     Dead,
     /// A step may still be done.

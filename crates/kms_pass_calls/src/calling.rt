@@ -93,7 +93,7 @@ pub fn make_call<W: Wait>(
     }
 }
 
-/// Makes a call of workers or of a vertical blanking; no other.
+/// Makes a call of workers or of a vblank; no other.
 fn work<W: Wait>(rt: &W, device: &Device, pass: &mut Pass, call: Call) -> Told
     requires own { pass.old.lock ≡ device.now.lock }
     ensures same { IsSamePass pass.old pass.new }

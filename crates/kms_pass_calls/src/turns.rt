@@ -82,7 +82,7 @@ fn work<W: Wait>(rt: &W, device: &Device, pass: &mut Pass, commit: u32)
     }
 }
 
-/// A vertical blanking of each CRTC that goes.
+/// A vblank of each CRTC that goes.
 fn vblank_each<W: Wait>(rt: &W, device: &Device, pass: &mut Pass)
     requires own { pass.old.lock ≡ device.now.lock }
     ensures same { IsSamePass pass.old pass.new }

@@ -43,7 +43,7 @@ module _ (script : Script) (step_in : Run → Option Step) (before told after : 
       (record { found = t.found; finds = t.finds; said = refl; now = t.now; left = t.left }) t.said
 
 module _ (script : Script) (before told after : DevicePass) (n : ℕ) (answer : pool.Turn) (long : n ≡ length told.seen) (asked : DeviceTurn script (λ found. answer ≡ told_at n (is_drained found.script (machine found))) [] told after) where
-  -- what ticks found no commit that the CRTC latches
+  -- a vblank player found no commit that the CRTC latches
   pub tick_rests : (crtc : ℕ) → DeviceTurn script (λ found. false ≡ blanks_at found crtc) [] before told → TickTurn script crtc before after answer
   tick_rests crtc t =
       of answer

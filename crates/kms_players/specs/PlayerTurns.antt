@@ -83,7 +83,7 @@ ClientTurn script client before old after new Ended =
     DeviceTurn script (λ found. is_at_end found.script (machine found) client ≡ true) [] before after × (new ≡ old)
 ClientTurn script client before old after new answer = Plays script client before old after new answer
 
--- A turn of a worker, or of what ticks
+-- A turn of a worker or a vblank player
 
 -- The one step that it may do in a history is done in the history that was found.
 abbrev pub DoesStep : Script → (Run → Option Step) → DevicePass → DevicePass → Step → Type 0
@@ -105,7 +105,7 @@ abbrev pub step_of_worker : Option ℕ → Run → Option Step
 step_of_worker None r = option_map step.Claim (first_claim r)
 step_of_worker (Some k) r = find (is_legal r) (tail_of r.script.topology k)
 
--- the commit in hand after a step: that which was claimed, until it is cleaned up
+-- the commit that a worker has claimed after a step, until it is cleaned up
 abbrev pub hand_after : Option ℕ → Step → Option ℕ
 hand_after hand (step.Claim k) = Some k
 hand_after hand (step.Cleanup k) = None
@@ -118,11 +118,11 @@ WorkerTurn script before old after new Did =
 WorkerTurn script before old after new (NotYet n) = FindsNoStep script (step_of_worker old) n false before after × (new ≡ old)
 WorkerTurn script before old after new Ended = ((n : ℕ) × FindsNoStep script (step_of_worker old) n true before after) × (new ≡ old)
 
--- what may be ticked: a vertical blanking at which the CRTC latches a commit
+-- the step of a vblank player: a vblank at which the CRTC latches a commit
 abbrev pub step_of_tick : ℕ → Run → Option Step
 step_of_tick crtc r = if blanks_at r crtc then Some (step.Vblank Crtc crtc) else None
 
--- a turn of what ticks, by its answer
+-- a turn of a vblank player, by its answer
 abbrev pub TickTurn : Script → ℕ → DevicePass → DevicePass → pool.Turn → Type 0
 TickTurn script crtc before after Did = DoesStep script (step_of_tick crtc) before after (step.Vblank Crtc crtc)
 TickTurn script crtc before after (NotYet n) = FindsNoStep script (step_of_tick crtc) n false before after

@@ -22,7 +22,7 @@ pub record ClientState : Type 0 where
   pub kept : Attempt
   pub last : Option Turn
 
--- a worker, counted from 0, with the number of the commit that it has in hand
+-- a worker, counted from 0, with the number of the commit that it has claimed
 pub record WorkerState : Type 0 where
   pub device : SharedDevice
   pub number : ℕ
@@ -30,7 +30,7 @@ pub record WorkerState : Type 0 where
   pub hand : Option ℕ
   pub last : Option Turn
 
--- what ticks for the CRTC with an index
+-- the vblank player of the CRTC with an index
 pub record TickState : Type 0 where
   pub device : SharedDevice
   pub crtc : ℕ

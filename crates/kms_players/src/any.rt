@@ -21,7 +21,7 @@ pub enum AnyPlayer<'a, G: Gate> {
     Client(Client<'a, G>),
     /// A worker.
     Worker(Worker<'a, G>),
-    /// What ticks for a CRTC.
+    /// The vblank player of a CRTC.
     Vblank(VblankTick<'a, G>),
 }
 

@@ -1,4 +1,4 @@
-//! The players of a run: clients, workers and what ticks, which take turns at one device.
+//! The players of a run: clients, workers and vblank players, which take turns at one device.
 //!
 //! A turn makes one step of the device's history at most. A player that finds that its next step is not legal yet tells how long
 //! the history was; so all players rest once nobody can do anything.

@@ -9,7 +9,7 @@ use kms_device::{Device, Pass};
 use kms_pool::Turn;
 use std::sync::Wait;
 
-/// What the turn of a worker, or of what ticks, comes to that found nothing to do in a history of some length: it has ended where
+/// The answer of a worker or a vblank player that found nothing to do in a history of some length: it has ended where
 /// the history is drained.
 pub(crate) fn rest<W: Wait>(device: &Device, rt: &W, pass: &mut Pass, length: u64) -> Turn
     requires own { pass.old.lock ≡ device.now.lock }

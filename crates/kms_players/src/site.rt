@@ -27,8 +27,8 @@ pub(crate) struct Site<'a, G: Gate> {
 }
 
 impl<'a, G: Gate> Site<'a, G> {
-    /// A turn of a client, of the number of the command of which an attempt is under way, if any. What it came to is given, with
-    /// that number after it.
+    /// A turn of a client that may have an attempt under way, at the command with a number. The answer is given, with
+    /// that number after the turn.
     pub(crate) fn turn<W: Wait>(
         &self,
         rt: &W,
@@ -56,7 +56,7 @@ impl<'a, G: Gate> Site<'a, G> {
         }
     }
 
-    /// A turn of a client with no attempt under way. What it came to is given, with the number of the command of which an attempt
+    /// A turn of a client with no attempt under way. The answer is given, with the number of the command of which an attempt
     /// is under way then.
     fn ask<W: Wait>(
         &self,
@@ -196,7 +196,7 @@ impl<'a, G: Gate> Site<'a, G> {
         }
     }
 
-    /// A turn in which the command with a number was answered, which the gate is told.
+    /// A turn in which the command with a number was answered; the client then comes to the gate.
     fn answered<W: Wait>(&self, rt: &W, number: u32) -> Turn
         ensures { result ≡ Did }
     {

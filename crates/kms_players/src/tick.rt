@@ -1,4 +1,4 @@
-//! What ticks for a CRTC.
+//! The vblank player of a CRTC.
 ghost use Rattle.std.specs.Prelude.{◌≡◌, ◌<◌, length, Some, None};
 ghost use Rattle.kms_players.specs.Players.{name_of_pass};
 ghost use Rattle.kms_players.specs.PlayerTurns.{TickTurn};
@@ -14,7 +14,7 @@ use std::alloc::Global;
 use std::marker::Model;
 use std::sync::Wait;
 
-/// The vertical blankings of a CRTC, where it latches a commit at them. (Kernel: "Vertical Blanking".)
+/// The vblanks of a CRTC, where it latches a commit at them. (Kernel: "Vertical Blanking".)
 #[derive(Drop)]
 pub struct VblankTick<'a, G: Gate> {
     device: &'a Device,
@@ -41,7 +41,7 @@ impl<'a, G: Gate> Model for VblankTick<'a, G> {
 }
 
 impl<'a, G: Gate> VblankTick<'a, G> {
-    /// What ticks for the CRTC with an index, with a pass of the device whose rank is no client's. It has had no turn.
+    /// The vblank player of the CRTC with an index, with a pass of the device whose rank is no client's. It has had no turn.
     pub fn new(device: &'a Device, gate: &'a G, crtc: u32, pass: Pass) -> VblankTick<'a, G>
         requires own { pass.lock ≡ device.now.lock }
         requires above { length device.now.script.clients < pass.rank }
@@ -57,7 +57,7 @@ impl<'a, G: Gate> VblankTick<'a, G> {
         }
     }
 
-    /// One turn: a vertical blanking of the CRTC where it latches a commit at it. It ends where the history is drained. The gate is
+    /// One turn: a vblank of the CRTC where it latches a commit at it. It ends where the history is drained. The gate is
     /// called before.
     pub fn play<W: Wait>(&mut self, rt: &W) -> Turn
         ensures turn { TickTurn self.old.device.script self.old.crtc self.old.pass self.new.pass
@@ -94,7 +94,7 @@ impl<'a, G: Gate> Player for VblankTick<'a, G> {
     }
 }
 
-/// A vertical blanking of a CRTC where it latches a commit at it, or else what a turn comes to that finds nothing to do.
+/// A vblank of a CRTC where it latches a commit at it, or else the answer of a player that finds nothing to do.
 fn tick<W: Wait>(device: &Device, rt: &W, pass: &mut Pass, crtc: u32) -> Turn
     requires own { pass.old.lock ≡ device.now.lock }
     ensures { TickTurn device.now.script crtc pass.old pass.new result }

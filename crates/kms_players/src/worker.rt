@@ -14,7 +14,7 @@ use std::alloc::Global;
 use std::marker::Model;
 use std::sync::Wait;
 
-/// A worker, which has at most one commit in hand. (Kernel: `drm_atomic_helper.c`, `commit_work`.)
+/// A worker, which has at most one commit that it claimed. (Kernel: `drm_atomic_helper.c`, `commit_work`.)
 #[derive(Drop)]
 pub struct Worker<'a, G: Gate> {
     device: &'a Device,
@@ -43,8 +43,8 @@ impl<'a, G: Gate> Model for Worker<'a, G> {
 }
 
 impl<'a, G: Gate> Worker<'a, G> {
-    /// The worker with a number, counted from 0, with a pass of the device whose rank is no client's. It has had no turn, and has no
-    /// commit in hand.
+    /// The worker with a number, counted from 0, with a pass of the device whose rank is no client's. It has had no turn, and has
+    /// claimed no commit.
     pub fn new(device: &'a Device, gate: &'a G, number: u32, pass: Pass) -> Worker<'a, G>
         requires own { pass.lock ≡ device.now.lock }
         requires above { length device.now.script.clients < pass.rank }
@@ -66,7 +66,7 @@ impl<'a, G: Gate> Worker<'a, G> {
         }
     }
 
-    /// One turn. Without a commit in hand it claims the least that may be claimed, and has that in hand until it is cleaned up; the
+    /// One turn. Without a claimed commit it claims the least that may be claimed, and keeps that until it is cleaned up; the
     /// gate is called before. With one it does the first step that is left of its tail. It ends where the history is drained.
     pub fn play<W: Wait>(&mut self, rt: &W) -> Turn
         ensures turn { WorkerTurn self.old.device.script self.old.pass self.old.hand self.new.pass
@@ -106,7 +106,7 @@ impl<'a, G: Gate> Player for Worker<'a, G> {
     }
 }
 
-/// The turn of a worker with what it has in hand, and what it has in hand then.
+/// The turn of a worker with the commit that it claimed, if any, and the commit that it has claimed then.
 fn work<W: Wait>(device: &Device, rt: &W, pass: &mut Pass, hand: Option<u32>) -> (Turn, Option<u32>)
     requires own { pass.old.lock ≡ device.now.lock }
     ensures { WorkerTurn device.now.script pass.old hand pass.new result.1 result.0 }
@@ -117,7 +117,7 @@ fn work<W: Wait>(device: &Device, rt: &W, pass: &mut Pass, hand: Option<u32>) ->
     }
 }
 
-/// The turn of a worker without a commit in hand, and what it has in hand then.
+/// The turn of a worker without a claimed commit, and the commit that it has claimed then.
 fn claim<W: Wait>(device: &Device, rt: &W, pass: &mut Pass) -> (Turn, Option<u32>)
     requires own { pass.old.lock ≡ device.now.lock }
     ensures { WorkerTurn device.now.script pass.old None pass.new result.1 result.0 }
@@ -131,7 +131,7 @@ fn claim<W: Wait>(device: &Device, rt: &W, pass: &mut Pass) -> (Turn, Option<u32
     }
 }
 
-/// The turn of a worker with a commit in hand, and what it has in hand then.
+/// The turn of a worker with a claimed commit, and the commit that it has claimed then.
 fn work_on<W: Wait>(device: &Device, rt: &W, pass: &mut Pass, commit: u32) -> (Turn, Option<u32>)
     requires own { pass.old.lock ≡ device.now.lock }
     ensures { WorkerTurn device.now.script pass.old (Some commit) pass.new result.1 result.0 }
@@ -145,7 +145,7 @@ fn work_on<W: Wait>(device: &Device, rt: &W, pass: &mut Pass, commit: u32) -> (T
     }
 }
 
-/// What a worker has in hand after a step.
+/// The commit that a worker has claimed, after a step.
 fn hand_after(hand: Option<u32>, step: &Step) -> Option<u32>
     ensures { result ≡ hand_after hand step.now }
 {

@@ -7,7 +7,7 @@ use kms_model::NoMemory;
 use std::alloc::Global;
 use std::sync::Wait;
 
-/// A player, and what its last turn here came to.
+/// A player, and the answer of its last turn here.
 #[derive(Drop)]
 pub struct Participant<P: Player> {
     pub(crate) player: P,
@@ -38,7 +38,7 @@ impl<P: Player> Participant<P> {
         Ok(turn == Turn::Did)
     }
 
-    /// The length at which the player's next event was not legal; none where its last turn came to something else.
+    /// The length at which the player's next event was not legal; none where its last turn had another answer.
     pub(crate) fn awaits(&self) -> Option<u64> {
         match self.last {
             Some(Turn::NotYet { length }) => Some(length),

@@ -6,7 +6,7 @@ use kms_model::NoMemory;
 use std::alloc::Global;
 use std::sync::Wait;
 
-/// What a turn came to.
+/// The answer of a turn.
 #[derive(Clone, Copy, PartialEq, Eq)]
 pub enum Turn {
     /// The player did something, and may do more.
@@ -28,10 +28,10 @@ pub trait Player: Drop {
     // Who it is.
     ghost name: { Self → Self.Name };
 
-    // What its last turn came to; none before its first.
+    // The answer of its last turn; none before its first.
     ghost answer: { Self → Option Turn };
 
-    // What a turn was: who took it, as it was before and as it is afterwards, and what the turn came to.
+    // What a turn was: who took it, as it was before and as it is afterwards, and the turn's answer.
     ghost took: { Self → Self → Turn → Type 0 };
 
     /// One turn, which may wait for others. The player stays who it is. The only error is want of memory.

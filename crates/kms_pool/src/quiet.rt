@@ -35,7 +35,7 @@ impl Quiet {
         self.in_a_row.load(Ordering::SeqCst) >= self.enough || self.stopped.load(Ordering::SeqCst)
     }
 
-    /// Begins a turn. False where none is to be made now, since nothing has come of the last ones.
+    /// Begins a turn. False where none is to be made now, since the last ones did nothing.
     pub(crate) fn begin(&self) -> bool {
         if self.is_quiet() {
             return false;

@@ -15,7 +15,7 @@ use std::sync::Wait;
 use std::thread;
 use std::thread::Threads;
 
-// What one thread has: its pass of the queue, and what came of its work.
+// What one thread has: its pass of the queue, and the result of its work.
 #[derive(Drop)]
 struct PoolThread<P: Player> {
     pass: QueuePass<P>,

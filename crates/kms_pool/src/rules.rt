@@ -5,8 +5,8 @@ use crossbeam_queue::protocol::{Join, Lesson, Outcome, Protocol, Split};
 use crossbeam_queue::{Pass, RuledArrayQueue};
 use std::collections::LinkedList;
 
-/// What a pass of the queue knows: its parts of all that is to be known, the names of the players whom it brought, and
-/// of those whom it has in hand. No value of it is made.
+/// What a pass of the queue knows: its share of the whole, the names of the players that it put into the queue, and
+/// of those that its thread holds. No value of it is made.
 pub struct Hand<N> {
     pub parts: u64,
     pub brought: LinkedList<N>,
@@ -31,7 +31,7 @@ pub(crate) type Queue<P> = RuledArrayQueue<Participant<P>, Hand<<P as Player>::N
 /// What a thread needs to use the queue.
 pub(crate) type QueuePass<P> = Pass<Participant<P>, Hand<<P as Player>::Name>>;
 
-/// Brings a player.
+/// Puts a new player into the queue.
 pub(crate) struct Brings;
 
 impl<P: Player> Outcome<Participant<P>, Hand<P::Name>> for Brings {
@@ -41,7 +41,7 @@ impl<P: Player> Outcome<Participant<P>, Hand<P::Name>> for Brings {
     ghost then = { λ v x w. w ≡ hand v.parts (P.name x.player ∷ v.brought) v.held };
 }
 
-/// Takes a player into the hand.
+/// Takes a player out of the queue.
 pub(crate) struct Takes;
 
 impl<P: Player> Outcome<Participant<P>, Hand<P::Name>> for Takes {
@@ -57,7 +57,7 @@ impl<P: Player> Lesson<Participant<P>, Hand<P::Name>> for Takes {
     ghost fact = { Tells (λ x. P.name x.player) };
 }
 
-/// Puts the one player in the hand back.
+/// Puts the one player that is held back.
 pub(crate) struct PutsBack;
 
 impl<P: Player> Outcome<Participant<P>, Hand<P::Name>> for PutsBack {
@@ -67,7 +67,7 @@ impl<P: Player> Outcome<Participant<P>, Hand<P::Name>> for PutsBack {
     ghost then = { λ v x w. w ≡ hand v.parts v.brought [] };
 }
 
-/// Gives one part to a new pass, which has brought nobody.
+/// Gives a share to a new pass, which has put nobody in.
 pub(crate) struct OneMore;
 
 impl<N> Split<Hand<N>> for OneMore {
@@ -79,7 +79,7 @@ impl<N> Split<Hand<N>> for OneMore {
     ghost right = { λ v. hand 1 [] [] };
 }
 
-/// Takes in the parts of a pass with an empty hand.
+/// Takes in the share of a pass that holds nobody.
 pub(crate) struct TakesIn;
 
 impl<N> Join<Hand<N>> for TakesIn {

@@ -77,7 +77,7 @@ pub(crate) fn work<P: Player, W: Wait>(
             match &did {
                 Some(Ok(did)) => quiet.tell(*did),
                 Some(Err(_)) => quiet.stop(),
-                // There are more threads than players: it is no turn that came to nothing.
+                // There are more threads than players: it is no turn that did nothing.
                 None => quiet.nap(rt),
             }
             quiet.end();

@@ -70,7 +70,7 @@ impl Register {
     /// The 68 bytes of a CRTC's mode as little-endian words, 0 without a mode.
     pub const MODE: Register = Register(18);
 
-    /// 1 where a CRTC has a table of colour values, else 0.
+    /// 1 where a CRTC has a gamma table, else 0.
     pub const GAMMA_ON: Register = Register(19);
 
     /// The 256 values of red, of green and of blue of a CRTC's table as little-endian words, 0 without a table.

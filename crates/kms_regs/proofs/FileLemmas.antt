@@ -167,7 +167,7 @@ off_latched t d planes s l go counts index w h is off =
     decoded_off t (latched_registers t d.shadow d.live (object_id Crtc index)) (object_id Crtc index) w
     (is ∙ sym (h.shadow_words.crtcs index) ∙ sym (read_here first_crtc_words words d.live.crtcs (object_id Crtc index) (object_id Crtc index) refl)) off
 
--- a vertical blanking is counted
+-- a vblank is counted
 counted_file : (t : Topology) (d : DeviceState) (planes : ℕ) (s l : Registers) (go go' : List Bool) (counts : List ℕ) (index : ℕ) → StandsForDevice t d (file_of planes s l go counts) → index < length counts
     → ((i : ℕ) → is_some (read None ((object_id Crtc index, None) ∷ d.go) (object_id Crtc i)) ≡ read false (with_ids (object_id Crtc 0) go') (object_id Crtc i))
     → StandsForDevice t (counted d (object_id Crtc index)) (file_of planes s l go' (slice_set counts index (get_or counts index 0 + 1)))

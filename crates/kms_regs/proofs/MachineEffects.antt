@@ -52,7 +52,7 @@ flush_stands t m k crtc f same stands =
       | inr off ↦ rw off (latch_stands t _ k crtc _ f (rw (same, off) at stands))
     ]
 
--- a vertical blanking
+-- a vblank
 pub blank_stands : (t : Topology) (m : Machine) (crtc : ℕ) (go : Option ℕ) (f : RegisterFile) → go_at m.device crtc ≡ go → StandsForDevice t (blanked t m.device crtc) f → StandsForDevice t (blanks t m crtc go).device f
 blank_stands t m crtc None f is stands = rw is at stands
 blank_stands t m crtc (Some k) f is stands = latch_stands t (counts_vblank m crtc) k crtc _ f (rw is at stands)

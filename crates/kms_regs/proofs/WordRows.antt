@@ -12,7 +12,7 @@ use Rattle.kms_model.specs.Device.Modes.{full_hd}
 use Rattle.kms_model.specs.Device.Objects.{object_id}
 use Rattle.kms_model.specs.Machine.Registers.{CrtcWords, crtc_words, first_crtc_words, first_plane_words, gamma_in_words, mode_in_words, plane_in, plane_words, words_of_bytes}
 
--- a CRTC that is on, or off, with a mode and a table of colour values, if any
+-- a CRTC that is on, or off, with a mode and a gamma table, if any
 abbrev crtc : Bool → Option Mode → Option Gamma → CrtcState
 crtc active mode gamma = record { active = active; mode = mode; gamma = gamma; planes = 0; conns = 0 }
 

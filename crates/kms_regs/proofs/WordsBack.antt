@@ -56,7 +56,7 @@ plane_back s h =
 pub mode_back : (m : Mode) → IsWritableMode m → mode_held (bytes_of_words (mode_words (Some m))) ≡ m
 mode_back m h = ap mode_held (words_back 17 (mode_bytes m) (mode_long m h.fits.back.name) (mode_small m h.name_bytes)) ∙ mode_held-mode_bytes m h.fits
 
--- Tables of colour values
+-- Gamma tables
 
 gamma_read : (c : CrtcWords) (gamma : Option Gamma) → c.gamma_on ≡ one_if (is_some gamma) → c.gamma ≡ gamma_words gamma → HasGamma gamma → gamma_in_words c ≡ gamma
 gamma_read c None on words has = rw on refl

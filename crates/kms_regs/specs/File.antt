@@ -15,7 +15,7 @@ pub record RegisterFile : Type 0 where
   pub planes : ℕ
   pub shadow : Registers
   pub live : Registers
-  -- whether a CRTC has GO, and the count of its vertical blankings, by id
+  -- whether a CRTC has GO, and the count of its vblanks, by id
   pub go : List (ℕ × Bool)
   pub counts : List (ℕ × ℕ)
 
@@ -33,7 +33,7 @@ file_of planes shadow live go counts = record {
 abbrev pub has_go : RegisterFile → ℕ → Bool
 has_go f crtc = read false f.go crtc
 
--- the count of a CRTC's vertical blankings, by id
+-- the count of a CRTC's vblanks, by id
 abbrev pub blanking_count : RegisterFile → ℕ → ℕ
 blanking_count f crtc = read 0 f.counts crtc
 
@@ -63,11 +63,11 @@ latched_device t d crtc = record d { live = latched_registers t d.shadow d.live 
 abbrev pub flushed : Topology → DeviceState → ℕ → ℕ → DeviceState
 flushed t d k crtc = if is_on_in d.shadow crtc then record d { go = (crtc, Some k) ∷ d.go } else latched_device t d crtc
 
--- a vertical blanking is counted, and takes GO away
+-- a vblank is counted, and takes GO away
 abbrev pub counted : DeviceState → ℕ → DeviceState
 counted d crtc = record d { counts = (crtc, count_at d crtc + 1) ∷ d.counts; go = (crtc, None) ∷ d.go }
 
--- a vertical blanking, at which a CRTC with GO latches
+-- a vblank, at which a CRTC with GO latches
 abbrev pub blanked : Topology → DeviceState → ℕ → DeviceState
 blanked t d crtc = if is_some (go_at d crtc) then latched_device t (counted d crtc) crtc else counted d crtc
 
@@ -81,6 +81,6 @@ latched_picture t d crtc = decoded_picture t (latched_registers t d.shadow d.liv
 abbrev pub flushed_picture : DeviceState → ℕ → Option Picture
 flushed_picture d crtc = if is_on_in d.shadow crtc then None else Some Off
 
--- the picture of a vertical blanking, where the CRTC has GO
+-- the picture of a vblank, where the CRTC has GO
 abbrev pub blanked_picture : Topology → DeviceState → ℕ → Option Picture
 blanked_picture t d crtc = if is_some (go_at d crtc) then Some (latched_picture t d crtc) else None

@@ -47,7 +47,7 @@ abbrev pub Flushes : RegisterFile → RegisterFile → ℕ → Type 0
 Flushes old new index =
     (t : Topology) (d : DeviceState) (k : ℕ) → StandsForDevice t d old → StandsForDevice t (flushed t d k (object_id Crtc index)) new
 
--- the CRTC with an index has a vertical blanking
+-- the CRTC with an index has a vblank
 abbrev pub Blanks : RegisterFile → RegisterFile → ℕ → Type 0
 Blanks old new index =
     (t : Topology) (d : DeviceState) → StandsForDevice t d old → StandsForDevice t (blanked t d (object_id Crtc index)) new
@@ -83,7 +83,7 @@ FollowsVblank =
     → StandsForDevice s.topology m.device old → Blanks old new index
     → StandsForDevice s.topology (next s m (Vblank Crtc index)).device new
 
--- What a machine records of a latch: a CRTC that is off latches at its flush, and one with GO at its vertical blanking. The
+-- What a machine records of a latch: a CRTC that is off latches at its flush, and one with GO at its vblank. The
 -- picture is that of the calls.
 
 abbrev pub latch_of : Topology → DeviceState → ℕ → ℕ → ℕ → Latch

@@ -17,11 +17,11 @@ use crate::words::{CrtcWords, PlaneWords};
 use kms_model::{CrtcState, Layers, Picture, PlaneState, Topology};
 use std::marker::Model;
 
-/// The registers of a device: shadow and live words, which CRTCs go at their next vertical blanking, and how many each
+/// The registers of a device: shadow and live words, which CRTCs go at their next vblank, and how many each
 /// has had. It takes about nine kilobytes, in place.
 ///
 /// Contracts tell for each state of a machine that the register file stands for, that it stands for the state after the
-/// write, the flush or the vertical blanking. It does not know which commit goes.
+/// write, the flush or the vblank. It does not know which commit goes.
 #[derive(Drop)]
 pub struct RegFile {
     planes: u32,
@@ -110,8 +110,8 @@ impl RegFile {
             .write_crtc(index, &old, &CrtcWords::of(conn, new));
     }
 
-    /// Flushes the shadow words of the CRTC with an index, from 0 to 3. One that is on there latches at its next vertical
-    /// blanking. One that is off latches at once: it shows nothing, and that is its picture.
+    /// Flushes the shadow words of the CRTC with an index, from 0 to 3. One that is on there latches at its next
+    /// vblank. One that is off latches at once: it shows nothing, and that is its picture.
     pub fn flush(&mut self, crtc: u32) -> Option<Picture>
         requires { crtc < 4 }
         ensures stands { Flushes self.old self.new crtc }
@@ -128,7 +128,7 @@ impl RegFile {
         Some(Picture::Off)
     }
 
-    /// Counts a vertical blanking of the CRTC with an index, from 0 to 3. One that goes latches, and this is its picture.
+    /// Counts a vblank of the CRTC with an index, from 0 to 3. One that goes latches, and this is its picture.
     /// The count is below 18446744073709551615.
     pub fn vblank(&mut self, crtc: u32) -> Option<Picture>
         requires crtc { crtc < 4 }
@@ -156,7 +156,7 @@ impl RegFile {
     }
 
     /// The layers, from the lowest, of what the live words of the CRTC with an index, from 0 to 3, show: those of the
-    /// picture that [`RegFile::decode_live`] gives, without its table of colour values; none where the CRTC is off.
+    /// picture that [`RegFile::decode_live`] gives, without its gamma table; none where the CRTC is off.
     pub fn live_layers(&self, crtc: u32) -> Layers
         requires { crtc < 4 }
         ensures { (t : Topology) (d : DeviceState) → StandsForDevice t d self.now
@@ -166,7 +166,7 @@ impl RegFile {
     }
 
     /// Whether what the live words of the CRTC with an index, from 0 to 3, show names the framebuffer with an id: the
-    /// answer that [`RegFile::decode_live`] gives, without its mode and its table of colour values.
+    /// answer that [`RegFile::decode_live`] gives, without its mode and its gamma table.
     pub fn shows(&self, crtc: u32, fb: u32) -> bool
         requires { crtc < 4 }
         ensures { (t : Topology) (d : DeviceState) → StandsForDevice t d self.now
@@ -193,7 +193,7 @@ impl RegFile {
         self.live.crtc(crtc).active != 0
     }
 
-    /// How many vertical blankings the CRTC with an index, from 0 to 3, has had.
+    /// How many vblanks the CRTC with an index, from 0 to 3, has had.
     pub fn count(&self, crtc: u32) -> u64
         requires { crtc < 4 }
         ensures own { result ≡ blanking_count self.now (object_id Crtc crtc) }
@@ -203,7 +203,7 @@ impl RegFile {
         self.counts[crtc as usize]
     }
 
-    /// Whether the CRTC with an index, from 0 to 3, latches at its next vertical blanking.
+    /// Whether the CRTC with an index, from 0 to 3, latches at its next vblank.
     pub fn has_go(&self, crtc: u32) -> bool
         requires { crtc < 4 }
         ensures own { result ≡ has_go self.now (object_id Crtc crtc) }

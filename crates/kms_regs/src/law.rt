@@ -17,7 +17,7 @@ pub fn latch_shows_what_was_written()
 
 /// A register file that stands for a machine's registers stands for them after each of its steps: after a write of the
 /// new state of a plane or a CRTC that a commit touches, after a flush of a CRTC that the commit names and whose words
-/// are written, after a vertical blanking, and after each other step as it is. What the machine records of a latch has the
+/// are written, after a vblank, and after each other step as it is. What the machine records of a latch has the
 /// picture that the call gives. The last three clauses tell, of the machine's words, what a write and a flush rest on.
 pub fn follows_the_machine()
     ensures write_plane { FollowsPlaneWrite }

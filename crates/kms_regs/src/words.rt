@@ -21,7 +21,7 @@ use std::marker::Model;
 /// How many words a mode has.
 const MODE_WORDS: usize = 17;
 
-/// How many words a table of colour values has.
+/// How many words a gamma table has.
 const GAMMA_WORDS: usize = 192;
 
 /// How many bytes these words have: the values of its three channels, with no padding.
@@ -117,7 +117,7 @@ pub struct CrtcWords {
     pub conn: u32,
     /// The bytes of its mode as little-endian words, 0 without a mode.
     pub mode: [u32; 17],
-    /// 1 where it has a table of colour values, else 0.
+    /// 1 where it has a gamma table, else 0.
     pub gamma_on: u32,
     /// The values of red, of green and of blue of its table as little-endian words, 0 without a table.
     pub gamma: [u32; 192],
@@ -378,7 +378,7 @@ impl CrtcWords {
         mode_of(&mode_bytes(&self.mode))
     }
 
-    /// The table of colour values that the words hold, if any.
+    /// The gamma table that the words hold, if any.
     pub fn gamma(&self) -> Option<Gamma>
         ensures { result ≡ gamma_in_words self.now }
     {
@@ -433,7 +433,7 @@ fn mode_held(mode: &Mode) -> [u32; 17]
     words
 }
 
-/// The words of a table of colour values, 0 without one.
+/// The words of a gamma table, 0 without one.
 fn gamma_words(gamma: &Option<Gamma>) -> [u32; 192]
     ensures { result ≡ gamma_words gamma.now }
 {

@@ -137,7 +137,7 @@ fn push_if_on<H: Hands>(
 }
 
 /// Adds the lines of the latches of a CRTC. Each frame is made of one of the two before it, at first of those that are kept, where
-/// that has its size and its table of colour values, else anew.
+/// that has its size and its gamma table, else anew.
 pub fn push_after<H: Hands>(
     hands: &H,
     alloc: Global,
@@ -163,7 +163,7 @@ pub fn push_after<H: Hands>(
 }
 
 /// Adds the lines of the latches of a CRTC, with their frames as pixmaps where these are wanted. Each frame is made of one of the
-/// two before it where that has its size and its table of colour values, else anew.
+/// two before it where that has its size and its gamma table, else anew.
 pub fn push_latches<H: Hands>(
     hands: &H,
     alloc: Global,

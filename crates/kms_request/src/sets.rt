@@ -59,7 +59,7 @@ fn mode_value<L: Looker>(found: &L, given: Value) -> Option<Mode>
     }
 }
 
-/// The table of colour values that a value names.
+/// The gamma table that a value names.
 fn gamma_value<L: Looker>(found: &L, given: Value) -> Option<Gamma>
     ensures { result ≡ gamma_value (L.meaning found.now) given }
 {

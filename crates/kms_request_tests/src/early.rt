@@ -251,7 +251,7 @@ fn a_property_takes_its_values_alone(rt: HostRuntime) -> Result<(), Fail> {
     )
 }
 
-/// The line that makes a table of colour values: each channel has one value, 71 to 73.
+/// The line that makes a gamma table: each channel has one value, 71 to 73.
 pub(crate) fn table_made(alloc: Global, front: &str) -> Result<String, Fail> {
     let mut text = String::from_str(alloc, front)?;
     for _entry in 0..256 {

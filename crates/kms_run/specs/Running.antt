@@ -16,7 +16,7 @@ use Rattle.kms_players.specs.declared.any.AnyPlayer.TheVariants.{Client, Vblank,
 use Rattle.kms_players.specs.Players.{name_of_pass}
 use Rattle.kms_run.specs.Answers.{IsContinued}
 
--- how many players a script has: its clients, four workers, and one for the vertical blankings of each CRTC
+-- how many players a script has: its clients, four workers, and one vblank player for each CRTC
 abbrev pub seats_for : Script → ℕ
 seats_for s = length s.clients + 4 + s.topology.crtcs
 
@@ -27,7 +27,7 @@ pub record IsSeat (d : SharedDevice) (p : DevicePass) : Type 0 where
   pub high : p.rank ≤ seats_for d.script
 
 -- The player of a pass, by its rank: first each client, by its number from 1 on, then four workers, by a number from 0 on, then
--- what ticks for each CRTC, by its index. It has had no turn: a client keeps nothing of a request, and a worker has no commit.
+-- the vblank player of each CRTC, by its index. It has had no turn: a client keeps nothing of a request, and a worker has no commit.
 module _ {G : Type 0} where
   abbrev pub client_player : SharedDevice → DevicePass → AnyPlayer G
   client_player d p = Client (record { device = d; client = p.rank; pass = p; kept = new_attempt; last = None })

@@ -1,4 +1,4 @@
--- What `gen` writes: a generated script, or what one thread comes to that runs it. This device's own.
+-- What `gen` writes: a generated script, or the summary of the history that one thread makes of it. This device's own.
 use Rattle.std.specs.Prelude.{◌≡◌, ℕ, Bool, true, false, List, [], ◌∷◌, ◌++◌, length, codes}
 use Rattle.std.specs.Fmt.{decimal}
 use Rattle.std.specs.List.{flat_map}

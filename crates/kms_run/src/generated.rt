@@ -1,4 +1,4 @@
-//! What `gen` writes: a generated script, or what one thread comes to that runs it.
+//! What `gen` writes: a generated script, or the summary of the history that one thread makes of it.
 ghost use Rattle.std.specs.Prelude.{◌≡◌, ◌≤◌, ◌∷◌, IfOk, [], codes, length, string_bytes, true};
 ghost use Rattle.std.specs.List.{count_by};
 ghost use Rattle.kms_core.specs.Run.{machine};
@@ -101,7 +101,7 @@ fn six_lines(alloc: Global, counts: &Counts, digest: &str) -> Result<String, All
     Ok(text)
 }
 
-/// What a history that is drained comes to.
+/// The summary of a history that is drained.
 fn summary<R: Threads + Sync>(rt: &R, alloc: Global, core: &Core) -> Result<Seq<u8>, NoMemory>
     requires { is_drained core.now.script (machine core.now) ≡ true }
     ensures { IfOk result (λ text. text ≡ said.summary core.now.script core.now.steps) }

@@ -34,8 +34,8 @@ fn seats_for(script: &Script) -> u32
     script.clients.len() as u32 + WORKERS + script.topology.crtcs
 }
 
-/// The player of a pass, by its rank: first each client, in order of number, then the workers, then a player for the vertical
-/// blankings of each CRTC.
+/// The player of a pass, by its rank: first each client, in order of number, then the workers, then a player for the
+/// vblanks of each CRTC.
 fn player<'a, G: Gate>(device: &'a Device, gate: &'a G, pass: Pass) -> AnyPlayer<'a, G>
     requires formed { IsWellFormed device.now.script }
     requires seat { IsSeat device.now pass }

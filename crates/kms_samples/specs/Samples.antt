@@ -1,4 +1,4 @@
--- Modes, devices, tables of colour values and requests that tests are about.
+-- Modes, devices, gamma tables and requests that tests are about.
 use Rattle.std.specs.Prelude.{ℕ, ◌+◌, ◌-◌, ◌/◌, ◌%◌, pos, List, [], ◌∷◌, map, replicate}
 use Rattle.std.specs.List.{range_with_len}
 use Rattle.kms_model.specs.declared.objects.Gamma.{Gamma}

@@ -78,7 +78,7 @@ pub fn split(alloc: Global) -> Result<Topology, NoMemory>
     device_with(alloc, 2, &[plane, plane], &[3])
 }
 
-/// The same device in profile 2: its planes may scale, and its CRTCs have tables of colour values.
+/// The same device in profile 2: its planes may scale, and its CRTCs have gamma tables.
 pub fn in_profile_2(topology: Topology) -> Topology
     requires { IsDevice topology }
     ensures value { result ≡ in_profile_2 topology }

@@ -1,4 +1,4 @@
-//! Tables of colour values.
+//! Gamma tables.
 ghost use Rattle.std.specs.Prelude.{◌≡◌};
 ghost use Rattle.kms_samples.specs.Samples.{mixed_gamma};
 

@@ -1,4 +1,4 @@
-//! Modes, devices, ids, tables of colour values and requests that tests are about, each with its exact value; texts of
+//! Modes, devices, ids, gamma tables and requests that tests are about, each with its exact value; texts of
 //! scripts; and numbers by chance.
 //! Nothing but tests, and definitions for tests, calls this crate.
 #![tactic(auto)]

@@ -106,9 +106,9 @@ QueuesFollowTheOthers =
     (s : Script) (m : Machine) (step : Step) (q : Queue) (client : ℕ)
     → keeps_events step ≡ true → IsQueueOf q m.events client → IsQueueOf q (next s m step).events client
 
--- Flushes and vertical blankings, of fences, of the queue of the commit's client, and of those of other clients
+-- Flushes and vblanks, of fences, of the queue of the commit's client, and of those of other clients
 
--- what a flush or a vertical blanking that latches nothing leaves
+-- what a flush or a vblank that latches nothing leaves
 pub record LeavesSignals (old new : Machine) : Type 0 where
   pub fences : (fences : FenceSet) → AreFencesOf fences old.device.signalled → AreFencesOf fences new.device.signalled
   pub queues : (q : Queue) (client : ℕ) → IsQueueOf q old.events client → IsQueueOf q new.events client

@@ -25,7 +25,7 @@ pub fn event_bytes(event: &Event) -> [u8; 32]
 }
 
 /// The event of a latch at the CRTC of an id, with the user data of its request. Its sequence is the CRTC's count of
-/// vertical blankings without what is above 32 bits. (Header: `drm.h`, `struct drm_event_vblank`; kernel:
+/// vblanks without what is above 32 bits. (Header: `drm.h`, `struct drm_event_vblank`; kernel:
 /// `drm_vblank.c`, `send_vblank_event`.)
 pub fn flip_event(user_data: u64, count: u64, crtc: u32) -> Event
     ensures { result ≡ record { user_data = user_data; sequence = count % 2 ^ 32; crtc = crtc } }

@@ -28,7 +28,7 @@ pub fn stands_for_the_machine()
 
 /// Fences and queues that stand for a machine's stand for them after each of its steps: fences once a signal is told,
 /// queues once what a swap reserves and what is read is told, both once a latch is told, at a flush of a CRTC that is off
-/// or at a vertical blanking with GO, and after each other step as they are.
+/// or at a vblank with GO, and after each other step as they are.
 pub fn follow_the_machine()
     ensures signal { FencesFollowSignal }
     ensures refused_signal { FencesFollowRefusedSignal }

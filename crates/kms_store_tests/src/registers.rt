@@ -18,7 +18,7 @@ enum Crtc {
     Off,
     /// On, in the mode of one pixel.
     Lit,
-    /// On in that mode, with a table of colour values.
+    /// On in that mode, with a gamma table.
     Coloured,
     /// On, in the mode of 1920x1080.
     FullHd,
@@ -43,7 +43,7 @@ enum Call {
     Flush,
     /// It latches at once, and shows nothing.
     FlushOff,
-    /// A vertical blanking latches nothing.
+    /// A vblank latches nothing.
     Rests,
     /// It latches what is shown then.
     Latches,
@@ -53,9 +53,9 @@ enum Call {
     Shows(u32, Crtc, &'static [u32]),
     /// It shows one plane at a place.
     ShowsAt(i64, i64),
-    /// Whether it latches at its next vertical blanking.
+    /// Whether it latches at its next vblank.
     HasGo(bool),
-    /// How many vertical blankings it has had.
+    /// How many vblanks it has had.
     Counts(u64),
 }
 
@@ -68,7 +68,7 @@ const PLACED: Plane = Plane::On(CRTC.0, 0, 0);
 /// The same on the other CRTC.
 const MOVED: Plane = Plane::On(SECOND_CRTC.0, 0, 0);
 
-/// A CRTC latches at its vertical blanking alone.
+/// A CRTC latches at its vblank alone.
 const LATCHING: [Row; 17] = [
     (0, Call::WriteCrtc(CONN.0, Crtc::Off, Crtc::Lit)),
     (1, Call::WritePlane(Plane::Nowhere(1), PLACED)),
@@ -277,7 +277,7 @@ fn writes_crtc(regs: &mut RegFile, index: u32, conn: u32, old: Crtc, new: Crtc) 
     was && regs.has_crtc(index, &new) && regs.is_on_in_shadow(index) == new.active
 }
 
-/// Meets a vertical blanking. True where it latches, or not, and gives what is shown then.
+/// Meets a vblank. True where it latches, or not, and gives what is shown then.
 fn blanks(regs: &mut RegFile, crtc: u32, latches: bool) -> bool
     requires { crtc < 4 }
 {

@@ -65,7 +65,7 @@ FollowsFlushOff =
 abbrev pub FollowsHwDone : Type 0
 FollowsHwDone = (s : Script) (m : Machine) (k : ℕ) (v w : Rooms Tail) → Follows s m (HwDone k) k v w (with_done k)
 
--- A vertical blanking without GO tells nothing; one with GO latches.
+-- A vblank without GO tells nothing; one with GO latches.
 abbrev pub FollowsVblank : Type 0
 FollowsVblank =
     (s : Script) (m : Machine) (index : ℕ) (v : Rooms Tail)

@@ -2,8 +2,8 @@
 ghost use Rattle.kms_tails.specs.StepLaws.{FewAreLeft, FollowsClaim, FollowsCleanup, FollowsFlush, FollowsFlushOff, FollowsHwDone, FollowsSwap, FollowsTheOthers, FollowsVblank, FollowsVblankWithGo, FollowsWrite, LatchIsLeft, LatchIsOff, LegalIsLeft, LegalIsSetUp};
 
 /// Tails that stand for a machine's commits stand for them after each of its steps: after a swap once its commit is pushed,
-/// after a step of a tail once the call of that step is made, after a flush of a CRTC that is off and after a vertical
-/// blanking with GO once the latch is told, and after each other step as they are. The last clause says that a commit whose
+/// after a step of a tail once the call of that step is made, after a flush of a CRTC that is off and after a
+/// vblank with GO once the latch is told, and after each other step as they are. The last clause says that a commit whose
 /// step is legal was set up, as the clauses of the calls ask.
 pub fn follow_the_machine()
     ensures swap { FollowsSwap }

@@ -10,7 +10,7 @@ use crate::things::Things;
 use kms_blobs::{decode_mode, gamma_of_bytes, is_legal_mode};
 use kms_model::{Content, Gamma, Look, Mode};
 
-/// A blob of bytes that are no legal mode, by the table of colour values that they hold, if any.
+/// A blob of bytes that are no legal mode, by the gamma table that they hold, if any.
 fn look_of_gamma(id: u32, gamma: Option<Gamma>) -> Look
     ensures { result ≡ look_of_gamma id gamma }
 {
@@ -20,7 +20,7 @@ fn look_of_gamma(id: u32, gamma: Option<Gamma>) -> Look
     }
 }
 
-/// A blob of bytes, by the mode or the table of colour values that they hold, if any.
+/// A blob of bytes, by the mode or the gamma table that they hold, if any.
 fn look_of_blob(id: u32, mode: Option<Mode>, gamma: Option<Gamma>) -> Look
     ensures { result ≡ look_of_blob id mode gamma }
 {

@@ -47,7 +47,7 @@ names_of t d holds =
           (list_all-at (names_at t d 0 object) (ids_of t Crtc) crtc (list_all-at (λ o. list_all (names_at t d 0 o) (ids_of t Crtc)) (lockable t) object parts.1 is) is_crtc)) touched concerned);
     }
 
--- a client makes a framebuffer and a mode, and lights the CRTC: its steps up to the vertical blanking
+-- a client makes a framebuffer and a mode, and lights the CRTC: its steps up to the vblank
 abbrev lit : List ℕ
 lit =
     head

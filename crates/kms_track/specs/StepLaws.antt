@@ -61,7 +61,7 @@ FollowsFlushOff =
     → (new_crtc s.topology m.device.commits k (object_id Crtc index)).active ≡ false → IsInStep s.topology m v
     → IsInStep s.topology (next s m (Flush k Crtc index)) (changed_commit v k (with_latch index))
 
--- A vertical blanking without GO tells nothing; one with GO latches.
+-- A vblank without GO tells nothing; one with GO latches.
 abbrev pub FollowsVblank : Type 0
 FollowsVblank =
     (s : Script) (m : Machine) (index : ℕ) (v : Tracking)

@@ -42,8 +42,8 @@ pub fn answers_as_the_machine()
 {}
 
 /// A tracker that stands for a machine stands for it after each of its steps: after a swap once the commit is set up as it
-/// was checked, after a claim, hw_done and cleanup once it is told, after a flush of a CRTC that is off and a vertical
-/// blanking with GO once it is told of the latch, and after each other step as it is. The last three clauses tell of what a
+/// was checked, after a claim, hw_done and cleanup once it is told, after a flush of a CRTC that is off and a
+/// vblank with GO once it is told of the latch, and after each other step as it is. The last three clauses tell of what a
 /// check gives, of the set of touched objects and of the device that they have what the others ask for.
 pub fn follows_the_machine()
     ensures swap { FollowsSwap }

@@ -1,9 +1,9 @@
-//! What is told of a request for which a client takes locks.
+//! How a request is judged for which a client takes locks.
 ghost use Rattle.std.specs.Prelude.{◌≡◌, ◌&&◌, ◌||◌, not, is_none, is_some};
 
 use kms_model::{Refusal, Reply};
 
-/// What is told of a request for which no early refusal is due.
+/// The judgement of a request for which no early refusal is due.
 #[derive(Clone, Copy)]
 pub(crate) struct Judged {
     /// The client's context holds what the request touches.

@@ -98,7 +98,7 @@ pub(crate) fn may_swap(stores: &Stores, client: u32) -> bool
     }
 }
 
-/// What is told of the request for which a client, by its number from 1, takes locks; none where an early refusal
+/// The judgement of the request for which a client, by its number from 1, takes locks; none where an early refusal
 /// is due.
 pub(crate) fn judged(stores: &Stores, client: u32, request: &Request) -> Option<Judged>
     requires { Some request.now ≡ request_taken stores.now.script (machine stores.now) client }

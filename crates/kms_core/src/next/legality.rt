@@ -26,7 +26,7 @@ pub fn legal(stores: &Stores, step: &Step) -> bool
     }
 }
 
-/// Whether a step is legal next, other than the end of a dead history and a vertical blanking of a CRTC that does not
+/// Whether a step is legal next, other than the end of a dead history and a vblank of a CRTC that does not
 /// go.
 pub fn enabled(stores: &Stores) -> bool
     ensures { result ≡ is_enabled stores.now.script (machine stores.now) }
@@ -54,7 +54,7 @@ fn are_at_end(stores: &Stores) -> bool
     true
 }
 
-/// Whether the history is dead: not drained, and no step is legal but vertical blankings of CRTCs that do not go; also
+/// Whether the history is dead: not drained, and no step is legal but vblanks of CRTCs that do not go; also
 /// where it was ended.
 pub fn is_dead(stores: &Stores) -> bool
     ensures { result ≡ is_dead stores.now.script (machine stores.now) }

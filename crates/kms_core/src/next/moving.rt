@@ -18,7 +18,7 @@ use crate::stores::Stores;
 use kms_model::Kind;
 use kms_request::count_of;
 
-/// Whether a step is legal, while the history goes on, other than `stall` and a vertical blanking of a CRTC that does not
+/// Whether a step is legal, while the history goes on, other than `stall` and a vblank of a CRTC that does not
 /// go.
 pub(crate) fn can_move(stores: &Stores) -> bool
     ensures { result ≡ moves stores.now.script (machine stores.now) }

@@ -16,7 +16,7 @@ use crate::stores::Stores;
 use kms_model::{Kind, Step};
 
 /// The next step of a tail in the order of one thread: the first that is legal of the least commit that has one, or else
-/// the vertical blanking of the first CRTC that has GO. None where there is none, and where the history was ended.
+/// the vblank of the first CRTC that has GO. None where there is none, and where the history was ended.
 pub fn tail_step(stores: &Stores) -> Option<Step>
     ensures { result ≡ tail_step stores.now.script (machine stores.now) }
 {
@@ -45,7 +45,7 @@ fn first_of_tails(stores: &Stores) -> Option<Step>
 }
 
 /// The first step of the tail of a commit: its claim, the writes of its CRTCs and then of its planes, its flushes, and
-/// what is told where all these are done.
+/// then the end of writing, or the clean-up.
 fn first_of_tail(stores: &Stores, commit: u32) -> Option<Step>
     ensures { result ≡ find (may stores.now.script (machine stores.now))
         (steps_of_commit stores.now.script.topology commit) }
@@ -101,7 +101,7 @@ fn end_of_tail(stores: &Stores, commit: u32) -> Option<Step>
     }
 }
 
-/// The vertical blanking of the first CRTC that has GO.
+/// The vblank of the first CRTC that has GO.
 fn first_blanking(stores: &Stores) -> Option<Step>
     ensures { result ≡ find (may stores.now.script (machine stores.now))
         (steps_with_go stores.now.script.topology (machine stores.now)) }

@@ -1,4 +1,4 @@
-//! Which steps of tails, and which vertical blankings, are legal while the history goes on.
+//! Which steps of tails, and which vblanks, are legal while the history goes on.
 ghost use Rattle.std.specs.Prelude.{◌≡◌, ◌<◌, ◌||◌, is_some};
 ghost use Rattle.std.specs.Option.{option_map};
 ghost use Rattle.kms_model.specs.declared.objects.Kind.TheVariants.{Crtc};
@@ -81,7 +81,7 @@ fn is_running(stores: &Stores, crtc: u32) -> bool
     has_go(stores, crtc) || stores.registers.is_on(crtc)
 }
 
-/// Whether the CRTC with an index, from 0 to 3, latches a commit at its next vertical blanking.
+/// Whether the CRTC with an index, from 0 to 3, latches a commit at its next vblank.
 pub fn has_go(stores: &Stores, crtc: u32) -> bool
     requires { crtc < 4 }
     ensures { result ≡ is_some (go_at (machine stores.now).device (object_id Crtc crtc)) }

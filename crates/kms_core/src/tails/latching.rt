@@ -1,4 +1,4 @@
-//! Flushes and vertical blankings, at which commits latch.
+//! Flushes and vblanks, at which commits latch.
 ghost use Rattle.std.specs.Prelude.{◌≡◌, ◌<◌, ◌≤◌, IfOk, IsOk, [], ◌∷◌, length, true};
 ghost use Rattle.kms_model.specs.declared.objects.Kind.TheVariants.{Crtc};
 ghost use Rattle.kms_model.specs.declared.objects.Topology.{Topology};
@@ -28,7 +28,7 @@ use kms_things::Things;
 use kms_track::Tracker;
 
 /// Flushes the CRTC with an index, from 0 to 3, for the commit, by its number from 0, that flushes it next. A CRTC that
-/// is on after the commit then goes: it latches at its next vertical blanking. One that is off latches at once. It
+/// is on after the commit then goes: it latches at its next vblank. One that is off latches at once. It
 /// takes no memory. (Kernel: `drm_atomic_helper.c`, `drm_atomic_helper_commit_planes`, `atomic_flush`.)
 pub fn flush(stores: &mut Stores, commit: u32, crtc: u32)
     requires { MayFlush stores.old commit crtc }
@@ -67,7 +67,7 @@ pub fn flush(stores: &mut Stores, commit: u32, crtc: u32)
     stores.latches.push(shown);
 }
 
-/// The CRTC with an index, from 0 to 3, has a vertical blanking, which is counted. True exactly where it goes: the
+/// The CRTC with an index, from 0 to 3, has a vblank, which is counted. True exactly where it goes: the
 /// commit that flushed it last then latches, which takes no memory. Want of memory comes only where it does not go, and
 /// leaves all as it was. (Kernel: `drm_vblank.c`, `drm_crtc_handle_vblank`.)
 pub fn vblank(stores: &mut Stores, crtc: u32) -> Result<bool, NoMemory>
@@ -112,7 +112,7 @@ pub fn vblank(stores: &mut Stores, crtc: u32) -> Result<bool, NoMemory>
     Ok(true)
 }
 
-/// What the CRTC with an index, from 0 to 3, latches: a picture of a commit, with its count of vertical blankings so far.
+/// What the CRTC with an index, from 0 to 3, latches: a picture of a commit, with its count of vblanks so far.
 fn latch_of(registers: &RegFile, crtc: u32, commit: u32, picture: Picture) -> Latch
     requires { crtc < 4 }
     ensures shown { result ≡ record {

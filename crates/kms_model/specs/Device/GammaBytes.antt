@@ -1,4 +1,4 @@
--- The bytes of a table of colour values: 256 entries of red, green, blue and a reserved number, each of 16 bits and
+-- The bytes of a gamma table: 256 entries of red, green, blue and a reserved number, each of 16 bits and
 -- little-endian. From: `drm_mode.h`, struct drm_color_lut; "Color Management Properties", GAMMA_LUT.
 use Rattle.std.specs.Prelude.{ℕ, ◌+◌, ◌*◌, ◌/◌, ◌==◌, ◌≡◌, List, length, map, Option, Some, None, if◌then◌else◌}
 use Rattle.std.specs.List.{range_with_len}

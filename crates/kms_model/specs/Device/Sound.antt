@@ -46,7 +46,7 @@ abbrev pub has_legal_mode : Option Mode → Bool
 has_legal_mode None = false
 has_legal_mode (Some m) = is_legal_mode m
 
--- a property takes a thing, open or closed: a framebuffer, a blob that holds a legal mode, or a table of colour values
+-- a property takes a thing, open or closed: a framebuffer, a blob that holds a legal mode, or a gamma table
 abbrev pub is_taken : ℕ → Option worlds.Thing → Bool
 is_taken prop t =
     ((prop == FB_ID) && is_some (framebuffer_of t))

@@ -37,7 +37,7 @@ abbrev pub mode_of : Option Thing → Option Mode
 mode_of (Some t) = mode_in t.content
 mode_of None = None
 
--- the table of colour values that a blob holds, if any
+-- the gamma table that a blob holds, if any
 abbrev pub gamma_in : Content → Option Gamma
 gamma_in (content.Blob bytes) = gamma_of_bytes bytes
 gamma_in _ = None
@@ -46,7 +46,7 @@ abbrev pub gamma_of : Option Thing → Option Gamma
 gamma_of (Some t) = gamma_in t.content
 gamma_of None = None
 
--- the table of colour values of a CRTC, by its content
+-- the gamma table of a CRTC, by its content
 abbrev pub gamma_at : List Thing → List Setting → ℕ → Option Gamma
 gamma_at things values crtc = gamma_of (thing_numbered things (value values crtc GAMMA_LUT))
 

@@ -45,7 +45,7 @@ thing_numbered things number = find (λ t. int_eq (pos t.id) number) things
 abbrev pub settings : ℕ → List (ℕ × ℤ) → List Setting
 settings object all = map (λ p. setting object p.0 p.1) all
 
--- a CRTC at the start: off, with no mode and no table of colour values
+-- a CRTC at the start: off, with no mode and no gamma table
 abbrev pub start_crtc : ℕ → List Setting
 start_crtc index = settings (object_id Crtc index) ((ACTIVE, pos 0) ∷ (MODE_ID, pos 0) ∷ (GAMMA_LUT, pos 0) ∷ [])
 

@@ -119,7 +119,7 @@ black = record { alpha = 255; red = 0; green = 0; blue = 0 }
 abbrev pub channels : Colour → List ℕ
 channels c = c.red ∷ c.green ∷ c.blue ∷ []
 
--- a colour through a table of colour values, where there is one
+-- a colour through a gamma table, where there is one
 abbrev pub through : Option Gamma → Colour → Colour
 through None c = c
 through (Some g) c = record {

@@ -240,7 +240,7 @@ unfoldable pub latches : Topology → Machine → ℕ → ℕ → ℕ → Machin
 latches t m k crtc count =
     signals (delivers_if t (latches_picture t m k crtc count) k crtc count) (out_fence_of t m.device.commits k crtc)
 
--- A CRTC that is on after the commit waits for its vertical blanking; one that is off latches at once, with the count as it is.
+-- A CRTC that is on after the commit waits for its vblank; one that is off latches at once, with the count as it is.
 abbrev pub flushes : Topology → Machine → ℕ → ℕ → Machine
 flushes t m k crtc =
     let flushed = record m { device = record m.device { marks = record m.device.marks { flushed = (k, crtc) ∷ m.device.marks.flushed } } } in

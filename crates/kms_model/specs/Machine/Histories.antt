@@ -41,7 +41,7 @@ commit_numbers m = range_with_len 0 (length m.device.commits)
 unfoldable pub is_drained : Script → Machine → Bool
 is_drained s m = list_all (is_at_end s m) (client_numbers s) && list_all (is_cleaned m.device) (commit_numbers m)
 
--- The steps that may be legal, but for `stall` and vertical blankings without GO
+-- The steps that may be legal, but for `stall` and vblanks without GO
 
 -- a step of a kind of object for each object of the kind
 abbrev pub for_each : Topology → Kind → (Kind → ℕ → Step) → List Step
@@ -57,7 +57,7 @@ steps_of_commit t k =
     Claim k ∷ (for_each t Crtc (λ kind index. Write k kind index) ++ (for_each t Plane (λ kind index. Write k kind index)
     ++ (for_each t Crtc (λ kind index. Flush k kind index) ++ HwDone k ∷ Cleanup k ∷ [])))
 
--- the vertical blankings of the CRTCs that have GO
+-- the vblanks of the CRTCs that have GO
 abbrev pub steps_with_go : Topology → Machine → List Step
 steps_with_go t m = map (λ index. Vblank Crtc index) (filter (λ index. is_some (go_at m.device (object_id Crtc index))) (range_with_len 0 (count_of t Crtc)))
 
@@ -66,7 +66,7 @@ steps_that_move s m =
     flat_map (steps_of_client s.topology) (client_numbers s)
     ++ (flat_map (steps_of_commit s.topology) (commit_numbers m) ++ steps_with_go s.topology m)
 
--- a step other than `stall` and a vertical blanking without GO is legal
+-- a step other than `stall` and a vblank without GO is legal
 unfoldable pub is_enabled : Script → Machine → Bool
 is_enabled s m = not m.stalled && list_any (may s m) (steps_that_move s m)
 

@@ -1,6 +1,6 @@
 -- The registers of planes and CRTCs, each with a shadow word, which workers write, and a live word, which a latch copies
 -- from it. All words have 32 bits. From: "Plane Helper Reference" and "Vertical Blanking": a display controller takes what
--- was programmed at its next vertical blanking; the registers and their layout are this device's own.
+-- was programmed at its next vblank; the registers and their layout are this device's own.
 use Rattle.std.specs.Prelude.{ℕ, ◌==◌, ◌||◌, Bool, not, pos, List, [], ◌∷◌, replicate, Option, Some, None, if◌then◌else◌, slice_range, is_some, ◌++◌}
 use Rattle.std.specs.List.{flat_map}
 use Rattle.std.specs.Int.{w32, to_le_bytes, from_le_bytes, cast_signed, cast_unsigned}
@@ -54,7 +54,7 @@ pub record CrtcWords : Type 0 where
   pub conn : ℕ
   -- the 17 little-endian words of the bytes of its mode, all 0 without a mode
   pub mode : List ℕ
-  -- 0 or 1: whether it has a table of colour values
+  -- 0 or 1: whether it has a gamma table
   pub gamma_on : ℕ
   -- the 192 little-endian words of the 256 values of red, of green and of blue, all 0 without a table
   pub gamma : List ℕ
@@ -125,7 +125,7 @@ abbrev pub mode_words : Option Mode → List ℕ
 mode_words None = no_mode_words
 mode_words (Some m) = words_of_bytes (mode_bytes m)
 
--- the bytes of a table of colour values: the values of red, then those of green, then those of blue
+-- the bytes of a gamma table: the values of red, then those of green, then those of blue
 abbrev pub gamma_bytes : Gamma → List ℕ
 gamma_bytes g = g.red ++ (g.green ++ g.blue)
 
@@ -150,11 +150,11 @@ crtc_words conn s = record {
 abbrev pub mode_in_words : CrtcWords → Mode
 mode_in_words c = mode_held (bytes_of_words c.mode)
 
--- the table of colour values that bytes hold, red before green before blue
+-- the gamma table that bytes hold, red before green before blue
 abbrev pub gamma_with : List ℕ → Gamma
 gamma_with bytes = record { red = slice_range bytes 0 256; green = slice_range bytes 256 512; blue = slice_range bytes 512 768 }
 
--- the table of colour values that a CRTC's words hold, where it has one
+-- the gamma table that a CRTC's words hold, where it has one
 abbrev pub gamma_in_words : CrtcWords → Option Gamma
 gamma_in_words c = if c.gamma_on == 1 then Some (gamma_with (bytes_of_words c.gamma)) else None
 

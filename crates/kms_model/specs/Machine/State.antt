@@ -42,7 +42,7 @@ pub record DeviceState : Type 0 where
   pub marks : Marks
   pub shadow : Registers
   pub live : Registers
-  -- the commit that a CRTC latches at its next vertical blanking, and the count of its vertical blankings, by id
+  -- the commit that a CRTC latches at its next vblank, and the count of its vblanks, by id
   pub go : List (ℕ × Option ℕ)
   pub counts : List (ℕ × ℕ)
   -- the ids of the fences that are signalled

@@ -47,7 +47,7 @@ abbrev pub modeset : List Assign → Request
 modeset assigns = record { flags = ALLOW_MODESET; user_data = 0; assigns = assigns }
 
 -- The request that turns a device off: planes and connectors leave their CRTCs, and CRTCs lose their modes. Sizes, alpha, zpos and
--- tables of colour values stay.
+-- gamma tables stay.
 unfoldable pub off_request : Topology → World → Request
 off_request t w = modeset (
     flat_map plane_off (indices_where t kind.Plane (has_crtc_at w))

@@ -97,7 +97,7 @@ client_goes s (suc most) client run =
 abbrev pub most_of_turn : Topology → ℕ
 most_of_turn t = length (lockable t) + 4
 
--- The next step of a tail: the first that is legal of the least commit that has one, or else the vertical blanking of the
+-- The next step of a tail: the first that is legal of the least commit that has one, or else the vblank of the
 -- first CRTC that has GO.
 unfoldable pub tail_step : Script → Machine → Option Step
 tail_step s m =

@@ -63,7 +63,7 @@ same_digest _ _ = false
 abbrev pub last_count : List LatchLine → ℕ
 last_count lines = option_map_or (λ l. l.count) (last_or None lines) 0
 
--- A count rises where a picture is latched at a vertical blanking, and does not fall where the CRTC is off.
+-- A count rises where a picture is latched at a vblank, and does not fall where the CRTC is off.
 abbrev pub may_count : Picture → ℕ → ℕ → Bool
 may_count Off before count = nat_le before count
 may_count (On shown) before count = nat_lt before count

@@ -56,8 +56,8 @@ pub record AgreesNew (t : Topology) (things : List Thing) (values : List Setting
   pub planes : AreNew (λ index. plane_at things values (object_id Plane index)) d.planes
   pub conns : AreNew (λ index. conn_state_at values (object_id Conn index)) d.conns
 
--- What a property is set to stands for the number that its value then is: a framebuffer, a mode or a table of colour
--- values for the id of a thing with it.
+-- What a property is set to stands for the number that its value then is: a framebuffer, a mode or a gamma table
+-- for the id of a thing with it.
 abbrev pub StandsFor : List Thing → SetValue → ℤ → Type 0
 StandsFor things (to.Num n) number = number ≡ n
 StandsFor things (to.Fb fb) number = framebuffer_of (thing_numbered things number) ≡ fb

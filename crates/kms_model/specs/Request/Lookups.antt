@@ -18,7 +18,7 @@ use Rattle.kms_model.specs.Device.World.{thing_labelled}
 use Rattle.kms_model.specs.Device.GammaBytes.{gamma_of_bytes}
 use Rattle.kms_model.specs.declared.objects.Gamma.{Gamma}
 
--- a blob of 2048 bytes is looked up as the table of colour values that they hold, in each profile
+-- a blob of 2048 bytes is looked up as the gamma table that they hold, in each profile
 abbrev pub look_of_gamma : ℕ → Option Gamma → Look
 look_of_gamma id (Some g) = look.Gamma g id
 look_of_gamma id None = look.Blob id
