@@ -6,6 +6,9 @@ use std::sync::atomic::{AtomicU64, Ordering};
 /// The number of the worker.
 pub(crate) const WORKER: u32 = 3;
 
+/// The index of the CRTC that is lit.
+pub(crate) const LIT: u32 = 1;
+
 /// A gate that holds nobody, and counts who comes, and who comes with other numbers than its own.
 #[derive(Drop)]
 pub(crate) struct Counter {

@@ -19,3 +19,5 @@ mod scripts;
 mod seats;
 #[cfg(test)]
 mod texts;
+#[cfg(test)]
+mod watching;

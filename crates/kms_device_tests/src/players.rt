@@ -5,9 +5,10 @@ ghost use Rattle.kms_device_tests.specs.Four.{AreFour};
 ghost use Rattle.kms_model.specs.Script.WellFormed.{IsWellFormed};
 ghost use Rattle.kms_players.specs.Players.{name_of_pass};
 
-use crate::gates::{Came, Counter, WORKER};
+use crate::gates::{Came, Counter, LIT, WORKER};
 use kms_core::Core;
 use kms_device::{Device, Pass};
+use kms_io::Gate;
 use kms_model::{NoMemory, Part, Script, Seq};
 use kms_players::{Client, VblankTick, Worker};
 use kms_pool::{Player, Turn};
@@ -17,12 +18,13 @@ use std::alloc::Global;
 use std::process::Abort;
 use std::sync::Wait;
 
-/// Two clients of one CRTC. The first lights it, dims its plane in a commit that is waited for, and reads the event; the second
+/// Two clients of the second of two CRTCs. The first lights it, dims its plane in a commit that is waited for, and reads the event; the second
 /// signals the fence that the commit waits for, once it has made a buffer.
 const TWO: &str = script!(
-    single
-    "client\n" made "fence n\n" lights "atomic 0x1 7 plane0.alpha=9 plane0.IN_FENCE_FD=@n\nwait\n"
-    "client\nbuffer c 1 1 XR24 solid 00616263\natomic 0x100 0 plane0.alpha=8\nsignal n\n"
+    screens
+    "client\n" made "fence n\n" lights(1, "f", "m")
+    "atomic 0x1 7 plane1.alpha=9 plane1.IN_FENCE_FD=@n\nwait\n"
+    "client\nbuffer c 1 1 XR24 solid 00616263\natomic 0x100 0 plane1.alpha=8\nsignal n\n"
 );
 
 /// The script of the two clients.
@@ -37,47 +39,50 @@ fn two(rt: &(impl Abort + AllocGlobal)) -> Script
     parsed.script
 }
 
-/// The four passes of a device.
-type Four = (Pass, Pass, Pass, Pass);
+/// The passes of the four players.
+pub(crate) type Four = (Pass, Pass, Pass, Pass);
 
-/// The passes of a device that has four, in the order of their ranks.
-fn four(rt: &impl Abort, device: &Device, passes: Seq<Pass>) -> Four
-    requires { passes ≡ new_passes device.now.lock 4 }
-    ensures one { result.0 ≡ new_pass device.now.lock 1 }
-    ensures other { result.1 ≡ new_pass device.now.lock 2 }
-    ensures worker { result.2 ≡ new_pass device.now.lock 3 }
-    ensures tick { result.3 ≡ new_pass device.now.lock 4 }
+/// The passes of a device that has five, in the order of their ranks: the players', and that of who looks on.
+fn five(rt: &impl Abort, device: &Device, passes: Seq<Pass>) -> (Four, Pass)
+    requires { passes ≡ new_passes device.now.lock 5 }
+    ensures one { result.0.0 ≡ new_pass device.now.lock 1 }
+    ensures other { result.0.1 ≡ new_pass device.now.lock 2 }
+    ensures worker { result.0.2 ≡ new_pass device.now.lock 3 }
+    ensures tick { result.0.3 ≡ new_pass device.now.lock 4 }
+    ensures looker { result.1 ≡ new_pass device.now.lock 5 }
 {
     let mut passes = passes.into_vec();
-    let (Some(tick), Some(worker)) = (passes.pop(), passes.pop()) else {
+    let (Some(looker), Some(tick), Some(worker)) = (passes.pop(), passes.pop(), passes.pop()) else {
         panic!(rt; "no passes")
     };
     let (Some(other), Some(one)) = (passes.pop(), passes.pop()) else {
         panic!(rt; "no passes")
     };
-    (one, other, worker, tick)
+    ((one, other, worker, tick), looker)
 }
 
-/// A device of the two clients, with a pass for each, for a worker and for a vblank player.
-fn opened(rt: &(impl Abort + AllocGlobal)) -> (Device, Four)
-    ensures seats { result.0.seats ≡ 4 }
+/// A device of the two clients, with a pass for each, for a worker and for a vblank player, and one for who looks on.
+pub(crate) fn opened(rt: &(impl Abort + AllocGlobal)) -> (Device, Four, Pass)
+    ensures seats { result.0.seats ≡ 5 }
     ensures clients { length result.0.script.clients ≡ 2 }
     ensures passes { AreFour result.0 result.1 }
+    ensures looker { result.2.lock ≡ result.0.lock }
 {
-    let Ok((device, passes)) = Device::new(rt.alloc(), two(rt), 4) else {
+    let Ok((device, passes)) = Device::new(rt.alloc(), two(rt), 5) else {
         panic!(rt; "there is memory")
     };
-    let passes = four(rt, &device, passes);
-    (device, passes)
+    let (passes, looker) = five(rt, &device, passes);
+    (device, passes, looker)
 }
 
 /// Ends the device, and gives the machine.
-fn closed(rt: &(impl Abort + AllocGlobal), device: Device, passes: Four) -> Core
-    requires seats { device.seats ≡ 4 }
+fn closed(rt: &(impl Abort + AllocGlobal), device: Device, passes: Four, looker: Pass) -> Core
+    requires seats { device.seats ≡ 5 }
     requires passes { AreFour device passes }
+    requires looker { looker.lock ≡ device.lock }
 {
     let (one, other, worker, tick) = passes;
-    let Ok(passes) = Vec::from_array(rt.alloc(), [one, other, worker, tick]) else {
+    let Ok(passes) = Vec::from_array(rt.alloc(), [one, other, worker, tick, looker]) else {
         panic!(rt; "there is memory")
     };
     device.close(Seq::from_vec(passes))
@@ -85,18 +90,18 @@ fn closed(rt: &(impl Abort + AllocGlobal), device: Device, passes: Four) -> Core
 
 /// Two clients, a worker and a vblank player.
 #[derive(Drop)]
-struct Players<'a> {
-    one: Client<'a, Counter>,
-    other: Client<'a, Counter>,
-    worker: Worker<'a, Counter>,
-    tick: VblankTick<'a, Counter>,
+struct Players<'a, G: Gate> {
+    one: Client<'a, G>,
+    other: Client<'a, G>,
+    worker: Worker<'a, G>,
+    tick: VblankTick<'a, G>,
 }
 
-impl<'a> Players<'a> {
+impl<'a, G: Gate> Players<'a, G> {
     ghost use Rattle.std.specs.Prelude.{◌≡◌, length};
     ghost use Rattle.kms_players.specs.Players.{name_of_pass};
 
-    fn new(device: &'a Device, gate: &'a Counter, passes: Four) -> Players<'a>
+    fn new(device: &'a Device, gate: &'a G, passes: Four) -> Players<'a, G>
         requires clients { length device.now.script.clients ≡ 2 }
         requires passes { AreFour device.now passes }
         ensures one { result.one.pass ≡ passes.0 }
@@ -109,7 +114,7 @@ impl<'a> Players<'a> {
             one: Client::new(device, gate, 1, one),
             other: Client::new(device, gate, 2, other),
             worker: Worker::new(device, gate, WORKER, worker),
-            tick: VblankTick::new(device, gate, 0, tick),
+            tick: VblankTick::new(device, gate, LIT, tick),
         }
     }
 
@@ -175,10 +180,10 @@ fn assert_came(rt: &impl Abort, gate: &Counter, wanted: Came, when: &str) {
 }
 
 /// Asserts that the players finish, and gives their passes.
-fn drained(
+pub(crate) fn drained<G: Gate>(
     rt: &(impl Abort + AllocGlobal + Wait),
     device: &Device,
-    gate: &Counter,
+    gate: &G,
     passes: Four,
 ) -> Four
     requires clients { length device.now.script.clients ≡ 2 }
@@ -207,10 +212,10 @@ fn assert_drained(rt: &impl Abort, core: &Core, gate: &Counter) {
 
 #[test]
 fn players_on_one_thread_drain_a_history(rt: HostRuntime) {
-    let gate = Counter::new(0);
-    let (device, passes) = opened(&rt);
+    let gate = Counter::new(LIT);
+    let (device, passes, looker) = opened(&rt);
     let passes = drained(&rt, &device, &gate, passes);
-    let core = closed(&rt, device, passes);
+    let core = closed(&rt, device, passes, looker);
     assert_drained(&rt, &core, &gate);
 }
 
@@ -221,7 +226,7 @@ fn ticked(rt: &(impl Abort + Wait), device: &Device, gate: &Counter, passes: Fou
     ensures { AreFour device.now result }
 {
     let (one, other, worker, pass) = passes;
-    let mut tick = VblankTick::new(device, gate, 1, pass);
+    let mut tick = VblankTick::new(device, gate, 2, pass);
     let turn = tick.play(rt);
     assert!(rt; turn != Turn::Did, "nothing ticks");
     (one, other, worker, tick.into_pass())
@@ -246,10 +251,10 @@ fn assert_ticked(rt: &impl Abort, core: &Core, gate: &Counter) {
 
 #[test]
 fn what_ticks_comes_to_the_gate_with_its_crtc(rt: HostRuntime) {
-    let gate = Counter::new(1);
-    let (device, passes) = opened(&rt);
+    let gate = Counter::new(2);
+    let (device, passes, looker) = opened(&rt);
     let passes = ticked(&rt, &device, &gate, passes);
-    let core = closed(&rt, device, passes);
+    let core = closed(&rt, device, passes, looker);
     assert_ticked(&rt, &core, &gate);
 }
 
@@ -295,7 +300,7 @@ fn assert_works(
 /// Asserts what the worker does once the first client has committed.
 fn assert_claims(
     rt: &(impl Abort + AllocGlobal + Wait),
-    players: &mut Players<'_>,
+    players: &mut Players<'_, Counter>,
     gate: &Counter,
 ) {
     let committed = commit(rt, rt.alloc(), &mut players.one);
@@ -310,8 +315,8 @@ fn assert_claims(
 
 #[test]
 fn a_worker_claims_no_commit_while_it_has_one(rt: HostRuntime) {
-    let gate = Counter::new(0);
-    let (device, passes) = opened(&rt);
+    let gate = Counter::new(LIT);
+    let (device, passes, _looker) = opened(&rt);
     let mut players = Players::new(&device, &gate, passes);
     assert_claims(&rt, &mut players, &gate);
 }
