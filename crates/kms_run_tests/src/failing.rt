@@ -62,15 +62,22 @@ fn write_fails<R: Threads + Sync>(
     Ok(status == Some(Status::WriteFault) && front.flatten().eq(sink.written()))
 }
 
-/// Whether the first write is handed all of a report: the second one fails, and none is made.
-fn is_handed_whole<R: Threads + Sync>(
+/// Whether each write is handed all that is left of a report: a sink that takes so many bytes at a time has no more writes
+/// than it needs, since the next one would fail.
+fn is_handed_all<R: Threads + Sync>(
     rt: &R,
     alloc: Global,
     text: &str,
     report: &str,
+    step: usize,
 ) -> Result<bool, Fail> {
+    let step = step.max(1);
+    let needed = report.len().div_ceil(step);
+    let Ok(next) = u32::try_from(needed.saturating_add(1)) else {
+        return Ok(false);
+    };
     let mut source = source(alloc, text, READ, &[])?;
-    let mut sink = sink(alloc, 4096, &[2])?;
+    let mut sink = sink(alloc, step, &[next])?;
     let status = one(rt, alloc, &mut source, &mut sink)?;
     Ok(status == Some(Status::Ok) && sink.written() == report.as_bytes())
 }
@@ -97,8 +104,13 @@ fn each_failing_write_leaves_a_front(rt: HostRuntime) -> Result<(), Fail> {
 }
 
 #[test]
-fn one_write_is_handed_all_that_is_left(rt: HostRuntime) -> Result<(), Fail> {
-    assert!(rt; LIT_REPORT.len() < 4096);
-    assert!(rt; is_handed_whole(&rt, rt.alloc(), LIT, LIT_REPORT)?);
+fn each_write_is_handed_all_that_is_left(rt: HostRuntime) -> Result<(), Fail> {
+    let whole = LIT_REPORT.len();
+    for step in [1, WRITE, 64, 100, whole.saturating_sub(1), whole, 4096] {
+        assert!(rt;
+            is_handed_all(&rt, rt.alloc(), LIT, LIT_REPORT, step)?,
+            "{step} at a time"
+        );
+    }
     Ok(())
 }
