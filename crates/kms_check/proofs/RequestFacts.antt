@@ -20,7 +20,7 @@ use Rattle.kms_request.proofs.SetGroups.{allowed-each}
 
 -- the request, in the world
 pub request_at : (t : Topology) (w : World) (r : Request) (resolved : Resolved) (d : Duplicates) → IsOfRequest t w r resolved d → IsRequestAt t w r
-request_at t w r resolved d is = record { device = is.device; lawful = record { sound = is.sound; numbered = is.numbered }; early = is.asks.accepted }
+request_at t w r resolved d is = record { device = is.device; sound = is.sound; early = is.asks.accepted }
 
 -- fresh states agree with the values before
 pub fresh_new : {S : Type 0} (f : ℕ → S) (states : List (Option (Both S))) → AreFreshIn states → AreOld f states → AreNew f states

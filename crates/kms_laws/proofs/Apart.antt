@@ -17,7 +17,7 @@ use Rattle.kms_model.specs.Device.Masks.{has_bit}
 use Rattle.kms_model.specs.Frames.Rectangles.{fits_source}
 use Rattle.kms_model.specs.Script.Grammar.{format_bit}
 use Rattle.kms_model.specs.Device.Objects.{kind_of, first_id, ids_of, object_id}
-use Rattle.kms_model.specs.Device.Sound.{IsCrtcOrNone}
+use Rattle.kms_model.specs.Device.Sound.{IsCrtcOrNone, IsNumbered}
 use Rattle.kms_model.specs.Device.Sound.IsCrtcOrNone.{IsNone, IsCrtc}
 use Rattle.kms_model.specs.Device.States.{crtc_at, plane_at}
 use Rattle.kms_model.specs.Firsts.{first_some, number_if}
@@ -29,10 +29,9 @@ use Rattle.kms_model.specs.Machine.State.{Commit}
 use Rattle.kms_model.specs.Request.Apply.{after}
 use Rattle.kms_model.specs.Request.Checks.{event_refusal, has_crtc, is_beyond, late_refusal, placed_refusal, plane_refusal, plane_refusal_at, plane_refusal_with, switches_crtc, with_ids}
 use Rattle.kms_model.specs.Request.Verdict.{verdict}
-use Rattle.kms_model.proofs.HeldValues.{all_held-from}
 use Rattle.kms_model.proofs.Items.{IsIn, IsObject, first_some-at, ids-has, ids-in, number_if-none, or_else-none, with_ids-has}
 use Rattle.kms_model.proofs.SeenLemmas.{plane_crtc-held}
-use Rattle.kms_model.proofs.SoundKept.{accepted-parts, apply-held, sound-apply}
+use Rattle.kms_model.proofs.SoundKept.{accepted-parts, plain-apply, sound-apply}
 use Rattle.kms_model.proofs.TouchedLemmas.{IsRequestAt, few_objects}
 use Rattle.kms_model.proofs.CommitFacts.{commit_old, commit_new, touches_old, touches_new, concerns_old, concerns_new}
 use Rattle.kms_laws.proofs.Basics.{both_bools, in_either}
@@ -105,7 +104,7 @@ accepted-apart t w r p none is =
     subst (λ z. IsApart (crtc_at w.values z) (crtc_at (after w r) z)) (sym o.same)
     (plane-apart info (plane_at w.things w.values (object_id Plane o.index)) (plane_at w.things (after w r) (object_id Plane o.index)) passed)
 
-module _ (t : Topology) (x : Commit) (cs : List Commit) (at : IsRequestAt t x.world x.request) (none : verdict t x.world x.request ≡ None) (S : StatesStand t x.world cs)
+module _ (t : Topology) (x : Commit) (cs : List Commit) (at : IsRequestAt t x.world x.request) (numbered : IsNumbered x.world) (none : verdict t x.world x.request ≡ None) (S : StatesStand t x.world cs)
     (framed : AreFramed x.world.things) (kept : AreKept x.world.things) (A : CommitsApart t cs) where
   words_crtc : (things : List Thing) (values : List Setting) (p : ℕ) → (plane_words (plane_at things values p)).crtc ≡ crtc_at values p
   unfolding plane_words
@@ -126,7 +125,7 @@ module _ (t : Topology) (x : Commit) (cs : List Commit) (at : IsRequestAt t x.wo
   on_new : (p : ℕ) → IsIn p (ids_of t Plane) → IsOnCrtc t (plane_after t (x ∷ cs) (suc (length cs)) p).crtc
   on_new p is =
       subst (IsOnCrtc t) (sym (after_crtc p))
-      (on_from t (crtc_at (new_values x) p) (plane_crtc-held t x.world.things (new_values x) p (all_held-from t x.world.things (new_values x) (apply-held t x.world x.request at.lawful at.early)) is))
+      (on_from t (crtc_at (new_values x) p) (plane_crtc-held t x.world.things (new_values x) p (plain-apply t x.world x.request at.sound at.early) is))
 
   apart_new : (p : ℕ) → IsIn p (ids_of t Plane) → IsApart (plane_after t (x ∷ cs) (length cs) p).crtc (plane_after t (x ∷ cs) (suc (length cs)) p).crtc
   apart_new p is = subst (λ z. IsApart z (plane_after t (x ∷ cs) (suc (length cs)) p).crtc) (sym (before_crtc p is)) (subst (IsApart (crtc_at x.world.values p)) (sym (after_crtc p)) (accepted-apart t x.world x.request p none is))
@@ -135,7 +134,7 @@ module _ (t : Topology) (x : Commit) (cs : List Commit) (at : IsRequestAt t x.wo
   pictured_new c is =
       let w1 : World = record x.world { values = new_values x; commits = x.world.commits + 1 } in
       (λ i. picture_in_words t (crtc_new t x cs c i) (λ p. plane_in (plane_new t x cs p i)) c)
-      ∙ words_show t w1 c (sound-apply t x.world x.request (x.world.commits + 1) at.lawful none) framed kept is
+      ∙ words_show t w1 c (sound-apply t x.world x.request (x.world.commits + 1) (record { sound = at.sound; numbered = numbered }) none) framed kept is
       ∙ ap (λ (z : Commit). picture t z.world.things (new_values z) c) (sym (commit_new t x cs))
 
   old_words_new : (p : ℕ) → IsIn p (ids_of t Plane) → plane_words (old_plane t (x ∷ cs) (length cs) p) ≡ plane_after t (x ∷ cs) (length cs) p

@@ -33,7 +33,7 @@ use Rattle.kms_model.specs.Machine.Histories.{at}
 use Rattle.kms_model.specs.Request.Named.{names}
 use Rattle.kms_model.proofs.FramedLemmas.{execution_keeps_framed}
 use Rattle.kms_model.proofs.ShownLemmas.{each_can_be_shown}
-use Rattle.kms_model.proofs.SoundKept.{execution_keeps_sound}
+use Rattle.kms_model.proofs.SoundKept.{execution_keeps_lawful}
 use Rattle.kms_laws.specs.Laws.{HasSerialWorld}
 use Rattle.kms_laws.proofs.FramesStay.{frame-stays}
 use Rattle.kms_laws.proofs.Present.{reverse_more}
@@ -110,7 +110,7 @@ pub record IsShowing (t : Topology) (w : World) : Type 0 where
 showing-next : (t : Topology) (w : World) (client : ℕ) (o : Option Command) → IsShowing t w → IsShowing t (execute_in t w client o)
 showing-next t w client None S = S
 showing-next t w client (Some c) S = record {
-  lawful = execution_keeps_sound t w client c S.lawful;
+  lawful = execution_keeps_lawful t w client c S.lawful;
   framed = execution_keeps_framed t w client c S.lawful.numbered.things S.framed;
 }
 

@@ -17,7 +17,7 @@ use Rattle.kms_model.specs.Machine.Commits.{commit_names, has_number, is_cleaned
 use Rattle.kms_model.specs.Machine.Histories.{at, client_numbers, commit_numbers, is_at_end, is_drained, is_history}
 use Rattle.kms_model.specs.Machine.State.{Commit, Machine}
 use Rattle.kms_model.specs.Device.World.{start}
-use Rattle.kms_model.proofs.SoundStart.{start_is_sound}
+use Rattle.kms_model.proofs.SoundStart.{start_is_lawful}
 use Rattle.kms_model.proofs.Items.{IsIn, ids-has, list_all-at}
 use Rattle.kms_laws.specs.Laws.{HasSerialWorld}
 use Rattle.kms_laws.proofs.Composed.{IsShowing}
@@ -132,7 +132,7 @@ pub headline : (s : Script) (h : List Step) → IsPlainScript s → is_history s
 unfolding pair_of_latch
 headline s h plain is =
     let H = history_kept s h plain is in
-    let starts : IsShowing s.topology (start s.topology) = record { lawful = start_is_sound s.topology plain.device; framed = tt } in
+    let starts : IsShowing s.topology (start s.topology) = record { lawful = start_is_lawful s.topology plain.device; framed = tt } in
     let world = serial_world s h plain is in
     record {
       in_order = λ crtc l. in_order s (at s h) H crtc l;

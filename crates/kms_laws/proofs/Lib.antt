@@ -44,6 +44,7 @@ pub mod Resting
 pub mod RoundsEnd
 pub mod ShorterTails
 pub mod LeftInAll
+pub mod ShownStays
 pub mod Sizes
 pub mod SmallNumbers
 pub mod Start

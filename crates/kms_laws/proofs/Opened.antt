@@ -31,7 +31,8 @@ use Rattle.kms_model.specs.Request.Reach.{reaches, reaching}
 use Rattle.kms_model.specs.Request.Refusals.{own_refusal}
 use Rattle.kms_model.specs.Request.Touched.{is_affected, sets, touches, touches_of_kind}
 use Rattle.kms_model.specs.Request.Verdict.{early_in}
-use Rattle.kms_model.proofs.HeldValues.{all_held-from, are_held-kept, held-seen}
+use Rattle.kms_model.proofs.SoundKept.{late-empty, verdict-empty}
+use Rattle.kms_model.proofs.HeldValues.{plain_held-from, are_held-kept, held-seen}
 use Rattle.kms_model.proofs.Items.{list_any-same}
 use Rattle.kms_model.proofs.SeenLemmas.{AreSeenAlike, late-seen}
 use Rattle.kms_model.proofs.ThingLemmas.{IsSeenAlike}
@@ -87,7 +88,7 @@ sound-open t w sound =
     record {
       held = are_held-kept t w.things (map opened w.things) w.values w.values
           (λ object p row held. held-seen t w.things (map opened w.things) p.id p.range (world.value w.values object p.id) (seen-open w.things (world.value w.values object p.id)) held) sound.held;
-      accepted = sym (late-seen t w.things (map opened w.things) w.values w.values empty_request alike alike (all_held-from t w.things w.values sound.held)) ∙ sound.accepted;
+      accepted = verdict-empty t (all_open w) (sym (late-seen t w.things (map opened w.things) w.values w.values empty_request alike alike (plain_held-from t w.things w.values sound.held)) ∙ late-empty t w sound.accepted);
     }
 
 pub all_numbered-open : (w : World) → IsNumbered w → IsNumbered (all_open w)

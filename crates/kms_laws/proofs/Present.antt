@@ -31,7 +31,7 @@ use Rattle.kms_model.specs.Request.Verdict.{verdict}
 use Rattle.kms_model.proofs.FramedLemmas.{execution_keeps_framed}
 use Rattle.kms_model.proofs.Items.{IsIn}
 use Rattle.kms_model.proofs.JournalLemmas.{serial_last, unaccepted}
-use Rattle.kms_model.proofs.SoundKept.{execution_keeps_sound, sound-apply}
+use Rattle.kms_model.proofs.SoundKept.{execution_keeps_lawful, sound-apply}
 use Rattle.kms_model.proofs.TouchedLemmas.{IsRequestAt}
 use Rattle.kms_model.proofs.CommitFacts.{touches_old, touches_new}
 use Rattle.kms_laws.proofs.Executed.{Follows, IsLike, KeepsModes, execute_follows, follows-out_fences, plane_like, words_like}
@@ -61,13 +61,19 @@ pub record Present (s : Script) (w : World) (journal : List Entry) (cs : List Co
 
 -- One entry more
 
-show_from-push : (s : Script) (c : ℕ) (w : World) (es : List Entry) (e : Entry) → show_from s c w (es ++ e ∷ []) ≡ show_from s c w es ++ shown_in s.topology c (serial_from s w es) e.client (command_of s e)
+pub show_from-append : (s : Script) (c : ℕ) (w : World) (es fs : List Entry) → show_from s c w (es ++ fs) ≡ show_from s c w es ++ show_from s c (serial_from s w es) fs
 unfolding show_from serial_from
-show_from-push s c w [] e = append-nil (shown_in s.topology c w e.client (command_of s e))
-show_from-push s c w (x ∷ es) e =
+show_from-append s c w [] fs = refl
+show_from-append s c w (x ∷ es) fs =
     let v = execute_in s.topology w x.client (command_of s x) in
-    ap (λ z. shown_in s.topology c w x.client (command_of s x) ++ z) (show_from-push s c v es e)
-    ∙ sym (append_assoc (shown_in s.topology c w x.client (command_of s x)) (show_from s c v es) (shown_in s.topology c (serial_from s v es) e.client (command_of s e)))
+    ap (λ z. shown_in s.topology c w x.client (command_of s x) ++ z) (show_from-append s c v es fs)
+    ∙ sym (append_assoc (shown_in s.topology c w x.client (command_of s x)) (show_from s c v es) (show_from s c (serial_from s v es) fs))
+
+show_from-push : (s : Script) (c : ℕ) (w : World) (es : List Entry) (e : Entry) → show_from s c w (es ++ e ∷ []) ≡ show_from s c w es ++ shown_in s.topology c (serial_from s w es) e.client (command_of s e)
+unfolding show_from
+show_from-push s c w es e =
+    show_from-append s c w es (e ∷ [])
+    ∙ ap (λ z. show_from s c w es ++ z) (append-nil (shown_in s.topology c (serial_from s w es) e.client (command_of s e)))
 
 pub reverse_more : {A : Type 0} (x : A) (xs : List A) → reverse (x ∷ xs) ≡ reverse xs ++ x ∷ []
 reverse_more x xs = reverse-append (x ∷ []) xs
@@ -117,7 +123,7 @@ made_present s w journal cs e c P is keeps other =
     let v = (execute t w e.client c).world in
     let f = execute_follows t w e.client c P.lawful P.kept keeps other in
     record {
-      lawful = execution_keeps_sound t w e.client c P.lawful;
+      lawful = execution_keeps_lawful t w e.client c P.lawful;
       framed = execution_keeps_framed t w e.client c P.lawful.numbered.things P.framed;
       kept = f.kept;
       states = states_like t w v cs f.like P.states;
@@ -217,7 +223,7 @@ module _ (s : Script) (x : Commit) (journal : List Entry) (cs : List Commit) (e 
   executed-is = committed-executed s.topology x.world e.client x.request none no_test
 
   new_lawful : IsLawful s.topology v
-  new_lawful = subst (λ (z : Executed). IsLawful s.topology z.world) executed-is (execution_keeps_sound s.topology x.world e.client (command.Atomic x.request) P.lawful)
+  new_lawful = subst (λ (z : Executed). IsLawful s.topology z.world) executed-is (execution_keeps_lawful s.topology x.world e.client (command.Atomic x.request) P.lawful)
 
   new_framed : AreFramed v.things
   new_framed = subst (λ (z : Executed). AreFramed z.world.things) executed-is (execution_keeps_framed s.topology x.world e.client (command.Atomic x.request) P.lawful.numbered.things P.framed)

@@ -17,7 +17,7 @@ use Rattle.kms_model.specs.Device.World.{start}
 use Rattle.kms_model.specs.Machine.Registers.{crtc_words, first_crtc_words, first_plane_words, first_registers, plane_words, read}
 use Rattle.kms_model.specs.Machine.State.{no_marks}
 use Rattle.kms_model.proofs.Items.{IsIn, IsObject, ids-in}
-use Rattle.kms_model.proofs.SoundStart.{start-crtc, start-zero, start_is_sound}
+use Rattle.kms_model.proofs.SoundStart.{start-crtc, start-zero, start_is_lawful}
 use Rattle.kms_model.proofs.StartValues.{has_number, plane_numbers, plane_value}
 use Rattle.kms_model.proofs.TouchedLemmas.{few_objects}
 use Rattle.kms_laws.proofs.Invariants.{IsPending, Tail, crtc_after, latched_at, plane_after, shown}
@@ -62,7 +62,7 @@ start_states t device = record { plane = λ p is. start_plane t p device is; crt
 pub start_present : (s : Script) → IsDevice s.topology → Present s (start s.topology) [] []
 unfolding serial_from show_from shown
 start_present s device = record {
-  lawful = start_is_sound s.topology device;
+  lawful = start_is_lawful s.topology device;
   framed = tt;
   kept = tt;
   states = start_states s.topology device;

@@ -286,7 +286,7 @@ swap_kept s m client plain H h = go (request_at s m client) refl
 
         now : Inv s (committed s.topology m.device.world client r).world (x ∷ m.device.commits) m.device.marks m.device.shadow m.device.go m.records.latches (entry_at m client ∷ m.records.journal) answered.records.replies
         now =
-            let at : IsRequestAt s.topology m.device.world r = record { device = plain.device; lawful = H.present.lawful; early = (accepted-parts s.topology m.device.world r none).first_none } in
+            let at : IsRequestAt s.topology m.device.world r = record { device = plain.device; sound = H.present.lawful.sound; early = (accepted-parts s.topology m.device.world r none).first_none } in
             let A = answers_kept s m client (reply.Commit (length m.device.commits)) H (subst (IsVerdict s m.device.world (reply.Commit (length m.device.commits))) (sym is) (none, sym H.present.count)) in
             record {
               tail = swap_tail H.tail x (commits_more s.topology x m.device.commits at H.present.states H.tail.commits);

@@ -30,7 +30,7 @@ use Rattle.kms_model.specs.Frames.Pictures.{layers_with, picture, picture_in, pu
 use Rattle.kms_model.specs.Frames.Shown.{AreFramed, FramesIn}
 use Rattle.kms_model.specs.Machine.Registers.{CrtcWords, bytes_of_words, code_of, crtc_words, fb_number, format_in, gamma_in_words, gamma_with, gamma_words, mode_in_words, mode_words, plane_in, plane_words}
 use Rattle.kms_model.specs.Request.Checks.{is_active}
-use Rattle.kms_model.proofs.HeldValues.{all_held-from}
+use Rattle.kms_model.proofs.HeldValues.{plain_held-from}
 use Rattle.kms_model.proofs.Items.{IsIn, IsObject, ids-in}
 use Rattle.kms_model.proofs.StateLemmas.{plane_in_range, sound-mode}
 use Rattle.kms_model.proofs.ThingLemmas.{IsNumberedIn, find-in, ids-numbered}
@@ -99,7 +99,7 @@ state_back s range known = (λ i. plane_with (fb_back s.fb known i) (signed_back
 
 pub plane_back : (t : Topology) (w : World) (p : ℕ) → IsLawful t w → AreFramed w.things → IsIn p (ids_of t Plane) → plane_in (plane_words (plane_at w.things w.values p)) ≡ plane_at w.things w.values p
 plane_back t w p lawful framed is =
-    state_back (plane_at w.things w.values p) (plane_in_range t w.things w.values p (all_held-from t w.things w.values lawful.sound.held) is)
+    state_back (plane_at w.things w.values p) (plane_in_range t w.things w.values p (plain_held-from t w.things w.values lawful.sound.held) is)
     (λ f e. fb_some w.things (value w.values p FB_ID) f lawful.numbered.things framed e)
 
 -- Modes and gamma tables

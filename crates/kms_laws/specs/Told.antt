@@ -1,8 +1,12 @@
 -- What holds of a history for those who tell of it. From: "Frame Buffer Abstraction", drm_framebuffer_get: a framebuffer that is
 -- shown stays, open or closed; `drm_read`: what is read is what was delivered.
-use Rattle.std.specs.Prelude.{◌≡◌, ◌≤◌, ℕ, ◌+◌, List, [], ◌∷◌, reverse, ⊤}
+use Rattle.std.specs.Prelude.{◌≡◌, ◌≤◌, ℕ, ◌+◌, List, [], ◌∷◌, ◌++◌, reverse, ⊤}
 use Rattle.std.specs.List.{All}
 use Rattle.kms_model.specs.declared.replies.Answered.{Answered}
+use Rattle.kms_model.specs.declared.scripts.Script.{Script}
+use Rattle.kms_model.specs.Device.Serial.{Entry, serial, show}
+use Rattle.kms_model.specs.Device.Sound.{IsDevice}
+use Rattle.kms_model.specs.Frames.FrameBytes.{frame_bytes}
 use Rattle.kms_model.specs.Frames.Shown.{EachCanBeShown}
 use Rattle.kms_model.specs.Machine.Histories.{at, read_by, replies}
 use Rattle.kms_model.specs.Promises.{InEachHistory}
@@ -12,6 +16,11 @@ use Rattle.kms_model.specs.Report.Right.{events_told}
 -- each picture that was latched can be composed over the present things
 abbrev pub LatchesCanBeShown : Type 0
 LatchesCanBeShown = InEachHistory (λ s h. All (λ l. EachCanBeShown (at s h).device.world.things l.picture) (reverse (at s h).records.latches))
+
+-- What a CRTC showed, by its id, has the same frame over the things of each later moment, whatever entries come between.
+abbrev pub FramesStay : Type 0
+FramesStay = (s : Script) (entries later : List Entry) (crtc : ℕ) → IsDevice s.topology
+    → All (λ p. frame_bytes (serial s (entries ++ later)).things p.picture ≡ p.frame) (show s entries crtc)
 
 -- what each client has read is what its replies tell
 abbrev pub EventsAreTold : Type 0

@@ -29,5 +29,6 @@ pub use locks::{
 };
 pub use once::labels_are_made_once;
 pub use shown::{
-    answers_follow_commands, events_read_are_replies, what_was_latched_can_be_composed,
+    answers_follow_commands, events_read_are_replies, shown_frames_stay,
+    what_was_latched_can_be_composed,
 };

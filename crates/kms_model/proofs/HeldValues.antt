@@ -1,6 +1,6 @@
 -- Values that are held: those that a request gives, and those that stay.
 use Rattle.std.proofs.Common.{◌≡◌, ◌≢◌, ℕ, ◌+◌, Bool, true, false, List, [], ◌∷◌, ◌++◌, length, Option, Some, None, inl, inr, arith, refl, sym, ap, ◌∙◌, subst}
-use Rattle.std.specs.Prelude.{◌&&◌, ◌||◌, ◌==◌, not, nat_lt, nat_le, ℤ, pos, is_some, filter, Ok, Err, if◌then◌else◌}
+use Rattle.std.specs.Prelude.{◌&&◌, ◌||◌, ◌==◌, not, nat_lt, nat_le, ℤ, pos, is_some, filter, Ok, Err, if◌then◌else◌, ⊤}
 use Rattle.std.specs.List.{list_all}
 use Rattle.std.specs.Ordering.{int_eq}
 use Rattle.std.specs.Result.{result_ok}
@@ -131,8 +131,30 @@ held-label things q none (Some u) kept found taken =
     go true is = is
     go false is = absurd cc
 
+-- a range of which no thing has a part
+abbrev pub IsPlain : Range → Type 0
+IsPlain (Numbers low high) = ⊤
+IsPlain CrtcName = ⊤
+IsPlain (Thing none) = ⊥
+
+-- what a value of a range needs of the things: their numbers, where it is a range of things
+abbrev pub AreNumberedFor : Range → List worlds.Thing → Type 0
+AreNumberedFor (Numbers low high) things = ⊤
+AreNumberedFor CrtcName things = ⊤
+AreNumberedFor (Thing none) things = AreNumbered 1000 things
+
+pub numbered-for : (r : Range) (things : List worlds.Thing) → AreNumbered 1000 things → AreNumberedFor r things
+numbered-for (Numbers low high) things numbered = tt
+numbered-for CrtcName things numbered = tt
+numbered-for (Thing none) things numbered = numbered
+
+pub plain-for : (r : Range) (things : List worlds.Thing) → IsPlain r → AreNumberedFor r things
+plain-for (Numbers low high) things plain = tt
+plain-for CrtcName things plain = tt
+plain-for (Thing none) things plain = absurd plain
+
 -- a value among those of a property stands for a held number
-pub held-in_range : (t : Topology) (w : World) (q : ℕ) (r : Range) (v : Value) → AreNumbered 1000 w.things → is_kept q ≡ true → is_in_range t (look_up w) q r v ≡ true → is_held t w.things q r (number_of w.things v) ≡ true
+pub held-in_range : (t : Topology) (w : World) (q : ℕ) (r : Range) (v : Value) → AreNumberedFor r w.things → is_kept q ≡ true → is_in_range t (look_up w) q r v ≡ true → is_held t w.things q r (number_of w.things v) ≡ true
 held-in_range t w q (Numbers low high) (Num n) numbered kept is = is
 held-in_range t w q (Numbers low high) (Named label) numbered kept is = absurd cc
 held-in_range t w q (Numbers low high) (New label) numbered kept is = absurd cc
@@ -172,7 +194,7 @@ accepted-assign t w earlier a none =
       is_value = not-false (is_value t (look_up w) a.prop a.value) (number_if-none 7 _ six.second_none);
     }
 
-held-assign : (t : Topology) (w : World) (a : Assign) (values : List Setting) (object : ℕ) (p : Property) → AreNumbered 1000 w.things → IsKeptRow p → IsAccepted t w a
+held-assign : (t : Topology) (w : World) (a : Assign) (values : List Setting) (object : ℕ) (p : Property) → AreNumberedFor p.range w.things → IsKeptRow p → IsAccepted t w a
     → is_held t w.things p.id p.range (value values object p.id) ≡ true → is_held t w.things p.id p.range (value (assign w.things values a) object p.id) ≡ true
 held-assign t w a values object p numbered row ok held =
     elim (cases_Bool (targets a object p.id)) [
@@ -185,7 +207,7 @@ held-assign t w a values object p numbered row ok held =
     ]
 
 -- values that are held stay so over the assignments of an accepted request
-pub held-apply : (t : Topology) (w : World) (earlier assigns : List Assign) (values : List Setting) (object : ℕ) (p : Property) → AreNumbered 1000 w.things → IsKeptRow p → assigns_refusal t (look_up w) earlier assigns ≡ None
+pub held-apply : (t : Topology) (w : World) (earlier assigns : List Assign) (values : List Setting) (object : ℕ) (p : Property) → AreNumberedFor p.range w.things → IsKeptRow p → assigns_refusal t (look_up w) earlier assigns ≡ None
     → is_held t w.things p.id p.range (value values object p.id) ≡ true → is_held t w.things p.id p.range (value (apply w.things values assigns) object p.id) ≡ true
 unfolding assigns_refusal
 held-apply t w earlier [] values object p numbered row none held = held
@@ -223,6 +245,26 @@ all_held-from t things values held =
 pub are_held-from : (t : Topology) (things : List worlds.Thing) (values : List Setting) → AreAllHeld t things values → are_held t things values ≡ true
 are_held-from t things values all =
     and_from _ _ (holds_values-from t things values kind.Crtc all.crtcs) (and_from _ _ (holds_values-from t things values kind.Plane all.planes) (holds_values-from t things values kind.Conn all.conns))
+
+-- the same of the values that are no things
+
+pub record HoldsPlain (t : Topology) (things : List worlds.Thing) (values : List Setting) (k : Kind) : Type 0 where
+  pub at : (object : ℕ) (p : Property) → IsIn object (ids_of t k) → IsIn p (kept_properties k) → IsPlain p.range
+      → is_held t things p.id p.range (value values object p.id) ≡ true
+
+pub record ArePlainHeld (t : Topology) (things : List worlds.Thing) (values : List Setting) : Type 0 where
+  pub crtcs : HoldsPlain t things values kind.Crtc
+  pub planes : HoldsPlain t things values kind.Plane
+  pub conns : HoldsPlain t things values kind.Conn
+
+pub plain_held-from : (t : Topology) (things : List worlds.Thing) (values : List Setting) → are_held t things values ≡ true → ArePlainHeld t things values
+plain_held-from t things values held =
+    let all : AreAllHeld t things values = all_held-from t things values held in
+    record {
+      crtcs = record { at = λ object p is row plain. all.crtcs.at object p is row };
+      planes = record { at = λ object p is row plain. all.planes.at object p is row };
+      conns = record { at = λ object p is row plain. all.conns.at object p is row };
+    }
 
 -- what is held stays held where each value stays held
 pub holds_all-kept : (t : Topology) (xs ys : List worlds.Thing) (old new : List Setting) (k : Kind)

@@ -37,10 +37,10 @@ use Rattle.kms_model.specs.Device.Sound.{IsCrtcOrNone, kept_properties}
 use Rattle.kms_model.proofs.Items.{IsIn, ids-has, list_any-at, with_ids-has}
 use Rattle.kms_model.proofs.MaskLemmas.{has_bit-below, same_masks, same_tests, mask_from}
 use Rattle.kms_model.proofs.UnionLemmas.{has_bit-zero}
-use Rattle.kms_model.proofs.HeldValues.{AreAllHeld, all_held-from}
+use Rattle.kms_model.proofs.HeldValues.{ArePlainHeld, plain_held-from}
 use Rattle.kms_model.proofs.SeenLemmas.{row-at, plane_crtc-held, shown-off}
 use Rattle.kms_model.proofs.StateLemmas.{natural-held}
-use Rattle.kms_model.proofs.SoundKept.{differs-self, apply-held}
+use Rattle.kms_model.proofs.SoundKept.{differs-self, plain-apply}
 use Rattle.kms_model.proofs.TouchedLemmas.{IsRequestAt, after, touches_object, touches, untouched-plane, untouched-crtc, untouched-conn, untouched-clone, untouched-route, untouched-shown, untouched-modeset}
 
 -- The first of objects by their indices
@@ -246,7 +246,7 @@ shown-same t w r d objects stand covers =
         ap (λ m. shown_refusal t.profile m s) (new_mode-at t w r d j s.crtc stand (ap (λ x. x.crtc) is ∙ same) (covers.has_crtc_of i j within inside below same)) ∙ ap (λ x. shown_refusal t.profile (mode_at w.things (after w r) x.crtc) x) is
 
     held : (i : ℕ) → i < count_of t kind.Plane → IsCrtcOrNone t (crtc_at (after w r) (object_id kind.Plane i))
-    held i within = plane_crtc-held t w.things (after w r) (object_id kind.Plane i) (all_held-from t w.things (after w r) (apply-held t w r stand.at.lawful stand.at.early)) (ids-has t kind.Plane i within)
+    held i within = plane_crtc-held t w.things (after w r) (object_id kind.Plane i) (plain-apply t w r stand.at.sound stand.at.early) (ids-has t kind.Plane i within)
 
 -- ACTIVE is 0 or 1
 zero_or_one : (z : ℤ) → (int_le (pos 0) z && int_le z (pos 1)) ≡ true → (z ≡ pos 0) ⊎ (z ≡ pos 1)
@@ -261,8 +261,8 @@ actives-differ a b (inl x) (inr y) = rw (x, y) refl
 actives-differ a b (inr x) (inl y) = rw (x, y) refl
 actives-differ a b (inr x) (inr y) = rw (x, y) refl
 
-active-held : (t : Topology) (things : List Thing) (values : List Setting) (crtc : ℕ) → AreAllHeld t things values → IsIn crtc (ids_of t kind.Crtc) → (value values crtc ACTIVE ≡ pos 0) ⊎ (value values crtc ACTIVE ≡ pos 1)
-active-held t things values crtc all is = zero_or_one (value values crtc ACTIVE) (all.crtcs.at crtc _ is (row-at (kept_properties kind.Crtc) 0 _ refl))
+active-held : (t : Topology) (things : List Thing) (values : List Setting) (crtc : ℕ) → ArePlainHeld t things values → IsIn crtc (ids_of t kind.Crtc) → (value values crtc ACTIVE ≡ pos 0) ⊎ (value values crtc ACTIVE ≡ pos 1)
+active-held t things values crtc all is = zero_or_one (value values crtc ACTIVE) (all.crtcs.at crtc _ is (row-at (kept_properties kind.Crtc) 0 _ refl) tt)
 
 differs-eqb : (p q : Bool) → differs p q ≡ false → p ≡ q
 differs-eqb true true same = refl
@@ -294,8 +294,8 @@ needs_modeset-states t w r i both at within old new =
     let crtc : ℕ = object_id kind.Crtc i in
     let is : IsIn crtc (ids_of t kind.Crtc) = ids-has t kind.Crtc i within in
     let actives = actives-differ (value w.values crtc ACTIVE) (value (after w r) crtc ACTIVE)
-    (active-held t w.things w.values crtc (all_held-from t w.things w.values at.lawful.sound.held) is)
-    (active-held t w.things (after w r) crtc (all_held-from t w.things (after w r) (apply-held t w r at.lawful at.early)) is) in
+    (active-held t w.things w.values crtc (plain_held-from t w.things w.values at.sound.held) is)
+    (active-held t w.things (after w r) crtc (plain-apply t w r at.sound at.early) is) in
     rw (old, new) (ap (λ b. not (same_mode (mode_at w.things w.values crtc) (mode_at w.things (after w r) crtc)) || b)
     (ap (λ b. b || not (on_crtc t w.values crtc kind.Conn == on_crtc t (after w r) crtc kind.Conn)) actives
     ∙ ap (λ b. not (int_eq (value w.values crtc ACTIVE) (value (after w r) crtc ACTIVE)) || b) (conns-differ t w.values (after w r) crtc)))

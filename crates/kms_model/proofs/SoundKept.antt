@@ -6,6 +6,7 @@ use Rattle.std.specs.Ordering.{int_eq}
 use Rattle.std.proofs.lemmas.List.{length-map}
 use Rattle.std.proofs.lemmas.Bool.{eq-eqb, and_from, or_from, and_right, not_from_true}
 use Rattle.std.proofs.lemmas.Bool.Decides.{Decides-int_eq}
+use Rattle.kms_model.specs.declared.objects.Kind.{Kind}
 use Rattle.kms_model.specs.declared.objects.Kind.TheVariants as kind
 use Rattle.kms_model.specs.declared.objects.Mode.{Mode}
 use Rattle.kms_model.specs.declared.objects.PlaneInfo.{PlaneInfo}
@@ -39,13 +40,13 @@ use Rattle.kms_model.specs.Request.Refusals.{flags_refusal, assigns_refusal, ear
 use Rattle.kms_model.specs.Request.Checks.{switches_crtc, has_crtc, is_beyond, is_active, with_ids, placed_refusal, plane_refusal_with, plane_refusal, plane_refusal_at, crtc_refusal, crtc_refusal_at, conn_refusal_at, clone_refusal_at, route_refusal_at, shown_refusal_at, event_refusal, late_refusal}
 use Rattle.kms_model.specs.Request.Touched.{asks_signal, out_fence_label}
 use Rattle.kms_model.specs.Device.Execution.{make, make_unless, answer, add_fb, buffer_of, BufferInfo}
-use Rattle.kms_model.specs.Device.Sound.{are_held, empty_request, IsLawful}
+use Rattle.kms_model.specs.Device.Sound.{are_held, empty_request, IsLawful, IsSound}
 use Rattle.kms_model.specs.Request.Verdict.{verdict}
 use Rattle.kms_model.specs.Device.Closing.{closed_if, closed_in}
 use Rattle.kms_model.specs.Device.Execution.{close, close_unless, signal_unless, make_out_fence, make_out_fences, committed, commit, execute, new_buffer_refusal, destroy_refusal, close_refusal, signal_refusal}
 use Rattle.kms_model.proofs.Items.{AreNone, or_else-none, or_else-nones, none-number_if, first_some-at, first_some-none, list_any-none}
 use Rattle.kms_model.proofs.ThingLemmas.{numbered-push, numbered-closed, seen-closed}
-use Rattle.kms_model.proofs.HeldValues.{are_held-kept, held-apply, held-push, held-seen, all_held-from}
+use Rattle.kms_model.proofs.HeldValues.{ArePlainHeld, HoldsPlain, are_held-kept, held-apply, held-push, held-seen, kept_row, numbered-for, plain-for, plain_held-from}
 use Rattle.kms_model.proofs.SeenLemmas.{alike-push, alike-closed, late-seen}
 
 -- A request without assignments and flags at the same values
@@ -116,6 +117,16 @@ late-again t things old new r none =
     let modesets_again : list_any (needs_modeset t things new new) (ids_of t kind.Crtc) ≡ false = list_any-none (needs_modeset t things new new) (ids_of t kind.Crtc) (λ crtc is. needs_modeset-self t things new crtc) in
     or_else-nones _ _ planes_again (or_else-nones _ _ crtcs_again (or_else-nones _ _ conns.first_none (or_else-nones _ _ clones.first_none (or_else-nones _ _ routes.first_none (or_else-nones _ _ shown.first_none (none-number_if 24 _ modesets_again))))))
 
+-- The verdict on the request without flags and assignments is its first late refusal
+
+pub late-empty : (t : Topology) (w : World) → verdict t w empty_request ≡ None → late_refusal t w.things w.values w.values empty_request ≡ None
+unfolding verdict early_refusal assigns_refusal
+late-empty t w none = none
+
+pub verdict-empty : (t : Topology) (w : World) → late_refusal t w.things w.values w.values empty_request ≡ None → verdict t w empty_request ≡ None
+unfolding verdict early_refusal assigns_refusal
+verdict-empty t w none = none
+
 -- Things that come and are closed
 
 pub sound-make : (t : Topology) (w : World) (owner label : ℕ) (c : Content) → IsLawful t w → IsLawful t (make w owner label c).world
@@ -125,7 +136,9 @@ sound-make t w owner label c lawful =
     record {
       sound = record {
         held = are_held-kept t w.things (w.things ++ u ∷ []) w.values w.values (λ object p row held. held-push t w.things u p.id p.range (value w.values object p.id) lawful.numbered.things lawful.numbered.next held) lawful.sound.held;
-        accepted = sym (late-seen t w.things (w.things ++ u ∷ []) w.values w.values empty_request alike alike (all_held-from t w.things w.values lawful.sound.held)) ∙ lawful.sound.accepted;
+        accepted = verdict-empty t (make w owner label c).world
+            (sym (late-seen t w.things (w.things ++ u ∷ []) w.values w.values empty_request alike alike (plain_held-from t w.things w.values lawful.sound.held))
+            ∙ late-empty t w lawful.sound.accepted);
       };
       numbered = record { things = numbered-push 1000 w.things u lawful.numbered.things lawful.numbered.next; next = ap (λ n. n + 1) lawful.numbered.next ∙ omega (arith, length-append w.things (u ∷ [])) };
     }
@@ -136,7 +149,9 @@ sound-closed t w id lawful =
     record {
       sound = record {
         held = are_held-kept t w.things (closed_in w.things id) w.values w.values (λ object p row held. held-seen t w.things (closed_in w.things id) p.id p.range (value w.values object p.id) (seen-closed w.things id (value w.values object p.id)) held) lawful.sound.held;
-        accepted = sym (late-seen t w.things (closed_in w.things id) w.values w.values empty_request alike alike (all_held-from t w.things w.values lawful.sound.held)) ∙ lawful.sound.accepted;
+        accepted = verdict-empty t (record w { things = closed_in w.things id })
+            (sym (late-seen t w.things (closed_in w.things id) w.values w.values empty_request alike alike (plain_held-from t w.things w.values lawful.sound.held))
+            ∙ late-empty t w lawful.sound.accepted);
       };
       numbered = record { things = numbered-closed 1000 w.things id lawful.numbered.things; next = lawful.numbered.next ∙ ap (λ n. 1000 + n) (sym (length-map w.things (closed_if id))) };
     }
@@ -159,7 +174,19 @@ early-parts t w r none = or_else-none (flags_refusal r.flags) (assigns_refusal t
 pub apply-held : (t : Topology) (w : World) (r : Request) → IsLawful t w → early_refusal t (look_up w) r ≡ None → are_held t w.things (after w r) ≡ true
 apply-held t w r lawful early =
     are_held-kept t w.things w.things w.values (after w r)
-    (λ object p row held. held-apply t w [] r.assigns w.values object p lawful.numbered.things row (early-parts t w r early).second_none held) lawful.sound.held
+    (λ object p row held. held-apply t w [] r.assigns w.values object p (numbered-for p.range w.things lawful.numbered.things) row (early-parts t w r early).second_none held) lawful.sound.held
+
+-- so are those that are no things, whatever the numbers of the things
+pub plain-apply : (t : Topology) (w : World) (r : Request) → IsSound t w → early_refusal t (look_up w) r ≡ None → ArePlainHeld t w.things (after w r)
+plain-apply t w r sound early =
+    let before : ArePlainHeld t w.things w.values = plain_held-from t w.things w.values sound.held in
+    record { crtcs = kept kind.Crtc before.crtcs; planes = kept kind.Plane before.planes; conns = kept kind.Conn before.conns }
+  where
+    kept : (k : Kind) → HoldsPlain t w.things w.values k → HoldsPlain t w.things (after w r) k
+    kept k all = record {
+      at = λ object p is row plain. held-apply t w [] r.assigns w.values object p (plain-for p.range w.things plain) (kept_row k p row)
+          (early-parts t w r early).second_none (all.at object p is row plain);
+    }
 
 pub sound-apply : (t : Topology) (w : World) (r : Request) (commits : ℕ) → IsLawful t w → verdict t w r ≡ None → IsLawful t (record w { values = after w r; commits = commits })
 sound-apply t w r commits lawful none =
@@ -167,7 +194,7 @@ sound-apply t w r commits lawful none =
     record {
       sound = record {
         held = apply-held t w r lawful parts.first_none;
-        accepted = late-again t w.things w.values (after w r) r parts.second_none;
+        accepted = verdict-empty t (record w { values = after w r; commits = commits }) (late-again t w.things w.values (after w r) r parts.second_none);
       };
       numbered = record { things = lawful.numbered.things; next = lawful.numbered.next };
     }
@@ -210,15 +237,15 @@ sound-signal_unless t w None lawful = lawful
 sound-signal_unless t w (Some n) lawful = lawful
 
 -- A command leaves a lawful world lawful.
-pub execution_keeps_sound : (t : Topology) (w : World) (client : ℕ) (c : Command) → IsLawful t w → IsLawful t (execute t w client c).world
+pub execution_keeps_lawful : (t : Topology) (w : World) (client : ℕ) (c : Command) → IsLawful t w → IsLawful t (execute t w client c).world
 unfolding execute
-execution_keeps_sound t w client (command.Buffer label width height format pattern) lawful = sound-make_unless t w client label (content.Buffer width height format pattern) (new_buffer_refusal w.things width height format) lawful
-execution_keeps_sound t w client (command.AddFb label buffer) lawful = sound-add_fb t w client label (buffer_of w.things client buffer) lawful
-execution_keeps_sound t w client (command.Mode label m) lawful = sound-make t w client label (content.Mode m) lawful
-execution_keeps_sound t w client (command.Blob label bytes) lawful = sound-make t w client label (content.Blob bytes) lawful
-execution_keeps_sound t w client (command.Destroy label) lawful = sound-close_unless t w (thing_labelled w.things label) (destroy_refusal client (thing_labelled w.things label)) lawful
-execution_keeps_sound t w client (command.CloseFb label) lawful = sound-close_unless t w (thing_labelled w.things label) (close_refusal client (thing_labelled w.things label)) lawful
-execution_keeps_sound t w client (command.Fence label) lawful = sound-make t w client label content.Fence lawful
-execution_keeps_sound t w client (command.Signal label) lawful = sound-signal_unless t w (signal_refusal (thing_labelled w.things label)) lawful
-execution_keeps_sound t w client (command.Atomic r) lawful = sound-commit t w client r (verdict t w r) refl lawful
-execution_keeps_sound t w client command.Wait lawful = lawful
+execution_keeps_lawful t w client (command.Buffer label width height format pattern) lawful = sound-make_unless t w client label (content.Buffer width height format pattern) (new_buffer_refusal w.things width height format) lawful
+execution_keeps_lawful t w client (command.AddFb label buffer) lawful = sound-add_fb t w client label (buffer_of w.things client buffer) lawful
+execution_keeps_lawful t w client (command.Mode label m) lawful = sound-make t w client label (content.Mode m) lawful
+execution_keeps_lawful t w client (command.Blob label bytes) lawful = sound-make t w client label (content.Blob bytes) lawful
+execution_keeps_lawful t w client (command.Destroy label) lawful = sound-close_unless t w (thing_labelled w.things label) (destroy_refusal client (thing_labelled w.things label)) lawful
+execution_keeps_lawful t w client (command.CloseFb label) lawful = sound-close_unless t w (thing_labelled w.things label) (close_refusal client (thing_labelled w.things label)) lawful
+execution_keeps_lawful t w client (command.Fence label) lawful = sound-make t w client label content.Fence lawful
+execution_keeps_lawful t w client (command.Signal label) lawful = sound-signal_unless t w (signal_refusal (thing_labelled w.things label)) lawful
+execution_keeps_lawful t w client (command.Atomic r) lawful = sound-commit t w client r (verdict t w r) refl lawful
+execution_keeps_lawful t w client command.Wait lawful = lawful

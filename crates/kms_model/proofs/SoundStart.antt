@@ -25,7 +25,7 @@ use Rattle.kms_model.specs.Request.Checks.{with_ids, conns_on, plane_refusal, pl
 use Rattle.kms_model.proofs.Items.{IsIn, IsObject, ids-in, list_all-at, list_any-none, or_else-nones, none-number_if, first_some-none}
 use Rattle.kms_model.proofs.AppliedValues.{ComesFrom, value-cases}
 use Rattle.kms_model.proofs.HeldValues.{IsKeptRow, HoldsAll, kept_row, are_held-from}
-use Rattle.kms_model.proofs.SoundKept.{needs_modeset-self}
+use Rattle.kms_model.proofs.SoundKept.{needs_modeset-self, verdict-empty}
 use Rattle.kms_model.proofs.TouchedLemmas.{few_objects}
 
 -- All settings pass a test
@@ -156,11 +156,11 @@ start-accepted t device =
     (none-number_if 24 _ (list_any-none (needs_modeset t [] values values) (ids_of t kind.Crtc) (λ crtc is. needs_modeset-self t [] values crtc))))))))
 
 -- The device of one thread is sound before the first command.
-pub start_is_sound : (t : Topology) → IsDevice t → IsLawful t (start t)
-start_is_sound t device = record {
+pub start_is_lawful : (t : Topology) → IsDevice t → IsLawful t (start t)
+start_is_lawful t device = record {
   sound = record {
     held = are_held-from t [] (start t).values (record { crtcs = all-start t kind.Crtc device; planes = all-start t kind.Plane device; conns = all-start t kind.Conn device });
-    accepted = start-accepted t device;
+    accepted = verdict-empty t (start t) (start-accepted t device);
   };
   numbered = record { things = tt; next = refl };
 }

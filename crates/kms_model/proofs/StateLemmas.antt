@@ -21,7 +21,8 @@ use Rattle.kms_model.specs.Device.Sound.{IsBetween, IsCrtcOrNone, IsPlaneInRange
 use Rattle.kms_model.specs.Request.Touched.{asks_signal}
 use Rattle.kms_model.specs.Request.Checks.{is_active, with_ids, crtc_refusal, crtc_refusal_at, plane_refusal_at, event_refusal, late_refusal}
 use Rattle.kms_model.proofs.Items.{IsIn, ids-has, or_else-none, number_if-none, first_some-at}
-use Rattle.kms_model.proofs.HeldValues.{AreAllHeld, all_held-from}
+use Rattle.kms_model.proofs.SoundKept.{late-empty}
+use Rattle.kms_model.proofs.HeldValues.{ArePlainHeld, IsPlain, plain_held-from}
 use Rattle.kms_model.proofs.SeenLemmas.{row-at, plane_crtc-held, conn_crtc-held}
 
 -- Numbers in the ranges of their properties
@@ -39,32 +40,32 @@ natural-held high (pos n) held = let b : IsBetween (pos 0) (pos high) (pos n) = 
 natural-held high (negsuc n) held = omega arith
 
 -- the numbers of a plane's state
-pub plane_in_range : (t : Topology) (things : List Thing) (values : List Setting) (plane : ℕ) → AreAllHeld t things values → IsIn plane (ids_of t kind.Plane) → IsPlaneInRange (plane_at things values plane)
+pub plane_in_range : (t : Topology) (things : List Thing) (values : List Setting) (plane : ℕ) → ArePlainHeld t things values → IsIn plane (ids_of t kind.Plane) → IsPlaneInRange (plane_at things values plane)
 plane_in_range t things values plane all is =
-    let at : (i : ℕ) (p : Property) → IsIn p (kept_properties kind.Plane) → is_held t things p.id p.range (value values plane p.id) ≡ true = λ i p row. all.planes.at plane p is row in
+    let at : (i : ℕ) (p : Property) → IsIn p (kept_properties kind.Plane) → IsPlain p.range → is_held t things p.id p.range (value values plane p.id) ≡ true = λ i p row plain. all.planes.at plane p is row plain in
     record {
-      x = between-held (negsuc 2147483647) (pos 2147483647) (value values plane CRTC_X) (at 3 _ (row-at (kept_properties kind.Plane) 3 _ refl));
-      y = between-held (negsuc 2147483647) (pos 2147483647) (value values plane CRTC_Y) (at 4 _ (row-at (kept_properties kind.Plane) 4 _ refl));
-      w = between-held (pos 0) (pos 2147483647) (value values plane CRTC_W) (at 5 _ (row-at (kept_properties kind.Plane) 5 _ refl));
-      h = between-held (pos 0) (pos 2147483647) (value values plane CRTC_H) (at 6 _ (row-at (kept_properties kind.Plane) 6 _ refl));
-      src_x = between-held (pos 0) (pos 4294967295) (value values plane SRC_X) (at 7 _ (row-at (kept_properties kind.Plane) 7 _ refl));
-      src_y = between-held (pos 0) (pos 4294967295) (value values plane SRC_Y) (at 8 _ (row-at (kept_properties kind.Plane) 8 _ refl));
-      src_w = between-held (pos 0) (pos 4294967295) (value values plane SRC_W) (at 9 _ (row-at (kept_properties kind.Plane) 9 _ refl));
-      src_h = between-held (pos 0) (pos 4294967295) (value values plane SRC_H) (at 10 _ (row-at (kept_properties kind.Plane) 10 _ refl));
-      alpha = natural-held 65535 (value values plane ALPHA) (at 11 _ (row-at (kept_properties kind.Plane) 11 _ refl));
-      blend = natural-held 2 (value values plane BLEND) (at 12 _ (row-at (kept_properties kind.Plane) 12 _ refl));
-      zpos = natural-held 255 (value values plane ZPOS) (at 13 _ (row-at (kept_properties kind.Plane) 13 _ refl));
+      x = between-held (negsuc 2147483647) (pos 2147483647) (value values plane CRTC_X) (at 3 _ (row-at (kept_properties kind.Plane) 3 _ refl) tt);
+      y = between-held (negsuc 2147483647) (pos 2147483647) (value values plane CRTC_Y) (at 4 _ (row-at (kept_properties kind.Plane) 4 _ refl) tt);
+      w = between-held (pos 0) (pos 2147483647) (value values plane CRTC_W) (at 5 _ (row-at (kept_properties kind.Plane) 5 _ refl) tt);
+      h = between-held (pos 0) (pos 2147483647) (value values plane CRTC_H) (at 6 _ (row-at (kept_properties kind.Plane) 6 _ refl) tt);
+      src_x = between-held (pos 0) (pos 4294967295) (value values plane SRC_X) (at 7 _ (row-at (kept_properties kind.Plane) 7 _ refl) tt);
+      src_y = between-held (pos 0) (pos 4294967295) (value values plane SRC_Y) (at 8 _ (row-at (kept_properties kind.Plane) 8 _ refl) tt);
+      src_w = between-held (pos 0) (pos 4294967295) (value values plane SRC_W) (at 9 _ (row-at (kept_properties kind.Plane) 9 _ refl) tt);
+      src_h = between-held (pos 0) (pos 4294967295) (value values plane SRC_H) (at 10 _ (row-at (kept_properties kind.Plane) 10 _ refl) tt);
+      alpha = natural-held 65535 (value values plane ALPHA) (at 11 _ (row-at (kept_properties kind.Plane) 11 _ refl) tt);
+      blend = natural-held 2 (value values plane BLEND) (at 12 _ (row-at (kept_properties kind.Plane) 12 _ refl) tt);
+      zpos = natural-held 255 (value values plane ZPOS) (at 13 _ (row-at (kept_properties kind.Plane) 13 _ refl) tt);
     }
 
 -- the same in a sound world, by the index of the object
 pub sound-plane_in_range : (t : Topology) (w : World) (index : ℕ) → IsSound t w → index < count_of t kind.Plane → IsPlaneInRange (plane_at w.things w.values (object_id kind.Plane index))
-sound-plane_in_range t w index sound within = plane_in_range t w.things w.values (object_id kind.Plane index) (all_held-from t w.things w.values sound.held) (ids-has t kind.Plane index within)
+sound-plane_in_range t w index sound within = plane_in_range t w.things w.values (object_id kind.Plane index) (plain_held-from t w.things w.values sound.held) (ids-has t kind.Plane index within)
 
 pub sound-plane_crtc : (t : Topology) (w : World) (index : ℕ) → IsSound t w → index < count_of t kind.Plane → IsCrtcOrNone t (crtc_at w.values (object_id kind.Plane index))
-sound-plane_crtc t w index sound within = plane_crtc-held t w.things w.values (object_id kind.Plane index) (all_held-from t w.things w.values sound.held) (ids-has t kind.Plane index within)
+sound-plane_crtc t w index sound within = plane_crtc-held t w.things w.values (object_id kind.Plane index) (plain_held-from t w.things w.values sound.held) (ids-has t kind.Plane index within)
 
 pub sound-conn_crtc : (t : Topology) (w : World) (index : ℕ) → IsSound t w → index < count_of t kind.Conn → IsCrtcOrNone t (crtc_at w.values (object_id kind.Conn index))
-sound-conn_crtc t w index sound within = conn_crtc-held t w.things w.values (object_id kind.Conn index) (all_held-from t w.things w.values sound.held) (ids-has t kind.Conn index within)
+sound-conn_crtc t w index sound within = conn_crtc-held t w.things w.values (object_id kind.Conn index) (plain_held-from t w.things w.values sound.held) (ids-has t kind.Conn index within)
 
 on-mode : (on : Bool) (mode : Option Mode) → (on && is_none mode) ≡ false → on ≡ true → is_some mode ≡ true
 on-mode true (Some m) none on = refl
@@ -78,7 +79,7 @@ crtc-mode asks was on mode none is = on-mode on mode (number_if-none 16 _ (or_el
 pub sound-mode : (t : Topology) (w : World) (index : ℕ) → IsSound t w → index < count_of t kind.Crtc → is_active w.values (object_id kind.Crtc index) ≡ true → is_some (mode_at w.things w.values (object_id kind.Crtc index)) ≡ true
 unfolding late_refusal
 sound-mode t w index sound within on =
-    let events = or_else-none (event_refusal t w.values w.values empty_request) _ sound.accepted in
+    let events = or_else-none (event_refusal t w.values w.values empty_request) _ (late-empty t w sound.accepted) in
     let planes = or_else-none (first_some (plane_refusal_at w.things w.values w.values) (with_ids (first_id kind.Plane) t.planes)) _ events.second_none in
     let crtcs = or_else-none (first_some (crtc_refusal_at w.things w.values w.values empty_request) (ids_of t kind.Crtc)) _ planes.second_none in
     crtc-mode (asks_signal w.values w.values empty_request (object_id kind.Crtc index)) (is_active w.values (object_id kind.Crtc index)) (is_active w.values (object_id kind.Crtc index)) (mode_at w.things w.values (object_id kind.Crtc index))

@@ -29,17 +29,17 @@ use Rattle.kms_model.specs.Request.Touched.{sets, is_affected, touches_crtc, tou
 use Rattle.kms_model.specs.Request.Refusals.{assigns_refusal, early_refusal}
 use Rattle.kms_model.specs.Request.Checks.{with_ids, is_active, conns_on, plane_refusal, plane_refusal_at, crtc_refusal_at, conn_refusal_at, clone_refusal_at, route_refusal_at, shown_refusal, shown_refusal_at, event_refusal, late_refusal}
 use Rattle.kms_model.specs.Device.Sound.IsCrtcOrNone.{IsNone, IsCrtc}
-use Rattle.kms_model.specs.Device.Sound.{IsDevice, IsCrtcOrNone, IsLawful, IsSound, empty_request}
+use Rattle.kms_model.specs.Device.Sound.{IsDevice, IsCrtcOrNone, IsSound, empty_request}
 use Rattle.kms_model.proofs.Items.{IsIn, IsObject, ids-in, ids-has, or_else-none, first_some-at, list_any-at, list_any-none, list_any-some, Passes, filter-same}
 use Rattle.kms_model.proofs.AppliedValues.{value-apply_unset}
-use Rattle.kms_model.proofs.HeldValues.{IsAccepted, accepted-assign, all_held-from}
+use Rattle.kms_model.proofs.HeldValues.{IsAccepted, accepted-assign, plain_held-from}
 use Rattle.kms_model.proofs.SeenLemmas.{plane_crtc-held, shown-off}
-use Rattle.kms_model.proofs.SoundKept.{same_mode-self, differs-self, early-parts}
+use Rattle.kms_model.proofs.SoundKept.{same_mode-self, differs-self, early-parts, late-empty}
 
--- a request that the early refusals let through, in a lawful world of a device
+-- a request that the early refusals let through, in a sound world of a device
 pub record IsRequestAt (t : Topology) (w : World) (r : Request) : Type 0 where
   pub device : IsDevice t
-  pub lawful : IsLawful t w
+  pub sound : IsSound t w
   pub early : early_refusal t (look_up w) r ≡ None
 
 -- Objects of several kinds have different ids
@@ -159,7 +159,7 @@ pub record Accepts (t : Topology) (w : World) : Type 0 where
 pub accepts : (t : Topology) (w : World) → IsSound t w → Accepts t w
 unfolding late_refusal
 accepts t w sound =
-    let events = or_else-none (event_refusal t w.values w.values empty_request) _ sound.accepted in
+    let events = or_else-none (event_refusal t w.values w.values empty_request) _ (late-empty t w sound.accepted) in
     let planes = or_else-none (first_some (plane_refusal_at w.things w.values w.values) (with_ids (first_id kind.Plane) t.planes)) _ events.second_none in
     let crtcs = or_else-none (first_some (crtc_refusal_at w.things w.values w.values empty_request) (ids_of t kind.Crtc)) _ planes.second_none in
     let conns = or_else-none (first_some (conn_refusal_at w.values) (with_ids (first_id kind.Conn) t.conns)) _ crtcs.second_none in
@@ -187,7 +187,7 @@ pub untouched-plane : (t : Topology) (w : World) (r : Request) (p : ℕ × Plane
     → plane_refusal_at w.things w.values (after w r) p ≡ None
 untouched-plane t w r p at is untouched =
     let unset = (or_parts (sets r.assigns p.0) _ untouched).0 in
-    ap (plane_refusal p.1 (plane_at w.things w.values p.0)) (plane_at-unset w r p.0 unset) ∙ (accepts t w at.lawful.sound).planes p is
+    ap (plane_refusal p.1 (plane_at w.things w.values p.0)) (plane_at-unset w r p.0 unset) ∙ (accepts t w at.sound).planes p is
 
 is_active-unset : (w : World) (r : Request) (crtc : ℕ) → sets r.assigns crtc ≡ false → is_active (after w r) crtc ≡ is_active w.values crtc
 is_active-unset w r crtc unset = ap (λ n. not (int_eq n (pos 0))) (value-apply_unset w.things w.values r.assigns crtc ACTIVE unset)
@@ -195,12 +195,12 @@ is_active-unset w r crtc unset = ap (λ n. not (int_eq n (pos 0))) (value-apply_
 pub untouched-crtc : (t : Topology) (w : World) (r : Request) (crtc : ℕ) → IsRequestAt t w r → IsIn crtc (ids_of t kind.Crtc) → touches w r crtc ≡ false → crtc_refusal_at w.things w.values (after w r) r crtc ≡ None
 untouched-crtc t w r crtc at is untouched =
     let parts = or_parts (sets r.assigns crtc) (names w.values (after w r) r.assigns crtc) untouched in
-    rw (parts.1, is_active-unset w r crtc parts.0, mode_at-unset w r crtc parts.0) ((accepts t w at.lawful.sound).crtcs crtc is)
+    rw (parts.1, is_active-unset w r crtc parts.0, mode_at-unset w r crtc parts.0) ((accepts t w at.sound).crtcs crtc is)
 
 pub untouched-conn : (t : Topology) (w : World) (r : Request) (c : ℕ × ℕ) → IsRequestAt t w r → IsIn c (with_ids (first_id kind.Conn) t.conns) → touches_object t w r c.0 ≡ false → conn_refusal_at (after w r) c ≡ None
 untouched-conn t w r c at is untouched =
     let unset = (or_parts (sets r.assigns c.0) _ untouched).0 in
-    rw (crtc_at-unset w r c.0 unset) ((accepts t w at.lawful.sound).conns c is)
+    rw (crtc_at-unset w r c.0 unset) ((accepts t w at.sound).conns c is)
 
 -- the connectors of a CRTC that is not named
 pub conns-unnamed : (t : Topology) (w : World) (r : Request) (crtc : ℕ) → IsRequestAt t w r → names w.values (after w r) r.assigns crtc ≡ false → conns_on t (after w r) crtc ≡ conns_on t w.values crtc
@@ -210,14 +210,14 @@ conns-unnamed t w r crtc at unnamed =
 pub untouched-clone : (t : Topology) (w : World) (r : Request) (crtc : ℕ) → IsRequestAt t w r → IsIn crtc (ids_of t kind.Crtc) → touches w r crtc ≡ false → clone_refusal_at t (after w r) crtc ≡ None
 untouched-clone t w r crtc at is untouched =
     let parts = or_parts (sets r.assigns crtc) (names w.values (after w r) r.assigns crtc) untouched in
-    ap (λ conns. number_if 19 (nat_lt 1 (length conns))) (conns-unnamed t w r crtc at parts.1) ∙ (accepts t w at.lawful.sound).clones crtc is
+    ap (λ conns. number_if 19 (nat_lt 1 (length conns))) (conns-unnamed t w r crtc at parts.1) ∙ (accepts t w at.sound).clones crtc is
 
 pub untouched-route : (t : Topology) (w : World) (r : Request) (crtc : ℕ) → IsRequestAt t w r → IsIn crtc (ids_of t kind.Crtc) → touches w r crtc ≡ false → route_refusal_at t w.things (after w r) crtc ≡ None
 untouched-route t w r crtc at is untouched =
     let parts = or_parts (sets r.assigns crtc) (names w.values (after w r) r.assigns crtc) untouched in
     ap (λ conns. number_if 20 (differs (is_some (mode_at w.things (after w r) crtc)) (nat_lt 0 (length conns)))) (conns-unnamed t w r crtc at parts.1)
     ∙ ap (λ m. number_if 20 (differs (is_some m) (nat_lt 0 (length (conns_on t w.values crtc))))) (mode_at-unset w r crtc parts.0)
-    ∙ (accepts t w at.lawful.sound).routes crtc is
+    ∙ (accepts t w at.sound).routes crtc is
 
 pub untouched-modeset : (t : Topology) (w : World) (r : Request) (crtc : ℕ) → IsRequestAt t w r → touches w r crtc ≡ false → needs_modeset t w.things w.values (after w r) crtc ≡ false
 untouched-modeset t w r crtc at untouched =
@@ -243,8 +243,8 @@ pub untouched-shown : (t : Topology) (w : World) (r : Request) (plane : ℕ) →
 untouched-shown t w r plane at is untouched =
     let parts = or_parts (sets r.assigns plane) (is_affected t w.things w.values (after w r) plane) untouched in
     ap (λ s. shown_refusal t.profile (mode_at w.things (after w r) s.crtc) s) (plane_at-unset w r plane parts.0)
-    ∙ on_its_crtc (plane_crtc-held t w.things w.values plane (all_held-from t w.things w.values at.lawful.sound.held) is) parts.1
-    ∙ (accepts t w at.lawful.sound).shown plane is
+    ∙ on_its_crtc (plane_crtc-held t w.things w.values plane (plain_held-from t w.things w.values at.sound.held) is) parts.1
+    ∙ (accepts t w at.sound).shown plane is
   where
     on_its_crtc : IsCrtcOrNone t (crtc_at w.values plane) → is_affected t w.things w.values (after w r) plane ≡ false
         → shown_refusal t.profile (mode_at w.things (after w r) (crtc_at w.values plane)) (plane_at w.things w.values plane) ≡ shown_refusal t.profile (mode_at w.things w.values (crtc_at w.values plane)) (plane_at w.things w.values plane)

@@ -14,7 +14,7 @@ ghost use Rattle.kms_model.specs.Request.Checks.{shown_refusal};
 
 /// A device of one thread is lawful before the first command: its values are among those of their properties, a request
 /// without assignments is accepted, and its things are numbered.
-pub fn start_is_sound()
+pub fn start_is_lawful()
     ensures { (t : Topology) → IsDevice t → IsLawful t (start t) }
 {}
 
@@ -27,7 +27,7 @@ pub fn accepted_in_profile_1_is_unscaled()
 {}
 
 /// Each command leaves a lawful device lawful, whatever is answered to it.
-pub fn execution_keeps_sound()
+pub fn execution_keeps_lawful()
     ensures { (t : Topology) (w : World) (client : ℕ) (c : Command) → IsLawful t w
         → IsLawful t (execute t w client c).world }
 {}

@@ -30,7 +30,7 @@ mod things;
 mod worlds;
 
 pub use copying::{Duplicate, NoMemory};
-pub use laws::{accepted_in_profile_1_is_unscaled, execution_keeps_sound, start_is_sound};
+pub use laws::{accepted_in_profile_1_is_unscaled, execution_keeps_lawful, start_is_lawful};
 pub use layers::Layers;
 pub use legacy::{LegacyCall, LegacyCommand, LegacyRefusal, LegacyScript, legacy_rule_of};
 pub use list::Seq;

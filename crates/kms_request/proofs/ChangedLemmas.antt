@@ -165,7 +165,6 @@ stands-between t w f r before after present tells early same new =
     record {
       device = present.device;
       sound = present.sound;
-      numbered = present.numbered;
       early = early;
       old = AgreesOld-same t w.things w.values before after same present.old;
       new = subst (λ (assigns : List Assign). AgreesNew t w.things (apply w.things w.values assigns) after) (all-counted t f r now) new;

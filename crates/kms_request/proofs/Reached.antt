@@ -52,7 +52,7 @@ use Rattle.kms_request.proofs.WholeLemmas.{named_between-is}
 pub spans-touched : (t : Topology) (w : World) (r : Request) (d : Duplicates) (named : ℕ) (touched : Mask) → StandBetween t w r d → named ≡ named_by t w r
     → touched ≡ union (union (objects_assigned r.assigns) (record { crtcs = named; planes = 0; conns = 0 })) (affected_below d.crtcs named 4) → touched ≡ touched_by t w r
 spans-touched t w r d named touched stand named_is touched_is =
-    let at : IsRequestAt t w r = record { device = stand.device; lawful = record { sound = stand.sound; numbered = stand.numbered }; early = stand.early } in
+    let at : IsRequestAt t w r = record { device = stand.device; sound = stand.sound; early = stand.early } in
     let stands : StandAt t w r d = record { at = at; old = stand.old; new = stand.new } in
     let set : objects_assigned r.assigns ≡ set_group t r = objects_assigned-is t (look_up w) r stand.device stand.early in
     let affected : affected_below d.crtcs named 4 ≡ affected_group t w r = ap (λ n. affected_below d.crtcs n 4) named_is ∙ affected-is t w r d stands (λ i there is. stand.all.crtcs i there) in
@@ -234,7 +234,6 @@ module _ (t : Topology) (w : World) (f : ℕ → Look) (r : Request) (d after : 
       record {
         device = present.device;
         sound = opened.sound;
-        numbered = opened.numbered;
         early = early_open;
         old = AgreesOld-same t (all_open w).things (all_open w).values d after olds opened.old;
         new = subst (λ (values : List Setting). AgreesNew t (all_open w).things values after) (sym (apply-unfenced (all_open w).things (all_open w).values (allowed_by t f r.assigns))) new;

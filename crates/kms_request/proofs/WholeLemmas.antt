@@ -30,13 +30,12 @@ use Rattle.kms_model.specs.Device.Sound.{IsDevice, IsPlaneInRange}
 use Rattle.kms_model.specs.Device.States.{crtc_at}
 use Rattle.kms_model.specs.Request.Touched.{is_asked, named_by, out_fence_label}
 use Rattle.kms_model.proofs.CrtcLemmas.{all_in}
-use Rattle.kms_model.proofs.HeldValues.{all_held-from}
-use Rattle.kms_model.proofs.HeldValues.{all_held-from}
+use Rattle.kms_model.proofs.HeldValues.{plain_held-from}
 use Rattle.kms_model.proofs.Items.{ids-has, list_any-same}
 use Rattle.kms_model.proofs.LateLemmas.{Covers, fenced_set, late_of_states-is}
 use Rattle.kms_model.proofs.MaskLemmas.{has_bit-from, same_masks}
 use Rattle.kms_model.proofs.RequestLemmas.{accepted_allowed, all_settable, has_few}
-use Rattle.kms_model.proofs.SoundKept.{apply-held}
+use Rattle.kms_model.proofs.SoundKept.{plain-apply}
 use Rattle.kms_model.proofs.StateLemmas.{plane_in_range}
 use Rattle.kms_model.proofs.Facts.{or-assoc}
 use Rattle.kms_request.specs.Fences.{TellOutFences, has_number_at}
@@ -107,7 +106,7 @@ named_between-is t w r d mask stand are =
     let new : List Setting = after w r in
     let allowed = accepted_allowed t (look_up w) r stand.early in
     let settable = settable_between t w r d stand in
-    crtcs_named t w.things w.values (look_up w) r.assigns (λ crtc. list_any (λ a. is_named_between d a crtc) r.assigns) mask (has_few t (limits_of t stand.device)) (all_held-from t w.things w.values stand.sound.held) allowed settable are
+    crtcs_named t w.things w.values (look_up w) r.assigns (λ crtc. list_any (λ a. is_named_between d a crtc) r.assigns) mask (has_few t (limits_of t stand.device)) (plain_held-from t w.things w.values stand.sound.held) allowed settable are
     (λ crtc some. list_any-same (λ a. is_named_between d a crtc) (is_named_by w.values new crtc) r.assigns (λ a member.
     let fits = all_in IsSettable r.assigns a settable member in
     let may = all_in (IsAllowed t (look_up w)) r.assigns a allowed member in
@@ -132,7 +131,7 @@ in_range_if true (Some (Some both)) fits = fits both refl
 pub planes_in_range : (t : Topology) (w : World) (r : Request) (d : Duplicates) (planes : ℕ) → StandBetween t w r d → ArePlanesInRange t d planes
 planes_in_range t w r d planes stand index there =
     let new : List Setting = after w r in
-    let held = all_held-from t w.things new (apply-held t w r (record { sound = stand.sound; numbered = stand.numbered }) stand.early) in
+    let held = plain-apply t w r stand.sound stand.early in
     in_range_if (has_bit planes index) (slice_get d.planes index) (λ both is.
     subst IsPlaneInRange (sym (stand.new.planes index both is)) (plane_in_range t w.things new (object_id Plane index) held (ids-has t Plane index there)))
 
@@ -156,4 +155,4 @@ pub whole_is : (t : Topology) (w : World) (r : Request) (d : Duplicates) (named 
     → late_of_states t d (record { crtcs = 2 ^ 32 - 1; planes = 2 ^ 32 - 1; conns = 2 ^ 32 - 1 }) r.flags named fenced ≡ late_refusal t w.things w.values (after w r) r
 whole_is t w r d named fenced stand named_is fenced_is =
     rw (named_is, fenced_is) (late_of_states-is t w r d (record { crtcs = 2 ^ 32 - 1; planes = 2 ^ 32 - 1; conns = 2 ^ 32 - 1 })
-    (record { at = record { device = stand.device; lawful = record { sound = stand.sound; numbered = stand.numbered }; early = stand.early }; old = stand.old; new = stand.new }) (all_cover t w r d stand))
+    (record { at = record { device = stand.device; sound = stand.sound; early = stand.early }; old = stand.old; new = stand.new }) (all_cover t w r d stand))

@@ -32,12 +32,11 @@ pub record AreAllDuplicated (t : Topology) (d : Duplicates) : Type 0 where
   pub planes : (index : ℕ) → index < count_of t Plane → is_some (state_at d.planes index) ≡ true
   pub conns : (index : ℕ) → index < count_of t Conn → is_some (state_at d.conns index) ≡ true
 
--- Duplicates of the whole device before and after a request in a sound world with numbered things: no early refusal is due there, the
+-- Duplicates of the whole device before and after a request in a sound world: no early refusal is due there, the
 -- old states are those of the world's values, and the new ones those of the values after the request.
 pub record StandBetween (t : Topology) (w : World) (r : Request) (d : Duplicates) : Type 0 where
   pub device : IsDevice t
   pub sound : IsSound t w
-  pub numbered : IsNumbered w
   pub early : early_refusal t (look_up w) r ≡ None
   pub old : AgreesOld t w.things w.values d
   pub new : AgreesNew t w.things (after w r) d

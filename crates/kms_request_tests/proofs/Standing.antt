@@ -19,8 +19,8 @@ use Rattle.kms_model.specs.Request.Deciding.{AreFresh, AreFreshIn, AreOfSoundWor
 use Rattle.kms_model.specs.Request.Resolves.{IsResolved}
 use Rattle.kms_model.specs.Script.WellFormed.{IsWellFormed}
 use Rattle.kms_model.proofs.Facts.{nothing_there}
-use Rattle.kms_model.proofs.SoundKept.{execution_keeps_sound}
-use Rattle.kms_model.proofs.SoundStart.{start_is_sound}
+use Rattle.kms_model.proofs.SoundKept.{execution_keeps_lawful}
+use Rattle.kms_model.proofs.SoundStart.{start_is_lawful}
 use Rattle.kms_request.proofs.WholeLemmas.{limits_of}
 use Rattle.kms_serial.specs.Device.{Device}
 use Rattle.kms_things.specs.Present.{IsPresent}
@@ -28,7 +28,7 @@ use Rattle.kms_request_tests.specs.Standing.{Stands}
 
 -- a device before the first command
 pub stands_start : (t : Topology) (d : Device) → IsDevice t → d ≡ record { topology = t; world = start t } → Stands t d
-stands_start t d device is = subst (Stands t) (sym is) (record { device = device; same = refl; lawful = start_is_sound t device })
+stands_start t d device is = subst (Stands t) (sym is) (record { device = device; same = refl; lawful = start_is_lawful t device })
 
 -- and after a command
 pub stands_after : (t : Topology) (old new : Device) (client : ℕ) (c : Command) (r : Reply) → Stands t old → execute old.topology old.world client c ≡ record { world = new.world; reply = r } → new.topology ≡ old.topology → Stands t new
@@ -37,7 +37,7 @@ stands_after t old new client c r s executed same =
     record {
       device = s.device;
       same = same ∙ s.same;
-      lawful = subst (λ (e : Executed). IsLawful t e.world) here (execution_keeps_sound t old.world client c s.lawful);
+      lawful = subst (λ (e : Executed). IsLawful t e.world) here (execution_keeps_lawful t old.world client c s.lawful);
     }
 
 pub stands_device : (t : Topology) (d : Device) → Stands t d → IsDevice t

@@ -24,7 +24,7 @@ use Rattle.std.proofs.lemmas.List.FromFn.{length-map-range_with_len}
 use Rattle.kms_model.specs.Request.Touched.{out_fence_label}
 use Rattle.kms_model.specs.Request.Verdict.{verdict}
 use Rattle.kms_model.proofs.SeenLemmas.{AreSeenAlike}
-use Rattle.kms_model.proofs.SoundKept.{execution_keeps_sound, sound-apply, sound-out_fences}
+use Rattle.kms_model.proofs.SoundKept.{execution_keeps_lawful, sound-apply, sound-out_fences}
 use Rattle.kms_model.proofs.ThingLemmas.{IsSeenAlike}
 use Rattle.kms_request.specs.Fences.{TellOutFences}
 use Rattle.kms_serial.specs.Commands.{Grows}
@@ -138,7 +138,7 @@ stands_committed t w d new client r stands none test is =
     let now = swapped_present t w r new is in
     record {
       device = stands.device;
-      lawful = subst (λ (e : Executed). IsLawful t e.world) executed (execution_keeps_sound t w client (command.Atomic r) stands.lawful);
+      lawful = subst (λ (e : Executed). IsLawful t e.world) executed (execution_keeps_lawful t w client (command.Atomic r) stands.lawful);
       framed = subst (λ (e : Executed). AreFramed e.world.things) executed (execution_keeps_framed t w client (command.Atomic r) stands.lawful.numbered.things stands.framed);
       present = present_seen t before (committed t w client r).world (swapped new) within.values within.alike (record { whole = now.whole; old = now.old; new = now.new });
     }

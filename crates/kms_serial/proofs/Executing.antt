@@ -17,7 +17,7 @@ use Rattle.kms_model.specs.Device.Sound.{IsLawful}
 use Rattle.kms_model.specs.Device.World.{thing_labelled}
 use Rattle.kms_laws.proofs.Executed.{alike-self}
 use Rattle.kms_model.proofs.SeenLemmas.{AreSeenAlike, alike-closed, alike-push}
-use Rattle.kms_model.proofs.SoundKept.{execution_keeps_sound}
+use Rattle.kms_model.proofs.SoundKept.{execution_keeps_lawful}
 use Rattle.kms_serial.specs.Commands.{Grows}
 use Rattle.kms_serial.specs.Device.{StandsInWorld}
 use Rattle.kms_things.specs.Commands.{IsNoRequest}
@@ -82,7 +82,7 @@ stands_executed t w after d client c other is stands =
     let seen = seen_executed t w client c stands.lawful other in
     subst (λ (v : World). StandsInWorld t v d) is (record {
       device = stands.device;
-      lawful = execution_keeps_sound t w client c stands.lawful;
+      lawful = execution_keeps_lawful t w client c stands.lawful;
       framed = execution_keeps_framed t w client c stands.lawful.numbered.things stands.framed;
       present = present_seen t w (execute t w client c).world d seen.values seen.alike stands.present;
     })

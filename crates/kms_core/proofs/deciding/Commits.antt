@@ -317,7 +317,7 @@ module _ (r : Run) (st : Stores) (client : ℕ) (checked : Checked) (resolved : 
   holds = history_kept r.script r.steps (plain-from r.script stands.formed) stands.history
 
   at : IsRequestAt r.script.topology (world r) can.ready.request
-  at = record { device = stands.formed.device; lawful = holds.present.lawful; early = can.asks.accepted }
+  at = record { device = stands.formed.device; sound = holds.present.lawful.sound; early = can.asks.accepted }
 
   pub is_number : commit ≡ length (machine r).device.commits
   is_number = has.number ∙ stands.stores.tracker.keeps.count
@@ -360,7 +360,7 @@ module _ (r : Run) (st : Stores) (client : ℕ) (checked : Checked) (resolved : 
   world_stands = record {
     things = ap (λ (x : World). x.things) (left.world ∙ world_is);
     next_id = ap (λ (x : World). x.next_id) (left.world ∙ world_is);
-    states = rw left.world (committed_present r.script.topology (world r) can.ready.request at checked can.ready.checked_as can.states client st.present present can.ready.none holds.present.kept stands.stores.world.states has.present_swapped);
+    states = rw left.world (committed_present r.script.topology (world r) can.ready.request at checked can.ready.checked_as can.states client st.present present holds.present.lawful.numbered can.ready.none holds.present.kept stands.stores.world.states has.present_swapped);
   }
 
   fences_stand : FencesStand (committed r.script.topology (world r) client can.ready.request).world (machine r).device.signalled fences

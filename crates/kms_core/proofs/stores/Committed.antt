@@ -3,6 +3,7 @@ use Rattle.std.proofs.Common.{◌≡◌, ℕ, ◌+◌, ◌<◌, Bool, List, Some
 use Rattle.std.specs.Prelude.{Option, is_some, slice_get, slice_index_or}
 use Rattle.std.specs.Option.{option_flatten}
 use Rattle.std.proofs.lemmas.Option.{get_or_from_slice_get}
+use Rattle.kms_model.specs.Device.Sound.{IsNumbered}
 use Rattle.kms_model.specs.Device.Places.{state_at}
 use Rattle.kms_model.specs.declared.states.Both.{Both}
 use Rattle.std.proofs.lemmas.Bool.{and_from, false≢true, lt-ltb}
@@ -122,8 +123,8 @@ module _ (t : Topology) (w : World) (r : Request) (at : IsRequestAt t w r) (chec
         new = record { crtcs = crtcs.1; planes = planes.1; conns = conns.1 };
       }
 
-  pub committed_present : (client : ℕ) (present news : Duplicates) → verdict t w r ≡ None → AreKept w.things → IsPresent t w present → IsSwappedIn present checked.states news → IsPresent t (committed t w client r).world news
-  committed_present client present news none kept was swaps =
+  pub committed_present : (client : ℕ) (present news : Duplicates) → IsNumbered w → verdict t w r ≡ None → AreKept w.things → IsPresent t w present → IsSwappedIn present checked.states news → IsPresent t (committed t w client r).world news
+  committed_present client present news numbered none kept was swaps =
       let v : World = record w { values = after w r; commits = w.commits + 1 } in
-      let follows = follows-out_fences t client r.assigns v (ids_of t Crtc) (sound-apply t w r (w.commits + 1) at.lawful none) kept in
+      let follows = follows-out_fences t client r.assigns v (ids_of t Crtc) (sound-apply t w r (w.commits + 1) (record { sound = at.sound; numbered = numbered }) none) kept in
       present_seen t v (committed t w client r).world news follows.like.values follows.like.alike (values_present present news was swaps)

@@ -23,7 +23,7 @@ use Rattle.kms_model.specs.Device.States.{framebuffer_of, mode_of, gamma_of}
 use Rattle.kms_model.specs.Device.Properties.{Property, properties, is_legal_device}
 use Rattle.kms_model.specs.Request.Apply.{is_kept}
 use Rattle.kms_model.specs.Request.Refusals.{is_of_kind}
-use Rattle.kms_model.specs.Request.Checks.{late_refusal}
+use Rattle.kms_model.specs.Request.Verdict.{verdict}
 use Rattle.kms_model.specs.Script.Words.{between}
 
 -- a plane is an overlay, a primary plane or a cursor
@@ -88,7 +88,7 @@ empty_request = record { flags = 0; user_data = 0; assigns = [] }
 -- A world is sound where each value is among its property's values, and the request without flags and assignments is accepted.
 pub record IsSound (t : Topology) (w : World) : Type 0 where
   pub held : IsTrue (are_held t w.things w.values)
-  pub accepted : late_refusal t w.things w.values w.values empty_request ≡ None
+  pub accepted : verdict t w empty_request ≡ None
 
 -- The things of a world are numbered from 1000 on in the order of making, and so is the next one.
 pub record IsNumbered (w : World) : Type 0 where

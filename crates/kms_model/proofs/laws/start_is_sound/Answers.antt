@@ -1,5 +1,0 @@
-use Rattle.kms_model.proofs.SoundStart.{start_is_sound}
-use Rattle.kms_model.proofs.laws.start_is_sound.Goals as goal
-
-pub returns : goal.returns
-returns c = start_is_sound
