@@ -21,9 +21,11 @@ alone; with a blob; and with no line feed.
 All these are read by `one`. At last come, for `replay`, inputs of the same two sizes whose script has no command: with a
 schedule of as many lines as fit, of the shortest step and of vblanks, the last of no form; and with one line of
 a schedule that is far too long: with a number, with an object's index, with blanks alone, with a byte of no line at its end,
-and with no line feed.
+and with no line feed. And for `legacy` a script of 1 MiB with 4096 commands, half of them older calls, which is
+read and translated; the same with a last line of no form; and the two long inputs with a blob and with no line feed.
 
-Nothing may take more than 3 seconds, or more than three times the input's size beside what the program itself takes.
+Nothing may take more than 3 seconds, or more than three times the input's size beside what the program itself takes; the
+translation, of which a good part is the text that is written, at most 0.3 seconds.
 """
 import os
 import subprocess
@@ -129,6 +131,19 @@ def scheduled(size, step):
     return text.encode(), text.count("\n"), 0
 
 
+def older(last):
+    """A script with older calls of 1 MiB and 4096 commands, the last of which is given."""
+    front = HEAD.replace("conn 0", "plane cursor 0 XR24\nconn 0")
+    pairs = ((SIZES[-1] - len(front)) // 2048, 2048)
+    lines = [front]
+    for i in range(pairs[1]):
+        call = f"cursor 0 move {i} -{i + 1}\n" if i + 1 < pairs[1] else last
+        blob = f"blob {word(i)} "
+        lines.append(blob + "00" * ((pairs[0] - len(blob) - len(call) - 1) // 2) + "\n" + call)
+    text = "".join(lines)
+    return text.encode(), text.count("\n"), pairs[1]
+
+
 def fault(line, why):
     """What the program says of a fault."""
     return f"kms: line {line}: {why}\n"
@@ -154,7 +169,8 @@ def prepared(path, make):
 
 
 def measured(program, word, path, wanted, runs):
-    """The shortest of several runs by a word, in seconds, and the greatest memory of one, in bytes."""
+    """The shortest of several runs by a word, in seconds, and the greatest memory of one, in bytes. What is wanted on standard
+    error is a fault, or nothing."""
     best, memory = None, 0
     for _ in range(runs):
         with open(path, "rb") as stdin, tempfile.TemporaryFile() as told:
@@ -165,7 +181,7 @@ def measured(program, word, path, wanted, runs):
             child.returncode = os.waitstatus_to_exitcode(status)
             told.seek(0)
             answer = told.read().decode()
-        if child.returncode != 4 or answer != wanted:
+        if child.returncode != (4 if wanted else 0) or answer != wanted:
             sys.exit(f"unexpected answer: {child.returncode} {answer!r}, wanted {wanted!r}")
         best = taken if best is None else min(best, taken)
         memory = max(memory, usage.ru_maxrss * 1024)
@@ -177,7 +193,7 @@ def show(name, program, runs, make, word="one"):
     with tempfile.TemporaryDirectory() as folder:
         path = os.path.join(folder, "input")
         size, lines, made, why = prepared(path, make)
-        taken, memory = measured(program, word, path, fault(lines, why), runs)
+        taken, memory = measured(program, word, path, "" if why == "none" else fault(lines, why), runs)
     print(
         f"{name:<38} {size:>9} {lines:>7} {made:>8} {taken * 1e3:>9.2f} {taken * 1e6 / (size / 1024):>10.2f}"
         f" {memory / 2**20:>8.1f} {memory / size:>7.2f}",
@@ -254,6 +270,17 @@ def schedules(program, runs):
             show(f"schedule of {size // 2**20} MiB, {name}", program, runs, lambda: make(size), "replay")
 
 
+def older_calls(program, runs):
+    """Scripts with older calls: one that is translated, and faults."""
+    line = HEAD.count("\n") + 1
+    show("older calls of 1 MiB, translated", program, runs, lambda: (*older("cursor 0 off\n"), "none"), "legacy")
+    show("older calls of 1 MiB", program, runs, lambda: (*older("wrong\n"), "form"), "legacy")
+    for size in LONG_SIZES:
+        blob = ("00" for _ in range(size // 2))
+        show(f"{size // 2**20} MiB, a blob, older calls", program, runs, lambda: (overlong(size, "blob b ", blob, ""), line, 0, "form"), "legacy")
+        show(f"{size // 2**20} MiB, no line feed, older calls", program, runs, lambda: (b"a" * size, 1, 0, "cut"), "legacy")
+
+
 def main():
     if len(sys.argv) not in (2, 3):
         sys.exit(__doc__)
@@ -262,6 +289,7 @@ def main():
     scripts(sys.argv[1], runs)
     long_lines(sys.argv[1], min(runs, 3))
     schedules(sys.argv[1], min(runs, 3))
+    older_calls(sys.argv[1], min(runs, 3))
 
 
 if __name__ == "__main__":

@@ -21,6 +21,8 @@ compare first_light.kms first_light.report one
 compare two_screens.kms two_screens.report one
 compare blend_modes.kms blend_modes.report one
 compare scaling.kms scaling.report one
+compare older_calls.kms older_calls.atomic.kms legacy
+compare older_calls.atomic.kms older_calls.report one
 compare meeting.kms meeting.report one --trace
 compare meeting.replay meeting.report replay --trace
 "$top/tools/timeline.py" <"$top/examples/meeting.report" | cmp - "$top/docs/pictures/meeting.svg"

@@ -303,3 +303,15 @@ next_unmade profile ws i w e d = rw (said_last ws i w e d) refl
 
 pub room_for_one : (profile : ℕ) (ws : List (List ℕ)) (i : ℕ) → i < length ws → length ws ≤ 2 ^ 32 → HasRoomForNames (unmade profile (take i ws)) 1
 room_for_one profile ws i lt few = record { all = rw (length-map, length-take) (omega arith); made = omega arith }
+
+-- Words as they stand, without marks
+
+pub position_found : (w : List ℕ) (ws : List (List ℕ)) (n : ℕ) → place_among w ws ≡ Some n → position_or_len (bytes_eq w) ws ≡ n
+position_found w [] n e = absurd cc
+position_found w (x ∷ ws) n e = some_step (bytes_eq w x) (place_among w ws) n _ e (λ m is. position_found w ws m is)
+
+pub position_new : (w : List ℕ) (ws : List (List ℕ)) → place_among w ws ≡ None → position_or_len (bytes_eq w) ws ≡ length ws
+position_new w [] e = refl
+position_new w (x ∷ ws) e =
+    let head : (bytes_eq w x ≡ false) × (place_among w ws ≡ None) = absent_head (bytes_eq w x) (place_among w ws) e in
+    none_step (bytes_eq w x) _ (length ws) head.0 (position_new w ws head.1)

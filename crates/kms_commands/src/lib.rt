@@ -14,4 +14,4 @@ mod requests;
 pub use commands::command_of;
 pub use names::Names;
 pub use packing::push_packed;
-pub use printing_commands::{push_command, push_number, push_word};
+pub use printing_commands::{push_command, push_command_words, push_number, push_word};

@@ -1,6 +1,6 @@
 //! The names that a script says: labels, and names of properties that no property has.
 ghost use Rattle.std.specs.Prelude.{◌≡◌, ◌≤◌, ◌<◌, ◌+◌, ◌++◌, ◌^◌, ℕ, [], if◌then◌else◌, IfOk, OnOk, length, map};
-ghost use Rattle.std.specs.List.{IsDistinct, list_any};
+ghost use Rattle.std.specs.List.{IsDistinct, list_any, position_or_len};
 ghost use Rattle.std.specs.Str.{bytes_eq};
 ghost use Rattle.kms_model.specs.Script.CommandLines.{place, saying, making, unmade, words_in};
 ghost use Rattle.kms_commands.specs.Named.{HasRoomForNames, NamesGrow, kept};
@@ -94,6 +94,17 @@ impl Names {
         ensures { result ≡ self.now.names.is_twice }
     {
         self.is_twice
+    }
+
+    /// The number that a word has among the names, or would have if it were said next.
+    pub fn number_of(&self, word: &[u8]) -> u32
+        requires { HasRoomForNames self.now.names 1 }
+        ensures { result ≡ position_or_len (bytes_eq word.now) (words_in self.now.names) }
+    {
+        match self.numbering.find(word) {
+            Some(number) => number,
+            None => self.numbering.len() as u32,
+        }
     }
 
     /// The number of a name that is said.

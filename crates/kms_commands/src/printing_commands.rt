@@ -164,8 +164,8 @@ fn push_size(text: &mut Vec<u8>, width: u32, height: u32, format: Format) -> Res
     push_word(text, format_word(format))
 }
 
-/// Adds a command's words.
-fn push_command_words(
+/// Adds a command's words: its line, without its line feed.
+pub fn push_command_words(
     alloc: Global,
     text: &mut Vec<u8>,
     names: &[Seq<u8>],

@@ -23,7 +23,7 @@ use Rattle.kms_model.proofs.OnScripts.{on_scripts}
 use Rattle.kms_words.specs.Printed.{fields}
 use Rattle.kms_script.proofs.Decimals.{dec_read, decimal_digits}
 use Rattle.kms_script.proofs.StepTexts.{digit_plain}
-use Rattle.kms_gen.proofs.Cutting.{each, field_of, is_inner, no_front, number_inner, number_of, words_of_fields}
+use Rattle.kms_script.proofs.Cutting.{each, field_of, is_inner, no_front, number_inner, number_of, words_of_fields}
 
 -- Values
 

@@ -1,4 +1,3 @@
-pub mod Cutting
 pub mod Drawing
 pub mod Flipped
 pub mod Limits

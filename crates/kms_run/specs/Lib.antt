@@ -6,3 +6,4 @@ pub mod Summary
 pub mod Counting
 pub mod StatusText
 pub mod Outcome
+pub mod Translation

@@ -4,17 +4,19 @@ use Rattle.std.specs.Io.KnownBytes.{Appends, IsAtEnd}
 use Rattle.kms_io.specs.Bytes.{Begins, Moved}
 use Rattle.kms_io.specs.Causes.{Rose}
 use Rattle.kms_model.specs.declared.scripts.Why.{Why}
+use Rattle.kms_model.specs.Legacy.LegacyLines.{legacy_input}
 use Rattle.kms_model.specs.Script.InputLines.{input_limit}
 use Rattle.kms_model.specs.Script.Schedules.{input_of}
 use Rattle.kms_one_thread.specs.declared.ending.End.{End}
 use Rattle.kms_one_thread.specs.declared.ending.End.TheVariants as end
 use Rattle.kms_run.specs.declared.status.Status.{Status}
 use Rattle.kms_run.specs.declared.status.Status.TheVariants as status
-use Rattle.kms_run.specs.declared.words.Task.TheVariants.{Execute, Generate}
+use Rattle.kms_run.specs.declared.words.Task.TheVariants.{Execute, Generate, Translate}
 use Rattle.kms_run.specs.declared.words.Execution.{Execution}
 use Rattle.kms_run.specs.declared.words.Generation.{Generation}
 use Rattle.kms_run.specs.Answers.{IsIllegal, IsReport}
 use Rattle.kms_run.specs.Summary.{IsGenerated}
+use Rattle.kms_run.specs.Translation.{IsTranslationOf}
 use Rattle.kms_run.specs.Words.{asked, part_of}
 
 -- All that the source had left was read, or, of a longer input, one byte more than an input may have.
@@ -53,11 +55,29 @@ pub record IsGeneratedFront (asks : Generation) (output : List ℕ) : Type 0 whe
   pub generated : IsGenerated asks text
   pub front : Begins text output
 
+-- The whole input was read, and what was written is its translation.
+pub record WritesTranslation (left : Option (List ℕ)) (input output : List ℕ) : Type 0 where
+  pub whole : ReadsAll left input
+  pub translation : IsTranslationOf input output
+
+-- The whole input was read, and what was written is a front part of its translation.
+pub record WritesTranslationFront (left : Option (List ℕ)) (input output : List ℕ) : Type 0 where
+  pub whole : ReadsAll left input
+  pub text : List ℕ
+  pub translation : IsTranslationOf input text
+  pub front : Begins text output
+
+-- The whole input was read, this is its first fault as a script with older calls, and nothing was written.
+pub record TellsLegacyFault (left : Option (List ℕ)) (line : ℕ) (why : Why) (input output : List ℕ) : Type 0 where
+  pub whole : ReadsAll left input
+  pub fault : legacy_input input ≡ Err (record { line = line; why = why })
+  pub nothing : output ≡ []
+
 -- nothing was written
 abbrev pub WritesNothing : List ℕ → List ℕ → Type 0
 WritesNothing input output = output ≡ []
 
--- the statuses of a call of `one`, `replay` or `run` that may have read and has written nothing
+-- the statuses of a call of `one`, `replay`, `run` or `legacy` that may have read and has written nothing
 abbrev pub IsSilent : Status → Type 0
 IsSilent s = (s ≡ status.ReadFault) ⊎ (s ≡ status.NoMemory)
 
@@ -73,6 +93,15 @@ IsOfGeneration status.Ok = ⊤
 IsOfGeneration status.WriteFault = ⊤
 IsOfGeneration status.NoMemory = ⊤
 IsOfGeneration _ = ⊥
+
+-- the statuses of `legacy`
+abbrev pub IsOfTranslation : Status → Type 0
+IsOfTranslation status.Ok = ⊤
+IsOfTranslation status.ReadFault = ⊤
+IsOfTranslation status.WriteFault = ⊤
+IsOfTranslation (status.Script line why) = ⊤
+IsOfTranslation status.NoMemory = ⊤
+IsOfTranslation _ = ⊥
 
 -- What `one`, `replay` or `run` read and wrote where it ended so; left is what the source has left afterwards.
 abbrev pub Meets : Execution → Status → Option (List ℕ) → List ℕ → List ℕ → Type 0
@@ -93,6 +122,15 @@ MeetsGenerated asks status.Ok output = IsGenerated asks output
 MeetsGenerated asks status.WriteFault output = IsGeneratedFront asks output
 MeetsGenerated asks status.NoMemory output = output ≡ []
 MeetsGenerated asks _ output = ⊥
+
+-- What `legacy` read and wrote where it ended so; left is what the source has left afterwards.
+abbrev pub MeetsTranslation : Status → Option (List ℕ) → List ℕ → List ℕ → Type 0
+MeetsTranslation status.Ok left input output = WritesTranslation left input output
+MeetsTranslation status.WriteFault left input output = WritesTranslationFront left input output
+MeetsTranslation (status.Script line why) left input output = TellsLegacyFault left line why input output
+MeetsTranslation status.ReadFault left input output = WritesNothing input output
+MeetsTranslation status.NoMemory left input output = WritesNothing input output
+MeetsTranslation _ left input output = ⊥
 
 -- bytes were put behind what was written, and P holds of them
 pub record Wrote (written written_after : Option (List ℕ)) (P : List ℕ → Type 0) : Type 0 where
@@ -144,6 +182,22 @@ module _ (words : List (List ℕ)) (ended : Status) (left left_after written wri
     pub no_write_fault : ended ≢ status.WriteFault → write_faults_after ≡ write_faults
     pub no_other : IsOfGeneration ended
 
+  -- `legacy`
+  pub record Translates : Type 0 where
+    -- The whole input was read, and what was written is the text of its translation, or a front of it.
+    pub ok : ended ≡ status.Ok → Moves (WritesTranslation left_after)
+    pub cut : ended ≡ status.WriteFault → Moves (WritesTranslationFront left_after)
+    -- A fault is the whole input's first, and then nothing was written.
+    pub script : (line : ℕ) (why : Why) → ended ≡ status.Script line why → Moves (TellsLegacyFault left_after line why)
+    -- Otherwise nothing was written.
+    pub read_only : IsSilent ended → Moves WritesNothing
+    -- A failing read, a failing write and want of memory are all that may come in the way besides.
+    pub read_fault : ended ≡ status.ReadFault → Rose read_faults read_faults_after
+    pub no_read_fault : ended ≢ status.ReadFault → read_faults_after ≡ read_faults
+    pub write_fault : ended ≡ status.WriteFault → Rose write_faults write_faults_after
+    pub no_write_fault : ended ≢ status.WriteFault → write_faults_after ≡ write_faults
+    pub no_other : IsOfTranslation ended
+
   -- no legal words
   pub record Refuses : Type 0 where
     -- Nothing was read or written, and no read or write failed.
@@ -157,3 +211,4 @@ module _ (words : List (List ℕ)) (ended : Status) (left left_after written wri
     pub refused : asked words ≡ None → Refuses
     pub executed : (asks : Execution) → asked words ≡ Some (Execute asks) → Executes asks
     pub generated : (asks : Generation) → asked words ≡ Some (Generate asks) → Generates asks
+    pub translated : asked words ≡ Some Translate → Translates

@@ -31,7 +31,7 @@ abbrev pub status_text : Status → List ℕ
 status_text status.Ok = []
 status_text status.ReadFault = codes "kms: read fault"
 status_text status.WriteFault = codes "kms: write fault"
-status_text status.Usage = codes "kms: usage: kms one, replay, run, gen, audit"
+status_text status.Usage = codes "kms: usage: kms one, replay, run, gen, audit, legacy"
 status_text (status.Script line why) = codes "kms: line " ++ decimal line ++ codes ": " ++ why_text why
 status_text status.Stalled = codes "kms: stalled"
 status_text status.NoMemory = codes "kms: out of memory"

@@ -8,7 +8,7 @@ use Rattle.kms_model.specs.Script.Words.{◌>>=◌, dec}
 use Rattle.kms_run.specs.declared.words.Action.{Action}
 use Rattle.kms_run.specs.declared.words.Action.TheVariants.{One, Replay, Run}
 use Rattle.kms_run.specs.declared.words.Task.{Task}
-use Rattle.kms_run.specs.declared.words.Task.TheVariants.{Execute, Generate}
+use Rattle.kms_run.specs.declared.words.Task.TheVariants.{Execute, Generate, Translate}
 use Rattle.kms_run.specs.declared.words.Count.{Count}
 use Rattle.kms_run.specs.declared.words.Count.TheVariants.{Untold, Awaited, Told}
 use Rattle.kms_run.specs.declared.words.Execution.{Execution}
@@ -95,18 +95,25 @@ generation_of (seed_word ∷ commits_word ∷ words) = do
   run ← run_flag words
   Some (record { seed = seed; commits = commits; run = run })
 
--- What the legal words ask for: `gen`, `run`, or `one` and `replay`. All other words are not legal.
+-- what `legacy` asks for, which no word follows
+abbrev pub translation_of : List (List ℕ) → Option Task
+translation_of [] = Some Translate
+translation_of (word ∷ words) = None
+
+-- What the legal words ask for: `gen`, `run`, `legacy`, or `one` and `replay`. All other words are not legal.
 unfoldable pub asked : List (List ℕ) → Option Task
 asked [] = None
 asked (word ∷ words) =
     if bytes_eq word (codes "gen") then generation_of words >>= (λ asks. Some (Generate asks))
     else (if bytes_eq word (codes "run") then run_after no_words words >>= (λ asks. Some (Execute asks))
-    else execution_of word words >>= (λ asks. Some (Execute asks)))
+    else (if bytes_eq word (codes "legacy") then translation_of words
+    else execution_of word words >>= (λ asks. Some (Execute asks))))
 
 -- what is asked for is a run
 abbrev pub asks_run : Option Task → Bool
 asks_run (Some (Execute asks)) = needs_threads asks.action
 asks_run (Some (Generate asks)) = false
+asks_run (Some Translate) = false
 asks_run None = false
 
 -- the words are legal words of `run`
@@ -135,3 +142,4 @@ IsFewCount Awaited = ⊤
 abbrev pub AsksForFew : Task → Type 0
 AsksForFew (Execute asks) = HasFewThreads asks.action
 AsksForFew (Generate asks) = HasFewCommits asks
+AsksForFew Translate = ⊤

@@ -1,5 +1,5 @@
 //! The program: it reads a script, executes it on the machine of many clients, by one thread or several, and writes the
-//! report of the history; or it generates a script.
+//! report of the history; or it generates a script, or translates one with older calls.
 #![tactic(auto)]
 
 mod answers;
@@ -8,6 +8,7 @@ mod running;
 mod status;
 mod stream;
 mod top;
+mod translated;
 mod words;
 
 pub use status::{Status, status_text};

@@ -10,7 +10,7 @@ use std::alloc::{AllocError, Global};
 /// How a run of the program ends.
 #[derive(Clone, Copy, Debug, PartialEq, Eq)]
 pub enum Status {
-    /// The history is drained and its report is written; or `gen` has written its text.
+    /// The history is drained and its report is written; or `gen` or `legacy` has written its text.
     Ok,
     /// The source failed; nothing is written.
     ReadFault,
@@ -87,7 +87,10 @@ pub fn status_text(alloc: Global, status: &Status) -> Result<String, NoMemory>
         Status::ReadFault => String::from_str(alloc, "kms: read fault")?,
         Status::WriteFault => String::from_str(alloc, "kms: write fault")?,
         Status::Usage => {
-            String::from_str(alloc, "kms: usage: kms one, replay, run, gen, audit")?
+            String::from_str(
+                alloc,
+                "kms: usage: kms one, replay, run, gen, audit, legacy",
+            )?
         }
         Status::Script { line, why } => script_text(alloc, *line, why_text(*why))?,
         Status::Stalled => String::from_str(alloc, "kms: stalled")?,

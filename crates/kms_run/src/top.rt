@@ -5,7 +5,8 @@ ghost use Rattle.kms_io.specs.Causes.{Rose};
 ghost use Rattle.kms_io.specs.Bytes.{Moved};
 ghost use Rattle.kms_run.specs.declared.words.Execution.{Execution};
 ghost use Rattle.kms_run.specs.Answers.{Answers};
-ghost use Rattle.kms_run.specs.Outcome.{HasEnded, IsSilent, Meets, MeetsGenerated, ReadsAll, Wrote};
+ghost use Rattle.kms_run.specs.Outcome.{HasEnded, IsSilent, Meets, MeetsGenerated, MeetsTranslation, ReadsAll, Wrote};
+ghost use Rattle.kms_run.specs.Translation.{TellsTranslation};
 ghost use Rattle.kms_run.specs.Words.{AreFewThreads, HasFewCommits, is_run, needs_threads};
 
 use crate::answers::{FullReport, NoAnswer, answer};
@@ -13,10 +14,12 @@ use crate::generated::generated_text;
 use crate::running::run_answer;
 use crate::status::Status;
 use crate::stream::{ReadError, read_all, write_all};
+use crate::translated::translated_text;
 use crate::words::{Action, Execution, Generation, Task, read_words};
 use kms_io::{Gate, Sink, Source};
+use kms_model::Seq;
 use kms_report::Options;
-use kms_script::MAX_INPUT;
+use kms_script::{MAX_INPUT, ParseError};
 use std::alloc::Global;
 use std::sync::Wait;
 use std::thread::Threads;
@@ -147,12 +150,55 @@ fn generated<R: Threads + Sync, K: Sink>(
     }
 }
 
+/// Writes the translation of an input, where it has one. Gives the status that comes of it.
+fn write_translation<K: Sink>(sink: &mut K, answer: Result<Seq<u8>, ParseError>) -> Status
+    ensures put { (left : Option (List ℕ)) (input : List ℕ)
+        → ReadsAll left input → TellsTranslation input answer
+        → Wrote (K.written sink.old) (K.written sink.new) (MeetsTranslation result left input) }
+    ensures cause { result ≡ Status.WriteFault
+        → Rose (K.faults sink.old) (K.faults sink.new) }
+    ensures quiet { result ≢ Status.WriteFault
+        → K.faults sink.new ≡ K.faults sink.old }
+    ensures read { result ≢ Status.ReadFault }
+{
+    let text = match answer {
+        Ok(text) => text,
+        Err(ParseError::Fault { line, why }) => return Status::Script { line, why },
+        Err(ParseError::NoMemory) => return Status::NoMemory,
+    };
+    match write_all(sink, text.as_slice()) {
+        Ok(()) => Status::Ok,
+        Err(_) => Status::WriteFault,
+    }
+}
+
+/// What `legacy` does, which executes nothing.
+fn translated<S: Source, K: Sink>(alloc: Global, source: &mut S, sink: &mut K) -> Status
+    ensures moved { Moved
+        (S.left source.old) (S.left source.new) (K.written sink.old) (K.written sink.new)
+        (MeetsTranslation result (S.left source.new)) }
+    ensures read_fault { result ≡ Status.ReadFault
+        → Rose (S.faults source.old) (S.faults source.new) }
+    ensures no_read_fault { result ≢ Status.ReadFault
+        → S.faults source.new ≡ S.faults source.old }
+    ensures write_fault { result ≡ Status.WriteFault
+        → Rose (K.faults sink.old) (K.faults sink.new) }
+    ensures no_write_fault { result ≢ Status.WriteFault
+        → K.faults sink.new ≡ K.faults sink.old }
+{
+    match read_input(alloc, source) {
+        Ok(input) => write_translation(sink, translated_text(alloc, input)),
+        Err(status) => status,
+    }
+}
+
 /// All that the program does for words that are no legal words of `run`. It waits for nobody. `rt` is for threads that
 /// only compute: they make the frames of a report, and their digests.
 ///
 /// The words are tried first. For `one` and `replay` the input is read to its end (or to one byte more than it may have),
 /// then the script is read and executed, and only then is the report written. For `gen` nothing is read; the generated
-/// script, or the six lines of its run, is written when it is whole.
+/// script, or the six lines of its run, is written when it is whole. For `legacy` the input is read as for `one`, and its
+/// translation is written when it is whole; nothing is executed but on the device of one thread.
 pub fn kms_plain<R: Threads + Sync, S: Source, K: Sink>(
     rt: &R,
     alloc: Global,
@@ -169,6 +215,7 @@ pub fn kms_plain<R: Threads + Sync, S: Source, K: Sink>(
         None => Status::Usage,
         Some(Task::Execute(asks)) => executed(rt, alloc, &asks, source, sink),
         Some(Task::Generate(asks)) => generated(rt, alloc, &asks, sink),
+        Some(Task::Translate) => translated(alloc, source, sink),
     }
 }
 

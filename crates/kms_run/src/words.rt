@@ -1,7 +1,7 @@
 //! The words of the command line.
 ghost use Rattle.std.specs.Prelude.{◌≡◌, ◌≤◌, IfSome, is_some, map, string_bytes};
 ghost use Rattle.std.specs.Str.{bytes_eq};
-ghost use Rattle.kms_run.specs.Words.{AsksForFew, HasFewCommits, HasFewThreads, IsFewCount, action_of, asked, execution_of, generation_of, is_run, no_options, no_words, number_in_word, options_after, run_after, run_flag, with_option, with_word_at};
+ghost use Rattle.kms_run.specs.Words.{AsksForFew, HasFewCommits, HasFewThreads, IsFewCount, action_of, asked, execution_of, generation_of, is_run, no_options, no_words, number_in_word, options_after, run_after, run_flag, translation_of, with_option, with_word_at};
 
 use kms_model::Part;
 use kms_report::Options;
@@ -78,6 +78,8 @@ pub enum Task {
     Execute(Execution),
     /// `gen`: a script is generated, and nothing is read.
     Generate(Generation),
+    /// `legacy`: a script with older calls is read and translated.
+    Translate,
 }
 
 /// Whether a word is this text.
@@ -247,10 +249,20 @@ fn generation_of(words: &[String]) -> Option<Generation>
     Some(Generation { seed, commits, run })
 }
 
+/// What the words behind `legacy` ask for: there may be none.
+fn translation_of(words: &[String]) -> Option<Task>
+    ensures { result ≡ translation_of (map string_bytes words.now) }
+{
+    match words {
+        [] => Some(Task::Translate),
+        _ => None,
+    }
+}
+
 /// What words ask for; none where they are not legal. The legal words are `one` or `replay`, followed by `--trace` and
 /// `--ppm`, each at most once, in any order; `run`, followed by these and by `--threads` and a number from 1 to 16 as two
-/// words, once, in any order; and `gen`, a seed below 2^64 and a number of commits from 1 to 4000, followed by `--run` or
-/// nothing. A number has one spelling, in decimal digits. The program's own name is not among the words.
+/// words, once, in any order; `gen`, a seed below 2^64 and a number of commits from 1 to 4000, followed by `--run` or
+/// nothing; and `legacy` alone. A number has one spelling, in decimal digits. The program's own name is not among the words.
 #[tactic(auto, unfolding(crate::specs::Words::asked))]
 pub fn read_words(words: &[String]) -> Option<Task>
     ensures value { result ≡ asked (map string_bytes words.now) }
@@ -264,6 +276,9 @@ pub fn read_words(words: &[String]) -> Option<Task>
     }
     if is_word(first, b"run") {
         return Some(Task::Execute(run_of_words(rest)?));
+    }
+    if is_word(first, b"legacy") {
+        return translation_of(rest);
     }
     Some(Task::Execute(execution_of(first, rest)?))
 }

@@ -1,6 +1,6 @@
 //! Sources and sinks that fail, at each of their calls in turn.
 use crate::asserting::{sink, source, words};
-use crate::texts::{LIT, LIT_REPORT};
+use crate::texts::{LEGACY, LEGACY_TRANSLATION, LIT, LIT_REPORT};
 use kms_io::{MemSink, MemSource};
 use kms_run::{Status, is_run, kms_plain};
 use std::alloc::Global;
@@ -17,14 +17,20 @@ const READS: u32 = 9;
 
 const WRITES: u32 = 12;
 
-/// What `one` answers, whose words are none of `run`.
-fn one<R: Threads + Sync>(
+/// The same of the script with an older call, and of its translation.
+const LEGACY_READS: u32 = 5;
+
+const LEGACY_WRITES: u32 = 24;
+
+/// What a word answers that is none of `run`.
+fn answered<R: Threads + Sync>(
     rt: &R,
     alloc: Global,
+    word: &str,
     source: &mut MemSource,
     sink: &mut MemSink,
 ) -> Result<Option<Status>, Fail> {
-    let words = words(alloc, &["one"])?;
+    let words = words(alloc, &[word])?;
     if is_run(&words) {
         return Ok(None);
     }
@@ -35,12 +41,13 @@ fn one<R: Threads + Sync>(
 fn read_fails<R: Threads + Sync>(
     rt: &R,
     alloc: Global,
+    word: &str,
     text: &str,
     number: u32,
 ) -> Result<bool, Fail> {
     let mut source = source(alloc, text, READ, &[number])?;
     let mut sink = sink(alloc, 64, &[])?;
-    let status = one(rt, alloc, &mut source, &mut sink)?;
+    let status = answered(rt, alloc, word, &mut source, &mut sink)?;
     Ok(status == Some(Status::ReadFault) && sink.written().is_empty())
 }
 
@@ -48,13 +55,14 @@ fn read_fails<R: Threads + Sync>(
 fn write_fails<R: Threads + Sync>(
     rt: &R,
     alloc: Global,
+    word: &str,
     text: &str,
     report: &str,
     number: u32,
 ) -> Result<bool, Fail> {
     let mut source = source(alloc, text, READ, &[])?;
     let mut sink = sink(alloc, WRITE, &[number])?;
-    let status = one(rt, alloc, &mut source, &mut sink)?;
+    let status = answered(rt, alloc, word, &mut source, &mut sink)?;
     let front = report
         .as_bytes()
         .chunks(WRITE)
@@ -86,9 +94,12 @@ fn is_handed_all<R: Threads + Sync>(
 fn each_failing_read_writes_nothing(rt: HostRuntime) -> Result<(), Fail> {
     assert!(rt; LIT.len().div_ceil(READ) + 1 == READS as usize);
     for number in 1..READS + 1 {
-        assert!(rt; read_fails(&rt, rt.alloc(), LIT, number)?, "read {number}");
+        assert!(rt;
+            read_fails(&rt, rt.alloc(), "one", LIT, number)?,
+            "read {number}"
+        );
     }
-    assert!(rt; !read_fails(&rt, rt.alloc(), LIT, READS + 1)?);
+    assert!(rt; !read_fails(&rt, rt.alloc(), "one", LIT, READS + 1)?);
     Ok(())
 }
 
@@ -96,10 +107,49 @@ fn each_failing_read_writes_nothing(rt: HostRuntime) -> Result<(), Fail> {
 fn each_failing_write_leaves_a_front(rt: HostRuntime) -> Result<(), Fail> {
     assert!(rt; LIT_REPORT.len().div_ceil(WRITE) == WRITES as usize);
     for number in 1..WRITES + 1 {
-        let fails = write_fails(&rt, rt.alloc(), LIT, LIT_REPORT, number)?;
+        let fails = write_fails(&rt, rt.alloc(), "one", LIT, LIT_REPORT, number)?;
         assert!(rt; fails, "write {number}");
     }
-    assert!(rt; !write_fails(&rt, rt.alloc(), LIT, LIT_REPORT, WRITES + 1)?);
+    assert!(rt; !write_fails(&rt, rt.alloc(), "one", LIT, LIT_REPORT, WRITES + 1)?);
+    Ok(())
+}
+
+#[test]
+fn each_failing_read_translates_nothing(rt: HostRuntime) -> Result<(), Fail> {
+    assert!(rt; LEGACY.len().div_ceil(READ) + 1 == LEGACY_READS as usize);
+    for number in 1..LEGACY_READS + 1 {
+        let fails = read_fails(&rt, rt.alloc(), "legacy", LEGACY, number)?;
+        assert!(rt; fails, "read {number}");
+    }
+    assert!(rt; !read_fails(&rt, rt.alloc(), "legacy", LEGACY, LEGACY_READS + 1)?);
+    Ok(())
+}
+
+#[test]
+fn each_failing_write_leaves_a_front_of_the_translation(rt: HostRuntime) -> Result<(), Fail> {
+    assert!(rt; LEGACY_TRANSLATION.len().div_ceil(WRITE) == LEGACY_WRITES as usize);
+    for number in 1..LEGACY_WRITES + 1 {
+        let fails = write_fails(
+            &rt,
+            rt.alloc(),
+            "legacy",
+            LEGACY,
+            LEGACY_TRANSLATION,
+            number,
+        )?;
+        assert!(rt; fails, "write {number}");
+    }
+    let beyond = LEGACY_WRITES + 1;
+    assert!(rt;
+        !write_fails(
+            &rt,
+            rt.alloc(),
+            "legacy",
+            LEGACY,
+            LEGACY_TRANSLATION,
+            beyond
+        )?
+    );
     Ok(())
 }
 

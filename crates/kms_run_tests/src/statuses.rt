@@ -29,7 +29,7 @@ fn statuses_have_their_texts(rt: HostRuntime) -> Result<(), Fail> {
         (
             Status::Usage,
             3,
-            "kms: usage: kms one, replay, run, gen, audit",
+            "kms: usage: kms one, replay, run, gen, audit, legacy",
         ),
         (
             Status::Script {

@@ -8,6 +8,17 @@ pub(crate) const LIT: &str = script!(single "client\n" made lights);
 pub(crate) const LIT_REPORT: &str =
     "J 1 1\nJ 1 2\nJ 1 3\nJ 1 4\nR 1 1 0 made 1000\nR 1 2 1 made 1001\nR 1 3 2 made 1002\nR 1 4 3 commit 0\nL 0 0 1 ba7816bf8f01cfea414140de5dae2223b00361a396177a9cb410ff61f20015ad\nD drained\n";
 
+/// A script whose client lights the CRTC by an older call.
+pub(crate) const LEGACY: &str = script!(single "client\n" made "setcrtc 0 @f 0 0 @m 0\n");
+
+/// What `legacy` writes of it.
+pub(crate) const LEGACY_TRANSLATION: &str = script!(
+    single "client\n" made
+    "atomic 0x400 0 " screen(0, "m") " plane0.FB_ID=@f plane0.CRTC_ID=crtc0"
+    " plane0.CRTC_X=0 plane0.CRTC_Y=0 plane0.CRTC_W=1 plane0.CRTC_H=1"
+    " plane0.SRC_X=0 plane0.SRC_Y=0 plane0.SRC_W=65536 plane0.SRC_H=65536\n"
+);
+
 /// Commands of a client that has lit the CRTC: a commit waits for an out-fence, and the last one for a fence that nobody
 /// signals.
 pub(crate) const WAITING: &str =

@@ -1,6 +1,6 @@
 -- What was read within the limits is a well-formed script.
-use Rattle.std.proofs.Common.{◌≡◌, ℕ, zero, suc, ◌<◌, ◌≤◌, ◌^◌, ◌⊎◌, inl, inr, Bool, true, List, [], ◌∷◌, length, refl, sym, subst, arith}
-use Rattle.std.specs.Prelude.{All}
+use Rattle.std.proofs.Common.{◌≡◌, ℕ, zero, suc, ◌<◌, ◌≤◌, ◌^◌, ◌⊎◌, inl, inr, Bool, true, false, List, [], ◌∷◌, length, refl, sym, subst, arith}
+use Rattle.std.specs.Prelude.{◌&&◌, All, not}
 use Rattle.std.specs.List.{AllByRecursion, IsDistinct, list_all}
 use Rattle.std.specs.Str.{bytes_eq}
 use Rattle.std.proofs.lemmas.Bool.{le-leb, lt-ltb}
@@ -8,9 +8,11 @@ use Rattle.kms_model.specs.declared.objects.PlaneInfo.{PlaneInfo}
 use Rattle.kms_model.specs.declared.scripts.Command.{Command}
 use Rattle.kms_model.specs.declared.scripts.Script.{Script}
 use Rattle.kms_model.specs.Device.Properties.{has_legal_masks, is_legal_device, is_mask_below}
+use Rattle.kms_model.specs.Device.Sound.{IsDevice}
+use Rattle.kms_model.specs.Script.InputLines.{Row}
 use Rattle.kms_model.specs.Script.Spelling.{Spells}
 use Rattle.kms_model.specs.Script.WellFormed.{IsFitClient, IsWellFormed}
-use Rattle.kms_model.specs.Script.WholeInput.{Draft, topology_in}
+use Rattle.kms_model.specs.Script.WholeInput.{Draft, is_conn_of, is_done, is_nil, topology_in}
 use Rattle.kms_model.specs.Script.Words.{between}
 use Rattle.kms_script.proofs.FitScripts.{IsSpelt, spelt_fits}
 use Rattle.kms_script.specs.Drafted.{ended}
@@ -82,6 +84,24 @@ of_profile d profile names clients = record { version = profile; topology = reco
 pub keeps_limits : (d : Draft) (profile : ℕ) (names : List (List ℕ)) (clients : List (List Command)) → profile ≡ d.names.profile → IsFitDevice d → 0 < length d.conns → All IsFitClient clients → length clients ≤ 16 → IsDistinct bytes_eq names
     → KeepsLimits (of_profile d profile names clients)
 keeps_limits d profile names clients same fit some each few differ = subst (λ p. KeepsLimits (of_profile d p names clients)) (sym same) (keeps_own d names clients fit some each few differ)
+
+-- the device of a draft with a connector
+whole_device : (d : Draft) → IsFitDevice d → 0 < length d.conns → IsDevice (topology_in d)
+whole_device d fit some = record { profile = fit.profile; legal = legal_device d fit some; kinds = λ k p lt. (fit.planes k p lt).kind }
+
+some_items : {A : Type 0} (xs : List A) → is_nil xs ≡ false → 0 < length xs
+some_items [] some = absurd cc
+some_items (x ∷ xs) some = omega arith
+
+pub device_at_end : (d : Draft) → IsFitDevice d → is_nil d.conns ≡ false → IsDevice (topology_in d)
+device_at_end d fit some = whole_device d fit (some_items d.conns some)
+
+not_nil : (nil conn : Bool) → (not nil && not conn) ≡ true → nil ≡ false
+not_nil true conn done = absurd cc
+not_nil false conn done = refl
+
+pub device_at : (d : Draft) (row : Row) → IsFitDevice d → is_done d row ≡ true → IsDevice (topology_in d)
+device_at d row fit done = device_at_end d fit (not_nil (is_nil d.conns) (is_conn_of d.crtcs row) done)
 
 -- a script that bytes spell, and that keeps the limits, is well formed
 pub well_formed : (bytes : List ℕ) (s : Script) → KeepsLimits s → Spells bytes s → IsWellFormed s

@@ -29,7 +29,7 @@ none_made true = refl
 none_made false = refl
 
 -- a name that is said changes nothing of what is made
-said_keeps : (w v : List ℕ) (ns : List Name) → was_made w (said v ns) ≡ was_made w ns
+pub said_keeps : (w v : List ℕ) (ns : List Name) → was_made w (said v ns) ≡ was_made w ns
 said_keeps w v [] = none_made (bytes_eq w v)
 said_keeps w v (n ∷ ns) = said_step (bytes_eq v n.word) w v n ns (said_keeps w v ns)
 
@@ -54,7 +54,7 @@ made_step false w v n ns after e ih = rw ih (there (bytes_eq w n.word) (bytes_eq
     apart is = let same : w ≡ n.word = (bytes_eq-Decides w n.word).0 is in rw same (nat_list_eq_equiv.symm n.word v ∙ e)
 
 -- a label that is made is made
-made_makes : (w v : List ℕ) (ns : List Name) → was_made w (made v ns) ≡ (bytes_eq w v || was_made w ns)
+pub made_makes : (w v : List ℕ) (ns : List Name) → was_made w (made v ns) ≡ (bytes_eq w v || was_made w ns)
 made_makes w v [] = alone (bytes_eq w v)
   where
     alone : (t : Bool) → cond t true false ≡ (t || false)

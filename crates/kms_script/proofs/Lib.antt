@@ -1,5 +1,6 @@
 pub mod Accepted
 pub mod Alone
+pub mod Cutting
 pub mod Decimals
 pub mod DeviceLines
 pub mod DraftGrows
@@ -10,7 +11,9 @@ pub mod FitScripts
 pub mod FitSteps
 pub mod FitWords
 pub mod Formed
+pub mod FormsAlike
 pub mod Fronts
+pub mod HexBack
 pub mod Hexadecimals
 pub mod Inverted
 pub mod LabelsMade
@@ -28,6 +31,7 @@ pub mod ProfileStays
 pub mod ReadBack
 pub mod ReadParts
 pub mod Repeated
+pub mod RequestsBack
 pub mod RowsAgain
 pub mod RowsSpelt
 pub mod SchedulesSpelt
@@ -48,3 +52,4 @@ pub mod StepsRead
 pub mod StepsSpelt
 pub mod Texts
 pub mod WithinLimit
+pub mod WordsBack

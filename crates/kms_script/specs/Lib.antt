@@ -1,5 +1,6 @@
 pub mod Drafted
 pub mod Lines
 pub mod Overlong
+pub mod ReadAnew
 pub mod Scheduled
 pub mod Stated

@@ -1,5 +1,6 @@
 //! The device at the front of an input.
-ghost use Rattle.std.specs.Prelude.{◌≡◌, ◌≤◌, ℕ};
+ghost use Rattle.std.specs.Prelude.{◌≡◌, ◌≤◌, ℕ, IfOk};
+ghost use Rattle.kms_model.specs.Device.Sound.{IsDevice};
 ghost use Rattle.kms_model.specs.Script.WholeInput.{device_of};
 ghost use Rattle.kms_script.specs.Stated.{GivesDevice, device_in};
 ghost use Rattle.kms_script.specs.Drafted.{draft_in};
@@ -36,7 +37,8 @@ fn device_in(draft: Draft) -> TopologyRead
 /// the input is a whole device, or where a ninth connector follows; it is then the input's first fault (see `parse`),
 /// of which the size of the whole input is not tried.
 pub fn read_topology(alloc: Global, bytes: &[u8]) -> Result<TopologyRead, ParseError>
-    ensures { GivesDevice result (device_of bytes.now) }
+    ensures value { GivesDevice result (device_of bytes.now) }
+    ensures legal { IfOk result (λ read. IsDevice read.topology) }
 {
     let mut draft = Draft::new(alloc);
     let mut number = 1u32;

@@ -1,8 +1,8 @@
 //! One line of a script alone.
-ghost use Rattle.std.specs.Prelude.{◌≡◌, ◌≤◌, ◌<◌, ◌+◌, [], IfOk, OnErr, length};
+ghost use Rattle.std.specs.Prelude.{◌≡◌, ◌≤◌, ◌<◌, ◌+◌, [], IfOk, OnErr, OnOk, length};
 ghost use Rattle.std.specs.List.{IsDistinct};
 ghost use Rattle.std.specs.Str.{bytes_eq};
-ghost use Rattle.kms_model.specs.Script.CommandLines.{line_read};
+ghost use Rattle.kms_model.specs.Script.CommandLines.{line_read, place, saying, unmade, words_in};
 ghost use Rattle.kms_script.specs.Stated.{GivesCommand, line_error};
 
 use crate::lines::read_line;
@@ -86,6 +86,28 @@ impl NameIndex {
         Ok(NameIndex {
             names: Names::from_words(alloc, profile, names)?,
         })
+    }
+
+    /// The number of a name that is said. Want of memory leaves the names as they were.
+    pub fn say(&mut self, alloc: Global, word: &[u8]) -> Result<u32, NoMemory>
+        requires few { length self.old.words < 4294967295 }
+        ensures number { IfOk result (λ n. n
+            ≡ place word.now (unmade self.old.profile self.old.words)) }
+        ensures words { OnOk result (self.new.words
+            ≡ words_in (saying word.now (unmade self.old.profile self.old.words))) }
+        ensures profile { self.new.profile ≡ self.old.profile }
+        ensures unchanged { OnErr result (self.new ≡ self.old) }
+    {
+        match self.names.say(alloc, word) {
+            Ok(number) => {
+                self.names.keep(alloc);
+                Ok(number)
+            }
+            Err(e) => {
+                self.names.undo(alloc);
+                Err(e)
+            }
+        }
     }
 
     /// The names.

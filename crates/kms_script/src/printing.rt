@@ -5,8 +5,9 @@ ghost use Rattle.std.specs.List.{flat_map};
 ghost use Rattle.kms_model.specs.Report.TextLines.{line};
 ghost use Rattle.kms_model.specs.Script.WholeInput.{input, script_limit};
 ghost use Rattle.kms_model.specs.Script.Spelling.{Spells, client_lines, conn_words, device_lines, spelt_plane, spelling, text_of};
+ghost use Rattle.kms_script.specs.ReadAnew.{IsLineOf};
 
-use kms_commands::{push_command, push_number, push_word};
+use kms_commands::{push_command, push_command_words, push_number, push_word};
 use kms_model::{Command, NoMemory, PlaneInfo, Script, Seq, Topology};
 use kms_words::{push_crtcs, push_formats, type_word};
 use std::alloc::Global;
@@ -129,5 +130,19 @@ pub fn print(alloc: Global, script: &Script) -> Result<Seq<u8>, NoMemory>
         script.names.as_slice(),
         script.clients.as_slice(),
     )?;
+    Ok(Seq::from_vec(text))
+}
+
+/// The line of a command, without its line feed, in the words of a script's names; those that a script does not have are
+/// written as `print` writes them. The only error is want of memory.
+pub fn print_command(
+    alloc: Global,
+    names: &[Seq<u8>],
+    command: &Command,
+) -> Result<Seq<u8>, NoMemory>
+    ensures { IfOk result (λ text. IsLineOf names.now command.now text) }
+{
+    let mut text = Vec::new(alloc);
+    push_command_words(alloc, &mut text, names, command)?;
     Ok(Seq::from_vec(text))
 }
