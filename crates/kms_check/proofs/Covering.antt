@@ -29,9 +29,8 @@ use Rattle.kms_model.proofs.TouchedLemmas.{few_objects, few_of}
 use Rattle.kms_laws.proofs.Basics.{in_either}
 use Rattle.kms_state.specs.Places.{is_duplicated}
 use Rattle.kms_state.proofs.Slots.{same_duplicated}
-use Rattle.kms_track.specs.InStep.{is_of_device}
+use Rattle.kms_track.specs.InStep.{HasStates, is_of_device}
 use Rattle.kms_track.specs.Places.{mask_has, object_at_place}
-use Rattle.kms_track.specs.StepLaws.{HasStates}
 use Rattle.kms_track.proofs.CheckedLemmas.{in_touched}
 use Rattle.kms_track.proofs.There.{on_place, place_lockable}
 use Rattle.kms_check.specs.Lacking.{first_lacking}
@@ -79,7 +78,6 @@ all-duplicated t w r d device room none object is touched =
 -- what an accepted request touches has both states, and was duplicated
 pub record HasAll (d : Duplicates) (checked : Checked) : Type 0 where
   pub states : HasStates checked
-  pub crtcs : (i : ℕ) → i < 4 → has_bit checked.touched.crtcs i ≡ true → is_some (slice_index_or checked.states.crtcs i None) ≡ true
   pub given : (p : ℕ) → p < 28 → mask_has checked.touched p ≡ true → is_duplicated d (object_at_place p) ≡ true
 
 some_there : {S : Type 0} (states : List (Option S)) (i : ℕ) → is_some (option_flatten (slice_get states i)) ≡ true → is_some (slice_index_or states i None) ≡ true
@@ -122,7 +120,10 @@ module _ (t : Topology) (r : Request) (used : List (ℕ × Look)) (d : Duplicate
 
   pub accepted-states : HasAll d checked
   accepted-states = record {
-    states = record { planes = plane_covered; conns = conn_covered };
-    crtcs = λ i few has. some_there checked.states.crtcs i (crtc_covered i few has);
+    states = record {
+      crtcs = λ i few has. some_there checked.states.crtcs i (crtc_covered i few has);
+      planes = λ i few has. some_there checked.states.planes i (plane_covered i few has);
+      conns = λ i few has. some_there checked.states.conns i (conn_covered i few has);
+    };
     given = given_at;
   }

@@ -32,7 +32,7 @@ use Rattle.kms_laws.proofs.Steps.{request-is}
 use Rattle.kms_laws.proofs.SmallNumbers.{numbers_fit}
 use Rattle.kms_signal.specs.InStep.{IsQueueOf}
 use Rattle.kms_signal.specs.Queues.{Queue, empty_queue, space_used}
-use Rattle.kms_track.specs.InStep.{awaited_answer, busy_answer}
+use Rattle.kms_track.specs.MachineLaws.{awaited_answer, busy_answer}
 use Rattle.kms_track.specs.Tracking.{busy_of, not_yet_of}
 use Rattle.kms_track.proofs.CheckedLemmas.{device_within, in_touched}
 use Rattle.kms_track.proofs.MachineAnswers.{busy_machine}

@@ -14,7 +14,7 @@ use Rattle.kms_model.specs.Machine.Histories.{is_history, legal}
 use Rattle.kms_model.specs.Machine.State.{Machine, request_at}
 use Rattle.kms_model.specs.Request.Lookups.{look_up}
 use Rattle.kms_clients.specs.Standing.{doing_in}
-use Rattle.kms_track.specs.InStep.{awaited_answer}
+use Rattle.kms_track.specs.MachineLaws.{awaited_answer}
 use Rattle.kms_core.specs.declared.stores.looking.Decided.{Decided}
 use Rattle.kms_core.specs.declared.stores.looking.Decided.TheVariants as answer
 use Rattle.kms_core.specs.Decisions.{IsDecided, IsFirstStale, steps_of, taker, taker_in, world}

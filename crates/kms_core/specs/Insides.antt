@@ -17,7 +17,6 @@ stores_of c = record {
   fences = c.fences;
   queues = c.queues.items;
   tracker = c.tracker;
-  tails = c.tails;
   registers = c.registers;
   goes = c.goes;
   stalled = c.stalled;

@@ -14,9 +14,8 @@ use Rattle.kms_model.specs.Machine.State.{Machine}
 use Rattle.kms_model.specs.Things.Kept.{MayTake, fbs_taken}
 use Rattle.kms_model.specs.Things.Tables.{value_with_id}
 use Rattle.kms_regs.specs.File.{RegisterFile, StandsForDevice}
-use Rattle.kms_signal.specs.Rooms.{Rooms}
-use Rattle.kms_tails.specs.declared.tail.Tail.{Tail}
-use Rattle.kms_tails.specs.InStep.{AreTailsOf}
+use Rattle.kms_track.specs.InStep.{IsInStep}
+use Rattle.kms_track.specs.Tracking.{Tracking}
 use Rattle.kms_things.specs.Made.{Made}
 use Rattle.kms_core.specs.Freeing.{framebuffers_in, freed_among}
 use Rattle.kms_core.specs.Stored.{AreHeld, without_freed}
@@ -24,12 +23,12 @@ use Rattle.kms_core.specs.Logs.{Reserved}
 use Rattle.kms_core.specs.Stands.{IsWorldOf}
 
 -- these stores stand for their parts of a machine, whose device has so many CRTCs
-pub record TellNeeds (t : Topology) (m : Machine) (made : Made) (present : Duplicates) (registers : RegisterFile) (tails : Rooms Tail) (crtcs : ℕ) : Type 0 where
+pub record TellNeeds (t : Topology) (m : Machine) (made : Made) (present : Duplicates) (registers : RegisterFile) (tracker : Tracking) (crtcs : ℕ) : Type 0 where
   pub device : IsDevice t
   pub count : t.crtcs ≡ crtcs
   pub world : IsWorldOf t m.device.world made present
   pub written : StandsForDevice t m.device registers
-  pub kept : AreTailsOf t m.device.commits m.device.marks m.records.latches tails
+  pub kept : IsInStep t m tracker
 
 -- a framebuffer has one reference, which is not that of being open
 abbrev pub HasLast : Option Framebuffer → Type 0
@@ -37,13 +36,13 @@ HasLast None = ⊥
 HasLast (Some fb) = (fb.is_open ≡ false) × (fb.references ≡ 1)
 
 -- those of some framebuffers are recorded that these stores do not need, and leave the store
-pub record Frees (before after : Made) (present : Duplicates) (registers : RegisterFile) (tails : Rooms Tail) (crtcs : ℕ) (ids : List ℕ)
+pub record Frees (before after : Made) (present : Duplicates) (registers : RegisterFile) (tracker : Tracking) (crtcs : ℕ) (ids : List ℕ)
     (old new : Reserved (ℕ × ℕ)) : Type 0 where
-  pub items : (t : Topology) (m : Machine) → TellNeeds t m before present registers tails crtcs
+  pub items : (t : Topology) (m : Machine) → TellNeeds t m before present registers tracker crtcs
       → new.items ≡ old.items ++ freed_among t m ids
-  pub places : (t : Topology) (m : Machine) → TellNeeds t m before present registers tails crtcs
+  pub places : (t : Topology) (m : Machine) → TellNeeds t m before present registers tracker crtcs
       → old.places ≡ new.places + length (freed_among t m ids)
-  pub made : (t : Topology) (m : Machine) → TellNeeds t m before present registers tails crtcs
+  pub made : (t : Topology) (m : Machine) → TellNeeds t m before present registers tracker crtcs
       → after ≡ record before { fbs = without_freed (freed_among t m ids) before.fbs }
 
 -- nothing is recorded, and as many places are kept
@@ -60,13 +59,13 @@ pub record KeepsPlace (before after : Made) (id : ℕ) (old new : Reserved (ℕ 
 
 -- A framebuffer that was added gets a place, and the device takes a reference; one that was closed is freed where nothing needs it.
 -- Other commands free nothing.
-abbrev pub Accounts : Made → Made → Duplicates → RegisterFile → Rooms Tail → ℕ → Command → Reply → Reserved (ℕ × ℕ) → Reserved (ℕ × ℕ)
+abbrev pub Accounts : Made → Made → Duplicates → RegisterFile → Tracking → ℕ → Command → Reply → Reserved (ℕ × ℕ) → Reserved (ℕ × ℕ)
     → Type 0
-Accounts before after present registers tails crtcs (command.AddFb label buffer) (reply.Made id) old new =
+Accounts before after present registers tracker crtcs (command.AddFb label buffer) (reply.Made id) old new =
     KeepsPlace before after id old new
-Accounts before after present registers tails crtcs (command.CloseFb label) reply.Done old new =
-    (u : Thing) → thing_labelled before.things label ≡ Some u → Frees before after present registers tails crtcs (u.id ∷ []) old new
-Accounts before after present registers tails crtcs _ _ old new = KeepsPlaces before after old new
+Accounts before after present registers tracker crtcs (command.CloseFb label) reply.Done old new =
+    (u : Thing) → thing_labelled before.things label ≡ Some u → Frees before after present registers tracker crtcs (u.id ∷ []) old new
+Accounts before after present registers tracker crtcs _ _ old new = KeepsPlaces before after old new
 
 -- there is a place for the framebuffer that was closed
 abbrev pub HasPlaceFor : Made → Command → Reply → ℕ → Type 0

@@ -12,8 +12,8 @@ use Rattle.kms_model.specs.Device.Objects.{count_of, exists, object_id}
 use Rattle.kms_model.specs.Machine.Histories.{client_numbers, commit_numbers, is_awaited, legal, steps_of_client, steps_of_commit, steps_with_go}
 use Rattle.kms_model.specs.Machine.State.{Machine, has_value}
 use Rattle.kms_model.specs.Machine.Steps.{may}
-use Rattle.kms_tails.specs.declared.tail.Tail.{Tail}
-use Rattle.kms_tails.specs.Remaining.{next_flush_of, next_latch_of, next_write_of}
+use Rattle.kms_track.specs.declared.tail.Tail.{Tail}
+use Rattle.kms_track.specs.Tails.{next_flush_of, next_latch_of, next_write_of}
 use Rattle.kms_core.specs.Run.{Run, machine}
 
 -- no client of the script has a number

@@ -2,21 +2,17 @@
 use Rattle.std.specs.Prelude.{◌≡◌}
 use Rattle.kms_signal.specs.FenceSets.{FenceSet}
 use Rattle.kms_signal.specs.Queues.{Queue}
-use Rattle.kms_signal.specs.Rooms.{Rooms}
-use Rattle.kms_tails.specs.declared.tail.Tail.{Tail}
-use Rattle.kms_tails.specs.InStep.{StandsAlike}
 use Rattle.kms_track.specs.Tracking.{Tracking}
 
 -- the same commits are kept
 pub record SameTracking (old new : Tracking) : Type 0 where
   pub count : new.count ≡ old.count
   pub lasts : new.lasts ≡ old.lasts
-  pub pending : new.pending.slots ≡ old.pending.slots
+  pub tails : new.tails.slots ≡ old.tails.slots
 
--- all that is stored stays: fences, a queue, commits and tails
-pub record KeepsStored (f g : FenceSet) (q longer : Queue) (old new : Tracking) (v w : Rooms Tail) : Type 0 where
+-- all that is stored stays: fences, a queue and commits
+pub record KeepsStored (f g : FenceSet) (q longer : Queue) (old new : Tracking) : Type 0 where
   pub fences : g.slots ≡ f.slots
   pub reserved : longer.reserved ≡ q.reserved
   pub unread : longer.unread ≡ q.unread
   pub tracking : SameTracking old new
-  pub tails : StandsAlike v w

@@ -25,9 +25,6 @@ use Rattle.kms_regs.specs.File.{RegisterFile, StandsForDevice}
 use Rattle.kms_signal.specs.FenceSets.{FenceSet, is_made}
 use Rattle.kms_signal.specs.InStep.{AreFencesOf, IsQueueOf}
 use Rattle.kms_signal.specs.Queues.{Queue, empty_queue}
-use Rattle.kms_signal.specs.Rooms.{Rooms}
-use Rattle.kms_tails.specs.declared.tail.Tail.{Tail}
-use Rattle.kms_tails.specs.InStep.{AreTailsOf}
 use Rattle.kms_things.specs.Made.{Made}
 use Rattle.kms_things.specs.Present.{IsPresent}
 use Rattle.kms_track.specs.InStep.{IsTrackerOf}
@@ -49,7 +46,6 @@ pub record Stores : Type 0 where
   pub fences : FenceSet
   pub queues : List Queue
   pub tracker : Tracking
-  pub tails : Rooms Tail
   pub registers : RegisterFile
   -- the commit that a CRTC latches at its next vblank, by index
   pub goes : List (Option ℕ)
@@ -124,7 +120,6 @@ pub record StandsAt (s : Script) (m : Machine) (st : Stores) : Type 0 where
   pub out_fenced : AreOutFencesMade s.topology m.device.commits st.fences
   pub queues : AreQueues (length s.clients) m.events st.queues
   pub tracker : IsTrackerOf s.topology m.device.commits m.device.marks m.records.latches st.tracker
-  pub tails : AreTailsOf s.topology m.device.commits m.device.marks m.records.latches st.tails
   pub registers : StandsForDevice s.topology m.device st.registers
   pub going : AreGoing m.device st.goes
   pub ended : m.stalled ≡ st.stalled

@@ -3,6 +3,7 @@ use Rattle.std.specs.Prelude.{◌≡◌, ℕ, ◌+◌, Bool, false, ◌==◌, Li
 use Rattle.kms_model.specs.Device.Places.{alike}
 use Rattle.kms_model.specs.declared.objects.Kind.TheVariants.{Crtc}
 use Rattle.kms_model.specs.declared.objects.ObjId.{ObjId}
+use Rattle.kms_model.specs.declared.scripts.Request.{Request}
 use Rattle.kms_model.specs.declared.states.Both.{Both}
 use Rattle.kms_model.specs.declared.states.Duplicates.{Duplicates}
 use Rattle.kms_model.specs.declared.tables.Slot.{Slot}
@@ -12,6 +13,7 @@ use Rattle.kms_model.specs.Device.World.{thing_labelled}
 use Rattle.kms_model.specs.Machine.Commits.{id_of_thing}
 use Rattle.kms_model.specs.Request.Flags.{wants_event}
 use Rattle.kms_model.specs.Things.Tables.{slot}
+use Rattle.kms_track.specs.declared.tail.Signals.{Signals}
 use Rattle.kms_core.specs.Swaps.{count_in}
 
 -- the state of an object of the device: the new one where it was checked, else as it was
@@ -62,6 +64,11 @@ abbrev pub fences_under : List Thing → List (Option ℕ) → List (Option ℕ)
 fences_under things labels =
     id_made_under things (slice_index_or labels 0 None) ∷ id_made_under things (slice_index_or labels 1 None)
     ∷ id_made_under things (slice_index_or labels 2 None) ∷ id_made_under things (slice_index_or labels 3 None) ∷ []
+
+-- what the commit of a client's request signals, with the fences that it made
+abbrev pub signals_for : ℕ → Request → List (Option ℕ) → Signals
+signals_for client r out_fences =
+    record { client = client; user_data = r.user_data; wants_event = wants_event r.flags; out_fences = out_fences }
 
 -- how many events a request with these flags, which names these CRTCs, asks for
 abbrev pub events_asked_for : ℕ → ℕ → ℕ

@@ -1,6 +1,6 @@
 -- What a swap answers and does. From: "Atomic Mode Setting"; `drm_file.c`, drm_event_reserve_init; `drm_atomic_helper.c`,
 -- drm_atomic_helper_setup_commit, drm_atomic_helper_swap_state.
-use Rattle.std.specs.Prelude.{◌≡◌, ℕ, ◌+◌, ◌*◌, ◌<◌, nat_lt, is_some, slice_index_or, ◌&&◌, List, [], length, true, ⊤, Option, Some, None, false, if◌then◌else◌}
+use Rattle.std.specs.Prelude.{◌≡◌, ℕ, ◌+◌, ◌*◌, nat_lt, ◌&&◌, List, [], length, true, ⊤, Option, Some, None, false, if◌then◌else◌}
 use Rattle.kms_model.specs.Firsts.{one_if}
 use Rattle.kms_model.specs.declared.objects.ObjId.{ObjId}
 use Rattle.kms_model.specs.declared.objects.Topology.{Topology}
@@ -25,8 +25,8 @@ use Rattle.kms_model.specs.Request.Resolves.{IsResolved}
 use Rattle.kms_model.specs.Request.Verdict.{verdict}
 use Rattle.kms_clients.specs.Standing.{IsClient}
 use Rattle.kms_signal.specs.Queues.{Queue, space_used}
-use Rattle.kms_track.specs.InStep.{awaited_answer}
-use Rattle.kms_track.specs.StepLaws.{HasStates}
+use Rattle.kms_track.specs.InStep.{HasStates}
+use Rattle.kms_track.specs.MachineLaws.{awaited_answer}
 use Rattle.kms_track.specs.Tracking.{Tracking, busy_of}
 use Rattle.kms_core.specs.declared.stores.looking.Decided.{Decided}
 use Rattle.kms_core.specs.declared.stores.looking.Decided.TheVariants as answer
@@ -35,17 +35,12 @@ use Rattle.kms_core.specs.Run.{Run, machine}
 
 -- What a swap asks for
 
--- each object that is touched was duplicated
-pub record HasAllStates (checked : Checked) : Type 0 where
-  pub states : HasStates checked
-  pub crtcs : (i : ℕ) → i < 4 → has_bit checked.touched.crtcs i ≡ true → is_some (slice_index_or checked.states.crtcs i None) ≡ true
-
 -- The request of the client whose context has a ticket is accepted and is no test; what it touches was duplicated.
 pub record MaySwap (r : Run) (t : ℕ) (used : List (ℕ × Look)) (checked : Checked) (resolved : Resolved) : Type 0 where
   pub request : Request
   pub deciding : IsDeciding r t used request
   pub accepted : IsAccepted r t used request resolved checked
-  pub states : HasAllStates checked
+  pub states : HasStates checked
   pub no_test : is_test request.flags ≡ false
 
 -- An accepted request, at which a client takes locks and holds those that it touches, with what was checked of it, in the
@@ -65,7 +60,7 @@ pub record IsReadyToCommit (r : Run) (client : ℕ) (checked : Checked) (flags :
 -- Such a request, with what it asks for in the present world, and with what it touches duplicated; nothing hinders its swap.
 pub record MayCommit (r : Run) (client : ℕ) (checked : Checked) (resolved : Resolved) : Type 0 where
   pub ready : IsReadyToCommit r client checked resolved.flags
-  pub states : HasAllStates checked
+  pub states : HasStates checked
   pub asks : IsResolved r.script.topology (look_up (world r)) ready.request resolved
   pub legal : legal r.script (machine r) (step.Swap client) ≡ true
 

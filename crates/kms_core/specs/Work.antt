@@ -19,10 +19,10 @@ use Rattle.kms_model.specs.Machine.State.{Commit, DeviceState, Marks}
 use Rattle.kms_model.specs.Machine.Registers.{crtc_register, crtc_words, plane_register, plane_words}
 use Rattle.kms_regs.specs.File.{RegisterFile}
 use Rattle.kms_regs.specs.StepLaws.{WritesCrtc, WritesPlane}
-use Rattle.kms_signal.specs.Rooms.{Rooms}
-use Rattle.kms_tails.specs.declared.tail.Tail.{Tail}
-use Rattle.kms_tails.specs.InStep.{AreTailsOf}
-use Rattle.kms_tails.specs.Remaining.{connector_of}
+use Rattle.kms_track.specs.declared.tail.Tail.{Tail}
+use Rattle.kms_track.specs.InStep.{IsTrackerOf}
+use Rattle.kms_track.specs.Tails.{connector_of}
+use Rattle.kms_track.specs.Tracking.{Tracking}
 use Rattle.kms_core.specs.Run.{Run, machine}
 
 -- the history was not ended
@@ -52,19 +52,19 @@ abbrev pub IsFirstOf : Marks → ℕ → (ℕ → Bool) → Option ℕ → Type 
 IsFirstOf marks count test None = (j : ℕ) → j < count → IsPassedBy marks test j
 IsFirstOf marks count test (Some k) = (k < count) × (test k ≡ true) × ((j : ℕ) → j < k → IsPassedBy marks test j)
 
--- it is so for all commits that tails stand for
-abbrev pub FindsFirstWhere : Rooms Tail → (ℕ → Bool) → Option ℕ → Type 0
+-- it is so for all commits that a tracker stands for
+abbrev pub FindsFirstWhere : Tracking → (ℕ → Bool) → Option ℕ → Type 0
 FindsFirstWhere v test first =
     (t : Topology) (commits : List Commit) (marks : Marks) (latches : List Latch)
-    → AreTailsOf t commits marks latches v → IsFirstOf marks (length commits) test first
+    → IsTrackerOf t commits marks latches v → IsFirstOf marks (length commits) test first
 
--- commits that tails stand for, whose numbers have 32 bits
-pub record AreFewTails (v : Rooms Tail) : Type 0 where
+-- commits that a tracker stands for, whose numbers have 32 bits
+pub record AreFewCommits (v : Tracking) : Type 0 where
   pub topology : Topology
   pub commits : List Commit
   pub marks : Marks
   pub latches : List Latch
-  pub stand : AreTailsOf topology commits marks latches v
+  pub stand : IsTrackerOf topology commits marks latches v
   pub few : length commits < 4294967295
 
 -- Steps of tails
@@ -86,11 +86,11 @@ is_over_in t d latches k = is_hw_done d k && is_all_latched t d latches k
 abbrev pub is_commit_over : Run → ℕ → Bool
 is_commit_over r k = is_over_in r.script.topology (machine r).device (machine r).records.latches k
 
--- an answer tells so, of a commit that is not cleaned, of each device that tails stand for
-abbrev pub TellsOver : Rooms Tail → ℕ → Bool → Type 0
+-- an answer tells so, of a commit that is not cleaned, of each device that a tracker stands for
+abbrev pub TellsOver : Tracking → ℕ → Bool → Type 0
 TellsOver v k over =
     (t : Topology) (d : DeviceState) (latches : List Latch)
-    → IsDevice t → k < length d.commits → is_cleaned d k ≡ false → AreTailsOf t d.commits d.marks latches v
+    → IsDevice t → k < length d.commits → is_cleaned d k ≡ false → IsTrackerOf t d.commits d.marks latches v
     → over ≡ is_over_in t d latches k
 
 abbrev pub cleanup_steps : ℕ → Bool → List Step

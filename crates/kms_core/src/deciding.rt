@@ -94,7 +94,7 @@ pub fn decide(stores: &mut Stores, client: u32, step: Step, reply: Reply) -> Res
     requires { Decides stores.old client step reply }
     ensures { stores.new ≡ gains stores.old (if_ok result (λ done. step ∷ [])) }
 {
-    make_step_room(&mut stores.steps, &stores.tails)?;
+    make_step_room(&mut stores.steps, &stores.tracker)?;
     stores.replies.make_room(1)?;
     let command = stores.clients.place(client).command;
     let place = stores.journal.as_slice().len() as u64;

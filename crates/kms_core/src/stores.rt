@@ -14,7 +14,6 @@ use kms_clients::Clients;
 use kms_model::{Answered, Duplicates, Latch, NoMemory, Script, Step};
 use kms_regs::RegFile;
 use kms_signal::{EventQueue, Fences};
-use kms_tails::Tails;
 use kms_things::{Things, start_states};
 use kms_track::Tracker;
 pub use looking::{Decided, Stale, first_stale, lookups, taker};
@@ -47,10 +46,8 @@ pub struct Stores {
     pub fences: Fences,
     /// The events of each client of the script.
     pub queues: Vec<EventQueue>,
-    /// The commits that are not cleaned, and which were before them.
+    /// The commits that are not cleaned, what their tails still need, and which were before them.
     pub tracker: Tracker,
-    /// What the tails of commits that are not cleaned still need.
-    pub tails: Tails,
     /// The registers.
     pub registers: RegFile,
     /// The number, counted from 0, of the commit that each CRTC, by its index, latches at its next vblank.
@@ -95,7 +92,6 @@ impl Stores {
             fences: Fences::new(alloc),
             queues,
             tracker: Tracker::new(alloc),
-            tails: Tails::new(alloc),
             registers,
             goes: [None; 4],
             stalled: false,

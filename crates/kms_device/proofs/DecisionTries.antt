@@ -25,8 +25,8 @@ use Rattle.kms_model.specs.Request.Flags.{is_test}
 use Rattle.kms_model.specs.Request.Lookups.{look_up}
 use Rattle.kms_model.specs.Request.Named.{named}
 use Rattle.kms_model.proofs.Items.{first_some-none, list_all-at}
-use Rattle.kms_track.specs.InStep.{awaited_answer, awaited_commit, pending_pair}
-use Rattle.kms_track.specs.Told.{not_marked}
+use Rattle.kms_track.specs.MachineLaws.{awaited_answer, awaited_commit}
+use Rattle.kms_track.specs.Tracking.{unless, with_object}
 use Rattle.kms_check.specs.declared.moving.Move.{Move}
 use Rattle.kms_check.specs.declared.moving.Move.TheVariants as move
 use Rattle.kms_check.specs.Moves.{AcceptedAs, IsMove, RefusedBy}
@@ -84,7 +84,7 @@ not_yet_of (Some given) awaited k object commit e = absurd cc
 
 -- where a commit is awaited, the swap is not ready
 
-none_unmarked : (marked : ℕ → Bool) (o : Option ℕ) → if_there marked o ≡ true → not_marked marked o ≡ None
+none_unmarked : (marked : ℕ → Bool) (o : Option ℕ) → if_there marked o ≡ true → unless marked o ≡ None
 none_unmarked marked None is = refl
 none_unmarked marked (Some k) is = rw is refl
 
@@ -93,7 +93,7 @@ unfolding is_ready
 not_ready t m r pair awaited = by (is_ready t m r) refl
   where
     none_at : (crtc : ℕ) → (if_there (is_hw_done m.device) (previous t m.device.commits (length m.device.commits) crtc) && if_there (is_cleaned m.device) (second_previous t m.device.commits (length m.device.commits) crtc)) ≡ true
-        → pending_pair crtc (awaited_commit t m crtc) ≡ None
+        → with_object crtc (awaited_commit t m crtc) ≡ None
     none_at crtc both =
         let parts = and_parts (if_there (is_hw_done m.device) (previous t m.device.commits (length m.device.commits) crtc)) _ both in
         rw (none_unmarked (is_hw_done m.device) (previous t m.device.commits (length m.device.commits) crtc) parts.0, none_unmarked (is_cleaned m.device) (second_previous t m.device.commits (length m.device.commits) crtc) parts.1) refl
@@ -101,7 +101,7 @@ not_ready t m r pair awaited = by (is_ready t m r) refl
     by : (b : Bool) → is_ready t m r ≡ b → b ≡ false
     by false is = refl
     by true is =
-        (let none : awaited_answer t m r ≡ None = first_some-none (λ crtc. pending_pair crtc (awaited_commit t m crtc)) (named t m.device.world r) (λ crtc is_in. none_at crtc (list_all-at _ (named t m.device.world r) crtc is is_in)) in
+        (let none : awaited_answer t m r ≡ None = first_some-none (λ crtc. with_object crtc (awaited_commit t m crtc)) (named t m.device.world r) (λ crtc is_in. none_at crtc (list_all-at _ (named t m.device.world r) crtc is is_in)) in
         let both : None ≡ Some pair = sym none ∙ awaited in absurd cc)
 
 and_no : (a b : Bool) → b ≡ false → (a && b) ≡ false

@@ -33,7 +33,7 @@ use Rattle.kms_model.specs.Request.Verdict.{late_in}
 use Rattle.kms_histlock.specs.Rules.{IsStart}
 use Rattle.kms_core.specs.Decisions.{HoldsAll, IsRefusedEarly, labels_of, world}
 use Rattle.kms_core.specs.Run.{Run, machine}
-use Rattle.kms_core.specs.Swaps.{HasAllStates}
+use Rattle.kms_track.specs.InStep.{HasStates}
 
 -- Contexts
 
@@ -159,5 +159,5 @@ pub record MayBeSwapped (r : Run) (client : ℕ) (t : Ticket) (used : List (ℕ 
   pub request : Request
   pub deciding : IsDecidingFor r client t used request
   pub accepted : IsAcceptedWith r client used request resolved checked
-  pub states : HasAllStates checked
+  pub states : HasStates checked
   pub no_test : is_test request.flags ≡ false

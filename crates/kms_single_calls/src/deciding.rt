@@ -7,7 +7,7 @@ ghost use Rattle.kms_model.specs.Request.Lookups.{look_up};
 ghost use Rattle.kms_check.specs.Moves.{AcceptedAs};
 ghost use Rattle.kms_core.specs.Decisions.{IsDecided, steps_of, world};
 ghost use Rattle.kms_core.specs.Run.{gains, if_ok, machine};
-ghost use Rattle.kms_core.specs.Swaps.{HasAllStates};
+ghost use Rattle.kms_track.specs.InStep.{HasStates};
 ghost use Rattle.kms_single_calls.specs.Deciding.{AreOfLabels, ComesTo, accepting_answer, accepting_step};
 ghost use Rattle.kms_single_calls.specs.Taking.{HasTaken};
 
@@ -86,7 +86,7 @@ fn accept(
     requires labels { AreOfLabels context.now used.now }
     requires accepted { AcceptedAs core.old.script.topology context.now.request used.now
         context.now.states checked.now resolved.now }
-    requires states { HasAllStates checked.now }
+    requires states { HasStates checked.now }
     ensures answer { IfOk result (IsDecided (look_up (world core.old)) used.now
         (accepting_answer core.old context.now)) }
     ensures history { core.new ≡ gains core.old
@@ -118,7 +118,7 @@ fn are_of_same(used: &[(u32, Look)], other: &[(u32, Look)]) -> bool
 
 /// Whether each object that a request touches is duplicated.
 fn has_states(checked: &Checked) -> bool
-    ensures { IsTrue result ↔ HasAllStates checked.now }
+    ensures { IsTrue result ↔ HasStates checked.now }
 {
     are_there(&checked.states.crtcs, checked.touched.crtcs)
         && are_there(&checked.states.planes, checked.touched.planes)

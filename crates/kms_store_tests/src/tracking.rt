@@ -250,7 +250,7 @@ fn sets_up(
     if tracker.count() > 100_000 || fences.len() > 16 {
         return Ok(false);
     }
-    tracker.make_room(alloc, checked, &fences)?;
+    tracker.make_room(alloc)?;
     Ok(tracker.setup(alloc, checked, &fences)? == number)
 }
 

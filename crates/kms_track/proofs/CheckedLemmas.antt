@@ -1,11 +1,10 @@
 -- What a check gives for an accepted request is what a tracker is told of its commit.
-use Rattle.std.proofs.Common.{◌≡◌, ℕ, ◌-◌, ◌<◌, ◌≤◌, List, map, get_or, Bool, true, false, Option, Some, None, inl, inr, arith, refl, sym, ap, ◌∙◌}
+use Rattle.std.proofs.Common.{◌≡◌, ℕ, ◌-◌, ◌<◌, ◌≤◌, List, length, get_or, Bool, true, false, Option, Some, None, inl, inr, arith, refl, sym, ap, ◌∙◌}
 use Rattle.std.specs.Prelude.{◌==◌, ◌&&◌, ◌||◌, nat_lt, is_some, slice_get}
-use Rattle.std.specs.Option.{option_flatten}
 use Rattle.std.proofs.lemmas.Bool.{and_parts, cases_eq, cases_lt, eq-eqb, false≢true, ltb-true, ne_eqb}
-use Rattle.std.proofs.lemmas.Option.{get_or_from_slice_get}
+use Rattle.std.proofs.lemmas.Option.{slice_get-get_or}
+use Rattle.std.proofs.Math.ListN.{get_or-eq_default}
 use borrow.Author.Tests.{le-ltb, lt-ltb}
-use Rattle.kms_model.specs.Device.Places.{state_at}
 use Rattle.kms_model.specs.declared.objects.Kind.{Kind}
 use Rattle.kms_model.specs.declared.objects.Kind.TheVariants.{Crtc, Plane, Conn}
 use Rattle.kms_model.specs.declared.objects.Topology.{Topology}
@@ -26,9 +25,7 @@ use Rattle.kms_model.specs.Machine.Commits.{is_on_before_or_after, new_values, o
 use Rattle.kms_model.specs.Machine.State.{Commit}
 use Rattle.kms_model.specs.Request.Apply.{after}
 use Rattle.kms_model.specs.Request.Deciding.{IsChecked}
-use Rattle.kms_model.specs.Request.Lookups.{look_up}
 use Rattle.kms_model.specs.Request.Named.{moves_on}
-use Rattle.kms_model.specs.Request.Sets.{in_fences}
 use Rattle.kms_model.specs.Request.Touched.{touched_by, touches, touches_crtc, touches_of_kind, touches_routed}
 use Rattle.kms_model.specs.Request.Verdict.{verdict}
 use Rattle.kms_model.proofs.KindsOfIds.{kind_of-object}
@@ -37,9 +34,8 @@ use Rattle.kms_model.proofs.SoundKept.{sound-apply}
 use Rattle.kms_model.proofs.StateLemmas.{sound-conn_crtc, sound-plane_crtc}
 use Rattle.kms_model.proofs.TouchedLemmas.{HasFewObjects, few_objects}
 use Rattle.kms_track.specs.declared.places.Sides.{Sides}
-use Rattle.kms_track.specs.InStep.{IsCheckedFor, IsWithinPlaces, is_of_device}
+use Rattle.kms_track.specs.InStep.{HasStates, IsCheckedFor, IsWithinPlaces, is_of_device}
 use Rattle.kms_track.specs.Places.{connector_sides, crtc_id, is_side, mask_has, object_at_place, plane_sides, sides_at}
-use Rattle.kms_track.specs.StepLaws.{HasStates}
 use Rattle.kms_track.proofs.There.{crtc_off, on_index}
 
 pub device_within : (t : Topology) → IsDevice t → IsWithinPlaces t
@@ -69,6 +65,16 @@ in_touched t w r p place =
       ]
     ]
 
+-- what was checked as touched is what a commit touches, of the objects of the device
+pub mask_on : (t : Topology) (c : Commit) (checked : Checked) (p : ℕ) → IsChecked t c.world c.request checked → p < 28
+    → mask_has checked.touched p ≡ (is_of_device t (object_at_place p) && touches t c.world c.request (object_at_place p))
+mask_on t c checked p is place = ap (λ (m : Mask). mask_has m p) is.touched ∙ sym (in_touched t c.world c.request p place)
+
+pub touched_here : (t : Topology) (c : Commit) (checked : Checked) (p : ℕ) → IsChecked t c.world c.request checked → p < 28
+    → is_of_device t (object_at_place p) ≡ true → mask_has checked.touched p ≡ touches t c.world c.request (object_at_place p)
+touched_here t c checked p is place on =
+    mask_on t c checked p is place ∙ ap (λ b. b && touches t c.world c.request (object_at_place p)) on
+
 -- a member of a set of objects is on the device
 member_there : (test : ℕ → Bool) (n i : ℕ) (mask : ℕ) → has_bit mask i ≡ (nat_lt i n && test i) → has_bit mask i ≡ true → i < n
 member_there test n i mask is has = ltb-true i n (and_parts (nat_lt i n) (test i) (sym is ∙ has)).0
@@ -76,18 +82,22 @@ member_there test n i mask is has = ltb-true i n (and_parts (nat_lt i n) (test i
 -- The CRTCs of what is touched
 
 -- what stands at a place where something stands
+pub got : {S : Type 0} (states : List (Option (Both S))) (i : ℕ) (both : Both S) → get_or states i None ≡ Some both
+    → slice_get states i ≡ Some (Some both)
+got {S} states i both is =
+    elim (cases_lt i (length states)) [
+      | inl within ↦ slice_get-get_or states i None within ∙ ap (λ (o : Option (Both S)). Some o) is
+      | inr past ↦ (let none : None ≡ Some both = sym (get_or-eq_default states None past) ∙ is in absurd cc)
+    ]
+
 record Stands {S : Type 0} (states : List (Option (Both S))) (i : ℕ) : Type 0 where
   pub both : Both S
-  pub there : slice_get states i ≡ Some (Some both)
   pub read : get_or states i None ≡ Some both
 
-stands_at : {S : Type 0} (states : List (Option (Both S))) (i : ℕ) → is_some (state_at states i) ≡ true → Stands states i
-stands_at {S} states i some = of_slot (slice_get states i) refl some
-  where
-    of_slot : (o : Option (Option (Both S))) → slice_get states i ≡ o → is_some (option_flatten o) ≡ true → Stands states i
-    of_slot None is some = absurd (false≢true some)
-    of_slot (Some None) is some = absurd (false≢true some)
-    of_slot (Some (Some both)) is some = record { both = both; there = is; read = get_or_from_slice_get states i (Some both) None is }
+stands_at : {S : Type 0} (states : List (Option (Both S))) (i : ℕ) (o : Option (Both S)) → get_or states i None ≡ o → is_some o ≡ true
+    → Stands states i
+stands_at states i None is some = absurd (false≢true some)
+stands_at states i (Some both) is some = record { both = both; read = is }
 
 -- no object is on a CRTC beyond the device
 not_beyond : (t : Topology) (id i : ℕ) → IsCrtcOrNone t id → count_of t Crtc ≤ i → (id == crtc_id i) ≡ false
@@ -126,9 +136,6 @@ module _ (t : Topology) (c : Commit) (checked : Checked) (device : IsDevice t) (
   next : IsLawful t (record c.world { values = new_values c; commits = c.world.commits })
   next = sound-apply t c.world c.request c.world.commits lawful accepted
 
-  mask_is : (p : ℕ) → mask_has checked.touched p ≡ mask_has (touched_by t c.world c.request) p
-  mask_is p = ap (λ (m : Mask). mask_has m p) is.touched
-
   on_crtc : (p i : ℕ) → p < 4 → i < 4 → has_bit checked.touched.crtcs p ≡ true
       → (is_of_device t (crtc_id i) && is_on_before_or_after (kind_of (object_id Crtc p)) c (object_id Crtc p) (crtc_id i)) ≡ ((object_id Crtc p == crtc_id i) || (object_id Crtc p == crtc_id i))
   on_crtc p i low few has =
@@ -146,7 +153,7 @@ module _ (t : Topology) (c : Commit) (checked : Checked) (device : IsDevice t) (
       member_there test (count_of t kind) j mask (ap (λ m. has_bit m j) is ∙ has_bit-mask_below test (count_of t kind) j) has
 
   -- an object that is on a CRTC or on none is, before and after, on those that its duplicates say
-  on_routed : {S : Type 0} (kind : Kind) (j i mask : ℕ) (states : List (Option (Both S))) (crtc_of : S → ℕ) (sides : Option (Both S) → Sides) → is_some (state_at states j) ≡ true → j < 100 → i < 4
+  on_routed : {S : Type 0} (kind : Kind) (j i mask : ℕ) (states : List (Option (Both S))) (crtc_of : S → ℕ) (sides : Option (Both S) → Sides) → is_some (get_or states j None) ≡ true → j < 100 → i < 4
       → mask ≡ mask_below (λ index. touches_routed t c.world.things c.world.values (after c.world c.request) c.request.assigns (object_id kind index)) (count_of t kind) → has_bit mask j ≡ true
       → ((both : Both S) → sides (Some both) ≡ record { old = crtc_of both.old; new = crtc_of both.new })
       → ((object crtc : ℕ) → is_on_before_or_after kind c object crtc ≡ moves_on (old_values c) (new_values c) crtc object)
@@ -154,22 +161,22 @@ module _ (t : Topology) (c : Commit) (checked : Checked) (device : IsDevice t) (
       → ((both : Both S) → slice_get states j ≡ Some (Some both) → (crtc_of both.old ≡ crtc_at (old_values c) (object_id kind j)) × (crtc_of both.new ≡ crtc_at (new_values c) (object_id kind j)))
       → (is_of_device t (crtc_id i) && is_on_before_or_after (kind_of (object_id kind j)) c (object_id kind j) (crtc_id i)) ≡ is_side (sides (get_or states j None)) (crtc_id i)
   on_routed kind j i mask states crtc_of sides some low few is_mask has sides_are routed on_old on_new say =
-      let there : Stands states j = stands_at states j some in
+      let there : Stands states j = stands_at states j (get_or states j None) refl some in
       let within = touched_there kind j mask is_mask has in
-      let says = say there.both there.there in
+      let says = say there.both (got states j there.both there.read) in
       ap (λ k. is_of_device t (crtc_id i) && is_on_before_or_after k c (object_id kind j) (crtc_id i)) (kind_of-object kind j low)
       ∙ ap (λ b. is_of_device t (crtc_id i) && b) (routed (object_id kind j) (crtc_id i))
       ∙ sides_same t (old_values c) (new_values c) (object_id kind j) i (record { old = crtc_of there.both.old; new = crtc_of there.both.new }) few limits (on_old within) (on_new within) says.0 says.1
       ∙ ap (λ (s : Sides). is_side s (crtc_id i)) (sym (sides_are there.both))
       ∙ ap (λ (o : Option (Both _)). is_side (sides o) (crtc_id i)) (sym there.read)
 
-  on_plane : (j i : ℕ) → j < 16 → i < 4 → has_bit checked.touched.planes j ≡ true → is_some (state_at checked.states.planes j) ≡ true
+  on_plane : (j i : ℕ) → j < 16 → i < 4 → has_bit checked.touched.planes j ≡ true → is_some (get_or checked.states.planes j None) ≡ true
       → (is_of_device t (crtc_id i) && is_on_before_or_after (kind_of (object_id Plane j)) c (object_id Plane j) (crtc_id i)) ≡ is_side (plane_sides (get_or checked.states.planes j None)) (crtc_id i)
   on_plane j i low few has some = on_routed Plane j i checked.touched.planes checked.states.planes (λ (s : PlaneState). s.crtc) plane_sides some (omega (arith, low)) few (ap (λ (m : Mask). m.planes) is.touched) has
       (λ both. refl) (λ object crtc. refl) (sound-plane_crtc t c.world j lawful.sound) (sound-plane_crtc t _ j next.sound)
       (λ both there. (ap (λ (s : PlaneState). s.crtc) (is.old.planes j both there), ap (λ (s : PlaneState). s.crtc) (is.new.planes j both there)))
 
-  on_connector : (j i : ℕ) → j < 8 → i < 4 → has_bit checked.touched.conns j ≡ true → is_some (state_at checked.states.conns j) ≡ true
+  on_connector : (j i : ℕ) → j < 8 → i < 4 → has_bit checked.touched.conns j ≡ true → is_some (get_or checked.states.conns j None) ≡ true
       → (is_of_device t (crtc_id i) && is_on_before_or_after (kind_of (object_id Conn j)) c (object_id Conn j) (crtc_id i)) ≡ is_side (connector_sides (get_or checked.states.conns j None)) (crtc_id i)
   on_connector j i low few has some = on_routed Conn j i checked.touched.conns checked.states.conns (λ (s : ConnState). s.crtc) connector_sides some (omega (arith, low)) few (ap (λ (m : Mask). m.conns) is.touched) has
       (λ both. refl) (λ object crtc. refl) (sound-conn_crtc t c.world j lawful.sound) (sound-conn_crtc t _ j next.sound)
@@ -186,10 +193,5 @@ module _ (t : Topology) (c : Commit) (checked : Checked) (device : IsDevice t) (
         ]
       ]
 
-  -- what was checked is what a tracker is told of
-  pub checked_for : (fences : List ℕ) → map (λ f. f.1) (in_fences t (look_up c.world) c.request.assigns) ≡ fences → IsCheckedFor t c checked fences
-  checked_for fences are = record {
-    touched = λ p place. in_touched t c.world c.request p place ∙ sym (mask_is p);
-    on = λ p crtc place few has. on_place_side p crtc place few has;
-    fences_are = are;
-  }
+  pub checked_for : IsCheckedFor t c checked
+  checked_for = record { is = is; states = states; on = on_place_side }

@@ -2,7 +2,7 @@
 use Rattle.std.proofs.Common.{◌≡◌, ℕ, suc, ◌<◌, ◌≤◌, List, [], ◌∷◌, length, map, get_or, Some, None, arith, refl, ap}
 use Rattle.std.specs.Prelude.{Option}
 use Rattle.kms_model.specs.declared.objects.ObjId.{ObjId}
-use Rattle.kms_track.specs.Tracking.{fence_ids}
+use Rattle.kms_track.specs.Tails.{fence_ids}
 
 pub ids_at_places : (fences : List (Option ℕ)) (items : List (ObjId × ℕ)) → ((k : ℕ) (d : ObjId × ℕ) → k < length items → get_or fences k None ≡ Some (get_or items k d).1)
     → ((k : ℕ) → length items ≤ k → get_or fences k None ≡ None) → fence_ids fences ≡ map (λ f. f.1) items

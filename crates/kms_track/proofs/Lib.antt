@@ -1,15 +1,22 @@
 pub mod PlaceLemmas
 pub mod FenceIds
 pub mod Writes
-pub mod Flips
 pub mod Previous
-pub mod KeptAnswers
-pub mod KeptChanges
 pub mod Lockables
-pub mod InStepLemmas
 pub mod There
-pub mod MachineAnswers
-pub mod StepLemmas
-pub mod NotYetAnswers
 pub mod CheckedLemmas
+pub mod Bits
+pub mod Counts
+pub mod Lefts
+pub mod LeftLemmas
+pub mod TailPlaces
+pub mod Kept
+pub mod Marking
+pub mod SettingUp
+pub mod Queries
+pub mod MachineAnswers
+pub mod NotYetAnswers
+pub mod StepLemmas
+pub mod LegalLeft
 mod OneCrtc
+mod OneCommit

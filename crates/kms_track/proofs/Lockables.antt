@@ -11,29 +11,6 @@ use Rattle.kms_model.specs.Machine.Commits.{lockable}
 use Rattle.kms_model.proofs.Facts.{or_else-none, or_else-assoc}
 use Rattle.kms_track.specs.Places.{object_at_place, all_below, first_below}
 use Rattle.kms_track.specs.InStep.{IsWithinPlaces, is_there}
-use Rattle.kms_track.specs.Told.{crtc_ids}
-
--- the CRTCs of a device are the first of the largest one
-
-pub crtcs_all : (f : ℕ → Bool) (n : ℕ) → n ≤ 4 → ((i : ℕ) → n ≤ i → i < 4 → f (object_id Crtc i) ≡ true) → list_all f (map (object_id Crtc) (range_with_len 0 n)) ≡ list_all f crtc_ids
-crtcs_all f zero few off =
-    let h0 : f 100 ≡ true = off 0 (omega arith) (omega arith) in
-    let h1 : f 101 ≡ true = off 1 (omega arith) (omega arith) in
-    let h2 : f 102 ≡ true = off 2 (omega arith) (omega arith) in
-    let h3 : f 103 ≡ true = off 3 (omega arith) (omega arith) in
-    rw (h0, h1, h2, h3) refl
-crtcs_all f (suc zero) few off =
-    let h1 : f 101 ≡ true = off 1 (omega arith) (omega arith) in
-    let h2 : f 102 ≡ true = off 2 (omega arith) (omega arith) in
-    let h3 : f 103 ≡ true = off 3 (omega arith) (omega arith) in
-    rw (h1, h2, h3) refl
-crtcs_all f (suc (suc zero)) few off =
-    let h2 : f 102 ≡ true = off 2 (omega arith) (omega arith) in
-    let h3 : f 103 ≡ true = off 3 (omega arith) (omega arith) in
-    rw (h2, h3) refl
-crtcs_all f (suc (suc (suc zero))) few off = (let h3 : f 103 ≡ true = off 3 (omega arith) (omega arith) in rw h3 refl)
-crtcs_all f (suc (suc (suc (suc zero)))) few off = refl
-crtcs_all f (suc (suc (suc (suc (suc n))))) few off = absurd (omega arith)
 
 -- the first of places is the first of objects
 
@@ -152,3 +129,12 @@ all_lockable t f g limits same off =
     all_as_first f 28
     ∙ (ap (λ (o : Option ℕ). is_none o) (first_lockable t (λ p. failing (f p)) (λ o. failing (g o)) limits (λ p within there. ap (λ b. failing b) (same p within there)) (λ p within gone. ap (λ b. failing b) (off p within gone)))
     ∙ sym (list_as_first g (lockable t)))
+
+-- one of the CRTCs of the largest device, of which some are not on the device
+pub all_crtcs : (t : Topology) (f g : ℕ → Bool) → count_of t Crtc ≤ 4 → ((i : ℕ) → i < count_of t Crtc → f i ≡ g (object_id Crtc i))
+    → ((i : ℕ) → count_of t Crtc ≤ i → i < 4 → f i ≡ true) → list_all f (range_with_len 0 4) ≡ list_all g (ids_of t Crtc)
+all_crtcs t f g few same off =
+    list_as_first f (range_with_len 0 4)
+    ∙ (ap (λ (o : Option ℕ). is_none o) (of_kind (λ i. failing (f i)) (λ o. failing (g o)) (object_id Crtc) 0 0 (count_of t Crtc) 4 few
+    (λ i within. rw zero-add (ap (λ b. failing b) (same i within))) (λ i low high. rw zero-add (ap (λ b. failing b) (off i low high))))
+    ∙ sym (list_as_first g (ids_of t Crtc)))

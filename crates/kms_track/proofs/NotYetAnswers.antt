@@ -11,34 +11,57 @@ use Rattle.kms_model.specs.Firsts.{or_else, first_some}
 use Rattle.kms_model.specs.Device.Masks.{has_bit}
 use Rattle.kms_model.specs.Device.Objects.{object_id, ids_of, count_of}
 use Rattle.kms_model.specs.Machine.Commits as machine
-use Rattle.kms_model.specs.Machine.Commits.{if_there, is_hw_done, is_cleaned}
+use Rattle.kms_model.specs.Machine.Commits.{commit_touches, if_there, is_hw_done, is_cleaned}
 use Rattle.kms_model.specs.Machine.State.{Machine}
 use Rattle.kms_model.specs.Machine.Steps as steps
 use Rattle.kms_model.specs.Request.Apply.{after}
 use Rattle.kms_model.specs.Request.Named.{named, names}
 use Rattle.kms_model.specs.Request.Touched.{named_by}
 use Rattle.kms_model.proofs.MaskLemmas.{has_bit-mask_below}
-use Rattle.kms_track.specs.InStep.{told_of, IsInStep, IsWithinPlaces, awaited_answer, awaited_commit, is_of_device, pending_pair}
+use Rattle.kms_track.specs.InStep.{AreLastOf, IsInStep, IsWithinPlaces, is_of_device}
+use Rattle.kms_track.specs.MachineLaws.{awaited_answer, awaited_commit}
 use Rattle.kms_track.specs.Places.{object_at_place}
-use Rattle.kms_track.specs.Told.{Told, previous_of, not_marked, awaited_at}
-use Rattle.kms_track.specs.Tracking.{Tracking, not_yet_of, with_object, number_unless, or_other}
-use Rattle.kms_track.proofs.KeptAnswers.{not_yet_told}
+use Rattle.kms_track.specs.Tracking.{Tracking, awaited, last_at, not_yet_of, or_other, uncleaned, undone, unless, with_object}
 use Rattle.kms_track.proofs.Lockables.{first_crtc}
-use Rattle.kms_track.proofs.MachineAnswers.{chosen, previous_machine}
+use Rattle.kms_track.proofs.MachineAnswers.{chosen, done_same, gone_same}
+use Rattle.kms_track.proofs.Previous.{last_is}
 use Rattle.kms_track.proofs.There.{on_index}
 
 -- the commit that is waited for at a CRTC
 
-second_machine : (t : Topology) (m : Machine) (o : Option ℕ) (crtc : ℕ) → is_of_device t crtc ≡ true → previous_of (told_of t m.device.commits m.device.marks m.records.latches) o crtc ≡ machine.previous_of t m.device.commits o crtc
-second_machine t m None crtc on = refl
-second_machine t m (Some k) crtc on = previous_machine t m.device.commits m.device.marks m.records.latches k crtc on
+module _ (t : Topology) (m : Machine) (v : Tracking) (stands : IsInStep t m v) (limits : IsWithinPlaces t) where
+  undone_same : (o : Option ℕ) → ((k : ℕ) → o ≡ Some k → k < length m.device.commits) → undone v o ≡ unless (is_hw_done m.device) o
+  undone_same None within = refl
+  undone_same (Some k) within = rw (done_same t m v stands limits k (within k refl)) refl
 
-awaited_machine : (t : Topology) (m : Machine) (crtc : ℕ) → is_of_device t crtc ≡ true → awaited_at (told_of t m.device.commits m.device.marks m.records.latches) crtc ≡ awaited_commit t m crtc
-awaited_machine t m crtc on =
-    let told : Told = told_of t m.device.commits m.device.marks m.records.latches in
-    let last : Option ℕ = machine.previous t m.device.commits (length m.device.commits) crtc in
-    ap (λ o. or_other (not_marked told.hw_done o) (not_marked told.cleaned (previous_of told o crtc))) (previous_machine t m.device.commits m.device.marks m.records.latches (length m.device.commits) crtc on)
-    ∙ ap (λ o. or_other (not_marked told.hw_done last) (not_marked told.cleaned o)) (second_machine t m last crtc on)
+  uncleaned_same : (o : Option ℕ) → ((k : ℕ) → o ≡ Some k → k < length m.device.commits) → uncleaned v o ≡ unless (is_cleaned m.device) o
+  uncleaned_same None within = refl
+  uncleaned_same (Some k) within = rw (gone_same t m v stands limits k (within k refl)) refl
+
+  previous_within : (n object k : ℕ) → machine.previous t m.device.commits n object ≡ Some k → k < n
+  unfolding machine.previous
+  previous_within n object k found = (last_is (λ j. commit_touches t m.device.commits j object) n k found).0
+
+  second_within : (n object k : ℕ) (o : Option ℕ) → machine.previous t m.device.commits n object ≡ o
+      → machine.previous_of t m.device.commits o object ≡ Some k → k < n
+  second_within n object k None is found = cc
+  second_within n object k (Some j) is found =
+      let first : j < n = previous_within n object j is in
+      let second : k < j = previous_within j object k found in
+      omega arith
+
+  awaited_same : (i : ℕ) → i < 4 → is_of_device t (object_at_place i) ≡ true
+      → awaited v (last_at v i) ≡ awaited_commit t m (object_at_place i)
+  awaited_same i few on =
+      let last : AreLastOf t m.device.commits (object_at_place i) (last_at v i) = stands.lasts i (omega (arith, few)) on in
+      let first : undone v (last_at v i).commit
+      ≡ unless (is_hw_done m.device) (machine.previous t m.device.commits (length m.device.commits) (object_at_place i)) =
+      ap (undone v) last.commit ∙ undone_same _ (previous_within (length m.device.commits) (object_at_place i)) in
+      let second : uncleaned v (last_at v i).before
+      ≡ unless (is_cleaned m.device) (machine.second_previous t m.device.commits (length m.device.commits) (object_at_place i)) =
+      ap (uncleaned v) last.before
+      ∙ uncleaned_same _ (λ k found. second_within (length m.device.commits) (object_at_place i) k _ refl found) in
+      rw (first, second) refl
 
 first_filtered : {A : Type 0} (p : ℕ → Bool) (g : ℕ → Option A) (xs : List ℕ) → first_some (λ x. if p x then g x else None) xs ≡ first_some g (filter p xs)
 first_filtered p g [] = refl
@@ -49,12 +72,11 @@ first_filtered p g (x ∷ xs) =
     ]
 
 -- `not_yet`, of the CRTCs that a request names, tells the first at which its swap waits, with the commit.
-pub awaited_told : (t : Topology) (m : Machine) (v : Tracking) (r : Request) → IsInStep t m v → IsWithinPlaces t → not_yet_of v (named_by t m.device.world r) ≡ awaited_answer t m r
-awaited_told t m v r step limits =
-    let told : Told = told_of t m.device.commits m.device.marks m.records.latches in
-    not_yet_told told v (named_by t m.device.world r) step.keeps
-    ∙ (first_crtc t (λ i. with_object i (if has_bit (named_by t m.device.world r) i then awaited_at told (object_at_place i) else None)) (λ crtc. if is_named crtc then pending_pair crtc (awaited_commit t m crtc) else None) limits here beyond
-    ∙ first_filtered is_named (λ crtc. pending_pair crtc (awaited_commit t m crtc)) (ids_of t Crtc))
+pub awaited_told : (t : Topology) (m : Machine) (v : Tracking) (r : Request) → IsInStep t m v → IsWithinPlaces t
+    → not_yet_of v (named_by t m.device.world r) ≡ awaited_answer t m r
+awaited_told t m v r stands limits =
+    first_crtc t _ (λ crtc. if is_named crtc then with_object crtc (awaited_commit t m crtc) else None) limits here beyond
+    ∙ first_filtered is_named (λ crtc. with_object crtc (awaited_commit t m crtc)) (ids_of t Crtc)
   where
     is_named : ℕ → Bool
     is_named crtc = names m.device.world.values (after m.device.world r) r.assigns crtc
@@ -62,36 +84,40 @@ awaited_told t m v r step limits =
     has : (i : ℕ) → has_bit (named_by t m.device.world r) i ≡ (nat_lt i (count_of t Crtc) && is_named (object_id Crtc i))
     has i = has_bit-mask_below (λ index. is_named (object_id Crtc index)) (count_of t Crtc) i
 
-    here : (i : ℕ) → i < count_of t Crtc → with_object i (if has_bit (named_by t m.device.world r) i then awaited_at (told_of t m.device.commits m.device.marks m.records.latches) (object_at_place i) else None)
-        ≡ (if is_named (object_id Crtc i) then pending_pair (object_id Crtc i) (awaited_commit t m (object_id Crtc i)) else None)
+    here : (i : ℕ) → i < count_of t Crtc
+        → with_object (object_at_place i) (if has_bit (named_by t m.device.world r) i then awaited v (last_at v i) else None)
+        ≡ (if is_named (object_id Crtc i) then with_object (object_id Crtc i) (awaited_commit t m (object_id Crtc i)) else None)
     here i within =
         (let few : i < 4 = omega (arith, within, limits.crtcs) in
         let there : nat_lt i (count_of t Crtc) ≡ true = lt-ltb i (count_of t Crtc) within in
-        let on : is_of_device t (object_id Crtc i) ≡ true = on_index t Crtc i (omega (arith, few)) ∙ there in
         let at : object_at_place i ≡ object_id Crtc i = rw (lt-ltb i 4 few) refl in
-        chosen i (has_bit (named_by t m.device.world r) i) (awaited_at (told_of t m.device.commits m.device.marks m.records.latches) (object_at_place i))
-        ∙ (ap (λ b. if b then pending_pair (object_at_place i) (awaited_at (told_of t m.device.commits m.device.marks m.records.latches) (object_at_place i)) else None) (has i ∙ ap (λ b. b && is_named (object_id Crtc i)) there)
-        ∙ (ap (λ o. if is_named (object_id Crtc i) then pending_pair o (awaited_at (told_of t m.device.commits m.device.marks m.records.latches) o) else None) at
-        ∙ ap (λ k. if is_named (object_id Crtc i) then pending_pair (object_id Crtc i) k else None) (awaited_machine t m (object_id Crtc i) on))))
+        let on : is_of_device t (object_at_place i) ≡ true = ap (is_of_device t) at ∙ (on_index t Crtc i (omega (arith, few)) ∙ there) in
+        ap (λ b. with_object (object_at_place i) (if b then awaited v (last_at v i) else None))
+        (has i ∙ ap (λ b. b && is_named (object_id Crtc i)) there)
+        ∙ (chosen (object_at_place i) (is_named (object_id Crtc i)) (awaited v (last_at v i))
+        ∙ (ap (λ k. if is_named (object_id Crtc i) then with_object (object_at_place i) k else None)
+        (awaited_same t m v stands limits i few on)
+        ∙ ap (λ o. if is_named (object_id Crtc i) then with_object o (awaited_commit t m o) else None) at)))
 
-    beyond : (i : ℕ) → count_of t Crtc ≤ i → i < 4 → with_object i (if has_bit (named_by t m.device.world r) i then awaited_at (told_of t m.device.commits m.device.marks m.records.latches) (object_at_place i) else None) ≡ None
+    beyond : (i : ℕ) → count_of t Crtc ≤ i → i < 4
+        → with_object (object_at_place i) (if has_bit (named_by t m.device.world r) i then awaited v (last_at v i) else None) ≡ None
     beyond i high low = rw (has i, le-ltb i (count_of t Crtc) high) refl
 
 -- Whether it is none
 
-none_unless : (b : Bool) (k : ℕ) → is_none (number_unless b k) ≡ b
-none_unless true k = refl
-none_unless false k = refl
+none_if : (b : Bool) (k : ℕ) → is_none (if b then None else Some k) ≡ b
+none_if true k = refl
+none_if false k = refl
 
-none_marked : (marked : ℕ → Bool) (o : Option ℕ) → is_none (not_marked marked o) ≡ if_there marked o
+none_marked : (marked : ℕ → Bool) (o : Option ℕ) → is_none (unless marked o) ≡ if_there marked o
 none_marked marked None = refl
-none_marked marked (Some k) = none_unless (marked k) k
+none_marked marked (Some k) = none_if (marked k) k
 
 none_other : (x y : Option ℕ) → is_none (or_other x y) ≡ (is_none x && is_none y)
 none_other None y = refl
 none_other (Some k) y = refl
 
-none_pair : (object : ℕ) (o : Option ℕ) → is_none (pending_pair object o) ≡ is_none o
+none_pair : (object : ℕ) (o : Option ℕ) → is_none (with_object object o) ≡ is_none o
 none_pair object None = refl
 none_pair object (Some k) = refl
 
@@ -105,20 +131,20 @@ is_ready_at t m crtc =
     if_there (is_hw_done m.device) (machine.previous t m.device.commits (length m.device.commits) crtc)
     && if_there (is_cleaned m.device) (machine.second_previous t m.device.commits (length m.device.commits) crtc)
 
-none_awaited : (t : Topology) (m : Machine) (crtc : ℕ) → is_none (pending_pair crtc (awaited_commit t m crtc)) ≡ is_ready_at t m crtc
+none_awaited : (t : Topology) (m : Machine) (crtc : ℕ) → is_none (with_object crtc (awaited_commit t m crtc)) ≡ is_ready_at t m crtc
 none_awaited t m crtc =
     let last : Option ℕ = machine.previous t m.device.commits (length m.device.commits) crtc in
     let second : Option ℕ = machine.second_previous t m.device.commits (length m.device.commits) crtc in
     none_pair crtc (awaited_commit t m crtc)
-    ∙ (none_other (not_marked (is_hw_done m.device) last) (not_marked (is_cleaned m.device) second)
-    ∙ (ap (λ b. b && is_none (not_marked (is_cleaned m.device) second)) (none_marked (is_hw_done m.device) last)
+    ∙ (none_other (unless (is_hw_done m.device) last) (unless (is_cleaned m.device) second)
+    ∙ (ap (λ b. b && is_none (unless (is_cleaned m.device) second)) (none_marked (is_hw_done m.device) last)
     ∙ ap (λ b. if_there (is_hw_done m.device) last && b) (none_marked (is_cleaned m.device) second)))
 
-none_first : (t : Topology) (m : Machine) (xs : List ℕ) → is_none (first_some (λ crtc. pending_pair crtc (awaited_commit t m crtc)) xs) ≡ list_all (is_ready_at t m) xs
+none_first : (t : Topology) (m : Machine) (xs : List ℕ) → is_none (first_some (λ crtc. with_object crtc (awaited_commit t m crtc)) xs) ≡ list_all (is_ready_at t m) xs
 none_first t m [] = refl
 none_first t m (x ∷ xs) =
-    none_either (pending_pair x (awaited_commit t m x)) (first_some (λ crtc. pending_pair crtc (awaited_commit t m crtc)) xs)
-    ∙ (ap (λ b. b && is_none (first_some (λ crtc. pending_pair crtc (awaited_commit t m crtc)) xs)) (none_awaited t m x) ∙ ap (λ b. is_ready_at t m x && b) (none_first t m xs))
+    none_either (with_object x (awaited_commit t m x)) (first_some (λ crtc. with_object crtc (awaited_commit t m crtc)) xs)
+    ∙ (ap (λ b. b && is_none (first_some (λ crtc. with_object crtc (awaited_commit t m crtc)) xs)) (none_awaited t m x) ∙ ap (λ b. is_ready_at t m x && b) (none_first t m xs))
 
 -- `not_yet` answers none exactly where the CRTCs that a request names are ready for its swap.
 pub not_yet_machine : (t : Topology) (m : Machine) (v : Tracking) (r : Request) → IsInStep t m v → IsWithinPlaces t → is_none (not_yet_of v (named_by t m.device.world r)) ≡ steps.is_ready t m r

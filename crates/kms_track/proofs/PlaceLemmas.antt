@@ -1,9 +1,8 @@
 -- Loops over places: the first value, and a test of all.
-use Rattle.std.proofs.Common.{◌≡◌, ℕ, zero, suc, ◌+◌, ◌<◌, Bool, true, false, Some, None, inl, inr, arith, refl, add-one, zero-add, suc-add, ◌-◌}
-use Rattle.std.specs.Prelude.{Option, ◌&&◌}
-use Rattle.std.proofs.lemmas.Bool.{cases_lt}
+use Rattle.std.proofs.Common.{◌≡◌, ℕ, zero, suc, ◌+◌, ◌<◌, Bool, true, false, Some, None, arith, refl, add-one, zero-add, suc-add, ◌-◌}
+use Rattle.std.specs.Prelude.{Option}
 use Rattle.kms_model.specs.declared.objects.ObjId.{ObjId}
-use Rattle.kms_track.specs.Places.{object_at_place, all_below, first_below}
+use Rattle.kms_track.specs.Places.{all_below, first_below}
 use Rattle.kms_track.specs.Tracking.{with_object}
 
 pub none_more : {A : Type 0} (f : ℕ → Option A) (i : ℕ) → first_below f i ≡ None → f i ≡ None → first_below f (i + 1) ≡ None
@@ -50,17 +49,6 @@ unfolding all_below
 all_same f g zero same = refl
 all_same f g (suc n) same = rw (all_same f g n (λ p within. same p (omega arith)), same n (omega arith)) refl
 
-pub all_at : (test : ℕ → Bool) (n p : ℕ) → all_below test n ≡ true → p < n → test p ≡ true
-unfolding all_below
-all_at test zero p all within = absurd (omega arith)
-all_at test (suc n) p all within =
-    let both = and_true (all_below test n) (test n) all in
-    elim (cases_lt p n) [ inl less ↦ all_at test n p both.0 less | inr other ↦ (let here : p ≡ n = omega arith in rw here both.1) ]
-  where
-    and_true : (a b : Bool) → (a && b) ≡ true → (a ≡ true) × (b ≡ true)
-    and_true true b h = (refl, h)
-    and_true false b h = cc
-
--- the object at a place with its commit
-pub object_here : (p k : ℕ) (o : Option ℕ) (id : ObjId) → Some k ≡ o → id.0 ≡ object_at_place p → with_object p o ≡ Some (id, k)
-object_here p k o id is at = rw (← is, ← at) refl
+-- an object with its commit
+pub object_here : (object k : ℕ) (o : Option ℕ) (id : ObjId) → Some k ≡ o → id.0 ≡ object → with_object object o ≡ Some (id, k)
+object_here object k o id is at = rw (← is, ← at) refl

@@ -1,152 +1,236 @@
--- A tracker that is told of each step of a machine stays in step with it.
-use Rattle.std.proofs.Common.{◌≡◌, ℕ, ◌<◌, List, ◌∷◌, length, true, false, Some, None, inl, inr, arith, sym, ◌∙◌, subst}
-use Rattle.std.specs.Prelude.{◌||◌, not, nat_lt, if◌then◌else◌}
-use Rattle.std.proofs.lemmas.Bool.{and_parts, cases_Bool, cases_lt, false≢true, ltb-true}
+-- A tracker that follows each step of a machine stays in step with it.
+use Rattle.std.proofs.Common.{◌≡◌, ℕ, ◌<◌, ◌≤◌, List, [], ◌∷◌, length, Bool, true, false, Some, None, inl, inr, arith, refl, sym, ap, ◌∙◌, subst}
+use Rattle.std.specs.Prelude.{◌&&◌, ◌||◌, find, not, nat_lt, if◌then◌else◌}
+use Rattle.std.proofs.lemmas.Bool.{and_parts, cases_lt, false≢true, ltb-true, ne_eqb}
+use Rattle.kms_model.specs.declared.objects.Kind.{Kind}
 use Rattle.kms_model.specs.declared.objects.Kind.TheVariants.{Crtc}
 use Rattle.kms_model.specs.declared.objects.Topology.{Topology}
 use Rattle.kms_model.specs.declared.replies.Step.{Step}
-use Rattle.kms_model.specs.declared.replies.Step.TheVariants.{Swap, Claim, Write, Flush, HwDone, Vblank, Cleanup}
+use Rattle.kms_model.specs.declared.replies.Step.TheVariants.{Begin, Lock, BackOff, Relock, Refuse, Test, Swap, Make, Signal, Claim, Write, Flush, HwDone, Vblank, Cleanup, Read, Return, Stall}
 use Rattle.kms_model.specs.declared.runs.Latch.{Latch}
 use Rattle.kms_model.specs.declared.scripts.Request.{Request}
 use Rattle.kms_model.specs.declared.scripts.Script.{Script}
 use Rattle.kms_model.specs.declared.states.Checked.{Checked}
-use Rattle.kms_model.specs.Device.Objects.{object_id, ids_of, index_of}
-use Rattle.kms_model.specs.Machine.Commits.{commit_concerns, commit_names, commit_touches, has_flipped, has_latched, has_number, is_all_latched, is_claimed, is_hw_done, lockable, new_crtc}
-use Rattle.kms_model.specs.Machine.Effects.{counts_vblank, latches, latches_picture, next, writes}
+use Rattle.kms_model.specs.Device.Objects.{exists, ids_of, index_of, is_id_of, object_id}
+use Rattle.kms_model.specs.Machine.Commits.{commit_at, commit_concerns, commit_names, has_flipped, has_latched, has_pair, is_all_latched, is_all_written, is_claimed, is_hw_done, new_crtc, no_commit}
+use Rattle.kms_model.specs.Machine.Effects.{counts_vblank, latches, latches_picture, next}
 use Rattle.kms_model.specs.Machine.Histories.{legal}
 use Rattle.kms_model.specs.Machine.Registers.{decoded_picture, latched_registers}
-use Rattle.kms_model.specs.Machine.State.{Machine, go_at, request_at}
-use Rattle.kms_model.specs.Machine.Steps.{may, may_claim}
+use Rattle.kms_model.specs.Machine.State.{Commit, DeviceState, Machine, go_at, has_value, request_at}
+use Rattle.kms_model.specs.Machine.Steps.{may, may_claim, next_flush}
 use Rattle.kms_model.specs.Things.Tables.{without_id}
-use Rattle.kms_model.proofs.Items.{IsIn, list_all-at, list_all-from}
+use Rattle.kms_model.proofs.Facts.{and_off, implied, implied_from}
+use Rattle.kms_model.proofs.Items.{list_all-at, list_all-from}
 use Rattle.kms_model.proofs.KindsOfIds.{index_of-object}
-use Rattle.kms_model.proofs.Facts.{implied_from, implied}
-use Rattle.kms_signal.specs.StepLaws.{new_commit}
+use Rattle.kms_signal.specs.StepLaws.{leaves_commits, new_commit}
 use Rattle.kms_signal.proofs.CommitsLeft.{commits_left, latch_leaves, swap_adds}
-use Rattle.kms_track.specs.InStep.{IsInStep, IsTrackerOf, IsCheckedFor, IsWithinPlaces, is_of_device, told_of}
-use Rattle.kms_track.specs.Places.{object_at_place}
-use Rattle.kms_track.specs.StepLaws.{HasNames, tells_nothing}
-use Rattle.kms_track.specs.Told.{IsCommitOver}
-use Rattle.kms_track.specs.Tracking.{Tracking, IsSetUp, changed_commit, with_claim, with_done, with_latch}
-use Rattle.kms_track.proofs.InStepLemmas.{claim_in_step, cleanup_in_step, hw_done_in_step, latch_in_step, setup_in_step}
-use Rattle.kms_track.proofs.MachineAnswers.{flipped_machine}
-use Rattle.kms_track.proofs.There.{on_place, place_lockable}
+use Rattle.kms_track.specs.declared.progress.Mark.TheVariants as mark
+use Rattle.kms_track.specs.declared.tail.Signals.{Signals}
+use Rattle.kms_track.specs.InStep.{AreSignalsOf, IsCheckedFor, IsInStep, IsOver, IsTrackerOf}
+use Rattle.kms_track.specs.StepLaws.{HasNames, commit_of_tail_step, waits_of}
+use Rattle.kms_track.specs.Tails.{HasRegisters, wrote_mark}
+use Rattle.kms_track.specs.Tracking.{IsSetUp, Tracking, marked}
+use Rattle.kms_track.proofs.Marking.{claimed_stands, cleaned_stands, done_stands, flushed_stands, latched_stands, wrote_crtc_stands, wrote_plane_stands}
+use Rattle.kms_track.proofs.SettingUp.{set_up_stands}
+use Rattle.kms_track.proofs.TailPlaces.{crtc_indexed, plane_indexed}
 
--- Steps that tell nothing
+pub others_follow : (s : Script) (m : Machine) (step : Step) (v : Tracking) → leaves_commits step ≡ true → IsInStep s.topology m v
+    → IsInStep s.topology (next s m step) v
+others_follow s m step v leaves stands =
+    commits_left (λ cs marks latches. IsTrackerOf s.topology cs marks latches v) s m step leaves stands
 
--- an object is written for a commit
-write_step : (s : Script) (m : Machine) (k object : ℕ) (v : Tracking) → IsInStep s.topology m v → IsInStep s.topology (writes s.topology m k object) v
-write_step s m k object v step = record {
-  keeps = step.keeps;
-  untouched = λ n above. (let was = step.untouched n above in record { claimed = was.claimed; hw_done = was.hw_done; latched = was.latched; cleaned = was.cleaned });
-}
-
-pub others_follow : (s : Script) (m : Machine) (step : Step) (v : Tracking) → tells_nothing step ≡ true → IsInStep s.topology m v → IsInStep s.topology (next s m step) v
-unfolding next
-others_follow s m (Write k kind index) v nothing stands = write_step s m k (object_id kind index) v stands
-others_follow s m step v nothing stands = commits_left (λ cs marks latches. IsTrackerOf s.topology cs marks latches v) s m step nothing stands
-
--- Swaps
-
-pub swap_follows : (s : Script) (m : Machine) (client : ℕ) (r : Request) (v w : Tracking) (checked : Checked) (fences : List ℕ) → request_at s m client ≡ Some r → IsInStep s.topology m v
-    → IsCheckedFor s.topology (new_commit m client r) checked fences → IsSetUp v w checked fences → IsInStep s.topology (next s m (Swap client)) w
-swap_follows s m client r v w checked fences is stands for set_up =
+pub swap_follows : (s : Script) (m : Machine) (client : ℕ) (r : Request) (v w : Tracking) (signals : Signals) (checked : Checked)
+    (fences : List ℕ) → request_at s m client ≡ Some r → IsInStep s.topology m v
+    → AreSignalsOf s.topology (new_commit m client r) signals → IsCheckedFor s.topology (new_commit m client r) checked
+    → waits_of s.topology (new_commit m client r) ≡ fences → IsSetUp v w signals checked fences
+    → IsInStep s.topology (next s m (Swap client)) w
+swap_follows s m client r v w signals checked fences is stands signed for waits set_up =
     swap_adds (λ cs marks latches. IsTrackerOf s.topology cs marks latches w) s m client r is
-    (setup_in_step s.topology (new_commit m client r) m.device.commits m.device.marks m.records.latches v w checked fences for set_up stands)
+    (set_up_stands s.topology (new_commit m client r) m.device.commits m.device.marks m.records.latches v w signals checked fences
+    set_up stands signed for waits)
+
+-- A commit whose step is legal was set up
+
+module _ (t : Topology) (m : Machine) (k : ℕ) (v : Tracking) (stands : IsInStep t m v) where
+  where_below : (b : Bool) → b ≡ true → (length m.device.commits ≤ k → b ≡ false) → k < length m.device.commits
+  where_below b is gone =
+      elim (cases_lt k (length m.device.commits)) [
+        | inl within ↦ within
+        | inr above ↦ absurd (false≢true (sym (gone above) ∙ is))
+      ]
+
+  claimed_below : is_claimed m.device k ≡ true → k < length m.device.commits
+  claimed_below is = where_below (is_claimed m.device k) is (λ above. (stands.untouched k above).claimed)
+
+  done_below : is_hw_done m.device k ≡ true → k < length m.device.commits
+  done_below is = where_below (is_hw_done m.device k) is (λ above. (stands.untouched k above).done)
+
+-- beyond the commits there is none, which names nothing
+
+none_at : (t : Topology) (cs : List Commit) (k : ℕ) → length cs ≤ k → commit_at t cs k ≡ no_commit t
+unfolding commit_at
+none_at t [] k above = refl
+none_at t (c ∷ cs) k above = rw (ne_eqb (length cs) k (λ e. absurd (omega (arith, e, above)))) (none_at t cs k (omega (arith, above)))
+
+names_none : (t : Topology) (cs : List Commit) (k crtc : ℕ) → length cs ≤ k → commit_names t cs k crtc ≡ false
+unfolding commit_names
+names_none t cs k crtc above = rw (none_at t cs k above) refl
+
+finds_none : (p : ℕ → Bool) (xs : List ℕ) → ((x : ℕ) → p x ≡ false) → find p xs ≡ None
+finds_none p [] none = refl
+finds_none p (x ∷ xs) none = rw (none x) (finds_none p xs none)
+
+flushes_none : (t : Topology) (d : DeviceState) (k : ℕ) → length d.commits ≤ k → next_flush t d k ≡ None
+unfolding next_flush
+flushes_none t d k above = finds_none (λ crtc. commit_names t d.commits k crtc && not (has_pair d.marks.flushed k crtc)) (ids_of t Crtc) (λ crtc. and_off _ _ (names_none t d.commits k crtc above))
+
+pub legal_below : (s : Script) (m : Machine) (step : Step) (k : ℕ) (v : Tracking) → commit_of_tail_step step ≡ Some k → legal s m step ≡ true → IsInStep s.topology m v → k < length m.device.commits
+unfolding legal may may_claim
+legal_below s m (Claim n) k v of is stands =
+    let same : n ≡ k = cc in
+    rw (← same) (ltb-true n (length m.device.commits) (and_parts (nat_lt n (length m.device.commits)) _ (and_parts (not m.stalled) _ is).1).0)
+legal_below s m (Write n kind index) k v of is stands =
+    let same : n ≡ k = cc in rw (← same) (claimed_below s.topology m n v stands (and_parts (is_claimed m.device n) _ (and_parts (not m.stalled) _ is).1).0)
+legal_below s m (Flush n kind index) k v of is stands =
+    let same : n ≡ k = cc in
+    let flushes : has_value (object_id kind index) (next_flush s.topology m.device n) ≡ true =
+    (and_parts (exists s.topology kind index) _ (and_parts (is_all_written s.topology m.device n) _ (and_parts (not m.stalled) _ is).1).1).1 in
+    rw (← same) (where_below s.topology m n v stands (has_value (object_id kind index) (next_flush s.topology m.device n)) flushes (λ above. ap (has_value (object_id kind index)) (flushes_none s.topology m.device n above)))
+legal_below s m (HwDone n) k v of is stands =
+    let same : n ≡ k = cc in rw (← same) (claimed_below s.topology m n v stands (and_parts (is_claimed m.device n) _ (and_parts (not m.stalled) _ is).1).0)
+legal_below s m (Cleanup n) k v of is stands =
+    let same : n ≡ k = cc in rw (← same) (done_below s.topology m n v stands (and_parts (is_hw_done m.device n) _ (and_parts (not m.stalled) _ is).1).0)
+legal_below s m (Begin client) k v of is stands = absurd cc
+legal_below s m (Lock client kind index) k v of is stands = absurd cc
+legal_below s m (BackOff client) k v of is stands = absurd cc
+legal_below s m (Relock client) k v of is stands = absurd cc
+legal_below s m (Refuse client) k v of is stands = absurd cc
+legal_below s m (Test client) k v of is stands = absurd cc
+legal_below s m (Swap client) k v of is stands = absurd cc
+legal_below s m (Make client) k v of is stands = absurd cc
+legal_below s m (Signal client) k v of is stands = absurd cc
+legal_below s m (Vblank kind index) k v of is stands = absurd cc
+legal_below s m (Read client) k v of is stands = absurd cc
+legal_below s m (Return client) k v of is stands = absurd cc
+legal_below s m Stall k v of is stands = absurd cc
 
 -- Tails
 
--- a commit of which something was done was set up
-numbered : (t : Topology) (m : Machine) (k : ℕ) (v : Tracking) → IsInStep t m v → has_number m.device.marks.claimed k ≡ true → k < length m.device.commits
-numbered t m k v stands is =
-    elim (cases_lt k (length m.device.commits)) [
-      | inl within ↦ within
-      | inr above ↦ absurd (false≢true (sym (stands.untouched k above).claimed ∙ is))
-    ]
-
-done_numbered : (t : Topology) (m : Machine) (k : ℕ) (v : Tracking) → IsInStep t m v → has_number m.device.marks.done k ≡ true → k < length m.device.commits
-done_numbered t m k v stands is =
-    elim (cases_lt k (length m.device.commits)) [
-      | inl within ↦ within
-      | inr above ↦ absurd (false≢true (sym (stands.untouched k above).hw_done ∙ is))
-    ]
-
-pub claim_follows : (s : Script) (m : Machine) (k : ℕ) (v : Tracking) → legal s m (Claim k) ≡ true → IsInStep s.topology m v → IsInStep s.topology (next s m (Claim k)) (changed_commit v k with_claim)
-unfolding next legal may may_claim
+pub claim_follows : (s : Script) (m : Machine) (k : ℕ) (v : Tracking) → legal s m (Claim k) ≡ true → IsInStep s.topology m v
+    → IsInStep s.topology (next s m (Claim k)) (marked v k mark.Claimed)
+unfolding next
 claim_follows s m k v is stands =
-    let there : nat_lt k (length m.device.commits) ≡ true = (and_parts (nat_lt k (length m.device.commits)) _ (and_parts (not m.stalled) _ is).1).0 in
-    claim_in_step s.topology m.device.commits m.device.marks m.records.latches v k (ltb-true k (length m.device.commits) there) stands
+    claimed_stands s.topology m.device.commits m.device.marks m.records.latches v k (legal_below s m (Claim k) k v refl is stands) stands
 
-pub hw_done_follows : (s : Script) (m : Machine) (k : ℕ) (v : Tracking) → legal s m (HwDone k) ≡ true → IsInStep s.topology m v → IsInStep s.topology (next s m (HwDone k)) (changed_commit v k with_done)
-unfolding next legal may
+pub hw_done_follows : (s : Script) (m : Machine) (k : ℕ) (v : Tracking) → legal s m (HwDone k) ≡ true → IsInStep s.topology m v
+    → IsInStep s.topology (next s m (HwDone k)) (marked v k mark.Done)
+unfolding next
 hw_done_follows s m k v is stands =
-    let claimed : has_number m.device.marks.claimed k ≡ true = (and_parts (is_claimed m.device k) _ (and_parts (not m.stalled) _ is).1).0 in
-    hw_done_in_step s.topology m.device.commits m.device.marks m.records.latches v k (numbered s.topology m k v stands claimed) stands
+    done_stands s.topology m.device.commits m.device.marks m.records.latches v k (legal_below s m (HwDone k) k v refl is stands) stands
+
+-- an object with registers, by its id, is written
+written_stands : (t : Topology) (m : Machine) (k object : ℕ) (v : Tracking) → k < length m.device.commits → HasRegisters object
+    → IsInStep t m v
+    → IsTrackerOf t m.device.commits (record m.device.marks { written = (k, object) ∷ m.device.marks.written }) m.records.latches
+    (marked v k (wrote_mark object))
+written_stands t m k object v within registers stands = by_kind (is_id_of Crtc object) refl where
+  by_kind : (b : Bool) → is_id_of Crtc object ≡ b
+      → IsTrackerOf t m.device.commits (record m.device.marks { written = (k, object) ∷ m.device.marks.written }) m.records.latches
+      (marked v k (if b then mark.WroteCrtc (index_of object) else mark.WrotePlane (index_of object)))
+  by_kind true is =
+      (let at = crtc_indexed object (sym is) in
+      subst (λ (o : ℕ). IsTrackerOf t m.device.commits (record m.device.marks { written = (k, o) ∷ m.device.marks.written })
+      m.records.latches (marked v k (mark.WroteCrtc (index_of object)))) at.same
+      (wrote_crtc_stands t m.device.commits m.device.marks m.records.latches v k within stands (index_of object) at.low))
+  by_kind false is =
+      (let at = plane_indexed object (sym is) registers in
+      subst (λ (o : ℕ). IsTrackerOf t m.device.commits (record m.device.marks { written = (k, o) ∷ m.device.marks.written })
+      m.records.latches (marked v k (mark.WrotePlane (index_of object)))) at.same
+      (wrote_plane_stands t m.device.commits m.device.marks m.records.latches v k within stands (index_of object) at.low))
+
+pub write_follows : (s : Script) (m : Machine) (k index : ℕ) (kind : Kind) → HasRegisters (object_id kind index) → (v : Tracking)
+    → legal s m (Write k kind index) ≡ true → IsInStep s.topology m v
+    → IsInStep s.topology (next s m (Write k kind index)) (marked v k (wrote_mark (object_id kind index)))
+unfolding next
+write_follows s m k index kind registers v is stands =
+    written_stands s.topology m k (object_id kind index) v (legal_below s m (Write k kind index) k v refl is stands) registers stands
 
 -- Latches
 
-latch_follows : (t : Topology) (m : Machine) (k index count : ℕ) (v : Tracking) → k < length m.device.commits → index < 4 → IsInStep t m v
-    → IsInStep t (latches t m k (object_id Crtc index) count) (changed_commit v k (with_latch index))
+latch_follows : (t : Topology) (m : Machine) (k index count : ℕ) (v : Tracking) → k < length m.device.commits → index < 4
+    → IsInStep t m v → IsInStep t (latches t m k (object_id Crtc index) count) (marked v k (mark.Latched index))
 latch_follows t m k index count v within crtc stands =
     let at : index_of (object_id Crtc index) ≡ index = index_of-object Crtc index (omega (arith, crtc)) in
-    let latch : Latch = record { crtc = index_of (object_id Crtc index); commit = k; count = count; picture = decoded_picture t (latched_registers t m.device.shadow m.device.live (object_id Crtc index)) (object_id Crtc index) } in
+    let latch : Latch = record {
+      crtc = index_of (object_id Crtc index);
+      commit = k;
+      count = count;
+      picture = decoded_picture t (latched_registers t m.device.shadow m.device.live (object_id Crtc index)) (object_id Crtc index);
+    } in
     let low : latch.crtc < 4 = omega (arith, at, crtc) in
-    latch_leaves (λ cs marks shown. IsTrackerOf t cs marks shown (changed_commit v k (with_latch index))) t m k (object_id Crtc index) count
-    (subst (λ (i : ℕ). IsInStep t (latches_picture t m k (object_id Crtc index) count) (changed_commit v k (with_latch i))) at (latch_in_step t m.device.commits m.device.marks m.records.latches v latch within low stands))
+    latch_leaves (λ cs marks shown. IsTrackerOf t cs marks shown (marked v k (mark.Latched index))) t m k (object_id Crtc index) count
+    (subst (λ (i : ℕ). IsInStep t (latches_picture t m k (object_id Crtc index) count) (marked v k (mark.Latched i))) at
+    (latched_stands t m.device.commits m.device.marks m.records.latches v k within stands latch refl low))
 
--- what a flush marks tells nothing
-flushed_step : (t : Topology) (m : Machine) (k crtc : ℕ) (v : Tracking) → IsInStep t m v
-    → IsTrackerOf t m.device.commits (record m.device.marks { flushed = (k, crtc) ∷ m.device.marks.flushed }) m.records.latches v
-flushed_step t m k crtc v stands = record {
-  keeps = stands.keeps;
-  untouched = λ n above. (let was = stands.untouched n above in record { claimed = was.claimed; hw_done = was.hw_done; latched = was.latched; cleaned = was.cleaned });
-}
-
-pub flush_follows : (s : Script) (m : Machine) (k index : ℕ) (v : Tracking) → (new_crtc s.topology m.device.commits k (object_id Crtc index)).active ≡ true → IsInStep s.topology m v
-    → IsInStep s.topology (next s m (Flush k Crtc index)) v
+pub flush_follows : (s : Script) (m : Machine) (k index : ℕ) → index < 4
+    → (new_crtc s.topology m.device.commits k (object_id Crtc index)).active ≡ true → (v : Tracking)
+    → legal s m (Flush k Crtc index) ≡ true → IsInStep s.topology m v
+    → IsInStep s.topology (next s m (Flush k Crtc index)) (marked v k (mark.Flushed index))
 unfolding next
-flush_follows s m k index v on stands = rw on (flushed_step s.topology m k (object_id Crtc index) v stands)
+flush_follows s m k index crtc on v is stands =
+    rw on (flushed_stands s.topology m.device.commits m.device.marks m.records.latches v k
+    (legal_below s m (Flush k Crtc index) k v refl is stands) stands index crtc)
 
-pub flush_off_follows : (s : Script) (m : Machine) (k index : ℕ) (v : Tracking) → k < length m.device.commits → index < 4 → (new_crtc s.topology m.device.commits k (object_id Crtc index)).active ≡ false → IsInStep s.topology m v
-    → IsInStep s.topology (next s m (Flush k Crtc index)) (changed_commit v k (with_latch index))
+pub flush_off_follows : (s : Script) (m : Machine) (k index : ℕ) (v : Tracking) → index < 4
+    → (new_crtc s.topology m.device.commits k (object_id Crtc index)).active ≡ false
+    → legal s m (Flush k Crtc index) ≡ true → IsInStep s.topology m v
+    → IsInStep s.topology (next s m (Flush k Crtc index)) (marked (marked v k (mark.Flushed index)) k (mark.Latched index))
 unfolding next
-flush_off_follows s m k index v within crtc off stands = rw off (latch_follows s.topology _ k index _ v within crtc (flushed_step s.topology m k (object_id Crtc index) v stands))
+flush_off_follows s m k index v crtc off is stands =
+    let within : k < length m.device.commits = legal_below s m (Flush k Crtc index) k v refl is stands in
+    rw off (latch_follows s.topology _ k index _ (marked v k (mark.Flushed index)) within crtc
+    (flushed_stands s.topology m.device.commits m.device.marks m.records.latches v k within stands index crtc))
 
-pub vblank_follows : (s : Script) (m : Machine) (index : ℕ) (v : Tracking) → go_at m.device (object_id Crtc index) ≡ None → IsInStep s.topology m v → IsInStep s.topology (next s m (Vblank Crtc index)) v
+pub vblank_follows : (s : Script) (m : Machine) (index : ℕ) (v : Tracking) → go_at m.device (object_id Crtc index) ≡ None
+    → IsInStep s.topology m v → IsInStep s.topology (next s m (Vblank Crtc index)) v
 unfolding next
 vblank_follows s m index v none stands = rw none stands
 
-pub vblank_with_go_follows : (s : Script) (m : Machine) (k index : ℕ) (v : Tracking) → k < length m.device.commits → index < 4 → go_at m.device (object_id Crtc index) ≡ Some k → IsInStep s.topology m v
-    → IsInStep s.topology (next s m (Vblank Crtc index)) (changed_commit v k (with_latch index))
+pub vblank_with_go_follows : (s : Script) (m : Machine) (k index : ℕ) (v : Tracking) → k < length m.device.commits → index < 4
+    → go_at m.device (object_id Crtc index) ≡ Some k → IsInStep s.topology m v
+    → IsInStep s.topology (next s m (Vblank Crtc index)) (marked v k (mark.Latched index))
 unfolding next
-vblank_with_go_follows s m k index v within crtc has stands = rw has (latch_follows s.topology (counts_vblank m (object_id Crtc index)) k index _ v within crtc stands)
+vblank_with_go_follows s m k index v within crtc has stands =
+    rw has (latch_follows s.topology (counts_vblank m (object_id Crtc index)) k index _ v within crtc stands)
 
 -- Cleanups
 
--- a commit that may be cleaned is over, as a tracker has it
-pub over_of : (t : Topology) (m : Machine) (k : ℕ) → k < length m.device.commits → is_hw_done m.device k ≡ true → is_all_latched t m.device m.records.latches k ≡ true → HasNames t m.device → IsWithinPlaces t
-    → IsCommitOver (told_of t m.device.commits m.device.marks m.records.latches) k
+-- a commit that may be cleaned is over
+pub over_of : (t : Topology) (m : Machine) (k : ℕ) → k < length m.device.commits → is_hw_done m.device k ≡ true
+    → is_all_latched t m.device m.records.latches k ≡ true → HasNames t m.device
+    → IsOver t m.device.commits m.device.marks m.records.latches k
 unfolding is_all_latched has_flipped
-over_of t m k within done latched names limits = record {
+over_of t m k within done latched names = record {
   claimed = names.done_claimed k done;
-  hw_done = done;
-  flipped = λ p place touched. (let both = and_parts (is_of_device t (object_at_place p)) _ touched in
-      flipped_machine t m.device.commits m.device.marks m.records.latches k (object_at_place p) limits
-      ∙ flips p (place_lockable t p place (sym (on_place t p place) ∙ both.0)) both.1);
-} where
-  flips : (p : ℕ) → IsIn (object_at_place p) (lockable t) → commit_touches t m.device.commits k (object_at_place p) ≡ true → has_flipped t m.device.commits m.records.latches k (object_at_place p) ≡ true
-  flips p there touched =
-      list_all-from (λ crtc. not (commit_concerns t m.device.commits k (object_at_place p) crtc) || has_latched m.records.latches k crtc) (ids_of t Crtc)
-      (λ crtc is. implied_from (commit_concerns t m.device.commits k (object_at_place p) crtc) (has_latched m.records.latches k crtc)
+  done = done;
+  flipped = λ object there touched.
+      list_all-from (λ crtc. not (commit_concerns t m.device.commits k object crtc) || has_latched m.records.latches k crtc)
+      (ids_of t Crtc)
+      (λ crtc is. implied_from (commit_concerns t m.device.commits k object crtc) (has_latched m.records.latches k crtc)
       (λ on. implied (commit_names t m.device.commits k crtc) (has_latched m.records.latches k crtc)
-      (list_all-at (λ crtc. not (commit_names t m.device.commits k crtc) || has_latched m.records.latches k crtc) (ids_of t Crtc) crtc latched is)
-      (names.named k (object_at_place p) crtc within there is touched on)))
+      (list_all-at (λ crtc. not (commit_names t m.device.commits k crtc) || has_latched m.records.latches k crtc)
+      (ids_of t Crtc) crtc latched is)
+      (names.named k object crtc within there is touched on)));
+}
 
-pub cleanup_follows : (s : Script) (m : Machine) (k : ℕ) (v w : Tracking) → legal s m (Cleanup k) ≡ true → HasNames s.topology m.device → IsWithinPlaces s.topology → IsInStep s.topology m v
-    → w.count ≡ v.count → w.lasts ≡ v.lasts → w.pending.slots ≡ without_id v.pending.slots k → IsInStep s.topology (next s m (Cleanup k)) w
+pub cleanup_follows : (s : Script) (m : Machine) (k : ℕ) (v w : Tracking) → legal s m (Cleanup k) ≡ true
+    → HasNames s.topology m.device → IsInStep s.topology m v
+    → w.count ≡ v.count → w.lasts ≡ v.lasts → w.tails.slots ≡ without_id v.tails.slots k
+    → IsInStep s.topology (next s m (Cleanup k)) w
 unfolding next legal may
-cleanup_follows s m k v w is names limits stands count lasts slots =
+cleanup_follows s m k v w is names stands count lasts slots =
     let parts = and_parts (is_hw_done m.device k) _ (and_parts (not m.stalled) _ is).1 in
-    let within : k < length m.device.commits = done_numbered s.topology m k v stands parts.0 in
-    cleanup_in_step s.topology m.device.commits m.device.marks m.records.latches v w k within count lasts slots
-    (over_of s.topology m k within parts.0 (and_parts (is_all_latched s.topology m.device m.records.latches k) _ parts.1).0 names limits) stands
+    let within : k < length m.device.commits = done_below s.topology m k v stands parts.0 in
+    cleaned_stands s.topology m.device.commits m.device.marks m.records.latches v k within stands w
+    (over_of s.topology m k within parts.0 (and_parts (is_all_latched s.topology m.device m.records.latches k) _ parts.1).0 names)
+    count lasts slots

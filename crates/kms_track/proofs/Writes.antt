@@ -4,7 +4,7 @@ use Rattle.std.proofs.Math.ListN.{set}
 use Rattle.std.proofs.lemmas.Bool.{cases_lt}
 use Rattle.std.proofs.lemmas.List.{get_or_default}
 use Rattle.kms_model.specs.declared.objects.ObjId.{ObjId}
-use Rattle.kms_track.specs.declared.commits.Last.{Last}
+use Rattle.kms_track.specs.declared.lasts.Last.{Last}
 use Rattle.kms_track.specs.Tracking.{no_last, raised}
 
 pub each_below : {X : Type 0} (f : ℕ → X) (xs : List X) (i : ℕ) (x d : X) → i < length xs → ((p : ℕ) → p < i → get_or xs p d ≡ f p) → x ≡ f i → (p : ℕ) → p < i + 1 → get_or (set xs i x) p d ≡ f p

@@ -1,66 +1,48 @@
--- That calls keep a tracker in step with the machine, and that its answers are the machine's, after any steps.
-use Rattle.std.specs.Prelude.{◌≡◌, ℕ, ◌<◌, ◌&&◌, [], ◌∷◌, List, length, true, is_none}
+-- What a tracker answers while it stands for a machine.
+use Rattle.std.specs.Prelude.{◌≡◌, ℕ, ◌≤◌, ◌<◌, ◌&&◌, [], List, length, Option, None, Some, true, false, is_none}
 use Rattle.std.specs.List.{list_all}
+use Rattle.kms_model.specs.declared.objects.ObjId.{ObjId}
 use Rattle.kms_model.specs.declared.objects.Topology.{Topology}
 use Rattle.kms_model.specs.declared.runs.Latch.{Latch}
 use Rattle.kms_model.specs.declared.scripts.Request.{Request}
-use Rattle.kms_model.specs.declared.states.Checked.{Checked}
 use Rattle.kms_model.specs.declared.states.Mask.{Mask}
-use Rattle.kms_model.specs.Machine.Commits.{is_cleaned, waited_fences}
-use Rattle.kms_model.specs.Machine.State.{Commit, Marks, Machine, no_marks}
+use Rattle.kms_model.specs.Firsts.{first_some}
+use Rattle.kms_model.specs.Machine.Commits.{has_number, is_cleaned, is_hw_done, previous, second_previous, waited_fences}
+use Rattle.kms_model.specs.Machine.Effects.{commit_numbered}
+use Rattle.kms_model.specs.Machine.State.{Commit, Machine, Marks, no_marks}
 use Rattle.kms_model.specs.Machine.Steps as steps
-use Rattle.kms_model.specs.Request.Touched.{touches, named_by}
-use Rattle.kms_model.specs.Things.Tables.{without_id}
+use Rattle.kms_model.specs.Request.Named.{named}
+use Rattle.kms_model.specs.Request.Sets.{obj_id}
+use Rattle.kms_model.specs.Request.Touched.{named_by, touches}
 use Rattle.kms_signal.specs.FenceSets.{FenceSet, is_made}
 use Rattle.kms_signal.specs.InStep.{AreFencesOf}
-use Rattle.kms_track.specs.InStep.{told_of, IsTrackerOf, IsInStep, IsCheckedFor, IsWithinPlaces, is_of_device, awaited_answer, busy_answer}
-use Rattle.kms_track.specs.Laws.{no_tracking}
-use Rattle.kms_track.specs.Places.{object_at_place, mask_has}
-use Rattle.kms_track.specs.Told.{IsCommitOver}
-use Rattle.kms_track.specs.Tracking.{Tracking, IsSetUp, changed_commit, with_claim, with_done, with_latch, cleaned_of, ready_of, busy_of, not_yet_of}
+use Rattle.kms_track.specs.InStep.{IsInStep, IsTrackerOf, IsWithinPlaces, is_of_device}
+use Rattle.kms_track.specs.Places.{mask_has, object_at_place}
+use Rattle.kms_track.specs.Tracking.{Tracking, busy_of, cleaned_of, no_tracking, not_yet_of, or_other, ready_of, unless, with_object}
 
 -- before the first step
 abbrev pub StandsAtFirst : Type 0
 StandsAtFirst = (t : Topology) → IsTrackerOf t [] no_marks [] no_tracking
 
-abbrev pub StandsAfterSetup : Type 0
-StandsAfterSetup =
-    (t : Topology) (c : Commit) (cs : List Commit) (marks : Marks) (latches : List Latch) (v w : Tracking)
-    (checked : Checked) (fences : List ℕ)
-    → IsTrackerOf t cs marks latches v → IsCheckedFor t c checked fences → IsSetUp v w checked fences
-    → IsTrackerOf t (c ∷ cs) marks latches w
-
-abbrev pub StandsAfterClaim : Type 0
-StandsAfterClaim =
-    (t : Topology) (cs : List Commit) (marks : Marks) (latches : List Latch) (v : Tracking) (k : ℕ)
-    → k < length cs → IsTrackerOf t cs marks latches v
-    → IsTrackerOf t cs (record marks { claimed = k ∷ marks.claimed }) latches (changed_commit v k with_claim)
-
-abbrev pub StandsAfterHwDone : Type 0
-StandsAfterHwDone =
-    (t : Topology) (cs : List Commit) (marks : Marks) (latches : List Latch) (v : Tracking) (k : ℕ)
-    → k < length cs → IsTrackerOf t cs marks latches v
-    → IsTrackerOf t cs (record marks { done = k ∷ marks.done }) latches (changed_commit v k with_done)
-
-abbrev pub StandsAfterFlipDone : Type 0
-StandsAfterFlipDone =
-    (t : Topology) (cs : List Commit) (marks : Marks) (latches : List Latch) (v : Tracking) (l : Latch)
-    → l.commit < length cs → l.crtc < 4 → IsTrackerOf t cs marks latches v
-    → IsTrackerOf t cs marks (l ∷ latches) (changed_commit v l.commit (with_latch l.crtc))
-
--- A commit that is cleaned was claimed, was done, and has flipped for each object that it touches.
-abbrev pub StandsAfterCleanup : Type 0
-StandsAfterCleanup =
-    (t : Topology) (cs : List Commit) (marks : Marks) (latches : List Latch) (v w : Tracking) (k : ℕ)
-    → k < length cs → IsCommitOver (told_of t cs marks latches) k → IsTrackerOf t cs marks latches v
-    → w.count ≡ v.count → w.lasts ≡ v.lasts → w.pending.slots ≡ without_id v.pending.slots k
-    → IsTrackerOf t cs (record marks { cleaned = k ∷ marks.cleaned }) latches w
-
+-- room is made
 abbrev pub StandsWithRoom : Type 0
 StandsWithRoom =
-    (t : Topology) (cs : List Commit) (marks : Marks) (latches : List Latch) (v w : Tracking)
-    → IsTrackerOf t cs marks latches v → w.count ≡ v.count → w.lasts ≡ v.lasts → w.pending.slots ≡ v.pending.slots
-    → IsTrackerOf t cs marks latches w
+    (t : Topology) (commits : List Commit) (marks : Marks) (latches : List Latch) (v w : Tracking)
+    → IsTrackerOf t commits marks latches v → w.count ≡ v.count → w.lasts ≡ v.lasts → w.tails.slots ≡ v.tails.slots
+    → IsTrackerOf t commits marks latches w
+
+-- the first commit, from a number on, that is not cleaned, of so many
+abbrev pub IsFirstFrom : Marks → ℕ → ℕ → Option ℕ → Type 0
+IsFirstFrom marks count from None = (j : ℕ) → from ≤ j → j < count → has_number marks.cleaned j ≡ true
+IsFirstFrom marks count from (Some k) =
+    (from ≤ k) × (k < count) × (has_number marks.cleaned k ≡ false)
+    × ((j : ℕ) → from ≤ j → j < k → has_number marks.cleaned j ≡ true)
+
+-- A number is that of the first commit, from a number on, that is not cleaned, of all commits that a tracker stands for.
+abbrev pub FindsFirst : Tracking → ℕ → Option ℕ → Type 0
+FindsFirst v from first =
+    (t : Topology) (commits : List Commit) (marks : Marks) (latches : List Latch)
+    → IsTrackerOf t commits marks latches v → IsFirstFrom marks (length commits) from first
 
 -- `ready` tells whether a claim is legal. The fences stand for the machine's, and those of the commit were made.
 abbrev pub TellsClaim : Type 0
@@ -74,6 +56,11 @@ TellsClaim =
 abbrev pub TellsCleaned : Type 0
 TellsCleaned = (t : Topology) (m : Machine) (v : Tracking) (k : ℕ) → IsInStep t m v → cleaned_of v k ≡ is_cleaned m.device k
 
+-- an object that is pending, where there is one, with the last commit that touched it
+abbrev pub busy_answer : Topology → List Commit → Option ℕ → Option (ObjId × ℕ)
+busy_answer t commits None = None
+busy_answer t commits (Some object) = Some (obj_id object, commit_numbered (previous t commits (length commits) object))
+
 -- `busy`, of the objects that a request touches, tells the first that is pending, with the last commit that touched it.
 abbrev pub TellsPending : Type 0
 TellsPending =
@@ -81,6 +68,17 @@ TellsPending =
     → IsInStep t m v → IsWithinPlaces t
     → ((p : ℕ) → p < 28 → mask_has mask p ≡ (is_of_device t (object_at_place p) && touches t m.device.world r (object_at_place p)))
     → busy_of v mask ≡ busy_answer t m.device.commits (steps.first_pending t m r)
+
+-- the commit that a swap waits for at a CRTC: its last one where that is not done, else its last but one where that is
+-- not cleaned
+abbrev pub awaited_commit : Topology → Machine → ℕ → Option ℕ
+awaited_commit t m crtc =
+    or_other (unless (is_hw_done m.device) (previous t m.device.commits (length m.device.commits) crtc))
+    (unless (is_cleaned m.device) (second_previous t m.device.commits (length m.device.commits) crtc))
+
+-- the first CRTC that a request names and at which its swap waits, with the commit
+abbrev pub awaited_answer : Topology → Machine → Request → Option (ObjId × ℕ)
+awaited_answer t m r = first_some (λ crtc. with_object crtc (awaited_commit t m crtc)) (named t m.device.world r)
 
 -- `not_yet`, of the CRTCs that a request names, tells the first at which its swap waits, with the commit that it waits for.
 abbrev pub TellsAwaited : Type 0

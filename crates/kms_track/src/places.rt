@@ -1,6 +1,6 @@
 //! The objects that commits touch, each at its place in the order of their ids.
 ghost use Rattle.std.specs.Prelude.{◌≡◌, ◌<◌};
-ghost use Rattle.kms_track.specs.Places.{object_at_place, mask_has, sides_at};
+ghost use Rattle.kms_track.specs.Places.{crtc_id, is_side, object_at_place, mask_has, sides_at};
 
 use kms_model::{Duplicates, Kind, MAX_CRTCS, MAX_PLANES, Mask, ObjId, has_bit};
 
@@ -14,6 +14,17 @@ pub struct Sides {
     pub old: u32,
     /// The id of its CRTC after it, or 0. A CRTC's is its own.
     pub new: u32,
+}
+
+impl Sides {
+    /// Whether the CRTC with an index, from 0 to 3, is one of them.
+    pub(crate) fn has(self, index: u32) -> bool
+        requires { index < 4 }
+        ensures { result ≡ is_side self (crtc_id index) }
+    {
+        let crtc = ObjId::of(Kind::Crtc, index).0;
+        self.old == crtc || self.new == crtc
+    }
 }
 
 /// The object at a place, from 0 to 27.

@@ -1,21 +1,28 @@
 //! The tracker of commits.
-ghost use Rattle.std.specs.Prelude.{◌≡◌, ℕ, ◌<◌, ◌≤◌, ◌+◌, [], map, replicate, OnOk, OnErr, IfOk, IsOk, length, option_copied};
+ghost use Rattle.std.specs.Prelude.{◌≡◌, ℕ, ◌<◌, ◌≤◌, ◌+◌, ◌*◌, map, OnOk, OnErr, IfOk, IfSome, IfNone, IsOk, length, option_copied};
 ghost use Rattle.kms_model.specs.Things.Tables.{without_id};
+ghost use Rattle.kms_track.specs.declared.progress.Mark.TheVariants as mark;
+ghost use Rattle.kms_track.specs.MachineLaws.{FindsFirst};
+ghost use Rattle.kms_track.specs.Tails.{HasRegisters, IsMark, all_left, first_from, no_signals, wrote_mark};
 
-use crate::commits::{Last, Pending, Touched, all_fences, raise, touched_objects};
+use crate::lasts::{Last, raise};
 use crate::places::{has_object, object_at_place};
+use crate::progress::Mark;
+use crate::tail::{Signals, Tail};
+use crate::tails::Tails;
+use crate::waits::{all_fences, are_signalled};
 use kms_model::{Checked, MAX_CRTCS, MAX_LOCKABLE, Mask, NoMemory, ObjId, Seq, has_bit};
-use kms_signal::{Fences, RoomTable};
+use kms_signal::Fences;
 use std::alloc::Global;
 use std::marker::Model;
 
-/// The commits that were set up. Contracts see how many, the last two of each object, and those that are not cleaned, with
-/// the room that there is for further ones.
+/// The commits that were set up. Contracts see how many, the last two of each object, and the tails of those that are not
+/// cleaned, with the room that there is for further ones.
 #[derive(Drop)]
 pub struct Tracker {
     count: u32,
     last: [Last; 28],
-    pending: RoomTable<Pending>,
+    tails: Tails,
 }
 
 impl Model for Tracker {
@@ -24,27 +31,22 @@ impl Model for Tracker {
 
     ghost Value = { Tracking };
 
-    ghost view = { λ s. record { count = s.count; lasts = s.last; pending = s.pending } };
+    ghost view = { λ s. record { count = s.count; lasts = s.last; tails = s.tails } };
 
-    ghost invariant = { λ s. AreBelow s.count s.pending.slots };
+    ghost invariant = { λ s. AreBelow s.count s.tails.slots };
 }
 
 impl Tracker {
-    ghost use Rattle.kms_track.specs.Laws.{no_tracking};
-    ghost use Rattle.kms_track.specs.Tracking.{cleaned_of, ready_of, busy_of, busy_at, not_yet_of, not_yet_at, done_of, flipped_of, pending_commit, is_settled, all_settled, no_last, changed_commit, with_claim, with_done, with_latch, IsSetUp, unfinished, uncleaned, raised, last_at};
+    ghost use Rattle.kms_track.specs.Tracking.{IsSetUp, all_settled, awaited, busy_at, busy_of, cleaned_of, done_of, flipped_of, is_settled, marked, no_tracking, not_yet_at, not_yet_of, ready_of, tail_of, uncleaned, undone};
 
     /// The tracker of no commit. It takes no memory.
     pub fn new(alloc: Global) -> Tracker
         ensures { result ≡ no_tracking }
     {
-        let none = Last {
-            commit: None,
-            before: None,
-        };
         Tracker {
             count: 0,
-            last: [none; 28],
-            pending: RoomTable::new(alloc),
+            last: [Last::none(); 28],
+            tails: Tails::new(alloc),
         }
     }
 
@@ -55,29 +57,21 @@ impl Tracker {
         self.count
     }
 
-    /// Takes the memory that the next `setup` needs, and changes nothing else. Want of memory leaves all as it was.
-    pub fn make_room(
-        &mut self,
-        alloc: Global,
-        _checked: &Checked,
-        _in_fences: &Seq<(ObjId, u32)>,
-    ) -> Result<(), NoMemory>
+    /// Takes the memory that the next commit needs, and changes nothing else. Want of memory leaves all as it was, and comes
+    /// only where that room was missing.
+    pub fn make_room(&mut self, _alloc: Global) -> Result<(), NoMemory>
         ensures count { self.new.count ≡ self.old.count }
         ensures lasts { self.new.lasts ≡ self.old.lasts }
-        ensures pending { self.new.pending.slots ≡ self.old.pending.slots }
-        ensures room { OnOk result (1 ≤ self.new.pending.room) }
-        ensures kept { self.old.pending.room ≤ self.new.pending.room }
-        ensures there { 1 ≤ self.old.pending.room → IsOk result }
+        ensures tails { self.new.tails.slots ≡ self.old.tails.slots }
+        ensures room { OnOk result (1 ≤ self.new.tails.room) }
+        ensures kept { self.old.tails.room ≤ self.new.tails.room }
+        ensures there { 1 ≤ self.old.tails.room → IsOk result }
         ensures err { OnErr result (self.new ≡ self.old) }
     {
-        // A commit keeps its fences in place, so that each needs the same room.
-        self.pending.make_room(alloc, 1)
+        self.tails.make_room()
     }
 
-    /// Sets a commit up, and gives its number, which counts the commits before it. It touches the objects that were
-    /// checked, and waits for the in-fences, at most one for each plane, each given by its plane's id and its own.
-    /// Fewer than 4294967295 commits were set up. Want of memory leaves all as it was, and comes only where there was
-    /// no room; no other call needs memory for the commit. (Kernel: `drm_atomic_helper_setup_commit`.)
+    /// Sets a commit up that signals nothing, and gives its number: see `setup_for`.
     pub fn setup(
         &mut self,
         alloc: Global,
@@ -88,30 +82,69 @@ impl Tracker {
         requires fences { length in_fences.now ≤ 16 }
         ensures number { IfOk result (λ k. k ≡ self.old.count) }
         ensures set_up { OnOk result
-            (IsSetUp self.old self.new checked.now (map (λ f. f.1) in_fences.now)) }
-        ensures room { OnOk result (self.old.pending.room ≤ self.new.pending.room + 1) }
-        ensures there { 0 < self.old.pending.room → IsOk result }
+            (IsSetUp self.old self.new no_signals checked.now (map (λ f. f.1) in_fences.now)) }
+        ensures room { OnOk result (self.old.tails.room ≤ self.new.tails.room + 1) }
+        ensures there { 0 < self.old.tails.room → IsOk result }
+        ensures err { OnErr result (self.new ≡ self.old) }
+    {
+        self.setup_for(alloc, Signals::none(), checked, in_fences)
+    }
+
+    /// Sets a commit up with what it signals, and gives its number, which counts the commits before it. It touches the
+    /// objects that were checked, and waits for the in-fences, at most one for each plane, each given by its plane's id and
+    /// its own. Fewer than 4294967295 commits were set up. Want of memory leaves all as it was, and comes only where there
+    /// was no room; no other call needs memory for the commit. (Kernel: `drm_atomic_helper_setup_commit`,
+    /// `drm_atomic_helper_swap_state`.)
+    pub fn setup_for(
+        &mut self,
+        _alloc: Global,
+        signals: Signals,
+        checked: &Checked,
+        in_fences: &Seq<(ObjId, u32)>,
+    ) -> Result<u32, NoMemory>
+        requires count { self.old.count < 4294967295 }
+        requires fences { length in_fences.now ≤ 16 }
+        ensures number { IfOk result (λ k. k ≡ self.old.count) }
+        ensures set_up { OnOk result
+            (IsSetUp self.old self.new signals checked.now (map (λ f. f.1) in_fences.now)) }
+        ensures room { OnOk result (self.old.tails.room ≤ self.new.tails.room + 1) }
+        ensures there { 0 < self.old.tails.room → IsOk result }
         ensures err { OnErr result (self.new ≡ self.old) }
     {
         let commit = self.count;
-        let pending = Pending {
-            claimed: false,
-            hw_done: false,
-            latched: [false; 4],
-            touched: touched_objects(&self.last, checked),
-            fences: all_fences(in_fences.as_slice()),
-        };
-        self.pending.push(alloc, commit, pending)?;
+        let previous = self.last.map(|last| last.commit);
+        let fences = all_fences(in_fences.as_slice());
+        self.tails
+            .push(commit, Tail::new(signals, checked, previous, fences))?;
         raise(&mut self.last, &checked.touched, commit);
         self.count += 1;
         Ok(commit)
     }
 
-    /// What is kept of a commit, by its number from 0, that is set up and not cleaned; none of any other.
-    pub fn get(&self, commit: u32) -> Option<&Pending>
-        ensures { option_copied result ≡ pending_commit self.now commit }
+    /// The tail of a commit, by its number from 0, that is set up and not cleaned; none of any other.
+    pub fn get(&self, commit: u32) -> Option<&Tail>
+        ensures { option_copied result ≡ tail_of self.now commit }
     {
-        self.pending.get(commit)
+        self.tails.get(commit)
+    }
+
+    /// The least number, from a given one on, of a commit that is not cleaned.
+    pub fn first_from(&self, from: u32) -> Option<u32>
+        ensures number { result ≡ first_from self.now.tails.slots from }
+        ensures machine { FindsFirst self.now from result }
+    {
+        self.tails.first_from(from)
+    }
+
+    /// At most how many steps are left of all commits that are not cleaned, a count: 31 of each. None where a `usize` has no
+    /// place for that number.
+    pub fn most_left(&self) -> Option<usize>
+        ensures bound { IfSome result (λ n. all_left self.now.tails.slots ≤ n) }
+        ensures number { IfSome result (λ n. n ≡ 31 * length self.now.tails.slots) }
+        ensures none { IfNone result
+            (18446744073709551615 < 31 * length self.now.tails.slots) }
+    {
+        self.tails.most_left()
     }
 
     /// Whether a commit, by its number from 0, may be claimed: it is set up and not claimed, the fences that it waits for
@@ -120,69 +153,79 @@ impl Tracker {
     pub fn ready(&self, commit: u32, fences: &Fences) -> bool
         ensures { result ≡ ready_of self.now fences.now commit }
     {
-        match self.pending.get(commit) {
+        match self.tails.get(commit) {
             None => false,
-            Some(pending) => {
-                !pending.claimed && pending.is_unfenced(fences) && self.is_settled(pending)
+            Some(tail) => {
+                !tail.progress.claimed
+                    && are_signalled(&tail.in_fences, fences)
+                    && self.are_settled(tail)
             }
         }
     }
 
-    /// Marks a commit, by its number from 0, as claimed, if it is set up and not cleaned.
+    /// A worker claims a commit, by its number from 0, if it is set up and not cleaned. (Kernel: `commit_work`.)
     pub fn claim(&mut self, commit: u32)
-        ensures { self.new ≡ changed_commit self.old commit with_claim }
+        ensures { self.new ≡ marked self.old commit mark.Claimed }
     {
-        if let Some(pending) = self.pending.get(commit).copied() {
-            let claimed = Pending {
-                claimed: true,
-                ..pending
-            };
-            self.pending.set(commit, claimed);
+        self.mark(commit, Mark::Claimed);
+    }
+
+    /// The registers of a CRTC or a plane are written for a commit, by its number from 0, if it is set up and not cleaned.
+    /// (Kernel: `drm_atomic_helper_commit_modeset_enables`, `drm_atomic_helper_commit_planes`.)
+    pub fn wrote(&mut self, commit: u32, id: ObjId)
+        requires { HasRegisters id.0 }
+        ensures { self.new ≡ marked self.old commit (wrote_mark id.0) }
+    {
+        let index = id.index();
+        if id.is_crtc() {
+            self.mark(commit, Mark::WroteCrtc(index));
+        } else {
+            self.mark(commit, Mark::WrotePlane(index));
         }
     }
 
-    /// Marks a commit, by its number from 0, as done: all its registers are written and flushed; if it is set up and
-    /// not cleaned.
+    /// The CRTC with an index, from 0 to 3, is flushed for a commit, by its number from 0, if it is set up and not cleaned.
+    /// (Kernel: `atomic_flush`.)
+    pub fn flushed(&mut self, commit: u32, crtc: u32)
+        requires { crtc < 4 }
+        ensures { self.new ≡ marked self.old commit (mark.Flushed crtc) }
+    {
+        self.mark(commit, Mark::Flushed(crtc));
+    }
+
+    /// All registers of a commit, by its number from 0, are written and flushed, if it is set up and not cleaned. (Kernel:
+    /// `drm_atomic_helper_commit_hw_done`.)
     pub fn hw_done(&mut self, commit: u32)
-        ensures { self.new ≡ changed_commit self.old commit with_done }
+        ensures { self.new ≡ marked self.old commit mark.Done }
     {
-        if let Some(pending) = self.pending.get(commit).copied() {
-            let done = Pending {
-                hw_done: true,
-                ..pending
-            };
-            self.pending.set(commit, done);
-        }
+        self.mark(commit, Mark::Done);
     }
 
-    /// Marks that a commit, by its number from 0, has latched at a CRTC, given by its index from 0 to 3; if it is set
-    /// up and not cleaned.
+    /// A commit, by its number from 0, latches at the CRTC with an index, from 0 to 3, if it is set up and not cleaned.
+    /// (Kernel: `drm_crtc_send_vblank_event`, which completes `flip_done`.)
     pub fn flip_done(&mut self, commit: u32, crtc: u32)
         requires { crtc < 4 }
-        ensures { self.new ≡ changed_commit self.old commit (with_latch crtc) }
+        ensures { self.new ≡ marked self.old commit (mark.Latched crtc) }
     {
-        if let Some(pending) = self.pending.get(commit).copied() {
-            let mut flipped = pending;
-            flipped.latched[crtc as usize] = true;
-            self.pending.set(commit, flipped);
-        }
+        self.mark(commit, Mark::Latched(crtc));
     }
 
-    /// Forgets a commit, by its number from 0, that is done and has flipped for all its objects, and is over now.
+    /// Forgets a commit, by its number from 0, that is done and has flipped for all its objects, and is over now. The room
+    /// does not shrink. (Kernel: `drm_atomic_helper_commit_cleanup_done`, `drm_atomic_state_put`.)
     pub fn cleanup(&mut self, commit: u32)
         ensures count { self.new.count ≡ self.old.count }
         ensures lasts { self.new.lasts ≡ self.old.lasts }
-        ensures pending { self.new.pending.slots ≡ without_id self.old.pending.slots commit }
-        ensures room { self.old.pending.room ≤ self.new.pending.room }
+        ensures tails { self.new.tails.slots ≡ without_id self.old.tails.slots commit }
+        ensures room { self.old.tails.room ≤ self.new.tails.room }
     {
-        self.pending.remove(commit);
+        self.tails.remove(commit);
     }
 
     /// Whether a commit, by its number from 0, was set up and is cleaned.
     pub fn is_cleaned(&self, commit: u32) -> bool
         ensures { result ≡ cleaned_of self.now commit }
     {
-        commit < self.count && self.pending.get(commit).is_none()
+        commit < self.count && self.tails.get(commit).is_none()
     }
 
     /// The first of these objects, by id, whose last commit has not flipped for it, with the number of that commit,
@@ -212,6 +255,14 @@ impl Tracker {
         None
     }
 
+    // Marks a step of a commit, if it is set up and not cleaned.
+    fn mark(&mut self, commit: u32, mark: Mark)
+        requires { IsMark mark }
+        ensures { self.new ≡ marked self.old commit mark }
+    {
+        self.tails.mark(commit, mark);
+    }
+
     // The last commit of the object at a place, where the object is one of these and the commit has not flipped for it.
     fn busy_at(&self, objects: &Mask, place: u32) -> Option<u32>
         requires { place < 28 }
@@ -233,19 +284,26 @@ impl Tracker {
         requires { index < 4 }
         ensures { result ≡ not_yet_at self.now crtcs index }
     {
-        if !has_bit(crtcs, index) {
-            return None;
+        if has_bit(crtcs, index) {
+            self.awaited(self.last[index as usize])
+        } else {
+            None
         }
-        let last = self.last[index as usize];
-        match self.unfinished(last.commit) {
+    }
+
+    // The last commit, if it is not done, or else the last but one, if it is not cleaned.
+    fn awaited(&self, last: Last) -> Option<u32>
+        ensures { result ≡ awaited self.now last }
+    {
+        match self.undone(last.commit) {
             Some(commit) => Some(commit),
             None => self.uncleaned(last.before),
         }
     }
 
     // A commit, if any, that is not done.
-    fn unfinished(&self, commit: Option<u32>) -> Option<u32>
-        ensures { result ≡ unfinished self.now commit }
+    fn undone(&self, commit: Option<u32>) -> Option<u32>
+        ensures { result ≡ undone self.now commit }
     {
         let commit = commit?;
         if self.is_done(commit) {
@@ -260,7 +318,7 @@ impl Tracker {
         ensures { result ≡ uncleaned self.now commit }
     {
         let commit = commit?;
-        match self.pending.get(commit) {
+        match self.tails.get(commit) {
             None => None,
             Some(_) => Some(commit),
         }
@@ -268,50 +326,48 @@ impl Tracker {
 
     // Whether a commit is done, as one that is cleaned is.
     fn is_done(&self, commit: u32) -> bool
-        ensures { result ≡ done_of (pending_commit self.now commit) }
+        ensures { result ≡ done_of (tail_of self.now commit) }
     {
-        match self.pending.get(commit) {
+        match self.tails.get(commit) {
             None => true,
-            Some(pending) => pending.hw_done,
+            Some(tail) => tail.progress.done,
         }
     }
 
     // Whether a commit has flipped for the object at a place, as one that is cleaned has.
     fn has_flipped(&self, commit: u32, place: u32) -> bool
         requires { place < 28 }
-        ensures { result ≡ flipped_of (pending_commit self.now commit) place }
+        ensures { result ≡ flipped_of (tail_of self.now commit) place }
     {
-        match self.pending.get(commit) {
+        match self.tails.get(commit) {
             None => true,
-            Some(pending) => pending.has_flipped(place),
+            Some(tail) => tail.has_flipped(place),
         }
     }
 
-    // Whether the commit before on each touched object is done and has flipped for it.
-    fn is_settled(&self, pending: &Pending) -> bool
-        ensures { result ≡ all_settled self.now pending.now.touched }
+    // Whether the commit before on each object that a commit touches is done and has flipped for it.
+    fn are_settled(&self, tail: &Tail) -> bool
+        ensures { result ≡ all_settled self.now tail.now }
     {
         for place in 0..MAX_LOCKABLE {
-            if !self.is_settled_at(pending.touched[place as usize], place) {
+            if !self.is_settled(tail, place) {
                 return false;
             }
         }
         true
     }
 
-    fn is_settled_at(&self, object: Option<Touched>, place: u32) -> bool
+    // Whether it is so of the object at a place, or the commit does not touch that.
+    fn is_settled(&self, tail: &Tail, place: u32) -> bool
         requires { place < 28 }
-        ensures { result ≡ is_settled self.now place object }
+        ensures { result ≡ is_settled self.now tail.now place }
     {
-        let Some(
-            Touched {
-                previous: Some(commit),
-                sides: _,
-            },
-        ) = object
-        else {
+        if !has_object(&tail.checked.touched, place) {
             return true;
-        };
-        self.is_done(commit) && self.has_flipped(commit, place)
+        }
+        match tail.previous[place as usize] {
+            None => true,
+            Some(commit) => self.is_done(commit) && self.has_flipped(commit, place),
+        }
     }
 }

@@ -165,7 +165,7 @@ pub makes : (r v : Run) (st : Stores) (client : ℕ) (c : Command) (reply : Repl
     → HasMade r st client c reply clients journal replies made fences → made.fbs ≡ fbs_after st.made client c → before ≡ r.steps
     → steps ≡ before ++ step.Make client ∷ []
     → (roomy freed : Reserved (ℕ × ℕ)) (left : Made) → roomy.items ≡ st.freed.items → roomy.places ≡ st.freed.places
-    → Accounts made left st.present st.registers st.tails r.script.topology.crtcs c reply roomy freed
+    → Accounts made left st.present st.registers st.tracker r.script.topology.crtcs c reply roomy freed
     → Stands (record { script = r.script; steps = steps })
     (record st { clients = clients; journal = journal; replies = replies; made = left; fences = fences; freed = freed })
 makes r v st client c reply clients journal replies made fences before steps stands same now has counted is more roomy freed left same_items same_places accounts =

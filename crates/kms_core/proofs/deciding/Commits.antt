@@ -38,7 +38,6 @@ use Rattle.kms_model.specs.Request.Touched.{out_fence_label}
 use Rattle.kms_model.proofs.Items.{IsIn}
 use Rattle.kms_model.proofs.TouchedLemmas.{IsRequestAt, few_objects}
 use Rattle.kms_model.proofs.CommitFacts.{commit_old, commit_new}
-use Rattle.kms_model.specs.Things.Tables.{AreBelow}
 use Rattle.kms_clients.specs.InStep.{AreClientsOf, after_decision, after_swap}
 use Rattle.kms_clients.specs.Standing.{Standing, place_of}
 use Rattle.kms_laws.proofs.EachStep.{IsSwap, swap-found}
@@ -53,27 +52,25 @@ use Rattle.kms_signal.proofs.StepLemmas.{queues_follow_others_swap, queues_follo
 use Rattle.kms_signal.specs.FenceSets.{FenceSet, is_made}
 use Rattle.kms_signal.specs.InStep.{IsQueueOf}
 use Rattle.kms_signal.specs.Queues.{HasSpace, Queue, empty_queue}
-use Rattle.kms_signal.specs.Rooms.{Rooms}
 use Rattle.kms_signal.specs.StepLaws.{new_commit, swapped_queue}
-use Rattle.kms_tails.specs.declared.tail.Tail.{Tail}
-use Rattle.kms_tails.specs.InStep.{AreTailsOf, IsTailFor, StandsAfterSwap, StandsAlike, out_fence_at}
-use Rattle.kms_tails.proofs.StepLemmas as tails_follow
+use Rattle.kms_track.specs.declared.tail.Signals.{Signals}
+use Rattle.kms_track.specs.InStep.{AreSignalsOf, IsInStep, out_fence_at}
+use Rattle.kms_track.proofs.SettingUp.{room_stands}
 use Rattle.kms_things.specs.Made.{HasIds, Made, with_made}
 use Rattle.kms_track.proofs.CheckedLemmas.{checked_for}
 use Rattle.kms_track.proofs.StepLemmas.{swap_follows}
-use Rattle.kms_track.specs.InStep.{IsInStep}
 use Rattle.kms_track.specs.Tracking.{IsSetUp, Tracking}
 use Rattle.kms_core.specs.Calls.{answered}
 use Rattle.kms_core.specs.Logs.{Logged}
 use Rattle.kms_core.specs.Run.{Run, machine}
 use Rattle.kms_core.specs.Decisions.{world}
-use Rattle.kms_core.specs.SwappedIn.{IsSwappedIn, events_asked_for, fences_for, fences_under, id_made_under, label_in, labels_in}
+use Rattle.kms_core.specs.SwappedIn.{IsSwappedIn, events_asked_for, fences_for, fences_under, id_made_under, label_in, labels_in, signals_for}
 use Rattle.kms_core.specs.Stands.{AreOutFencesMade, AreQueues, AreRecords, IsWorldOf, Stores, Stands, StandsAt, entry_pair, is_fence, queue_of}
 use Rattle.kms_core.specs.Swaps.{MayCommit}
 use Rattle.kms_core.specs.Room.{KeepsStored, SameTracking}
 use Rattle.kms_core.proofs.stores.WithRoom.{stands_with_room}
 use Rattle.kms_core.proofs.deciding.Answering.{MayDecide, may_decide}
-use Rattle.kms_core.proofs.stores.Committed.{committed_present, has_plane}
+use Rattle.kms_core.proofs.stores.Committed.{committed_present}
 use Rattle.kms_laws.proofs.Ended.{history_ended}
 use Rattle.kms_core.proofs.stores.Fencing.{thing_made as thing_under}
 use Rattle.kms_core.proofs.stores.Histories.{goes_on}
@@ -121,17 +118,16 @@ queues_same clients events client queues new low high reserved unread stand = re
 }
 
 -- a commit is set up with other room as well
-pub set_up_same : (old middle new : Tracking) (checked : Checked) (fences : List ℕ) → SameTracking old middle → IsSetUp middle new checked fences → IsSetUp old new checked fences
-set_up_same old middle new checked fences same up = record {
+pub set_up_same : (old middle new : Tracking) (signals : Signals) (checked : Checked) (fences : List ℕ) → SameTracking old middle
+    → IsSetUp middle new signals checked fences → IsSetUp old new signals checked fences
+set_up_same old middle new signals checked fences same up = record {
   count = up.count ∙ ap (λ n. n + 1) same.count;
   lasts = rw (← same.lasts, ← same.count) up.lasts;
-  commit = up.commit;
-  pending = rw (← same.pending, ← same.count) up.pending;
-  claimed = up.claimed;
-  hw_done = up.hw_done;
-  latched = up.latched;
-  touched = rw (← same.lasts) up.touched;
-  fences_kept = up.fences_kept;
+  previous = up.previous;
+  previous_are = rw (← same.lasts) up.previous_are;
+  waits = up.waits;
+  waits_are = up.waits_are;
+  tails = rw (← same.tails, ← same.count) up.tails;
 }
 
 -- What a commit finds
@@ -158,15 +154,10 @@ module _ (r : Run) (st : Stores) (client : ℕ) (checked : Checked) (resolved : 
   has_ids = (let fit = (numbers_fit r.script r.steps stands.formed stands.history).ids in let same = stands.stores.world.next_id in omega (arith, fit, same))
 
   pub few_commits : st.tracker.count < 4294967295
-  few_commits = (let fit = (numbers_fit r.script r.steps stands.formed stands.history).commits in let count = stands.stores.tracker.keeps.count in omega (arith, fit, count))
+  few_commits = (let fit = (numbers_fit r.script r.steps stands.formed stands.history).commits in let count = stands.stores.tracker.count in omega (arith, fit, count))
 
   pub few_waits : length resolved.in_fences ≤ 16
   few_waits = rw can.asks.in_fences (few_in_fences r.script.topology (look_up (world r)) can.ready.request.assigns (few_objects r.script.topology stands.formed.device).planes)
-
-  -- the tails that are kept have lower numbers
-  pub below_tails : (commit : ℕ) (tails : Rooms Tail) → commit ≡ st.tracker.count → StandsAlike st.tails tails → AreBelow commit tails.slots
-  below_tails commit tails is alike =
-      rw (is ∙ stands.stores.tracker.keeps.count) (alike r.script.topology (machine r).device.commits (machine r).device.marks (machine r).records.latches stands.stores.tails).below
 
   -- the request at which the client stands is found
   pub there : (number : ℕ) → number ≡ (place_of st.clients client).command → IsSome (request_in (command_of r.script (record { client = client; command = number })))
@@ -214,11 +205,11 @@ module _ (r : Run) (st : Stores) (client : ℕ) (checked : Checked) (resolved : 
 
   -- Want of memory
 
-  pub roomy : (journal : Logged (ℕ × ℕ)) (replies : Logged Answered) (shown : Logged Latch) (made : Made) (fences roomy_fences : FenceSet) (was d queue : Queue) (tracker : Tracking) (tails : Rooms Tail) (steps : List Step)
+  pub roomy : (journal : Logged (ℕ × ℕ)) (replies : Logged Answered) (shown : Logged Latch) (made : Made) (fences roomy_fences : FenceSet) (was d queue : Queue) (tracker : Tracking) (steps : List Step)
       → steps ≡ r.steps → journal.items ≡ st.journal.items → replies.items ≡ st.replies.items → shown.items ≡ st.latches.items → made ≡ st.made → fences.slots ≡ roomy_fences.slots
-      → was ≡ slice_index_or st.queues (client - 1) d → KeepsStored st.fences roomy_fences was queue st.tracker tracker st.tails tails
-      → Stands (record { script = r.script; steps = steps }) (record st { journal = journal; replies = replies; latches = shown; made = made; fences = fences; queues = slice_set st.queues (client - 1) queue; tracker = tracker; tails = tails })
-  roomy journal replies shown made fences roomy_fences was d queue tracker tails steps is same_journal same_replies same_shown same_made same_set at kept =
+      → was ≡ slice_index_or st.queues (client - 1) d → KeepsStored st.fences roomy_fences was queue st.tracker tracker
+      → Stands (record { script = r.script; steps = steps }) (record st { journal = journal; replies = replies; latches = shown; made = made; fences = fences; queues = slice_set st.queues (client - 1) queue; tracker = tracker })
+  roomy journal replies shown made fences roomy_fences was d queue tracker steps is same_journal same_replies same_shown same_made same_set at kept =
       let mine = found_queue was d at in
       let same_tracker = kept.tracking in
       let base =
@@ -237,18 +228,8 @@ module _ (r : Run) (st : Stores) (client : ℕ) (checked : Checked) (resolved : 
           out_fenced = base.stores.out_fenced;
           queues = rw is (queues_same (length r.script.clients) (machine r).events client st.queues queue own.low high (kept.reserved ∙ ap (λ (q : Queue). q.reserved) mine) (kept.unread ∙ ap (λ (q : Queue). q.unread) mine) stands.stores.queues);
           tracker =
-              rw is
-              (record {
-                keeps = record {
-                  count = same_tracker.count ∙ stands.stores.tracker.keeps.count;
-                  below = rw (same_tracker.count, same_tracker.pending) stands.stores.tracker.keeps.below;
-                  last = rw same_tracker.lasts stands.stores.tracker.keeps.last;
-                  before = rw same_tracker.lasts stands.stores.tracker.keeps.before;
-                  commits = rw same_tracker.pending stands.stores.tracker.keeps.commits;
-                };
-                untouched = stands.stores.tracker.untouched;
-              });
-          tails = rw is (kept.tails r.script.topology (machine r).device.commits (machine r).device.marks (machine r).records.latches stands.stores.tails);
+              rw is (room_stands r.script.topology (machine r).device.commits (machine r).device.marks (machine r).records.latches st.tracker tracker
+              same_tracker.count same_tracker.lasts same_tracker.tails stands.stores.tracker);
           registers = base.stores.registers;
           going = base.stores.going;
           ended = base.stores.ended;
@@ -289,7 +270,7 @@ module _ (r : Run) (st : Stores) (client : ℕ) (checked : Checked) (resolved : 
 
 -- what the call leaves of the stores
 pub record HasCommitted (r : Run) (st : Stores) (client : ℕ) (checked : Checked) (resolved : Resolved) (commit : ℕ) (clients : Standing) (journal : Logged (ℕ × ℕ)) (replies : Logged Answered) (made : Made) (present : Duplicates) (fences : FenceSet)
-    (queues : List Queue) (queue : Queue) (tracker : Tracking) (roomy_tails tails : Rooms Tail) : Type 0 where
+    (queues : List Queue) (queue : Queue) (tracker : Tracking) : Type 0 where
   pub number : commit ≡ st.tracker.count
   pub goes : is_nonblock resolved.flags ≡ true → AreClientsOf (after_decision (machine r) client) clients
   pub waits : is_nonblock resolved.flags ≡ false → AreClientsOf (after_swap (machine r) client commit) clients
@@ -302,14 +283,14 @@ pub record HasCommitted (r : Run) (st : Stores) (client : ℕ) (checked : Checke
   pub queues_stand : AreQueues (length r.script.clients) (machine r).events queues
   pub reserved : queue.reserved ≡ (queue_of queues client).reserved + events_asked_for resolved.flags checked.named
   pub unread : queue.unread ≡ (queue_of queues client).unread
-  pub set_up : IsSetUp st.tracker tracker checked (map (λ f. f.1) resolved.in_fences)
-  pub tails_stand : StandsAlike st.tails roomy_tails
-  pub kept : (q : Request) → request_in (command_of r.script (record { client = client; command = (place_of st.clients client).command })) ≡ Some q
-      → StandsAfterSwap commit client q checked (fences_under made.things (labels_in resolved.out_fences)) roomy_tails tails
+  pub set_up :
+      (q : Request) → request_in (command_of r.script (record { client = client; command = (place_of st.clients client).command })) ≡ Some q
+      → IsSetUp st.tracker tracker (signals_for client q (fences_under made.things (labels_in resolved.out_fences))) checked
+      (map (λ f. f.1) resolved.in_fences)
 
 module _ (r : Run) (st : Stores) (client : ℕ) (checked : Checked) (resolved : Resolved) (stands : Stands r st) (can : MayCommit r client checked resolved)
-    (commit : ℕ) (clients : Standing) (journal : Logged (ℕ × ℕ)) (replies : Logged Answered) (made : Made) (present : Duplicates) (fences : FenceSet) (queues : List Queue) (queue : Queue) (tracker : Tracking) (roomy_tails tails : Rooms Tail)
-    (has : HasCommitted r st client checked resolved commit clients journal replies made present fences queues queue tracker roomy_tails tails) where
+    (commit : ℕ) (clients : Standing) (journal : Logged (ℕ × ℕ)) (replies : Logged Answered) (made : Made) (present : Duplicates) (fences : FenceSet) (queues : List Queue) (queue : Queue) (tracker : Tracking)
+    (has : HasCommitted r st client checked resolved commit clients journal replies made present fences queues queue tracker) where
   left : SwapLeaves r.script (machine r) client can.ready.request (next r.script (machine r) (step.Swap client))
   left = swap_leaves r.script (machine r) client can.ready.request can.ready.at
 
@@ -320,7 +301,7 @@ module _ (r : Run) (st : Stores) (client : ℕ) (checked : Checked) (resolved : 
   at = record { device = stands.formed.device; sound = holds.present.lawful.sound; early = can.asks.accepted }
 
   pub is_number : commit ≡ length (machine r).device.commits
-  is_number = has.number ∙ stands.stores.tracker.keeps.count
+  is_number = has.number ∙ stands.stores.tracker.count
 
   same_command : (place_of st.clients client).command ≡ (place_at (machine r) client).command
   same_command = ap (λ (p : Place). p.command) (stands.stores.clients.places client can.ready.number)
@@ -371,14 +352,7 @@ module _ (r : Run) (st : Stores) (client : ℕ) (checked : Checked) (resolved : 
       ∙ ap (λ n. st.fences.slots ++ fences_for n (map (out_fence_label can.ready.request.assigns) (ids_of r.script.topology Crtc))) (sym stands.stores.world.next_id))
       (record { fenced = record { made = fenced.made; made_before = fenced.made_before; below = fenced.below }; stand = stands.stores.fences })
 
-  tracked : IsInStep r.script.topology (next r.script (machine r) (step.Swap client)) tracker
-  tracked =
-      swap_follows r.script (machine r) client can.ready.request st.tracker tracker checked (map (λ f. f.1) resolved.in_fences) can.ready.at stands.stores.tracker
-      (checked_for r.script.topology (new_commit (machine r) client can.ready.request) checked stands.formed.device holds.present.lawful can.ready.none can.ready.checked_as can.states.states
-      (map (λ f. f.1) resolved.in_fences) (ap (map (λ f. f.1)) (sym can.asks.in_fences)))
-      has.set_up
-
-  -- the tail of the commit
+  -- the commit
 
   abbrev swapped : Commit
   swapped = new_commit (machine r) client can.ready.request
@@ -403,20 +377,16 @@ module _ (r : Run) (st : Stores) (client : ℕ) (checked : Checked) (resolved : 
   fence_at (suc (suc (suc zero))) low = id_at 3 low
   fence_at (suc (suc (suc (suc n)))) low = absurd (omega (arith, low))
 
-  tail_for : IsTailFor r.script.topology swapped client can.ready.request checked (fences_under made.things (labels_in resolved.out_fences))
-  tail_for = record {
-    client_is = refl;
-    request_is = refl;
-    is_checked = can.ready.checked_as;
-    states = record { crtcs = can.states.crtcs; planes = λ i few bit. has_plane checked i can.states.states few bit };
-    fences = fence_at;
-  }
+  signed : AreSignalsOf r.script.topology swapped (signals_for client can.ready.request (fences_under made.things (labels_in resolved.out_fences)))
+  signed = record { client = refl; user_data = refl; event = refl; out_fences = fence_at }
 
-  tailed : AreTailsOf r.script.topology (next r.script (machine r) (step.Swap client)).device.commits (next r.script (machine r) (step.Swap client)).device.marks (next r.script (machine r) (step.Swap client)).records.latches tails
-  tailed =
-      tails_follow.swap_follows r.script (machine r) client can.ready.request checked (fences_under made.things (labels_in resolved.out_fences)) roomy_tails tails can.ready.at
-      (has.tails_stand r.script.topology (machine r).device.commits (machine r).device.marks (machine r).records.latches stands.stores.tails) tail_for
-      (subst (λ k. StandsAfterSwap k client can.ready.request checked (fences_under made.things (labels_in resolved.out_fences)) roomy_tails tails) is_number (has.kept can.ready.request at_command))
+  tracked : IsInStep r.script.topology (next r.script (machine r) (step.Swap client)) tracker
+  tracked =
+      swap_follows r.script (machine r) client can.ready.request st.tracker tracker
+      (signals_for client can.ready.request (fences_under made.things (labels_in resolved.out_fences))) checked
+      (map (λ f. f.1) resolved.in_fences) can.ready.at stands.stores.tracker signed
+      (checked_for r.script.topology swapped checked stands.formed.device holds.present.lawful can.ready.none can.ready.checked_as can.states)
+      (ap (map (λ f. f.1)) (sym can.asks.in_fences)) (has.set_up can.ready.request at_command)
 
   -- the out-fences of commits
 
@@ -485,7 +455,7 @@ module _ (r : Run) (st : Stores) (client : ℕ) (checked : Checked) (resolved : 
   out_fences_stand = rw left.commits out_fences_made_now
 
   committed_stands : StandsAt r.script (next r.script (machine r) (step.Swap client))
-      (record st { clients = clients; journal = journal; replies = replies; made = made; present = present; fences = fences; queues = slice_set queues (client - 1) queue; tracker = tracker; tails = tails })
+      (record st { clients = clients; journal = journal; replies = replies; made = made; present = present; fences = fences; queues = slice_set queues (client - 1) queue; tracker = tracker })
   committed_stands = record {
     clients = clients_stand;
     recorded = recorded;
@@ -495,14 +465,13 @@ module _ (r : Run) (st : Stores) (client : ℕ) (checked : Checked) (resolved : 
     queues = queues_committed r st client checked resolved stands can queues queue has.queues_stand has.reserved has.unread;
     out_fenced = out_fences_stand;
     tracker = tracked;
-    tails = tailed;
     registers = others_follow r.script (machine r) (step.Swap client) st.registers refl stands.stores.registers;
     going = record { size = stands.stores.going.size; go = λ index low. ap (λ (go : List (ℕ × Option ℕ)). read None go (object_id Crtc index)) left.go ∙ stands.stores.going.go index low };
     ended = left.stalled ∙ stands.stores.ended;
   }
 
   pub commits : (before steps : List Step) → before ≡ r.steps → steps ≡ before ++ step.Swap client ∷ []
-      → Stands (record { script = r.script; steps = steps }) (record st { clients = clients; journal = journal; replies = replies; made = made; present = present; fences = fences; queues = slice_set queues (client - 1) queue; tracker = tracker; tails = tails })
+      → Stands (record { script = r.script; steps = steps }) (record st { clients = clients; journal = journal; replies = replies; made = made; present = present; fences = fences; queues = slice_set queues (client - 1) queue; tracker = tracker })
   commits before steps is more =
-      goes_on r st (record st { clients = clients; journal = journal; replies = replies; made = made; present = present; fences = fences; queues = slice_set queues (client - 1) queue; tracker = tracker; tails = tails }) (step.Swap client) refl refl has.counted steps
+      goes_on r st (record st { clients = clients; journal = journal; replies = replies; made = made; present = present; fences = fences; queues = slice_set queues (client - 1) queue; tracker = tracker }) (step.Swap client) refl refl has.counted steps
       (more ∙ ap (λ (xs : List Step). xs ++ step.Swap client ∷ []) is) stands can.legal committed_stands

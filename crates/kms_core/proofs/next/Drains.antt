@@ -5,7 +5,7 @@ use Rattle.std.specs.List.{list_all}
 use Rattle.std.proofs.lemmas.Bool.{false≢true}
 use Rattle.kms_model.specs.Machine.Commits.{is_cleaned}
 use Rattle.kms_model.specs.Machine.Histories.{client_numbers, commit_numbers, is_at_end, is_drained}
-use Rattle.kms_tails.specs.InStep as tails
+use Rattle.kms_track.specs.MachineLaws.{FindsFirst, IsFirstFrom}
 use Rattle.kms_core.specs.Run.{Run, machine}
 use Rattle.kms_core.specs.Stands.{Stores, Stands}
 use Rattle.kms_core.proofs.stores.Ranges.{all_pass, one_fails}
@@ -16,15 +16,15 @@ none_is None false e = absurd (false≢true e)
 none_is (Some a) true e = absurd (false≢true (sym e))
 none_is (Some a) false e = refl
 
-cleaned_from : (r : Run) (o : Option ℕ) → tails.IsFirstFrom (machine r).device.marks (length (machine r).device.commits) 0 o → is_none o ≡ list_all (is_cleaned (machine r).device) (commit_numbers (machine r))
+cleaned_from : (r : Run) (o : Option ℕ) → IsFirstFrom (machine r).device.marks (length (machine r).device.commits) 0 o → is_none o ≡ list_all (is_cleaned (machine r).device) (commit_numbers (machine r))
 cleaned_from r None first = sym (all_pass (is_cleaned (machine r).device) 0 (length (machine r).device.commits) (λ j low high. first j low (omega (arith, high))))
 cleaned_from r (Some k) first =
     let within = first.1 in
     sym (one_fails (is_cleaned (machine r).device) 0 (length (machine r).device.commits) k (omega arith) (omega (arith, within)) first.2)
 
-pub cleaned_told : (r v : Run) (st : Stores) (o : Option ℕ) (b : Bool) → Stands r st → r ≡ v → tails.FindsFirst st.tails 0 o → is_some o ≡ not b → b ≡ list_all (is_cleaned (machine v).device) (commit_numbers (machine v))
+pub cleaned_told : (r v : Run) (st : Stores) (o : Option ℕ) (b : Bool) → Stands r st → r ≡ v → FindsFirst st.tracker 0 o → is_some o ≡ not b → b ≡ list_all (is_cleaned (machine v).device) (commit_numbers (machine v))
 cleaned_told r v st o b stands same first none =
-    none_is o b none ∙ cleaned_from r o (first r.script.topology (machine r).device.commits (machine r).device.marks (machine r).records.latches stands.stores.tails)
+    none_is o b none ∙ cleaned_from r o (first r.script.topology (machine r).device.commits (machine r).device.marks (machine r).records.latches stands.stores.tracker)
     ∙ ap (λ (w : Run). list_all (is_cleaned (machine w).device) (commit_numbers (machine w))) same
 
 module _ (v : Run) where

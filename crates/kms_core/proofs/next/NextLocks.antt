@@ -46,7 +46,7 @@ use Rattle.kms_core.specs.Judging.{request_taken}
 use Rattle.kms_core.specs.Order.{AreNeeds, NeedsLocks, first_lacked, is_missing, is_open, lacks}
 use Rattle.kms_core.specs.Run.{Run, machine}
 use Rattle.kms_core.specs.Stands.{Stores, Stands}
-use Rattle.kms_core.specs.Swaps.{HasAllStates}
+use Rattle.kms_track.specs.InStep.{HasStates}
 use Rattle.kms_core.proofs.stores.AfterCommit.{there_is}
 use Rattle.kms_core.proofs.next.Finding.{any_lockable, found_filtered, found_lockable, found_those}
 use Rattle.kms_core.proofs.next.Presented.{presented}
@@ -86,7 +86,7 @@ lockable_few t Conn i device on = let lt = ltb-true i (length t.conns) on in ome
 lockable_few t Enc i device on = absurd (false≢true on)
 
 -- what the states of a check tell to be affected is what the request affects
-pub affected_alike : (r : Run) (st : Stores) (request : Request) (checked : Checked) → Stands r st → early_in r.script.topology (world r) request ≡ None → IsChecked r.script.topology (world r) request checked → HasAllStates checked
+pub affected_alike : (r : Run) (st : Stores) (request : Request) (checked : Checked) → Stands r st → early_in r.script.topology (world r) request ≡ None → IsChecked r.script.topology (world r) request checked → HasStates checked
     → affected_below checked.states.crtcs checked.named 4 ≡ affected_group r.script.topology (world r) request
 affected_alike r st request checked stands none is all =
     let t = r.script.topology in
@@ -105,7 +105,7 @@ only_crtcs crtcs = record { crtcs = crtcs; planes = 0; conns = 0 }
 
 -- as the call finds it
 pub needs_at : (r v : Run) (st : Stores) (client : ℕ) (n : Needs) (checked : Checked) → Stands r st → r ≡ v → Some n.request.now ≡ request_taken v.script (machine v) client
-    → early_in v.script.topology (world v) n.request.now ≡ None → IsChecked v.script.topology (world v) n.request.now checked → HasAllStates checked
+    → early_in v.script.topology (world v) n.request.now ≡ None → IsChecked v.script.topology (world v) n.request.now checked → HasStates checked
     → n.named ≡ record { crtcs = checked.named; planes = 0; conns = 0 } → n.affected ≡ affected_below checked.states.crtcs checked.named 4 → n.touched ≡ checked.touched → NeedsLocks v client n
 needs_at r v st client n checked stands same taken none is all named_is affected_is touched_is =
     let q = n.request.now in

@@ -55,7 +55,8 @@ use Rattle.kms_core.specs.Judging.{IsJudged, IsJudgedLate, request_taken}
 use Rattle.kms_core.specs.Next.{IsLegal}
 use Rattle.kms_core.specs.Run.{Run, machine}
 use Rattle.kms_core.specs.Stands.{Stores, Stands}
-use Rattle.kms_core.specs.Swaps.{HasAllStates, MayCommit}
+use Rattle.kms_track.specs.InStep.{HasStates}
+use Rattle.kms_core.specs.Swaps.{MayCommit}
 use Rattle.kms_core.proofs.stores.Committed.{there_at}
 use Rattle.kms_core.proofs.next.JudgedRequests.{no_refuse, no_swap, refuse_late}
 use Rattle.kms_core.proofs.Lates.{late_parts}
@@ -122,13 +123,11 @@ module _ (s : Script) (m : Machine) (client : ℕ) (request : Request) (j : Judg
 -- Accepted requests
 
 -- all that is touched is duplicated, where all is
-all_states : (t : Topology) (w : World) (request : Request) (checked : Checked) → StandBetween t w request checked.states → checked.touched ≡ touched_by t w request → HasAllStates checked
+all_states : (t : Topology) (w : World) (request : Request) (checked : Checked) → StandBetween t w request checked.states → checked.touched ≡ touched_by t w request → HasStates checked
 all_states t w request checked stand touched = record {
-  states = record {
-    planes = λ i few has. stand.all.planes i (within Plane (λ (m : Mask). m.planes) i _ (has_bit-mask_below _ (count_of t Plane) i) has);
-    conns = λ i few has. stand.all.conns i (within Conn (λ (m : Mask). m.conns) i _ (has_bit-mask_below _ (count_of t Conn) i) has);
-  };
   crtcs = λ i few has. there_at checked.states.crtcs i (stand.all.crtcs i (within Crtc (λ (m : Mask). m.crtcs) i _ (has_bit-mask_below _ (count_of t Crtc) i) has));
+  planes = λ i few has. there_at checked.states.planes i (stand.all.planes i (within Plane (λ (m : Mask). m.planes) i _ (has_bit-mask_below _ (count_of t Plane) i) has));
+  conns = λ i few has. there_at checked.states.conns i (stand.all.conns i (within Conn (λ (m : Mask). m.conns) i _ (has_bit-mask_below _ (count_of t Conn) i) has));
 }
   where
     within : (kind : Kind) (part : Mask → ℕ) (i : ℕ) (test : Bool) → has_bit (part (touched_by t w request)) i ≡ (nat_lt i (count_of t kind) && test) → has_bit (part checked.touched) i ≡ true → i < count_of t kind
@@ -163,7 +162,7 @@ checked_now r v request checked same spans =
     subst (λ (w : Run). IsChecked w.script.topology (world w) request checked) same
     (record { old = spans.stand.old; new = spans.stand.new; named = spans.named; touched = spans.touched })
 
-pub states_now : (r : Run) (request : Request) (checked : Checked) → IsSpanned r request checked → HasAllStates checked
+pub states_now : (r : Run) (request : Request) (checked : Checked) → IsSpanned r request checked → HasStates checked
 states_now r request checked spans = all_states r.script.topology (world r) request checked spans.stand spans.touched
 
 -- Decisions
@@ -245,7 +244,7 @@ unfolding legal
 going_now v client is = not-true (machine v).stalled (and_parts (not (machine v).stalled) _ is).0
 
 pub commits_now : (r v : Run) (st : Stores) (client : ℕ) (request : Request) (checked : Checked) (resolved : Resolved) → Stands r st → r ≡ v → IsLegal v (step.Swap client) → Some request ≡ request_taken v.script (machine v) client
-    → IsChecked v.script.topology (world v) request checked → HasAllStates checked → IsResolved v.script.topology (look_up (world v)) request resolved → MayCommit v client checked resolved
+    → IsChecked v.script.topology (world v) request checked → HasStates checked → IsResolved v.script.topology (look_up (world v)) request resolved → MayCommit v client checked resolved
 commits_now r v st client request checked resolved stands same is taken as_checked states asks =
     let takes = taken_parts v.script (machine v) client request taken in
     let swap = swap_parts v client request is takes in

@@ -9,7 +9,7 @@ use Rattle.kms_model.specs.declared.objects.Topology.{Topology}
 use Rattle.kms_model.specs.declared.replies.Step.{Step}
 use Rattle.kms_model.specs.declared.replies.Step.TheVariants as step
 use Rattle.kms_model.specs.Device.Objects.{exists, object_id}
-use Rattle.kms_model.specs.Machine.Commits.{commit_at, has_number, is_all_flushed, is_all_latched, is_all_written, is_claimed, is_cleaned, is_hw_done}
+use Rattle.kms_model.specs.Machine.Commits.{has_number, is_all_flushed, is_all_latched, is_all_written, is_claimed, is_cleaned, is_hw_done}
 use Rattle.kms_model.specs.Machine.Histories.{legal}
 use Rattle.kms_model.specs.Machine.Registers.{is_on_in}
 use Rattle.kms_model.specs.Machine.State.{Machine, go_at, has_value}
@@ -17,13 +17,13 @@ use Rattle.kms_model.specs.Machine.Steps.{is_crtc_of, may, may_claim}
 use Rattle.kms_model.specs.Things.Tables.{value_with_id}
 use Rattle.kms_laws.proofs.Drained.{no_cleanup, no_done, no_flush, no_write}
 use Rattle.kms_signal.proofs.SlotLemmas.{value_above}
-use Rattle.kms_tails.specs.declared.tail.Tail.{Tail}
-use Rattle.kms_tails.specs.InStep.{IsKept, IsTailOf}
-use Rattle.kms_tails.specs.Remaining.{next_flush_of, next_latch_of, next_write_of}
-use Rattle.kms_tails.specs.StepLaws.{commit_of_tail_step}
-use Rattle.kms_tails.proofs.Queries.{all_flushed_is, all_latched_is, flush_is, write_is, written_is}
-use Rattle.kms_tails.proofs.StepLemmas.{legal_below}
-use Rattle.kms_track.specs.Tracking.{pending_ready, ready_of}
+use Rattle.kms_track.specs.declared.tail.Tail.{Tail}
+use Rattle.kms_track.specs.InStep.{IsKept, IsTailOf}
+use Rattle.kms_track.specs.Tails.{next_flush_of, next_latch_of, next_write_of}
+use Rattle.kms_track.specs.StepLaws.{commit_of_tail_step}
+use Rattle.kms_track.proofs.Queries.{all_flushed_is, all_latched_is, flush_is, write_is, written_is}
+use Rattle.kms_track.proofs.StepLemmas.{legal_below}
+use Rattle.kms_track.specs.Tracking.{ready_of, tail_ready}
 use Rattle.kms_track.proofs.CheckedLemmas.{device_within}
 use Rattle.kms_track.proofs.MachineAnswers.{ready_machine}
 use Rattle.kms_core.specs.Next.{ends_next, flushes_next, is_over_tail, writes_next}
@@ -40,33 +40,33 @@ going m = record m { stalled = false }
 record IsLeft (r : Run) (k : ℕ) (x : Tail) : Type 0 where
   within : k < length (machine r).device.commits
   unclean : has_number (machine r).device.marks.cleaned k ≡ false
-  is : IsTailOf r.script.topology (commit_at r.script.topology (machine r).device.commits k) (machine r).device.marks (machine r).records.latches k x
+  is : IsTailOf r.script.topology (machine r).device.commits (machine r).device.marks (machine r).records.latches k x
 
 module _ (r v : Run) (st : Stores) (k : ℕ) (stands : Stands r st) (same : r ≡ v) where
-  is_left : (x : Tail) → Some x ≡ value_with_id st.tails.slots k → IsLeft r k x
+  is_left : (x : Tail) → Some x ≡ value_with_id st.tracker.tails.slots k → IsLeft r k x
   is_left x found =
       elim (cases_lt k (length (machine r).device.commits)) [
         | inl within ↦
-            (let kept = subst (λ (o : Option Tail). IsKept r.script.topology (commit_at r.script.topology (machine r).device.commits k) (machine r).device.marks (machine r).records.latches k o) (sym found) (stands.stores.tails.kept k within) in
+            (let kept = subst (λ (o : Option Tail). IsKept r.script.topology (machine r).device.commits (machine r).device.marks (machine r).records.latches k o) (sym found) (stands.stores.tracker.kept k within) in
             record { within = within; unclean = kept.0; is = kept.1 })
-        | inr above ↦ (let none : Some x ≡ None = found ∙ value_above st.tails.slots (length (machine r).device.commits) k stands.stores.tails.below above in absurd cc)
+        | inr above ↦ (let none : Some x ≡ None = found ∙ value_above st.tracker.tails.slots (length (machine r).device.commits) k stands.stores.tracker.below above in absurd cc)
       ]
 
   -- a commit that has no tail is cleaned, or was not set up
-  absent : (step : Step) → commit_of_tail_step step ≡ Some k → None ≡ value_with_id st.tails.slots k → legal r.script (going (machine r)) step ≡ may r.script (machine r) step
+  absent : (step : Step) → commit_of_tail_step step ≡ Some k → None ≡ value_with_id st.tracker.tails.slots k → legal r.script (going (machine r)) step ≡ may r.script (machine r) step
       → (has_number (machine r).device.marks.cleaned k ≡ true → may r.script (machine r) step ≡ false) → false ≡ may v.script (machine v) step
   absent step of_commit gone is_legal cleaned =
       sym
       (elim (cases_lt k (length (machine r).device.commits)) [
         | inl within ↦
-            cleaned (subst (λ (o : Option Tail). IsKept r.script.topology (commit_at r.script.topology (machine r).device.commits k) (machine r).device.marks (machine r).records.latches k o) (sym gone) (stands.stores.tails.kept k within))
+            cleaned (subst (λ (o : Option Tail). IsKept r.script.topology (machine r).device.commits (machine r).device.marks (machine r).records.latches k o) (sym gone) (stands.stores.tracker.kept k within)).0
         | inr above ↦
             false_from_ne_true (may r.script (machine r) step)
-            (λ may_be. (let within = legal_below r.script (going (machine r)) step k st.tails of_commit (is_legal ∙ may_be) stands.stores.tails in absurd (omega (arith, within, above))))
+            (λ may_be. (let within = legal_below r.script (going (machine r)) step k st.tracker of_commit (is_legal ∙ may_be) stands.stores.tracker in absurd (omega (arith, within, above))))
       ])
       ∙ ap (λ (w : Run). may w.script (machine w) step) same
 
-  pub write_told : (x : Tail) (kind : Kind) (index : ℕ) → Some x ≡ value_with_id st.tails.slots k → writes_next r.script.topology x kind index ≡ may v.script (machine v) (step.Write k kind index)
+  pub write_told : (x : Tail) (kind : Kind) (index : ℕ) → Some x ≡ value_with_id st.tracker.tails.slots k → writes_next r.script.topology x kind index ≡ may v.script (machine v) (step.Write k kind index)
   unfolding may
   write_told x kind index found =
       let l = is_left x found in
@@ -75,11 +75,11 @@ module _ (r v : Run) (st : Stores) (k : ℕ) (stands : Stands r st) (same : r �
       ∙ ap (λ o. is_claimed d k && (exists r.script.topology kind index && has_value (object_id kind index) o)) (write_is r.script.topology d (machine r).records.latches k x stands.formed.device l.is)
       ∙ ap (λ (w : Run). may w.script (machine w) (step.Write k kind index)) same
 
-  pub write_absent : (kind : Kind) (index : ℕ) → None ≡ value_with_id st.tails.slots k → false ≡ may v.script (machine v) (step.Write k kind index)
+  pub write_absent : (kind : Kind) (index : ℕ) → None ≡ value_with_id st.tracker.tails.slots k → false ≡ may v.script (machine v) (step.Write k kind index)
   unfolding may legal
   write_absent kind index gone = absent (step.Write k kind index) refl gone refl (λ clean. no_write r.script (machine r) (facts r st stands).holds k clean kind index)
 
-  pub flush_told : (x : Tail) (kind : Kind) (index : ℕ) → Some x ≡ value_with_id st.tails.slots k → flushes_next r.script.topology x kind index ≡ may v.script (machine v) (step.Flush k kind index)
+  pub flush_told : (x : Tail) (kind : Kind) (index : ℕ) → Some x ≡ value_with_id st.tracker.tails.slots k → flushes_next r.script.topology x kind index ≡ may v.script (machine v) (step.Flush k kind index)
   unfolding may
   flush_told x kind index found =
       let l = is_left x found in
@@ -88,11 +88,11 @@ module _ (r v : Run) (st : Stores) (k : ℕ) (stands : Stands r st) (same : r �
       ∙ ap (λ o. is_all_written r.script.topology d k && (exists r.script.topology kind index && has_value (object_id kind index) o)) (flush_is r.script.topology d (machine r).records.latches k x stands.formed.device l.is)
       ∙ ap (λ (w : Run). may w.script (machine w) (step.Flush k kind index)) same
 
-  pub flush_absent : (kind : Kind) (index : ℕ) → None ≡ value_with_id st.tails.slots k → false ≡ may v.script (machine v) (step.Flush k kind index)
+  pub flush_absent : (kind : Kind) (index : ℕ) → None ≡ value_with_id st.tracker.tails.slots k → false ≡ may v.script (machine v) (step.Flush k kind index)
   unfolding may legal
   flush_absent kind index gone = absent (step.Flush k kind index) refl gone refl (λ clean. no_flush r.script (machine r) (facts r st stands).holds k clean kind index)
 
-  pub done_told : (x : Tail) → Some x ≡ value_with_id st.tails.slots k → ends_next x ≡ may v.script (machine v) (step.HwDone k)
+  pub done_told : (x : Tail) → Some x ≡ value_with_id st.tracker.tails.slots k → ends_next x ≡ may v.script (machine v) (step.HwDone k)
   unfolding may
   done_told x found =
       let l = is_left x found in
@@ -103,7 +103,7 @@ module _ (r v : Run) (st : Stores) (k : ℕ) (stands : Stands r st) (same : r �
       ∙ ap (λ b. is_claimed d k && (is_all_written r.script.topology d k && (is_all_flushed r.script.topology d k && not b))) l.is.progress.done
       ∙ ap (λ (w : Run). may w.script (machine w) (step.HwDone k)) same
 
-  pub done_absent : None ≡ value_with_id st.tails.slots k → false ≡ may v.script (machine v) (step.HwDone k)
+  pub done_absent : None ≡ value_with_id st.tracker.tails.slots k → false ≡ may v.script (machine v) (step.HwDone k)
   unfolding may legal
   done_absent gone = absent (step.HwDone k) refl gone refl (λ clean. no_done r.script (machine r) (facts r st stands).holds k clean)
 
@@ -113,7 +113,7 @@ module _ (r v : Run) (st : Stores) (k : ℕ) (stands : Stands r st) (same : r �
   over_unclean true false c off = refl
   over_unclean false b c off = refl
 
-  pub cleanup_told : (x : Tail) → Some x ≡ value_with_id st.tails.slots k → is_over_tail x ≡ may v.script (machine v) (step.Cleanup k)
+  pub cleanup_told : (x : Tail) → Some x ≡ value_with_id st.tracker.tails.slots k → is_over_tail x ≡ may v.script (machine v) (step.Cleanup k)
   unfolding may
   cleanup_told x found =
       let l = is_left x found in
@@ -123,7 +123,7 @@ module _ (r v : Run) (st : Stores) (k : ℕ) (stands : Stands r st) (same : r �
       ∙ over_unclean (is_hw_done d k) (is_all_latched r.script.topology d (machine r).records.latches k) (is_cleaned d k) l.unclean
       ∙ ap (λ (w : Run). may w.script (machine w) (step.Cleanup k)) same
 
-  pub cleanup_absent : None ≡ value_with_id st.tails.slots k → false ≡ may v.script (machine v) (step.Cleanup k)
+  pub cleanup_absent : None ≡ value_with_id st.tracker.tails.slots k → false ≡ may v.script (machine v) (step.Cleanup k)
   unfolding may legal
   cleanup_absent gone = absent (step.Cleanup k) refl gone refl (λ clean. no_cleanup r.script (machine r) (facts r st stands).holds k clean)
 
@@ -131,14 +131,12 @@ module _ (r v : Run) (st : Stores) (k : ℕ) (stands : Stands r st) (same : r �
 
   claim_within : k < length (machine r).device.commits → ready_of st.tracker st.fences k ≡ may_claim r.script.topology (machine r) k
   claim_within within =
-      ready_machine r.script.topology (machine r) st.tracker st.fences k stands.stores.tracker (device_within r.script.topology stands.formed.device) (λ id is. stands.stores.fences.same id (waited_made r st k id stands within is))
+      ready_machine r.script.topology (machine r) st.tracker stands.stores.tracker (device_within r.script.topology stands.formed.device) st.fences k (λ id is. stands.stores.fences.same id (waited_made r st k id stands within is))
 
   claim_above : length (machine r).device.commits ≤ k → ready_of st.tracker st.fences k ≡ may_claim r.script.topology (machine r) k
   unfolding may_claim
   claim_above above =
-      let keeps = stands.stores.tracker.keeps in
-      let count = keeps.count in
-      ap (pending_ready st.tracker st.fences) (value_above st.tracker.pending.slots st.tracker.count k keeps.below (omega (arith, count, above)))
+      ap (tail_ready st.tracker st.fences) (value_above st.tracker.tails.slots (length (machine r).device.commits) k stands.stores.tracker.below above)
       ∙ sym (and_left (nat_lt k (length (machine r).device.commits)) _ (le-ltb k (length (machine r).device.commits) above))
 
   pub claim_told : ready_of st.tracker st.fences k ≡ may v.script (machine v) (step.Claim k)

@@ -31,7 +31,6 @@ stands_beside s old new st clients same now stands = record {
   out_fenced = rw same.device stands.out_fenced;
   queues = rw same.events stands.queues;
   tracker = rw (same.device, same.records) stands.tracker;
-  tails = rw (same.device, same.records) stands.tails;
   registers = rw same.device stands.registers;
   going = rw same.device stands.going;
   ended = rw same.stalled stands.ended;
@@ -62,7 +61,6 @@ stands_moved s m client records world signalled events st clients journal replie
   out_fenced = λ k index id low few is. kept id (stands.out_fenced k index id low few is);
   queues = queues_stand;
   tracker = rw latches stands.tracker;
-  tails = rw latches stands.tails;
   registers = stands.registers;
   going = record { size = stands.going.size; go = stands.going.go };
   ended = stands.ended;

@@ -37,12 +37,9 @@ use Rattle.kms_laws.proofs.Words.{AreKept}
 use Rattle.kms_things.specs.Present.{IsPresent}
 use Rattle.kms_things.proofs.SeenStates.{present_seen}
 use Rattle.kms_track.proofs.There.{in_left, in_right}
-use Rattle.kms_track.specs.StepLaws.{HasStates}
+use Rattle.kms_track.specs.InStep.{HasStates}
 use Rattle.kms_core.specs.SwappedIn.{IsSwappedIn}
-use Rattle.kms_core.specs.Swaps.{HasAllStates}
 use Rattle.kms_core.proofs.stores.AfterCommit.{swapped_agree, swapped_whole}
-
--- What is touched was duplicated
 
 -- what is there in a list is there by its place
 pub there_at : {S : Type 0} (states : List (Option (Both S))) (i : ℕ) → is_some (state_at states i) ≡ true → is_some (slice_index_or states i None) ≡ true
@@ -52,15 +49,9 @@ there_at {S} states i some = of_slot (slice_get states i) refl some where
   of_slot (Some None) is some = absurd cc
   of_slot (Some (Some both)) is some = ap is_some (get_or_from_slice_get states i (Some both) None is)
 
-pub has_plane : (checked : Checked) (i : ℕ) → HasStates checked → i < 16 → has_bit checked.touched.planes i ≡ true → is_some (slice_index_or checked.states.planes i None) ≡ true
-has_plane checked i states few has = there_at checked.states.planes i (states.planes i few has)
-
-has_conn : (checked : Checked) (i : ℕ) → HasStates checked → i < 8 → has_bit checked.touched.conns i ≡ true → is_some (slice_index_or checked.states.conns i None) ≡ true
-has_conn checked i states few has = there_at checked.states.conns i (states.conns i few has)
-
 -- What was not duplicated is as it was
 
-module _ (t : Topology) (w : World) (r : Request) (at : IsRequestAt t w r) (checked : Checked) (is : IsChecked t w r checked) (has : HasAllStates checked) where
+module _ (t : Topology) (w : World) (r : Request) (at : IsRequestAt t w r) (checked : Checked) (is : IsChecked t w r checked) (has : HasStates checked) where
   few : HasFewObjects t
   few = few_objects t at.device
 
@@ -90,7 +81,7 @@ module _ (t : Topology) (w : World) (r : Request) (at : IsRequestAt t w r) (chec
   plane_same i low none =
       (same_where Plane i (in_right (ids_of t Crtc) _ (object_id Plane i) (in_left (ids_of t Plane) _ (object_id Plane i) (ids-has t Plane i low)))
       (λ touched. none_there (slice_index_or checked.states.planes i None) none
-      (has_plane checked i has.states (omega (arith, low, few.planes))
+      (has.planes i (omega (arith, low, few.planes))
       (ap (λ (mask : Mask). has_bit mask.planes i) is.touched ∙ has_bit-mask_below (λ index. touches_of_kind Plane t w r (object_id Plane index)) (count_of t Plane) i
       ∙ and_from _ _ (lt-ltb i (count_of t Plane) low) (sym (touched_as Plane i (omega (arith, low, few.planes))) ∙ touched))))).plane
       (kind_of-object Plane i (omega (arith, low, few.planes)))
@@ -100,7 +91,7 @@ module _ (t : Topology) (w : World) (r : Request) (at : IsRequestAt t w r) (chec
       ap (λ n. record { crtc = n })
       ((same_where Conn i (in_right (ids_of t Crtc) _ (object_id Conn i) (in_right (ids_of t Plane) _ (object_id Conn i) (ids-has t Conn i low)))
       (λ touched. none_there (slice_index_or checked.states.conns i None) none
-      (has_conn checked i has.states (omega (arith, low, few.conns))
+      (has.conns i (omega (arith, low, few.conns))
       (ap (λ (mask : Mask). has_bit mask.conns i) is.touched ∙ has_bit-mask_below (λ index. touches_of_kind Conn t w r (object_id Conn index)) (count_of t Conn) i
       ∙ and_from _ _ (lt-ltb i (count_of t Conn) low) (sym (touched_as Conn i (omega (arith, low, few.conns))) ∙ touched))))).connector
       (kind_of-object Conn i (omega (arith, low, few.conns))))

@@ -15,11 +15,9 @@ use Rattle.kms_clients.specs.Standing.{Standing}
 use Rattle.kms_regs.specs.File.{RegisterFile, StandsForDevice}
 use Rattle.kms_signal.proofs.InStepLemmas.{no_fences, no_events}
 use Rattle.kms_signal.specs.Queues.{Queue, empty_queue}
-use Rattle.kms_tails.proofs.InStepLemmas.{first_stands}
-use Rattle.kms_tails.specs.Remaining.{no_tails}
+use Rattle.kms_track.proofs.SettingUp.{first_stands}
 use Rattle.kms_things.specs.Present.{IsPresent}
-use Rattle.kms_track.proofs.InStepLemmas.{first_in_step}
-use Rattle.kms_track.specs.Laws.{no_tracking}
+use Rattle.kms_track.specs.Tracking.{no_tracking}
 use Rattle.kms_core.specs.Stands.{HasSpare, Stands, Stores}
 
 -- the stores before the first step, but for those whose making says that they stand
@@ -34,7 +32,6 @@ first_stores clients present queues registers = record {
   fences = record { slots = []; room = 0 };
   queues = queues;
   tracker = no_tracking;
-  tails = no_tails;
   registers = registers;
   goes = replicate 4 None;
   stalled = false;
@@ -59,8 +56,7 @@ stands_first s clients present queues registers formed clients_stand present_sta
       size = ap length queues_are ∙ length-replicate (length s.clients) empty_queue;
       queue = λ client low high. rw (queues_are, get_or-replicate (length s.clients) (client - 1) empty_queue empty_queue (omega arith)) (no_events client);
     };
-    tracker = first_in_step s.topology;
-    tails = first_stands s.topology;
+    tracker = first_stands s.topology;
     registers = registers_stand;
     going = record { size = refl; go = λ index low. sym (get_or-replicate 4 index None None low) };
     ended = refl;

@@ -49,14 +49,13 @@ use Rattle.kms_core.proofs.freeing.FreedMakes.{MadeFrees}
 use Rattle.kms_core.proofs.freeing.FreedSteps.{IsTold, SameNeeds, cleaned_as, cleanup_told, each_of, keeps_by, needed_by}
 use Rattle.kms_core.proofs.freeing.StoredSteps.{WereStored, closed_held, closed_were, needed_held, quiet_stored, same_stored, told_stored}
 use Rattle.kms_things.specs.Counting.{fbs_after}
-use Rattle.kms_things.specs.Made.{Made}
 use Rattle.kms_model.specs.Things.Kept.{fbs_taken}
 use Rattle.kms_core.proofs.stores.Histories.{goes_freeing, with_fbs, with_freed}
 use Rattle.kms_core.proofs.stores.StoredCalls.{IsLeft, LeavesFbs, added_takes, closed_is, execute_leaves, taken_stored}
 
 -- the stores that stand for a machine tell what it needs
-pub tell_needs : (s : Script) (m : Machine) (st : Stores) → IsDevice s.topology → StandsAt s m st → TellNeeds s.topology m st.made st.present st.registers st.tails s.topology.crtcs
-tell_needs s m st device stands = record { device = device; count = refl; world = stands.world; written = stands.registers; kept = stands.tails }
+pub tell_needs : (s : Script) (m : Machine) (st : Stores) → IsDevice s.topology → StandsAt s m st → TellNeeds s.topology m st.made st.present st.registers st.tracker s.topology.crtcs
+tell_needs s m st device stands = record { device = device; count = refl; world = stands.world; written = stands.registers; kept = stands.tracker }
 
 -- There are places for candidates that are needed.
 
@@ -154,7 +153,7 @@ kept_held r st k ids stands within unclean A =
 pub goes_told : (r : Run) (old new : Stores) (step : Step) (ids : List ℕ) (freed : Reserved (ℕ × ℕ)) (made : Made)
     → IsTold r.script.topology (machine r) (next r.script (machine r) step) ids
     → WereStored r.script.topology (machine r) (next r.script (machine r) step) new.made.fbs
-    → Frees new.made made new.present new.registers new.tails r.script.topology.crtcs ids old.freed freed
+    → Frees new.made made new.present new.registers new.tracker r.script.topology.crtcs ids old.freed freed
     → (steps : List Step) → steps ≡ r.steps ++ step ∷ [] → Stands r old → legal r.script (machine r) step ≡ true
     → StandsAt r.script (next r.script (machine r) step) new
     → Stands (record { script = r.script; steps = steps }) (record new { freed = freed; made = made })
@@ -180,7 +179,7 @@ latches_by s m n c l (inr latched) of_crtc is_crtc one = latched
 pub goes_latching : (r : Run) (old new : Stores) (step : Step) (c : ℕ) (ids : List ℕ) (freed : Reserved (ℕ × ℕ)) (made : Made)
     → Latches r.script (machine r) (next r.script (machine r) step) c
     → AreAllOf ids (λ id. picture_names id (decoded_picture r.script.topology (machine r).device.live c))
-    → Frees new.made made new.present new.registers new.tails r.script.topology.crtcs ids old.freed freed → new.made.fbs ≡ old.made.fbs
+    → Frees new.made made new.present new.registers new.tracker r.script.topology.crtcs ids old.freed freed → new.made.fbs ≡ old.made.fbs
     → (steps : List Step) → steps ≡ r.steps ++ step ∷ [] → Stands r old → legal r.script (machine r) step ≡ true
     → StandsAt r.script (next r.script (machine r) step) new
     → Stands (record { script = r.script; steps = steps }) (record new { freed = freed; made = made })
@@ -195,7 +194,7 @@ goes_latching r old new step c ids freed made L A frees same_fbs steps is stands
 pub goes_cleaning : (r : Run) (old new : Stores) (k : ℕ) (ids : List ℕ) (freed : Reserved (ℕ × ℕ)) (made : Made)
     → k < length (machine r).device.commits → is_cleaned (machine r).device k ≡ false
     → AreAllOf ids (λ id. commit_keeps r.script.topology (machine r).device id k)
-    → Frees new.made made new.present new.registers new.tails r.script.topology.crtcs ids old.freed freed → new.made.fbs ≡ old.made.fbs
+    → Frees new.made made new.present new.registers new.tracker r.script.topology.crtcs ids old.freed freed → new.made.fbs ≡ old.made.fbs
     → (steps : List Step) → steps ≡ r.steps ++ step.Cleanup k ∷ [] → Stands r old
     → legal r.script (machine r) (step.Cleanup k) ≡ true → StandsAt r.script (next r.script (machine r) (step.Cleanup k)) new
     → Stands (record { script = r.script; steps = steps }) (record new { freed = freed; made = made })
@@ -249,14 +248,14 @@ module _ (r : Run) (old : Stores) (client : ℕ) (c : Command) (told : Reply) (s
   -- what is freed stands after the step
   pub made_freed : (new : Stores) (freed : Reserved (ℕ × ℕ)) (left : Made)
       → StandsAt r.script (next r.script (machine r) (step.Make client)) new
-      → Accounts new.made left new.present new.registers new.tails r.script.topology.crtcs c told old.freed freed
+      → Accounts new.made left new.present new.registers new.tracker r.script.topology.crtcs c told old.freed freed
       → AreFreed r.script (r.steps ++ step.Make client ∷ []) freed
   made_freed new freed left after accounts = at c told frees_made accounts where
     plain : IsPlainScript r.script
     plain = plain-from r.script stands.formed
 
     at : (c : Command) (a : Reply) → MadeFrees r.script.topology (machine r) (next r.script (machine r) (step.Make client)) client c a
-        → Accounts new.made left new.present new.registers new.tails r.script.topology.crtcs c a old.freed freed
+        → Accounts new.made left new.present new.registers new.tracker r.script.topology.crtcs c a old.freed freed
         → AreFreed r.script (r.steps ++ step.Make client ∷ []) freed
     at (command.AddFb label buffer) (reply.Made id) frees kept =
         added_freed r.script r.steps
@@ -301,12 +300,12 @@ module _ (r : Run) (old : Stores) (client : ℕ) (c : Command) (told : Reply) (s
   -- what is needed after the step is stored then
   pub made_stored : (new : Stores) (freed : Reserved (ℕ × ℕ)) (left : Made)
       → StandsAt r.script (next r.script (machine r) (step.Make client)) new → new.made.fbs ≡ fbs_after old.made client c
-      → Accounts new.made left new.present new.registers new.tails r.script.topology.crtcs c told old.freed freed
+      → Accounts new.made left new.present new.registers new.tracker r.script.topology.crtcs c told old.freed freed
       → IsLeft r.script.topology (next r.script (machine r) (step.Make client)) new.made left
   made_stored new freed left after is_fbs accounts = at c told frees_made leaves_fbs is_fbs accounts where
     at : (c : Command) (a : Reply) → MadeFrees r.script.topology (machine r) (next r.script (machine r) (step.Make client)) client c a
         → LeavesFbs old.made c a (fbs_after old.made client c) → new.made.fbs ≡ fbs_after old.made client c
-        → Accounts new.made left new.present new.registers new.tails r.script.topology.crtcs c a old.freed freed
+        → Accounts new.made left new.present new.registers new.tracker r.script.topology.crtcs c a old.freed freed
         → IsLeft r.script.topology (next r.script (machine r) (step.Make client)) new.made left
     at (command.AddFb label buffer) (reply.Made id) frees leaves is_fbs kept = record {
       fbs = fbs_taken new.made.fbs id;

@@ -18,9 +18,6 @@ use Rattle.kms_laws.proofs.Turning.{run-more, legal-more}
 use Rattle.kms_core.specs.Freeing.{AreFreed, may_free}
 use Rattle.kms_core.specs.Logs.{Logged, Reserved}
 use Rattle.kms_regs.specs.File.{RegisterFile, StandsForDevice}
-use Rattle.kms_signal.specs.Rooms.{Rooms}
-use Rattle.kms_tails.specs.declared.tail.Tail.{Tail}
-use Rattle.kms_tails.specs.InStep.{AreTailsOf}
 use Rattle.kms_track.specs.InStep.{IsTrackerOf}
 use Rattle.kms_track.specs.Tracking.{Tracking}
 use Rattle.kms_core.specs.Run.{Run, machine}
@@ -96,7 +93,6 @@ told_anew s m st contexts replies ended clients answers shown freed stalled in_s
   out_fenced = stands.out_fenced;
   queues = stands.queues;
   tracker = stands.tracker;
-  tails = stands.tails;
   registers = stands.registers;
   going = stands.going;
   ended = is_ended;
@@ -119,17 +115,16 @@ with_fbs s m st fbs stands = record {
   out_fenced = stands.out_fenced;
   queues = stands.queues;
   tracker = stands.tracker;
-  tails = stands.tails;
   registers = stands.registers;
   going = stands.going;
   ended = stands.ended;
 }
 
 -- and where marks, shadow words and what follows these are told anew
-pub written_anew : (s : Script) (m : Machine) (shadow : Registers) (marks : Marks) (st : Stores) (tracker : Tracking) (v : Rooms Tail) (new : RegisterFile) → StandsForDevice s.topology (record m.device { shadow = shadow; marks = marks }) new
-    → IsTrackerOf s.topology m.device.commits marks m.records.latches tracker → AreTailsOf s.topology m.device.commits marks m.records.latches v → StandsAt s m st
-    → StandsAt s (record m { device = record m.device { shadow = shadow; marks = marks } }) (record st { tracker = tracker; tails = v; registers = new })
-written_anew s m shadow marks st tracker v new written tracked kept stands = record {
+pub written_anew : (s : Script) (m : Machine) (shadow : Registers) (marks : Marks) (st : Stores) (tracker : Tracking) (new : RegisterFile) → StandsForDevice s.topology (record m.device { shadow = shadow; marks = marks }) new
+    → IsTrackerOf s.topology m.device.commits marks m.records.latches tracker → StandsAt s m st
+    → StandsAt s (record m { device = record m.device { shadow = shadow; marks = marks } }) (record st { tracker = tracker; registers = new })
+written_anew s m shadow marks st tracker new written tracked stands = record {
   clients = stands.clients;
   recorded = stands.recorded;
   world = stands.world;
@@ -138,7 +133,6 @@ written_anew s m shadow marks st tracker v new written tracked kept stands = rec
   out_fenced = stands.out_fenced;
   queues = stands.queues;
   tracker = tracked;
-  tails = kept;
   registers = written;
   going = record { size = stands.going.size; go = stands.going.go };
   ended = stands.ended;

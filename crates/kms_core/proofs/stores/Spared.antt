@@ -7,7 +7,6 @@ use Rattle.kms_model.specs.declared.replies.Reply.{Reply}
 use Rattle.kms_model.specs.declared.replies.Step.{Step}
 use Rattle.kms_model.specs.declared.runs.Latch.{Latch}
 use Rattle.kms_model.specs.declared.tables.Slot.{Slot}
-use Rattle.kms_model.specs.Machine.Commits.{commit_at}
 use Rattle.kms_model.specs.Machine.Histories.{at, legal}
 use Rattle.kms_model.specs.Machine.State.{Machine}
 use Rattle.kms_model.specs.Things.Tables.{value_with_id}
@@ -17,10 +16,10 @@ use Rattle.kms_laws.proofs.LeftInAll.{all_shorter, cleaned_over, commits_counted
 use Rattle.kms_laws.proofs.ShorterTails.{tails_short}
 use Rattle.kms_laws.proofs.Sizes.{sum-more}
 use Rattle.kms_laws.proofs.Turning.{run-more}
-use Rattle.kms_tails.specs.declared.tail.Tail.{Tail}
-use Rattle.kms_tails.specs.InStep.{IsKept}
-use Rattle.kms_tails.specs.StepLaws.{commit_of_tail_step}
-use Rattle.kms_tails.proofs.StepLemmas.{legal_below}
+use Rattle.kms_track.specs.declared.tail.Tail.{Tail}
+use Rattle.kms_track.specs.InStep.{IsKept}
+use Rattle.kms_track.specs.StepLaws.{commit_of_tail_step}
+use Rattle.kms_track.proofs.StepLemmas.{legal_below}
 use Rattle.kms_core.specs.Decisions.{Decides}
 use Rattle.kms_core.specs.Logs.{Logged}
 use Rattle.kms_core.specs.Run.{Run, machine}
@@ -72,20 +71,20 @@ sum_table (s ∷ slots) from n =
     omega (arith, more, both, one, rest)
 
 -- at most 31 steps are left for each tail that is kept
-pub few_left : (r : Run) (st : Stores) → Stands r st → all_left r.script.topology (machine r) ≤ 31 * length st.tails.slots
+pub few_left : (r : Run) (st : Stores) → Stands r st → all_left r.script.topology (machine r) ≤ 31 * length st.tracker.tails.slots
 few_left r st stands =
     let t = r.script.topology in
     let d = (machine r).device in
-    let each = sum-more (tail_left t (machine r)) (in_table st.tails.slots) 0 (length d.commits) (λ k a b. of_commit k (value_with_id st.tails.slots k) refl (stands.stores.tails.kept k (omega (arith, b)))) in
-    let all = sum_table st.tails.slots 0 (length d.commits) in
+    let each = sum-more (tail_left t (machine r)) (in_table st.tracker.tails.slots) 0 (length d.commits) (λ k a b. of_commit k (value_with_id st.tracker.tails.slots k) refl (stands.stores.tracker.kept k (omega (arith, b)))) in
+    let all = sum_table st.tracker.tails.slots 0 (length d.commits) in
     omega (arith, each, all)
   where
-    of_commit : (k : ℕ) (o : Option Tail) → value_with_id st.tails.slots k ≡ o → IsKept r.script.topology (commit_at r.script.topology (machine r).device.commits k) (machine r).device.marks (machine r).records.latches k o
-        → tail_left r.script.topology (machine r) k ≤ in_table st.tails.slots k
-    of_commit k None is cleaned = (let none = cleaned_over r.script (machine r) k (facts r st stands).holds cleaned in omega (arith, none))
+    of_commit : (k : ℕ) (o : Option Tail) → value_with_id st.tracker.tails.slots k ≡ o → IsKept r.script.topology (machine r).device.commits (machine r).device.marks (machine r).records.latches k o
+        → tail_left r.script.topology (machine r) k ≤ in_table st.tracker.tails.slots k
+    of_commit k None is kept = (let none = cleaned_over r.script (machine r) k (facts r st stands).holds kept.0 in omega (arith, none))
     of_commit k (Some x) is kept =
         let most = tails_short r.script.topology (machine r) k (few_objects r.script.topology stands.formed.device) in
-        let full : in_table st.tails.slots k ≡ 31 = ap (λ o. 31 * one_if (is_some o)) is in
+        let full : in_table st.tracker.tails.slots k ≡ 31 = ap (λ o. 31 * one_if (is_some o)) is in
         omega (arith, most, full)
 
 -- Steps
@@ -102,7 +101,7 @@ shorter r old new step before steps stands after was more =
 
 -- a step that is of no tail
 pub other_spared : (r : Run) (old new : Stores) (step : Step) (before steps : List Step) (was made room latches : ℕ) → Stands r old → Stands (with_steps r steps) new → before ≡ r.steps → steps ≡ before ++ step ∷ [] → is_swap step ≡ false
-    → HasSpare r was latches → 31 * length old.tails.slots < made → made ≤ room + 1 → HasSpare (with_steps r steps) room latches
+    → HasSpare r was latches → 31 * length old.tracker.tails.slots < made → made ≤ room + 1 → HasSpare (with_steps r steps) room latches
 other_spared r old new step before steps was made room latches stands after same more other spare enough pushed =
     let less = (shorter r old new step before steps stands after same more).of_others other in
     let few = few_left r old stands in
@@ -120,7 +119,7 @@ tail_spared r old new step k before steps made shown room latches stands after s
 
 -- a swap
 pub swap_spared : (r : Run) (old new : Stores) (step : Step) (before steps : List Step) (made room latches : ℕ) → Stands r old → Stands (with_steps r steps) new → before ≡ r.steps → steps ≡ before ++ step ∷ []
-    → 31 * length old.tails.slots + 32 ≤ made → made ≤ room + 1 → 31 * length old.tails.slots + 31 ≤ latches → HasSpare (with_steps r steps) room latches
+    → 31 * length old.tracker.tails.slots + 32 ≤ made → made ≤ room + 1 → 31 * length old.tracker.tails.slots + 31 ≤ latches → HasSpare (with_steps r steps) room latches
 swap_spared r old new step before steps made room latches stands after same more enough pushed shown =
     let less = (shorter r old new step before steps stands after same more).of_swap in
     let few = few_left r old stands in
@@ -172,7 +171,7 @@ pub record IsOwn (r : Run) (step : Step) (k : ℕ) : Type 0 where
   pub of : commit_of_step (machine r) step ≡ Some k
 
 pub own_step : (r : Run) (st : Stores) (step : Step) (k : ℕ) → Stands r st → commit_of_tail_step step ≡ Some k → commit_of_step (machine r) step ≡ Some k → legal r.script (machine r) step ≡ true → IsOwn r step k
-own_step r st step k stands told of is = record { is_legal = is; within = legal_below r.script (machine r) step k st.tails told is stands.stores.tails; of = of }
+own_step r st step k stands told of is = record { is_legal = is; within = legal_below r.script (machine r) step k st.tracker told is stands.stores.tracker; of = of }
 
 pub own_room : (r : Run) (st : Stores) (step : Step) (k room latches : ℕ) → Stands r st → IsOwn r step k → HasSpare r room latches → HasRoom room latches
 own_room r st step k room latches stands own spare = tail_room r st step k room latches stands own.is_legal own.within own.of spare

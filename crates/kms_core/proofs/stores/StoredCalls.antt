@@ -26,8 +26,7 @@ use Rattle.kms_core.proofs.freeing.FreedMakes.{IsAdded, IsClosed}
 use Rattle.kms_core.proofs.freeing.StoredSteps.{added_stored, held_without, joined_freed, push_other, push_this, unstored, with_other, with_this}
 use Rattle.kms_things.specs.Counting.{fbs_added, fbs_after, fbs_without}
 use Rattle.kms_regs.specs.File.{RegisterFile}
-use Rattle.kms_signal.specs.Rooms.{Rooms}
-use Rattle.kms_tails.specs.declared.tail.Tail.{Tail}
+use Rattle.kms_track.specs.Tracking.{Tracking}
 use Rattle.kms_things.specs.Framebuffers.{framebuffer_entry}
 use Rattle.kms_things.specs.Made.{Made}
 use Rattle.kms_core.specs.Needs.{HasLast, TellNeeds}
@@ -195,10 +194,10 @@ pub first_held : (things : List Thing) (fbs : List (Slot Framebuffer)) (id : ℕ
 first_held things fbs id ids rest same held = (subst (AreHeld things fbs) same held).0
 
 -- the stores tell the same of a machine whatever references there are
-pub tells_still : (t : Topology) (m : Machine) (first made : Made) (present : Duplicates) (registers : RegisterFile) (tails : Rooms Tail)
-    (crtcs : ℕ) → OnlyFbs first made → TellNeeds t m first present registers tails crtcs → TellNeeds t m made present registers tails crtcs
-tells_still t m first made present registers tails crtcs only tell =
-    subst (λ z. TellNeeds t m z present registers tails crtcs) (sym only)
+pub tells_still : (t : Topology) (m : Machine) (first made : Made) (present : Duplicates) (registers : RegisterFile) (tracker : Tracking)
+    (crtcs : ℕ) → OnlyFbs first made → TellNeeds t m first present registers tracker crtcs → TellNeeds t m made present registers tracker crtcs
+tells_still t m first made present registers tracker crtcs only tell =
+    subst (λ z. TellNeeds t m z present registers tracker crtcs) (sym only)
     (record {
       device = tell.device;
       count = tell.count;

@@ -27,7 +27,6 @@ stands_with_room r st journal replies made fences steps stands is same_journal s
     out_fenced = λ k index id low few is. rw same_set (stands.stores.out_fenced k index id low few is);
     queues = stands.stores.queues;
     tracker = stands.stores.tracker;
-    tails = stands.stores.tails;
     registers = stands.stores.registers;
     going = stands.stores.going;
     ended = stands.stores.ended;

@@ -32,13 +32,11 @@ use Rattle.kms_regs.specs.StepLaws.{Blanks}
 use Rattle.kms_regs.proofs.MachineEffects as registers_follow
 use Rattle.kms_signal.specs.FenceSets.{FenceSet}
 use Rattle.kms_signal.specs.Queues.{Queue}
-use Rattle.kms_signal.specs.Rooms.{Rooms}
 use Rattle.kms_signal.proofs.StepLemmas as signals_follow
-use Rattle.kms_tails.specs.declared.tail.Tail.{Tail}
-use Rattle.kms_tails.specs.InStep.{StandsAfterLatch}
-use Rattle.kms_tails.proofs.StepLemmas as tails_follow
 use Rattle.kms_things.specs.Made.{Made}
-use Rattle.kms_track.specs.Tracking.{Tracking}
+use Rattle.kms_track.specs.Tracking.{Tracking, marked}
+use Rattle.kms_track.specs.declared.progress.Mark.TheVariants as mark
+use Rattle.kms_track.proofs.Marking.{latched_stands}
 use Rattle.kms_track.proofs.StepLemmas as tracker_follows
 use Rattle.kms_core.specs.Latching.{IsLatching, LatchIsTold, MayBlank, goes_at}
 use Rattle.kms_core.specs.Logs.{Logged}
@@ -48,12 +46,11 @@ use Rattle.kms_core.proofs.stores.CommitStates.{commits_sound, facts}
 use Rattle.kms_core.specs.Freeing.{AreAllOf}
 use Rattle.kms_core.specs.Logs.{Reserved}
 use Rattle.kms_core.specs.Needs.{Frees}
-use Rattle.kms_core.specs.Work.{AreFewTails}
+use Rattle.kms_core.specs.Work.{AreFewCommits}
 use Rattle.kms_core.proofs.stores.FreedCalls.{goes_latching, latches_by}
 use Rattle.kms_core.proofs.freeing.FreedHistories.{changes}
 use Rattle.kms_core.proofs.freeing.FreedSteps.{SameNeeds}
 use Rattle.kms_core.proofs.stores.Histories.{goes_same}
-use Rattle.kms_laws.proofs.SmallNumbers.{numbers_fit}
 use Rattle.kms_model.specs.Machine.Framebuffers.{picture_names}
 use Rattle.kms_model.specs.Machine.Registers.{decoded_picture}
 use Rattle.kms_core.proofs.tails.Latched.{FoundTail, SameParts, found_tail, going_set, is_latching, latched_shown, latches_go, latches_signalled, more_signalled, same_latches, stands_shown}
@@ -150,7 +147,7 @@ blanks_without r v st crtc shown new before steps stands same asked was more is 
     let L = signals_follow.vblank_follows s m crtc none in
     goes_same r st (record st { latches = shown; registers = new }) (step.Vblank Crtc crtc) B.needs refl refl steps
     (more ∙ ap (λ (xs : List Step). xs ++ step.Vblank Crtc crtc ∷ []) was) stands (blanks_legal r v crtc same asked)
-    (stands_shown s m (next s m (step.Vblank Crtc crtc)) st shown st.fences st.queues st.tracker st.tails new st.goes
+    (stands_shown s m (next s m (step.Vblank Crtc crtc)) st shown st.fences st.queues st.tracker new st.goes
     (record {
       same = B.same;
       recorded = is ∙ S.recorded.latched ∙ ap reverse (sym B.latches);
@@ -158,7 +155,6 @@ blanks_without r v st crtc shown new before steps stands same asked was more is 
       fenced = rw B.signalled S.fenced;
       told = record { size = S.queues.size; queue = λ client low high. L.queues (queue_of st.queues client) client (S.queues.queue client low high) };
       tracked = tracker_follows.vblank_follows s m crtc st.tracker none S.tracker;
-      kept = tails_follow.vblank_follows s m crtc st.tails none S.tails;
       written = registers_follow.vblank_follows s m crtc st.registers new S.registers blanks;
       going = going_none m.device (next s m (step.Vblank Crtc crtc)).device st.goes crtc B.go none S.going;
     })
@@ -194,11 +190,11 @@ blanks_for r v st k crtc stands same asked is =
       kept = false_from_ne_true _ (λ yes. both_bools _ (T.marks.cleaned k c yes f.is_crtc f.names) pending.unlatched);
     }
 
-blank_tail : (r : Run) (st : Stores) (k crtc : ℕ) → Stands r st → BlanksFor r k crtc → FoundTail r.script.topology (machine r).device.commits (machine r).device.marks (machine r).records.latches st.tails k
-blank_tail r st k crtc stands B = found_tail r.script.topology (machine r).device.commits (machine r).device.marks (machine r).records.latches st.tails k B.within B.kept stands.stores.tails
+blank_tail : (r : Run) (st : Stores) (k crtc : ℕ) → Stands r st → BlanksFor r k crtc → FoundTail r.script.topology (machine r).device.commits (machine r).device.marks (machine r).records.latches st.tracker k
+blank_tail r st k crtc stands B = found_tail r.script.topology (machine r).device.commits (machine r).device.marks (machine r).records.latches st.tracker k B.within B.kept stands.stores.tracker
 
 pub blank_latches : (r v : Run) (st : Stores) (k crtc count : ℕ) (picture : Picture) → Stands r st → r ≡ v → MayBlank v crtc → slice_index_or st.goes crtc None ≡ Some k
-    → IsLatching st.tails st.queues (record { crtc = crtc; commit = k; count = count; picture = picture })
+    → IsLatching st.tracker st.queues (record { crtc = crtc; commit = k; count = count; picture = picture })
 blank_latches r v st k crtc count picture stands same asked is =
     let s = r.script in
     let m = machine r in
@@ -206,7 +202,7 @@ blank_latches r v st k crtc count picture stands same asked is =
     let F = facts r st stands in
     let C = commits_sound s r.steps (plain-from s stands.formed) stands.history k B.within in
     let l : Latch = record { crtc = crtc; commit = k; count = count; picture = picture } in
-    is_latching s.topology m.device.commits m.device.marks m.records.latches m.events st.tails st.queues (length s.clients) l (blank_tail r st k crtc stands B) stands.stores.queues C.low C.high
+    is_latching s.topology m.device.commits m.device.marks m.records.latches m.events st.tracker st.queues (length s.clients) l (blank_tail r st k crtc stands B) stands.stores.queues C.low C.high
     (reserved_some F.holds.tail k (object_id Crtc crtc) count l B.is_crtc B.flushed B.unlatched refl refl refl m.events F.events)
 
 record IsBlankFor (s : Script) (m : Machine) (k crtc : ℕ) (n : Machine) : Type 0 where
@@ -229,22 +225,22 @@ count_blanked t d c true = read_same 0 d.counts c (count_at d c + 1)
 count_blanked t d c false = read_same 0 d.counts c (count_at d c + 1)
 
 -- what the calls leave of the stores
-pub record HasBlanked (st : Stores) (k crtc : ℕ) (count : ℕ) (picture : Picture) (new : RegisterFile) (w : Rooms Tail) (tracker : Tracking) (fences : FenceSet) (queues : List Queue) (shown : List Latch) : Type 0 where
+pub record HasBlanked (st : Stores) (k crtc : ℕ) (count : ℕ) (picture : Picture) (new : RegisterFile) (tracker : Tracking) (fences : FenceSet) (queues : List Queue) (shown : List Latch) : Type 0 where
   pub go : slice_index_or st.goes crtc None ≡ Some k
   pub blanks : Blanks st.registers new crtc
   pub tells : TellsBlank st.registers crtc (Some picture)
   pub counted : (t : Topology) (d : DeviceState) → StandsForDevice t d new → count ≡ count_at d (object_id Crtc crtc)
-  pub told : LatchIsTold st.tails w st.tracker tracker st.fences fences st.queues queues (record { crtc = crtc; commit = k; count = count; picture = picture })
+  pub told : LatchIsTold st.tracker tracker st.fences fences st.queues queues (record { crtc = crtc; commit = k; count = count; picture = picture })
   pub recorded : shown ≡ st.latches.items ++ record { crtc = crtc; commit = k; count = count; picture = picture } ∷ []
 
-pub blanks_with : (r v : Run) (st : Stores) (k crtc count : ℕ) (picture : Picture) (new : RegisterFile) (w : Rooms Tail) (tracker : Tracking) (fences : FenceSet) (queues : List Queue) (shown : Logged Latch) (steps : List Step)
-    → Stands r st → r ≡ v → MayBlank v crtc → steps ≡ r.steps ++ step.Vblank Crtc crtc ∷ [] → HasBlanked st k crtc count picture new w tracker fences queues shown.items
+pub blanks_with : (r v : Run) (st : Stores) (k crtc count : ℕ) (picture : Picture) (new : RegisterFile) (tracker : Tracking) (fences : FenceSet) (queues : List Queue) (shown : Logged Latch) (steps : List Step)
+    → Stands r st → r ≡ v → MayBlank v crtc → steps ≡ r.steps ++ step.Vblank Crtc crtc ∷ [] → HasBlanked st k crtc count picture new tracker fences queues shown.items
     → (ids : List ℕ) (freed : Reserved (ℕ × ℕ)) (made : Made)
     → AreAllOf ids (λ id. picture_names id (decoded_picture r.script.topology (machine r).device.live (object_id Crtc crtc)))
-    → Frees st.made made st.present new w r.script.topology.crtcs ids st.freed freed
+    → Frees st.made made st.present new tracker r.script.topology.crtcs ids st.freed freed
     → Stands (record { script = r.script; steps = steps })
-    (record st { latches = shown; fences = fences; queues = queues; tracker = tracker; tails = w; registers = new; goes = slice_set st.goes crtc None; freed = freed; made = made })
-blanks_with r v st k crtc count picture new w tracker fences queues shown steps stands same asked more has ids freed made all frees =
+    (record st { latches = shown; fences = fences; queues = queues; tracker = tracker; registers = new; goes = slice_set st.goes crtc None; freed = freed; made = made })
+blanks_with r v st k crtc count picture new tracker fences queues shown steps stands same asked more has ids freed made all frees =
     let s = r.script in
     let t = s.topology in
     let m = machine r in
@@ -261,11 +257,11 @@ blanks_with r v st k crtc count picture new w tracker fences queues shown steps 
     let picture_is : picture ≡ latched_picture t d c = picture_from (go_at d c) (latched_picture t d c) picture (has.tells t d S.registers) in
     let one : n.records.latches ≡ l ∷ m.records.latches =
     registers_follow.vblank_recorded s m k crtc B.go ∙ (λ i. record { crtc = sym index_is i; commit = k; count = sym count_is i; picture = sym picture_is i } ∷ m.records.latches) in
-    goes_latching r st (record st { latches = shown; fences = fences; queues = queues; tracker = tracker; tails = w; registers = new; goes = slice_set st.goes crtc None }) (step.Vblank Crtc crtc) c ids freed made
+    goes_latching r st (record st { latches = shown; fences = fences; queues = queues; tracker = tracker; registers = new; goes = slice_set st.goes crtc None }) (step.Vblank Crtc crtc) c ids freed made
     (latches_by s m n c l
     (changes s m (step.Vblank Crtc crtc) (blanks_legal r v crtc same asked)) index_is B.is_crtc one) all frees refl steps more stands
     (blanks_legal r v crtc same asked)
-    (latched_shown r n st (count_at d c + 1) d.marks st.tails w tracker fences queues shown l new (slice_set st.goes crtc None)
+    (latched_shown r n st (count_at d c + 1) d.marks st.tracker tracker fences queues shown l new (slice_set st.goes crtc None)
     (record {
       low = B.low;
       within = B.within;
@@ -279,13 +275,13 @@ blanks_with r v st k crtc count picture new w tracker fences queues shown steps 
       latched = has.recorded;
     })
     (rw has.told.tracker (tracker_follows.vblank_with_go_follows s m k crtc st.tracker B.within B.low B.go S.tracker))
-    (tails_follow.vblank_with_go_follows s m k crtc st.tails w B.go B.within B.low S.tails has.told.tails)
     (registers_follow.vblank_follows s m crtc st.registers new S.registers has.blanks)
     (going_set d n.device st.goes crtc None O.go B.low S.going) stands)
 
--- the tails after it are few
-pub few_blanked : (r v : Run) (st : Stores) (k crtc : ℕ) (w : Rooms Tail) → Stands r st → r ≡ v → MayBlank v crtc → slice_index_or st.goes crtc None ≡ Some k → StandsAfterLatch k crtc st.tails w → AreFewTails w
-few_blanked r v st k crtc w stands same asked is latches =
+-- the commits after it are few
+pub few_blanked : (r v : Run) (st : Stores) (k crtc : ℕ) → Stands r st → r ≡ v → MayBlank v crtc → slice_index_or st.goes crtc None ≡ Some k
+    → AreFewCommits (marked st.tracker k (mark.Latched crtc))
+few_blanked r v st k crtc stands same asked is =
     let m = machine r in
     let B = blanks_for r v st k crtc stands same asked is in
     let fit = (numbers_fit r.script r.steps stands.formed stands.history).commits in
@@ -295,7 +291,7 @@ few_blanked r v st k crtc w stands same asked is latches =
       commits = m.device.commits;
       marks = m.device.marks;
       latches = l ∷ m.records.latches;
-      stand = latches r.script.topology m.device.commits m.device.marks m.records.latches l B.within refl refl stands.stores.tails;
+      stand = latched_stands r.script.topology m.device.commits m.device.marks m.records.latches st.tracker k B.within stands.stores.tracker l refl B.low;
       few = omega (arith, fit);
     }
 

@@ -15,7 +15,7 @@ use Rattle.kms_model.specs.Machine.Commits.{commit_touches, has_number, has_pair
 use Rattle.kms_model.specs.Machine.Effects.{next}
 use Rattle.kms_model.specs.Machine.Histories.{legal}
 use Rattle.kms_model.specs.Machine.Registers.{is_on_in, read}
-use Rattle.kms_model.specs.Machine.State.{DeviceState, Machine, count_at}
+use Rattle.kms_model.specs.Machine.State.{DeviceState, Machine, Marks, count_at}
 use Rattle.kms_model.specs.Machine.Steps.{may, next_flush}
 use Rattle.kms_model.proofs.Items.{list_all-at}
 use Rattle.kms_model.proofs.KindsOfIds.{index_of-object}
@@ -31,14 +31,12 @@ use Rattle.kms_regs.specs.StepLaws.{Flushes}
 use Rattle.kms_regs.proofs.MachineEffects as registers_follow
 use Rattle.kms_signal.specs.FenceSets.{FenceSet}
 use Rattle.kms_signal.specs.Queues.{Queue}
-use Rattle.kms_signal.specs.Rooms.{Rooms}
 use Rattle.kms_signal.proofs.StepLemmas as signals_follow
-use Rattle.kms_tails.specs.declared.tail.Tail.{Tail}
-use Rattle.kms_tails.specs.InStep as tails
-use Rattle.kms_tails.specs.InStep.{StandsAfter, StandsAfterLatch}
-use Rattle.kms_tails.proofs.StepLemmas as tails_follow
 use Rattle.kms_things.specs.Made.{Made}
-use Rattle.kms_track.specs.Tracking.{Tracking}
+use Rattle.kms_track.specs.Tracking.{Tracking, marked}
+use Rattle.kms_track.specs.declared.progress.Mark.TheVariants as mark
+use Rattle.kms_track.specs.InStep.{IsTrackerOf}
+use Rattle.kms_track.proofs.Marking.{flushed_stands, latched_stands}
 use Rattle.kms_track.proofs.StepLemmas as tracker_follows
 use Rattle.kms_core.specs.Latching.{IsLatching, LatchIsTold, MayFlush}
 use Rattle.kms_core.specs.Logs.{Logged}
@@ -48,7 +46,7 @@ use Rattle.kms_core.proofs.stores.CommitStates.{commits_sound, facts}
 use Rattle.kms_core.specs.Freeing.{AreAllOf}
 use Rattle.kms_core.specs.Logs.{Reserved}
 use Rattle.kms_core.specs.Needs.{Frees}
-use Rattle.kms_core.specs.Work.{AreFewTails}
+use Rattle.kms_core.specs.Work.{AreFewCommits}
 use Rattle.kms_core.proofs.stores.FreedCalls.{goes_latching, latches_by}
 use Rattle.kms_core.proofs.freeing.FreedHistories.{changes}
 use Rattle.kms_core.proofs.freeing.FreedSteps.{SameNeeds}
@@ -156,9 +154,9 @@ active_is r st k crtc stands N = shadow_flushed r.script.topology (machine r).de
 
 -- A CRTC that is on after the commit
 
-pub flushes_on : (r v : Run) (st : Stores) (k crtc : ℕ) (shown : Logged Latch) (new : RegisterFile) (u : Rooms Tail) (before steps : List Step) → Stands r st → r ≡ v → MayFlush v k crtc → before ≡ r.steps → steps ≡ before ++ step.Flush k Crtc crtc ∷ []
-    → shown.items ≡ st.latches.items → StandsAfter k st.tails u (tails.with_flushed k (object_id Crtc crtc)) → Flushes st.registers new crtc → TellsPicture st.registers crtc None
-    → Stands (record { script = r.script; steps = steps }) (record st { latches = shown; tails = u; registers = new; goes = slice_set st.goes crtc (Some k) })
+pub flushes_on : (r v : Run) (st : Stores) (k crtc : ℕ) (shown : Logged Latch) (new : RegisterFile) (u : Tracking) (before steps : List Step) → Stands r st → r ≡ v → MayFlush v k crtc → before ≡ r.steps → steps ≡ before ++ step.Flush k Crtc crtc ∷ []
+    → shown.items ≡ st.latches.items → u ≡ marked st.tracker k (mark.Flushed crtc) → Flushes st.registers new crtc → TellsPicture st.registers crtc None
+    → Stands (record { script = r.script; steps = steps }) (record st { latches = shown; tracker = u; registers = new; goes = slice_set st.goes crtc (Some k) })
 flushes_on r v st k crtc shown new u before steps stands same asked was more is after flushes tells =
     let s = r.script in
     let m = machine r in
@@ -168,18 +166,17 @@ flushes_on r v st k crtc shown new u before steps stands same asked was more is 
     let on = sym shadow ∙ on_from (is_on_in m.device.shadow (object_id Crtc crtc)) _ (tells s.topology m.device S.registers) in
     let O = flush_on s m k crtc on in
     let L = signals_follow.flush_follows s m k crtc on in
-    goes_same r st (record st { latches = shown; tails = u; registers = new; goes = slice_set st.goes crtc (Some k) })
+    goes_same r st (record st { latches = shown; tracker = u; registers = new; goes = slice_set st.goes crtc (Some k) })
     (step.Flush k Crtc crtc) O.needs refl refl steps
     (more ∙ ap (λ (xs : List Step). xs ++ step.Flush k Crtc crtc ∷ []) was) stands N.is_legal
-    (stands_shown s m (next s m (step.Flush k Crtc crtc)) st shown st.fences st.queues st.tracker u new (slice_set st.goes crtc (Some k))
+    (stands_shown s m (next s m (step.Flush k Crtc crtc)) st shown st.fences st.queues u new (slice_set st.goes crtc (Some k))
     (record {
       same = flush_same s m k crtc;
       recorded = is ∙ S.recorded.latched ∙ ap reverse (sym O.latches);
       signalled = L.fences st.fences S.fences;
       fenced = rw O.signalled S.fenced;
       told = record { size = S.queues.size; queue = λ client low high. L.queues (queue_of st.queues client) client (S.queues.queue client low high) };
-      tracked = tracker_follows.flush_follows s m k crtc st.tracker on S.tracker;
-      kept = tails_follow.flush_follows s m k crtc st.tails u N.is_legal S.tails on after;
+      tracked = rw after (tracker_follows.flush_follows s m k crtc N.low on st.tracker N.is_legal S.tracker);
       written = registers_follow.flush_follows s m k crtc st.registers new shadow S.registers flushes;
       going = going_set m.device (next s m (step.Flush k Crtc crtc)).device st.goes crtc (Some k) O.go N.low S.going;
     })
@@ -187,14 +184,24 @@ flushes_on r v st k crtc shown new u before steps stands same asked was more is 
 
 -- One that is off
 
--- the tail of the commit, once the flush is marked
-pub flushed_tail : (r : Run) (st : Stores) (k crtc : ℕ) (u : Rooms Tail) → Stands r st → FlushesNext r k crtc → StandsAfter k st.tails u (tails.with_flushed k (object_id Crtc crtc))
-    → FoundTail r.script.topology (machine r).device.commits (tails.with_flushed k (object_id Crtc crtc) (machine r).device.marks) (machine r).records.latches u k
-flushed_tail r st k crtc u stands N after =
-    found_tail r.script.topology (machine r).device.commits (tails.with_flushed k (object_id Crtc crtc) (machine r).device.marks) (machine r).records.latches u k N.within N.kept
-    (after r.script.topology (machine r).device.commits (machine r).device.marks (machine r).records.latches N.within stands.stores.tails)
+abbrev flushed_marks : ℕ → ℕ → Marks → Marks
+flushed_marks k crtc marks = record marks { flushed = (k, object_id Crtc crtc) ∷ marks.flushed }
 
-pub flush_latches : (r v : Run) (st : Stores) (k crtc count : ℕ) (picture : Picture) (u : Rooms Tail) → Stands r st → r ≡ v → MayFlush v k crtc → StandsAfter k st.tails u (tails.with_flushed k (object_id Crtc crtc))
+-- the tracker once the flush is marked
+flush_marked : (r : Run) (st : Stores) (k crtc : ℕ) (u : Tracking) → Stands r st → FlushesNext r k crtc → u ≡ marked st.tracker k (mark.Flushed crtc)
+    → IsTrackerOf r.script.topology (machine r).device.commits (flushed_marks k crtc (machine r).device.marks) (machine r).records.latches u
+flush_marked r st k crtc u stands N after =
+    rw after (flushed_stands r.script.topology (machine r).device.commits (machine r).device.marks (machine r).records.latches st.tracker k
+    N.within stands.stores.tracker crtc N.low)
+
+-- the tail of the commit then
+pub flushed_tail : (r : Run) (st : Stores) (k crtc : ℕ) (u : Tracking) → Stands r st → FlushesNext r k crtc → u ≡ marked st.tracker k (mark.Flushed crtc)
+    → FoundTail r.script.topology (machine r).device.commits (flushed_marks k crtc (machine r).device.marks) (machine r).records.latches u k
+flushed_tail r st k crtc u stands N after =
+    found_tail r.script.topology (machine r).device.commits (flushed_marks k crtc (machine r).device.marks) (machine r).records.latches u k N.within N.kept
+    (flush_marked r st k crtc u stands N after)
+
+pub flush_latches : (r v : Run) (st : Stores) (k crtc count : ℕ) (picture : Picture) (u : Tracking) → Stands r st → r ≡ v → MayFlush v k crtc → u ≡ marked st.tracker k (mark.Flushed crtc)
     → IsLatching u st.queues (record { crtc = crtc; commit = k; count = count; picture = picture })
 flush_latches r v st k crtc count picture u stands same asked after =
     let s = r.script in
@@ -203,7 +210,7 @@ flush_latches r v st k crtc count picture u stands same asked after =
     let F = facts r st stands in
     let C = commits_sound s r.steps (plain-from s stands.formed) stands.history k N.within in
     let l : Latch = record { crtc = crtc; commit = k; count = count; picture = picture } in
-    is_latching s.topology m.device.commits (tails.with_flushed k (object_id Crtc crtc) m.device.marks) m.records.latches m.events u st.queues (length s.clients) l (flushed_tail r st k crtc u stands N after) stands.stores.queues C.low C.high
+    is_latching s.topology m.device.commits (flushed_marks k crtc m.device.marks) m.records.latches m.events u st.queues (length s.clients) l (flushed_tail r st k crtc u stands N after) stands.stores.queues C.low C.high
     (reserved_some (flushed_holds s m F.holds k (object_id Crtc crtc) N.all_written N.flush).tail k (object_id Crtc crtc) count l N.flush.is_crtc (pair_now k (object_id Crtc crtc) m.device.marks.flushed) N.flushed.unlatched refl refl refl m.events F.events)
 
 count_flushed : (t : Topology) (d : DeviceState) (k c : ℕ) (b : Bool) → count_at (if b then record d { go = (c, Some k) ∷ d.go } else latched_device t d c) c ≡ count_at d c
@@ -211,23 +218,23 @@ count_flushed t d k c true = refl
 count_flushed t d k c false = refl
 
 -- what the calls leave of the stores
-pub record HasFlushedOff (st : Stores) (k crtc : ℕ) (count : ℕ) (picture : Picture) (new : RegisterFile) (u w : Rooms Tail) (tracker : Tracking) (fences : FenceSet) (queues : List Queue) (shown : List Latch) : Type 0 where
+pub record HasFlushedOff (st : Stores) (k crtc : ℕ) (count : ℕ) (picture : Picture) (new : RegisterFile) (u tracker : Tracking) (fences : FenceSet) (queues : List Queue) (shown : List Latch) : Type 0 where
   pub flushes : Flushes st.registers new crtc
   pub tells : TellsPicture st.registers crtc (Some picture)
   pub latched : (t : Topology) (d : DeviceState) → StandsForDevice t d st.registers → picture ≡ latched_picture t d (object_id Crtc crtc)
   pub counted : (t : Topology) (d : DeviceState) → StandsForDevice t d new → count ≡ count_at d (object_id Crtc crtc)
-  pub marked : StandsAfter k st.tails u (tails.with_flushed k (object_id Crtc crtc))
-  pub told : LatchIsTold u w st.tracker tracker st.fences fences st.queues queues (record { crtc = crtc; commit = k; count = count; picture = picture })
+  pub marked_as : u ≡ marked st.tracker k (mark.Flushed crtc)
+  pub told : LatchIsTold u tracker st.fences fences st.queues queues (record { crtc = crtc; commit = k; count = count; picture = picture })
   pub recorded : shown ≡ st.latches.items ++ record { crtc = crtc; commit = k; count = count; picture = picture } ∷ []
 
-pub flushes_off : (r v : Run) (st : Stores) (k crtc count : ℕ) (picture : Picture) (new : RegisterFile) (u w : Rooms Tail) (tracker : Tracking) (fences : FenceSet) (queues : List Queue) (shown : Logged Latch) (steps : List Step)
-    → Stands r st → r ≡ v → MayFlush v k crtc → steps ≡ r.steps ++ step.Flush k Crtc crtc ∷ [] → HasFlushedOff st k crtc count picture new u w tracker fences queues shown.items
+pub flushes_off : (r v : Run) (st : Stores) (k crtc count : ℕ) (picture : Picture) (new : RegisterFile) (u tracker : Tracking) (fences : FenceSet) (queues : List Queue) (shown : Logged Latch) (steps : List Step)
+    → Stands r st → r ≡ v → MayFlush v k crtc → steps ≡ r.steps ++ step.Flush k Crtc crtc ∷ [] → HasFlushedOff st k crtc count picture new u tracker fences queues shown.items
     → (ids : List ℕ) (freed : Reserved (ℕ × ℕ)) (made : Made)
     → AreAllOf ids (λ id. picture_names id (decoded_picture r.script.topology (machine r).device.live (object_id Crtc crtc)))
-    → Frees st.made made st.present new w r.script.topology.crtcs ids st.freed freed
+    → Frees st.made made st.present new tracker r.script.topology.crtcs ids st.freed freed
     → Stands (record { script = r.script; steps = steps })
-    (record st { latches = shown; fences = fences; queues = queues; tracker = tracker; tails = w; registers = new; freed = freed; made = made })
-flushes_off r v st k crtc count picture new u w tracker fences queues shown steps stands same asked more has ids freed made all frees =
+    (record st { latches = shown; fences = fences; queues = queues; tracker = tracker; registers = new; freed = freed; made = made })
+flushes_off r v st k crtc count picture new u tracker fences queues shown steps stands same asked more has ids freed made all frees =
     let s = r.script in
     let t = s.topology in
     let m = machine r in
@@ -246,15 +253,15 @@ flushes_off r v st k crtc count picture new u w tracker fences queues shown step
     let picture_is : picture ≡ latched_picture t d c = has.latched t d S.registers in
     let one : n.records.latches ≡ l ∷ m.records.latches =
     registers_follow.flush_recorded s m k crtc off ∙ (λ i. record { crtc = sym index_is i; commit = k; count = sym count_is i; picture = sym picture_is i } ∷ m.records.latches) in
-    goes_latching r st (record st { latches = shown; fences = fences; queues = queues; tracker = tracker; tails = w; registers = new })
+    goes_latching r st (record st { latches = shown; fences = fences; queues = queues; tracker = tracker; registers = new })
     (step.Flush k Crtc crtc) c ids freed made
     (latches_by s m n c l
     (changes s m (step.Flush k Crtc crtc) N.is_legal) index_is N.flush.is_crtc one) all frees refl steps more stands N.is_legal
-    (latched_shown r n st (count_at d c) (tails.with_flushed k c d.marks) u w tracker fences queues shown l new st.goes
+    (latched_shown r n st (count_at d c) (flushed_marks k crtc d.marks) u tracker fences queues shown l new st.goes
     (record {
       low = N.low;
       within = N.within;
-      found = flushed_tail r st k crtc u stands N has.marked;
+      found = flushed_tail r st k crtc u stands N has.marked_as;
       signals = signals_follow.flush_off_follows s m k crtc off;
       same = flush_same s m k crtc;
       signalled = O.signalled;
@@ -263,14 +270,14 @@ flushes_off r v st k crtc count picture new u w tracker fences queues shown step
       told = has.told;
       latched = has.recorded;
     })
-    (rw has.told.tracker (tracker_follows.flush_off_follows s m k crtc st.tracker N.within N.low off S.tracker))
-    (tails_follow.flush_off_follows s m k crtc st.tails u w N.is_legal N.low S.tails off has.marked has.told.tails)
+    (rw (has.told.tracker, has.marked_as) (tracker_follows.flush_off_follows s m k crtc st.tracker N.low off N.is_legal S.tracker))
     (registers_follow.flush_follows s m k crtc st.registers new shadow S.registers has.flushes)
     (record { size = S.going.size; go = λ index few. ap (λ rows. read None rows (object_id Crtc index)) O.go ∙ S.going.go index few }) stands)
 
--- the tails after it are few
-pub few_flushed : (r v : Run) (st : Stores) (k crtc : ℕ) (u w : Rooms Tail) → Stands r st → r ≡ v → MayFlush v k crtc → StandsAfter k st.tails u (tails.with_flushed k (object_id Crtc crtc)) → StandsAfterLatch k crtc u w → AreFewTails w
-few_flushed r v st k crtc u w stands same asked marked latches =
+-- the commits after it are few
+pub few_flushed : (r v : Run) (st : Stores) (k crtc : ℕ) (u : Tracking) → Stands r st → r ≡ v → MayFlush v k crtc
+    → u ≡ marked st.tracker k (mark.Flushed crtc) → AreFewCommits (marked u k (mark.Latched crtc))
+few_flushed r v st k crtc u stands same asked after =
     let m = machine r in
     let N = flushes_next r v st k crtc stands same asked in
     let fit = (numbers_fit r.script r.steps stands.formed stands.history).commits in
@@ -278,8 +285,9 @@ few_flushed r v st k crtc u w stands same asked marked latches =
     record {
       topology = r.script.topology;
       commits = m.device.commits;
-      marks = tails.with_flushed k (object_id Crtc crtc) m.device.marks;
+      marks = flushed_marks k crtc m.device.marks;
       latches = l ∷ m.records.latches;
-      stand = latches r.script.topology m.device.commits (tails.with_flushed k (object_id Crtc crtc) m.device.marks) m.records.latches l N.within refl refl (marked r.script.topology m.device.commits m.device.marks m.records.latches N.within stands.stores.tails);
+      stand = latched_stands r.script.topology m.device.commits (flushed_marks k crtc m.device.marks) m.records.latches u k N.within
+          (flush_marked r st k crtc u stands N after) l refl N.low;
       few = omega (arith, fit);
     }

@@ -21,19 +21,16 @@ use Rattle.kms_laws.proofs.Latching.{crtc_same}
 use Rattle.kms_laws.proofs.Modes.{plain-from}
 use Rattle.kms_laws.proofs.Present.{reverse_more}
 use Rattle.kms_laws.proofs.Objects.{concerns_self, crtc_lockable, names-touches}
-use Rattle.kms_model.specs.Things.Tables.{value_with_id}
 use Rattle.kms_signal.proofs.FenceLemmas.{still_made}
 use Rattle.kms_regs.specs.File.{RegisterFile, StandsForDevice}
 use Rattle.kms_regs.proofs.MachineEffects.{on_in_words}
 use Rattle.kms_signal.specs.FenceSets.{FenceSet, is_made}
 use Rattle.kms_signal.specs.InStep.{AreFencesOf, IsQueueOf}
 use Rattle.kms_signal.specs.Queues.{Queue, delivers, empty_queue}
-use Rattle.kms_signal.specs.Rooms.{Rooms}
 use Rattle.kms_signal.specs.StepLaws.{LatchesSignals, client_of, with_signal}
-use Rattle.kms_tails.specs.declared.tail.Tail.{Tail as CommitTail}
-use Rattle.kms_tails.specs.InStep.{AreTailsOf, IsKept, IsTailOf, out_fence_at}
-use Rattle.kms_track.specs.InStep.{IsTrackerOf}
-use Rattle.kms_track.specs.Tracking.{Tracking}
+use Rattle.kms_track.specs.declared.tail.Tail.{Tail as CommitTail}
+use Rattle.kms_track.specs.InStep.{IsKept, IsTailOf, IsTrackerOf, out_fence_at}
+use Rattle.kms_track.specs.Tracking.{Tracking, tail_of}
 use Rattle.kms_core.specs.Latching.{IsLatching, LatchIsTold, event_told, told_if}
 use Rattle.kms_core.specs.Logs.{Logged}
 use Rattle.kms_core.specs.Run.{Run, machine}
@@ -99,21 +96,20 @@ latches_go t m k crtc count =
 
 -- All stores
 
-pub record AreShown (s : Script) (m n : Machine) (latched : Logged Latch) (fences : FenceSet) (queues : List Queue) (tracker : Tracking) (tails : Rooms CommitTail) (registers : RegisterFile) (goes : List (Option ℕ)) : Type 0 where
+pub record AreShown (s : Script) (m n : Machine) (latched : Logged Latch) (fences : FenceSet) (queues : List Queue) (tracker : Tracking) (registers : RegisterFile) (goes : List (Option ℕ)) : Type 0 where
   pub same : SameParts m n
   pub recorded : latched.items ≡ reverse n.records.latches
   pub signalled : AreFencesOf fences n.device.signalled
   pub fenced : AreMadeFences m.device.world n.device.signalled fences
   pub told : AreQueues (length s.clients) n.events queues
   pub tracked : IsTrackerOf s.topology n.device.commits n.device.marks n.records.latches tracker
-  pub kept : AreTailsOf s.topology n.device.commits n.device.marks n.records.latches tails
   pub written : StandsForDevice s.topology n.device registers
   pub going : AreGoing n.device goes
 
-pub stands_shown : (s : Script) (m n : Machine) (st : Stores) (latched : Logged Latch) (fences : FenceSet) (queues : List Queue) (tracker : Tracking) (tails : Rooms CommitTail) (registers : RegisterFile) (goes : List (Option ℕ))
-    → AreShown s m n latched fences queues tracker tails registers goes → ((id : ℕ) → is_made st.fences id ≡ true → is_made fences id ≡ true) → StandsAt s m st
-    → StandsAt s n (record st { latches = latched; fences = fences; queues = queues; tracker = tracker; tails = tails; registers = registers; goes = goes })
-stands_shown s m n st latched fences queues tracker tails registers goes shown more stands =
+pub stands_shown : (s : Script) (m n : Machine) (st : Stores) (latched : Logged Latch) (fences : FenceSet) (queues : List Queue) (tracker : Tracking) (registers : RegisterFile) (goes : List (Option ℕ))
+    → AreShown s m n latched fences queues tracker registers goes → ((id : ℕ) → is_made st.fences id ≡ true → is_made fences id ≡ true) → StandsAt s m st
+    → StandsAt s n (record st { latches = latched; fences = fences; queues = queues; tracker = tracker; registers = registers; goes = goes })
+stands_shown s m n st latched fences queues tracker registers goes shown more stands =
     let S = shown.same in
     record {
       clients = rw S.contexts stands.clients;
@@ -124,7 +120,6 @@ stands_shown s m n st latched fences queues tracker tails registers goes shown m
       out_fenced = rw S.commits (λ k index id low few is. more id (stands.out_fenced k index id low few is));
       queues = shown.told;
       tracker = shown.tracked;
-      tails = shown.kept;
       registers = shown.written;
       going = shown.going;
       ended = S.stalled ∙ stands.ended;
@@ -175,8 +170,8 @@ queues_told t m n clients k crtc count queues L low high stand =
     }
 
 -- one is delivered
-pub delivered_one : (x : CommitTail) (l : Latch) (queues : List Queue) (q new : Queue) (crtc : ℕ) → x.wants_event ≡ true → q ≡ queue_of queues x.client → crtc ≡ object_id Crtc l.crtc
-    → new ≡ delivers q (record { user_data = x.user_data; sequence = l.count % 4294967296; crtc = crtc }) → slice_set queues (x.client - 1) new ≡ told_if x.wants_event x.client (event_told x l) queues
+pub delivered_one : (x : CommitTail) (l : Latch) (queues : List Queue) (q new : Queue) (crtc : ℕ) → x.signals.wants_event ≡ true → q ≡ queue_of queues x.signals.client → crtc ≡ object_id Crtc l.crtc
+    → new ≡ delivers q (record { user_data = x.signals.user_data; sequence = l.count % 4294967296; crtc = crtc }) → slice_set queues (x.signals.client - 1) new ≡ told_if x.signals.wants_event x.signals.client (event_told x l) queues
 delivered_one x l queues q new crtc wants found id delivered = rw (wants, delivered, found, id) refl
 
 -- GO
@@ -201,24 +196,24 @@ going_set d n goes crtc o is low stand =
 
 -- The tail of a commit that latches
 
-pub record FoundTail (t : Topology) (commits : List Commit) (marks : Marks) (latches : List Latch) (u : Rooms CommitTail) (k : ℕ) : Type 0 where
+pub record FoundTail (t : Topology) (commits : List Commit) (marks : Marks) (latches : List Latch) (u : Tracking) (k : ℕ) : Type 0 where
   pub tail : CommitTail
-  pub found : value_with_id u.slots k ≡ Some tail
-  pub is : IsTailOf t (commit_at t commits k) marks latches k tail
+  pub found : tail_of u k ≡ Some tail
+  pub is : IsTailOf t commits marks latches k tail
 
-pub found_tail : (t : Topology) (commits : List Commit) (marks : Marks) (latches : List Latch) (u : Rooms CommitTail) (k : ℕ) → k < length commits → has_number marks.cleaned k ≡ false → AreTailsOf t commits marks latches u
+pub found_tail : (t : Topology) (commits : List Commit) (marks : Marks) (latches : List Latch) (u : Tracking) (k : ℕ) → k < length commits → has_number marks.cleaned k ≡ false → IsTrackerOf t commits marks latches u
     → FoundTail t commits marks latches u k
-found_tail t commits marks latches u k within kept stand = at (value_with_id u.slots k) refl (stand.kept k within) where
-  at : (o : Option CommitTail) → value_with_id u.slots k ≡ o → IsKept t (commit_at t commits k) marks latches k o → FoundTail t commits marks latches u k
-  at None is cleaned = absurd (both_bools _ cleaned kept)
+found_tail t commits marks latches u k within kept stand = at (tail_of u k) refl (stand.kept k within) where
+  at : (o : Option CommitTail) → tail_of u k ≡ o → IsKept t commits marks latches k o → FoundTail t commits marks latches u k
+  at None is over = absurd (both_bools _ over.0 kept)
   at (Some x) is both = record { tail = x; found = is; is = both.1 }
 
-pub is_latching : (t : Topology) (commits : List Commit) (marks : Marks) (latches : List Latch) (events : Events) (u : Rooms CommitTail) (queues : List Queue) (clients : ℕ) (l : Latch) → FoundTail t commits marks latches u l.commit
+pub is_latching : (t : Topology) (commits : List Commit) (marks : Marks) (latches : List Latch) (events : Events) (u : Tracking) (queues : List Queue) (clients : ℕ) (l : Latch) → FoundTail t commits marks latches u l.commit
     → AreQueues clients events queues → 1 ≤ (commit_at t commits l.commit).client → (commit_at t commits l.commit).client ≤ clients
     → (asks_event t commits l.commit ≡ true → 1 ≤ reserved_at events (commit_at t commits l.commit).client) → IsLatching u queues l
 is_latching t commits marks latches events u queues clients l f stand low high reserved =
     let x = f.tail in
-    let same : x.client ≡ (commit_at t commits l.commit).client = f.is.client in
+    let same : x.signals.client ≡ (commit_at t commits l.commit).client = f.is.signals.client in
     let size = stand.size in
     record {
       tail = x;
@@ -226,19 +221,19 @@ is_latching t commits marks latches events u queues clients l f stand low high r
       low = omega (arith, low, same);
       high = omega (arith, high, same, size);
       reserved = λ wants. (
-          let some = reserved (sym f.is.event ∙ wants) in
+          let some = reserved (sym f.is.signals.event ∙ wants) in
           let has = (stand.queue (commit_at t commits l.commit).client low high).reserved in
           subst (λ n. 0 < (queue_of queues n).reserved) (sym same) (omega (arith, some, has)));
     }
 
 -- its out-fence at a CRTC
-pub fence_is : (t : Topology) (d : DeviceState) (k crtc : ℕ) (x : CommitTail) → crtc < 4 → ((i : ℕ) → i < 4 → slice_index_or x.out_fences i None ≡ out_fence_at t (commit_at t d.commits k) i) → slice_index_or x.out_fences crtc None ≡ out_fence_of t d.commits k (object_id Crtc crtc)
+pub fence_is : (t : Topology) (d : DeviceState) (k crtc : ℕ) (x : CommitTail) → crtc < 4 → ((i : ℕ) → i < 4 → slice_index_or x.signals.out_fences i None ≡ out_fence_at t (commit_at t d.commits k) i) → slice_index_or x.signals.out_fences crtc None ≡ out_fence_of t d.commits k (object_id Crtc crtc)
 unfolding out_fence_of
 fence_is t d k crtc x low fences = fences crtc low
 
 -- A latch
 
-pub record HasLatched (s : Script) (m n : Machine) (st : Stores) (count : ℕ) (marks : Marks) (u w : Rooms CommitTail) (tracker : Tracking) (fences : FenceSet) (queues : List Queue) (shown : Logged Latch) (l : Latch) : Type 0 where
+pub record HasLatched (s : Script) (m n : Machine) (st : Stores) (count : ℕ) (marks : Marks) (u tracker : Tracking) (fences : FenceSet) (queues : List Queue) (shown : Logged Latch) (l : Latch) : Type 0 where
   pub low : l.crtc < 4
   pub within : l.commit < length m.device.commits
   pub found : FoundTail s.topology m.device.commits marks m.records.latches u l.commit
@@ -247,14 +242,14 @@ pub record HasLatched (s : Script) (m n : Machine) (st : Stores) (count : ℕ) (
   pub signalled : n.device.signalled ≡ more_signalled m.device.signalled (out_fence_of s.topology m.device.commits l.commit (object_id Crtc l.crtc))
   pub counted : l.count ≡ count
   pub recorded : n.records.latches ≡ l ∷ m.records.latches
-  pub told : LatchIsTold u w st.tracker tracker st.fences fences st.queues queues l
+  pub told : LatchIsTold u tracker st.fences fences st.queues queues l
   pub latched : shown.items ≡ st.latches.items ++ l ∷ []
 
-pub latched_shown : (r : Run) (n : Machine) (st : Stores) (count : ℕ) (marks : Marks) (u w : Rooms CommitTail) (tracker : Tracking) (fences : FenceSet) (queues : List Queue) (shown : Logged Latch) (l : Latch) (registers : RegisterFile) (goes : List (Option ℕ))
-    → HasLatched r.script (machine r) n st count marks u w tracker fences queues shown l → IsTrackerOf r.script.topology n.device.commits n.device.marks n.records.latches tracker
-    → AreTailsOf r.script.topology n.device.commits n.device.marks n.records.latches w → StandsForDevice r.script.topology n.device registers → AreGoing n.device goes → Stands r st
-    → StandsAt r.script n (record st { latches = shown; fences = fences; queues = queues; tracker = tracker; tails = w; registers = registers; goes = goes })
-latched_shown r n st count marks u w tracker fences queues shown l registers goes H tracked kept written going stand =
+pub latched_shown : (r : Run) (n : Machine) (st : Stores) (count : ℕ) (marks : Marks) (u tracker : Tracking) (fences : FenceSet) (queues : List Queue) (shown : Logged Latch) (l : Latch) (registers : RegisterFile) (goes : List (Option ℕ))
+    → HasLatched r.script (machine r) n st count marks u tracker fences queues shown l → IsTrackerOf r.script.topology n.device.commits n.device.marks n.records.latches tracker
+    → StandsForDevice r.script.topology n.device registers → AreGoing n.device goes → Stands r st
+    → StandsAt r.script n (record st { latches = shown; fences = fences; queues = queues; tracker = tracker; registers = registers; goes = goes })
+latched_shown r n st count marks u tracker fences queues shown l registers goes H tracked written going stand =
     let s = r.script in
     let t = s.topology in
     let m = machine r in
@@ -265,11 +260,11 @@ latched_shown r n st count marks u w tracker fences queues shown l registers goe
     let x = H.found.tail in
     let is = H.found.is in
     let fence = out_fence_of t m.device.commits k c in
-    let set : fences ≡ with_signal st.fences fence = H.told.fences x H.found.found ∙ ap (with_signal st.fences) (fence_is t m.device k l.crtc x H.low is.out_fences) in
-    let event : event_told x l ≡ event_of t m k c count = λ i. record { user_data = is.user_data i; sequence = H.counted i % 2 ^ 32; crtc = c } in
-    let told : queues ≡ told_if (asks_event t m.device.commits k) (client_of t m k) (event_of t m k c count) st.queues = H.told.queues x H.found.found ∙ (λ i. told_if (is.event i) (is.client i) (event i) st.queues) in
+    let set : fences ≡ with_signal st.fences fence = H.told.fences x H.found.found ∙ ap (with_signal st.fences) (fence_is t m.device k l.crtc x H.low is.signals.out_fences) in
+    let event : event_told x l ≡ event_of t m k c count = λ i. record { user_data = is.signals.user_data i; sequence = H.counted i % 2 ^ 32; crtc = c } in
+    let told : queues ≡ told_if (asks_event t m.device.commits k) (client_of t m k) (event_of t m k c count) st.queues = H.told.queues x H.found.found ∙ (λ i. told_if (is.signals.event i) (is.signals.client i) (event i) st.queues) in
     let made : (id : ℕ) → fence ≡ Some id → is_made st.fences id ≡ true = λ id is. stands.out_fenced k l.crtc id H.within H.low is in
-    stands_shown s m n st shown fences queues tracker w registers goes
+    stands_shown s m n st shown fences queues tracker registers goes
     (record {
       same = H.same;
       recorded = H.latched ∙ ap (λ ls. ls ++ l ∷ []) stands.recorded.latched ∙ sym (reverse_more l m.records.latches) ∙ ap reverse (sym H.recorded);
@@ -277,7 +272,6 @@ latched_shown r n st count marks u w tracker fences queues shown l registers goe
       fenced = subst (λ f. AreMadeFences m.device.world n.device.signalled f) (sym set) (subst (λ ids. AreMadeFences m.device.world ids (with_signal st.fences fence)) (sym H.signalled) (latched_fenced m fence st.fences made stands.fenced));
       told = subst (λ qs. AreQueues (length s.clients) n.events qs) (sym told) (queues_told t m n (length s.clients) k c count st.queues H.signals C.low C.high stands.queues);
       tracked = tracked;
-      kept = kept;
       written = written;
       going = going;
     })

@@ -5,25 +5,21 @@ use Rattle.std.proofs.lemmas.Bool.{and_from, and_parts}
 use Rattle.kms_model.specs.declared.replies.Step.{Step}
 use Rattle.kms_model.specs.declared.replies.Step.TheVariants as step
 use Rattle.kms_model.specs.declared.scripts.Script.{Script}
-use Rattle.kms_model.specs.Machine.Commits.{commit_at, is_all_latched, is_cleaned, is_hw_done}
+use Rattle.kms_model.specs.Machine.Commits.{is_all_latched, is_cleaned, is_hw_done}
 use Rattle.kms_model.specs.Machine.Effects.{next}
 use Rattle.kms_model.specs.Machine.Framebuffers.{commit_keeps}
 use Rattle.kms_model.specs.Machine.Histories.{legal}
 use Rattle.kms_model.specs.Machine.State.{Machine, Marks}
 use Rattle.kms_model.specs.Machine.Steps.{may}
-use Rattle.kms_model.specs.Things.Tables.{value_with_id, without_id}
+use Rattle.kms_model.specs.Things.Tables.{without_id}
 use Rattle.kms_laws.proofs.Modes.{plain-from}
 use Rattle.kms_laws.proofs.NeverStuck.{history_facts}
-use Rattle.kms_signal.specs.Rooms.{Rooms}
-use Rattle.kms_tails.specs.declared.tail.Tail.{Tail}
-use Rattle.kms_tails.specs.InStep as tails
-use Rattle.kms_tails.specs.InStep.{AreTailsOf, IsKept, StandsAfter}
-use Rattle.kms_tails.proofs.StepLemmas as tails_follow
 use Rattle.kms_things.specs.Made.{Made}
-use Rattle.kms_track.specs.InStep.{IsTrackerOf}
+use Rattle.kms_track.specs.InStep.{IsTrackerOf, IsKept, WhereverOf}
+use Rattle.kms_track.specs.declared.progress.Mark.TheVariants as mark
+use Rattle.kms_track.specs.declared.tail.Tail.{Tail}
 use Rattle.kms_track.specs.StepLaws.{HasNames}
-use Rattle.kms_track.specs.Tracking.{Tracking, changed_commit, with_claim, with_done}
-use Rattle.kms_track.proofs.CheckedLemmas.{device_within}
+use Rattle.kms_track.specs.Tracking.{Tracking, marked, tail_of}
 use Rattle.kms_track.proofs.StepLemmas as tracker_follows
 use Rattle.kms_core.specs.Stored.{AreHeld}
 use Rattle.kms_core.specs.Freeing.{AreAllOf, framebuffers_in}
@@ -31,37 +27,41 @@ use Rattle.kms_core.specs.Logs.{Reserved}
 use Rattle.kms_core.specs.Needs.{Frees}
 use Rattle.kms_core.specs.Run.{Run, machine}
 use Rattle.kms_core.specs.Stands.{Stores, Stands, StandsAt}
-use Rattle.kms_core.specs.Work.{AreFewTails, MayBeDone, MayCleanUp, TellsOver, is_commit_over}
+use Rattle.kms_core.specs.Work.{MayBeDone, MayCleanUp, TellsOver, is_commit_over, AreFewCommits}
 use Rattle.kms_core.proofs.stores.FreedCalls.{goes_cleaning, kept_held, kept_places}
 use Rattle.kms_core.proofs.stores.Histories.{goes_on, written_anew}
 use Rattle.kms_core.proofs.stores.Spared.{IsOwn, own_step}
 use Rattle.kms_laws.proofs.SmallNumbers.{numbers_fit}
 
 -- all stores stand with other marks
-pub stands_marked : (s : Script) (m : Machine) (marks : Marks) (st : Stores) (tracker : Tracking) (v : Rooms Tail) → IsTrackerOf s.topology m.device.commits marks m.records.latches tracker
-    → AreTailsOf s.topology m.device.commits marks m.records.latches v → StandsAt s m st → StandsAt s (record m { device = record m.device { marks = marks } }) (record st { tracker = tracker; tails = v })
-stands_marked s m marks st tracker v tracked kept stands = written_anew s m m.device.shadow marks st tracker v st.registers stands.registers tracked kept stands
+pub stands_marked : (s : Script) (m : Machine) (marks : Marks) (st : Stores) (tracker : Tracking)
+    → IsTrackerOf s.topology m.device.commits marks m.records.latches tracker → StandsAt s m st
+    → StandsAt s (record m { device = record m.device { marks = marks } }) (record st { tracker = tracker })
+stands_marked s m marks st tracker tracked stands =
+    written_anew s m m.device.shadow marks st tracker st.registers stands.registers tracked stands
 
 -- a commit is claimed
-pub claims : (r : Run) (st : Stores) (k : ℕ) (tracker : Tracking) (v : Rooms Tail) (before steps : List Step) → Stands r st → legal r.script (machine r) (step.Claim k) ≡ true → before ≡ r.steps → steps ≡ before ++ step.Claim k ∷ []
-    → tracker ≡ changed_commit st.tracker k with_claim → StandsAfter k st.tails v (tails.with_claimed k) → Stands (record { script = r.script; steps = steps }) (record st { tracker = tracker; tails = v })
+pub claims : (r : Run) (st : Stores) (k : ℕ) (tracker : Tracking) (before steps : List Step) → Stands r st
+    → legal r.script (machine r) (step.Claim k) ≡ true → before ≡ r.steps → steps ≡ before ++ step.Claim k ∷ []
+    → tracker ≡ marked st.tracker k mark.Claimed → Stands (record { script = r.script; steps = steps }) (record st { tracker = tracker })
 unfolding next
-claims r st k tracker v before steps stands is was more tracked after =
-    goes_on r st (record st { tracker = tracker; tails = v }) (step.Claim k) refl refl refl steps
+claims r st k tracker before steps stands is was more tracked =
+    goes_on r st (record st { tracker = tracker }) (step.Claim k) refl refl refl steps
     (more ∙ ap (λ (xs : List Step). xs ++ step.Claim k ∷ []) was) stands is
-    (stands_marked r.script (machine r) (tails.with_claimed k (machine r).device.marks) st tracker v (rw tracked (tracker_follows.claim_follows r.script (machine r) k st.tracker is stands.stores.tracker))
-    (tails_follow.claim_follows r.script (machine r) k st.tails v is stands.stores.tails after) stands.stores)
+    (stands_marked r.script (machine r) (record (machine r).device.marks { claimed = k ∷ (machine r).device.marks.claimed }) st tracker
+    (rw tracked (tracker_follows.claim_follows r.script (machine r) k st.tracker is stands.stores.tracker)) stands.stores)
 
 -- it is done
-pub ends_writing : (r v : Run) (st : Stores) (k : ℕ) (tracker : Tracking) (w : Rooms Tail) (before steps : List Step) → Stands r st → r ≡ v → MayBeDone v k → before ≡ r.steps → steps ≡ before ++ step.HwDone k ∷ []
-    → tracker ≡ changed_commit st.tracker k with_done → StandsAfter k st.tails w (tails.with_done k) → Stands (record { script = r.script; steps = steps }) (record st { tracker = tracker; tails = w })
+pub ends_writing : (r v : Run) (st : Stores) (k : ℕ) (tracker : Tracking) (before steps : List Step) → Stands r st → r ≡ v → MayBeDone v k
+    → before ≡ r.steps → steps ≡ before ++ step.HwDone k ∷ [] → tracker ≡ marked st.tracker k mark.Done
+    → Stands (record { script = r.script; steps = steps }) (record st { tracker = tracker })
 unfolding next
-ends_writing r v st k tracker w before steps stands same asked was more tracked after =
+ends_writing r v st k tracker before steps stands same asked was more tracked =
     let is = subst (λ (x : Run). MayBeDone x k) (sym same) asked in
-    goes_on r st (record st { tracker = tracker; tails = w }) (step.HwDone k) refl refl refl steps
+    goes_on r st (record st { tracker = tracker }) (step.HwDone k) refl refl refl steps
     (more ∙ ap (λ (xs : List Step). xs ++ step.HwDone k ∷ []) was) stands is
-    (stands_marked r.script (machine r) (tails.with_done k (machine r).device.marks) st tracker w (rw tracked (tracker_follows.hw_done_follows r.script (machine r) k st.tracker is stands.stores.tracker))
-    (tails_follow.hw_done_follows r.script (machine r) k st.tails w is stands.stores.tails after) stands.stores)
+    (stands_marked r.script (machine r) (record (machine r).device.marks { done = k ∷ (machine r).device.marks.done }) st tracker
+    (rw tracked (tracker_follows.hw_done_follows r.script (machine r) k st.tracker is stands.stores.tracker)) stands.stores)
 
 -- Cleanups
 
@@ -87,28 +87,36 @@ cleanup_legal r k asked over =
 pub record HasForgotten (k : ℕ) (old new : Tracking) : Type 0 where
   pub count : new.count ≡ old.count
   pub lasts : new.lasts ≡ old.lasts
-  pub pending : new.pending.slots ≡ without_id old.pending.slots k
+  pub tails : new.tails.slots ≡ without_id old.tails.slots k
 
-pub cleans_up : (r v : Run) (st : Stores) (k : ℕ) (tracker : Tracking) (w : Rooms Tail) (before steps : List Step) → Stands r st → r ≡ v → MayCleanUp v k → is_commit_over r k ≡ true → before ≡ r.steps → steps ≡ before ++ step.Cleanup k ∷ []
-    → HasForgotten k st.tracker tracker → StandsAfter k st.tails w (tails.with_cleaned k)
-    → (ids : List ℕ) (freed : Reserved (ℕ × ℕ)) (made : Made) → AreAllOf ids (λ id. commit_keeps r.script.topology (machine r).device id k)
-    → Frees st.made made st.present st.registers w r.script.topology.crtcs ids st.freed freed
-    → Stands (record { script = r.script; steps = steps }) (record st { tracker = tracker; tails = w; freed = freed; made = made })
+pub forgotten : (r v : Run) (st : Stores) (k : ℕ) (tracker : Tracking) → Stands r st → r ≡ v → MayCleanUp v k → is_commit_over r k ≡ true
+    → HasForgotten k st.tracker tracker
+    → IsTrackerOf r.script.topology (machine r).device.commits (record (machine r).device.marks { cleaned = k ∷ (machine r).device.marks.cleaned })
+    (machine r).records.latches tracker
 unfolding next
-cleans_up r v st k tracker w before steps stands same asked is_now was more forgot after ids freed made all frees =
+forgotten r v st k tracker stands same asked is_now forgot =
+    tracker_follows.cleanup_follows r.script (machine r) k st.tracker tracker
+    (cleanup_legal r k (subst (λ (x : Run). MayCleanUp x k) (sym same) asked) is_now) (has_names r st stands) stands.stores.tracker
+    forgot.count forgot.lasts forgot.tails
+
+pub cleans_up : (r v : Run) (st : Stores) (k : ℕ) (tracker : Tracking) (before steps : List Step) → Stands r st → r ≡ v → MayCleanUp v k
+    → is_commit_over r k ≡ true → before ≡ r.steps → steps ≡ before ++ step.Cleanup k ∷ [] → HasForgotten k st.tracker tracker
+    → (ids : List ℕ) (freed : Reserved (ℕ × ℕ)) (made : Made) → AreAllOf ids (λ id. commit_keeps r.script.topology (machine r).device id k)
+    → Frees st.made made st.present st.registers tracker r.script.topology.crtcs ids st.freed freed
+    → Stands (record { script = r.script; steps = steps }) (record st { tracker = tracker; freed = freed; made = made })
+unfolding next
+cleans_up r v st k tracker before steps stands same asked is_now was more forgot ids freed made all frees =
     let may = subst (λ (x : Run). MayCleanUp x k) (sym same) asked in
-    let is = cleanup_legal r k (subst (λ (x : Run). MayCleanUp x k) (sym same) asked) is_now in
-    goes_cleaning r st (record st { tracker = tracker; tails = w }) k ids freed made
+    goes_cleaning r st (record st { tracker = tracker }) k ids freed made
     (claimed_within r v st k stands same asked) may.kept all frees refl steps
-    (more ∙ ap (λ (xs : List Step). xs ++ step.Cleanup k ∷ []) was) stands is
-    (stands_marked r.script (machine r) (tails.with_cleaned k (machine r).device.marks) st tracker w
-    (tracker_follows.cleanup_follows r.script (machine r) k st.tracker tracker is (has_names r st stands) (device_within r.script.topology stands.formed.device) stands.stores.tracker forgot.count forgot.lasts forgot.pending)
-    (tails_follow.cleanup_follows r.script (machine r) k st.tails w is stands.stores.tails after) stands.stores)
+    (more ∙ ap (λ (xs : List Step). xs ++ step.Cleanup k ∷ []) was) stands (cleanup_legal r k may is_now)
+    (stands_marked r.script (machine r) (record (machine r).device.marks { cleaned = k ∷ (machine r).device.marks.cleaned }) st tracker
+    (forgotten r v st k tracker stands same asked is_now forgot) stands.stores)
 
 -- the tail tells whether a commit is over
-pub over_told : (r v : Run) (st : Stores) (k : ℕ) → Stands r st → r ≡ v → MayCleanUp v k → (over : Bool) → TellsOver st.tails k over → over ≡ is_commit_over v k
+pub over_told : (r v : Run) (st : Stores) (k : ℕ) → Stands r st → r ≡ v → MayCleanUp v k → (over : Bool) → TellsOver st.tracker k over → over ≡ is_commit_over v k
 over_told r v st k stands same asked over tells =
-    tells r.script.topology (machine r).device (machine r).records.latches stands.formed.device (claimed_within r v st k stands same asked) (subst (λ (x : Run). MayCleanUp x k) (sym same) asked).kept stands.stores.tails
+    tells r.script.topology (machine r).device (machine r).records.latches stands.formed.device (claimed_within r v st k stands same asked) (subst (λ (x : Run). MayCleanUp x k) (sym same) asked).kept stands.stores.tracker
     ∙ ap (λ (x : Run). is_commit_over x k) same
 
 -- where the tail tells so, the cleanup is a step of the commit's own
@@ -116,7 +124,7 @@ pub record OwnsCleanup (r : Run) (k : ℕ) : Type 0 where
   pub over : is_commit_over r k ≡ true
   pub own : IsOwn r (step.Cleanup k) k
 
-pub owns_cleanup : (r v : Run) (st : Stores) (k : ℕ) → Stands r st → r ≡ v → MayCleanUp v k → (over : Bool) → TellsOver st.tails k over → over ≡ true → OwnsCleanup r k
+pub owns_cleanup : (r v : Run) (st : Stores) (k : ℕ) → Stands r st → r ≡ v → MayCleanUp v k → (over : Bool) → TellsOver st.tracker k over → over ≡ true → OwnsCleanup r k
 owns_cleanup r v st k stands same asked over tells told =
     let is = ap (λ (w : Run). is_commit_over w k) same ∙ sym (over_told r v st k stands same asked over tells) ∙ told in
     record { over = is; own = own_step r st (step.Cleanup k) k stands refl refl (cleanup_legal r k (subst (λ (w : Run). MayCleanUp w k) (sym same) asked) is) }
@@ -124,10 +132,10 @@ owns_cleanup r v st k stands same asked over tells told =
 -- What is freed
 
 -- its states name what the commit keeps
-pub tail_keeps_all : (r v : Run) (st : Stores) (k : ℕ) (x : Tail) (found ids : List ℕ) → Stands r st → r ≡ v → MayCleanUp v k → Some x ≡ value_with_id st.tails.slots k
-    → tails.WhereverOf x (λ t d latches k. AreAllOf found (λ id. commit_keeps t d id k)) → ids ≡ found → AreAllOf ids (λ id. commit_keeps r.script.topology (machine r).device id k)
+pub tail_keeps_all : (r v : Run) (st : Stores) (k : ℕ) (x : Tail) (found ids : List ℕ) → Stands r st → r ≡ v → MayCleanUp v k → Some x ≡ tail_of st.tracker k
+    → WhereverOf x (λ t d latches k. AreAllOf found (λ id. commit_keeps t d id k)) → ids ≡ found → AreAllOf ids (λ id. commit_keeps r.script.topology (machine r).device id k)
 tail_keeps_all r v st k x found ids stands same asked some all is =
-    let kept = subst (λ o. IsKept r.script.topology (commit_at r.script.topology (machine r).device.commits k) (machine r).device.marks (machine r).records.latches k o) (sym some) (stands.stores.tails.kept k (claimed_within r v st k stands same asked)) in
+    let kept = subst (λ o. IsKept r.script.topology (machine r).device.commits (machine r).device.marks (machine r).records.latches k o) (sym some) (stands.stores.tracker.kept k (claimed_within r v st k stands same asked)) in
     rw is (all r.script.topology (machine r).device (machine r).records.latches k stands.formed.device kept.1)
 
 pub cleanup_places : (r v : Run) (st : Stores) (k : ℕ) (ids : List ℕ) → Stands r st → r ≡ v → MayCleanUp v k → AreAllOf ids (λ id. commit_keeps r.script.topology (machine r).device id k) → framebuffers_in st.made.things ids ≤ st.freed.places
@@ -138,16 +146,17 @@ pub cleanup_held : (r v : Run) (st : Stores) (k : ℕ) (ids : List ℕ) → Stan
 cleanup_held r v st k ids stands same asked all =
     kept_held r st k ids stands (claimed_within r v st k stands same asked) (subst (λ (x : Run). MayCleanUp x k) (sym same) asked).kept all
 
--- the tails after it are few
-pub few_cleaned : (r v : Run) (st : Stores) (k : ℕ) (w : Rooms Tail) → Stands r st → r ≡ v → MayCleanUp v k → StandsAfter k st.tails w (tails.with_cleaned k) → AreFewTails w
-few_cleaned r v st k w stands same asked after =
+-- the commits after it are few
+pub few_cleaned : (r v : Run) (st : Stores) (k : ℕ) (tracker : Tracking) → Stands r st → r ≡ v → MayCleanUp v k → is_commit_over r k ≡ true
+    → HasForgotten k st.tracker tracker → AreFewCommits tracker
+few_cleaned r v st k tracker stands same asked is_now forgot =
     let m = machine r in
     let fit = (numbers_fit r.script r.steps stands.formed stands.history).commits in
     record {
       topology = r.script.topology;
       commits = m.device.commits;
-      marks = tails.with_cleaned k m.device.marks;
+      marks = record m.device.marks { cleaned = k ∷ m.device.marks.cleaned };
       latches = m.records.latches;
-      stand = after r.script.topology m.device.commits m.device.marks m.records.latches (claimed_within r v st k stands same asked) stands.stores.tails;
+      stand = forgotten r v st k tracker stands same asked is_now forgot;
       few = omega (arith, fit);
     }

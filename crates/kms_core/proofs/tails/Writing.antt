@@ -8,7 +8,6 @@ use Rattle.kms_model.specs.declared.objects.ObjId.{ObjId}
 use Rattle.kms_model.specs.declared.objects.Topology.{Topology}
 use Rattle.kms_model.specs.declared.replies.Step.{Step}
 use Rattle.kms_model.specs.declared.replies.Step.TheVariants as step
-use Rattle.kms_model.specs.declared.runs.Latch.{Latch}
 use Rattle.kms_model.specs.declared.states.Both.{Both}
 use Rattle.kms_model.specs.declared.states.CrtcState.{CrtcState}
 use Rattle.kms_model.specs.declared.states.PlaneState.{PlaneState}
@@ -19,7 +18,7 @@ use Rattle.kms_model.specs.Machine.Commits.{commit_at, has_number, is_claimed, n
 use Rattle.kms_model.specs.Machine.Effects.{next, written_registers}
 use Rattle.kms_model.specs.Machine.Histories.{legal}
 use Rattle.kms_model.specs.Machine.Registers.{crtc_register, crtc_words, plane_register, plane_words}
-use Rattle.kms_model.specs.Machine.State.{Commit, DeviceState, Marks}
+use Rattle.kms_model.specs.Machine.State.{DeviceState}
 use Rattle.kms_model.specs.Machine.Steps.{may, next_write}
 use Rattle.kms_model.proofs.Items.{IsIn, IsObject, ids-has, ids-in}
 use Rattle.kms_model.proofs.StateLemmas.{sound-plane_in_range}
@@ -32,13 +31,11 @@ use Rattle.kms_laws.proofs.Whole.{shadow_is}
 use Rattle.kms_regs.specs.File.{RegisterFile, StandsForDevice}
 use Rattle.kms_regs.specs.StepLaws.{WritesCrtc, WritesPlane}
 use Rattle.kms_regs.proofs.MachineEffects.{old_crtc_held, old_plane_held, write_crtc_follows, write_plane_follows}
-use Rattle.kms_signal.specs.Rooms.{Rooms}
-use Rattle.kms_tails.specs.declared.tail.Tail.{Tail}
-use Rattle.kms_tails.specs.InStep as tails
-use Rattle.kms_tails.specs.InStep.{AreStates, AreTailsOf, HasRegisters, IsKept, IsTailOf, StandsAfter, old_crtc}
-use Rattle.kms_tails.specs.Remaining.{connector_of}
-use Rattle.kms_tails.proofs.Queries.{connector_at, crtc_is, plane_is, touched_crtc, touched_plane}
-use Rattle.kms_tails.proofs.StepLemmas as tails_follow
+use Rattle.kms_track.specs.declared.tail.Tail.{Tail}
+use Rattle.kms_track.specs.InStep.{AreStates, IsKept, IsTailOf, old_crtc}
+use Rattle.kms_track.specs.Tails.{HasRegisters, connector_of, wrote_mark}
+use Rattle.kms_track.specs.Tracking.{Tracking, marked, tail_of}
+use Rattle.kms_track.proofs.Queries.{connector_at, crtc_is, plane_is, touched_crtc, touched_plane}
 use Rattle.kms_track.proofs.StepLemmas as tracker_follows
 use Rattle.kms_core.specs.Run.{Run, machine}
 use Rattle.kms_core.specs.Stands.{Stores, Stands}
@@ -118,21 +115,24 @@ no_others t object few high is =
 
 -- What is found of a commit that is there and not cleaned
 
-abbrev pub FindsTail : Rooms Tail → ℕ → Option Tail → Type 0
-FindsTail v k o =
-    (t : Topology) (commits : List Commit) (marks : Marks) (latches : List Latch) → k < length commits → AreTailsOf t commits marks latches v → IsKept t (commit_at t commits k) marks latches k o
+-- it is kept
+kept_as : (r : Run) (st : Stores) (k : ℕ) (o : Option Tail) → Stands r st → k < length (machine r).device.commits → o ≡ tail_of st.tracker k
+    → IsKept r.script.topology (machine r).device.commits (machine r).device.marks (machine r).records.latches k o
+kept_as r st k o stands within finds =
+    subst (λ o. IsKept r.script.topology (machine r).device.commits (machine r).device.marks (machine r).records.latches k o) (sym finds)
+    (stands.stores.tracker.kept k within)
 
-pub tail_there : (r v : Run) (st : Stores) (k : ℕ) (id : ObjId) → Stands r st → r ≡ v → MayWrite v k id → FindsTail st.tails k None → ⊥
+pub tail_there : (r v : Run) (st : Stores) (k : ℕ) (id : ObjId) → Stands r st → r ≡ v → MayWrite v k id → None ≡ tail_of st.tracker k → ⊥
 tail_there r v st k id stands same asked finds =
     let N = writes_next r v k id same asked in
     let object = object_id (kind_of id.0) (index_of id.0) in
     let within = write_within r st k object stands N.write in
-    write_kept r st k object stands N.write (finds r.script.topology (machine r).device.commits (machine r).device.marks (machine r).records.latches within stands.stores.tails)
+    write_kept r st k object stands N.write (kept_as r st k None stands within finds).0
 
 -- A commit that writes an object
 
 module _ (r : Run) (st : Stores) (k : ℕ) (x : Tail) (stands : Stands r st) (index : ℕ)
-    (is : IsTailOf r.script.topology (commit_at r.script.topology (machine r).device.commits k) (machine r).device.marks (machine r).records.latches k x) where
+    (is : IsTailOf r.script.topology (machine r).device.commits (machine r).device.marks (machine r).records.latches k x) where
   abbrev t : Topology
   t = r.script.topology
 
@@ -151,7 +151,7 @@ module _ (r : Run) (st : Stores) (k : ℕ) (x : Tail) (stands : Stands r st) (in
 
     crtc_some : is_some (get_or x.checked.states.crtcs index None) ≡ true
     crtc_some =
-        is.states.crtcs index crtc_low
+        is.checked.states.crtcs index crtc_low
         (touched_crtc t d (machine r).records.latches k x stands.formed.device is index crtc_low ∙ and_from _ _ (lt-ltb index (count_of t Crtc) there) W.touches)
 
     crtc_states : IfSome (get_or x.checked.states.crtcs index None) (AreStates (old_crtc t d.commits k (object_id Crtc index)) (new_crtc t d.commits k (object_id Crtc index)))
@@ -194,7 +194,7 @@ module _ (r : Run) (st : Stores) (k : ℕ) (x : Tail) (stands : Stands r st) (in
 
     plane_some : is_some (get_or x.checked.states.planes index None) ≡ true
     plane_some =
-        is.states.planes index plane_low
+        is.checked.states.planes index plane_low
         (touched_plane t d (machine r).records.latches k x stands.formed.device is index plane_low ∙ and_from _ _ (lt-ltb index (count_of t Plane) there) W.touches)
 
     plane_states : IfSome (get_or x.checked.states.planes index None) (AreStates (old_plane t d.commits k (object_id Plane index)) (new_plane t d.commits k (object_id Plane index)))
@@ -262,14 +262,14 @@ plane_written old new index o found is holds writes both there =
 -- All stores stand after the write
 
 tail_holds : (r : Run) (st : Stores) (k : ℕ) (x : Tail) (kind : Kind) (index : ℕ) → Stands r st → index < count_of r.script.topology kind → IsWrite r.script.topology (machine r).device k (object_id kind index)
-    → IsTailOf r.script.topology (commit_at r.script.topology (machine r).device.commits k) (machine r).device.marks (machine r).records.latches k x → HoldsOld st.registers x kind index
+    → IsTailOf r.script.topology (machine r).device.commits (machine r).device.marks (machine r).records.latches k x → HoldsOld st.registers x kind index
 tail_holds r st k x Crtc index stands there W is = holds_crtc r st k x stands index is W there
 tail_holds r st k x Plane index stands there W is = holds_plane r st k x stands index is W there
 tail_holds r st k x Conn index stands there W is = no_others r.script.topology (object_id Conn index) (few_objects r.script.topology stands.formed.device) (omega arith) W.is_registered
 tail_holds r st k x Enc index stands there W is = no_others r.script.topology (object_id Enc index) (few_objects r.script.topology stands.formed.device) (omega arith) W.is_registered
 
 registers_stand : (r : Run) (st : Stores) (k : ℕ) (x : Tail) (kind : Kind) (index : ℕ) (new : RegisterFile) → Stands r st → index < count_of r.script.topology kind → IsWrite r.script.topology (machine r).device k (object_id kind index)
-    → IsTailOf r.script.topology (commit_at r.script.topology (machine r).device.commits k) (machine r).device.marks (machine r).records.latches k x → IsWritten st.registers new x kind index
+    → IsTailOf r.script.topology (machine r).device.commits (machine r).device.marks (machine r).records.latches k x → IsWritten st.registers new x kind index
     → StandsForDevice r.script.topology (next r.script (machine r) (step.Write k kind index)).device new
 registers_stand r st k x Crtc index new stands there W is written = crtc_stands r st k x stands index is W there new written
 registers_stand r st k x Plane index new stands there W is written = plane_stands r st k x stands index is W there new written
@@ -277,29 +277,31 @@ registers_stand r st k x Conn index new stands there W is written = absurd (no_o
 registers_stand r st k x Enc index new stands there W is written = absurd (no_others r.script.topology (object_id Enc index) (few_objects r.script.topology stands.formed.device) (omega arith) W.is_registered)
 
 -- the tail that was found is the commit's
-tail_is : (r : Run) (st : Stores) (k object : ℕ) (x : Tail) → Stands r st → IsWrite r.script.topology (machine r).device k object → FindsTail st.tails k (Some x)
-    → IsTailOf r.script.topology (commit_at r.script.topology (machine r).device.commits k) (machine r).device.marks (machine r).records.latches k x
-tail_is r st k object x stands W finds = (finds r.script.topology (machine r).device.commits (machine r).device.marks (machine r).records.latches (write_within r st k object stands W) stands.stores.tails).1
+tail_is : (r : Run) (st : Stores) (k object : ℕ) (x : Tail) → Stands r st → IsWrite r.script.topology (machine r).device k object → Some x ≡ tail_of st.tracker k
+    → IsTailOf r.script.topology (machine r).device.commits (machine r).device.marks (machine r).records.latches k x
+tail_is r st k object x stands W finds = (kept_as r st k (Some x) stands (write_within r st k object stands W) finds).1
 
-pub holds_old : (r v : Run) (st : Stores) (k : ℕ) (id : ObjId) (x : Tail) → Stands r st → r ≡ v → MayWrite v k id → FindsTail st.tails k (Some x) → HoldsOld st.registers x (kind_of id.0) (index_of id.0)
+pub holds_old : (r v : Run) (st : Stores) (k : ℕ) (id : ObjId) (x : Tail) → Stands r st → r ≡ v → MayWrite v k id → Some x ≡ tail_of st.tracker k → HoldsOld st.registers x (kind_of id.0) (index_of id.0)
 holds_old r v st k id x stands same asked finds =
     let N = writes_next r v k id same asked in
     tail_holds r st k x (kind_of id.0) (index_of id.0) stands N.there N.write (tail_is r st k (object_id (kind_of id.0) (index_of id.0)) x stands N.write finds)
 
-pub writes_object : (r v : Run) (st : Stores) (k : ℕ) (id : ObjId) (x : Tail) (new : RegisterFile) (w : Rooms Tail) (before steps : List Step) → Stands r st → r ≡ v → MayWrite v k id → FindsTail st.tails k (Some x)
-    → before ≡ r.steps → steps ≡ before ++ write_step k id ∷ [] → IsWritten st.registers new x (kind_of id.0) (index_of id.0) → StandsAfter k st.tails w (tails.with_written k id.0)
-    → Stands (record { script = r.script; steps = steps }) (record st { registers = new; tails = w })
+pub writes_object : (r v : Run) (st : Stores) (k : ℕ) (id : ObjId) (x : Tail) (new : RegisterFile) (w : Tracking) (before steps : List Step)
+    → Stands r st → r ≡ v → MayWrite v k id → Some x ≡ tail_of st.tracker k → before ≡ r.steps → steps ≡ before ++ write_step k id ∷ []
+    → IsWritten st.registers new x (kind_of id.0) (index_of id.0) → HasRegisters id.0 → w ≡ marked st.tracker k (wrote_mark id.0)
+    → Stands (record { script = r.script; steps = steps }) (record st { tracker = w; registers = new })
 unfolding next
-writes_object r v st k id x new w before steps stands same asked finds was more written after =
+writes_object r v st k id x new w before steps stands same asked finds was more written registers after =
     let N = writes_next r v k id same asked in
     let t = r.script.topology in
     let d = (machine r).device in
     let kind = kind_of id.0 in
     let index = index_of id.0 in
     let object = object_id kind index in
-    goes_on r st (record st { registers = new; tails = w }) (write_step k id) refl refl refl steps
+    let is : w ≡ marked st.tracker k (wrote_mark object) = after ∙ ap (λ o. marked st.tracker k (wrote_mark o)) (sym N.is_object) in
+    goes_on r st (record st { tracker = w; registers = new }) (write_step k id) refl refl refl steps
     (more ∙ ap (λ (xs : List Step). xs ++ write_step k id ∷ []) was) stands N.is_legal
-    (written_anew r.script (machine r) (written_registers t d k object) (tails.with_written k object d.marks) st st.tracker w new
+    (written_anew r.script (machine r) (written_registers t d k object) (record d.marks { written = (k, object) ∷ d.marks.written }) st w new
     (registers_stand r st k x kind index new stands N.there N.write (tail_is r st k object x stands N.write finds) written)
-    (tracker_follows.others_follow r.script (machine r) (write_step k id) st.tracker refl stands.stores.tracker)
-    (tails_follow.write_follows r.script (machine r) k index kind st.tails w N.is_legal stands.stores.tails (subst (λ (o : ℕ). StandsAfter k st.tails w (tails.with_written k o)) (sym N.is_object) after)) stands.stores)
+    (rw is (tracker_follows.write_follows r.script (machine r) k index kind (subst HasRegisters (sym N.is_object) registers) st.tracker
+    N.is_legal stands.stores.tracker)) stands.stores)

@@ -48,7 +48,7 @@ pub fn begin(stores: &mut Stores, alloc: Global, client: u32) -> Result<Ticket, 
     ensures ticket { IfOk result (λ t. t.0 ≡ (machine stores.old).contexts.tickets) }
     ensures history { stores.new ≡ gains stores.old (if_ok result (λ t. step.Begin client ∷ [])) }
 {
-    make_step_room(&mut stores.steps, &stores.tails)?;
+    make_step_room(&mut stores.steps, &stores.tracker)?;
     let ticket = stores.clients.begin(alloc, client)?;
     stores.steps.push(Step::Begin { client });
     Ok(ticket)
@@ -65,7 +65,7 @@ pub fn lock(stores: &mut Stores, t: Ticket, id: ObjId) -> Result<Locked, NoMemor
         → stores.new ≡ gains stores.old (if_ok result (lock_steps client id)) }
     ensures unchanged { OnErr result (stores.new ≡ stores.old) }
 {
-    make_step_room(&mut stores.steps, &stores.tails)?;
+    make_step_room(&mut stores.steps, &stores.tracker)?;
     let Some(client) = stores.clients.with_ticket(t) else {
         unreachable!();
     };
@@ -88,7 +88,7 @@ pub fn backoff(stores: &mut Stores, t: Ticket) -> Result<(), NoMemory>
         → stores.new ≡ gains stores.old (if_ok result (λ u. step.BackOff client ∷ [])) }
     ensures unchanged { OnErr result (stores.new ≡ stores.old) }
 {
-    make_step_room(&mut stores.steps, &stores.tails)?;
+    make_step_room(&mut stores.steps, &stores.tracker)?;
     let Some(client) = stores.clients.with_ticket(t) else {
         unreachable!();
     };
@@ -108,7 +108,7 @@ pub fn relock(stores: &mut Stores, t: Ticket) -> Result<Locked, NoMemory>
         → stores.new ≡ gains stores.old (if_ok result (relock_steps client)) }
     ensures unchanged { OnErr result (stores.new ≡ stores.old) }
 {
-    make_step_room(&mut stores.steps, &stores.tails)?;
+    make_step_room(&mut stores.steps, &stores.tracker)?;
     let Some(client) = stores.clients.with_ticket(t) else {
         unreachable!();
     };

@@ -26,7 +26,7 @@ pub fn make(stores: &mut Stores, alloc: Global, client: u32) -> Result<Reply, No
         &mut stores.steps,
         &mut stores.journal,
         &mut stores.replies,
-        &stores.tails,
+        &stores.tracker,
     )?;
     stores.fences.make_room(alloc, 1)?;
     stores.freed.make_room()?;
@@ -43,7 +43,7 @@ pub fn make(stores: &mut Stores, alloc: Global, client: u32) -> Result<Reply, No
         &mut stores.things,
         &stores.present,
         &stores.registers,
-        &stores.tails,
+        &stores.tracker,
         crtcs,
         command,
         &reply,
@@ -68,7 +68,7 @@ pub fn signal(stores: &mut Stores, client: u32) -> Result<Reply, NoMemory>
         &mut stores.steps,
         &mut stores.journal,
         &mut stores.replies,
-        &stores.tails,
+        &stores.tracker,
     )?;
     let number = stores.clients.place(client).command;
     let Some(command) = command_of(&stores.script, client, number) else {

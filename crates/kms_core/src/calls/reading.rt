@@ -25,7 +25,7 @@ pub fn read(stores: &mut Stores, client: u32) -> Result<Option<Reply>, NoMemory>
         &mut stores.steps,
         &mut stores.journal,
         &mut stores.replies,
-        &stores.tails,
+        &stores.tracker,
     )?;
     let number = stores.clients.place(client).command;
     let _ = stores.queues[(client - 1) as usize].read();
@@ -52,7 +52,7 @@ pub fn return_from(stores: &mut Stores, client: u32) -> Result<bool, NoMemory>
     if !stores.tracker.is_cleaned(commit) {
         return Ok(false);
     }
-    make_step_room(&mut stores.steps, &stores.tails)?;
+    make_step_room(&mut stores.steps, &stores.tracker)?;
     stores.clients.go_on(client);
     stores.steps.push(Step::Return { client });
     Ok(true)

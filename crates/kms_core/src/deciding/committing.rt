@@ -14,14 +14,13 @@ ghost use Rattle.kms_model.specs.Things.Tables.{AreBelow};
 ghost use Rattle.kms_clients.specs.InStep.{AreClientsOf, IsTaking, after_decision, after_swap};
 ghost use Rattle.kms_clients.specs.Standing.{IsClient, place_of};
 ghost use Rattle.kms_signal.specs.Queues.{HasSpace};
-ghost use Rattle.kms_tails.specs.InStep.{StandsAfterSwap};
 ghost use Rattle.kms_things.specs.Made.{HasIds, with_made};
 ghost use Rattle.kms_track.specs.Tracking.{IsSetUp};
 ghost use Rattle.kms_core.specs.Calls.{answered, joined};
 ghost use Rattle.kms_core.specs.Run.{gains, if_ok, machine};
 ghost use Rattle.kms_core.specs.Room.{KeepsStored};
 ghost use Rattle.kms_core.specs.Swaps.{MayCommit};
-ghost use Rattle.kms_core.specs.SwappedIn.{events_asked_for, fences_for, fences_under, id_made_under, label_in, labels_in, next_after};
+ghost use Rattle.kms_core.specs.SwappedIn.{events_asked_for, fences_for, fences_under, id_made_under, label_in, labels_in, next_after, signals_for};
 
 use crate::deciding::present::present_after;
 use crate::lists::Log;
@@ -33,9 +32,8 @@ use kms_model::{
 };
 use kms_props::{is_nonblock, wants_event};
 use kms_signal::{EventQueue, Fences};
-use kms_tails::Tails;
 use kms_things::Things;
-use kms_track::Tracker;
+use kms_track::{Signals, Tracker};
 use std::alloc::Global;
 
 /// Commits the request of a client, by its number from 1, whose swap nothing hinders, and gives the commit's number,
@@ -64,27 +62,21 @@ pub fn commit(
         &mut stores.fences,
         &mut stores.queues[(client - 1) as usize],
         &mut stores.tracker,
-        &mut stores.tails,
-        checked,
-        &resolved.in_fences,
         events,
     )?;
     let asked = &labels[..stores.script.topology.crtcs as usize];
     make_out_fences(alloc, &mut stores.things, &mut stores.fences, client, asked)?;
     stores.present = present_after(&stores.present, &checked.states);
     reserve_events(alloc, &mut stores.queues[(client - 1) as usize], events);
-    let commit = set_up(alloc, &mut stores.tracker, checked, &resolved.in_fences);
     let number = stores.clients.place(client).command;
     let out_fences = made_fences(&stores.things, &labels);
-    keep_tail(
+    let signals = signals_of(&stores.script, client, number, out_fences);
+    let commit = set_up(
         alloc,
-        &mut stores.tails,
-        &stores.script,
-        client,
-        number,
-        commit,
+        &mut stores.tracker,
+        signals,
         checked,
-        out_fences,
+        &resolved.in_fences,
     );
     reply_commit(
         &mut stores.journal,
@@ -118,32 +110,24 @@ fn made_fences(things: &Things, labels: &[Option<u32>; 4]) -> [Option<u32>; 4]
     ]
 }
 
-/// Keeps the tail of a commit, for which there is room, of the request that is a client's command with a number. (Kernel:
-/// `drm_atomic_helper_swap_state`.)
-fn keep_tail(
-    alloc: Global,
-    tails: &mut Tails,
-    script: &Script,
-    client: u32,
-    number: u32,
-    commit: u32,
-    checked: &Checked,
-    out_fences: [Option<u32>; 4],
-)
-    requires there { IsSome (request_in
+/// What the commit of the request that is a client's command with a number signals, with the ids of the fences that it made
+/// for its CRTCs, by index. (Kernel: `prepare_signaling`.)
+fn signals_of(script: &Script, client: u32, number: u32, out_fences: [Option<u32>; 4]) -> Signals
+    requires { IsSome (request_in
         (command_of script.now (record { client = client; command = number }))) }
-    requires below { AreBelow commit tails.old.slots }
-    requires room { 0 < tails.old.room }
     ensures { (r : Request)
         → request_in (command_of script.now (record { client = client; command = number })) ≡ Some r
-        → StandsAfterSwap commit client r checked.now out_fences tails.old tails.new }
+        → result ≡ signals_for client r out_fences }
 {
     let Some(request) = request_of(script, client, number) else {
         unreachable!();
     };
-    let Ok(()) = tails.push(alloc, commit, client, request, checked, out_fences) else {
-        unreachable!();
-    };
+    Signals {
+        client,
+        user_data: request.user_data,
+        wants_event: wants_event(request.flags),
+        out_fences,
+    }
 }
 
 /// The label that is asked for at a CRTC, given by its id, where there is one.
@@ -278,9 +262,6 @@ fn make_commit_room(
     fences: &mut Fences,
     queue: &mut EventQueue,
     tracker: &mut Tracker,
-    tails: &mut Tails,
-    checked: &Checked,
-    in_fences: &Seq<(ObjId, u32)>,
     events: u32,
 ) -> Result<(), NoMemory>
     ensures steps { steps.new.items ≡ steps.old.items }
@@ -289,22 +270,19 @@ fn make_commit_room(
     ensures latches { latches.new.items ≡ latches.old.items }
     ensures steps_kept { steps.old.room ≤ steps.new.room }
     ensures latches_kept { latches.old.room ≤ latches.new.room }
-    ensures kept { KeepsStored fences.old fences.new queue.old queue.new tracker.old tracker.new
-        tails.old tails.new }
+    ensures kept { KeepsStored fences.old fences.new queue.old queue.new
+        tracker.old tracker.new }
     ensures journal_room { OnOk result (0 < journal.new.room) }
     ensures replies_room { OnOk result (0 < replies.new.room) }
-    ensures steps_room { OnOk result (31 * length tails.old.slots + 32 ≤ steps.new.room) }
-    ensures latches_room { OnOk result (31 * length tails.old.slots + 31 ≤ latches.new.room) }
+    ensures steps_room { OnOk result (31 * length tracker.old.tails.slots + 32 ≤ steps.new.room) }
+    ensures latches_room { OnOk result (31 * length tracker.old.tails.slots + 31 ≤ latches.new.room) }
     ensures fences_room { OnOk result (4 ≤ fences.new.room) }
     ensures events_room { OnOk result (events ≤ queue.new.room) }
-    ensures commit_room { OnOk result (0 < tracker.new.pending.room) }
-    ensures tail_room { OnOk result (0 < tails.new.room) }
+    ensures commit_room { OnOk result (0 < tracker.new.tails.room) }
 {
-    make_room(steps, journal, replies, tails)?;
-    make_spare(steps, latches, tails)?;
-    make_tail_room(
-        alloc, fences, queue, tracker, tails, checked, in_fences, events,
-    )
+    make_room(steps, journal, replies, tracker)?;
+    make_spare(steps, latches, tracker)?;
+    make_tail_room(alloc, fences, queue, tracker, events)
 }
 
 /// Takes memory for the fences of a commit, for so many events, and for its tail. What is stored stays.
@@ -313,23 +291,17 @@ fn make_tail_room(
     fences: &mut Fences,
     queue: &mut EventQueue,
     tracker: &mut Tracker,
-    tails: &mut Tails,
-    checked: &Checked,
-    in_fences: &Seq<(ObjId, u32)>,
     events: u32,
 ) -> Result<(), NoMemory>
-    ensures kept { KeepsStored fences.old fences.new queue.old queue.new tracker.old tracker.new
-        tails.old tails.new }
+    ensures kept { KeepsStored fences.old fences.new queue.old queue.new
+        tracker.old tracker.new }
     ensures fences_room { OnOk result (4 ≤ fences.new.room) }
     ensures events_room { OnOk result (events ≤ queue.new.room) }
-    ensures commit_room { OnOk result (0 < tracker.new.pending.room) }
-    ensures tail_room { OnOk result (0 < tails.new.room) }
+    ensures commit_room { OnOk result (0 < tracker.new.tails.room) }
 {
     fences.make_room(alloc, MAX_CRTCS)?;
     queue.make_room(alloc, events)?;
-    tracker.make_room(alloc, checked, in_fences)?;
-    tails.make_room(alloc)?;
-    Ok(())
+    tracker.make_room(alloc)
 }
 
 /// Reserves events, for which there are space and room. (Kernel: `drm_event_reserve_init`.)
@@ -344,20 +316,23 @@ fn reserve_events(alloc: Global, queue: &mut EventQueue, events: u32)
     };
 }
 
-/// Sets a commit up, for which there is room, and gives its number. (Kernel: `drm_atomic_helper_setup_commit`.)
+/// Sets a commit up, for which there is room, and gives its number. (Kernel: `drm_atomic_helper_setup_commit`,
+/// `drm_atomic_helper_swap_state`.)
 fn set_up(
     alloc: Global,
     tracker: &mut Tracker,
+    signals: Signals,
     checked: &Checked,
     in_fences: &Seq<(ObjId, u32)>,
 ) -> u32
     requires count { tracker.old.count < 4294967295 }
     requires fences { length in_fences.now ≤ 16 }
-    requires room { 0 < tracker.old.pending.room }
+    requires room { 0 < tracker.old.tails.room }
     ensures number { result ≡ tracker.old.count }
-    ensures set_up { IsSetUp tracker.old tracker.new checked.now (map (λ f. f.1) in_fences.now) }
+    ensures set_up { IsSetUp tracker.old tracker.new signals checked.now
+        (map (λ f. f.1) in_fences.now) }
 {
-    let Ok(commit) = tracker.setup(alloc, checked, in_fences) else {
+    let Ok(commit) = tracker.setup_for(alloc, signals, checked, in_fences) else {
         unreachable!();
     };
     commit

@@ -13,7 +13,7 @@ ghost use Rattle.kms_clients.specs.InStep.{AreClientsOf};
 ghost use Rattle.kms_request.specs.Whole.{is_member};
 ghost use Rattle.kms_track.specs.Places.{all_below};
 ghost use Rattle.kms_core.specs.Decisions.{world};
-ghost use Rattle.kms_core.specs.Swaps.{HasAllStates};
+ghost use Rattle.kms_track.specs.InStep.{HasStates};
 ghost use Rattle.kms_core.specs.Judging.{IsJudged, request_taken};
 ghost use Rattle.kms_core.specs.Decisions.{held_at};
 ghost use Rattle.kms_core.specs.Run.{machine};
@@ -147,7 +147,7 @@ pub fn refusal_reply(stores: &Stores, client: u32, request: &Request) -> Reply
 pub fn checked(stores: &Stores, request: &Request) -> Checked
     requires { early_in stores.now.script.topology (world stores.now) request.now ≡ None }
     ensures checked { IsChecked stores.now.script.topology (world stores.now) request.now result }
-    ensures states { HasAllStates result }
+    ensures states { HasStates result }
 {
     let states = changed(
         &stores.script.topology,

@@ -38,7 +38,7 @@ pub fn enabled(stores: &Stores) -> bool
 pub fn drained(stores: &Stores) -> bool
     ensures { result ≡ is_drained stores.now.script (machine stores.now) }
 {
-    are_at_end(stores) && stores.tails.first_from(0).is_none()
+    are_at_end(stores) && stores.tracker.first_from(0).is_none()
 }
 
 /// Whether every client is at its end.

@@ -107,7 +107,7 @@ fn has_tail_step(stores: &Stores) -> bool
         (commit_numbers (machine stores.now))) }
 {
     let mut from = 0;
-    'seeking: while let Some(commit) = stores.tails.first_from(from) {
+    'seeking: while let Some(commit) = stores.tracker.first_from(from) {
         if tail_moves(stores, commit) {
             return true;
         }

@@ -35,7 +35,7 @@ fn first_of_tails(stores: &Stores) -> Option<Step>
         (steps_of_commit stores.now.script.topology k)) (commit_numbers (machine stores.now)) }
 {
     let mut from = 0;
-    'seeking: while let Some(commit) = stores.tails.first_from(from) {
+    'seeking: while let Some(commit) = stores.tracker.first_from(from) {
         if let Some(step) = first_of_tail(stores, commit) {
             return Some(step);
         }

@@ -4,7 +4,7 @@ ghost use Rattle.kms_model.specs.declared.replies.Step.TheVariants as step;
 ghost use Rattle.kms_model.specs.Device.World.{thing_with_id};
 ghost use Rattle.kms_model.specs.Firsts.{first_some};
 ghost use Rattle.kms_model.specs.Machine.Histories.{awaited_by, commit_numbers, is_awaited, label_of_thing, stalled_on};
-ghost use Rattle.kms_track.specs.Tracking.{fence_ids};
+ghost use Rattle.kms_track.specs.Tails.{fence_ids};
 ghost use Rattle.kms_core.specs.Next.{IsLegal, if_awaited};
 ghost use Rattle.kms_core.specs.Run.{machine, gains, if_ok};
 
@@ -17,7 +17,7 @@ pub fn stall(stores: &mut Stores) -> Result<(), NoMemory>
     requires { IsLegal stores.old step.Stall }
     ensures history { stores.new ≡ gains stores.old (if_ok result (λ u. step.Stall ∷ [])) }
 {
-    make_step_room(&mut stores.steps, &stores.tails)?;
+    make_step_room(&mut stores.steps, &stores.tracker)?;
     stores.stalled = true;
     stores.steps.push(Step::Stall);
     Ok(())
@@ -52,7 +52,7 @@ fn awaited_fence(stores: &Stores) -> Option<u32>
         (commit_numbers (machine stores.now)) }
 {
     let mut from = 0;
-    'seeking: while let Some(commit) = stores.tails.first_from(from) {
+    'seeking: while let Some(commit) = stores.tracker.first_from(from) {
         if let Some(fence) = awaited_by(stores, commit) {
             return Some(fence);
         }
@@ -67,7 +67,7 @@ fn awaited_by(stores: &Stores, commit: u32) -> Option<u32>
     ensures { result ≡ awaited_by stores.now.script.topology (machine stores.now) commit }
 {
     match stores.tracker.get(commit) {
-        Some(pending) if !pending.claimed => first_awaited(stores, &pending.fences),
+        Some(tail) if !tail.progress.claimed => first_awaited(stores, &tail.in_fences),
         _ => None,
     }
 }

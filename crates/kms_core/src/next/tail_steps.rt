@@ -7,14 +7,14 @@ ghost use Rattle.kms_model.specs.Device.Objects.{object_id};
 ghost use Rattle.kms_model.specs.Machine.Registers.{is_on_in};
 ghost use Rattle.kms_model.specs.Machine.State.{go_at, has_value};
 ghost use Rattle.kms_model.specs.Machine.Steps.{is_crtc_of, may};
-ghost use Rattle.kms_tails.specs.Remaining.{next_flush_of};
+ghost use Rattle.kms_track.specs.Tails.{next_flush_of};
 ghost use Rattle.kms_core.specs.Next.{ends_next, flushes_next, is_over_tail, writes_next};
 ghost use Rattle.kms_core.specs.Run.{machine};
 
 use crate::stores::Stores;
 use kms_model::{Kind, ObjId, Topology};
 use kms_request::exists;
-use kms_tails::Tail;
+use kms_track::Tail;
 
 /// Whether the tail of a commit, by its number from 0, may begin: it is not claimed, the fences that it waits for are
 /// signalled, and the commit before it on each object that it touches is done and has flipped there.
@@ -28,7 +28,7 @@ pub(crate) fn may_claim(stores: &Stores, commit: u32) -> bool
 pub(crate) fn may_write(stores: &Stores, commit: u32, kind: Kind, index: u32) -> bool
     ensures { result ≡ may stores.now.script (machine stores.now) (step.Write commit kind index) }
 {
-    match stores.tails.get(commit) {
+    match stores.tracker.get(commit) {
         Some(tail) => writes_next(tail, &stores.script.topology, kind, index),
         None => false,
     }
@@ -39,7 +39,7 @@ pub(crate) fn may_write(stores: &Stores, commit: u32, kind: Kind, index: u32) ->
 pub(crate) fn may_flush(stores: &Stores, commit: u32, kind: Kind, index: u32) -> bool
     ensures { result ≡ may stores.now.script (machine stores.now) (step.Flush commit kind index) }
 {
-    match stores.tails.get(commit) {
+    match stores.tracker.get(commit) {
         Some(tail) => flushes_next(tail, &stores.script.topology, kind, index),
         None => false,
     }
@@ -49,7 +49,7 @@ pub(crate) fn may_flush(stores: &Stores, commit: u32, kind: Kind, index: u32) ->
 pub(crate) fn may_be_done(stores: &Stores, commit: u32) -> bool
     ensures { result ≡ may stores.now.script (machine stores.now) (step.HwDone commit) }
 {
-    match stores.tails.get(commit) {
+    match stores.tracker.get(commit) {
         Some(tail) => ends_next(tail),
         None => false,
     }
@@ -59,7 +59,7 @@ pub(crate) fn may_be_done(stores: &Stores, commit: u32) -> bool
 pub(crate) fn may_clean_up(stores: &Stores, commit: u32) -> bool
     ensures { result ≡ may stores.now.script (machine stores.now) (step.Cleanup commit) }
 {
-    match stores.tails.get(commit) {
+    match stores.tracker.get(commit) {
         Some(tail) => is_over_tail(tail),
         None => false,
     }

@@ -5,16 +5,16 @@ ghost use Rattle.kms_core.specs.Calls.{answered, joined};
 
 use crate::lists::Log;
 use kms_model::{Answered, Latch, NoMemory, Reply, Step};
-use kms_tails::Tails;
+use kms_track::Tracker;
 
 /// Takes memory for one step beside those that are left of all tails. What is recorded stays.
-pub fn make_step_room(steps: &mut Log<Step>, tails: &Tails) -> Result<(), NoMemory>
+pub fn make_step_room(steps: &mut Log<Step>, tracker: &Tracker) -> Result<(), NoMemory>
     ensures items { steps.new.items ≡ steps.old.items }
     ensures kept { steps.old.room ≤ steps.new.room }
-    ensures room { OnOk result (31 * length tails.now.slots < steps.new.room) }
+    ensures room { OnOk result (31 * length tracker.now.tails.slots < steps.new.room) }
     ensures fits { OnOk result (length steps.new.items < 18446744073709551615) }
 {
-    let Some(most) = tails.most_left() else {
+    let Some(most) = tracker.most_left() else {
         return Err(NoMemory);
     };
     let Some(room) = most.checked_add(1) else {
@@ -29,17 +29,17 @@ pub fn make_room(
     steps: &mut Log<Step>,
     journal: &mut Log<(u32, u32)>,
     replies: &mut Log<Answered>,
-    tails: &Tails,
+    tracker: &Tracker,
 ) -> Result<(), NoMemory>
     ensures steps { steps.new.items ≡ steps.old.items }
     ensures journal { journal.new.items ≡ journal.old.items }
     ensures replies { replies.new.items ≡ replies.old.items }
     ensures steps_kept { steps.old.room ≤ steps.new.room }
-    ensures steps_room { OnOk result (31 * length tails.now.slots < steps.new.room) }
+    ensures steps_room { OnOk result (31 * length tracker.now.tails.slots < steps.new.room) }
     ensures journal_room { OnOk result (0 < journal.new.room) }
     ensures replies_room { OnOk result (0 < replies.new.room) }
 {
-    make_step_room(steps, tails)?;
+    make_step_room(steps, tracker)?;
     journal.make_room(1)?;
     replies.make_room(1)?;
     Ok(())
@@ -50,16 +50,16 @@ pub fn make_room(
 pub fn make_spare(
     steps: &mut Log<Step>,
     latches: &mut Log<Latch>,
-    tails: &Tails,
+    tracker: &Tracker,
 ) -> Result<(), NoMemory>
     ensures steps { steps.new.items ≡ steps.old.items }
     ensures latches { latches.new.items ≡ latches.old.items }
     ensures steps_kept { steps.old.room ≤ steps.new.room }
     ensures latches_kept { latches.old.room ≤ latches.new.room }
-    ensures steps_room { OnOk result (31 * length tails.now.slots + 32 ≤ steps.new.room) }
-    ensures latches_room { OnOk result (31 * length tails.now.slots + 31 ≤ latches.new.room) }
+    ensures steps_room { OnOk result (31 * length tracker.now.tails.slots + 32 ≤ steps.new.room) }
+    ensures latches_room { OnOk result (31 * length tracker.now.tails.slots + 31 ≤ latches.new.room) }
 {
-    let Some(most) = tails.most_left() else {
+    let Some(most) = tracker.most_left() else {
         return Err(NoMemory);
     };
     let Some(room) = most.checked_add(32) else {

@@ -6,16 +6,15 @@ ghost use Rattle.kms_model.specs.declared.replies.Step.TheVariants as step;
 ghost use Rattle.kms_model.specs.Device.Objects.{object_id};
 ghost use Rattle.kms_model.specs.Machine.State.{DeviceState, count_at};
 ghost use Rattle.kms_regs.specs.File.{StandsForDevice};
-ghost use Rattle.kms_signal.specs.Rooms.{Rooms};
-ghost use Rattle.kms_tails.specs.declared.tail.Tail.{Tail as CommitTail};
-ghost use Rattle.kms_tails.specs.InStep.{StandsAfterLatch};
 ghost use Rattle.kms_core.specs.Freeing.{AreRising, framebuffers_in};
 ghost use Rattle.kms_core.specs.Stored.{AreHeld};
+ghost use Rattle.kms_track.specs.declared.progress.Mark.TheVariants as mark;
+ghost use Rattle.kms_track.specs.Tracking.{marked};
 ghost use Rattle.kms_core.specs.Latching.{IsLatching, LatchIsTold, MayBlank, MayFlush, event_told, goes_at, told_if};
 ghost use Rattle.kms_core.specs.Needs.{Frees};
 ghost use Rattle.kms_core.specs.Run.{gains, if_ok};
 ghost use Rattle.kms_core.specs.Stands.{queue_of};
-ghost use Rattle.kms_core.specs.Work.{AreFewTails};
+ghost use Rattle.kms_core.specs.Work.{AreFewCommits};
 
 use crate::freeing::{free, shown_ids};
 use crate::lists::Ledger;
@@ -23,9 +22,8 @@ use crate::stores::{Stores, make_step_room, signal_fence};
 use kms_model::{Duplicates, Kind, Latch, NoMemory, ObjId, Picture, Step};
 use kms_regs::RegFile;
 use kms_signal::{EventQueue, Fences, flip_event};
-use kms_tails::{Tail, Tails};
 use kms_things::Things;
-use kms_track::Tracker;
+use kms_track::{Tail, Tracker};
 
 /// Flushes the CRTC with an index, from 0 to 3, for the commit, by its number from 0, that flushes it next. A CRTC that
 /// is on after the commit then goes: it latches at its next vblank. One that is off latches at once. It
@@ -39,7 +37,7 @@ pub fn flush(stores: &mut Stores, commit: u32, crtc: u32)
         kind: Kind::Crtc,
         index: crtc,
     });
-    stores.tails.flushed(commit, crtc);
+    stores.tracker.flushed(commit, crtc);
     if stores.registers.is_on_in_shadow(crtc) {
         let _none = stores.registers.flush(crtc);
         stores.goes[crtc as usize] = Some(commit);
@@ -52,7 +50,6 @@ pub fn flush(stores: &mut Stores, commit: u32, crtc: u32)
     };
     let shown = latch_of(&stores.registers, crtc, commit, picture);
     show(
-        &mut stores.tails,
         &mut stores.tracker,
         &mut stores.fences,
         &mut stores.queues,
@@ -82,7 +79,7 @@ pub fn vblank(stores: &mut Stores, crtc: u32) -> Result<bool, NoMemory>
         index: crtc,
     };
     let Some(commit) = stores.goes[crtc as usize] else {
-        make_step_room(&mut stores.steps, &stores.tails)?;
+        make_step_room(&mut stores.steps, &stores.tracker)?;
         stores.steps.push(step);
         let _none = stores.registers.vblank(crtc);
         return Ok(false);
@@ -96,7 +93,6 @@ pub fn vblank(stores: &mut Stores, crtc: u32) -> Result<bool, NoMemory>
     stores.goes[crtc as usize] = None;
     let shown = latch_of(&stores.registers, crtc, commit, picture);
     show(
-        &mut stores.tails,
         &mut stores.tracker,
         &mut stores.fences,
         &mut stores.queues,
@@ -135,7 +131,6 @@ fn latch_of(registers: &RegFile, crtc: u32, commit: u32, picture: Picture) -> La
 /// A commit latches at a CRTC. Of the framebuffers that the picture before named, given by their ids in rising order, those
 /// are freed that nothing needs any more. There is a place for each, and the store has them.
 fn show(
-    tails: &mut Tails,
     tracker: &mut Tracker,
     fences: &mut Fences,
     queues: &mut Vec<EventQueue>,
@@ -149,58 +144,53 @@ fn show(
 )
     requires crtc { shown.now.crtc < 4 }
     requires crtcs { crtcs ≤ 4 }
-    requires there { IsLatching tails.old queues.old.items shown.now }
-    requires few { (left : Rooms CommitTail)
-        → StandsAfterLatch shown.now.commit shown.now.crtc tails.old left → AreFewTails left }
+    requires there { IsLatching tracker.old queues.old.items shown.now }
+    requires few { AreFewCommits
+        (marked tracker.old shown.now.commit (mark.Latched shown.now.crtc)) }
     requires places { framebuffers_in things.old.things ids_before.now ≤ freed.old.places }
     requires rising { AreRising 0 ids_before.now }
     requires held { AreHeld things.old.things things.old.fbs ids_before.now }
-    ensures told { LatchIsTold tails.old tails.new tracker.old tracker.new fences.old fences.new
+    ensures told { LatchIsTold tracker.old tracker.new fences.old fences.new
         queues.old.items queues.new.items shown.now }
-    ensures freed { Frees things.old things.new present.now registers.now tails.new crtcs
+    ensures freed { Frees things.old things.new present.now registers.now tracker.new crtcs
         ids_before.now freed.old freed.new }
 {
-    latch(tails, tracker, fences, queues, shown);
-    free(freed, things, present, registers, tails, crtcs, ids_before);
+    latch(tracker, fences, queues, shown);
+    free(
+        freed, things, present, registers, tracker, crtcs, ids_before,
+    );
 }
 
 /// A commit latches at a CRTC: its event for the CRTC is delivered if it asks for one, and its out-fence there is
 /// signalled if it has one. (Kernel: `drm_vblank.c`, `drm_crtc_send_vblank_event`.)
-fn latch(
-    tails: &mut Tails,
-    tracker: &mut Tracker,
-    fences: &mut Fences,
-    queues: &mut Vec<EventQueue>,
-    shown: &Latch,
-)
+fn latch(tracker: &mut Tracker, fences: &mut Fences, queues: &mut Vec<EventQueue>, shown: &Latch)
     requires crtc { shown.now.crtc < 4 }
-    requires there { IsLatching tails.old queues.old.items shown.now }
-    ensures { LatchIsTold tails.old tails.new tracker.old tracker.new fences.old fences.new
+    requires there { IsLatching tracker.old queues.old.items shown.now }
+    ensures { LatchIsTold tracker.old tracker.new fences.old fences.new
         queues.old.items queues.new.items shown.now }
 {
-    let Some(tail) = tails.get(shown.commit) else {
+    let Some(tail) = tracker.get(shown.commit) else {
         unreachable!();
     };
     deliver(queues, tail, shown);
     signal_fence(fences, tail.out_fence(shown.crtc));
     tracker.flip_done(shown.commit, shown.crtc);
-    tails.latched(shown.commit, shown.crtc);
 }
 
 /// Delivers the event of a commit that latches to its client, if it asks for one.
 fn deliver(queues: &mut Vec<EventQueue>, tail: &Tail, shown: &Latch)
-    requires low { 1 ≤ tail.now.client }
-    requires high { tail.now.client ≤ length queues.old.items }
-    requires reserved { tail.now.wants_event ≡ true
-        → 0 < (queue_of queues.old.items tail.now.client).reserved }
+    requires low { 1 ≤ tail.now.signals.client }
+    requires high { tail.now.signals.client ≤ length queues.old.items }
+    requires reserved { tail.now.signals.wants_event ≡ true
+        → 0 < (queue_of queues.old.items tail.now.signals.client).reserved }
     requires crtc { shown.now.crtc < 4 }
-    ensures { queues.new.items ≡ told_if tail.now.wants_event tail.now.client
+    ensures { queues.new.items ≡ told_if tail.now.signals.wants_event tail.now.signals.client
         (event_told tail.now shown.now) queues.old.items }
 {
-    if !tail.wants_event {
+    if !tail.signals.wants_event {
         return;
     }
     let crtc = ObjId::of(Kind::Crtc, shown.crtc).0;
-    let event = flip_event(tail.user_data, shown.count, crtc);
-    queues[(tail.client - 1) as usize].deliver(event);
+    let event = flip_event(tail.signals.user_data, shown.count, crtc);
+    queues[(tail.signals.client - 1) as usize].deliver(event);
 }

@@ -4,15 +4,14 @@ ghost use Rattle.kms_model.specs.declared.replies.Step.TheVariants as step;
 ghost use Rattle.kms_model.specs.Device.Objects.{index_of, kind_of};
 ghost use Rattle.kms_track.specs.Tracking.{ready_of};
 ghost use Rattle.kms_core.specs.Run.{gains};
-ghost use Rattle.kms_core.specs.Work.{AreFewTails, FindsFirstWhere, HoldsCrtc, HoldsOld, HoldsPlane, IsCrtcWritten, IsPlaneWritten, IsWritten, MayBeDone, MayClaim, MayCleanUp, MayWrite, TellsOver, claim_steps, cleanup_steps, first_claim, is_commit_over, write_step};
+ghost use Rattle.kms_core.specs.Work.{AreFewCommits, FindsFirstWhere, HoldsCrtc, HoldsOld, HoldsPlane, IsCrtcWritten, IsPlaneWritten, IsWritten, MayBeDone, MayClaim, MayCleanUp, MayWrite, TellsOver, claim_steps, cleanup_steps, first_claim, is_commit_over, write_step};
 
 use crate::freeing::{free, kept_ids};
 use crate::stores::Stores;
 use kms_model::{Kind, ObjId, Step};
 use kms_regs::RegFile;
 use kms_signal::Fences;
-use kms_tails::{Tail, Tails};
-use kms_track::Tracker;
+use kms_track::{Tail, Tracker};
 
 /// Claims the least commit whose tail may begin: the fences that it waits for are signalled, and the commit before it
 /// on each object that it touches is done and has flipped there. It gives the commit's number, counted from 0; none
@@ -25,7 +24,7 @@ pub fn claim(stores: &mut Stores) -> Option<u32>
     if stores.stalled {
         return None;
     }
-    let Some(commit) = first_ready(&stores.tails, &stores.tracker, &stores.fences) else {
+    let Some(commit) = first_ready(&stores.tracker, &stores.fences) else {
         return None;
     };
     claim_commit(stores, commit);
@@ -38,7 +37,6 @@ pub fn claim_commit(stores: &mut Stores, commit: u32)
     ensures history { stores.new ≡ gains stores.old (step.Claim commit ∷ []) }
 {
     stores.tracker.claim(commit);
-    stores.tails.claim(commit);
     stores.steps.push(Step::Claim { commit });
 }
 
@@ -49,11 +47,11 @@ pub fn write(stores: &mut Stores, commit: u32, id: ObjId)
     requires { MayWrite stores.old commit id }
     ensures history { stores.new ≡ gains stores.old (write_step commit id ∷ []) }
 {
-    let Some(tail) = stores.tails.get(commit) else {
+    let Some(tail) = stores.tracker.get(commit) else {
         unreachable!();
     };
     write_registers(&mut stores.registers, tail, id);
-    stores.tails.wrote(commit, id);
+    stores.tracker.wrote(commit, id);
     stores.steps.push(write_step(commit, id));
 }
 
@@ -64,7 +62,6 @@ pub fn hw_done(stores: &mut Stores, commit: u32)
     ensures history { stores.new ≡ gains stores.old (step.HwDone commit ∷ []) }
 {
     stores.tracker.hw_done(commit);
-    stores.tails.hw_done(commit);
     stores.steps.push(Step::HwDone { commit });
 }
 
@@ -76,21 +73,20 @@ pub fn cleanup(stores: &mut Stores, commit: u32) -> bool
     ensures answer { result ≡ is_commit_over stores.old commit }
     ensures history { stores.new ≡ gains stores.old (cleanup_steps commit result) }
 {
-    if !is_commit_over(&stores.tails, commit) {
+    if !is_commit_over(&stores.tracker, commit) {
         return false;
     }
-    let Some(tail) = stores.tails.get(commit) else {
+    let Some(tail) = stores.tracker.get(commit) else {
         unreachable!();
     };
     let kept_ids = kept_ids(tail);
     stores.tracker.cleanup(commit);
-    stores.tails.remove(commit);
     free(
         &mut stores.freed,
         &mut stores.things,
         &stores.present,
         &stores.registers,
-        &stores.tails,
+        &stores.tracker,
         stores.script.topology.crtcs,
         kept_ids.as_slice(),
     );
@@ -99,12 +95,12 @@ pub fn cleanup(stores: &mut Stores, commit: u32) -> bool
 }
 
 /// The least commit that is not cleaned and may be claimed.
-fn first_ready(tails: &Tails, tracker: &Tracker, fences: &Fences) -> Option<u32>
-    requires { AreFewTails tails.now }
-    ensures { FindsFirstWhere tails.now (ready_of tracker.now fences.now) result }
+fn first_ready(tracker: &Tracker, fences: &Fences) -> Option<u32>
+    requires { AreFewCommits tracker.now }
+    ensures { FindsFirstWhere tracker.now (ready_of tracker.now fences.now) result }
 {
     let mut from = 0;
-    'seeking: while let Some(commit) = tails.first_from(from) {
+    'seeking: while let Some(commit) = tracker.first_from(from) {
         if tracker.ready(commit, fences) {
             return Some(commit);
         }
@@ -165,10 +161,10 @@ fn write_plane(registers: &mut RegFile, tail: &Tail, index: u32)
 }
 
 /// Whether all registers of a commit are written and flushed, and it has latched at each CRTC that it names.
-fn is_commit_over(tails: &Tails, commit: u32) -> bool
-    ensures { TellsOver tails.now commit result }
+fn is_commit_over(tracker: &Tracker, commit: u32) -> bool
+    ensures { TellsOver tracker.now commit result }
 {
-    match tails.get(commit) {
+    match tracker.get(commit) {
         Some(tail) => tail.progress.done && tail.is_latched(),
         None => false,
     }

@@ -1,12 +1,13 @@
-use Rattle.std.proofs.Common.{◌∙◌, ◌+◌, ◌-◌, length, ap, sym, refl, subst, rules}
+use Rattle.std.proofs.Common.{◌∙◌, ◌+◌, ◌-◌, length, map, ap, sym, refl, subst, rules}
 use Rattle.std.specs.Prelude.{slice_set}
 use Rattle.kms_model.specs.declared.runs.Place.{Place}
 use Rattle.kms_signal.specs.FenceSets.{FenceSet}
 use Rattle.kms_signal.specs.Queues.{Queue, empty_queue}
-use Rattle.kms_tails.specs.InStep.{StandsAfterSwap}
+use Rattle.kms_track.specs.declared.tail.Signals.{Signals}
+use Rattle.kms_track.specs.Tracking.{IsSetUp}
 use Rattle.kms_core.specs.Run.{machine}
-use Rattle.kms_core.specs.SwappedIn.{fences_under, labels_in}
-use Rattle.kms_core.proofs.deciding.Commits.{again, below_tails, commits, decider, few_commits, few_waits, found_queue, has_ids, high, may_now, own, queues_same, roomy, set_up_same, space_again, there}
+use Rattle.kms_core.specs.SwappedIn.{fences_under, labels_in, signals_for}
+use Rattle.kms_core.proofs.deciding.Commits.{again, commits, decider, few_commits, few_waits, found_queue, has_ids, high, may_now, own, queues_same, roomy, set_up_same, space_again, there}
 use Rattle.kms_core.specs.Insides.{run_in, stores_of}
 use Rattle.kms_core.proofs.stores.Spared.{still_spared, swap_spared, with_latches}
 use Rattle.kms_core.proofs.deciding.committing.commit.Goals as goal
@@ -18,7 +19,7 @@ invariant_of-stores c =
     let room = c.in_err-make_commit_room.ensures in
     let stands =
     roomy r (stores_of c.stores.inside) c.args.client c.args.checked.now c.args.resolved.now c.stores.invariant.stands can c.make_commit_room.new.journal c.make_commit_room.new.replies c.make_commit_room.new.latches c.stores.inside.things c.make_commit_room.new.fences _ _ _
-    c.make_commit_room.new.queue c.make_commit_room.new.tracker c.make_commit_room.new.tails c.make_commit_room.new.steps.items room.steps room.journal room.replies room.latches refl refl c.index_mut.ensures.value room.kept in
+    c.make_commit_room.new.queue c.make_commit_room.new.tracker c.make_commit_room.new.steps.items room.steps room.journal room.replies room.latches refl refl c.index_mut.ensures.value room.kept in
     record { stands = stands; spare = still_spared _ _ _ _ _ _ room.steps c.stores.invariant.spare room.steps_kept room.latches_kept }
 
 pub make_out_fences-requires-clause-ids : goal.make_out_fences-requires-clause-ids
@@ -32,7 +33,7 @@ invariant_of-stores-in_err-make_out_fences c =
     let room = c.in_ok-make_commit_room.ensures in
     let stands =
     roomy r (stores_of c.stores.inside) c.args.client c.args.checked.now c.args.resolved.now c.stores.invariant.stands can c.make_commit_room.new.journal c.make_commit_room.new.replies c.make_commit_room.new.latches c.make_out_fences.new.things c.make_out_fences.new.fences _ _ _
-    c.make_commit_room.new.queue c.make_commit_room.new.tracker c.make_commit_room.new.tails c.make_commit_room.new.steps.items room.steps room.journal room.replies room.latches c.in_err-make_out_fences.ensures.same_things
+    c.make_commit_room.new.queue c.make_commit_room.new.tracker c.make_commit_room.new.steps.items room.steps room.journal room.replies room.latches c.in_err-make_out_fences.ensures.same_things
     (ap (λ (f : FenceSet). f.slots) c.in_err-make_out_fences.ensures.same_fences) c.index_mut.ensures.value room.kept in
     record { stands = stands; spare = still_spared _ _ _ _ _ _ room.steps c.stores.invariant.spare room.steps_kept room.latches_kept }
 
@@ -71,14 +72,8 @@ reserve_events-requires-clause-room c =
     rw (again (run_in c.stores.inside) (stores_of c.stores.inside) c.args.client c.args.checked.now c.args.resolved.now c.stores.invariant.stands (may_now (run_in c.stores.inside) c.args.stores.now c.args.client c.args.checked.now c.args.resolved.now c.stores.view_is c.requires) c.make_commit_room.new.queue _ _ c.index_mut-2.ensures.value)
     c.in_ok-make_commit_room.ensures.events_room
 
-pub keep_tail-requires-clause-below : goal.keep_tail-requires-clause-below
-keep_tail-requires-clause-below c =
-    below_tails (run_in c.stores.inside) (stores_of c.stores.inside) c.args.client c.args.checked.now c.args.resolved.now c.stores.invariant.stands (may_now (run_in c.stores.inside) c.args.stores.now c.args.client c.args.checked.now c.args.resolved.now c.stores.view_is c.requires)
-    _ c.make_commit_room.new.tails (c.set_up-commit.ensures.number ∙ c.in_ok-make_commit_room.ensures.kept.tracking.count)
-    (λ t commits marks latches was. c.in_ok-make_commit_room.ensures.kept.tails t commits marks latches was)
-
-pub keep_tail-requires-clause-there : goal.keep_tail-requires-clause-there
-keep_tail-requires-clause-there c =
+pub signals_of-signals-requires : goal.signals_of-signals-requires
+signals_of-signals-requires c =
     there (run_in c.stores.inside) (stores_of c.stores.inside) c.args.client c.args.checked.now c.args.resolved.now c.stores.invariant.stands (may_now (run_in c.stores.inside) c.args.stores.now c.args.client c.args.checked.now c.args.resolved.now c.stores.view_is c.requires)
     _ (ap (λ (p : Place). p.command) c.place-number.ensures)
 
@@ -96,7 +91,7 @@ invariant_of-stores-2 c =
     let third = again r st c.args.client c.args.checked.now c.args.resolved.now before can c.make_commit_room.new.queue _ empty_queue refl in
     let stands =
     commits r st c.args.client c.args.checked.now c.args.resolved.now before can c.set_up-commit.result c.leave.new.clients c.reply_commit.new.journal c.reply_commit.new.replies c.make_out_fences.new.things c.present_after-stores-inside.result c.make_out_fences.new.fences
-    (slice_set c.stores.inside.queues.items (c.args.client - 1) c.make_commit_room.new.queue) c.reserve_events.new.queue c.set_up-commit.new.tracker c.make_commit_room.new.tails c.keep_tail.new.tails
+    (slice_set c.stores.inside.queues.items (c.args.client - 1) c.make_commit_room.new.queue) c.reserve_events.new.queue c.set_up-commit.new.tracker
     (record {
       number = c.set_up-commit.ensures.number ∙ c.in_ok-make_commit_room.ensures.kept.tracking.count;
       goes = λ e. c.leave.ensures.goes e m before.stores.clients;
@@ -112,15 +107,16 @@ invariant_of-stores-2 c =
           (c.in_ok-make_commit_room.ensures.kept.reserved ∙ ap (λ (q : Queue). q.reserved) first) (c.in_ok-make_commit_room.ensures.kept.unread ∙ ap (λ (q : Queue). q.unread) first) before.stores.queues;
       reserved = c.reserve_events.ensures.reserved ∙ ap (λ (q : Queue). q.reserved + c.events_asked_for-events.result) (second ∙ sym third) ∙ rw c.events_asked_for-events.ensures.count refl;
       unread = c.reserve_events.ensures.unread ∙ ap (λ (q : Queue). q.unread) (second ∙ sym third);
-      set_up =
-          set_up_same c.stores.inside.tracker c.make_commit_room.new.tracker c.set_up-commit.new.tracker c.args.checked.now _
+      set_up = λ q is.
+          set_up_same c.stores.inside.tracker c.make_commit_room.new.tracker c.set_up-commit.new.tracker _ c.args.checked.now _
           c.in_ok-make_commit_room.ensures.kept.tracking
-          c.set_up-commit.ensures.set_up;
-      tails_stand = λ t commits marks latches was. c.in_ok-make_commit_room.ensures.kept.tails t commits marks latches was;
-      kept = λ q is.
-          subst (λ xs. StandsAfterSwap c.set_up-commit.result c.args.client q c.args.checked.now xs c.make_commit_room.new.tails c.keep_tail.new.tails)
-          (c.made_fences-out_fences.ensures ∙ ap (λ xs. fences_under c.make_out_fences.new.things.things xs) (c.out_labels-labels.ensures ∙ ap labels_in c.as_slice.ensures.value))
-          (c.keep_tail.ensures q (rw c.place-number.ensures is));
+          (subst
+          (λ (s : Signals). IsSetUp c.make_commit_room.new.tracker c.set_up-commit.new.tracker s c.args.checked.now
+          (map (λ f. f.1) c.args.resolved.now.in_fences))
+          (c.signals_of-signals.ensures q (rw c.place-number.ensures is)
+          ∙ ap (signals_for c.args.client q) (c.made_fences-out_fences.ensures
+          ∙ ap (λ xs. fences_under c.make_out_fences.new.things.things xs) (c.out_labels-labels.ensures ∙ ap labels_in c.as_slice.ensures.value)))
+          c.set_up-commit.ensures.set_up);
     })
     c.make_commit_room.new.steps.items c.push.new.self.items c.in_ok-make_commit_room.ensures.steps c.push.ensures.items in
     record { stands = stands; spare = swap_spared _ _ _ _ _ _ _ _ _ c.stores.invariant.stands stands c.in_ok-make_commit_room.ensures.steps c.push.ensures.items c.in_ok-make_commit_room.ensures.steps_room c.push.ensures.room c.in_ok-make_commit_room.ensures.latches_room }

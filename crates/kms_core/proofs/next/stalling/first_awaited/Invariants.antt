@@ -2,7 +2,7 @@
 use Rattle.std.proofs.Common.{◌≡◌, drop}
 use Rattle.std.specs.Prelude.{find}
 use Rattle.kms_model.specs.Machine.Histories.{is_awaited}
-use Rattle.kms_track.specs.Tracking.{fence_ids}
+use Rattle.kms_track.specs.Tails.{fence_ids}
 use Rattle.kms_core.specs.Run.{machine}
 use Rattle.kms_core.proofs.next.stalling.first_awaited.Given as goal
 

@@ -39,7 +39,7 @@ invariant_of-stores c =
     let own = own_step r st step c.args.commit c.stores.invariant.stands refl refl (flushes_next r c.args.stores.now st c.args.commit c.args.crtc c.stores.invariant.stands c.stores.view_is c.requires).is_legal in
     let stands =
     flushes_on r c.args.stores.now st c.args.commit c.args.crtc c.stores.inside.latches c.flush-none.new.self c.flushed.new.self r.steps c.push.new.self.items c.stores.invariant.stands c.stores.view_is c.requires
-    refl c.push.ensures.items refl c.flushed.ensures.stands c.flush-none.ensures.stands
+    refl c.push.ensures.items refl c.flushed.ensures c.flush-none.ensures.stands
     (tells_none c.stores.inside.registers c.args.crtc (λ t d stand. c.if-is_on_in_shadow.ensures t d stand)) in
     record { stands = stands; spare = own_spared r st _ step c.args.commit c.push.new.self.items _ _ _ c.stores.invariant.stands stands c.push.ensures.items own c.stores.invariant.spare c.push.ensures.room }
 
@@ -56,7 +56,7 @@ show-requires-clause-crtc c = rw c.latch_of-shown.ensures.shown (flushes_next (r
 pub show-requires-clause-there : goal.show-requires-clause-there
 show-requires-clause-there c =
     rw c.latch_of-shown.ensures.shown
-    (flush_latches (run_in c.stores.inside) c.args.stores.now (stores_of c.stores.inside) c.args.commit c.args.crtc c.latch_of-shown.result.count c.in-Some.picture c.flushed.new.self c.stores.invariant.stands c.stores.view_is c.requires c.flushed.ensures.stands)
+    (flush_latches (run_in c.stores.inside) c.args.stores.now (stores_of c.stores.inside) c.args.commit c.args.crtc c.latch_of-shown.result.count c.in-Some.picture c.flushed.new.self c.stores.invariant.stands c.stores.view_is c.requires c.flushed.ensures)
 
 pub push-requires-2 : goal.push-requires-2
 push-requires-2 c =
@@ -93,7 +93,8 @@ show-requires-clause-rising c =
 pub show-requires-clause-few : goal.show-requires-clause-few
 show-requires-clause-few c =
     rw c.latch_of-shown.ensures.shown
-    (λ left latches. few_flushed (run_in c.stores.inside) c.args.stores.now (stores_of c.stores.inside) c.args.commit c.args.crtc c.flushed.new.self left c.stores.invariant.stands c.stores.view_is c.requires c.flushed.ensures.stands latches)
+    (few_flushed (run_in c.stores.inside) c.args.stores.now (stores_of c.stores.inside) c.args.commit c.args.crtc c.flushed.new.self
+    c.stores.invariant.stands c.stores.view_is c.requires c.flushed.ensures)
 
 pub invariant_of-stores-2 : goal.invariant_of-stores-2
 invariant_of-stores-2 c =
@@ -103,14 +104,14 @@ invariant_of-stores-2 c =
     let shown = c.latch_of-shown.ensures.shown in
     let own = own_step r st step c.args.commit c.stores.invariant.stands refl refl (flushes_next r c.args.stores.now st c.args.commit c.args.crtc c.stores.invariant.stands c.stores.view_is c.requires).is_legal in
     let stands =
-    flushes_off r c.args.stores.now st c.args.commit c.args.crtc c.latch_of-shown.result.count c.in-Some.picture c.flush.new.self c.flushed.new.self c.show.new.tails c.show.new.tracker c.show.new.fences
+    flushes_off r c.args.stores.now st c.args.commit c.args.crtc c.latch_of-shown.result.count c.in-Some.picture c.flush.new.self c.flushed.new.self c.show.new.tracker c.show.new.fences
     c.show.new.queues.items c.push-2.new.self c.push.new.self.items c.stores.invariant.stands c.stores.view_is c.requires c.push.ensures.items
     (record {
       flushes = c.in-Some.ensures.stands;
       tells = c.in-Some.ensures.picture;
       latched = c.in-Some.ensures.latched;
       counted = c.latch_of-shown.ensures.count;
-      marked = c.flushed.ensures.stands;
+      marked_as = c.flushed.ensures;
       told = rw shown at c.show.ensures.told;
       recorded = rw shown at c.push-2.ensures.items;
     })

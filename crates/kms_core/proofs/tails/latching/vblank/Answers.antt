@@ -105,7 +105,8 @@ show-requires-clause-rising c =
 pub show-requires-clause-few : goal.show-requires-clause-few
 show-requires-clause-few c =
     rw c.latch_of-shown.ensures.shown
-    (λ left latches. few_blanked (run_in c.stores.inside) c.args.stores.now (stores_of c.stores.inside) c.in-Some.commit c.args.crtc left c.stores.invariant.stands c.stores.view_is c.requires c.in-Some.is latches)
+    (few_blanked (run_in c.stores.inside) c.args.stores.now (stores_of c.stores.inside) c.in-Some.commit c.args.crtc c.stores.invariant.stands
+    c.stores.view_is c.requires c.in-Some.is)
 
 pub invariant_of-stores-2 : goal.invariant_of-stores-2
 invariant_of-stores-2 c =
@@ -115,7 +116,7 @@ invariant_of-stores-2 c =
     let shown = c.latch_of-shown.ensures.shown in
     let B = blanks_for r c.args.stores.now st c.in-Some.commit c.args.crtc c.stores.invariant.stands c.stores.view_is c.requires c.in-Some.is in
     let stands =
-    blanks_with r c.args.stores.now st c.in-Some.commit c.args.crtc c.latch_of-shown.result.count c.in-Some-vblank.picture c.vblank.new.self c.show.new.tails c.show.new.tracker c.show.new.fences
+    blanks_with r c.args.stores.now st c.in-Some.commit c.args.crtc c.latch_of-shown.result.count c.in-Some-vblank.picture c.vblank.new.self c.show.new.tracker c.show.new.fences
     c.show.new.queues.items c.push-3.new.self c.push-2.new.self.items c.stores.invariant.stands c.stores.view_is c.requires c.push-2.ensures.items
     (record {
       go = c.in-Some.is;

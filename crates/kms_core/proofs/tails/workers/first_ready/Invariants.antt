@@ -5,7 +5,7 @@ use Rattle.kms_core.proofs.stores.Seeking.{ArePassed}
 use Rattle.kms_core.proofs.tails.workers.first_ready.Given as goal
 
 abbrev pub invariant-seeking : goal.invariant-seeking
-invariant-seeking l = ArePassed l.tails (ready_of l.tracker l.fences) l.from
+invariant-seeking l = ArePassed l.tracker (ready_of l.tracker l.fences) l.from
 
 abbrev pub decreases-seeking : goal.decreases-seeking
 decreases-seeking l = 4294967296 - l.from

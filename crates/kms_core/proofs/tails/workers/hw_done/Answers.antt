@@ -22,6 +22,6 @@ invariant_of-stores c =
     let k = c.args.commit in
     let own = own_step r st (HwDone k) k c.stores.invariant.stands refl refl (subst (λ (x : Run). MayBeDone x k) (sym c.stores.view_is) c.requires) in
     let stands =
-    ends_writing r c.args.stores.now st k c.hw_done.new.self c.hw_done-2.new.self r.steps c.push.new.self.items c.stores.invariant.stands c.stores.view_is c.requires
-    refl c.push.ensures.items c.hw_done.ensures c.hw_done-2.ensures.stands in
+    ends_writing r c.args.stores.now st k c.hw_done.new.self r.steps c.push.new.self.items c.stores.invariant.stands c.stores.view_is c.requires
+    refl c.push.ensures.items c.hw_done.ensures in
     record { stands = stands; spare = own_spared r st _ (HwDone k) k c.push.new.self.items _ _ _ c.stores.invariant.stands stands c.push.ensures.items own c.stores.invariant.spare c.push.ensures.room }

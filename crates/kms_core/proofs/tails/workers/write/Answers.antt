@@ -7,10 +7,10 @@ use Rattle.kms_core.proofs.stores.Spared.{own_room, own_spared, own_step}
 use Rattle.kms_core.proofs.tails.workers.write.Goals as goal
 
 pub unreachable-requires : goal.unreachable-requires
-unreachable-requires c = tail_there (run_in c.stores.inside) c.args.stores.now (stores_of c.stores.inside) c.args.commit c.args.id c.stores.invariant.stands c.stores.view_is c.requires c.in_default.ensures.kept
+unreachable-requires c = tail_there (run_in c.stores.inside) c.args.stores.now (stores_of c.stores.inside) c.args.commit c.args.id c.stores.invariant.stands c.stores.view_is c.requires c.in_default.ensures
 
 pub write_registers-requires : goal.write_registers-requires
-write_registers-requires c = holds_old (run_in c.stores.inside) c.args.stores.now (stores_of c.stores.inside) c.args.commit c.args.id c.in-Some.tail.now c.stores.invariant.stands c.stores.view_is c.requires c.in-Some.ensures.kept
+write_registers-requires c = holds_old (run_in c.stores.inside) c.args.stores.now (stores_of c.stores.inside) c.args.commit c.args.id c.in-Some.tail.now c.stores.invariant.stands c.stores.view_is c.requires c.in-Some.ensures
 
 pub wrote-requires : goal.wrote-requires
 wrote-requires c = has_registers (run_in c.stores.inside) c.args.stores.now (stores_of c.stores.inside) c.args.commit c.args.id c.stores.invariant.stands c.stores.view_is c.requires
@@ -32,5 +32,6 @@ invariant_of-stores c =
     let more = c.push.ensures.items ∙ ap (λ (x : Step). r.steps ++ x ∷ []) c.write_step.ensures in
     let stands =
     writes_object r c.args.stores.now st k c.args.id c.in-Some.tail.now c.write_registers.new.registers c.wrote.new.self r.steps c.push.new.self.items
-    c.stores.invariant.stands c.stores.view_is c.requires c.in-Some.ensures.kept refl more c.write_registers.ensures c.wrote.ensures.stands in
+    c.stores.invariant.stands c.stores.view_is c.requires c.in-Some.ensures refl more c.write_registers.ensures
+    (has_registers r c.args.stores.now st k c.args.id c.stores.invariant.stands c.stores.view_is c.requires) c.wrote.ensures in
     record { stands = stands; spare = own_spared r st _ (write_step k c.args.id) k c.push.new.self.items _ _ _ c.stores.invariant.stands stands more own c.stores.invariant.spare c.push.ensures.room }

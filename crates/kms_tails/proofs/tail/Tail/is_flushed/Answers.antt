@@ -1,8 +1,0 @@
-use Rattle.std.proofs.Common.{rules, ◌≡◌, ◌∙◌}
-use Rattle.std.specs.Prelude.{is_none}
-use Rattle.kms_tails.specs.Remaining.{next_flush_of}
-use Rattle.kms_tails.proofs.Queries.{all_flushed_is}
-use Rattle.kms_tails.proofs.tail.Tail.is_flushed.Goals as goal
-
-pub returns-clause-machine : goal.returns-clause-machine
-returns-clause-machine c = let e : c.is_none.result ≡ is_none (next_flush_of c.args.self.now) = search rules in λ t d latches k device is. e ∙ all_flushed_is t d latches k c.args.self.now device is

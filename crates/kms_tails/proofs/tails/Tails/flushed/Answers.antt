@@ -1,5 +1,0 @@
-use Rattle.kms_tails.proofs.InStepLemmas.{flushed_stands}
-use Rattle.kms_tails.proofs.tails.Tails.flushed.Goals as goal
-
-pub returns-clause-stands : goal.returns-clause-stands
-returns-clause-stands c = λ t cs marks latches within stand. rw c.mark.ensures.marked (flushed_stands t cs marks latches c.args.self.now c.args.commit within stand c.args.crtc c.requires)

@@ -1,0 +1,16 @@
+use Rattle.std.proofs.Common.{sym}
+use Rattle.kms_model.proofs.TableLemmas.{FoundAt, found, absent, value-absent, value-present}
+use Rattle.kms_track.proofs.tails.Tails.get.Goals as goal
+
+pub returns-in-Some : goal.returns-in-Some
+returns-in-Some c =
+    let at : FoundAt c.self.inside.slots.items c.in-Some.i c.args.commit =
+    found c.as_slice.result.now c.self.inside.slots.items c.in-Some.i c.args.commit c.as_slice.ensures.value c.self.invariant
+    c.in-Some.ensures.in_range c.in-Some.ensures.at in
+    rw (← c.self.view_is) (value-present c.self.inside.slots.items c.in-Some.i c.args.commit c.index.result.now
+    at.rising at.within at.same c.index.ensures)
+
+pub returns-in-None : goal.returns-in-None
+returns-in-None c =
+    rw (← c.self.view_is) (sym (value-absent c.self.inside.slots.items c.args.commit
+    (absent c.as_slice.result.now c.self.inside.slots.items c.args.commit c.as_slice.ensures.value c.in-None.ensures.absent)))
