@@ -5,119 +5,122 @@ ghost use Rattle.kms_model.specs.declared.replies.Step.TheVariants as step;
 ghost use Rattle.kms_core.specs.Next.{IsLegal, is_of_worker};
 ghost use Rattle.kms_core.specs.Run.{gains, if_ok, machine};
 
-use crate::calls::{backoff, begin, lock, make, read, relock, return_from, signal};
 use crate::deciding::{commit, decide};
-use crate::next::{checked, doing, refusal_reply, request_taken, resolved, stall};
+use crate::machine::Core;
+use crate::next::{checked, refusal_reply, request_taken, resolved};
 use crate::stores::Stores;
-use crate::tails::{claim_commit, cleanup, flush, hw_done, vblank, write};
+use crate::tails::claim_commit;
 use kms_model::{Doing, Kind, NoMemory, ObjId, Reply, Step};
 use std::alloc::Global;
 
-/// Does a step that is legal next, as `legal` tells. A request is decided by the plain check of the whole device. Want of
-/// memory leaves all as it was. A step of a commit's tail takes none: a claim, a write, a flush, a commit that is done or
-/// cleaned up, and the vblank of a CRTC that goes.
-pub(crate) fn apply(stores: &mut Stores, alloc: Global, step: &Step) -> Result<(), NoMemory>
-    requires { IsLegal stores.old step.now }
-    ensures history { stores.new ≡ gains stores.old (if_ok result (λ u. step.now ∷ [])) }
-    ensures no_memory { (k : ℕ) → commit_of_step (machine stores.old) step.now ≡ Some k
-        → IsOk result }
-{
-    match *step {
-        Step::Begin { client } => do_begin(stores, alloc, client),
-        Step::Lock {
-            client,
-            kind,
-            index,
-        } => do_lock(stores, client, kind, index),
-        Step::BackOff { client } => do_back_off(stores, client),
-        Step::Relock { client } => do_relock(stores, client),
-        Step::Refuse { client } => do_refuse(stores, client),
-        Step::Test { client } => do_test(stores, client),
-        Step::Swap { client } => do_swap(stores, alloc, client),
-        Step::Make { client } => do_make(stores, alloc, client),
-        Step::Signal { client } => do_signal(stores, client),
-        Step::Claim { .. }
-        | Step::Write { .. }
-        | Step::Flush { .. }
-        | Step::HwDone { .. }
-        | Step::Cleanup { .. } => {
-            do_of_tail(stores, step);
-            Ok(())
+impl Core {
+    /// Does a step that is legal next, as `legal` tells. A request is decided by the plain check of the whole device. Want of
+    /// memory leaves all as it was. A step of a commit's tail takes none: a claim, a write, a flush, a commit that is done or
+    /// cleaned up, and the vblank of a CRTC that goes.
+    pub fn apply(&mut self, alloc: Global, step: &Step) -> Result<(), NoMemory>
+        requires { IsLegal self.old step.now }
+        ensures history { self.new ≡ gains self.old (if_ok result (λ u. step.now ∷ [])) }
+        ensures no_memory { (k : ℕ) → commit_of_step (machine self.old) step.now ≡ Some k
+            → IsOk result }
+    {
+        match *step {
+            Step::Begin { client } => do_begin(self, alloc, client),
+            Step::Lock {
+                client,
+                kind,
+                index,
+            } => do_lock(self, client, kind, index),
+            Step::BackOff { client } => do_back_off(self, client),
+            Step::Relock { client } => do_relock(self, client),
+            Step::Refuse { client } => do_refuse(&mut self.stores, client),
+            Step::Test { client } => do_test(&mut self.stores, client),
+            Step::Swap { client } => do_swap(&mut self.stores, alloc, client),
+            Step::Make { client } => do_make(self, alloc, client),
+            Step::Signal { client } => do_signal(self, client),
+            Step::Claim { .. }
+            | Step::Write { .. }
+            | Step::Flush { .. }
+            | Step::HwDone { .. }
+            | Step::Cleanup { .. } => {
+                do_of_tail(self, step);
+                Ok(())
+            }
+            Step::Vblank { kind, index } => do_vblank(self, kind, index),
+            Step::Read { client } => do_read(self, client),
+            Step::Return { client } => do_return(self, client),
+            Step::Stall => self.stall(),
         }
-        Step::Vblank { kind, index } => do_vblank(stores, kind, index),
-        Step::Read { client } => do_read(stores, client),
-        Step::Return { client } => do_return(stores, client),
-        Step::Stall => stall(stores),
     }
 }
 
 /// Does a step of a worker, which takes no memory.
-fn do_of_tail(stores: &mut Stores, step: &Step)
-    requires legal { IsLegal stores.old step.now }
+fn do_of_tail(core: &mut Core, step: &Step)
+    requires legal { IsLegal core.old step.now }
     requires worker { is_of_worker step.now ≡ true }
-    ensures history { stores.new ≡ gains stores.old (step.now ∷ []) }
+    ensures history { core.new ≡ gains core.old (step.now ∷ []) }
 {
     match *step {
-        Step::Claim { commit } => claim_commit(stores, commit),
+        Step::Claim { commit } => claim_commit(&mut core.stores, commit),
         Step::Write {
             commit,
             kind,
             index,
-        } => do_write(stores, commit, kind, index),
+        } => do_write(core, commit, kind, index),
         Step::Flush {
             commit,
             kind,
             index,
-        } => do_flush(stores, commit, kind, index),
-        Step::HwDone { commit } => hw_done(stores, commit),
-        Step::Cleanup { commit } => do_cleanup(stores, commit),
+        } => do_flush(core, commit, kind, index),
+        Step::HwDone { commit } => core.hw_done(commit),
+        Step::Cleanup { commit } => do_cleanup(core, commit),
         _ => unreachable!(),
     }
 }
 
 /// Begins the context of a client.
-fn do_begin(stores: &mut Stores, alloc: Global, client: u32) -> Result<(), NoMemory>
-    requires { IsLegal stores.old (step.Begin client) }
-    ensures history { stores.new ≡ gains stores.old (if_ok result (λ u. step.Begin client ∷ [])) }
+fn do_begin(core: &mut Core, alloc: Global, client: u32) -> Result<(), NoMemory>
+    requires { IsLegal core.old (step.Begin client) }
+    ensures history { core.new ≡ gains core.old (if_ok result (λ u. step.Begin client ∷ [])) }
 {
-    let _ticket = begin(stores, alloc, client)?;
+    let _ticket = core.begin(alloc, client)?;
     Ok(())
 }
 
 /// Asks for an object for a client that takes locks: it is free, or an older context holds it.
-fn do_lock(stores: &mut Stores, client: u32, kind: Kind, index: u32) -> Result<(), NoMemory>
-    requires { IsLegal stores.old (step.Lock client kind index) }
-    ensures history { stores.new
-        ≡ gains stores.old (if_ok result (λ u. step.Lock client kind index ∷ [])) }
+fn do_lock(core: &mut Core, client: u32, kind: Kind, index: u32) -> Result<(), NoMemory>
+    requires { IsLegal core.old (step.Lock client kind index) }
+    ensures history { core.new
+        ≡ gains core.old (if_ok result (λ u. step.Lock client kind index ∷ [])) }
 {
+    let stores = &*core.stores;
     let _ = &stores.script;
-    let Doing::Taking(ticket) = doing(stores, client) else {
+    let Doing::Taking(ticket) = core.doing(client) else {
         unreachable!();
     };
-    let _answer = lock(stores, ticket, ObjId::of(kind, index))?;
+    let _answer = core.lock(ticket, ObjId::of(kind, index))?;
     Ok(())
 }
 
 /// Drops the locks of a client that must back off.
-fn do_back_off(stores: &mut Stores, client: u32) -> Result<(), NoMemory>
-    requires { IsLegal stores.old (step.BackOff client) }
-    ensures history { stores.new ≡ gains stores.old (if_ok result (λ u. step.BackOff client ∷ [])) }
+fn do_back_off(core: &mut Core, client: u32) -> Result<(), NoMemory>
+    requires { IsLegal core.old (step.BackOff client) }
+    ensures history { core.new ≡ gains core.old (if_ok result (λ u. step.BackOff client ∷ [])) }
 {
-    let Doing::MustBackOff(ticket, _object) = doing(stores, client) else {
+    let Doing::MustBackOff(ticket, _object) = core.doing(client) else {
         unreachable!();
     };
-    backoff(stores, ticket)
+    core.backoff(ticket)
 }
 
 /// Takes the object that a client backed off for, which is free.
-fn do_relock(stores: &mut Stores, client: u32) -> Result<(), NoMemory>
-    requires { IsLegal stores.old (step.Relock client) }
-    ensures history { stores.new ≡ gains stores.old (if_ok result (λ u. step.Relock client ∷ [])) }
+fn do_relock(core: &mut Core, client: u32) -> Result<(), NoMemory>
+    requires { IsLegal core.old (step.Relock client) }
+    ensures history { core.new ≡ gains core.old (if_ok result (λ u. step.Relock client ∷ [])) }
 {
-    let Doing::BackedOff(ticket, _object) = doing(stores, client) else {
+    let Doing::BackedOff(ticket, _object) = core.doing(client) else {
         unreachable!();
     };
-    let _answer = relock(stores, ticket)?;
+    let _answer = core.relock(ticket)?;
     Ok(())
 }
 
@@ -159,84 +162,88 @@ fn do_swap(stores: &mut Stores, alloc: Global, client: u32) -> Result<(), NoMemo
 }
 
 /// Makes or closes a thing for a client.
-fn do_make(stores: &mut Stores, alloc: Global, client: u32) -> Result<(), NoMemory>
-    requires { IsLegal stores.old (step.Make client) }
-    ensures history { stores.new ≡ gains stores.old (if_ok result (λ u. step.Make client ∷ [])) }
+fn do_make(core: &mut Core, alloc: Global, client: u32) -> Result<(), NoMemory>
+    requires { IsLegal core.old (step.Make client) }
+    ensures history { core.new ≡ gains core.old (if_ok result (λ u. step.Make client ∷ [])) }
 {
-    let _reply = make(stores, alloc, client)?;
+    let _reply = core.make(alloc, client)?;
     Ok(())
 }
 
 /// Signals a fence for a client.
-fn do_signal(stores: &mut Stores, client: u32) -> Result<(), NoMemory>
-    requires { IsLegal stores.old (step.Signal client) }
-    ensures history { stores.new ≡ gains stores.old (if_ok result (λ u. step.Signal client ∷ [])) }
+fn do_signal(core: &mut Core, client: u32) -> Result<(), NoMemory>
+    requires { IsLegal core.old (step.Signal client) }
+    ensures history { core.new ≡ gains core.old (if_ok result (λ u. step.Signal client ∷ [])) }
 {
-    let _reply = signal(stores, client)?;
+    let _reply = core.signal(client)?;
     Ok(())
 }
 
 /// Writes the registers of the object that a commit writes next.
-fn do_write(stores: &mut Stores, commit: u32, kind: Kind, index: u32)
-    requires { IsLegal stores.old (step.Write commit kind index) }
-    ensures history { stores.new ≡ gains stores.old (step.Write commit kind index ∷ []) }
+fn do_write(core: &mut Core, commit: u32, kind: Kind, index: u32)
+    requires { IsLegal core.old (step.Write commit kind index) }
+    ensures history { core.new ≡ gains core.old (step.Write commit kind index ∷ []) }
 {
+    let stores = &*core.stores;
     let _ = &stores.script;
-    write(stores, commit, ObjId::of(kind, index));
+    core.write(commit, ObjId::of(kind, index));
 }
 
 /// Flushes the CRTC that a commit flushes next.
-fn do_flush(stores: &mut Stores, commit: u32, kind: Kind, index: u32)
-    requires { IsLegal stores.old (step.Flush commit kind index) }
-    ensures history { stores.new ≡ gains stores.old (step.Flush commit kind index ∷ []) }
+fn do_flush(core: &mut Core, commit: u32, kind: Kind, index: u32)
+    requires { IsLegal core.old (step.Flush commit kind index) }
+    ensures history { core.new ≡ gains core.old (step.Flush commit kind index ∷ []) }
 {
+    let stores = &*core.stores;
     let _ = &stores.script;
     let Kind::Crtc = kind else {
         unreachable!();
     };
-    flush(stores, commit, index);
+    core.flush(commit, index);
 }
 
 /// A CRTC that goes or is on has a vblank.
-fn do_vblank(stores: &mut Stores, kind: Kind, index: u32) -> Result<(), NoMemory>
-    requires { IsLegal stores.old (step.Vblank kind index) }
-    ensures history { stores.new
-        ≡ gains stores.old (if_ok result (λ u. step.Vblank kind index ∷ [])) }
+fn do_vblank(core: &mut Core, kind: Kind, index: u32) -> Result<(), NoMemory>
+    requires { IsLegal core.old (step.Vblank kind index) }
+    ensures history { core.new
+        ≡ gains core.old (if_ok result (λ u. step.Vblank kind index ∷ [])) }
     ensures no_memory { (k : ℕ)
-        → commit_of_step (machine stores.old) (step.Vblank kind index) ≡ Some k
+        → commit_of_step (machine core.old) (step.Vblank kind index) ≡ Some k
         → IsOk result }
 {
     let Kind::Crtc = kind else {
         unreachable!();
     };
-    let _went = vblank(stores, index)?;
+    let _went = core.vblank(index)?;
     Ok(())
 }
 
 /// Cleans a commit up, which is done and has latched.
-fn do_cleanup(stores: &mut Stores, commit: u32)
-    requires { IsLegal stores.old (step.Cleanup commit) }
-    ensures history { stores.new ≡ gains stores.old (step.Cleanup commit ∷ []) }
+fn do_cleanup(core: &mut Core, commit: u32)
+    requires { IsLegal core.old (step.Cleanup commit) }
+    ensures history { core.new ≡ gains core.old (step.Cleanup commit ∷ []) }
 {
+    let stores = &*core.stores;
     let _ = &stores.script;
-    let _over = cleanup(stores, commit);
+    let _over = core.cleanup(commit);
 }
 
 /// Answers the `wait` of a client.
-fn do_read(stores: &mut Stores, client: u32) -> Result<(), NoMemory>
-    requires { IsLegal stores.old (step.Read client) }
-    ensures history { stores.new ≡ gains stores.old (if_ok result (λ u. step.Read client ∷ [])) }
+fn do_read(core: &mut Core, client: u32) -> Result<(), NoMemory>
+    requires { IsLegal core.old (step.Read client) }
+    ensures history { core.new ≡ gains core.old (if_ok result (λ u. step.Read client ∷ [])) }
 {
-    let _reply = read(stores, client)?;
+    let _reply = core.read(client)?;
     Ok(())
 }
 
 /// Lets a client go on whose commit is cleaned.
-fn do_return(stores: &mut Stores, client: u32) -> Result<(), NoMemory>
-    requires { IsLegal stores.old (step.Return client) }
-    ensures history { stores.new ≡ gains stores.old (if_ok result (λ u. step.Return client ∷ [])) }
+fn do_return(core: &mut Core, client: u32) -> Result<(), NoMemory>
+    requires { IsLegal core.old (step.Return client) }
+    ensures history { core.new ≡ gains core.old (if_ok result (λ u. step.Return client ∷ [])) }
 {
+    let stores = &*core.stores;
     let _ = &stores.script;
-    let _over = return_from(stores, client)?;
+    let _over = core.return_from(client)?;
     Ok(())
 }

@@ -12,58 +12,57 @@ mod committing;
 mod present;
 mod swapping;
 
+use crate::machine::Core;
 use crate::stores::{Decided, Stores, first_stale, make_step_room, taker};
 pub use committing::commit;
 use kms_model::{Answered, Checked, Lookups, NoMemory, Refusal, Reply, Step, Ticket};
-pub use swapping::swap;
 
-/// Refuses the request of the client whose context has a ticket and takes locks. `used` tells what the request's labels
-/// named. `why` is the first early refusal with that; or the first late refusal, as a check of present
-/// states gives it, and then the context holds what the request touches. `Again` comes exactly where a label names
-/// something else now, with the first. Want of memory leaves all as it was. (Kernel: `drm_atomic_check_only`.)
-pub fn refuse(
-    stores: &mut Stores,
-    t: Ticket,
-    used: &Lookups,
-    why: Refusal,
-) -> Result<Decided, NoMemory>
-    requires { MayRefuse stores.old t.0 used.now why }
-    ensures answer { IfOk result (IsDecided (look_up (world stores.old)) used.now
-        (decided.Done (reply.Refused why))) }
-    ensures history { stores.new ≡ gains stores.old (if_ok result
-        (steps_of (taker (machine stores.old) t.0)
-        (step.Refuse (taker (machine stores.old) t.0)))) }
-{
-    let client = taker(&stores.clients, t);
-    decide_fresh(
-        stores,
-        used,
-        client,
-        Step::Refuse { client },
-        Reply::Refused(why),
-    )
-}
+impl Core {
+    /// Refuses the request of the client whose context has a ticket and takes locks. `used` tells what the request's labels
+    /// named. `why` is the first early refusal with that; or the first late refusal, as a check of present
+    /// states gives it, and then the context holds what the request touches. `Again` comes exactly where a label names
+    /// something else now, with the first. Want of memory leaves all as it was. (Kernel: `drm_atomic_check_only`.)
+    pub fn refuse(&mut self, t: Ticket, used: &Lookups, why: Refusal) -> Result<Decided, NoMemory>
+        requires { MayRefuse self.old t.0 used.now why }
+        ensures answer { IfOk result (IsDecided (look_up (world self.old)) used.now
+            (decided.Done (reply.Refused why))) }
+        ensures history { self.new ≡ gains self.old (if_ok result
+            (steps_of (taker (machine self.old) t.0)
+            (step.Refuse (taker (machine self.old) t.0)))) }
+    {
+        let stores = &mut *self.stores;
+        let client = taker(&stores.clients, t);
+        decide_fresh(
+            stores,
+            used,
+            client,
+            Step::Refuse { client },
+            Reply::Refused(why),
+        )
+    }
 
-/// Tells that the request of the client whose context has a ticket and takes locks would be accepted. It is tested
-/// only. `used` tells what the request's labels named, `checked` is what a check gives with that and with present
-/// states, and the context holds what the request touches. `Again` comes exactly where a label names something else
-/// now, with the first. Nothing of the device changes. Want of memory leaves all as it was. (Kernel:
-/// `drm_mode_atomic_ioctl`, `DRM_MODE_ATOMIC_TEST_ONLY`.)
-pub fn test(
-    stores: &mut Stores,
-    t: Ticket,
-    used: &Lookups,
-    checked: &Checked,
-) -> Result<Decided, NoMemory>
-    requires { MayTest stores.old t.0 used.now checked.now }
-    ensures answer { IfOk result (IsDecided (look_up (world stores.old)) used.now
-        (decided.Done reply.Tested)) }
-    ensures history { stores.new ≡ gains stores.old (if_ok result
-        (steps_of (taker (machine stores.old) t.0)
-        (step.Test (taker (machine stores.old) t.0)))) }
-{
-    let client = taker(&stores.clients, t);
-    decide_fresh(stores, used, client, Step::Test { client }, Reply::Tested)
+    /// Tells that the request of the client whose context has a ticket and takes locks would be accepted. It is tested
+    /// only. `used` tells what the request's labels named, `checked` is what a check gives with that and with present
+    /// states, and the context holds what the request touches. `Again` comes exactly where a label names something else
+    /// now, with the first. Nothing of the device changes. Want of memory leaves all as it was. (Kernel:
+    /// `drm_mode_atomic_ioctl`, `DRM_MODE_ATOMIC_TEST_ONLY`.)
+    pub fn test(
+        &mut self,
+        t: Ticket,
+        used: &Lookups,
+        checked: &Checked,
+    ) -> Result<Decided, NoMemory>
+        requires { MayTest self.old t.0 used.now checked.now }
+        ensures answer { IfOk result (IsDecided (look_up (world self.old)) used.now
+            (decided.Done reply.Tested)) }
+        ensures history { self.new ≡ gains self.old (if_ok result
+            (steps_of (taker (machine self.old) t.0)
+            (step.Test (taker (machine self.old) t.0)))) }
+    {
+        let stores = &mut *self.stores;
+        let client = taker(&stores.clients, t);
+        decide_fresh(stores, used, client, Step::Test { client }, Reply::Tested)
+    }
 }
 
 /// Decides a client's request by a step with a reply, where its labels name what `used` tells that they named; else `Again`

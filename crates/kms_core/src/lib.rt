@@ -8,7 +8,6 @@ mod freeing;
 mod lists;
 mod machine;
 mod next;
-mod orders;
 mod promises;
 mod queries;
 mod spare;

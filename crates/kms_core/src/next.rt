@@ -15,8 +15,4 @@ mod tail_steps;
 
 pub use client_steps::{doing, idle_command, is_at_end};
 pub use judging::{checked, refusal_reply, request_taken, resolved};
-pub use legality::{drained, enabled, is_dead, legal};
-pub use ordering::client_step;
-pub use settling::tail_step;
-pub use stalling::{stall, stalled_on};
 pub use tail_steps::has_go;

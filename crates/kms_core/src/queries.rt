@@ -7,11 +7,10 @@ ghost use Rattle.kms_model.specs.Device.World.{thing_with_id};
 ghost use Rattle.kms_model.specs.Frames.Images.{image_of};
 ghost use Rattle.kms_model.specs.Machine.Framebuffers as framebuffers;
 ghost use Rattle.kms_model.specs.Machine.Histories as told;
-ghost use Rattle.kms_model.specs.Machine.Histories.{is_history};
+ghost use Rattle.kms_model.specs.Machine.Histories.{is_at_end, is_history};
 ghost use Rattle.kms_model.specs.Machine.State.{doing_at, go_at, place_at};
 ghost use Rattle.kms_model.specs.Script.WellFormed.{IsWellFormed};
 ghost use Rattle.kms_laws.specs.TailsLeft.{all_left};
-ghost use Rattle.kms_core.specs.Locks.{held_state};
 ghost use Rattle.kms_core.specs.Calls.{idle_command_at};
 ghost use Rattle.kms_core.specs.Freeing.{label_and_id};
 ghost use Rattle.kms_core.specs.Run.{machine};
@@ -19,9 +18,7 @@ ghost use Rattle.kms_core.specs.Stands.{entry_pair};
 
 use crate::machine::Core;
 use crate::spare::Spare;
-use kms_model::{
-    Answered, Command, Doing, FbInfo, Image, Latch, ObjId, ObjState, Place, Script, Step,
-};
+use kms_model::{Answered, Command, Doing, FbInfo, Image, Latch, Place, Script, Step};
 
 impl Core {
     /// The script.
@@ -103,12 +100,13 @@ impl Core {
         crate::next::idle_command(&self.stores, client)
     }
 
-    /// The present state of an object that the context of a client, by its number from 1, holds. None exactly where it holds
-    /// no such object; any numbers may be asked for.
-    pub fn held_state(&self, client: u32, id: ObjId) -> Option<ObjState>
-        ensures { result ≡ held_state self.now client id }
+    /// Whether a client, given by its number from 1 to that of the clients, is at its end: idle, with no command left.
+    pub fn is_at_end(&self, client: u32) -> bool
+        requires low { 1 ≤ client }
+        requires high { client ≤ length self.now.script.clients }
+        ensures { result ≡ is_at_end self.now.script (machine self.now) client }
     {
-        crate::calls::held_state(&self.stores, client, id)
+        crate::next::is_at_end(&self.stores, client)
     }
 
     /// For how many further steps and latches memory was taken: at least for all that the tails of commits which are not cleaned
@@ -149,7 +147,8 @@ impl Core {
         ensures { result
             ≡ framebuffers.stored_framebuffer self.now.script.topology (machine self.now) id }
     {
-        crate::freeing::framebuffer(&self.stores, id)
+        let stores = &*self.stores;
+        stores.things.stored(id)
     }
 
     /// The words of a framebuffer's buffer, also after the framebuffer was closed; none exactly where no framebuffer ever

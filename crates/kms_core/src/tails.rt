@@ -3,5 +3,4 @@
 mod latching;
 mod workers;
 
-pub use latching::{flush, vblank};
-pub use workers::{claim, claim_commit, cleanup, hw_done, write};
+pub use workers::claim_commit;

@@ -6,83 +6,88 @@ ghost use Rattle.kms_core.specs.Calls.{MayMake, MaySignal, fence_of, reply_at, w
 ghost use Rattle.kms_core.specs.Run.{gains, if_ok};
 
 use crate::freeing::account;
-use crate::stores::{Stores, answer, join, make_room, signal_fence};
+use crate::machine::Core;
+use crate::stores::{answer, join, make_room, signal_fence};
 use kms_model::{Command, NoMemory, Reply, Step, command_of};
 use kms_signal::Fences;
 use kms_things::Things;
 use std::alloc::Global;
 
-/// Executes the command of a client, by its number from 1, that is idle at one which makes or closes a thing, and lets
-/// the client go on. The reply tells what was made, or why the command is refused; refusals 31 to 34 change no thing.
-/// Want of memory leaves all as it was. (Kernel: "Dumb Buffer Objects", "Frame Buffer Abstraction", "KMS Properties",
-/// "DMA Fences".)
-pub fn make(stores: &mut Stores, alloc: Global, client: u32) -> Result<Reply, NoMemory>
-    requires { MayMake stores.old client }
-    ensures reply { IfOk result (λ reply. reply ≡ reply_at stores.old client) }
-    ensures history { stores.new
-        ≡ gains stores.old (if_ok result (λ reply. step.Make client ∷ [])) }
-{
-    make_room(
-        &mut stores.steps,
-        &mut stores.journal,
-        &mut stores.replies,
-        &stores.tracker,
-    )?;
-    stores.fences.make_room(alloc, 1)?;
-    stores.freed.make_room()?;
-    let crtcs = stores.script.topology.crtcs;
-    let number = stores.clients.place(client).command;
-    let Some(command) = command_of(&stores.script, client, number) else {
-        unreachable!();
-    };
-    let id = stores.things.next_id();
-    let reply = stores.things.execute(alloc, client, command)?;
-    make_fence(alloc, &mut stores.fences, command, id);
-    account(
-        &mut stores.freed,
-        &mut stores.things,
-        &stores.present,
-        &stores.registers,
-        &stores.tracker,
-        crtcs,
-        command,
-        &reply,
-    );
-    answer(&stores.journal, &mut stores.replies, client, number, reply);
-    join(&mut stores.journal, client, number, &reply);
-    stores.clients.go_on(client);
-    stores.steps.push(Step::Make { client });
-    Ok(reply)
-}
+impl Core {
+    /// Executes the command of a client, by its number from 1, that is idle at one which makes or closes a thing, and lets
+    /// the client go on. The reply tells what was made, or why the command is refused; refusals 31 to 34 change no thing.
+    /// Want of memory leaves all as it was. (Kernel: "Dumb Buffer Objects", "Frame Buffer Abstraction", "KMS Properties",
+    /// "DMA Fences".)
+    pub fn make(&mut self, alloc: Global, client: u32) -> Result<Reply, NoMemory>
+        requires { MayMake self.old client }
+        ensures reply { IfOk result (λ reply. reply ≡ reply_at self.old client) }
+        ensures history { self.new
+            ≡ gains self.old (if_ok result (λ reply. step.Make client ∷ [])) }
+    {
+        let stores = &mut *self.stores;
+        make_room(
+            &mut stores.steps,
+            &mut stores.journal,
+            &mut stores.replies,
+            &stores.tracker,
+        )?;
+        stores.fences.make_room(alloc, 1)?;
+        stores.freed.make_room()?;
+        let crtcs = stores.script.topology.crtcs;
+        let number = stores.clients.place(client).command;
+        let Some(command) = command_of(&stores.script, client, number) else {
+            unreachable!();
+        };
+        let id = stores.things.next_id();
+        let reply = stores.things.execute(alloc, client, command)?;
+        make_fence(alloc, &mut stores.fences, command, id);
+        account(
+            &mut stores.freed,
+            &mut stores.things,
+            &stores.present,
+            &stores.registers,
+            &stores.tracker,
+            crtcs,
+            command,
+            &reply,
+        );
+        answer(&stores.journal, &mut stores.replies, client, number, reply);
+        join(&mut stores.journal, client, number, &reply);
+        stores.clients.go_on(client);
+        stores.steps.push(Step::Make { client });
+        Ok(reply)
+    }
 
-/// Signals the fence of a client, by its number from 1, that is idle at a `signal`, and lets the client go on. A
-/// refusal, `NOT_SIGNALLABLE`, where no `fence` made the fence, signals nothing. Want of memory leaves all as it was.
-/// (Kernel: "DMA Fences", `dma_fence_signal`.)
-pub fn signal(stores: &mut Stores, client: u32) -> Result<Reply, NoMemory>
-    requires { MaySignal stores.old client }
-    ensures reply { IfOk result (λ reply. reply ≡ reply_at stores.old client) }
-    ensures history { stores.new
-        ≡ gains stores.old (if_ok result (λ reply. step.Signal client ∷ [])) }
-{
-    make_room(
-        &mut stores.steps,
-        &mut stores.journal,
-        &mut stores.replies,
-        &stores.tracker,
-    )?;
-    let number = stores.clients.place(client).command;
-    let Some(command) = command_of(&stores.script, client, number) else {
-        unreachable!();
-    };
-    let reply = stores.things.preview(client, command);
-    signal_fence(
-        &mut stores.fences,
-        fence_of(&stores.things, command, &reply),
-    );
-    answer(&stores.journal, &mut stores.replies, client, number, reply);
-    stores.clients.go_on(client);
-    stores.steps.push(Step::Signal { client });
-    Ok(reply)
+    /// Signals the fence of a client, by its number from 1, that is idle at a `signal`, and lets the client go on. A
+    /// refusal, `NOT_SIGNALLABLE`, where no `fence` made the fence, signals nothing. Want of memory leaves all as it was.
+    /// (Kernel: "DMA Fences", `dma_fence_signal`.)
+    pub fn signal(&mut self, client: u32) -> Result<Reply, NoMemory>
+        requires { MaySignal self.old client }
+        ensures reply { IfOk result (λ reply. reply ≡ reply_at self.old client) }
+        ensures history { self.new
+            ≡ gains self.old (if_ok result (λ reply. step.Signal client ∷ [])) }
+    {
+        let stores = &mut *self.stores;
+        make_room(
+            &mut stores.steps,
+            &mut stores.journal,
+            &mut stores.replies,
+            &stores.tracker,
+        )?;
+        let number = stores.clients.place(client).command;
+        let Some(command) = command_of(&stores.script, client, number) else {
+            unreachable!();
+        };
+        let reply = stores.things.preview(client, command);
+        signal_fence(
+            &mut stores.fences,
+            fence_of(&stores.things, command, &reply),
+        );
+        answer(&stores.journal, &mut stores.replies, client, number, reply);
+        stores.clients.go_on(client);
+        stores.steps.push(Step::Signal { client });
+        Ok(reply)
+    }
 }
 
 /// Makes the fence of a `fence`, with the id of its thing, for which there is room. Other commands make none.

@@ -4,20 +4,23 @@ ghost use Rattle.kms_model.specs.Machine.Steps.{is_lockable};
 ghost use Rattle.kms_core.specs.Locks.{has_lock, held_state};
 ghost use Rattle.kms_core.specs.States.{stored_state};
 
-use crate::stores::Stores;
+use crate::machine::Core;
 use kms_model::{Duplicates, Kind, ObjId, ObjState, Topology};
 use kms_state::Duplicating;
 
-/// The present state of an object that the context of a client, by its number from 1, holds. None exactly where it holds no
-/// such object; any numbers may be asked for. (Kernel: `drm_modeset_is_locked`, and the states that `drm_state_dump`
-/// prints.)
-pub fn held_state(stores: &Stores, client: u32, id: ObjId) -> Option<ObjState>
-    ensures { result ≡ held_state stores.now client id }
-{
-    if !has_lock(&stores.script.topology, id) || stores.clients.holder(id) != Some(client) {
-        return None;
+impl Core {
+    /// The present state of an object that the context of a client, by its number from 1, holds. None exactly where it holds no
+    /// such object; any numbers may be asked for. (Kernel: `drm_modeset_is_locked`, and the states that `drm_state_dump`
+    /// prints.)
+    pub fn held_state(&self, client: u32, id: ObjId) -> Option<ObjState>
+        ensures { result ≡ held_state self.now client id }
+    {
+        let stores = &*self.stores;
+        if !has_lock(&stores.script.topology, id) || stores.clients.holder(id) != Some(client) {
+            return None;
+        }
+        present_state(&stores.present, id)
     }
-    present_state(&stores.present, id)
 }
 
 /// Whether an id is that of an object of a device which has a lock: a CRTC, a plane or a connector. (Kernel: "KMS Locking".)

@@ -11,42 +11,46 @@ ghost use Rattle.kms_core.specs.Swaps.{IsReadyToCommit, MaySwap, MaySwapUnless, 
 
 use crate::deciding::committing::commit;
 use crate::deciding::decide;
+use crate::machine::Core;
 use crate::stores::{Decided, Stores, first_stale, late_reply, taker};
 use kms_model::{Checked, Lookups, NoMemory, Reply, Resolved, Step, Ticket};
 use std::alloc::Global;
 
-/// Commits the request of the client whose context has a ticket and takes locks, or refuses it for want of space for its
-/// events or for being busy. `used` tells what the request's labels named; `resolved` is what it asks for with that,
-/// and `checked` what a check gives with that and with present states, with the objects that it touches duplicated; the
-/// context holds them. `Again` comes exactly where a label names something else now, with the first. `NotYet` comes
-/// where the commit has to wait for another at a CRTC, with the first. A commit that blocks makes its client wait until
-/// its tail is over; the other goes on. Want of memory leaves all as it was. (Kernel: `drm_atomic_helper_commit`.)
-pub fn swap(
-    stores: &mut Stores,
-    alloc: Global,
-    t: Ticket,
-    used: &Lookups,
-    checked: &Checked,
-    resolved: &Resolved,
-) -> Result<Decided, NoMemory>
-    requires { MaySwap stores.old t.0 used.now checked.now resolved.now }
-    ensures answer { IfOk result (IsDecided (look_up (world stores.old)) used.now
-        (swap_answer stores.old (taker (machine stores.old) t.0))) }
-    ensures history { stores.new ≡ gains stores.old (if_ok result
-        (steps_of (taker (machine stores.old) t.0)
-        (step.Swap (taker (machine stores.old) t.0)))) }
-{
-    if let Some(stale) = first_stale(&stores.things, used) {
-        return Ok(stale.again());
+impl Core {
+    /// Commits the request of the client whose context has a ticket and takes locks, or refuses it for want of space for its
+    /// events or for being busy. `used` tells what the request's labels named; `resolved` is what it asks for with that,
+    /// and `checked` what a check gives with that and with present states, with the objects that it touches duplicated; the
+    /// context holds them. `Again` comes exactly where a label names something else now, with the first. `NotYet` comes
+    /// where the commit has to wait for another at a CRTC, with the first. A commit that blocks makes its client wait until
+    /// its tail is over; the other goes on. Want of memory leaves all as it was. (Kernel: `drm_atomic_helper_commit`.)
+    pub fn swap(
+        &mut self,
+        alloc: Global,
+        t: Ticket,
+        used: &Lookups,
+        checked: &Checked,
+        resolved: &Resolved,
+    ) -> Result<Decided, NoMemory>
+        requires { MaySwap self.old t.0 used.now checked.now resolved.now }
+        ensures answer { IfOk result (IsDecided (look_up (world self.old)) used.now
+            (swap_answer self.old (taker (machine self.old) t.0))) }
+        ensures history { self.new ≡ gains self.old (if_ok result
+            (steps_of (taker (machine self.old) t.0)
+            (step.Swap (taker (machine self.old) t.0)))) }
+    {
+        let stores = &mut *self.stores;
+        if let Some(stale) = first_stale(&stores.things, used) {
+            return Ok(stale.again());
+        }
+        let client = taker(&stores.clients, t);
+        if let Some(decided) = hindered(stores, client, checked, resolved.flags)? {
+            return Ok(decided);
+        }
+        let commit = commit(stores, alloc, client, checked, resolved)?;
+        Ok(Decided::Done {
+            reply: Reply::Commit { commit },
+        })
     }
-    let client = taker(&stores.clients, t);
-    if let Some(decided) = hindered(stores, client, checked, resolved.flags)? {
-        return Ok(decided);
-    }
-    let commit = commit(stores, alloc, client, checked, resolved)?;
-    Ok(Decided::Done {
-        reply: Reply::Commit { commit },
-    })
 }
 
 /// Refuses an accepted request of a client, for want of space for its events or for being busy, or tells the first CRTC

@@ -5,6 +5,7 @@ ghost use Rattle.kms_model.specs.Machine.Histories.{client_numbers, is_at_end, i
 ghost use Rattle.kms_model.specs.Machine.Steps.{may};
 ghost use Rattle.kms_core.specs.Run.{machine};
 
+use crate::machine::Core;
 use crate::next::client_steps::{
     is_at_end, may_back_off, may_begin, may_make, may_read, may_relock, may_return, may_signal,
 };
@@ -16,29 +17,43 @@ use crate::next::tail_steps::{
 use crate::stores::Stores;
 use kms_model::Step;
 
-/// Whether a step is legal next: its conditions hold, and the history was not ended.
-pub fn legal(stores: &Stores, step: &Step) -> bool
-    ensures { result ≡ legal stores.now.script (machine stores.now) step.now }
-{
-    match *step {
-        Step::Stall => !stores.stalled && is_dead(stores),
-        _ => !stores.stalled && may(stores, step),
+impl Core {
+    /// Whether a step is legal next: its conditions hold, and the history was not ended.
+    pub fn legal(&self, step: &Step) -> bool
+        ensures { result ≡ legal self.now.script (machine self.now) step.now }
+    {
+        let stores = &*self.stores;
+        match *step {
+            Step::Stall => !stores.stalled && self.is_dead(),
+            _ => !stores.stalled && may(stores, step),
+        }
     }
-}
 
-/// Whether a step is legal next, other than the end of a dead history and a vblank of a CRTC that does not
-/// go.
-pub fn enabled(stores: &Stores) -> bool
-    ensures { result ≡ is_enabled stores.now.script (machine stores.now) }
-{
-    !stores.stalled && can_move(stores)
-}
+    /// Whether a step is legal next, other than the end of a dead history and a vblank of a CRTC that does not
+    /// go.
+    pub fn enabled(&self) -> bool
+        ensures { result ≡ is_enabled self.now.script (machine self.now) }
+    {
+        let stores = &*self.stores;
+        !stores.stalled && can_move(stores)
+    }
 
-/// Whether every client is at its end, with no command left, and every commit is cleaned.
-pub fn drained(stores: &Stores) -> bool
-    ensures { result ≡ is_drained stores.now.script (machine stores.now) }
-{
-    are_at_end(stores) && stores.tracker.first_from(0).is_none()
+    /// Whether every client is at its end, with no command left, and every commit is cleaned.
+    pub fn drained(&self) -> bool
+        ensures { result ≡ is_drained self.now.script (machine self.now) }
+    {
+        let stores = &*self.stores;
+        are_at_end(stores) && stores.tracker.first_from(0).is_none()
+    }
+
+    /// Whether the history is dead: not drained, and no step is legal but vblanks of CRTCs that do not go; also
+    /// where it was ended.
+    pub fn is_dead(&self) -> bool
+        ensures { result ≡ is_dead self.now.script (machine self.now) }
+    {
+        let stores = &*self.stores;
+        stores.stalled || (!self.drained() && !self.enabled())
+    }
 }
 
 /// Whether every client is at its end.
@@ -52,14 +67,6 @@ fn are_at_end(stores: &Stores) -> bool
         }
     }
     true
-}
-
-/// Whether the history is dead: not drained, and no step is legal but vblanks of CRTCs that do not go; also
-/// where it was ended.
-pub fn is_dead(stores: &Stores) -> bool
-    ensures { result ≡ is_dead stores.now.script (machine stores.now) }
-{
-    stores.stalled || (!drained(stores) && !enabled(stores))
 }
 
 /// Whether a step is legal while the history goes on; its end is not.

@@ -4,6 +4,7 @@ ghost use Rattle.kms_model.specs.Order.Turns.{client_step};
 ghost use Rattle.kms_core.specs.Judging.{request_taken};
 ghost use Rattle.kms_core.specs.Run.{machine};
 
+use crate::machine::Core;
 use crate::next::client_steps::{
     may_back_off, may_begin, may_make, may_read, may_relock, may_signal,
 };
@@ -13,22 +14,25 @@ use crate::stores::Stores;
 use kms_model::{Request, Step};
 use kms_props::is_test;
 
-/// The next step of a client, given by its number from 1 to that of the clients, in the order of one thread: what decides
-/// its request where that is legal, what its command is, or else the next lock that it takes. None where it can do none,
-/// and where the history was ended. The next lock is the first that is legal of the objects that are missing of the first
-/// group that the client does not hold whole: those that the request sets, the CRTCs that it names, and the planes and
-/// connectors of the CRTCs that need a modeset; or else the first legal one of all.
-pub fn client_step(stores: &Stores, client: u32) -> Option<Step>
-    requires low { 1 ≤ client }
-    requires high { client ≤ length stores.now.script.clients }
-    ensures { result ≡ client_step stores.now.script (machine stores.now) client }
-{
-    if stores.stalled {
-        return None;
-    }
-    match request_taken(stores, client) {
-        Some(request) => taking_step(stores, client, request),
-        None => other_step(stores, client),
+impl Core {
+    /// The next step of a client, given by its number from 1 to that of the clients, in the order of one thread: what decides
+    /// its request where that is legal, what its command is, or else the next lock that it takes. None where it can do none,
+    /// and where the history was ended. The next lock is the first that is legal of the objects that are missing of the first
+    /// group that the client does not hold whole: those that the request sets, the CRTCs that it names, and the planes and
+    /// connectors of the CRTCs that need a modeset; or else the first legal one of all.
+    pub fn client_step(&self, client: u32) -> Option<Step>
+        requires low { 1 ≤ client }
+        requires high { client ≤ length self.now.script.clients }
+        ensures { result ≡ client_step self.now.script (machine self.now) client }
+    {
+        let stores = &*self.stores;
+        if stores.stalled {
+            return None;
+        }
+        match request_taken(stores, client) {
+            Some(request) => taking_step(stores, client, request),
+            None => other_step(stores, client),
+        }
     }
 }
 

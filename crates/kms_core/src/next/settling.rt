@@ -10,22 +10,26 @@ ghost use Rattle.kms_model.specs.Machine.Steps.{may};
 ghost use Rattle.kms_model.specs.Order.Turns.{tail_step};
 ghost use Rattle.kms_core.specs.Run.{machine};
 
+use crate::machine::Core;
 use crate::next::moving::objects;
 use crate::next::tail_steps::{has_go, may_be_done, may_claim, may_clean_up, may_flush, may_write};
 use crate::stores::Stores;
 use kms_model::{Kind, Step};
 
-/// The next step of a tail in the order of one thread: the first that is legal of the least commit that has one, or else
-/// the vblank of the first CRTC that has GO. None where there is none, and where the history was ended.
-pub fn tail_step(stores: &Stores) -> Option<Step>
-    ensures { result ≡ tail_step stores.now.script (machine stores.now) }
-{
-    if stores.stalled {
-        return None;
-    }
-    match first_of_tails(stores) {
-        Some(step) => Some(step),
-        None => first_blanking(stores),
+impl Core {
+    /// The next step of a tail in the order of one thread: the first that is legal of the least commit that has one, or else
+    /// the vblank of the first CRTC that has GO. None where there is none, and where the history was ended.
+    pub fn tail_step(&self) -> Option<Step>
+        ensures { result ≡ tail_step self.now.script (machine self.now) }
+    {
+        let stores = &*self.stores;
+        if stores.stalled {
+            return None;
+        }
+        match first_of_tails(stores) {
+            Some(step) => Some(step),
+            None => first_blanking(stores),
+        }
     }
 }
 

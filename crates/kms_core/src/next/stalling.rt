@@ -8,33 +8,37 @@ ghost use Rattle.kms_track.specs.Tails.{fence_ids};
 ghost use Rattle.kms_core.specs.Next.{IsLegal, if_awaited};
 ghost use Rattle.kms_core.specs.Run.{machine, gains, if_ok};
 
-use crate::next::legality::is_dead;
+use crate::machine::Core;
 use crate::stores::{Stores, make_step_room};
 use kms_model::{Content, NoMemory, Step};
 
-/// Ends a history that is dead: no step is legal any more. Want of memory leaves all as it was.
-pub fn stall(stores: &mut Stores) -> Result<(), NoMemory>
-    requires { IsLegal stores.old step.Stall }
-    ensures history { stores.new ≡ gains stores.old (if_ok result (λ u. step.Stall ∷ [])) }
-{
-    make_step_room(&mut stores.steps, &stores.tracker)?;
-    stores.stalled = true;
-    stores.steps.push(Step::Stall);
-    Ok(())
-}
-
-/// The label, by its number from 0, of the fence that a dead history waits for: the first in order of planes, of the
-/// least commit that is not claimed and waits for one that a `fence` made and that is not signalled. None where there
-/// is none, and where the history is not dead.
-pub fn stalled_on(stores: &Stores) -> Option<u32>
-    ensures { result ≡ stalled_on stores.now.script (machine stores.now) }
-{
-    if !is_dead(stores) {
-        return None;
+impl Core {
+    /// Ends a history that is dead: no step is legal any more. Want of memory leaves all as it was.
+    pub fn stall(&mut self) -> Result<(), NoMemory>
+        requires { IsLegal self.old step.Stall }
+        ensures history { self.new ≡ gains self.old (if_ok result (λ u. step.Stall ∷ [])) }
+    {
+        let stores = &mut *self.stores;
+        make_step_room(&mut stores.steps, &stores.tracker)?;
+        stores.stalled = true;
+        stores.steps.push(Step::Stall);
+        Ok(())
     }
-    match awaited_fence(stores) {
-        Some(fence) => label_of(stores, fence),
-        None => None,
+
+    /// The label, by its number from 0, of the fence that a dead history waits for: the first in order of planes, of the
+    /// least commit that is not claimed and waits for one that a `fence` made and that is not signalled. None where there
+    /// is none, and where the history is not dead.
+    pub fn stalled_on(&self) -> Option<u32>
+        ensures { result ≡ stalled_on self.now.script (machine self.now) }
+    {
+        let stores = &*self.stores;
+        if !self.is_dead() {
+            return None;
+        }
+        match awaited_fence(stores) {
+            Some(fence) => label_of(stores, fence),
+            None => None,
+        }
     }
 }
 

@@ -18,94 +18,99 @@ ghost use Rattle.kms_core.specs.Work.{AreFewCommits};
 
 use crate::freeing::{free, shown_ids};
 use crate::lists::Ledger;
-use crate::stores::{Stores, make_step_room, signal_fence};
+use crate::machine::Core;
+use crate::stores::{make_step_room, signal_fence};
 use kms_model::{Duplicates, Kind, Latch, NoMemory, ObjId, Picture, Step};
 use kms_regs::RegFile;
 use kms_signal::{EventQueue, Fences, flip_event};
 use kms_things::Things;
 use kms_track::{Tail, Tracker};
 
-/// Flushes the CRTC with an index, from 0 to 3, for the commit, by its number from 0, that flushes it next. A CRTC that
-/// is on after the commit then goes: it latches at its next vblank. One that is off latches at once. It
-/// takes no memory. (Kernel: `drm_atomic_helper.c`, `drm_atomic_helper_commit_planes`, `atomic_flush`.)
-pub fn flush(stores: &mut Stores, commit: u32, crtc: u32)
-    requires { MayFlush stores.old commit crtc }
-    ensures history { stores.new ≡ gains stores.old (step.Flush commit Crtc crtc ∷ []) }
-{
-    stores.steps.push(Step::Flush {
-        commit,
-        kind: Kind::Crtc,
-        index: crtc,
-    });
-    stores.tracker.flushed(commit, crtc);
-    if stores.registers.is_on_in_shadow(crtc) {
-        let _none = stores.registers.flush(crtc);
-        stores.goes[crtc as usize] = Some(commit);
-        return;
+impl Core {
+    /// Flushes the CRTC with an index, from 0 to 3, for the commit, by its number from 0, that flushes it next. A CRTC that
+    /// is on after the commit then goes: it latches at its next vblank. One that is off latches at once. It
+    /// takes no memory. (Kernel: `drm_atomic_helper.c`, `drm_atomic_helper_commit_planes`, `atomic_flush`.)
+    pub fn flush(&mut self, commit: u32, crtc: u32)
+        requires { MayFlush self.old commit crtc }
+        ensures history { self.new ≡ gains self.old (step.Flush commit Crtc crtc ∷ []) }
+    {
+        let stores = &mut *self.stores;
+        stores.steps.push(Step::Flush {
+            commit,
+            kind: Kind::Crtc,
+            index: crtc,
+        });
+        stores.tracker.flushed(commit, crtc);
+        if stores.registers.is_on_in_shadow(crtc) {
+            let _none = stores.registers.flush(crtc);
+            stores.goes[crtc as usize] = Some(commit);
+            return;
+        }
+        let before = stores.registers.live_layers(crtc);
+        let ids_before = shown_ids(before.as_slice());
+        let Some(picture) = stores.registers.flush(crtc) else {
+            unreachable!();
+        };
+        let shown = latch_of(&stores.registers, crtc, commit, picture);
+        show(
+            &mut stores.tracker,
+            &mut stores.fences,
+            &mut stores.queues,
+            &mut stores.freed,
+            &mut stores.things,
+            &stores.present,
+            &stores.registers,
+            stores.script.topology.crtcs,
+            &shown,
+            ids_before.as_slice(),
+        );
+        stores.latches.push(shown);
     }
-    let before = stores.registers.live_layers(crtc);
-    let ids_before = shown_ids(before.as_slice());
-    let Some(picture) = stores.registers.flush(crtc) else {
-        unreachable!();
-    };
-    let shown = latch_of(&stores.registers, crtc, commit, picture);
-    show(
-        &mut stores.tracker,
-        &mut stores.fences,
-        &mut stores.queues,
-        &mut stores.freed,
-        &mut stores.things,
-        &stores.present,
-        &stores.registers,
-        stores.script.topology.crtcs,
-        &shown,
-        ids_before.as_slice(),
-    );
-    stores.latches.push(shown);
-}
 
-/// The CRTC with an index, from 0 to 3, has a vblank, which is counted. True exactly where it goes: the
-/// commit that flushed it last then latches, which takes no memory. Want of memory comes only where it does not go, and
-/// leaves all as it was. (Kernel: `drm_vblank.c`, `drm_crtc_handle_vblank`.)
-pub fn vblank(stores: &mut Stores, crtc: u32) -> Result<bool, NoMemory>
-    requires { MayBlank stores.old crtc }
-    ensures answer { IfOk result (λ went. went ≡ goes_at stores.old crtc) }
-    ensures history { stores.new ≡ gains stores.old
-        (if_ok result (λ went. step.Vblank Crtc crtc ∷ [])) }
-    ensures no_memory { goes_at stores.old crtc ≡ true → IsOk result }
-{
-    let step = Step::Vblank {
-        kind: Kind::Crtc,
-        index: crtc,
-    };
-    let Some(commit) = stores.goes[crtc as usize] else {
-        make_step_room(&mut stores.steps, &stores.tracker)?;
+    /// The CRTC with an index, from 0 to 3, has a vblank, which is counted. True exactly where it goes: the
+    /// commit that flushed it last then latches, which takes no memory. Want of memory comes only where it does not go, and
+    /// leaves all as it was. (Kernel: `drm_vblank.c`, `drm_crtc_handle_vblank`.)
+    pub fn vblank(&mut self, crtc: u32) -> Result<bool, NoMemory>
+        requires { MayBlank self.old crtc }
+        ensures answer { IfOk result (λ went. went ≡ goes_at self.old crtc) }
+        ensures history { self.new ≡ gains self.old
+            (if_ok result (λ went. step.Vblank Crtc crtc ∷ [])) }
+        ensures no_memory { goes_at self.old crtc ≡ true → IsOk result }
+    {
+        let stores = &mut *self.stores;
+        let step = Step::Vblank {
+            kind: Kind::Crtc,
+            index: crtc,
+        };
+        let Some(commit) = stores.goes[crtc as usize] else {
+            make_step_room(&mut stores.steps, &stores.tracker)?;
+            stores.steps.push(step);
+            let _none = stores.registers.vblank(crtc);
+            return Ok(false);
+        };
         stores.steps.push(step);
-        let _none = stores.registers.vblank(crtc);
-        return Ok(false);
-    };
-    stores.steps.push(step);
-    let before = stores.registers.live_layers(crtc);
-    let ids_before = shown_ids(before.as_slice());
-    let Some(picture) = stores.registers.vblank(crtc) else {
-        unreachable!();
-    };
-    stores.goes[crtc as usize] = None;
-    let shown = latch_of(&stores.registers, crtc, commit, picture);
-    show(
-        &mut stores.tracker,
-        &mut stores.fences,
-        &mut stores.queues,
-        &mut stores.freed,
-        &mut stores.things,
-        &stores.present,
-        &stores.registers,
-        stores.script.topology.crtcs,
-        &shown,
-        ids_before.as_slice(),
-    );
-    stores.latches.push(shown);
-    Ok(true)
+        let before = stores.registers.live_layers(crtc);
+        let ids_before = shown_ids(before.as_slice());
+        let Some(picture) = stores.registers.vblank(crtc) else {
+            unreachable!();
+        };
+        stores.goes[crtc as usize] = None;
+        let shown = latch_of(&stores.registers, crtc, commit, picture);
+        show(
+            &mut stores.tracker,
+            &mut stores.fences,
+            &mut stores.queues,
+            &mut stores.freed,
+            &mut stores.things,
+            &stores.present,
+            &stores.registers,
+            stores.script.topology.crtcs,
+            &shown,
+            ids_before.as_slice(),
+        );
+        stores.latches.push(shown);
+        Ok(true)
+    }
 }
 
 /// What the CRTC with an index, from 0 to 3, latches: a picture of a commit, with its count of vblanks so far.

@@ -7,28 +7,89 @@ ghost use Rattle.kms_core.specs.Run.{gains};
 ghost use Rattle.kms_core.specs.Work.{AreFewCommits, FindsFirstWhere, HoldsCrtc, HoldsOld, HoldsPlane, IsCrtcWritten, IsPlaneWritten, IsWritten, MayBeDone, MayClaim, MayCleanUp, MayWrite, TellsOver, claim_steps, cleanup_steps, first_claim, is_commit_over, write_step};
 
 use crate::freeing::{free, kept_ids};
+use crate::machine::Core;
 use crate::stores::Stores;
 use kms_model::{Kind, ObjId, Step};
 use kms_regs::RegFile;
 use kms_signal::Fences;
 use kms_track::{Tail, Tracker};
 
-/// Claims the least commit whose tail may begin: the fences that it waits for are signalled, and the commit before it
-/// on each object that it touches is done and has flipped there. It gives the commit's number, counted from 0; none
-/// exactly where there is no such commit, as after the end of the history. (Kernel: `drm_atomic_helper.c`,
-/// `commit_work`, `drm_atomic_helper_wait_for_fences`, `drm_atomic_helper_wait_for_dependencies`.)
-pub fn claim(stores: &mut Stores) -> Option<u32>
-    ensures answer { result ≡ first_claim stores.old }
-    ensures history { stores.new ≡ gains stores.old (claim_steps result) }
-{
-    if stores.stalled {
-        return None;
+impl Core {
+    /// Claims the least commit whose tail may begin: the fences that it waits for are signalled, and the commit before it
+    /// on each object that it touches is done and has flipped there. It gives the commit's number, counted from 0; none
+    /// exactly where there is no such commit, as after the end of the history. (Kernel: `drm_atomic_helper.c`,
+    /// `commit_work`, `drm_atomic_helper_wait_for_fences`, `drm_atomic_helper_wait_for_dependencies`.)
+    pub fn claim(&mut self) -> Option<u32>
+        ensures answer { result ≡ first_claim self.old }
+        ensures history { self.new ≡ gains self.old (claim_steps result) }
+    {
+        let stores = &mut *self.stores;
+        if stores.stalled {
+            return None;
+        }
+        let Some(commit) = first_ready(&stores.tracker, &stores.fences) else {
+            return None;
+        };
+        claim_commit(stores, commit);
+        Some(commit)
     }
-    let Some(commit) = first_ready(&stores.tracker, &stores.fences) else {
-        return None;
-    };
-    claim_commit(stores, commit);
-    Some(commit)
+
+    /// Writes the registers of the CRTC or the plane that a commit, by its number from 0, writes next: the words of its old
+    /// state become those of the new one. (Kernel: `drm_atomic_helper.c`, `drm_atomic_helper_commit_modeset_enables`,
+    /// `drm_atomic_helper_commit_planes`.)
+    pub fn write(&mut self, commit: u32, id: ObjId)
+        requires { MayWrite self.old commit id }
+        ensures history { self.new ≡ gains self.old (write_step commit id ∷ []) }
+    {
+        let stores = &mut *self.stores;
+        let Some(tail) = stores.tracker.get(commit) else {
+            unreachable!();
+        };
+        write_registers(&mut stores.registers, tail, id);
+        stores.tracker.wrote(commit, id);
+        stores.steps.push(write_step(commit, id));
+    }
+
+    /// Tells that all registers of a commit, by its number from 0, are written and flushed. (Kernel: `drm_atomic_helper.c`,
+    /// `drm_atomic_helper_commit_hw_done`.)
+    pub fn hw_done(&mut self, commit: u32)
+        requires { MayBeDone self.old commit }
+        ensures history { self.new ≡ gains self.old (step.HwDone commit ∷ []) }
+    {
+        let stores = &mut *self.stores;
+        stores.tracker.hw_done(commit);
+        stores.steps.push(Step::HwDone { commit });
+    }
+
+    /// Cleans up a commit, by its number from 0, whose old states are then given up. It answers false, and changes nothing,
+    /// exactly where its registers are not all written and flushed, or it has not latched at a CRTC that it names. (Kernel:
+    /// `drm_atomic_helper.c`, `drm_atomic_helper_wait_for_flip_done`, `drm_atomic_helper_commit_cleanup_done`.)
+    pub fn cleanup(&mut self, commit: u32) -> bool
+        requires { MayCleanUp self.old commit }
+        ensures answer { result ≡ is_commit_over self.old commit }
+        ensures history { self.new ≡ gains self.old (cleanup_steps commit result) }
+    {
+        let stores = &mut *self.stores;
+        if !is_commit_over(&stores.tracker, commit) {
+            return false;
+        }
+        let Some(tail) = stores.tracker.get(commit) else {
+            unreachable!();
+        };
+        let kept_ids = kept_ids(tail);
+        stores.tracker.cleanup(commit);
+        free(
+            &mut stores.freed,
+            &mut stores.things,
+            &stores.present,
+            &stores.registers,
+            &stores.tracker,
+            stores.script.topology.crtcs,
+            kept_ids.as_slice(),
+        );
+        stores.steps.push(Step::Cleanup { commit });
+        true
+    }
 }
 
 /// Claims a commit, by its number from 0, whose tail may begin.
@@ -38,60 +99,6 @@ pub fn claim_commit(stores: &mut Stores, commit: u32)
 {
     stores.tracker.claim(commit);
     stores.steps.push(Step::Claim { commit });
-}
-
-/// Writes the registers of the CRTC or the plane that a commit, by its number from 0, writes next: the words of its old
-/// state become those of the new one. (Kernel: `drm_atomic_helper.c`, `drm_atomic_helper_commit_modeset_enables`,
-/// `drm_atomic_helper_commit_planes`.)
-pub fn write(stores: &mut Stores, commit: u32, id: ObjId)
-    requires { MayWrite stores.old commit id }
-    ensures history { stores.new ≡ gains stores.old (write_step commit id ∷ []) }
-{
-    let Some(tail) = stores.tracker.get(commit) else {
-        unreachable!();
-    };
-    write_registers(&mut stores.registers, tail, id);
-    stores.tracker.wrote(commit, id);
-    stores.steps.push(write_step(commit, id));
-}
-
-/// Tells that all registers of a commit, by its number from 0, are written and flushed. (Kernel: `drm_atomic_helper.c`,
-/// `drm_atomic_helper_commit_hw_done`.)
-pub fn hw_done(stores: &mut Stores, commit: u32)
-    requires { MayBeDone stores.old commit }
-    ensures history { stores.new ≡ gains stores.old (step.HwDone commit ∷ []) }
-{
-    stores.tracker.hw_done(commit);
-    stores.steps.push(Step::HwDone { commit });
-}
-
-/// Cleans up a commit, by its number from 0, whose old states are then given up. It answers false, and changes nothing,
-/// exactly where its registers are not all written and flushed, or it has not latched at a CRTC that it names. (Kernel:
-/// `drm_atomic_helper.c`, `drm_atomic_helper_wait_for_flip_done`, `drm_atomic_helper_commit_cleanup_done`.)
-pub fn cleanup(stores: &mut Stores, commit: u32) -> bool
-    requires { MayCleanUp stores.old commit }
-    ensures answer { result ≡ is_commit_over stores.old commit }
-    ensures history { stores.new ≡ gains stores.old (cleanup_steps commit result) }
-{
-    if !is_commit_over(&stores.tracker, commit) {
-        return false;
-    }
-    let Some(tail) = stores.tracker.get(commit) else {
-        unreachable!();
-    };
-    let kept_ids = kept_ids(tail);
-    stores.tracker.cleanup(commit);
-    free(
-        &mut stores.freed,
-        &mut stores.things,
-        &stores.present,
-        &stores.registers,
-        &stores.tracker,
-        stores.script.topology.crtcs,
-        kept_ids.as_slice(),
-    );
-    stores.steps.push(Step::Cleanup { commit });
-    true
 }
 
 /// The least commit that is not cleaned and may be claimed.
