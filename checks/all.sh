@@ -38,6 +38,8 @@ check tutorial "" "$top/checks/tutorial.sh" "$program"
 check kernel "" "$top/checks/kernel.sh" "$program"
 check device_tables "" "$top/checks/device_tables.sh" --check
 check limits python3 python3 "$top/checks/limits.py" "$program"
+check tools python3 "$top/checks/tools.sh"
+check card_scripts python3 python3 "$top/checks/card_scripts.py" "$program"
 check pictures python3 "$top/checks/pictures.sh" "$program"
 check documents python3 python3 "$top/tools/documents.py"
 check mode_bytes "" sh "$top/checks/mode_bytes.sh"

@@ -25,5 +25,5 @@ compare older_calls.kms older_calls.atomic.kms legacy
 compare older_calls.atomic.kms older_calls.report one
 compare meeting.kms meeting.report one --trace
 compare meeting.replay meeting.report replay --trace
-"$top/tools/timeline.py" <"$top/examples/meeting.report" | cmp - "$top/docs/pictures/meeting.svg"
+PYTHONDONTWRITEBYTECODE=1 "$top/tools/timeline.py" <"$top/examples/meeting.report" | cmp - "$top/docs/pictures/meeting.svg"
 echo "timeline.py < meeting.report: as docs/pictures/meeting.svg"

@@ -1,16 +1,16 @@
 /* Executes the commands of a script through the kernel's mode-setting ioctls, and prints what the kernel answers.
  *
  *     on_kernel CARD [--crc] < SCRIPT
+ *     on_kernel CARD --describe
  *
- * CARD is a device file as /dev/dri/card0. README.md, beside this file, says what is printed and how to run it. */
+ * CARD is a device file as /dev/dri/card0. The second prints what the card has. README.md, beside this file, says what is printed
+ * and how to run it. */
 #define _GNU_SOURCE
 #include <errno.h>
 #include <fcntl.h>
 #include <poll.h>
 #include <pthread.h>
 #include <semaphore.h>
-#include <stdbool.h>
-#include <stdint.h>
 #include <stdio.h>
 #include <stdlib.h>
 #include <string.h>
@@ -22,8 +22,8 @@
 #include <unistd.h>
 
 #include <drm_fourcc.h>
-#include <xf86drm.h>
-#include <xf86drmMode.h>
+
+#include "card.h"
 
 #ifndef DRM_IOCTL_MODE_CLOSEFB
 struct drm_mode_closefb {
@@ -33,22 +33,10 @@ struct drm_mode_closefb {
 #define DRM_IOCTL_MODE_CLOSEFB DRM_IOWR(0xD0, struct drm_mode_closefb)
 #endif
 
-/* The kernel's fences for tests. (drivers/dma-buf/sw_sync.c) */
-struct sw_sync_create_fence_data {
-    uint32_t value;
-    char name[32];
-    int32_t fence;
-};
-#define SW_SYNC_IOC_CREATE_FENCE _IOWR('W', 0, struct sw_sync_create_fence_data)
-#define SW_SYNC_IOC_INC _IOW('W', 1, uint32_t)
-#define SW_SYNC "/sys/kernel/debug/sync/sw_sync"
-
 enum {
     MOST_CLIENTS = 16,
     MOST_THINGS = 8192,
     MOST_WORDS = 300,
-    MOST_OBJECTS = 64,
-    MOST_PROPERTIES = 64,
     FIRST_THING = 1000,
     FIRST_CRTC = 100,
     PATIENCE_MS = 300,      /* how long a command may take before the next client has its turn */
@@ -68,30 +56,16 @@ struct thing {
     uint32_t id; /* the kernel's: a handle, a framebuffer, a blob */
     int file;    /* of a fence */
     int timeline;
-    bool is_signalled, is_awaited;
+    bool is_signalled;
+    unsigned awaited; /* requests that wait for it, or did */
     uint32_t width, height, format, pitch;
-};
-
-struct property {
-    uint32_t id;
-    char name[DRM_PROP_NAME_LEN];
-};
-
-struct object {
-    uint32_t id, type;
-    struct property properties[MOST_PROPERTIES];
-    unsigned count;
-};
-
-struct objects {
-    struct object all[MOST_OBJECTS];
-    unsigned count;
 };
 
 struct client {
     int number, file;
     char **lines;
-    unsigned count, next;
+    unsigned count, answered_count;
+    unsigned reserved; /* events that it was promised and has not read */
     bool is_running, is_accepted;
     char reply[128];
     sem_t turn, answered;
@@ -118,11 +92,6 @@ static int card_minor;
 static bool wants_crc;
 static FILE *checksums;
 static char *checksum_text;
-
-static void give_up(const char *what, const char *detail) {
-    fprintf(stderr, "on_kernel: %s%s%s\n", what, *detail ? ": " : "", detail);
-    exit(2);
-}
 
 /* Words and lines */
 
@@ -187,45 +156,6 @@ static struct thing *add_thing(struct client *c, const char *label, enum kind ki
 
 /* The device's objects */
 
-static void read_properties(int file, struct object *o) {
-    drmModeObjectProperties *all = drmModeObjectGetProperties(file, o->id, o->type);
-    for (uint32_t i = 0; all && i < all->count_props && o->count < MOST_PROPERTIES; i++) {
-        drmModePropertyRes *p = drmModeGetProperty(file, all->props[i]);
-        if (!p)
-            continue;
-        struct property *to = &o->properties[o->count++];
-        to->id = p->prop_id;
-        snprintf(to->name, sizeof to->name, "%s", p->name);
-        for (char *at = to->name; *at; at++)
-            if (*at == ' ')
-                *at = '_';
-        drmModeFreeProperty(p);
-    }
-    drmModeFreeObjectProperties(all);
-}
-
-static void add_object(int file, struct objects *to, uint32_t id, uint32_t type) {
-    struct object *o = &to->all[to->count++];
-    o->id = id;
-    o->type = type;
-    read_properties(file, o);
-}
-
-static bool has_object(const struct objects *all, uint32_t id) {
-    for (unsigned i = 0; i < all->count; i++)
-        if (all->all[i].id == id)
-            return true;
-    return false;
-}
-
-static uint32_t property_id(const struct objects *all, const char *name) {
-    for (unsigned i = 0; i < all->count; i++)
-        for (unsigned j = 0; j < all->all[i].count; j++)
-            if (!strcmp(all->all[i].properties[j].name, name))
-                return all->all[i].properties[j].id;
-    return 0;
-}
-
 /* The id of a property of any kind of object; one of another kind is for the kernel to refuse. */
 static uint32_t any_property_id(const struct objects *first, const char *name) {
     const struct objects *kinds[] = {first, &crtcs, &planes, &connectors};
@@ -237,17 +167,6 @@ static uint32_t any_property_id(const struct objects *first, const char *name) {
     return NO_ID;
 }
 
-static uint64_t property_value(int file, const struct object *o, const char *name) {
-    uint64_t value = 0;
-    drmModeObjectProperties *all = drmModeObjectGetProperties(file, o->id, o->type);
-    for (uint32_t i = 0; all && i < all->count_props; i++)
-        for (unsigned j = 0; j < o->count; j++)
-            if (o->properties[j].id == all->props[i] && !strcmp(o->properties[j].name, name))
-                value = all->prop_values[i];
-    drmModeFreeObjectProperties(all);
-    return value;
-}
-
 /* The bits of a list of CRTC indices parted by commas. */
 static uint32_t crtc_mask(const char *list) {
     uint32_t mask = 0;
@@ -257,12 +176,18 @@ static uint32_t crtc_mask(const char *list) {
     return mask;
 }
 
+static void add_object(struct objects *to, struct object o) {
+    if (to->count == MOST_OBJECTS)
+        give_up("too many objects", "");
+    to->all[to->count++] = o;
+}
+
 static void take_crtcs(int file, unsigned wanted) {
     drmModeRes *all = drmModeGetResources(file);
     if (!all || (unsigned)all->count_crtcs < wanted)
         give_up("the card has too few CRTCs", "");
     for (unsigned i = 0; i < wanted; i++)
-        add_object(file, &crtcs, all->crtcs[i], DRM_MODE_OBJECT_CRTC);
+        add_object(&crtcs, read_object(file, all->crtcs[i], DRM_MODE_OBJECT_CRTC));
     drmModeFreeResources(all);
 }
 
@@ -277,14 +202,14 @@ static void take_plane(int file, char *line) {
     drmModePlaneRes *all = drmModeGetPlaneResources(file);
     for (uint32_t i = 0; all && i < all->count_planes; i++) {
         drmModePlane *p = drmModeGetPlane(file, all->planes[i]);
-        struct object o = {.id = all->planes[i], .type = DRM_MODE_OBJECT_PLANE};
-        read_properties(file, &o);
-        if (p && !has_object(&planes, o.id) && (p->possible_crtcs & mask) == mask &&
-            property_value(file, &o, "type") == type_of(words[1])) {
-            planes.all[planes.count++] = o;
+        struct object o = read_object(file, all->planes[i], DRM_MODE_OBJECT_PLANE);
+        bool fits = p && !find_object(&planes, o.id) && (p->possible_crtcs & mask) == mask &&
+                    property_value(file, &o, "type") == type_of(words[1]);
+        drmModeFreePlane(p);
+        if (fits) {
+            add_object(&planes, o);
             return;
         }
-        drmModeFreePlane(p);
     }
     give_up("the card has no such plane left", words[1]);
 }
@@ -294,14 +219,12 @@ static void take_connector(int file, const char *list) {
     uint32_t mask = crtc_mask(list);
     drmModeRes *all = drmModeGetResources(file);
     for (int i = 0; all && i < all->count_connectors; i++) {
-        drmModeConnector *n = drmModeGetConnector(file, all->connectors[i]);
-        for (int j = 0; n && j < n->count_encoders && !has_object(&connectors, n->connector_id); j++) {
-            drmModeEncoder *e = drmModeGetEncoder(file, n->encoders[j]);
-            if (e && (e->possible_crtcs & mask) == mask && n->connector_type != DRM_MODE_CONNECTOR_WRITEBACK) {
-                add_object(file, &connectors, n->connector_id, DRM_MODE_OBJECT_CONNECTOR);
-                add_object(file, &encoders, e->encoder_id, DRM_MODE_OBJECT_ENCODER);
-                return;
-            }
+        drmModeConnector *c = find_object(&connectors, all->connectors[i]) ? NULL : drmModeGetConnector(file, all->connectors[i]);
+        drmModeEncoder *e = c ? find_encoder(file, c, mask) : NULL;
+        if (e) {
+            add_object(&connectors, read_object(file, c->connector_id, DRM_MODE_OBJECT_CONNECTOR));
+            add_object(&encoders, read_object(file, e->encoder_id, DRM_MODE_OBJECT_ENCODER));
+            return;
         }
     }
     give_up("the card has no such connector left", list);
@@ -457,7 +380,7 @@ static void do_signal(struct client *c, char **words) {
 
 static const struct thing *awaited_fence(void) {
     for (unsigned i = 0; i < thing_count; i++)
-        if (things[i].kind == FENCE && things[i].is_awaited && !things[i].is_signalled)
+        if (things[i].kind == FENCE && things[i].awaited && !things[i].is_signalled)
             return &things[i];
     return NULL;
 }
@@ -484,7 +407,6 @@ static const struct objects *kind_named(const char *word, const char **digits) {
             return kinds[i].all;
         }
     give_up("not an object", word);
-    return NULL;
 }
 
 static uint32_t object_id(const char *word, const struct objects **all) {
@@ -597,31 +519,71 @@ static void print_checksums(unsigned commit) {
         }
 }
 
+/* The plane or the connector with this id, or none. */
+static struct object *find_routed(uint32_t id) {
+    struct object *plane = find_object(&planes, id);
+    return plane ? plane : find_object(&connectors, id);
+}
+
+static uint32_t crtc_bit(uint32_t id) {
+    for (unsigned i = 0; i < crtcs.count; i++)
+        if (crtcs.all[i].id == id)
+            return 1u << i;
+    return 0;
+}
+
+/* How many CRTCs an accepted request names, as the kernel counts them: at each assignment the object's CRTC, before and after
+ * it. The CRTCs that planes and connectors are on are kept meanwhile. */
+static unsigned follow_routes(const struct request *r) {
+    uint32_t named = 0;
+    for (unsigned i = 0; i < r->count; i++) {
+        struct object *o = find_routed(r->objects[i]);
+        named |= crtc_bit(o ? o->crtc : r->objects[i]);
+        if (o && r->properties[i] == any_property_id(&planes, "CRTC_ID")) {
+            o->crtc = r->values[i];
+            named |= crtc_bit(o->crtc);
+        }
+    }
+    return __builtin_popcount(named);
+}
+
+/* Counts a request among those that wait for its fences, or no longer. */
+static void await_fences(struct request *r, int change) {
+    for (unsigned i = 0; i < r->count; i++)
+        if (r->in_fences[i])
+            r->in_fences[i]->awaited += change;
+}
+
+static void enter_commit(struct client *c, struct request *r, uint32_t flags) {
+    char text[32];
+    snprintf(text, sizeof text, "commit %u", commit_count);
+    answer(c, true, text);
+    keep_out_fences(c, r);
+    unsigned named = follow_routes(r);
+    if (flags & DRM_MODE_PAGE_FLIP_EVENT)
+        c->reserved += named;
+    if (wants_crc && !(flags & DRM_MODE_ATOMIC_NONBLOCK))
+        print_checksums(commit_count);
+    commit_count++;
+}
+
 static void do_atomic(struct client *c, char **words, unsigned count) {
     struct request *r = calloc(1, sizeof *r);
     uint32_t flags = strtoul(words[1], NULL, 16);
     for (unsigned i = 3; i < count; i++)
         assign(r, words[i]);
-    for (unsigned i = 0; i < r->count; i++)
-        if (r->in_fences[i])
-            r->in_fences[i]->is_awaited = true;
+    bool is_test = flags & DRM_MODE_ATOMIC_TEST_ONLY;
+    if (!is_test)
+        await_fences(r, 1);
     int error = commit_request(c, r, flags, strtoull(words[2], NULL, 10));
-    if (error) {
+    if (error && !is_test)
+        await_fences(r, -1);
+    if (error)
         answer_error(c, error);
-        for (unsigned i = 0; i < r->count; i++)
-            if (r->in_fences[i])
-                r->in_fences[i]->is_awaited = false;
-    } else if (flags & DRM_MODE_ATOMIC_TEST_ONLY) {
+    else if (is_test)
         answer(c, false, "tested");
-    } else {
-        char text[32];
-        snprintf(text, sizeof text, "commit %u", commit_count);
-        keep_out_fences(c, r);
-        answer(c, true, text);
-        if (wants_crc && !(flags & DRM_MODE_ATOMIC_NONBLOCK))
-            print_checksums(commit_count);
-        commit_count++;
-    }
+    else
+        enter_commit(c, r, flags);
     free(r);
 }
 
@@ -634,25 +596,27 @@ static unsigned crtc_index(uint32_t id) {
     return 0;
 }
 
-/* The oldest event, or none where none comes while no commit waits for a fence. */
-static void do_wait(struct client *c) {
+/* Whether an event can be read: one that is reserved is waited for, while a commit waits for a fence and 0.9 s more. */
+static bool await_event(struct client *c) {
     struct pollfd one = {.fd = c->file, .events = POLLIN};
-    pthread_mutex_unlock(&table);
     int ready;
-    bool is_waiting;
     do {
-        ready = poll(&one, 1, 3 * PATIENCE_MS);
-        pthread_mutex_lock(&table);
-        is_waiting = awaited_fence() != NULL;
         pthread_mutex_unlock(&table);
-    } while (ready == 0 && is_waiting);
-    pthread_mutex_lock(&table);
+        ready = poll(&one, 1, c->reserved ? 3 * PATIENCE_MS : 0);
+        pthread_mutex_lock(&table);
+    } while (ready == 0 && c->reserved && awaited_fence());
+    return ready > 0;
+}
+
+static void do_wait(struct client *c) {
     struct drm_event_vblank event;
     /* one event fits, so one is read */
-    if (ready <= 0 || read(c->file, &event, sizeof event) != sizeof event) {
+    if (!await_event(c) || read(c->file, &event, sizeof event) != sizeof event) {
         answer(c, false, "none");
         return;
     }
+    if (c->reserved)
+        c->reserved--;
     char text[96];
     unsigned id = FIRST_CRTC + crtc_index(event.crtc_id);
     snprintf(text, sizeof text, "event %llu %u %u", (unsigned long long)event.user_data, event.sequence, id);
@@ -691,6 +655,15 @@ static void execute(struct client *c, char *line) {
         give_up("not a command", name);
 }
 
+/* The reply to a command, and its place in the journal: by the order in which calls come back. */
+static void record(struct client *c, unsigned command) {
+    fprintf(replies[c->number - 1], "R %d %u %u %s\n", c->number, command, journal_count, c->reply);
+    if (c->is_accepted) {
+        journal = realloc(journal, (journal_count + 1) * sizeof *journal);
+        journal[journal_count++] = (struct entry){c->number, command};
+    }
+}
+
 static void *run_client(void *of) {
     struct client *c = of;
     for (unsigned i = 0; i < c->count; i++) {
@@ -698,6 +671,7 @@ static void *run_client(void *of) {
         pthread_mutex_lock(&table);
         /* strtok is of the thread that holds the table */
         execute(c, c->lines[i]);
+        record(c, i + 1);
         pthread_mutex_unlock(&table);
         sem_post(&c->answered);
     }
@@ -713,29 +687,20 @@ static bool is_answered(struct client *c) {
     return sem_timedwait(&c->answered, &until) == 0;
 }
 
-static void record(struct client *c) {
-    fprintf(replies[c->number - 1], "R %d %u %u %s\n", c->number, c->next + 1, journal_count, c->reply);
-    if (c->is_accepted) {
-        journal = realloc(journal, (journal_count + 1) * sizeof *journal);
-        journal[journal_count++] = (struct entry){c->number, c->next + 1};
-    }
-    c->next++;
-    c->is_running = false;
-}
-
 /* One command of each client, as far as it answers in time; false where no client has a command left. */
 static bool run_round(bool *moved) {
     bool is_left = false;
     for (unsigned i = 0; i < client_count; i++) {
         struct client *c = &clients[i];
-        if (c->next == c->count)
+        if (c->answered_count == c->count)
             continue;
         is_left = true;
         if (!c->is_running)
             sem_post(&c->turn);
         c->is_running = true;
         if (is_answered(c)) {
-            record(c);
+            c->answered_count++;
+            c->is_running = false;
             *moved = true;
         }
     }
@@ -826,7 +791,9 @@ static void turn_off(struct client *c) {
     free(r);
 }
 
+/* Calls that come back meanwhile wait for the table. */
 static void print_report(bool is_drained) {
+    pthread_mutex_lock(&table);
     for (unsigned i = 0; i < journal_count; i++)
         printf("J %d %u\n", journal[i].client, journal[i].command);
     for (unsigned i = 0; i < client_count; i++) {
@@ -853,10 +820,15 @@ static void signal_all(void) {
 }
 
 int main(int count, char **words) {
-    if (count < 2 || count > 3 || (count == 3 && strcmp(words[2], "--crc")))
-        give_up("usage: on_kernel CARD [--crc] < SCRIPT", "");
-    wants_crc = count == 3;
+    bool wants_description = count == 3 && !strcmp(words[2], "--describe");
+    wants_crc = count == 3 && !strcmp(words[2], "--crc");
+    if (count < 2 || count > 3 || (count == 3 && !wants_description && !wants_crc))
+        give_up("usage: on_kernel CARD [--crc] < SCRIPT, on_kernel CARD --describe", "");
     int file = open_card(words[1]);
+    if (wants_description) {
+        describe(file);
+        return 0;
+    }
     struct stat card;
     fstat(file, &card);
     card_minor = minor(card.st_rdev);
