@@ -104,6 +104,8 @@ def main():
     print(f"{'requests':<30} {'commits':>8} {'millions':>9} {'touching':>9} {'resolving':>10} {'both':>7}")
     for name, size, requests, sets in KINDS:
         commits, total, costs = counted(sys.argv[1], script(size, requests, sets))
+        if committing(costs, TOUCHING) == 0:
+            sys.exit("no commit was found: the program has no symbols, or other ones")
         touching, resolving = (100 * committing(costs, words) / total for words in (TOUCHING, RESOLVING))
         print(f"{name:<30} {commits:>8} {total / 1e6:>9.0f} {touching:>8.1f}% {resolving:>9.1f}% {touching + resolving:>6.1f}%")
 

@@ -1,4 +1,4 @@
-//! The tests of the device that threads share, and of its players.
+//! The tests of the device that threads share.
 #![tactic(auto)]
 
 #[cfg(test)]
@@ -6,18 +6,12 @@ mod backing_off;
 #[cfg(test)]
 mod crowd;
 #[cfg(test)]
-mod gates;
-#[cfg(test)]
 mod meeting;
 #[cfg(test)]
 mod opening;
-#[cfg(test)]
-mod players;
 #[cfg(test)]
 mod scripts;
 #[cfg(test)]
 mod seats;
 #[cfg(test)]
 mod texts;
-#[cfg(test)]
-mod watching;

@@ -4,11 +4,6 @@ use kms_samples::script;
 /// A client that makes a framebuffer of one pixel and a mode, and lights the only CRTC with them.
 pub(crate) const LIGHTING: &str = script!(single "client\n" made lights);
 
-/// A client that shows the framebuffer of another, which closes it.
-pub(crate) const CLOSING: &str = script!(
-    single "client\n" tiny("m") lights "client\n" pixel("b", "f", "00616263") "closefb f\n"
-);
-
 /// Two clients on that device, each with a request that is a test, of the plane and the CRTC.
 pub(crate) const TESTING: &str = script!(
     single

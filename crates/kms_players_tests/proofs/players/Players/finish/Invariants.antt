@@ -1,6 +1,6 @@
 use Rattle.std.proofs.Common.{◌≡◌}
 use Rattle.kms_players.specs.Players.{name_of_pass}
-use Rattle.kms_device_tests.proofs.players.Players.finish.Given as goal
+use Rattle.kms_players_tests.proofs.players.Players.finish.Given as goal
 
 abbrev pub invariant-loop : goal.invariant-loop
 invariant-loop g l =

@@ -1,38 +1,29 @@
 //! Players at a device, on one thread.
 ghost use Rattle.std.specs.Prelude.{◌≡◌, ◌<◌, length};
 ghost use Rattle.kms_histlock.specs.Passes.{new_pass, new_passes};
-ghost use Rattle.kms_device_tests.specs.Four.{AreFour};
 ghost use Rattle.kms_model.specs.Script.WellFormed.{IsWellFormed};
 ghost use Rattle.kms_players.specs.Players.{name_of_pass};
+ghost use Rattle.kms_players_tests.specs.Four.{AreFour};
 
 use crate::gates::{Came, Counter, LIT, WORKER};
+use crate::texts::TWO;
 use kms_core::Core;
 use kms_device::{Device, Pass};
 use kms_io::Gate;
 use kms_model::{NoMemory, Part, Script, Seq};
 use kms_players::{Client, VblankTick, Worker};
 use kms_pool::{Player, Turn};
-use kms_samples::script;
 use kms_script::parse;
 use std::alloc::Global;
 use std::process::Abort;
 use std::sync::Wait;
 
-/// Two clients of the second of two CRTCs. The first lights it, dims its plane in a commit that is waited for, and reads the event; the second
-/// signals the fence that the commit waits for, once it has made a buffer.
-const TWO: &str = script!(
-    screens
-    "client\n" made "fence n\n" lights(1, "f", "m")
-    "atomic 0x1 7 plane1.alpha=9 plane1.IN_FENCE_FD=@n\nwait\n"
-    "client\nbuffer c 1 1 XR24 solid 00616263\natomic 0x100 0 plane1.alpha=8\nsignal n\n"
-);
-
-/// The script of the two clients.
-fn two(rt: &(impl Abort + AllocGlobal)) -> Script
+/// The script of two clients that a text spells.
+fn two(rt: &(impl Abort + AllocGlobal), text: &str) -> Script
     ensures formed { IsWellFormed result }
     ensures clients { length result.clients ≡ 2 }
 {
-    let Ok(parsed) = parse(rt.alloc(), TWO.as_bytes(), Part::Script) else {
+    let Ok(parsed) = parse(rt.alloc(), text.as_bytes(), Part::Script) else {
         panic!(rt; "it is a script")
     };
     assert!(rt; parsed.script.clients.len() == 2, "it has two clients");
@@ -61,14 +52,14 @@ fn five(rt: &impl Abort, device: &Device, passes: Seq<Pass>) -> (Four, Pass)
     ((one, other, worker, tick), looker)
 }
 
-/// A device of the two clients, with a pass for each, for a worker and for a vblank player, and one for who looks on.
-pub(crate) fn opened(rt: &(impl Abort + AllocGlobal)) -> (Device, Four, Pass)
+/// A device of two clients, with a pass for each, for a worker and for a vblank player, and one for who looks on.
+pub(crate) fn opened(rt: &(impl Abort + AllocGlobal), text: &str) -> (Device, Four, Pass)
     ensures seats { result.0.seats ≡ 5 }
     ensures clients { length result.0.script.clients ≡ 2 }
     ensures passes { AreFour result.0 result.1 }
     ensures looker { result.2.lock ≡ result.0.lock }
 {
-    let Ok((device, passes)) = Device::new(rt.alloc(), two(rt), 5) else {
+    let Ok((device, passes)) = Device::new(rt.alloc(), two(rt, text), 5) else {
         panic!(rt; "there is memory")
     };
     let (passes, looker) = five(rt, &device, passes);
@@ -213,7 +204,7 @@ fn assert_drained(rt: &impl Abort, core: &Core, gate: &Counter) {
 #[test]
 fn players_on_one_thread_drain_a_history(rt: HostRuntime) {
     let gate = Counter::new(LIT);
-    let (device, passes, looker) = opened(&rt);
+    let (device, passes, looker) = opened(&rt, TWO);
     let passes = drained(&rt, &device, &gate, passes);
     let core = closed(&rt, device, passes, looker);
     assert_drained(&rt, &core, &gate);
@@ -252,17 +243,17 @@ fn assert_ticked(rt: &impl Abort, core: &Core, gate: &Counter) {
 #[test]
 fn what_ticks_comes_to_the_gate_with_its_crtc(rt: HostRuntime) {
     let gate = Counter::new(2);
-    let (device, passes, looker) = opened(&rt);
+    let (device, passes, looker) = opened(&rt, TWO);
     let passes = ticked(&rt, &device, &gate, passes);
     let core = closed(&rt, device, passes, looker);
     assert_ticked(&rt, &core, &gate);
 }
 
-/// Turns of the first client, as many as it needs to commit for the first time.
-fn commit<W: Wait>(
+/// Twenty turns of a client, with which the first one commits for the first time.
+pub(crate) fn play_on<W: Wait, G: Gate>(
     rt: &W,
     alloc: Global,
-    client: &mut Client<'_, Counter>,
+    client: &mut Client<'_, G>,
 ) -> Result<(), NoMemory> {
     for _ in 0..20 {
         let _turn = client.play(rt, alloc)?;
@@ -303,8 +294,8 @@ fn assert_claims(
     players: &mut Players<'_, Counter>,
     gate: &Counter,
 ) {
-    let committed = commit(rt, rt.alloc(), &mut players.one);
-    assert!(rt; committed.is_ok() && gate.came().claims == 0);
+    let played = play_on(rt, rt.alloc(), &mut players.one);
+    assert!(rt; played.is_ok() && gate.came().claims == 0);
     // the claim, two writes, the flush, and that they are done; the clean-up has to wait
     assert_works(rt, &mut players.worker, gate, 5, 1);
     let turn = players.tick.play(rt);
@@ -316,7 +307,7 @@ fn assert_claims(
 #[test]
 fn a_worker_claims_no_commit_while_it_has_one(rt: HostRuntime) {
     let gate = Counter::new(LIT);
-    let (device, passes, _looker) = opened(&rt);
+    let (device, passes, _looker) = opened(&rt, TWO);
     let mut players = Players::new(&device, &gate, passes);
     assert_claims(&rt, &mut players, &gate);
 }
